@@ -1,0 +1,11 @@
+pub mod Days
+pub mod DurationBound
+pub mod EqualTrees
+pub mod Equality
+pub mod Horizons
+pub mod Interval
+pub mod Names
+pub mod Parts
+pub mod StartRanges
+pub mod Trees
+pub mod Whole

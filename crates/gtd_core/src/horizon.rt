@@ -1,0 +1,125 @@
+//! The days over which a question is asked.
+
+ghost use Rattle.std.specs.Prelude.{◌≡◌, ◌<ℤ◌, ◌≤ℤ◌, ◌-ℤ◌, ◌*ℤ◌, pos, negsuc, MatchResult, codes};
+ghost use Rattle.gtd_core.specs.Horizons.{IsHorizon, IsFault};
+ghost use Rattle.gtd_core.specs.Names.{horizon_fault_name};
+
+use crate::second::{Sec, Span};
+use thiserror::Error;
+
+/// The days from one on, up to and without a later one. A day is given by its number, 1970-01-01 being 0.
+///
+/// There is at least one day, none before 1901-01-01, none from 2700-01-01 on, and there are at most 146,098, one more
+/// than 400 years have.
+#[derive(Clone, Copy, Debug, PartialEq, Eq)]
+pub struct Horizon {
+    from_day: i64,
+    to_day: i64,
+    pub ghost not_empty: { from_day <ℤ to_day },
+    pub ghost not_early: { negsuc 25201 ≤ℤ from_day },
+    pub ghost not_late: { to_day ≤ℤ pos 266627 },
+    pub ghost not_long: { (to_day -ℤ from_day) ≤ℤ pos 146098 },
+}
+
+/// Why two days are no horizon.
+#[derive(Clone, Copy, Debug, PartialEq, Eq, Error)]
+pub enum HorizonFault {
+    /// No day lies between them.
+    #[error("Empty")]
+    Empty,
+    /// The first is before 1901-01-01.
+    #[error("TooEarly")]
+    TooEarly,
+    /// The second is after 2700-01-01.
+    #[error("TooLate")]
+    TooLate,
+    /// More than 146,098 days lie between them.
+    #[error("TooLong")]
+    TooLong,
+}
+
+impl HorizonFault {
+    /// The fault's name, as fault lines show it.
+    pub fn name(&self) -> &'static str
+        ensures text { result.now ≡ horizon_fault_name self.now }
+    {
+        match self {
+            HorizonFault::Empty => "Empty",
+            HorizonFault::TooEarly => "TooEarly",
+            HorizonFault::TooLate => "TooLate",
+            HorizonFault::TooLong => "TooLong",
+        }
+    }
+}
+
+/// 1901-01-01.
+const FIRST_DAY: i64 = -25_202;
+/// 2700-01-01.
+const LAST_DAY: i64 = 266_627;
+
+const MOST_DAYS: i64 = 146_098;
+
+/// The seconds of a day.
+const DAY: i64 = 86_400;
+
+impl Horizon {
+    ghost use Rattle.gtd_core.specs.Whole.{whole, from_day, to_day};
+
+    /// The horizon from one day up to and without another, or the first of its faults: `Empty`, `TooEarly`, `TooLate`,
+    /// `TooLong`.
+    pub fn new(from_day: i64, to_day: i64) -> Result<Horizon, HorizonFault>
+        ensures horizon { MatchResult result
+            (λ h. (h.from_day ≡ from_day) × (h.to_day ≡ to_day) × IsHorizon from_day to_day)
+            (λ fault. IsFault fault from_day to_day) }
+    {
+        if to_day <= from_day {
+            return Err(HorizonFault::Empty);
+        }
+        if from_day < FIRST_DAY {
+            return Err(HorizonFault::TooEarly);
+        }
+        if to_day > LAST_DAY {
+            return Err(HorizonFault::TooLate);
+        }
+        if to_day - from_day > MOST_DAYS {
+            return Err(HorizonFault::TooLong);
+        }
+        Ok(Horizon { from_day, to_day })
+    }
+
+    /// The number of the first day.
+    pub fn from_day(self) -> i64
+        ensures value { result ≡ from_day self }
+    {
+        self.from_day
+    }
+
+    /// The number of the day after the last one.
+    pub fn to_day(self) -> i64
+        ensures value { result ≡ to_day self }
+    {
+        self.to_day
+    }
+
+    /// The first second.
+    pub fn from(self) -> Sec
+        ensures value { result.0 ≡ (whole self).from }
+    {
+        Sec(self.from_day * DAY)
+    }
+
+    /// The second after the last one.
+    pub fn until(self) -> Sec
+        ensures value { result.0 ≡ (whole self).until }
+    {
+        Sec(self.to_day * DAY)
+    }
+
+    /// All seconds of the horizon.
+    pub fn whole(self) -> Span
+        ensures value { result ≡ whole self }
+        ensures not_empty { (whole self).from <ℤ (whole self).until }
+    {
+        Span::between(self.from(), self.until())
+    }
+}

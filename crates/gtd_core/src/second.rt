@@ -1,0 +1,121 @@
+//! Seconds of the local civil clock, and spans of them.
+
+ghost use Rattle.std.specs.Prelude.{◌≡◌, ◌<ℤ◌, ◌≤ℤ◌, ◌↔◌, ℤ, IsTrue, MatchOption};
+ghost use Rattle.gtd_core.specs.Days.{IsOnDay};
+ghost use Rattle.gtd_core.specs.Interval.{Interval, Within};
+
+use std::marker::Model;
+
+/// A second of the local civil clock, by its number: 86,400 times the day number (1970-01-01 is day 0) plus the second
+/// of the day. Time zones and daylight saving do not enter.
+#[derive(Clone, Copy, Debug, PartialEq, Eq, PartialOrd, Ord)]
+pub struct Sec(pub i64);
+
+impl Sec {
+    /// The number of the day that the second is on.
+    pub fn day(self) -> i64
+        ensures on_day { IsOnDay self.0 result }
+    {
+        self.0.div_euclid(86_400)
+    }
+}
+
+/// The seconds from one on, up to and without a later one: at least one second. In contracts it is an `Interval`.
+#[derive(Clone, Copy, Debug, PartialEq, Eq)]
+pub struct Span {
+    from: Sec,
+    until: Sec,
+}
+
+impl Model for Span {
+    ghost use Rattle.std.specs.Prelude.{◌<ℤ◌};
+    ghost use Rattle.gtd_core.specs.Interval.{Interval};
+
+    ghost Value = { Interval };
+
+    ghost view = { λ a. record { from = a.from.0; until = a.until.0 } };
+
+    ghost invariant = { λ a. a.from.0 <ℤ a.until.0 };
+
+    ghost inverse = { λ d. record { from = record { 0 = d.from }; until = record { 0 = d.until } } };
+}
+
+impl Span {
+    /// The span from one second up to and without another, or `None` exactly where that holds no second.
+    pub fn new(from: Sec, until: Sec) -> Option<Span>
+        ensures span { MatchOption result (until.0 ≤ℤ from.0)
+            (λ x. (from.0 <ℤ until.0) × (x ≡ record { from = from.0; until = until.0 })) }
+    {
+        if from.0 < until.0 {
+            Some(Span { from, until })
+        } else {
+            None
+        }
+    }
+
+    /// The first second.
+    pub fn from(&self) -> Sec
+        ensures value { result.0 ≡ self.now.from }
+        ensures not_empty { self.now.from <ℤ self.now.until }
+    {
+        self.from
+    }
+
+    /// The second after the last one.
+    pub fn until(&self) -> Sec
+        ensures value { result.0 ≡ self.now.until }
+        ensures not_empty { self.now.from <ℤ self.now.until }
+    {
+        self.until
+    }
+
+    /// Whether the second is in the span.
+    pub fn contains(&self, second: Sec) -> bool
+        ensures member { IsTrue result ↔ Within self.now second.0 }
+    {
+        self.from <= second && second < self.until
+    }
+
+    /// The span of those seconds, of which the caller keeps that there is one.
+    pub fn between(from: Sec, until: Sec) -> Span
+        requires not_empty { from.0 <ℤ until.0 }
+        ensures value { result ≡ record { from = from.0; until = until.0 } }
+    {
+        Span { from, until }
+    }
+
+    /// The seconds of both spans, if there are any.
+    pub fn meet(self, other: Span) -> Option<Span>
+        ensures seconds { MatchOption result ((t : ℤ) → Within self t → Within other t → ⊥)
+            (λ m. (t : ℤ) → Within m t ↔ (Within self t × Within other t)) }
+        ensures ends { MatchOption result (Unit {0})
+            (λ m. (m.from <ℤ m.until) × (m.until ≤ℤ self.until) × (m.until ≤ℤ other.until)) }
+    {
+        let from = if self.from < other.from {
+            other.from
+        } else {
+            self.from
+        };
+        let until = if self.until < other.until {
+            self.until
+        } else {
+            other.until
+        };
+        if from < until {
+            Some(Span { from, until })
+        } else {
+            None
+        }
+    }
+
+    /// The span with a later end.
+    pub fn until_later(self, until: Sec) -> Span
+        requires later { self.until ≤ℤ until.0 }
+        ensures value { result ≡ record { from = self.from; until = until.0 } }
+    {
+        Span {
+            from: self.from,
+            until,
+        }
+    }
+}
