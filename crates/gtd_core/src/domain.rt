@@ -1,8 +1,7 @@
 //! Time domains: basic ones, joined by operators.
 
 ghost use Rattle.std.specs.Prelude.{◌≡◌, ◌≤◌, ◌<◌, ◌↔◌, ℕ, IfOk, IfErr, IsOk, IsSome, IfSome, ◌+◌};
-ghost use Rattle.gtd_core.specs.Trees.{tree_of, leaf_count, AreValid};
-ghost use Rattle.gtd_core.specs.declared.domain.Expr.{Expr};
+ghost use Rattle.gtd_core.specs.Trees.{tree_of, leaf_count};
 
 use crate::duration::Duration;
 use crate::start::Start;
@@ -78,8 +77,3 @@ fn leaves_within(expr: &Expr, most: u8) -> Option<u8>
         }
     }
 }
-
-/// A law: each basic domain of an expression has a start and a duration that are in their ranges.
-pub fn leaves_are_valid()
-    ensures valid { (expr : Expr) → AreValid (tree_of expr) }
-{}

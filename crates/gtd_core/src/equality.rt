@@ -1,7 +1,7 @@
 //! When two expressions are equal: written by hand, since it goes by trees.
 
-ghost use Rattle.std.specs.Prelude.{◌≡◌, ◌↔◌, IsTrue, true};
-ghost use Rattle.gtd_core.specs.Trees.{Tree, Single, tree_of};
+ghost use Rattle.std.specs.Prelude.{◌≡◌};
+ghost use Rattle.gtd_core.specs.Trees.{Single, tree_of};
 ghost use Rattle.gtd_core.specs.Equality.{same_start, same_duration, same_op, same_tree};
 ghost use Rattle.gtd_core.specs.EqualTrees.{tree_equivalence, tree_partial_equivalence};
 ghost use Rattle.std.specs.Cmp.{on_per, on_equiv};
@@ -46,7 +46,8 @@ impl Eq for Domain {
 
 #[tactic(auto, using(crate::specs::EqualTrees::start_decided, crate::specs::EqualTrees::duration_decided))]
 fn is_same_basic(basic: &Basic, other: &Basic) -> bool
-    ensures { result ≡ same_tree (Single basic.now.start.parts basic.now.duration.parts) (Single other.now.start.parts other.now.duration.parts) }
+    ensures { result ≡ same_tree (Single basic.now.start.parts basic.now.duration.parts)
+        (Single other.now.start.parts other.now.duration.parts) }
 {
     is_same_start(basic.start.parts(), other.start.parts())
         && is_same_duration(basic.duration.parts(), other.duration.parts())
@@ -71,8 +72,3 @@ fn is_same_op(op: Op, other: Op) -> bool
 {
     op == other
 }
-
-/// A law: two expressions are equal exactly if they are the same tree.
-pub fn equality_of_trees()
-    ensures same { (a b : Tree) → (same_tree a b ≡ true) ↔ (a ≡ b) }
-{}

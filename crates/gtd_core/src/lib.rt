@@ -10,10 +10,11 @@ pub use horizon::{Horizon, HorizonFault};
 pub use second::{Sec, Span};
 pub use start::{Start, StartParts};
 
-pub mod domain;
-pub mod duration;
-pub mod equality;
-pub mod fault;
-pub mod horizon;
-pub mod second;
-pub mod start;
+mod domain;
+mod duration;
+mod equality;
+mod fault;
+mod horizon;
+pub mod laws;
+mod second;
+mod start;

@@ -1,5 +1,5 @@
 use Rattle.gtd_core.specs.EqualTrees.{tree_equal, equal_same}
-use Rattle.gtd_core.proofs.equality.equality_of_trees.Goals as goal
+use Rattle.gtd_core.proofs.laws.equality_of_trees.Goals as goal
 
 pub returns : goal.returns
 returns c = record { same = λ a b. (tree_equal a b, equal_same a b) }

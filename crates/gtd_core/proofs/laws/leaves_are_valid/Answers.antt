@@ -1,5 +1,5 @@
 use Rattle.gtd_core.proofs.Leaves.{leaves_are_valid}
-use Rattle.gtd_core.proofs.domain.leaves_are_valid.Goals as goal
+use Rattle.gtd_core.proofs.laws.leaves_are_valid.Goals as goal
 
 pub returns : goal.returns
 returns c = record { valid = leaves_are_valid }
