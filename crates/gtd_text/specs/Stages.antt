@@ -10,18 +10,20 @@ use Rattle.gtd_text.specs.declared.builder.state.State.TheVariants as state
 use Rattle.gtd_text.specs.Building as building
 use Rattle.gtd_text.specs.Views.{sum_of, product_of}
 
--- the fields since the last sign, the newest first, once there is this token too
+-- The fields since the last sign, the newest first, once there is this token too.
 abbrev pub fields_with : TokenKind → List TokenKind → List TokenKind
 fields_with (Field letter value digits) fields = Field letter value digits ∷ fields
 fields_with sign fields = []
 
+-- What is kept of what stands before an item.
 abbrev pub pending_of : Pending → building.Pending
 pending_of pending = (sum_of pending.sum, product_of pending.product)
 
--- what stands before the open brackets, the innermost first
+-- What stands before the open brackets, the innermost first.
 unfoldable pub opened : List Pending → List building.Pending
 opened outer = reverse (map pending_of outer)
 
+-- What is kept of a state, given what stands before the open brackets and the fields since the last sign.
 abbrev pub stage_of : List building.Pending → List TokenKind → State → building.State
 stage_of outer fields (state.Expecting p) = building.Expecting outer (sum_of p.sum) (product_of p.product)
 stage_of outer fields (state.InStart p parts) = building.InStart outer (sum_of p.sum) (product_of p.product) fields parts

@@ -165,10 +165,10 @@ fn after_item(
         stage_of (opened outer.new.items) (fields_with kind fields) after ≡ next) }
 {
     match kind {
-        TokenKind::Star => Ok(State::Expecting(Pending {
-            sum,
-            product: Some(term),
-        })),
+        TokenKind::Star => {
+            let product = Some(term);
+            Ok(State::Expecting(Pending { sum, product }))
+        }
         TokenKind::Plus => next_term(alloc, Op::Union, sum, term),
         TokenKind::Minus => next_term(alloc, Op::Minus, sum, term),
         TokenKind::CloseBracket => {
