@@ -1,6 +1,7 @@
 //! The canonical text of a domain.
 
-ghost use Rattle.std.specs.Prelude.{◌≡◌, ◌≢◌, ◌≤◌, ◌<◌, ◌++◌, IfOk, OnOk, string_bytes, codes, decimal, length, [], ◌∷◌, ◌+◌, IfSome};
+ghost use Rattle.std.specs.Prelude.{◌≡◌, ◌≤◌, ◌<◌, ◌+◌, ◌++◌, [], ◌∷◌, string_bytes, codes, decimal, length};
+ghost use Rattle.std.specs.Prelude.{IfOk, OnOk, IfSome};
 ghost use Rattle.gtd_core.specs.Trees.{tree_of};
 ghost use Rattle.gtd_core.specs.Parts.{domain_tree, start_parts, duration_parts};
 ghost use Rattle.gtd_text.specs.Canonical.{canonical, sign_text, start_text, duration_text};
@@ -14,8 +15,8 @@ use std::alloc::{AllocError, Global};
 
 /// The canonical text of a domain, or an error where memory was refused.
 ///
-/// There are no spaces, a basic domain and each combination have brackets of their own, and fields come in one order with
-/// no leading zeros, so that two domains have one text exactly if they are equal.
+/// There are no spaces, a basic domain and each combination have brackets of their own, and fields come in one order
+/// with no leading zeros, so that two domains have one text exactly if they are equal.
 pub fn print_domain(alloc: Global, domain: &Domain) -> Result<String, AllocError>
     ensures exact { IfOk result (λ text. string_bytes text ≡ canonical (domain_tree domain.now)) }
 {
@@ -51,7 +52,8 @@ fn push_op(out: &mut String, op: Op) -> Result<(), AllocError>
 
 fn push_basic(out: &mut String, basic: &Basic) -> Result<(), AllocError>
     ensures { OnOk result (string_bytes out.new ≡ string_bytes out.old
-        ++ (codes "[(" ++ start_text (start_parts basic.now.start) ++ codes "){" ++ duration_text (duration_parts basic.now.duration) ++ codes "}]")) }
+        ++ (codes "[(" ++ start_text (start_parts basic.now.start) ++ codes "){"
+        ++ duration_text (duration_parts basic.now.duration) ++ codes "}]")) }
 {
     out.push_str("[(")?;
     push_start(out, &basic.start)?;
