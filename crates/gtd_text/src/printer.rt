@@ -26,7 +26,8 @@ pub fn print_domain(alloc: Global, domain: &Domain) -> Result<String, AllocError
 }
 
 fn push_expr(out: &mut String, expr: &Expr) -> Result<(), AllocError>
-    ensures { OnOk result (string_bytes out.new ≡ string_bytes out.old ++ canonical (tree_of expr.now)) }
+    ensures { OnOk result (string_bytes out.new
+        ≡ string_bytes out.old ++ canonical (tree_of expr.now)) }
 {
     match expr {
         Expr::Leaf(basic) => push_basic(out, basic),
@@ -64,7 +65,8 @@ fn push_basic(out: &mut String, basic: &Basic) -> Result<(), AllocError>
 
 #[tactic(auto, unfolding(crate::specs::Canonical::start_text))]
 fn push_start(out: &mut String, start: &Start) -> Result<(), AllocError>
-    ensures { OnOk result (string_bytes out.new ≡ string_bytes out.old ++ start_text (start_parts start.now)) }
+    ensures { OnOk result (string_bytes out.new
+        ≡ string_bytes out.old ++ start_text (start_parts start.now)) }
 {
     let parts = start.parts();
     push_month_fields(out, &parts)?;
@@ -111,7 +113,8 @@ fn push_clock_fields(out: &mut String, start: &StartParts) -> Result<(), AllocEr
 }
 
 fn push_field(out: &mut String, letter: &str, field: Option<u8>) -> Result<(), AllocError>
-    ensures { OnOk result (string_bytes out.new ≡ string_bytes out.old ++ field_text letter.now field) }
+    ensures { OnOk result (string_bytes out.new
+        ≡ string_bytes out.old ++ field_text letter.now field) }
 {
     match field {
         None => Ok(()),
@@ -123,7 +126,8 @@ fn push_field(out: &mut String, letter: &str, field: Option<u8>) -> Result<(), A
 }
 
 fn push_number(out: &mut String, letter: &str, n: u32) -> Result<(), AllocError>
-    ensures { OnOk result (string_bytes out.new ≡ string_bytes out.old ++ number_text letter.now n) }
+    ensures { OnOk result (string_bytes out.new
+        ≡ string_bytes out.old ++ number_text letter.now n) }
 {
     if n == 0 {
         Ok(())
@@ -151,7 +155,8 @@ fn push_year(out: &mut String, year: Option<u16>) -> Result<(), AllocError>
 
 fn push_place(out: &mut String, letter: &str, place: Option<(u8, u8)>) -> Result<(), AllocError>
     requires { IfSome place (λ place. (place.0 < 10) × (place.1 < 10)) }
-    ensures { OnOk result (string_bytes out.new ≡ string_bytes out.old ++ place_text letter.now place) }
+    ensures { OnOk result (string_bytes out.new
+        ≡ string_bytes out.old ++ place_text letter.now place) }
 {
     match place {
         None => Ok(()),
@@ -187,7 +192,8 @@ fn push_weekdays(out: &mut String, weekdays: u8) -> Result<(), AllocError>
 fn push_weekday(out: &mut String, weekdays: u8, weekday: u8) -> Result<(), AllocError>
     requires low { 1 ≤ weekday }
     requires high { weekday ≤ 7 }
-    ensures { OnOk result (string_bytes out.new ≡ string_bytes out.old ++ weekday_text weekdays weekday) }
+    ensures { OnOk result (string_bytes out.new
+        ≡ string_bytes out.old ++ weekday_text weekdays weekday) }
 {
     if (weekdays >> (weekday - 1)) % 2 == 1 {
         out.push_str("t")?;
@@ -199,7 +205,8 @@ fn push_weekday(out: &mut String, weekdays: u8, weekday: u8) -> Result<(), Alloc
 
 #[tactic(auto, unfolding(crate::specs::Canonical::duration_text))]
 fn push_duration(out: &mut String, duration: &DurationParts) -> Result<(), AllocError>
-    ensures { OnOk result (string_bytes out.new ≡ string_bytes out.old ++ duration_text duration.now) }
+    ensures { OnOk result (string_bytes out.new
+        ≡ string_bytes out.old ++ duration_text duration.now) }
 {
     if *duration == DurationParts::default() {
         out.push_str("s0")
