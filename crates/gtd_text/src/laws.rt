@@ -14,8 +14,7 @@ ghost use Rattle.gtd_text.specs.Reading.{StandsFor, HasNoFault, IsFault};
 ghost use Rattle.gtd_text.specs.Seen.{kinds, newest_first};
 ghost use Rattle.gtd_text.specs.declared.token.Token.{Token};
 
-use gtd_core::domain::leaves_are_valid;
-use gtd_core::equality::equality_of_trees;
+use gtd_core::laws::{equality_of_trees, leaves_are_valid};
 
 /// A text stands for one expression at most, and has one fault at most.
 pub fn one_meaning()
