@@ -1,0 +1,3 @@
+pub mod ClapCommand
+pub mod CommandLines
+pub mod LineCommands
