@@ -1,8 +1,8 @@
 -- What `clap` makes of a command line of `gtd`.
-use Rattle.std.proofs.Common.{◌≡◌, ◌∙◌, ◌<◌, ◌&&◌, ◌⊎◌, ℕ, Bool, cond, codes, true, false, zero, suc, refl, sym, ap, subst, arith, List, [], ◌∷◌, ◌++◌, map, length, Option, Some, None, inl, inr, is_some, true≢false, option_map, append_assoc, append-nil, lt-ltb, eqb-true}
-use Rattle.std.specs.Prelude.{⊤, ◌==◌, slice_get, fold, nat_lt, find}
+use Rattle.std.proofs.Common.{◌≡◌, ◌∙◌, ◌+◌, ◌<◌, ◌&&◌, ◌⊎◌, ℕ, Bool, cond, codes, true, false, zero, suc, refl, sym, ap, subst, arith, List, [], ◌∷◌, ◌++◌, map, length, Option, Some, None, inl, inr, is_some, true≢false, option_map, append_assoc, append-nil, lt-ltb, eqb-true}
+use Rattle.std.specs.Prelude.{⊤, encode_utf8, encode_utf8_all, ◌==◌, slice_get, fold, nat_lt, find}
 use Rattle.std.specs.List.{list_any}
-use Rattle.std.specs.Str.{bytes_eq, chars}
+use Rattle.std.specs.Str.{bytes_eq, chars, IsUtf8}
 use Rattle.clap.specs.Lexer.{long_of, short_of, name_and_value}
 use Rattle.clap.specs.Walk.{finished, rows_after, Held, Names, Row, Rule, Walk, Waiting, idle, positional, plain, all_of, answers_to, nothing_held, positional_held, reading_by, settled, walk_from, walked}
 use Rattle.clap.specs.Simple.{entered, Shape, built, built_leaf, filled, inherited, is_simple, label_of, names_of, subcommand_of, with_index}
@@ -11,7 +11,7 @@ use Rattle.clap.specs.Faults.{bundle_fault, check_fault, defaults_fault, entered
 use Rattle.clap.specs.declared.error.kind.ErrorKind.TheVariants.{InvalidSubcommand, UnknownArgument}
 use Rattle.clap.specs.declared.parser.matches.ValueSource.TheVariants.{CommandLine}
 use Rattle.clap.proofs.WalkLemmas.{bundle_ends, walk_stopped}
-use Rattle.std.proofs.lemmas.Str.{chars-nil}
+use Rattle.std.proofs.lemmas.Str.{chars_past_char, encode_ascii, encodes-chars}
 use Rattle.std.specs.Cmp.Lexicographic.{same_text}
 use Rattle.gtd_tool.specs.ClapCommand.{found_words, gtd_app, id, leaf_given, top_given, word_rule}
 use Rattle.gtd_tool.specs.CommandLines.{command_names, is_command, Text, is_option, plain_words, named_in}
@@ -107,36 +107,45 @@ data WordKind (word : Text) : Type 0 where
   long : (p : Text × Option Text) → long_of word ≡ Some p → is_option word ≡ true → WordKind word
   -- `-abc`
   short : (f : ℕ) (fs : Text) (x : ℕ) → long_of word ≡ None → short_of word ≡ Some (f ∷ fs) → slice_get (chars (f ∷ fs)) 0 ≡ Some x → is_option word ≡ true → WordKind word
-  -- a hyphen before bytes that are no characters
-  odd : (flags : Text) → long_of word ≡ None → short_of word ≡ Some flags → slice_get (chars flags) 0 ≡ None → is_option word ≡ false → WordKind word
+  -- any other
   bare : long_of word ≡ None → short_of word ≡ None → is_option word ≡ false → WordKind word
 
-after_hyphen : (first : ℕ) (rest : Text) → first ≡ 45 → 0 < length (chars (first ∷ rest))
-unfolding chars
-after_hyphen first [] e = rw e (omega arith)
-after_hyphen first (y ∷ ys) e = rw e (omega arith)
+-- bytes after a hyphen that spell no character are not the rest of a text
+chars_after_hyphen : (first y : ℕ) (zs : Text) → first ≡ 45 → IsUtf8 (first ∷ y ∷ zs) → chars (y ∷ zs) ≡ [] → ⊥
+chars_after_hyphen first y zs e text none =
+    let hyphen : encode_utf8 45 ≡ 45 ∷ [] = encode_ascii 45 (omega arith) in
+    let spelt : chars (first ∷ y ∷ zs) ≡ 45 ∷ [] =
+    chars_past_char (first ∷ y ∷ zs) (y ∷ zs) 45 text (ap (λ (n : ℕ). n ∷ y ∷ zs) e ∙ ap (λ (bs : Text). bs ++ y ∷ zs) (sym hyphen))
+    ∙ ap (λ (cs : Text). 45 ∷ cs) none in
+    let back : first ∷ y ∷ zs ≡ 45 ∷ [] =
+    sym (encodes-chars (first ∷ y ∷ zs) text) ∙ ap encode_utf8_all spelt ∙ ap (λ (bs : Text). bs ++ []) hyphen in
+    let lengths : length (first ∷ y ∷ zs) ≡ 1 = ap length back in
+    absurd (omega arith)
 
-has_chars : (cs : Text) → 0 < length cs → nat_lt 0 (length cs) ≡ true
-has_chars [] lt = absurd (omega arith)
-has_chars (c ∷ cs) lt = lt-ltb _ _ lt
-
-after_dash : (first y : ℕ) (zs : Text) (b : Bool) → (first == 45) ≡ true → (y == 45) ≡ b → bytes_eq (first ∷ y ∷ zs) dashes ≡ false → WordKind (first ∷ y ∷ zs)
-after_dash first y [] true e f other = absurd (true≢false (sym (rw (e, f) refl) ∙ other))
-after_dash first y (z ∷ zs) true e f other = long (name_and_value (z ∷ zs)) (rw (e, f) refl) (rw e (has_chars _ (after_hyphen y (z ∷ zs) (eqb-true _ _ f))))
-after_dash first y zs false e f other = by_chars (chars (y ∷ zs)) refl
+after_hyphen : (first y : ℕ) (zs : Text) (b : Bool) → (first == 45) ≡ true → (y == 45) ≡ b → bytes_eq (first ∷ y ∷ zs) dashes ≡ false
+    → IsUtf8 (first ∷ y ∷ zs) → WordKind (first ∷ y ∷ zs)
+after_hyphen first y [] true e f other text = absurd (true≢false (sym (rw (e, f) refl) ∙ other))
+after_hyphen first y (z ∷ zs) true e f other text = long (name_and_value (z ∷ zs)) (rw (e, f) refl) e
+after_hyphen first y zs false e f other text = by_chars (chars (y ∷ zs)) refl
   where
     by_chars : (cs : Text) → chars (y ∷ zs) ≡ cs → WordKind (first ∷ y ∷ zs)
-    by_chars [] g = odd (y ∷ zs) (rw (e, f) refl) (rw (e, f) refl) (ap (λ (t : Text). slice_get t 0) g) (rw (e, g) refl)
-    by_chars (c ∷ cs) g = short y zs c (rw (e, f) refl) (rw (e, f) refl) (ap (λ (t : Text). slice_get t 0) g) (rw (e, g) (has_chars (c ∷ cs) (omega arith)))
+    by_chars [] g = absurd (chars_after_hyphen first y zs (eqb-true _ _ e) text g)
+    by_chars (c ∷ cs) g = short y zs c (rw (e, f) refl) (rw (e, f) refl) (ap (λ (t : Text). slice_get t 0) g) e
 
-kind_at : (first : ℕ) (rest : Text) (b : Bool) → (first == 45) ≡ b → bytes_eq (first ∷ rest) dashes ≡ false → WordKind (first ∷ rest)
-kind_at first rest false e other = bare (rw e refl) (rw e refl) (rw e refl)
-kind_at first [] true e other = bare (rw e refl) (rw e refl) (rw (e, chars-nil) refl)
-kind_at first (y ∷ zs) true e other = after_dash first y zs (y == 45) e refl other
+kind_at : (first : ℕ) (rest : Text) (b : Bool) → (first == 45) ≡ b → bytes_eq (first ∷ rest) dashes ≡ false → IsUtf8 (first ∷ rest) → WordKind (first ∷ rest)
+kind_at first [] false e other text = bare (rw e refl) (rw e refl) refl
+kind_at first [] true e other text = bare (rw e refl) (rw e refl) refl
+kind_at first (y ∷ zs) false e other text = bare (rw e refl) (rw e refl) e
+kind_at first (y ∷ zs) true e other text = after_hyphen first y zs (y == 45) e refl other text
 
-kind_of_word : (word : Text) → bytes_eq word dashes ≡ false → WordKind word
-kind_of_word [] other = bare refl refl refl
-kind_of_word (first ∷ rest) other = kind_at first rest (first == 45) refl other
+kind_of_word : (word : Text) → bytes_eq word dashes ≡ false → IsUtf8 word → WordKind word
+kind_of_word [] other text = bare refl refl refl
+kind_of_word (first ∷ rest) other text = kind_at first rest (first == 45) refl other text
+
+-- each word is a text
+abbrev pub AreTexts : List Text → Type 0
+AreTexts [] = ⊤
+AreTexts (word ∷ rest) = IsUtf8 word × AreTexts rest
 
 -- ---- the words of a subcommand
 
@@ -161,19 +170,12 @@ bundle_refused : (h : Held) (f : ℕ) (fs : Text) (x : ℕ) → slice_get (chars
 unfolding flags_fault
 bundle_refused h f fs x e none = rw (none, e) refl
 
--- a hyphen before bytes that are no characters is read as a word
-bundle_passed : (k : ℕ) (flags : Text) (h : Held) → slice_get (chars flags) 0 ≡ None → flags_fault rules false k flags 0 h ≡ []
-unfolding flags_fault
-bundle_passed zero flags h e = refl
-bundle_passed (suc k) flags h e = rw e refl
-
 option_turn : (name : Text) (r : Read) (word : Text) → bytes_eq word dashes ≡ false → is_option word ≡ true → WordKind word
     → turn_fault (leaf name) [] (walk_at r (wait_of r) false) word ≡ unknown
 option_turn name nothing word e o (long p l _) = rw (e, l) refl
 option_turn name (some seen last) word e o (long p l _) = rw (e, l) refl
 option_turn name nothing word e o (short f fs x l s c _) = rw (e, l, s, bundle_refused nothing_held f fs x c refl) refl
 option_turn name (some seen last) word e o (short f fs x l s c _) = rw (e, l, s, bundle_refused (held_at (some seen last)) f fs x c refl) refl
-option_turn name r word e o (odd flags l s c is) = absurd (true≢false (sym o ∙ is))
 option_turn name r word e o (bare l s is) = absurd (true≢false (sym o ∙ is))
 
 word_turn : (name : Text) (r : Read) (word : Text) → bytes_eq word dashes ≡ false → is_option word ≡ false → WordKind word
@@ -182,8 +184,6 @@ word_turn name r word e o (long p l is) = absurd (true≢false (sym is ∙ o))
 word_turn name r word e o (short f fs x l s c is) = absurd (true≢false (sym is ∙ o))
 word_turn name nothing word e o (bare l s _) = rw (e, l, s) refl
 word_turn name (some seen last) word e o (bare l s _) = rw (e, l, s) refl
-word_turn name nothing word e o (odd flags l s c _) = rw (e, l, s, bundle_passed (length flags) flags nothing_held c, ← bundle_ends rules (length flags) flags 0 plain nothing_held (sym c)) refl
-word_turn name (some seen last) word e o (odd flags l s c _) = rw (e, l, s, bundle_passed (length flags) flags (held_at (some seen last)) c, ← bundle_ends rules (length flags) flags 0 plain (held_at (some seen last)) (sym c)) refl
 
 word_walk : (r : Read) (word : Text) → bytes_eq word dashes ≡ false → is_option word ≡ false → WordKind word
     → walked rules [] (walk_at r (wait_of r) false) word ≡ walk_at (some (words_of r) word) positional false
@@ -193,9 +193,6 @@ word_walk r word e o (short f fs x l s c is) = absurd (true≢false (sym is ∙ 
 word_walk nothing word e o (bare l s _) = rw (e, l, s) refl
 word_walk (some [] last) word e o (bare l s _) = rw (e, l, s) refl
 word_walk (some (v ∷ vs) last) word e o (bare l s _) = rw (e, l, s) refl
-word_walk nothing word e o (odd flags l s c _) = rw (e, l, s, ← bundle_ends rules (length flags) flags 0 plain nothing_held (sym c)) refl
-word_walk (some [] last) word e o (odd flags l s c _) = rw (e, l, s, ← bundle_ends rules (length flags) flags 0 plain (held_at (some [] last)) (sym c)) refl
-word_walk (some (v ∷ vs) last) word e o (odd flags l s c _) = rw (e, l, s, ← bundle_ends rules (length flags) flags 0 plain (held_at (some (v ∷ vs) last)) (sym c)) refl
 
 -- ---- a whole subcommand
 
@@ -226,23 +223,24 @@ after_dashes name r word rest e = (
   ap (λ (w : Walk). (fold (walked rules []) w rest).held) (dash_walk r word e) ∙ trail_walk r (wait_of r) rest,
 )
 
-an_option : (name : Text) (r : Read) (word : Text) (rest : List Text) → bytes_eq word dashes ≡ false → is_option word ≡ true → Reads name r (word ∷ rest) None
+an_option : (name : Text) (r : Read) (word : Text) (rest : List Text) → bytes_eq word dashes ≡ false → is_option word ≡ true → IsUtf8 word → Reads name r (word ∷ rest) None
 unfolding walk_fault
-an_option name r word rest e o =
-    ap (λ (k : Kinds). or_else k (walk_fault (leaf name) [] (walked rules [] (walk_at r (wait_of r) false) word) rest)) (option_turn name r word e o (kind_of_word word e))
+an_option name r word rest e o text =
+    ap (λ (k : Kinds). or_else k (walk_fault (leaf name) [] (walked rules [] (walk_at r (wait_of r) false) word) rest)) (option_turn name r word e o (kind_of_word word e text))
 
-by_dash : (name : Text) (r : Read) (word : Text) (rest : List Text) (b o : Bool) → bytes_eq word dashes ≡ b → is_option word ≡ o
+by_dash : (name : Text) (r : Read) (word : Text) (rest : List Text) (b o : Bool) → bytes_eq word dashes ≡ b → is_option word ≡ o → IsUtf8 word
     → Reads name (some (words_of r) word) rest (plain_words rest)
     → Reads name r (word ∷ rest) (cond b (Some rest) (cond o None (option_map (λ words. word ∷ words) (plain_words rest))))
-by_dash name r word rest true o e f more = after_dashes name r word rest e
-by_dash name r word rest false true e f more = an_option name r word rest e f
-by_dash name r word rest false false e f more = one_more name r word rest (plain_words rest) (word_turn name r word e f (kind_of_word word e))
-    (word_walk r word e f (kind_of_word word e)) more
+by_dash name r word rest true o e f text more = after_dashes name r word rest e
+by_dash name r word rest false true e f text more = an_option name r word rest e f text
+by_dash name r word rest false false e f text more = one_more name r word rest (plain_words rest) (word_turn name r word e f (kind_of_word word e text))
+    (word_walk r word e f (kind_of_word word e text)) more
 
-leaf_reads : (name : Text) (r : Read) (rest : List Text) → Reads name r rest (plain_words rest)
+leaf_reads : (name : Text) (r : Read) (rest : List Text) → AreTexts rest → Reads name r rest (plain_words rest)
 unfolding walk_fault
-leaf_reads name r [] = (refl, refl)
-leaf_reads name r (word ∷ rest) = by_dash name r word rest (bytes_eq word dashes) (is_option word) refl refl (leaf_reads name (some (words_of r) word) rest)
+leaf_reads name r [] texts = (refl, refl)
+leaf_reads name r (word ∷ rest) texts =
+    by_dash name r word rest (bytes_eq word dashes) (is_option word) refl refl texts.0 (leaf_reads name (some (words_of r) word) rest texts.1)
 
 abbrev end_fault : Text → Held → Kinds
 end_fault name end = or_else (settle_fault rules false end)
@@ -399,11 +397,6 @@ top_bundle : (f : ℕ) (fs : Text) (x : ℕ) → slice_get (chars (f ∷ fs)) 0 
 unfolding flags_fault
 top_bundle f fs x e = rw e refl
 
-top_bundle_passed : (k : ℕ) (flags : Text) → slice_get (chars flags) 0 ≡ None → flags_fault [] false k flags 0 nothing_held ≡ []
-unfolding flags_fault
-top_bundle_passed zero flags e = refl
-top_bundle_passed (suc k) flags e = rw e refl
-
 abbrev Strays : Kinds → Type 0
 Strays k = (k ≡ unknown) ⊎ (k ≡ UnknownArgument ∷ InvalidSubcommand ∷ [])
 
@@ -411,8 +404,6 @@ top_turn : (word : Text) → is_command word ≡ false → bytes_eq word dashes 
 top_turn word e d (long p l _) = inl (rw (name_met word command_names, e, d, l) refl)
 top_turn word e d (short f fs x l s c _) = inl (rw (name_met word command_names, e, d, l, s, top_bundle f fs x c) refl)
 top_turn word e d (bare l s _) = inr (rw (name_met word command_names, e, d, l, s) refl)
-top_turn word e d (odd flags l s c _) =
-    inr (rw (name_met word command_names, e, d, l, s, top_bundle_passed (length flags) flags c, ← bundle_ends [] (length flags) flags 0 plain nothing_held (sym c)) refl)
 
 strays : (a b c : Kinds) → Strays a → IsRefusedBy (or_else (or_else a b) c)
 strays a b c (inl h) = rw h tt
@@ -423,17 +414,19 @@ unfolding walk_fault walked defaults_fault
 top_dash word [] e d = rw (name_met word command_names, e, d) tt
 top_dash word (x ∷ xs) e d = rw (name_met word command_names, e, d) tt
 
-no_command : (word : Text) (rest : List Text) (d : Bool) → is_command word ≡ false → bytes_eq word dashes ≡ d → IsRefusedBy (fault_of gtd_app (word ∷ rest))
+no_command : (word : Text) (rest : List Text) (d : Bool) → is_command word ≡ false → bytes_eq word dashes ≡ d → IsUtf8 word → IsRefusedBy (fault_of gtd_app (word ∷ rest))
 unfolding walk_fault
-no_command word rest true e d = top_dash word rest e d
-no_command word rest false e d = strays _ _ _ (top_turn word e d (kind_of_word word d))
+no_command word rest true e d text = top_dash word rest e d
+no_command word rest false e d text = strays _ _ _ (top_turn word e d (kind_of_word word d text))
 
-by_command : (name : Text) (rest : List Text) (b : Bool) → is_command name ≡ b → ClapReads (name ∷ rest) (cond b (option_map (λ words. (name, words)) (plain_words rest)) None)
-by_command name rest true e = command_reads name rest (plain_words rest) e (leaf_level name rest (plain_words rest) (leaf_reads name nothing rest))
-by_command name rest false e = no_command name rest (bytes_eq name dashes) e refl
+by_command : (name : Text) (rest : List Text) (b : Bool) → is_command name ≡ b → AreTexts (name ∷ rest)
+    → ClapReads (name ∷ rest) (cond b (option_map (λ words. (name, words)) (plain_words rest)) None)
+by_command name rest true e texts =
+    command_reads name rest (plain_words rest) e (leaf_level name rest (plain_words rest) (leaf_reads name nothing rest texts.1))
+by_command name rest false e texts = no_command name rest (bytes_eq name dashes) e refl texts.0
 
 -- `clap` refuses the words that give no command, and finds the command and its words in the others
-pub clap_reads : (words : List Text) → ClapReads words (named_in words)
+pub clap_reads : (words : List Text) → AreTexts words → ClapReads words (named_in words)
 unfolding walk_fault defaults_fault
-clap_reads [] = tt
-clap_reads (name ∷ rest) = by_command name rest (is_command name) refl
+clap_reads [] texts = tt
+clap_reads (name ∷ rest) texts = by_command name rest (is_command name) refl texts

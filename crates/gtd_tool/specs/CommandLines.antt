@@ -30,10 +30,10 @@ command_named name words = if bytes_eq name (codes "check") then of_one Check wo
     else (if bytes_eq name (codes "canon") then of_one Canon words
     else None)
 
--- the word is an option: a hyphen and at least one more character
+-- the word has two or more bytes and begins with a hyphen
 abbrev pub is_option : Text → Bool
-is_option [] = false
-is_option (first ∷ rest) = first == 45 && nat_lt 0 (length (chars rest))
+is_option (first ∷ second ∷ rest) = first == 45
+is_option word = false
 
 -- the words that stand for themselves: those before the first `--`, none of which may be an option,
 -- and all those after it

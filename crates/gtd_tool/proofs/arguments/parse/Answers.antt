@@ -1,4 +1,4 @@
-use Rattle.std.proofs.Common.{◌≡◌, ◌∙◌, ◌⊎◌, refl, ap, subst, rules, Bool, cond, true, false, List, [], Option, Some, None, map, string_bytes, inl, inr}
+use Rattle.std.proofs.Common.{◌≡◌, ◌∙◌, ◌⊎◌, refl, ap, subst, rules, Bool, cond, true, false, List, [], ◌∷◌, Option, Some, None, map, string_bytes, inl, inr}
 use Rattle.clap.specs.Simple.{App, app_of, is_simple, subcommand_of, subcommand_rows_of}
 use Rattle.clap.specs.Kinds.{Kinds, HasKind, IsAmong}
 use Rattle.clap.specs.Values.{kind_of}
@@ -10,7 +10,9 @@ use Rattle.gtd_tool.specs.CommandLines.{Text, named_in}
 use Rattle.gtd_tool.specs.ClapCommand.{HasGiven, gtd_app, is_memory}
 use Rattle.gtd_tool.specs.declared.refusal.Refusal.{Refusal}
 use Rattle.gtd_tool.specs.declared.refusal.Refusal.TheVariants.{Memory, Usage}
-use Rattle.gtd_tool.proofs.ClapWords.{ClapReads, IsRefusedBy, clap_reads, gtd_is_free, gtd_is_simple}
+use Rattle.gtd_tool.proofs.ClapWords.{AreTexts, ClapReads, IsRefusedBy, clap_reads, gtd_is_free, gtd_is_simple}
+use Rattle.std.specs.Prelude.{String}
+use Rattle.std.proofs.lemmas.Str.{IsUtf8-string_bytes}
 use Rattle.gtd_tool.proofs.arguments.parse.Goals as goal
 
 none_refuses : (k : Kinds) → IsRefusedBy k → k ≡ [] → ⊥
@@ -34,17 +36,22 @@ refused words k None e h (inr among) r is = by_kind (is_memory k) is
     by_kind true f = inl f
     by_kind false f = inr (f, e)
 
+-- the words are texts
+texts_of : {Z : Type 0} (words : List (String Z)) → AreTexts (map string_bytes words)
+texts_of [] = tt
+texts_of (word ∷ rest) = (IsUtf8-string_bytes word, texts_of rest)
+
 pub returns-in-Ok-clause-found : goal.returns-in-Ok-clause-found
 returns-in-Ok-clause-found c =
     let app_is : app_of c.in_ok-program.program ≡ gtd_app = search rules in
     let words = map string_bytes c.args.words.now in
     let none : fault_of gtd_app words ≡ [] = subst (λ (a : App). fault_of a words ≡ []) app_is (c.in-Ok.ensures.kinds (ap is_simple_and_free app_is ∙ gtd_is_free)) in
     let rows = (c.in-Ok.ensures.matches (ap is_simple app_is ∙ gtd_is_simple)).1 ∙ ap (λ (a : App). subcommand_of a words) app_is in
-    taken words c.in-Ok.matches (named_in words) refl (clap_reads words) none rows
+    taken words c.in-Ok.matches (named_in words) refl (clap_reads words (texts_of c.args.words.now)) none rows
 
 pub returns-in-Err-clause-refused : goal.returns-in-Err-clause-refused
 returns-in-Err-clause-refused c =
     let app_is : app_of c.in_ok-program.program ≡ gtd_app = search rules in
     let words = map string_bytes c.args.words.now in
     let kinds : HasKind (fault_of gtd_app words) c.in-Err.error = subst (λ (a : App). HasKind (fault_of a words) c.in-Err.error) app_is (c.in-Err.ensures.kinds (ap is_simple_and_free app_is ∙ gtd_is_free)) in
-    refused words (kind_of c.in-Err.error) (named_in words) refl (clap_reads words) kinds c.refusal_of.result c.refusal_of.ensures
+    refused words (kind_of c.in-Err.error) (named_in words) refl (clap_reads words (texts_of c.args.words.now)) kinds c.refusal_of.result c.refusal_of.ensures
