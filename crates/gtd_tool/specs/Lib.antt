@@ -1,3 +1,4 @@
 pub mod ClapCommand
 pub mod CommandLines
 pub mod LineCommands
+pub mod Writing

@@ -3,5 +3,6 @@
 
 mod arguments;
 mod refusal;
+mod writing;
 
 pub use refusal::Refusal;

@@ -1,0 +1,29 @@
+-- How the bytes that a writer took grow.
+use Rattle.std.proofs.Common.{◌≡◌, ◌∙◌, ℕ, Bool, true, List, [], ◌∷◌, ◌++◌, Option, refl, sym, ap, subst, append_assoc, append-nil, length, take, drop, take-append-drop, eqb-true}
+use Rattle.std.proofs.lemmas.List.{nil_from_length}
+use Rattle.std.specs.Prelude.{◌==◌}
+use Rattle.std.specs.Io.KnownBytes.{Appends, Keeps}
+use Rattle.std.proofs.KnownBytes.{Appends-kept, Appends-nil, Appends-trans}
+use Rattle.gtd_tool.specs.Writing.{AppendsPart, TakesBefore}
+
+pub takes_none : (a : Option (List ℕ)) (bytes : List ℕ) → TakesBefore a a bytes bytes
+takes_none a bytes = record { part = []; before = refl; taken = Appends-nil a }
+
+pub takes_more : (a b c : Option (List ℕ)) (bytes rest : List ℕ) (n : ℕ) → TakesBefore a b bytes rest → Appends b c (take n rest)
+    → TakesBefore a c bytes (drop n rest)
+takes_more a b c bytes rest n so more = record {
+  part = so.part ++ take n rest;
+  before = so.before ∙ ap (λ (r : List ℕ). so.part ++ r) (sym (take-append-drop n rest)) ∙ sym (append_assoc so.part (take n rest) (drop n rest));
+  taken = Appends-trans a b c so.part (take n rest) so.taken more;
+}
+
+pub takes_kept : (a b c : Option (List ℕ)) (bytes rest : List ℕ) → TakesBefore a b bytes rest → Keeps b c → TakesBefore a c bytes rest
+takes_kept a b c bytes rest so kept = record { part = so.part; before = so.before; taken = Appends-kept a b c so.part so.taken kept }
+
+pub takes_all : (a b : Option (List ℕ)) (bytes rest : List ℕ) → TakesBefore a b bytes rest → (length rest == 0) ≡ true → Appends a b bytes
+takes_all a b bytes rest so none =
+    let all : bytes ≡ so.part = so.before ∙ ap (λ (r : List ℕ). so.part ++ r) (nil_from_length rest (eqb-true _ _ none)) ∙ append-nil so.part in
+    subst (Appends a b) (sym all) so.taken
+
+pub part_of : (a b : Option (List ℕ)) (bytes rest : List ℕ) → TakesBefore a b bytes rest → AppendsPart a b bytes
+part_of a b bytes rest so = record { rest = rest; takes = so }
