@@ -1,5 +1,7 @@
 -- What a writer has taken of the bytes that it was handed.
 use Rattle.std.specs.Prelude.{◌≡◌, ◌++◌, ℕ, List, Option}
+use Rattle.std.specs.Borrow.{Bor}
+use Rattle.std.specs.List.{flat_map}
 use Rattle.std.specs.Io.KnownBytes.{Appends}
 
 -- the writer's known bytes grew by all of the bytes before the rest
@@ -12,3 +14,7 @@ pub record TakesBefore (old new : Option (List ℕ)) (bytes rest : List ℕ) : T
 pub record AppendsPart (old new : Option (List ℕ)) (bytes : List ℕ) : Type 0 where
   pub rest : List ℕ
   pub takes : TakesBefore old new bytes rest
+
+-- the texts, one after the other
+abbrev pub joined : List (Bor (List ℕ)) → List ℕ
+joined texts = flat_map (λ text. text.now) texts

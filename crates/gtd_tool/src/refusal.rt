@@ -1,6 +1,15 @@
 //! Why a command line is not carried out.
 
+ghost use Rattle.std.specs.Prelude.{◌≡◌, OnErr, OnOk};
+ghost use Rattle.std.specs.Io.KnownBytes.{Appends};
+ghost use Rattle.gtd_tool.specs.Refusals.{refusal_line, status_of};
+ghost use Rattle.gtd_tool.specs.Writing.{AppendsPart};
+
+use crate::writing::put_texts;
 use gtd_core::TextFault;
+use itoa::Buffer;
+use std::io;
+use std::io::Write;
 use thiserror::Error;
 
 /// Why a command line is not carried out. Its text is the line for standard error.
@@ -18,4 +27,39 @@ pub enum Refusal {
     /// Memory was refused.
     #[error("fault NoMemory")]
     Memory,
+}
+
+impl Refusal {
+    /// The exit status: 1 where the input is refused, 2 for usage, 3 where a write or memory failed.
+    pub fn status(&self) -> u8
+        ensures value { result ≡ status_of self.now }
+    {
+        match self {
+            Refusal::Text(_) => 1,
+            Refusal::Usage => 2,
+            Refusal::Write | Refusal::Memory => 3,
+        }
+    }
+
+    /// Writes the line for standard error, with its end. Where the writer fails, it has taken a first part of the line.
+    pub fn put_line<W: Write>(&self, err: &mut W) -> io::Result<()>
+        ensures line { OnOk result (Appends (W.contents err.old) (W.contents err.new) (refusal_line self.now)) }
+        ensures part { OnErr result (AppendsPart (W.contents err.old) (W.contents err.new) (refusal_line self.now)) }
+    {
+        match self {
+            Refusal::Usage => put_texts(&["usage: gtd COMMAND ARGUMENTS\n"], err),
+            Refusal::Text(fault) => put_fault(fault, err),
+            Refusal::Write => put_texts(&["fault WriteFault\n"], err),
+            Refusal::Memory => put_texts(&["fault NoMemory\n"], err),
+        }
+    }
+}
+
+fn put_fault<W: Write>(fault: &TextFault, err: &mut W) -> io::Result<()>
+    ensures line { OnOk result (Appends (W.contents err.old) (W.contents err.new) (refusal_line (Refusal.Text fault.now))) }
+    ensures part { OnErr result (AppendsPart (W.contents err.old) (W.contents err.new) (refusal_line (Refusal.Text fault.now))) }
+{
+    let mut place = Buffer::new();
+    let place = place.format(fault.place);
+    put_texts(&["fault ", fault.kind.name(), " at ", place, "\n"], err)
 }

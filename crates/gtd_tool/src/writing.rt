@@ -2,7 +2,7 @@
 
 ghost use Rattle.std.specs.Prelude.{◌≡◌, List, OnErr, OnOk};
 ghost use Rattle.std.specs.Io.KnownBytes.{Appends};
-ghost use Rattle.gtd_tool.specs.Writing.{AppendsPart, TakesBefore};
+ghost use Rattle.gtd_tool.specs.Writing.{AppendsPart, TakesBefore, joined};
 
 use std::io::{Error, ErrorKind, Result, Write};
 
@@ -28,4 +28,15 @@ pub fn put<W: Write>(bytes: &[u8], out: &mut W) -> Result<()>
         }
     }
     Err(Error::from(ErrorKind::Interrupted))
+}
+
+/// Hands over one text after the other.
+pub fn put_texts<W: Write>(texts: &[&str], out: &mut W) -> Result<()>
+    ensures whole { OnOk result (Appends (W.contents out.old) (W.contents out.new) (joined texts.now)) }
+    ensures part { OnErr result (AppendsPart (W.contents out.old) (W.contents out.new) (joined texts.now)) }
+{
+    for text in texts {
+        put(text.as_bytes(), out)?;
+    }
+    Ok(())
 }
