@@ -3,6 +3,7 @@
 #![tactic(auto)]
 
 mod arguments;
+pub mod laws;
 mod performing;
 mod planning;
 mod plans;

@@ -5,7 +5,7 @@ ghost use Rattle.std.specs.Io.KnownBytes.{Appends};
 ghost use Rattle.gtd_core.specs.Parts.{domain_tree};
 ghost use Rattle.gtd_text.specs.Canonical.{canonical};
 ghost use Rattle.gtd_tool.specs.Plans.{asked_by};
-ghost use Rattle.gtd_tool.specs.Printed.{printed};
+ghost use Rattle.gtd_tool.specs.Printed.{TakesMemory, printed};
 ghost use Rattle.gtd_tool.specs.Writing.{AppendsPart};
 
 use crate::plans::Plan;
@@ -22,7 +22,9 @@ use std::io::Write;
 pub fn perform<W: Write>(alloc: Global, plan: &Plan, out: &mut W) -> Result<(), Refusal>
     ensures printed { OnOk result (Appends (W.contents out.old) (W.contents out.new) (printed (asked_by plan.now))) }
     ensures part { OnErr result (AppendsPart (W.contents out.old) (W.contents out.new) (printed (asked_by plan.now))) }
-    ensures cause { IfErr result (λ r. (r ≡ Refusal.Write) ⊎ ((r ≡ Refusal.Memory) × (out.new ≡ out.old))) }
+    ensures cause { IfErr result (λ r. (r ≡ Refusal.Write) ⊎ (r ≡ Refusal.Memory)) }
+    ensures unwritten { IfErr result (λ r. r ≡ Refusal.Memory → out.new ≡ out.old) }
+    ensures memory { IfErr result (λ r. r ≡ Refusal.Memory → TakesMemory (asked_by plan.now)) }
 {
     match plan {
         Plan::Check(_) => print("ok\n", out),

@@ -1,6 +1,6 @@
 //! From the words of a command line to a plan.
 
-ghost use Rattle.std.specs.Prelude.{◌≡◌, ◌≢◌, ◌⊎◌, ⊤, IfErr, IfOk, MatchResult, map, string_bytes};
+ghost use Rattle.std.specs.Prelude.{◌≡◌, ◌≢◌, ◌⊎◌, IfErr, IfOk, MatchResult, map, string_bytes};
 ghost use Rattle.gtd_core.specs.Parts.{domain_tree};
 ghost use Rattle.gtd_core.specs.Trees.{Tree};
 ghost use Rattle.gtd_core.specs.declared.fault.TextFault.{TextFault};
@@ -12,7 +12,7 @@ ghost use Rattle.gtd_tool.specs.Refusals.{HasFault, IsRefusalOf};
 use crate::arguments::{CommandLine, read_line};
 use crate::plans::Plan;
 use crate::refusal::Refusal;
-use gtd_core::{Domain, Fault};
+use gtd_core::{Domain, Fault, TextFault};
 use gtd_text::read_domain;
 use std::alloc::Global;
 
@@ -27,10 +27,18 @@ fn domain_of(alloc: Global, text: &str) -> Result<Domain, Refusal>
 {
     match read_domain(alloc, text.as_bytes()) {
         Ok(domain) => Ok(domain),
-        Err(fault) => match fault.kind {
-            Fault::NoMemory => Err(Refusal::Memory),
-            _ => Err(Refusal::Text(fault)),
-        },
+        Err(fault) => Err(refusal_of(fault)),
+    }
+}
+
+// Want of memory is no fault of the text.
+fn refusal_of(fault: TextFault) -> Refusal
+    ensures { ((fault.kind ≡ Fault.NoMemory) × (result ≡ Refusal.Memory))
+        ⊎ ((fault.kind ≢ Fault.NoMemory) × (result ≡ Refusal.Text fault)) }
+{
+    match fault.kind {
+        Fault::NoMemory => Refusal::Memory,
+        _ => Refusal::Text(fault),
     }
 }
 
@@ -64,8 +72,7 @@ pub fn plan(alloc: Global, words: Vec<String>) -> Result<Plan, Refusal>
     ensures first { (refusal : Refusal) → IsRefusalOf (map string_bytes words.items) refusal
         → MatchResult result (λ plan. ⊥) (λ r. (r ≡ Refusal.Memory) ⊎ (r ≡ refusal)) }
     // Want of memory in reading a domain is no fault of its text.
-    ensures memory { (fault : TextFault) → fault.kind ≡ Fault.NoMemory
-        → MatchResult result (λ plan. ⊤) (λ r. r ≢ Refusal.Text fault) }
+    ensures memory { IfErr result (λ r. (fault : TextFault) → r ≡ Refusal.Text fault → fault.kind ≢ Fault.NoMemory) }
 {
     let line = read_line(alloc, words.as_slice())?;
     plan_line(alloc, line)

@@ -1,4 +1,4 @@
-use Rattle.std.proofs.Common.{◌≡◌, refl, sym, ap, subst, inl, inr}
+use Rattle.std.proofs.Common.{◌≡◌, ◌∙◌, refl, sym, ap, subst, inl, inr}
 use Rattle.gtd_core.specs.Parts.{domain_tree}
 use Rattle.gtd_core.specs.declared.fault.TextFault.{TextFault}
 use Rattle.gtd_text.specs.Reading.{IsFault, HasNoFault, StandsFor}
@@ -20,20 +20,29 @@ returns-in-Ok-clause-only c = λ tree domain.
 pub returns-in-Ok-clause-first : goal.returns-in-Ok-clause-first
 returns-in-Ok-clause-first c = λ fault has. c.in-Ok.ensures.first fault (subst (λ (t : Text). IsFault t fault) (sym c.as_bytes.ensures.value) has)
 
-pub returns-in_default : goal.returns-in_default
-returns-in_default c = 
+pub returns-in-Err-clause-only : goal.returns-in-Err-clause-only
+returns-in-Err-clause-only c = λ tree domain.
     let same = sym c.as_bytes.ensures.value in
-    record {
-      read = tt;
-      only = λ tree domain.
-        let none = c.in-Err.ensures.only tree (subst (λ (t : Text). StandsFor t tree) same domain.stands) (subst HasNoFault same domain.faultless) in
-        absurd (c.in_default.not-NoMemory (ap (λ (f : TextFault). f.kind) none));
-      fault = elim c.in-Err.ensures.fault [
-        | inl none ↦ absurd (c.in_default.not-NoMemory (ap (λ (f : TextFault). f.kind) none))
-        | inr has ↦ inr (c.in-Err.fault, refl, subst (λ (t : Text). IsFault t c.in-Err.fault) c.as_bytes.ensures.value has, c.in_default.not-NoMemory)
-      ];
-      first = λ fault has. elim (c.in-Err.ensures.first fault (subst (λ (t : Text). IsFault t fault) same has)) [
-        | inl none ↦ absurd (c.in_default.not-NoMemory (ap (λ (f : TextFault). f.kind) none))
-        | inr is ↦ inr (ap text_refusal is)
-      ];
-    }
+    let none = c.in-Err.ensures.only tree (subst (λ (t : Text). StandsFor t tree) same domain.stands) (subst HasNoFault same domain.faultless) in
+    elim c.refusal_of.ensures [
+      | inl memory ↦ memory.1
+      | inr text ↦ absurd (text.0 (ap (λ (f : TextFault). f.kind) none))
+    ]
+
+pub returns-in-Err-clause-fault : goal.returns-in-Err-clause-fault
+returns-in-Err-clause-fault c = elim c.refusal_of.ensures [
+  | inl memory ↦ inl memory.1
+  | inr text ↦ elim c.in-Err.ensures.fault [
+    | inl none ↦ absurd (text.0 (ap (λ (f : TextFault). f.kind) none))
+    | inr has ↦ inr (c.in-Err.fault, text.1, subst (λ (t : Text). IsFault t c.in-Err.fault) c.as_bytes.ensures.value has, text.0)
+  ]
+]
+
+pub returns-in-Err-clause-first : goal.returns-in-Err-clause-first
+returns-in-Err-clause-first c = λ fault has. elim c.refusal_of.ensures [
+  | inl memory ↦ inl memory.1
+  | inr text ↦ elim (c.in-Err.ensures.first fault (subst (λ (t : Text). IsFault t fault) (sym c.as_bytes.ensures.value) has)) [
+    | inl none ↦ absurd (text.0 (ap (λ (f : TextFault). f.kind) none))
+    | inr is ↦ inr (text.1 ∙ ap text_refusal is)
+  ]
+]
