@@ -19,57 +19,196 @@ static CANONICAL: [(&str, &str); 15] = [
     ("[(h1){h0}]", "[(h1){s0}]"),
     ("[(h1){y100}]", "[(h1){y100}]"),
     ("[(h1){d1}]", "[(h1){d1}]"),
-    ("(d13t6){d1}+(h1){h1}-(h2){h1}", "[[[(d13t6){d1}]+[(h1){h1}]]-[(h2){h1}]]"),
+    (
+        "(d13t6){d1}+(h1){h1}-(h2){h1}",
+        "[[[(d13t6){d1}]+[(h1){h1}]]-[(h2){h1}]]",
+    ),
     ("[(t2l12f11M5){d1}]", "[(M5f11l12t2){d1}]"),
     ("[(l12){d1}]", "[(l12){d1}]"),
     ("[(y0024M01d031){w000001}]", "[(y0024M1d31){w1}]"),
-    ("(h1){h1}+(h2){h1}*(h3){h1}", "[[(h1){h1}]+[[(h2){h1}]*[(h3){h1}]]]"),
-    ("(s59m58h23t7t1d9w53M12y9999){s1m2h3d4w5M6y7}", "[(y9999M12w53d9t1t7h23m58s59){y7M6w5d4h3m2s1}]"),
+    (
+        "(h1){h1}+(h2){h1}*(h3){h1}",
+        "[[(h1){h1}]+[[(h2){h1}]*[(h3){h1}]]]",
+    ),
+    (
+        "(s59m58h23t7t1d9w53M12y9999){s1m2h3d4w5M6y7}",
+        "[(y9999M12w53d9t1t7h23m58s59){y7M6w5d4h3m2s1}]",
+    ),
 ];
 
 // Texts that are no domains, their faults and the lines of these.
 static FAULTS: [(&str, Fault, usize, &str); 52] = [
     ("", Fault::Incomplete, 0, "fault Incomplete at 0\n"),
-    ("[(h10){h4}", Fault::Incomplete, 10, "fault Incomplete at 10\n"),
-    ("[(h25){h1}]", Fault::FieldRange, 2, "fault FieldRange at 2\n"),
+    (
+        "[(h10){h4}",
+        Fault::Incomplete,
+        10,
+        "fault Incomplete at 10\n",
+    ),
+    (
+        "[(h25){h1}]",
+        Fault::FieldRange,
+        2,
+        "fault FieldRange at 2\n",
+    ),
     ("[(h1h2){h1}]", Fault::Repeated, 4, "fault Repeated at 4\n"),
     ("[(z1){z51}]", Fault::Fuzzy, 2, "fault Fuzzy at 2\n"),
     ("[(h10){-h4}]", Fault::Negative, 7, "fault Negative at 7\n"),
-    ("[(h1){y101}]", Fault::TooLongDuration, 5, "fault TooLongDuration at 5\n"),
-    ("[(h1){h878401}]", Fault::TooLongDuration, 5, "fault TooLongDuration at 5\n"),
-    (" ( t4 t2 t4 h07 ) { m30 h1 m}", Fault::BadToken, 27, "fault BadToken at 27\n"),
-    ("[(h24){h1}]", Fault::FieldRange, 2, "fault FieldRange at 2\n"),
-    ("[(y24){d1}]", Fault::FieldRange, 2, "fault FieldRange at 2\n"),
-    ("[(f07){d1}]", Fault::FieldRange, 2, "fault FieldRange at 2\n"),
-    ("[(f61){d1}]", Fault::FieldRange, 2, "fault FieldRange at 2\n"),
-    ("[(f523){d1}]", Fault::FieldRange, 2, "fault FieldRange at 2\n"),
-    ("[(t23){d1}]", Fault::FieldRange, 2, "fault FieldRange at 2\n"),
-    ("[(l62){d1}]", Fault::FieldRange, 2, "fault FieldRange at 2\n"),
-    ("[(l1){d1}]", Fault::FieldRange, 2, "fault FieldRange at 2\n"),
+    (
+        "[(h1){y101}]",
+        Fault::TooLongDuration,
+        5,
+        "fault TooLongDuration at 5\n",
+    ),
+    (
+        "[(h1){h878401}]",
+        Fault::TooLongDuration,
+        5,
+        "fault TooLongDuration at 5\n",
+    ),
+    (
+        " ( t4 t2 t4 h07 ) { m30 h1 m}",
+        Fault::BadToken,
+        27,
+        "fault BadToken at 27\n",
+    ),
+    (
+        "[(h24){h1}]",
+        Fault::FieldRange,
+        2,
+        "fault FieldRange at 2\n",
+    ),
+    (
+        "[(y24){d1}]",
+        Fault::FieldRange,
+        2,
+        "fault FieldRange at 2\n",
+    ),
+    (
+        "[(f07){d1}]",
+        Fault::FieldRange,
+        2,
+        "fault FieldRange at 2\n",
+    ),
+    (
+        "[(f61){d1}]",
+        Fault::FieldRange,
+        2,
+        "fault FieldRange at 2\n",
+    ),
+    (
+        "[(f523){d1}]",
+        Fault::FieldRange,
+        2,
+        "fault FieldRange at 2\n",
+    ),
+    (
+        "[(t23){d1}]",
+        Fault::FieldRange,
+        2,
+        "fault FieldRange at 2\n",
+    ),
+    (
+        "[(l62){d1}]",
+        Fault::FieldRange,
+        2,
+        "fault FieldRange at 2\n",
+    ),
+    (
+        "[(l1){d1}]",
+        Fault::FieldRange,
+        2,
+        "fault FieldRange at 2\n",
+    ),
     ("[(d1d0){d1}]", Fault::Repeated, 4, "fault Repeated at 4\n"),
-    ("[(t2t9){d1}]", Fault::FieldRange, 4, "fault FieldRange at 4\n"),
-    ("[(l12l23){d1}]", Fault::Repeated, 5, "fault Repeated at 5\n"),
+    (
+        "[(t2t9){d1}]",
+        Fault::FieldRange,
+        4,
+        "fault FieldRange at 4\n",
+    ),
+    (
+        "[(l12l23){d1}]",
+        Fault::Repeated,
+        5,
+        "fault Repeated at 5\n",
+    ),
     ("[(h1){h1h2}]", Fault::Repeated, 8, "fault Repeated at 8\n"),
     ("[(h10){ -h4}]", Fault::Negative, 8, "fault Negative at 8\n"),
-    ("[(h10){h4-h1}]", Fault::Unexpected, 9, "fault Unexpected at 9\n"),
-    ("[(h10){t2}]", Fault::Unexpected, 7, "fault Unexpected at 7\n"),
-    ("[(h1){l12}]", Fault::Unexpected, 6, "fault Unexpected at 6\n"),
+    (
+        "[(h10){h4-h1}]",
+        Fault::Unexpected,
+        9,
+        "fault Unexpected at 9\n",
+    ),
+    (
+        "[(h10){t2}]",
+        Fault::Unexpected,
+        7,
+        "fault Unexpected at 7\n",
+    ),
+    (
+        "[(h1){l12}]",
+        Fault::Unexpected,
+        6,
+        "fault Unexpected at 6\n",
+    ),
     ("[(h10)]", Fault::Unexpected, 6, "fault Unexpected at 6\n"),
     ("[(){h1}]", Fault::Unexpected, 2, "fault Unexpected at 2\n"),
-    ("[(h10){h4}]]", Fault::Unexpected, 11, "fault Unexpected at 11\n"),
-    ("[(h10){h4}]x", Fault::BadToken, 11, "fault BadToken at 11\n"),
-    ("[(h10){h4}]+", Fault::Incomplete, 12, "fault Incomplete at 12\n"),
-    ("[(y2024M1d1)(y2024M2d1)]", Fault::Unexpected, 12, "fault Unexpected at 12\n"),
-    ("[(h1234567){h1}]", Fault::BadToken, 2, "fault BadToken at 2\n"),
+    (
+        "[(h10){h4}]]",
+        Fault::Unexpected,
+        11,
+        "fault Unexpected at 11\n",
+    ),
+    (
+        "[(h10){h4}]x",
+        Fault::BadToken,
+        11,
+        "fault BadToken at 11\n",
+    ),
+    (
+        "[(h10){h4}]+",
+        Fault::Incomplete,
+        12,
+        "fault Incomplete at 12\n",
+    ),
+    (
+        "[(y2024M1d1)(y2024M2d1)]",
+        Fault::Unexpected,
+        12,
+        "fault Unexpected at 12\n",
+    ),
+    (
+        "[(h1234567){h1}]",
+        Fault::BadToken,
+        2,
+        "fault BadToken at 2\n",
+    ),
     ("[(h 1){h1}]", Fault::BadToken, 2, "fault BadToken at 2\n"),
-    ("-[(h10){h4}]", Fault::Unexpected, 0, "fault Unexpected at 0\n"),
+    (
+        "-[(h10){h4}]",
+        Fault::Unexpected,
+        0,
+        "fault Unexpected at 0\n",
+    ),
     // A lone hyphen is a word like any other.
     ("-", Fault::Unexpected, 0, "fault Unexpected at 0\n"),
     ("help", Fault::BadToken, 0, "fault BadToken at 0\n"),
     ("canon", Fault::BadToken, 0, "fault BadToken at 0\n"),
-    ("[(h1){h1}]\n", Fault::BadToken, 10, "fault BadToken at 10\n"),
+    (
+        "[(h1){h1}]\n",
+        Fault::BadToken,
+        10,
+        "fault BadToken at 10\n",
+    ),
     ("[(h1)\t{h1}]", Fault::BadToken, 5, "fault BadToken at 5\n"),
-    ("[(h1){h1}]\u{e9}", Fault::BadToken, 10, "fault BadToken at 10\n"),
+    (
+        "[(h1){h1}]\u{e9}",
+        Fault::BadToken,
+        10,
+        "fault BadToken at 10\n",
+    ),
     ("z", Fault::BadToken, 0, "fault BadToken at 0\n"),
     ("z1234567", Fault::BadToken, 0, "fault BadToken at 0\n"),
     ("(h0){s}", Fault::BadToken, 5, "fault BadToken at 5\n"),
@@ -77,11 +216,31 @@ static FAULTS: [(&str, Fault, usize, &str); 52] = [
     ("(H1){h1}", Fault::BadToken, 1, "fault BadToken at 1\n"),
     // The tokens come before all else, the grammar before the bounds of durations.
     ("[(h25){h1}]z9", Fault::Fuzzy, 11, "fault Fuzzy at 11\n"),
-    ("(h1){y101}(", Fault::Unexpected, 10, "fault Unexpected at 10\n"),
-    ("(h1){y101}+(h25){h1}", Fault::FieldRange, 12, "fault FieldRange at 12\n"),
-    ("(h1){h1}+(h2){d36600s1}+(h3){y101}", Fault::TooLongDuration, 13, "fault TooLongDuration at 13\n"),
+    (
+        "(h1){y101}(",
+        Fault::Unexpected,
+        10,
+        "fault Unexpected at 10\n",
+    ),
+    (
+        "(h1){y101}+(h25){h1}",
+        Fault::FieldRange,
+        12,
+        "fault FieldRange at 12\n",
+    ),
+    (
+        "(h1){h1}+(h2){d36600s1}+(h3){y101}",
+        Fault::TooLongDuration,
+        13,
+        "fault TooLongDuration at 13\n",
+    ),
     ("(h1h25){h1}", Fault::Repeated, 3, "fault Repeated at 3\n"),
-    ("(M13){-h1}", Fault::FieldRange, 1, "fault FieldRange at 1\n"),
+    (
+        "(M13){-h1}",
+        Fault::FieldRange,
+        1,
+        "fault FieldRange at 1\n",
+    ),
     ("(h1){h1}+", Fault::Incomplete, 9, "fault Incomplete at 9\n"),
 ];
 
@@ -163,7 +322,11 @@ fn expect_refused(
     line: &str,
 ) -> Result<(), Fail> {
     let mut out = Vec::new(alloc);
-    assert_eq!(rt; carry_out(alloc, words, &mut out), Err(refusal), "{words:?}");
+    assert_eq!(rt;
+        carry_out(alloc, words, &mut out),
+        Err(refusal),
+        "{words:?}"
+    );
     assert_eq!(rt; out.as_slice(), b"".as_slice(), "{words:?}");
     assert_eq!(rt; refusal.status(), status, "{words:?}");
     let mut err = Vec::new(alloc);
@@ -216,7 +379,14 @@ fn faults_are_told(rt: HostRuntime) -> Result<(), Fail> {
 fn other_command_lines_are_faults_of_usage(rt: HostRuntime) -> Result<(), Fail> {
     let alloc = rt.alloc();
     for words in &NO_COMMANDS {
-        expect_refused(&rt, alloc, words, Refusal::Usage, 2, "usage: gtd COMMAND ARGUMENTS\n")?;
+        expect_refused(
+            &rt,
+            alloc,
+            words,
+            Refusal::Usage,
+            2,
+            "usage: gtd COMMAND ARGUMENTS\n",
+        )?;
     }
     Ok(())
 }
@@ -250,7 +420,14 @@ fn brackets_are_limited(rt: HostRuntime) -> Result<(), Fail> {
     let alloc = rt.alloc();
     for count in [129, 1_000_000] {
         let open = repeated(alloc, "[", count)?;
-        expect_fault(&rt, alloc, open.as_str(), Fault::TooDeep, 128, "fault TooDeep at 128\n")?;
+        expect_fault(
+            &rt,
+            alloc,
+            open.as_str(),
+            Fault::TooDeep,
+            128,
+            "fault TooDeep at 128\n",
+        )?;
     }
     let open = repeated(alloc, "[", 128)?;
     let close = repeated(alloc, "]", 128)?;
@@ -258,7 +435,14 @@ fn brackets_are_limited(rt: HostRuntime) -> Result<(), Fail> {
     expect_printed(&rt, alloc, &["canon", deep.as_str()], "[(h1){h1}]")?;
     let mut wrong = repeated(alloc, "[", 200)?;
     wrong.push_str("x")?;
-    expect_fault(&rt, alloc, wrong.as_str(), Fault::BadToken, 200, "fault BadToken at 200\n")
+    expect_fault(
+        &rt,
+        alloc,
+        wrong.as_str(),
+        Fault::BadToken,
+        200,
+        "fault BadToken at 200\n",
+    )
 }
 
 #[test]
@@ -268,14 +452,29 @@ fn basic_domains_are_limited(rt: HostRuntime) -> Result<(), Fail> {
     text.push_str("(h1){h1}")?;
 
     let mut printed = Vec::new(alloc);
-    assert_eq!(rt; carry_out(alloc, &["canon", text.as_str()], &mut printed), Ok(()));
+    assert_eq!(rt;
+        carry_out(alloc, &["canon", text.as_str()], &mut printed),
+        Ok(())
+    );
     assert_eq!(rt; printed.pop(), Some(b'\n'));
     assert_eq!(rt; depth_of(printed.as_slice()), 128);
     let canonical = String::from_utf8(printed)?;
-    expect_printed(&rt, alloc, &["canon", canonical.as_str()], canonical.as_str())?;
+    expect_printed(
+        &rt,
+        alloc,
+        &["canon", canonical.as_str()],
+        canonical.as_str(),
+    )?;
 
     text.push_str("+(h1){h1}")?;
-    expect_fault(&rt, alloc, text.as_str(), Fault::TooMany, 1152, "fault TooMany at 1152\n")
+    expect_fault(
+        &rt,
+        alloc,
+        text.as_str(),
+        Fault::TooMany,
+        1152,
+        "fault TooMany at 1152\n",
+    )
 }
 
 // A writer that takes at most 3 bytes at once, is interrupted before each write, and fails once it is full.
@@ -336,7 +535,10 @@ fn writes_that_fail_are_told(rt: HostRuntime) -> Result<(), Fail> {
     }
     let mut out = Narrow::new(alloc, 10);
     out.flush_fails = true;
-    assert_eq!(rt; carry_out(alloc, &["check", "(h1){h1}"], &mut out), Err(Refusal::Write));
+    assert_eq!(rt;
+        carry_out(alloc, &["check", "(h1){h1}"], &mut out),
+        Err(Refusal::Write)
+    );
     assert_eq!(rt; out.taken.as_slice(), b"ok\n".as_slice());
 
     assert_eq!(rt; Refusal::Write.status(), 3);

@@ -1,7 +1,8 @@
 -- A command line has one answer.
-use Rattle.std.proofs.Common.{◌≡◌, ◌∙◌, List, Option, Some, None, is_some, refl, sym, ap, subst, true≢false}
+use Rattle.std.proofs.Common.{◌≡◌, ◌∙◌, List, [], ◌∷◌, codes, Option, Some, None, is_some, refl, sym, ap, subst, true≢false}
 use Rattle.std.specs.Prelude.{unwrap_or}
-use Rattle.gtd_core.specs.Trees.{Tree}
+use Rattle.gtd_core.specs.Trees.{Tree, Single, Joined}
+use Rattle.gtd_text.specs.Canonical.{canonical}
 use Rattle.gtd_core.specs.declared.fault.TextFault.{TextFault}
 use Rattle.gtd_text.specs.Reading.{StandsFor, IsFault}
 use Rattle.gtd_tool.specs.CommandLines.{Text, Command, command_in}
@@ -62,3 +63,20 @@ asked_apart words a (refusal.Text f) p q =
     read_or_fault q.command a f (subst (λ (c : Command). IsRead c a) (same_command words p.command q.command p.named q.named) p.read) q.has
 asked_apart words a refusal.Write p q = q
 asked_apart words a refusal.Memory p q = q
+
+-- a word that begins with a bracket stands for itself
+check_bracket : (rest : Text) → command_in (codes "check" ∷ (91 ∷ rest) ∷ []) ≡ Some (command.Check (91 ∷ rest))
+check_bracket [] = refl
+check_bracket (byte ∷ bytes) = refl
+
+canon_bracket : (rest : Text) → command_in (codes "canon" ∷ (91 ∷ rest) ∷ []) ≡ Some (command.Canon (91 ∷ rest))
+canon_bracket [] = refl
+canon_bracket (byte ∷ bytes) = refl
+
+pub check_canonical : (tree : Tree) → command_in (codes "check" ∷ canonical tree ∷ []) ≡ Some (command.Check (canonical tree))
+check_canonical (Single start duration) = check_bracket _
+check_canonical (Joined op left right) = check_bracket _
+
+pub canon_canonical : (tree : Tree) → command_in (codes "canon" ∷ canonical tree ∷ []) ≡ Some (command.Canon (canonical tree))
+canon_canonical (Single start duration) = canon_bracket _
+canon_canonical (Joined op left right) = canon_bracket _

@@ -35,7 +35,8 @@ is_command word = list_any (λ name. bytes_eq name word) command_names
 
 -- the command of this name, if it takes as many words as these
 abbrev pub command_named : Text → List Text → Option Command
-command_named name words = option_and_then (λ command. command.1 words) (find (λ command. bytes_eq name command.0) commands)
+command_named name words =
+    option_and_then (λ command. command.1 words) (find (λ command. bytes_eq name command.0) commands)
 
 -- the word has two or more bytes and begins with a hyphen
 abbrev pub is_option : Text → Bool

@@ -15,9 +15,9 @@ use std::alloc::{AllocError, Global};
 /// A command, with its words as they were given.
 #[derive(Clone, Copy, Debug, PartialEq, Eq)]
 pub enum CommandLine<'a> {
-    /// Whether a text is a domain.
+    /// `check DOMAIN`
     Check { domain: &'a str },
-    /// A domain's canonical text.
+    /// `canon DOMAIN`
     Canon { domain: &'a str },
 }
 
@@ -33,8 +33,13 @@ fn without_commands<'a>(alloc: Global) -> Command<'a>
 }
 
 // Adds a command of positional words alone. They are counted once they are known.
-fn add_command<'a>(alloc: Global, program: Command<'a>, name: &'a str) -> Result<Command<'a>, AllocError>
-    ensures { IfOk result (λ c. app_of c ≡ with_subcommand (app_of program.entry) (leaf_given name.entry.now)) }
+fn add_command<'a>(
+    alloc: Global,
+    program: Command<'a>,
+    name: &'a str,
+) -> Result<Command<'a>, AllocError>
+    ensures { IfOk result (λ c.
+        app_of c ≡ with_subcommand (app_of program.entry) (leaf_given name.entry.now)) }
 {
     let words = Arg::new(alloc, "WORDS").action(ArgAction::Append);
     let command = Command::new(alloc, name).arg(words)?;
@@ -67,6 +72,7 @@ fn line_of<'a>(name: &str, words: &[&'a str]) -> Option<CommandLine<'a>>
     }
 }
 
+// An error of `clap` is want of memory, or a fault of usage.
 fn refusal_of(error: &clap::Error) -> Refusal
     ensures { result ≡ (if is_memory (kind_of error.now) then Refusal.Memory else Refusal.Usage) }
 {
@@ -76,6 +82,7 @@ fn refusal_of(error: &clap::Error) -> Refusal
     }
 }
 
+// The words as `clap` finds them.
 fn parse<'a>(alloc: Global, words: &'a [String]) -> Result<ArgMatches<'a>, Refusal>
     ensures found { IfOk result (HasGiven (map string_bytes words.entry.now)) }
     ensures refused { IfErr result (λ r. (r ≡ Refusal.Memory)
@@ -90,15 +97,17 @@ fn parse<'a>(alloc: Global, words: &'a [String]) -> Result<ArgMatches<'a>, Refus
 
 // The command line that the matches hold.
 fn line_in<'a>(matches: &ArgMatches<'a>) -> Option<CommandLine<'a>>
-    ensures { (words : List Text) → HasGiven words matches.now → option_map command_of result ≡ command_in words }
+    ensures { (words : List Text) → HasGiven words matches.now
+        → option_map command_of result ≡ command_in words }
 {
     let (name, given) = matches.subcommand()?;
     line_of(name, given.get_strs("WORDS").unwrap_or(&[]))
 }
 
-/// Reads the words after the program's name.
+/// The command that the words after the program's name give. Where they give none, they are a fault of usage.
 pub fn read_line<'a>(alloc: Global, words: &'a [String]) -> Result<CommandLine<'a>, Refusal>
-    ensures found { IfOk result (λ line. command_in (map string_bytes words.entry.now) ≡ Some (command_of line)) }
+    ensures found { IfOk result (λ line.
+        command_in (map string_bytes words.entry.now) ≡ Some (command_of line)) }
     ensures refused { IfErr result (λ r. (r ≡ Refusal.Memory)
         ⊎ ((r ≡ Refusal.Usage) × (command_in (map string_bytes words.entry.now) ≡ None))) }
 {

@@ -17,11 +17,15 @@ use std::alloc::{AllocError, Global};
 use std::io;
 use std::io::Write;
 
-/// Carries the plan out: writes what it prints, and flushes. `Memory` comes before anything is written; where the
-/// answer is `Write`, the writer has taken a first part of what is printed.
+/// Carries the plan out: writes what it prints, and flushes.
+///
+/// `Memory` is answered before anything is written. Where the answer is `Write`, the writer has taken a first part of
+/// what is printed.
 pub fn perform<W: Write>(alloc: Global, plan: &Plan, out: &mut W) -> Result<(), Refusal>
-    ensures printed { OnOk result (Appends (W.contents out.old) (W.contents out.new) (printed (asked_by plan.now))) }
-    ensures part { OnErr result (AppendsPart (W.contents out.old) (W.contents out.new) (printed (asked_by plan.now))) }
+    ensures printed { OnOk result
+        (Appends (W.contents out.old) (W.contents out.new) (printed (asked_by plan.now))) }
+    ensures part { OnErr result
+        (AppendsPart (W.contents out.old) (W.contents out.new) (printed (asked_by plan.now))) }
     ensures cause { IfErr result (λ r. (r ≡ Refusal.Write) ⊎ (r ≡ Refusal.Memory)) }
     ensures unwritten { IfErr result (λ r. r ≡ Refusal.Memory → out.new ≡ out.old) }
     ensures memory { IfErr result (λ r. r ≡ Refusal.Memory → TakesMemory (asked_by plan.now)) }
@@ -37,13 +41,15 @@ pub fn perform<W: Write>(alloc: Global, plan: &Plan, out: &mut W) -> Result<(), 
 
 // The canonical text and the end of its line.
 fn canonical_line(alloc: Global, domain: &Domain) -> Result<String, AllocError>
-    ensures { IfOk result (λ line. string_bytes line ≡ canonical (domain_tree domain.now) ++ codes "\n") }
+    ensures { IfOk result (λ line.
+        string_bytes line ≡ canonical (domain_tree domain.now) ++ codes "\n") }
 {
     let mut line = print_domain(alloc, domain)?;
     line.push_str("\n")?;
     Ok(line)
 }
 
+// Writes the text, and makes sure that it has left.
 fn print<W: Write>(text: &str, out: &mut W) -> Result<(), Refusal>
     ensures printed { OnOk result (Appends (W.contents out.old) (W.contents out.new) text.now) }
     ensures part { OnErr result (AppendsPart (W.contents out.old) (W.contents out.new) text.now) }

@@ -16,12 +16,14 @@ use gtd_core::{Domain, Fault, TextFault};
 use gtd_text::read_domain;
 use std::alloc::Global;
 
+// The domain that a word stands for.
 fn domain_of(alloc: Global, text: &str) -> Result<Domain, Refusal>
     ensures read { IfOk result (λ domain. IsDomain text.now (domain_tree domain)) }
     ensures only { (tree : Tree) → IsDomain text.now tree
         → MatchResult result (λ domain. domain_tree domain ≡ tree) (λ r. r ≡ Refusal.Memory) }
     ensures fault { IfErr result (λ r. (r ≡ Refusal.Memory)
-        ⊎ ((fault : TextFault) × (r ≡ Refusal.Text fault) × IsFault text.now fault × (fault.kind ≢ Fault.NoMemory))) }
+        ⊎ ((fault : TextFault) × (r ≡ Refusal.Text fault)
+        × IsFault text.now fault × (fault.kind ≢ Fault.NoMemory))) }
     ensures first { (fault : TextFault) → IsFault text.now fault
         → MatchResult result (λ domain. ⊥) (λ r. (r ≡ Refusal.Memory) ⊎ (r ≡ Refusal.Text fault)) }
 {
@@ -48,7 +50,8 @@ fn plan_line(alloc: Global, line: CommandLine<'_>) -> Result<Plan, Refusal>
     ensures only { (asked : Asked) → IsRead (command_of line.entry) asked
         → MatchResult result (λ plan. asked_by plan ≡ asked) (λ r. r ≡ Refusal.Memory) }
     ensures fault { IfErr result (λ r. (r ≡ Refusal.Memory)
-        ⊎ ((fault : TextFault) × (r ≡ Refusal.Text fault) × HasFault (command_of line.entry) fault × (fault.kind ≢ Fault.NoMemory))) }
+        ⊎ ((fault : TextFault) × (r ≡ Refusal.Text fault)
+        × HasFault (command_of line.entry) fault × (fault.kind ≢ Fault.NoMemory))) }
     ensures first { (fault : TextFault) → HasFault (command_of line.entry) fault
         → MatchResult result (λ plan. ⊥) (λ r. (r ≡ Refusal.Memory) ⊎ (r ≡ Refusal.Text fault)) }
 {
@@ -58,8 +61,10 @@ fn plan_line(alloc: Global, line: CommandLine<'_>) -> Result<Plan, Refusal>
     }
 }
 
-/// What the words after the program's name ask for, or their first refusal: whether they are the words of a command
-/// comes before what they say. Where memory was refused, that is the answer.
+/// What the words after the program's name ask for, or their first refusal.
+///
+/// In order: `Usage` where they are not a command and as many words as it takes, then `Text` for the first fault of the
+/// word for a domain. Where memory was refused, `Memory` is the answer in place of these.
 pub fn plan(alloc: Global, words: Vec<String>) -> Result<Plan, Refusal>
     // The plan is what the words ask for.
     ensures asked { IfOk result (λ plan. AsksFor (map string_bytes words.items) (asked_by plan)) }
@@ -67,12 +72,14 @@ pub fn plan(alloc: Global, words: Vec<String>) -> Result<Plan, Refusal>
     ensures only { (asked : Asked) → AsksFor (map string_bytes words.items) asked
         → MatchResult result (λ plan. asked_by plan ≡ asked) (λ r. r ≡ Refusal.Memory) }
     // The refusal is the first of the words, unless memory was refused.
-    ensures refused { IfErr result (λ r. (r ≡ Refusal.Memory) ⊎ IsRefusalOf (map string_bytes words.items) r) }
+    ensures refused { IfErr result (λ r.
+        (r ≡ Refusal.Memory) ⊎ IsRefusalOf (map string_bytes words.items) r) }
     // Words that have a refusal are refused by it, unless memory is refused.
     ensures first { (refusal : Refusal) → IsRefusalOf (map string_bytes words.items) refusal
         → MatchResult result (λ plan. ⊥) (λ r. (r ≡ Refusal.Memory) ⊎ (r ≡ refusal)) }
     // Want of memory in reading a domain is no fault of its text.
-    ensures memory { IfErr result (λ r. (fault : TextFault) → r ≡ Refusal.Text fault → fault.kind ≢ Fault.NoMemory) }
+    ensures memory { IfErr result (λ r. (fault : TextFault)
+        → r ≡ Refusal.Text fault → fault.kind ≢ Fault.NoMemory) }
 {
     let line = read_line(alloc, words.as_slice())?;
     plan_line(alloc, line)

@@ -18,10 +18,10 @@ pub enum Refusal {
     /// The words name no command, or are not the words that it takes.
     #[error("usage: gtd COMMAND ARGUMENTS")]
     Usage,
-    /// The word for a domain stands for none: its first fault, which is never want of memory.
+    /// The word for a domain stands for none. This is its first fault, which is never `NoMemory`.
     #[error("fault {0}")]
     Text(TextFault),
-    /// Standard output took not all that was written.
+    /// A write to standard output failed.
     #[error("fault WriteFault")]
     Write,
     /// Memory was refused.
@@ -41,10 +41,12 @@ impl Refusal {
         }
     }
 
-    /// Writes the line for standard error, with its end. Where the writer fails, it has taken a first part of the line.
+    /// Writes the line for standard error, with its end. Where the writer fails, it has taken a first part of that.
     pub fn put_line<W: Write>(&self, err: &mut W) -> io::Result<()>
-        ensures line { OnOk result (Appends (W.contents err.old) (W.contents err.new) (refusal_line self.now)) }
-        ensures part { OnErr result (AppendsPart (W.contents err.old) (W.contents err.new) (refusal_line self.now)) }
+        ensures line { OnOk result
+            (Appends (W.contents err.old) (W.contents err.new) (refusal_line self.now)) }
+        ensures part { OnErr result
+            (AppendsPart (W.contents err.old) (W.contents err.new) (refusal_line self.now)) }
     {
         match self {
             Refusal::Usage => put_texts(&["usage: gtd COMMAND ARGUMENTS\n"], err),
@@ -55,9 +57,12 @@ impl Refusal {
     }
 }
 
+// The line of a text's fault.
 fn put_fault<W: Write>(fault: &TextFault, err: &mut W) -> io::Result<()>
-    ensures line { OnOk result (Appends (W.contents err.old) (W.contents err.new) (refusal_line (Refusal.Text fault.now))) }
-    ensures part { OnErr result (AppendsPart (W.contents err.old) (W.contents err.new) (refusal_line (Refusal.Text fault.now))) }
+    ensures line { OnOk result (Appends (W.contents err.old) (W.contents err.new)
+        (refusal_line (Refusal.Text fault.now))) }
+    ensures part { OnErr result (AppendsPart (W.contents err.old) (W.contents err.new)
+        (refusal_line (Refusal.Text fault.now))) }
 {
     let mut place = Buffer::new();
     let place = place.format(fault.place);

@@ -7,6 +7,7 @@ ghost use Rattle.gtd_tool.specs.Writing.{AppendsPart, TakesBefore, joined};
 use std::io::{Error, ErrorKind, Result, Write};
 
 /// Hands the bytes over until all are taken. Where the writer fails, it has taken a first part of them.
+///
 /// A write that was interrupted is tried again; one that takes nothing is a failure.
 pub fn put<W: Write>(bytes: &[u8], out: &mut W) -> Result<()>
     ensures whole { OnOk result (Appends (W.contents out.old) (W.contents out.new) bytes.now) }
@@ -30,10 +31,12 @@ pub fn put<W: Write>(bytes: &[u8], out: &mut W) -> Result<()>
     Err(Error::from(ErrorKind::Interrupted))
 }
 
-/// Hands over one text after the other.
+/// Hands over one text after the other, as [`put`] does.
 pub fn put_texts<W: Write>(texts: &[&str], out: &mut W) -> Result<()>
-    ensures whole { OnOk result (Appends (W.contents out.old) (W.contents out.new) (joined texts.now)) }
-    ensures part { OnErr result (AppendsPart (W.contents out.old) (W.contents out.new) (joined texts.now)) }
+    ensures whole { OnOk result
+        (Appends (W.contents out.old) (W.contents out.new) (joined texts.now)) }
+    ensures part { OnErr result
+        (AppendsPart (W.contents out.old) (W.contents out.new) (joined texts.now)) }
 {
     for text in texts {
         put(text.as_bytes(), out)?;
