@@ -1,16 +1,16 @@
 -- What `clap` makes of a command line of `gtd`.
-use Rattle.std.proofs.Common.{◌≡◌, ◌∙◌, ◌+◌, ◌<◌, ◌&&◌, ◌⊎◌, ℕ, Bool, cond, codes, true, false, zero, suc, refl, sym, ap, subst, arith, List, [], ◌∷◌, ◌++◌, map, length, Option, Some, None, inl, inr, is_some, true≢false, option_map, append_assoc, append-nil, lt-ltb, eqb-true}
-use Rattle.std.specs.Prelude.{⊤, encode_utf8, encode_utf8_all, ◌==◌, slice_get, fold, nat_lt, find}
+use Rattle.std.proofs.Common.{◌≡◌, ◌∙◌, ◌&&◌, ◌⊎◌, ℕ, Bool, cond, codes, true, false, refl, sym, ap, subst, arith, List, [], ◌∷◌, ◌++◌, map, length, Option, Some, None, inl, inr, is_some, true≢false, option_map, append_assoc, append-nil, eqb-true}
+use Rattle.std.specs.Prelude.{⊤, encode_utf8, encode_utf8_all, ◌==◌, slice_get, fold, find}
 use Rattle.std.specs.List.{list_any}
 use Rattle.std.specs.Str.{bytes_eq, chars, IsUtf8}
 use Rattle.clap.specs.Lexer.{long_of, short_of, name_and_value}
-use Rattle.clap.specs.Walk.{finished, rows_after, Held, Names, Row, Rule, Walk, Waiting, idle, positional, plain, all_of, answers_to, nothing_held, positional_held, reading_by, settled, walk_from, walked}
+use Rattle.clap.specs.Walk.{finished, rows_after, Held, Names, Row, Rule, Walk, Waiting, idle, positional, all_of, answers_to, nothing_held, positional_held, reading_by, settled, walk_from, walked}
 use Rattle.clap.specs.Simple.{entered, Shape, built, built_leaf, filled, inherited, is_simple, label_of, names_of, subcommand_of, with_index}
 use Rattle.clap.specs.Kinds.{Kinds, or_else}
 use Rattle.clap.specs.Faults.{bundle_fault, check_fault, defaults_fault, entered_fault, settle_fault, fault_of, flags_fault, is_simple_and_free, level_fault, turn_fault, walk_fault}
 use Rattle.clap.specs.declared.error.kind.ErrorKind.TheVariants.{InvalidSubcommand, UnknownArgument}
 use Rattle.clap.specs.declared.parser.matches.ValueSource.TheVariants.{CommandLine}
-use Rattle.clap.proofs.WalkLemmas.{bundle_ends, walk_stopped}
+use Rattle.clap.proofs.WalkLemmas.{walk_stopped}
 use Rattle.std.proofs.lemmas.Str.{chars_past_char, encode_ascii, encodes-chars}
 use Rattle.std.specs.Cmp.Lexicographic.{same_text}
 use Rattle.gtd_tool.specs.ClapCommand.{found_words, gtd_app, id, leaf_given, top_given, word_rule}

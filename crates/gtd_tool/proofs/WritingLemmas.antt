@@ -1,5 +1,5 @@
 -- How the bytes that a writer took grow.
-use Rattle.std.proofs.Common.{◌≡◌, ◌∙◌, ℕ, Bool, true, List, [], ◌∷◌, ◌++◌, Option, refl, sym, ap, subst, append_assoc, append-nil, length, take, drop, take-append-drop, eqb-true, get_or, ◌<◌, suc}
+use Rattle.std.proofs.Common.{◌≡◌, ◌∙◌, ℕ, true, List, [], ◌++◌, Option, refl, sym, ap, subst, append_assoc, append-nil, length, take, drop, take-append-drop, eqb-true, get_or, ◌<◌, suc}
 use Rattle.std.proofs.lemmas.List.{nil_from_length}
 use Rattle.std.specs.Prelude.{◌==◌}
 use Rattle.std.specs.Io.KnownBytes.{Appends, Keeps}

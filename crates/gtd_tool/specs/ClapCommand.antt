@@ -8,19 +8,19 @@ use Rattle.clap.specs.declared.error.kind.ErrorKind.TheVariants.{OutOfMemory}
 use Rattle.clap.specs.declared.parser.matches.ArgMatches.{ArgMatches}
 use Rattle.gtd_tool.specs.CommandLines.{Text, command_names, named_in}
 
--- the one argument of each command: its words
+-- The one argument of each command: its words.
 abbrev pub id : Text
 id = codes "WORDS"
 
--- it takes any number of words, which are counted once the command is known
+-- It takes any number of words, which are counted once the command is known.
 abbrev pub word_rule : Rule
 word_rule = record (new_rule id) { action = Some Append }
 
--- the command of this name
+-- The command of this name.
 abbrev pub leaf_given : Text → Shape
 leaf_given name = (with_rule (new_app name) word_rule).top
 
--- the program: a command has to follow, and help is not among them
+-- The program: a command has to follow, and help is not among them.
 abbrev pub top_given : Shape
 top_given = record (new_shape (codes "gtd")) {
   no_binary_name = true;
@@ -29,25 +29,25 @@ top_given = record (new_shape (codes "gtd")) {
   subcommand_required = true;
 }
 
--- the program with no command yet
+-- The program with no command yet.
 abbrev pub none_given : App
 none_given = record { top = top_given; subs = [] }
 
--- the program with all its commands
+-- The program with all its commands.
 abbrev pub gtd_app : App
 gtd_app = fold (λ app name. with_subcommand app (leaf_given name)) none_given command_names
 
--- the values that stand for these words
+-- What is found of these words: nothing where there are none.
 abbrev pub found_words : List Text → Option (List Text)
 found_words [] = None
 found_words (v ∷ vs) = Some (v ∷ vs)
 
--- the matches have the name and the words that the command line gives
+-- The matches have the name and the words that the command line gives.
 abbrev pub HasGiven : List Text → ArgMatches → Type 0
 HasGiven words m = (p : Text × List Text) × (rows : List Row) × (named_in words ≡ Some p)
     × (subcommand_rows_of m ≡ Some (p.0, rows)) × (all_of id rows ≡ found_words p.1)
 
--- the error is want of memory
+-- The error is want of memory.
 abbrev pub is_memory : ErrorKind → Bool
 is_memory OutOfMemory = true
 is_memory _ = false

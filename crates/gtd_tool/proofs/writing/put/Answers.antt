@@ -1,8 +1,8 @@
-use Rattle.std.proofs.Common.{◌≡◌, ◌∙◌, ℕ, List, refl, sym, ap, subst, drop, length, length-drop, arith, ◌-◌}
+use Rattle.std.proofs.Common.{◌≡◌, ◌∙◌, ℕ, List, sym, ap, subst, drop, length, length-drop, arith, ◌-◌}
 use Rattle.std.specs.Borrow.{Bor}
 use Rattle.std.proofs.lemmas.List.{take_all}
 use Rattle.gtd_tool.specs.Writing.{TakesBefore}
-use Rattle.gtd_tool.proofs.WritingLemmas.{part_of, takes_none, takes_more, takes_kept, takes_all}
+use Rattle.gtd_tool.proofs.WritingLemmas.{takes_none, takes_more, takes_kept, takes_all}
 use Rattle.gtd_tool.proofs.writing.put.Goals as goal
 use Rattle.gtd_tool.proofs.writing.put.Goals.{in-Ok, in-Err+else-ne}
 

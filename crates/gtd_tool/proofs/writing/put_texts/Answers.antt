@@ -1,5 +1,4 @@
 use Rattle.std.proofs.Common.{◌≡◌, ◌∙◌, List, ℕ, sym, ap, subst, ◌++◌, take, drop, suc}
-use Rattle.std.specs.Prelude.{OnErr}
 use Rattle.std.proofs.lemmas.Result.{err_from_is_err_and}
 use Rattle.gtd_tool.specs.Writing.{AppendsPart, joined}
 use Rattle.gtd_tool.proofs.WritingLemmas.{joined-at, part_more}
