@@ -1,0 +1,39 @@
+//! `gtd` reads, checks and prints time domains.
+//!
+//! It writes its answer to standard output and ends with status 0, or writes one line to standard error and ends with
+//! the status of its refusal: 1 where the input is refused, 2 for usage, 3 where a write or memory failed.
+#![tactic(auto)]
+
+use gtd_tool::{Refusal, perform, plan};
+use std::io::{BufWriter, ErrorKind};
+use std::process::ExitCode;
+use std::{env, io};
+
+// The words after the program's name. A word that is no text is a fault of usage.
+fn words_of(rt: &HostRuntime) -> Result<Vec<String>, Refusal> {
+    let words = env::args(rt).map_err(|error| match error.kind() {
+        ErrorKind::OutOfMemory => Refusal::Memory,
+        _ => Refusal::Usage,
+    })?;
+    words
+        .skip(1)
+        .collect(rt.alloc())
+        .map_err(|_| Refusal::Memory)
+}
+
+fn run(rt: &HostRuntime) -> Result<(), Refusal> {
+    let plan = plan(rt.alloc(), words_of(rt)?)?;
+    let mut out = BufWriter::new(rt.alloc(), io::writer(rt)).map_err(|_| Refusal::Memory)?;
+    perform(rt.alloc(), &plan, &mut out)
+}
+
+fn main(rt: HostRuntime) -> ExitCode {
+    match run(&rt) {
+        Ok(()) => ExitCode::SUCCESS,
+        Err(refusal) => {
+            // Where standard error fails, the status stays the same.
+            let _ = refusal.put_line(&mut rt.stderr());
+            ExitCode::from(refusal.status())
+        }
+    }
+}

@@ -1,0 +1,5 @@
+//! The worked rows of the commands: what each command line prints, or how it is refused.
+#![tactic(auto)]
+
+#[cfg(test)]
+mod tests;

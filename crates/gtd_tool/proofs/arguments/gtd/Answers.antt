@@ -1,0 +1,17 @@
+use Rattle.std.proofs.Common.{◌≡◌, ◌∙◌, ap, codes}
+use Rattle.std.proofs.lemmas.Result.{IfOk-weaker}
+use Rattle.clap.specs.Simple.{App, with_subcommand}
+use Rattle.gtd_tool.specs.CommandLines.{Text}
+use Rattle.gtd_tool.specs.ClapCommand.{leaf_given}
+use Rattle.gtd_tool.proofs.arguments.gtd.Goals as goal
+
+abbrev and_then : App → Text → App
+and_then a name = with_subcommand a (leaf_given name)
+
+more : (a b c : App) (name : Text) → b ≡ and_then a name → a ≡ c → b ≡ and_then c name
+more a b c name step before = step ∙ ap (λ (x : App). and_then x name) before
+
+pub returns : goal.returns
+returns c =
+    let check = more _ _ _ (codes "check") c.in_ok-program.ensures c.without_commands-program.ensures in
+    IfOk-weaker c.add_command-2.result _ _ (λ r h. more _ _ _ (codes "canon") h check) c.add_command-2.ensures

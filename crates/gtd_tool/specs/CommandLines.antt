@@ -1,0 +1,63 @@
+-- The command lines of `gtd`: the name of a command, and words that stand for themselves.
+use Rattle.std.specs.Prelude.{◌==◌, ℕ, Bool, false, List, [], ◌∷◌, map, find}
+use Rattle.std.specs.Prelude.{Option, Some, None, option_map, option_and_then, codes}
+use Rattle.std.specs.Prelude.{if◌then◌else◌}
+use Rattle.std.specs.List.{list_any}
+use Rattle.std.specs.Str.{bytes_eq}
+
+-- A word, by its bytes.
+abbrev pub Text : Type 0
+Text = List ℕ
+
+-- A command and its words, as they were given.
+pub data Command : Type 0 where
+  Check : (domain : Text) → Command
+  Canon : (domain : Text) → Command
+
+-- The command that these words make, where it takes one.
+abbrev pub of_one : (Text → Command) → List Text → Option Command
+of_one command (word ∷ []) = Some (command word)
+of_one command words = None
+
+-- Each command by its name, and what it makes of its words.
+abbrev pub commands : List (Text × (List Text → Option Command))
+commands =
+    (codes "check", of_one Check)
+    ∷ (codes "canon", of_one Canon)
+    ∷ []
+
+-- The names of the commands.
+abbrev pub command_names : List Text
+command_names = map (λ command. command.0) commands
+
+-- The word is the name of a command.
+abbrev pub is_command : Text → Bool
+is_command word = list_any (λ name. bytes_eq name word) command_names
+
+-- The command of this name, if it takes as many words as these.
+abbrev pub command_named : Text → List Text → Option Command
+command_named name words =
+    option_and_then (λ command. command.1 words) (find (λ command. bytes_eq name command.0) commands)
+
+-- The word is an option: it has two or more bytes, and the first is a hyphen.
+abbrev pub is_option : Text → Bool
+is_option (first ∷ second ∷ rest) = first == 45
+is_option word = false
+
+-- The words that stand for themselves, by the conventions of POSIX for utilities: those before the first `--`, none of
+-- which may be an option, and all after it.
+abbrev pub plain_words : List Text → Option (List Text)
+plain_words [] = Some []
+plain_words (word ∷ rest) =
+    if bytes_eq word (codes "--") then Some rest
+    else if is_option word then None
+    else option_map (λ words. word ∷ words) (plain_words rest)
+
+-- The name of a command, which comes first, and the words that stand for themselves.
+abbrev pub named_in : List Text → Option (Text × List Text)
+named_in [] = None
+named_in (name ∷ rest) = if is_command name then option_map (λ words. (name, words)) (plain_words rest) else None
+
+-- The command that a command line gives.
+abbrev pub command_in : List Text → Option Command
+command_in words = option_and_then (λ given. command_named given.0 given.1) (named_in words)

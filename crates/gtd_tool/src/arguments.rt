@@ -1,0 +1,119 @@
+//! The command line: the name of a command, and words that stand for themselves, as `clap` reads them.
+
+ghost use Rattle.std.specs.Prelude.{List, ◌≡◌, ◌⊎◌, if◌then◌else◌, [], None, Some, false, IfErr, IfOk, map, option_map, string_bytes};
+ghost use Rattle.clap.specs.Simple.{app_of, with_subcommand};
+ghost use Rattle.clap.specs.Values.{kind_of};
+ghost use Rattle.gtd_tool.specs.ClapCommand.{HasGiven, gtd_app, is_memory, leaf_given, none_given};
+ghost use Rattle.gtd_tool.specs.CommandLines.{Text, command_in, command_named, named_in};
+ghost use Rattle.gtd_tool.specs.LineCommands.{command_of};
+
+use crate::refusal::Refusal;
+use clap::error::ErrorKind;
+use clap::{Arg, ArgAction, ArgMatches, Command};
+use std::alloc::{AllocError, Global};
+
+/// A command, with its words as they were given.
+#[derive(Clone, Copy, Debug, PartialEq, Eq)]
+pub enum CommandLine<'a> {
+    /// `check DOMAIN`
+    Check { domain: &'a str },
+    /// `canon DOMAIN`
+    Canon { domain: &'a str },
+}
+
+// The program with no command yet. A request for help is refused, as is any other option.
+fn without_commands<'a>(alloc: Global) -> Command<'a>
+    ensures { app_of result ≡ none_given }
+{
+    Command::new(alloc, "gtd")
+        .no_binary_name(true)
+        .disable_help_flag(true)
+        .disable_help_subcommand(true)
+        .subcommand_required(true)
+}
+
+// Adds a command of positional words alone. They are counted once they are known.
+fn add_command<'a>(
+    alloc: Global,
+    program: Command<'a>,
+    name: &'a str,
+) -> Result<Command<'a>, AllocError>
+    ensures { IfOk result (λ c.
+        app_of c ≡ with_subcommand (app_of program.entry) (leaf_given name.entry.now)) }
+{
+    let words = Arg::new(alloc, "WORDS").action(ArgAction::Append);
+    let command = Command::new(alloc, name).arg(words)?;
+    program.subcommand(command)
+}
+
+// The program with all its commands.
+fn gtd<'a>(alloc: Global) -> Result<Command<'a>, AllocError>
+    ensures { IfOk result (λ c. app_of c ≡ gtd_app) }
+{
+    let program = without_commands(alloc);
+    let program = add_command(alloc, program, "check")?;
+    add_command(alloc, program, "canon")
+}
+
+// The command of a name, if it takes as many words as these.
+fn line_of<'a>(name: &str, words: &[&'a str]) -> Option<CommandLine<'a>>
+    ensures { option_map command_of result ≡ command_named name.now (map (λ w. w.now) words.now) }
+{
+    match name {
+        "check" => match words {
+            [domain] => Some(CommandLine::Check { domain }),
+            _ => None,
+        },
+        "canon" => match words {
+            [domain] => Some(CommandLine::Canon { domain }),
+            _ => None,
+        },
+        _ => None,
+    }
+}
+
+// An error of `clap` is want of memory, or a fault of usage.
+fn refusal_of(error: &clap::Error) -> Refusal
+    ensures { result ≡ (if is_memory (kind_of error.now) then Refusal.Memory else Refusal.Usage) }
+{
+    match error.kind() {
+        ErrorKind::OutOfMemory => Refusal::Memory,
+        _ => Refusal::Usage,
+    }
+}
+
+// The words as `clap` finds them.
+fn parse<'a>(alloc: Global, words: &'a [String]) -> Result<ArgMatches<'a>, Refusal>
+    ensures found { IfOk result (HasGiven (map string_bytes words.entry.now)) }
+    ensures refused { IfErr result (λ r. (r ≡ Refusal.Memory)
+        ⊎ ((r ≡ Refusal.Usage) × (named_in (map string_bytes words.entry.now) ≡ None))) }
+{
+    let program = gtd(alloc).map_err(|_| Refusal::Memory)?;
+    match program.try_get_matches_from(words) {
+        Ok(matches) => Ok(matches),
+        Err(error) => Err(refusal_of(&error)),
+    }
+}
+
+// The command line that the matches hold.
+fn line_in<'a>(matches: &ArgMatches<'a>) -> Option<CommandLine<'a>>
+    ensures { (words : List Text) → HasGiven words matches.now
+        → option_map command_of result ≡ command_in words }
+{
+    let (name, given) = matches.subcommand()?;
+    line_of(name, given.get_strs("WORDS").unwrap_or(&[]))
+}
+
+/// The command that the words after the program's name give. Where they give none, they are a fault of usage.
+pub fn read_line<'a>(alloc: Global, words: &'a [String]) -> Result<CommandLine<'a>, Refusal>
+    ensures found { IfOk result (λ line.
+        command_in (map string_bytes words.entry.now) ≡ Some (command_of line)) }
+    ensures refused { IfErr result (λ r. (r ≡ Refusal.Memory)
+        ⊎ ((r ≡ Refusal.Usage) × (command_in (map string_bytes words.entry.now) ≡ None))) }
+{
+    let matches = parse(alloc, words)?;
+    match line_in(&matches) {
+        Some(line) => Ok(line),
+        None => Err(Refusal::Usage),
+    }
+}

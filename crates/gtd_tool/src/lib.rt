@@ -1,0 +1,16 @@
+//! The commands of the program `gtd`: [`plan`] reads the words after the program's name, and [`perform`] carries out
+//! what they ask for. A [`Refusal`] has its exit status and its line for standard error.
+#![tactic(auto)]
+
+mod arguments;
+pub mod laws;
+mod performing;
+mod planning;
+mod plans;
+mod refusal;
+mod writing;
+
+pub use performing::perform;
+pub use planning::plan;
+pub use plans::Plan;
+pub use refusal::Refusal;
