@@ -8,7 +8,7 @@ trap 'rm -rf "$work"' EXIT
 cp -r "$top/crates.txt" "$top/HANDLES" "$top/crates" "$work"
 crate=$work/crates/bench_calendar_fields
 mkdir -p "$crate/src"
-cp "$top/bench/calendar_fields/main.rt" "$crate/src/main.rt"
+cp "$top/bench/calendar_fields/main.rattle" "$crate/src/main.rt"
 echo 'bench_calendar_fields: gtd_calendar jiff' >> "$work/crates.txt"
 (cd "$crate" && rt run > /dev/null 2>&1 || true)
 program=$crate/out/bench_calendar_fields
