@@ -8,13 +8,19 @@ ghost use Rattle.gtd_spans.specs.Combine.{combine};
 use crate::merge::{Ask, Merge};
 use gtd_core::{Horizon, Op, Span};
 
-/// A set operator without its sides.
+/// Which sides a sweep asks.
 #[derive(Clone, Copy, Debug)]
-pub enum Sweep {
-    /// An operator over two sides.
-    Over(Merge),
-    /// The seconds of a horizon that are not in the left side, which is the right side of the merge.
-    Outside(Merge),
+pub(crate) enum Sides {
+    Both,
+    /// The left one alone, which is the right side of its merge.
+    Left,
+}
+
+/// A set operator without its sides, which holds at most three spans.
+#[derive(Clone, Copy, Debug)]
+pub struct Sweep {
+    sides: Sides,
+    merge: Merge,
 }
 
 impl Sweep {
@@ -26,7 +32,10 @@ impl Sweep {
         ensures fits { (l r : List Interval) → IsNormal l → IsNormal r → Fits result l r }
         ensures meaning { (l r : List Interval) → still result l r ≡ combine op l r }
     {
-        Sweep::Over(Merge::new(op))
+        Sweep {
+            sides: Sides::Both,
+            merge: Merge::new(op),
+        }
     }
 
     /// The sweep of the seconds of a horizon that are not in the left side, before any step.
@@ -35,7 +44,10 @@ impl Sweep {
         ensures fits { (l r : List Interval) → IsNormal l → Fits result l r }
         ensures meaning { (l r : List Interval) → still result l r ≡ combine Minus (whole horizon ∷ []) l }
     {
-        Sweep::Outside(Merge::beside(horizon.whole()))
+        Sweep {
+            sides: Sides::Left,
+            merge: Merge::beside(horizon.whole()),
+        }
     }
 
     /// What the sweep wants next, or has to give.
@@ -46,9 +58,9 @@ impl Sweep {
         ensures right_ended { RightEnded self.old → RightEnded self.new }
         ensures count { unended_sides self.new ≤ unended_sides self.old }
     {
-        match self {
-            Sweep::Over(merge) => merge.step(),
-            Sweep::Outside(merge) => merge.step_beside(),
+        match self.sides {
+            Sides::Both => self.merge.step(),
+            Sides::Left => self.merge.step_beside(),
         }
     }
 
@@ -64,9 +76,6 @@ impl Sweep {
         ensures left_count { AwaitsLeft self.old → unended_sides self.new + 1 ≡ unended_sides self.old + told_count told }
         ensures right_count { AwaitsRight self.old → unended_sides self.new + 1 ≡ unended_sides self.old + told_count told }
     {
-        match self {
-            Sweep::Over(merge) => merge.tell(told),
-            Sweep::Outside(merge) => merge.tell(told),
-        }
+        self.merge.tell(told);
     }
 }
