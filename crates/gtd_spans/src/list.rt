@@ -52,6 +52,7 @@ impl SpanList {
     pub fn push_start(&mut self, x: Span) -> Result<(), AllocError>
         requires order { NoneBeginsAfter x.from self.old }
         ensures seconds { OnOk result ((t : ℤ) → Holds self.new t ↔ (Holds self.old t ⊎ Within x t)) }
+        ensures normal { IsNormal self.new }
         ensures unchanged { OnErr result (self.new ≡ self.old) }
         ensures joins { SomeReaches x.from self.old → IsOk result }
         ensures order { OnOk result (NoneBeginsAfter x.from self.new) }
@@ -79,6 +80,7 @@ impl SpanList {
     fn join(&mut self, x: Span)
         requires order { NoneBeginsAfter x.from self.old }
         requires reaches { SomeReaches x.from self.old }
+        ensures normal { IsNormal self.new }
         ensures seconds { (t : ℤ) → Holds self.new t ↔ (Holds self.old t ⊎ Within x t) }
         ensures order { NoneBeginsAfter x.from self.new }
     {

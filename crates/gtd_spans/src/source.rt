@@ -1,6 +1,6 @@
-ghost use Rattle.std.specs.Prelude.{◌≡◌, ◌<ℤ◌, ℤ, List, [], ◌∷◌, MatchOption};
+ghost use Rattle.std.specs.Prelude.{◌≡◌, ◌⊎◌, ◌↔◌, ◌<ℤ◌, ℤ, List, [], ◌∷◌, MatchOption};
 ghost use Rattle.gtd_spans.specs.Change.{NeverChanges, IsNextChange};
-ghost use Rattle.gtd_core.specs.Interval.{Interval};
+ghost use Rattle.gtd_core.specs.Interval.{Interval, Within};
 ghost use Rattle.gtd_core.specs.Whole.{whole};
 ghost use Rattle.gtd_core.specs.declared.domain.Op.TheVariants.{Union, Meet, Minus};
 ghost use Rattle.gtd_spans.specs.Normal.{Holds, IsNormal};
@@ -86,10 +86,11 @@ impl<A: SpanSource, B: SpanSource> SpanSource for Pair<A, B> {
 pub struct Unite<A: SpanSource, B: SpanSource>(Pair<A, B>);
 
 impl<A: SpanSource, B: SpanSource> Unite<A, B> {
-    pub fn new(left: A, right: B) -> Unite<A, B>
-        ensures list { ⟦<Unite<A, B> as SpanSource>⟧.rest result ≡ combine Union (A.rest left) (B.rest right) }
+    pub fn new(a: A, b: B) -> Unite<A, B>
+        ensures list { ⟦<Unite<A, B> as SpanSource>⟧.rest result ≡ combine Union (A.rest a) (B.rest b) }
+        ensures seconds { (t : ℤ) → Holds (⟦<Unite<A, B> as SpanSource>⟧.rest result) t ↔ (Holds (A.rest a) t ⊎ Holds (B.rest b) t) }
     {
-        Unite(Pair::new(Op::Union, left, right))
+        Unite(Pair::new(Op::Union, a, b))
     }
 }
 
@@ -108,10 +109,11 @@ impl<A: SpanSource, B: SpanSource> SpanSource for Unite<A, B> {
 pub struct Both<A: SpanSource, B: SpanSource>(Pair<A, B>);
 
 impl<A: SpanSource, B: SpanSource> Both<A, B> {
-    pub fn new(left: A, right: B) -> Both<A, B>
-        ensures list { ⟦<Both<A, B> as SpanSource>⟧.rest result ≡ combine Meet (A.rest left) (B.rest right) }
+    pub fn new(a: A, b: B) -> Both<A, B>
+        ensures list { ⟦<Both<A, B> as SpanSource>⟧.rest result ≡ combine Meet (A.rest a) (B.rest b) }
+        ensures seconds { (t : ℤ) → Holds (⟦<Both<A, B> as SpanSource>⟧.rest result) t ↔ (Holds (A.rest a) t × Holds (B.rest b) t) }
     {
-        Both(Pair::new(Op::Meet, left, right))
+        Both(Pair::new(Op::Meet, a, b))
     }
 }
 
@@ -130,10 +132,11 @@ impl<A: SpanSource, B: SpanSource> SpanSource for Both<A, B> {
 pub struct Without<A: SpanSource, B: SpanSource>(Pair<A, B>);
 
 impl<A: SpanSource, B: SpanSource> Without<A, B> {
-    pub fn new(left: A, right: B) -> Without<A, B>
-        ensures list { ⟦<Without<A, B> as SpanSource>⟧.rest result ≡ combine Minus (A.rest left) (B.rest right) }
+    pub fn new(a: A, b: B) -> Without<A, B>
+        ensures list { ⟦<Without<A, B> as SpanSource>⟧.rest result ≡ combine Minus (A.rest a) (B.rest b) }
+        ensures seconds { (t : ℤ) → Holds (⟦<Without<A, B> as SpanSource>⟧.rest result) t ↔ (Holds (A.rest a) t × (Holds (B.rest b) t → ⊥)) }
     {
-        Without(Pair::new(Op::Minus, left, right))
+        Without(Pair::new(Op::Minus, a, b))
     }
 }
 
@@ -157,11 +160,12 @@ pub struct Outside<A: SpanSource> {
 }
 
 impl<A: SpanSource> Outside<A> {
-    pub fn new(inner: A, horizon: Horizon) -> Outside<A>
-        ensures list { ⟦<Outside<A> as SpanSource>⟧.rest result ≡ combine Minus (whole horizon ∷ []) (A.rest inner) }
+    pub fn new(a: A, horizon: Horizon) -> Outside<A>
+        ensures list { ⟦<Outside<A> as SpanSource>⟧.rest result ≡ combine Minus (whole horizon ∷ []) (A.rest a) }
+        ensures seconds { (t : ℤ) → Holds (⟦<Outside<A> as SpanSource>⟧.rest result) t ↔ (Within (whole horizon) t × (Holds (A.rest a) t → ⊥)) }
     {
         Outside {
-            inner,
+            inner: a,
             sweep: Sweep::outside(horizon),
         }
     }

@@ -1,4 +1,4 @@
-ghost use Rattle.std.specs.Prelude.{◌≡◌, ◌≤◌, ◌+◌, ◌↔◌, List, [], ◌∷◌, None};
+ghost use Rattle.std.specs.Prelude.{◌≡◌, ◌≢◌, ◌≤◌, ◌+◌, ◌↔◌, List, [], ◌∷◌, None};
 ghost use Rattle.gtd_core.specs.Interval.{Interval};
 ghost use Rattle.gtd_core.specs.Whole.{whole};
 ghost use Rattle.gtd_core.specs.declared.domain.Op.TheVariants.{Minus};
@@ -24,6 +24,7 @@ pub struct Sweep {
 }
 
 impl Sweep {
+    ghost use Rattle.gtd_spans.specs.declared.merge.Ask.TheVariants.{Left, Right};
     ghost use Rattle.gtd_spans.specs.Merging.{told_count};
     ghost use Rattle.gtd_spans.specs.Sweeping.{still, Fits, AwaitsLeft, AwaitsRight, HasOneSide, LeftEnded, RightEnded, Steps, TellsLeft, TellsRight, unended_sides};
 
@@ -56,6 +57,9 @@ impl Sweep {
         ensures sides { HasOneSide self.new ↔ HasOneSide self.old }
         ensures left_ended { LeftEnded self.old → LeftEnded self.new }
         ensures right_ended { RightEnded self.old → RightEnded self.new }
+        ensures never_right { HasOneSide self.old → result ≢ Right }
+        ensures left_asked { LeftEnded self.old → result ≢ Left }
+        ensures right_asked { RightEnded self.old → result ≢ Right }
         ensures count { unended_sides self.new ≤ unended_sides self.old }
     {
         match self.sides {
