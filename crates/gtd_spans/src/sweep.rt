@@ -1,9 +1,9 @@
-ghost use Rattle.std.specs.Prelude.{◌≡◌, ◌≢◌, ◌≤◌, ◌+◌, ◌↔◌, List, [], ◌∷◌, None};
-ghost use Rattle.gtd_core.specs.Interval.{Interval};
+ghost use Rattle.std.specs.Prelude.{◌≡◌, ◌≢◌, ◌≤◌, ◌+◌, ◌↔◌, ℤ, List, [], ◌∷◌, None};
+ghost use Rattle.gtd_core.specs.Interval.{Interval, Within};
 ghost use Rattle.gtd_core.specs.Whole.{whole};
 ghost use Rattle.gtd_core.specs.declared.domain.Op.TheVariants.{Minus};
-ghost use Rattle.gtd_spans.specs.Normal.{IsNormal};
-ghost use Rattle.gtd_spans.specs.Combine.{combine};
+ghost use Rattle.gtd_spans.specs.Normal.{Holds, IsNormal};
+ghost use Rattle.gtd_spans.specs.Combine.{Combined, combine};
 
 use crate::merge::{Ask, Merge};
 use gtd_core::{Horizon, Op, Span};
@@ -32,6 +32,9 @@ impl Sweep {
     pub fn new(op: Op) -> Sweep
         ensures fits { (l r : List Interval) → IsNormal l → IsNormal r → Fits result l r }
         ensures meaning { (l r : List Interval) → still result l r ≡ combine op l r }
+        ensures normal { (l r : List Interval) → IsNormal (still result l r) }
+        ensures seconds { (l r : List Interval) (t : ℤ)
+            → Holds (still result l r) t ↔ Combined op (Holds l t) (Holds r t) }
     {
         Sweep {
             sides: Sides::Both,
@@ -44,6 +47,9 @@ impl Sweep {
         ensures one_side { HasOneSide result }
         ensures fits { (l r : List Interval) → IsNormal l → Fits result l r }
         ensures meaning { (l r : List Interval) → still result l r ≡ combine Minus (whole horizon ∷ []) l }
+        ensures normal { (l r : List Interval) → IsNormal (still result l r) }
+        ensures seconds { (l r : List Interval) (t : ℤ)
+            → Holds (still result l r) t ↔ (Within (whole horizon) t × (Holds l t → ⊥)) }
     {
         Sweep {
             sides: Sides::Left,
