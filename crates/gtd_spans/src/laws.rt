@@ -24,5 +24,6 @@ pub fn some_normal_list<S: SecondSet>()
 
 /// There is one count of a set's seconds among those of a stretch.
 pub fn one_count<S: SecondSet>()
-    ensures one { (t : ℤ) (n i j : ℕ) → IsCount S.contains t n i → IsCount S.contains t n j → i ≡ j }
+    ensures one { (t : ℤ) (n i j : ℕ)
+        → IsCount S.contains t n i → IsCount S.contains t n j → i ≡ j }
 {}
