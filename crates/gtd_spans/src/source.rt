@@ -17,12 +17,14 @@ use gtd_core::{Horizon, Op, Sec, Span};
 /// What hands out spans one after the other. Its meaning is the normal list of those that are still to come: `rest`
 /// in contracts.
 pub trait SpanSource {
+    // The spans that are still to come.
     ghost rest: { Self → List Interval };
 
     /// Takes the first span off the list. `None` means that it is empty, and it then stays so.
     fn next(&mut self) -> Option<Span>
         ensures takes { Takes (rest self.old) result (rest self.new) };
 
+    // They are in order, none is empty, and none touches another.
     ghost is_normal: { (source : Self) → IsNormal (rest source) };
 }
 
