@@ -1,10 +1,10 @@
 -- A set that can be decided has a normal list between two whole numbers.
 use Rattle.std.proofs.Common.{◌≡◌, ◌⊎◌, ◌↔◌, ◌-◌, ◌+◌, ℕ, List, [], inl, inr, refl, arith, Bool, true, false}
-use Rattle.std.specs.Prelude.{ℤ, pos, ◌+ℤ◌, ◌≤ℤ◌, ◌<ℤ◌}
+use Rattle.std.specs.Prelude.{ℤ, pos, ◌+ℤ◌, ◌≤ℤ◌}
 use Rattle.std.proofs.lemmas.Int.{ints, by_lt_z}
 use borrow.Author.Differences.{up, down}
 use Rattle.gtd_core.specs.Interval.{Interval}
-use Rattle.gtd_spans.specs.Normal.{IsIn, IsNormalFor, Holds, normal_list}
+use Rattle.gtd_spans.specs.Normal.{IsNormalFor, normal_list}
 use Rattle.gtd_spans.specs.NormalFor.{normal-for}
 use Rattle.gtd_spans.specs.Exists.{normal_list-normal, normal_list-holds}
 

@@ -1,8 +1,7 @@
-use Rattle.std.proofs.Common.{◌≡◌, ap, arith, ◌≤◌, ◌+◌}
-use Rattle.std.specs.Prelude.{ℤ, pos, ◌+ℤ◌, ◌≤ℤ◌, ◌<ℤ◌}
+use Rattle.std.proofs.Common.{ap, arith}
 use Rattle.std.proofs.lemmas.Int.{ints}
 use Rattle.gtd_core.specs.Interval.{Interval, Within}
-use Rattle.gtd_spans.proofs.CountFacts.{count-cut, count-none, count-few}
+use Rattle.gtd_spans.proofs.CountFacts.{count-cut, count-none}
 use Rattle.gtd_spans.proofs.counting.seconds_within.Goals as goal
 
 pub overflow_sub-result : goal.overflow_sub-result

@@ -5,7 +5,7 @@ use Rattle.std.proofs.lemmas.Slice.Eq.{slice_eq-Decides}
 use Rattle.gtd_core.specs.Interval.{Interval}
 use Rattle.gtd_core.specs.contracts.second.SpanPartialEq.TheImpl.{eq-value}
 use Rattle.gtd_core.specs.declared.domain.Op.TheVariants.{Meet}
-use Rattle.gtd_spans.specs.Normal.{Holds, IsNormal}
+use Rattle.gtd_spans.specs.Normal.{Holds}
 use Rattle.gtd_spans.specs.OneList.{one-list, same-interval}
 use Rattle.gtd_spans.specs.Combining.{combined-decides}
 use Rattle.gtd_spans.proofs.operations.same.Goals as goal

@@ -1,4 +1,3 @@
-use Rattle.std.proofs.Common.{[]}
 use Rattle.gtd_core.specs.Whole.{whole}
 use Rattle.gtd_spans.specs.Combining.{combine-normal}
 use Rattle.gtd_spans.specs.Whole.{minus-whole}
