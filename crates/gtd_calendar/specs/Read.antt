@@ -34,10 +34,10 @@ IsReadStamp text (Err NoSuchDate) =
 IsReadStamp text (Err Range) = (s : ℤ) × IsStampText s text × (IsReadableSecond s → ⊥)
 
 -- The same, computed. The digit, and the number of two digits, that stands at a place.
-abbrev digit_at : List ℕ → ℕ → ℕ
+abbrev pub digit_at : List ℕ → ℕ → ℕ
 digit_at text i = slice_index text i - 48
 
-abbrev two_at : List ℕ → ℕ → ℕ
+abbrev pub two_at : List ℕ → ℕ → ℕ
 two_at text i = 10 * digit_at text i + digit_at text (i + 1)
 
 -- these numbers, where the text is a date made of them

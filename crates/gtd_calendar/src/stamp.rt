@@ -1,13 +1,14 @@
 //! The texts of dates and moments.
 
-ghost use Rattle.std.specs.Prelude.{◌≡◌, ◌+◌, ◌%◌, ◌<◌, ◌↔◌, pos, IsTrue, codes};
-ghost use Rattle.gtd_calendar.specs.Calendar.{IsCalendarDay, IsDate};
-ghost use Rattle.gtd_calendar.specs.Clock.{day_of_second};
+ghost use Rattle.std.specs.Prelude.{◌≡◌, ◌↔◌, ◌+◌, ◌*◌, ◌+ℤ◌, ◌*ℤ◌, pos, IsSome, IfSome, codes};
+ghost use Rattle.jiff_core.specs.Calendar.{IsEpochDay};
+ghost use Rattle.gtd_calendar.specs.Calendar.{IsCalendarDay};
+ghost use Rattle.gtd_calendar.specs.Clock.{IsClock, day_of_second};
 ghost use Rattle.gtd_calendar.specs.Names.{stamp_fault_name};
 ghost use Rattle.gtd_calendar.specs.Stamp as spec;
 ghost use Rattle.gtd_calendar.specs.Stamp.{IsDateText, IsStampText};
-ghost use Rattle.gtd_calendar.specs.Read.{IsReadDate, date_in};
-ghost use Rattle.gtd_calendar.specs.ReadParts.{IsTwoDigits, IsFourDigits, IsYmd};
+ghost use Rattle.gtd_calendar.specs.Read.{IsReadDate, IsReadStamp, date_in, stamp_in};
+ghost use Rattle.gtd_calendar.specs.ReadParts.{IsTwoDigits, IsFourDigits, IsYmd, IsHms, IsMoment};
 
 use crate::clock::{day_of_sec, second_of_day};
 use crate::day::{date_of, day_of_date};
@@ -137,6 +138,43 @@ fn ymd(text: &[u8]) -> Option<(u16, u8, u8)>
     Some((year, month, day))
 }
 
+// The numbers of a text of the shape `Thh:mm:ss`.
+fn hms(text: &[u8]) -> Option<(u8, u8, u8)>
+    ensures { IsHms text.now result }
+{
+    let [b'T', h1, h2, b':', m1, m2, b':', s1, s2] = text else {
+        return None;
+    };
+    let hour = two(*h1, *h2)?;
+    let minute = two(*m1, *m2)?;
+    let second = two(*s1, *s2)?;
+    Some((hour, minute, second))
+}
+
+// The numbers of a text of the shape `YYYY-MM-DDThh:mm:ss`.
+fn moment(text: &[u8]) -> Option<(u16, u8, u8, u8, u8, u8)>
+    ensures { IsMoment text.now result }
+{
+    let (date, clock) = text.split_at_checked(10)?;
+    let (year, month, day) = ymd(date)?;
+    let (hour, minute, second) = hms(clock)?;
+    Some((year, month, day, hour, minute, second))
+}
+
+// The second of a day at a clock, or `None` where there is no such clock.
+fn second_on_day(day: i64, hour: u8, minute: u8, second: u8) -> Option<i64>
+    requires day_in { IsEpochDay day }
+    ensures exists { IsSome result ↔ IsClock hour minute second }
+    ensures value { IfSome result
+        (λ s. s ≡ pos 86400 *ℤ day +ℤ pos (3600 * hour + 60 * minute + second)) }
+{
+    if hour > 23 || minute > 59 || second > 59 {
+        return None;
+    }
+    let clock = 3600 * u32::from(hour) + 60 * u32::from(minute) + u32::from(second);
+    Some(86_400 * day + i64::from(clock))
+}
+
 /// The day of a text `YYYY-MM-DD`.
 ///
 /// The faults, in their order: `Shape`, where it has not exactly this form in ASCII digits; `NoSuchDate`, where the
@@ -151,4 +189,22 @@ pub fn read_date(text: &[u8]) -> Result<i64, StampFault>
         return Err(StampFault::Range);
     }
     Ok(number)
+}
+
+/// The second of a text `YYYY-MM-DDThh:mm:ss`.
+///
+/// The faults, in their order: `Shape`, where it has not exactly this form in ASCII digits; `NoSuchDate`, where the
+/// calendar has no such date, or the hour is over 23, or the minute or the second over 59; `Range`, where the moment is
+/// before 1901-01-01T00:00:00 or after 2199-12-31T23:59:59.
+pub fn read_stamp(text: &[u8]) -> Result<Sec, StampFault>
+    ensures second { IsReadStamp text.now result }
+    ensures value { result ≡ stamp_in text.now }
+{
+    let (year, month, day, hour, minute, second) = moment(text).ok_or(StampFault::Shape)?;
+    let day = day_of_date(year as i16, month, day).ok_or(StampFault::NoSuchDate)?;
+    let number = second_on_day(day, hour, minute, second).ok_or(StampFault::NoSuchDate)?;
+    if number < -2_177_452_800 || number > 7_258_118_399 {
+        return Err(StampFault::Range);
+    }
+    Ok(Sec(number))
 }
