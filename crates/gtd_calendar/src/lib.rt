@@ -13,3 +13,5 @@ pub mod clock;
 pub mod day;
 pub mod laws;
 pub mod stamp;
+#[cfg(test)]
+mod tests;
