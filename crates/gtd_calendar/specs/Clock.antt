@@ -1,5 +1,5 @@
 -- Seconds, days and the end of a stretch.
-use Rattle.std.specs.Prelude.{◌≡◌, ◌<◌, ℕ, ◌+◌, ◌-◌, ◌*◌, ◌/◌, ◌%◌, min, ℤ, pos, ◌+ℤ◌, ◌-ℤ◌, ◌*ℤ◌, unsigned_abs}
+use Rattle.std.specs.Prelude.{◌≡◌, ◌<◌, ℕ, ◌+◌, ◌-◌, ◌*◌, min, ℤ, pos, ◌+ℤ◌, ◌*ℤ◌, unsigned_abs}
 use Rattle.std.specs.Int.{int_div_euclid, int_rem_euclid}
 use Rattle.gtd_core.specs.declared.duration.DurationParts.{DurationParts}
 use Rattle.gtd_core.specs.DurationBound.{clock_seconds}
@@ -34,11 +34,12 @@ pub record IsStop (p : DurationParts) (b e : ℤ) : Type 0 where
   pub months : IsMonthsLater (day_of_second b) (12 * p.years + p.months) reached
   pub is : e ≡ pos 86400 *ℤ (reached +ℤ pos (7 * p.weeks + p.days)) +ℤ pos (second_of_day b + clock_seconds p)
 
--- The same, computed. Months counted from January of the year 0
+-- What follows computes the end of a stretch; that there is no other is a law of this crate. First, months counted from
+-- January of the year 0.
 abbrev pub month_count : ℤ → ℕ → ℤ
 month_count y m = pos 12 *ℤ y +ℤ pos (m - 1)
 
--- the first of the month that stands at a count, and the month's length
+-- the year and the month that stand at a count
 abbrev pub counted_year : ℤ → ℤ
 counted_year t = int_div_euclid t (pos 12)
 

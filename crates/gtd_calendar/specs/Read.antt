@@ -1,11 +1,13 @@
 -- What reading a date or a moment answers.
-use Rattle.std.specs.Prelude.{◌≡◌, ℕ, ◌+◌, ◌-◌, ◌*◌, Bool, ◌&&◌, ◌||◌, nat_le, nat_lt, if◌then◌else◌, List, ◌∷◌, take, drop, slice_index, bytes_eq, Option, Some, None, Result, Ok, Err, ℤ, pos, neg_ℤ, ◌+ℤ◌, ◌*ℤ◌, ◌≤ℤ◌, int_lt}
+use Rattle.std.specs.Prelude.{ℕ, ◌+◌, ◌-◌, ◌*◌, Bool, ◌&&◌, ◌||◌, nat_le, nat_lt, if◌then◌else◌, List, ◌∷◌, take}
+use Rattle.std.specs.Prelude.{drop, slice_index, bytes_eq, Option, Some, None, Result, Ok, Err, ℤ, pos, neg_ℤ, ◌+ℤ◌}
+use Rattle.std.specs.Prelude.{◌*ℤ◌, ◌≤ℤ◌, int_lt}
 use Rattle.gtd_core.specs.declared.second.Sec.{Sec}
 use Rattle.gtd_calendar.specs.declared.stamp.StampFault.{StampFault}
 use Rattle.gtd_calendar.specs.declared.stamp.StampFault.TheVariants.{Shape, NoSuchDate, Range}
 use Rattle.gtd_calendar.specs.Calendar.{IsDate, month_length, day_number}
 use Rattle.gtd_calendar.specs.Clock.{IsClock}
-use Rattle.gtd_calendar.specs.Stamp.{ymd_text, hms_text, IsYmdText, IsHmsText, IsMomentText, IsDateText, IsStampText}
+use Rattle.gtd_calendar.specs.Stamp.{ymd_text, hms_text, IsYmdText, IsMomentText, IsDateText, IsStampText}
 
 -- the days that are read: 1901-01-01 to 2700-01-01
 abbrev pub IsReadableDay : ℤ → Type 0
@@ -33,7 +35,8 @@ IsReadStamp text (Err NoSuchDate) =
     × IsMomentText text y m d h min s × (IsDate (pos y) m d → IsClock h min s → ⊥)
 IsReadStamp text (Err Range) = (s : ℤ) × IsStampText s text × (IsReadableSecond s → ⊥)
 
--- The same, computed. The digit, and the number of two digits, that stands at a place.
+-- What follows computes the answers; that there are no others is a law of this crate. First, the digit that stands at a
+-- place of a text, and the number of two digits.
 abbrev pub digit_at : List ℕ → ℕ → ℕ
 digit_at text i = slice_index text i - 48
 

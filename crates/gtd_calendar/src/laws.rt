@@ -1,11 +1,13 @@
 //! Laws of the calendar's definitions, over all whole numbers.
 
-ghost use Rattle.std.specs.Prelude.{◌≡◌, ◌↔◌, List, Result, ℤ, ℕ, pos, ◌+◌, ◌*◌, ◌+ℤ◌, ◌≤ℤ◌, Ok};
+ghost use Rattle.std.specs.Prelude.{◌≡◌, List, Result, Ok, ℤ, ℕ, pos, ◌+ℤ◌, ◌≤ℤ◌};
 ghost use Rattle.gtd_core.specs.DurationBound.{bound_of};
 ghost use Rattle.gtd_core.specs.declared.duration.DurationParts.{DurationParts};
 ghost use Rattle.gtd_core.specs.declared.second.Sec.{Sec};
-ghost use Rattle.gtd_calendar.specs.Calendar.{IsDateOf, IsWeekOf, first_day, year_length, month_length, year_of, month_of, day_of_month, weekday_of, week_of, week_year_of};
-ghost use Rattle.gtd_calendar.specs.Clock.{IsStop, stop, day_of_second, second_of_day};
+ghost use Rattle.gtd_calendar.specs.Calendar.{first_day, year_length, month_length, weekday_of};
+ghost use Rattle.gtd_calendar.specs.Calendar.{IsDateOf, year_of, month_of, day_of_month};
+ghost use Rattle.gtd_calendar.specs.Calendar.{IsWeekOf, week_of, week_year_of};
+ghost use Rattle.gtd_calendar.specs.Clock.{IsStop, stop};
 ghost use Rattle.gtd_calendar.specs.Read.{IsReadableDay, IsReadableSecond, IsReadDate, IsReadStamp, date_in, stamp_in};
 ghost use Rattle.gtd_calendar.specs.Stamp.{date_text, stamp_text};
 ghost use Rattle.gtd_calendar.specs.declared.stamp.StampFault.{StampFault};

@@ -1,4 +1,4 @@
-use Rattle.std.proofs.Common.{rules, ◌≡◌}
+use Rattle.std.proofs.Common.{rules}
 use Rattle.gtd_calendar.proofs.StampLemmas.{date_in-only}
 use Rattle.gtd_calendar.proofs.stamp.read_date.Goals as goal
 

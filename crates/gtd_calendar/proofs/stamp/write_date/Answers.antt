@@ -1,5 +1,4 @@
-use Rattle.std.proofs.Common.{rules, ◌≡◌}
-use Rattle.gtd_calendar.specs.Stamp.{date_text}
+use Rattle.std.proofs.Common.{rules}
 use Rattle.gtd_calendar.proofs.StampLemmas.{date_text-is}
 use Rattle.gtd_calendar.proofs.stamp.write_date.Goals as goal
 

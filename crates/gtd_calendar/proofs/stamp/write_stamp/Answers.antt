@@ -1,4 +1,4 @@
-use Rattle.std.proofs.Common.{rules, ◌≡◌}
+use Rattle.std.proofs.Common.{rules}
 use Rattle.gtd_calendar.proofs.StampLemmas.{stamp_text-is}
 use Rattle.gtd_calendar.proofs.stamp.write_stamp.Goals as goal
 
