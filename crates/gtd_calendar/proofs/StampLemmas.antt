@@ -14,9 +14,9 @@ use Rattle.gtd_calendar.specs.Stamp.{date_text, stamp_text, hms_text, IsYmdText,
 use Rattle.gtd_calendar.specs.Stamp.{IsStampText}
 use Rattle.gtd_calendar.specs.Read.{IsReadableDay, IsReadDate, is_date, day_in_range, day_if_any, ymd_in, date_in}
 use Rattle.gtd_calendar.specs.ReadParts.{IsYmd}
-use Rattle.gtd_calendar.proofs.DateLemmas.{date_of-is, month_length_bounds}
+use Rattle.gtd_calendar.proofs.DateLemmas.{date_of-is, date_of-only, month_length_bounds}
 use Rattle.gtd_calendar.proofs.OrderLemmas.{year_of-calendar}
-use Rattle.gtd_calendar.proofs.ClockLemmas.{second-parts}
+use Rattle.gtd_calendar.proofs.ClockLemmas.{second-parts, second-only}
 use Rattle.gtd_calendar.proofs.ShapeLemmas.{ymd_in-is, ymd_in-shape, ymd-only}
 
 -- the text that is computed of a day is the text of its date
@@ -142,3 +142,34 @@ date_in-is text = answered text (ymd_in text) (ymd_in-shape text)
 pub date_in-again : (n : ℤ) → IsReadableDay n → date_in (date_text n) ≡ Ok n
 date_in-again n h = sym (date_in-only (date_text n) (Ok n)
     (date_text-is n (omega (arith, signed_arith), omega (arith, signed_arith)), h))
+
+-- a day has one text
+pub date_text-only : (n : ℤ) (text : List ℕ) → IsDateText n text → text ≡ date_text n
+date_text-only n text h =
+    let only = date_of-only n (pos h.year) h.month h.day h.date in
+    rw (← only.0, ← only.1, ← only.2) h.shown.is
+
+-- and a second has one
+pub stamp_text-only : (s : ℤ) (text : List ℕ) → IsStampText s text → text ≡ stamp_text s
+stamp_text-only s text h =
+    let k = 3600 * h.hour + 60 * h.minute + h.second in
+    let parts = second-only s h.number k (omega arith) h.is in
+    let date : IsDateText (day_of_second s) h.shown.front = record {
+      year = h.year;
+      month = h.month;
+      day = h.day;
+      date = rw parts.0 h.date;
+      shown = h.shown.date;
+    } in
+    let hour : k / 3600 ≡ h.hour = omega arith in
+    let minute : k / 60 % 60 ≡ h.minute = omega arith in
+    let second : k % 60 ≡ h.second = omega arith in
+    rw (
+      h.shown.is,
+      h.shown.clock.is,
+      date_text-only (day_of_second s) h.shown.front date,
+      parts.1,
+      hour,
+      minute,
+      second,
+    ) refl

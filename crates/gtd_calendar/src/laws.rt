@@ -5,11 +5,11 @@ ghost use Rattle.gtd_core.specs.DurationBound.{bound_of};
 ghost use Rattle.gtd_core.specs.declared.duration.DurationParts.{DurationParts};
 ghost use Rattle.gtd_core.specs.declared.second.Sec.{Sec};
 ghost use Rattle.gtd_calendar.specs.Calendar.{first_day, year_length, month_length, weekday_of};
-ghost use Rattle.gtd_calendar.specs.Calendar.{IsDateOf, year_of, month_of, day_of_month};
+ghost use Rattle.gtd_calendar.specs.Calendar.{IsCalendarDay, IsDateOf, year_of, month_of, day_of_month};
 ghost use Rattle.gtd_calendar.specs.Calendar.{IsWeekOf, week_of, week_year_of};
-ghost use Rattle.gtd_calendar.specs.Clock.{IsStop, stop};
+ghost use Rattle.gtd_calendar.specs.Clock.{IsStop, day_of_second, stop};
 ghost use Rattle.gtd_calendar.specs.Read.{IsReadableDay, IsReadableSecond, IsReadDate, IsReadStamp, date_in, stamp_in};
-ghost use Rattle.gtd_calendar.specs.Stamp.{date_text, stamp_text};
+ghost use Rattle.gtd_calendar.specs.Stamp.{IsDateText, IsStampText, date_text, stamp_text};
 ghost use Rattle.gtd_calendar.specs.declared.stamp.StampFault.{StampFault};
 
 /// 1970-01-01 is day 0, and years follow one another by their lengths, forwards and backwards. Nothing else says so.
@@ -57,6 +57,14 @@ pub fn calendar_repeats()
         → IsWeekOf (n +ℤ pos 146_097) (y +ℤ pos 400) w }
     ensures stretches { (p : DurationParts) (b : ℤ)
         → stop p (b +ℤ pos 12_622_780_800) ≡ stop p b +ℤ pos 12_622_780_800 }
+{}
+
+/// Each day and each second of the calendar has exactly one text, and it is the one that is computed.
+pub fn one_text()
+    ensures date { (n : ℤ) → IsCalendarDay n → IsDateText n (date_text n) }
+    ensures date_only { (n : ℤ) (text : List ℕ) → IsDateText n text → text ≡ date_text n }
+    ensures stamp { (s : ℤ) → IsCalendarDay (day_of_second s) → IsStampText s (stamp_text s) }
+    ensures stamp_only { (s : ℤ) (text : List ℕ) → IsStampText s text → text ≡ stamp_text s }
 {}
 
 /// A text is read in exactly one way: as what is computed.
