@@ -266,5 +266,7 @@ fn names_of_faults(rt: HostRuntime) {
         (StampFault::Range, "Range"),
     ] {
         assert_eq!(rt; fault.name(), name);
+        let shown = format!(in rt.alloc(); "{fault}").expect(&rt, "memory");
+        assert_eq!(rt; shown.as_str(), name);
     }
 }
