@@ -1,37 +1,16 @@
--- The normal list of a set of seconds between two whole numbers.
+-- A set of seconds has one normal list between two whole numbers, and what it is.
 use Rattle.std.specs.Prelude.{ℤ, pos, ◌-ℤ◌, ◌≤ℤ◌, ◌<ℤ◌, ◌≡◌, ◌↔◌, List, [], ◌∷◌}
 use Rattle.std.proofs.Common.{arith, inl, inr}
 use Rattle.std.proofs.lemmas.Int.{ints, by_lt_z}
 use Rattle.gtd_core.specs.Interval.{Interval}
-use Rattle.gtd_spans.specs.Normal.{Holds, AllBeginAfter, IsNormal}
-use Rattle.gtd_spans.specs.Merging.{AllBeginFrom}
+use Rattle.gtd_spans.specs.Normal.{Holds, AllBeginFrom, AllBeginAfter, IsNormal}
+pub use Rattle.gtd_spans.specs.Normal.{IsIn, AreInOrder, AreMaximal, IsNormalFor}
 use Rattle.gtd_core.specs.declared.domain.Op.{Op}
 use Rattle.gtd_core.specs.declared.domain.Op.TheVariants.{Union, Meet, Minus}
 use Rattle.gtd_spans.specs.Combine.{Combined, combine}
 use Rattle.gtd_spans.specs.Combining.{combine-normal, combine-holds}
 use Rattle.gtd_spans.specs.OneList.{after-holds, one-list}
 use Rattle.gtd_spans.specs.Exists.{after-weaken}
-
--- the second is from `from` on, before `until`, and in the set
-abbrev pub IsIn : (ℤ → Type 0) → ℤ → ℤ → ℤ → Type 0
-IsIn set from until t = (from ≤ℤ t) × (t <ℤ until) × set t
-
--- no interval is empty, and each ends before every later one begins, or where it begins
-abbrev pub AreInOrder : List Interval → Type 0
-AreInOrder [] = Unit {0}
-AreInOrder (x ∷ xs) = (x.from <ℤ x.until) × AllBeginFrom x.until xs × AreInOrder xs
-
--- before and behind each interval is a second that is not in the set
-abbrev pub AreMaximal : (ℤ → Type 0) → List Interval → Type 0
-AreMaximal set [] = Unit {0}
-AreMaximal set (x ∷ xs) = (set (x.from -ℤ pos 1) → ⊥) × (set x.until → ⊥) × AreMaximal set xs
-
--- the intervals are in order, hold just the seconds of the set between the two numbers, and none could be longer
-pub record IsNormalFor (set : ℤ → Type 0) (from until : ℤ) (xs : List Interval) : Type 0 where
-  pub order : AreInOrder xs
-  pub inside : (t : ℤ) → Holds xs t → IsIn set from until t
-  pub complete : (t : ℤ) → IsIn set from until t → Holds xs t
-  pub maximal : AreMaximal (IsIn set from until) xs
 
 begin-after : (b : ℤ) (xs : List Interval) → AllBeginFrom b xs → AreInOrder xs → (Holds xs b → ⊥) → AllBeginAfter b xs
 begin-after b [] a o h = tt
