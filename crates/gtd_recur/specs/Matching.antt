@@ -12,17 +12,20 @@ finest_of second minute hour day month =
     if second then 5 else (if minute then 4 else (if hour then 3 else (if day then 2 else (if month then 1 else 0))))
 
 abbrev pub finest_level : StartParts → ℕ
-finest_level p = finest_of (is_some p.second) (is_some p.minute) (is_some p.hour) (gives_day p) (is_some p.month || is_some p.week)
+finest_level p =
+    finest_of (is_some p.second) (is_some p.minute) (is_some p.hour) (gives_day p)
+    (is_some p.month || is_some p.week)
 
--- each field that is given holds on day n, several weekdays as alternatives; the year is that of the week where one is given
+-- each field that is given holds on day n, several weekdays as alternatives; the year is that of the week where one is
+-- given
 pub record HoldsOnDay (p : StartParts) (n : ℤ) : Type 0 where
   pub year : IfSome p.year (λ y. pos y ≡ (if is_some p.week then week_year_of n else year_of n))
   pub month : IfSome p.month (λ m. m ≡ month_of n)
   pub week : IfSome p.week (λ w. w ≡ week_of n)
   pub day : IfSome p.day (λ d. d ≡ day_of_month n)
   pub nth : IfSome p.nth (λ x. (x.0 ≡ place_from_front (day_of_month n)) × (x.1 ≡ weekday_of n))
-  pub nth_back :
-      IfSome p.nth_back (λ x. (x.0 ≡ place_from_back (month_length (year_of n) (month_of n)) (day_of_month n)) × (x.1 ≡ weekday_of n))
+  pub nth_back : IfSome p.nth_back (λ x.
+      (x.0 ≡ place_from_back (month_length (year_of n) (month_of n)) (day_of_month n)) × (x.1 ≡ weekday_of n))
   pub weekdays : (p.weekdays ≡ 0) ⊎ (p.weekdays / 2 ^ (weekday_of n - 1) % 2 ≡ 1)
 
 -- and at second k of a day
@@ -31,7 +34,8 @@ pub record HoldsOnClock (p : StartParts) (k : ℕ) : Type 0 where
   pub minute : IfSome p.minute (λ m. m ≡ k / 60 % 60)
   pub second : IfSome p.second (λ x. x ≡ k % 60)
 
--- each level finer than one is at its least at second k of day n: the day's is the Monday where a week is given, and else the first
+-- each level finer than one is at its least at second k of day n: the day's is the Monday where a week is given, and
+-- else the first of the month
 pub record IsLeastBelow (level : ℕ) (week : Bool) (n : ℤ) (k : ℕ) : Type 0 where
   pub second : level < 5 → k % 60 ≡ 0
   pub minute : level < 4 → k / 60 % 60 ≡ 0

@@ -41,7 +41,8 @@ fn run_end(starts: &mut Starts, first: Sec) -> (Sec, Option<Sec>)
     ensures fewer { length (to_come result.1 (starts_to_come starts.new)) ≤ length (starts_to_come starts.old) }
     ensures same { IsSameWalk starts.old starts.new }
     ensures counted_ahead { IsCountedTo starts.new result.1 }
-    ensures at_most { (b : ℤ) → Has (starts_in (starts_basic starts.old) (starts_horizon starts.old)) b → result.0.0 <ℤ b
+    ensures at_most { (b : ℤ)
+        → Has (starts_in (starts_basic starts.old) (starts_horizon starts.old)) b → result.0.0 <ℤ b
         → starts_ticks starts.new ≤ work_up_to (starts_basic starts.old) (starts_horizon starts.old) b }
     ensures grows { starts_ticks starts.old ≤ starts_ticks starts.new }
 {

@@ -29,11 +29,14 @@ pub struct Starts {
     looked: u64,
     handed: u64,
     ghost clock_in: { clock ≤ 86400 },
-    ghost in_window: { IsInWindow (window_begin basic horizon) day next_day (to_day horizon) } by { IsInWindow-prop _ _ _ _ },
-    ghost fitting: { AreFitting (start_parts basic.start) next_day fits_until (to_day horizon) } by { AreFitting-prop _ _ _ _ },
+    ghost in_window: { IsInWindow (window_begin basic horizon) day next_day
+        (to_day horizon) } by { IsInWindow-prop _ _ _ _ },
+    ghost fitting: { AreFitting (start_parts basic.start) next_day fits_until
+        (to_day horizon) } by { AreFitting-prop _ _ _ _ },
     ghost left: { AreLeft handed (starts_in basic horizon)
         (starts_left (start_parts basic.start) day clock next_day (to_day horizon)) } by { AreLeft-prop _ _ _ },
-    ghost counted: { IsLookedCount (start_parts basic.start) (window_begin basic horizon) day next_day looked } by { IsLookedCount-prop _ _ _ _ _ },
+    ghost counted: { IsLookedCount (start_parts basic.start)
+        (window_begin basic horizon) day next_day looked } by { IsLookedCount-prop _ _ _ _ _ },
 }
 
 impl Starts {

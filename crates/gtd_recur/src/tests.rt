@@ -6,8 +6,8 @@ use gtd_spans::SpanSource;
 use std::process::Abort;
 use std::test::Fail;
 
-/// The fields of a start or the numbers of a duration, by their letters. The weekdays of `t` are bits, the places of `f`
-/// and `l` are two digits.
+/// The fields of a start or the numbers of a duration, by their letters. The weekdays of `t` are bits, the places of
+/// `f` and `l` are two digits.
 type Fields = &'static [(u8, u16)];
 
 struct Row {
