@@ -1,5 +1,5 @@
 -- How much work there can be at most.
-use Rattle.std.proofs.Common.{◌≡◌, ℕ, ◌+◌, ◌*◌, ◌/◌, ◌≤◌, length, arith, ℤ, pos, ◌+ℤ◌, ◌-ℤ◌, ◌≤ℤ◌, ◌<ℤ◌}
+use Rattle.std.proofs.Common.{◌≡◌, ℕ, ◌+◌, ◌/◌, ◌≤◌, length, arith, ℤ, pos, ◌+ℤ◌, ◌-ℤ◌, ◌≤ℤ◌, ◌<ℤ◌}
 use Rattle.gtd_calendar.proofs.Signed.{signed_arith}
 use Rattle.gtd_core.specs.declared.domain.Basic.{Basic}
 use Rattle.gtd_core.specs.declared.duration.DurationParts.{DurationParts}

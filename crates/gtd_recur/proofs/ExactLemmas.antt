@@ -1,17 +1,16 @@
 -- How much was counted when a start is handed out, exactly.
-use Rattle.std.proofs.Common.{◌≡◌, ℕ, ◌+◌, ◌<◌, ◌≤◌, Bool, true, false, ◌&&◌, List, [], ◌∷◌, ◌++◌, length, take, inl, inr, refl, ap, ◌∙◌, sym, arith, ℤ, pos, ◌+ℤ◌, ◌-ℤ◌, ◌*ℤ◌, ◌<ℤ◌, ◌≤ℤ◌, int_lt, unsigned_abs}
+use Rattle.std.proofs.Common.{◌≡◌, ℕ, ◌+◌, ◌<◌, Bool, true, ◌&&◌, List, [], ◌∷◌, ◌++◌, length, take, inl, refl, ap, ◌∙◌, sym, arith, ℤ, pos, ◌+ℤ◌, ◌-ℤ◌, ◌*ℤ◌, ◌<ℤ◌, ◌≤ℤ◌, int_lt, unsigned_abs}
 use Rattle.std.specs.Prelude.{count_by}
 use Rattle.std.proofs.lemmas.Bool.{and_left}
 use Rattle.std.proofs.lemmas.List.{take-append-drop, length-take-le}
 use Rattle.gtd_calendar.proofs.Signed.{signed_arith}
 use Rattle.gtd_calendar.proofs.ClockLemmas.{second-parts}
 use Rattle.gtd_calendar.specs.Clock.{day_of_second, second_of_day}
-use Rattle.gtd_calendar.specs.Fields.{day_fields}
 use Rattle.gtd_core.specs.declared.start.StartParts.{StartParts}
-use Rattle.gtd_recur.specs.Begins.{begins, begins_on, month_and_year_fit}
-use Rattle.gtd_recur.specs.Work.{days_from, days_between, starts_of, least_work}
+use Rattle.gtd_recur.specs.Begins.{month_and_year_fit}
+use Rattle.gtd_recur.specs.Work.{days_between, starts_of, least_work}
 use Rattle.gtd_recur.specs.Starts.{AreLeft, IsInWindow, IsLookedCount}
-use Rattle.gtd_recur.specs.Ascending.{AllAfter, AllBefore, IsAscending, Has}
+use Rattle.gtd_recur.specs.Ascending.{AllBefore, IsAscending, Has}
 use Rattle.gtd_recur.proofs.StartsLemmas.{count-append, count-is, days_between-append, days_between-is, one_day}
 use Rattle.gtd_recur.proofs.AscendingLemmas.{window-ascending, ascending-before, ascending-after, starts_of-ascending}
 use Rattle.gtd_recur.proofs.CoverLemmas.{begins-parts, test_from_lt}

@@ -1,14 +1,14 @@
 -- Which days a given year or month excludes.
-use Rattle.std.proofs.Common.{◌≡◌, ℕ, ◌+◌, ◌<◌, ◌≤◌, ◌⊎◌, inl, inr, Bool, true, false, Option, Some, None, refl, sym, ap, ◌∙◌, arith, ℤ, pos, neg_ℤ, ◌+ℤ◌, ◌-ℤ◌, ◌<ℤ◌, ◌≤ℤ◌, int_eq, is_some, IfSome, ◌==◌, ◌&&◌, ◌||◌}
+use Rattle.std.proofs.Common.{◌≡◌, ℕ, ◌+◌, ◌<◌, ◌≤◌, ◌⊎◌, inl, inr, Bool, true, false, Option, Some, None, refl, sym, arith, ℤ, pos, neg_ℤ, ◌+ℤ◌, ◌-ℤ◌, ◌<ℤ◌, ◌≤ℤ◌, is_some, IfSome, ◌&&◌, ◌||◌}
 use Rattle.std.specs.Prelude.{IsTrue}
 use Rattle.std.specs.Option.{unwrap_or}
 use Rattle.std.specs.Int.{IsInRange}
-use Rattle.std.proofs.lemmas.Bool.{and_parts, and_from, both_ways, cases_lt, eqb-true, eq-eqb, false_from_ne_true}
+use Rattle.std.proofs.lemmas.Bool.{and_parts, and_from, cases_lt, eqb-true, eq-eqb}
 use Rattle.std.proofs.lemmas.Bool.Decides.{Decides-int_eq}
 use Rattle.std.proofs.lemmas.Int.{by_lt_z}
 use Rattle.gtd_calendar.proofs.Signed.{signed_arith}
 use Rattle.gtd_core.specs.declared.start.StartParts.{StartParts}
-use Rattle.gtd_calendar.specs.Calendar.{IsDate, year_of, month_of, day_number, first_day, days_of_months, guessed_year, IsCalendarDay}
+use Rattle.gtd_calendar.specs.Calendar.{year_of, month_of, day_number, first_day, days_of_months, guessed_year}
 use Rattle.gtd_calendar.proofs.DateLemmas.{date_of-is, date_of-only, month_length_bounds}
 use Rattle.gtd_calendar.proofs.OrderLemmas.{before_month, before_first, year_of-calendar}
 use Rattle.gtd_calendar.proofs.YearLemmas.{guessed_year-near}

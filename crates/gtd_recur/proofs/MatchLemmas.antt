@@ -1,13 +1,13 @@
 -- A start matches just the seconds at which it begins.
-use Rattle.std.proofs.Common.{◌≡◌, ◌↔◌, ◌⊎◌, ℕ, ◌+◌, ◌-◌, ◌/◌, ◌%◌, ◌^◌, ◌<◌, ◌≤◌, inl, inr, Bool, true, false, not, ◌&&◌, ◌||◌, ◌==◌, cond, Option, Some, None, is_some, refl, sym, ap, ◌∙◌, arith, ℤ, pos, IfSome, int_eq}
-use Rattle.std.proofs.lemmas.Bool.{and_parts, and_from, eqb-true, eq-eqb, cases_Bool, both_ways}
+use Rattle.std.proofs.Common.{◌≡◌, ◌↔◌, ◌⊎◌, ℕ, ◌-◌, ◌/◌, ◌%◌, ◌^◌, ◌<◌, inl, inr, Bool, true, false, ◌||◌, ◌==◌, cond, Option, Some, None, is_some, refl, sym, arith, ℤ, pos, IfSome}
+use Rattle.std.proofs.lemmas.Bool.{and_parts, and_from, eqb-true, eq-eqb}
 use Rattle.std.proofs.lemmas.Bool.Decides.{Decides-int_eq}
 use Rattle.gtd_core.specs.declared.start.StartParts.{StartParts}
 use Rattle.gtd_calendar.specs.Calendar.{year_of, month_of, month_length, day_of_month, weekday_of, week_of, week_year_of, place_from_front, place_from_back}
 use Rattle.gtd_calendar.specs.Clock.{day_of_second, second_of_day}
 use Rattle.gtd_calendar.specs.Fields.{day_fields}
-use Rattle.gtd_recur.specs.Begins.{agrees, agrees_or_least, gives_clock, gives_day, year_agrees_with, place_agrees, begins, begins_on, begins_at, least_day, weekday_agrees}
-use Rattle.gtd_recur.specs.Matching.{finest_of, finest_level, HoldsOnDay, HoldsOnClock, IsLeastBelow, Matches}
+use Rattle.gtd_recur.specs.Begins.{agrees, agrees_or_least, gives_clock, gives_day, year_agrees_with, place_agrees, begins, begins_on, begins_at}
+use Rattle.gtd_recur.specs.Matching.{finest_of, finest_level, HoldsOnDay, HoldsOnClock, Matches}
 
 -- a field alone
 agrees-to : (o : Option ℕ) (v : ℕ) → agrees o v ≡ true → IfSome o (λ x. x ≡ v)

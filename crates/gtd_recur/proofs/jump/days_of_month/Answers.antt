@@ -1,6 +1,5 @@
-use Rattle.std.proofs.Common.{rules, arith, inl, inr, refl, sym, ◌∙◌, ap, ◌≡◌, ◌≤ℤ◌, ◌<ℤ◌, ◌≤◌, ◌<◌, ℤ, pos, neg_ℤ, ℕ, ◌+◌, true, false, FitsSigned, to_z, of_z, to_z-of_z, w64, ◌+ℤ◌, ◌-ℤ◌, is_some, ◌⊎◌, Option, None, Some}
+use Rattle.std.proofs.Common.{rules, arith, ◌≡◌, ◌≤ℤ◌, ◌<ℤ◌, pos, FitsSigned, to_z, of_z, to_z-of_z, w64, ◌+ℤ◌}
 use Rattle.gtd_calendar.proofs.Signed.{signed_arith}
-use Rattle.gtd_calendar.specs.Calendar.{year_of}
 use Rattle.gtd_recur.proofs.JumpLemmas.{month-this_year, month-next_year, next-open}
 use Rattle.gtd_recur.proofs.jump.days_of_month.Goals as goal
 

@@ -1,4 +1,4 @@
-use Rattle.std.proofs.Common.{rules, arith, inl, inr, refl, sym, ◌∙◌, ap, ◌≡◌, ◌≤ℤ◌, ◌<ℤ◌, ◌≤◌, ◌<◌, ℤ, pos, neg_ℤ, ℕ, ◌+◌, true, false, FitsSigned, to_z, of_z, to_z-of_z, w64, ◌+ℤ◌, ◌-ℤ◌, is_some, ◌⊎◌, Option, None, Some}
+use Rattle.std.proofs.Common.{rules, arith, ◌≡◌, pos, FitsSigned, to_z, of_z, to_z-of_z, w64, ◌+ℤ◌}
 use Rattle.gtd_calendar.proofs.Signed.{signed_arith}
 use Rattle.gtd_recur.proofs.JumpLemmas.{months-then, months-else}
 use Rattle.gtd_recur.proofs.jump.months.Goals as goal

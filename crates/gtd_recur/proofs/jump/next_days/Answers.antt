@@ -1,4 +1,4 @@
-use Rattle.std.proofs.Common.{rules, arith, inl, inr, refl, sym, ◌∙◌, ap, ◌≡◌, ◌≤ℤ◌, ◌<ℤ◌, ◌≤◌, ◌<◌, ℤ, pos, neg_ℤ, ℕ, ◌+◌, true, false, FitsSigned, to_z, of_z, to_z-of_z, w64, ◌+ℤ◌, ◌-ℤ◌, is_some, ◌⊎◌, Option, None, Some}
+use Rattle.std.proofs.Common.{arith, inl, inr, ◌≡◌, pos, true, to_z, of_z, to_z-of_z, w64, is_some, ◌⊎◌, None}
 use Rattle.gtd_calendar.proofs.Signed.{signed_arith}
 use Rattle.std.specs.Prelude.{IsTrue}
 use Rattle.gtd_recur.specs.Begins.{month_and_year_fit}

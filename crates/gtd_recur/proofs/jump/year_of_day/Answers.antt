@@ -1,6 +1,6 @@
-use Rattle.std.proofs.Common.{rules, arith, inl, inr, refl, sym, ◌∙◌, ap, ◌≡◌, ◌≤ℤ◌, ◌<ℤ◌, ◌≤◌, ◌<◌, ℤ, pos, neg_ℤ, ℕ, ◌+◌, true, false, FitsSigned, to_z, of_z, to_z-of_z, w64, ◌+ℤ◌, ◌-ℤ◌, is_some, ◌⊎◌, Option, None, Some}
+use Rattle.std.proofs.Common.{rules, arith, ◌≡◌, ◌≤ℤ◌, ◌<ℤ◌, pos, FitsSigned, to_z, of_z, to_z-of_z, w64, ◌+ℤ◌, ◌-ℤ◌}
 use Rattle.gtd_calendar.proofs.Signed.{signed_arith}
-use Rattle.gtd_calendar.specs.Calendar.{year_of, day_number, guessed_year}
+use Rattle.gtd_calendar.specs.Calendar.{day_number, guessed_year}
 use Rattle.gtd_recur.proofs.JumpLemmas.{year-early, year-here, year-late, year-low}
 use Rattle.gtd_recur.proofs.jump.year_of_day.Goals as goal
 

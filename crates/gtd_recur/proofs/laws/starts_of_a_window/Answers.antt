@@ -1,7 +1,5 @@
-use Rattle.std.proofs.Common.{◌≤ℤ◌, ◌<ℤ◌, ℤ, arith}
-use Rattle.gtd_calendar.proofs.Signed.{signed_arith}
 use Rattle.gtd_core.specs.Parts.{start_parts}
-use Rattle.gtd_core.specs.Whole.{from_day, to_day}
+use Rattle.gtd_core.specs.Whole.{to_day}
 use Rattle.gtd_recur.specs.Work.{window, window_begin}
 use Rattle.gtd_recur.proofs.AscendingLemmas.{window-ascending}
 use Rattle.gtd_recur.proofs.ExactLemmas.{has-window}

@@ -1,9 +1,8 @@
-use Rattle.std.proofs.Common.{◌≡◌, ◌∙◌, arith, ◌∷◌, [], Some}
+use Rattle.std.proofs.Common.{◌≡◌, ◌∙◌, arith, [], Some}
 use Rattle.gtd_core.specs.Parts.{duration_parts}
 use Rattle.gtd_core.specs.Whole.{whole}
 use Rattle.gtd_recur.specs.RunsToCome.{runs_to_come}
-use Rattle.gtd_recur.specs.Stretches.{to_come, runs_between}
-use Rattle.gtd_recur.specs.StartsToCome.{IsCountedTo, starts_to_come}
+use Rattle.gtd_recur.specs.StartsToCome.{IsCountedTo}
 use Rattle.gtd_recur.proofs.GivenLemmas.{run-at_most, run-at_least, whole-order}
 use Rattle.gtd_recur.proofs.StretchLemmas.{run-first, run-none, runs-nil}
 use Rattle.gtd_recur.proofs.runs.Runs.next_run.Goals as goal

@@ -1,12 +1,9 @@
-use Rattle.std.proofs.Common.{◌≡◌, arith, rules, ℤ, pos, neg_ℤ, true, false, ◌-ℤ◌, ◌+ℤ◌, ◌≤ℤ◌, ◌<ℤ◌, to_z, of_z, w64, to_z-of_z, FitsSigned, refl, ap, ◌∙◌, sym, inl, inr}
+use Rattle.std.proofs.Common.{◌≡◌, arith, pos, ◌+ℤ◌, ◌<ℤ◌, to_z, of_z, w64}
 use Rattle.std.specs.Prelude.{IsTrue}
-use Rattle.std.proofs.lemmas.Bool.{false_from_ne_true}
 use Rattle.gtd_calendar.proofs.Signed.{signed_arith}
-use Rattle.gtd_core.specs.Parts.{start_parts, duration_parts}
-use Rattle.gtd_core.specs.Whole.{from_day, to_day}
-use Rattle.gtd_core.specs.DurationBound.{lookback_of}
+use Rattle.gtd_core.specs.Parts.{start_parts}
+use Rattle.gtd_core.specs.Whole.{to_day}
 use Rattle.gtd_recur.specs.Begins.{month_and_year_fit}
-use Rattle.gtd_recur.specs.Jumps.{IsNextRun}
 use Rattle.gtd_recur.specs.Work.{window_begin}
 use Rattle.gtd_recur.proofs.StartsLemmas.{small-z, run-on, window-calendar}
 use Rattle.gtd_recur.proofs.starts.Starts.days_after.Goals as goal
