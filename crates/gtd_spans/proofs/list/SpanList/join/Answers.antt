@@ -41,3 +41,6 @@ returns-then-le-clause-seconds c = λ t.
     let len : length items ≡ (c.len-at.result - 1) + 1 = omega (arith, c.len-at.ensures) in
     let le : c.args.x.until ≤ℤ c.index.result.now.until = grind (arith, ints, common_steps) in
     rw (← c.self.view_is) (leaves-same items (c.len-at.result - 1) c.index.result.now c.args.x len c.index.ensures order le t)
+
+pub returns-clause-normal : goal.returns-clause-normal
+returns-clause-normal c = (left c).normal

@@ -24,3 +24,6 @@ pub returns-in_err-push-clause-joins : goal.returns-in_err-push-clause-joins
 returns-in_err-push-clause-joins c = λ h.
     let ends : AllEndBefore c.args.x.from c.args.self.now = rw c.from.ensures.value at (c.reaches.ensures.no (search rules)) in
     absurd (end-reaches c.args.x.from c.args.self.now ends h)
+
+pub returns-clause-normal : goal.returns-clause-normal
+returns-clause-normal c = (pushed c).normal
