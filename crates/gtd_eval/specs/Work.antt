@@ -3,9 +3,9 @@ use Rattle.std.proofs.Common.{arith}
 use Rattle.gtd_core.specs.declared.horizon.Horizon.{Horizon}
 use Rattle.gtd_core.specs.declared.domain.Basic.{Basic}
 
-unfoldable pub basic_work : Basic → Horizon → ℕ
-basic_work b h = 1000000
+unfoldable pub work_of : Basic → Horizon → ℕ
+work_of b h = 1000000
 
-pub basic_work-le : (b : Basic) (h : Horizon) → basic_work b h ≤ 20000000000
-unfolding basic_work
-basic_work-le b h = omega arith
+pub work_of-le : (b : Basic) (h : Horizon) → work_of b h ≤ 20000000000
+unfolding work_of
+work_of-le b h = omega arith

@@ -1,15 +1,15 @@
 ghost use Rattle.std.specs.Prelude.{◌≡◌, ◌≤◌, ◌↔◌, IsTrue};
 ghost use Rattle.gtd_spans.specs.Merging.{listed, Takes};
-ghost use Rattle.gtd_eval.specs.Basics.{InBasic, IsHorizonDay};
+ghost use Rattle.gtd_eval.specs.Basics.{InBasic, IsHorizonSecond};
 ghost use Rattle.gtd_eval.specs.Single.{IsSingle, IsSingle-prop, listed-normal};
-ghost use Rattle.gtd_eval.specs.Work.{basic_work};
+ghost use Rattle.gtd_eval.specs.Work.{work_of};
 
 use gtd_core::{Basic, Horizon, Sec, Span};
 use gtd_spans::SpanSource;
 
-#[tactic(auto, unfolding(crate::specs::Basics::IsCovered))]
+#[tactic(auto, unfolding(crate::specs::Basics::InStretches))]
 pub fn covers(_basic: &Basic, _second: Sec) -> bool
-    requires { IsHorizonDay _second.0 }
+    requires { IsHorizonSecond _second.0 }
     ensures { IsTrue result ↔ InBasic _basic.now _second.0 }
 {
     true
@@ -22,16 +22,16 @@ pub struct Runs {
     span: Option<Span>,
     ticks: u64,
     ghost single: { IsSingle span } by { IsSingle-prop span },
-    ghost bounded: { ticks ≤ basic_work basic horizon },
+    ghost bounded: { ticks ≤ work_of basic horizon },
 }
 
 impl Runs {
     ghost use Rattle.gtd_eval.specs.Basics.{InBasic};
     ghost use Rattle.gtd_eval.specs.NormalOver.{IsNormalOver};
-    ghost use Rattle.gtd_eval.specs.RunsWords.{runs_list, runs_basic, runs_horizon, runs_ticks};
+    ghost use Rattle.gtd_eval.specs.RunsWords.{runs_to_come, runs_basic, runs_horizon, runs_ticks};
 
     pub fn new(basic: Basic, horizon: Horizon) -> Runs
-        ensures normal { IsNormalOver (InBasic basic) horizon (runs_list result) }
+        ensures normal { IsNormalOver (InBasic basic) horizon (runs_to_come result) }
         ensures basic { runs_basic result ≡ basic }
         ensures horizon { runs_horizon result ≡ horizon }
     {
@@ -46,7 +46,7 @@ impl Runs {
 
     pub fn ticks(&self) -> u64
         ensures value { result ≡ runs_ticks self.now }
-        ensures bounded { runs_ticks self.now ≤ basic_work (runs_basic self.now) (runs_horizon self.now) }
+        ensures at_most { result ≤ work_of (runs_basic self.now) (runs_horizon self.now) }
     {
         self.ticks
     }
@@ -54,13 +54,13 @@ impl Runs {
 
 impl SpanSource for Runs {
     ghost use Rattle.gtd_spans.specs.Merging.{listed, Takes};
-    ghost use Rattle.gtd_eval.specs.RunsWords.{runs_list, runs_basic, runs_horizon};
+    ghost use Rattle.gtd_eval.specs.RunsWords.{runs_to_come, runs_basic, runs_horizon};
     ghost use Rattle.gtd_eval.specs.Single.{listed-normal};
 
     ghost rest = { λ r. listed r.span };
 
     fn next(&mut self) -> Option<Span>
-        ensures takes { Takes (runs_list self.old) result (runs_list self.new) }
+        ensures takes { Takes (runs_to_come self.old) result (runs_to_come self.new) }
         ensures basic { runs_basic self.new ≡ runs_basic self.old }
         ensures horizon { runs_horizon self.new ≡ runs_horizon self.old }
     {

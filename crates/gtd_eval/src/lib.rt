@@ -18,3 +18,5 @@ mod leaf;
 mod membership;
 mod node;
 mod over;
+#[cfg(test)]
+mod tests;

@@ -2,11 +2,11 @@ use Rattle.std.proofs.Common.{List, [], ◌∷◌, inl, inr}
 use Rattle.gtd_core.specs.Interval.{Interval}
 use Rattle.gtd_core.specs.Whole.{whole}
 use Rattle.gtd_spans.specs.NormalFor.{normal-for}
-use Rattle.gtd_eval.specs.Basics.{InBasic, IsCovered}
+use Rattle.gtd_eval.specs.Basics.{InBasic, InStretches}
 use Rattle.gtd_eval.proofs.leaf.Runs.new.Goals as goal
 
 pub returns-clause-normal : goal.returns-clause-normal
-unfolding IsCovered
+unfolding InStretches
 returns-clause-normal c =
     let w : Interval = whole c.args.horizon in
     rw c.whole.ensures.value
