@@ -1,0 +1,14 @@
+use Rattle.std.proofs.Common.{◌≤ℤ◌, arith, ◌∙◌, sym, refl}
+use Rattle.gtd_calendar.proofs.Signed.{signed_arith}
+use Rattle.gtd_core.specs.Parts.{start_parts}
+use Rattle.gtd_core.specs.Whole.{to_day}
+use Rattle.gtd_recur.proofs.StartsLemmas.{ended-left}
+use Rattle.gtd_recur.proofs.starts.Starts.next.Goals as goal
+
+pub returns-then-self-to_day-clause-takes : goal.returns-then-self-to_day-clause-takes
+returns-then-self-to_day-clause-takes c =
+    let s = c.next_of_day.new.self in
+    let none = c.in_default.ensures.none refl in
+    let past : to_day s.horizon ≤ℤ s.next_day = omega (arith, signed_arith, c.if-self-to_day.true, c.to_day.ensures.value, s.in_window.first_in, s.in_window.day_in, s.in_window.next_in, s.in_window.end_in, s.in_window.last_in) in
+    let ended = ended-left (start_parts s.basic.start) s.day s.next_day (to_day s.horizon) s.clock past s.in_window.end_in none.1 in
+    (c.loop-start.invariant.left ∙ sym none.0 ∙ ended, ended)
