@@ -189,6 +189,13 @@ horizon-order h = less (from_day h) (to_day h) h.not_empty
     less : (a b : ℤ) → a <ℤ b → a ≤ℤ b
     less a b lt = omega (arith, signed_arith)
 
+-- and ends with it
+pub window-order : (d : Basic) (h : Horizon) → window_begin d h ≤ℤ to_day h
+window-order d h = chain (window_begin d h) (from_day h) (to_day h) (begin-low d h) (horizon-order h)
+  where
+    chain : (a b c : ℤ) → a ≤ℤ b → b ≤ℤ c → a ≤ℤ c
+    chain a b c p q = omega (arith, signed_arith)
+
 pub whole-order : (h : Horizon) → (whole h).from ≤ℤ (whole h).until
 whole-order h = more (from_day h) (to_day h) (horizon-order h)
   where
@@ -200,12 +207,9 @@ pub run-at_most : (s t : Starts) (end u : ℤ) → ((b : ℤ) → Has (all_of s)
     → ((u ≡ end) ⊎ (u ≡ (whole s.horizon).until)) → (b : ℤ) → Has (all_of s) b → u <ℤ b → starts_ticks t ≤ work (parts_of s) (days_of s) b
 run-at_most s t end u at one b has late = elim one [
   | inl e ↦ at b has (omega (arith, signed_arith, e, late))
-  | inr e ↦ absurd (apart u b (end_of s) e late (has-before (pos 86400 *ℤ end_of s) b (all_of s) (window-last (parts_of s) (begin_of s) (end_of s) (chain _ _ _ (begin-low s.basic s.horizon) (horizon-order s.horizon))) has))
+  | inr e ↦ absurd (apart u b (end_of s) e late (has-before (pos 86400 *ℤ end_of s) b (all_of s) (window-last (parts_of s) (begin_of s) (end_of s) (window-order s.basic s.horizon)) has))
 ]
   where
-    chain : (a b c : ℤ) → a ≤ℤ b → b ≤ℤ c → a ≤ℤ c
-    chain a b c p q = omega (arith, signed_arith)
-
     apart : (u b n : ℤ) → u ≡ n *ℤ pos 86400 → u <ℤ b → b <ℤ (pos 86400 *ℤ n) → ⊥
     apart u b n p q r = omega (arith, signed_arith)
 

@@ -144,11 +144,13 @@ first-1800 = refl
 -- the days that a window can have are of the years 1800 to 2699
 window-year : (n : ℤ) → neg_ℤ (pos 61802) ≤ℤ n → n <ℤ pos 266_627 → (pos 1800 ≤ℤ year_of n) × (year_of n ≤ℤ pos 2699)
 window-year n low high =
-    let calendar = year_of-calendar n (omega (arith, signed_arith), omega (arith, signed_arith)) in
-    (calendar.0, elim (before_month n (pos 2700) 1 (omega arith, omega arith) (rw first-2700 high)) [
-      | inl lt ↦ omega (arith, signed_arith, lt)
-      | inr here ↦ absurd (let m = here.1 in let l = month_low n in omega (arith, m, l))
-    ])
+    let calendar = year_of-calendar n (omega (arith, signed_arith), omega (arith, signed_arith)) in (
+      calendar.0,
+      elim (before_month n (pos 2700) 1 (omega arith, omega arith) (rw first-2700 high)) [
+        | inl lt ↦ omega (arith, signed_arith, lt)
+        | inr here ↦ absurd (let m = here.1 in let l = month_low n in omega (arith, m, l))
+      ],
+    )
 
 pub year-never : (year : ℤ) (month : Option ℕ) (day end : ℤ) → neg_ℤ (pos 61802) ≤ℤ day → day ≤ℤ end → end ≤ℤ pos 266_627 → (year <ℤ pos 1800) ⊎ (pos 2699 <ℤ year)
     → IsNextRun (IsOf year month) day end end end
@@ -302,6 +304,3 @@ run-same p q day end from until f g h = record {
 pub none_given : (o : Option ℕ) → is_some o ≡ false → o ≡ None
 none_given None e = refl
 none_given (Some x) e = cc
-
-pub week_given : (o : Option ℕ) → is_some o ≡ true → is_some o ≡ true
-week_given o e = e

@@ -36,7 +36,7 @@ no_days : (a : ℤ) → days_from a 0 ≡ []
 unfolding days_from
 no_days a = refl
 
-one_day : (a : ℤ) → days_from a 1 ≡ a ∷ []
+pub one_day : (a : ℤ) → days_from a 1 ≡ a ∷ []
 unfolding days_from
 one_day a = refl
 

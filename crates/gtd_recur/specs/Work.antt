@@ -80,3 +80,8 @@ least_of_window d h t = least_work (start_parts d.start) (window d h) t
 
 abbrev pub least_of_horizon : Basic → Horizon → ℤ → ℕ
 least_of_horizon d h t = least_work (start_parts d.start) (horizon_days h) t
+
+-- what is counted in all: the days of the window that no given month or year excludes, and its starts
+unfoldable pub counted_work : Basic → Horizon → ℕ
+counted_work d h =
+    count_by (month_and_year_fit (start_parts d.start)) (window d h) + length (starts_in d h)

@@ -15,4 +15,5 @@ pub mod laws;
 mod runs;
 mod spans;
 mod starts;
-
+#[cfg(test)]
+mod tests;

@@ -32,7 +32,7 @@ pub struct Starts {
 }
 
 impl Starts {
-    ghost use Rattle.std.specs.Prelude.{◌≡◌, ◌+◌, ◌<ℤ◌, ◌+ℤ◌, pos, [], ◌∷◌, IfSome, IsTrue};
+    ghost use Rattle.std.specs.Prelude.{◌≡◌, ◌+◌, ◌<ℤ◌, ◌+ℤ◌, pos, [], ◌∷◌, IfSome, IfNone, IsTrue};
     ghost use Rattle.gtd_core.specs.Parts.{start_parts};
     ghost use Rattle.gtd_core.specs.Whole.{to_day};
     ghost use Rattle.gtd_calendar.specs.Calendar.{IsCalendarDay};
@@ -40,7 +40,7 @@ impl Starts {
     ghost use Rattle.gtd_recur.specs.Begins.{month_and_year_fit};
     ghost use Rattle.gtd_recur.specs.Jumps.{IsNextRun};
     ghost use Rattle.gtd_recur.specs.Starts.{TakesSecond, clock_starts};
-    ghost use Rattle.gtd_recur.specs.Work.{starts_in, work_up_to, work_of, least_of_window};
+    ghost use Rattle.gtd_recur.specs.Work.{starts_in, work_up_to, work_of, least_of_window, counted_work};
     ghost use Rattle.gtd_recur.specs.StartsToCome.{IsSameWalk, starts_basic, starts_horizon, starts_to_come, starts_given, starts_ticks};
 
     /// The walk over all starts of the basic domain on the days from the horizon's first less the lookback to its last.
@@ -82,6 +82,10 @@ impl Starts {
             starts_ticks self.new ≤ work_up_to (starts_basic self.old) (starts_horizon self.old) b.0) }
         ensures at_least { IfSome result (λ b.
             least_of_window (starts_basic self.old) (starts_horizon self.old) b.0 + 1 ≤ starts_ticks self.new) }
+        ensures exact { IfSome result (λ b.
+            starts_ticks self.new ≡ least_of_window (starts_basic self.old) (starts_horizon self.old) b.0 + 2) }
+        ensures ended { IfNone result (
+            starts_ticks self.new ≡ counted_work (starts_basic self.old) (starts_horizon self.old)) }
         ensures rises { IfSome result (λ b. starts_ticks self.old + 1 ≤ starts_ticks self.new) }
         ensures grows { starts_ticks self.old ≤ starts_ticks self.new }
         ensures calendar { IfSome result (λ b. IsCalendarDay (day_of_second b.0)) }
@@ -107,6 +111,8 @@ impl Starts {
             starts_ticks self.new ≤ work_up_to (starts_basic self.old) (starts_horizon self.old) b.0) }
         ensures at_least { IfSome result (λ b.
             least_of_window (starts_basic self.old) (starts_horizon self.old) b.0 + 1 ≤ starts_ticks self.new) }
+        ensures exact { IfSome result (λ b.
+            starts_ticks self.new ≡ least_of_window (starts_basic self.old) (starts_horizon self.old) b.0 + 2) }
         ensures rises { IfSome result (λ b. starts_ticks self.old + 1 ≤ starts_ticks self.new) }
         ensures grows { starts_ticks self.old ≤ starts_ticks self.new }
         ensures calendar { IfSome result (λ b. IsCalendarDay (day_of_second b.0)) }

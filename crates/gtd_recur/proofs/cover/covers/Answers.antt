@@ -12,7 +12,7 @@ use Rattle.gtd_recur.proofs.cover.covers.Goals.{then-back-eq0, else-back-eq0}
 pub held_from_day-requires-clause-latest : goal.held_from_day-requires-clause-latest
 held_from_day-requires-clause-latest c =
     let near = horizon-day c.args.second.0 c.requires.horizon in
-    let is = c.day_of_sec-today.ensures in
+    let is = c.day_of_sec-today.ensures.value in
     let bound = c.lookback-back-end.ensures.bound in
     let plain : to_z w64 (of_z w64 (to_z w64 (of_z w64 c.day_of_sec-today.result) -ℤ to_z w64 (of_z w64 c.from.result))) ≡ c.day_of_sec-today.result -ℤ pos c.loop-back.back = omega (arith, signed_arith, near.0, near.1, is, bound) in
     elim c.if-back-eq0.branch [
@@ -28,7 +28,7 @@ held_from_day-requires-clause-latest c =
 pub loop-back-preserved : goal.loop-back-preserved
 loop-back-preserved c =
     let near = horizon-day c.args.second.0 c.requires.horizon in
-    let is = c.day_of_sec-today.ensures in
+    let is = c.day_of_sec-today.ensures.value in
     let bound = c.lookback-back-end.ensures.bound in
     let plain : to_z w64 (of_z w64 (to_z w64 (of_z w64 c.day_of_sec-today.result) -ℤ to_z w64 (of_z w64 c.from.result))) ≡ to_z w64 (of_z w64 c.day_of_sec-today.result) -ℤ pos c.loop-back.back = omega (arith, signed_arith, near.0, near.1, is, bound) in
     let here = rw (c.parts-start.ensures.value, plain) at c.if-held_from_day.ensures in
@@ -37,26 +37,28 @@ loop-back-preserved c =
 pub returns : goal.returns
 returns c =
     let fits : FitsSigned w64 c.day_of_sec-today.result = search rules in
-    let today : to_z w64 (of_z w64 c.day_of_sec-today.result) ≡ day_of_second c.args.second.0 = to_z-of_z fits ∙ c.day_of_sec-today.ensures in
-    record { member = (
-      λ e. absurd (false≢true e),
-      λ held.
-          let from = held_in_lookback (start_parts c.args.basic.now.start) (duration_parts c.args.basic.now.duration) c.args.second.0 held in
-          let tried : from.0 < c.loop-back.back = omega arith in
-          absurd (c.loop-back.invariant from.0 tried (rw today from.2)),
-    ) }
+    let today : to_z w64 (of_z w64 c.day_of_sec-today.result) ≡ day_of_second c.args.second.0 = to_z-of_z fits ∙ c.day_of_sec-today.ensures.value in
+    record {
+      member = (
+        λ e. absurd (false≢true e),
+        λ held.
+            let from = held_in_lookback (start_parts c.args.basic.now.start) (duration_parts c.args.basic.now.duration) c.args.second.0 held in
+            let tried : from.0 < c.loop-back.back = omega arith in
+            absurd (c.loop-back.invariant from.0 tried (rw today from.2)),
+      );
+    }
 
 pub overflow_sub-today : goal.overflow_sub-today
 overflow_sub-today c =
     let near = horizon-day c.args.second.0 c.requires.horizon in
-    let is = c.day_of_sec-today.ensures in
+    let is = c.day_of_sec-today.ensures.value in
     let bound = c.lookback-back-end.ensures.bound in
     omega (arith, signed_arith, near.0, near.1, is, bound)
 
 pub held_from_day-requires-clause-day_in : goal.held_from_day-requires-clause-day_in
 held_from_day-requires-clause-day_in c =
     let near = horizon-day c.args.second.0 c.requires.horizon in
-    let is = c.day_of_sec-today.ensures in
+    let is = c.day_of_sec-today.ensures.value in
     let bound = c.lookback-back-end.ensures.bound in
     let plain : to_z w64 (of_z w64 (to_z w64 (of_z w64 c.day_of_sec-today.result) -ℤ to_z w64 (of_z w64 c.from.result))) ≡ c.day_of_sec-today.result -ℤ pos c.loop-back.back = omega (arith, signed_arith, near.0, near.1, is, bound) in
     rw plain (omega (arith, signed_arith, near.0, near.1, is, bound), omega (arith, signed_arith, near.0, near.1, is, bound))

@@ -5,6 +5,7 @@ use Rattle.gtd_core.specs.Whole.{to_day}
 use Rattle.gtd_recur.specs.Work.{window_begin}
 use Rattle.gtd_calendar.proofs.ClockLemmas.{second-only}
 use Rattle.gtd_recur.proofs.CountLemmas.{at_most, at_least}
+use Rattle.gtd_recur.proofs.ExactLemmas.{exact}
 use Rattle.gtd_recur.proofs.StartsLemmas.{taken-left, closed-left, clock_starts-nil, handed-one, small-counts}
 use Rattle.gtd_recur.proofs.starts.Starts.next_of_day.Goals as goal
 
@@ -67,6 +68,14 @@ returns-in-Some-clause-at_least c =
     let plain : to_z w64 (of_z w64 (to_z w64 (of_z w64 (pos 86400 *ℤ to_z w64 (of_z w64 s.day))) +ℤ to_z w64 (of_z w64 c.from.result))) ≡ pos 86400 *ℤ s.day +ℤ pos c.in-Some.clock = omega (arith, signed_arith) in
     let on = (second-only _ s.day c.in-Some.clock found.1 refl).0 in
     rw plain (at_least (start_parts s.basic.start) (window_begin s.basic s.horizon) s.day s.next_day (to_day s.horizon) _ s.looked s.handed _ on s.in_window s.counted (rw (taken-left (start_parts s.basic.start) s.day s.next_day (to_day s.horizon) s.clock c.in-Some.clock found) at s.left))
+
+pub returns-in-Some-clause-exact : goal.returns-in-Some-clause-exact
+returns-in-Some-clause-exact c =
+    let s = c.args.self.now in
+    let found = rw (c.parts.ensures.value, c.in-Some.is) at c.next_begin.ensures in
+    let plain : to_z w64 (of_z w64 (to_z w64 (of_z w64 (pos 86400 *ℤ to_z w64 (of_z w64 s.day))) +ℤ to_z w64 (of_z w64 c.from.result))) ≡ pos 86400 *ℤ s.day +ℤ pos c.in-Some.clock = omega (arith, signed_arith) in
+    let on = (second-only _ s.day c.in-Some.clock found.1 refl).0 in
+    rw plain (exact (start_parts s.basic.start) (window_begin s.basic s.horizon) s.day s.next_day (to_day s.horizon) _ s.looked s.handed _ on s.in_window s.counted (rw (taken-left (start_parts s.basic.start) s.day s.next_day (to_day s.horizon) s.clock c.in-Some.clock found) at s.left))
 
 pub returns-in-Some-clause-calendar : goal.returns-in-Some-clause-calendar
 returns-in-Some-clause-calendar c =
