@@ -4,13 +4,13 @@ use Rattle.std.proofs.Props.{props}
 use Rattle.gtd_spans.specs.Normal.{IsNormal}
 use Rattle.gtd_spans.specs.SweepFacts.{still-normal, Fits-prop, HasOneSide-prop}
 use Rattle.gtd_eval.specs.Nodes.{node_list, IsSound}
-use Rattle.gtd_eval.specs.RunsWords.{runs_to_come-normal}
+use Rattle.gtd_recur.specs.Stretches.{runs_between-normal}
 use Rattle.gtd_eval.specs.Single.{IsSingle-prop, listed-normal}
 use Rattle.gtd_eval.specs.declared.node.Node.{Node, Fixed, Leaf, One', Two'}
 
 pub node_list-normal : (n : Node) → IsSound n → IsNormal (node_list n)
 node_list-normal (Fixed span) h = listed-normal span h
-node_list-normal (Leaf runs) h = runs_to_come-normal runs
+node_list-normal (Leaf runs) h = runs_between-normal _ _ _ _
 node_list-normal (One' sweep p inner) h = still-normal sweep _ _
 node_list-normal (Two' sweep p left q right) h = still-normal sweep _ _
 

@@ -6,10 +6,10 @@ use Rattle.gtd_core.specs.declared.domain.Expr.TheVariants.{Leaf as LeafExpr, Jo
 use Rattle.gtd_core.specs.declared.horizon.Horizon.{Horizon}
 use Rattle.gtd_spans.specs.Merging.{listed}
 use Rattle.gtd_spans.specs.Sweeping.{still, Fits, HasOneSide}
-use Rattle.gtd_eval.specs.RunsWords.{runs_to_come, runs_basic, runs_horizon, runs_ticks}
+use Rattle.gtd_recur.specs.RunsToCome.{runs_to_come, runs_basic, runs_horizon, runs_ticks}
 use Rattle.gtd_eval.specs.Shape.{Shape, fixed, runs, one, two, shape_nodes, shape_height, shape_work}
 use Rattle.gtd_eval.specs.Single.{IsSingle}
-use Rattle.gtd_eval.specs.Work.{work_of}
+use Rattle.gtd_recur.specs.Work.{work_of}
 use Rattle.gtd_eval.specs.declared.node.Node.{Node, Fixed, Leaf, One', Two'}
 
 -- the normal list that the tree has still to hand out

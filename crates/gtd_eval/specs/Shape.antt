@@ -2,7 +2,7 @@
 use Rattle.std.specs.Prelude.{ℕ, ◌+◌, max}
 use Rattle.gtd_core.specs.declared.domain.Basic.{Basic}
 use Rattle.gtd_core.specs.declared.horizon.Horizon.{Horizon}
-use Rattle.gtd_eval.specs.Work.{work_of}
+use Rattle.gtd_recur.specs.Work.{work_of}
 
 -- a fixed span or none; the runs of a basic domain in a horizon; a sweep over one side; a sweep over two sides
 pub data Shape : Type 0 where

@@ -2,11 +2,11 @@
 
 ghost use Rattle.std.specs.Prelude.{◌↔◌, IsTrue};
 ghost use Rattle.gtd_core.specs.Trees.{tree_of};
-ghost use Rattle.gtd_eval.specs.Basics.{IsHorizonSecond};
+ghost use Rattle.gtd_recur.specs.Membership.{IsHorizonSecond};
 ghost use Rattle.gtd_eval.specs.Membership.{InDomain, InTree, SomeGivesYear};
 
-use crate::leaf::covers;
 use gtd_core::{Domain, Expr, Op, Sec};
+use gtd_recur::covers;
 
 /// Whether the domain contains the second, which is on a day that a horizon may have. Takes no memory.
 pub fn holds(domain: &Domain, second: Sec) -> bool
@@ -22,14 +22,11 @@ fn is_in(expr: &Expr, second: Sec) -> bool
 {
     match expr {
         Expr::Leaf(basic) => covers(basic, second),
-        Expr::Join(op, left, right) => {
-            let (left, right) = (is_in(left, second), is_in(right, second));
-            match op {
-                Op::Union => left || right,
-                Op::Meet => left && right,
-                Op::Minus => left && !right,
-            }
-        }
+        Expr::Join(op, left, right) => match op {
+            Op::Union => is_in(left, second) || is_in(right, second),
+            Op::Meet => is_in(left, second) && is_in(right, second),
+            Op::Minus => is_in(left, second) && !is_in(right, second),
+        },
     }
 }
 

@@ -4,8 +4,8 @@ ghost use Rattle.std.specs.Prelude.{◌≡◌, []};
 ghost use Rattle.gtd_spans.specs.Sweeping.{still, Fits, HasOneSide, Takes};
 ghost use Rattle.gtd_eval.specs.Nodes.{node_list, node_shape, IsSound};
 
-use crate::leaf::Runs;
 use gtd_core::{Expr, Horizon, Span};
+use gtd_recur::Runs;
 use gtd_spans::{Ask, SpanSource, Sweep};
 use std::alloc::{AllocError, Global};
 
