@@ -45,7 +45,8 @@ place_agrees None n weekday = true
 abbrev pub weekday_agrees : StartParts → DayFields → Bool
 weekday_agrees p f = (p.weekdays == 0) || (p.weekdays / 2 ^ (f.weekday - 1) % 2 == 1)
 
--- the day's level without a field: free where the clock is given, and else the Monday of a given week, or the first of the month
+-- the day's level without a field: free where the clock is given, and else the Monday of a given week, or the first of
+-- the month
 abbrev pub least_day : StartParts → DayFields → Bool
 least_day p f = gives_day p || (gives_clock p || (if is_some p.week then f.weekday == 2 else f.day == 1))
 

@@ -2,6 +2,7 @@ pub mod Ascending
 pub mod Begins
 pub mod ClockSearch
 pub mod Jumps
+pub mod Matching
 pub mod Membership
 pub mod RunsToCome
 pub mod Starts

@@ -43,7 +43,8 @@ pub record IsLookedCount (p : StartParts) (first day next : ℤ) (looked : ℕ) 
   pub up_to : count_by (month_and_year_fit p) (days_between first (day +ℤ pos 1)) ≡ looked
   pub jumped : count_by (month_and_year_fit p) (days_between (day +ℤ pos 1) next) ≡ 0
 
-pub IsLookedCount-prop : (p : StartParts) (first day next : ℤ) (looked : ℕ) → IsProp (IsLookedCount p first day next looked)
+pub IsLookedCount-prop : (p : StartParts) (first day next : ℤ) (looked : ℕ)
+    → IsProp (IsLookedCount p first day next looked)
 IsLookedCount-prop p first day next looked = hlevel props
 
 -- the days from the next up to some day, which is the last of all only at the end, are not excluded

@@ -1,4 +1,4 @@
--- What is seen of a walk over the starts of a basic domain: the domain, the horizon, the starts still to come, and the ticks.
+-- What is seen of a walk over the starts of a basic domain: the domain, the horizon, the starts still to come, the ticks.
 use Rattle.std.specs.Prelude.{◌≡◌, ℕ, ◌+◌, ◌≤◌, List, take, Option, Some, None, ℤ, pos, ◌+ℤ◌}
 use Rattle.std.proofs.Props.{props}
 use Rattle.gtd_core.specs.declared.second.Sec.{Sec}

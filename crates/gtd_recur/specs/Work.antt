@@ -44,7 +44,8 @@ work p days t =
 unfoldable pub whole_work : StartParts → List ℤ → ℕ
 whole_work p days = length days + length (starts_of p days)
 
--- what must be counted before second t: the days before its own that no given month or year excludes, and the starts before it
+-- what must be counted before second t: the days before its own that no given month or year excludes, and the starts
+-- before it
 unfoldable pub least_work : StartParts → List ℤ → ℤ → ℕ
 least_work p days t =
     count_by (λ n. int_lt n (day_of_second t) && month_and_year_fit p n) days

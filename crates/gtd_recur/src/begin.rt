@@ -1,6 +1,6 @@
 //! When a start begins: whether a day fits it, and the seconds of a day at which the clock does.
 
-ghost use Rattle.std.specs.Prelude.{◌≡◌, ◌+◌, ◌*◌, ◌%◌, true, ◌<◌, ◌≤◌, ℕ, IsTrue, IfSome, IfNone, false, MatchOption};
+ghost use Rattle.std.specs.Prelude.{◌≡◌, ◌+◌, ◌*◌, ◌%◌, ◌<◌, ◌≤◌, ℕ, true};
 ghost use Rattle.std.specs.Int.{IsInRange};
 ghost use Rattle.gtd_core.specs.StartRanges.{IsStart, IsWithin};
 ghost use Rattle.gtd_recur.specs.Begins as spec;

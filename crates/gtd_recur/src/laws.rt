@@ -10,6 +10,7 @@ ghost use Rattle.gtd_core.specs.declared.duration.DurationParts.{DurationParts};
 ghost use Rattle.gtd_calendar.specs.Clock.{day_of_second};
 ghost use Rattle.gtd_recur.specs.Ascending.{IsAscending, Has};
 ghost use Rattle.gtd_recur.specs.Begins.{begins};
+ghost use Rattle.gtd_recur.specs.Matching.{Matches};
 ghost use Rattle.gtd_recur.specs.Membership.{InStretches};
 ghost use Rattle.gtd_recur.specs.Work.{starts_in, window_begin, work_of};
 
@@ -37,4 +38,10 @@ pub fn starts_of_a_window()
 /// The work of a basic domain is at most 20,000,000,000: 182,698 days, and 86,400 starts on each.
 pub fn work_is_bounded()
     ensures most { (d : Basic) (h : Horizon) → work_of d h ≤ 20_000_000_000 }
+{}
+
+/// A start matches a second exactly if each given field holds at it, and each level finer than all that are given is at
+/// its least.
+pub fn matching()
+    ensures matches { (p : StartParts) (s : ℤ) → IsTrue (begins p s) ↔ Matches p s }
 {}

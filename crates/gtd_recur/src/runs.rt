@@ -1,4 +1,5 @@
-//! The runs of a basic domain, one after another: the spans that its stretches make, joined where they overlap or touch.
+//! The runs of a basic domain, one after another: the spans that its stretches make, joined where they overlap or
+//! touch.
 
 ghost use Rattle.std.specs.Prelude.{◌≡◌, length, ℤ, ◌+ℤ◌, IfSome, ◌≤◌, ◌<ℤ◌, pos, ◌∷◌};
 ghost use Rattle.gtd_core.specs.Parts.{duration_parts};
@@ -6,7 +7,8 @@ ghost use Rattle.gtd_calendar.specs.Calendar.{IsCalendarDay};
 ghost use Rattle.gtd_calendar.specs.Clock.{day_of_second};
 ghost use Rattle.gtd_recur.specs.Ascending.{IsAscending, IsAscending-prop, AllAfter, AllBefore, Has};
 ghost use Rattle.gtd_recur.specs.Stretches.{IsAheadIn, IsAheadIn-prop, IsCut, IsEarlier, IsLater, IsRun, to_come};
-ghost use Rattle.gtd_recur.specs.StartsToCome.{IsSameWalk, IsCountedTo, IsCountedTo-prop, starts_basic, starts_horizon, starts_to_come, starts_given, starts_ticks};
+ghost use Rattle.gtd_recur.specs.StartsToCome.{starts_basic, starts_horizon, starts_to_come, starts_ticks};
+ghost use Rattle.gtd_recur.specs.StartsToCome.{IsSameWalk, IsCountedTo, IsCountedTo-prop, starts_given};
 ghost use Rattle.gtd_recur.specs.Work.{starts_in, work_up_to};
 
 use crate::starts::Starts;
@@ -21,8 +23,8 @@ pub struct Runs {
     /// The start that was taken ahead: the first of those that are still to come.
     ahead: Option<Sec>,
     pub(crate) starts: Starts,
-    ghost ascending: { IsAscending (to_come ahead (starts_to_come starts)) } by { IsAscending-prop (to_come ahead (starts_to_come starts)) },
-    ghost ahead_in: { IsAheadIn ahead } by { IsAheadIn-prop ahead },
+    ghost ascending: { IsAscending (to_come ahead (starts_to_come starts)) } by { IsAscending-prop _ },
+    ghost ahead_in: { IsAheadIn ahead } by { IsAheadIn-prop _ },
     ghost counted: { IsCountedTo starts ahead } by { IsCountedTo-prop starts ahead },
 }
 
@@ -39,7 +41,8 @@ fn run_end(starts: &mut Starts, first: Sec) -> (Sec, Option<Sec>)
     ensures fewer { length (to_come result.1 (starts_to_come starts.new)) ≤ length (starts_to_come starts.old) }
     ensures same { IsSameWalk starts.old starts.new }
     ensures counted_ahead { IsCountedTo starts.new result.1 }
-    ensures at_most { (b : ℤ) → Has (starts_in (starts_basic starts.old) (starts_horizon starts.old)) b → result.0.0 <ℤ b
+    ensures at_most { (b : ℤ)
+        → Has (starts_in (starts_basic starts.old) (starts_horizon starts.old)) b → result.0.0 <ℤ b
         → starts_ticks starts.new ≤ work_up_to (starts_basic starts.old) (starts_horizon starts.old) b }
     ensures grows { starts_ticks starts.old ≤ starts_ticks starts.new }
 {

@@ -3,7 +3,8 @@
 ghost use Rattle.std.specs.Prelude.{◌≤◌};
 ghost use Rattle.gtd_core.specs.Parts.{start_parts};
 ghost use Rattle.gtd_core.specs.Whole.{to_day};
-ghost use Rattle.gtd_recur.specs.Starts.{AreLeft, AreLeft-prop, IsInWindow, IsInWindow-prop, IsLookedCount, IsLookedCount-prop, AreFitting, AreFitting-prop, starts_left};
+ghost use Rattle.gtd_recur.specs.Starts.{AreLeft, IsInWindow, IsLookedCount, AreFitting, starts_left};
+ghost use Rattle.gtd_recur.specs.Starts.{AreLeft-prop, IsInWindow-prop, IsLookedCount-prop, AreFitting-prop};
 ghost use Rattle.gtd_recur.specs.Work.{starts_in, window_begin};
 
 use crate::begin::{begins_on, next_begin};
@@ -16,19 +17,26 @@ use gtd_core::{Basic, Horizon, Sec};
 pub struct Starts {
     pub(crate) basic: Basic,
     pub(crate) horizon: Horizon,
-    /// The day that was looked at last, and the second of it from which its starts are left.
+    /// The day that was looked at last.
     day: i64,
+    /// The second of that day from which its starts are left.
     clock: u32,
-    /// The next day to look at. From it up to the other one, no day is excluded.
+    /// The next day to look at.
     next_day: i64,
+    /// Up to this one, the days from the next on are not excluded.
     fits_until: i64,
+    /// How many days were looked at, and how many starts were handed out.
     looked: u64,
     handed: u64,
     ghost clock_in: { clock ≤ 86400 },
-    ghost in_window: { IsInWindow (window_begin basic horizon) day next_day (to_day horizon) } by { IsInWindow-prop (window_begin basic horizon) day next_day (to_day horizon) },
-    ghost fitting: { AreFitting (start_parts basic.start) next_day fits_until (to_day horizon) } by { AreFitting-prop (start_parts basic.start) next_day fits_until (to_day horizon) },
-    ghost left: { AreLeft handed (starts_in basic horizon) (starts_left (start_parts basic.start) day clock next_day (to_day horizon)) } by { AreLeft-prop handed (starts_in basic horizon) (starts_left (start_parts basic.start) day clock next_day (to_day horizon)) },
-    ghost counted: { IsLookedCount (start_parts basic.start) (window_begin basic horizon) day next_day looked } by { IsLookedCount-prop (start_parts basic.start) (window_begin basic horizon) day next_day looked },
+    ghost in_window: { IsInWindow (window_begin basic horizon) day next_day
+        (to_day horizon) } by { IsInWindow-prop _ _ _ _ },
+    ghost fitting: { AreFitting (start_parts basic.start) next_day fits_until
+        (to_day horizon) } by { AreFitting-prop _ _ _ _ },
+    ghost left: { AreLeft handed (starts_in basic horizon)
+        (starts_left (start_parts basic.start) day clock next_day (to_day horizon)) } by { AreLeft-prop _ _ _ },
+    ghost counted: { IsLookedCount (start_parts basic.start)
+        (window_begin basic horizon) day next_day looked } by { IsLookedCount-prop _ _ _ _ _ },
 }
 
 impl Starts {
@@ -41,7 +49,8 @@ impl Starts {
     ghost use Rattle.gtd_recur.specs.Jumps.{IsNextRun};
     ghost use Rattle.gtd_recur.specs.Starts.{TakesSecond, clock_starts};
     ghost use Rattle.gtd_recur.specs.Work.{starts_in, work_up_to, work_of, least_of_window, counted_work};
-    ghost use Rattle.gtd_recur.specs.StartsToCome.{IsSameWalk, starts_basic, starts_horizon, starts_to_come, starts_given, starts_ticks};
+    ghost use Rattle.gtd_recur.specs.StartsToCome.{starts_basic, starts_horizon, starts_to_come, starts_ticks};
+    ghost use Rattle.gtd_recur.specs.StartsToCome.{IsSameWalk, starts_given};
 
     /// The walk over all starts of the basic domain on the days from the horizon's first less the lookback to its last.
     pub fn new(basic: Basic, horizon: Horizon) -> Starts
