@@ -9,8 +9,8 @@ use gtd_core::{Domain, Horizon, Op, Span};
 use gtd_spans::{SpanSource, Sweep};
 use std::alloc::{AllocError, Global};
 
-/// A source of the seconds of a domain in a horizon, or of those that other cursors have in common or leave out. It has
-/// at most 16,777,216 nodes. Once it is made, it takes no memory.
+/// A source of the seconds of a domain in a horizon, of those of any of several cursors, or of those that a cursor leaves
+/// out. Its tree has at most 16,777,216 nodes. Once it is made, it takes no memory.
 #[derive(Debug, Drop)]
 pub struct Cursor {
     node: Node,

@@ -6,7 +6,7 @@ ghost use Rattle.gtd_eval.specs.Membership.{InDomain, SomeGivesYear};
 ghost use Rattle.gtd_eval.specs.Ever.{NeverChangesAfter, IsFirstChange, IsMoment};
 
 use crate::membership::gives_year;
-use crate::over::next_change;
+use crate::queries::next_change;
 use gtd_core::{Domain, Horizon, Sec};
 use std::alloc::Global;
 use thiserror::Error;
@@ -51,7 +51,8 @@ pub fn next_change_ever(
     ensures change { IfOk result (λ change. MatchOption change
         (NeverChangesAfter (InDomain domain.now) second.0)
         (λ c. IsFirstChange (InDomain domain.now) second.0 c.0)) }
-    ensures has_year { (result ≡ Err EverFault.HasYear) ↔ SomeGivesYear (domain_tree domain.now) }
+    ensures has_year { (result ≡ Err EverFault.HasYear)
+        ↔ SomeGivesYear (domain_tree domain.now) }
 {
     if gives_year(domain.expr()) {
         return Err(EverFault::HasYear);

@@ -9,13 +9,13 @@ pub use cursor::Cursor;
 pub use ever::{EverFault, next_change_ever};
 pub use membership::holds;
 pub use node::Node;
-pub use over::{next_change, spans};
+pub use queries::{next_change, spans};
 
 mod cursor;
 mod ever;
 pub mod laws;
 mod membership;
 mod node;
-mod over;
+mod queries;
 #[cfg(test)]
 mod tests;

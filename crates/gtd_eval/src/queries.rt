@@ -1,4 +1,4 @@
-//! What a domain contains over a horizon.
+//! What is asked of a domain over a horizon.
 
 ghost use Rattle.std.specs.Prelude.{IfOk, MatchOption};
 ghost use Rattle.gtd_core.specs.Interval.{Within};
