@@ -14,8 +14,8 @@ pub record IsFirstChange (set : ℤ → Type 0) (s c : ℤ) : Type 0 where
 
 -- A moment: a second from 1901-01-01T00:00:00 to 2199-12-31T23:59:59. Day -25,202 is 1901-01-01, and day 84,006 is
 -- 2200-01-01.
-abbrev pub IsMoment : ℤ → Type 0
-IsMoment s = ((negsuc 25201 *ℤ pos 86400) ≤ℤ s) × (s <ℤ (pos 84006 *ℤ pos 86400))
+abbrev pub IsMomentSecond : ℤ → Type 0
+IsMomentSecond s = ((negsuc 25201 *ℤ pos 86400) ≤ℤ s) × (s <ℤ (pos 84006 *ℤ pos 86400))
 
 -- The seconds of 400 years of the Gregorian calendar, 146,097 days, after which it repeats.
 abbrev pub cycle : ℤ

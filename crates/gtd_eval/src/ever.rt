@@ -3,7 +3,7 @@
 ghost use Rattle.std.specs.Prelude.{◌≡◌, ◌↔◌, IfOk, MatchOption, codes};
 ghost use Rattle.gtd_core.specs.Parts.{domain_tree};
 ghost use Rattle.gtd_eval.specs.Membership.{InDomain, SomeGivesYear};
-ghost use Rattle.gtd_eval.specs.Ever.{NeverChangesAfter, IsFirstChange, IsMoment};
+ghost use Rattle.gtd_eval.specs.Ever.{NeverChangesAfter, IsFirstChange, IsMomentSecond};
 
 use crate::membership::gives_year;
 use crate::queries::next_change;
@@ -47,7 +47,7 @@ pub fn next_change_ever(
     domain: &Domain,
     second: Sec,
 ) -> Result<Option<Sec>, EverFault>
-    requires moment { IsMoment second.0 }
+    requires moment { IsMomentSecond second.0 }
     ensures change { IfOk result (λ change. MatchOption change
         (NeverChangesAfter (InDomain domain.now) second.0)
         (λ c. IsFirstChange (InDomain domain.now) second.0 c.0)) }

@@ -1,4 +1,4 @@
-//! Worked rows: what expressions contain, when that changes, and how large their cursors are.
+//! Worked examples: what expressions contain, when that changes, and how large their cursors are.
 
 ghost use Rattle.std.specs.Prelude.{◌≡◌, ◌≤◌, vec_len, IfOk};
 ghost use Rattle.gtd_eval.specs.Cursors.{cursor_nodes, total_nodes};
