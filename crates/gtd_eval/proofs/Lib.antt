@@ -1,0 +1,4 @@
+pub mod ManyCursors
+pub mod Repeats
+pub mod Shapes
+pub mod Unions
