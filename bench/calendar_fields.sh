@@ -5,7 +5,7 @@
 build calendar_fields gtd_calendar jiff
 days=146097
 count() { # instructions of one run
-    valgrind --tool=callgrind --callgrind-out-file="$work/callgrind" "$program" "$1" 2>&1 | sed -n 's/.*Collected : //p'
+    valgrind --tool=callgrind --callgrind-out-file="$work/callgrind" "$program" "$1" 2>&1 > "$work/sum" | sed -n 's/.*Collected : //p'
 }
 empty=$(count none)
 fields=$(count fields)
