@@ -1,0 +1,207 @@
+//! The canonical text of a domain.
+
+ghost use Rattle.std.specs.Prelude.{◌≡◌, ◌≢◌, ◌≤◌, ◌<◌, ◌++◌, IfOk, OnOk, string_bytes, codes, decimal, length, [], ◌∷◌, ◌+◌, IfSome};
+ghost use Rattle.gtd_core.specs.Trees.{tree_of};
+ghost use Rattle.gtd_core.specs.Parts.{domain_tree, start_parts, duration_parts};
+ghost use Rattle.gtd_text.specs.Canonical.{field_text, year_text, place_text, weekday_text, weekdays_text, month_fields, place_fields, day_fields, clock_fields, start_text, number_text, numbers_text, duration_text, sign_text, canonical};
+
+use gtd_core::{Basic, Domain, DurationParts, Expr, Op, Start, StartParts};
+use itoa::Buffer;
+use std::alloc::{AllocError, Global};
+
+/// The canonical text of a domain.
+pub fn print_domain(alloc: Global, domain: &Domain) -> Result<String, AllocError>
+    ensures exact { IfOk result (λ text. string_bytes text ≡ canonical (domain_tree domain.now)) }
+{
+    let mut out = String::new(alloc);
+    push_expr(&mut out, domain.expr())?;
+    Ok(out)
+}
+
+fn push_expr(out: &mut String, expr: &Expr) -> Result<(), AllocError>
+    ensures { OnOk result (string_bytes out.new ≡ string_bytes out.old ++ canonical (tree_of expr.now)) }
+{
+    match expr {
+        Expr::Leaf(basic) => push_basic(out, basic),
+        Expr::Join(op, left, right) => {
+            out.push_str("[")?;
+            push_expr(out, left)?;
+            push_op(out, *op)?;
+            push_expr(out, right)?;
+            out.push_str("]")
+        }
+    }
+}
+
+fn push_op(out: &mut String, op: Op) -> Result<(), AllocError>
+    ensures { OnOk result (string_bytes out.new ≡ string_bytes out.old ++ sign_text op) }
+{
+    match op {
+        Op::Union => out.push_str("+"),
+        Op::Meet => out.push_str("*"),
+        Op::Minus => out.push_str("-"),
+    }
+}
+
+fn push_basic(out: &mut String, basic: &Basic) -> Result<(), AllocError>
+    ensures { OnOk result (string_bytes out.new ≡ string_bytes out.old
+        ++ (codes "[(" ++ start_text (start_parts basic.now.start) ++ codes "){" ++ duration_text (duration_parts basic.now.duration) ++ codes "}]")) }
+{
+    out.push_str("[(")?;
+    push_start(out, &basic.start)?;
+    out.push_str("){")?;
+    push_duration(out, &basic.duration.parts())?;
+    out.push_str("}]")
+}
+
+#[tactic(auto, unfolding(crate::specs::Canonical::start_text))]
+fn push_start(out: &mut String, start: &Start) -> Result<(), AllocError>
+    ensures { OnOk result (string_bytes out.new ≡ string_bytes out.old ++ start_text (start_parts start.now)) }
+{
+    let parts = start.parts();
+    push_month_fields(out, &parts)?;
+    push_place_fields(out, &parts)?;
+    push_day_fields(out, &parts)?;
+    push_clock_fields(out, &parts)
+}
+
+#[tactic(auto, unfolding(crate::specs::Canonical::month_fields))]
+fn push_month_fields(out: &mut String, start: &StartParts) -> Result<(), AllocError>
+    requires { IfSome start.now.year (λ n. n ≤ 9999) }
+    ensures { OnOk result (string_bytes out.new ≡ string_bytes out.old ++ month_fields start.now) }
+{
+    push_year(out, start.year)?;
+    push_field(out, "M", start.month)?;
+    push_field(out, "w", start.week)
+}
+
+#[tactic(auto, unfolding(crate::specs::Canonical::place_fields))]
+fn push_place_fields(out: &mut String, start: &StartParts) -> Result<(), AllocError>
+    requires nth { IfSome start.now.nth (λ place. (place.0 < 10) × (place.1 < 10)) }
+    requires nth_back { IfSome start.now.nth_back (λ place. (place.0 < 10) × (place.1 < 10)) }
+    ensures { OnOk result (string_bytes out.new ≡ string_bytes out.old ++ place_fields start.now) }
+{
+    push_place(out, "f", start.nth)?;
+    push_place(out, "l", start.nth_back)
+}
+
+#[tactic(auto, unfolding(crate::specs::Canonical::day_fields))]
+fn push_day_fields(out: &mut String, start: &StartParts) -> Result<(), AllocError>
+    ensures { OnOk result (string_bytes out.new ≡ string_bytes out.old ++ day_fields start.now) }
+{
+    push_field(out, "d", start.day)?;
+    push_weekdays(out, start.weekdays)
+}
+
+#[tactic(auto, unfolding(crate::specs::Canonical::clock_fields))]
+fn push_clock_fields(out: &mut String, start: &StartParts) -> Result<(), AllocError>
+    ensures { OnOk result (string_bytes out.new ≡ string_bytes out.old ++ clock_fields start.now) }
+{
+    push_field(out, "h", start.hour)?;
+    push_field(out, "m", start.minute)?;
+    push_field(out, "s", start.second)
+}
+
+fn push_field(out: &mut String, letter: &str, field: Option<u8>) -> Result<(), AllocError>
+    ensures { OnOk result (string_bytes out.new ≡ string_bytes out.old ++ field_text letter.now field) }
+{
+    match field {
+        None => Ok(()),
+        Some(n) => {
+            out.push_str(letter)?;
+            out.push_str(Buffer::new().format(n))
+        }
+    }
+}
+
+fn push_number(out: &mut String, letter: &str, n: u32) -> Result<(), AllocError>
+    ensures { OnOk result (string_bytes out.new ≡ string_bytes out.old ++ number_text letter.now n) }
+{
+    if n == 0 {
+        Ok(())
+    } else {
+        out.push_str(letter)?;
+        out.push_str(Buffer::new().format(n))
+    }
+}
+
+fn push_year(out: &mut String, year: Option<u16>) -> Result<(), AllocError>
+    requires { IfSome year (λ n. n ≤ 9999) }
+    ensures { OnOk result (string_bytes out.new ≡ string_bytes out.old ++ year_text year) }
+{
+    match year {
+        None => Ok(()),
+        Some(year) => {
+            out.push_str("y")?;
+            push_digit(out, (year / 1000) as u8)?;
+            push_digit(out, (year / 100 % 10) as u8)?;
+            push_digit(out, (year / 10 % 10) as u8)?;
+            push_digit(out, (year % 10) as u8)
+        }
+    }
+}
+
+fn push_place(out: &mut String, letter: &str, place: Option<(u8, u8)>) -> Result<(), AllocError>
+    requires { IfSome place (λ place. (place.0 < 10) × (place.1 < 10)) }
+    ensures { OnOk result (string_bytes out.new ≡ string_bytes out.old ++ place_text letter.now place) }
+{
+    match place {
+        None => Ok(()),
+        Some((n, weekday)) => {
+            out.push_str(letter)?;
+            push_digit(out, n)?;
+            push_digit(out, weekday)
+        }
+    }
+}
+
+#[tactic(auto, using(std::proofs::lemmas::Fmt::decimal_digit))]
+fn push_digit(out: &mut String, digit: u8) -> Result<(), AllocError>
+    requires { digit < 10 }
+    ensures { OnOk result (string_bytes out.new ≡ string_bytes out.old ++ (48 + digit) ∷ []) }
+{
+    out.push_str(Buffer::new().format(digit))
+}
+
+#[tactic(auto, unfolding(crate::specs::Canonical::weekdays_text))]
+fn push_weekdays(out: &mut String, weekdays: u8) -> Result<(), AllocError>
+    ensures { OnOk result (string_bytes out.new ≡ string_bytes out.old ++ weekdays_text weekdays) }
+{
+    push_weekday(out, weekdays, 1)?;
+    push_weekday(out, weekdays, 2)?;
+    push_weekday(out, weekdays, 3)?;
+    push_weekday(out, weekdays, 4)?;
+    push_weekday(out, weekdays, 5)?;
+    push_weekday(out, weekdays, 6)?;
+    push_weekday(out, weekdays, 7)
+}
+
+fn push_weekday(out: &mut String, weekdays: u8, weekday: u8) -> Result<(), AllocError>
+    requires low { 1 ≤ weekday }
+    requires high { weekday ≤ 7 }
+    ensures { OnOk result (string_bytes out.new ≡ string_bytes out.old ++ weekday_text weekdays weekday) }
+{
+    if (weekdays >> (weekday - 1)) % 2 == 1 {
+        out.push_str("t")?;
+        push_digit(out, weekday)
+    } else {
+        Ok(())
+    }
+}
+
+#[tactic(auto, unfolding(crate::specs::Canonical::duration_text))]
+fn push_duration(out: &mut String, duration: &DurationParts) -> Result<(), AllocError>
+    ensures { OnOk result (string_bytes out.new ≡ string_bytes out.old ++ duration_text duration.now) }
+{
+    if *duration == DurationParts::default() {
+        out.push_str("s0")
+    } else {
+        push_number(out, "y", duration.years)?;
+        push_number(out, "M", duration.months)?;
+        push_number(out, "w", duration.weeks)?;
+        push_number(out, "d", duration.days)?;
+        push_number(out, "h", duration.hours)?;
+        push_number(out, "m", duration.minutes)?;
+        push_number(out, "s", duration.seconds)
+    }
+}
