@@ -1,0 +1,9 @@
+//! Restriction records of road elements: files of them, and the seconds in which an element is open.
+#![tactic(auto)]
+
+pub use column::{read_direction, read_number};
+pub use direction::Direction;
+
+mod column;
+mod direction;
+mod vehicles;
