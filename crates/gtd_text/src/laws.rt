@@ -1,46 +1,52 @@
-//! Laws of the definitions.
+//! Laws of the definitions: calls that do nothing, and whose contracts are what is proved.
 
 ghost use Rattle.std.specs.Prelude.{◌≡◌, ◌≤◌, ◌↔◌, ℕ, List, [], None, true};
-ghost use Rattle.gtd_core.specs.Trees.{Tree, AreValid, leaf_count};
-ghost use Rattle.gtd_core.specs.Parts.{domain_tree};
 ghost use Rattle.gtd_core.specs.Equality.{same_tree};
+ghost use Rattle.gtd_core.specs.Parts.{domain_tree};
+ghost use Rattle.gtd_core.specs.Trees.{Tree, AreValid, leaf_count};
 ghost use Rattle.gtd_core.specs.declared.domain.Domain.{Domain};
+ghost use Rattle.gtd_core.specs.declared.fault.TextFault.{TextFault};
 ghost use Rattle.gtd_text.specs.Canonical.{canonical};
 ghost use Rattle.gtd_text.specs.Fitting.{fault_after};
 ghost use Rattle.gtd_text.specs.Grammar.{Stands, Sum};
+ghost use Rattle.gtd_text.specs.Reading.{StandsFor, HasNoFault, IsFault};
 ghost use Rattle.gtd_text.specs.Seen.{kinds};
 ghost use Rattle.gtd_text.specs.declared.token.Token.{Token};
-ghost use Rattle.gtd_text.specs.Reading.{StandsFor, HasNoFault, IsFault};
-ghost use Rattle.gtd_core.specs.declared.fault.TextFault.{TextFault};
 
 use gtd_core::domain::leaves_are_valid;
 use gtd_core::equality::equality_of_trees;
 
 /// A text stands for one expression at most, and has one fault at most.
 pub fn one_meaning()
-    ensures expression { (text : List ℕ) (e f : Tree) → StandsFor text e → StandsFor text f → e ≡ f }
+    ensures expression { (text : List ℕ) (e f : Tree) →
+        StandsFor text e → StandsFor text f → e ≡ f }
     ensures fault { (text : List ℕ) (f g : TextFault) → IsFault text f → IsFault text g → f ≡ g }
 {}
 
-/// The canonical text of an expression stands for it and for nothing else, and has no fault.
+/// The canonical text of an expression in its ranges stands for it and for nothing else. With at most 128 basic domains it
+/// has no fault, and so is within all limits.
 pub fn canonical_text()
     ensures stands { (e : Tree) → AreValid e → StandsFor (canonical e) e }
     ensures only { (e f : Tree) → AreValid e → StandsFor (canonical e) f → f ≡ e }
     ensures faultless { (e : Tree) → AreValid e → leaf_count e ≤ 128 → HasNoFault (canonical e) }
 {}
 
-/// The same of each domain, and two domains are equal exactly if their canonical texts are.
+/// The same of each domain, without a premise; and two domains are equal (`==`) exactly if their canonical texts are.
 pub fn canonical_text_of_domain()
-    ensures stands { (domain : Domain) → StandsFor (canonical (domain_tree domain)) (domain_tree domain) }
-    ensures only { (domain : Domain) (e : Tree) → StandsFor (canonical (domain_tree domain)) e → e ≡ domain_tree domain }
+    ensures stands { (domain : Domain) →
+        StandsFor (canonical (domain_tree domain)) (domain_tree domain) }
+    ensures only { (domain : Domain) (e : Tree) →
+        StandsFor (canonical (domain_tree domain)) e → e ≡ domain_tree domain }
     ensures faultless { (domain : Domain) → HasNoFault (canonical (domain_tree domain)) }
-    ensures one_text { (a b : Domain) → (same_tree (domain_tree a) (domain_tree b) ≡ true) ↔ (canonical (domain_tree a) ≡ canonical (domain_tree b)) }
+    ensures one_text { (a b : Domain) → (same_tree (domain_tree a) (domain_tree b) ≡ true)
+        ↔ (canonical (domain_tree a) ≡ canonical (domain_tree b)) }
 {
     leaves_are_valid();
     equality_of_trees();
 }
 
-/// Tokens stand for an expression exactly if none of them is at fault by the grammar.
+/// Tokens stand for an expression exactly if none of them is at fault by the grammar, and they do not end too early.
 pub fn grammar_and_faults()
-    ensures { (len : ℕ) (tokens : List Token) → (fault_after len [] tokens ≡ None) ↔ ((e : Tree) × Stands Sum (kinds tokens) e) }
+    ensures agree { (len : ℕ) (tokens : List Token) →
+        (fault_after len [] tokens ≡ None) ↔ ((e : Tree) × Stands Sum (kinds tokens) e) }
 {}

@@ -3,13 +3,19 @@
 ghost use Rattle.std.specs.Prelude.{◌≡◌, ◌≢◌, ◌≤◌, ◌<◌, ◌++◌, IfOk, OnOk, string_bytes, codes, decimal, length, [], ◌∷◌, ◌+◌, IfSome};
 ghost use Rattle.gtd_core.specs.Trees.{tree_of};
 ghost use Rattle.gtd_core.specs.Parts.{domain_tree, start_parts, duration_parts};
-ghost use Rattle.gtd_text.specs.Canonical.{field_text, year_text, place_text, weekday_text, weekdays_text, month_fields, place_fields, day_fields, clock_fields, start_text, number_text, numbers_text, duration_text, sign_text, canonical};
+ghost use Rattle.gtd_text.specs.Canonical.{canonical, sign_text, start_text, duration_text};
+ghost use Rattle.gtd_text.specs.Canonical.{month_fields, place_fields, day_fields, clock_fields};
+ghost use Rattle.gtd_text.specs.Canonical.{field_text, year_text, place_text, weekday_text, weekdays_text};
+ghost use Rattle.gtd_text.specs.Canonical.{number_text, numbers_text};
 
 use gtd_core::{Basic, Domain, DurationParts, Expr, Op, Start, StartParts};
 use itoa::Buffer;
 use std::alloc::{AllocError, Global};
 
-/// The canonical text of a domain.
+/// The canonical text of a domain, or an error where memory was refused.
+///
+/// There are no spaces, a basic domain and each combination have brackets of their own, and fields come in one order with
+/// no leading zeros, so that two domains have one text exactly if they are equal.
 pub fn print_domain(alloc: Global, domain: &Domain) -> Result<String, AllocError>
     ensures exact { IfOk result (λ text. string_bytes text ≡ canonical (domain_tree domain.now)) }
 {

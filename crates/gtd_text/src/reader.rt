@@ -1,34 +1,40 @@
 //! From a text to a domain.
 
 ghost use Rattle.std.specs.Prelude.{◌≡◌, ℕ, List, length, IfOk, IfErr, MatchResult, ◌⊎◌};
-ghost use Rattle.gtd_core.specs.Trees.{Tree};
 ghost use Rattle.gtd_core.specs.Parts.{domain_tree};
-ghost use Rattle.gtd_text.specs.Reading.{StandsFor, IsFault, HasNoFault};
-ghost use Rattle.gtd_text.specs.Lexing.{AreTokens};
-ghost use Rattle.gtd_text.specs.Faults.{no_memory};
+ghost use Rattle.gtd_core.specs.Trees.{Tree};
 ghost use Rattle.gtd_core.specs.declared.fault.TextFault.{TextFault};
-ghost use Rattle.gtd_text.specs.Limits.{fault_of_tokens, or_else};
+ghost use Rattle.gtd_text.specs.Faults.{no_memory};
+ghost use Rattle.gtd_text.specs.Grammar.{Stands, Sum};
+ghost use Rattle.gtd_text.specs.Reading.{AreReadable, StandsFor, IsFault, HasNoFault};
+ghost use Rattle.gtd_text.specs.Seen.{kinds};
 
-use crate::build::build_expr;
-use crate::grammar::first_misfit;
-use crate::lexer::tokens;
-use crate::limits::{too_deep, too_long, too_many};
+use crate::builder::build_expr;
+use crate::check::first_fault;
+use crate::lexer::{NO_MEMORY, tokens};
 use crate::token::Token;
-use gtd_core::{Domain, Fault, TextFault};
-use std::alloc::Global;
+use gtd_core::{Domain, TextFault};
+use std::alloc::{AllocError, Global};
 
 /// The domain that a text stands for, or its first fault.
+///
+/// The faults, in their order: `BadToken` and `Fuzzy` at the first byte that is no space and begins no token; `TooDeep` at
+/// the first `[` that makes the depth 129, else `TooMany` at the 129th `(`; `Repeated`, `FieldRange`, `Negative` or
+/// `Unexpected` at the first token that does not fit, or `Incomplete` at the text's length; `TooLongDuration` at the `{`
+/// of the first duration of more than 36,600 days. `NoMemory`, at 0, is answered only where memory was refused.
 pub fn read_domain(alloc: Global, text: &[u8]) -> Result<Domain, TextFault>
     // The text stands for the domain,
     ensures found { IfOk result (λ domain. StandsFor text.now (domain_tree domain)) }
     // and has no fault.
     ensures faultless { IfOk result (λ domain. HasNoFault text.now) }
     // Where it stands for an expression and has no fault, the domain is that, unless memory runs out.
-    ensures only { (e : Tree) → StandsFor text.now e → HasNoFault text.now → MatchResult result (λ domain. domain_tree domain ≡ e) (λ fault. fault ≡ no_memory) }
+    ensures only { (e : Tree) → StandsFor text.now e → HasNoFault text.now
+        → MatchResult result (λ domain. domain_tree domain ≡ e) (λ fault. fault ≡ no_memory) }
     // What is refused has the fault, unless memory ran out.
     ensures fault { IfErr result (λ fault. (fault ≡ no_memory) ⊎ IsFault text.now fault) }
     // What has a fault is refused by it, unless memory runs out.
-    ensures first { (first : TextFault) → IsFault text.now first → MatchResult result (λ domain. ⊥) (λ fault. (fault ≡ no_memory) ⊎ (fault ≡ first)) }
+    ensures first { (first : TextFault) → IsFault text.now first
+        → MatchResult result (λ domain. ⊥) (λ fault. (fault ≡ no_memory) ⊎ (fault ≡ first)) }
 {
     read(alloc, text)
 }
@@ -39,41 +45,20 @@ fn read(alloc: Global, text: &[u8]) -> Result<Domain, TextFault>
     ensures fault { IfErr result (λ fault. (fault ≡ no_memory) ⊎ IsFault text.now fault) }
 {
     let tokens = tokens(alloc, text)?;
-    domain_of(alloc, &tokens, text.len())
-}
-
-// The domain that the tokens of a text of this length stand for, or their first fault.
-fn domain_of(alloc: Global, tokens: &[Token], len: usize) -> Result<Domain, TextFault>
-    ensures found { IfOk result (λ domain. (text : List ℕ) → AreTokens text tokens.now → length text ≡ len → StandsFor text (domain_tree domain)) }
-    ensures faultless { IfOk result (λ domain. (text : List ℕ) → AreTokens text tokens.now → length text ≡ len → HasNoFault text) }
-    ensures fault { IfErr result (λ fault. (text : List ℕ) → AreTokens text tokens.now → length text ≡ len → (fault ≡ no_memory) ⊎ IsFault text fault) }
-{
-    match fault_of_tokens(tokens, len) {
+    match first_fault(&tokens, text.len()) {
         Some(fault) => Err(fault),
-        None => match Domain::new(build_expr(alloc, tokens, len)?) {
-            Ok(domain) => Ok(domain),
-            // As many leaves as parentheses.
-            Err(_) => Err(TextFault {
-                kind: Fault::TooMany,
-                place: 0,
-            }),
-        },
+        None => domain_of(alloc, &tokens).map_err(|_| NO_MEMORY),
     }
 }
 
-// The first fault of the limits, then of the grammar, then of the durations.
-fn fault_of_tokens(tokens: &[Token], len: usize) -> Option<TextFault>
-    ensures { result ≡ fault_of_tokens len tokens.now }
+// The domain that the tokens of a text without a fault stand for.
+fn domain_of(alloc: Global, tokens: &[Token]) -> Result<Domain, AllocError>
+    requires { AreReadable tokens.now }
+    ensures { IfOk result (λ domain. Stands Sum (kinds tokens.now) (domain_tree domain)) }
 {
-    let limits = or_else(too_deep(tokens), too_many(tokens));
-    or_else(or_else(limits, first_misfit(tokens, len)), too_long(tokens))
-}
-
-fn or_else(fault: Option<TextFault>, later: Option<TextFault>) -> Option<TextFault>
-    ensures { result ≡ or_else fault later }
-{
-    match fault {
-        Some(fault) => Some(fault),
-        None => later,
+    match Domain::new(build_expr(alloc, tokens)?) {
+        Ok(domain) => Ok(domain),
+        // There are as many basic domains as parentheses.
+        Err(_) => unreachable!(),
     }
 }

@@ -1,0 +1,11 @@
+use Rattle.std.proofs.Common.{◌≡◌, ◌≤◌, [], take, drop}
+use Rattle.gtd_text.specs.Seen.{newest_first, seen}
+use Rattle.gtd_text.specs.Fitting.{fault_after}
+use Rattle.gtd_text.proofs.check.grammar.first_misfit.Given as goal
+
+abbrev pub invariant-loop-i : goal.invariant-loop-i
+invariant-loop-i l = record {
+  known : l.seen ≡ seen (newest_first (take l.i l.tokens));
+  so_far : fault_after l.len (newest_first (take l.i l.tokens)) (drop l.i l.tokens) ≡ fault_after l.len [] l.tokens;
+  few : l.seen.depth ≤ l.i;
+}
