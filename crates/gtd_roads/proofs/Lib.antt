@@ -1,2 +1,5 @@
 pub mod NumberFacts
 pub mod ListFacts
+pub mod TableFacts
+pub mod RowFacts
+pub mod FileFacts

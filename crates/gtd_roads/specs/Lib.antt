@@ -1,2 +1,9 @@
 pub mod Columns
 pub mod Vehicles
+pub mod Restriction
+pub mod TreeCode
+pub mod Names
+pub mod Reading
+pub mod Table
+pub mod Row
+pub mod File
