@@ -83,7 +83,8 @@ impl<S: SpanSource> ByDay<S> {
     pub fn count(&mut self, midnight: Sec) -> u32
         requires fits { (midnight.0 +ℤ pos 86400) <ℤ pos (2 ^ 63) }
         ensures count { IsCount (Holds self.old) midnight.0 86400 result }
-        ensures later { (t : ℤ) → (midnight.0 +ℤ pos 86400) ≤ℤ t → Holds self.old t ↔ Holds self.new t }
+        ensures later { (t : ℤ) → (midnight.0 +ℤ pos 86400) ≤ℤ t
+            → Holds self.old t ↔ Holds self.new t }
         ensures few { result ≤ 86400 }
     {
         count_day(&mut self.source, &mut self.held, midnight)

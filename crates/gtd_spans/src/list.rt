@@ -1,10 +1,12 @@
-ghost use Rattle.std.specs.Prelude.{◌≡◌, ◌⊎◌, ◌↔◌, ◌++◌, ℤ, List, [], ◌∷◌, OnOk, OnErr, IfOk, IsOk, IsTrue, IsFalse, ◌<ℤ◌, MatchOption};
+//! Normal lists of spans.
+
+ghost use Rattle.std.specs.Prelude.{◌≡◌, ◌⊎◌, ◌↔◌, ◌++◌, ℤ, [], ◌∷◌};
+ghost use Rattle.std.specs.Prelude.{OnOk, OnErr, IfOk, IsOk, IsTrue, IsFalse, MatchOption};
 ghost use Rattle.gtd_spans.specs.Change.{NeverChanges, IsNextChange};
-ghost use Rattle.gtd_core.specs.Interval.{Interval, Within};
+ghost use Rattle.gtd_core.specs.Interval.{Within};
 ghost use Rattle.gtd_core.specs.Whole.{whole};
-ghost use Rattle.gtd_spans.specs.Normal.{Holds, IsNormal, HoldSame};
+ghost use Rattle.gtd_spans.specs.Normal.{Holds, IsNormal};
 ghost use Rattle.gtd_spans.specs.Pushing.{NoneBeginsAfter, SomeReaches, AllEndBefore};
-ghost use Rattle.gtd_spans.specs.Combine.{Combined};
 ghost use Rattle.gtd_spans.specs.FitsProp.{IsNormal-prop};
 
 use crate::source::{SpanSource, next_change};
@@ -12,7 +14,7 @@ use gtd_core::{Horizon, Sec, Span};
 use std::alloc::{AllocError, Global};
 use std::marker::Model;
 
-/// A set of seconds, seen as its one normal list of spans.
+/// A set of seconds as its normal list of spans. In contracts it is that list, of `Interval`s.
 #[derive(Drop)]
 pub struct SpanList {
     spans: Vec<Span>,
@@ -31,7 +33,7 @@ impl Model for SpanList {
 }
 
 impl SpanList {
-    /// The list of no span.
+    /// The list of no span. It takes no memory yet.
     pub fn new(alloc: Global) -> SpanList
         ensures value { result ≡ [] }
     {
@@ -40,7 +42,7 @@ impl SpanList {
         }
     }
 
-    /// The spans in order.
+    /// The spans, in order.
     pub fn spans(&self) -> &[Span]
         ensures value { result.now ≡ self.now }
         ensures normal { IsNormal self.now }
@@ -48,10 +50,15 @@ impl SpanList {
         self.spans.as_slice()
     }
 
-    /// Adds the seconds of a span that begins no earlier than the last one.
+    /// Adds the seconds of a span, of which the caller keeps that it begins no earlier than the last one of the list.
+    /// Where it ends does not matter.
+    ///
+    /// A span that begins at or before the end of the last one is joined to it, which takes no memory and succeeds.
+    /// After a refusal of memory the list is as it was.
     pub fn push_start(&mut self, x: Span) -> Result<(), AllocError>
         requires order { NoneBeginsAfter x.from self.old }
-        ensures seconds { OnOk result ((t : ℤ) → Holds self.new t ↔ (Holds self.old t ⊎ Within x t)) }
+        ensures seconds { OnOk result
+            ((t : ℤ) → Holds self.new t ↔ (Holds self.old t ⊎ Within x t)) }
         ensures normal { IsNormal self.new }
         ensures unchanged { OnErr result (self.new ≡ self.old) }
         ensures joins { SomeReaches x.from self.old → IsOk result }
@@ -92,7 +99,7 @@ impl SpanList {
         self.spans[at] = last.until_later(x.until());
     }
 
-    /// Whether the second is in the set.
+    /// Whether the list holds the second.
     pub fn contains(&self, second: Sec) -> bool
         ensures member { IsTrue result ↔ Holds self.now second.0 }
     {
@@ -104,18 +111,20 @@ impl SpanList {
         false
     }
 
-    /// The least later second of the horizon at which membership differs from that at the given one.
+    /// The least later second of the horizon at which membership differs from that at the given one, or `None` exactly
+    /// where there is none. The caller keeps the second and the list in the horizon.
     pub fn next_change(&self, second: Sec, horizon: Horizon) -> Option<Sec>
         requires second { Within (whole horizon) second.0 }
         requires spans { (t : ℤ) → Holds self.now t → Within (whole horizon) t }
-        ensures change { MatchOption result (NeverChanges (Holds self.now) second.0 (whole horizon).until)
+        ensures change { MatchOption result
+            (NeverChanges (Holds self.now) second.0 (whole horizon).until)
             (λ c. IsNextChange (Holds self.now) second.0 (whole horizon).until c.0) }
     {
         next_change(&mut self.source(), second, horizon.until())
     }
 }
 
-/// The spans of a list that are still to come.
+/// The spans of a list that are still to come, without a copy of them.
 #[derive(Drop)]
 pub(crate) struct Listed<'a> {
     pub(crate) spans: &'a [Span],
@@ -135,6 +144,7 @@ impl SpanSource for Listed<'_> {
 }
 
 impl SpanList {
+    /// The spans, one after the other.
     pub(crate) fn source(&self) -> Listed<'_>
         ensures value { result.spans.now ≡ self.now }
     {
@@ -153,7 +163,7 @@ impl SpanList {
         Ok(())
     }
 
-    /// The list that a source gives.
+    /// The list of the spans that a source still has to come, which are then used up.
     pub fn collect<S: SpanSource>(alloc: Global, source: &mut S) -> Result<SpanList, AllocError>
         ensures list { IfOk result (λ r. r ≡ S.rest source.old) }
     {

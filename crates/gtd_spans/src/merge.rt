@@ -1,15 +1,18 @@
+//! The merge of two sorted sides under a sweep.
+
 ghost use Rattle.std.specs.Prelude.{◌≡◌, ◌≢◌, ◌⊎◌, ◌↔◌, ◌<ℤ◌, ◌≤ℤ◌, ℤ, ◌+◌, List, IfSome};
 ghost use Rattle.gtd_core.specs.Interval.{Interval, Within};
 ghost use Rattle.gtd_core.specs.declared.domain.Op.TheVariants.{Union, Meet, Minus};
 ghost use Rattle.gtd_spans.specs.Normal.{Holds, IsNormal};
 ghost use Rattle.gtd_spans.specs.Combine.{combine};
-ghost use Rattle.gtd_spans.specs.Merging.{listed, side_list, AllBeginFrom, Steps, Keeps, Takes, Fits, still, AwaitsLeft, AwaitsRight, SameEnded, TellsLeft, TellsRight, unended_sides, told_count};
+ghost use Rattle.gtd_spans.specs.Merging.{listed, side_list, AllBeginFrom, Fits, still, AwaitsLeft, AwaitsRight};
+ghost use Rattle.gtd_spans.specs.Merging.{Steps, SameEnded, TellsLeft, TellsRight, unended_sides, told_count};
 
 use gtd_core::{Op, Span};
 
 /// What is known of one side of a merge.
 #[derive(Clone, Copy, Debug)]
-pub enum Side {
+pub(crate) enum Side {
     /// Its next span is not known.
     Open,
     /// Its next span.
@@ -18,18 +21,23 @@ pub enum Side {
     Ended,
 }
 
-/// What a merge wants, or has to give.
-#[derive(Clone, Copy, Debug)]
+/// What a sweep asks for, or has to give.
+#[derive(Clone, Copy, Debug, PartialEq, Eq)]
 pub enum Ask {
+    /// It is to be told the first span still to come of its left side.
     Left,
+    /// It is to be told the first span still to come of its right side.
     Right,
+    /// The next span of the result.
     Give(Span),
+    /// The result has no more spans.
     End,
 }
 
-/// A set operator without its two sides.
+/// A set operator over two sides. Of the span of a union that is taken first nothing is handed out before it is known
+/// that neither side reaches it: until then it is in `out`.
 #[derive(Clone, Copy, Debug)]
-pub struct Merge {
+pub(crate) struct Merge {
     op: Op,
     left: Side,
     right: Side,
@@ -74,7 +82,7 @@ impl Merge {
         }
     }
 
-    /// What the merge wants next, or has to give.
+    /// What the merge asks for, or has to give.
     pub fn step(&mut self) -> Ask
         ensures op { self.new.op ≡ self.old.op }
         ensures steps { Steps self.old result self.new }
@@ -92,12 +100,14 @@ impl Merge {
         ensures op { self.new.op ≡ self.old.op }
         ensures left { AwaitsLeft self.old → TellsLeft self.old told self.new }
         ensures right { AwaitsRight self.old → TellsRight self.old told self.new }
-        ensures left_count { AwaitsLeft self.old → unended_sides self.new + 1 ≡ unended_sides self.old + told_count told }
+        ensures left_count { AwaitsLeft self.old
+            → unended_sides self.new + 1 ≡ unended_sides self.old + told_count told }
         ensures left_ended { AwaitsLeft self.old → told ≡ None → self.new.left ≡ Ended }
         ensures right_ended { AwaitsRight self.old → told ≡ None → self.new.right ≡ Ended }
         ensures keeps_left { AwaitsRight self.old → self.new.left ≡ self.old.left }
         ensures keeps_right { AwaitsLeft self.old → self.new.right ≡ self.old.right }
-        ensures right_count { AwaitsRight self.old → unended_sides self.new + 1 ≡ unended_sides self.old + told_count told }
+        ensures right_count { AwaitsRight self.old
+            → unended_sides self.new + 1 ≡ unended_sides self.old + told_count told }
     {
         let told = match told {
             Some(x) => Side::Held(x),
@@ -154,11 +164,13 @@ impl Merge {
         }
     }
 
+    /// Takes the left span, which begins no later than the right one.
     fn take_left(&mut self, x: Span) -> Ask
         requires op { self.old.op ≡ Union }
         requires held { self.old.left ≡ Held x }
         requires other { self.old.right ≢ Open }
-        requires first { (l r : List Interval) → Fits self.old l r → AllBeginFrom x.from (side_list self.old.right r) }
+        requires first { (l r : List Interval) → Fits self.old l r
+            → AllBeginFrom x.from (side_list self.old.right r) }
         ensures op { self.new.op ≡ Union }
         ensures steps { Steps self.old result self.new }
         ensures ended { SameEnded self.old self.new }
@@ -172,11 +184,13 @@ impl Merge {
         }
     }
 
+    /// Takes the right span, which begins no later than the left one.
     fn take_right(&mut self, x: Span) -> Ask
         requires op { self.old.op ≡ Union }
         requires other { self.old.left ≢ Open }
         requires held { self.old.right ≡ Held x }
-        requires first { (l r : List Interval) → Fits self.old l r → AllBeginFrom x.from (side_list self.old.left l) }
+        requires first { (l r : List Interval) → Fits self.old l r
+            → AllBeginFrom x.from (side_list self.old.left l) }
         ensures op { self.new.op ≡ Union }
         ensures steps { Steps self.old result self.new }
         ensures ended { SameEnded self.old self.new }
@@ -209,6 +223,7 @@ impl Merge {
         }
     }
 
+    /// What the two spans share. The one that ends first is used up.
     fn meet(&mut self, x: Span, y: Span) -> Ask
         requires op { self.old.op ≡ Meet }
         requires left { self.old.left ≡ Held x }
@@ -255,6 +270,7 @@ impl Merge {
         }
     }
 
+    /// What the right span leaves of the left one before its own end.
     fn cut(&mut self, x: Span, y: Span) -> Ask
         requires op { self.old.op ≡ Minus }
         requires left { self.old.left ≡ Held x }
@@ -304,7 +320,8 @@ impl Merge {
         }
     }
 
-    /// The next step where the left side gives nothing more: `Left` asks for the right side.
+    /// What the merge asks for, or has to give, where its left side gives nothing more. `Left` then asks for the right
+    /// one.
     pub fn step_beside(&mut self) -> Ask
         ensures steps { StepsBeside self.old result self.new }
         ensures ended { self.old.right ≡ Ended → self.new.right ≡ Ended }
@@ -318,6 +335,7 @@ impl Merge {
         }
     }
 
+    /// The step after the left side was asked for.
     fn step_again(&mut self) -> Ask
         requires awaits { AwaitsLeft self.old }
         ensures steps { StepsBeside self.old result self.new }

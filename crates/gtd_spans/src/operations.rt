@@ -1,6 +1,6 @@
-//! What the set operators make of lists: each is the collection of a source over the two lists.
+//! What set operators make of lists. Each collects a source over the two lists, and answers want of memory alone.
 
-ghost use Rattle.std.specs.Prelude.{◌≡◌, ◌⊎◌, ◌↔◌, ℤ, IfOk, IsTrue};
+ghost use Rattle.std.specs.Prelude.{◌⊎◌, ◌↔◌, ℤ, IfOk, IsTrue};
 ghost use Rattle.gtd_core.specs.Interval.{Within};
 ghost use Rattle.gtd_core.specs.Whole.{whole};
 ghost use Rattle.gtd_spans.specs.Normal.{Holds, IsNormal, HoldSame};
@@ -12,7 +12,8 @@ use gtd_core::{Horizon, Op};
 use std::alloc::{AllocError, Global};
 
 fn combined(alloc: Global, op: Op, a: &SpanList, b: &SpanList) -> Result<SpanList, AllocError>
-    ensures seconds { IfOk result (λ r. (t : ℤ) → Holds r t ↔ Combined op (Holds a.now t) (Holds b.now t)) }
+    ensures seconds { IfOk result
+        (λ r. (t : ℤ) → Holds r t ↔ Combined op (Holds a.now t) (Holds b.now t)) }
     ensures normal { IfOk result (λ r. IsNormal r) }
 {
     SpanList::collect(alloc, &mut Pair::new(op, a.source(), b.source()))
@@ -36,7 +37,8 @@ pub fn meet(alloc: Global, a: &SpanList, b: &SpanList) -> Result<SpanList, Alloc
 
 /// The seconds of the first list that are not in the second.
 pub fn minus(alloc: Global, a: &SpanList, b: &SpanList) -> Result<SpanList, AllocError>
-    ensures seconds { IfOk result (λ r. (t : ℤ) → Holds r t ↔ (Holds a.now t × (Holds b.now t → ⊥))) }
+    ensures seconds { IfOk result
+        (λ r. (t : ℤ) → Holds r t ↔ (Holds a.now t × (Holds b.now t → ⊥))) }
     ensures normal { IfOk result (λ r. IsNormal r) }
 {
     combined(alloc, Op::Minus, a, b)
@@ -44,7 +46,8 @@ pub fn minus(alloc: Global, a: &SpanList, b: &SpanList) -> Result<SpanList, Allo
 
 /// The seconds of the horizon that are in the list.
 pub fn within(alloc: Global, list: &SpanList, horizon: Horizon) -> Result<SpanList, AllocError>
-    ensures seconds { IfOk result (λ r. (t : ℤ) → Holds r t ↔ (Holds list.now t × Within (whole horizon) t)) }
+    ensures seconds { IfOk result
+        (λ r. (t : ℤ) → Holds r t ↔ (Holds list.now t × Within (whole horizon) t)) }
     ensures normal { IfOk result (λ r. IsNormal r) }
 {
     let whole = [horizon.whole()];
@@ -54,7 +57,8 @@ pub fn within(alloc: Global, list: &SpanList, horizon: Horizon) -> Result<SpanLi
 
 /// The seconds of the horizon that are not in the list.
 pub fn complement(alloc: Global, list: &SpanList, horizon: Horizon) -> Result<SpanList, AllocError>
-    ensures seconds { IfOk result (λ r. (t : ℤ) → Holds r t ↔ (Within (whole horizon) t × (Holds list.now t → ⊥))) }
+    ensures seconds { IfOk result
+        (λ r. (t : ℤ) → Holds r t ↔ (Within (whole horizon) t × (Holds list.now t → ⊥))) }
     ensures normal { IfOk result (λ r. IsNormal r) }
 {
     SpanList::collect(alloc, &mut Outside::new(list.source(), horizon))

@@ -1,3 +1,5 @@
+//! Sources of spans, and set operators over them.
+
 ghost use Rattle.std.specs.Prelude.{◌≡◌, ◌⊎◌, ◌↔◌, ◌<ℤ◌, ℤ, List, [], ◌∷◌, MatchOption};
 ghost use Rattle.gtd_spans.specs.Change.{NeverChanges, IsNextChange};
 ghost use Rattle.gtd_core.specs.Interval.{Interval, Within};
@@ -12,11 +14,12 @@ use crate::merge::Ask;
 use crate::sweep::Sweep;
 use gtd_core::{Horizon, Op, Sec, Span};
 
-/// A source of spans, seen as the normal list that is still to come.
+/// What hands out spans one after the other. Its meaning is the normal list of those that are still to come: `rest`
+/// in contracts.
 pub trait SpanSource {
     ghost rest: { Self → List Interval };
 
-    /// Takes the first span off the list, if there is one.
+    /// Takes the first span off the list. `None` means that it is empty, and it then stays so.
     fn next(&mut self) -> Option<Span>
         ensures takes { Takes (rest self.old) result (rest self.new) };
 
@@ -61,7 +64,8 @@ pub(crate) struct Pair<A: SpanSource, B: SpanSource> {
 
 impl<A: SpanSource, B: SpanSource> Pair<A, B> {
     pub(crate) fn new(op: Op, left: A, right: B) -> Pair<A, B>
-        ensures list { ⟦<Pair<A, B> as SpanSource>⟧.rest result ≡ combine op (A.rest left) (B.rest right) }
+        ensures list { ⟦<Pair<A, B> as SpanSource>⟧.rest result
+            ≡ combine op (A.rest left) (B.rest right) }
     {
         Pair {
             left,
@@ -81,14 +85,17 @@ impl<A: SpanSource, B: SpanSource> SpanSource for Pair<A, B> {
     ghost is_normal = { λ s. still-normal s.sweep _ _ };
 }
 
-/// The seconds of either of two sources.
+/// The seconds of either of two sources, as a source.
 #[derive(Drop)]
 pub struct Unite<A: SpanSource, B: SpanSource>(Pair<A, B>);
 
 impl<A: SpanSource, B: SpanSource> Unite<A, B> {
+    /// The union of two sources, before any span of theirs is asked for.
     pub fn new(a: A, b: B) -> Unite<A, B>
-        ensures list { ⟦<Unite<A, B> as SpanSource>⟧.rest result ≡ combine Union (A.rest a) (B.rest b) }
-        ensures seconds { (t : ℤ) → Holds (⟦<Unite<A, B> as SpanSource>⟧.rest result) t ↔ (Holds (A.rest a) t ⊎ Holds (B.rest b) t) }
+        ensures list { ⟦<Unite<A, B> as SpanSource>⟧.rest result
+            ≡ combine Union (A.rest a) (B.rest b) }
+        ensures seconds { (t : ℤ) → Holds (⟦<Unite<A, B> as SpanSource>⟧.rest result) t
+            ↔ (Holds (A.rest a) t ⊎ Holds (B.rest b) t) }
     {
         Unite(Pair::new(Op::Union, a, b))
     }
@@ -104,14 +111,17 @@ impl<A: SpanSource, B: SpanSource> SpanSource for Unite<A, B> {
     ghost is_normal = { λ s. still-normal s.0.sweep _ _ };
 }
 
-/// The seconds of both of two sources.
+/// The seconds of both of two sources, as a source.
 #[derive(Drop)]
 pub struct Both<A: SpanSource, B: SpanSource>(Pair<A, B>);
 
 impl<A: SpanSource, B: SpanSource> Both<A, B> {
+    /// The intersection of two sources, before any span of theirs is asked for.
     pub fn new(a: A, b: B) -> Both<A, B>
-        ensures list { ⟦<Both<A, B> as SpanSource>⟧.rest result ≡ combine Meet (A.rest a) (B.rest b) }
-        ensures seconds { (t : ℤ) → Holds (⟦<Both<A, B> as SpanSource>⟧.rest result) t ↔ (Holds (A.rest a) t × Holds (B.rest b) t) }
+        ensures list { ⟦<Both<A, B> as SpanSource>⟧.rest result
+            ≡ combine Meet (A.rest a) (B.rest b) }
+        ensures seconds { (t : ℤ) → Holds (⟦<Both<A, B> as SpanSource>⟧.rest result) t
+            ↔ (Holds (A.rest a) t × Holds (B.rest b) t) }
     {
         Both(Pair::new(Op::Meet, a, b))
     }
@@ -127,14 +137,17 @@ impl<A: SpanSource, B: SpanSource> SpanSource for Both<A, B> {
     ghost is_normal = { λ s. still-normal s.0.sweep _ _ };
 }
 
-/// The seconds of the first of two sources that are not in the second.
+/// The seconds of the first of two sources that the second has not, as a source.
 #[derive(Drop)]
 pub struct Without<A: SpanSource, B: SpanSource>(Pair<A, B>);
 
 impl<A: SpanSource, B: SpanSource> Without<A, B> {
+    /// The difference of two sources, before any span of theirs is asked for.
     pub fn new(a: A, b: B) -> Without<A, B>
-        ensures list { ⟦<Without<A, B> as SpanSource>⟧.rest result ≡ combine Minus (A.rest a) (B.rest b) }
-        ensures seconds { (t : ℤ) → Holds (⟦<Without<A, B> as SpanSource>⟧.rest result) t ↔ (Holds (A.rest a) t × (Holds (B.rest b) t → ⊥)) }
+        ensures list { ⟦<Without<A, B> as SpanSource>⟧.rest result
+            ≡ combine Minus (A.rest a) (B.rest b) }
+        ensures seconds { (t : ℤ) → Holds (⟦<Without<A, B> as SpanSource>⟧.rest result) t
+            ↔ (Holds (A.rest a) t × (Holds (B.rest b) t → ⊥)) }
     {
         Without(Pair::new(Op::Minus, a, b))
     }
@@ -150,7 +163,7 @@ impl<A: SpanSource, B: SpanSource> SpanSource for Without<A, B> {
     ghost is_normal = { λ s. still-normal s.0.sweep _ _ };
 }
 
-/// The seconds of a horizon that are not in a source.
+/// The seconds of a horizon that a source has not, as a source.
 #[derive(Drop)]
 pub struct Outside<A: SpanSource> {
     inner: A,
@@ -160,9 +173,12 @@ pub struct Outside<A: SpanSource> {
 }
 
 impl<A: SpanSource> Outside<A> {
+    /// The complement of a source in the horizon, before any span of the source is asked for.
     pub fn new(a: A, horizon: Horizon) -> Outside<A>
-        ensures list { ⟦<Outside<A> as SpanSource>⟧.rest result ≡ combine Minus (whole horizon ∷ []) (A.rest a) }
-        ensures seconds { (t : ℤ) → Holds (⟦<Outside<A> as SpanSource>⟧.rest result) t ↔ (Within (whole horizon) t × (Holds (A.rest a) t → ⊥)) }
+        ensures list { ⟦<Outside<A> as SpanSource>⟧.rest result
+            ≡ combine Minus (whole horizon ∷ []) (A.rest a) }
+        ensures seconds { (t : ℤ) → Holds (⟦<Outside<A> as SpanSource>⟧.rest result) t
+            ↔ (Within (whole horizon) t × (Holds (A.rest a) t → ⊥)) }
     {
         Outside {
             inner: a,
@@ -187,7 +203,8 @@ fn next_outside<A: SpanSource>(inner: &mut A, sweep: &mut Sweep) -> Option<Span>
     requires fits { Fits sweep.old (A.rest inner.old) [] }
     ensures one_side { HasOneSide sweep.new }
     ensures fits { Fits sweep.new (A.rest inner.new) [] }
-    ensures takes { Takes (still sweep.old (A.rest inner.old) []) result (still sweep.new (A.rest inner.new) []) }
+    ensures takes { Takes (still sweep.old (A.rest inner.old) []) result
+        (still sweep.new (A.rest inner.new) []) }
 {
     loop {
         match sweep.step() {
@@ -202,7 +219,9 @@ fn next_outside<A: SpanSource>(inner: &mut A, sweep: &mut Sweep) -> Option<Span>
     }
 }
 
-/// The least second after the given one, before `until`, at which membership differs from that at the given one.
+/// The least second after the given one, and before `until`, at which membership in what the source has to come differs
+/// from that at the given one, or `None` exactly where there is none. The caller keeps the spans of the source before
+/// `until`.
 pub fn next_change<S: SpanSource>(source: &mut S, second: Sec, until: Sec) -> Option<Sec>
     requires early { (t : ℤ) → Holds (S.rest source.old) t → t <ℤ until.0 }
     ensures change { MatchOption result (NeverChanges (Holds (S.rest source.old)) second.0 until.0)

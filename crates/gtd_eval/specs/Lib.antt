@@ -1,0 +1,13 @@
+pub mod Basics
+pub mod CursorFacts
+pub mod Cursors
+pub mod Ever
+pub mod Membership
+pub mod Names
+pub mod NodeFacts
+pub mod Nodes
+pub mod NormalOver
+pub mod RunsWords
+pub mod Shape
+pub mod Single
+pub mod Work
