@@ -1,12 +1,12 @@
 //! What gives bytes and what takes them.
 
-ghost use Rattle.std.specs.Prelude.{◌≡◌, ◌<◌, ◌≤◌, ℕ, List, Option, None, Bool, true, length, IsTrue};
+ghost use Rattle.std.specs.Prelude.{◌≡◌, ◌<◌, ℕ, Option, None, List, Bool, true, length, IsTrue};
 ghost use Rattle.gtd_devices.specs.Device.{IsGot, Within, TakesOff, failures_after_pull, WithinPut, AddsFront, Finishes, failures_after_put};
 
-/// What one pull of an input gave.
-#[derive(Clone, Copy, PartialEq, Eq, Debug)]
+/// What one pull of an input did.
+#[derive(Clone, Copy, Debug, PartialEq, Eq)]
 pub enum Pull {
-    /// This many bytes came. None came just now where it is 0.
+    /// So many bytes came: none just now where it is 0.
     Got(usize),
     /// The input is at its end.
     Done,
@@ -25,7 +25,8 @@ pub trait Input {
     /// How often the device has failed.
     ghost failure_count: { Self → ℕ };
 
-    /// Asks for bytes, which come to the front of the buffer.
+    /// Asks for bytes, which come to the front of a buffer that is not empty. `Done` comes only at the end. A failure
+    /// takes no byte, and is counted.
     fn pull(&mut self, into: &mut [u8]) -> Pull
         requires room { 0 < length into.old }
         requires countable { failure_count self.old < u64.MAX }
@@ -33,15 +34,16 @@ pub trait Input {
         ensures bytes { TakesOff (to_come self.old) (to_come self.new) result into.new }
         ensures silent { IsGot result 0 → IsTrue (may_fall_silent self.old) }
         ensures as_silent { may_fall_silent self.new ≡ may_fall_silent self.old }
-        ensures failures { failure_count self.new ≡ failures_after_pull result (failure_count self.old) };
+        ensures failures { failure_count self.new
+            ≡ failures_after_pull result (failure_count self.old) };
 
     /// How often the device has failed.
     fn failures(&self) -> u64
-        ensures { result ≡ failure_count self.now };
+        ensures value { result ≡ failure_count self.now };
 }
 
 /// What one put to an output did.
-#[derive(Clone, Copy, PartialEq, Eq, Debug)]
+#[derive(Clone, Copy, Debug, PartialEq, Eq)]
 pub enum Put {
     /// So many bytes were taken.
     Took(usize),
@@ -57,21 +59,23 @@ pub trait Output {
     /// How often the device has failed.
     ghost failure_count: { Self → ℕ };
 
-    /// Offers bytes, of which a front is taken.
+    /// Offers bytes, at least one, of which a front is taken, at least one. A failure takes none, and is counted.
     fn put(&mut self, bytes: &[u8]) -> Put
         requires offered { 0 < length bytes.now }
         requires countable { failure_count self.old < u64.MAX }
         ensures within { WithinPut result (length bytes.now) }
         ensures bytes { AddsFront (taken self.old) (taken self.new) result bytes.now }
-        ensures failures { failure_count self.new ≡ failures_after_put result (failure_count self.old) };
+        ensures failures { failure_count self.new
+            ≡ failures_after_put result (failure_count self.old) };
 
-    /// Ends the output.
+    /// Ends the output: `Took(0)`, or a failure, which is counted.
     fn finish(&mut self) -> Put
-        requires { failure_count self.old < u64.MAX }
+        requires countable { failure_count self.old < u64.MAX }
         ensures bytes { Finishes (taken self.old) (taken self.new) result }
-        ensures failures { failure_count self.new ≡ failures_after_put result (failure_count self.old) };
+        ensures failures { failure_count self.new
+            ≡ failures_after_put result (failure_count self.old) };
 
     /// How often the device has failed.
     fn failures(&self) -> u64
-        ensures { result ≡ failure_count self.now };
+        ensures value { result ≡ failure_count self.now };
 }

@@ -6,20 +6,20 @@ ghost use Rattle.gtd_devices.specs.Whole.{failures_after_whole};
 use crate::device::{Input, Pull};
 use std::alloc::{AllocError, Global};
 
-/// The most bytes that a record file may have.
-pub const FILE_LIMIT: usize = 16_777_216;
+/// How many bytes are asked for at once.
+const PIECE: usize = 4096;
 
 /// So many pulls in a row that give no byte end the reading.
 const SILENT_PULLS: u32 = 1000;
 
-/// Why an input could not be read whole.
-#[derive(Debug, Drop)]
+/// Why an input is not read whole.
+#[derive(Clone, Copy, Debug, PartialEq, Eq)]
 pub enum InputFault {
     /// The input failed.
     ReadFault,
-    /// More bytes came than a file may have.
+    /// More bytes came than are wanted.
     TooLarge,
-    /// No byte came for too many pulls in a row.
+    /// No byte came for 1,000 pulls in a row.
     Endless,
     /// Memory was refused.
     NoMemory,
@@ -35,26 +35,37 @@ impl From<AllocError> for InputFault {
     }
 }
 
-/// The bytes of an input, all of them.
-pub fn read_whole<I: Input>(alloc: Global, input: &mut I) -> Result<Vec<u8>, InputFault>
-    requires { I.failure_count input.old < u64.MAX }
-    ensures few { IfOk result (λ bytes. length bytes.items ≤ FILE_LIMIT) }
+/// All bytes that are still to come of an input, at most `most` of them.
+///
+/// The input is pulled 4,096 bytes at a time, until it is at its end or a fault is met, whichever happens first.
+/// `NoMemory` is answered only where memory was refused.
+pub fn read_whole<I: Input>(
+    alloc: Global,
+    input: &mut I,
+    most: usize,
+) -> Result<Vec<u8>, InputFault>
+    requires countable { I.failure_count input.old < u64.MAX }
+    ensures few { IfOk result (λ bytes. length bytes.items ≤ most) }
+    // Where the input tells its bytes, these are they, or they are too many.
     ensures whole { IfOk result (λ bytes. IfSome (I.to_come input.old) (λ all. bytes.items ≡ all)) }
-    ensures large { IsErrOf result InputFault.TooLarge → IfSome (I.to_come input.old) (λ all. FILE_LIMIT < length all) }
+    ensures large { IsErrOf result InputFault.TooLarge
+        → IfSome (I.to_come input.old) (λ all. most < length all) }
     ensures endless { IsErrOf result InputFault.Endless → IsTrue (I.may_fall_silent input.old) }
-    ensures failures { I.failure_count input.new ≡ failures_after_whole result (I.failure_count input.old) }
+    // `ReadFault` exactly where the input failed in this call.
+    ensures failures { I.failure_count input.new
+        ≡ failures_after_whole result (I.failure_count input.old) }
 {
     let mut bytes = Vec::new(alloc);
-    let mut chunk = [0u8; 4096];
+    let mut piece = [0u8; PIECE];
     let mut silent = 0u32;
     while silent < SILENT_PULLS {
-        match input.pull(&mut chunk) {
+        match input.pull(&mut piece) {
             Pull::Got(0) => silent += 1,
             Pull::Got(n) => {
-                if n > FILE_LIMIT - bytes.len() {
+                if n > most - bytes.len() {
                     return Err(InputFault::TooLarge);
                 }
-                bytes.extend_from_slice(&chunk[..n])?;
+                bytes.extend_from_slice(&piece[..n])?;
                 silent = 0;
             }
             Pull::Done => return Ok(bytes),

@@ -7,3 +7,5 @@ pub mod Reading
 pub mod Table
 pub mod Row
 pub mod File
+pub mod Closing
+pub mod Index

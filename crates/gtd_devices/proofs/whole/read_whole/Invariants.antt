@@ -6,7 +6,7 @@ use Rattle.gtd_devices.proofs.whole.read_whole.Given as goal
 abbrev pub invariant-loop-silent : goal.invariant-loop-silent
 invariant-loop-silent g l = record {
   told : Consumes (g.I.Input.to_come l.fn.input) (g.I.Input.to_come l.input) l.bytes.items;
-  few : length l.bytes.items ≤ 16777216;
+  few : length l.bytes.items ≤ l.most;
   turns : l.silent ≤ 1000;
   silence : 0 < l.silent → IsTrue (g.I.Input.may_fall_silent l.fn.input);
   as_silent : g.I.Input.may_fall_silent l.input ≡ g.I.Input.may_fall_silent l.fn.input;
@@ -15,4 +15,4 @@ invariant-loop-silent g l = record {
 
 -- a pull that gives bytes leaves fewer to the limit, and one that gives none leaves fewer such pulls
 abbrev pub decreases-loop-silent : goal.decreases-loop-silent
-decreases-loop-silent g l = 1001 * (16777216 - length l.bytes.items) + (1000 - l.silent)
+decreases-loop-silent g l = 1001 * (l.most - length l.bytes.items) + (1000 - l.silent)
