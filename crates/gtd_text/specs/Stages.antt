@@ -25,11 +25,16 @@ opened outer = reverse (map pending_of outer)
 
 -- What is kept of a state, given what stands before the open brackets and the fields since the last sign.
 abbrev pub stage_of : List building.Pending → List TokenKind → State → building.State
-stage_of outer fields (state.Expecting p) = building.Expecting outer (sum_of p.sum) (product_of p.product)
-stage_of outer fields (state.InStart p parts) = building.InStart outer (sum_of p.sum) (product_of p.product) fields parts
-stage_of outer fields (state.AfterStart p start) = building.AfterStart outer (sum_of p.sum) (product_of p.product) (start_parts start)
-stage_of outer fields (state.InDuration p start parts) = building.InDuration outer (sum_of p.sum) (product_of p.product) (start_parts start) fields parts
-stage_of outer fields (state.AfterItem sum term) = building.AfterItem outer (sum_of sum) (tree_of term)
+stage_of outer fields (state.Expecting p) =
+    building.Expecting outer (sum_of p.sum) (product_of p.product)
+stage_of outer fields (state.InStart p parts) =
+    building.InStart outer (sum_of p.sum) (product_of p.product) fields parts
+stage_of outer fields (state.AfterStart p start) =
+    building.AfterStart outer (sum_of p.sum) (product_of p.product) (start_parts start)
+stage_of outer fields (state.InDuration p start parts) =
+    building.InDuration outer (sum_of p.sum) (product_of p.product) (start_parts start) fields parts
+stage_of outer fields (state.AfterItem sum term) =
+    building.AfterItem outer (sum_of sum) (tree_of term)
 
 -- The state takes a token of this kind, and what has ended then is in its ranges.
 pub record Takes (outer : List building.Pending) (state : State) (kind : TokenKind) : Type 0 where

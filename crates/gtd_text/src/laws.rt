@@ -1,20 +1,20 @@
 //! Laws of the definitions: calls that do nothing, and whose contracts are what is proved.
 
-ghost use Rattle.std.specs.Prelude.{◌≡◌, ◌≤◌, ◌↔◌, ℕ, List, [], None, true};
+ghost use Rattle.std.specs.Prelude.{◌≡◌, ◌≤◌, ◌↔◌, ℕ, List, true};
 ghost use Rattle.gtd_core.specs.Equality.{same_tree};
 ghost use Rattle.gtd_core.specs.Parts.{domain_tree};
 ghost use Rattle.gtd_core.specs.Trees.{Tree, AreValid, leaf_count};
 ghost use Rattle.gtd_core.specs.declared.domain.Domain.{Domain};
 ghost use Rattle.gtd_core.specs.declared.fault.TextFault.{TextFault};
 ghost use Rattle.gtd_text.specs.Canonical.{canonical};
-ghost use Rattle.gtd_text.specs.Fitting.{fault_after};
+ghost use Rattle.gtd_text.specs.FirstFault.{IsClean, grammar_fault};
+ghost use Rattle.gtd_text.specs.Fitting.{may_end};
 ghost use Rattle.gtd_text.specs.Grammar.{Stands, Sum};
 ghost use Rattle.gtd_text.specs.Reading.{StandsFor, HasNoFault, IsFault};
-ghost use Rattle.gtd_text.specs.Seen.{kinds};
+ghost use Rattle.gtd_text.specs.Seen.{kinds, newest_first};
 ghost use Rattle.gtd_text.specs.declared.token.Token.{Token};
 
-use gtd_core::domain::leaves_are_valid;
-use gtd_core::equality::equality_of_trees;
+use gtd_core::laws::{equality_of_trees, leaves_are_valid};
 
 /// A text stands for one expression at most, and has one fault at most.
 pub fn one_meaning()
@@ -23,8 +23,8 @@ pub fn one_meaning()
     ensures fault { (text : List ℕ) (f g : TextFault) → IsFault text f → IsFault text g → f ≡ g }
 {}
 
-/// The canonical text of an expression in its ranges stands for it and for nothing else. With at most 128 basic domains it
-/// has no fault, and so is within all limits.
+/// The canonical text of an expression in its ranges stands for it and for nothing else. With at most 128 basic
+/// domains it has no fault, and so is within all limits.
 pub fn canonical_text()
     ensures stands { (e : Tree) → AreValid e → StandsFor (canonical e) e }
     ensures only { (e f : Tree) → AreValid e → StandsFor (canonical e) f → f ≡ e }
@@ -47,6 +47,7 @@ pub fn canonical_text_of_domain()
 
 /// Tokens stand for an expression exactly if none of them is at fault by the grammar, and they do not end too early.
 pub fn grammar_and_faults()
-    ensures agree { (len : ℕ) (tokens : List Token) →
-        (fault_after len [] tokens ≡ None) ↔ ((e : Tree) × Stands Sum (kinds tokens) e) }
+    ensures agree { (tokens : List Token) →
+        (IsClean grammar_fault tokens × (may_end (newest_first tokens) ≡ true))
+        ↔ ((e : Tree) × Stands Sum (kinds tokens) e) }
 {}

@@ -1,6 +1,7 @@
 //! The canonical text of a domain.
 
-ghost use Rattle.std.specs.Prelude.{◌≡◌, ◌≢◌, ◌≤◌, ◌<◌, ◌++◌, IfOk, OnOk, string_bytes, codes, decimal, length, [], ◌∷◌, ◌+◌, IfSome};
+ghost use Rattle.std.specs.Prelude.{◌≡◌, ◌≤◌, ◌<◌, ◌+◌, ◌++◌, [], ◌∷◌, string_bytes, codes, decimal, length};
+ghost use Rattle.std.specs.Prelude.{IfOk, OnOk, IfSome};
 ghost use Rattle.gtd_core.specs.Trees.{tree_of};
 ghost use Rattle.gtd_core.specs.Parts.{domain_tree, start_parts, duration_parts};
 ghost use Rattle.gtd_text.specs.Canonical.{canonical, sign_text, start_text, duration_text};
@@ -14,8 +15,8 @@ use std::alloc::{AllocError, Global};
 
 /// The canonical text of a domain, or an error where memory was refused.
 ///
-/// There are no spaces, a basic domain and each combination have brackets of their own, and fields come in one order with
-/// no leading zeros, so that two domains have one text exactly if they are equal.
+/// There are no spaces, a basic domain and each combination have brackets of their own, and fields come in one order
+/// with no leading zeros, so that two domains have one text exactly if they are equal.
 pub fn print_domain(alloc: Global, domain: &Domain) -> Result<String, AllocError>
     ensures exact { IfOk result (λ text. string_bytes text ≡ canonical (domain_tree domain.now)) }
 {
@@ -25,7 +26,8 @@ pub fn print_domain(alloc: Global, domain: &Domain) -> Result<String, AllocError
 }
 
 fn push_expr(out: &mut String, expr: &Expr) -> Result<(), AllocError>
-    ensures { OnOk result (string_bytes out.new ≡ string_bytes out.old ++ canonical (tree_of expr.now)) }
+    ensures { OnOk result (string_bytes out.new
+        ≡ string_bytes out.old ++ canonical (tree_of expr.now)) }
 {
     match expr {
         Expr::Leaf(basic) => push_basic(out, basic),
@@ -51,7 +53,8 @@ fn push_op(out: &mut String, op: Op) -> Result<(), AllocError>
 
 fn push_basic(out: &mut String, basic: &Basic) -> Result<(), AllocError>
     ensures { OnOk result (string_bytes out.new ≡ string_bytes out.old
-        ++ (codes "[(" ++ start_text (start_parts basic.now.start) ++ codes "){" ++ duration_text (duration_parts basic.now.duration) ++ codes "}]")) }
+        ++ (codes "[(" ++ start_text (start_parts basic.now.start) ++ codes "){"
+        ++ duration_text (duration_parts basic.now.duration) ++ codes "}]")) }
 {
     out.push_str("[(")?;
     push_start(out, &basic.start)?;
@@ -62,7 +65,8 @@ fn push_basic(out: &mut String, basic: &Basic) -> Result<(), AllocError>
 
 #[tactic(auto, unfolding(crate::specs::Canonical::start_text))]
 fn push_start(out: &mut String, start: &Start) -> Result<(), AllocError>
-    ensures { OnOk result (string_bytes out.new ≡ string_bytes out.old ++ start_text (start_parts start.now)) }
+    ensures { OnOk result (string_bytes out.new
+        ≡ string_bytes out.old ++ start_text (start_parts start.now)) }
 {
     let parts = start.parts();
     push_month_fields(out, &parts)?;
@@ -109,7 +113,8 @@ fn push_clock_fields(out: &mut String, start: &StartParts) -> Result<(), AllocEr
 }
 
 fn push_field(out: &mut String, letter: &str, field: Option<u8>) -> Result<(), AllocError>
-    ensures { OnOk result (string_bytes out.new ≡ string_bytes out.old ++ field_text letter.now field) }
+    ensures { OnOk result (string_bytes out.new
+        ≡ string_bytes out.old ++ field_text letter.now field) }
 {
     match field {
         None => Ok(()),
@@ -121,7 +126,8 @@ fn push_field(out: &mut String, letter: &str, field: Option<u8>) -> Result<(), A
 }
 
 fn push_number(out: &mut String, letter: &str, n: u32) -> Result<(), AllocError>
-    ensures { OnOk result (string_bytes out.new ≡ string_bytes out.old ++ number_text letter.now n) }
+    ensures { OnOk result (string_bytes out.new
+        ≡ string_bytes out.old ++ number_text letter.now n) }
 {
     if n == 0 {
         Ok(())
@@ -149,7 +155,8 @@ fn push_year(out: &mut String, year: Option<u16>) -> Result<(), AllocError>
 
 fn push_place(out: &mut String, letter: &str, place: Option<(u8, u8)>) -> Result<(), AllocError>
     requires { IfSome place (λ place. (place.0 < 10) × (place.1 < 10)) }
-    ensures { OnOk result (string_bytes out.new ≡ string_bytes out.old ++ place_text letter.now place) }
+    ensures { OnOk result (string_bytes out.new
+        ≡ string_bytes out.old ++ place_text letter.now place) }
 {
     match place {
         None => Ok(()),
@@ -185,7 +192,8 @@ fn push_weekdays(out: &mut String, weekdays: u8) -> Result<(), AllocError>
 fn push_weekday(out: &mut String, weekdays: u8, weekday: u8) -> Result<(), AllocError>
     requires low { 1 ≤ weekday }
     requires high { weekday ≤ 7 }
-    ensures { OnOk result (string_bytes out.new ≡ string_bytes out.old ++ weekday_text weekdays weekday) }
+    ensures { OnOk result (string_bytes out.new
+        ≡ string_bytes out.old ++ weekday_text weekdays weekday) }
 {
     if (weekdays >> (weekday - 1)) % 2 == 1 {
         out.push_str("t")?;
@@ -197,7 +205,8 @@ fn push_weekday(out: &mut String, weekdays: u8, weekday: u8) -> Result<(), Alloc
 
 #[tactic(auto, unfolding(crate::specs::Canonical::duration_text))]
 fn push_duration(out: &mut String, duration: &DurationParts) -> Result<(), AllocError>
-    ensures { OnOk result (string_bytes out.new ≡ string_bytes out.old ++ duration_text duration.now) }
+    ensures { OnOk result (string_bytes out.new
+        ≡ string_bytes out.old ++ duration_text duration.now) }
 {
     if *duration == DurationParts::default() {
         out.push_str("s0")

@@ -18,10 +18,11 @@ use std::alloc::{AllocError, Global};
 
 /// The domain that a text stands for, or its first fault.
 ///
-/// The faults, in their order: `BadToken` and `Fuzzy` at the first byte that is no space and begins no token; `TooDeep` at
-/// the first `[` that makes the depth 129, else `TooMany` at the 129th `(`; `Repeated`, `FieldRange`, `Negative` or
-/// `Unexpected` at the first token that does not fit, or `Incomplete` at the text's length; `TooLongDuration` at the `{`
-/// of the first duration of more than 36,600 days. `NoMemory`, at 0, is answered only where memory was refused.
+/// The faults, in their order: `BadToken` and `Fuzzy` at the first byte that is no space and begins no token;
+/// `TooDeep` at the first `[` that makes the depth 129, else `TooMany` at the 129th `(`; `Repeated`, `FieldRange`,
+/// `Negative` or `Unexpected` at the first token that does not fit, or `Incomplete` at the text's length;
+/// `TooLongDuration` at the `{` of the first duration of more than 36,600 days. `NoMemory`, at 0, is answered only
+/// where memory was refused.
 pub fn read_domain(alloc: Global, text: &[u8]) -> Result<Domain, TextFault>
     // The text stands for the domain,
     ensures found { IfOk result (λ domain. StandsFor text.now (domain_tree domain)) }

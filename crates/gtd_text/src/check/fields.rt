@@ -144,7 +144,8 @@ fn start_with_byte(parts: StartParts, letter: u8, value: u8) -> StartParts
 
 /// The duration with one more field.
 pub fn duration_with(parts: DurationParts, letter: u8, value: u32) -> DurationParts
-    ensures { (digits : ℕ) → result ≡ with_duration_field parts (TokenKind.Field letter value digits) }
+    ensures { (digits : ℕ) →
+        result ≡ with_duration_field parts (TokenKind.Field letter value digits) }
 {
     let mut new = parts;
     match letter {

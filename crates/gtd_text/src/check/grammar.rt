@@ -3,7 +3,8 @@
 ghost use Rattle.std.specs.Prelude.{◌≡◌, ◌<◌, ◌≤◌, ◌+◌, ◌^◌, List, [], ◌∷◌, length};
 ghost use Rattle.gtd_text.specs.declared.token.TokenKind.{TokenKind};
 ghost use Rattle.gtd_text.specs.Seen.{newest_first};
-ghost use Rattle.gtd_text.specs.Fitting.{begins_item, follows_item, fits, fits_after_field, fault_of, field_fault, may_end, fault_after};
+ghost use Rattle.gtd_text.specs.Fitting.{begins_item, follows_item, fits, fits_after_field, may_end};
+ghost use Rattle.gtd_text.specs.Fitting.{fault_of, field_fault, fault_after};
 
 use crate::check::fields::{
     fits_duration, fits_start, has_letter, is_duration_letter, is_repeated_in_start,
@@ -26,7 +27,8 @@ impl Seen {
     fn with(self, kind: TokenKind) -> Seen
         requires { self.depth + 1 < 2 ^ 64 }
         ensures depth { result.depth ≤ self.depth + 1 }
-        ensures seen { (before : List TokenKind) → self ≡ seen before → result ≡ seen (kind ∷ before) }
+        ensures seen { (before : List TokenKind) → self ≡ seen before
+            → result ≡ seen (kind ∷ before) }
     {
         let sign = match kind {
             TokenKind::Field { .. } => self.sign,
