@@ -1,7 +1,8 @@
 //! What gives bytes and what takes them.
 
 ghost use Rattle.std.specs.Prelude.{◌≡◌, ◌<◌, ℕ, Option, None, List, Bool, true, length, IsTrue};
-ghost use Rattle.gtd_devices.specs.Device.{IsGot, Within, TakesOff, failures_after_pull, WithinPut, AddsFront, Finishes, failures_after_put};
+ghost use Rattle.gtd_devices.specs.Device.{IsGot, Within, TakesOff, failures_after_pull};
+ghost use Rattle.gtd_devices.specs.Device.{WithinPut, AddsFront, Finishes, failures_after_put};
 
 /// What one pull of an input did.
 #[derive(Clone, Copy, Debug, PartialEq, Eq)]

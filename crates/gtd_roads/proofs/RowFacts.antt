@@ -54,6 +54,6 @@ full_row version row fields a b c d element closed types read f p q r s = rw (f,
   where
     at : (o : Option Vehicles) → IsRead o (Some types)
         → MatchOption o (with_domain row element closed types read ≡ Err (fault.Vehicle row)) (λ named. (ordered : Vehicles) × (found : Result (Option Tree) TextFault)
-            × IsOrdered named ordered × IsDomainColumn d found × (with_domain row element closed types read ≡ with_domain row element closed ordered found))
+        × IsOrdered named ordered × IsDomainColumn d found × (with_domain row element closed types read ≡ with_domain row element closed ordered found))
     at None h = cc
     at (Some named) h = let e : types ≡ h.0 = cc in (h.0, read, h.1, s, ap (λ (t : Vehicles). with_domain row element closed t read) e)

@@ -1,5 +1,6 @@
 -- What the columns of a record file say that are one number or one word.
-use Rattle.std.specs.Prelude.{ℕ, ◌&&◌, Bool, if◌then◌else◌, nat_le, nat_eq, List, length, Option, Some, None, option_map, codes}
+use Rattle.std.specs.Prelude.{ℕ, ◌&&◌, Bool, if◌then◌else◌, nat_le, nat_eq, List, length, codes}
+use Rattle.std.specs.Prelude.{Option, Some, None, option_map}
 use Rattle.std.specs.Char.{is_ascii_digit}
 use Rattle.std.specs.List.{list_all}
 use Rattle.std.specs.Cmp.Lexicographic.{pointwise}
@@ -16,12 +17,16 @@ is_word text word = pointwise nat_eq text word
 -- the number that 1 to 10 ASCII digits stand for
 abbrev pub number_of : List ℕ → Option ℕ
 number_of text =
-    if nat_le 1 (length text) && nat_le (length text) 10 && list_all is_ascii_digit text then Some (digits_value 10 text) else None
+    if nat_le 1 (length text) && nat_le (length text) 10 && list_all is_ascii_digit text
+    then Some (digits_value 10 text)
+    else None
 
 -- the direction that a word names
 abbrev pub direction_of : List ℕ → Option Direction
 direction_of text =
-    if is_word text (codes "positive") then Some Positive else if is_word text (codes "negative") then Some Negative else None
+    if is_word text (codes "positive") then Some Positive
+    else if is_word text (codes "negative") then Some Negative
+    else None
 
 -- what a word says that is closed
 abbrev pub closed_of : List ℕ → Option Closed

@@ -22,7 +22,8 @@ header v = codes "element" ∷ codes "direction" ∷ vehicles_word v ∷ codes "
 abbrev pub AreRecords : Version → ℕ → List Fields → List Restriction → Type 0
 AreRecords v number [] found = found ≡ []
 AreRecords v number (row ∷ rows) found =
-    (first : Restriction) × (rest : List Restriction) × IsRow v number row (Ok first) × AreRecords v (number + 1) rows rest × (found ≡ first ∷ rest)
+    (first : Restriction) × (rest : List Restriction)
+    × IsRow v number row (Ok first) × AreRecords v (number + 1) rows rest × (found ≡ first ∷ rest)
 
 -- the most rows that a file may have
 abbrev pub most_rows : ℕ
@@ -40,14 +41,15 @@ pub record FirstFault (v : Version) (rows : List Fields) (why : RecordFault) : T
   pub split : rows ≡ before ++ row ∷ after
   pub found : List Restriction
   pub sound : IsSound v before found
-  pub fault : ((length before ≡ most_rows) × (why ≡ fault.TooManyRows)) ⊎ ((length before < most_rows) × IsRow v (length before + 1) row (Err why))
+  pub fault : ((length before ≡ most_rows) × (why ≡ fault.TooManyRows))
+      ⊎ ((length before < most_rows) × IsRow v (length before + 1) row (Err why))
 
 -- the rows after the header stand for these restrictions, or have this first fault
 abbrev pub AreRows : Version → List Fields → Result (List Restriction) RecordFault → Type 0
 AreRows v rows (Ok found) = IsSound v rows found
 AreRows v rows (Err why) = FirstFault v rows why
 
--- the records of comma-separated text (RFC 4180), of which the first is a header of either version and the others are rows
+-- The records of comma-separated text (RFC 4180): the first is a header of either version, and the others are rows.
 abbrev pub IsTable : List Fields → Result (List Restriction) RecordFault → Type 0
 IsTable text answer =
     ((v : Version) × (rows : List Fields) × (text ≡ header v ∷ rows) × AreRows v rows answer)
@@ -57,7 +59,8 @@ IsTable text answer =
 abbrev pub most_bytes : ℕ
 most_bytes = 16777216
 
--- the bytes are a file of these restrictions, or have this first fault; a byte order mark at their front is no part of the text
+-- The bytes are a file of these restrictions, or have this first fault. A byte order mark at their front is no part of
+-- the text.
 abbrev pub IsFile : List ℕ → Result (List Restriction) RecordFault → Type 0
 IsFile bytes answer =
     ((length bytes ≤ most_bytes) × IsTable (records default_config (strip_bom bytes)) answer)

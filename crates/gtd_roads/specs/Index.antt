@@ -20,7 +20,8 @@ IsPlace rows p = (r : Restriction) × (p.row < length rows) × (slice_index_or r
 pub record ArePlaces (rows : List Restriction) (places : List Place) : Type 0 where
   pub sorted : IsNonDecreasingBy (λ (p : Place). p.element) places
   pub sound : All (IsPlace rows) places
-  pub each : (k : ℕ) (r : Restriction) → k < length rows → slice_index_or rows k r ≡ r → Contains places (record { element = r.element; row = k })
+  pub each : (k : ℕ) (r : Restriction) → k < length rows → slice_index_or rows k r ≡ r
+      → Contains places (record { element = r.element; row = k })
   pub many : length places ≡ length rows
 
 -- the places and the elements of all rows, which are as many as a file may have
@@ -29,8 +30,11 @@ pub record IsIndexed (rows : List Restriction) (places : List Place) (elements :
   pub named : AreElements rows elements
   pub few : length rows ≤ 65536
 
--- the cursors have the seconds of the horizon at which a restriction closes the element in the direction for the vehicle type, and few nodes
-pub record AreClosing (rows : List Restriction) (element : ℕ) (direction : Direction) (vehicle : ℕ) (horizon : Horizon) (cursors : List Cursor) : Type 0 where
+-- The cursors have the seconds of the horizon at which a restriction closes the element in the direction for the vehicle
+-- type, and few enough nodes to be united and complemented.
+pub record AreClosing (rows : List Restriction) (element : ℕ) (direction : Direction) (vehicle : ℕ)
+    (horizon : Horizon) (cursors : List Cursor) : Type 0 where
   pub few : nodes_of cursors + length cursors ≤ 16777216
   pub sound : (t : ℤ) → SomeHolds cursors t → IsClosed rows element direction vehicle t
-  pub complete : (t : ℤ) → Within (whole horizon) t → (SomeHolds cursors t → ⊥) → IsOpen rows element direction vehicle t
+  pub complete : (t : ℤ) → Within (whole horizon) t → (SomeHolds cursors t → ⊥)
+      → IsOpen rows element direction vehicle t

@@ -4,7 +4,8 @@ use Rattle.gtd_core.specs.Trees.{Tree}
 use Rattle.gtd_roads.specs.declared.direction.Closed.{Closed}
 use Rattle.gtd_roads.specs.declared.vehicles.Vehicles.{Vehicles}
 
--- the element, in which direction it is closed, for which vehicle types, and at the seconds of which expression: at all seconds where none is given
+-- The element, in which direction it is closed, for which vehicle types, and at the seconds of which expression: at all
+-- seconds where none is given.
 pub record Restriction : Type 0 where
   pub element : ℕ
   pub closed : Closed

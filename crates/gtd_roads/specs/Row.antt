@@ -20,7 +20,8 @@ abbrev pub IsReading : List ℕ → Result Tree TextFault → Type 0
 IsReading text (Ok tree) = StandsFor text tree × HasNoFault text
 IsReading text (Err why) = IsFault text why
 
--- the last column of a row: no domain where it is empty, and otherwise the expression that its bytes stand for, or their fault
+-- The last column of a row: no domain where it is empty, and otherwise the expression that its bytes stand for, or their
+-- fault.
 abbrev pub IsDomainColumn : List ℕ → Result (Option Tree) TextFault → Type 0
 IsDomainColumn [] (Ok domain) = domain ≡ None
 IsDomainColumn [] (Err why) = ⊥
@@ -30,7 +31,8 @@ IsDomainColumn (b ∷ text) (Err why) = IsReading (b ∷ text) (Err why)
 
 -- the restriction of a row's columns, or the fault of the last
 abbrev pub with_domain : ℕ → ℕ → Closed → Vehicles → Result (Option Tree) TextFault → Result Restriction RecordFault
-with_domain row element closed vehicles (Ok domain) = Ok (record { element = element; closed = closed; vehicles = vehicles; domain = domain })
+with_domain row element closed vehicles (Ok domain) =
+    Ok (record { element = element; closed = closed; vehicles = vehicles; domain = domain })
 with_domain row element closed vehicles (Err why) = Err (fault.Domain row why)
 
 -- four columns, read from the left
@@ -44,10 +46,12 @@ IsFullRow version row element closed vehicles domain answer =
 
 -- the row with this number stands for this restriction, or has this first fault
 abbrev pub IsRow : Version → ℕ → Fields → Result Restriction RecordFault → Type 0
-IsRow version row (element ∷ closed ∷ vehicles ∷ domain ∷ []) answer = IsFullRow version row element closed vehicles domain answer
+IsRow version row (element ∷ closed ∷ vehicles ∷ domain ∷ []) answer =
+    IsFullRow version row element closed vehicles domain answer
 IsRow version row _ answer = answer ≡ Err (fault.FieldCount row)
 
 -- what reading the last column gave, in the row with this number
 abbrev pub IsDomainRead : ℕ → List ℕ → Result (Option Domain) RecordFault → Type 0
 IsDomainRead row text (Ok domain) = IsDomainColumn text (Ok (option_map domain_tree domain))
-IsDomainRead row text (Err why) = (of_text : TextFault) × IsDomainColumn text (Err of_text) × (why ≡ fault.Domain row of_text)
+IsDomainRead row text (Err why) =
+    (of_text : TextFault) × IsDomainColumn text (Err of_text) × (why ≡ fault.Domain row of_text)

@@ -45,7 +45,8 @@ abbrev last : List Tree → Tree
 last [] = Single no_parts (record { years = 0; months = 0; weeks = 0; days = 0; hours = 0; minutes = 0; seconds = 0 })
 last (tree ∷ trees) = tree
 
-pub build-append : (front back : List Part) (trees : List Tree) → build (front ++ back) trees ≡ build back (build front trees)
+pub build-append : (front back : List Part) (trees : List Tree)
+    → build (front ++ back) trees ≡ build back (build front trees)
 build-append [] back trees = refl
 build-append (part ∷ front) back trees = build-append front back (step part trees)
 

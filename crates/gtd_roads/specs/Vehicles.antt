@@ -1,5 +1,6 @@
 -- The vehicle types that a record closes for, and how the third column of a record file names them.
-use Rattle.std.specs.Prelude.{◌≡◌, ◌==◌, ◌↔◌, ◌+◌, ℕ, Bool, false, List, [], ◌∷◌, Option, Some, None, option_map, if◌then◌else◌}
+use Rattle.std.specs.Prelude.{◌≡◌, ◌==◌, ◌↔◌, ℕ, Bool, false, if◌then◌else◌}
+use Rattle.std.specs.Prelude.{List, [], ◌∷◌, Option, Some, None, option_map}
 use Rattle.std.specs.List.{Contains, slice_split}
 use Rattle.std.specs.List.Sorted.{IsStrictlyIncreasing}
 use Rattle.gtd_roads.specs.Columns.{code_of}
@@ -46,7 +47,9 @@ items_of text = slice_split (λ b. b == 59) text
 abbrev pub listed : List ℕ → Option Vehicles
 listed [] = None
 listed (first ∷ rest) =
-    if first == 33 then option_map AllBut (codes_of (items_of rest)) else option_map Only (codes_of (items_of (first ∷ rest)))
+    if first == 33
+    then option_map AllBut (codes_of (items_of rest))
+    else option_map Only (codes_of (items_of (first ∷ rest)))
 
 -- the type that is named alone
 abbrev pub single : List ℕ → Option Vehicles

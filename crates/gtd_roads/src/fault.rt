@@ -8,7 +8,8 @@ use gtd_devices::InputFault;
 use std::alloc::{AllocError, AllocFailed};
 use thiserror::Error;
 
-/// Why a record file is not read. Rows are numbered from 1, after the header.
+/// Why a record file is not read. The variants stand in the order of their numbers, which begin at 1. Rows are numbered
+/// from 1, after the header.
 #[derive(Clone, Copy, Debug, PartialEq, Eq, Error)]
 pub enum RecordFault {
     /// The input failed.

@@ -38,7 +38,9 @@ impl Model for Record {
 
     ghost coded = { restriction_code };
 
-    ghost view = { λ a. record { element = a.element; closed = a.closed; vehicles = a.vehicles; domain = option_map domain_tree a.domain } };
+    ghost view = { λ a. record {
+        element = a.element; closed = a.closed; vehicles = a.vehicles; domain = option_map domain_tree a.domain
+    } };
 }
 
 impl Record {

@@ -29,8 +29,9 @@ fn open_seconds(
     Cursor::outside(alloc, closed, horizon)
 }
 
-/// The seconds of the horizon in which no record closes the element in the direction for the vehicle type, which is from
-/// 1 to 99. An element that no record names is open throughout. Only want of memory is refused.
+/// The seconds of the horizon in which no record closes the element in the direction for the vehicle type, which is
+/// from 1 to 99. An element that no record names is open throughout. `AllocError` is answered only where memory was
+/// refused.
 pub fn schedule_of(
     alloc: Global,
     records: &Records,

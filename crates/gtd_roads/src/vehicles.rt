@@ -3,7 +3,8 @@
 ghost use Rattle.std.specs.Prelude.{◌≡◌, ◌↔◌, IsTrue, IfOk, option_map};
 ghost use Rattle.std.specs.List.{Contains};
 ghost use Rattle.gtd_roads.specs.Columns.{code_of};
-ghost use Rattle.gtd_roads.specs.Vehicles.{IsAscending, IsCodes, IsRead, Serves, codes_of, is_zero, items_of, listed, single, type_of, vehicles_of};
+ghost use Rattle.gtd_roads.specs.Vehicles.{IsAscending, IsCodes, IsRead, Serves};
+ghost use Rattle.gtd_roads.specs.Vehicles.{codes_of, is_zero, items_of, listed, single, type_of, vehicles_of};
 
 use crate::column::read_code;
 use std::alloc::{AllocError, Global};
