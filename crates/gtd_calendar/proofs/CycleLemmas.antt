@@ -5,7 +5,7 @@ use Rattle.std.specs.Int.{int_div_euclid, int_rem_euclid}
 use Rattle.jiff_core.proofs.SignedLemmas.{signed_arith, one_part}
 use Rattle.gtd_core.specs.declared.duration.DurationParts.{DurationParts}
 use Rattle.gtd_core.specs.DurationBound.{clock_seconds}
-use Rattle.gtd_calendar.specs.Calendar.{is_leap_year, month_length, days_of_months, first_day, day_number, IsDate, IsDateOf, year_of, month_of, day_of_month, place_in_year, weekday_of, thursday_of, week_of, week_year_of}
+use Rattle.gtd_calendar.specs.Calendar.{is_leap_year, year_length, IsWeekOf, month_length, days_of_months, first_day, day_number, IsDate, IsDateOf, year_of, month_of, day_of_month, place_in_year, weekday_of, thursday_of, week_of, week_year_of}
 use Rattle.gtd_calendar.specs.Clock.{day_of_second, second_of_day, month_count, counted_year, counted_month, day_in_month, months_later, stop}
 use Rattle.gtd_calendar.proofs.YearLemmas.{first_day-cycle}
 use Rattle.gtd_calendar.proofs.DateLemmas.{date_of-is, date_of-only, place_in_year-is}
@@ -35,12 +35,15 @@ day_number-cycle y m d =
     moved : (a : ℤ) (k : ℕ) → (a +ℤ pos 146_097) +ℤ pos k ≡ (a +ℤ pos k) +ℤ pos 146_097
     moved a k = omega (arith, signed_arith)
 
+pub date-cycle : (n y : ℤ) (m d : ℕ) → IsDateOf n y m d → IsDateOf (n +ℤ pos 146_097) (y +ℤ pos 400) m d
+date-cycle n y m d h =
+    ((h.0.0, (h.0.1.0, rw (month_length-cycle y m) h.0.1.1)), ap (λ (z : ℤ). z +ℤ pos 146_097) h.1 ∙ sym (day_number-cycle y m d))
+
 -- the same date, four hundred years on
 pub date_of-cycle : (n : ℤ) → (year_of (n +ℤ pos 146_097) ≡ year_of n +ℤ pos 400) × (month_of (n +ℤ pos 146_097) ≡ month_of n) × (day_of_month (n +ℤ pos 146_097) ≡ day_of_month n)
 date_of-cycle n =
     let is = date_of-is n in
-    let on = date_of-only (n +ℤ pos 146_097) (year_of n +ℤ pos 400) (month_of n) (day_of_month n)
-    ((is.0.0, (is.0.1.0, rw (month_length-cycle (year_of n) (month_of n)) is.0.1.1)), ap (λ (z : ℤ). z +ℤ pos 146_097) is.1 ∙ sym (day_number-cycle (year_of n) (month_of n) (day_of_month n))) in
+    let on = date_of-only (n +ℤ pos 146_097) (year_of n +ℤ pos 400) (month_of n) (day_of_month n) (date-cycle n (year_of n) (month_of n) (day_of_month n) is) in
     (sym on.0, sym on.1, sym on.2)
 
 pub weekday_of-cycle : (n : ℤ) → weekday_of (n +ℤ pos 146_097) ≡ weekday_of n
@@ -63,6 +66,22 @@ place_in_year-cycle n =
 
 pub week_of-cycle : (n : ℤ) → (week_of (n +ℤ pos 146_097) ≡ week_of n) × (week_year_of (n +ℤ pos 146_097) ≡ week_year_of n +ℤ pos 400)
 week_of-cycle n = (rw (thursday_of-cycle n, place_in_year-cycle (thursday_of n)), rw (thursday_of-cycle n) (date_of-cycle (thursday_of n)).0)
+
+year_length-cycle : (y : ℤ) → year_length (y +ℤ pos 400) ≡ year_length y
+year_length-cycle y = rw (is_leap_year-cycle y) refl
+
+-- the same week, four hundred years on
+pub week-cycle : (n y : ℤ) (w : ℕ) → IsWeekOf n y w → IsWeekOf (n +ℤ pos 146_097) (y +ℤ pos 400) w
+week-cycle n y w h =
+    record {
+      k = h.k;
+      in_year = rw (year_length-cycle y) h.in_year;
+      thursday = rw (thursday_of-cycle n, first_day-cycle y) (moved (thursday_of n) (first_day y) h.k h.thursday);
+      number = h.number;
+    }
+  where
+    moved : (n a : ℤ) (k : ℕ) → n ≡ a +ℤ pos k → n +ℤ pos 146_097 ≡ (a +ℤ pos 146_097) +ℤ pos k
+    moved n a k e = omega (arith, signed_arith)
 
 pub day_of_second-cycle : (s : ℤ) → (day_of_second (s +ℤ pos 12_622_780_800) ≡ day_of_second s +ℤ pos 146_097) × (second_of_day (s +ℤ pos 12_622_780_800) ≡ second_of_day s)
 day_of_second-cycle s =

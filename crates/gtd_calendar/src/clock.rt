@@ -1,23 +1,25 @@
-//! Seconds, and the ends of stretches.
+//! Seconds of days, and the ends of stretches.
+
 ghost use Rattle.std.specs.Prelude.{◌≡◌, ◌+◌, ◌*◌, ◌<◌, ◌≤◌, pos, ◌+ℤ◌, ◌≤ℤ◌};
 ghost use Rattle.jiff_core.specs.Calendar.{IsEpochDay};
 ghost use Rattle.gtd_core.specs.DurationBound.{bound_of};
 ghost use Rattle.gtd_core.specs.Parts.{duration_parts};
 ghost use Rattle.gtd_calendar.specs.Calendar.{IsCalendarDay};
+ghost use Rattle.gtd_calendar.specs.Clock.{IsStop};
 ghost use Rattle.gtd_calendar.specs.Clock as spec;
 
 use crate::day::date_of;
 use gtd_core::{Duration, Sec};
 use jiff_core::civil::Date;
 
-/// The day of a second.
+/// The number of the day that a second is on.
 pub fn day_of_sec(second: Sec) -> i64
-    ensures { result ≡ spec.day_of_second second.0 }
+    ensures value { result ≡ spec.day_of_second second.0 }
 {
-    second.0.div_euclid(86_400)
+    second.day()
 }
 
-/// The place of a second in its day.
+/// How many seconds of its day come before a second: 0 to 86,399.
 pub fn second_of_day(second: Sec) -> u32
     ensures value { result ≡ spec.second_of_day second.0 }
     ensures bound { result < 86_400 }
@@ -25,7 +27,7 @@ pub fn second_of_day(second: Sec) -> u32
     second.0.rem_euclid(86_400) as u32
 }
 
-// The day that many months later, cut to the last of the month.
+// The day that many months later, the day of the month cut to the last one of the month reached.
 fn months_later(day: i64, months: u32) -> i64
     requires day_in { IsCalendarDay day }
     requires months_in { months ≤ 1200 }
@@ -38,9 +40,14 @@ fn months_later(day: i64, months: u32) -> i64
     i64::from(moved.to_unix_epoch_day())
 }
 
-/// The end of a stretch that begins at a second.
+/// The second after the last one of the stretch that begins at a second, whose day the caller keeps from 1800-01-01 to
+/// 2799-12-31.
+///
+/// The date is moved by the years and months in one step, its day cut to the last one of the month reached; then by the
+/// weeks and days; the clock is kept, and the hours, minutes and seconds are added.
 pub fn end_of(start: Sec, duration: &Duration) -> Sec
     requires { IsCalendarDay (spec.day_of_second start.0) }
+    ensures stop { IsStop (duration_parts duration.now) start.0 result.0 }
     ensures value { result.0 ≡ spec.stop (duration_parts duration.now) start.0 }
     ensures later { start.0 ≤ℤ result.0 }
     ensures within_bound { result.0 ≤ℤ (start.0 +ℤ pos (bound_of (duration_parts duration.now))) }

@@ -1,2 +1,4 @@
-pub mod Unions
 pub mod Repeats
+pub mod Shapes
+pub mod Streams
+pub mod Unions

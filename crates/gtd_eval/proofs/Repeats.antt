@@ -7,7 +7,7 @@ use Rattle.gtd_core.specs.Interval.{Interval}
 use Rattle.gtd_spans.specs.Normal.{Holds}
 use Rattle.gtd_spans.specs.NormalFor.{IsNormalFor, combined-both}
 use Rattle.gtd_spans.specs.Change.{SameAt, NeverChanges, IsNextChange}
-use Rattle.gtd_eval.specs.Basics.{is_covered-repeats}
+use Rattle.gtd_recur.proofs.CycleLemmas.{in_stretches-forward, in_stretches-back}
 use Rattle.gtd_eval.specs.Membership.{InTree, SomeGivesYear}
 use Rattle.gtd_core.specs.Trees.{Tree, Single, Joined}
 use Rattle.gtd_eval.specs.Ever.{NeverChangesAfter, IsFirstChange, cycle}
@@ -17,7 +17,9 @@ no-year None n = refl
 no-year (Some k) n = absurd (n refl)
 
 pub tree-repeats : (e : Tree) (t : ℤ) → (SomeGivesYear e → ⊥) → InTree e t ↔ InTree e (t +ℤ cycle)
-tree-repeats (Single start duration) t n = is_covered-repeats start duration t (no-year start.year n)
+tree-repeats (Single start duration) t n =
+    let none : start.year ≡ None = no-year start.year n in
+    (in_stretches-forward start duration t none, in_stretches-back start duration t none)
 tree-repeats (Joined op left right) t n =
     combined-both op _ _ _ _ (tree-repeats left t (λ h. n (inl h))) (tree-repeats right t (λ h. n (inr h)))
 

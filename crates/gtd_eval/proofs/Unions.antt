@@ -7,7 +7,7 @@ use Rattle.gtd_spans.specs.Normal.{Holds}
 use Rattle.gtd_spans.specs.Combine.{combine}
 use Rattle.gtd_spans.specs.Combining.{combine-holds}
 use Rattle.gtd_eval.specs.Nodes.{node_list, node_count, node_height, node_work}
-use Rattle.gtd_eval.specs.Cursors.{SomeHolds, nodes_of, work_of, NoneHigher, IsUnionOf}
+use Rattle.gtd_eval.specs.Cursors.{SomeHolds, total_nodes, total_work, NoneHigher, IsUnionOf}
 use Rattle.gtd_eval.specs.CursorFacts.{some-append, nodes-append, work-append, higher-append}
 use Rattle.gtd_eval.specs.declared.node.Node.{Node}
 use Rattle.gtd_eval.specs.declared.cursor.Cursor.{Cursor}
@@ -23,10 +23,10 @@ two-seconds ls rs l r xs e u v t =
     )
 
 pub two-nodes : (ls rs : List Cursor) (l r : Node) → IsUnionOf ls l → IsUnionOf rs r
-    → (1 + node_count l + node_count r) + 1 ≡ nodes_of (ls ++ rs) + length (ls ++ rs)
+    → (1 + node_count l + node_count r) + 1 ≡ total_nodes (ls ++ rs) + length (ls ++ rs)
 two-nodes ls rs l r u v = omega (arith, u.nodes, v.nodes, nodes-append ls rs, length-append ls rs)
 
-pub two-work : (ls rs : List Cursor) (l r : Node) → IsUnionOf ls l → IsUnionOf rs r → node_work l + node_work r ≡ work_of (ls ++ rs)
+pub two-work : (ls rs : List Cursor) (l r : Node) → IsUnionOf ls l → IsUnionOf rs r → node_work l + node_work r ≡ total_work (ls ++ rs)
 two-work ls rs l r u v = omega (arith, u.work, v.work, work-append ls rs)
 
 double : (j : ℕ) → 2 ^ (suc j) ≡ 2 * 2 ^ j

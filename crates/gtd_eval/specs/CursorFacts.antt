@@ -3,7 +3,7 @@ use Rattle.std.proofs.Common.{◌≡◌, ◌⊎◌, ◌↔◌, ℕ, ◌+◌, Lis
 use Rattle.std.specs.Prelude.{ℤ}
 use Rattle.gtd_spans.specs.Normal.{IsNormal}
 use Rattle.gtd_eval.specs.NodeFacts.{node_list-normal}
-use Rattle.gtd_eval.specs.Cursors.{cursor_list, SomeHolds, nodes_of, work_of, NoneHigher}
+use Rattle.gtd_eval.specs.Cursors.{cursor_list, SomeHolds, total_nodes, total_work, NoneHigher}
 use Rattle.gtd_eval.specs.declared.cursor.Cursor.{Cursor}
 
 -- what a cursor has still to hand out is a normal list
@@ -17,11 +17,11 @@ some-append (a ∷ ls) rs t = let i = some-append ls rs t in (
   (λ h. elim h [ inl x ↦ elim x [ inl y ↦ inl y | inr z ↦ inr (i.1 (inl z)) ] | inr r ↦ inr (i.1 (inr r)) ]),
 )
 
-pub nodes-append : (ls rs : List Cursor) → nodes_of (ls ++ rs) ≡ nodes_of ls + nodes_of rs
+pub nodes-append : (ls rs : List Cursor) → total_nodes (ls ++ rs) ≡ total_nodes ls + total_nodes rs
 nodes-append [] rs = omega arith
 nodes-append (a ∷ ls) rs = omega (arith, nodes-append ls rs)
 
-pub work-append : (ls rs : List Cursor) → work_of (ls ++ rs) ≡ work_of ls + work_of rs
+pub work-append : (ls rs : List Cursor) → total_work (ls ++ rs) ≡ total_work ls + total_work rs
 work-append [] rs = omega arith
 work-append (a ∷ ls) rs = omega (arith, work-append ls rs)
 

@@ -39,14 +39,14 @@ SomeHolds [] t = ⊥
 SomeHolds (c ∷ cs) t = Holds (cursor_list c) t ⊎ SomeHolds cs t
 
 -- how many nodes the trees of the cursors have together
-abbrev pub nodes_of : List Cursor → ℕ
-nodes_of [] = 0
-nodes_of (c ∷ cs) = cursor_nodes c + nodes_of cs
+abbrev pub total_nodes : List Cursor → ℕ
+total_nodes [] = 0
+total_nodes (c ∷ cs) = cursor_nodes c + total_nodes cs
 
 -- the sum of the work of the cursors
-abbrev pub work_of : List Cursor → ℕ
-work_of [] = 0
-work_of (c ∷ cs) = cursor_work c + work_of cs
+abbrev pub total_work : List Cursor → ℕ
+total_work [] = 0
+total_work (c ∷ cs) = cursor_work c + total_work cs
 
 -- no tree of the cursors is higher than h
 abbrev pub NoneHigher : ℕ → List Cursor → Type 0
@@ -57,8 +57,8 @@ NoneHigher h (c ∷ cs) = (cursor_height c ≤ h) × NoneHigher h cs
 pub record IsUnionOf (cs : List Cursor) (n : Node) : Type 0 where
   pub sound : IsSound n
   pub seconds : (t : ℤ) → Holds (node_list n) t ↔ SomeHolds cs t
-  pub nodes : node_count n + 1 ≡ nodes_of cs + length cs
-  pub work : node_work n ≡ work_of cs
+  pub nodes : node_count n + 1 ≡ total_nodes cs + length cs
+  pub work : node_work n ≡ total_work cs
   pub height : (h k : ℕ) → NoneHigher h cs → length cs ≤ 2 ^ k → node_height n ≤ h + k
 
 -- the tree is the union of the last cursors of a list, so many of them, which were taken off it

@@ -1,4 +1,3 @@
-pub mod Basics
 pub mod CursorFacts
 pub mod Cursors
 pub mod Ever
@@ -7,7 +6,5 @@ pub mod Names
 pub mod NodeFacts
 pub mod Nodes
 pub mod NormalOver
-pub mod RunsWords
 pub mod Shape
 pub mod Single
-pub mod Work

@@ -6,16 +6,16 @@ use Rattle.gtd_core.specs.declared.domain.Expr.TheVariants.{Leaf as LeafExpr, Jo
 use Rattle.gtd_core.specs.declared.horizon.Horizon.{Horizon}
 use Rattle.gtd_spans.specs.Merging.{listed}
 use Rattle.gtd_spans.specs.Sweeping.{still, Fits, HasOneSide}
-use Rattle.gtd_eval.specs.RunsWords.{runs_list, runs_basic, runs_horizon, runs_ticks}
+use Rattle.gtd_recur.specs.RunsToCome.{runs_to_come, runs_basic, runs_horizon, runs_ticks}
 use Rattle.gtd_eval.specs.Shape.{Shape, fixed, runs, one, two, shape_nodes, shape_height, shape_work}
 use Rattle.gtd_eval.specs.Single.{IsSingle}
-use Rattle.gtd_eval.specs.Work.{basic_work}
+use Rattle.gtd_recur.specs.Work.{work_of}
 use Rattle.gtd_eval.specs.declared.node.Node.{Node, Fixed, Leaf, One', Two'}
 
 -- the normal list that the tree has still to hand out
 abbrev pub node_list : Node → List Interval
 node_list (Fixed span) = listed span
-node_list (Leaf leaf) = runs_list leaf
+node_list (Leaf leaf) = runs_to_come leaf
 node_list (One' sweep p inner) = still sweep (node_list inner) []
 node_list (Two' sweep p left q right) = still sweep (node_list left) (node_list right)
 
@@ -53,5 +53,5 @@ node_ticks (Two' sweep p left q right) = node_ticks left + node_ticks right
 
 -- the sum of the work of the basic domains of an expression in a horizon
 abbrev pub expr_work : Expr → Horizon → ℕ
-expr_work (LeafExpr basic) horizon = basic_work basic horizon
+expr_work (LeafExpr basic) horizon = work_of basic horizon
 expr_work (Join' op p left q right) horizon = expr_work left horizon + expr_work right horizon

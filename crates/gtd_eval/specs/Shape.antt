@@ -2,7 +2,7 @@
 use Rattle.std.specs.Prelude.{ℕ, ◌+◌, max}
 use Rattle.gtd_core.specs.declared.domain.Basic.{Basic}
 use Rattle.gtd_core.specs.declared.horizon.Horizon.{Horizon}
-use Rattle.gtd_eval.specs.Work.{basic_work}
+use Rattle.gtd_recur.specs.Work.{work_of}
 
 -- a fixed span or none; the runs of a basic domain in a horizon; a sweep over one side; a sweep over two sides
 pub data Shape : Type 0 where
@@ -28,6 +28,6 @@ shape_height (two left right) = 1 + max (shape_height left) (shape_height right)
 -- the sum of the work of its runs
 abbrev pub shape_work : Shape → ℕ
 shape_work fixed = 0
-shape_work (runs basic horizon) = basic_work basic horizon
+shape_work (runs basic horizon) = work_of basic horizon
 shape_work (one inner) = shape_work inner
 shape_work (two left right) = shape_work left + shape_work right

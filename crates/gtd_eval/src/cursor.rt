@@ -45,7 +45,7 @@ impl Cursor {
     ghost use Rattle.gtd_spans.specs.Normal.{Holds, IsNormal};
     ghost use Rattle.gtd_eval.specs.Membership.{InDomain};
     ghost use Rattle.gtd_eval.specs.NormalOver.{IsNormalOver};
-    ghost use Rattle.gtd_eval.specs.Cursors.{cursor_list, cursor_nodes, cursor_ticks, cursor_height, cursor_work, domain_work, SomeHolds, nodes_of, work_of, NoneHigher, IsUnionOfLast};
+    ghost use Rattle.gtd_eval.specs.Cursors.{cursor_list, cursor_nodes, cursor_ticks, cursor_height, cursor_work, domain_work, SomeHolds, total_nodes, total_work, NoneHigher, IsUnionOfLast};
 
     /// The cursor of the seconds of a domain in a horizon. For k basic domains it has 2k - 1 nodes.
     pub fn open(alloc: Global, domain: &Domain, horizon: Horizon) -> Result<Cursor, AllocError>
@@ -79,14 +79,14 @@ impl Cursor {
         mut cursors: Vec<Cursor>,
         _horizon: Horizon,
     ) -> Result<Cursor, AllocError>
-        requires few { nodes_of cursors.items + vec_len cursors ≤ 16777217 }
+        requires few { total_nodes cursors.items + vec_len cursors ≤ 16777217 }
         ensures seconds { IfOk result
             (λ c. (t : ℤ) → Holds (cursor_list c) t ↔ SomeHolds cursors.items t) }
         ensures normal { IfOk result (λ c. IsNormal (cursor_list c)) }
         ensures none { vec_len cursors ≡ 0 → IfOk result (λ c. cursor_nodes c ≡ 1) }
         ensures nodes { 0 < vec_len cursors → IfOk result
-            (λ c. cursor_nodes c + 1 ≡ nodes_of cursors.items + vec_len cursors) }
-        ensures work { IfOk result (λ c. cursor_work c ≡ work_of cursors.items) }
+            (λ c. cursor_nodes c + 1 ≡ total_nodes cursors.items + vec_len cursors) }
+        ensures work { IfOk result (λ c. cursor_work c ≡ total_work cursors.items) }
         ensures height { (h k : ℕ) → 0 < vec_len cursors → NoneHigher h cursors.items
             → vec_len cursors ≤ 2 ^ k → IfOk result (λ c. cursor_height c ≤ h + k) }
     {
@@ -108,7 +108,8 @@ impl Cursor {
     ) -> Result<Node, AllocError>
         requires some { 0 < count }
         requires enough { count ≤ vec_len cursors.old }
-        ensures { IfOk result (λ n. IsUnionOfLast count cursors.old.items n cursors.new.items) }
+        ensures union { IfOk result
+            (λ node. IsUnionOfLast count cursors.old.items node cursors.new.items) }
     {
         if count == 1 {
             return match cursors.pop() {
@@ -152,7 +153,7 @@ impl Cursor {
     /// work.
     pub fn ticks(&self) -> u64
         ensures sum { result ≡ cursor_ticks self.now }
-        ensures bounded { cursor_ticks self.now ≤ cursor_work self.now }
+        ensures at_most { result ≤ cursor_work self.now }
     {
         self.node.ticks()
     }

@@ -14,7 +14,8 @@ pub use over::{next_change, spans};
 mod cursor;
 mod ever;
 pub mod laws;
-mod leaf;
 mod membership;
 mod node;
 mod over;
+#[cfg(test)]
+mod tests;

@@ -1,7 +1,11 @@
 //! Trees of sweeps, which hand out spans one after another.
 
-use crate::leaf::Runs;
+ghost use Rattle.std.specs.Prelude.{◌≡◌, []};
+ghost use Rattle.gtd_spans.specs.Sweeping.{still, Fits, HasOneSide, Takes};
+ghost use Rattle.gtd_eval.specs.Nodes.{node_list, node_shape, IsSound};
+
 use gtd_core::{Expr, Horizon, Span};
+use gtd_recur::Runs;
 use gtd_spans::{Ask, SpanSource, Sweep};
 use std::alloc::{AllocError, Global};
 
@@ -48,6 +52,7 @@ impl Node {
     }
 
     /// Takes the first span off the list that is still to come.
+    #[cycle(next)]
     pub(crate) fn next(&mut self) -> Option<Span>
         requires sound { IsSound self.old }
         ensures sound { IsSound self.new }
@@ -57,31 +62,8 @@ impl Node {
         match self {
             Node::Fixed(span) => span.take(),
             Node::Leaf(runs) => runs.next(),
-            Node::One(sweep, inner) => loop {
-                match sweep.step() {
-                    Ask::Left => {
-                        let told = inner.next();
-                        sweep.tell(told);
-                    }
-                    Ask::Right => unreachable!(),
-                    Ask::Give(x) => return Some(x),
-                    Ask::End => return None,
-                }
-            },
-            Node::Two(sweep, left, right) => loop {
-                match sweep.step() {
-                    Ask::Left => {
-                        let told = left.next();
-                        sweep.tell(told);
-                    }
-                    Ask::Right => {
-                        let told = right.next();
-                        sweep.tell(told);
-                    }
-                    Ask::Give(x) => return Some(x),
-                    Ask::End => return None,
-                }
-            },
+            Node::One(sweep, inner) => next_of_one(sweep, inner),
+            Node::Two(sweep, left, right) => next_of_two(sweep, left, right),
         }
     }
 
@@ -101,12 +83,69 @@ impl Node {
     pub(crate) fn ticks(&self) -> u64
         requires few { node_count self.now ≤ 16777216 }
         ensures value { result ≡ node_ticks self.now }
+        ensures at_most { result ≤ node_work self.now }
     {
         match self {
             Node::Fixed(_) => 0,
             Node::Leaf(runs) => runs.ticks(),
             Node::One(_, inner) => inner.ticks(),
             Node::Two(_, left, right) => left.ticks() + right.ticks(),
+        }
+    }
+}
+
+// The next span of a sweep over one side.
+#[cycle(next)]
+fn next_of_one(sweep: &mut Sweep, inner: &mut Node) -> Option<Span>
+    requires one_side { HasOneSide sweep.old }
+    requires fits { Fits sweep.old (node_list inner.old) [] }
+    requires sound { IsSound inner.old }
+    ensures one_side { HasOneSide sweep.new }
+    ensures fits { Fits sweep.new (node_list inner.new) [] }
+    ensures sound { IsSound inner.new }
+    ensures takes { Takes (still sweep.old (node_list inner.old) []) result
+        (still sweep.new (node_list inner.new) []) }
+    ensures shape { node_shape inner.new ≡ node_shape inner.old }
+{
+    loop {
+        match sweep.step() {
+            Ask::Left => {
+                let told = inner.next();
+                sweep.tell(told);
+            }
+            Ask::Right => unreachable!(),
+            Ask::Give(span) => return Some(span),
+            Ask::End => return None,
+        }
+    }
+}
+
+// The next span of a sweep over two sides.
+#[cycle(next)]
+fn next_of_two(sweep: &mut Sweep, left: &mut Node, right: &mut Node) -> Option<Span>
+    requires fits { Fits sweep.old (node_list left.old) (node_list right.old) }
+    requires left_sound { IsSound left.old }
+    requires right_sound { IsSound right.old }
+    ensures fits { Fits sweep.new (node_list left.new) (node_list right.new) }
+    ensures left_sound { IsSound left.new }
+    ensures right_sound { IsSound right.new }
+    ensures takes { Takes (still sweep.old (node_list left.old) (node_list right.old)) result
+        (still sweep.new (node_list left.new) (node_list right.new)) }
+    ensures left_shape { node_shape left.new ≡ node_shape left.old }
+    ensures right_shape { node_shape right.new ≡ node_shape right.old }
+{
+    loop {
+        match sweep.step() {
+            Ask::Left => {
+                let told = left.next();
+                sweep.tell(told);
+            }
+            Ask::Right => {
+                let told = right.next();
+                sweep.tell(told);
+            }
+            Ask::Give(span) => return Some(span),
+            Ask::End => return None,
         }
     }
 }

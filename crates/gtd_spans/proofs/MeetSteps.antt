@@ -37,11 +37,11 @@ minus-keeps None h = refl
 minus-keeps (Some x) h = absurd h
 
 abbrev pub moved : Merge → Side → Side → Merge
-moved s a b = record { op = s.op; left = a; right = b; out = s.out }
+moved s a b = record { op = s.op; left = a; right = b; kept = s.kept }
 
 -- a step of a merge that keeps nothing back
 pub moved-on : (op : Op) (s : Merge) (a b : Side) (g : Option Interval) (l r : List Interval)
-    → s.op ≡ op → s.out ≡ None → Fits s l r → IsNormal (side_list a l) → IsNormal (side_list b r)
+    → s.op ≡ op → s.kept ≡ None → Fits s l r → IsNormal (side_list a l) → IsNormal (side_list b r)
     → Handed g (combine op (side_list s.left l) (side_list s.right r)) (combine op (side_list a l) (side_list b r))
     → Fits (moved s a b) l r × Handed g (still s l r) (still (moved s a b) l r)
 moved-on op s a b g l r e none f n m h = (
@@ -140,7 +140,7 @@ meet-ends x y (Some m) h = ((h.0, h.1), (h.0, h.2))
 
 -- a step that takes from the two intervals held, by what it does to lists
 pub step-by : (op : Op) (s : Merge) (x y : Interval) (a b : Side) (g : Option Interval)
-    → s.op ≡ op → (OnlyUnionKeeps op s.out → s.out ≡ None) → s.left ≡ Held x → s.right ≡ Held y
+    → s.op ≡ op → (OnlyUnionKeeps op s.kept → s.kept ≡ None) → s.left ≡ Held x → s.right ≡ Held y
     → ((l r : List Interval) → IsNormal (x ∷ l) → IsNormal (y ∷ r)
     → IsNormal (side_list a l) × IsNormal (side_list b r)
     × Handed g (combine op (x ∷ l) (y ∷ r)) (combine op (side_list a l) (side_list b r)))
@@ -148,7 +148,7 @@ pub step-by : (op : Op) (s : Merge) (x y : Interval) (a b : Side) (g : Option In
 step-by op s x y a b g e none hl hr by l r f =
     let n : IsNormal (x ∷ l) = rw hl at f.left in
     let m : IsNormal (y ∷ r) = rw hr at f.right in
-    let k : OnlyUnionKeeps op s.out = rw e at f.keeps in
+    let k : OnlyUnionKeeps op s.kept = rw e at f.keeps in
     let z = by l r n m in
     moved-on op s a b g l r e (none k) f z.0 z.1 (rw (hl, hr) z.2)
 

@@ -141,45 +141,45 @@ IsJoined o x g kept =
     × (kept.from <ℤ kept.until)
 
 abbrev left_taken : Merge → Interval → Merge
-left_taken s kept = record { op = s.op; left = Open; right = s.right; out = Some kept }
+left_taken s kept = record { op = s.op; left = Open; right = s.right; kept = Some kept }
 
 abbrev right_taken : Merge → Interval → Merge
-right_taken s kept = record { op = s.op; left = s.left; right = Open; out = Some kept }
+right_taken s kept = record { op = s.op; left = s.left; right = Open; kept = Some kept }
 
 pub took-left : (s : Merge) (x : Interval) (g : Option Interval) (kept : Interval)
-    → s.op ≡ Union → s.left ≡ Held x → IsJoined s.out x g kept
+    → s.op ≡ Union → s.left ≡ Held x → IsJoined s.kept x g kept
     → (l r : List Interval) → AllBeginFrom x.from (side_list s.right r) → Fits s l r
     → Fits (left_taken s kept) l r × Handed g (still s l r) (still (left_taken s kept) l r)
 took-left s x g kept op held j l r first f =
     let n : IsNormal (x ∷ l) = rw held at f.left in
-    let k : KeptFits s.out (x ∷ l) (side_list s.right r) = rw held at f.kept in
-    let begins : IfSome s.out (λ k. k.from ≤ℤ x.from) = kept-left s.out x l _ k in
+    let k : KeptFits s.kept (x ∷ l) (side_list s.right r) = rw held at f.kept in
+    let begins : IfSome s.kept (λ k. k.from ≤ℤ x.from) = kept-left s.kept x l _ k in
     let le : kept.from ≤ℤ x.from = j.2 begins in
     let fl : AllBeginFrom kept.from l = from-weaken x.from kept.from l le (normal-begins x l n).1 in
     let fr : AllBeginFrom kept.from (side_list s.right r) = from-weaken x.from kept.from _ le first in (
       record { left = n.2; right = f.right; kept = (j.3, fl, fr); keeps = rw op tt },
       rw (op, held) (handed g kept l (side_list s.right r) _ (combine-normal _ _ _) j.1 fl fr
-          (moved s.out g x kept l (side_list s.right r) _ (old-left s.out x l (side_list s.right r)) (j.0 begins))),
+          (moved s.kept g x kept l (side_list s.right r) _ (old-left s.kept x l (side_list s.right r)) (j.0 begins))),
     )
 
 pub took-right : (s : Merge) (x : Interval) (g : Option Interval) (kept : Interval)
-    → s.op ≡ Union → s.right ≡ Held x → IsJoined s.out x g kept
+    → s.op ≡ Union → s.right ≡ Held x → IsJoined s.kept x g kept
     → (l r : List Interval) → AllBeginFrom x.from (side_list s.left l) → Fits s l r
     → Fits (right_taken s kept) l r × Handed g (still s l r) (still (right_taken s kept) l r)
 took-right s x g kept op held j l r first f =
     let n : IsNormal (x ∷ r) = rw held at f.right in
-    let k : KeptFits s.out (side_list s.left l) (x ∷ r) = rw held at f.kept in
-    let begins : IfSome s.out (λ k. k.from ≤ℤ x.from) = kept-right s.out x _ r k in
+    let k : KeptFits s.kept (side_list s.left l) (x ∷ r) = rw held at f.kept in
+    let begins : IfSome s.kept (λ k. k.from ≤ℤ x.from) = kept-right s.kept x _ r k in
     let le : kept.from ≤ℤ x.from = j.2 begins in
     let fr : AllBeginFrom kept.from r = from-weaken x.from kept.from r le (normal-begins x r n).1 in
     let fl : AllBeginFrom kept.from (side_list s.left l) = from-weaken x.from kept.from _ le first in (
       record { left = f.left; right = n.2; kept = (j.3, fl, fr); keeps = rw op tt },
       rw (op, held) (handed g kept (side_list s.left l) r _ (combine-normal _ _ _) j.1 fl fr
-          (moved s.out g x kept (side_list s.left l) r _ (old-right s.out x (side_list s.left l) r) (j.0 begins))),
+          (moved s.kept g x kept (side_list s.left l) r _ (old-right s.kept x (side_list s.left l) r) (j.0 begins))),
     )
 
 abbrev kept_taken : Merge → Merge
-kept_taken s = record { op = s.op; left = s.left; right = s.right; out = None }
+kept_taken s = record { op = s.op; left = s.left; right = s.right; kept = None }
 
 nothing-left : combine Union [] (combine Union [] []) ≡ []
 nothing-left = one-list _ [] (combine-normal _ _ _) tt
@@ -195,10 +195,10 @@ handed-kept (Some x) k = rw nothing-left (first-off x _ [] (combine-normal _ _ _
 -- both sides have ended
 pub took-kept : (s : Merge) → s.op ≡ Union → s.left ≡ Ended → s.right ≡ Ended
     → (l r : List Interval) → Fits s l r
-    → Fits (kept_taken s) l r × Handed s.out (still s l r) (still (kept_taken s) l r) × (still (kept_taken s) l r ≡ [])
+    → Fits (kept_taken s) l r × Handed s.kept (still s l r) (still (kept_taken s) l r) × (still (kept_taken s) l r ≡ [])
 took-kept s op el er l r f =
-    let k : KeptFits s.out [] [] = rw (el, er) at f.kept in
-    (record { left = f.left; right = f.right; kept = tt; keeps = rw op tt }, rw (op, el, er) (handed-kept s.out k), rw (op, el, er) nothing-left)
+    let k : KeptFits s.kept [] [] = rw (el, er) at f.kept in
+    (record { left = f.left; right = f.right; kept = tt; keeps = rw op tt }, rw (op, el, er) (handed-kept s.kept k), rw (op, el, er) nothing-left)
 
 pub handed-as : (g h : Option Interval) (old new : List Interval) → g ≡ h → Handed g old new → Handed h old new
 handed-as g h old new e k = let P : Option Interval → Type 0 = λ o. Handed o old new in subst P e k

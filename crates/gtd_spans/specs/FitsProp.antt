@@ -37,6 +37,6 @@ Fits-prop s l r =
       props,
       IsNormal-prop (side_list s.left l),
       IsNormal-prop (side_list s.right r),
-      KeptFits-prop s.out (side_list s.left l) (side_list s.right r),
-      OnlyUnionKeeps-prop s.op s.out,
+      KeptFits-prop s.kept (side_list s.left l) (side_list s.right r),
+      OnlyUnionKeeps-prop s.op s.kept,
     )

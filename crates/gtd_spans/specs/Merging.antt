@@ -25,7 +25,7 @@ side_list Ended l = []
 
 -- the normal list that a merge has still to hand out, where its sides still give l and r
 abbrev pub still : Merge → List Interval → List Interval → List Interval
-still s l r = combine Union (listed s.out) (combine s.op (side_list s.left l) (side_list s.right r))
+still s l r = combine Union (listed s.kept) (combine s.op (side_list s.left l) (side_list s.right r))
 
 -- no side has an interval that begins before the one that is kept back
 abbrev pub KeptFits : Option Interval → List Interval → List Interval → Type 0
@@ -44,8 +44,8 @@ OnlyUnionKeeps Minus (Some x) = ⊥
 pub record Fits (s : Merge) (l r : List Interval) : Type 0 where
   pub left : IsNormal (side_list s.left l)
   pub right : IsNormal (side_list s.right r)
-  pub kept : KeptFits s.out (side_list s.left l) (side_list s.right r)
-  pub keeps : OnlyUnionKeeps s.op s.out
+  pub kept : KeptFits s.kept (side_list s.left l) (side_list s.right r)
+  pub keeps : OnlyUnionKeeps s.op s.kept
 
 -- between the two states nothing was handed out
 abbrev pub Keeps : Merge → Merge → Type 0

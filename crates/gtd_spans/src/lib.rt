@@ -23,3 +23,5 @@ mod merge;
 mod operations;
 mod source;
 mod sweep;
+#[cfg(test)]
+mod tests;

@@ -34,14 +34,13 @@ pub enum Ask {
     End,
 }
 
-/// A set operator over two sides. Of the span of a union that is taken first nothing is handed out before it is known
-/// that neither side reaches it: until then it is in `out`.
+/// A set operator over two sides. A union keeps its latest span back until it is known that neither side reaches it.
 #[derive(Clone, Copy, Debug)]
 pub(crate) struct Merge {
     op: Op,
     left: Side,
     right: Side,
-    out: Option<Span>,
+    kept: Option<Span>,
 }
 
 /// What is handed out, and what is kept back, once `next` comes after `kept`.
@@ -78,7 +77,7 @@ impl Merge {
             op,
             left: Side::Open,
             right: Side::Open,
-            out: None,
+            kept: None,
         }
     }
 
@@ -158,7 +157,7 @@ impl Merge {
         ensures steps { Steps self.old result self.new }
         ensures ended { SameEnded self.old self.new }
     {
-        match self.out.take() {
+        match self.kept.take() {
             Some(x) => Ask::Give(x),
             None => Ask::End,
         }
@@ -175,8 +174,8 @@ impl Merge {
         ensures steps { Steps self.old result self.new }
         ensures ended { SameEnded self.old self.new }
     {
-        let (given, kept) = joined(self.out, x);
-        self.out = Some(kept);
+        let (given, kept) = joined(self.kept, x);
+        self.kept = Some(kept);
         self.left = Side::Open;
         match given {
             Some(given) => Ask::Give(given),
@@ -195,8 +194,8 @@ impl Merge {
         ensures steps { Steps self.old result self.new }
         ensures ended { SameEnded self.old self.new }
     {
-        let (given, kept) = joined(self.out, x);
-        self.out = Some(kept);
+        let (given, kept) = joined(self.kept, x);
+        self.kept = Some(kept);
         self.right = Side::Open;
         match given {
             Some(given) => Ask::Give(given),
@@ -316,7 +315,7 @@ impl Merge {
             op: Op::Minus,
             left: Side::Held(span),
             right: Side::Open,
-            out: None,
+            kept: None,
         }
     }
 

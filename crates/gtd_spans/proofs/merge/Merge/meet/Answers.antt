@@ -14,14 +14,14 @@ met-left : (s : Merge) (x y : Interval) (g : Option Interval) → s.op ≡ Meet 
     → x.until ≤ℤ y.until → ((t : ℤ) → Holds (listed g) t ↔ (Within x t × Within y t))
     → IfSome g (λ m. (m.from <ℤ m.until) × (m.until ≤ℤ x.until)) → (l r : List Interval) → Fits s l r
     → Fits (moved s Open s.right) l r × Handed g (still s l r) (still (moved s Open s.right) l r)
-met-left s x y g e hl hr le both ends = step-by Meet s x y Open s.right g e (meet-keeps s.out) hl hr
+met-left s x y g e hl hr le both ends = step-by Meet s x y Open s.right g e (meet-keeps s.kept) hl hr
     (λ l r n m. (n.2, rw hr m, rw hr (meet-left x y l r g n m le both ends)))
 
 met-right : (s : Merge) (x y : Interval) (g : Option Interval) → s.op ≡ Meet → s.left ≡ Held x → s.right ≡ Held y
     → y.until ≤ℤ x.until → ((t : ℤ) → Holds (listed g) t ↔ (Within x t × Within y t))
     → IfSome g (λ m. (m.from <ℤ m.until) × (m.until ≤ℤ y.until)) → (l r : List Interval) → Fits s l r
     → Fits (moved s s.left Open) l r × Handed g (still s l r) (still (moved s s.left Open) l r)
-met-right s x y g e hl hr le both ends = step-by Meet s x y s.left Open g e (meet-keeps s.out) hl hr
+met-right s x y g e hl hr le both ends = step-by Meet s x y s.left Open g e (meet-keeps s.kept) hl hr
     (λ l r n m. (rw hl n, m.2, rw hl (meet-right x y l r g n m le both ends)))
 
 pub returns-in-Some-clause-steps : goal.returns-in-Some-clause-steps

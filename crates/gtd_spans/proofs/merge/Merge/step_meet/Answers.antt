@@ -7,7 +7,7 @@ pub returns-in-Ended-right-clause-steps : goal.returns-in-Ended-right-clause-ste
 returns-in-Ended-right-clause-steps c = (
   (λ l r f. (f, refl)),
   (λ l r f.
-      let none : c.args.self.now.out ≡ None = meet-keeps c.args.self.now.out (rw c.requires.op at f.keeps) in
+      let none : c.args.self.now.kept ≡ None = meet-keeps c.args.self.now.kept (rw c.requires.op at f.keeps) in
       rw (none, c.requires.op, c.in-Ended-right.is, meet-nothing) (union-nil [] tt)),
 )
 
@@ -15,6 +15,6 @@ pub returns-in-Ended-clause-steps : goal.returns-in-Ended-clause-steps
 returns-in-Ended-clause-steps c = (
   (λ l r f. (f, refl)),
   (λ l r f.
-      let none : c.args.self.now.out ≡ None = meet-keeps c.args.self.now.out (rw c.requires.op at f.keeps) in
+      let none : c.args.self.now.kept ≡ None = meet-keeps c.args.self.now.kept (rw c.requires.op at f.keeps) in
       rw (none, c.requires.op, c.in-Ended.is, nothing-meet) (union-nil [] tt)),
 )
