@@ -5,7 +5,7 @@ use Rattle.std.specs.List.Sorted.{IsNonDecreasingBy}
 use Rattle.gtd_core.specs.Interval.{Within}
 use Rattle.gtd_core.specs.Whole.{whole}
 use Rattle.gtd_core.specs.declared.horizon.Horizon.{Horizon}
-use Rattle.gtd_eval.specs.Cursors.{SomeHolds, nodes_of}
+use Rattle.gtd_eval.specs.Cursors.{SomeHolds, total_nodes}
 use Rattle.gtd_eval.specs.declared.cursor.Cursor.{Cursor}
 use Rattle.gtd_roads.specs.Closing.{AreElements, IsClosed, IsOpen}
 use Rattle.gtd_roads.specs.Restriction.{Restriction}
@@ -34,7 +34,7 @@ pub record IsIndexed (rows : List Restriction) (places : List Place) (elements :
 -- type, and few enough nodes to be united and complemented.
 pub record AreClosing (rows : List Restriction) (element : ℕ) (direction : Direction) (vehicle : ℕ)
     (horizon : Horizon) (cursors : List Cursor) : Type 0 where
-  pub few : nodes_of cursors + length cursors ≤ 16777216
+  pub few : total_nodes cursors + length cursors ≤ 16777216
   pub sound : (t : ℤ) → SomeHolds cursors t → IsClosed rows element direction vehicle t
   pub complete : (t : ℤ) → Within (whole horizon) t → (SomeHolds cursors t → ⊥)
       → IsOpen rows element direction vehicle t

@@ -3,7 +3,7 @@
 ghost use Rattle.std.specs.Prelude.{◌≡◌, ◌↔◌, ◌<◌, ◌≤◌, ℕ, List, length, map, IfOk, IsTrue};
 ghost use Rattle.std.specs.List.{AllWithin};
 ghost use Rattle.std.specs.List.Sorted.{IsNonDecreasingBy, IsStrictlyIncreasing};
-ghost use Rattle.gtd_eval.specs.Basics.{IsHorizonDay};
+ghost use Rattle.gtd_recur.specs.Membership.{IsHorizonSecond};
 ghost use Rattle.gtd_roads.specs.Closing.{AreElements, IsClosed};
 ghost use Rattle.gtd_roads.specs.Index.{AreClosing, ArePlaces};
 ghost use Rattle.gtd_roads.specs.Vehicles.{IsAscending};
@@ -115,7 +115,7 @@ impl Records {
     /// Whether some record closes the element in the direction for the vehicle type at the second, which is on a day
     /// that a horizon may have. Takes no memory.
     pub fn closed_at(&self, element: u64, direction: Direction, vehicle: u8, second: Sec) -> bool
-        requires in_range { IsHorizonDay second.0 }
+        requires in_range { IsHorizonSecond second.0 }
         ensures closed { IsTrue result ↔ IsClosed self.now element direction vehicle second.0 }
     {
         let from = places_below(self.places.as_slice(), element);

@@ -3,7 +3,7 @@
 ghost use Rattle.std.specs.Prelude.{◌↔◌, ◌≤◌, ℤ, IfOk, IsTrue};
 ghost use Rattle.gtd_core.specs.Interval.{Within};
 ghost use Rattle.gtd_core.specs.Whole.{whole};
-ghost use Rattle.gtd_eval.specs.Basics.{IsHorizonDay};
+ghost use Rattle.gtd_recur.specs.Membership.{IsHorizonSecond};
 ghost use Rattle.gtd_eval.specs.Cursors.{cursor_list, cursor_nodes};
 ghost use Rattle.gtd_roads.specs.Closing.{Closes, Concerns, HoldsAt};
 ghost use Rattle.gtd_spans.specs.Normal.{Holds};
@@ -39,7 +39,10 @@ impl Model for Record {
     ghost coded = { restriction_code };
 
     ghost view = { λ a. record {
-        element = a.element; closed = a.closed; vehicles = a.vehicles; domain = option_map domain_tree a.domain
+      element = a.element;
+      closed = a.closed;
+      vehicles = a.vehicles;
+      domain = option_map domain_tree a.domain;
     } };
 }
 
@@ -59,7 +62,7 @@ impl Record {
 
     // Whether the record closes its element in a direction for a vehicle type at a second.
     pub(crate) fn closes(&self, direction: Direction, vehicle: u8, second: Sec) -> bool
-        requires { IsHorizonDay second.0 }
+        requires { IsHorizonSecond second.0 }
         ensures { IsTrue result ↔ Closes self.now.element direction vehicle second.0 self.now }
     {
         self.concerns(direction, vehicle) && self.holds(second)
@@ -67,7 +70,7 @@ impl Record {
 
     // Whether the record closes what it concerns at a second.
     fn holds(&self, second: Sec) -> bool
-        requires { IsHorizonDay second.0 }
+        requires { IsHorizonSecond second.0 }
         ensures { IsTrue result ↔ HoldsAt self.now.domain second.0 }
     {
         match &self.domain {
