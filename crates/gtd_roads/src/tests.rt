@@ -14,6 +14,9 @@ const HEADER: &str = "element,direction,vehicle,domain\n";
 
 const HEADER_2: &str = "element,direction,vehicles,domain\n";
 
+/// A byte order mark.
+const MARK: &str = "\u{feff}";
+
 /// 2024-04-01T00:00:00.
 const APRIL: i64 = 1_711_929_600;
 
@@ -89,27 +92,19 @@ fn headers(rt: HostRuntime) {
     ] {
         refused(&rt, alloc, &[text.as_bytes()], RecordFault::Header);
     }
-    let mark = [0xEFu8, 0xBB, 0xBF];
-    let table: [(&[u8], usize); 5] = [
-        (b"".as_slice(), 0),
-        (b"17,both,0,".as_slice(), 1),
-        (b"\"17\",both,00,\"[(h1){h1}]\"".as_slice(), 1),
-        (b"17,both,0,\r\n009,both,0,\r\r\n".as_slice(), 2),
-        (b"9,both,0,\n009,both,0,\n".as_slice(), 1),
+    let table: [(&str, usize); 5] = [
+        ("", 0),
+        ("17,both,0,", 1),
+        ("\"17\",both,00,\"[(h1){h1}]\"", 1),
+        ("17,both,0,\r\n009,both,0,\r\r\n", 2),
+        ("9,both,0,\n009,both,0,\n", 1),
     ];
     for (rows, count) in table {
-        assert_eq!(rt;
-            accepted(&rt, alloc, &[HEADER.as_bytes(), rows])
-                .elements()
-                .len(),
-            count
-        );
-        assert_eq!(rt;
-            accepted(&rt, alloc, &[&mark, HEADER_2.as_bytes(), rows])
-                .elements()
-                .len(),
-            count
-        );
+        let records = accepted(&rt, alloc, &[HEADER.as_bytes(), rows.as_bytes()]);
+        assert_eq!(rt; records.elements().len(), count);
+        let parts = [MARK.as_bytes(), HEADER_2.as_bytes(), rows.as_bytes()];
+        let records = accepted(&rt, alloc, &parts);
+        assert_eq!(rt; records.elements().len(), count);
     }
 }
 
@@ -148,8 +143,7 @@ fn vehicles_of_version_2(rt: HostRuntime) {
                 b",".as_slice(),
             ],
         );
-        for (place, mark) in closed.as_bytes().iter().enumerate() {
-            let vehicle = place as u8 + 1;
+        for (vehicle, mark) in (1u8..14).zip(closed.as_bytes()) {
             assert_eq!(rt;
                 records.closed_at(17, Direction::Positive, vehicle, Sec(APRIL)),
                 *mark == b'x',
