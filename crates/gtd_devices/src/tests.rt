@@ -1,4 +1,4 @@
-ghost use Rattle.std.specs.Prelude.{◌≡◌};
+ghost use Rattle.std.specs.Prelude.{◌≡◌, ◌<◌};
 
 use crate::{Host, HostOut, Input, InputFault, MemoryIn, MemoryOut, Output, Pull, Put, read_whole};
 use std::alloc::Global;
@@ -9,12 +9,16 @@ use std::test::Fail;
 const TEXT: &str =
     "element,direction,vehicle,domain\n17,positive,0,[(M4d1){M3}]*[(h10){h4}]\n17,negative,11,\n";
 
-fn memory(rt: &impl Abort, alloc: Global, fail: Option<u64>, silent: Option<u64>) -> MemoryIn {
+fn memory(rt: &impl Abort, alloc: Global, fail: Option<u64>, silent: Option<u64>) -> MemoryIn
+    ensures { ⟦<MemoryIn as Input>⟧.failure_count result ≡ 0 }
+{
     let bytes = Vec::from_slice(alloc, TEXT.as_bytes()).expect(rt, "memory");
     MemoryIn::new(bytes, 7, fail, silent)
 }
 
-fn whole<I: Input>(rt: &impl Abort, alloc: Global, input: &mut I) {
+fn whole<I: Input>(rt: &impl Abort, alloc: Global, input: &mut I)
+    requires { I.failure_count input.old < u64.MAX }
+{
     match read_whole(alloc, input, 88) {
         Ok(bytes) => assert_eq!(rt; bytes.as_slice(), TEXT.as_bytes()),
         Err(fault) => panic!(rt; "{fault:?}"),
@@ -28,7 +32,9 @@ fn refused<I: Input>(
     most: usize,
     fault: InputFault,
     failures: u64,
-) {
+)
+    requires { I.failure_count input.old < u64.MAX }
+{
     match read_whole(alloc, input, most) {
         Ok(_) => panic!(rt; "read"),
         Err(why) => assert_eq!(rt; why, fault),

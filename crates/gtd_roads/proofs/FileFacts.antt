@@ -1,10 +1,10 @@
 -- The rows that were read so far, and what the next one makes of them.
-use Rattle.std.proofs.Common.{◌≡◌, ◌∙◌, ◌<◌, ◌≤◌, ◌+◌, ◌⊎◌, inl, inr, sym, ap, refl, arith, ℕ, Bool, true, false, List, [], ◌∷◌, ◌++◌, length, Option, append_assoc, length-append, add-zero}
+use Rattle.std.proofs.Common.{◌≡◌, ◌∙◌, ◌≤◌, ◌+◌, inl, inr, sym, ap, refl, arith, ℕ, true, false, List, [], ◌∷◌, ◌++◌, length, Option, append_assoc, length-append, add-zero}
 use Rattle.std.proofs.Common.{Vec, Global}
 use Rattle.std.specs.Prelude.{Result, Ok, Err, MatchResult, IfOk}
 use Rattle.std.proofs.lemmas.List.{append-nil}
 use Rattle.csv.specs.declared.reader.Reader.{Reader}
-use Rattle.gtd_roads.specs.File.{AreRecords, AreRows, FirstFault, IsSound, IsTable, most_rows}
+use Rattle.gtd_roads.specs.File.{AreRecords, FirstFault, IsSound, IsTable, most_rows}
 use Rattle.gtd_roads.specs.Row.{IsRow}
 use Rattle.gtd_roads.specs.Table.{Fields, HasLeft, TakesFirst}
 use Rattle.gtd_roads.specs.Restriction.{Restriction}

@@ -1,18 +1,17 @@
 -- The bytes of a file have one answer.
-use Rattle.std.proofs.Common.{◌≡◌, ◌∙◌, sym, ap, refl, subst, ◌<◌, ◌≤◌, ◌+◌, ◌⊎◌, inl, inr, ℕ, zero, suc, List, [], ◌∷◌, ◌++◌, length, arith, length-append, add-zero}
+use Rattle.std.proofs.Common.{◌≡◌, ◌∙◌, sym, ap, refl, subst, ◌<◌, ◌+◌, ◌⊎◌, inl, inr, ℕ, List, [], ◌∷◌, ◌++◌, length, arith, length-append, add-zero}
 use Rattle.std.specs.Prelude.{Option, Some, None, MatchOption, Result, Ok, Err}
 use Rattle.csv.specs.Reading.{default_config, records, strip_bom}
 use Rattle.gtd_core.specs.Trees.{Tree}
 use Rattle.gtd_core.specs.declared.fault.TextFault.{TextFault}
-use Rattle.gtd_text.specs.Reading.{StandsFor, HasNoFault, IsFault}
+use Rattle.gtd_text.specs.Reading.{StandsFor, IsFault}
 use Rattle.gtd_roads.proofs.Rising.{one_list}
 use Rattle.gtd_roads.specs.Columns.{number_of, closed_of}
-use Rattle.gtd_roads.specs.File.{AreRecords, AreRows, FirstFault, IsFile, IsSound, IsTable, header, most_bytes, most_rows}
+use Rattle.gtd_roads.specs.File.{AreRecords, AreRows, FirstFault, IsFile, IsSound, IsTable, header, most_rows}
 use Rattle.gtd_roads.specs.Restriction.{Restriction}
 use Rattle.gtd_roads.specs.Row.{IsDomainColumn, IsFullRow, IsRow, with_domain}
 use Rattle.gtd_roads.specs.Table.{Fields}
 use Rattle.gtd_roads.specs.Vehicles.{IsAscending, IsOrdered, vehicles_of}
-use Rattle.gtd_roads.specs.declared.direction.Closed.{Closed}
 use Rattle.gtd_roads.specs.declared.fault.RecordFault.{RecordFault}
 use Rattle.gtd_roads.specs.declared.fault.RecordFault.TheVariants as fault
 use Rattle.gtd_roads.specs.declared.vehicles.Vehicles.{Vehicles}

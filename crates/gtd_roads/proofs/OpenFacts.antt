@@ -1,5 +1,5 @@
 -- The cursors of the restrictions that close an element.
-use Rattle.std.proofs.Common.{◌≡◌, ◌∙◌, sym, ap, refl, subst, ◌<◌, ◌≤◌, ◌+◌, ◌⊎◌, inl, inr, ◌↔◌, ℕ, List, [], ◌∷◌, ◌++◌, length, arith}
+use Rattle.std.proofs.Common.{◌≡◌, ◌∙◌, sym, ap, subst, ◌<◌, ◌+◌, ◌⊎◌, inl, inr, ◌↔◌, ℕ, List, [], ◌∷◌, ◌++◌, length, arith}
 use Rattle.std.specs.Prelude.{Any, slice_index_or, ℤ, Result, Ok, Err, IfOk}
 use Rattle.gtd_core.specs.Interval.{Interval, Within}
 use Rattle.gtd_core.specs.Whole.{whole}

@@ -1,5 +1,5 @@
 -- From the text of a file to its bytes.
-use Rattle.std.proofs.Common.{◌≡◌, ◌≢◌, ◌≤◌, ◌⊎◌, inl, inr, subst, ℕ, List, length}
+use Rattle.std.proofs.Common.{◌≡◌, ◌≢◌, ◌≤◌, inl, subst, ℕ, List, length}
 use Rattle.std.specs.Prelude.{Option, Some, None, IfSome, Result, Ok, Err, MatchResult}
 use Rattle.csv.specs.Reading.{default_config, records, strip_bom}
 use Rattle.gtd_roads.specs.File.{IsFile, IsTable}

@@ -1,13 +1,11 @@
 -- What the columns of a row say of the row.
-use Rattle.std.proofs.Common.{◌≡◌, ◌≢◌, ◌∙◌, ◌<◌, ◌≤◌, ◌+◌, sym, ap, refl, arith, ℕ, zero, suc, List, [], ◌∷◌, length, Option, Some, None}
-use Rattle.std.specs.Prelude.{Result, Ok, Err, option_map, MatchOption}
+use Rattle.std.proofs.Common.{◌≡◌, ◌≢◌, ◌<◌, ap, refl, arith, ℕ, zero, suc, List, [], ◌∷◌, length, Option, Some, None}
+use Rattle.std.specs.Prelude.{Result, Ok, Err, MatchOption}
 use Rattle.csv.specs.Records.{field_at}
-use Rattle.gtd_core.specs.Parts.{domain_tree}
 use Rattle.gtd_core.specs.Trees.{Tree}
-use Rattle.gtd_core.specs.declared.domain.Domain.{Domain}
 use Rattle.gtd_core.specs.declared.fault.TextFault.{TextFault}
 use Rattle.gtd_roads.specs.Columns.{number_of, closed_of}
-use Rattle.gtd_roads.specs.Row.{IsDomainColumn, IsDomainRead, IsReading, IsRow, with_domain}
+use Rattle.gtd_roads.specs.Row.{IsDomainColumn, IsReading, IsRow, with_domain}
 use Rattle.gtd_roads.specs.Table.{Fields}
 use Rattle.gtd_roads.specs.Vehicles.{IsOrdered, IsRead, vehicles_of}
 use Rattle.gtd_roads.specs.declared.direction.Closed.{Closed}

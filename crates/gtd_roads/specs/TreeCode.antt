@@ -1,5 +1,5 @@
 -- A code of expressions and of restrictions, by which a proof tells values that hold them apart.
-use Rattle.std.specs.Prelude.{◌≡◌, ◌++◌, ◌⊎◌, ℕ, List, [], ◌∷◌, None}
+use Rattle.std.specs.Prelude.{◌≡◌, ◌++◌, ◌⊎◌, ℕ, List, [], ◌∷◌}
 use Rattle.std.specs.Prelude.{Option}
 use Rattle.std.specs.Coded.{Coded, code_by, coded_list, coded_option, coded_ℕ, coded×, coded⊎}
 use Rattle.std.proofs.Common.{inl, inr, refl, ap, ◌∙◌}

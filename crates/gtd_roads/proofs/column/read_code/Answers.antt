@@ -1,4 +1,4 @@
-use Rattle.std.proofs.Common.{◌≡◌, ◌∙◌, ◌<◌, ◌≤◌, ◌^◌, sym, arith}
+use Rattle.std.proofs.Common.{◌∙◌, ◌<◌, ◌^◌, sym, arith}
 use Rattle.gtd_roads.proofs.NumberFacts.{number_below}
 use Rattle.gtd_roads.proofs.column.read_code.Goals as goal
 

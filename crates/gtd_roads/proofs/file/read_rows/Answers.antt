@@ -1,9 +1,9 @@
-use Rattle.std.proofs.Common.{◌≡◌, ◌≢◌, ◌∙◌, ◌<◌, ◌≤◌, ◌+◌, ◌++◌, sym, ap, arith, List, [], ◌∷◌, ℕ, Bor, Some, rules}
+use Rattle.std.proofs.Common.{◌≡◌, arith, List, ℕ, Bor, Some, rules}
 use Rattle.std.specs.Result.{is_ok}
-use Rattle.std.specs.Prelude.{Ok, Err, true}
+use Rattle.std.specs.Prelude.{true}
 use Rattle.std.proofs.lemmas.Result.{err_from_is_err_and}
 use Rattle.csv.specs.Records.{fields_of}
-use Rattle.gtd_roads.proofs.FileFacts.{SoFar, at_end, at_fault, after_row, at_start, too_many}
+use Rattle.gtd_roads.proofs.FileFacts.{at_end, at_fault, after_row, too_many}
 use Rattle.gtd_roads.proofs.file.read_rows.Goals as goal
 
 pub returns-then-not-branch : goal.returns-then-not-branch

@@ -1,4 +1,4 @@
-use Rattle.std.proofs.Common.{◌≤◌, List, ℕ, Bor, Some}
+use Rattle.std.proofs.Common.{List, ℕ, Bor, Some}
 use Rattle.gtd_roads.specs.Table.{Fields, HasLeft}
 use Rattle.gtd_roads.proofs.FileFacts.{SoFar}
 use Rattle.gtd_roads.proofs.file.read_rows.Given as goal

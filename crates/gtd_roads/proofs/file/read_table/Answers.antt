@@ -1,10 +1,8 @@
-use Rattle.std.proofs.Common.{◌≡◌, ◌≢◌, ◌∙◌, sym, ap, inl, inr, refl, rules, List, [], ◌∷◌, ℕ, Bor, Some, Vec, Global, arith}
-use Rattle.std.specs.Prelude.{Ok, Err, Result, MatchResult, IfOk, length, ◌≤◌, ◌+◌}
+use Rattle.std.proofs.Common.{◌≡◌, ◌∙◌, ap, inl, inr, refl, [], ◌∷◌}
 use Rattle.std.proofs.lemmas.Result.{MatchResult-weaker}
 use Rattle.csv.specs.Reading.{default_config, records, strip_bom}
 use Rattle.csv.specs.Records.{fields_of}
-use Rattle.gtd_roads.specs.File.{AreRecords, AreRows, IsTable, header}
-use Rattle.gtd_roads.specs.Table.{Fields}
+use Rattle.gtd_roads.specs.File.{header}
 use Rattle.gtd_roads.proofs.FileFacts.{few_result}
 use Rattle.gtd_roads.proofs.file.read_table.Goals as goal
 

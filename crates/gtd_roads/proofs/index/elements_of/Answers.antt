@@ -1,11 +1,10 @@
-use Rattle.std.proofs.Common.{◌≡◌, map, sym, subst, List, ℕ}
+use Rattle.std.proofs.Common.{sym, subst, List, ℕ}
 use Rattle.std.specs.List.{Contains}
 use Rattle.std.specs.List.Sorted.{IsSorted}
 use Rattle.std.specs.Ordering.{nat_cmp}
 use Rattle.std.proofs.lemmas.List.Filters.{dedup_is}
 use Rattle.std.proofs.lemmas.List.Kept.{Contains-dedup_nat, Contains-from_dedup}
 use Rattle.std.proofs.lemmas.Map.Keys.{IsStrictlyIncreasing-dedup}
-use Rattle.gtd_roads.specs.declared.index.Place.{Place}
 use Rattle.gtd_roads.proofs.IndexFacts.{sorted_numbers}
 use Rattle.gtd_roads.proofs.index.elements_of.Goals as goal
 

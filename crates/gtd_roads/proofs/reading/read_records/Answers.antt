@@ -1,4 +1,3 @@
-use Rattle.std.proofs.Common.{◌≡◌}
 use Rattle.gtd_roads.proofs.ReadFacts.{of_table}
 use Rattle.gtd_roads.proofs.reading.read_records.Goals as goal
 

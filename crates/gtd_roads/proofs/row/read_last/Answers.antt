@@ -1,7 +1,7 @@
-use Rattle.std.proofs.Common.{rules, arith, ◌⊎◌, inl, inr}
+use Rattle.std.proofs.Common.{arith}
 use Rattle.std.proofs.lemmas.Bool.Decides.{nat_tests}
 use Rattle.gtd_core.specs.Parts.{domain_tree}
-use Rattle.gtd_roads.proofs.RowFacts.{a_column, a_fault, no_column}
+use Rattle.gtd_roads.proofs.RowFacts.{a_column}
 use Rattle.gtd_roads.proofs.row.read_last.Goals as goal
 
 pub returns-in-Ok : goal.returns-in-Ok

@@ -1,11 +1,9 @@
-use Rattle.std.proofs.Common.{rules, tests, ◌≡◌, ◌∙◌, ◌==◌, ◌+◌, sym, ap, refl, length, arith, drop, List, ℕ}
-use Rattle.std.specs.Result.{is_ok}
-use Rattle.std.specs.Prelude.{true, option_map, Some}
+use Rattle.std.proofs.Common.{rules, tests, ◌∙◌, ◌==◌, sym, refl, length, arith}
 use Rattle.std.proofs.lemmas.List.{length_push}
 use Rattle.std.proofs.lemmas.Iterator.Consumers.{YieldsList-turn, YieldsList-end}
 use Rattle.std.proofs.lemmas.Iterator.Splits.{YieldsList-from_slice_split}
-use Rattle.gtd_roads.specs.Vehicles.{items_of, codes_of}
-use Rattle.gtd_roads.proofs.ListFacts.{all_codes, and_codes, no_code, one_more}
+use Rattle.gtd_roads.specs.Vehicles.{items_of}
+use Rattle.gtd_roads.proofs.ListFacts.{all_codes, no_code, one_more}
 use Rattle.gtd_roads.proofs.vehicles.read_codes.Goals as goal
 
 pub returns-in_default : goal.returns-in_default

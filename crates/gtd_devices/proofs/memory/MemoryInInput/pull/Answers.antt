@@ -1,4 +1,4 @@
-use Rattle.std.proofs.Common.{◌≡◌, ◌≤◌, ◌+◌, ◌-◌, ◌∙◌, sym, ap, refl, List, ℕ, length, take, drop, ◌++◌, arith, length-take, length-drop}
+use Rattle.std.proofs.Common.{◌≡◌, ◌≤◌, ◌+◌, ◌-◌, ◌∙◌, sym, ap, List, ℕ, length, take, drop, ◌++◌, arith, length-take, length-drop}
 use Rattle.std.proofs.lemmas.List.{take_all, take_at, take-append-drop, drop-drop}
 use Rattle.gtd_devices.proofs.memory.MemoryInInput.pull.Goals as goal
 

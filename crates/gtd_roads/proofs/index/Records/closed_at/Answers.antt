@@ -1,5 +1,5 @@
-use Rattle.std.proofs.Common.{◌≡◌, ◌∙◌, ◌<◌, ◌≤◌, ◌+◌, ◌-◌, sym, ap, subst, refl, arith, rules, ℕ, List, length, take, drop}
-use Rattle.std.specs.Prelude.{slice_index_or, Any, ℤ}
+use Rattle.std.proofs.Common.{◌≡◌, ◌∙◌, ◌<◌, ◌+◌, ◌-◌, sym, ap, subst, refl, arith, rules, ℕ, List, length, take, drop}
+use Rattle.std.specs.Prelude.{slice_index_or, Any}
 use Rattle.gtd_roads.specs.Index.{ArePlaces, IsPlace}
 use Rattle.gtd_roads.specs.Closing.{Closes}
 use Rattle.gtd_roads.specs.declared.index.Place.{Place}

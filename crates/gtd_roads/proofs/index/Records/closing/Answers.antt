@@ -1,11 +1,10 @@
-use Rattle.std.proofs.Common.{◌≡◌, ◌∙◌, ◌<◌, ◌≤◌, ◌+◌, ◌-◌, ◌*◌, sym, ap, subst, refl, arith, rules, length-append, ℕ, List, [], ◌∷◌, length, take, drop}
-use Rattle.std.specs.Prelude.{slice_index_or, Any, ℤ}
+use Rattle.std.proofs.Common.{◌∙◌, ◌-◌, sym, ap, subst, arith, rules, length-append, List, [], ◌∷◌, length, take, drop}
 use Rattle.gtd_eval.specs.CursorFacts.{nodes-append}
-use Rattle.gtd_roads.specs.Index.{AreClosing, ArePlaces, IsPlace}
+use Rattle.gtd_roads.specs.Index.{AreClosing, ArePlaces}
 use Rattle.gtd_roads.specs.Restriction.{Restriction}
 use Rattle.gtd_roads.specs.declared.index.Place.{Place}
 use Rattle.gtd_roads.proofs.IndexFacts.{any_default, few_nodes, fewer, none_closes, part_at, part_past, part_sound, place_element}
-use Rattle.gtd_roads.proofs.OpenFacts.{AreClosingSoFar, all_closing, one_cursor, same_cursors}
+use Rattle.gtd_roads.proofs.OpenFacts.{all_closing, one_cursor, same_cursors}
 use Rattle.gtd_roads.proofs.index.Records.closing.Goals as goal
 use Rattle.gtd_roads.proofs.index.Records.closing.Goals.{then-concerns+in_ok-cursor+in_ok-push, else-concerns}
 

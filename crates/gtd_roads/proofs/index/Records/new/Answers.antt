@@ -1,5 +1,3 @@
-use Rattle.std.proofs.Common.{sym, subst}
-use Rattle.gtd_roads.specs.Index.{ArePlaces}
 use Rattle.gtd_roads.proofs.IndexFacts.{are_elements}
 use Rattle.gtd_roads.proofs.index.Records.new.Goals as goal
 
