@@ -1,4 +1,5 @@
--- When a road element is closed, and when it is open.
+-- When a road element is closed, and when it is open. Its directions are those of GDF (ISO 14825:2004): the positive one
+-- goes from its From node to its To node.
 use Rattle.std.specs.Prelude.{◌≡◌, ℕ, ℤ, List, Any, Option, Some, None, ⊤, ◌↔◌}
 use Rattle.std.specs.List.{Contains}
 use Rattle.std.specs.List.Sorted.{IsStrictlyIncreasing}

@@ -112,8 +112,8 @@ impl Records {
         self.elements.as_slice()
     }
 
-    /// Whether some record closes the element in the direction for the vehicle type at the second, which is on a day
-    /// that a horizon may have. Takes no memory.
+    /// Whether some record closes the element in the direction for the vehicle type, which is from 1 to 99, at the
+    /// second, which is on a day that a horizon may have. Takes no memory.
     pub fn closed_at(&self, element: u64, direction: Direction, vehicle: u8, second: Sec) -> bool
         requires in_range { IsHorizonSecond second.0 }
         ensures closed { IsTrue result ↔ IsClosed self.now element direction vehicle second.0 }

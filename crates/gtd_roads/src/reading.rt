@@ -44,7 +44,8 @@ pub fn read_records<I: Input>(alloc: Global, input: &mut I) -> Result<Records, R
     ensures few { IfOk result (λ found. length found ≤ 65536) }
     ensures endless { IsErrOf result RecordFault.Endless → IsTrue (I.may_fall_silent input.old) }
     // `ReadFault` exactly where the input failed in this call.
-    ensures failures { I.failure_count input.new ≡ failures_after_records result (I.failure_count input.old) }
+    ensures failures { I.failure_count input.new
+        ≡ failures_after_records result (I.failure_count input.old) }
 {
     let bytes = read_whole(alloc, input, FILE_LIMIT)?;
     read_index(alloc, bytes.as_slice())
