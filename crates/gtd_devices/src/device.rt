@@ -1,0 +1,82 @@
+//! What gives bytes and what takes them.
+
+ghost use Rattle.std.specs.Prelude.{◌≡◌, ◌<◌, ℕ, Option, None, List, Bool, true, length, IsTrue};
+ghost use Rattle.gtd_devices.specs.Device.{IsGot, Within, TakesOff, failures_after_pull};
+ghost use Rattle.gtd_devices.specs.Device.{WithinPut, AddsFront, Finishes, failures_after_put};
+
+/// What one pull of an input did.
+#[derive(Clone, Copy, Debug, PartialEq, Eq)]
+pub enum Pull {
+    /// So many bytes came: none just now where it is 0.
+    Got(usize),
+    /// The input is at its end.
+    Done,
+    /// The device failed.
+    Failed,
+}
+
+/// A device that gives bytes.
+pub trait Input {
+    /// The bytes still to come, where the input tells them.
+    ghost to_come: { Self → Option (List ℕ) } = { λ _. None };
+
+    /// Whether a pull may give no byte before the end.
+    ghost may_fall_silent: { Self → Bool } = { λ _. true };
+
+    /// How often the device has failed.
+    ghost failure_count: { Self → ℕ };
+
+    /// Asks for bytes, which come to the front of a buffer that is not empty. `Done` comes only at the end. A failure
+    /// takes no byte, and is counted.
+    fn pull(&mut self, into: &mut [u8]) -> Pull
+        requires room { 0 < length into.old }
+        requires countable { failure_count self.old < u64.MAX }
+        ensures within { Within result (length into.new) }
+        ensures bytes { TakesOff (to_come self.old) (to_come self.new) result into.new }
+        ensures silent { IsGot result 0 → IsTrue (may_fall_silent self.old) }
+        ensures as_silent { may_fall_silent self.new ≡ may_fall_silent self.old }
+        ensures failures { failure_count self.new
+            ≡ failures_after_pull result (failure_count self.old) };
+
+    /// How often the device has failed.
+    fn failures(&self) -> u64
+        ensures value { result ≡ failure_count self.now };
+}
+
+/// What one put to an output did.
+#[derive(Clone, Copy, Debug, PartialEq, Eq)]
+pub enum Put {
+    /// So many bytes were taken.
+    Took(usize),
+    /// The device failed.
+    Failed,
+}
+
+/// A device that takes bytes.
+pub trait Output {
+    /// The bytes that were taken, where the output tells them.
+    ghost taken: { Self → Option (List ℕ) } = { λ _. None };
+
+    /// How often the device has failed.
+    ghost failure_count: { Self → ℕ };
+
+    /// Offers bytes, at least one, of which a front is taken, at least one. A failure takes none, and is counted.
+    fn put(&mut self, bytes: &[u8]) -> Put
+        requires offered { 0 < length bytes.now }
+        requires countable { failure_count self.old < u64.MAX }
+        ensures within { WithinPut result (length bytes.now) }
+        ensures bytes { AddsFront (taken self.old) (taken self.new) result bytes.now }
+        ensures failures { failure_count self.new
+            ≡ failures_after_put result (failure_count self.old) };
+
+    /// Ends the output: `Took(0)`, or a failure, which is counted.
+    fn finish(&mut self) -> Put
+        requires countable { failure_count self.old < u64.MAX }
+        ensures bytes { Finishes (taken self.old) (taken self.new) result }
+        ensures failures { failure_count self.new
+            ≡ failures_after_put result (failure_count self.old) };
+
+    /// How often the device has failed.
+    fn failures(&self) -> u64
+        ensures value { result ≡ failure_count self.now };
+}

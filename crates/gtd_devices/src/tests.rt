@@ -1,0 +1,236 @@
+ghost use Rattle.std.specs.Prelude.{◌≡◌, ◌<◌};
+
+use crate::{Host, HostOut, Input, InputFault, MemoryIn, MemoryOut, Output, Pull, Put, read_whole};
+use std::alloc::Global;
+use std::io::{Error, ErrorKind, Result as IoResult, Write};
+use std::process::Abort;
+use std::test::Fail;
+
+const TEXT: &str =
+    "element,direction,vehicle,domain\n17,positive,0,[(M4d1){M3}]*[(h10){h4}]\n17,negative,11,\n";
+
+fn memory(rt: &impl Abort, alloc: Global, fail: Option<u64>, silent: Option<u64>) -> MemoryIn
+    ensures { ⟦<MemoryIn as Input>⟧.failure_count result ≡ 0 }
+{
+    let bytes = Vec::from_slice(alloc, TEXT.as_bytes()).expect(rt, "memory");
+    MemoryIn::new(bytes, 7, fail, silent)
+}
+
+fn whole<I: Input>(rt: &impl Abort, alloc: Global, input: &mut I)
+    requires { I.failure_count input.old < u64.MAX }
+{
+    match read_whole(alloc, input, 88) {
+        Ok(bytes) => assert_eq!(rt; bytes.as_slice(), TEXT.as_bytes()),
+        Err(fault) => panic!(rt; "{fault:?}"),
+    }
+}
+
+fn refused<I: Input>(
+    rt: &impl Abort,
+    alloc: Global,
+    input: &mut I,
+    most: usize,
+    fault: InputFault,
+    failures: u64,
+)
+    requires { I.failure_count input.old < u64.MAX }
+{
+    match read_whole(alloc, input, most) {
+        Ok(_) => panic!(rt; "read"),
+        Err(why) => assert_eq!(rt; why, fault),
+    }
+    assert_eq!(rt; input.failures(), failures);
+}
+
+// 88 bytes come in 13 pieces of 7 bytes at most, and the 14th pull finds the end.
+#[test]
+fn pieces_failures_and_silence(rt: HostRuntime) {
+    let alloc = rt.alloc();
+    for call in 1u64..15 {
+        refused(
+            &rt,
+            alloc,
+            &mut memory(&rt, alloc, Some(call), None),
+            88,
+            InputFault::ReadFault,
+            1,
+        );
+        refused(
+            &rt,
+            alloc,
+            &mut memory(&rt, alloc, None, Some(call)),
+            88,
+            InputFault::Endless,
+            0,
+        );
+    }
+    whole(&rt, alloc, &mut memory(&rt, alloc, Some(15), None));
+    whole(&rt, alloc, &mut memory(&rt, alloc, None, Some(15)));
+    refused(
+        &rt,
+        alloc,
+        &mut memory(&rt, alloc, None, None),
+        87,
+        InputFault::TooLarge,
+        0,
+    );
+    // The call that fails is no silent one.
+    refused(
+        &rt,
+        alloc,
+        &mut memory(&rt, alloc, Some(9), Some(5)),
+        88,
+        InputFault::ReadFault,
+        1,
+    );
+}
+
+// Silent for so many pulls before each that gives bytes or the end.
+#[derive(Drop)]
+struct Slow {
+    inner: MemoryIn,
+    silent: u32,
+    left: u32,
+}
+
+impl Input for Slow {
+    ghost failure_count = { λ slow. ⟦<MemoryIn as Input>⟧.failure_count slow.inner };
+
+    fn pull(&mut self, into: &mut [u8]) -> Pull {
+        if self.left > 0 {
+            self.left -= 1;
+            return Pull::Got(0);
+        }
+        self.left = self.silent;
+        self.inner.pull(into)
+    }
+
+    fn failures(&self) -> u64 {
+        self.inner.failures()
+    }
+}
+
+// Silent for ever, and counts its pulls.
+#[derive(Drop)]
+struct Mute {
+    pulls: u64,
+}
+
+impl Input for Mute {
+    ghost failure_count = { λ _. 0 };
+
+    fn pull(&mut self, into: &mut [u8]) -> Pull {
+        self.pulls = self.pulls.saturating_add(1);
+        Pull::Got(0)
+    }
+
+    fn failures(&self) -> u64 {
+        0
+    }
+}
+
+#[test]
+fn silence_ends_at_its_thousandth_pull(rt: HostRuntime) {
+    let alloc = rt.alloc();
+    let inner = memory(&rt, alloc, None, None);
+    whole(
+        &rt,
+        alloc,
+        &mut Slow {
+            inner,
+            silent: 999,
+            left: 999,
+        },
+    );
+    let inner = memory(&rt, alloc, None, None);
+    refused(
+        &rt,
+        alloc,
+        &mut Slow {
+            inner,
+            silent: 1000,
+            left: 1000,
+        },
+        88,
+        InputFault::Endless,
+        0,
+    );
+    let mut mute = Mute { pulls: 0 };
+    refused(&rt, alloc, &mut mute, 88, InputFault::Endless, 0);
+    assert_eq!(rt; mute.pulls, 1000);
+}
+
+// A writer that is interrupted so often before each write, and at its flush where it is told to.
+#[derive(Drop)]
+struct Busy {
+    interruptions: u32,
+    left: u32,
+    flushes: bool,
+}
+
+impl Write for Busy {
+    fn write(&mut self, buf: &[u8]) -> IoResult<usize> {
+        if self.left > 0 {
+            self.left -= 1;
+            return Err(Error::from(ErrorKind::Interrupted));
+        }
+        self.left = self.interruptions;
+        Ok(buf.len())
+    }
+
+    fn flush(&mut self) -> IoResult<()> {
+        if self.flushes {
+            Ok(())
+        } else {
+            Err(Error::from(ErrorKind::Interrupted))
+        }
+    }
+}
+
+#[test]
+fn interrupted_writes(rt: HostRuntime) {
+    let mut output = HostOut::new(Busy {
+        interruptions: 999,
+        left: 999,
+        flushes: true,
+    });
+    assert_eq!(rt; output.put(b"17".as_slice()), Put::Took(2));
+    assert_eq!(rt; output.put(b"18".as_slice()), Put::Took(2));
+    assert_eq!(rt; output.finish(), Put::Took(0));
+    assert_eq!(rt; output.failures(), 0);
+    let mut output = HostOut::new(Busy {
+        interruptions: 1000,
+        left: 1000,
+        flushes: false,
+    });
+    assert_eq!(rt; output.put(b"17".as_slice()), Put::Failed);
+    assert_eq!(rt; output.put(b"17".as_slice()), Put::Took(2));
+    assert_eq!(rt; output.finish(), Put::Failed);
+    assert_eq!(rt; output.failures(), 2);
+}
+
+#[test]
+fn a_reader_of_bytes(rt: HostRuntime) {
+    let mut input = Host::new(TEXT.as_bytes());
+    whole(&rt, rt.alloc(), &mut input);
+    assert_eq!(rt; input.failures(), 0);
+}
+
+#[test]
+fn room_pieces_and_calls(rt: HostRuntime) -> Result<(), Fail> {
+    let mut output = MemoryOut::new(rt.alloc(), 1000, 5, Some(3))?;
+    assert_eq!(rt; output.put(b"element,direction".as_slice()), Put::Took(5));
+    assert_eq!(rt; output.put(b"nt,direction".as_slice()), Put::Took(5));
+    assert_eq!(rt; output.put(b"rection".as_slice()), Put::Failed);
+    assert_eq!(rt; output.bytes(), b"element,di".as_slice());
+    assert_eq!(rt; output.failures(), 1);
+    assert_eq!(rt; output.finish(), Put::Took(0));
+
+    let mut output = MemoryOut::new(rt.alloc(), 3, 5, Some(2))?;
+    assert_eq!(rt; output.put(b"element".as_slice()), Put::Took(3));
+    assert_eq!(rt; output.finish(), Put::Failed);
+    assert_eq!(rt; output.put(b"ment".as_slice()), Put::Failed);
+    assert_eq!(rt; output.bytes(), b"ele".as_slice());
+    assert_eq!(rt; output.failures(), 2);
+    Ok(())
+}

@@ -1,0 +1,10 @@
+pub mod NumberFacts
+pub mod ListFacts
+pub mod TableFacts
+pub mod RowFacts
+pub mod FileFacts
+pub mod IndexFacts
+pub mod ReadFacts
+pub mod Rising
+pub mod OneAnswer
+pub mod OpenFacts

@@ -1,0 +1,11 @@
+pub mod Columns
+pub mod Vehicles
+pub mod Restriction
+pub mod TreeCode
+pub mod Names
+pub mod Reading
+pub mod Table
+pub mod Row
+pub mod File
+pub mod Closing
+pub mod Index

@@ -1,0 +1,72 @@
+-- A code of expressions and of restrictions, by which a proof tells values that hold them apart.
+use Rattle.std.specs.Prelude.{◌≡◌, ◌++◌, ◌⊎◌, ℕ, List, [], ◌∷◌}
+use Rattle.std.specs.Prelude.{Option}
+use Rattle.std.specs.Coded.{Coded, code_by, coded_list, coded_option, coded_ℕ, coded×, coded⊎}
+use Rattle.std.proofs.Common.{inl, inr, refl, ap, ◌∙◌}
+use Rattle.gtd_core.specs.Trees.{Tree, Single, Joined}
+use Rattle.gtd_core.specs.declared.domain.Op.{Op}
+use Rattle.gtd_core.specs.declared.start.StartParts.{StartParts}
+use Rattle.gtd_core.specs.declared.duration.DurationParts.{DurationParts}
+use Rattle.gtd_core.specs.contracts.domain.Op as op
+use Rattle.gtd_core.specs.contracts.start.StartParts as start
+use Rattle.gtd_core.specs.contracts.duration.DurationParts as duration
+use Rattle.gtd_core.specs.StartRanges.{no_parts}
+use Rattle.gtd_roads.specs.Restriction.{Restriction}
+use Rattle.gtd_roads.specs.declared.direction.Closed.{Closed}
+use Rattle.gtd_roads.specs.declared.vehicles.Vehicles.{Vehicles}
+use Rattle.gtd_roads.specs.contracts.direction.Closed as closed
+use Rattle.gtd_roads.specs.contracts.vehicles.Vehicles as vehicles
+
+-- a basic domain, or an operator over the two trees before it
+abbrev Part : Type 0
+Part = (StartParts × DurationParts) ⊎ Op
+
+-- the parts of an expression, each operator after its sides
+abbrev parts : Tree → List Part
+parts (Single s d) = inl (s, d) ∷ []
+parts (Joined o left right) = parts left ++ (parts right ++ (inr o ∷ []))
+
+-- the trees that stand, after one part more
+abbrev join : Op → List Tree → List Tree
+join o [] = []
+join o (right ∷ []) = []
+join o (right ∷ left ∷ trees) = Joined o left right ∷ trees
+
+abbrev step : Part → List Tree → List Tree
+step (inl basic) trees = Single basic.0 basic.1 ∷ trees
+step (inr o) trees = join o trees
+
+abbrev build : List Part → List Tree → List Tree
+build [] trees = trees
+build (part ∷ more) trees = build more (step part trees)
+
+-- the tree that stands last
+abbrev last : List Tree → Tree
+last [] = Single no_parts (record { years = 0; months = 0; weeks = 0; days = 0; hours = 0; minutes = 0; seconds = 0 })
+last (tree ∷ trees) = tree
+
+pub build-append : (front back : List Part) (trees : List Tree)
+    → build (front ++ back) trees ≡ build back (build front trees)
+build-append [] back trees = refl
+build-append (part ∷ front) back trees = build-append front back (step part trees)
+
+pub build-parts : (tree : Tree) (trees : List Tree) → build (parts tree) trees ≡ tree ∷ trees
+build-parts (Single s d) trees = refl
+build-parts (Joined o left right) trees =
+    build-append (parts left) (parts right ++ (inr o ∷ [])) trees
+    ∙ ap (build (parts right ++ (inr o ∷ []))) (build-parts left trees)
+    ∙ build-append (parts right) (inr o ∷ []) (left ∷ trees)
+    ∙ ap (build (inr o ∷ [])) (build-parts right (left ∷ trees))
+
+abbrev pub tree_code : Coded Tree
+tree_code =
+    code_by (List Part) (coded_list (coded⊎ (coded× start.the_row.coded duration.the_row.coded) op.the_row.coded))
+    parts (λ ps. last (build ps [])) (λ tree. ap last (build-parts tree []))
+
+abbrev pub restriction_code : Coded Restriction
+restriction_code =
+    code_by (ℕ × (Closed × (Vehicles × Option Tree)))
+    (coded× coded_ℕ (coded× closed.the_row.coded (coded× vehicles.the_row.coded (coded_option tree_code))))
+    (λ r. (r.element, (r.closed, (r.vehicles, r.domain))))
+    (λ p. record { element = p.0; closed = p.1.0; vehicles = p.1.1.0; domain = p.1.1.1 })
+    (λ r. refl)

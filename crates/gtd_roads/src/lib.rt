@@ -1,0 +1,30 @@
+//! Restriction records of road elements: files of them, and the seconds in which an element is open.
+//!
+//! A record closes a road element in one direction or both, for some vehicle types, at the seconds of a time domain.
+//! [`read_records`] reads a record file of either version from a device, and answers its [`Records`] or its first
+//! fault. [`Records::closed_at`] says whether some record closes an element at a second, and [`schedule_of`] when it is
+//! open.
+#![tactic(auto)]
+
+pub use column::{read_direction, read_number};
+pub use direction::Direction;
+pub use fault::RecordFault;
+pub use gtd_devices::{Host, HostOut, Input, MemoryIn, MemoryOut, Output, Pull, Put};
+pub use index::Records;
+pub use reading::read_records;
+pub use schedule::schedule_of;
+
+mod column;
+mod direction;
+mod fault;
+mod file;
+mod index;
+pub mod laws;
+mod reading;
+mod record;
+mod row;
+mod schedule;
+mod table;
+#[cfg(test)]
+mod tests;
+mod vehicles;
