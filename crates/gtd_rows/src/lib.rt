@@ -1,4 +1,4 @@
-//! The worked rows of the commands: what each command line prints, or how it is refused.
+//! Tests that cross crates: what each command line prints, or how it is refused.
 #![tactic(auto)]
 
 #[cfg(test)]
