@@ -1,0 +1,175 @@
+-- The texts of days and seconds, and what reading them answers.
+use Rattle.std.proofs.Common.{◌≡◌, ℕ, ◌+◌, ◌*◌, ◌/◌, ◌%◌, ◌<◌, ◌≤◌, true, false, ◌&&◌, ◌||◌, nat_le}
+use Rattle.std.proofs.Common.{int_lt, List, ◌∷◌, Option, Some, None, Result, Ok, Err, refl, sym, ◌∙◌}
+use Rattle.std.proofs.Common.{arith, ℤ, pos, neg_ℤ, unsigned_abs}
+use Rattle.std.proofs.lemmas.Bool.Decides.{nat_tests}
+use Rattle.std.proofs.lemmas.Bool.{false_from_ne_true, true_from_ne_false, cond_both, true≢false}
+use Rattle.jiff_core.proofs.SignedLemmas.{signed_arith, one_part}
+use Rattle.gtd_calendar.specs.declared.stamp.StampFault.{StampFault}
+use Rattle.gtd_calendar.specs.declared.stamp.StampFault.TheVariants.{Shape, NoSuchDate, Range}
+use Rattle.gtd_calendar.specs.Calendar.{IsDate, IsCalendarDay, month_length, day_number, year_of, month_of}
+use Rattle.gtd_calendar.specs.Calendar.{day_of_month}
+use Rattle.gtd_calendar.specs.Clock.{day_of_second, second_of_day}
+use Rattle.gtd_calendar.specs.Stamp.{date_text, stamp_text, hms_text, IsYmdText, IsDateText}
+use Rattle.gtd_calendar.specs.Stamp.{IsStampText}
+use Rattle.gtd_calendar.specs.Read.{IsReadableDay, IsReadDate, is_date, day_in_range, day_if_any, ymd_in, date_in}
+use Rattle.gtd_calendar.specs.ReadParts.{IsYmd}
+use Rattle.gtd_calendar.proofs.DateLemmas.{date_of-is, date_of-only, month_length_bounds}
+use Rattle.gtd_calendar.proofs.OrderLemmas.{year_of-calendar}
+use Rattle.gtd_calendar.proofs.ClockLemmas.{second-parts, second-only}
+use Rattle.gtd_calendar.proofs.ShapeLemmas.{ymd_in-is, ymd_in-shape, ymd-only}
+
+-- the text that is computed of a day is the text of its date
+pub date_text-is : (n : ℤ) → IsCalendarDay n → IsDateText n (date_text n)
+date_text-is n h =
+    let date = date_of-is n in
+    let near = year_of-calendar n h in
+    let part = one_part (year_of n) in
+    let same : pos (unsigned_abs (year_of n)) ≡ year_of n = omega (arith, signed_arith) in
+    let long = month_length_bounds (year_of n) (month_of n) in
+    let year_in : unsigned_abs (year_of n) < 10000 = omega (arith, signed_arith) in
+    record {
+      year = unsigned_abs (year_of n);
+      month = month_of n;
+      day = day_of_month n;
+      date = rw same date;
+      shown = record { year_in = year_in; month_in = omega arith; day_in = omega arith; is = refl };
+    }
+
+-- and that of a second is the text of its date and clock
+pub stamp_text-is : (s : ℤ) → IsCalendarDay (day_of_second s) → IsStampText s (stamp_text s)
+stamp_text-is s h =
+    let text = date_text-is (day_of_second s) h in
+    let parts = second-parts s in
+    let k = second_of_day s in
+    let whole : 3600 * (k / 3600) + 60 * (k / 60 % 60) + k % 60 ≡ k = omega arith in
+    record {
+      number = day_of_second s;
+      year = text.year;
+      month = text.month;
+      day = text.day;
+      hour = k / 3600;
+      minute = k / 60 % 60;
+      second = k % 60;
+      date = text.date;
+      clock = (omega arith, omega arith, omega arith);
+      is = rw whole parts.0;
+      shown = record {
+        front = date_text (day_of_second s);
+        back = 84 ∷ hms_text (k / 3600) (k / 60 % 60) (k % 60);
+        date = text.shown;
+        clock = record { hour_in = omega arith; minute_in = omega arith; second_in = omega arith; is = refl };
+        is = refl;
+      };
+    }
+
+pub is_date-true : (y : ℤ) (m d : ℕ) → IsDate y m d → is_date y m d ≡ true
+is_date-true y m d h = true-at m d (month_length y m) h
+  where
+    true-at : (m d long : ℕ) → ((1 ≤ m) × (m ≤ 12)) × ((1 ≤ d) × (d ≤ long))
+        → (nat_le 1 m && nat_le m 12 && nat_le 1 d && nat_le d long) ≡ true
+    true-at m d long h = grind (arith, nat_tests)
+
+pub is_date-parts : (y : ℤ) (m d : ℕ) → is_date y m d ≡ true → IsDate y m d
+is_date-parts y m d e = date-at m d (month_length y m) e
+  where
+    date-at : (m d long : ℕ) → (nat_le 1 m && nat_le m 12 && nat_le 1 d && nat_le d long) ≡ true → ((1 ≤ m) × (m ≤ 12))
+        × ((1 ≤ d) × (d ≤ long))
+    date-at m d long e = grind (arith, nat_tests)
+
+is_date-false : (y : ℤ) (m d : ℕ) → (IsDate y m d → ⊥) → is_date y m d ≡ false
+is_date-false y m d never = false_from_ne_true (is_date y m d) (λ e. never (is_date-parts y m d e))
+
+pub day_in_range-ok : (n : ℤ) → IsReadableDay n → day_in_range n ≡ Ok n
+day_in_range-ok n h = grind (arith, signed_arith)
+
+day-inside : (n : ℤ) → (int_lt n (neg_ℤ (pos 25202)) || int_lt (pos 266_627) n) ≡ false → IsReadableDay n
+day-inside n e = grind (arith, signed_arith)
+
+day-outside : (n : ℤ) → (int_lt n (neg_ℤ (pos 25202)) || int_lt (pos 266_627) n) ≡ true → IsReadableDay n → ⊥
+day-outside n e h = grind (arith, signed_arith)
+
+day_in_range-err : (n : ℤ) → (IsReadableDay n → ⊥) → day_in_range n ≡ Err Range
+day_in_range-err n never =
+    rw (true_from_ne_false (int_lt n (neg_ℤ (pos 25202)) || int_lt (pos 266_627) n) (λ e. never (day-inside n e))) refl
+
+-- what a date's text is read as
+pub date_in-only : (text : List ℕ) (r : Result ℤ StampFault) → IsReadDate text r → r ≡ date_in text
+unfolding date_in
+date_in-only text (Ok n) h =
+    rw (
+      ymd_in-is text h.0.year h.0.month h.0.day h.0.shown,
+      is_date-true (pos h.0.year) h.0.month h.0.day h.0.date.0,
+      ← h.0.date.1,
+    )
+    (sym (day_in_range-ok n h.1))
+date_in-only text (Err Shape) h = rw (← ymd-only text None h) refl
+date_in-only text (Err NoSuchDate) (y, m, d, shape, never) = rw (
+  ymd_in-is text y m d shape,
+  is_date-false (pos y) m d never,
+) refl
+date_in-only text (Err Range) (n, is, never) =
+    rw (
+      ymd_in-is text is.year is.month is.day is.shown,
+      is_date-true (pos is.year) is.month is.day is.date.0,
+      ← is.date.1,
+    )
+    (sym (day_in_range-err n never))
+
+-- and it is read in that way
+pub date_in-is : (text : List ℕ) → IsReadDate text (date_in text)
+unfolding date_in
+date_in-is text = answered text (ymd_in text) (ymd_in-shape text)
+  where
+    answered : (text : List ℕ) (x : Option (ℕ × ℕ × ℕ)) → IsYmd text x → IsReadDate text (day_if_any x)
+    answered text None h = h
+    answered text (Some x) h =
+        cond_both (is_date (pos x.0) x.1 x.2) (day_in_range (day_number (pos x.0) x.1 x.2)) (Err NoSuchDate)
+        (IsReadDate text)
+        (λ e. ranged text x.0 x.1 x.2 h (is_date-parts (pos x.0) x.1 x.2 e))
+        (λ e. (x.0, x.1, x.2, h, λ d. true≢false (sym (is_date-true (pos x.0) x.1 x.2 d) ∙ e)))
+      where
+        ranged : (text : List ℕ) (y m d : ℕ) → IsYmdText text y m d → IsDate (pos y) m d
+            → IsReadDate text (day_in_range (day_number (pos y) m d))
+        ranged text y m d h date =
+            let n = day_number (pos y) m d in
+            let is : IsDateText n text = record { year = y; month = m; day = d; date = (date, refl); shown = h } in
+            cond_both (int_lt n (neg_ℤ (pos 25202)) || int_lt (pos 266_627) n) (Err Range) (Ok n) (IsReadDate text)
+            (λ e. (n, is, day-outside n e))
+            (λ e. (is, day-inside n e))
+
+-- what is written of a day that is read is read again
+pub date_in-again : (n : ℤ) → IsReadableDay n → date_in (date_text n) ≡ Ok n
+date_in-again n h = sym (date_in-only (date_text n) (Ok n)
+    (date_text-is n (omega (arith, signed_arith), omega (arith, signed_arith)), h))
+
+-- a day has one text
+pub date_text-only : (n : ℤ) (text : List ℕ) → IsDateText n text → text ≡ date_text n
+date_text-only n text h =
+    let only = date_of-only n (pos h.year) h.month h.day h.date in
+    rw (← only.0, ← only.1, ← only.2) h.shown.is
+
+-- and a second has one
+pub stamp_text-only : (s : ℤ) (text : List ℕ) → IsStampText s text → text ≡ stamp_text s
+stamp_text-only s text h =
+    let k = 3600 * h.hour + 60 * h.minute + h.second in
+    let parts = second-only s h.number k (omega arith) h.is in
+    let date : IsDateText (day_of_second s) h.shown.front = record {
+      year = h.year;
+      month = h.month;
+      day = h.day;
+      date = rw parts.0 h.date;
+      shown = h.shown.date;
+    } in
+    let hour : k / 3600 ≡ h.hour = omega arith in
+    let minute : k / 60 % 60 ≡ h.minute = omega arith in
+    let second : k % 60 ≡ h.second = omega arith in
+    rw (
+      h.shown.is,
+      h.shown.clock.is,
+      date_text-only (day_of_second s) h.shown.front date,
+      parts.1,
+      hour,
+      minute,
+      second,
+    ) refl

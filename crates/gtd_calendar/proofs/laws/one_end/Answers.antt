@@ -1,0 +1,8 @@
+use Rattle.gtd_calendar.proofs.StopLemmas.{stop-is, stop-only}
+use Rattle.gtd_calendar.proofs.laws.one_end.Goals as goal
+
+pub returns-clause-has : goal.returns-clause-has
+returns-clause-has c = stop-is
+
+pub returns-clause-only : goal.returns-clause-only
+returns-clause-only c = stop-only

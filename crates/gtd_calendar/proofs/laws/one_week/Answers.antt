@@ -1,0 +1,8 @@
+use Rattle.gtd_calendar.proofs.WeekLemmas.{week_of-is, week_of-only}
+use Rattle.gtd_calendar.proofs.laws.one_week.Goals as goal
+
+pub returns-clause-has : goal.returns-clause-has
+returns-clause-has c = week_of-is
+
+pub returns-clause-only : goal.returns-clause-only
+returns-clause-only c = week_of-only

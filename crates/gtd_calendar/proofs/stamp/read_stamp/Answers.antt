@@ -1,0 +1,34 @@
+use Rattle.std.proofs.Common.{rules}
+use Rattle.gtd_calendar.proofs.MomentLemmas.{stamp_in-only}
+use Rattle.gtd_calendar.proofs.stamp.read_stamp.Goals as goal
+
+pub returns-in_err-year-clause-second : goal.returns-in_err-year-clause-second
+returns-in_err-year-clause-second c = search rules
+
+pub returns-in_err-year-clause-value : goal.returns-in_err-year-clause-value
+returns-in_err-year-clause-value c = stamp_in-only c.args.text.now _ (returns-in_err-year-clause-second c)
+
+pub returns-in_err-day-clause-second : goal.returns-in_err-day-clause-second
+returns-in_err-day-clause-second c = search rules
+
+pub returns-in_err-day-clause-value : goal.returns-in_err-day-clause-value
+returns-in_err-day-clause-value c = stamp_in-only c.args.text.now _ (returns-in_err-day-clause-second c)
+
+pub returns-in_err-number-clause-second : goal.returns-in_err-number-clause-second
+returns-in_err-number-clause-second c = search rules
+
+pub returns-in_err-number-clause-value : goal.returns-in_err-number-clause-value
+returns-in_err-number-clause-value c = stamp_in-only c.args.text.now _ (returns-in_err-number-clause-second c)
+
+pub returns-then-number-ltminus2177452800-clause-second : goal.returns-then-number-ltminus2177452800-clause-second
+returns-then-number-ltminus2177452800-clause-second c = search rules
+
+pub returns-then-number-ltminus2177452800-clause-value : goal.returns-then-number-ltminus2177452800-clause-value
+returns-then-number-ltminus2177452800-clause-value c =
+    stamp_in-only c.args.text.now _ (returns-then-number-ltminus2177452800-clause-second c)
+
+pub returns-clause-second : goal.returns-clause-second
+returns-clause-second c = search rules
+
+pub returns-clause-value : goal.returns-clause-value
+returns-clause-value c = stamp_in-only c.args.text.now _ (returns-clause-second c)

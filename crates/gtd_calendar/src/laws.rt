@@ -1,0 +1,82 @@
+//! Laws of the calendar's definitions, over all whole numbers.
+
+ghost use Rattle.std.specs.Prelude.{◌≡◌, List, Result, Ok, ℤ, ℕ, pos, ◌+ℤ◌, ◌≤ℤ◌};
+ghost use Rattle.gtd_core.specs.DurationBound.{bound_of};
+ghost use Rattle.gtd_core.specs.declared.duration.DurationParts.{DurationParts};
+ghost use Rattle.gtd_core.specs.declared.second.Sec.{Sec};
+ghost use Rattle.gtd_calendar.specs.Calendar.{first_day, year_length, month_length, weekday_of};
+ghost use Rattle.gtd_calendar.specs.Calendar.{IsCalendarDay, IsDateOf, year_of, month_of, day_of_month};
+ghost use Rattle.gtd_calendar.specs.Calendar.{IsWeekOf, week_of, week_year_of};
+ghost use Rattle.gtd_calendar.specs.Clock.{IsStop, day_of_second, stop};
+ghost use Rattle.gtd_calendar.specs.Read.{IsReadableDay, IsReadableSecond, IsReadDate, IsReadStamp, date_in, stamp_in};
+ghost use Rattle.gtd_calendar.specs.Stamp.{IsDateText, IsStampText, date_text, stamp_text};
+ghost use Rattle.gtd_calendar.specs.declared.stamp.StampFault.{StampFault};
+
+/// 1970-01-01 is day 0, and years follow one another by their lengths, forwards and backwards. Nothing else says so.
+pub fn years_follow()
+    ensures epoch { first_day (pos 1970) ≡ pos 0 }
+    ensures next { (y : ℤ) → first_day (y +ℤ pos 1) ≡ first_day y +ℤ pos (year_length y) }
+    ensures only { (first : ℤ → ℤ) → first (pos 1970) ≡ pos 0
+        → ((y : ℤ) → first (y +ℤ pos 1) ≡ first y +ℤ pos (year_length y))
+        → (y : ℤ) → first y ≡ first_day y }
+{}
+
+/// Each day has exactly one date, and it is the one that is computed.
+pub fn one_date()
+    ensures has { (n : ℤ) → IsDateOf n (year_of n) (month_of n) (day_of_month n) }
+    ensures only { (n y : ℤ) (m d : ℕ) → IsDateOf n y m d
+        → (y ≡ year_of n) × (m ≡ month_of n) × (d ≡ day_of_month n) }
+{}
+
+/// Each day is in exactly one week of ISO 8601, and it is the one that is computed.
+pub fn one_week()
+    ensures has { (n : ℤ) → IsWeekOf n (week_year_of n) (week_of n) }
+    ensures only { (n y : ℤ) (w : ℕ) → IsWeekOf n y w → (y ≡ week_year_of n) × (w ≡ week_of n) }
+{}
+
+/// Each stretch has exactly one end, and it is the one that is computed.
+pub fn one_end()
+    ensures has { (p : DurationParts) (b : ℤ) → IsStop p b (stop p b) }
+    ensures only { (p : DurationParts) (b e : ℤ) → IsStop p b e → e ≡ stop p b }
+{}
+
+/// A stretch ends at or after its begin, and is never longer than its bound.
+pub fn stretch_within_bound()
+    ensures later { (p : DurationParts) (b : ℤ) → b ≤ℤ stop p b }
+    ensures within { (p : DurationParts) (b : ℤ) → stop p b ≤ℤ (b +ℤ pos (bound_of p)) }
+{}
+
+/// The calendar repeats after 400 years, which are 146,097 days: the date and the week, their years aside, the weekday
+/// and the lengths of months, and so the places in them; and a stretch that begins so much later ends so much later.
+pub fn calendar_repeats()
+    ensures dates { (n y : ℤ) (m d : ℕ) → IsDateOf n y m d
+        → IsDateOf (n +ℤ pos 146_097) (y +ℤ pos 400) m d }
+    ensures months { (y : ℤ) (m : ℕ) → month_length (y +ℤ pos 400) m ≡ month_length y m }
+    ensures weekdays { (n : ℤ) → weekday_of (n +ℤ pos 146_097) ≡ weekday_of n }
+    ensures weeks { (n y : ℤ) (w : ℕ) → IsWeekOf n y w
+        → IsWeekOf (n +ℤ pos 146_097) (y +ℤ pos 400) w }
+    ensures stretches { (p : DurationParts) (b : ℤ)
+        → stop p (b +ℤ pos 12_622_780_800) ≡ stop p b +ℤ pos 12_622_780_800 }
+{}
+
+/// Each day and each second of the calendar has exactly one text, and it is the one that is computed.
+pub fn one_text()
+    ensures date { (n : ℤ) → IsCalendarDay n → IsDateText n (date_text n) }
+    ensures date_only { (n : ℤ) (text : List ℕ) → IsDateText n text → text ≡ date_text n }
+    ensures stamp { (s : ℤ) → IsCalendarDay (day_of_second s) → IsStampText s (stamp_text s) }
+    ensures stamp_only { (s : ℤ) (text : List ℕ) → IsStampText s text → text ≡ stamp_text s }
+{}
+
+/// A text is read in exactly one way: as what is computed.
+pub fn one_reading()
+    ensures date { (text : List ℕ) → IsReadDate text (date_in text) }
+    ensures date_only { (text : List ℕ) (r : Result ℤ StampFault) → IsReadDate text r → r ≡ date_in text }
+    ensures stamp { (text : List ℕ) → IsReadStamp text (stamp_in text) }
+    ensures stamp_only { (text : List ℕ) (r : Result Sec StampFault) → IsReadStamp text r → r ≡ stamp_in text }
+{}
+
+/// What is written of a day or a second in the range that is read is read again.
+pub fn read_again()
+    ensures date { (n : ℤ) → IsReadableDay n → date_in (date_text n) ≡ Ok n }
+    ensures stamp { (s : ℤ) → IsReadableSecond s → stamp_in (stamp_text s) ≡ Ok (record { 0 = s }) }
+{}

@@ -1,0 +1,17 @@
+//! The Gregorian calendar: the dates, weekdays and ISO weeks of days, the ends of stretches, and the texts of dates and
+//! moments.
+//!
+//! Days are given by their numbers, 1970-01-01 being 0, and seconds by theirs, of the local civil clock. It is the one
+//! crate that calls `jiff`, by the calendar that its crates share, `jiff_core`. No call of this crate takes memory.
+#![tactic(auto)]
+
+pub use clock::{day_of_sec, end_of, second_of_day};
+pub use day::{DayFields, day_of, fields};
+pub use stamp::{StampFault, read_date, read_stamp, write_date, write_stamp};
+
+pub mod clock;
+pub mod day;
+pub mod laws;
+pub mod stamp;
+#[cfg(test)]
+mod tests;
