@@ -1,0 +1,104 @@
+-- The steps of a difference.
+use Rattle.std.proofs.Common.{◌⊎◌, List, ◌∷◌, inl, inr, arith, Option, Some, None, IfSome}
+use Rattle.std.specs.Prelude.{ℤ, ◌≤ℤ◌, ◌<ℤ◌}
+use Rattle.std.proofs.lemmas.Int.{ints, by_lt_z}
+use Rattle.gtd_core.specs.Interval.{Interval}
+use Rattle.gtd_core.specs.declared.domain.Op.TheVariants.{Minus}
+use Rattle.gtd_spans.specs.Normal.{Holds, IsNormal}
+use Rattle.gtd_spans.specs.Combine.{combine}
+use Rattle.gtd_spans.specs.Merging.{listed, AllBeginFrom}
+use Rattle.gtd_spans.specs.OneList.{after-holds, first-holds}
+use Rattle.gtd_spans.specs.Combining.{combine-normal, combine-holds}
+use Rattle.gtd_spans.proofs.UnionSteps.{Handed, from-holds}
+use Rattle.gtd_spans.proofs.MeetSteps.{handed-by}
+
+gap-of : (g : Option Interval) (ms qs : List Interval)
+    → IfSome g (λ a. (a.from <ℤ a.until) × ((t : ℤ) → Holds ms t → (Holds qs t → ⊥) → a.until <ℤ t))
+    → IfSome g (λ a. (a.from <ℤ a.until) × ((t : ℤ) → Holds (combine Minus ms qs) t → a.until <ℤ t))
+gap-of None ms qs h = tt
+gap-of (Some a) ms qs h = (h.0, (λ t k. let z = (combine-holds Minus ms qs t).0 k in h.1 t z.0 z.1))
+
+minus-by : (g : Option Interval) (ls rs ms qs : List Interval)
+    → IfSome g (λ a. (a.from <ℤ a.until) × ((t : ℤ) → Holds ms t → (Holds qs t → ⊥) → a.until <ℤ t))
+    → ((t : ℤ) → Holds ls t → (Holds rs t → ⊥) → Holds (listed g) t ⊎ (Holds ms t × (Holds qs t → ⊥)))
+    → ((t : ℤ) → Holds (listed g) t → Holds ls t × (Holds rs t → ⊥))
+    → ((t : ℤ) → Holds ms t → (Holds qs t → ⊥) → Holds ls t × (Holds rs t → ⊥))
+    → Handed g (combine Minus ls rs) (combine Minus ms qs)
+minus-by g ls rs ms qs gap out in1 in2 = handed-by g _ _ (combine-normal _ _ _) (combine-normal _ _ _)
+    (gap-of g ms qs gap)
+    (λ t. let old = combine-holds Minus ls rs t in let new = combine-holds Minus ms qs t in (
+      (λ h. let k = old.0 h in elim (out t k.0 k.1) [ inl z ↦ inl z | inr z ↦ inr (new.1 z) ]),
+      (λ h. old.1 (elim h [ inl z ↦ in1 t z | inr z ↦ let k = new.0 z in in2 t k.0 k.1 ])),
+    ))
+
+-- the first interval on the right ends before the left side begins
+pub drop-right : (x y : Interval) (l r : List Interval) → IsNormal (x ∷ l) → y.until ≤ℤ x.from
+    → Handed None (combine Minus (x ∷ l) (y ∷ r)) (combine Minus (x ∷ l) r)
+drop-right x y l r n le = minus-by None (x ∷ l) (y ∷ r) (x ∷ l) r tt
+    (λ t a b. inr (a, (λ k. b (inr k))))
+    (λ t z. absurd z)
+    (λ t a b. (a, (λ k. elim k [ inl w ↦ (let q = first-holds x l t n a in omega (arith, ints, w.1, q)) | inr j ↦ b j ])))
+
+-- the right side begins after the first interval on the left
+pub give-left : (x : Interval) (l rs : List Interval) → IsNormal (x ∷ l) → AllBeginFrom x.until rs
+    → Handed (Some x) (combine Minus (x ∷ l) rs) (combine Minus l rs)
+give-left x l rs n a = minus-by (Some x) (x ∷ l) rs l rs
+    (n.0, (λ t h k. after-holds x.until t l n.1 h))
+    (λ t h k. elim h [ inl w ↦ inl (inl w) | inr j ↦ inr (j, k) ])
+    (λ t z. elim z [ inl w ↦ (inl w, (λ k. let q = from-holds x.until t rs a k in omega (arith, ints, w.1, q))) | inr e ↦ absurd e ])
+    (λ t h k. (inr h, k))
+
+-- the part of the first interval on the left that is before the first one on the right
+pub give-part : (x y : Interval) (l r : List Interval) → IsNormal (x ∷ l) → IsNormal (y ∷ r) → x.from <ℤ y.from → y.from <ℤ x.until
+    → Handed (Some (record { from = x.from; until = y.from })) (combine Minus (x ∷ l) (y ∷ r))
+    (combine Minus (record { from = y.from; until = x.until } ∷ l) (y ∷ r))
+give-part x y l r n m lt lu = minus-by (Some (record { from = x.from; until = y.from })) (x ∷ l) (y ∷ r) (record { from = y.from; until = x.until } ∷ l) (y ∷ r) (
+  lt,
+  (λ t h k. by_lt_z y.from t (λ s. s) (λ ge. absurd (elim h [
+    | inl w ↦ k (inl (w.0, omega (arith, ints, m.0, w.0)))
+    | inr j ↦ let q = after-holds x.until t l n.1 j in omega (arith, ints, q)
+  ]))),
+)
+    (λ t h k. elim h [
+      | inl w ↦ by_lt_z t y.from (λ s. inl (inl (w.0, s))) (λ s. inr (inl (s, w.1), k))
+      | inr j ↦ inr (inr j, k)
+    ])
+    (λ t z. elim z [
+      | inl w ↦ (inl (w.0, omega (arith, ints, w.1)), (λ k. let q = first-holds y r t m k in omega (arith, ints, w.1, q)))
+      | inr e ↦ absurd e
+    ])
+    (λ t h k. (elim h [ inl w ↦ inl (omega (arith, ints, w.0), w.1) | inr j ↦ inr j ], k))
+
+-- the first interval on the right covers the front of the first one on the left, and goes
+pub trim-left : (x y : Interval) (l r : List Interval) → IsNormal (x ∷ l) → IsNormal (y ∷ r) → y.from ≤ℤ x.from → x.from <ℤ y.until → y.until <ℤ x.until
+    → Handed None (combine Minus (x ∷ l) (y ∷ r)) (combine Minus (record { from = y.until; until = x.until } ∷ l) r)
+trim-left x y l r n m le lt lu = minus-by None (x ∷ l) (y ∷ r) (record { from = y.until; until = x.until } ∷ l) r tt
+    (λ t h k. inr (
+      elim h [
+        | inl w ↦ by_lt_z t y.until (λ s. absurd (k (inl (omega (arith, ints, w.0), s)))) (λ s. inl (s, w.1))
+        | inr j ↦ inr j
+      ],
+      (λ j. k (inr j)),
+    ))
+    (λ t z. absurd z)
+    (λ t h k. (
+      elim h [ inl w ↦ inl (omega (arith, ints, w.0), w.1) | inr j ↦ inr j ],
+      (λ j. elim j [
+        | inl v ↦ elim h [
+          | inl w ↦ omega (arith, ints, v.1, w.0)
+          | inr i ↦ let q = after-holds x.until t l n.1 i in omega (arith, ints, v.1, q)
+        ]
+        | inr i ↦ k i
+      ]),
+    ))
+
+-- the first interval on the right covers the first one on the left
+pub drop-left : (x y : Interval) (l r : List Interval) → IsNormal (x ∷ l) → IsNormal (y ∷ r) → y.from ≤ℤ x.from → x.until ≤ℤ y.until
+    → Handed None (combine Minus (x ∷ l) (y ∷ r)) (combine Minus l (y ∷ r))
+drop-left x y l r n m le lu = minus-by None (x ∷ l) (y ∷ r) l (y ∷ r) tt
+    (λ t h k. elim h [
+      | inl w ↦ absurd (k (inl (omega (arith, ints, w.0), omega (arith, ints, w.1))))
+      | inr j ↦ inr (j, k)
+    ])
+    (λ t z. absurd z)
+    (λ t h k. (inr h, k))

@@ -1,0 +1,5 @@
+use Rattle.gtd_spans.proofs.CountFacts.{one-count}
+use Rattle.gtd_spans.proofs.laws.one_count.Goals as goal
+
+pub returns : goal.returns
+returns g c = record { one = one-count g.S.SecondSet.contains }

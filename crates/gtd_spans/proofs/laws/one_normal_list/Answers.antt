@@ -1,0 +1,5 @@
+use Rattle.gtd_spans.specs.NormalFor.{one-normal-list}
+use Rattle.gtd_spans.proofs.laws.one_normal_list.Goals as goal
+
+pub returns : goal.returns
+returns g c = record { one = one-normal-list g.S.SecondSet.contains }

@@ -1,0 +1,5 @@
+use Rattle.gtd_spans.proofs.SomeList.{some-normal-list}
+use Rattle.gtd_spans.proofs.laws.some_normal_list.Goals as goal
+
+pub returns : goal.returns
+returns g c = record { some = some-normal-list g.S.SecondSet.contains }

@@ -1,0 +1,8 @@
+use Rattle.gtd_spans.specs.Combining.{combine-normal, combine-holds}
+use Rattle.gtd_spans.proofs.sweep.Sweep.new.Goals as goal
+
+pub returns-clause-normal : goal.returns-clause-normal
+returns-clause-normal c = λ l r. combine-normal _ _ _
+
+pub returns-clause-seconds : goal.returns-clause-seconds
+returns-clause-seconds c = λ l r t. rw (c.new.ensures.meaning l r) (combine-holds c.args.op l r t)

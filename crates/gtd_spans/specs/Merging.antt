@@ -1,0 +1,110 @@
+-- What a merge, together with what its sides still give, has still to hand out.
+use Rattle.std.specs.Prelude.{ℕ, ◌+◌, ◌≡◌, ◌≢◌, ◌<ℤ◌, List, [], ◌∷◌, Option, Some, None}
+use Rattle.gtd_core.specs.Interval.{Interval}
+use Rattle.gtd_core.specs.declared.domain.Op.{Op}
+use Rattle.gtd_core.specs.declared.domain.Op.TheVariants.{Union, Meet, Minus}
+use Rattle.gtd_spans.specs.declared.merge.Side.{Side}
+use Rattle.gtd_spans.specs.declared.merge.Side.TheVariants.{Open, Held, Ended}
+use Rattle.gtd_spans.specs.declared.merge.Ask.{Ask}
+use Rattle.gtd_spans.specs.declared.merge.Ask.TheVariants.{Left, Right, Give, End}
+use Rattle.gtd_spans.specs.declared.merge.Merge.{Merge}
+use Rattle.gtd_spans.specs.Normal.{IsNormal}
+pub use Rattle.gtd_spans.specs.Normal.{AllBeginFrom}
+use Rattle.gtd_spans.specs.Combine.{combine}
+
+-- the interval, if there is one, as a list
+abbrev pub listed : Option Interval → List Interval
+listed None = []
+listed (Some x) = x ∷ []
+
+-- what a side has still to come: what it was told and has not used, and then what its source gives
+abbrev pub side_list : Side → List Interval → List Interval
+side_list Open l = l
+side_list (Held x) l = x ∷ l
+side_list Ended l = []
+
+-- the normal list that a merge has still to hand out, where its sides still give l and r
+abbrev pub still : Merge → List Interval → List Interval → List Interval
+still s l r = combine Union (listed s.kept) (combine s.op (side_list s.left l) (side_list s.right r))
+
+-- no side has an interval that begins before the one that is kept back
+abbrev pub KeptFits : Option Interval → List Interval → List Interval → Type 0
+KeptFits None l r = Unit {0}
+KeptFits (Some x) l r = (x.from <ℤ x.until) × AllBeginFrom x.from l × AllBeginFrom x.from r
+
+-- only a union keeps an interval back
+abbrev pub OnlyUnionKeeps : Op → Option Interval → Type 0
+OnlyUnionKeeps Union o = Unit {0}
+OnlyUnionKeeps Meet None = Unit {0}
+OnlyUnionKeeps Meet (Some x) = ⊥
+OnlyUnionKeeps Minus None = Unit {0}
+OnlyUnionKeeps Minus (Some x) = ⊥
+
+-- the merge may be in this state where its sides still give l and r
+pub record Fits (s : Merge) (l r : List Interval) : Type 0 where
+  pub left : IsNormal (side_list s.left l)
+  pub right : IsNormal (side_list s.right r)
+  pub kept : KeptFits s.kept (side_list s.left l) (side_list s.right r)
+  pub keeps : OnlyUnionKeeps s.op s.kept
+
+-- between the two states nothing was handed out
+abbrev pub Keeps : Merge → Merge → Type 0
+Keeps s t = (l r : List Interval) → Fits s l r → Fits t l r × (still s l r ≡ still t l r)
+
+-- between the two states the interval was handed out
+abbrev pub Gives : Interval → Merge → Merge → Type 0
+Gives x s t = (l r : List Interval) → Fits s l r → Fits t l r × (still s l r ≡ x ∷ still t l r)
+
+-- the next thing that the merge is told is of the left side, or of the right one
+abbrev pub AwaitsLeft : Merge → Type 0
+AwaitsLeft s = s.left ≡ Open
+
+abbrev pub AwaitsRight : Merge → Type 0
+AwaitsRight s = (s.left ≢ Open) × (s.right ≡ Open)
+
+-- a step from one state to another with that answer
+abbrev pub Steps : Merge → Ask → Merge → Type 0
+Steps s Left t = AwaitsLeft t × Keeps s t
+Steps s Right t = AwaitsRight t × Keeps s t
+Steps s (Give x) t = Gives x s t
+Steps s End t = Keeps s t × ((l r : List Interval) → Fits s l r → still s l r ≡ [])
+
+-- the list before and after its first interval is taken off, if there is one
+abbrev pub Takes : List Interval → Option Interval → List Interval → Type 0
+Takes before None after = (before ≡ []) × (after ≡ [])
+Takes before (Some x) after = before ≡ x ∷ after
+
+-- 0 where the side has ended, else 1
+abbrev pub unended : Side → ℕ
+unended Open = 1
+unended (Held x) = 1
+unended Ended = 0
+
+-- the same sides have ended in both states
+abbrev pub SameEnded : Merge → Merge → Type 0
+SameEnded s t = (unended s.left ≡ unended t.left) × (unended s.right ≡ unended t.right)
+
+-- the state after the left side was told what comes first in it; the right side
+abbrev pub TellsLeft : Merge → Option Interval → Merge → Type 0
+TellsLeft s told t = (before after r : List Interval) → Takes before told after → Fits s before r
+    → Fits t after r × (still s before r ≡ still t after r)
+
+abbrev pub TellsRight : Merge → Option Interval → Merge → Type 0
+TellsRight s told t = (l before after : List Interval) → Takes before told after → Fits s l before
+    → Fits t l after × (still s l before ≡ still t l after)
+
+-- how many of the sides have not ended
+abbrev pub unended_sides : Merge → ℕ
+unended_sides s = unended s.left + unended s.right
+
+-- 1 where a side was told a span, and 0 where it was told that there is none
+abbrev pub told_count : Option Interval → ℕ
+told_count None = 0
+told_count (Some x) = 1
+
+-- a step of a merge whose left side gives nothing more, with that answer: it asks for its right side by `Left`
+abbrev pub StepsBeside : Merge → Ask → Merge → Type 0
+StepsBeside s Left t = AwaitsRight t × ((l : List Interval) → Fits s [] l → Fits t [] l × (still s [] l ≡ still t [] l))
+StepsBeside s Right t = ⊥
+StepsBeside s (Give x) t = (l : List Interval) → Fits s [] l → Fits t [] l × (still s [] l ≡ x ∷ still t [] l)
+StepsBeside s End t = (l : List Interval) → Fits s [] l → Fits t [] l × (still s [] l ≡ still t [] l) × (still s [] l ≡ [])

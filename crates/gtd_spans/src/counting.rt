@@ -1,0 +1,92 @@
+//! The seconds of a source of spans, counted day by day.
+
+ghost use Rattle.std.specs.Prelude.{◌≡◌, ◌↔◌, ◌+ℤ◌, ◌≤ℤ◌, ◌<ℤ◌, ◌≤◌, ◌^◌, ℤ, pos};
+ghost use Rattle.gtd_core.specs.Interval.{Within};
+ghost use Rattle.gtd_spans.specs.Normal.{Holds, IsNormal};
+ghost use Rattle.gtd_spans.specs.Counting.{IsCount, to_come};
+
+use crate::source::SpanSource;
+use gtd_core::{Sec, Span};
+use std::marker::Model;
+
+/// The seconds of a day.
+const DAY: i64 = 86_400;
+
+/// How many seconds of a span are on the day that begins at midnight.
+fn seconds_within(span: Span, midnight: Sec) -> u32
+    requires fits { (midnight.0 +ℤ pos 86400) <ℤ pos (2 ^ 63) }
+    ensures count { IsCount (Within span) midnight.0 86400 result }
+    ensures few { result ≤ 86400 }
+{
+    let day = Span::between(midnight, Sec(midnight.0 + DAY));
+    match span.meet(day) {
+        Some(part) => (part.until().0 - part.from().0) as u32,
+        None => 0,
+    }
+}
+
+/// How many seconds of the spans to come are on the day. Spans that end on the day are taken off.
+fn count_day<S: SpanSource>(source: &mut S, held: &mut Option<Span>, midnight: Sec) -> u32
+    requires fits { (midnight.0 +ℤ pos 86400) <ℤ pos (2 ^ 63) }
+    requires normal { IsNormal (to_come held.old (S.rest source.old)) }
+    ensures count { IsCount (Holds (to_come held.old (S.rest source.old))) midnight.0 86400 result }
+    ensures later { (t : ℤ) → (midnight.0 +ℤ pos 86400) ≤ℤ t
+        → Holds (to_come held.old (S.rest source.old)) t ↔ Holds (to_come held.new (S.rest source.new)) t }
+    ensures normal { IsNormal (to_come held.new (S.rest source.new)) }
+    ensures few { result ≤ 86400 }
+{
+    let end = midnight.0 + DAY;
+    let mut count = 0u32;
+    while let Some(span) = *held {
+        if span.from().0 >= end {
+            return count;
+        }
+        count += seconds_within(span, midnight);
+        if span.until().0 > end {
+            return count;
+        }
+        *held = source.next();
+    }
+    count
+}
+
+/// The spans of a source that are still to be counted, day by day. In contracts it is the normal list of them.
+#[derive(Drop)]
+pub struct ByDay<S: SpanSource> {
+    source: S,
+    held: Option<Span>,
+}
+
+impl<S: SpanSource> Model for ByDay<S> {
+    ghost use Rattle.std.specs.Prelude.{List};
+    ghost use Rattle.gtd_core.specs.Interval.{Interval};
+    ghost use Rattle.gtd_spans.specs.Normal.{IsNormal};
+    ghost use Rattle.gtd_spans.specs.Counting.{to_come};
+
+    ghost Value = { List Interval };
+
+    ghost view = { λ a. to_come a.held (S.rest a.source) };
+
+    ghost invariant = { λ a. IsNormal (to_come a.held (S.rest a.source)) };
+}
+
+impl<S: SpanSource> ByDay<S> {
+    /// All spans of a source.
+    pub fn new(mut source: S) -> ByDay<S>
+        ensures value { result ≡ S.rest source }
+    {
+        let held = source.next();
+        ByDay { source, held }
+    }
+
+    /// How many of the seconds are on the day that begins at midnight. Those before its end are then done.
+    pub fn count(&mut self, midnight: Sec) -> u32
+        requires fits { (midnight.0 +ℤ pos 86400) <ℤ pos (2 ^ 63) }
+        ensures count { IsCount (Holds self.old) midnight.0 86400 result }
+        ensures later { (t : ℤ) → (midnight.0 +ℤ pos 86400) ≤ℤ t
+            → Holds self.old t ↔ Holds self.new t }
+        ensures few { result ≤ 86400 }
+    {
+        count_day(&mut self.source, &mut self.held, midnight)
+    }
+}

@@ -1,0 +1,27 @@
+//! Sets of seconds as normal lists of spans: lists, sources that hand one out span by span, and the sweeps under both.
+//!
+//! A list is normal where its spans are in order, none is empty, and between two of them lies a second that neither
+//! holds. A set of seconds has exactly one such list between two whole numbers, so equal lists are equal sets.
+//!
+//! A [`Sweep`] is a set operator without its sides. It asks for their spans one at a time, and hands out those of the
+//! result. [`Unite`], [`Both`], [`Without`] and [`Outside`] drive one over sources, and the list operations collect
+//! these over lists. Only [`SpanList::push_start`] on a new span, [`SpanList::collect`] and the five list operations
+//! take memory.
+#![tactic(auto)]
+
+pub use counting::ByDay;
+pub use list::SpanList;
+pub use merge::Ask;
+pub use operations::{complement, meet, minus, same, union, within};
+pub use source::{Both, Outside, SpanSource, Unite, Without, next_change};
+pub use sweep::Sweep;
+
+mod counting;
+pub mod laws;
+mod list;
+mod merge;
+mod operations;
+mod source;
+mod sweep;
+#[cfg(test)]
+mod tests;

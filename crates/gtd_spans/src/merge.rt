@@ -1,0 +1,352 @@
+//! The merge of two sorted sides under a sweep.
+
+ghost use Rattle.std.specs.Prelude.{◌≡◌, ◌≢◌, ◌⊎◌, ◌↔◌, ◌<ℤ◌, ◌≤ℤ◌, ℤ, ◌+◌, List, IfSome};
+ghost use Rattle.gtd_core.specs.Interval.{Interval, Within};
+ghost use Rattle.gtd_core.specs.declared.domain.Op.TheVariants.{Union, Meet, Minus};
+ghost use Rattle.gtd_spans.specs.Normal.{Holds, IsNormal};
+ghost use Rattle.gtd_spans.specs.Combine.{combine};
+ghost use Rattle.gtd_spans.specs.Merging.{listed, side_list, AllBeginFrom, Fits, still, AwaitsLeft, AwaitsRight};
+ghost use Rattle.gtd_spans.specs.Merging.{Steps, SameEnded, TellsLeft, TellsRight, unended_sides, told_count};
+
+use gtd_core::{Op, Span};
+
+/// What is known of one side of a merge.
+#[derive(Clone, Copy, Debug)]
+pub(crate) enum Side {
+    /// Its next span is not known.
+    Open,
+    /// Its next span.
+    Held(Span),
+    /// It has no more spans.
+    Ended,
+}
+
+/// What a sweep asks for, or has to give.
+#[derive(Clone, Copy, Debug, PartialEq, Eq)]
+pub enum Ask {
+    /// It is to be told the first span still to come of its left side.
+    Left,
+    /// It is to be told the first span still to come of its right side.
+    Right,
+    /// The next span of the result.
+    Give(Span),
+    /// The result has no more spans.
+    End,
+}
+
+/// A set operator over two sides. A union keeps its latest span back until it is known that neither side reaches it.
+#[derive(Clone, Copy, Debug)]
+pub(crate) struct Merge {
+    op: Op,
+    left: Side,
+    right: Side,
+    kept: Option<Span>,
+}
+
+/// What is handed out, and what is kept back, once `next` comes after `kept`.
+fn joined(kept: Option<Span>, next: Span) -> (Option<Span>, Span)
+    ensures seconds { IfSome kept (λ k. k.from ≤ℤ next.from) → (t : ℤ) →
+        (Holds (listed kept) t ⊎ Within next t) ↔ (Holds (listed result.0) t ⊎ Within result.1 t) }
+    ensures gap { IfSome result.0 (λ g. (g.from <ℤ g.until) × (g.until <ℤ result.1.from)) }
+    ensures begins { IfSome kept (λ k. k.from ≤ℤ next.from) → result.1.from ≤ℤ next.from }
+    ensures not_empty { result.1.from <ℤ result.1.until }
+{
+    let Some(kept) = kept else {
+        return (None, next);
+    };
+    if next.from() > kept.until() {
+        return (Some(kept), next);
+    }
+    if next.until() > kept.until() {
+        (None, kept.until_later(next.until()))
+    } else {
+        (None, kept)
+    }
+}
+
+impl Merge {
+    ghost use Rattle.gtd_spans.specs.declared.merge.Side.TheVariants.{Open, Held, Ended};
+
+    /// The merge of an operator, before any step.
+    pub fn new(op: Op) -> Merge
+        ensures op { result.op ≡ op }
+        ensures fits { (l r : List Interval) → IsNormal l → IsNormal r → Fits result l r }
+        ensures meaning { (l r : List Interval) → still result l r ≡ combine op l r }
+    {
+        Merge {
+            op,
+            left: Side::Open,
+            right: Side::Open,
+            kept: None,
+        }
+    }
+
+    /// What the merge asks for, or has to give.
+    pub fn step(&mut self) -> Ask
+        ensures op { self.new.op ≡ self.old.op }
+        ensures steps { Steps self.old result self.new }
+        ensures ended { SameEnded self.old self.new }
+    {
+        match self.op {
+            Op::Union => self.step_union(),
+            Op::Meet => self.step_meet(),
+            Op::Minus => self.step_minus(),
+        }
+    }
+
+    /// Tells the side that the last step asked for its first span, or that it has none.
+    pub fn tell(&mut self, told: Option<Span>)
+        ensures op { self.new.op ≡ self.old.op }
+        ensures left { AwaitsLeft self.old → TellsLeft self.old told self.new }
+        ensures right { AwaitsRight self.old → TellsRight self.old told self.new }
+        ensures left_count { AwaitsLeft self.old
+            → unended_sides self.new + 1 ≡ unended_sides self.old + told_count told }
+        ensures left_ended { AwaitsLeft self.old → told ≡ None → self.new.left ≡ Ended }
+        ensures right_ended { AwaitsRight self.old → told ≡ None → self.new.right ≡ Ended }
+        ensures keeps_left { AwaitsRight self.old → self.new.left ≡ self.old.left }
+        ensures keeps_right { AwaitsLeft self.old → self.new.right ≡ self.old.right }
+        ensures right_count { AwaitsRight self.old
+            → unended_sides self.new + 1 ≡ unended_sides self.old + told_count told }
+    {
+        let told = match told {
+            Some(x) => Side::Held(x),
+            None => Side::Ended,
+        };
+        let left = self.left;
+        match left {
+            Side::Open => self.left = told,
+            Side::Held(_) | Side::Ended => self.right = told,
+        }
+    }
+
+    /// The next step of a union.
+    fn step_union(&mut self) -> Ask
+        requires op { self.old.op ≡ Union }
+        ensures op { self.new.op ≡ Union }
+        ensures steps { Steps self.old result self.new }
+        ensures ended { SameEnded self.old self.new }
+    {
+        let (left, right) = (self.left, self.right);
+        match left {
+            Side::Open => Ask::Left,
+            Side::Held(x) => match right {
+                Side::Open => Ask::Right,
+                Side::Held(y) => {
+                    if y.from() < x.from() {
+                        self.take_right(y)
+                    } else {
+                        self.take_left(x)
+                    }
+                }
+                Side::Ended => self.take_left(x),
+            },
+            Side::Ended => match right {
+                Side::Open => Ask::Right,
+                Side::Held(y) => self.take_right(y),
+                Side::Ended => self.take_kept(),
+            },
+        }
+    }
+
+    /// What is kept back, where both sides have ended.
+    fn take_kept(&mut self) -> Ask
+        requires op { self.old.op ≡ Union }
+        requires left { self.old.left ≡ Ended }
+        requires right { self.old.right ≡ Ended }
+        ensures op { self.new.op ≡ Union }
+        ensures steps { Steps self.old result self.new }
+        ensures ended { SameEnded self.old self.new }
+    {
+        match self.kept.take() {
+            Some(x) => Ask::Give(x),
+            None => Ask::End,
+        }
+    }
+
+    /// Takes the left span, which begins no later than the right one.
+    fn take_left(&mut self, x: Span) -> Ask
+        requires op { self.old.op ≡ Union }
+        requires held { self.old.left ≡ Held x }
+        requires other { self.old.right ≢ Open }
+        requires first { (l r : List Interval) → Fits self.old l r
+            → AllBeginFrom x.from (side_list self.old.right r) }
+        ensures op { self.new.op ≡ Union }
+        ensures steps { Steps self.old result self.new }
+        ensures ended { SameEnded self.old self.new }
+    {
+        let (given, kept) = joined(self.kept, x);
+        self.kept = Some(kept);
+        self.left = Side::Open;
+        match given {
+            Some(given) => Ask::Give(given),
+            None => Ask::Left,
+        }
+    }
+
+    /// Takes the right span, which begins no later than the left one.
+    fn take_right(&mut self, x: Span) -> Ask
+        requires op { self.old.op ≡ Union }
+        requires other { self.old.left ≢ Open }
+        requires held { self.old.right ≡ Held x }
+        requires first { (l r : List Interval) → Fits self.old l r
+            → AllBeginFrom x.from (side_list self.old.left l) }
+        ensures op { self.new.op ≡ Union }
+        ensures steps { Steps self.old result self.new }
+        ensures ended { SameEnded self.old self.new }
+    {
+        let (given, kept) = joined(self.kept, x);
+        self.kept = Some(kept);
+        self.right = Side::Open;
+        match given {
+            Some(given) => Ask::Give(given),
+            None => Ask::Right,
+        }
+    }
+
+    /// The next step of an intersection.
+    fn step_meet(&mut self) -> Ask
+        requires op { self.old.op ≡ Meet }
+        ensures op { self.new.op ≡ Meet }
+        ensures steps { Steps self.old result self.new }
+        ensures ended { SameEnded self.old self.new }
+    {
+        let (left, right) = (self.left, self.right);
+        match left {
+            Side::Open => Ask::Left,
+            Side::Held(x) => match right {
+                Side::Open => Ask::Right,
+                Side::Held(y) => self.meet(x, y),
+                Side::Ended => Ask::End,
+            },
+            Side::Ended => Ask::End,
+        }
+    }
+
+    /// What the two spans share. The one that ends first is used up.
+    fn meet(&mut self, x: Span, y: Span) -> Ask
+        requires op { self.old.op ≡ Meet }
+        requires left { self.old.left ≡ Held x }
+        requires right { self.old.right ≡ Held y }
+        ensures op { self.new.op ≡ Meet }
+        ensures steps { Steps self.old result self.new }
+        ensures ended { SameEnded self.old self.new }
+    {
+        let both = x.meet(y);
+        if x.until() <= y.until() {
+            self.left = Side::Open;
+            match both {
+                Some(both) => Ask::Give(both),
+                None => Ask::Left,
+            }
+        } else {
+            self.right = Side::Open;
+            match both {
+                Some(both) => Ask::Give(both),
+                None => Ask::Right,
+            }
+        }
+    }
+
+    /// The next step of a difference.
+    fn step_minus(&mut self) -> Ask
+        requires op { self.old.op ≡ Minus }
+        ensures op { self.new.op ≡ Minus }
+        ensures steps { Steps self.old result self.new }
+        ensures ended { SameEnded self.old self.new }
+    {
+        let (left, right) = (self.left, self.right);
+        match left {
+            Side::Open => Ask::Left,
+            Side::Held(x) => match right {
+                Side::Open => Ask::Right,
+                Side::Held(y) => self.cut(x, y),
+                Side::Ended => {
+                    self.left = Side::Open;
+                    Ask::Give(x)
+                }
+            },
+            Side::Ended => Ask::End,
+        }
+    }
+
+    /// What the right span leaves of the left one before its own end.
+    fn cut(&mut self, x: Span, y: Span) -> Ask
+        requires op { self.old.op ≡ Minus }
+        requires left { self.old.left ≡ Held x }
+        requires right { self.old.right ≡ Held y }
+        ensures op { self.new.op ≡ Minus }
+        ensures steps { Steps self.old result self.new }
+        ensures ended { SameEnded self.old self.new }
+    {
+        if y.until() <= x.from() {
+            self.right = Side::Open;
+            return Ask::Right;
+        }
+        if x.until() <= y.from() {
+            self.left = Side::Open;
+            return Ask::Give(x);
+        }
+        if x.from() < y.from() {
+            self.left = Side::Held(Span::between(y.from(), x.until()));
+            return Ask::Give(Span::between(x.from(), y.from()));
+        }
+        if y.until() < x.until() {
+            self.left = Side::Held(Span::between(y.until(), x.until()));
+            self.right = Side::Open;
+            return Ask::Right;
+        }
+        self.left = Side::Open;
+        Ask::Left
+    }
+}
+
+impl Merge {
+    ghost use Rattle.std.specs.Prelude.{[], ◌∷◌, ◌≤◌, None};
+    ghost use Rattle.gtd_spans.specs.Merging.{StepsBeside};
+    ghost use Rattle.gtd_spans.specs.declared.merge.Side.TheVariants.{Ended};
+
+    /// The difference of one span and the right side, before any step.
+    pub fn beside(span: Span) -> Merge
+        requires not_empty { span.from <ℤ span.until }
+        ensures fits { (l : List Interval) → IsNormal l → Fits result [] l }
+        ensures meaning { (l : List Interval) → still result [] l ≡ combine Minus (span ∷ []) l }
+    {
+        Merge {
+            op: Op::Minus,
+            left: Side::Held(span),
+            right: Side::Open,
+            kept: None,
+        }
+    }
+
+    /// What the merge asks for, or has to give, where its left side gives nothing more. `Left` then asks for the right
+    /// one.
+    pub fn step_beside(&mut self) -> Ask
+        ensures steps { StepsBeside self.old result self.new }
+        ensures ended { self.old.right ≡ Ended → self.new.right ≡ Ended }
+        ensures count { unended_sides self.new ≤ unended_sides self.old }
+    {
+        match self.step() {
+            Ask::Left => self.step_again(),
+            Ask::Right => Ask::Left,
+            Ask::Give(x) => Ask::Give(x),
+            Ask::End => Ask::End,
+        }
+    }
+
+    /// The step after the left side was asked for.
+    fn step_again(&mut self) -> Ask
+        requires awaits { AwaitsLeft self.old }
+        ensures steps { StepsBeside self.old result self.new }
+        ensures ended { self.old.right ≡ Ended → self.new.right ≡ Ended }
+        ensures count { unended_sides self.new ≤ unended_sides self.old }
+    {
+        self.tell(None);
+        match self.step() {
+            Ask::Left => unreachable!(),
+            Ask::Right => Ask::Left,
+            Ask::Give(x) => Ask::Give(x),
+            Ask::End => Ask::End,
+        }
+    }
+}

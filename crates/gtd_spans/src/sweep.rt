@@ -1,0 +1,105 @@
+//! Set operators without their sides.
+
+ghost use Rattle.std.specs.Prelude.{◌≡◌, ◌≢◌, ◌≤◌, ◌+◌, ◌↔◌, ℤ, List, [], ◌∷◌, None};
+ghost use Rattle.gtd_core.specs.Interval.{Interval, Within};
+ghost use Rattle.gtd_core.specs.Whole.{whole};
+ghost use Rattle.gtd_core.specs.declared.domain.Op.TheVariants.{Minus};
+ghost use Rattle.gtd_spans.specs.Normal.{Holds, IsNormal};
+ghost use Rattle.gtd_spans.specs.Combine.{Combined, combine};
+
+use crate::merge::{Ask, Merge};
+use gtd_core::{Horizon, Op, Span};
+
+/// Which sides a sweep asks.
+#[derive(Clone, Copy, Debug)]
+pub(crate) enum Sides {
+    Both,
+    /// The left one alone, which is the right side of its merge.
+    Left,
+}
+
+/// A set operator without its sides. It is told their spans one at a time, and holds at most three of them.
+///
+/// The caller keeps an order: after each [`Ask::Left`] or [`Ask::Right`], and before the next `step`, comes one `tell`
+/// with the first span still to come of that side's normal list, or with `None` where that is empty. What `step` then
+/// gives is, span by span, the normal list of what the operator makes of the two sides. In contracts `still` is what is
+/// to come of it, by what the sides still give. A side that was told `None` is asked no more.
+#[derive(Clone, Copy, Debug)]
+pub struct Sweep {
+    sides: Sides,
+    merge: Merge,
+}
+
+impl Sweep {
+    ghost use Rattle.gtd_spans.specs.declared.merge.Ask.TheVariants.{Left, Right};
+    ghost use Rattle.gtd_spans.specs.Merging.{told_count};
+    ghost use Rattle.gtd_spans.specs.Sweeping.{still, Fits, AwaitsLeft, AwaitsRight, HasOneSide};
+    ghost use Rattle.gtd_spans.specs.Sweeping.{LeftEnded, RightEnded, Steps, TellsLeft, TellsRight, unended_sides};
+
+    /// The sweep of an operator over two sides, before any step.
+    pub fn new(op: Op) -> Sweep
+        ensures fits { (l r : List Interval) → IsNormal l → IsNormal r → Fits result l r }
+        ensures meaning { (l r : List Interval) → still result l r ≡ combine op l r }
+        ensures normal { (l r : List Interval) → IsNormal (still result l r) }
+        ensures seconds { (l r : List Interval) (t : ℤ)
+            → Holds (still result l r) t ↔ Combined op (Holds l t) (Holds r t) }
+    {
+        Sweep {
+            sides: Sides::Both,
+            merge: Merge::new(op),
+        }
+    }
+
+    /// The sweep of the seconds of a horizon that its one side has not, before any step. That side is the left: the
+    /// right is never asked.
+    pub fn outside(horizon: Horizon) -> Sweep
+        ensures one_side { HasOneSide result }
+        ensures fits { (l r : List Interval) → IsNormal l → Fits result l r }
+        ensures meaning { (l r : List Interval)
+            → still result l r ≡ combine Minus (whole horizon ∷ []) l }
+        ensures normal { (l r : List Interval) → IsNormal (still result l r) }
+        ensures seconds { (l r : List Interval) (t : ℤ)
+            → Holds (still result l r) t ↔ (Within (whole horizon) t × (Holds l t → ⊥)) }
+    {
+        Sweep {
+            sides: Sides::Left,
+            merge: Merge::beside(horizon.whole()),
+        }
+    }
+
+    /// What the sweep asks for, or has to give: `Give` takes the first span off what is still to come, `End` comes only
+    /// where nothing is, and `Left` and `Right` leave it as it is.
+    pub fn step(&mut self) -> Ask
+        ensures steps { Steps self.old result self.new }
+        ensures sides { HasOneSide self.new ↔ HasOneSide self.old }
+        ensures left_ended { LeftEnded self.old → LeftEnded self.new }
+        ensures right_ended { RightEnded self.old → RightEnded self.new }
+        ensures never_right { HasOneSide self.old → result ≢ Right }
+        ensures left_asked { LeftEnded self.old → result ≢ Left }
+        ensures right_asked { RightEnded self.old → result ≢ Right }
+        ensures count { unended_sides self.new ≤ unended_sides self.old }
+    {
+        match self.sides {
+            Sides::Both => self.merge.step(),
+            Sides::Left => self.merge.step_beside(),
+        }
+    }
+
+    /// Hands in the first span still to come of the side that the last step asked for, or that it has none. What is
+    /// still to come stays.
+    pub fn tell(&mut self, told: Option<Span>)
+        ensures left { AwaitsLeft self.old → TellsLeft self.old told self.new }
+        ensures right { AwaitsRight self.old → TellsRight self.old told self.new }
+        ensures sides { HasOneSide self.new ↔ HasOneSide self.old }
+        ensures left_ended { AwaitsLeft self.old → told ≡ None → LeftEnded self.new }
+        ensures right_ended { AwaitsRight self.old → told ≡ None → RightEnded self.new }
+        ensures keeps_left { AwaitsRight self.old → LeftEnded self.old → LeftEnded self.new }
+        ensures keeps_right { AwaitsLeft self.old → RightEnded self.old → RightEnded self.new }
+        ensures left_count { AwaitsLeft self.old
+            → unended_sides self.new + 1 ≡ unended_sides self.old + told_count told }
+        ensures right_count { AwaitsRight self.old
+            → unended_sides self.new + 1 ≡ unended_sides self.old + told_count told }
+    {
+        self.merge.tell(told);
+    }
+}

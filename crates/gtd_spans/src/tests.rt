@@ -1,0 +1,218 @@
+//! Worked examples, and each operation against its seconds one by one.
+
+use crate::{
+    Ask, Both, ByDay, Outside, SpanList, SpanSource, Sweep, Unite, Without, complement, meet,
+    minus, same, union, within,
+};
+use gtd_core::{Horizon, Op, Sec, Span};
+use std::alloc::Global;
+use std::process::Abort;
+use std::test::Fail;
+
+/// The list of the spans with these ends, pushed in turn.
+fn list_of(rt: &impl Abort, alloc: Global, ends: &[(i64, i64)]) -> Result<SpanList, Fail> {
+    let mut list = SpanList::new(alloc);
+    let mut latest = Sec(i64::MIN);
+    for &(from, until) in ends {
+        let span = Span::new(Sec(from), Sec(until)).ok_or("no second")?;
+        let from = span.from();
+        assert!(rt; latest.0 <= from.0);
+        latest = from;
+        list.push_start(span)?;
+    }
+    Ok(list)
+}
+
+/// Whether the spans of the list have these ends.
+fn has_ends(list: &SpanList, ends: &[(i64, i64)]) -> bool {
+    let spans = list.spans();
+    if spans.len() != ends.len() {
+        return false;
+    }
+    for (span, &(from, until)) in spans.iter().zip(ends) {
+        if span.from() != Sec(from) || span.until() != Sec(until) {
+            return false;
+        }
+    }
+    true
+}
+
+/// Asserts that the source gives spans with these ends, and then none, again and again.
+fn gives<S: SpanSource>(rt: &impl Abort, source: &mut S, ends: &[(i64, i64)]) {
+    for &(from, until) in ends {
+        assert_eq!(rt;
+            source.next(),
+            Span::new(Sec(from), Sec(until)),
+            "from {from}"
+        );
+    }
+    assert_eq!(rt; source.next(), None);
+    assert_eq!(rt; source.next(), None);
+}
+
+#[test]
+fn lists(rt: HostRuntime) -> Result<(), Fail> {
+    let alloc = rt.alloc();
+    let pushed = list_of(&rt, alloc, &[(10, 20), (15, 18), (20, 30), (40, 41)])?;
+    assert!(rt; has_ends(&pushed, &[(10, 30), (40, 41)]));
+    let whole = list_of(&rt, alloc, &[(0, 10)])?;
+    let parts = list_of(&rt, alloc, &[(0, 5), (5, 10)])?;
+    assert!(rt; same(&whole, &parts));
+    let next = list_of(&rt, alloc, &[(10, 20)])?;
+    assert!(rt; !same(&whole, &next));
+    assert!(rt; has_ends(&union(alloc, &whole, &next)?, &[(0, 20)]));
+    assert!(rt; has_ends(&meet(alloc, &whole, &next)?, &[]));
+    let long = list_of(&rt, alloc, &[(0, 30)])?;
+    assert!(rt; has_ends(&minus(alloc, &long, &next)?, &[(0, 10), (20, 30)]));
+    let day = Horizon::new(0, 1).expect(&rt, "a horizon");
+    assert!(rt; has_ends(&complement(alloc, &next, day)?, &[(0, 10), (20, 86_400)]));
+    let wide = list_of(&rt, alloc, &[(-5, 5), (86_399, 86_500)])?;
+    assert!(rt; has_ends(&within(alloc, &wide, day)?, &[(0, 5), (86_399, 86_400)]));
+    let inner = within(alloc, &next, day)?;
+    assert_eq!(rt; inner.next_change(Sec(0), day), Some(Sec(10)));
+    assert_eq!(rt; inner.next_change(Sec(10), day), Some(Sec(20)));
+    assert_eq!(rt; inner.next_change(Sec(20), day), None);
+    let copy = SpanList::collect(alloc, &mut pushed.source())?;
+    assert!(rt; same(&copy, &pushed));
+    Ok(())
+}
+
+#[test]
+fn sources(rt: HostRuntime) -> Result<(), Fail> {
+    let alloc = rt.alloc();
+    let a = list_of(&rt, alloc, &[(0, 10), (20, 30)])?;
+    let b = list_of(&rt, alloc, &[(10, 20)])?;
+    let c = list_of(&rt, alloc, &[(5, 25)])?;
+    let day = Horizon::new(0, 1).expect(&rt, "a horizon");
+    gives(&rt, &mut Unite::new(a.source(), b.source()), &[(0, 30)]);
+    gives(
+        &rt,
+        &mut Both::new(a.source(), c.source()),
+        &[(5, 10), (20, 25)],
+    );
+    gives(
+        &rt,
+        &mut Without::new(a.source(), c.source()),
+        &[(0, 5), (25, 30)],
+    );
+    gives(
+        &rt,
+        &mut Outside::new(a.source(), day),
+        &[(10, 20), (30, 86_400)],
+    );
+    Ok(())
+}
+
+#[test]
+fn sweeps(rt: HostRuntime) {
+    let day = Horizon::new(0, 1).expect(&rt, "a horizon");
+    let mut sweep = Sweep::outside(day);
+    assert_eq!(rt; sweep.step(), Ask::Left);
+    sweep.tell(Some(Span::between(Sec(10), Sec(20))));
+    assert_eq!(rt; sweep.step(), Ask::Give(Span::between(Sec(0), Sec(10))));
+    assert_eq!(rt; sweep.step(), Ask::Left);
+    sweep.tell(None);
+    assert_eq!(rt;
+        sweep.step(),
+        Ask::Give(Span::between(Sec(20), Sec(86_400)))
+    );
+    assert_eq!(rt; sweep.step(), Ask::End);
+    assert_eq!(rt; sweep.step(), Ask::End);
+    let mut sweep = Sweep::new(Op::Union);
+    assert_eq!(rt; sweep.step(), Ask::Left);
+    sweep.tell(None);
+    assert_eq!(rt; sweep.step(), Ask::Right);
+    sweep.tell(Some(Span::between(Sec(1), Sec(2))));
+    assert_eq!(rt; sweep.step(), Ask::Right);
+    sweep.tell(None);
+    assert_eq!(rt; sweep.step(), Ask::Give(Span::between(Sec(1), Sec(2))));
+    assert_eq!(rt; sweep.step(), Ask::End);
+}
+
+#[test]
+fn days(rt: HostRuntime) -> Result<(), Fail> {
+    let alloc = rt.alloc();
+    let list = list_of(
+        &rt,
+        alloc,
+        &[(86_390, 86_410), (86_420, 86_421), (200_000, 300_000)],
+    )?;
+    let mut seconds = ByDay::new(list.source());
+    for (midnight, count) in [
+        (0, 10),
+        (86_400, 11),
+        (172_800, 59_200),
+        (259_200, 40_800),
+        (345_600, 0),
+    ] {
+        assert_eq!(rt; seconds.count(Sec(midnight)), count, "from {midnight}");
+    }
+    Ok(())
+}
+
+/// Whether the second, of those from -2 to 3, has its bit set.
+fn is_in(mask: u8, second: i64) -> bool {
+    -2 <= second && second < 4 && mask >> ((second + 2) as u8) & 1 == 1
+}
+
+/// The list of the seconds from -2 to 3 whose bits are set, each pushed as a span of its own.
+fn seconds_of(rt: &impl Abort, alloc: Global, mask: u8) -> Result<SpanList, Fail> {
+    let mut ends = Vec::new(alloc);
+    for second in -2..4i64 {
+        if is_in(mask, second) {
+            ends.push((second, second + 1))?;
+        }
+    }
+    list_of(rt, alloc, ends.as_slice())
+}
+
+/// Whether no span begins before the end of the one before it, or at it.
+fn are_apart(list: &SpanList) -> bool {
+    let mut last: Option<Sec> = None;
+    for span in list.spans() {
+        if let Some(end) = last
+            && span.from() <= end
+        {
+            return false;
+        }
+        last = Some(span.until());
+    }
+    true
+}
+
+#[test]
+fn operations_second_by_second(rt: HostRuntime) -> Result<(), Fail> {
+    let alloc = rt.alloc();
+    let day = Horizon::new(0, 1).expect(&rt, "a horizon");
+    for left in 0..64u8 {
+        let a = seconds_of(&rt, alloc, left)?;
+        let (inner, outer) = (within(alloc, &a, day)?, complement(alloc, &a, day)?);
+        assert!(rt; are_apart(&inner) && are_apart(&outer), "{left}");
+        for second in -3..5i64 {
+            let (here, in_day) = (is_in(left, second), 0 <= second);
+            assert_eq!(rt; a.contains(Sec(second)), here);
+            assert_eq!(rt; inner.contains(Sec(second)), in_day && here);
+            assert_eq!(rt; outer.contains(Sec(second)), in_day && !here);
+        }
+        for right in 0..64u8 {
+            let b = seconds_of(&rt, alloc, right)?;
+            assert_eq!(rt; same(&a, &b), left == right);
+            let (either, both, rest) = (
+                union(alloc, &a, &b)?,
+                meet(alloc, &a, &b)?,
+                minus(alloc, &a, &b)?,
+            );
+            assert!(rt;
+                are_apart(&either) && are_apart(&both) && are_apart(&rest),
+                "{left} {right}"
+            );
+            for second in -3..5i64 {
+                let (in_a, in_b) = (is_in(left, second), is_in(right, second));
+                assert_eq!(rt; either.contains(Sec(second)), in_a || in_b);
+                assert_eq!(rt; both.contains(Sec(second)), in_a && in_b);
+                assert_eq!(rt; rest.contains(Sec(second)), in_a && !in_b);
+            }
+        }
+    }
+    Ok(())
+}
