@@ -1,0 +1,5 @@
+use Rattle.gtd_recur.proofs.MatchLemmas.{begins-matches}
+use Rattle.gtd_recur.proofs.laws.matching.Goals as goal
+
+pub returns : goal.returns
+returns c = record { matches = begins-matches }

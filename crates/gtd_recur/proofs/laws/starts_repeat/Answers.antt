@@ -1,0 +1,5 @@
+use Rattle.gtd_recur.proofs.CycleLemmas.{begins-cycle}
+use Rattle.gtd_recur.proofs.laws.starts_repeat.Goals as goal
+
+pub returns : goal.returns
+returns c = record { repeats = begins-cycle }

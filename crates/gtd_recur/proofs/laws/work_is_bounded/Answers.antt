@@ -1,0 +1,5 @@
+use Rattle.gtd_recur.proofs.BoundLemmas.{work_of-le}
+use Rattle.gtd_recur.proofs.laws.work_is_bounded.Goals as goal
+
+pub returns : goal.returns
+returns c = record { most = work_of-le }

@@ -1,0 +1,11 @@
+pub mod Ascending
+pub mod Begins
+pub mod ClockSearch
+pub mod Jumps
+pub mod Matching
+pub mod Membership
+pub mod RunsToCome
+pub mod Starts
+pub mod StartsToCome
+pub mod Stretches
+pub mod Work

@@ -1,0 +1,56 @@
+-- The starts of a window of days, from the front of which one is taken time and again.
+use Rattle.std.specs.Prelude.{◌≡◌, ℕ, ◌+◌, ◌-◌, ◌++◌, List, [], ◌∷◌, map, filter, count_by, length, drop, Option, Some, None, ℤ, pos, neg_ℤ, ◌+ℤ◌, ◌*ℤ◌, ◌≤ℤ◌, ◌<ℤ◌, IsTrue}
+use Rattle.std.proofs.Props.{props}
+use Rattle.gtd_core.specs.declared.start.StartParts.{StartParts}
+use Rattle.gtd_core.specs.declared.second.Sec.{Sec}
+use Rattle.gtd_recur.specs.Begins.{begins_at, month_and_year_fit}
+use Rattle.gtd_recur.specs.Work.{days_between, numbers_from, starts_of}
+
+-- the seconds of day n, from one of them on, at which the clock of a start fits
+unfoldable pub clock_starts : StartParts → ℤ → ℕ → List ℤ
+clock_starts p n from = map (λ k. pos 86400 *ℤ n +ℤ pos k) (filter (begins_at p) (numbers_from from (86400 - from)))
+
+-- the starts that are left of an open day, and those of the days from `next` up to `end`
+unfoldable pub starts_left : StartParts → ℤ → ℕ → ℤ → ℤ → List ℤ
+starts_left p day clock next end = clock_starts p day clock ++ starts_of p (days_between next end)
+
+-- the first second of a list is taken off, if there is one
+abbrev pub TakesSecond : List ℤ → Option Sec → List ℤ → Type 0
+TakesSecond before None after = (before ≡ []) × (after ≡ [])
+TakesSecond before (Some b) after = before ≡ b.0 ∷ after
+
+-- all but so many of a list are left
+pub record AreLeft (handed : ℕ) (all left : List ℤ) : Type 0 where
+  pub count : handed + length left ≡ length all
+  pub rest : left ≡ drop handed all
+
+pub AreLeft-prop : (handed : ℕ) (all left : List ℤ) → IsProp (AreLeft handed all left)
+AreLeft-prop handed all left = hlevel props
+
+-- a window of days of the calendar, the day that is open in it, and the next to look at
+pub record IsInWindow (first day next end : ℤ) : Type 0 where
+  pub first_in : neg_ℤ (pos 61802) ≤ℤ first
+  pub day_in : first ≤ℤ (day +ℤ pos 1)
+  pub next_in : day <ℤ next
+  pub end_in : next ≤ℤ end
+  pub last_in : end ≤ℤ pos 266627
+
+pub IsInWindow-prop : (first day next end : ℤ) → IsProp (IsInWindow first day next end)
+IsInWindow-prop first day next end = hlevel props
+
+-- the days up to the open one that no given month or year excludes were looked at, and there is none before the next
+pub record IsLookedCount (p : StartParts) (first day next : ℤ) (looked : ℕ) : Type 0 where
+  pub up_to : count_by (month_and_year_fit p) (days_between first (day +ℤ pos 1)) ≡ looked
+  pub jumped : count_by (month_and_year_fit p) (days_between (day +ℤ pos 1) next) ≡ 0
+
+pub IsLookedCount-prop : (p : StartParts) (first day next : ℤ) (looked : ℕ) → IsProp (IsLookedCount p first day next looked)
+IsLookedCount-prop p first day next looked = hlevel props
+
+-- the days from the next up to some day, which is the last of all only at the end, are not excluded
+pub record AreFitting (p : StartParts) (next until end : ℤ) : Type 0 where
+  pub within : until ≤ℤ end
+  pub some : next <ℤ end → next <ℤ until
+  pub fit : (n : ℤ) → next ≤ℤ n → n <ℤ until → IsTrue (month_and_year_fit p n)
+
+pub AreFitting-prop : (p : StartParts) (next until end : ℤ) → IsProp (AreFitting p next until end)
+AreFitting-prop p next until end = hlevel props

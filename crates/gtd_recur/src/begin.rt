@@ -1,0 +1,230 @@
+//! When a start begins: whether a day fits it, and the seconds of a day at which the clock does.
+
+ghost use Rattle.std.specs.Prelude.{◌≡◌, ◌+◌, ◌*◌, ◌%◌, ◌<◌, ◌≤◌, ℕ, true};
+ghost use Rattle.std.specs.Int.{IsInRange};
+ghost use Rattle.gtd_core.specs.StartRanges.{IsStart, IsWithin};
+ghost use Rattle.gtd_recur.specs.Begins as spec;
+ghost use Rattle.gtd_recur.specs.ClockSearch as clock;
+
+use gtd_calendar::DayFields;
+use gtd_core::StartParts;
+
+// A field that is given has this value.
+fn agrees(given: Option<u8>, value: u8) -> bool
+    ensures { result ≡ spec.agrees given value }
+{
+    given.is_none_or(|x| x == value)
+}
+
+// The same; a field that is not given is free where a finer one is given, and else at its least.
+fn agrees_or_least(given: Option<u8>, finer: bool, least: u8, value: u8) -> bool
+    ensures { result ≡ spec.agrees_or_least given finer least value }
+{
+    match given {
+        Some(x) => x == value,
+        None => finer || least == value,
+    }
+}
+
+// Whether a field of the day's level is given.
+fn gives_day(start: &StartParts) -> bool
+    ensures { result ≡ spec.gives_day start.now }
+{
+    start.day.is_some() || start.nth.is_some() || start.nth_back.is_some() || start.weekdays != 0
+}
+
+// Whether a field of the clock is given.
+fn gives_clock(start: &StartParts) -> bool
+    ensures { result ≡ spec.gives_clock start.now }
+{
+    start.hour.is_some() || start.minute.is_some() || start.second.is_some()
+}
+
+// The year of the week where a week is given, and else of the date.
+fn year_agrees(start: &StartParts, day: &DayFields) -> bool
+    ensures { result ≡ spec.year_agrees start.now day.now }
+{
+    let year = if start.week.is_some() {
+        day.week_year
+    } else {
+        day.year
+    };
+    match start.year {
+        Some(given) => i64::from(given) == year,
+        None => true,
+    }
+}
+
+// A place in the month that is given is this one.
+fn place_agrees(given: Option<(u8, u8)>, nth: u8, weekday: u8) -> bool
+    ensures { result ≡ spec.place_agrees given nth weekday }
+{
+    match given {
+        Some((n, day)) => n == nth && day == weekday,
+        None => true,
+    }
+}
+
+fn weekday_agrees(start: &StartParts, day: &DayFields) -> bool
+    requires { IsInRange 1 7 day.now.weekday }
+    ensures { result ≡ spec.weekday_agrees start.now day.now }
+{
+    start.weekdays == 0 || (start.weekdays >> (day.weekday - 1)) % 2 == 1
+}
+
+// Where no field of the day or the clock is given, the Monday of a week and else the first of a month.
+fn least_day(start: &StartParts, day: &DayFields) -> bool
+    ensures { result ≡ spec.least_day start.now day.now }
+{
+    if gives_day(start) || gives_clock(start) {
+        return true;
+    }
+    if start.week.is_some() {
+        day.weekday == 2
+    } else {
+        day.day == 1
+    }
+}
+
+/// Whether the fields of a day fit the start.
+pub(crate) fn begins_on(start: &StartParts, day: &DayFields) -> bool
+    requires { IsInRange 1 7 day.now.weekday }
+    ensures { result ≡ spec.begins_on start.now day.now }
+{
+    let finer_than_month = start.week.is_some() || gives_day(start) || gives_clock(start);
+    year_agrees(start, day)
+        && agrees_or_least(start.month, finer_than_month, 1, day.month)
+        && agrees(start.week, day.week)
+        && agrees(start.day, day.day)
+        && place_agrees(start.nth, day.nth, day.weekday)
+        && place_agrees(start.nth_back, day.nth_back, day.weekday)
+        && weekday_agrees(start, day)
+        && least_day(start, day)
+}
+
+// The least number of sixties with which an offset reaches a number.
+fn sixties(from: u32, offset: u32) -> u32
+    requires from_in { from ≤ 86_400 }
+    requires offset_in { offset < 60 }
+    ensures reaches { from ≤ 60 * result + offset }
+    ensures least { (i : ℕ) → from ≤ 60 * i + offset → result ≤ i }
+    ensures bound { 60 * result ≤ from + 59 }
+{
+    (from + 59 - offset) / 60
+}
+
+// The value that a level of the clock is held at, where it is not free.
+fn held(given: Option<u8>, finer: bool) -> Option<u32>
+    ensures { result ≡ clock.held given finer }
+{
+    match given {
+        Some(x) => Some(u32::from(x)),
+        None if finer => None,
+        None => Some(0),
+    }
+}
+
+// The first minute, counted from midnight, from one on, whose place in its hour fits.
+fn next_minute(minute: Option<u32>, from: u32) -> u32
+    requires minute_in { IsWithin 0 59 minute }
+    requires from_in { from ≤ 1440 }
+    ensures later { from ≤ result }
+    ensures fits { spec.agrees minute (result % 60) ≡ true }
+    ensures least { (i : ℕ) → from ≤ i → spec.agrees minute (i % 60) ≡ true → result ≤ i }
+    ensures bound { result < 1500 }
+{
+    match minute {
+        Some(minute) => 60 * sixties(from, minute) + minute,
+        None => from,
+    }
+}
+
+// The first second of a day, from one of its seconds on, with these values of the clock.
+fn next_clock(hour: Option<u32>, minute: Option<u32>, second: u32, from: u32) -> Option<u32>
+    requires hour_in { IsWithin 0 23 hour }
+    requires minute_in { IsWithin 0 59 minute }
+    requires second_in { second < 60 }
+    requires from_in { from ≤ 86_400 }
+    ensures { clock.IsNextPassing (clock.shows hour minute second) from result }
+{
+    let minutes = next_minute(minute, sixties(from, second));
+    let hours = minutes / 60;
+    match hour {
+        Some(hour) if hours < hour => Some(3600 * hour + 60 * minute.unwrap_or(0) + second),
+        Some(hour) if hours > hour => None,
+        _ if hours > 23 => None,
+        _ => Some(60 * minutes + second),
+    }
+}
+
+// The greatest number of sixties that stays, with an offset, within a limit.
+fn sixties_within(limit: u32, offset: u32) -> Option<u32>
+    ensures { clock.IsSixtiesWithin limit offset result }
+{
+    if limit < offset {
+        None
+    } else {
+        Some((limit - offset) / 60)
+    }
+}
+
+// The last minute, counted from midnight, up to one, whose place in its hour fits.
+fn latest_minute(minute: Option<u32>, limit: u32) -> Option<u32>
+    requires minute_in { IsWithin 0 59 minute }
+    requires limit_in { limit < 1440 }
+    ensures { clock.IsLastPassing (clock.minute_fits minute) limit result }
+{
+    match minute {
+        Some(minute) => {
+            let hours = sixties_within(limit, minute)?;
+            Some(60 * hours + minute)
+        }
+        None => Some(limit),
+    }
+}
+
+// The last second of a day, up to one of its seconds, with these values of the clock.
+fn latest_clock(hour: Option<u32>, minute: Option<u32>, second: u32, limit: u32) -> Option<u32>
+    requires hour_in { IsWithin 0 23 hour }
+    requires minute_in { IsWithin 0 59 minute }
+    requires second_in { second < 60 }
+    requires limit_in { limit < 86_400 }
+    ensures { clock.IsLastPassing (clock.shows hour minute second) limit result }
+{
+    let within = sixties_within(limit, second)?;
+    let minutes = latest_minute(minute, within)?;
+    let hours = minutes / 60;
+    match hour {
+        Some(hour) if hours > hour => Some(3600 * hour + 60 * minute.unwrap_or(59) + second),
+        Some(hour) if hours < hour => None,
+        _ => Some(60 * minutes + second),
+    }
+}
+
+/// The first second of a day, from one of its seconds on, at which the start begins.
+pub(crate) fn next_begin(start: &StartParts, from: u32) -> Option<u32>
+    requires valid { IsStart start.now }
+    requires from_in { from ≤ 86_400 }
+    ensures { clock.IsNextPassing (spec.begins_at start.now) from result }
+{
+    let finer_than_minute = start.second.is_some();
+    let finer_than_hour = start.minute.is_some() || finer_than_minute;
+    let hour = held(start.hour, finer_than_hour);
+    let minute = held(start.minute, finer_than_minute);
+    let second = u32::from(start.second.unwrap_or(0));
+    next_clock(hour, minute, second, from)
+}
+
+/// The latest second of a day, up to a limit, at which the start begins.
+pub(crate) fn latest_begin(start: &StartParts, limit: u32) -> Option<u32>
+    requires valid { IsStart start.now }
+    requires limit_in { limit < 86_400 }
+    ensures { clock.IsLatestBegin start.now limit result }
+{
+    let finer_than_minute = start.second.is_some();
+    let finer_than_hour = start.minute.is_some() || finer_than_minute;
+    let hour = held(start.hour, finer_than_hour);
+    let minute = held(start.minute, finer_than_minute);
+    let second = u32::from(start.second.unwrap_or(0));
+    latest_clock(hour, minute, second, limit)
+}

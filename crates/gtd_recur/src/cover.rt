@@ -1,0 +1,62 @@
+//! Whether a basic domain contains a second.
+
+ghost use Rattle.std.specs.Prelude.{◌≡◌, ◌↔◌, IsTrue};
+ghost use Rattle.gtd_core.specs.Parts.{start_parts, duration_parts};
+ghost use Rattle.gtd_core.specs.StartRanges.{IsStart};
+ghost use Rattle.gtd_calendar.specs.Calendar.{IsCalendarDay};
+ghost use Rattle.gtd_recur.specs.Membership.{InBasic, IsHeldFromDay, IsLatestNotAfter, IsHorizonSecond};
+
+use crate::begin::{begins_on, latest_begin};
+use gtd_calendar::{day_of_sec, end_of, fields, second_of_day};
+use gtd_core::{Basic, Duration, Sec, StartParts};
+
+// Whether a stretch that begins on that day holds the second. On one day the latest start ends last.
+fn held_from_day(
+    start: &StartParts,
+    duration: &Duration,
+    second: Sec,
+    day: i64,
+    latest: Option<u32>,
+) -> bool
+    requires day_in { IsCalendarDay day }
+    requires latest { IsLatestNotAfter start.now day second.0 latest }
+    ensures { IsTrue result ↔ IsHeldFromDay start.now (duration_parts duration.now) day second.0 }
+{
+    let Some(clock) = latest else {
+        return false;
+    };
+    if !begins_on(start, &fields(day)) {
+        return false;
+    }
+    let begin = Sec(86_400 * day + i64::from(clock));
+    second.0 < end_of(begin, duration).0
+}
+
+/// Whether the basic domain contains the second: the stretch of some matching start holds it, however far back the
+/// start is. The second is one from 1901-01-01 to the end of 2699-12-31.
+pub fn covers(basic: &Basic, second: Sec) -> bool
+    requires horizon { IsHorizonSecond second.0 }
+    ensures member { IsTrue result ↔ InBasic basic.now second.0 }
+{
+    let start = basic.start.parts();
+    let today = day_of_sec(second);
+    let latest_today = latest_begin(&start, second_of_day(second));
+    let latest_before = latest_begin(&start, 86_399);
+    for back in 0..basic.duration.lookback() + 1 {
+        let latest = if back == 0 {
+            latest_today
+        } else {
+            latest_before
+        };
+        if held_from_day(
+            &start,
+            &basic.duration,
+            second,
+            today - i64::from(back),
+            latest,
+        ) {
+            return true;
+        }
+    }
+    false
+}

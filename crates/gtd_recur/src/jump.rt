@@ -1,0 +1,176 @@
+//! The days that a given year or month does not exclude. The others are jumped over.
+
+ghost use Rattle.std.specs.Prelude.{◌≡◌, ◌≤ℤ◌, ◌<ℤ◌, ◌≤◌, ℤ, pos, neg_ℤ, IsTrue, IfSome};
+ghost use Rattle.std.specs.Int.{IsInRange};
+ghost use Rattle.std.specs.Option.{unwrap_or};
+ghost use Rattle.gtd_core.specs.StartRanges.{IsStart};
+ghost use Rattle.gtd_calendar.specs.Calendar.{IsCalendarDay, IsCalendarYear, day_number, guessed_year, year_of};
+ghost use Rattle.gtd_recur.specs.Begins.{month_and_year_fit};
+ghost use Rattle.gtd_recur.specs.Jumps.{IsNextRun, AreMonths, IsClipped, IsOf, IsOfMonth};
+ghost use Rattle.gtd_recur.specs.Stretches.{IsLater, IsEarlier};
+
+use gtd_calendar::day_of;
+use gtd_core::StartParts;
+
+/// The days from one on, up to and without another.
+#[derive(Clone, Copy, Debug)]
+pub(crate) struct Days {
+    pub(crate) from: i64,
+    pub(crate) until: i64,
+}
+
+/// The next run of days, from a day on and before an end, that the month and the year of a start do not exclude. Where
+/// there is none, it is empty and at the end.
+pub(crate) fn next_days(start: &StartParts, day: i64, end: i64) -> Days
+    requires valid { IsStart start.now }
+    requires day_in { neg_ℤ (pos 61802) ≤ℤ day }
+    requires order { day ≤ℤ end }
+    requires end_in { end ≤ℤ pos 266627 }
+    ensures run { IsNextRun (λ n. IsTrue (month_and_year_fit start.now n)) day end result.from result.until }
+{
+    if start.week.is_none() {
+        if let Some(year) = start.year {
+            return days_of_year(i64::from(year), start.month, day, end);
+        }
+    }
+    match start.month {
+        Some(month) => days_of_month(month, day, end),
+        None => Days {
+            from: day,
+            until: end,
+        },
+    }
+}
+
+// The next run of days of one year, or of one of its months.
+fn days_of_year(year: i64, month: Option<u8>, day: i64, end: i64) -> Days
+    requires month_in { IfSome month (IsInRange 1 12) }
+    requires day_in { neg_ℤ (pos 61802) ≤ℤ day }
+    requires order { day ≤ℤ end }
+    requires end_in { end ≤ℤ pos 266627 }
+    ensures run { IsNextRun (IsOf year month) day end result.from result.until }
+{
+    if year < 1800 || year > 2699 {
+        return Days {
+            from: end,
+            until: end,
+        };
+    }
+    let months = months(year, month.unwrap_or(1), month.unwrap_or(12));
+    if day < months.until {
+        clip(months, day, end)
+    } else {
+        Days {
+            from: end,
+            until: end,
+        }
+    }
+}
+
+// The next run of days of a month, whatever the year.
+fn days_of_month(month: u8, day: i64, end: i64) -> Days
+    requires month_in { IsInRange 1 12 month }
+    requires day_in { neg_ℤ (pos 61802) ≤ℤ day }
+    requires order { day ≤ℤ end }
+    requires end_in { end ≤ℤ pos 266627 }
+    ensures run { IsNextRun (IsOfMonth month) day end result.from result.until }
+{
+    let year = year_of_day(day);
+    let this_year = months(year, month, month);
+    if day < this_year.until {
+        clip(this_year, day, end)
+    } else {
+        clip(months(year + 1, month, month), day, end)
+    }
+}
+
+// The days of some months of a year that follow one another.
+fn months(year: i64, low: u8, high: u8) -> Days
+    requires year_in { (pos 1800 ≤ℤ year) × (year ≤ℤ pos 2798) }
+    requires low_in { IsInRange 1 12 low }
+    requires high_in { IsInRange low 12 high }
+    ensures months { AreMonths year low high result.from result.until }
+{
+    let from = first_of(year, low);
+    if high < 12 {
+        Days {
+            from,
+            until: first_of(year, high + 1),
+        }
+    } else {
+        Days {
+            from,
+            until: first_of(year + 1, 1),
+        }
+    }
+}
+
+// The first day of a month.
+fn first_of(year: i64, month: u8) -> i64
+    requires year_in { IsCalendarYear year }
+    requires month_in { IsInRange 1 12 month }
+    ensures value { result ≡ day_number year month 1 }
+{
+    day_of(year, month, 1).unwrap()
+}
+
+// The year of a day.
+fn year_of_day(day: i64) -> i64
+    requires low { neg_ℤ (pos 61802) ≤ℤ day }
+    requires high { day ≤ℤ pos 266627 }
+    ensures value { result ≡ year_of day }
+    ensures bound { (pos 1800 ≤ℤ result) × (result ≤ℤ pos 2701) }
+{
+    let guess = guessed_year(day);
+    if day < first_of(guess, 1) {
+        return guess - 1;
+    }
+    if day < first_of(guess + 1, 1) {
+        return guess;
+    }
+    guess + 1
+}
+
+// The year of a day by the mean length of a year, which is at most one off.
+fn guessed_year(day: i64) -> i64
+    requires low { neg_ℤ (pos 61802) ≤ℤ day }
+    requires high { day ≤ℤ pos 266627 }
+    ensures value { result ≡ guessed_year day }
+    ensures bound { (pos 1800 ≤ℤ result) × (result ≤ℤ pos 2700) }
+{
+    1970 + (400 * day).div_euclid(146_097)
+}
+
+// Those of the days that are from one on and before an end.
+fn clip(days: Days, day: i64, end: i64) -> Days
+    requires some { days.from <ℤ days.until }
+    requires open { day <ℤ days.until }
+    requires order { day ≤ℤ end }
+    ensures clipped { IsClipped days.from days.until day end result.from result.until }
+{
+    let from = later(days.from, day);
+    if from >= end {
+        return Days {
+            from: end,
+            until: end,
+        };
+    }
+    Days {
+        from,
+        until: earlier(days.until, end),
+    }
+}
+
+// The later of two days.
+fn later(a: i64, b: i64) -> i64
+    ensures { IsLater a b result }
+{
+    if a < b { b } else { a }
+}
+
+// The earlier of two days.
+fn earlier(a: i64, b: i64) -> i64
+    ensures { IsEarlier a b result }
+{
+    if a < b { a } else { b }
+}

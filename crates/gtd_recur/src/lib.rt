@@ -1,0 +1,19 @@
+//! One recurrence: the seconds of a basic domain, its starts one after another, and the spans that its stretches make.
+//!
+//! Seconds are those of the local civil clock, days are numbered from 1970-01-01. No call takes memory but `spans_of`.
+#![tactic(auto)]
+
+pub use cover::covers;
+pub use runs::Runs;
+pub use spans::spans_of;
+pub use starts::Starts;
+
+mod begin;
+mod cover;
+mod jump;
+pub mod laws;
+mod runs;
+mod spans;
+mod starts;
+#[cfg(test)]
+mod tests;
