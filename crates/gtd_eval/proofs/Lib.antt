@@ -1,0 +1,4 @@
+pub mod Repeats
+pub mod Shapes
+pub mod Streams
+pub mod Unions

@@ -1,0 +1,50 @@
+use Rattle.std.proofs.Common.{◌∙◌, []}
+use Rattle.gtd_eval.specs.Nodes.{node_list}
+use Rattle.gtd_eval.proofs.node.+next.Goals as goal
+
+pub next_of_one-loop-inner-preserved : goal.next_of_one-loop-inner-preserved
+next_of_one-loop-inner-preserved t c =
+    let old = c.loop-inner.invariant in
+    let step = c.in-Left.ensures.steps in
+    let kept = step.1 (node_list c.loop-inner.inner) [] old.fits in
+    let told = c.tell.ensures.left step.0 (node_list c.loop-inner.inner) (node_list c.next-told.new.self) []
+    c.next-told.ensures.takes kept.0 in
+    record {
+      one_side = c.tell.ensures.sides.1 (c.in-Left.ensures.sides.1 old.one_side);
+      fits = told.0;
+      sound = c.next-told.ensures.sound;
+      same = old.same ∙ kept.1 ∙ told.1;
+      shape = c.next-told.ensures.shape ∙ old.shape;
+    }
+
+pub next_of_two-loop-left-preserved-in-Left : goal.next_of_two-loop-left-preserved-in-Left
+next_of_two-loop-left-preserved-in-Left t c =
+    let old = c.loop-left.invariant in
+    let step = c.in-Left.ensures.steps in
+    let kept = step.1 (node_list c.loop-left.left) (node_list c.loop-left.right) old.fits in
+    let told = c.tell.ensures.left step.0 (node_list c.loop-left.left) (node_list c.next-told.new.self)
+    (node_list c.loop-left.right) c.next-told.ensures.takes kept.0 in
+    record {
+      fits = told.0;
+      left_sound = c.next-told.ensures.sound;
+      right_sound = old.right_sound;
+      same = old.same ∙ kept.1 ∙ told.1;
+      left_shape = c.next-told.ensures.shape ∙ old.left_shape;
+      right_shape = old.right_shape;
+    }
+
+pub next_of_two-loop-left-preserved : goal.next_of_two-loop-left-preserved
+next_of_two-loop-left-preserved t c =
+    let old = c.loop-left.invariant in
+    let step = c.in-Right.ensures.steps in
+    let kept = step.1 (node_list c.loop-left.left) (node_list c.loop-left.right) old.fits in
+    let told = c.tell-in-Right.ensures.right step.0 (node_list c.loop-left.left) (node_list c.loop-left.right)
+    (node_list c.next-told-in-Right.new.self) c.next-told-in-Right.ensures.takes kept.0 in
+    record {
+      fits = told.0;
+      left_sound = old.left_sound;
+      right_sound = c.next-told-in-Right.ensures.sound;
+      same = old.same ∙ kept.1 ∙ told.1;
+      left_shape = old.left_shape;
+      right_shape = c.next-told-in-Right.ensures.shape ∙ old.right_shape;
+    }

@@ -1,0 +1,10 @@
+pub mod CursorFacts
+pub mod Cursors
+pub mod Ever
+pub mod Membership
+pub mod Names
+pub mod NodeFacts
+pub mod Nodes
+pub mod NormalOver
+pub mod Shape
+pub mod Single

@@ -1,0 +1,160 @@
+//! The seconds of a domain, span by span.
+
+ghost use Rattle.std.specs.Prelude.{◌≡◌, ◌≤◌};
+ghost use Rattle.gtd_eval.specs.Nodes.{node_list, node_count, IsSound};
+ghost use Rattle.gtd_eval.specs.NodeFacts.{node_list-normal, IsSound-prop};
+
+use crate::node::Node;
+use gtd_core::{Domain, Horizon, Op, Span};
+use gtd_spans::{SpanSource, Sweep};
+use std::alloc::{AllocError, Global};
+
+/// A source of the seconds of a domain in a horizon, or of those that other cursors have in common or leave out. It has
+/// at most 16,777,216 nodes. Once it is made, it takes no memory.
+#[derive(Debug, Drop)]
+pub struct Cursor {
+    node: Node,
+    ghost sound: { IsSound node } by { IsSound-prop node },
+    ghost small: { node_count node ≤ 16777216 },
+}
+
+impl SpanSource for Cursor {
+    ghost use Rattle.gtd_spans.specs.Sweeping.{Takes};
+    ghost use Rattle.gtd_eval.specs.Cursors.{cursor_list, cursor_nodes, cursor_height, cursor_work};
+
+    ghost rest = { cursor_list };
+
+    fn next(&mut self) -> Option<Span>
+        ensures takes { Takes (cursor_list self.old) result (cursor_list self.new) }
+        ensures nodes { cursor_nodes self.new ≡ cursor_nodes self.old }
+        ensures height { cursor_height self.new ≡ cursor_height self.old }
+        ensures work { cursor_work self.new ≡ cursor_work self.old }
+    {
+        self.node.next()
+    }
+
+    ghost is_normal = { λ c. node_list-normal c.node c.sound };
+}
+
+impl Cursor {
+    ghost use Rattle.std.specs.Prelude.{◌+◌, ◌*◌, ◌<◌, ◌^◌, ◌↔◌, [], ◌∷◌, ℕ, ℤ, IfOk, OnOk, vec_len};
+    ghost use Rattle.gtd_core.specs.Interval.{Within};
+    ghost use Rattle.gtd_core.specs.Parts.{domain_tree};
+    ghost use Rattle.gtd_core.specs.Trees.{leaf_count};
+    ghost use Rattle.gtd_core.specs.Whole.{whole};
+    ghost use Rattle.gtd_spans.specs.Normal.{Holds, IsNormal};
+    ghost use Rattle.gtd_eval.specs.Membership.{InDomain};
+    ghost use Rattle.gtd_eval.specs.NormalOver.{IsNormalOver};
+    ghost use Rattle.gtd_eval.specs.Cursors.{cursor_list, cursor_nodes, cursor_ticks, cursor_height, cursor_work, domain_work, SomeHolds, total_nodes, total_work, NoneHigher, IsUnionOfLast};
+
+    /// The cursor of the seconds of a domain in a horizon. For k basic domains it has 2k - 1 nodes.
+    pub fn open(alloc: Global, domain: &Domain, horizon: Horizon) -> Result<Cursor, AllocError>
+        ensures normal { IfOk result
+            (λ c. IsNormalOver (InDomain domain.now) horizon (cursor_list c)) }
+        ensures nodes { IfOk result
+            (λ c. cursor_nodes c + 1 ≡ 2 * leaf_count (domain_tree domain.now)) }
+        ensures work { IfOk result (λ c. cursor_work c ≡ domain_work domain.now horizon) }
+    {
+        let node = Node::open(alloc, domain.expr(), horizon)?;
+        Ok(Cursor { node })
+    }
+
+    /// The cursor of all seconds of a horizon, of one node.
+    pub fn whole(horizon: Horizon) -> Cursor
+        ensures list { cursor_list result ≡ whole horizon ∷ [] }
+        ensures nodes { cursor_nodes result ≡ 1 }
+        ensures height { cursor_height result ≡ 1 }
+        ensures work { cursor_work result ≡ 0 }
+    {
+        Cursor {
+            node: Node::Fixed(Some(horizon.whole())),
+        }
+    }
+
+    /// The cursor of the seconds of any of the cursors, which were made over the same horizon; of none if there are
+    /// none. It has the nodes of them all and, for n cursors, n - 1 more (1 for none). Its tree is balanced: 2^k
+    /// cursors add at most k to the height. After a refusal the cursors are gone.
+    pub fn any(
+        alloc: Global,
+        mut cursors: Vec<Cursor>,
+        _horizon: Horizon,
+    ) -> Result<Cursor, AllocError>
+        requires few { total_nodes cursors.items + vec_len cursors ≤ 16777217 }
+        ensures seconds { IfOk result
+            (λ c. (t : ℤ) → Holds (cursor_list c) t ↔ SomeHolds cursors.items t) }
+        ensures normal { IfOk result (λ c. IsNormal (cursor_list c)) }
+        ensures none { vec_len cursors ≡ 0 → IfOk result (λ c. cursor_nodes c ≡ 1) }
+        ensures nodes { 0 < vec_len cursors → IfOk result
+            (λ c. cursor_nodes c + 1 ≡ total_nodes cursors.items + vec_len cursors) }
+        ensures work { IfOk result (λ c. cursor_work c ≡ total_work cursors.items) }
+        ensures height { (h k : ℕ) → 0 < vec_len cursors → NoneHigher h cursors.items
+            → vec_len cursors ≤ 2 ^ k → IfOk result (λ c. cursor_height c ≤ h + k) }
+    {
+        let count = cursors.len();
+        if count == 0 {
+            return Ok(Cursor {
+                node: Node::Fixed(None),
+            });
+        }
+        let node = Cursor::unite_last(alloc, &mut cursors, count)?;
+        Ok(Cursor { node })
+    }
+
+    // The union of the last cursors, so many of them, which are taken off the list.
+    fn unite_last(
+        alloc: Global,
+        cursors: &mut Vec<Cursor>,
+        count: usize,
+    ) -> Result<Node, AllocError>
+        requires some { 0 < count }
+        requires enough { count ≤ vec_len cursors.old }
+        ensures union { IfOk result
+            (λ node. IsUnionOfLast count cursors.old.items node cursors.new.items) }
+    {
+        if count == 1 {
+            return match cursors.pop() {
+                Some(cursor) => Ok(cursor.node),
+                None => unreachable!(),
+            };
+        }
+        let half = count / 2;
+        let right = Cursor::unite_last(alloc, cursors, half)?;
+        let left = Cursor::unite_last(alloc, cursors, count - half)?;
+        let left = Box::new(alloc, left)?;
+        let right = Box::new(alloc, right)?;
+        Ok(Node::Two(Sweep::new(Op::Union), left, right))
+    }
+
+    /// The cursor of the seconds of a horizon that another cursor over it does not have. It has one node more. After a
+    /// refusal that cursor is gone.
+    pub fn outside(alloc: Global, cursor: Cursor, horizon: Horizon) -> Result<Cursor, AllocError>
+        requires few { cursor_nodes cursor < 16777216 }
+        ensures seconds { IfOk result (λ c. (t : ℤ) → Holds (cursor_list c) t
+            ↔ (Within (whole horizon) t × (Holds (cursor_list cursor) t → ⊥))) }
+        ensures normal { IfOk result (λ c. IsNormal (cursor_list c)) }
+        ensures nodes { IfOk result (λ c. cursor_nodes c ≡ cursor_nodes cursor + 1) }
+        ensures height { IfOk result (λ c. cursor_height c ≡ cursor_height cursor + 1) }
+        ensures work { IfOk result (λ c. cursor_work c ≡ cursor_work cursor) }
+    {
+        let inner = Box::new(alloc, cursor.node)?;
+        Ok(Cursor {
+            node: Node::One(Sweep::outside(horizon), inner),
+        })
+    }
+
+    /// The number of nodes of its tree. `next` leaves it.
+    pub fn nodes(&self) -> u64
+        ensures value { result ≡ cursor_nodes self.now }
+    {
+        self.node.count()
+    }
+
+    /// The days that the runs of its tree have looked at, and the starts that they have taken: at most the sum of their
+    /// work.
+    pub fn ticks(&self) -> u64
+        ensures sum { result ≡ cursor_ticks self.now }
+        ensures at_most { result ≤ cursor_work self.now }
+    {
+        self.node.ticks()
+    }
+}

@@ -1,0 +1,13 @@
+//! Laws of the definitions.
+
+ghost use Rattle.std.specs.Prelude.{◌↔◌, ◌+ℤ◌, ℤ};
+ghost use Rattle.gtd_core.specs.Trees.{Tree};
+ghost use Rattle.gtd_eval.specs.Ever.{cycle};
+ghost use Rattle.gtd_eval.specs.Membership.{InTree, SomeGivesYear};
+
+/// An expression none of whose starts gives a year contains a second exactly if it contains the one 146,097 days later,
+/// for every whole number, before 1970 too.
+pub fn expressions_repeat()
+    ensures repeats { (tree : Tree) (t : ℤ) → (SomeGivesYear tree → ⊥)
+        → InTree tree t ↔ InTree tree (t +ℤ cycle) }
+{}

@@ -1,0 +1,21 @@
+//! Which seconds a time domain contains: at one moment, over a horizon as a source of spans, and for ever.
+//!
+//! A `Cursor` hands out the seconds of a domain span by span and keeps no list of them: it is a tree of sweeps over the
+//! runs of the basic domains, which is made once. `spans` and `next_change` ask a cursor. What takes memory answers
+//! `AllocError` (or `NoMemory`) only where the allocator refused it.
+#![tactic(auto)]
+
+pub use cursor::Cursor;
+pub use ever::{EverFault, next_change_ever};
+pub use membership::holds;
+pub use node::Node;
+pub use over::{next_change, spans};
+
+mod cursor;
+mod ever;
+pub mod laws;
+mod membership;
+mod node;
+mod over;
+#[cfg(test)]
+mod tests;
