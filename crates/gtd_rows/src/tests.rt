@@ -97,8 +97,172 @@ static FAULTS: [(&str, &str); 52] = [
     ("(h1){h1}+", "Incomplete at 9"),
 ];
 
+// Questions on a domain, and what is printed.
+static ANSWERS: [(&[&str], &str); 21] = [
+    (&["at", "[(M5h10){h1}]", "2024-05-17T10:59:59"], "in"),
+    (&["at", "[(M5h10){h1}]", "2024-05-17T11:00:00"], "out"),
+    (
+        &["at", "[(h8){h4}]-[(h10){h1}]", "2024-01-01T08:00:00"],
+        "in",
+    ),
+    (
+        &["at", "[(h8){h4}]-[(h10){h1}]", "2024-01-01T09:59:59"],
+        "in",
+    ),
+    (
+        &["at", "[(h8){h4}]-[(h10){h1}]", "2024-01-01T10:00:00"],
+        "out",
+    ),
+    (
+        &["at", "[(h8){h4}]-[(h10){h1}]", "2024-01-01T11:00:00"],
+        "in",
+    ),
+    (
+        &["at", "[(h8){h4}]-[(h10){h1}]", "2024-01-01T12:00:00"],
+        "out",
+    ),
+    (
+        &["at", "[(h8){h4}]-[(h8){h4}]", "2024-01-01T08:00:00"],
+        "out",
+    ),
+    (
+        &[
+            "at",
+            "[(h8){h1}]+[(h9){h1}]*[(t2){d1}]",
+            "2024-01-01T09:00:00",
+        ],
+        "in",
+    ),
+    (
+        &[
+            "at",
+            "[(h8){h1}]+[(h9){h1}]*[(t2){d1}]",
+            "2024-01-02T09:00:00",
+        ],
+        "out",
+    ),
+    // The first and the last moment.
+    (&["at", "[(h0){h24}]", "1901-01-01T00:00:00"], "in"),
+    (&["at", "[(h0){h24}]", "2199-12-31T23:59:59"], "in"),
+    (
+        &["next", "[(t2){d5}]", "2024-01-05T12:00:00", "2024-02-01"],
+        "2024-01-06T00:00:00 out",
+    ),
+    (
+        &["next", "[(t2){d5}]", "2024-01-05T12:00:00", "2024-01-06"],
+        "none",
+    ),
+    (
+        &[
+            "next",
+            "[(h8){h4}]-[(h10){h1}]",
+            "2024-01-01T08:00:00",
+            "2024-01-02",
+        ],
+        "2024-01-01T10:00:00 out",
+    ),
+    (
+        &[
+            "next",
+            "[(h8){h4}]-[(h10){h1}]",
+            "2024-01-01T10:00:00",
+            "2024-01-02",
+        ],
+        "2024-01-01T11:00:00 in",
+    ),
+    (
+        &[
+            "next",
+            "[(h8){h4}]-[(h10){h1}]",
+            "2024-01-01T12:00:00",
+            "2024-01-02",
+        ],
+        "none",
+    ),
+    (
+        &[
+            "next",
+            "[(y2699M12d31){d1}]",
+            "2199-12-31T23:59:59",
+            "2599-12-31",
+        ],
+        "none",
+    ),
+    (
+        &["ever", "[(M2d29){d1}]", "2096-03-01T00:00:00"],
+        "2104-02-29T00:00:00 in",
+    ),
+    (
+        &["ever", "[(t2){d5}]", "2024-01-05T12:00:00"],
+        "2024-01-06T00:00:00 out",
+    ),
+    (&["ever", "[(h0){h24}]", "2024-01-01T00:00:00"], "never"),
+];
+
+// Questions that are refused, and why.
+static REFUSED: [(&[&str], &str); 18] = [
+    (
+        &["next", "[(t2){d5}]", "2024-01-05T12:00:00", "2024-01-05"],
+        "fault horizon Empty",
+    ),
+    (
+        &["ever", "[(y2024){d1}]", "2024-01-01T00:00:00"],
+        "fault HasYear",
+    ),
+    (
+        &["at", "[(h1){h1}]", "2024-02-30T00:00:00"],
+        "fault moment NoSuchDate",
+    ),
+    (
+        &["at", "[(h1){h1}]", "2024-02-01T24:00:00"],
+        "fault moment NoSuchDate",
+    ),
+    (
+        &["at", "[(h1){h1}]", "2024-2-01T00:00:00"],
+        "fault moment Shape",
+    ),
+    (&["at", "[(h1){h1}]", "2024-02-01"], "fault moment Shape"),
+    (
+        &["at", "[(h1){h1}]", "1900-12-31T23:59:59"],
+        "fault moment Range",
+    ),
+    (
+        &["at", "[(h1){h1}]", "2200-01-01T00:00:00"],
+        "fault moment Range",
+    ),
+    (
+        &["next", "[(h1){h1}]", "2024-01-01T00:00:00", "2024-02-30"],
+        "fault date NoSuchDate",
+    ),
+    (
+        &["next", "[(h1){h1}]", "2024-01-01T00:00:00", "2024-1-02"],
+        "fault date Shape",
+    ),
+    (
+        &["next", "[(h1){h1}]", "2024-01-01T00:00:00", "2700-01-02"],
+        "fault date Range",
+    ),
+    (
+        &["next", "[(h1){h1}]", "2024-01-01T00:00:00", "2424-01-03"],
+        "fault horizon TooLong",
+    ),
+    // The first word at fault from the left, the horizon after the words, and a year in the run.
+    (&["at", "[(h25){h1}]", "now"], "fault FieldRange at 2"),
+    (
+        &["next", "[(h25){h1}]", "now", "then"],
+        "fault FieldRange at 2",
+    ),
+    (&["next", "[(h1){h1}]", "now", "then"], "fault moment Shape"),
+    (
+        &["next", "[(h1){h1}]", "2024-01-01T00:00:00", "then"],
+        "fault date Shape",
+    ),
+    (&["ever", "[(y24){d1}]", "now"], "fault FieldRange at 2"),
+    (&["ever", "[(y2024){d1}]", "now"], "fault moment Shape"),
+];
+
 // Command lines that are none.
-static NO_COMMANDS: [&[&str]; 42] = [
+static NO_COMMANDS: [&[&str]; 46] = [
     &[],
     &[""],
     &["-"],
@@ -138,12 +302,17 @@ static NO_COMMANDS: [&[&str]; 42] = [
     &["--version"],
     &["-V"],
     // Commands that do not exist.
-    &["at", "[(h1){h1}]", "2024-01-01T00:00:00"],
-    &["next", "[(h1){h1}]", "2024-01-01T00:00:00", "2024-01-02"],
     &["schedule", "roads.csv", "2024-04-01", "2024-04-02", "11"],
     &["year", "roads.csv", "17", "positive", "11", "2024"],
     &["migrate", "roads.csv"],
-    &["ever", "[(h1){h1}]", "2024-01-01T00:00:00"],
+    // Too few words, and too many, whatever they say.
+    &["at", "[(h1){h1}]"],
+    &["at", "[(h25){h1}]", "2024-01-01T00:00:00", "2024-01-02"],
+    &["next", "[(h1){h1}]", "2024-01-01T00:00:00"],
+    &["next", "[(h1){h1}]", "now", "2024-01-02", "2024-01-03"],
+    &["ever", "[(h1){h1}]"],
+    &["ever", "[(h1){h1}]", "2024-01-01T00:00:00", "2024-01-02"],
+    &["at", "-[(h1){h1}]", "2024-01-01T00:00:00"],
 ];
 
 fn owned(alloc: Global, words: &[&str]) -> Result<Vec<String>, AllocError> {
@@ -230,6 +399,25 @@ fn faults_are_told(rt: HostRuntime) -> Result<(), Fail> {
     let mut out = Vec::new(alloc);
     let done = carry_out(alloc, &["canon", "[(h1h2){h1}]"], &mut out);
     assert_eq!(rt; done, Err(repeated));
+    Ok(())
+}
+
+#[test]
+fn questions_are_answered(rt: HostRuntime) -> Result<(), Fail> {
+    let alloc = rt.alloc();
+    for (words, answer) in &ANSWERS {
+        expect_printed(&rt, alloc, words, answer)?;
+    }
+    Ok(())
+}
+
+#[test]
+fn questions_are_refused(rt: HostRuntime) -> Result<(), Fail> {
+    let alloc = rt.alloc();
+    for (words, fault) in &REFUSED {
+        let line = format!(in alloc; "{fault}\n")?;
+        expect_refused(&rt, alloc, words, 1, line.as_str())?;
+    }
     Ok(())
 }
 

@@ -60,3 +60,25 @@ pub joined-at : (texts : List (Bor (List ℕ))) (i : ℕ) (text : Bor (List ℕ)
 joined-at texts i text inside =
     ap joined (sym (take-append-drop i texts)) ∙ flat_map-append (λ t. t.now) (take i texts) (drop i texts)
     ∙ ap (λ (ts : List (Bor (List ℕ))). joined (take i texts) ++ joined ts) (drop-cons texts i text inside)
+
+-- a first part of the bytes that come first
+pub part_front : (a b : Option (List ℕ)) (bytes back : List ℕ) → AppendsPart a b bytes → AppendsPart a b (bytes ++ back)
+part_front a b bytes back next = record {
+  rest = next.rest ++ back;
+  takes = record {
+    part = next.takes.part;
+    before = ap (λ (x : List ℕ). x ++ back) next.takes.before ∙ append_assoc next.takes.part next.rest back;
+    taken = next.takes.taken;
+  };
+}
+
+-- a first part of the bytes that come last
+pub part_then : (a b c : Option (List ℕ)) (front bytes : List ℕ) → Appends a b front → AppendsPart b c bytes → AppendsPart a c (front ++ bytes)
+part_then a b c front bytes before next = record {
+  rest = next.rest;
+  takes = record {
+    part = front ++ next.takes.part;
+    before = ap (λ (x : List ℕ). front ++ x) next.takes.before ∙ sym (append_assoc front next.takes.part next.rest);
+    taken = Appends-trans a b c front next.takes.part before next.takes.taken;
+  };
+}

@@ -13,17 +13,31 @@ Text = List ℕ
 pub data Command : Type 0 where
   Check : (domain : Text) → Command
   Canon : (domain : Text) → Command
+  At : (domain moment : Text) → Command
+  Next : (domain moment to : Text) → Command
+  Ever : (domain moment : Text) → Command
 
--- The command that these words make, where it takes one.
+-- The command that these words make, where it takes one, two or three.
 abbrev pub of_one : (Text → Command) → List Text → Option Command
 of_one command (word ∷ []) = Some (command word)
 of_one command words = None
+
+abbrev pub of_two : (Text → Text → Command) → List Text → Option Command
+of_two command (first ∷ second ∷ []) = Some (command first second)
+of_two command words = None
+
+abbrev pub of_three : (Text → Text → Text → Command) → List Text → Option Command
+of_three command (first ∷ second ∷ third ∷ []) = Some (command first second third)
+of_three command words = None
 
 -- Each command by its name, and what it makes of its words.
 abbrev pub commands : List (Text × (List Text → Option Command))
 commands =
     (codes "check", of_one Check)
     ∷ (codes "canon", of_one Canon)
+    ∷ (codes "at", of_two At)
+    ∷ (codes "next", of_three Next)
+    ∷ (codes "ever", of_two Ever)
     ∷ []
 
 -- The names of the commands.

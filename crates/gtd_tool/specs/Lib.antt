@@ -5,3 +5,4 @@ pub mod Writing
 pub mod Plans
 pub mod Refusals
 pub mod Printed
+pub mod Stops

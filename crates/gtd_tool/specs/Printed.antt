@@ -1,14 +1,64 @@
 -- What a command prints.
-use Rattle.std.specs.Prelude.{◌++◌, ⊤, ℕ, List, codes}
+use Rattle.std.specs.Prelude.{◌≡◌, ◌⊎◌, ◌++◌, ⊤, ℕ, ℤ, pos, ◌*ℤ◌, List, Option, Some, None, codes}
+use Rattle.std.specs.Io.KnownBytes.{Appends}
+use Rattle.gtd_core.specs.Trees.{Tree}
+use Rattle.gtd_core.specs.declared.second.Sec.{Sec}
 use Rattle.gtd_text.specs.Canonical.{canonical}
-use Rattle.gtd_tool.specs.Plans.{Asked, Check, Canon}
+use Rattle.gtd_calendar.specs.Stamp.{stamp_text}
+use Rattle.gtd_spans.specs.Change.{NeverChanges, IsNextChange}
+use Rattle.gtd_eval.specs.Ever.{NeverChangesAfter, IsFirstChange}
+use Rattle.gtd_eval.specs.Membership.{InTree, SomeGivesYear}
+use Rattle.gtd_tool.specs.Plans.{Asked, Check, Canon, At, Next, Ever}
+use Rattle.gtd_tool.specs.Writing.{AppendsPart}
 
--- The answer, and the end of its line.
-abbrev pub printed : Asked → List ℕ
-printed (Check domain) = codes "ok\n"
-printed (Canon domain) = canonical domain ++ codes "\n"
+-- The answer is the state of the domain at the second: `in` where the domain contains it, and else `out`.
+abbrev pub IsState : Tree → ℤ → List ℕ → Type 0
+IsState domain t answer =
+    (InTree domain t × (answer ≡ codes "in")) ⊎ ((InTree domain t → ⊥) × (answer ≡ codes "out"))
 
--- The answer is a text that takes memory, and is made before any of it is written.
+-- The answer is the stamp of the second and the state of the domain from then on.
+abbrev pub IsChange : Tree → ℤ → List ℕ → Type 0
+IsChange domain t answer =
+    (state : List ℕ) × IsState domain t state × (answer ≡ stamp_text t ++ (codes " " ++ state))
+
+-- The answer is that of the change, or the word for none.
+abbrev pub IsChangeOr : List ℕ → Tree → Option Sec → List ℕ → Type 0
+IsChangeOr none domain None answer = answer ≡ none
+IsChangeOr none domain (Some t) answer = IsChange domain t.0 answer
+
+-- The answer, without the end of its line. `next` is asked for the seconds of the days before `to`, and `ever` for all
+-- later ones.
+abbrev pub IsAnswer : Asked → List ℕ → Type 0
+IsAnswer (Check domain) answer = answer ≡ codes "ok"
+IsAnswer (Canon domain) answer = answer ≡ canonical domain
+IsAnswer (At domain moment) answer = IsState domain moment.0 answer
+IsAnswer (Next domain moment to) answer =
+    ((t : ℤ) × IsNextChange (InTree domain) moment.0 (to *ℤ pos 86400) t × IsChange domain t answer)
+    ⊎ (NeverChanges (InTree domain) moment.0 (to *ℤ pos 86400) × (answer ≡ codes "none"))
+IsAnswer (Ever domain moment) answer =
+    ((t : ℤ) × IsFirstChange (InTree domain) moment.0 t × IsChange domain t answer)
+    ⊎ (NeverChangesAfter (InTree domain) moment.0 × (answer ≡ codes "never"))
+
+-- The writer's known bytes grew by one line, an answer that meets the condition.
+abbrev pub AppendsLine : (List ℕ → Type 0) → Option (List ℕ) → Option (List ℕ) → Type 0
+AppendsLine is old new = (answer : List ℕ) × is answer × Appends old new (answer ++ codes "\n")
+
+-- They grew by a first part of such a line.
+abbrev pub AppendsPartOfLine : (List ℕ → Type 0) → Option (List ℕ) → Option (List ℕ) → Type 0
+AppendsPartOfLine is old new = (answer : List ℕ) × is answer × AppendsPart old new (answer ++ codes "\n")
+
+-- The answer is a text that takes memory, or is found by what takes memory; it is known before any of it is written.
 abbrev pub TakesMemory : Asked → Type 0
 TakesMemory (Check domain) = ⊥
 TakesMemory (Canon domain) = ⊤
+TakesMemory (At domain moment) = ⊥
+TakesMemory (Next domain moment to) = ⊤
+TakesMemory (Ever domain moment) = ⊤
+
+-- It is asked for all later changes of a domain that gives a year, which need not repeat.
+abbrev pub AsksPastYears : Asked → Type 0
+AsksPastYears (Check domain) = ⊥
+AsksPastYears (Canon domain) = ⊥
+AsksPastYears (At domain moment) = ⊥
+AsksPastYears (Next domain moment to) = ⊥
+AsksPastYears (Ever domain moment) = SomeGivesYear domain

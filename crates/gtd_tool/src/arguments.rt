@@ -16,9 +16,29 @@ use std::alloc::{AllocError, Global};
 #[derive(Clone, Copy, Debug, PartialEq, Eq)]
 pub enum CommandLine<'a> {
     /// `check DOMAIN`
-    Check { domain: &'a str },
+    Check {
+        domain: &'a str,
+    },
     /// `canon DOMAIN`
-    Canon { domain: &'a str },
+    Canon {
+        domain: &'a str,
+    },
+    /// `at DOMAIN MOMENT`
+    At {
+        domain: &'a str,
+        moment: &'a str,
+    },
+    /// `next DOMAIN MOMENT TO`
+    Next {
+        domain: &'a str,
+        moment: &'a str,
+        to: &'a str,
+    },
+    /// `ever DOMAIN MOMENT`
+    Ever {
+        domain: &'a str,
+        moment: &'a str,
+    },
 }
 
 // The program with no command yet. A request for help is refused, as is any other option.
@@ -52,7 +72,10 @@ fn gtd<'a>(alloc: Global) -> Result<Command<'a>, AllocError>
 {
     let program = without_commands(alloc);
     let program = add_command(alloc, program, "check")?;
-    add_command(alloc, program, "canon")
+    let program = add_command(alloc, program, "canon")?;
+    let program = add_command(alloc, program, "at")?;
+    let program = add_command(alloc, program, "next")?;
+    add_command(alloc, program, "ever")
 }
 
 // The command of a name, if it takes as many words as these.
@@ -66,6 +89,18 @@ fn line_of<'a>(name: &str, words: &[&'a str]) -> Option<CommandLine<'a>>
         },
         "canon" => match words {
             [domain] => Some(CommandLine::Canon { domain }),
+            _ => None,
+        },
+        "at" => match words {
+            [domain, moment] => Some(CommandLine::At { domain, moment }),
+            _ => None,
+        },
+        "next" => match words {
+            [domain, moment, to] => Some(CommandLine::Next { domain, moment, to }),
+            _ => None,
+        },
+        "ever" => match words {
+            [domain, moment] => Some(CommandLine::Ever { domain, moment }),
             _ => None,
         },
         _ => None,

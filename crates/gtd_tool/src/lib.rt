@@ -12,5 +12,5 @@ mod writing;
 
 pub use performing::perform;
 pub use planning::plan;
-pub use plans::Plan;
+pub use plans::{Moment, MomentInHorizon, Plan};
 pub use refusal::Refusal;

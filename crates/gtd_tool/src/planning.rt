@@ -1,31 +1,30 @@
 //! From the words of a command line to a plan.
 
-ghost use Rattle.std.specs.Prelude.{◌≡◌, ◌≢◌, ◌⊎◌, IfErr, IfOk, MatchResult, map, string_bytes};
+ghost use Rattle.std.specs.Prelude.{◌≡◌, ◌≢◌, ◌⊎◌, [], ◌∷◌, IfErr, IfOk, Ok, MatchResult, map, string_bytes};
+ghost use Rattle.gtd_core.specs.Horizons.{IsHorizon};
 ghost use Rattle.gtd_core.specs.Parts.{domain_tree};
-ghost use Rattle.gtd_core.specs.Trees.{Tree};
+ghost use Rattle.gtd_core.specs.Whole.{to_day};
 ghost use Rattle.gtd_core.specs.declared.fault.TextFault.{TextFault};
-ghost use Rattle.gtd_text.specs.Reading.{IsFault};
+ghost use Rattle.gtd_calendar.specs.Clock.{day_of_second};
+ghost use Rattle.gtd_calendar.specs.Read.{date_in, stamp_in};
 ghost use Rattle.gtd_tool.specs.LineCommands.{command_of};
-ghost use Rattle.gtd_tool.specs.Plans.{Asked, AsksFor, IsDomain, IsRead, asked_by};
-ghost use Rattle.gtd_tool.specs.Refusals.{HasFault, IsRefusalOf};
+ghost use Rattle.gtd_tool.specs.Plans.{AreDomainAndMoment, Asked, AsksFor, IsDomain, IsRead, asked_by};
+ghost use Rattle.gtd_tool.specs.Plans as asked;
+ghost use Rattle.gtd_tool.specs.CommandLines as command;
+ghost use Rattle.gtd_tool.specs.Refusals.{DatePart, DomainPart, IsNoHorizon, IsRefusalOf, IsStopped, IsStoppedLine, MomentPart, parts_of};
 
 use crate::arguments::{CommandLine, read_line};
-use crate::plans::Plan;
+use crate::plans::{Moment, MomentInHorizon, Plan};
 use crate::refusal::Refusal;
-use gtd_core::{Domain, Fault, TextFault};
+use gtd_calendar::{read_date, read_stamp};
+use gtd_core::{Domain, Fault, Horizon, TextFault};
 use gtd_text::read_domain;
 use std::alloc::Global;
 
 // The domain that a word stands for.
 fn domain_of(alloc: Global, text: &str) -> Result<Domain, Refusal>
     ensures read { IfOk result (λ domain. IsDomain text.now (domain_tree domain)) }
-    ensures only { (tree : Tree) → IsDomain text.now tree
-        → MatchResult result (λ domain. domain_tree domain ≡ tree) (λ r. r ≡ Refusal.Memory) }
-    ensures fault { IfErr result (λ r. (r ≡ Refusal.Memory)
-        ⊎ ((fault : TextFault) × (r ≡ Refusal.Text fault)
-        × IsFault text.now fault × (fault.kind ≢ Fault.NoMemory))) }
-    ensures first { (fault : TextFault) → IsFault text.now fault
-        → MatchResult result (λ domain. ⊥) (λ r. (r ≡ Refusal.Memory) ⊎ (r ≡ Refusal.Text fault)) }
+    ensures stopped { IfErr result (IsStopped (DomainPart text.now ∷ [])) }
 {
     match read_domain(alloc, text.as_bytes()) {
         Ok(domain) => Ok(domain),
@@ -44,27 +43,113 @@ fn refusal_of(fault: TextFault) -> Refusal
     }
 }
 
+// The moment that a word stands for.
+fn moment_of(text: &str) -> Result<Moment, Refusal>
+    ensures read { IfOk result (λ moment. stamp_in text.now ≡ Ok moment.second) }
+    ensures stopped { IfErr result (IsStopped (MomentPart text.now ∷ [])) }
+{
+    match read_stamp(text.as_bytes()) {
+        Ok(second) => Ok(Moment { second }),
+        Err(fault) => Err(Refusal::Moment(fault)),
+    }
+}
+
+// The day that a word stands for.
+fn date_of(text: &str) -> Result<i64, Refusal>
+    ensures read { IfOk result (λ day. date_in text.now ≡ Ok day) }
+    ensures stopped { IfErr result (IsStopped (DatePart text.now ∷ [])) }
+{
+    match read_date(text.as_bytes()) {
+        Ok(day) => Ok(day),
+        Err(fault) => Err(Refusal::Date(fault)),
+    }
+}
+
+// The moment, in the horizon from its own day up to and without another.
+fn in_horizon(moment: Moment, to: i64) -> Result<MomentInHorizon, Refusal>
+    ensures read { IfOk result (λ x. (x.second ≡ moment.second) × (to_day x.horizon ≡ to)
+        × IsHorizon (day_of_second moment.second.0) to) }
+    ensures fault { IfErr result (IsNoHorizon moment.second to) }
+{
+    let second = moment.second;
+    match Horizon::new(second.day(), to) {
+        Ok(horizon) => Ok(MomentInHorizon { second, horizon }),
+        Err(fault) => Err(Refusal::Horizon(fault)),
+    }
+}
+
+// The domain and the moment that two words stand for.
+fn domain_and_moment(alloc: Global, domain: &str, moment: &str) -> Result<(Domain, Moment), Refusal>
+    ensures read { IfOk result (λ p.
+        AreDomainAndMoment domain.now moment.now (domain_tree p.0) p.1.second) }
+    ensures stopped { IfErr result
+        (IsStopped (DomainPart domain.now ∷ MomentPart moment.now ∷ [])) }
+{
+    let domain = domain_of(alloc, domain)?;
+    let moment = moment_of(moment)?;
+    Ok((domain, moment))
+}
+
+// The plan of `at`.
+fn plan_at(alloc: Global, domain: &str, moment: &str) -> Result<Plan, Refusal>
+    ensures read { IfOk result (λ plan. IsRead (command.At domain.now moment.now) (asked_by plan)) }
+    ensures stopped { IfErr result (IsStopped (parts_of (command.At domain.now moment.now))) }
+{
+    let (domain, moment) = domain_and_moment(alloc, domain, moment)?;
+    Ok(Plan::At { domain, moment })
+}
+
+// The plan of `next`.
+fn plan_next(alloc: Global, domain: &str, moment: &str, to: &str) -> Result<Plan, Refusal>
+    ensures read { IfOk result (λ plan.
+        IsRead (command.Next domain.now moment.now to.now) (asked_by plan)) }
+    ensures stopped { IfErr result
+        (IsStopped (parts_of (command.Next domain.now moment.now to.now))) }
+{
+    let (domain, moment) = domain_and_moment(alloc, domain, moment)?;
+    let to = date_of(to)?;
+    let moment = in_horizon(moment, to)?;
+    Ok(Plan::Next { domain, moment })
+}
+
+// The plan of `ever`.
+fn plan_ever(alloc: Global, domain: &str, moment: &str) -> Result<Plan, Refusal>
+    ensures read { IfOk result (λ plan.
+        IsRead (command.Ever domain.now moment.now) (asked_by plan)) }
+    ensures stopped { IfErr result (IsStopped (parts_of (command.Ever domain.now moment.now))) }
+{
+    let (domain, moment) = domain_and_moment(alloc, domain, moment)?;
+    Ok(Plan::Ever { domain, moment })
+}
+
 // The plan of a command line whose words are as many as the command takes.
 fn plan_line(alloc: Global, line: CommandLine<'_>) -> Result<Plan, Refusal>
     ensures read { IfOk result (λ plan. IsRead (command_of line.entry) (asked_by plan)) }
-    ensures only { (asked : Asked) → IsRead (command_of line.entry) asked
-        → MatchResult result (λ plan. asked_by plan ≡ asked) (λ r. r ≡ Refusal.Memory) }
-    ensures fault { IfErr result (λ r. (r ≡ Refusal.Memory)
-        ⊎ ((fault : TextFault) × (r ≡ Refusal.Text fault)
-        × HasFault (command_of line.entry) fault × (fault.kind ≢ Fault.NoMemory))) }
-    ensures first { (fault : TextFault) → HasFault (command_of line.entry) fault
-        → MatchResult result (λ plan. ⊥) (λ r. (r ≡ Refusal.Memory) ⊎ (r ≡ Refusal.Text fault)) }
+    ensures stopped { IfErr result (IsStopped (parts_of (command_of line.entry))) }
 {
     match line {
         CommandLine::Check { domain } => Ok(Plan::Check(domain_of(alloc, domain)?)),
         CommandLine::Canon { domain } => Ok(Plan::Canon(domain_of(alloc, domain)?)),
+        CommandLine::At { domain, moment } => plan_at(alloc, domain, moment),
+        CommandLine::Next { domain, moment, to } => plan_next(alloc, domain, moment, to),
+        CommandLine::Ever { domain, moment } => plan_ever(alloc, domain, moment),
     }
+}
+
+// The plan of the words after the program's name.
+fn plan_words(alloc: Global, words: &[String]) -> Result<Plan, Refusal>
+    ensures asked { IfOk result (λ plan. AsksFor (map string_bytes words.now) (asked_by plan)) }
+    ensures stopped { IfErr result (IsStoppedLine (map string_bytes words.now)) }
+{
+    let line = read_line(alloc, words)?;
+    plan_line(alloc, line)
 }
 
 /// What the words after the program's name ask for, or their first refusal.
 ///
-/// In order: `Usage` where they are not a command and as many words as it takes, then `Text` for the first fault of the
-/// word for a domain. Where memory was refused, `Memory` is the answer in place of these.
+/// In order: `Usage` where they are not a command and as many words as it takes; then the first fault of the words for
+/// a domain (`Text`), a moment (`Moment`) and a date (`Date`), from left to right; then `Horizon` where the days from
+/// that of the moment up to the date are none. Where memory was refused, `Memory` is the answer in place of these.
 pub fn plan(alloc: Global, words: Vec<String>) -> Result<Plan, Refusal>
     // The plan is what the words ask for.
     ensures asked { IfOk result (λ plan. AsksFor (map string_bytes words.items) (asked_by plan)) }
@@ -81,6 +166,5 @@ pub fn plan(alloc: Global, words: Vec<String>) -> Result<Plan, Refusal>
     ensures memory { IfErr result (λ r. (fault : TextFault)
         → r ≡ Refusal.Text fault → fault.kind ≢ Fault.NoMemory) }
 {
-    let line = read_line(alloc, words.as_slice())?;
-    plan_line(alloc, line)
+    plan_words(alloc, words.as_slice())
 }

@@ -1,6 +1,28 @@
 //! What a command line asks for.
 
-use gtd_core::Domain;
+ghost use Rattle.gtd_core.specs.Interval.{Within};
+ghost use Rattle.gtd_core.specs.Whole.{whole};
+ghost use Rattle.gtd_eval.specs.Ever.{IsMoment};
+
+use gtd_core::{Domain, Horizon, Sec};
+
+/// A moment: a second from 1901-01-01T00:00:00 to 2199-12-31T23:59:59.
+#[derive(Clone, Copy, Debug, PartialEq, Eq)]
+pub struct Moment {
+    /// Its second.
+    pub second: Sec,
+    pub ghost in_range: { IsMoment second.0 },
+}
+
+/// A moment, and a horizon that it is in.
+#[derive(Clone, Copy, Debug, PartialEq, Eq)]
+pub struct MomentInHorizon {
+    /// Its second.
+    pub second: Sec,
+    /// The days that are asked for.
+    pub horizon: Horizon,
+    pub ghost inside: { Within (whole horizon) second.0 },
+}
 
 /// What a command line asks for, with each of its words read.
 #[derive(Debug, Drop)]
@@ -9,4 +31,25 @@ pub enum Plan {
     Check(Domain),
     /// To print a domain's canonical text.
     Canon(Domain),
+    /// To say whether a domain contains a moment.
+    At {
+        /// The domain.
+        domain: Domain,
+        /// The moment.
+        moment: Moment,
+    },
+    /// To print the first change of a domain after a moment, in a horizon that begins on the moment's day.
+    Next {
+        /// The domain.
+        domain: Domain,
+        /// The moment and the horizon.
+        moment: MomentInHorizon,
+    },
+    /// To print the first change of a domain after a moment, however late.
+    Ever {
+        /// The domain.
+        domain: Domain,
+        /// The moment.
+        moment: Moment,
+    },
 }

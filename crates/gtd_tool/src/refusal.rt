@@ -6,7 +6,8 @@ ghost use Rattle.gtd_tool.specs.Refusals.{refusal_line, status_of};
 ghost use Rattle.gtd_tool.specs.Writing.{AppendsPart};
 
 use crate::writing::put_texts;
-use gtd_core::TextFault;
+use gtd_calendar::StampFault;
+use gtd_core::{HorizonFault, TextFault};
 use itoa::Buffer;
 use std::io;
 use std::io::Write;
@@ -21,6 +22,18 @@ pub enum Refusal {
     /// The word for a domain stands for none. This is its first fault, which is never `NoMemory`.
     #[error("fault {0}")]
     Text(TextFault),
+    /// The word for a moment stands for none. This is its first fault.
+    #[error("fault moment {0}")]
+    Moment(StampFault),
+    /// A word for a date stands for none. This is its first fault.
+    #[error("fault date {0}")]
+    Date(StampFault),
+    /// The days are no horizon. This is their first fault.
+    #[error("fault horizon {0}")]
+    Horizon(HorizonFault),
+    /// Some start of the domain gives a year, so that its changes for ever are not known.
+    #[error("fault HasYear")]
+    HasYear,
     /// A write to standard output failed.
     #[error("fault WriteFault")]
     Write,
@@ -35,7 +48,11 @@ impl Refusal {
         ensures value { result ≡ status_of self.now }
     {
         match self {
-            Refusal::Text(_) => 1,
+            Refusal::Text(_)
+            | Refusal::Moment(_)
+            | Refusal::Date(_)
+            | Refusal::Horizon(_)
+            | Refusal::HasYear => 1,
             Refusal::Usage => 2,
             Refusal::Write | Refusal::Memory => 3,
         }
@@ -51,6 +68,10 @@ impl Refusal {
         match self {
             Refusal::Usage => put_texts(&["usage: gtd COMMAND ARGUMENTS\n"], err),
             Refusal::Text(fault) => put_fault(fault, err),
+            Refusal::Moment(fault) => put_texts(&["fault moment ", fault.name(), "\n"], err),
+            Refusal::Date(fault) => put_texts(&["fault date ", fault.name(), "\n"], err),
+            Refusal::Horizon(fault) => put_texts(&["fault horizon ", fault.name(), "\n"], err),
+            Refusal::HasYear => put_texts(&["fault HasYear\n"], err),
             Refusal::Write => put_texts(&["fault WriteFault\n"], err),
             Refusal::Memory => put_texts(&["fault NoMemory\n"], err),
         }

@@ -14,4 +14,7 @@ more a b c name step before = step ∙ ap (λ (x : App). and_then x name) before
 pub returns : goal.returns
 returns c =
     let check = more _ _ _ (codes "check") c.in_ok-program.ensures c.without_commands-program.ensures in
-    IfOk-weaker c.add_command-2.result _ _ (λ r h. more _ _ _ (codes "canon") h check) c.add_command-2.ensures
+    let canon = more _ _ _ (codes "canon") c.in_ok-program-2.ensures check in
+    let at = more _ _ _ (codes "at") c.in_ok-program-3.ensures canon in
+    let next = more _ _ _ (codes "next") c.in_ok-program-4.ensures at in
+    IfOk-weaker c.add_command-5.result _ _ (λ r h. more _ _ _ (codes "ever") h next) c.add_command-5.ensures

@@ -2,10 +2,10 @@ use Rattle.gtd_tool.proofs.LawLemmas.{one_asked, one_refusal, asked_apart}
 use Rattle.gtd_tool.proofs.laws.one_answer.Goals as goal
 
 pub returns-clause-asked : goal.returns-clause-asked
-returns-clause-asked c = one_asked c.one_meaning.ensures.expression
+returns-clause-asked c = one_asked
 
 pub returns-clause-refusal : goal.returns-clause-refusal
-returns-clause-refusal c = one_refusal c.one_meaning.ensures.fault
+returns-clause-refusal c = one_refusal
 
 pub returns-clause-apart : goal.returns-clause-apart
 returns-clause-apart c = asked_apart

@@ -1,8 +1,7 @@
-use Rattle.std.proofs.lemmas.Result.{err_from_is_err_and}
-use Rattle.gtd_tool.proofs.WritingLemmas.{part_none}
+use Rattle.gtd_tool.specs.Plans.{asked_by}
+use Rattle.gtd_tool.proofs.AnswerLemmas.{part_of_any}
 use Rattle.gtd_tool.proofs.performing.perform.Goals as goal
 
-pub returns-in_err-line-in-Canon-clause-part : goal.returns-in_err-line-in-Canon-clause-part
-returns-in_err-line-in-Canon-clause-part g c =
-    let p = err_from_is_err_and c.from_residual.result c.from_residual.ensures.1 in
-    rw (p.1) (part_none _ _)
+pub returns-clause-part : goal.returns-clause-part
+returns-clause-part g c =
+    part_of_any (asked_by c.args.plan.now) g.W.Write.contents c.args.out.now c.carry_out.new.out c.carry_out.result c.carry_out.ensures.stopped

@@ -1,0 +1,5 @@
+use Rattle.gtd_tool.proofs.AnswerLemmas.{one_answer}
+use Rattle.gtd_tool.proofs.laws.one_line.Goals as goal
+
+pub returns : goal.returns
+returns c = record { answer = one_answer }

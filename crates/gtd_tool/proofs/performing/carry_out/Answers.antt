@@ -1,0 +1,21 @@
+use Rattle.std.proofs.Common.{codes, refl}
+use Rattle.gtd_tool.specs.Plans.{asked_by}
+use Rattle.gtd_tool.proofs.AnswerLemmas.{on_ok, on_err, stop_of_write}
+use Rattle.gtd_tool.proofs.performing.carry_out.Goals as goal
+
+pub returns-in-Check-clause-printed : goal.returns-in-Check-clause-printed
+returns-in-Check-clause-printed g c = rw (c.in-Check.is) (on_ok c.print.result _ _ (λ all. (codes "ok", refl, all)) c.print.ensures.printed)
+
+pub returns-in-Check-clause-stopped : goal.returns-in-Check-clause-stopped
+returns-in-Check-clause-stopped g c =
+    stop_of_write (asked_by c.args.plan.now) (g.W.Write.contents c.args.out.now) (g.W.Write.contents c.print.new.out) _ c.print.result
+    (on_err c.print.result _ _ (λ part. (codes "ok", rw (c.in-Check.is) refl, part)) c.print.ensures.part) c.print.ensures.cause
+
+pub returns-in-Next-clause-printed : goal.returns-in-Next-clause-printed
+returns-in-Next-clause-printed g c = rw (c.in-Next.is) c.print_next.ensures.printed
+
+pub returns-in-Next-clause-stopped : goal.returns-in-Next-clause-stopped
+returns-in-Next-clause-stopped g c = rw (c.in-Next.is) c.print_next.ensures.stopped
+
+pub returns-in-Ever-clause-stopped : goal.returns-in-Ever-clause-stopped
+returns-in-Ever-clause-stopped g c = rw (c.in-Ever.is) c.print_ever.ensures.stopped
