@@ -11,7 +11,7 @@ use Rattle.gtd_calendar.specs.Stamp.{stamp_text}
 use Rattle.gtd_calendar.proofs.ClockLemmas.{second-parts}
 use Rattle.gtd_spans.specs.Change.{NeverChanges, IsNextChange, SameAt}
 use Rattle.gtd_recur.specs.Membership.{IsHorizonSecond}
-use Rattle.gtd_eval.specs.Ever.{NeverChangesAfter, IsFirstChange, IsMoment, cycle}
+use Rattle.gtd_eval.specs.Ever.{NeverChangesAfter, IsFirstChange, IsMomentSecond, cycle}
 use Rattle.gtd_eval.specs.Membership.{InTree, SomeGivesYear}
 use Rattle.gtd_eval.proofs.Repeats.{tree-repeats, first-of-next}
 use Rattle.gtd_tool.specs.Plans.{Asked, Check, Canon, At, Next, Ever}
@@ -78,10 +78,10 @@ first_within set repeats s c h = by_lt_z (s +ℤ cycle) c (λ lt. absurd (h.diff
         let e : (c -ℤ cycle) +ℤ cycle ≡ c = omega (arith, ints) in
         ((λ x. subst set e (far.0 (near.0 x))), (λ x. near.1 (far.1 (subst set (sym e) x))))
 
-moment_later : (s c : ℤ) → IsMoment s → s <ℤ c → c ≤ℤ (s +ℤ cycle) → IsHorizonSecond c
+moment_later : (s c : ℤ) → IsMomentSecond s → s <ℤ c → c ≤ℤ (s +ℤ cycle) → IsHorizonSecond c
 moment_later s c m lt le = (omega (arith, ints, m.0, lt), omega (arith, ints, m.1, le))
 
-pub ever_in_range : (d : Tree) (s : ℤ) (o : Option Sec) → IsMoment s → (SomeGivesYear d → ⊥)
+pub ever_in_range : (d : Tree) (s : ℤ) (o : Option Sec) → IsMomentSecond s → (SomeGivesYear d → ⊥)
     → MatchOption o (NeverChangesAfter (InTree d) s) (λ c. IsFirstChange (InTree d) s c.0) → IfSome o (λ c. IsHorizonSecond c.0)
 ever_in_range d s None m none h = tt
 ever_in_range d s (Some c) m none h =

@@ -2,7 +2,7 @@
 
 ghost use Rattle.gtd_core.specs.Interval.{Within};
 ghost use Rattle.gtd_core.specs.Whole.{whole};
-ghost use Rattle.gtd_eval.specs.Ever.{IsMoment};
+ghost use Rattle.gtd_eval.specs.Ever.{IsMomentSecond};
 
 use gtd_core::{Domain, Horizon, Sec};
 
@@ -11,7 +11,7 @@ use gtd_core::{Domain, Horizon, Sec};
 pub struct Moment {
     /// Its second.
     pub second: Sec,
-    pub ghost in_range: { IsMoment second.0 },
+    pub ghost in_range: { IsMomentSecond second.0 },
 }
 
 /// A moment, and a horizon that it is in.
