@@ -105,6 +105,13 @@ impl Records {
         })
     }
 
+    /// The records, in the order of the file's rows. Takes no memory.
+    pub fn rows(&self) -> &[Record]
+        ensures rows { result.now ≡ self.now }
+    {
+        self.rows.as_slice()
+    }
+
     /// The elements that the records name, ascending and each once. Takes no memory.
     pub fn elements(&self) -> &[u64]
         ensures named { AreElements self.now result.now }

@@ -13,8 +13,10 @@ use gtd_eval::Cursor;
 use gtd_spans::SpanList;
 use std::alloc::{AllocError, Global};
 
-// The seconds of a horizon in which no record closes the element in the direction for the vehicle type, span by span.
-fn open_seconds(
+/// The seconds of the horizon in which no record closes the element in the direction for the vehicle type, which is
+/// from 1 to 99, span by span. An element that no record names is open throughout. `AllocError` is answered only where
+/// memory was refused.
+pub fn open_seconds(
     alloc: Global,
     records: &Records,
     element: u64,
@@ -22,7 +24,8 @@ fn open_seconds(
     vehicle: u8,
     horizon: Horizon,
 ) -> Result<Cursor, AllocError>
-    ensures { IfOk result (λ c. IsNormalOver (IsOpen records.now element direction vehicle) horizon (cursor_list c)) }
+    ensures seconds { IfOk result
+        (λ c. IsNormalOver (IsOpen records.now element direction vehicle) horizon (cursor_list c)) }
 {
     let closing = records.closing(alloc, element, direction, vehicle, horizon)?;
     let closed = Cursor::any(alloc, closing, horizon)?;
@@ -40,7 +43,7 @@ pub fn schedule_of(
     vehicle: u8,
     horizon: Horizon,
 ) -> Result<SpanList, AllocError>
-    ensures open { IfOk result
+    ensures seconds { IfOk result
         (λ list. IsNormalOver (IsOpen records.now element direction vehicle) horizon list) }
 {
     let mut open = open_seconds(alloc, records, element, direction, vehicle, horizon)?;

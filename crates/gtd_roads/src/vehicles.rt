@@ -57,6 +57,13 @@ impl Codes {
         Codes { codes }
     }
 
+    /// The codes, ascending and each once.
+    pub fn as_slice(&self) -> &[u8]
+        ensures codes { result.now ≡ self.now }
+    {
+        self.codes.as_slice()
+    }
+
     fn contains(&self, code: u8) -> bool
         ensures member { IsTrue result ↔ Contains self.now code }
     {
