@@ -4,6 +4,8 @@ use Rattle.std.specs.Prelude.{Option, Some, None, MatchOption, Result, Ok, Err}
 use Rattle.csv.specs.Reading.{default_config, records, strip_bom}
 use Rattle.gtd_core.specs.Trees.{Tree}
 use Rattle.gtd_core.specs.declared.fault.TextFault.{TextFault}
+use Rattle.gtd_text.proofs.OneMeaning.{one_meaning}
+use Rattle.gtd_text.proofs.ReadingLaws.{one_fault}
 use Rattle.gtd_text.specs.Reading.{StandsFor, IsFault}
 use Rattle.gtd_roads.proofs.Rising.{one_list}
 use Rattle.gtd_roads.specs.Columns.{number_of, closed_of}
@@ -194,3 +196,7 @@ module _ (one_tree : (text : List ℕ) (e f : Tree) → StandsFor text e → Sta
   one_of_file bytes a b (inl p) (inr q) = let l = p.0 in let h = q.0 in absurd (omega arith)
   one_of_file bytes a b (inr p) (inl q) = let l = p.0 in let h = q.0 in absurd (omega arith)
   one_of_file bytes a b (inr p) (inr q) = p.1 ∙ sym q.1
+
+-- the bytes of a file have one answer
+pub one_file : (bytes : List ℕ) (a b : Result (List Restriction) RecordFault) → IsFile bytes a → IsFile bytes b → a ≡ b
+one_file = one_of_file one_meaning one_fault

@@ -1,0 +1,46 @@
+-- The record file of version 2 that stands for given restrictions, one row for each in their order. A line has its end:
+-- the LF is its last byte.
+use Rattle.std.specs.Prelude.{◌++◌, ℕ, List, [], ◌∷◌, map, flat_map, codes, decimal, Option, Some, None}
+use Rattle.gtd_core.specs.Trees.{Tree}
+use Rattle.gtd_text.specs.Canonical.{canonical}
+use Rattle.gtd_roads.specs.Restriction.{Restriction}
+use Rattle.gtd_roads.specs.declared.direction.Closed.{Closed}
+use Rattle.gtd_roads.specs.declared.direction.Closed.TheVariants.{One, Both}
+use Rattle.gtd_roads.specs.declared.vehicles.Vehicles.{Vehicles}
+use Rattle.gtd_roads.specs.declared.vehicles.Vehicles.TheVariants.{Every, Only, AllBut}
+use Rattle.gtd_runs.specs.Words.{direction_word}
+
+-- the header line
+abbrev pub header_line : List ℕ
+header_line = codes "element,direction,vehicles,domain\n"
+
+-- the word for the directions that are closed
+abbrev pub closed_word : Closed → List ℕ
+closed_word (One direction) = direction_word direction
+closed_word Both = codes "both"
+
+-- codes in their order, with semicolons between them
+abbrev pub codes_text : List ℕ → List ℕ
+codes_text [] = []
+codes_text (code ∷ rest) = decimal code ++ flat_map (λ other. codes ";" ++ decimal other) rest
+
+-- the vehicle types: all, a list, or after a `!` all but a list
+abbrev pub vehicles_text : Vehicles → List ℕ
+vehicles_text Every = codes "0"
+vehicles_text (Only types) = codes_text types
+vehicles_text (AllBut types) = codes "!" ++ codes_text types
+
+-- the canonical text of an expression, and nothing where there is none
+abbrev pub domain_text : Option Tree → List ℕ
+domain_text None = []
+domain_text (Some tree) = canonical tree
+
+-- the line of a restriction
+abbrev pub row_line : Restriction → List ℕ
+row_line r =
+    decimal r.element ++ codes "," ++ closed_word r.closed ++ codes "," ++ vehicles_text r.vehicles ++ codes ","
+    ++ domain_text r.domain ++ codes "\n"
+
+-- the header, and one line for each restriction in their order
+abbrev pub migrated : List Restriction → List (List ℕ)
+migrated found = header_line ∷ map row_line found

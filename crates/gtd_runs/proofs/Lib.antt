@@ -1,0 +1,2 @@
+pub mod PutFacts
+pub mod RunFacts

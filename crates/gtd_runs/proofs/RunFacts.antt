@@ -1,0 +1,109 @@
+-- What stands where a run ended, and the claims that follow.
+use Rattle.std.proofs.Common.{◌≡◌, ◌∙◌, ◌+◌, ap, refl, arith, subst, length, ℕ, List, Option, Some, None}
+use Rattle.std.specs.Prelude.{◌≢◌, Result, Ok, Err, IfSome}
+use Rattle.std.specs.Io.KnownBytes.{Keeps}
+use Rattle.gtd_roads.proofs.OneAnswer.{one_file}
+use Rattle.gtd_roads.specs.File.{IsFile}
+use Rattle.gtd_roads.specs.Reading.{IsOfFile}
+use Rattle.gtd_roads.specs.Restriction.{Restriction}
+use Rattle.gtd_roads.specs.declared.fault.RecordFault.{RecordFault}
+use Rattle.gtd_runs.specs.Putting.{Puts, PutsText, answer_of, failures_after_stop, nothing_put, text_of}
+use Rattle.gtd_runs.specs.Run.{AcceptedFilesArePut, HasRun, IsUnhindered, PutsWhole, RefusedFilesPutNothing, TookFirst, TookFirstOf, failures_after_write}
+use Rattle.gtd_runs.specs.declared.fault.RunFault.{RunFault}
+use Rattle.gtd_runs.specs.declared.fault.RunFault.TheVariants as fault
+use Rattle.gtd_runs.specs.declared.putting.Progress.{Progress}
+use Rattle.gtd_runs.specs.declared.putting.Stop.{Stop}
+use Rattle.gtd_runs.specs.declared.putting.Stop.TheVariants.{Output, Memory}
+
+-- the first bytes, counted from nothing
+took_first : (x : Stop) (a b : Option (List ℕ)) (q : Progress) (lines : List (List ℕ)) → Puts (Err x) a b nothing_put q lines
+    → TookFirst a b q.written (text_of lines)
+took_first x a b q lines puts =
+    let is : puts.0 ≡ q.written = (let e = puts.3 in omega arith) in
+    let few = puts.1 in
+    (omega arith, rw is at puts.2)
+
+-- counted from nothing
+none_before : (n : ℕ) → 0 + n ≡ n
+none_before n = omega arith
+
+-- the failures that a stop counts are those of its answer
+pub same_failures : (r : Result (Unit {0}) Stop) (q : Progress) (n : ℕ) → failures_after_write (answer_of r q) n ≡ failures_after_stop r n
+same_failures (Ok x) q n = refl
+same_failures (Err Output) q n = refl
+same_failures (Err Memory) q n = refl
+
+module _ (IsAccepted : List Restriction → Type 0) (IsText : List Restriction → List (List ℕ) → Type 0) where
+  stopped : (x : Stop) (file old new : Option (List ℕ)) (found : List Restriction) (q : Progress)
+      → IfSome file (λ bytes. IsFile bytes (Ok found)) → IsAccepted found → PutsText (IsText found) (Err x) old new nothing_put q
+      → IfSome file (λ bytes. TookFirstOf IsAccepted IsText bytes old new q.written)
+  stopped x None old new found q file accepted puts = tt
+  stopped x (Some bytes) old new found q file accepted puts = record {
+    found = found;
+    file = file;
+    accepted = accepted;
+    first = λ lines text. took_first x old new q lines (puts lines text);
+  }
+
+  -- what a run of an accepted file did, by its answer
+  pub has_run : (r : Result (Unit {0}) Stop) (file old new : Option (List ℕ)) (found : List Restriction) (q : Progress)
+      → IfSome file (λ bytes. IsFile bytes (Ok found)) → IsAccepted found → PutsText (IsText found) r old new nothing_put q
+      → HasRun IsAccepted IsText file old new (answer_of r q)
+  has_run (Ok x) None old new found q file accepted puts = tt
+  has_run (Ok x) (Some bytes) old new found q file accepted puts = record {
+    found = found;
+    file = file;
+    accepted = accepted;
+    puts = record {
+      lines = puts.0;
+      is_text = puts.1;
+      taken = puts.2.0;
+      count = ap (λ (t : Progress). Ok t.lines) puts.2.1 ∙ ap (λ (n : ℕ). Ok n) (none_before (length puts.0));
+    };
+  }
+  has_run (Err Output) file old new found q of_file accepted puts = stopped Output file old new found q of_file accepted puts
+  has_run (Err Memory) file old new found q of_file accepted puts = stopped Memory file old new found q of_file accepted puts
+
+-- two lists of restrictions of one file are one
+same_found : (bytes : List ℕ) (a b : List Restriction) → IsFile bytes (Ok a) → IsFile bytes (Ok b) → a ≡ b
+same_found bytes a b p q = ok_same (one_file bytes (Ok a) (Ok b) p q)
+  where
+    ok_same : {x y : List Restriction} → ◌≡◌ {A = Result (List Restriction) RecordFault} (Ok x) (Ok y) → x ≡ y
+    ok_same e = cc
+
+-- a file has no fault
+apart : (bytes : List ℕ) (found : List Restriction) (why : RecordFault) → IsFile bytes (Ok found) → IsFile bytes (Err why) → ⊥
+apart bytes found why p q = let e = one_file bytes (Ok found) (Err why) p q in cc
+
+module _ (IsAccepted : List Restriction → Type 0) (IsText : List Restriction → List (List ℕ) → Type 0) where
+  -- the first claim, of what a run did
+  pub accepted_are_put : (answer : Result ℕ RunFault) (file old new : Option (List ℕ)) → answer ≢ Err fault.VehicleRange → answer ≢ Err fault.YearRange
+      → HasRun IsAccepted IsText file old new answer → AcceptedFilesArePut IsAccepted IsText file old new answer
+  accepted_are_put answer None old new vehicle year run = λ free. tt
+  accepted_are_put (Ok count) (Some bytes) old new vehicle year run = λ free found file accepted.
+      subst (λ (f : List Restriction). PutsWhole (IsText f) old new (Ok count)) (same_found bytes run.found found run.file file) run.puts
+  accepted_are_put (Err fault.VehicleRange) (Some bytes) old new vehicle year run = absurd (vehicle refl)
+  accepted_are_put (Err fault.YearRange) (Some bytes) old new vehicle year run = absurd (year refl)
+  accepted_are_put (Err (fault.Records why)) (Some bytes) old new vehicle year run = λ free found file accepted.
+      absurd (apart bytes found why file (run.1 free))
+  accepted_are_put (Err fault.NoElement) (Some bytes) old new vehicle year run = λ free found file accepted.
+      absurd (run.1.2 (subst IsAccepted (same_found bytes found run.1.0 file run.1.1) accepted))
+  accepted_are_put (Err (fault.WriteFault n)) (Some bytes) old new vehicle year run = λ free. absurd free
+  accepted_are_put (Err (fault.NoMemory n)) (Some bytes) old new vehicle year run = λ free. absurd free
+
+  -- the second claim, of what a run did
+  pub refused_put_nothing : (answer : Result ℕ RunFault) (file old new : Option (List ℕ)) → answer ≢ Err fault.VehicleRange → answer ≢ Err fault.YearRange
+      → HasRun IsAccepted IsText file old new answer → RefusedFilesPutNothing file old new answer
+  refused_put_nothing answer None old new vehicle year run = λ free. tt
+  refused_put_nothing (Ok count) (Some bytes) old new vehicle year run = λ free why file. absurd (apart bytes run.found why run.file file)
+  refused_put_nothing (Err fault.VehicleRange) (Some bytes) old new vehicle year run = absurd (vehicle refl)
+  refused_put_nothing (Err fault.YearRange) (Some bytes) old new vehicle year run = absurd (year refl)
+  refused_put_nothing (Err (fault.Records why)) (Some bytes) old new vehicle year run = λ free other file.
+      (ap (λ (w : RecordFault). Err (fault.Records w)) (same_fault why other (one_file bytes (Err why) (Err other) (run.1 free) file)), run.0)
+    where
+      same_fault : (x y : RecordFault) → ◌≡◌ {A = Result (List Restriction) RecordFault} (Err x) (Err y) → x ≡ y
+      same_fault x y e = cc
+  refused_put_nothing (Err fault.NoElement) (Some bytes) old new vehicle year run = λ free why file.
+      absurd (apart bytes run.1.0 why run.1.1 file)
+  refused_put_nothing (Err (fault.WriteFault n)) (Some bytes) old new vehicle year run = λ free. absurd free
+  refused_put_nothing (Err (fault.NoMemory n)) (Some bytes) old new vehicle year run = λ free. absurd free

@@ -1,0 +1,4 @@
+pub mod Names
+pub mod Putting
+pub mod Run
+pub mod Words

@@ -1,0 +1,55 @@
+-- What an output took of lines, and how it is counted. A line has its end: the LF is its last byte.
+use Rattle.std.specs.Prelude.{◌≡◌, ◌≤◌, ◌+◌, ℕ, List, length, take, flat_map, Option, Result, Ok, Err}
+use Rattle.std.specs.Io.KnownBytes.{Appends}
+use Rattle.gtd_runs.specs.declared.fault.RunFault.{RunFault}
+use Rattle.gtd_runs.specs.declared.fault.RunFault.TheVariants as fault
+use Rattle.gtd_runs.specs.declared.putting.Progress.{Progress}
+use Rattle.gtd_runs.specs.declared.putting.ShortPut.{ShortPut}
+use Rattle.gtd_runs.specs.declared.putting.Stop.{Stop}
+use Rattle.gtd_runs.specs.declared.putting.Stop.TheVariants.{Output, Memory}
+
+-- the text of lines, one after the other
+abbrev pub text_of : List (List ℕ) → List ℕ
+text_of lines = flat_map (λ line. line) lines
+
+-- no line and no byte
+abbrev pub nothing_put : Progress
+nothing_put = record { lines = 0; written = 0 }
+
+-- one line more, or the bytes that were taken of it
+abbrev pub after_line : {T : Type 0} → Result T ShortPut → Progress → List ℕ → Progress
+after_line (Ok done) old line = record { lines = old.lines + 1; written = old.written + length line }
+after_line (Err short) old line = record { lines = old.lines; written = old.written + short.taken }
+
+-- one failure more exactly where not all of a line was taken
+abbrev pub failures_after_line : {T : Type 0} → Result T ShortPut → ℕ → ℕ
+failures_after_line (Ok done) count = count
+failures_after_line (Err short) count = count + 1
+
+-- one failure more exactly where the output stopped the putting
+abbrev pub failures_after_stop : {T : Type 0} → Result T Stop → ℕ → ℕ
+failures_after_stop (Ok done) count = count
+failures_after_stop (Err Output) count = count + 1
+failures_after_stop (Err Memory) count = count
+
+-- The output took the lines and they were counted; or it took some first bytes of them, and those were counted.
+abbrev pub Puts : Result (Unit {0}) Stop → Option (List ℕ) → Option (List ℕ) → Progress → Progress → List (List ℕ) → Type 0
+Puts (Ok done) old new before after lines =
+    Appends old new (text_of lines)
+    × (after ≡ record { lines = before.lines + length lines; written = before.written + length (text_of lines) })
+Puts (Err stop) old new before after lines =
+    (n : ℕ) × (n ≤ length (text_of lines)) × Appends old new (take n (text_of lines)) × (after.written ≡ before.written + n)
+
+-- Some text of this kind was put whole; or, of every text of this kind, some first bytes.
+abbrev pub PutsText : (List (List ℕ) → Type 0) → Result (Unit {0}) Stop → Option (List ℕ) → Option (List ℕ)
+    → Progress → Progress → Type 0
+PutsText IsText (Ok done) old new before after =
+    (lines : List (List ℕ)) × IsText lines × Puts (Ok done) old new before after lines
+PutsText IsText (Err stop) old new before after =
+    (lines : List (List ℕ)) → IsText lines → Puts (Err stop) old new before after lines
+
+-- the answer of a run that put its text, or that stopped
+abbrev pub answer_of : Result (Unit {0}) Stop → Progress → Result ℕ RunFault
+answer_of (Ok done) progress = Ok progress.lines
+answer_of (Err Output) progress = Err (fault.WriteFault progress.written)
+answer_of (Err Memory) progress = Err (fault.NoMemory progress.written)

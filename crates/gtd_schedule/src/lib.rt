@@ -1,0 +1,6 @@
+//! The schedule of a record file: when each of its road elements is open.
+#![tactic(auto)]
+
+pub use run::run_schedule;
+
+mod run;
