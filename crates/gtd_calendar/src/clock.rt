@@ -34,6 +34,9 @@ fn months_later(day: i64, months: u32) -> i64
     ensures value { result ≡ spec.months_later day months }
     ensures bound { IsEpochDay result }
 {
+    if months == 0 {
+        return day;
+    }
     let date = date_of(day);
     let count = 12 * date.year as u32 + u32::from(date.month - 1) + months;
     let moved = Date::constrain((count / 12) as i16, (count % 12) as u8 + 1, date.day);

@@ -6,7 +6,7 @@
 #![tactic(auto)]
 
 pub use clock::{day_of_sec, end_of, second_of_day};
-pub use day::{DayFields, day_of, fields};
+pub use day::{DayFields, day_of, fields, weekday};
 pub use stamp::{StampFault, read_date, read_stamp, write_date, write_stamp};
 
 pub mod clock;

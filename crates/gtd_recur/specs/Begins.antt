@@ -41,9 +41,12 @@ abbrev pub place_agrees : Option (ℕ × ℕ) → ℕ → ℕ → Bool
 place_agrees (Some x) n weekday = (x.0 == n) && (x.1 == weekday)
 place_agrees None n weekday = true
 
--- one of the weekdays that are given, of which bit k - 1 stands for the weekday k
+-- the weekday is one of those that are given, of which bit k - 1 stands for the weekday k
+abbrev pub is_weekday : StartParts → ℕ → Bool
+is_weekday p weekday = (p.weekdays == 0) || (p.weekdays / 2 ^ (weekday - 1) % 2 == 1)
+
 abbrev pub weekday_agrees : StartParts → DayFields → Bool
-weekday_agrees p f = (p.weekdays == 0) || (p.weekdays / 2 ^ (f.weekday - 1) % 2 == 1)
+weekday_agrees p f = is_weekday p f.weekday
 
 -- the day's level without a field: free where the clock is given, and else the Monday of a given week, or the first of
 -- the month

@@ -1,12 +1,15 @@
 //! When a start begins: whether a day fits it, and the seconds of a day at which the clock does.
 
-ghost use Rattle.std.specs.Prelude.{◌≡◌, ◌+◌, ◌*◌, ◌%◌, ◌<◌, ◌≤◌, ℕ, true};
+ghost use Rattle.std.specs.Prelude.{◌≡◌, ◌+◌, ◌*◌, ◌%◌, ◌<◌, ◌≤◌, ℕ, true, IsTrue};
+ghost use Rattle.gtd_calendar.specs.Calendar.{IsCalendarDay};
+ghost use Rattle.gtd_calendar.specs.Fields.{day_fields};
+ghost use Rattle.gtd_calendar.specs.declared.day.DayFields.{DayFields};
 ghost use Rattle.std.specs.Int.{IsInRange};
 ghost use Rattle.gtd_core.specs.StartRanges.{IsStart, IsWithin};
 ghost use Rattle.gtd_recur.specs.Begins as spec;
 ghost use Rattle.gtd_recur.specs.ClockSearch as clock;
 
-use gtd_calendar::DayFields;
+use gtd_calendar::{DayFields, fields, weekday};
 use gtd_core::StartParts;
 
 // A field that is given has this value.
@@ -65,11 +68,12 @@ fn place_agrees(given: Option<(u8, u8)>, nth: u8, weekday: u8) -> bool
     }
 }
 
-fn weekday_agrees(start: &StartParts, day: &DayFields) -> bool
-    requires { IsInRange 1 7 day.now.weekday }
-    ensures { result ≡ spec.weekday_agrees start.now day.now }
+// Whether the weekday is one of those that are given.
+fn is_weekday(start: &StartParts, weekday: u8) -> bool
+    requires { IsInRange 1 7 weekday }
+    ensures { result ≡ spec.is_weekday start.now weekday }
 {
-    start.weekdays == 0 || (start.weekdays >> (day.weekday - 1)) % 2 == 1
+    start.weekdays == 0 || (start.weekdays >> (weekday - 1)) % 2 == 1
 }
 
 // Where no field of the day or the clock is given, the Monday of a week and else the first of a month.
@@ -98,8 +102,32 @@ pub(crate) fn begins_on(start: &StartParts, day: &DayFields) -> bool
         && agrees(start.day, day.day)
         && place_agrees(start.nth, day.nth, day.weekday)
         && place_agrees(start.nth_back, day.nth_back, day.weekday)
-        && weekday_agrees(start, day)
+        && is_weekday(start, day.weekday)
         && least_day(start, day)
+}
+
+// Whether only the weekday of a day says whether it fits the start.
+fn asks_no_date(start: &StartParts) -> bool
+    ensures { IsTrue result → (f : DayFields) → spec.begins_on start.now f ≡ spec.weekday_agrees start.now f }
+{
+    start.year.is_none()
+        && start.month.is_none()
+        && start.week.is_none()
+        && start.day.is_none()
+        && start.nth.is_none()
+        && start.nth_back.is_none()
+        && (start.weekdays != 0 || gives_clock(start))
+}
+
+/// Whether a day fits the start. Its date is computed only where its weekday does not settle that.
+pub(crate) fn begins_on_day(start: &StartParts, day: i64) -> bool
+    requires { IsCalendarDay day }
+    ensures { result ≡ spec.begins_on start.now (day_fields day) }
+{
+    if !is_weekday(start, weekday(day)) {
+        return false;
+    }
+    asks_no_date(start) || begins_on(start, &fields(day))
 }
 
 // The least number of sixties with which an offset reaches a number.
@@ -212,6 +240,9 @@ pub(crate) fn next_begin(start: &StartParts, from: u32) -> Option<u32>
     let hour = held(start.hour, finer_than_hour);
     let minute = held(start.minute, finer_than_minute);
     let second = u32::from(start.second.unwrap_or(0));
+    if from > 3600 * hour.unwrap_or(23) + 60 * minute.unwrap_or(59) + second {
+        return None;
+    }
     next_clock(hour, minute, second, from)
 }
 

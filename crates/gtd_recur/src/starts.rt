@@ -7,9 +7,8 @@ ghost use Rattle.gtd_recur.specs.Starts.{AreLeft, IsInWindow, IsLookedCount, Are
 ghost use Rattle.gtd_recur.specs.Starts.{AreLeft-prop, IsInWindow-prop, IsLookedCount-prop, AreFitting-prop};
 ghost use Rattle.gtd_recur.specs.Work.{starts_in, window_begin};
 
-use crate::begin::{begins_on, next_begin};
+use crate::begin::{begins_on_day, next_begin};
 use crate::jump::{Days, next_days};
-use gtd_calendar::fields;
 use gtd_core::{Basic, Horizon, Sec};
 
 /// A walk over the starts of a basic domain on the days from a horizon's first less the lookback to its last.
@@ -150,7 +149,7 @@ impl Starts {
         ensures grows { starts_ticks self.old ≤ starts_ticks self.new }
     {
         let after = self.days_after();
-        let clock = if begins_on(&self.basic.start.parts(), &fields(self.next_day)) {
+        let clock = if begins_on_day(&self.basic.start.parts(), self.next_day) {
             0
         } else {
             86_400

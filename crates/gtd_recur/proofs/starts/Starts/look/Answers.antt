@@ -6,7 +6,7 @@ use Rattle.gtd_core.specs.Whole.{to_day}
 use Rattle.gtd_recur.specs.Begins.{month_and_year_fit}
 use Rattle.gtd_recur.specs.Work.{window_begin}
 use Rattle.gtd_recur.proofs.StartsLemmas.{IsOpened, looked-left, looked-count, looked-window, opened-low, window-calendar, small-z, small-counts, run-small}
-use Rattle.gtd_recur.proofs.starts.Starts.look.Goals.{then-begins_on, else-begins_on}
+use Rattle.gtd_recur.proofs.starts.Starts.look.Goals.{then-begins_on_day, else-begins_on_day}
 use Rattle.gtd_recur.proofs.starts.Starts.look.Goals as goal
 
 pub overflow_add-self : goal.overflow_add-self
@@ -26,18 +26,17 @@ invariant_of-self c =
     let within : c.days_after-after.result.from ≤ℤ to_day s.horizon = (let a = run.order in let b = run.within in omega (arith, signed_arith, a, b)) in
     let skipped : (i : ℤ) → s.next_day <ℤ i → i <ℤ c.days_after-after.result.from → month_and_year_fit (start_parts s.basic.start) i ≡ false
     = λ i low high. false_from_ne_true _ (run.skipped i (omega (arith, signed_arith, low)) high) in
-    let value = rw plain at c.fields.ensures.value in
-    let on = rw (c.parts.ensures.value, value) at c.begins_on.ensures in
-    let opened : IsOpened (start_parts s.basic.start) s.next_day c.if-begins_on.clock = elim c.if-begins_on.branch [
-      | then-begins_on w ↦ inl (sym on ∙ w.if-begins_on.true, w.clock-is)
-      | else-begins_on w ↦ inr (sym on ∙ w.if-begins_on.false, w.clock-is)
+    let on = rw (c.parts.ensures.value, plain) at c.begins_on_day.ensures in
+    let opened : IsOpened (start_parts s.basic.start) s.next_day c.if-begins_on_day.clock = elim c.if-begins_on_day.branch [
+      | then-begins_on_day w ↦ inl (sym on ∙ w.if-begins_on_day.true, w.clock-is)
+      | else-begins_on_day w ↦ inr (sym on ∙ w.if-begins_on_day.false, w.clock-is)
     ] in
     let fit = s.fitting.fit s.next_day (omega (arith, signed_arith)) (s.fitting.some c.requires.more) in
     record {
-      clock_in = opened-low (start_parts s.basic.start) s.next_day c.if-begins_on.clock opened;
+      clock_in = opened-low (start_parts s.basic.start) s.next_day c.if-begins_on_day.clock opened;
       in_window = rw (plain, small.0) (looked-window (window_begin s.basic s.horizon) s.day s.next_day c.days_after-after.result.from (to_day s.horizon) s.in_window later within);
       fitting = rw (small.0, small.1) (record { within = run.within; some = run.some; fit = run.run });
-      left = rw (plain, small.0, looked-left (start_parts s.basic.start) s.day s.next_day c.days_after-after.result.from (to_day s.horizon) s.clock c.if-begins_on.clock c.requires.done opened later within skipped) s.left;
+      left = rw (plain, small.0, looked-left (start_parts s.basic.start) s.day s.next_day c.days_after-after.result.from (to_day s.horizon) s.clock c.if-begins_on_day.clock c.requires.done opened later within skipped) s.left;
       counted = rw (plain, small.0) (looked-count (start_parts s.basic.start) (window_begin s.basic s.horizon) s.day s.next_day c.days_after-after.result.from (to_day s.horizon) s.looked s.in_window later fit skipped s.counted);
     }
 
@@ -52,13 +51,12 @@ returns-clause-left c =
     let within : c.days_after-after.result.from ≤ℤ to_day s.horizon = (let a = run.order in let b = run.within in omega (arith, signed_arith, a, b)) in
     let skipped : (i : ℤ) → s.next_day <ℤ i → i <ℤ c.days_after-after.result.from → month_and_year_fit (start_parts s.basic.start) i ≡ false
     = λ i low high. false_from_ne_true _ (run.skipped i (omega (arith, signed_arith, low)) high) in
-    let value = rw plain at c.fields.ensures.value in
-    let on = rw (c.parts.ensures.value, value) at c.begins_on.ensures in
-    let opened : IsOpened (start_parts s.basic.start) s.next_day c.if-begins_on.clock = elim c.if-begins_on.branch [
-      | then-begins_on w ↦ inl (sym on ∙ w.if-begins_on.true, w.clock-is)
-      | else-begins_on w ↦ inr (sym on ∙ w.if-begins_on.false, w.clock-is)
+    let on = rw (c.parts.ensures.value, plain) at c.begins_on_day.ensures in
+    let opened : IsOpened (start_parts s.basic.start) s.next_day c.if-begins_on_day.clock = elim c.if-begins_on_day.branch [
+      | then-begins_on_day w ↦ inl (sym on ∙ w.if-begins_on_day.true, w.clock-is)
+      | else-begins_on_day w ↦ inr (sym on ∙ w.if-begins_on_day.false, w.clock-is)
     ] in
-    rw (plain, small.0) (looked-left (start_parts s.basic.start) s.day s.next_day c.days_after-after.result.from (to_day s.horizon) s.clock c.if-begins_on.clock c.requires.done opened later within skipped)
+    rw (plain, small.0) (looked-left (start_parts s.basic.start) s.day s.next_day c.days_after-after.result.from (to_day s.horizon) s.clock c.if-begins_on_day.clock c.requires.done opened later within skipped)
 
 pub returns-clause-later : goal.returns-clause-later
 returns-clause-later c =
