@@ -3,4 +3,5 @@
 
 pub use run::run_schedule;
 
+mod line;
 mod run;
