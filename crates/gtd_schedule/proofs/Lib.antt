@@ -1,0 +1,3 @@
+pub mod TextFacts
+pub mod LineFacts
+pub mod SpanFacts

@@ -5,3 +5,4 @@ pub use run::run_schedule;
 
 mod line;
 mod run;
+mod schedule;
