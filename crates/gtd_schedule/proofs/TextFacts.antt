@@ -50,3 +50,7 @@ pub texts_of : (A : List (List ℕ) → Type 0) (r : Result (Unit {0}) Stop) (a 
     → IsOne A → A lines → Puts r a b p q lines → PutsText A r a b p q
 texts_of A (Ok x) a b p q lines one is puts = (lines, is, puts)
 texts_of A (Err x) a b p q lines one is puts = λ other also. rw (one other lines also is) puts
+
+-- What is put of a text that is left makes what is put of the whole.
+abbrev pub CarriesText : (List (List ℕ) → Type 0) → Option (List ℕ) → Progress → (List (List ℕ) → Type 0) → Option (List ℕ) → Progress → Type 0
+CarriesText All a p Left b q = (r : Result (Unit {0}) Stop) (c : Option (List ℕ)) (s : Progress) → PutsText Left r b c q s → PutsText All r a c p s
