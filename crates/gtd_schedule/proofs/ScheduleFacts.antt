@@ -1,9 +1,16 @@
 -- A schedule is one text, in parts.
-use Rattle.std.proofs.Common.{◌≡◌, ◌∙◌, ◌<◌, ◌≤◌, ◌+◌, ◌⊎◌, inl, inr, sym, ap, refl, subst, arith, map, get_or, ℕ, zero, suc, List, [], ◌∷◌, ◌++◌, length}
-use Rattle.std.specs.List.{Contains}
-use Rattle.std.specs.List.Sorted.{IsStrictlyIncreasing}
+use Rattle.std.proofs.Common.{◌≡◌, ◌∙◌, ◌≤◌, sym, ap, refl, subst, arith, map, ℕ, List, [], ◌∷◌, ◌++◌, length}
+use Rattle.std.specs.Bool.{Decides}
+use Rattle.std.specs.Ordering.{eq_by_cmp, nat_cmp}
+use Rattle.std.proofs.lemmas.Bool.Decides.{nat_tests}
+use Rattle.std.proofs.lemmas.Cmp.{eq_by_cmp_equiv, nat_cmp_total}
+use Rattle.std.proofs.lemmas.List.{length-map}
+use Rattle.std.proofs.lemmas.Map.Keys.{IsDistinct-from_sorted, sorted_from_strictly_increasing}
+use Rattle.std.proofs.lemmas.Map.Made.{is_member-Decides, length-le_from_is_member}
 use Rattle.gtd_core.specs.Whole.{whole}
 use Rattle.gtd_core.specs.declared.horizon.Horizon.{Horizon}
+use Rattle.gtd_roads.proofs.IndexFacts.{map_from_any}
+use Rattle.gtd_roads.proofs.Rising.{one_list}
 use Rattle.gtd_roads.specs.Closing.{AreElements, IsOpen}
 use Rattle.gtd_roads.specs.Restriction.{Restriction}
 use Rattle.gtd_roads.specs.declared.direction.Direction.{Direction}
@@ -12,70 +19,26 @@ use Rattle.gtd_schedule.proofs.TextFacts.{Then, IsOne}
 use Rattle.gtd_schedule.specs.Schedule.{AreElementLines, AreLines, AreLinesOf, IsSchedule, header_line, span_line}
 use Rattle.gtd_spans.specs.NormalFor.{one-normal-list}
 
--- numbers in ascending order, each once and none below the first
-abbrev Ascends : ℕ → List ℕ → Type 0
-Ascends least [] = Unit {0}
-Ascends least (x ∷ xs) = (least ≤ x) × Ascends (x + 1) xs
-
--- a number is in a list
-abbrev IsIn : ℕ → List ℕ → Type 0
-IsIn x [] = ⊥
-IsIn x (y ∷ ys) = (x ≡ y) ⊎ IsIn x ys
-
-tail_rises : (x : ℕ) (xs : List ℕ) → IsStrictlyIncreasing (x ∷ xs) → IsStrictlyIncreasing xs
-tail_rises x xs up k h =
-    let a : suc k + 1 ≡ suc (k + 1) = omega arith in
-    subst (λ (n : ℕ). get_or xs k 0 < get_or (x ∷ xs) n 0) a (up (suc k) (omega arith))
-
--- numbers that strictly increase ascend
-ascends : (least : ℕ) (xs : List ℕ) → (0 < length xs → least ≤ get_or xs 0 0) → IsStrictlyIncreasing xs → Ascends least xs
-ascends least [] h up = tt
-ascends least (x ∷ xs) h up = (
-  h (omega arith),
-  ascends (x + 1) xs (λ some. let u = up 0 (omega arith) in omega (arith, u))
-      (tail_rises x xs up),
-)
-
-is_in : (x : ℕ) (xs : List ℕ) (k : ℕ) → k < length xs → get_or xs k x ≡ x → IsIn x xs
-is_in x [] k h e = absurd (omega arith)
-is_in x (y ∷ ys) zero h e = inl (sym e)
-is_in x (y ∷ ys) (suc k) h e = inr (is_in x ys k (omega arith) e)
-
-contains : (x : ℕ) (xs : List ℕ) → IsIn x xs → Contains xs x
-contains x [] h = absurd h
-contains x (y ∷ ys) (inl e) = (0, omega arith, sym e)
-contains x (y ∷ ys) (inr h) = let c = contains x ys h in (suc c.0, (let l = c.1 in omega arith), c.2)
-
-no_lower : (least x : ℕ) (xs : List ℕ) → Ascends least xs → IsIn x xs → least ≤ x
-no_lower least x [] up is = absurd is
-no_lower least x (y ∷ ys) up (inl e) = (let l = up.0 in omega arith)
-no_lower least x (y ∷ ys) up (inr is) = (let l = up.0 in let m = no_lower (y + 1) x ys up.1 is in omega arith)
-
--- ascending lists of the same numbers are one
-one_ascent : (least : ℕ) (a b : List ℕ) → Ascends least a → Ascends least b → ((x : ℕ) → IsIn x a → IsIn x b) → ((x : ℕ) → IsIn x b → IsIn x a) → a ≡ b
-one_ascent least [] [] p q f g = refl
-one_ascent least [] (y ∷ ys) p q f g = absurd (g y (inl refl))
-one_ascent least (x ∷ xs) [] p q f g = absurd (f x (inl refl))
-one_ascent least (x ∷ xs) (y ∷ ys) p q f g =
-    let same : x ≡ y =
-    elim (f x (inl refl)) [
-      | inl e ↦ e
-      | inr is ↦ elim (g y (inl refl)) [
-        | inl e ↦ sym e
-        | inr also ↦ (let l = no_lower (y + 1) x ys q.1 is in let m = no_lower (x + 1) y xs p.1 also in absurd (omega arith))
-      ]
-    ] in
-    let rest : xs ≡ ys = one_ascent (x + 1) xs ys p.1 (rw same q.1)
-    (λ z is. elim (f z (inr is)) [ inl e ↦ (let l = no_lower (x + 1) z xs p.1 is in absurd (omega arith)) | inr also ↦ also ])
-    (λ z is. elim (g z (inr is)) [ inl e ↦ (let l = no_lower (y + 1) z ys q.1 is in absurd (omega arith)) | inr also ↦ also ]) in
-    cc
-
--- the records name one list of elements
+-- restrictions name one list of elements
 pub one_elements : (found : List Restriction) (a b : List ℕ) → AreElements found a → AreElements found b → a ≡ b
 one_elements found a b p q =
-    one_ascent 0 a b (ascends 0 a (λ some. omega arith) p.ascending) (ascends 0 b (λ some. omega arith) q.ascending)
-    (λ x is. let c = (q.named x).1 ((p.named x).0 (contains x a is)) in is_in x b c.0 c.1 c.2)
-    (λ x is. let c = (p.named x).1 ((q.named x).0 (contains x b is)) in is_in x a c.0 c.1 c.2)
+    one_list a b p.ascending q.ascending
+    (λ n h. (q.named n).1 ((p.named n).0 h))
+    (λ n h. (p.named n).1 ((q.named n).0 h))
+
+same_decides : (a b : ℕ) → Decides (eq_by_cmp nat_cmp a b) (a ≡ b)
+same_decides a b = grind (arith, nat_tests)
+
+-- and no more elements than there are restrictions
+pub few_elements : (found : List Restriction) (elements : List ℕ) → AreElements found elements → length elements ≤ length found
+few_elements found elements are =
+    let numbers = map (λ (r : Restriction). r.element) found in
+    let distinct = IsDistinct-from_sorted nat_cmp elements (sorted_from_strictly_increasing elements are.ascending) in
+    let few : length elements ≤ length numbers =
+    length-le_from_is_member (eq_by_cmp_equiv nat_cmp_total) elements numbers distinct
+    (λ n is. let a = (are.named n).0 ((is_member-Decides same_decides elements n).0 is) in
+    (is_member-Decides same_decides numbers n).1 (map_from_any (λ (r : Restriction). r.element) found a.0 n a.1 a.2 a.3 a.4)) in
+    rw (length-map found (λ (r : Restriction). r.element)) at few
 
 module _ (found : List Restriction) (vehicle : ℕ) (horizon : Horizon) where
   -- an element has one list of lines in a direction
