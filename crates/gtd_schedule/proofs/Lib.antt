@@ -1,0 +1,4 @@
+pub mod TextFacts
+pub mod LineFacts
+pub mod SpanFacts
+pub mod ScheduleFacts

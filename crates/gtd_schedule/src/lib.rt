@@ -3,4 +3,6 @@
 
 pub use run::run_schedule;
 
+mod line;
 mod run;
+mod schedule;

@@ -6,9 +6,10 @@ ghost use Rattle.gtd_runs.specs.Run.{AcceptedFilesArePut, HasRun, IsVehicleType,
 ghost use Rattle.gtd_runs.specs.Run.{failures_after_read, failures_after_write};
 ghost use Rattle.gtd_schedule.specs.Schedule.{IsSchedule};
 
+use crate::schedule::put_schedule;
 use gtd_core::Horizon;
-use gtd_roads::{Input, Output, RecordFault};
-use gtd_runs::RunFault;
+use gtd_roads::{Input, Output, RecordFault, read_records};
+use gtd_runs::{Progress, RunFault};
 use std::alloc::Global;
 
 /// Puts the schedule of the record file that an input brings: over the days of the horizon, for a vehicle type from 1 to
@@ -50,5 +51,11 @@ pub fn run_schedule<I: Input, O: Output>(
     if vehicle == 0 || vehicle > 99 {
         return Err(RunFault::VehicleRange);
     }
-    Err(RunFault::Records(RecordFault::NoMemory))
+    let found = match read_records(alloc, input) {
+        Ok(found) => found,
+        Err(fault) => return Err(RunFault::Records(fault)),
+    };
+    let mut progress = Progress::new();
+    let put = put_schedule(alloc, output, &mut progress, &found, vehicle, horizon);
+    progress.answer(put)
 }

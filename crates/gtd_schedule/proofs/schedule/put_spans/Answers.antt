@@ -1,0 +1,161 @@
+use Rattle.std.proofs.Common.{◌≡◌, ◌∙◌, sym, ap, refl, arith, ◌<◌, ◌≤◌, ◌+◌, ◌*◌, ◌^◌, ℕ, suc, List, [], ◌∷◌, ◌++◌, length, map, take, subst, length-append}
+use Rattle.std.specs.Prelude.{Ok, Err}
+use Rattle.std.proofs.Math.Seq.{take-length}
+use Rattle.std.proofs.lemmas.List.{take_at, length-take-le}
+use Rattle.std.proofs.lemmas.Result.{err_from_is_err_and}
+use Rattle.gtd_core.specs.Interval.{Interval}
+use Rattle.gtd_roads.specs.declared.direction.Direction.{Direction}
+use Rattle.gtd_runs.proofs.PutFacts.{one_put, one_short, puts_nothing}
+use Rattle.gtd_runs.specs.Putting.{Puts}
+use Rattle.gtd_schedule.specs.Lines.{AreShown, line_head, span_text}
+use Rattle.gtd_schedule.specs.Schedule.{span_line}
+use Rattle.gtd_schedule.proofs.LineFacts.{length-put_line, line_parts}
+use Rattle.gtd_schedule.proofs.SpanFacts.{carries_none, carries_one, carries_short}
+use Rattle.gtd_schedule.proofs.schedule.put_spans.Goals as goal
+
+-- the bytes of a line, from the head and the rest
+whole_line : (e : ℕ) (d : Direction) (v : ℕ) (x : Interval) (head line : List ℕ) → head ≡ line_head e d v → line ≡ head ++ span_text x → line ≡ span_line e d v x
+whole_line e d v x head line begins is = is ∙ ap (λ (h : List ℕ). h ++ span_text x) begins ∙ line_parts e d v x
+
+-- the front of a line stays its head
+same_head : (head line rest : List ℕ) (n : ℕ) → length head ≡ n → line ≡ head ++ rest → (n ≤ length line) × (take n line ≡ head)
+same_head head line rest n long is =
+    let count = ap length is ∙ length-append head rest in (omega arith, ap (take n) is ∙ take_at head rest n long)
+
+all_head : (n : ℕ) (line : List ℕ) → n ≡ length line → take n line ≡ line
+all_head n line is = rw is (take-length line)
+
+long_head : (n : ℕ) (line : List ℕ) → n ≤ length line → length (take n line) ≡ n
+long_head n line room = length-take-le n line room
+
+shown_first : (x : Interval) (xs spans : List Interval) → AreShown spans → spans ≡ x ∷ xs → AreShown (x ∷ xs)
+shown_first x xs spans shown is = subst AreShown is shown
+
+next_lines : (f : Interval → List ℕ) (x : Interval) (xs spans : List Interval) → spans ≡ x ∷ xs → map f spans ≡ f x ∷ map f xs
+next_lines f x xs spans is = ap (map f) is
+
+-- there is room for one line more
+room_written : (now old len line n : ℕ) → now + 80 * suc n ≤ old + 80 * len → old + 80 * len < 2 ^ 64 → line ≤ 80 → (now + line < 2 ^ 64) × (now + line + 80 * n ≤ old + 80 * len)
+room_written now old len line n h k l = (omega arith, omega arith)
+
+room_lines : (now old len n : ℕ) → now + suc n ≤ old + len → old + len < 2 ^ 64 → (now + 1 < 2 ^ 64) × (now + 1 + n ≤ old + len)
+room_lines now old len n h k = (omega arith, omega arith)
+
+pub loop-span-init : goal.loop-span-init
+loop-span-init g c = record {
+  shown = c.requires.shown;
+  room = omega (arith, c.len-head.ensures);
+  head = all_head c.len-head.result c.write_head.new.line.items (omega (arith, c.len-head.ensures)) ∙ c.in_ok-write_head.ensures.head;
+  written = omega arith;
+  lines = omega arith;
+  failures = refl;
+  carries = λ r d s puts. puts;
+}
+
+pub write_span-requires-clause-head : goal.write_span-requires-clause-head
+write_span-requires-clause-head g c = c.loop-span.invariant.room
+
+pub write_span-requires-clause-from : goal.write_span-requires-clause-from
+write_span-requires-clause-from g c =
+    let rest = g.S.SpanSource.rest in
+    (shown_first c.in-Some.span (rest c.next.new.self) (rest c.loop-span.spans) c.loop-span.invariant.shown c.in-Some.ensures.takes).0
+
+pub write_span-requires-clause-until : goal.write_span-requires-clause-until
+write_span-requires-clause-until g c =
+    let rest = g.S.SpanSource.rest in
+    (shown_first c.in-Some.span (rest c.next.new.self) (rest c.loop-span.spans) c.loop-span.invariant.shown c.in-Some.ensures.takes).1
+
+pub returns-in_err-write_span-clause-puts : goal.returns-in_err-write_span-clause-puts
+returns-in_err-write_span-clause-puts g c =
+    let p = err_from_is_err_and c.from_residual-in_err-write_span.result c.from_residual-in_err-write_span.ensures.1 in
+    let f = span_line c.args.element c.args.direction c.args.vehicle in
+    let taken = g.O.Output.taken in
+    rw (p.1) (c.loop-span.invariant.carries (Err p.0) (taken c.loop-span.output) c.loop-span.progress
+    (puts_nothing p.0 (taken c.loop-span.output) c.loop-span.progress (map f (g.S.SpanSource.rest c.loop-span.spans))))
+
+pub put_line-requires-clause-written : goal.put_line-requires-clause-written
+put_line-requires-clause-written g c =
+    let rest = g.S.SpanSource.rest in
+    let i = c.loop-span.invariant in
+    let e = c.args.element in
+    let d = c.args.direction in
+    let v = c.args.vehicle in
+    let x = c.in-Some.span in
+    let line = c.as_slice.result.now in
+    let is = whole_line e d v x (take c.len-head.result c.loop-span.line.items) line i.head (c.as_slice.ensures.value ∙ c.in_ok-write_span.ensures.line) in
+    let short : length line ≤ 80 = rw is (length-put_line e d v x (omega arith) (omega arith)) in
+    (room_written c.loop-span.progress.written c.args.progress.now.written (length (rest c.args.spans.now)) (length line) (length (rest c.next.new.self))
+    (rw (c.in-Some.ensures.takes) at i.written) c.requires.written short).0
+
+pub put_line-requires-clause-lines : goal.put_line-requires-clause-lines
+put_line-requires-clause-lines g c =
+    let rest = g.S.SpanSource.rest in
+    let i = c.loop-span.invariant in
+    (room_lines c.loop-span.progress.lines c.args.progress.now.lines (length (rest c.args.spans.now)) (length (rest c.next.new.self))
+    (rw (c.in-Some.ensures.takes) at i.lines) c.requires.lines).0
+
+pub loop-span-preserved : goal.loop-span-preserved
+loop-span-preserved g c =
+    let rest = g.S.SpanSource.rest in
+    let i = c.loop-span.invariant in
+    let e = c.args.element in
+    let d = c.args.direction in
+    let v = c.args.vehicle in
+    let f = span_line e d v in
+    let x = c.in-Some.span in
+    let now = c.loop-span.line.items in
+    let n = c.len-head.result in
+    let line = c.as_slice.result.now in
+    let more = rest c.next.new.self in
+    let takes = c.in-Some.ensures.takes in
+    let is = whole_line e d v x (take n now) line i.head (c.as_slice.ensures.value ∙ c.in_ok-write_span.ensures.line) in
+    let short : length line ≤ 80 = rw is (length-put_line e d v x (omega arith) (omega arith)) in
+    let kept = same_head (take n now) c.write_span.new.line.items (span_text x) n (long_head n now i.room) c.in_ok-write_span.ensures.line in
+    let put = c.in_ok-put_line.ensures in
+    let a = g.O.Output.taken c.args.output.now in
+    let b = g.O.Output.taken c.loop-span.output in
+    let t = g.O.Output.taken c.put_line.new.output in
+    let one : Puts (Ok tt) b t c.loop-span.progress c.put_line.new.progress (f x ∷ []) =
+    one_put (f x) b t c.loop-span.progress c.put_line.new.progress (rw is at put.all) (rw is at put.progress) in
+    let written = (room_written c.loop-span.progress.written c.args.progress.now.written (length (rest c.args.spans.now)) (length line) (length more) (rw takes at i.written) c.requires.written short).1 in
+    let lines = (room_lines c.loop-span.progress.lines c.args.progress.now.lines (length (rest c.args.spans.now)) (length more) (rw takes at i.lines) c.requires.lines).1 in
+    let after = put.progress in
+    record {
+      shown = (shown_first x more (rest c.loop-span.spans) i.shown takes).2;
+      room = kept.0;
+      head = kept.1 ∙ i.head;
+      written = rw after written;
+      lines = rw after lines;
+      failures = put.failures ∙ i.failures;
+      carries = carries_one a b t c.args.progress.now c.loop-span.progress c.put_line.new.progress
+          (map f (rest c.args.spans.now)) (map f (rest c.loop-span.spans)) (map f more) (f x) i.carries (next_lines f x more (rest c.loop-span.spans) takes) one;
+    }
+
+pub returns-in_err-put_line-clause-puts : goal.returns-in_err-put_line-clause-puts
+returns-in_err-put_line-clause-puts g c =
+    let p = err_from_is_err_and c.from_residual-in_err-put_line.result c.from_residual-in_err-put_line.ensures.1 in
+    let rest = g.S.SpanSource.rest in
+    let i = c.loop-span.invariant in
+    let e = c.args.element in
+    let d = c.args.direction in
+    let v = c.args.vehicle in
+    let f = span_line e d v in
+    let x = c.in-Some.span in
+    let line = c.as_slice.result.now in
+    let more = rest c.next.new.self in
+    let is = whole_line e d v x (take c.len-head.result c.loop-span.line.items) line i.head (c.as_slice.ensures.value ∙ c.in_ok-write_span.ensures.line) in
+    let put = c.in_err-put_line.ensures in
+    let a = g.O.Output.taken c.args.output.now in
+    let b = g.O.Output.taken c.loop-span.output in
+    let t = g.O.Output.taken c.put_line.new.output in
+    let short : Puts (Err p.0) b t c.loop-span.progress c.put_line.new.progress (f x ∷ []) =
+    one_short p.0 (f x) c.in_err-put_line.field-0.0.taken b t c.loop-span.progress c.put_line.new.progress (rw is at put.some.0) (rw is at put.some.1) put.progress in
+    rw (p.1) (carries_short a b t c.args.progress.now c.loop-span.progress c.put_line.new.progress
+    (map f (rest c.args.spans.now)) (map f (rest c.loop-span.spans)) (map f more) (f x) p.0 i.carries (next_lines f x more (rest c.loop-span.spans) c.in-Some.ensures.takes) short)
+
+pub returns-clause-puts : goal.returns-clause-puts
+returns-clause-puts g c =
+    let rest = g.S.SpanSource.rest in
+    let f = span_line c.args.element c.args.direction c.args.vehicle in
+    carries_none (g.O.Output.taken c.args.output.now) (g.O.Output.taken c.loop-span.output) c.args.progress.now c.loop-span.progress
+    (map f (rest c.args.spans.now)) (map f (rest c.loop-span.spans)) c.loop-span.invariant.carries (ap (map f) c.in_default.ensures.takes.0)

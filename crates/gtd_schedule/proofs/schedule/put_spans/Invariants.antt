@@ -1,0 +1,25 @@
+use Rattle.std.proofs.Common.{◌≡◌, ◌≤◌, ◌+◌, ◌*◌, length, map, take}
+use Rattle.gtd_schedule.proofs.SpanFacts.{Carries}
+use Rattle.gtd_schedule.specs.Lines.{AreShown, line_head}
+use Rattle.gtd_schedule.specs.Schedule.{span_line}
+use Rattle.gtd_schedule.proofs.schedule.put_spans.Given as goal
+
+-- the buffer begins with the head, and where the rest is put, all is
+abbrev pub invariant-loop-span : goal.invariant-loop-span
+invariant-loop-span g l = record {
+  shown : AreShown (g.S.SpanSource.rest l.spans);
+  room : l.head ≤ length l.line.items;
+  head : take l.head l.line.items ≡ line_head l.element l.fn.direction l.vehicle;
+  written : l.progress.written + 80 * length (g.S.SpanSource.rest l.spans)
+      ≤ l.fn.progress.written + 80 * length (g.S.SpanSource.rest l.fn.spans);
+  lines : l.progress.lines + length (g.S.SpanSource.rest l.spans)
+      ≤ l.fn.progress.lines + length (g.S.SpanSource.rest l.fn.spans);
+  failures : g.O.Output.failure_count l.output ≡ g.O.Output.failure_count l.fn.output;
+  carries : Carries (g.O.Output.taken l.fn.output) l.fn.progress
+      (map (span_line l.element l.fn.direction l.vehicle) (g.S.SpanSource.rest l.fn.spans))
+      (g.O.Output.taken l.output) l.progress
+      (map (span_line l.element l.fn.direction l.vehicle) (g.S.SpanSource.rest l.spans));
+}
+
+abbrev pub decreases-loop-span : goal.decreases-loop-span
+decreases-loop-span g l = length (g.S.SpanSource.rest l.spans)

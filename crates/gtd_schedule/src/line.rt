@@ -1,0 +1,55 @@
+//! The lines of a schedule.
+
+ghost use Rattle.std.specs.Prelude.{◌≡◌, ◌++◌, ◌≤◌, length, take, OnOk};
+ghost use Rattle.gtd_calendar.specs.Calendar.{IsCalendarDay};
+ghost use Rattle.gtd_calendar.specs.Clock.{day_of_second};
+ghost use Rattle.gtd_schedule.specs.Lines.{line_head, span_text};
+
+use gtd_calendar::write_stamp;
+use gtd_core::Span;
+use gtd_roads::Direction;
+use itoa::Buffer;
+use std::alloc::AllocError;
+
+// Writes what the lines of an element in a direction begin with, in place of what the buffer had.
+pub(crate) fn write_head(
+    line: &mut Vec<u8>,
+    element: u64,
+    direction: Direction,
+    vehicle: u8,
+) -> Result<(), AllocError>
+    ensures head { OnOk result (line.new.items ≡ line_head element direction vehicle) }
+{
+    line.clear();
+    line.extend_from_slice(Buffer::new().format(element).as_bytes())?;
+    line.extend_from_slice(match direction {
+        Direction::Positive => b",positive,".as_slice(),
+        Direction::Negative => b",negative,".as_slice(),
+    })?;
+    line.extend_from_slice(Buffer::new().format(vehicle).as_bytes())?;
+    line.extend_from_slice(b",")
+}
+
+// What the line of a span ends with: its moments, and the LF.
+pub(crate) fn span_bytes(span: Span) -> [u8; 40]
+    requires from { IsCalendarDay (day_of_second span.from) }
+    requires until { IsCalendarDay (day_of_second span.until) }
+    ensures text { result ≡ span_text span }
+{
+    let mut bytes = [b','; 40];
+    bytes[..19].copy_from_slice(&write_stamp(span.from()));
+    bytes[20..39].copy_from_slice(&write_stamp(span.until()));
+    bytes[39] = b'\n';
+    bytes
+}
+
+// Writes the line of a span behind the head of its line, which has so many bytes.
+pub(crate) fn write_span(line: &mut Vec<u8>, head: usize, span: Span) -> Result<(), AllocError>
+    requires head { head ≤ length line.old.items }
+    requires from { IsCalendarDay (day_of_second span.from) }
+    requires until { IsCalendarDay (day_of_second span.until) }
+    ensures line { OnOk result (line.new.items ≡ take head line.old.items ++ span_text span) }
+{
+    line.truncate(head);
+    line.extend_from_slice(&span_bytes(span))
+}
