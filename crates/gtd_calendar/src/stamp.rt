@@ -1,6 +1,6 @@
 //! The texts of dates and moments.
 
-ghost use Rattle.std.specs.Prelude.{◌≡◌, ◌↔◌, ◌+◌, ◌*◌, ◌+ℤ◌, ◌*ℤ◌, pos, IsSome, IfSome, codes};
+ghost use Rattle.std.specs.Prelude.{◌≡◌, ◌↔◌, ◌<◌, ◌+◌, ◌*◌, ◌+ℤ◌, ◌*ℤ◌, pos, IsSome, IfSome, codes};
 ghost use Rattle.jiff_core.specs.Calendar.{IsEpochDay};
 ghost use Rattle.gtd_calendar.specs.Calendar.{IsCalendarDay};
 ghost use Rattle.gtd_calendar.specs.Clock.{IsClock, day_of_second};
@@ -42,11 +42,13 @@ impl StampFault {
     }
 }
 
-// The last decimal digit of a number.
-fn digit(value: u32) -> u8
-    ensures { result ≡ spec.digit value }
+// The two decimal digits of a number below 100.
+fn two_digits(value: u32) -> [u8; 2]
+    requires { value < 100 }
+    ensures { result ≡ spec.two_digits value }
 {
-    b'0' + (value % 10) as u8
+    let tens = value / 10;
+    [b'0' + tens as u8, b'0' + (value - 10 * tens) as u8]
 }
 
 /// The text of a day, `YYYY-MM-DD`. The caller keeps it from 1800-01-01 to 2799-12-31.
@@ -57,20 +59,12 @@ pub fn write_date(day: i64) -> [u8; 10]
 {
     let date = date_of(day);
     let year = date.year as u32;
-    let month = u32::from(date.month);
-    let day = u32::from(date.day);
-    [
-        digit(year / 1000),
-        digit(year / 100),
-        digit(year / 10),
-        digit(year),
-        b'-',
-        digit(month / 10),
-        digit(month),
-        b'-',
-        digit(day / 10),
-        digit(day),
-    ]
+    let century = year / 100;
+    let [y1, y2] = two_digits(century);
+    let [y3, y4] = two_digits(year - 100 * century);
+    let [m1, m2] = two_digits(u32::from(date.month));
+    let [d1, d2] = two_digits(u32::from(date.day));
+    [y1, y2, y3, y4, b'-', m1, m2, b'-', d1, d2]
 }
 
 /// The text of a second, `YYYY-MM-DDThh:mm:ss`. The caller keeps its day from 1800-01-01 to 2799-12-31.
@@ -81,27 +75,13 @@ pub fn write_stamp(second: Sec) -> [u8; 19]
 {
     let [y1, y2, y3, y4, _, m1, m2, _, d1, d2] = write_date(day_of_sec(second));
     let clock = second_of_day(second);
-    let (hour, minute, second) = (clock / 3600, clock / 60 % 60, clock % 60);
+    let minutes = clock / 60;
+    let hours = clock / 3600;
+    let [h1, h2] = two_digits(hours);
+    let [min1, min2] = two_digits(minutes - 60 * hours);
+    let [s1, s2] = two_digits(clock - 60 * minutes);
     [
-        y1,
-        y2,
-        y3,
-        y4,
-        b'-',
-        m1,
-        m2,
-        b'-',
-        d1,
-        d2,
-        b'T',
-        digit(hour / 10),
-        digit(hour),
-        b':',
-        digit(minute / 10),
-        digit(minute),
-        b':',
-        digit(second / 10),
-        digit(second),
+        y1, y2, y3, y4, b'-', m1, m2, b'-', d1, d2, b'T', h1, h2, b':', min1, min2, b':', s1, s2,
     ]
 }
 

@@ -90,8 +90,8 @@ fn least_day(start: &StartParts, day: &DayFields) -> bool
     }
 }
 
-/// Whether the fields of a day fit the start.
-pub(crate) fn begins_on(start: &StartParts, day: &DayFields) -> bool
+// Whether the fields of a day fit the start.
+fn begins_on(start: &StartParts, day: &DayFields) -> bool
     requires { IsInRange 1 7 day.now.weekday }
     ensures { result ≡ spec.begins_on start.now day.now }
 {

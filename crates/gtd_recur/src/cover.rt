@@ -6,8 +6,8 @@ ghost use Rattle.gtd_core.specs.StartRanges.{IsStart};
 ghost use Rattle.gtd_calendar.specs.Calendar.{IsCalendarDay};
 ghost use Rattle.gtd_recur.specs.Membership.{InBasic, IsHeldFromDay, IsLatestNotAfter, IsHorizonSecond};
 
-use crate::begin::{begins_on, latest_begin};
-use gtd_calendar::{day_of_sec, end_of, fields, second_of_day};
+use crate::begin::{begins_on_day, latest_begin};
+use gtd_calendar::{day_of_sec, end_of, second_of_day};
 use gtd_core::{Basic, Duration, Sec, StartParts};
 
 // Whether a stretch that begins on that day holds the second. On one day the latest start ends last.
@@ -25,7 +25,7 @@ fn held_from_day(
     let Some(clock) = latest else {
         return false;
     };
-    if !begins_on(start, &fields(day)) {
+    if !begins_on_day(start, day) {
         return false;
     }
     let begin = Sec(86_400 * day + i64::from(clock));

@@ -12,11 +12,11 @@ returns-in_default c =
     let latest = rw c.in_default.is at c.requires.latest in
     (λ e. absurd (false≢true e), λ held. absurd (no_latest c.args.start.now (duration_parts c.args.duration.now) c.args.day c.args.second.0 latest held))
 
-pub returns-then-not-begins_on : goal.returns-then-not-begins_on
-returns-then-not-begins_on c =
+pub returns-then-not-begins_on_day : goal.returns-then-not-begins_on_day
+returns-then-not-begins_on_day c =
     let latest = rw c.in-Some.is at c.requires.latest in
     let same : to_z w64 (of_z w64 c.args.day) ≡ c.args.day = to_z-of_z c.ranges.day in
-    let not = rw (c.fields.ensures.value, same) at c.if-not-begins_on.ensures in
+    let not = rw same at c.if-not-begins_on_day.ensures in
     (λ e. absurd (false≢true e), λ held. absurd (both_ways _ (sym not) (held_by_latest c.args.start.now (duration_parts c.args.duration.now) c.args.day c.args.second.0 c.in-Some.clock latest held).0))
 
 pub end_of-requires : goal.end_of-requires
@@ -29,7 +29,7 @@ pub returns : goal.returns
 returns c =
     let latest = rw c.in-Some.is at c.requires.latest in
     let same : to_z w64 (of_z w64 c.args.day) ≡ c.args.day = to_z-of_z c.ranges.day in
-    let begins = rw (c.fields.ensures.value, same) at c.if-not-begins_on.ensures in
+    let begins = rw same at c.if-not-begins_on_day.ensures in
     let plain : to_z w64 (of_z w64 (to_z w64 (of_z w64 (pos 86400 *ℤ to_z w64 (of_z w64 c.args.day))) +ℤ to_z w64 (of_z w64 c.from.result))) ≡ pos 86400 *ℤ c.args.day +ℤ pos c.in-Some.clock = omega (arith, signed_arith) in
     let end : c.end_of.result.0 ≡ stop (duration_parts c.args.duration.now) (pos 86400 *ℤ c.args.day +ℤ pos c.in-Some.clock) = rw plain at c.end_of.ensures.value in
     let fits : FitsSigned w64 c.args.second.0 = search rules in
