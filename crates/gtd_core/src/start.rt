@@ -71,6 +71,13 @@ impl Start {
     {
         self.parts
     }
+
+    /// The same, without a copy of them.
+    pub fn as_parts(&self) -> &StartParts
+        ensures value { result.now ≡ start_parts self.now }
+    {
+        &self.parts
+    }
 }
 
 fn is_within(field: Option<u16>, low: u16, high: u16) -> bool

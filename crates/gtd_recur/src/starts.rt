@@ -149,7 +149,7 @@ impl Starts {
         ensures grows { starts_ticks self.old ≤ starts_ticks self.new }
     {
         let after = self.days_after();
-        let clock = if begins_on_day(&self.basic.start.parts(), self.next_day) {
+        let clock = if begins_on_day(self.basic.start.as_parts(), self.next_day) {
             0
         } else {
             86_400

@@ -26,7 +26,7 @@ invariant_of-self c =
     let within : c.days_after-after.result.from ≤ℤ to_day s.horizon = (let a = run.order in let b = run.within in omega (arith, signed_arith, a, b)) in
     let skipped : (i : ℤ) → s.next_day <ℤ i → i <ℤ c.days_after-after.result.from → month_and_year_fit (start_parts s.basic.start) i ≡ false
     = λ i low high. false_from_ne_true _ (run.skipped i (omega (arith, signed_arith, low)) high) in
-    let on = rw (c.parts.ensures.value, plain) at c.begins_on_day.ensures in
+    let on = rw (c.as_parts.ensures.value, plain) at c.begins_on_day.ensures in
     let opened : IsOpened (start_parts s.basic.start) s.next_day c.if-begins_on_day.clock = elim c.if-begins_on_day.branch [
       | then-begins_on_day w ↦ inl (sym on ∙ w.if-begins_on_day.true, w.clock-is)
       | else-begins_on_day w ↦ inr (sym on ∙ w.if-begins_on_day.false, w.clock-is)
@@ -51,7 +51,7 @@ returns-clause-left c =
     let within : c.days_after-after.result.from ≤ℤ to_day s.horizon = (let a = run.order in let b = run.within in omega (arith, signed_arith, a, b)) in
     let skipped : (i : ℤ) → s.next_day <ℤ i → i <ℤ c.days_after-after.result.from → month_and_year_fit (start_parts s.basic.start) i ≡ false
     = λ i low high. false_from_ne_true _ (run.skipped i (omega (arith, signed_arith, low)) high) in
-    let on = rw (c.parts.ensures.value, plain) at c.begins_on_day.ensures in
+    let on = rw (c.as_parts.ensures.value, plain) at c.begins_on_day.ensures in
     let opened : IsOpened (start_parts s.basic.start) s.next_day c.if-begins_on_day.clock = elim c.if-begins_on_day.branch [
       | then-begins_on_day w ↦ inl (sym on ∙ w.if-begins_on_day.true, w.clock-is)
       | else-begins_on_day w ↦ inr (sym on ∙ w.if-begins_on_day.false, w.clock-is)
