@@ -1,5 +1,5 @@
 -- The steps of a difference.
-use Rattle.std.proofs.Common.{◌⊎◌, List, ◌∷◌, inl, inr, arith, Option, Some, None, IfSome}
+use Rattle.std.proofs.Common.{◌∙◌, ap, ◌⊎◌, List, ◌∷◌, inl, inr, arith, Option, Some, None, IfSome}
 use Rattle.std.specs.Prelude.{ℤ, ◌≤ℤ◌, ◌<ℤ◌}
 use Rattle.std.proofs.lemmas.Int.{ints, by_lt_z}
 use Rattle.gtd_core.specs.Interval.{Interval}
@@ -102,3 +102,24 @@ drop-left x y l r n m le lu = minus-by None (x ∷ l) (y ∷ r) l (y ∷ r) tt
     ])
     (λ t z. absurd z)
     (λ t h k. (inr h, k))
+
+-- the part before the first interval on the right, which goes: what is behind it is left
+pub give-trim : (x y : Interval) (l r : List Interval) → IsNormal (x ∷ l) → IsNormal (y ∷ r) → x.from <ℤ y.from → y.until <ℤ x.until
+    → Handed (Some (record { from = x.from; until = y.from })) (combine Minus (x ∷ l) (y ∷ r))
+    (combine Minus (record { from = y.until; until = x.until } ∷ l) r)
+give-trim x y l r n m lt lu =
+    let some = m.0 in
+    let within : y.from <ℤ x.until = omega (arith, ints, some, lu) in
+    let part : Interval = record { from = x.from; until = y.from } in
+    let rest : Interval = record { from = y.from; until = x.until } in
+    let begun : y.from ≤ℤ y.from = omega (arith, ints) in
+    give-part x y l r n m lt within ∙ ap (λ (t : List Interval). part ∷ t) (trim-left rest y l r (within, n.1, n.2) m begun some lu)
+
+-- the part before the first interval on the right, which covers what is behind it
+pub give-drop : (x y : Interval) (l r : List Interval) → IsNormal (x ∷ l) → IsNormal (y ∷ r) → x.from <ℤ y.from → y.from <ℤ x.until → x.until ≤ℤ y.until
+    → Handed (Some (record { from = x.from; until = y.from })) (combine Minus (x ∷ l) (y ∷ r)) (combine Minus l (y ∷ r))
+give-drop x y l r n m lt within lu =
+    let part : Interval = record { from = x.from; until = y.from } in
+    let rest : Interval = record { from = y.from; until = x.until } in
+    let begun : y.from ≤ℤ y.from = omega (arith, ints) in
+    give-part x y l r n m lt within ∙ ap (λ (t : List Interval). part ∷ t) (drop-left rest y l r (within, n.1, n.2) m begun lu)

@@ -287,8 +287,14 @@ impl Merge {
             return Ask::Give(x);
         }
         if x.from() < y.from() {
-            self.left = Side::Held(Span::between(y.from(), x.until()));
-            return Ask::Give(Span::between(x.from(), y.from()));
+            let part = Span::between(x.from(), y.from());
+            if y.until() < x.until() {
+                self.left = Side::Held(Span::between(y.until(), x.until()));
+                self.right = Side::Open;
+                return Ask::Give(part);
+            }
+            self.left = Side::Open;
+            return Ask::Give(part);
         }
         if y.until() < x.until() {
             self.left = Side::Held(Span::between(y.until(), x.until()));

@@ -7,7 +7,7 @@ use Rattle.gtd_core.specs.declared.domain.Op.TheVariants.{Minus}
 use Rattle.gtd_spans.specs.declared.merge.Side.TheVariants.{Open, Held}
 use Rattle.gtd_spans.proofs.UnionSteps.{from-weaken, normal-begins}
 use Rattle.gtd_spans.proofs.MeetSteps.{step-by, minus-keeps}
-use Rattle.gtd_spans.proofs.MinusSteps.{drop-right, give-left, give-part, trim-left, drop-left}
+use Rattle.gtd_spans.proofs.MinusSteps.{drop-right, give-drop, give-left, give-trim, trim-left, drop-left}
 use Rattle.gtd_spans.proofs.merge.Merge.cut.Goals as goal
 
 pub returns-then-le-clause-steps : goal.returns-then-le-clause-steps
@@ -32,25 +32,35 @@ returns-then-le-2-clause-steps c =
 pub returns-then-lt-clause-steps : goal.returns-then-lt-clause-steps
 returns-then-lt-clause-steps c =
     let lt : c.args.x.from <ℤ c.args.y.from = grind (arith, ints, common_steps) in
-    let lu : c.args.y.from <ℤ c.args.x.until = grind (arith, ints, common_steps) in
-    let x : Interval = c.args.x in
-    let y : Interval = c.args.y in
-    let rest : c.between.result ≡ record { from = c.args.y.from; until = c.args.x.until } =
-    rw (c.from-then-lt.ensures.value, c.until-then-lt.ensures.value) at c.between.ensures.value in
-    let part : c.between-then-lt.result ≡ record { from = c.args.x.from; until = c.args.y.from } =
-    rw (c.from-then-lt-2.ensures.value, c.from-then-lt-3.ensures.value) at c.between-then-lt.ensures.value in
-    rw (rest, part)
-    (step-by Minus c.args.self.now c.args.x c.args.y (Held (record { from = c.args.y.from; until = c.args.x.until })) c.args.self.now.right
+    let within : c.args.y.from <ℤ c.args.x.until = grind (arith, ints, common_steps) in
+    let lu : c.args.x.until ≤ℤ c.args.y.until = grind (arith, ints, common_steps) in
+    let part : c.between-part.result ≡ record { from = c.args.x.from; until = c.args.y.from } =
+    rw (c.from-then-lt.ensures.value, c.from-then-lt-2.ensures.value) at c.between-part.ensures.value in
+    rw part
+    (step-by Minus c.args.self.now c.args.x c.args.y Open c.args.self.now.right
     (Some (record { from = c.args.x.from; until = c.args.y.from })) c.requires.op (minus-keeps _) c.requires.left c.requires.right
-    (λ l r n m. ((lu, n.1, n.2), rw c.requires.right m, rw c.requires.right (give-part c.args.x c.args.y l r n m lt lu))))
+    (λ l r n m. (n.2, rw c.requires.right m, rw c.requires.right (give-drop c.args.x c.args.y l r n m lt within lu))))
 
 pub returns-then-lt-2-clause-steps : goal.returns-then-lt-2-clause-steps
 returns-then-lt-2-clause-steps c =
+    let lt : c.args.x.from <ℤ c.args.y.from = grind (arith, ints, common_steps) in
+    let lu : c.args.y.until <ℤ c.args.x.until = grind (arith, ints, common_steps) in
+    let part : c.between-part.result ≡ record { from = c.args.x.from; until = c.args.y.from } =
+    rw (c.from-then-lt.ensures.value, c.from-then-lt-2.ensures.value) at c.between-part.ensures.value in
+    let rest : c.between.result ≡ record { from = c.args.y.until; until = c.args.x.until } =
+    rw (c.until-then-lt-2-2.ensures.value, c.until-then-lt-2-3.ensures.value) at c.between.ensures.value in
+    rw (rest, part)
+    (step-by Minus c.args.self.now c.args.x c.args.y (Held (record { from = c.args.y.until; until = c.args.x.until })) Open
+    (Some (record { from = c.args.x.from; until = c.args.y.from })) c.requires.op (minus-keeps _) c.requires.left c.requires.right
+    (λ l r n m. ((lu, n.1, n.2), m.2, give-trim c.args.x c.args.y l r n m lt lu)))
+
+pub returns-then-lt-3-clause-steps : goal.returns-then-lt-3-clause-steps
+returns-then-lt-3-clause-steps c =
     let le : c.args.y.from ≤ℤ c.args.x.from = grind (arith, ints, common_steps) in
     let lt : c.args.x.from <ℤ c.args.y.until = grind (arith, ints, common_steps) in
     let lu : c.args.y.until <ℤ c.args.x.until = grind (arith, ints, common_steps) in
-    let rest : c.between-then-lt-2.result ≡ record { from = c.args.y.until; until = c.args.x.until } =
-    rw (c.until-then-lt-2.ensures.value, c.until-then-lt-2-2.ensures.value) at c.between-then-lt-2.ensures.value in
+    let rest : c.between-then-lt-3.result ≡ record { from = c.args.y.until; until = c.args.x.until } =
+    rw (c.until-then-lt-3.ensures.value, c.until-then-lt-3-2.ensures.value) at c.between-then-lt-3.ensures.value in
     rw rest (
       ((λ h. let k : Held (record { from = c.args.y.until; until = c.args.x.until }) ≡ Open = h in cc), refl),
       step-by Minus c.args.self.now c.args.x c.args.y (Held (record { from = c.args.y.until; until = c.args.x.until })) Open None c.requires.op
