@@ -314,6 +314,7 @@ impl Merge {
     /// The difference of one span and the right side, before any step.
     pub fn beside(span: Span) -> Merge
         requires not_empty { span.from <ℤ span.until }
+        ensures op { result.op ≡ Minus }
         ensures fits { (l : List Interval) → IsNormal l → Fits result [] l }
         ensures meaning { (l : List Interval) → still result [] l ≡ combine Minus (span ∷ []) l }
     {
@@ -325,31 +326,20 @@ impl Merge {
         }
     }
 
-    /// What the merge asks for, or has to give, where its left side gives nothing more. `Left` then asks for the right
+    /// What a difference asks for, or has to give, where its left side gives nothing more. `Left` then asks for the right
     /// one.
     pub fn step_beside(&mut self) -> Ask
+        requires op { self.old.op ≡ Minus }
+        ensures op { self.new.op ≡ self.old.op }
         ensures steps { StepsBeside self.old result self.new }
         ensures ended { self.old.right ≡ Ended → self.new.right ≡ Ended }
         ensures count { unended_sides self.new ≤ unended_sides self.old }
     {
         match self.step() {
-            Ask::Left => self.step_again(),
-            Ask::Right => Ask::Left,
-            Ask::Give(x) => Ask::Give(x),
-            Ask::End => Ask::End,
-        }
-    }
-
-    /// The step after the left side was asked for.
-    fn step_again(&mut self) -> Ask
-        requires awaits { AwaitsLeft self.old }
-        ensures steps { StepsBeside self.old result self.new }
-        ensures ended { self.old.right ≡ Ended → self.new.right ≡ Ended }
-        ensures count { unended_sides self.new ≤ unended_sides self.old }
-    {
-        self.tell(None);
-        match self.step() {
-            Ask::Left => unreachable!(),
+            Ask::Left => {
+                self.left = Side::Ended;
+                Ask::End
+            }
             Ask::Right => Ask::Left,
             Ask::Give(x) => Ask::Give(x),
             Ask::End => Ask::End,

@@ -5,6 +5,7 @@ ghost use Rattle.gtd_core.specs.Interval.{Interval, Within};
 ghost use Rattle.gtd_core.specs.Whole.{whole};
 ghost use Rattle.gtd_core.specs.declared.domain.Op.TheVariants.{Minus};
 ghost use Rattle.gtd_spans.specs.Normal.{Holds, IsNormal};
+ghost use Rattle.gtd_spans.specs.Alone.{TakesAway, TakesAway-prop};
 ghost use Rattle.gtd_spans.specs.Combine.{Combined, combine};
 
 use crate::merge::{Ask, Merge};
@@ -28,6 +29,7 @@ pub(crate) enum Sides {
 pub struct Sweep {
     sides: Sides,
     merge: Merge,
+    ghost takes_away: { TakesAway sides merge.op } by { TakesAway-prop _ _ },
 }
 
 impl Sweep {
