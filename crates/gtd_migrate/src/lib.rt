@@ -1,6 +1,9 @@
 //! Record files of either version, written as files of version 2.
+//!
+//! [`run_migrate`] reads a record file whole, and puts its rows in their order, each in its canonical form.
 #![tactic(auto)]
 
 pub use run::run_migrate;
 
+mod line;
 mod run;
