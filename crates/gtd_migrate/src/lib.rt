@@ -5,5 +5,6 @@
 
 pub use run::run_migrate;
 
+pub mod laws;
 mod line;
 mod run;
