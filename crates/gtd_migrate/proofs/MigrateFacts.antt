@@ -16,9 +16,10 @@ use Rattle.gtd_core.specs.Trees.{Tree}
 use Rattle.gtd_core.specs.declared.fault.TextFault.{TextFault}
 use Rattle.gtd_roads.proofs.FileFacts.{record_count}
 use Rattle.gtd_roads.proofs.NumberFacts.{number_below}
+use Rattle.gtd_roads.proofs.OneAnswer.{one_file}
 use Rattle.gtd_roads.proofs.RowFacts.{full_row}
 use Rattle.gtd_roads.specs.Columns.{closed_of, number_of}
-use Rattle.gtd_roads.specs.File.{AreRecords, IsFile, IsSound, IsTable, header, most_bytes, most_rows}
+use Rattle.gtd_roads.specs.File.{AreRecords, IsFile, IsTable, header, most_bytes, most_rows}
 use Rattle.gtd_roads.specs.Restriction.{Restriction}
 use Rattle.gtd_roads.specs.Row.{IsDomainColumn, IsFullRow, IsRow, with_domain}
 use Rattle.gtd_roads.specs.Table.{Fields}
@@ -233,3 +234,16 @@ migrated_is_file bytes found file fits =
     let fits_too : length (header_line ++ flat_map row_line found) ≤ most_bytes = subst (λ (t : List ℕ). length t ≤ most_bytes) w fits in
     subst (λ (t : List ℕ). IsFile t (Ok found)) (sym w)
     (written_is_file found (file_few bytes found file) (file_printable bytes found file) fits_too)
+
+-- ---- and the migrated file stands for nothing else
+
+ok_same : {x y : List Restriction} → ◌≡◌ {A = Result (List Restriction) RecordFault} (Ok x) (Ok y) → x ≡ y
+ok_same e = cc
+
+-- what a migrated file stands for is what was migrated
+pub same_restrictions : (bytes : List ℕ) (found again : List Restriction) → IsFile bytes (Ok found)
+    → IsFile (text_of (migrated found)) (Ok again) → again ≡ found
+same_restrictions bytes found again file (inl f) =
+    let text = text_of (migrated found) in
+    ok_same (one_file text (Ok again) (Ok found) (inl f) (migrated_is_file bytes found file f.0))
+same_restrictions bytes found again file (inr f) = absurd (cc (f.1))

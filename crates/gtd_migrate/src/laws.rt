@@ -1,7 +1,7 @@
 //! Laws of the definitions: calls that do nothing, and whose contracts are what is proved.
 
 ghost use Rattle.std.specs.Prelude.{◌≡◌, ◌≤◌, ◌↔◌, ℕ, ℤ, List, length, Ok};
-ghost use Rattle.gtd_roads.specs.Closing.{IsClosed, IsOpen};
+ghost use Rattle.gtd_roads.specs.Closing.{AreElements, IsClosed, IsOpen};
 ghost use Rattle.gtd_roads.specs.File.{IsFile};
 ghost use Rattle.gtd_roads.specs.Restriction.{Restriction};
 ghost use Rattle.gtd_roads.specs.declared.direction.Direction.{Direction};
@@ -14,4 +14,25 @@ pub fn migrated_is_accepted()
     ensures accepted { (bytes : List ℕ) (found : List Restriction) → IsFile bytes (Ok found)
         → length (text_of (migrated found)) ≤ 16777216
         → IsFile (text_of (migrated found)) (Ok found) }
+{}
+
+/// A record file and its migrated file have the same schedule, for each vehicle type and horizon: both stand for
+/// the same restrictions, and so name the same elements, and close and open them at the same seconds. Migrating twice
+/// gives what migrating once gives.
+pub fn migration_changes_nothing()
+    ensures restrictions { (bytes : List ℕ) (found again : List Restriction) → IsFile bytes (Ok found)
+        → IsFile (text_of (migrated found)) (Ok again) → again ≡ found }
+    ensures elements { (bytes : List ℕ) (found again : List Restriction) → IsFile bytes (Ok found)
+        → IsFile (text_of (migrated found)) (Ok again)
+        → (elements : List ℕ) → AreElements again elements ↔ AreElements found elements }
+    ensures closed { (bytes : List ℕ) (found again : List Restriction) → IsFile bytes (Ok found)
+        → IsFile (text_of (migrated found)) (Ok again)
+        → (element : ℕ) (direction : Direction) (vehicle : ℕ) (second : ℤ) →
+        IsClosed again element direction vehicle second ↔ IsClosed found element direction vehicle second }
+    ensures opened { (bytes : List ℕ) (found again : List Restriction) → IsFile bytes (Ok found)
+        → IsFile (text_of (migrated found)) (Ok again)
+        → (element : ℕ) (direction : Direction) (vehicle : ℕ) (second : ℤ) →
+        IsOpen again element direction vehicle second ↔ IsOpen found element direction vehicle second }
+    ensures itself { (bytes : List ℕ) (found again : List Restriction) → IsFile bytes (Ok found)
+        → IsFile (text_of (migrated found)) (Ok again) → migrated again ≡ migrated found }
 {}
