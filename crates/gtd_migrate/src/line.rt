@@ -58,7 +58,7 @@ fn push_vehicles(line: &mut Vec<u8>, vehicles: &Vehicles) -> Result<(), AllocErr
 fn push_domain(alloc: Global, line: &mut Vec<u8>, domain: &Option<Domain>) -> Result<(), AllocError>
     ensures text { OnOk result (line.new.items
         ≡ line.old.items ++ domain_text (option_map domain_tree domain.now)) }
-    ensures short { OnOk result (length line.new.items ≤ length line.old.items + 12928) }
+    ensures short { OnOk result (length line.new.items ≤ length line.old.items + 12925) }
 {
     match domain {
         Some(domain) => line.extend_from_slice(print_domain(alloc, domain)?.as_bytes()),
@@ -66,7 +66,8 @@ fn push_domain(alloc: Global, line: &mut Vec<u8>, domain: &Option<Domain>) -> Re
     }
 }
 
-// Writes the line of a record, in place of what the buffer had.
+// Writes the line of a record, in place of what the buffer had. A line is short enough that the lines of a whole file
+// are counted without overflow.
 pub(crate) fn write_line(
     alloc: Global,
     line: &mut Vec<u8>,

@@ -12,7 +12,7 @@ use gtd_roads::{Input, Output, Record, RecordFault, read_records};
 use gtd_runs::{Progress, RunFault, Stop, finish, put_line};
 use std::alloc::Global;
 
-// Puts the lines of records, in their order.
+// Puts the lines of records, in their order, after the header line.
 fn put_rows<O: Output>(
     alloc: Global,
     output: &mut O,
