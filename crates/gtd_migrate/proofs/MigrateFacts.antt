@@ -1,16 +1,17 @@
 -- The migrated file of restrictions that were read is a file of just those restrictions.
 use Rattle.std.proofs.Common.{◌≡◌, ◌∙◌, ◌<◌, ◌≤◌, ◌+◌, ◌^◌, ap, refl, sym, subst, arith, inl, inr, cond, ℕ, zero, suc, List, [], ◌∷◌, ◌++◌, length, length-append, append_assoc, map, Bool, true, false, Option, Some, None}
-use Rattle.std.specs.Prelude.{codes, decimal, flat_map, nat_le, IfSome, MatchOption, Result, Ok, Err, ◌&&◌}
+use Rattle.std.specs.Prelude.{codes, decimal, flat_map, nat_le, IfSome, MatchOption, Result, Ok, Err, ◌&&◌, ◌||◌, ◌==◌}
 use Rattle.std.specs.Char.{is_ascii_digit}
-use Rattle.std.specs.List.{list_all}
+use Rattle.std.specs.List.{list_all, list_any}
 use Rattle.std.specs.Str.Parse.{digits_value}
 use Rattle.std.proofs.lemmas.Bool.{leb-true}
+use Rattle.std.proofs.lemmas.Bool.Decides.{nat_tests}
 use Rattle.std.proofs.lemmas.List.{length-map}
-use Rattle.std.proofs.lemmas.List.Folds.{flat_map-map}
+use Rattle.std.proofs.lemmas.List.Folds.{flat_map-map, list_any-append}
 use Rattle.csv.proofs.RoundTrip.{read-write-many}
 use Rattle.csv.specs.Machine.{next_record}
 use Rattle.csv.specs.Reading.{default_config, records, records_from, records_next, strip_bom}
-use Rattle.csv.specs.Writing.{default_writer, fields_text, is_blank, row_text}
+use Rattle.csv.specs.Writing.{default_writer, fields_text, is_blank, needs_byte, row_text}
 use Rattle.csv.specs.declared.parser.State.TheVariants as st
 use Rattle.gtd_core.specs.Trees.{Tree}
 use Rattle.gtd_core.specs.declared.fault.TextFault.{TextFault}
@@ -247,3 +248,54 @@ same_restrictions bytes found again file (inl f) =
     let text = text_of (migrated found) in
     ok_same (one_file text (Ok again) (Ok found) (inl f) (migrated_is_file bytes found file f.0))
 same_restrictions bytes found again file (inr f) = absurd (cc (f.1))
+
+-- ---- no field needs quotes
+
+-- no byte is a quotation mark
+abbrev Unquoted : List ℕ → Type 0
+Unquoted text = list_any (λ (b : ℕ). b == 34) text ≡ false
+
+unquoted_joined : (a b : List ℕ) → Unquoted a → Unquoted b → Unquoted (a ++ b)
+unquoted_joined a b p q = list_any-append (λ (c : ℕ). c == 34) a b ∙ rw (p, q) refl
+
+either_false : (a b : Bool) → (a || b) ≡ false → (a ≡ false) × (b ≡ false)
+either_false false b h = (refl, h)
+either_false true b h = absurd cc
+
+plain_byte : (b : ℕ) → needs_byte default_writer b ≡ false → (b == 34) ≡ false
+plain_byte b h = grind (arith, nat_tests)
+
+plain_unquoted : (text : List ℕ) → IsPlain text → Unquoted text
+plain_unquoted [] p = refl
+plain_unquoted (b ∷ text) p =
+    let e = either_false (needs_byte default_writer b) _ p in
+    rw (plain_byte b e.0, plain_unquoted text e.1) refl
+
+line_unquoted : (r : Restriction) → IsPrintable r → Unquoted (row_line r)
+line_unquoted r p =
+    let a = decimal r.element in
+    let b = closed_word r.closed in
+    let c = vehicles_text r.vehicles in
+    let d = domain_text r.domain in
+    let element = plain_unquoted a (decimal_plain r.element (let e = p.element in omega arith)) in
+    let closed = plain_unquoted b (closed_plain r.closed) in
+    let vehicles = plain_unquoted c (vehicles_plain r.vehicles p.vehicles) in
+    let domain = plain_unquoted d (domain_plain r.domain p.domain) in
+    unquoted_joined (a ++ codes "," ++ b ++ codes "," ++ c ++ codes "," ++ d) (codes "\n")
+    (unquoted_joined (a ++ codes "," ++ b ++ codes "," ++ c ++ codes ",") d
+    (unquoted_joined (a ++ codes "," ++ b ++ codes "," ++ c) (codes ",")
+    (unquoted_joined (a ++ codes "," ++ b ++ codes ",") c
+    (unquoted_joined (a ++ codes "," ++ b) (codes ",")
+    (unquoted_joined (a ++ codes ",") b (unquoted_joined a (codes ",") element refl) closed) refl) vehicles) refl) domain) refl
+
+lines_unquoted : (found : List Restriction) → ArePrintable found → Unquoted (flat_map row_line found)
+lines_unquoted [] p = refl
+lines_unquoted (r ∷ found) p =
+    unquoted_joined (row_line r) (flat_map row_line found) (line_unquoted r p.0) (lines_unquoted found p.1)
+
+-- no byte of a migrated file is a quotation mark
+pub file_unquoted : (bytes : List ℕ) (found : List Restriction) → IsFile bytes (Ok found)
+    → list_any (λ (b : ℕ). b == 34) (text_of (migrated found)) ≡ false
+file_unquoted bytes found file =
+    ap (list_any (λ (b : ℕ). b == 34)) (written found)
+    ∙ unquoted_joined header_line (flat_map row_line found) refl (lines_unquoted found (file_printable bytes found file))

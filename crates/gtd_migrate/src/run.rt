@@ -22,7 +22,7 @@ fn put_rows<O: Output>(
 ) -> Result<(), Stop>
     requires countable { O.failure_count output.old < u64.MAX }
     requires few { length rows.now ≤ 65536 }
-    requires written { progress.old.written ≤ 1000 }
+    requires written { progress.old.written ≤ 34 }
     requires lines { progress.old.lines ≤ 1 }
     ensures puts { Puts result (O.taken output.old) (O.taken output.new)
         progress.old progress.new (map row_line rows.now) }

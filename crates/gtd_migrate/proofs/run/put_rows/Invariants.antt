@@ -9,7 +9,7 @@ abbrev pub invariant-loop-row : goal.invariant-loop-row
 invariant-loop-row g l = record {
   puts : Puts (Ok tt) (g.O.Output.taken l.fn.output) (g.O.Output.taken l.output) l.fn.progress l.progress
       (map row_line (take l.row-index l.rows));
-  written : l.progress.written ≤ 1000 + 16384 * l.row-index;
+  written : l.progress.written ≤ 34 + 16384 * l.row-index;
   lines : l.progress.lines ≤ 1 + l.row-index;
   failures : g.O.Output.failure_count l.output ≡ g.O.Output.failure_count l.fn.output;
 }
