@@ -1,0 +1,5 @@
+pub mod LineFacts
+pub mod RowsFacts
+pub mod TextFacts
+pub mod CodesFacts
+pub mod MigrateFacts

@@ -1,6 +1,11 @@
 //! Record files of either version, written as files of version 2.
+//!
+//! [`run_migrate`] reads a record file whole, and puts its rows in their order, each in its canonical form.
+//! The laws in [`laws`] say that the file so put is accepted, and means what its source means.
 #![tactic(auto)]
 
 pub use run::run_migrate;
 
+pub mod laws;
+mod line;
 mod run;

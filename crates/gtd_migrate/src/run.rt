@@ -1,14 +1,61 @@
 //! The record file that an input brings, put to an output as a file of version 2.
 
-ghost use Rattle.std.specs.Prelude.{◌≡◌, ◌<◌, ⊤, IsErrOf, IsTrue, List};
+ghost use Rattle.std.specs.Prelude.{◌≡◌, ◌<◌, ◌≤◌, ⊤, length, map, IsErrOf, IsTrue, List};
 ghost use Rattle.gtd_roads.specs.Restriction.{Restriction};
+ghost use Rattle.gtd_runs.specs.Putting.{Puts, failures_after_stop, nothing_put};
 ghost use Rattle.gtd_runs.specs.Run.{AcceptedFilesArePut, HasRun, RefusedFilesPutNothing};
 ghost use Rattle.gtd_runs.specs.Run.{failures_after_read, failures_after_write};
-ghost use Rattle.gtd_migrate.specs.Migrated.{migrated};
+ghost use Rattle.gtd_migrate.specs.Migrated.{migrated, row_line};
 
-use gtd_roads::{Input, Output, RecordFault};
-use gtd_runs::RunFault;
+use crate::line::write_line;
+use gtd_roads::{Input, Output, Record, RecordFault, read_records};
+use gtd_runs::{Progress, RunFault, Stop, finish, put_line};
 use std::alloc::Global;
+
+// Puts the lines of records, in their order, after the header line.
+fn put_rows<O: Output>(
+    alloc: Global,
+    output: &mut O,
+    progress: &mut Progress,
+    line: &mut Vec<u8>,
+    rows: &[Record],
+) -> Result<(), Stop>
+    requires countable { O.failure_count output.old < u64.MAX }
+    requires few { length rows.now ≤ 65536 }
+    requires written { progress.old.written ≤ 34 }
+    requires lines { progress.old.lines ≤ 1 }
+    ensures puts { Puts result (O.taken output.old) (O.taken output.new)
+        progress.old progress.new (map row_line rows.now) }
+    ensures failures { O.failure_count output.new
+        ≡ failures_after_stop result (O.failure_count output.old) }
+{
+    for row in rows {
+        write_line(alloc, line, row)?;
+        put_line(output, progress, line.as_slice())?;
+    }
+    Ok(())
+}
+
+// Puts the migrated file of records, and ends the output.
+fn put_migrated<O: Output>(
+    alloc: Global,
+    output: &mut O,
+    progress: &mut Progress,
+    rows: &[Record],
+) -> Result<(), Stop>
+    requires countable { O.failure_count output.old < u64.MAX }
+    requires few { length rows.now ≤ 65536 }
+    requires begins { progress.old ≡ nothing_put }
+    ensures puts { Puts result (O.taken output.old) (O.taken output.new)
+        progress.old progress.new (migrated rows.now) }
+    ensures failures { O.failure_count output.new
+        ≡ failures_after_stop result (O.failure_count output.old) }
+{
+    let mut line = Vec::new(alloc);
+    put_line(output, progress, b"element,direction,vehicles,domain\n")?;
+    put_rows(alloc, output, progress, &mut line, rows)?;
+    finish(output)
+}
 
 /// Puts the record file that an input brings as a file of version 2: its rows in their order, with their repeats, each
 /// in its canonical form. Answers the number of lines, the header included.
@@ -40,5 +87,11 @@ pub fn run_migrate<I: Input, O: Output>(
     ensures write_faults { O.failure_count output.new
         ≡ failures_after_write result (O.failure_count output.old) }
 {
-    Err(RunFault::Records(RecordFault::NoMemory))
+    let found = match read_records(alloc, input) {
+        Ok(found) => found,
+        Err(fault) => return Err(RunFault::Records(fault)),
+    };
+    let mut progress = Progress::new();
+    let put = put_migrated(alloc, output, &mut progress, found.rows());
+    progress.answer(put)
 }

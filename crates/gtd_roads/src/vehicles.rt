@@ -2,6 +2,7 @@
 
 ghost use Rattle.std.specs.Prelude.{◌≡◌, ◌↔◌, IsTrue, IfOk, option_map};
 ghost use Rattle.std.specs.List.{Contains};
+ghost use Rattle.std.specs.List.Sorted.{IsStrictlyIncreasing};
 ghost use Rattle.gtd_roads.specs.Columns.{code_of};
 ghost use Rattle.gtd_roads.specs.Vehicles.{IsAscending, IsCodes, IsRead, Serves};
 ghost use Rattle.gtd_roads.specs.Vehicles.{codes_of, is_zero, items_of, listed, single, type_of, vehicles_of};
@@ -60,6 +61,7 @@ impl Codes {
     /// The codes, ascending and each once.
     pub fn as_slice(&self) -> &[u8]
         ensures codes { result.now ≡ self.now }
+        ensures ascending { IsStrictlyIncreasing result.now }
     {
         self.codes.as_slice()
     }

@@ -1,0 +1,19 @@
+use Rattle.std.proofs.Common.{◌≡◌, ◌+◌, ◌∙◌, ap, arith, List, ◌++◌, length, length-append, ℕ}
+use Rattle.gtd_migrate.proofs.LineFacts.{few_codes}
+use Rattle.gtd_migrate.proofs.line.push_codes.Goals as goal
+
+-- what is longer by a text
+longer : (old text new : List ℕ) → new ≡ old ++ text → length new ≡ length old + length text
+longer old text new e = ap length e ∙ length-append old text
+
+-- the first code has at most 40 bytes, and the others four each with their semicolons
+pub returns-clause-short : goal.returns-clause-short
+returns-clause-short c =
+    let few = few_codes c.args.types.now c.requires (λ k h. let f = c.type_inv.types k in omega arith) in
+    let short = c.loop-code.invariant.short in
+    let done = c.loop-code.auto.code-index-end in
+    let rest = c.in-Some.ensures.cases.1 in
+    let number = c.format.ensures.short in
+    let first = longer c.args.line.now.items c.as_bytes.result.now c.extend_from_slice.new.self.items c.in_ok-extend_from_slice.ensures.items in
+    let bytes = c.as_bytes.ensures.len in
+    omega arith

@@ -1,0 +1,41 @@
+//! Laws of the definitions: calls that do nothing, and whose contracts are what is proved.
+
+ghost use Rattle.std.specs.Prelude.{◌≡◌, ◌≤◌, ◌==◌, ◌↔◌, ℕ, ℤ, false, List, length, Ok};
+ghost use Rattle.std.specs.List.{list_any};
+ghost use Rattle.gtd_roads.specs.Closing.{AreElements, IsClosed, IsOpen};
+ghost use Rattle.gtd_roads.specs.File.{IsFile};
+ghost use Rattle.gtd_roads.specs.Restriction.{Restriction};
+ghost use Rattle.gtd_roads.specs.declared.direction.Direction.{Direction};
+ghost use Rattle.gtd_runs.specs.Putting.{text_of};
+ghost use Rattle.gtd_migrate.specs.Migrated.{migrated};
+
+/// The migrated file of a record file is a record file of just the same restrictions, where it has no more bytes than a
+/// record file may have. No field of it needs quotes: it has no quotation mark.
+pub fn migrated_is_accepted()
+    ensures accepted { (bytes : List ℕ) (found : List Restriction) → IsFile bytes (Ok found)
+        → length (text_of (migrated found)) ≤ 16777216
+        → IsFile (text_of (migrated found)) (Ok found) }
+    ensures unquoted { (bytes : List ℕ) (found : List Restriction) → IsFile bytes (Ok found)
+        → list_any (λ b. b == 34) (text_of (migrated found)) ≡ false }
+{}
+
+/// A record file and its migrated file have the same schedule, for each vehicle type and horizon: both stand for
+/// the same restrictions, and so name the same elements, and close and open them at the same seconds. Migrating twice
+/// gives what migrating once gives.
+pub fn migration_changes_nothing()
+    ensures restrictions { (bytes : List ℕ) (found again : List Restriction) → IsFile bytes (Ok found)
+        → IsFile (text_of (migrated found)) (Ok again) → again ≡ found }
+    ensures elements { (bytes : List ℕ) (found again : List Restriction) → IsFile bytes (Ok found)
+        → IsFile (text_of (migrated found)) (Ok again)
+        → (elements : List ℕ) → AreElements again elements ↔ AreElements found elements }
+    ensures closed { (bytes : List ℕ) (found again : List Restriction) → IsFile bytes (Ok found)
+        → IsFile (text_of (migrated found)) (Ok again)
+        → (element : ℕ) (direction : Direction) (vehicle : ℕ) (second : ℤ) →
+        IsClosed again element direction vehicle second ↔ IsClosed found element direction vehicle second }
+    ensures opened { (bytes : List ℕ) (found again : List Restriction) → IsFile bytes (Ok found)
+        → IsFile (text_of (migrated found)) (Ok again)
+        → (element : ℕ) (direction : Direction) (vehicle : ℕ) (second : ℤ) →
+        IsOpen again element direction vehicle second ↔ IsOpen found element direction vehicle second }
+    ensures itself { (bytes : List ℕ) (found again : List Restriction) → IsFile bytes (Ok found)
+        → IsFile (text_of (migrated found)) (Ok again) → migrated again ≡ migrated found }
+{}
