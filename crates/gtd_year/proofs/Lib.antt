@@ -1,0 +1,3 @@
+pub mod DayFacts
+pub mod Ends
+pub mod YearFacts

@@ -4,3 +4,5 @@
 pub use run::run_year;
 
 mod run;
+mod table;
+mod year;
