@@ -1,9 +1,10 @@
 -- The lines of days.
 use Rattle.std.proofs.Common.{◌≡◌, ◌∙◌, sym, ap, refl, subst, ◌<◌, ◌≤◌, ◌+◌, ◌*◌, ◌-◌, ◌↔◌, ℕ, zero, suc, arith}
 use Rattle.std.proofs.Common.{List, [], ◌∷◌, ◌++◌, length, length-append, append_assoc, take}
-use Rattle.std.specs.Prelude.{ℤ, pos, ◌+ℤ◌, ◌*ℤ◌, ◌≤ℤ◌, ◌<ℤ◌, decimal, codes, replicate, Option, Result, Ok, Err}
+use Rattle.std.specs.Prelude.{ℤ, pos, ◌+ℤ◌, ◌*ℤ◌, ◌≤ℤ◌, ◌<ℤ◌, decimal, codes, replicate, All, Option, Result, Ok, Err}
 use Rattle.std.proofs.lemmas.Int.{ints}
 use Rattle.std.proofs.lemmas.List.{length-replicate, take_all}
+use Rattle.std.proofs.lemmas.List.Elements.{All-cons, All-nil}
 use Rattle.std.proofs.lemmas.Fmt.{length-decimal-le}
 use Rattle.gtd_calendar.specs.Stamp.{date_text}
 use Rattle.gtd_core.specs.Interval.{Interval}
@@ -68,6 +69,14 @@ module _ (set : ℤ → Type 0) where
       let l = ap length p.4 in
       let b = ap (λ (l : List (List ℕ)). length (text_of l)) p.4 ∙ length-append (day_line day p.0) (text_of p.1) in
       (omega (arith, l, r.0), omega (arith, b, one, r.1))
+
+  -- each line has seventeen bytes
+  pub each_line : (day : ℤ) (n : ℕ) (a : List (List ℕ)) → AreDayLines set day n a → All (λ (line : List ℕ). length line ≡ 17) a
+  unfolding AreDayLines
+  each_line day zero a p = rw p (All-nil (λ (line : List ℕ). length line ≡ 17))
+  each_line day (suc n) a p =
+      let one = length-day_line day p.0 (count-few set (day *ℤ pos 86400) 86400 p.0 p.2) in
+      rw (p.4) (All-cons (λ (line : List ℕ). length line ≡ 17) (day_line day p.0) p.1 one (each_line (day +ℤ pos 1) n p.1 p.3))
 
 -- the days of a list of spans have lines
 pub held_days : (xs : List Interval) (day : ℤ) (n : ℕ) → (lines : List (List ℕ)) × AreDayLines (Holds xs) day n lines
