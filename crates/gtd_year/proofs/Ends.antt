@@ -1,5 +1,5 @@
 -- How a run of a year's table ends, by what was read.
-use Rattle.std.proofs.Common.{◌≡◌, List, ℕ, Option, Some, None}
+use Rattle.std.proofs.Common.{List, ℕ, Option, Some, None}
 use Rattle.std.specs.Prelude.{◌≢◌, Result, Ok, Err, IfSome}
 use Rattle.std.proofs.KnownBytes.{Keeps-refl}
 use Rattle.gtd_roads.specs.File.{IsFile}
@@ -8,7 +8,6 @@ use Rattle.gtd_roads.specs.Restriction.{Restriction}
 use Rattle.gtd_roads.specs.declared.fault.RecordFault.{RecordFault}
 use Rattle.gtd_runs.specs.Putting.{answer_of}
 use Rattle.gtd_runs.specs.Run.{HasRun}
-use Rattle.gtd_runs.specs.declared.fault.RunFault.{RunFault}
 use Rattle.gtd_runs.specs.declared.fault.RunFault.TheVariants as fault
 use Rattle.gtd_runs.specs.declared.putting.Progress.{Progress}
 use Rattle.gtd_runs.specs.declared.putting.Stop.{Stop}

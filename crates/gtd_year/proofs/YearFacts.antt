@@ -1,6 +1,6 @@
 -- The days of the years that a table may be of.
 use Rattle.std.proofs.Common.{◌≡◌, ◌∙◌, ap, refl, subst, unsigned_abs, to_z, of_z, w64, ◌≤◌, ◌+◌, ◌-◌, ℕ, List, arith}
-use Rattle.std.specs.Prelude.{ℤ, pos, negsuc, ◌+ℤ◌, ◌-ℤ◌, ◌≤ℤ◌, ◌<ℤ◌}
+use Rattle.std.specs.Prelude.{ℤ, pos, negsuc, ◌+ℤ◌, ◌-ℤ◌, ◌≤ℤ◌}
 use Rattle.gtd_calendar.proofs.Signed.{signed_arith}
 use Rattle.gtd_calendar.proofs.YearLemmas.{first_day-next}
 use Rattle.gtd_calendar.specs.Calendar.{day_number, days_of_months, first_day, year_length}

@@ -1,10 +1,8 @@
 use Rattle.std.proofs.Common.{rules, ◌≡◌, ℕ, List}
-use Rattle.std.specs.Prelude.{◌≢◌, Err, Any, Result}
+use Rattle.std.specs.Prelude.{Err, Any}
 use Rattle.gtd_roads.specs.Restriction.{Restriction}
 use Rattle.gtd_runs.proofs.RunFacts.{accepted_are_put, has_run, refused_put_nothing, unaccepted_put_nothing}
 use Rattle.gtd_runs.specs.Putting.{answer_of}
-use Rattle.gtd_runs.specs.Run.{HasRun}
-use Rattle.gtd_runs.specs.declared.fault.RunFault.{RunFault}
 use Rattle.gtd_runs.specs.declared.fault.RunFault.TheVariants as fault
 use Rattle.gtd_year.specs.Table.{IsYearTable}
 use Rattle.gtd_year.proofs.Ends.{not_named, not_read, not_vehicle, not_year}

@@ -1,7 +1,6 @@
-use Rattle.std.proofs.Common.{◌≡◌, ◌∙◌, ◌<◌, ◌≤◌, ◌+◌, ◌*◌, ◌-◌, ◌↔◌, sym, ap, refl, arith, ℕ, List, [], ◌∷◌, ◌++◌, length, append_assoc}
+use Rattle.std.proofs.Common.{◌≡◌, ◌∙◌, ◌+◌, ap, refl, arith, [], ◌∷◌, ◌++◌, length, append_assoc}
 use Rattle.std.proofs.Common.{rules, FitsSigned, to_z, of_z, w64, to_z-of_z}
-use Rattle.std.specs.Prelude.{Ok, Err, ℤ, pos, ◌+ℤ◌, ◌*ℤ◌, ◌≤ℤ◌}
-use Rattle.std.proofs.lemmas.Int.{ints}
+use Rattle.std.specs.Prelude.{Ok, Err, ℤ, pos, ◌+ℤ◌, ◌*ℤ◌}
 use Rattle.std.proofs.lemmas.Result.{err_from_is_err_and}
 use Rattle.gtd_calendar.proofs.Signed.{signed_arith}
 use Rattle.gtd_spans.specs.Normal.{Holds}
@@ -9,7 +8,7 @@ use Rattle.gtd_spans.proofs.CountFacts.{count-few}
 use Rattle.gtd_runs.proofs.PutFacts.{one_put, one_short, puts_cut, puts_none, puts_nothing, puts_then}
 use Rattle.gtd_runs.specs.Putting.{Puts}
 use Rattle.gtd_runs.specs.declared.putting.Progress.{Progress}
-use Rattle.gtd_year.specs.Table.{AreDayLines, day_line}
+use Rattle.gtd_year.specs.Table.{AreDayLines}
 use Rattle.gtd_year.proofs.DayFacts.{length-day_line, length-days, no_days, one_more, whole_table}
 use Rattle.gtd_year.proofs.table.put_days.Goals as goal
 

@@ -1,4 +1,4 @@
-use Rattle.std.proofs.Common.{◌≡◌, ◌≤◌, ◌+◌, List, ℕ, ◌↔◌}
+use Rattle.std.proofs.Common.{◌≡◌, List, ℕ, ◌↔◌}
 use Rattle.std.specs.Prelude.{Ok, ℤ, pos, ◌+ℤ◌, ◌*ℤ◌, ◌≤ℤ◌}
 use Rattle.gtd_spans.specs.Normal.{Holds}
 use Rattle.gtd_runs.specs.Putting.{Puts}

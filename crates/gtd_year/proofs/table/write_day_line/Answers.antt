@@ -1,4 +1,4 @@
-use Rattle.std.proofs.Common.{◌≡◌, ◌∙◌, ap, arith, ℕ, List, ◌++◌, length, ℤ}
+use Rattle.std.proofs.Common.{◌≡◌, ◌∙◌, ap, arith, ℕ, List, ◌++◌, length}
 use Rattle.std.proofs.Common.{rules, FitsSigned, to_z, of_z, w64, to_z-of_z}
 use Rattle.gtd_calendar.specs.Stamp.{date_text}
 use Rattle.gtd_year.proofs.DayFacts.{made_line}

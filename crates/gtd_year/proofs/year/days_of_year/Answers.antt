@@ -1,6 +1,5 @@
-use Rattle.std.proofs.Common.{rules, ◌≡◌, ◌∙◌, pos, ℤ, FitsSigned, to_z, of_z, w64, to_z-of_z, ◌+◌, subst}
+use Rattle.std.proofs.Common.{rules, ◌≡◌, ◌∙◌, pos, FitsSigned, to_z, of_z, w64, to_z-of_z, ◌+◌}
 use Rattle.gtd_calendar.specs.Calendar.{first_day}
-use Rattle.gtd_core.specs.Horizons.{IsFault}
 use Rattle.gtd_year.proofs.YearFacts.{next_year, no_fault, year_horizon}
 use Rattle.gtd_year.proofs.year.days_of_year.Goals as goal
 
