@@ -2,3 +2,4 @@ pub mod ManyCursors
 pub mod Repeats
 pub mod Shapes
 pub mod Unions
+pub mod Decided

@@ -8,3 +8,4 @@ pub mod ReadFacts
 pub mod Rising
 pub mod OneAnswer
 pub mod OpenFacts
+pub mod Decided

@@ -1,4 +1,4 @@
--- What a run over a record file did, by its answer, and the three claims that are made of it. A run is for a kind of
+-- What a run over a record file did, by its answer, and the claims that are made of it. A run is for a kind of
 -- texts: of which restrictions a text is put, and which text that is. A text is given by its lines.
 use Rattle.std.specs.Prelude.{◌≡◌, ◌≤◌, ◌<◌, ℕ, ◌+◌, List, length, take, ⊤, Option, IfSome, Result, Ok, Err}
 use Rattle.std.specs.Io.KnownBytes.{Appends, Keeps}
@@ -73,6 +73,14 @@ abbrev pub RefusedFilesPutNothing : Option (List ℕ) → Option (List ℕ) → 
 RefusedFilesPutNothing file old new answer = IsUnhindered answer
     → IfSome file (λ bytes. (why : RecordFault) → IsFile bytes (Err why)
     → (answer ≡ Err (fault.Records why)) × Keeps old new)
+
+-- The third claim: where the bytes are a record file of no accepted restrictions, and nothing hinders the run, its answer
+-- is that no record names the element, and the output took nothing.
+abbrev pub UnacceptedFilesPutNothing : (List Restriction → Type 0) → Option (List ℕ) → Option (List ℕ) → Option (List ℕ)
+    → Result ℕ RunFault → Type 0
+UnacceptedFilesPutNothing IsAccepted file old new answer = IsUnhindered answer
+    → IfSome file (λ bytes. (found : List Restriction) → IsFile bytes (Ok found) → (IsAccepted found → ⊥)
+    → (answer ≡ Err fault.NoElement) × Keeps old new)
 
 -- one failure of the input more exactly where the answer is that it failed
 abbrev pub failures_after_read : {T : Type 0} → Result T RunFault → ℕ → ℕ

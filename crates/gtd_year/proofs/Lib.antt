@@ -1,0 +1,4 @@
+pub mod DayFacts
+pub mod Ends
+pub mod SomeTable
+pub mod YearFacts

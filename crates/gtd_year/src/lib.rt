@@ -3,4 +3,7 @@
 
 pub use run::run_year;
 
+pub mod laws;
 mod run;
+mod table;
+mod year;

@@ -1,15 +1,63 @@
 //! The year's table of an element of the record file that an input brings, put to an output.
 
-ghost use Rattle.std.specs.Prelude.{◌≡◌, ◌<◌, ◌↔◌, Any, IfOk, IsErrOf, IsTrue, List, pos};
+ghost use Rattle.std.specs.Prelude.{◌≡◌, ◌<◌, ◌↔◌, Any, OnOk, IfOk, IsErrOf, IsTrue, List, pos};
 ghost use Rattle.gtd_calendar.specs.Calendar.{year_length};
 ghost use Rattle.gtd_roads.specs.Restriction.{Restriction};
+ghost use Rattle.gtd_runs.specs.Putting.{PutsText, failures_after_stop, nothing_put};
 ghost use Rattle.gtd_runs.specs.Run.{AcceptedFilesArePut, HasRun, IsVehicleType, RefusedFilesPutNothing};
+ghost use Rattle.gtd_runs.specs.Run.{UnacceptedFilesPutNothing};
 ghost use Rattle.gtd_runs.specs.Run.{failures_after_read, failures_after_write};
 ghost use Rattle.gtd_year.specs.Table.{IsTableYear, IsYearTable};
 
-use gtd_roads::{Direction, Input, Output, RecordFault};
-use gtd_runs::RunFault;
+use crate::table::put_days;
+use crate::year::days_of_year;
+use gtd_roads::{Direction, Input, Output, RecordFault, Records, open_seconds, read_records};
+use gtd_runs::{Progress, RunFault, Stop, finish};
+use gtd_spans::ByDay;
 use std::alloc::Global;
+
+// Whether some record names the element.
+fn names_element(found: &Records, element: u64) -> bool
+    ensures named { IsTrue result ↔ Any (λ (r : Restriction). r.element ≡ element) found.now }
+{
+    found.elements().contains(&element)
+}
+
+// Puts the table of a year, and ends the output.
+fn put_year<O: Output>(
+    alloc: Global,
+    output: &mut O,
+    progress: &mut Progress,
+    found: &Records,
+    element: u64,
+    direction: Direction,
+    vehicle: u8,
+    year: u16,
+) -> Result<(), Stop>
+    requires countable { O.failure_count output.old < u64.MAX }
+    requires begins { progress.old ≡ nothing_put }
+    requires year { IsTableYear year }
+    ensures puts { PutsText (IsYearTable found.now element direction vehicle year) result
+        (O.taken output.old) (O.taken output.new) progress.old progress.new }
+    ensures days { OnOk result (progress.new.lines ≡ year_length (pos year)) }
+    ensures failures { O.failure_count output.new
+        ≡ failures_after_stop result (O.failure_count output.old) }
+{
+    let days = days_of_year(year);
+    let open = open_seconds(alloc, found, element, direction, vehicle, days)?;
+    let mut seconds = ByDay::new(open);
+    let mut line = Vec::new(alloc);
+    let first = days.from_day();
+    put_days(
+        output,
+        progress,
+        &mut line,
+        &mut seconds,
+        first,
+        (days.to_day() - first) as u16,
+    )?;
+    finish(output)
+}
 
 /// Puts the year's table of an element of the record file that an input brings: for each day of a year from 1901 to 2199,
 /// the number of its seconds in which the element is open in the direction for a vehicle type from 1 to 99. Answers the
@@ -38,6 +86,10 @@ pub fn run_year<I: Input, O: Output>(
     // Refused files print nothing: where nothing hinders it, the answer is the first fault of the file.
     ensures refused { IsVehicleType vehicle → IsTableYear year → RefusedFilesPutNothing
         (I.to_come input.old) (O.taken output.old) (O.taken output.new) result }
+    // An element that the file does not name has no table: where nothing hinders it, the answer says so.
+    ensures unnamed { IsVehicleType vehicle → IsTableYear year → UnacceptedFilesPutNothing
+        (λ found. Any (λ (r : Restriction). r.element ≡ element) found)
+        (I.to_come input.old) (O.taken output.old) (O.taken output.new) result }
     // What stands by each answer: after a failure or a refusal of memory, the first bytes of the same table.
     ensures stands { HasRun
         (λ found. Any (λ (r : Restriction). r.element ≡ element) found)
@@ -58,5 +110,23 @@ pub fn run_year<I: Input, O: Output>(
     if year < 1901 || year > 2199 {
         return Err(RunFault::YearRange);
     }
-    Err(RunFault::Records(RecordFault::NoMemory))
+    let found = match read_records(alloc, input) {
+        Ok(found) => found,
+        Err(fault) => return Err(RunFault::Records(fault)),
+    };
+    if !names_element(&found, element) {
+        return Err(RunFault::NoElement);
+    }
+    let mut progress = Progress::new();
+    let put = put_year(
+        alloc,
+        output,
+        &mut progress,
+        &found,
+        element,
+        direction,
+        vehicle,
+        year,
+    );
+    progress.answer(put)
 }

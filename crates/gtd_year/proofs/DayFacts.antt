@@ -1,0 +1,153 @@
+-- The lines of days.
+use Rattle.std.proofs.Common.{◌≡◌, ◌∙◌, sym, ap, refl, subst, ◌≤◌, ◌+◌, ◌*◌, ◌-◌, ◌↔◌, ℕ, zero, suc, arith}
+use Rattle.std.proofs.Common.{List, [], ◌∷◌, ◌++◌, length, length-append, append_assoc, take}
+use Rattle.std.specs.Prelude.{ℤ, pos, ◌+ℤ◌, ◌*ℤ◌, ◌≤ℤ◌, ◌<ℤ◌, decimal, codes, replicate, All, Option, Result, Ok, Err}
+use Rattle.std.proofs.lemmas.Int.{ints}
+use Rattle.std.proofs.lemmas.List.{length-replicate, take_all}
+use Rattle.std.proofs.lemmas.List.Elements.{All-cons, All-nil}
+use Rattle.std.proofs.lemmas.Fmt.{length-decimal-le}
+use Rattle.gtd_calendar.specs.Stamp.{date_text}
+use Rattle.gtd_core.specs.Interval.{Interval}
+use Rattle.gtd_spans.specs.Counting.{IsCount}
+use Rattle.gtd_spans.specs.Normal.{Holds}
+use Rattle.gtd_spans.proofs.CountFacts.{count-few, count-held, count-same, one-count}
+use Rattle.gtd_runs.specs.Putting.{Puts, PutsText, text_of}
+use Rattle.gtd_runs.specs.declared.putting.Progress.{Progress}
+use Rattle.gtd_runs.specs.declared.putting.Stop.{Stop}
+use Rattle.gtd_year.specs.Table.{AreDayLines, day_line, right_aligned}
+
+-- a date has ten bytes
+length-date : (day : ℤ) → length (date_text day) ≡ 10
+length-date day = refl
+
+-- a day's line has seventeen bytes
+pub length-day_line : (day : ℤ) (count : ℕ) → count ≤ 86400 → length (day_line day count) ≡ 17
+length-day_line day count few =
+    let d = length-decimal-le 5 count (omega arith) (omega arith) (omega arith) in
+    let w = length-date day in
+    simp (length-append, length-replicate) (omega arith)
+
+module _ (set : ℤ → Type 0) where
+  pub no_days : (day : ℤ) → AreDayLines set day 0 []
+  unfolding AreDayLines
+  no_days day = refl
+
+  one_day : (day : ℤ) (count : ℕ) → IsCount set (day *ℤ pos 86400) 86400 count → AreDayLines set day 1 (day_line day count ∷ [])
+  unfolding AreDayLines
+  one_day day count is = (count, [], is, refl, refl)
+
+  -- the lines of some days, and of the days after them
+  days_then : (day next : ℤ) (n m : ℕ) (a b : List (List ℕ)) → next ≡ day +ℤ pos n → AreDayLines set day n a
+      → AreDayLines set next m b → AreDayLines set day (n + m) (a ++ b)
+  unfolding AreDayLines
+  days_then day next zero m a b e p q =
+      let same : next ≡ day = omega (arith, ints, e) in
+      let none : 0 + m ≡ m = omega arith in
+      rw (none, p, ← same) q
+  days_then day next (suc n) m a b e p q =
+      let r = days_then (day +ℤ pos 1) next n m p.1 b (omega (arith, ints, e)) p.3 q in
+      let k : suc n + m ≡ suc (n + m) = omega arith in
+      rw k (p.0, p.1 ++ b, p.2, r, ap (λ (l : List (List ℕ)). l ++ b) p.4)
+
+  -- days have one list of lines
+  pub one_table : (day : ℤ) (n : ℕ) (a b : List (List ℕ)) → AreDayLines set day n a → AreDayLines set day n b → a ≡ b
+  unfolding AreDayLines
+  one_table day zero a b p q = p ∙ sym q
+  one_table day (suc n) a b p q =
+      let count = one-count set (day *ℤ pos 86400) 86400 p.0 q.0 p.2 q.2 in
+      let rest = one_table (day +ℤ pos 1) n p.1 q.1 p.3 q.3 in
+      p.4 ∙ ap (λ (c : ℕ). day_line day c ∷ p.1) count ∙ ap (λ (l : List (List ℕ)). day_line day q.0 ∷ l) rest ∙ sym q.4
+
+  -- how many lines and how many bytes
+  pub length-days : (day : ℤ) (n : ℕ) (a : List (List ℕ)) → AreDayLines set day n a
+      → (length a ≡ n) × (length (text_of a) ≡ 17 * n)
+  unfolding AreDayLines
+  length-days day zero a p = (ap length p, ap (λ (l : List (List ℕ)). length (text_of l)) p)
+  length-days day (suc n) a p =
+      let r = length-days (day +ℤ pos 1) n p.1 p.3 in
+      let one = length-day_line day p.0 (count-few set (day *ℤ pos 86400) 86400 p.0 p.2) in
+      let l = ap length p.4 in
+      let b = ap (λ (l : List (List ℕ)). length (text_of l)) p.4 ∙ length-append (day_line day p.0) (text_of p.1) in
+      (omega (arith, l, r.0), omega (arith, b, one, r.1))
+
+  -- each line has seventeen bytes
+  pub each_line : (day : ℤ) (n : ℕ) (a : List (List ℕ)) → AreDayLines set day n a → All (λ (line : List ℕ). length line ≡ 17) a
+  unfolding AreDayLines
+  each_line day zero a p = rw p (All-nil (λ (line : List ℕ). length line ≡ 17))
+  each_line day (suc n) a p =
+      let one = length-day_line day p.0 (count-few set (day *ℤ pos 86400) 86400 p.0 p.2) in
+      rw (p.4) (All-cons (λ (line : List ℕ). length line ≡ 17) (day_line day p.0) p.1 one (each_line (day +ℤ pos 1) n p.1 p.3))
+
+-- the days of a list of spans have lines
+pub held_days : (xs : List Interval) (day : ℤ) (n : ℕ) → (lines : List (List ℕ)) × AreDayLines (Holds xs) day n lines
+unfolding AreDayLines
+held_days xs day zero = ([], refl)
+held_days xs day (suc n) =
+    let r = held_days xs (day +ℤ pos 1) n in
+    let c = count-held xs (day *ℤ pos 86400) 86400 in
+    (day_line day c.0 ∷ r.0, (c.0, r.0, c.1, r.1, refl))
+
+-- sets that have the same seconds on those days have the same lines
+pub same_days : (one two : ℤ → Type 0) (day : ℤ) (n : ℕ) (lines : List (List ℕ))
+    → ((t : ℤ) → (day *ℤ pos 86400) ≤ℤ t → t <ℤ ((day +ℤ pos n) *ℤ pos 86400) → one t ↔ two t)
+    → AreDayLines one day n lines → AreDayLines two day n lines
+unfolding AreDayLines
+same_days one two day zero lines h p = p
+same_days one two day (suc n) lines h p = (
+  p.0,
+  p.1,
+  count-same one two (day *ℤ pos 86400) 86400 p.0 (λ t a. h t a.0 (omega (arith, ints, a.1))) p.2,
+  same_days one two (day +ℤ pos 1) n p.1 (λ t l u. h t (omega (arith, ints, l)) (omega (arith, ints, u))) p.3,
+  p.4,
+)
+
+-- a day's line, made piece by piece
+pub made_line : (day : ℤ) (count m : ℕ) (digits one two three four five : List ℕ) → count ≤ 86400
+    → digits ≡ decimal count → one ≡ date_text day → two ≡ one ++ codes " " → m ≡ 11
+    → three ≡ take (16 - length digits) two ++ replicate (16 - length digits - m) 32 → four ≡ three ++ digits
+    → five ≡ four ++ codes "\n" → five ≡ day_line day count
+made_line day count m digits one two three four five few d a b long e f g =
+    let n = ap length d in
+    let short = length-decimal-le 5 count (omega arith) (omega arith) (omega arith) in
+    let w = length-date day in
+    let l : length two ≡ 11 = omega (arith, ap length b, length-append one (codes " "), ap length a) in
+    let whole : take (16 - length digits) two ≡ two = take_all (16 - length digits) two (omega arith) in
+    let pad : 16 - length digits - m ≡ 5 - length (decimal count) = omega arith in
+    let k : three ≡ (date_text day ++ codes " ") ++ replicate (5 - length (decimal count)) 32 =
+    e ∙ ap (λ (x : List ℕ). x ++ replicate (16 - length digits - m) 32) (whole ∙ b ∙ ap (λ (x : List ℕ). x ++ codes " ") a)
+    ∙ ap (λ (i : ℕ). (date_text day ++ codes " ") ++ replicate i 32) pad in
+    let q : four ≡ (date_text day ++ codes " ") ++ right_aligned count =
+    f ∙ ap (λ (x : List ℕ). x ++ digits) k
+    ∙ ap (λ (x : List ℕ). ((date_text day ++ codes " ") ++ replicate (5 - length (decimal count)) 32) ++ x) d
+    ∙ append_assoc (date_text day ++ codes " ") (replicate (5 - length (decimal count)) 32) (decimal count) in
+    g ∙ ap (λ (x : List ℕ). x ++ codes "\n") q
+
+-- the lines of one day more
+pub one_more : (all now : List Interval) (first day : ℤ) (place count : ℕ) (done : List (List ℕ)) (line : List ℕ)
+    → day ≡ first +ℤ pos place → AreDayLines (Holds all) first place done
+    → ((t : ℤ) → ((first +ℤ pos place) *ℤ pos 86400) ≤ℤ t → Holds all t ↔ Holds now t)
+    → IsCount (Holds now) (day *ℤ pos 86400) 86400 count → line ≡ day_line day count
+    → AreDayLines (Holds all) first (place + 1) (done ++ (line ∷ []))
+one_more all now first day place count done line is are same counted made =
+    rw made (days_then (Holds all) first day place 1 done (day_line day count ∷ []) is are
+    (one_day (Holds all) day count
+    (count-same (Holds now) (Holds all) (day *ℤ pos 86400) 86400 count
+    (λ t a. let b = same t (omega (arith, ints, is, a.0)) in (b.1, b.0)) counted)))
+
+-- the lines of the days so far, and of all
+pub whole_table : (all : List Interval) (first : ℤ) (place days : ℕ) (done : List (List ℕ)) → place ≤ days
+    → AreDayLines (Holds all) first place done → (more : List (List ℕ)) × AreDayLines (Holds all) first days (done ++ more)
+whole_table all first place days done few are =
+    let next : ℤ = first +ℤ pos place in
+    let more = held_days all next (days - place) in
+    let n : place + (days - place) ≡ days = omega arith in
+    let r : AreDayLines (Holds all) first (place + (days - place)) (done ++ more.0) =
+    days_then (Holds all) first next place (days - place) done more.0 refl are more.1 in
+    (more.0, subst (λ (k : ℕ). AreDayLines (Holds all) first k (done ++ more.0)) n r)
+
+-- where there is one text of a kind, what was put of it was put of each
+pub put_text : (IsText : List (List ℕ) → Type 0) (r : Result (Unit {0}) Stop) (old new : Option (List ℕ)) (before after : Progress)
+    (lines : List (List ℕ)) → IsText lines → ((other : List (List ℕ)) → IsText other → other ≡ lines)
+    → Puts r old new before after lines → PutsText IsText r old new before after
+put_text IsText (Ok done) old new before after lines is one puts = (lines, is, puts)
+put_text IsText (Err stop) old new before after lines is one puts = λ other text. rw (one other text) puts

@@ -1,0 +1,13 @@
+use Rattle.std.specs.Prelude.{pos}
+use Rattle.gtd_calendar.specs.Calendar.{first_day, year_length}
+use Rattle.gtd_roads.specs.Closing.{IsOpen}
+use Rattle.gtd_year.proofs.DayFacts.{each_line, length-days}
+use Rattle.gtd_year.proofs.laws.lines_of_a_table.Goals as goal
+
+pub returns-clause-count : goal.returns-clause-count
+returns-clause-count c found element direction vehicle year lines is =
+    (length-days (IsOpen found element direction vehicle) (first_day (pos year)) (year_length (pos year)) lines is).0
+
+pub returns-clause-width : goal.returns-clause-width
+returns-clause-width c found element direction vehicle year lines =
+    each_line (IsOpen found element direction vehicle) (first_day (pos year)) (year_length (pos year)) lines

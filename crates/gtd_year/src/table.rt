@@ -1,0 +1,80 @@
+//! The lines of days, each with a number of seconds, put one after the other.
+
+ghost use Rattle.std.specs.Prelude.{◌≡◌, ◌<◌, ◌≤◌, ◌↔◌, ◌+ℤ◌, ◌*ℤ◌, ◌≤ℤ◌, ℤ, pos, negsuc, ℕ, List, OnOk};
+ghost use Rattle.gtd_calendar.specs.Calendar.{IsCalendarDay};
+ghost use Rattle.gtd_runs.specs.Putting.{Puts, failures_after_stop, nothing_put};
+ghost use Rattle.gtd_spans.specs.Counting.{IsCount};
+ghost use Rattle.gtd_spans.specs.Normal.{Holds};
+ghost use Rattle.gtd_year.specs.Table.{AreDayLines, day_line};
+
+use gtd_calendar::write_date;
+use gtd_core::Sec;
+use gtd_roads::Output;
+use gtd_runs::{Progress, Stop, put_line};
+use gtd_spans::{ByDay, SpanSource};
+use itoa::Buffer;
+use std::alloc::AllocError;
+
+/// The seconds of a day.
+const DAY: i64 = 86_400;
+
+/// The bytes of a line before its LF: a date, a space, and five places.
+const WIDTH: usize = 16;
+
+// Writes a day's line, in place of what the buffer had.
+fn write_day_line(line: &mut Vec<u8>, day: i64, count: u32) -> Result<(), AllocError>
+    requires day { IsCalendarDay day }
+    requires few { count ≤ 86400 }
+    ensures line { OnOk result (line.new.items ≡ day_line day count) }
+{
+    let mut buffer = Buffer::new();
+    let digits = buffer.format(count).as_bytes();
+    line.clear();
+    line.extend_from_slice(&write_date(day))?;
+    line.extend_from_slice(b" ")?;
+    line.resize(WIDTH - digits.len(), b' ')?;
+    line.extend_from_slice(digits)?;
+    line.extend_from_slice(b"\n")?;
+    Ok(())
+}
+
+// Counts the seconds of a day, and writes its line in place of what the buffer had.
+fn count_day<S: SpanSource>(
+    seconds: &mut ByDay<S>,
+    line: &mut Vec<u8>,
+    day: i64,
+) -> Result<(), AllocError>
+    requires day { IsCalendarDay day }
+    ensures line { OnOk result ((count : ℕ) × IsCount (Holds seconds.old) (day *ℤ pos 86400) 86400 count
+        × (line.new.items ≡ day_line day count)) }
+    ensures later { (t : ℤ) → ((day +ℤ pos 1) *ℤ pos 86400) ≤ℤ t
+        → Holds seconds.old t ↔ Holds seconds.new t }
+{
+    let count = seconds.count(Sec(day * DAY));
+    write_day_line(line, day, count)
+}
+
+/// Puts the lines of so many days from a first one on, each with the number of its seconds that are still to be counted.
+pub(crate) fn put_days<O: Output, S: SpanSource>(
+    output: &mut O,
+    progress: &mut Progress,
+    line: &mut Vec<u8>,
+    seconds: &mut ByDay<S>,
+    first: i64,
+    days: u16,
+) -> Result<(), Stop>
+    requires countable { O.failure_count output.old < u64.MAX }
+    requires begins { progress.old ≡ nothing_put }
+    requires not_early { negsuc 25201 ≤ℤ first }
+    requires not_late { (first +ℤ pos days) ≤ℤ pos 266627 }
+    ensures puts { (lines : List (List ℕ)) × AreDayLines (Holds seconds.old) first days lines
+        × Puts result (O.taken output.old) (O.taken output.new) progress.old progress.new lines }
+    ensures failures { O.failure_count output.new
+        ≡ failures_after_stop result (O.failure_count output.old) }
+{
+    for place in 0..days {
+        count_day(seconds, line, first + i64::from(place))?;
+        put_line(output, progress, line.as_slice())?;
+    }
+    Ok(())
+}
