@@ -1,6 +1,6 @@
 -- How long the lines of a file's schedule are.
-use Rattle.std.proofs.Common.{◌≡◌, ◌∙◌, inl, inr, slice_index_or, ◌<◌, ◌≤◌, ◌^◌, ◌+◌, ◌&&◌, nat_le, ap, refl, subst, arith, cond, map, ℕ, Bool, true, false, List, [], ◌∷◌, ◌++◌, length, Option, Some, None}
-use Rattle.std.specs.Prelude.{decimal, MatchOption, Result, Ok, Err}
+use Rattle.std.proofs.Common.{◌≡◌, ◌∙◌, inl, inr, slice_index_or, ◌<◌, ◌≤◌, ◌^◌, ◌+◌, ◌&&◌, nat_le, ap, refl, subst, arith, cond, map, ℕ, Bool, List, [], ◌∷◌, length, Option, Some, None}
+use Rattle.std.specs.Prelude.{MatchOption, Result, Ok, Err}
 use Rattle.std.specs.Char.{is_ascii_digit}
 use Rattle.std.specs.List.{All, list_all}
 use Rattle.std.proofs.lemmas.Bool.Decides.{nat_tests}
@@ -16,7 +16,7 @@ use Rattle.gtd_roads.specs.Closing.{AreElements}
 use Rattle.gtd_roads.specs.Columns.{closed_of, number_of}
 use Rattle.gtd_roads.specs.File.{AreRecords, IsFile, IsTable}
 use Rattle.gtd_roads.specs.Restriction.{Restriction}
-use Rattle.gtd_roads.specs.Row.{IsDomainColumn, IsFullRow, IsRow, with_domain}
+use Rattle.gtd_roads.specs.Row.{IsDomainColumn, IsRow, with_domain}
 use Rattle.gtd_roads.specs.Table.{Fields}
 use Rattle.gtd_roads.specs.Vehicles.{IsOrdered, vehicles_of}
 use Rattle.gtd_roads.specs.declared.direction.Closed.{Closed}
@@ -28,7 +28,7 @@ use Rattle.gtd_roads.specs.declared.vehicles.Vehicles.{Vehicles}
 use Rattle.gtd_roads.specs.declared.vehicles.Version.{Version}
 use Rattle.gtd_runs.specs.Run.{IsVehicleType}
 use Rattle.gtd_schedule.proofs.LineFacts.{length-line}
-use Rattle.gtd_schedule.specs.Schedule.{AreElementLines, AreLines, AreLinesOf, IsSchedule, header_line, span_line}
+use Rattle.gtd_schedule.specs.Schedule.{AreLines, AreLinesOf, IsSchedule, header_line, span_line}
 
 -- the number of a column is of ten digits at most
 few_digits : (text : List ℕ) (n : ℕ) → number_of text ≡ Some n → n < 10 ^ 10
