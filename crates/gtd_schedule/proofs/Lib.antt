@@ -3,3 +3,4 @@ pub mod LineFacts
 pub mod SpanFacts
 pub mod ScheduleFacts
 pub mod ShortLines
+pub mod SomeSchedule

@@ -14,6 +14,12 @@ pub fn one_schedule()
         IsSchedule found vehicle horizon a → IsSchedule found vehicle horizon b → a ≡ b }
 {}
 
+/// Restrictions have a schedule, for each vehicle type and over each horizon.
+pub fn some_schedule()
+    ensures some { (found : List Restriction) (vehicle : ℕ) (horizon : Horizon) →
+        (lines : List (List ℕ)) × IsSchedule found vehicle horizon lines }
+{}
+
 /// Each line of the schedule of a record file has at most 63 bytes, its end included.
 pub fn short_lines()
     ensures short { (bytes : List ℕ) (found : List Restriction) (vehicle : ℕ) (horizon : Horizon)
