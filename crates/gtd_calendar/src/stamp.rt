@@ -67,6 +67,19 @@ pub fn write_date(day: i64) -> [u8; 10]
     [y1, y2, y3, y4, b'-', m1, m2, b'-', d1, d2]
 }
 
+/// The text of the clock at a second, `Thh:mm:ss`.
+pub fn write_clock(second: Sec) -> [u8; 9]
+    ensures value { result ≡ spec.clock_text second.0 }
+{
+    let clock = second_of_day(second);
+    let minutes = clock / 60;
+    let hours = clock / 3600;
+    let [h1, h2] = two_digits(hours);
+    let [m1, m2] = two_digits(minutes - 60 * hours);
+    let [s1, s2] = two_digits(clock - 60 * minutes);
+    [b'T', h1, h2, b':', m1, m2, b':', s1, s2]
+}
+
 /// The text of a second, `YYYY-MM-DDThh:mm:ss`. The caller keeps its day from 1800-01-01 to 2799-12-31.
 pub fn write_stamp(second: Sec) -> [u8; 19]
     requires { IsCalendarDay (day_of_second second.0) }
@@ -74,14 +87,9 @@ pub fn write_stamp(second: Sec) -> [u8; 19]
     ensures value { result ≡ spec.stamp_text second.0 }
 {
     let [y1, y2, y3, y4, _, m1, m2, _, d1, d2] = write_date(day_of_sec(second));
-    let clock = second_of_day(second);
-    let minutes = clock / 60;
-    let hours = clock / 3600;
-    let [h1, h2] = two_digits(hours);
-    let [min1, min2] = two_digits(minutes - 60 * hours);
-    let [s1, s2] = two_digits(clock - 60 * minutes);
+    let [t, h1, h2, _, min1, min2, _, s1, s2] = write_clock(second);
     [
-        y1, y2, y3, y4, b'-', m1, m2, b'-', d1, d2, b'T', h1, h2, b':', min1, min2, b':', s1, s2,
+        y1, y2, y3, y4, b'-', m1, m2, b'-', d1, d2, t, h1, h2, b':', min1, min2, b':', s1, s2,
     ]
 }
 

@@ -2,3 +2,5 @@ pub mod TextFacts
 pub mod LineFacts
 pub mod SpanFacts
 pub mod ScheduleFacts
+pub mod ShortLines
+pub mod SomeSchedule

@@ -1,8 +1,7 @@
 -- The lines of spans: how long they are, and the parts that they are written in.
 use Rattle.std.proofs.Common.{◌≡◌, ◌<◌, ◌≤◌, ◌+◌, ◌*◌, ◌^◌, refl, arith, map, ℕ, List, [], ◌∷◌, ◌++◌, length, length-append, append_assoc}
-use Rattle.std.specs.Prelude.{codes, decimal}
+use Rattle.std.specs.Prelude.{decimal}
 use Rattle.std.proofs.lemmas.Fmt.{length-decimal-le}
-use Rattle.gtd_calendar.specs.Stamp.{stamp_text}
 use Rattle.gtd_core.specs.Interval.{Interval}
 use Rattle.gtd_roads.specs.declared.direction.Direction.{Direction}
 use Rattle.gtd_roads.specs.declared.direction.Direction.TheVariants.{Positive, Negative}

@@ -26,7 +26,7 @@ one_elements found a b p q =
     (λ n h. (q.named n).1 ((p.named n).0 h))
     (λ n h. (p.named n).1 ((q.named n).0 h))
 
-same_decides : (a b : ℕ) → Decides (eq_by_cmp nat_cmp a b) (a ≡ b)
+pub same_decides : (a b : ℕ) → Decides (eq_by_cmp nat_cmp a b) (a ≡ b)
 same_decides a b = grind (arith, nat_tests)
 
 -- and no more elements than there are restrictions

@@ -1,5 +1,5 @@
 -- Texts of one kind put, and then texts of another.
-use Rattle.std.proofs.Common.{◌≡◌, refl, ℕ, List, [], ◌∷◌, ◌++◌, Option}
+use Rattle.std.proofs.Common.{◌≡◌, refl, ℕ, List, ◌++◌, Option}
 use Rattle.std.specs.Prelude.{Result, Ok, Err}
 use Rattle.std.specs.Io.KnownBytes.{Keeps}
 use Rattle.gtd_runs.proofs.PutFacts.{puts_cut, puts_ended, puts_then}

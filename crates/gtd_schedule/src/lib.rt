@@ -3,6 +3,7 @@
 
 pub use run::run_schedule;
 
+pub mod laws;
 mod line;
 mod run;
 mod schedule;

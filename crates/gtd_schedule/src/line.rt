@@ -1,12 +1,13 @@
 //! The lines of a schedule.
 
-ghost use Rattle.std.specs.Prelude.{◌≡◌, ◌++◌, ◌≤◌, length, take, OnOk};
+ghost use Rattle.std.specs.Prelude.{[], ◌∷◌, ◌≡◌, ◌++◌, ◌≤◌, length, take, OnOk};
 ghost use Rattle.gtd_calendar.specs.Calendar.{IsCalendarDay};
 ghost use Rattle.gtd_calendar.specs.Clock.{day_of_second};
+ghost use Rattle.gtd_calendar.specs.Stamp.{stamp_text};
 ghost use Rattle.gtd_schedule.specs.Lines.{line_head, span_text};
 
-use gtd_calendar::write_stamp;
-use gtd_core::Span;
+use gtd_calendar::{day_of_sec, write_clock, write_date};
+use gtd_core::{Sec, Span};
 use gtd_roads::Direction;
 use itoa::Buffer;
 use std::alloc::AllocError;
@@ -30,17 +31,14 @@ pub(crate) fn write_head(
     line.extend_from_slice(b",")
 }
 
-// What the line of a span ends with: its moments, and the LF.
-pub(crate) fn span_bytes(span: Span) -> [u8; 40]
-    requires from { IsCalendarDay (day_of_second span.from) }
-    requires until { IsCalendarDay (day_of_second span.until) }
-    ensures text { result ≡ span_text span }
+// Writes a moment behind what the buffer has, and the byte that ends it.
+fn write_moment(line: &mut Vec<u8>, second: Sec, end: u8) -> Result<(), AllocError>
+    requires day { IsCalendarDay (day_of_second second.0) }
+    ensures moment { OnOk result (line.new.items ≡ line.old.items ++ (stamp_text second.0 ++ (end ∷ []))) }
 {
-    let mut bytes = [b','; 40];
-    bytes[..19].copy_from_slice(&write_stamp(span.from()));
-    bytes[20..39].copy_from_slice(&write_stamp(span.until()));
-    bytes[39] = b'\n';
-    bytes
+    line.extend_from_slice(&write_date(day_of_sec(second)))?;
+    line.extend_from_slice(&write_clock(second))?;
+    line.extend_from_slice(&[end])
 }
 
 // Writes the line of a span behind the head of its line, which has so many bytes.
@@ -51,5 +49,6 @@ pub(crate) fn write_span(line: &mut Vec<u8>, head: usize, span: Span) -> Result<
     ensures line { OnOk result (line.new.items ≡ take head line.old.items ++ span_text span) }
 {
     line.truncate(head);
-    line.extend_from_slice(&span_bytes(span))
+    write_moment(line, span.from(), b',')?;
+    write_moment(line, span.until(), b'\n')
 }

@@ -1,9 +1,7 @@
-use Rattle.std.proofs.Common.{rules, ◌≡◌, ◌∙◌, sym, ap, refl, arith, List, ℕ}
+use Rattle.std.proofs.Common.{rules}
 use Rattle.std.specs.Prelude.{◌≢◌, ⊤, Result, Ok, Err}
-use Rattle.gtd_roads.specs.Restriction.{Restriction}
 use Rattle.gtd_runs.proofs.RunFacts.{accepted_are_put, has_run, refused_put_nothing}
-use Rattle.gtd_runs.specs.Putting.{PutsText, answer_of}
-use Rattle.gtd_runs.specs.declared.fault.RunFault.{RunFault}
+use Rattle.gtd_runs.specs.Putting.{answer_of}
 use Rattle.gtd_runs.specs.declared.fault.RunFault.TheVariants as fault
 use Rattle.gtd_runs.specs.declared.putting.Progress.{Progress}
 use Rattle.gtd_runs.specs.declared.putting.Stop.{Stop}
@@ -40,9 +38,9 @@ returns-in-Err-clause-refused g c = λ type.
 pub returns-clause-stands : goal.returns-clause-stands
 returns-clause-stands g c =
     rw (c.answer.ensures.value) (has_run (λ found. ⊤) (λ found lines. IsSchedule found c.args.vehicle c.args.horizon lines) c.put_schedule-put.result
-        (g.I.Input.to_come c.args.input.now) (g.O.Output.taken c.args.output.now) (g.O.Output.taken c.put_schedule-put.new.output)
-        c.in-Ok.found c.put_schedule-put.new.progress c.in-Ok.ensures.file tt
-        (rw (c.new-progress.ensures.value) at c.put_schedule-put.ensures.puts))
+    (g.I.Input.to_come c.args.input.now) (g.O.Output.taken c.args.output.now) (g.O.Output.taken c.put_schedule-put.new.output)
+    c.in-Ok.found c.put_schedule-put.new.progress c.in-Ok.ensures.file tt
+    (rw (c.new-progress.ensures.value) at c.put_schedule-put.ensures.puts))
 
 pub returns-clause-accepted : goal.returns-clause-accepted
 returns-clause-accepted g c = λ type.

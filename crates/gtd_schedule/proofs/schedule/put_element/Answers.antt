@@ -1,4 +1,4 @@
-use Rattle.std.specs.Prelude.{Ok, Err}
+use Rattle.std.specs.Prelude.{Err}
 use Rattle.std.proofs.lemmas.Result.{err_from_is_err_and}
 use Rattle.gtd_roads.specs.declared.direction.Direction.TheVariants.{Positive, Negative}
 use Rattle.gtd_schedule.specs.Schedule.{AreElementLines, AreLines}
@@ -16,9 +16,9 @@ returns-in_err-put_direction-clause-puts g c =
     let before = c.args.progress.now in
     let after = c.put_direction.new.progress in
     rw (p.1) (texts_as (Then (lines Positive) (lines Negative)) all (Err p.0) a b before after
-        (element_lines c.args.found.now c.args.vehicle c.args.horizon c.args.element)
-        (element_parts c.args.found.now c.args.vehicle c.args.horizon c.args.element)
-        (texts_cut (lines Positive) (lines Negative) p.0 a b before after c.in_err-put_direction.ensures.puts))
+    (element_lines c.args.found.now c.args.vehicle c.args.horizon c.args.element)
+    (element_parts c.args.found.now c.args.vehicle c.args.horizon c.args.element)
+    (texts_cut (lines Positive) (lines Negative) p.0 a b before after c.in_err-put_direction.ensures.puts))
 
 pub returns-clause-puts : goal.returns-clause-puts
 returns-clause-puts g c =

@@ -1,5 +1,5 @@
-use Rattle.std.proofs.Common.{◌≡◌, ◌∙◌, sym, ap, refl, subst, arith, ◌<◌, ◌≤◌, ◌+◌, ◌*◌, ℕ, suc, List, ◌∷◌, [], drop, get_or, length, Option, add-one}
-use Rattle.std.specs.Prelude.{Ok, Err, Result}
+use Rattle.std.proofs.Common.{◌≡◌, ◌∙◌, sym, ap, refl, subst, arith, ◌<◌, ◌+◌, ℕ, List, ◌∷◌, [], drop, get_or, length, Option, add-one}
+use Rattle.std.specs.Prelude.{Ok, Err}
 use Rattle.std.proofs.Math.Seq.{drop-cons, drop-length}
 use Rattle.std.proofs.lemmas.Result.{err_from_is_err_and}
 use Rattle.gtd_core.specs.declared.horizon.Horizon.{Horizon}
@@ -68,8 +68,8 @@ returns-in_err-put_element-clause-puts g c =
     let p = err_from_is_err_and c.from_residual.result c.from_residual.ensures.1 in
     let taken = g.O.Output.taken in
     rw (p.1) (stopped c.args.found.now c.args.vehicle c.args.horizon c.args.elements.now c.loop-element.element-index (omega arith)
-        (taken c.args.output.now) (taken c.loop-element.output) (taken c.put_element.new.output)
-        c.args.progress.now c.loop-element.progress c.put_element.new.progress c.loop-element.invariant.carries p.0 c.in_err-put_element.ensures.puts)
+    (taken c.args.output.now) (taken c.loop-element.output) (taken c.put_element.new.output)
+    c.args.progress.now c.loop-element.progress c.put_element.new.progress c.loop-element.invariant.carries p.0 c.in_err-put_element.ensures.puts)
 
 pub loop-element-preserved : goal.loop-element-preserved
 loop-element-preserved g c =

@@ -1,4 +1,4 @@
-use Rattle.std.proofs.Common.{◌≡◌, ◌∙◌, sym, ap, refl, arith, ◌<◌, ◌≤◌, ◌+◌, ℕ, List, [], ◌∷◌, length, Option}
+use Rattle.std.proofs.Common.{refl, arith, [], ◌∷◌}
 use Rattle.std.specs.Prelude.{Ok, Err}
 use Rattle.std.proofs.lemmas.Result.{err_from_is_err_and}
 use Rattle.gtd_runs.proofs.PutFacts.{one_put, one_short, puts_cut}
@@ -44,8 +44,8 @@ returns-in_err-put_elements-clause-puts g c =
     let first : PutsText header (Ok tt) a b before now =
     (header_line ∷ [], refl, one_put header_line a b before now e.all e.progress) in
     rw (p.1) (texts_as (Then header rest) (IsSchedule found vehicle horizon) (Err p.0) a d before after
-        (schedule_lines found vehicle horizon elements named) (schedule_parts found vehicle horizon elements named)
-        (texts_then header rest (Err p.0) a b d before now after (one_header found vehicle horizon) first c.in_err-put_elements.ensures.puts))
+    (schedule_lines found vehicle horizon elements named) (schedule_parts found vehicle horizon elements named)
+    (texts_then header rest (Err p.0) a b d before now after (one_header found vehicle horizon) first c.in_err-put_elements.ensures.puts))
 
 pub returns-clause-puts : goal.returns-clause-puts
 returns-clause-puts g c =

@@ -1,4 +1,4 @@
-use Rattle.std.proofs.Common.{◌≡◌, ◌∙◌, sym, ap, refl, arith, ◌<◌, ◌≤◌, ◌+◌, ◌*◌, ◌^◌, ℕ, suc, List, [], ◌∷◌, ◌++◌, length, map, take, subst, length-append}
+use Rattle.std.proofs.Common.{◌≡◌, ◌∙◌, ap, refl, arith, ◌<◌, ◌≤◌, ◌+◌, ◌*◌, ◌^◌, ℕ, suc, List, [], ◌∷◌, ◌++◌, length, map, take, subst, length-append}
 use Rattle.std.specs.Prelude.{Ok, Err}
 use Rattle.std.proofs.Math.Seq.{take-length}
 use Rattle.std.proofs.lemmas.List.{take_at, length-take-le}
@@ -14,8 +14,9 @@ use Rattle.gtd_schedule.proofs.SpanFacts.{carries_none, carries_one, carries_sho
 use Rattle.gtd_schedule.proofs.schedule.put_spans.Goals as goal
 
 -- the bytes of a line, from the head and the rest
-whole_line : (e : ℕ) (d : Direction) (v : ℕ) (x : Interval) (head line : List ℕ) → head ≡ line_head e d v → line ≡ head ++ span_text x → line ≡ span_line e d v x
-whole_line e d v x head line begins is = is ∙ ap (λ (h : List ℕ). h ++ span_text x) begins ∙ line_parts e d v x
+whole_line : (e : ℕ) (d : Direction) (v : ℕ) (x : Interval) (head now line : List ℕ) → head ≡ line_head e d v → now ≡ head ++ span_text x → line ≡ now
+    → line ≡ span_line e d v x
+whole_line e d v x head now line begins is same = same ∙ is ∙ ap (λ (h : List ℕ). h ++ span_text x) begins ∙ line_parts e d v x
 
 -- the front of a line stays its head
 same_head : (head line rest : List ℕ) (n : ℕ) → length head ≡ n → line ≡ head ++ rest → (n ≤ length line) × (take n line ≡ head)
@@ -82,7 +83,7 @@ put_line-requires-clause-written g c =
     let v = c.args.vehicle in
     let x = c.in-Some.span in
     let line = c.as_slice.result.now in
-    let is = whole_line e d v x (take c.len-head.result c.loop-span.line.items) line i.head (c.as_slice.ensures.value ∙ c.in_ok-write_span.ensures.line) in
+    let is = whole_line e d v x (take c.len-head.result c.loop-span.line.items) c.write_span.new.line.items line i.head c.in_ok-write_span.ensures.line c.as_slice.ensures.value in
     let short : length line ≤ 80 = rw is (length-put_line e d v x (omega arith) (omega arith)) in
     (room_written c.loop-span.progress.written c.args.progress.now.written (length (rest c.args.spans.now)) (length line) (length (rest c.next.new.self))
     (rw (c.in-Some.ensures.takes) at i.written) c.requires.written short).0
@@ -108,7 +109,7 @@ loop-span-preserved g c =
     let line = c.as_slice.result.now in
     let more = rest c.next.new.self in
     let takes = c.in-Some.ensures.takes in
-    let is = whole_line e d v x (take n now) line i.head (c.as_slice.ensures.value ∙ c.in_ok-write_span.ensures.line) in
+    let is = whole_line e d v x (take n now) c.write_span.new.line.items line i.head c.in_ok-write_span.ensures.line c.as_slice.ensures.value in
     let short : length line ≤ 80 = rw is (length-put_line e d v x (omega arith) (omega arith)) in
     let kept = same_head (take n now) c.write_span.new.line.items (span_text x) n (long_head n now i.room) c.in_ok-write_span.ensures.line in
     let put = c.in_ok-put_line.ensures in
@@ -143,7 +144,7 @@ returns-in_err-put_line-clause-puts g c =
     let x = c.in-Some.span in
     let line = c.as_slice.result.now in
     let more = rest c.next.new.self in
-    let is = whole_line e d v x (take c.len-head.result c.loop-span.line.items) line i.head (c.as_slice.ensures.value ∙ c.in_ok-write_span.ensures.line) in
+    let is = whole_line e d v x (take c.len-head.result c.loop-span.line.items) c.write_span.new.line.items line i.head c.in_ok-write_span.ensures.line c.as_slice.ensures.value in
     let put = c.in_err-put_line.ensures in
     let a = g.O.Output.taken c.args.output.now in
     let b = g.O.Output.taken c.loop-span.output in

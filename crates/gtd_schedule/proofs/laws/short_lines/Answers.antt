@@ -1,0 +1,5 @@
+use Rattle.gtd_schedule.proofs.ShortLines.{short_lines}
+use Rattle.gtd_schedule.proofs.laws.short_lines.Goals as goal
+
+pub returns : goal.returns
+returns c = record { short = short_lines }

@@ -1,0 +1,5 @@
+use Rattle.gtd_schedule.proofs.SomeSchedule.{some_schedule}
+use Rattle.gtd_schedule.proofs.laws.some_schedule.Goals as goal
+
+pub returns : goal.returns
+returns c = record { some = some_schedule }
