@@ -6,12 +6,14 @@
 #![tactic(auto)]
 
 pub use device::{Input, Output, Pull, Put};
-pub use host::{Host, HostOut};
+pub use host::Host;
+pub use host_out::HostOut;
 pub use memory::{MemoryIn, MemoryOut};
 pub use whole::{InputFault, read_whole};
 
 mod device;
 mod host;
+mod host_out;
 mod memory;
 #[cfg(test)]
 mod tests;

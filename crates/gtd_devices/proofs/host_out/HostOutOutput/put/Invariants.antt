@@ -1,6 +1,6 @@
 use Rattle.std.proofs.Common.{◌≡◌}
 use Rattle.std.specs.Io.KnownBytes.{Keeps}
-use Rattle.gtd_devices.proofs.host.HostOutOutput.put.Given as goal
+use Rattle.gtd_devices.proofs.host_out.HostOutOutput.put.Given as goal
 
 -- an interrupted write took nothing
 abbrev pub invariant-loop : goal.invariant-loop
