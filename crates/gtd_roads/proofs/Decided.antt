@@ -68,7 +68,8 @@ module _ (P : Restriction → Type 0) (decided : (r : Restriction) → Decided (
 module _ (found : List Restriction) (element : ℕ) (direction : Direction) (vehicle : ℕ) where
   closes : (s : ℤ) (r : Restriction) → Decided (Closes element direction vehicle s r)
   closes s r =
-      elim (both _ _ (same_number r.element element) (both _ _ (both _ _ (closes_direction r.closed direction) (serves r.vehicles vehicle)) (holds_at r.domain s))) [
+      let concerns = both _ _ (closes_direction r.closed direction) (serves r.vehicles vehicle) in
+      elim (both _ _ (same_number r.element element) (both _ _ concerns (holds_at r.domain s))) [
         | inl h ↦ inl (record { names = h.0; concerns = h.1.0; holds = h.1.1 })
         | inr never ↦ inr (λ h. never (h.names, (h.concerns, h.holds)))
       ]

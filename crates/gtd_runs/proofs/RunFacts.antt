@@ -8,7 +8,8 @@ use Rattle.gtd_roads.specs.Reading.{IsOfFile}
 use Rattle.gtd_roads.specs.Restriction.{Restriction}
 use Rattle.gtd_roads.specs.declared.fault.RecordFault.{RecordFault}
 use Rattle.gtd_runs.specs.Putting.{Puts, PutsText, answer_of, failures_after_stop, nothing_put, text_of}
-use Rattle.gtd_runs.specs.Run.{AcceptedFilesArePut, HasRun, IsUnhindered, PutsWhole, RefusedFilesPutNothing, TookFirst, TookFirstOf, UnacceptedFilesPutNothing, failures_after_write}
+use Rattle.gtd_runs.specs.Run.{AcceptedFilesArePut, HasRun, IsUnhindered, PutsWhole, RefusedFilesPutNothing, TookFirst, TookFirstOf, failures_after_write}
+use Rattle.gtd_runs.specs.Run.{UnacceptedFilesPutNothing}
 use Rattle.gtd_runs.specs.declared.fault.RunFault.{RunFault}
 use Rattle.gtd_runs.specs.declared.fault.RunFault.TheVariants as fault
 use Rattle.gtd_runs.specs.declared.putting.Progress.{Progress}
@@ -109,8 +110,8 @@ module _ (IsAccepted : List Restriction → Type 0) (IsText : List Restriction �
   refused_put_nothing (Err (fault.NoMemory n)) (Some bytes) old new vehicle year run = λ free. absurd free
 
   -- the third claim, of what a run did
-  pub unaccepted_put_nothing : (answer : Result ℕ RunFault) (file old new : Option (List ℕ)) → answer ≢ Err fault.VehicleRange → answer ≢ Err fault.YearRange
-      → HasRun IsAccepted IsText file old new answer → UnacceptedFilesPutNothing IsAccepted file old new answer
+  pub unaccepted_put_nothing : (answer : Result ℕ RunFault) (file old new : Option (List ℕ))
+      → answer ≢ Err fault.VehicleRange → answer ≢ Err fault.YearRange → HasRun IsAccepted IsText file old new answer → UnacceptedFilesPutNothing IsAccepted file old new answer
   unaccepted_put_nothing answer None old new vehicle year run = λ free. tt
   unaccepted_put_nothing (Ok count) (Some bytes) old new vehicle year run = λ free found file never.
       absurd (never (subst IsAccepted (same_found bytes run.found found run.file file) run.accepted))

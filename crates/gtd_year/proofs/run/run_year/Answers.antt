@@ -85,7 +85,9 @@ returns-clause-accepted g c = λ vehicle year.
     let new = g.O.Output.taken c.put_year-put.new.output in
     let put = c.put_year-put.result in
     let progress = c.put_year-put.new.progress in
-    rw c.answer.ensures.value (accepted_are_put names table (answer_of put progress) file old new (not_vehicle put progress) (not_year put progress) (rw c.answer.ensures.value at (returns-clause-stands g c)))
+    let run = rw c.answer.ensures.value at (returns-clause-stands g c) in
+    rw c.answer.ensures.value (accepted_are_put names table (answer_of put progress) file old new
+    (not_vehicle put progress) (not_year put progress) run)
 
 pub returns-clause-refused : goal.returns-clause-refused
 returns-clause-refused g c = λ vehicle year.
@@ -97,7 +99,9 @@ returns-clause-refused g c = λ vehicle year.
     let new = g.O.Output.taken c.put_year-put.new.output in
     let put = c.put_year-put.result in
     let progress = c.put_year-put.new.progress in
-    rw c.answer.ensures.value (refused_put_nothing names table (answer_of put progress) file old new (not_vehicle put progress) (not_year put progress) (rw c.answer.ensures.value at (returns-clause-stands g c)))
+    let run = rw c.answer.ensures.value at (returns-clause-stands g c) in
+    rw c.answer.ensures.value (refused_put_nothing names table (answer_of put progress) file old new
+    (not_vehicle put progress) (not_year put progress) run)
 
 pub returns-clause-unnamed : goal.returns-clause-unnamed
 returns-clause-unnamed g c = λ vehicle year.
@@ -109,4 +113,6 @@ returns-clause-unnamed g c = λ vehicle year.
     let new = g.O.Output.taken c.put_year-put.new.output in
     let put = c.put_year-put.result in
     let progress = c.put_year-put.new.progress in
-    rw c.answer.ensures.value (unaccepted_put_nothing names table (answer_of put progress) file old new (not_vehicle put progress) (not_year put progress) (rw c.answer.ensures.value at (returns-clause-stands g c)))
+    let run = rw c.answer.ensures.value at (returns-clause-stands g c) in
+    rw c.answer.ensures.value (unaccepted_put_nothing names table (answer_of put progress) file old new
+    (not_vehicle put progress) (not_year put progress) run)
