@@ -1,5 +1,12 @@
-//! Tests that cross crates: what each command line prints, or how it is refused.
+//! Tests that cross crates: what each command line prints, or how it is refused; what the runs put of record files, and
+//! what stands where a device fails.
 #![tactic(auto)]
 
+#[cfg(test)]
+mod devices;
+#[cfg(test)]
+mod job;
+#[cfg(test)]
+mod runs;
 #[cfg(test)]
 mod tests;

@@ -1,0 +1,267 @@
+//! Runs over devices that fail, fall silent or take little at a time.
+
+ghost use Rattle.std.specs.Prelude.{◌≡◌, ◌<◌};
+
+use crate::job::{APRIL, Job, LEAP_YEAR, R, input, run};
+use gtd_roads::{HostOut, Input, MemoryIn, MemoryOut, Pull, RecordFault};
+use gtd_runs::RunFault;
+use std::alloc::Global;
+use std::io;
+use std::io::{Error, ErrorKind, Write};
+use std::process::Abort;
+use std::test::Fail;
+
+static JOBS: [Job; 3] = [APRIL, LEAP_YEAR, Job::Migrate];
+
+// What a run over a sound file puts, with ample memory and devices that do not fail.
+fn whole(rt: &impl Abort, alloc: Global, job: Job) -> (u64, Vec<u8>) {
+    let mut input = input(rt, alloc, R.as_bytes(), None, None);
+    let mut output = MemoryOut::new(alloc, 10_000, 10_000, None).expect(rt, "memory");
+    match run(rt, alloc, job, &mut input, &mut output) {
+        Ok(count) => (
+            count,
+            Vec::from_slice(alloc, output.bytes()).expect(rt, "memory"),
+        ),
+        Err(_) => panic!(rt; "refused"),
+    }
+}
+
+#[test]
+fn inputs_that_fail_or_fall_silent(rt: HostRuntime) {
+    let alloc = rt.alloc();
+    for job in JOBS {
+        let (count, _) = whole(&rt, alloc, job);
+        for call in 1u64..16 {
+            let mut failing = input(&rt, alloc, R.as_bytes(), Some(call), None);
+            let mut output = MemoryOut::new(alloc, 10_000, 10_000, None).expect(&rt, "memory");
+            let answer = run(&rt, alloc, job, &mut failing, &mut output);
+            if call == 15 {
+                assert_eq!(rt; answer, Ok(count));
+                assert_eq!(rt; failing.failures(), 0);
+            } else {
+                assert_eq!(rt; answer, Err(RunFault::Records(RecordFault::ReadFault)));
+                assert_eq!(rt; failing.failures(), 1);
+                assert!(rt; output.bytes().is_empty());
+            }
+        }
+        for call in 1u64..16 {
+            let mut silent = input(&rt, alloc, R.as_bytes(), None, Some(call));
+            let mut output = MemoryOut::new(alloc, 10_000, 10_000, None).expect(&rt, "memory");
+            let answer = run(&rt, alloc, job, &mut silent, &mut output);
+            assert_eq!(rt; silent.failures(), 0);
+            if call == 15 {
+                assert_eq!(rt; answer, Ok(count));
+            } else {
+                assert_eq!(rt; answer, Err(RunFault::Records(RecordFault::Endless)));
+                assert!(rt; output.bytes().is_empty());
+            }
+        }
+    }
+}
+
+// How many bytes were taken before the call of this number, where calls take 5 bytes of a line at most; with no such call
+// before the end, how many there are.
+fn taken_before(text: &[u8], call: u64) -> (usize, u64) {
+    let mut taken = 0usize;
+    let mut calls = 1u64;
+    for line in text.split_inclusive(|byte| *byte == b'\n') {
+        for piece in line.chunks(5) {
+            if calls == call {
+                return (taken, calls);
+            }
+            taken = taken.saturating_add(piece.len());
+            calls = calls.saturating_add(1);
+        }
+    }
+    (taken, calls)
+}
+
+// One put of the schedule fails, in its place of the table.
+#[test]
+fn outputs_that_fail_at_a_call(rt: HostRuntime) {
+    let alloc = rt.alloc();
+    let (count, text) = whole(&rt, alloc, APRIL);
+    assert_eq!(rt; count, 3);
+    assert_eq!(rt; text.len(), 147);
+    for call in 1u64..33 {
+        let written = match call {
+            1..=8 => 5 * (call - 1),
+            9..=19 => 37 + 5 * (call - 9),
+            20..=30 => 92 + 5 * (call - 20),
+            _ => 147,
+        };
+        let mut input = input(&rt, alloc, R.as_bytes(), None, None);
+        let mut output = MemoryOut::new(alloc, 1_000, 5, Some(call)).expect(&rt, "memory");
+        let answer = run(&rt, alloc, APRIL, &mut input, &mut output);
+        let whole = if call == 32 {
+            Ok(3)
+        } else {
+            Err(RunFault::WriteFault { written })
+        };
+        assert_eq!(rt; answer, whole, "call {call}");
+        assert_eq!(rt; output.bytes(), &text[..(written as usize).min(text.len())]);
+    }
+}
+
+// The same for each run, by the rule: a line is offered whole, then what is left of it, and the end comes last.
+#[test]
+fn each_run_stops_at_the_first_failure(rt: HostRuntime) {
+    let alloc = rt.alloc();
+    for job in JOBS {
+        let (count, text) = whole(&rt, alloc, job);
+        let (_, end) = taken_before(text.as_slice(), 0);
+        let calls = [1, 2, 3, 7, 8, 9, 17, 18, end.saturating_sub(1), end];
+        for call in calls {
+            let (taken, _) = taken_before(text.as_slice(), call);
+            let mut input = input(&rt, alloc, R.as_bytes(), None, None);
+            let mut output = MemoryOut::new(alloc, 10_000, 5, Some(call)).expect(&rt, "memory");
+            let answer = run(&rt, alloc, job, &mut input, &mut output);
+            let written = taken as u64;
+            assert_eq!(rt;
+                answer,
+                Err(RunFault::WriteFault { written }),
+                "call {call}"
+            );
+            assert_eq!(rt; output.bytes(), &text[..taken.min(text.len())]);
+        }
+        let mut input = input(&rt, alloc, R.as_bytes(), None, None);
+        let after = end.saturating_add(1);
+        let mut output = MemoryOut::new(alloc, 10_000, 5, Some(after)).expect(&rt, "memory");
+        assert_eq!(rt; run(&rt, alloc, job, &mut input, &mut output), Ok(count));
+    }
+}
+
+#[test]
+fn outputs_with_too_little_room(rt: HostRuntime) {
+    let alloc = rt.alloc();
+    for job in JOBS {
+        let (count, text) = whole(&rt, alloc, job);
+        for room in 0..text.len().min(200) {
+            let mut input = input(&rt, alloc, R.as_bytes(), None, None);
+            let mut output = MemoryOut::new(alloc, room, 10_000, None).expect(&rt, "memory");
+            let answer = run(&rt, alloc, job, &mut input, &mut output);
+            let written = room as u64;
+            assert_eq!(rt; answer, Err(RunFault::WriteFault { written }));
+            assert_eq!(rt; output.bytes(), &text[..room.min(text.len())]);
+        }
+        let mut input = input(&rt, alloc, R.as_bytes(), None, None);
+        let mut output = MemoryOut::new(alloc, text.len(), 1, None).expect(&rt, "memory");
+        assert_eq!(rt; run(&rt, alloc, job, &mut input, &mut output), Ok(count));
+        assert_eq!(rt; output.bytes(), text.as_slice());
+    }
+}
+
+// Silent for so many pulls before each that gives bytes or the end.
+#[derive(Drop)]
+struct Slow {
+    inner: MemoryIn,
+    silent: u32,
+    left: u32,
+}
+
+impl Input for Slow {
+    ghost failure_count = { λ slow. ⟦<MemoryIn as Input>⟧.failure_count slow.inner };
+
+    fn pull(&mut self, into: &mut [u8]) -> Pull {
+        if self.left > 0 {
+            self.left -= 1;
+            return Pull::Got(0);
+        }
+        self.left = self.silent;
+        self.inner.pull(into)
+    }
+
+    fn failures(&self) -> u64 {
+        self.inner.failures()
+    }
+}
+
+// Silent for ever, and counts its pulls.
+#[derive(Drop)]
+struct Mute {
+    pulls: u64,
+}
+
+impl Input for Mute {
+    ghost failure_count = { λ _. 0 };
+
+    fn pull(&mut self, into: &mut [u8]) -> Pull {
+        self.pulls = self.pulls.saturating_add(1);
+        Pull::Got(0)
+    }
+
+    fn failures(&self) -> u64 {
+        0
+    }
+}
+
+#[test]
+fn silence_ends_a_run_at_its_thousandth_pull(rt: HostRuntime) {
+    let alloc = rt.alloc();
+    for job in JOBS {
+        let (count, text) = whole(&rt, alloc, job);
+        let inner = input(&rt, alloc, R.as_bytes(), None, None);
+        let mut slow = Slow {
+            inner,
+            silent: 999,
+            left: 999,
+        };
+        let mut output = MemoryOut::new(alloc, 10_000, 10_000, None).expect(&rt, "memory");
+        assert_eq!(rt; run(&rt, alloc, job, &mut slow, &mut output), Ok(count));
+        assert_eq!(rt; output.bytes(), text.as_slice());
+
+        let mut mute = Mute { pulls: 0 };
+        let mut output = MemoryOut::new(alloc, 10_000, 10_000, None).expect(&rt, "memory");
+        let answer = run(&rt, alloc, job, &mut mute, &mut output);
+        assert_eq!(rt; answer, Err(RunFault::Records(RecordFault::Endless)));
+        assert_eq!(rt; mute.pulls, 1000);
+        assert!(rt; output.bytes().is_empty());
+    }
+}
+
+// A writer that is interrupted so often before each write, and at its flush where it is told to.
+#[derive(Drop)]
+struct Busy {
+    interruptions: u32,
+    left: u32,
+    flushes: bool,
+}
+
+impl Write for Busy {
+    fn write(&mut self, bytes: &[u8]) -> io::Result<usize> {
+        if self.left > 0 {
+            self.left -= 1;
+            return Err(Error::from(ErrorKind::Interrupted));
+        }
+        self.left = self.interruptions;
+        Ok(bytes.len())
+    }
+
+    fn flush(&mut self) -> io::Result<()> {
+        if self.flushes {
+            Ok(())
+        } else {
+            Err(Error::from(ErrorKind::Interrupted))
+        }
+    }
+}
+
+#[test]
+fn writers_that_are_interrupted(rt: HostRuntime) -> Result<(), Fail> {
+    let alloc = rt.alloc();
+    let table: [(u32, bool, Result<u64, RunFault>); 3] = [
+        (999, true, Ok(3)),
+        (u32::MAX, true, Err(RunFault::WriteFault { written: 0 })),
+        (0, false, Err(RunFault::WriteFault { written: 147 })),
+    ];
+    for (interruptions, flushes, expected) in table {
+        let mut input = input(&rt, alloc, R.as_bytes(), None, None);
+        let mut output = HostOut::new(Busy {
+            interruptions,
+            left: interruptions,
+            flushes,
+        });
+        assert_eq!(rt; run(&rt, alloc, APRIL, &mut input, &mut output), expected);
+    }
+    Ok(())
+}
