@@ -4,10 +4,12 @@
 
 mod arguments;
 pub mod laws;
+mod lending;
 mod performing;
 mod planning;
 mod plans;
 mod refusal;
+mod running;
 mod writing;
 
 pub use performing::perform;
