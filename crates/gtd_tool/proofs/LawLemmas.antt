@@ -1,6 +1,6 @@
 -- A command line has one answer.
-use Rattle.std.proofs.Common.{◌≡◌, ◌∙◌, ◌⊎◌, inl, inr, List, [], ◌∷◌, codes, Option, Some, None, is_some, refl, sym, ap, ap₂, subst, true≢false, arith, ℕ}
-use Rattle.std.specs.Prelude.{unwrap_or, option_map, Result, Ok, Err, IfOk, IfErr, MatchResult, ℤ, pos, negsuc, ◌≤ℤ◌, ◌<ℤ◌, ◌-ℤ◌, ◌*ℤ◌, is_ok}
+use Rattle.std.proofs.Common.{◌≡◌, ◌∙◌, inl, inr, List, [], ◌∷◌, codes, Option, Some, None, is_some, refl, sym, ap, ap₂, subst, true≢false, arith, ℕ}
+use Rattle.std.specs.Prelude.{unwrap_or, option_map, Result, Ok, Err, ℤ, is_ok}
 use Rattle.std.proofs.lemmas.Int.{ints}
 use Rattle.gtd_core.specs.Trees.{Tree, Single, Joined}
 use Rattle.gtd_core.specs.Horizons.{IsHorizon, IsFault as IsFaultOfHorizon}
@@ -9,20 +9,17 @@ use Rattle.gtd_core.specs.declared.horizon.HorizonFault.TheVariants.{Empty, TooE
 use Rattle.gtd_core.specs.Whole.{from_day, to_day}
 use Rattle.gtd_core.specs.declared.horizon.Horizon.{Horizon}
 use Rattle.gtd_core.specs.declared.second.Sec.{Sec}
-use Rattle.gtd_core.specs.declared.fault.TextFault.{TextFault}
 use Rattle.gtd_text.specs.Canonical.{canonical}
-use Rattle.gtd_text.specs.Reading.{StandsFor, IsFault}
 use Rattle.gtd_text.proofs.OneMeaning.{one_meaning}
 use Rattle.gtd_text.proofs.ReadingLaws.{one_fault}
 use Rattle.gtd_calendar.specs.Clock.{day_of_second}
 use Rattle.gtd_calendar.specs.Read.{date_in, stamp_in}
-use Rattle.gtd_calendar.specs.declared.stamp.StampFault.{StampFault}
 use Rattle.gtd_roads.specs.Columns.{direction_of, number_of}
 use Rattle.gtd_roads.specs.declared.direction.Direction.{Direction}
 use Rattle.gtd_tool.specs.CommandLines.{Text, Command, command_in}
 use Rattle.gtd_tool.specs.CommandLines as command
-use Rattle.gtd_tool.specs.Plans.{Asked, AsksFor, Check, Canon, At, Next, Ever, Schedule, Year, Migrate, IsDomain, IsRead, AreDomainAndMoment, AreYearWords, IsHorizonOf, IsHorizonTo, IsNumberUpTo, at_most}
-use Rattle.gtd_tool.specs.Refusals.{Part, NumberPart, DirectionPart, DomainPart, MomentPart, DatePart, HorizonPart, DaysPart, parts_of, AreNoHorizon, IsNoHorizon, IsFaultOf, IsFaultless, IsFirstFault, HasFault, IsRefusalOf}
+use Rattle.gtd_tool.specs.Plans.{Asked, AsksFor, Check, Canon, At, Next, Ever, Schedule, Year, IsDomain, IsRead, AreDomainAndMoment, IsHorizonOf, IsNumberUpTo, at_most}
+use Rattle.gtd_tool.specs.Refusals.{Part, NumberPart, DirectionPart, DomainPart, MomentPart, DatePart, HorizonPart, DaysPart, parts_of, IsFaultOf, IsFaultless, IsFirstFault, IsRefusalOf}
 use Rattle.gtd_tool.specs.declared.refusal.Refusal.{Refusal}
 use Rattle.gtd_tool.specs.declared.refusal.Refusal.TheVariants as refusal
 use Rattle.gtd_tool.proofs.HorizonLemmas.{same_horizon}

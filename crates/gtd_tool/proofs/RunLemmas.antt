@@ -1,7 +1,7 @@
 -- What a command that reads a record file did, from what its run did.
-use Rattle.std.proofs.Common.{◌≡◌, ◌∙◌, ℕ, List, [], ◌++◌, Bool, true, false, Option, Some, None, refl, sym, ap, subst, take, drop, take-append-drop, true≢false}
-use Rattle.std.specs.Prelude.{◌≢◌, ⊤, IfSome, IfErr, IsOk, IsErrOf, MatchOption, OnErr, OnOk, Result, Ok, Err, codes}
-use Rattle.std.specs.Io.KnownBytes.{Appends, Keeps}
+use Rattle.std.proofs.Common.{◌≡◌, ◌∙◌, inl, inr, ℕ, List, [], Bool, Option, Some, None, refl, sym, ap, subst, take, drop, take-append-drop}
+use Rattle.std.specs.Prelude.{◌≢◌, ⊤, IfSome, IfErr, IsOk, MatchOption, OnErr, Result, Ok, Err}
+use Rattle.std.specs.Io.KnownBytes.{Keeps}
 use Rattle.std.proofs.KnownBytes.{Appends-kept, Appends-nil}
 use Rattle.gtd_roads.proofs.OneAnswer.{one_file}
 use Rattle.gtd_roads.specs.File.{IsFile}
@@ -14,8 +14,8 @@ use Rattle.gtd_runs.specs.Putting.{text_of}
 use Rattle.gtd_runs.specs.Run.{HasRun, TookFirst, IsUnhindered as IsRunUnhindered, failures_after_read}
 use Rattle.gtd_runs.specs.declared.fault.RunFault.{RunFault}
 use Rattle.gtd_runs.specs.declared.fault.RunFault.TheVariants as run
-use Rattle.gtd_tool.specs.Plans.{Asked, file_of}
-use Rattle.gtd_tool.specs.Running.{AppendsTextOf, IfAlone, IfFile, IfRead, IsAccepted, IsLacking, IsPartOfLine, IsPartOfText, IsPartPrinted, IsText, IsUnhindered, IsVehicleInRange, IsYearInRange, Ran, ReadsFile, failures_after, outcome_of, refusal_for}
+use Rattle.gtd_tool.specs.Plans.{Asked}
+use Rattle.gtd_tool.specs.Running.{AppendsTextOf, IsAccepted, IsLacking, IsPartOfText, IsRefusedFile, IsText, IsUnhindered, IsVehicleInRange, IsYearInRange, Ran, failures_after, outcome_of, refusal_for}
 use Rattle.gtd_tool.specs.Stops.{IsStop}
 use Rattle.gtd_tool.specs.Writing.{AppendsPart}
 use Rattle.gtd_tool.specs.declared.refusal.Refusal.{Refusal}
@@ -187,7 +187,30 @@ ran_lacking asked (Some bytes) old new silent before after result ran vehicle ye
     ran.outcome ∙ lacking_at asked (Some bytes) old new silent before after result ran.answer bytes (vehicle_fits asked (Some bytes) old new silent before after result ran vehicle)
     (year_fits asked (Some bytes) old new silent before after result ran year) (free asked (Some bytes) old new silent before after result ran h) ran.stands lack
 
+module _ (asked : Asked) (old new : Option (List ℕ)) (bytes : List ℕ) where
+  no_text : (found : List Restriction) → IsFile bytes (Ok found) → IsAccepted asked found → IsRefusedFile asked bytes → ⊥
+  no_text found is accepted (inl (why, not)) = apart bytes found why is not
+  no_text found is accepted (inr lack) = lack.2 (subst (IsAccepted asked) (same_found bytes found lack.0 is lack.1) accepted)
+
+  refused_keeps : (answer : Result ℕ RunFault) → HasRun (IsAccepted asked) (IsText asked) (Some bytes) old new answer → IsRefusedFile asked bytes → Keeps old new
+  refused_keeps (Ok count) so h = absurd (no_text so.found so.file so.accepted h)
+  refused_keeps (Err run.VehicleRange) so h = so
+  refused_keeps (Err run.YearRange) so h = so
+  refused_keeps (Err (run.Records why)) so h = so.0
+  refused_keeps (Err run.NoElement) so h = so.0
+  refused_keeps (Err (run.WriteFault n)) so h = absurd (no_text so.found so.file so.accepted h)
+  refused_keeps (Err (run.NoMemory n)) so h = absurd (no_text so.found so.file so.accepted h)
+
+pub ran_nothing : (asked : Asked) (file old new : Option (List ℕ)) (silent : Bool) (before after : ℕ) (result : Result (Unit {0}) Refusal)
+    → Ran asked file old new silent before after result → IfSome file (λ bytes. IsRefusedFile asked bytes → Keeps old new)
+ran_nothing asked None old new silent before after result ran = tt
+ran_nothing asked (Some bytes) old new silent before after result ran = refused_keeps asked old new bytes ran.answer ran.stands
+
 -- ---- with a file or without
+
+pub if_file : (o : Option (List ℕ)) (P Q : Type 0) → (P → Q) → MatchOption o ⊤ (λ path. P) → MatchOption o ⊤ (λ path. Q)
+if_file None P Q f h = tt
+if_file (Some path) P Q f h = f h
 
 -- a claim of what reads a file, of what may read one
 pub with_file : (o : Option (List ℕ)) (P Q : Type 0) → (P → Q) → MatchOption o ⊤ (λ path. P) → MatchOption o ⊥ (λ path. ⊤) → Q

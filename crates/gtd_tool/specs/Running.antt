@@ -1,7 +1,7 @@
 -- What a command that reads a record file prints, and why it is refused.
-use Rattle.std.specs.Prelude.{◌≡◌, ◌≢◌, ◌↔◌, ⊤, ℕ, ◌+◌, Bool, List, Any, Option, Some, None, IfSome, MatchOption, IsTrue, IsOk, IsErrOf}
+use Rattle.std.specs.Prelude.{◌≡◌, ◌↔◌, ◌⊎◌, ⊤, ℕ, ◌+◌, Bool, List, Any, Option, IfSome, MatchOption, IsTrue, IsErrOf}
 use Rattle.std.specs.Prelude.{Result, Ok, Err, codes, ◌++◌}
-use Rattle.std.specs.Io.KnownBytes.{Appends, Keeps}
+use Rattle.std.specs.Io.KnownBytes.{Appends}
 use Rattle.gtd_roads.specs.File.{IsFile}
 use Rattle.gtd_roads.specs.Reading.{IsOfFile}
 use Rattle.gtd_roads.specs.Restriction.{Restriction}
@@ -39,6 +39,11 @@ abbrev pub IsVehicleInRange : Asked → Type 0
 IsVehicleInRange (Schedule path horizon vehicle) = IsVehicleType vehicle
 IsVehicleInRange (Year path element direction vehicle year) = IsVehicleType vehicle
 IsVehicleInRange asked = ⊤
+
+-- An element is asked for.
+abbrev pub AsksOfElement : Asked → Type 0
+AsksOfElement (Year path element direction vehicle year) = ⊤
+AsksOfElement asked = ⊥
 
 -- If a year is asked for, it is from 1901 to 2199.
 abbrev pub IsYearInRange : Asked → Type 0
@@ -111,6 +116,10 @@ IsUnread file silent why = IfSome file (λ bytes. IsFile bytes (Err why))
 abbrev pub IsLacking : Asked → List ℕ → Type 0
 IsLacking asked bytes = (found : List Restriction) × IsFile bytes (Ok found) × (IsAccepted asked found → ⊥)
 
+-- The bytes are no record file, or one of which no text is printed.
+abbrev pub IsRefusedFile : Asked → List ℕ → Type 0
+IsRefusedFile asked bytes = ((why : RecordFault) × IsFile bytes (Err why)) ⊎ IsLacking asked bytes
+
 -- Why a command is refused while it is carried out.
 abbrev pub IsCause : Asked → Option (List ℕ) → Bool → Refusal → Type 0
 IsCause asked file silent refusal.Write = ⊤
@@ -119,7 +128,7 @@ IsCause asked file silent refusal.HasYear = AsksPastYears asked
 IsCause asked file silent refusal.VehicleRange = IsVehicleInRange asked → ⊥
 IsCause asked file silent refusal.YearRange = IsVehicleInRange asked × (IsYearInRange asked → ⊥)
 IsCause asked file silent (refusal.Records why) = ReadsFile asked × IsUnread file silent why
-IsCause asked file silent refusal.NoElement = ReadsFile asked × IfSome file (λ bytes. IsLacking asked bytes)
+IsCause asked file silent refusal.NoElement = AsksOfElement asked × IfSome file (λ bytes. IsLacking asked bytes)
 IsCause asked file silent r = ⊥
 
 -- Nothing hindered the command: neither device failed, no memory was refused, and the input was not silent for 1,000
@@ -165,5 +174,6 @@ pub record Ran (asked : Asked) (file old new : Option (List ℕ)) (silent : Bool
   pub stands : HasRun (IsAccepted asked) (IsText asked) file old new answer
   pub vehicle : IsErrOf answer run.VehicleRange ↔ (IsVehicleInRange asked → ⊥)
   pub year : IsErrOf answer run.YearRange ↔ (IsVehicleInRange asked × (IsYearInRange asked → ⊥))
+  pub element : IsErrOf answer run.NoElement → AsksOfElement asked
   pub endless : IsErrOf answer (run.Records records.Endless) → IsTrue silent
   pub failures : after ≡ failures_after_read answer before

@@ -12,7 +12,7 @@ ghost use Rattle.gtd_roads.specs.Restriction.{Restriction};
 ghost use Rattle.gtd_tool.specs.Plans.{asked_by, file_of};
 ghost use Rattle.gtd_tool.specs.Plans as asked;
 ghost use Rattle.gtd_tool.specs.Printed.{AppendsLine, AppendsPartOfLine, AsksPastYears, IsAnswer, IsChange, IsChangeOr, IsState, TakesMemory};
-ghost use Rattle.gtd_tool.specs.Running.{AppendsTextOf, IfAlone, IfFile, IfRead, IsAccepted, IsCause, IsLacking, IsPartPrinted, IsPrinted, IsVehicleInRange, IsYearInRange, Ran, failures_after};
+ghost use Rattle.gtd_tool.specs.Running.{AppendsTextOf, IfAlone, IfFile, IfRead, IsAccepted, IsCause, IsLacking, IsPartPrinted, IsPrinted, IsRefusedFile, IsVehicleInRange, IsYearInRange, Ran, failures_after};
 ghost use Rattle.gtd_tool.specs.Stops.{IsStop};
 ghost use Rattle.gtd_tool.specs.Writing.{AppendsPart, joined};
 
@@ -55,9 +55,13 @@ pub fn perform<I: Input, W: Write>(
         (found : List Restriction) → IsFile bytes (Ok found) → IsAccepted (asked_by plan.now) found
         → IsOk result × AppendsTextOf (asked_by plan.now) found
         (W.contents out.old) (W.contents out.new)) }
-    // Refused files print nothing, and their first fault is the refusal, where nothing hinders it.
+    // The first fault of a file is the refusal, where nothing hinders it.
     ensures refused { IfRead (asked_by plan.now) (I.to_come input.old) result (λ bytes.
         (why : RecordFault) → IsFile bytes (Err why) → result ≡ Err (Refusal.Records why)) }
+    // Of a refused file nothing is printed, whatever happens.
+    ensures nothing { IfFile (asked_by plan.now) (IfSome (I.to_come input.old) (λ bytes.
+        IsRefusedFile (asked_by plan.now) bytes
+        → Keeps (W.contents out.old) (W.contents out.new))) }
     // Files that do not name the element of a year's table are refused for that, where nothing hinders it.
     ensures lacking { IfRead (asked_by plan.now) (I.to_come input.old) result (λ bytes.
         IsLacking (asked_by plan.now) bytes → result ≡ Err Refusal.NoElement) }

@@ -63,6 +63,7 @@ fn put_schedule<I: Input, W: Write>(
         (I.to_come input.old) (W.contents out.old) (W.contents out.new) result }
     ensures vehicle { IsErrOf result RunFault.VehicleRange ↔ (IsVehicleType vehicle → ⊥) }
     ensures year { IsErrOf result RunFault.YearRange → ⊥ }
+    ensures element { IsErrOf result RunFault.NoElement → ⊥ }
     ensures endless { IsErrOf result (RunFault.Records RecordFault.Endless) → IsTrue (I.may_fall_silent input.old) }
     ensures read_faults { I.failure_count input.new
         ≡ failures_after_read result (I.failure_count input.old) }
@@ -107,6 +108,7 @@ fn put_migrated<I: Input, W: Write>(
         (I.to_come input.old) (W.contents out.old) (W.contents out.new) result }
     ensures vehicle { IsErrOf result RunFault.VehicleRange → ⊥ }
     ensures year { IsErrOf result RunFault.YearRange → ⊥ }
+    ensures element { IsErrOf result RunFault.NoElement → ⊥ }
     ensures endless { IsErrOf result (RunFault.Records RecordFault.Endless) → IsTrue (I.may_fall_silent input.old) }
     ensures read_faults { I.failure_count input.new
         ≡ failures_after_read result (I.failure_count input.old) }

@@ -1,6 +1,6 @@
 use Rattle.gtd_tool.specs.Plans.{asked_by, file_of}
 use Rattle.gtd_tool.proofs.AnswerLemmas.{part_of_any}
-use Rattle.gtd_tool.proofs.RunLemmas.{alone, input_failures, on_err_either, ran_accepted, ran_failures, ran_lacking, ran_part, ran_refused, with_file}
+use Rattle.gtd_tool.proofs.RunLemmas.{alone, if_file, input_failures, on_err_either, ran_accepted, ran_failures, ran_lacking, ran_nothing, ran_part, ran_refused, with_file}
 use Rattle.gtd_tool.proofs.performing.perform.Goals as goal
 
 pub returns-clause-part : goal.returns-clause-part
@@ -27,3 +27,6 @@ returns-clause-read_faults g c =
     let asked = asked_by c.args.plan.now in
     input_failures g.I.Input.failure_count (file_of asked) asked _ _ _ c.carry_out.result c.args.input.now c.carry_out.new.input _
     c.carry_out.ensures.untouched c.carry_out.ensures.stopped (ran_failures _ _ _ _ _ _ _ _) c.carry_out.ensures.ran
+
+pub returns-clause-nothing : goal.returns-clause-nothing
+returns-clause-nothing g c = if_file (file_of (asked_by c.args.plan.now)) _ _ (ran_nothing _ _ _ _ _ _ _ _) c.carry_out.ensures.ran
