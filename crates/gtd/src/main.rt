@@ -1,11 +1,14 @@
-//! `gtd` reads, checks and prints time domains.
+//! `gtd` reads, checks and prints time domains and files of road restrictions.
 //!
 //! It writes its answer to standard output and ends with status 0, or writes one line to standard error and ends with
-//! the status of its refusal: 1 where the input is refused, 2 for usage, 3 where a write or memory failed.
+//! the status of its refusal: 1 where the input is refused, 2 for usage, 3 where opening, reading, writing or memory
+//! failed.
 #![tactic(auto)]
 
-use gtd_tool::{Refusal, perform, plan};
-use std::io::{BufWriter, ErrorKind};
+use gtd_devices::Host;
+use gtd_tool::{Plan, Refusal, perform, plan};
+use std::fs::File;
+use std::io::{BufWriter, ErrorKind, Read};
 use std::process::ExitCode;
 use std::{env, io};
 
@@ -21,10 +24,27 @@ fn words_of(rt: &HostRuntime) -> Result<Vec<String>, Refusal> {
         .map_err(|_| Refusal::Memory)
 }
 
+// The record file at the path.
+fn open(rt: &HostRuntime, path: &str) -> Result<File, Refusal> {
+    File::open(rt, path).map_err(|error| match error.kind() {
+        ErrorKind::OutOfMemory => Refusal::Memory,
+        _ => Refusal::Open,
+    })
+}
+
+// Carries the plan out, from a reader to standard output.
+fn print<R: Read + Drop>(rt: &HostRuntime, plan: &Plan, reader: R) -> Result<(), Refusal> {
+    let mut input = Host::new(reader);
+    let mut out = BufWriter::new(rt.alloc(), io::writer(rt)).map_err(|_| Refusal::Memory)?;
+    perform(rt.alloc(), plan, &mut input, &mut out)
+}
+
 fn run(rt: &HostRuntime) -> Result<(), Refusal> {
     let plan = plan(rt.alloc(), words_of(rt)?)?;
-    let mut out = BufWriter::new(rt.alloc(), io::writer(rt)).map_err(|_| Refusal::Memory)?;
-    perform(rt.alloc(), &plan, &mut out)
+    match plan.file() {
+        Some(path) => print(rt, &plan, open(rt, path)?),
+        None => print(rt, &plan, io::empty()),
+    }
 }
 
 fn main(rt: HostRuntime) -> ExitCode {

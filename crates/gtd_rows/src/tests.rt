@@ -1,6 +1,7 @@
 //! Tables of command lines, over `plan` and `perform`.
 
 use gtd_core::{Fault, TextFault};
+use gtd_devices::MemoryIn;
 use gtd_tool::{Refusal, perform, plan};
 use std::alloc::{AllocError, Global};
 use std::io;
@@ -302,9 +303,9 @@ static NO_COMMANDS: [&[&str]; 46] = [
     &["--version"],
     &["-V"],
     // Commands that do not exist.
-    &["schedule", "roads.csv", "2024-04-01", "2024-04-02", "11"],
-    &["year", "roads.csv", "17", "positive", "11", "2024"],
-    &["migrate", "roads.csv"],
+    &["schedules", "roads.csv", "2024-04-01", "2024-04-02", "11"],
+    &["Year", "roads.csv", "17", "positive", "11", "2024"],
+    &["open", "roads.csv"],
     // Too few words, and too many, whatever they say.
     &["at", "[(h1){h1}]"],
     &["at", "[(h25){h1}]", "2024-01-01T00:00:00", "2024-01-02"],
@@ -326,7 +327,9 @@ fn owned(alloc: Global, words: &[&str]) -> Result<Vec<String>, AllocError> {
 fn carry_out<W: Write>(alloc: Global, words: &[&str], out: &mut W) -> Result<(), Refusal> {
     let words = owned(alloc, words).map_err(|_| Refusal::Memory)?;
     let plan = plan(alloc, words)?;
-    perform(alloc, &plan, out)
+    // None of these commands reads a file.
+    let mut input = MemoryIn::new(Vec::new(alloc), 1, None, None);
+    perform(alloc, &plan, &mut input, out)
 }
 
 // The command line prints this text and the end of its line.

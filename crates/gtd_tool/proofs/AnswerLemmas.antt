@@ -1,6 +1,6 @@
 -- What is printed of a domain.
-use Rattle.std.proofs.Common.{◌≡◌, ◌∙◌, ◌⊎◌, inl, inr, ℕ, List, [], ◌∷◌, ◌++◌, codes, Option, Some, None, sym, ap, subst, arith, append_assoc, ◌<◌}
-use Rattle.std.specs.Prelude.{Result, Ok, Err, OnOk, OnErr, IfErr, IfSome, MatchOption, ◌↔◌, ℤ, pos, neg_ℤ, ◌+ℤ◌, ◌-ℤ◌, ◌*ℤ◌, ◌≤ℤ◌, ◌<ℤ◌}
+use Rattle.std.proofs.Common.{◌≡◌, ◌∙◌, inl, inr, ℕ, List, ◌++◌, codes, Option, Some, None, sym, ap, subst, arith, append_assoc, ◌<◌}
+use Rattle.std.specs.Prelude.{Result, Ok, Err, OnOk, OnErr, IfErr, IfSome, MatchOption, ◌↔◌, ℤ, pos, ◌+ℤ◌, ◌-ℤ◌, ◌*ℤ◌, ◌≤ℤ◌, ◌<ℤ◌}
 use Rattle.std.specs.Io.KnownBytes.{Appends}
 use Rattle.std.proofs.lemmas.Int.{ints, by_lt_z}
 use Rattle.gtd_core.specs.Trees.{Tree}
@@ -14,7 +14,7 @@ use Rattle.gtd_recur.specs.Membership.{IsHorizonSecond}
 use Rattle.gtd_eval.specs.Ever.{NeverChangesAfter, IsFirstChange, IsMomentSecond, cycle}
 use Rattle.gtd_eval.specs.Membership.{InTree, SomeGivesYear}
 use Rattle.gtd_eval.proofs.Repeats.{tree-repeats, first-of-next}
-use Rattle.gtd_tool.specs.Plans.{Asked, Check, Canon, At, Next, Ever}
+use Rattle.gtd_tool.specs.Plans.{Asked, Check, Canon, At, Next, Ever, Schedule, Year, Migrate}
 use Rattle.gtd_tool.specs.Printed.{AppendsLine, AppendsPartOfLine, IsAnswer, IsChange, IsChangeOr, IsState}
 use Rattle.gtd_tool.specs.Stops.{IsStop}
 use Rattle.gtd_tool.specs.Writing.{AppendsPart}
@@ -58,6 +58,9 @@ one_answer (Ever d m) a b (inl (t, p, x)) (inl (u, q, y)) = one_change d t u a b
 one_answer (Ever d m) a b (inl (t, p, x)) (inr q) = absurd (p.differs (q.0 t p.later))
 one_answer (Ever d m) a b (inr p) (inl (u, q, y)) = absurd (q.differs (p.0 u q.later))
 one_answer (Ever d m) a b (inr p) (inr q) = p.1 ∙ sym q.1
+one_answer (Schedule file h v) a b p q = absurd p
+one_answer (Year file e d v y) a b p q = absurd p
+one_answer (Migrate file) a b p q = absurd p
 
 -- ---- ranges
 
@@ -150,3 +153,8 @@ part_of_any asked known old new (Err (refusal.Text f)) h = absurd h
 part_of_any asked known old new (Err (refusal.Moment f)) h = absurd h
 part_of_any asked known old new (Err (refusal.Date f)) h = absurd h
 part_of_any asked known old new (Err (refusal.Horizon f)) h = absurd h
+part_of_any asked known old new (Err refusal.VehicleRange) h = absurd h
+part_of_any asked known old new (Err refusal.YearRange) h = absurd h
+part_of_any asked known old new (Err refusal.NoElement) h = absurd h
+part_of_any asked known old new (Err (refusal.Records f)) h = absurd h
+part_of_any asked known old new (Err refusal.Open) h = absurd h

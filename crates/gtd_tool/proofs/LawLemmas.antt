@@ -1,26 +1,28 @@
 -- A command line has one answer.
-use Rattle.std.proofs.Common.{◌≡◌, ◌∙◌, ◌⊎◌, inl, inr, List, [], ◌∷◌, codes, Option, Some, None, is_some, refl, sym, ap, ap₂, subst, true≢false, arith, ℕ}
-use Rattle.std.specs.Prelude.{unwrap_or, Result, Ok, Err, IfOk, IfErr, MatchResult, ℤ, pos, negsuc, ◌≤ℤ◌, ◌<ℤ◌, ◌-ℤ◌, ◌*ℤ◌, is_ok}
+use Rattle.std.proofs.Common.{◌≡◌, ◌∙◌, inl, inr, List, [], ◌∷◌, codes, Option, Some, None, is_some, refl, sym, ap, ap₂, subst, true≢false, arith, ℕ}
+use Rattle.std.specs.Prelude.{unwrap_or, option_map, Result, Ok, Err, ℤ, is_ok}
 use Rattle.std.proofs.lemmas.Int.{ints}
 use Rattle.gtd_core.specs.Trees.{Tree, Single, Joined}
 use Rattle.gtd_core.specs.Horizons.{IsHorizon, IsFault as IsFaultOfHorizon}
 use Rattle.gtd_core.specs.declared.horizon.HorizonFault.{HorizonFault}
 use Rattle.gtd_core.specs.declared.horizon.HorizonFault.TheVariants.{Empty, TooEarly, TooLate, TooLong}
+use Rattle.gtd_core.specs.Whole.{from_day, to_day}
+use Rattle.gtd_core.specs.declared.horizon.Horizon.{Horizon}
 use Rattle.gtd_core.specs.declared.second.Sec.{Sec}
-use Rattle.gtd_core.specs.declared.fault.TextFault.{TextFault}
 use Rattle.gtd_text.specs.Canonical.{canonical}
-use Rattle.gtd_text.specs.Reading.{StandsFor, IsFault}
 use Rattle.gtd_text.proofs.OneMeaning.{one_meaning}
 use Rattle.gtd_text.proofs.ReadingLaws.{one_fault}
 use Rattle.gtd_calendar.specs.Clock.{day_of_second}
 use Rattle.gtd_calendar.specs.Read.{date_in, stamp_in}
-use Rattle.gtd_calendar.specs.declared.stamp.StampFault.{StampFault}
+use Rattle.gtd_roads.specs.Columns.{direction_of, number_of}
+use Rattle.gtd_roads.specs.declared.direction.Direction.{Direction}
 use Rattle.gtd_tool.specs.CommandLines.{Text, Command, command_in}
 use Rattle.gtd_tool.specs.CommandLines as command
-use Rattle.gtd_tool.specs.Plans.{Asked, AsksFor, Check, Canon, At, Next, Ever, IsDomain, IsRead, AreDomainAndMoment, IsHorizonTo}
-use Rattle.gtd_tool.specs.Refusals.{Part, DomainPart, MomentPart, DatePart, HorizonPart, parts_of, IsNoHorizon, IsFaultOf, IsFaultless, IsFirstFault, HasFault, IsRefusalOf}
+use Rattle.gtd_tool.specs.Plans.{Asked, AsksFor, Check, Canon, At, Next, Ever, Schedule, Year, IsDomain, IsRead, AreDomainAndMoment, IsHorizonOf, IsNumberUpTo, at_most}
+use Rattle.gtd_tool.specs.Refusals.{Part, NumberPart, DirectionPart, DomainPart, MomentPart, DatePart, HorizonPart, DaysPart, parts_of, IsFaultOf, IsFaultless, IsFirstFault, IsRefusalOf}
 use Rattle.gtd_tool.specs.declared.refusal.Refusal.{Refusal}
 use Rattle.gtd_tool.specs.declared.refusal.Refusal.TheVariants as refusal
+use Rattle.gtd_tool.proofs.HorizonLemmas.{same_horizon}
 
 -- ---- results
 
@@ -40,6 +42,12 @@ one_error r x y p q = ap (error_or x) (sym p ∙ q)
 
 pub ok_or_err : {A E : Type 0} (r : Result A E) (x : A) (f : E) → r ≡ Ok x → r ≡ Err f → ⊥
 ok_or_err r x f p q = true≢false (ap is_ok (sym p ∙ q))
+
+one_some : {A : Type 0} (o : Option A) (x y : A) → o ≡ Some x → o ≡ Some y → x ≡ y
+one_some o x y p q = ap (λ (o : Option _). unwrap_or o x) (sym p ∙ q)
+
+some_or_none : {A : Type 0} (o : Option A) (x : A) → o ≡ Some x → o ≡ None → ⊥
+some_or_none o x p q = true≢false (ap is_some (sym p ∙ q))
 
 -- ---- commands
 
@@ -75,9 +83,14 @@ faultless_horizon TooEarly from to h q = omega (arith, ints, h.1, q.1)
 faultless_horizon TooLate from to h q = omega (arith, ints, h.2, q.2)
 faultless_horizon TooLong from to h q = omega (arith, ints, h.3, q.3)
 
+horizon_is : (h : Horizon) → IsHorizon (from_day h) (to_day h)
+horizon_is h = (h.not_empty, h.not_early, h.not_late, h.not_long)
+
 -- ---- parts
 
 one_fault_of : (p : Part) (r s : Refusal) → IsFaultOf p r → IsFaultOf p s → r ≡ s
+one_fault_of (NumberPart text) r s a b = a.1 ∙ sym b.1
+one_fault_of (DirectionPart text) r s a b = a.1 ∙ sym b.1
 one_fault_of (DomainPart text) r s a b = a.2 ∙ ap refusal.Text (one_fault text a.0 b.0 a.1 b.1) ∙ sym b.2
 one_fault_of (MomentPart text) r s a b = a.2 ∙ ap refusal.Moment (one_error (stamp_in text) a.0 b.0 a.1 b.1) ∙ sym b.2
 one_fault_of (DatePart text) r s a b = a.2 ∙ ap refusal.Date (one_error (date_in text) a.0 b.0 a.1 b.1) ∙ sym b.2
@@ -86,6 +99,11 @@ one_fault_of (HorizonPart first second) r s (m, to, mi, ti, (f, has, is)) (n, so
     let et : to ≡ so = one_value (date_in second) to so ti si in
     let other : IsFaultOfHorizon g (day_of_second m.0) to = rw (em, et) has2 in
     is ∙ ap refusal.Horizon (one_horizon_fault f g (day_of_second m.0) to has other) ∙ sym is2
+one_fault_of (DaysPart first second) r s (from, to, fi, ti, (f, has, is)) (other, so, oi, si, (g, has2, is2)) =
+    let ef : from ≡ other = one_value (date_in first) from other fi oi in
+    let et : to ≡ so = one_value (date_in second) to so ti si in
+    let same : IsFaultOfHorizon g from to = rw (ef, et) has2 in
+    is ∙ ap refusal.Horizon (one_horizon_fault f g from to has same) ∙ sym is2
 
 pub one_first_fault : (ps : List Part) (r s : Refusal) → IsFirstFault ps r → IsFirstFault ps s → r ≡ s
 one_first_fault [] r s a b = absurd a
@@ -111,6 +129,24 @@ horizon_faultless first second m to e d h r (n, so, ni, si, (f, has, is)) =
     let other : IsFaultOfHorizon f (day_of_second m.0) to = rw (em, et) has in
     faultless_horizon f (day_of_second m.0) to h other
 
+pub number_faultless : (text : Text) (n : ℕ) → number_of text ≡ Some n → IsFaultless (NumberPart text)
+number_faultless text n e r h = some_or_none (number_of text) n e h.0
+
+pub number_up_to_faultless : (limit : ℕ) (text : Text) (n : ℕ) → IsNumberUpTo limit text n → IsFaultless (NumberPart text)
+number_up_to_faultless limit text n e r h =
+    some_or_none (option_map (at_most limit) (number_of text)) n e (ap (option_map (at_most limit)) h.0)
+
+pub direction_faultless : (text : Text) (d : Direction) → direction_of text ≡ Some d → IsFaultless (DirectionPart text)
+direction_faultless text d e r h = some_or_none (direction_of text) d e h.0
+
+days_faultless : (first second : Text) (h : Horizon) → IsHorizonOf first second h → IsFaultless (DaysPart first second)
+days_faultless first second h d r (from, to, fi, ti, (f, has, is)) =
+    let ef : from_day h ≡ from = one_value (date_in first) (from_day h) from d.from_read fi in
+    let et : to_day h ≡ to = one_value (date_in second) (to_day h) to d.to_read ti in
+    let other : IsFaultOfHorizon f (from_day h) (to_day h) =
+    subst (λ (n : ℤ). IsFaultOfHorizon f n (to_day h)) (sym ef) (subst (λ (n : ℤ). IsFaultOfHorizon f from n) (sym et) has) in
+    faultless_horizon f (from_day h) (to_day h) (horizon_is h) other
+
 past : (p : Part) (ps : List Part) (r : Refusal) → IsFaultless p → IsFirstFault (p ∷ ps) r → IsFirstFault ps r
 past p ps r none (inl h) = absurd (none r h)
 past p ps r none (inr h) = h.1
@@ -119,6 +155,9 @@ past p ps r none (inr h) = h.1
 
 one_domain : (text : Text) (a b : Tree) → IsDomain text a → IsDomain text b → a ≡ b
 one_domain text a b p q = one_meaning text a b p.stands q.stands
+
+one_number : (limit : ℕ) (text : Text) (n m : ℕ) → IsNumberUpTo limit text n → IsNumberUpTo limit text m → n ≡ m
+one_number limit text n m p q = one_some (option_map (at_most limit) (number_of text)) n m p q
 
 one_reading : (c : Command) (a b : Asked) → IsRead c a → IsRead c b → a ≡ b
 one_reading (command.Check text) a b (x, p, is) (y, q, is2) = is ∙ ap Check (one_domain text x y p q) ∙ sym is2
@@ -132,6 +171,16 @@ one_reading (command.Next first second third) a b (x, m, t, p, h, is) (y, n, u, 
     is ∙ (ap₂ (λ (d : Tree) (s : Sec). Next d s t) trees moments ∙ ap (Next y n) days) ∙ sym is2
 one_reading (command.Ever first second) a b (x, m, p, is) (y, n, q, is2) =
     is ∙ ap₂ Ever (one_domain first x y p.domain_read q.domain_read) (one_value (stamp_in second) m n p.moment_read q.moment_read) ∙ sym is2
+one_reading (command.Schedule file first second third) a b (h, v, p, n, is) (k, w, q, m, is2) =
+    let horizons = same_horizon h k (one_value (date_in first) (from_day h) (from_day k) p.from_read q.from_read) (one_value (date_in second) (to_day h) (to_day k) p.to_read q.to_read) in
+    is ∙ ap₂ (Schedule file) horizons (one_number 255 third v w n m) ∙ sym is2
+one_reading (command.Year file first second third fourth) a b (e, d, v, y, p, is) (f, g, w, z, q, is2) =
+    let elements = one_some (number_of first) e f p.element_read q.element_read in
+    let directions = one_some (direction_of second) d g p.direction_read q.direction_read in
+    let vehicles = one_number 255 third v w p.vehicle_read q.vehicle_read in
+    let years = one_number 65535 fourth y z p.year_read q.year_read in
+    is ∙ (ap₂ (λ (n : ℕ) (x : Direction). Year file n x v y) elements directions ∙ ap₂ (Year file f g) vehicles years) ∙ sym is2
+one_reading (command.Migrate file) a b is is2 = is ∙ sym is2
 
 read_moment : (first second : Text) (x : Tree) (m : Sec) (ps : List Part) (r : Refusal) → AreDomainAndMoment first second x m
     → IsFirstFault (DomainPart first ∷ MomentPart second ∷ ps) r → IsFirstFault ps r
@@ -148,6 +197,17 @@ read_or_fault (command.Next first second third) a r (x, m, t, p, k, is) h =
     (past (DatePart third) (HorizonPart second third ∷ []) r (date_faultless third t k.date_read)
     (read_moment first second x m (DatePart third ∷ HorizonPart second third ∷ []) r p h))
 read_or_fault (command.Ever first second) a r (x, m, p, is) h = read_moment first second x m [] r p h
+read_or_fault (command.Schedule file first second third) a r (k, v, p, n, is) h =
+    past (DaysPart first second) [] r (days_faultless first second k p)
+    (past (DatePart second) (DaysPart first second ∷ []) r (date_faultless second (to_day k) p.to_read)
+    (past (DatePart first) (DatePart second ∷ DaysPart first second ∷ []) r (date_faultless first (from_day k) p.from_read)
+    (past (NumberPart third) (DatePart first ∷ DatePart second ∷ DaysPart first second ∷ []) r (number_up_to_faultless 255 third v n) h)))
+read_or_fault (command.Year file first second third fourth) a r (e, d, v, y, p, is) h =
+    past (NumberPart fourth) [] r (number_up_to_faultless 65535 fourth y p.year_read)
+    (past (NumberPart third) (NumberPart fourth ∷ []) r (number_up_to_faultless 255 third v p.vehicle_read)
+    (past (DirectionPart second) (NumberPart third ∷ NumberPart fourth ∷ []) r (direction_faultless second d p.direction_read)
+    (past (NumberPart first) (DirectionPart second ∷ NumberPart third ∷ NumberPart fourth ∷ []) r (number_faultless first e p.element_read) h)))
+read_or_fault (command.Migrate file) a r is h = h
 
 -- ---- command lines
 

@@ -16,8 +16,11 @@ pub data Command : Type 0 where
   At : (domain moment : Text) → Command
   Next : (domain moment to : Text) → Command
   Ever : (domain moment : Text) → Command
+  Schedule : (file from to vehicle : Text) → Command
+  Year : (file element direction vehicle year : Text) → Command
+  Migrate : (file : Text) → Command
 
--- The command that these words make, where it takes one, two or three.
+-- The command that these words make, where it takes one, two, three, four or five.
 abbrev pub of_one : (Text → Command) → List Text → Option Command
 of_one command (word ∷ []) = Some (command word)
 of_one command words = None
@@ -30,15 +33,35 @@ abbrev pub of_three : (Text → Text → Text → Command) → List Text → Opt
 of_three command (first ∷ second ∷ third ∷ []) = Some (command first second third)
 of_three command words = None
 
--- Each command by its name, and what it makes of its words.
-abbrev pub commands : List (Text × (List Text → Option Command))
+abbrev pub of_four : (Text → Text → Text → Text → Command) → List Text → Option Command
+of_four command (first ∷ second ∷ third ∷ fourth ∷ []) = Some (command first second third fourth)
+of_four command words = None
+
+abbrev pub of_five : (Text → Text → Text → Text → Text → Command) → List Text → Option Command
+of_five command (first ∷ second ∷ third ∷ fourth ∷ fifth ∷ []) = Some (command first second third fourth fifth)
+of_five command words = None
+
+-- Commands by their names, and what each makes of its words.
+abbrev pub Table : Type 0
+Table = List (Text × (List Text → Option Command))
+
+-- The commands that read a record file.
+abbrev pub file_commands : Table
+file_commands =
+    (codes "schedule", of_four Schedule)
+    ∷ (codes "year", of_five Year)
+    ∷ (codes "migrate", of_one Migrate)
+    ∷ []
+
+-- All commands.
+abbrev pub commands : Table
 commands =
     (codes "check", of_one Check)
     ∷ (codes "canon", of_one Canon)
     ∷ (codes "at", of_two At)
     ∷ (codes "next", of_three Next)
     ∷ (codes "ever", of_two Ever)
-    ∷ []
+    ∷ file_commands
 
 -- The names of the commands.
 abbrev pub command_names : List Text
@@ -48,10 +71,14 @@ command_names = map (λ command. command.0) commands
 abbrev pub is_command : Text → Bool
 is_command word = list_any (λ name. bytes_eq name word) command_names
 
+-- The command of this name in a table, if it takes as many words as these.
+abbrev pub named_among : Table → Text → List Text → Option Command
+named_among table name words =
+    option_and_then (λ command. command.1 words) (find (λ command. bytes_eq name command.0) table)
+
 -- The command of this name, if it takes as many words as these.
 abbrev pub command_named : Text → List Text → Option Command
-command_named name words =
-    option_and_then (λ command. command.1 words) (find (λ command. bytes_eq name command.0) commands)
+command_named = named_among commands
 
 -- The word is an option: it has two or more bytes, and the first is a hyphen.
 abbrev pub is_option : Text → Bool

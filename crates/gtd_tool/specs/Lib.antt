@@ -6,3 +6,5 @@ pub mod Plans
 pub mod Refusals
 pub mod Printed
 pub mod Stops
+pub mod Running
+pub mod Lending

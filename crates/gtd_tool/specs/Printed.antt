@@ -8,7 +8,7 @@ use Rattle.gtd_calendar.specs.Stamp.{stamp_text}
 use Rattle.gtd_spans.specs.Change.{NeverChanges, IsNextChange}
 use Rattle.gtd_eval.specs.Ever.{NeverChangesAfter, IsFirstChange}
 use Rattle.gtd_eval.specs.Membership.{InTree, SomeGivesYear}
-use Rattle.gtd_tool.specs.Plans.{Asked, Check, Canon, At, Next, Ever}
+use Rattle.gtd_tool.specs.Plans.{Asked, Check, Canon, At, Next, Ever, Schedule, Year, Migrate}
 use Rattle.gtd_tool.specs.Writing.{AppendsPart}
 
 -- The answer is the state of the domain at the second: `in` where the domain contains it, and else `out`.
@@ -27,7 +27,7 @@ IsChangeOr none domain None answer = answer ≡ none
 IsChangeOr none domain (Some t) answer = IsChange domain t.0 answer
 
 -- The answer, without the end of its line. `next` is asked for the seconds of the days before `to`, and `ever` for all
--- later ones.
+-- later ones. A command that reads a file has no such answer.
 abbrev pub IsAnswer : Asked → List ℕ → Type 0
 IsAnswer (Check domain) answer = answer ≡ codes "ok"
 IsAnswer (Canon domain) answer = answer ≡ canonical domain
@@ -38,6 +38,9 @@ IsAnswer (Next domain moment to) answer =
 IsAnswer (Ever domain moment) answer =
     ((t : ℤ) × IsFirstChange (InTree domain) moment.0 t × IsChange domain t answer)
     ⊎ (NeverChangesAfter (InTree domain) moment.0 × (answer ≡ codes "never"))
+IsAnswer (Schedule path horizon vehicle) answer = ⊥
+IsAnswer (Year path element direction vehicle year) answer = ⊥
+IsAnswer (Migrate path) answer = ⊥
 
 -- The writer's known bytes grew by one line, an answer that meets the condition.
 abbrev pub AppendsLine : (List ℕ → Type 0) → Option (List ℕ) → Option (List ℕ) → Type 0
@@ -47,13 +50,16 @@ AppendsLine is old new = (answer : List ℕ) × is answer × Appends old new (an
 abbrev pub AppendsPartOfLine : (List ℕ → Type 0) → Option (List ℕ) → Option (List ℕ) → Type 0
 AppendsPartOfLine is old new = (answer : List ℕ) × is answer × AppendsPart old new (answer ++ codes "\n")
 
--- The answer is a text that takes memory, or is found by what takes memory; it is known before any of it is written.
+-- What is printed takes memory, or is found by what takes memory.
 abbrev pub TakesMemory : Asked → Type 0
 TakesMemory (Check domain) = ⊥
 TakesMemory (Canon domain) = ⊤
 TakesMemory (At domain moment) = ⊥
 TakesMemory (Next domain moment to) = ⊤
 TakesMemory (Ever domain moment) = ⊤
+TakesMemory (Schedule path horizon vehicle) = ⊤
+TakesMemory (Year path element direction vehicle year) = ⊤
+TakesMemory (Migrate path) = ⊤
 
 -- It is asked for all later changes of a domain that gives a year, which need not repeat.
 abbrev pub AsksPastYears : Asked → Type 0
@@ -62,3 +68,6 @@ AsksPastYears (Canon domain) = ⊥
 AsksPastYears (At domain moment) = ⊥
 AsksPastYears (Next domain moment to) = ⊥
 AsksPastYears (Ever domain moment) = SomeGivesYear domain
+AsksPastYears (Schedule path horizon vehicle) = ⊥
+AsksPastYears (Year path element direction vehicle year) = ⊥
+AsksPastYears (Migrate path) = ⊥

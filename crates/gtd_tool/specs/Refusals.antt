@@ -11,19 +11,27 @@ use Rattle.gtd_calendar.specs.Clock.{day_of_second}
 use Rattle.gtd_calendar.specs.Names.{stamp_fault_name}
 use Rattle.gtd_calendar.specs.Read.{date_in, stamp_in}
 use Rattle.gtd_calendar.specs.declared.stamp.StampFault.{StampFault}
-use Rattle.gtd_tool.specs.CommandLines.{Text, Command, command_in, Check, Canon, At, Next, Ever}
+use Rattle.gtd_roads.specs.Columns.{direction_of, number_of}
+use Rattle.gtd_roads.specs.Names.{record_fault_name}
+use Rattle.gtd_roads.specs.declared.fault.RecordFault.{RecordFault}
+use Rattle.gtd_roads.specs.declared.fault.RecordFault.TheVariants as records
+use Rattle.gtd_tool.specs.CommandLines.{Text, Command, command_in, Check, Canon, At, Next, Ever, Schedule, Year, Migrate}
 use Rattle.gtd_tool.specs.declared.refusal.Refusal.{Refusal}
 use Rattle.gtd_tool.specs.declared.refusal.Refusal.TheVariants as refusal
 
--- What is read of a command's words: a word for a domain, a moment or a date, and the horizon from the day of a moment
--- up to a date, by their words.
+-- What is read of a command's words: a word for a number, a direction, a domain, a moment or a date, and, by their
+-- words, the horizon up to a date from the day of a moment or from another date.
 pub data Part : Type 0 where
+  NumberPart : (text : Text) → Part
+  DirectionPart : (text : Text) → Part
   DomainPart : (text : Text) → Part
   MomentPart : (text : Text) → Part
   DatePart : (text : Text) → Part
   HorizonPart : (moment to : Text) → Part
+  DaysPart : (from to : Text) → Part
 
--- What is read of a command, in order: its words from left to right, and then the horizon.
+-- What is read of a command, in order: its words for numbers and directions, then its other words, each from left to
+-- right, and then the horizon. The word for a file is what it is.
 abbrev pub parts_of : Command → List Part
 parts_of (Check domain) = DomainPart domain ∷ []
 parts_of (Canon domain) = DomainPart domain ∷ []
@@ -31,19 +39,30 @@ parts_of (At domain moment) = DomainPart domain ∷ MomentPart moment ∷ []
 parts_of (Next domain moment to) =
     DomainPart domain ∷ MomentPart moment ∷ DatePart to ∷ HorizonPart moment to ∷ []
 parts_of (Ever domain moment) = DomainPart domain ∷ MomentPart moment ∷ []
+parts_of (Schedule file from to vehicle) = NumberPart vehicle ∷ DatePart from ∷ DatePart to ∷ DaysPart from to ∷ []
+parts_of (Year file element direction vehicle year) =
+    NumberPart element ∷ DirectionPart direction ∷ NumberPart vehicle ∷ NumberPart year ∷ []
+parts_of (Migrate file) = []
+
+-- The days from one up to another are no horizon, and this is why.
+abbrev pub AreNoHorizon : ℤ → ℤ → Refusal → Type 0
+AreNoHorizon from to r = (fault : HorizonFault) × IsFaultOfHorizon fault from to × (r ≡ refusal.Horizon fault)
 
 -- The days from that of the moment up to this one are no horizon, and this is why.
 abbrev pub IsNoHorizon : Sec → ℤ → Refusal → Type 0
-IsNoHorizon moment to r =
-    (fault : HorizonFault) × IsFaultOfHorizon fault (day_of_second moment.0) to × (r ≡ refusal.Horizon fault)
+IsNoHorizon moment to r = AreNoHorizon (day_of_second moment.0) to r
 
 -- The refusal for the fault of a part.
 abbrev pub IsFaultOf : Part → Refusal → Type 0
+IsFaultOf (NumberPart text) r = (number_of text ≡ None) × (r ≡ refusal.Usage)
+IsFaultOf (DirectionPart text) r = (direction_of text ≡ None) × (r ≡ refusal.Usage)
 IsFaultOf (DomainPart text) r = (fault : TextFault) × IsFault text fault × (r ≡ refusal.Text fault)
 IsFaultOf (MomentPart text) r = (fault : StampFault) × (stamp_in text ≡ Err fault) × (r ≡ refusal.Moment fault)
 IsFaultOf (DatePart text) r = (fault : StampFault) × (date_in text ≡ Err fault) × (r ≡ refusal.Date fault)
 IsFaultOf (HorizonPart first second) r =
     (moment : Sec) × (to : ℤ) × (stamp_in first ≡ Ok moment) × (date_in second ≡ Ok to) × IsNoHorizon moment to r
+IsFaultOf (DaysPart first second) r =
+    (from : ℤ) × (to : ℤ) × (date_in first ≡ Ok from) × (date_in second ≡ Ok to) × AreNoHorizon from to r
 
 -- The part has no fault.
 abbrev pub IsFaultless : Part → Type 0
@@ -77,7 +96,14 @@ IsStopped parts r = (r ≡ refusal.Memory) ⊎ (IsFirstFault parts r × IsNoWant
 abbrev pub IsStoppedLine : List Text → Refusal → Type 0
 IsStoppedLine words r = (r ≡ refusal.Memory) ⊎ (IsRefusalOf words r × IsNoWant r)
 
--- The exit status: 1 where the input is refused, 2 for usage, 3 where a write or memory failed.
+-- The status for a record file that is not read: 1 for a fault of the file, 3 where the input or memory failed.
+abbrev pub records_status : RecordFault → ℕ
+records_status records.ReadFault = 3
+records_status records.Endless = 3
+records_status records.NoMemory = 3
+records_status fault = 1
+
+-- The exit status: 1 where the input is refused, 2 for usage, 3 where opening, reading, writing or memory failed.
 abbrev pub status_of : Refusal → ℕ
 status_of refusal.Usage = 2
 status_of (refusal.Text fault) = 1
@@ -85,8 +111,25 @@ status_of (refusal.Moment fault) = 1
 status_of (refusal.Date fault) = 1
 status_of (refusal.Horizon fault) = 1
 status_of refusal.HasYear = 1
+status_of refusal.VehicleRange = 1
+status_of refusal.YearRange = 1
+status_of refusal.NoElement = 1
+status_of (refusal.Records fault) = records_status fault
+status_of refusal.Open = 3
 status_of refusal.Write = 3
 status_of refusal.Memory = 3
+
+-- The fault of a record file as its line names it: a fault of a row by the number of the row and its name. The row after
+-- the most that a file may have is the one numbered 65,537.
+abbrev pub records_words : RecordFault → List ℕ
+records_words (records.FieldCount row) = codes "row " ++ decimal row ++ codes " FieldCount"
+records_words (records.Element row) = codes "row " ++ decimal row ++ codes " Element"
+records_words (records.Direction row) = codes "row " ++ decimal row ++ codes " Direction"
+records_words (records.Vehicle row) = codes "row " ++ decimal row ++ codes " Vehicle"
+records_words (records.Domain row fault) =
+    codes "row " ++ decimal row ++ codes " Domain " ++ fault_name fault.kind ++ codes " at " ++ decimal fault.place
+records_words records.TooManyRows = codes "row 65537 TooManyRows"
+records_words fault = record_fault_name fault
 
 -- The line for standard error, with its end.
 abbrev pub refusal_line : Refusal → List ℕ
@@ -97,5 +140,10 @@ refusal_line (refusal.Moment fault) = codes "fault moment " ++ stamp_fault_name 
 refusal_line (refusal.Date fault) = codes "fault date " ++ stamp_fault_name fault ++ codes "\n"
 refusal_line (refusal.Horizon fault) = codes "fault horizon " ++ horizon_fault_name fault ++ codes "\n"
 refusal_line refusal.HasYear = codes "fault HasYear\n"
+refusal_line refusal.VehicleRange = codes "fault VehicleRange\n"
+refusal_line refusal.YearRange = codes "fault YearRange\n"
+refusal_line refusal.NoElement = codes "fault NoElement\n"
+refusal_line (refusal.Records fault) = codes "fault " ++ records_words fault ++ codes "\n"
+refusal_line refusal.Open = codes "fault Open\n"
 refusal_line refusal.Write = codes "fault WriteFault\n"
 refusal_line refusal.Memory = codes "fault NoMemory\n"

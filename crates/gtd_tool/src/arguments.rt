@@ -4,7 +4,7 @@ ghost use Rattle.std.specs.Prelude.{List, ◌≡◌, ◌⊎◌, if◌then◌else
 ghost use Rattle.clap.specs.Simple.{app_of, with_subcommand};
 ghost use Rattle.clap.specs.Values.{kind_of};
 ghost use Rattle.gtd_tool.specs.ClapCommand.{HasGiven, gtd_app, is_memory, leaf_given, none_given};
-ghost use Rattle.gtd_tool.specs.CommandLines.{Text, command_in, command_named, named_in};
+ghost use Rattle.gtd_tool.specs.CommandLines.{Text, command_in, command_named, file_commands, named_among, named_in};
 ghost use Rattle.gtd_tool.specs.LineCommands.{command_of};
 
 use crate::refusal::Refusal;
@@ -38,6 +38,25 @@ pub enum CommandLine<'a> {
     Ever {
         domain: &'a str,
         moment: &'a str,
+    },
+    /// `schedule FILE FROM TO VEHICLE`
+    Schedule {
+        file: &'a str,
+        from: &'a str,
+        to: &'a str,
+        vehicle: &'a str,
+    },
+    /// `year FILE ELEMENT DIRECTION VEHICLE YEAR`
+    Year {
+        file: &'a str,
+        element: &'a str,
+        direction: &'a str,
+        vehicle: &'a str,
+        year: &'a str,
+    },
+    /// `migrate FILE`
+    Migrate {
+        file: &'a str,
     },
 }
 
@@ -75,7 +94,43 @@ fn gtd<'a>(alloc: Global) -> Result<Command<'a>, AllocError>
     let program = add_command(alloc, program, "canon")?;
     let program = add_command(alloc, program, "at")?;
     let program = add_command(alloc, program, "next")?;
-    add_command(alloc, program, "ever")
+    let program = add_command(alloc, program, "ever")?;
+    let program = add_command(alloc, program, "schedule")?;
+    let program = add_command(alloc, program, "year")?;
+    add_command(alloc, program, "migrate")
+}
+
+// The command of a name that reads a record file, if it takes as many words as these.
+fn file_line_of<'a>(name: &str, words: &[&'a str]) -> Option<CommandLine<'a>>
+    ensures { option_map command_of result
+        ≡ named_among file_commands name.now (map (λ w. w.now) words.now) }
+{
+    match name {
+        "schedule" => match words {
+            [file, from, to, vehicle] => Some(CommandLine::Schedule {
+                file,
+                from,
+                to,
+                vehicle,
+            }),
+            _ => None,
+        },
+        "year" => match words {
+            [file, element, direction, vehicle, year] => Some(CommandLine::Year {
+                file,
+                element,
+                direction,
+                vehicle,
+                year,
+            }),
+            _ => None,
+        },
+        "migrate" => match words {
+            [file] => Some(CommandLine::Migrate { file }),
+            _ => None,
+        },
+        _ => None,
+    }
 }
 
 // The command of a name, if it takes as many words as these.
@@ -103,7 +158,7 @@ fn line_of<'a>(name: &str, words: &[&'a str]) -> Option<CommandLine<'a>>
             [domain, moment] => Some(CommandLine::Ever { domain, moment }),
             _ => None,
         },
-        _ => None,
+        _ => file_line_of(name, words),
     }
 }
 

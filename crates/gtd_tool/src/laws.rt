@@ -22,7 +22,7 @@ pub fn one_answer()
         → AsksFor words a → IsRefusalOf words r → ⊥ }
 {}
 
-/// What is asked for has one answer at most.
+/// What is asked for without a record file has one answer at most.
 pub fn one_line()
     ensures answer { (asked : Asked) (a b : List ℕ) → IsAnswer asked a → IsAnswer asked b → a ≡ b }
 {}

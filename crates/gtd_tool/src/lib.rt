@@ -1,13 +1,16 @@
 //! The commands of the program `gtd`: [`plan`] reads the words after the program's name, and [`perform`] carries out
-//! what they ask for. A [`Refusal`] has its exit status and its line for standard error.
+//! what they ask for, over an input that brings the bytes of the plan's record file. A [`Refusal`] has its exit status
+//! and its line for standard error.
 #![tactic(auto)]
 
 mod arguments;
 pub mod laws;
+mod lending;
 mod performing;
 mod planning;
 mod plans;
 mod refusal;
+mod running;
 mod writing;
 
 pub use performing::perform;

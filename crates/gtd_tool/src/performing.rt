@@ -1,53 +1,106 @@
 //! Carrying a plan out.
 
-ghost use Rattle.std.specs.Prelude.{◌≡◌, ◌≢◌, ◌↔◌, ◌⊎◌, ◌++◌, ℕ, List, codes, Err, IfErr, IfOk, IfSome, MatchOption, OnErr, OnOk};
-ghost use Rattle.std.specs.Io.KnownBytes.{Appends};
+ghost use Rattle.std.specs.Prelude.{◌≡◌, ◌≢◌, ◌↔◌, ◌⊎◌, ◌<◌, ◌++◌, List, None, codes, Ok, Err, IfErr, IfOk, IsOk, IfSome, MatchOption, OnErr, OnOk};
+ghost use Rattle.std.specs.Io.KnownBytes.{Appends, Keeps};
 ghost use Rattle.gtd_core.specs.Parts.{domain_tree};
 ghost use Rattle.gtd_core.specs.Whole.{to_day};
 ghost use Rattle.gtd_eval.specs.Ever.{NeverChangesAfter, IsFirstChange};
 ghost use Rattle.gtd_eval.specs.Membership.{InDomain, SomeGivesYear};
 ghost use Rattle.gtd_recur.specs.Membership.{IsHorizonSecond};
-ghost use Rattle.gtd_tool.specs.Plans.{Asked, asked_by};
+ghost use Rattle.gtd_roads.specs.File.{IsFile};
+ghost use Rattle.gtd_roads.specs.Restriction.{Restriction};
+ghost use Rattle.gtd_tool.specs.Plans.{asked_by, file_of};
 ghost use Rattle.gtd_tool.specs.Plans as asked;
 ghost use Rattle.gtd_tool.specs.Printed.{AppendsLine, AppendsPartOfLine, AsksPastYears, IsAnswer, IsChange, IsChangeOr, IsState, TakesMemory};
+ghost use Rattle.gtd_tool.specs.Running.{AppendsTextOf, IfAlone, IfFile, IfRead, IsAccepted, IsCause, IsLacking, IsPartPrinted, IsPrinted, IsRefusedFile, IsVehicleInRange, IsYearInRange, Ran, failures_after};
 ghost use Rattle.gtd_tool.specs.Stops.{IsStop};
 ghost use Rattle.gtd_tool.specs.Writing.{AppendsPart, joined};
 
 use crate::plans::{Moment, MomentInHorizon, Plan};
 use crate::refusal::Refusal;
+use crate::running::{print_migrated, print_schedule, print_year};
 use crate::writing::{put, put_texts};
 use gtd_calendar::write_stamp;
 use gtd_core::{Domain, Sec};
 use gtd_eval::{EverFault, holds, next_change, next_change_ever};
+use gtd_roads::{Input, RecordFault};
 use gtd_text::print_domain;
 use std::alloc::Global;
 use std::io;
 use std::io::Write;
 
-/// Carries the plan out: writes what it prints, and flushes.
+/// Carries the plan out: writes what it prints, and flushes. The input brings the bytes of the plan's
+/// [`file`](Plan::file), and is left alone where it has none.
 ///
-/// `Memory`, and `HasYear` where all later changes are asked of a domain that gives a year, are answered before
-/// anything is written. Where the answer is `Write`, the writer has taken a first part of what is printed.
-pub fn perform<W: Write>(alloc: Global, plan: &Plan, out: &mut W) -> Result<(), Refusal>
-    ensures printed { OnOk result (AppendsLine (IsAnswer (asked_by plan.now))
+/// In order: `VehicleRange` where the vehicle type is not from 1 to 99; `YearRange` where the year is not from 1901 to
+/// 2199; the first fault of reading the record file (`Records`); `NoElement` where no record names the element. `HasYear`
+/// is the answer where all later changes are asked of a domain that gives a year. Nothing is written before these, nor
+/// before the record file was read and accepted. `Write` and `Memory` come as they happen, and the writer has then taken
+/// a first part of what is printed.
+pub fn perform<I: Input, W: Write>(
+    alloc: Global,
+    plan: &Plan,
+    input: &mut I,
+    out: &mut W,
+) -> Result<(), Refusal>
+    requires readable { I.failure_count input.old < u64.MAX }
+    // What is printed: an answer, or a text of the record file that the input brings.
+    ensures printed { OnOk result (IsPrinted (asked_by plan.now)
+        (I.to_come input.old) (W.contents out.old) (W.contents out.new)) }
+    // Otherwise a first part of that.
+    ensures part { OnErr result (IsPartPrinted (asked_by plan.now)
+        (I.to_come input.old) (W.contents out.old) (W.contents out.new)) }
+    // Accepted files are printed, where nothing hinders it.
+    ensures accepted { IfRead (asked_by plan.now) (I.to_come input.old) result (λ bytes.
+        (found : List Restriction) → IsFile bytes (Ok found) → IsAccepted (asked_by plan.now) found
+        → IsOk result × AppendsTextOf (asked_by plan.now) found
         (W.contents out.old) (W.contents out.new)) }
-    ensures part { OnErr result ((answer : List ℕ) → IsAnswer (asked_by plan.now) answer
-        → AppendsPart (W.contents out.old) (W.contents out.new) (answer ++ codes "\n")) }
-    ensures cause { IfErr result (λ r.
-        (r ≡ Refusal.Write) ⊎ ((r ≡ Refusal.Memory) ⊎ (r ≡ Refusal.HasYear))) }
-    ensures unwritten { IfErr result (λ r. r ≢ Refusal.Write → out.new ≡ out.old) }
-    ensures memory { IfErr result (λ r. r ≡ Refusal.Memory → TakesMemory (asked_by plan.now)) }
+    // The first fault of a file is the refusal, where nothing hinders it.
+    ensures refused { IfRead (asked_by plan.now) (I.to_come input.old) result (λ bytes.
+        (why : RecordFault) → IsFile bytes (Err why) → result ≡ Err (Refusal.Records why)) }
+    // Of a refused file nothing is printed, whatever happens.
+    ensures nothing { IfFile (asked_by plan.now) (IfSome (I.to_come input.old) (λ bytes.
+        IsRefusedFile (asked_by plan.now) bytes
+        → Keeps (W.contents out.old) (W.contents out.new))) }
+    // Files that do not name the element of a year's table are refused for that, where nothing hinders it.
+    ensures lacking { IfRead (asked_by plan.now) (I.to_come input.old) result (λ bytes.
+        IsLacking (asked_by plan.now) bytes → result ≡ Err Refusal.NoElement) }
+    // Each refusal has its cause.
+    ensures cause { IfErr result (IsCause (asked_by plan.now)
+        (I.to_come input.old) (I.may_fall_silent input.old)) }
+    ensures vehicle { (result ≡ Err Refusal.VehicleRange) ↔ (IsVehicleInRange (asked_by plan.now) → ⊥) }
+    ensures table_year { (result ≡ Err Refusal.YearRange)
+        ↔ (IsVehicleInRange (asked_by plan.now) × (IsYearInRange (asked_by plan.now) → ⊥)) }
     ensures year { (result ≡ Err Refusal.HasYear) ↔ AsksPastYears (asked_by plan.now) }
+    ensures memory { IfErr result (λ r. r ≡ Refusal.Memory → TakesMemory (asked_by plan.now)) }
+    // Any other refusal than for a failed write or for want of memory comes before anything is written.
+    ensures unwritten { IfErr result (λ r. r ≢ Refusal.Write → r ≢ Refusal.Memory
+        → Keeps (W.contents out.old) (W.contents out.new)) }
+    // A command without a file leaves the writer as it was unless a write fails, and the input in any case.
+    ensures untouched { file_of (asked_by plan.now) ≡ None
+        → (input.new ≡ input.old) × IfErr result (λ r. r ≢ Refusal.Write → out.new ≡ out.old) }
+    ensures read_faults { I.failure_count input.new
+        ≡ failures_after result (I.failure_count input.old) }
 {
-    carry_out(alloc, plan, out)
+    carry_out(alloc, plan, input, out)
 }
 
-fn carry_out<W: Write>(alloc: Global, plan: &Plan, out: &mut W) -> Result<(), Refusal>
-    ensures printed { OnOk result (AppendsLine (IsAnswer (asked_by plan.now))
-        (W.contents out.old) (W.contents out.new)) }
-    ensures stopped { IfErr result (IsStop (asked_by plan.now)
-        (W.contents out.old) (W.contents out.new) (out.new ≡ out.old)) }
+fn carry_out<I: Input, W: Write>(
+    alloc: Global,
+    plan: &Plan,
+    input: &mut I,
+    out: &mut W,
+) -> Result<(), Refusal>
+    requires readable { I.failure_count input.old < u64.MAX }
+    ensures printed { IfAlone (asked_by plan.now) (OnOk result
+        (AppendsLine (IsAnswer (asked_by plan.now)) (W.contents out.old) (W.contents out.new))) }
+    ensures stopped { IfAlone (asked_by plan.now) (IfErr result (IsStop (asked_by plan.now)
+        (W.contents out.old) (W.contents out.new) (out.new ≡ out.old))) }
     ensures year { AsksPastYears (asked_by plan.now) → result ≡ Err Refusal.HasYear }
+    ensures untouched { IfAlone (asked_by plan.now) (input.new ≡ input.old) }
+    ensures ran { IfFile (asked_by plan.now) (Ran (asked_by plan.now)
+        (I.to_come input.old) (W.contents out.old) (W.contents out.new) (I.may_fall_silent input.old)
+        (I.failure_count input.old) (I.failure_count input.new) result) }
 {
     match plan {
         Plan::Check(_) => print(&["ok", "\n"], out),
@@ -55,6 +108,19 @@ fn carry_out<W: Write>(alloc: Global, plan: &Plan, out: &mut W) -> Result<(), Re
         Plan::At { domain, moment } => print_state(domain, *moment, out),
         Plan::Next { domain, moment } => print_next(alloc, domain, *moment, out),
         Plan::Ever { domain, moment } => print_ever(alloc, domain, *moment, out),
+        Plan::Schedule {
+            horizon,
+            vehicle,
+            ..
+        } => print_schedule(alloc, input, out, *horizon, *vehicle),
+        Plan::Year {
+            element,
+            direction,
+            vehicle,
+            year,
+            ..
+        } => print_year(alloc, input, out, *element, *direction, *vehicle, *year),
+        Plan::Migrate { .. } => print_migrated(alloc, input, out),
     }
 }
 

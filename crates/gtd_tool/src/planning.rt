@@ -1,23 +1,25 @@
 //! From the words of a command line to a plan.
 
-ghost use Rattle.std.specs.Prelude.{◌≡◌, ◌≢◌, ◌⊎◌, [], ◌∷◌, IfErr, IfOk, Ok, MatchResult, map, string_bytes};
+ghost use Rattle.std.specs.Prelude.{◌≡◌, ◌≢◌, ◌⊎◌, [], ◌∷◌, IfErr, IfOk, Ok, Some, MatchResult, map, string_bytes};
 ghost use Rattle.gtd_core.specs.Horizons.{IsHorizon};
 ghost use Rattle.gtd_core.specs.Parts.{domain_tree};
-ghost use Rattle.gtd_core.specs.Whole.{to_day};
+ghost use Rattle.gtd_core.specs.Whole.{from_day, to_day};
 ghost use Rattle.gtd_core.specs.declared.fault.TextFault.{TextFault};
 ghost use Rattle.gtd_calendar.specs.Clock.{day_of_second};
 ghost use Rattle.gtd_calendar.specs.Read.{date_in, stamp_in};
+ghost use Rattle.gtd_roads.specs.Columns.{direction_of, number_of};
 ghost use Rattle.gtd_tool.specs.LineCommands.{command_of};
-ghost use Rattle.gtd_tool.specs.Plans.{AreDomainAndMoment, Asked, AsksFor, IsDomain, IsRead, asked_by};
+ghost use Rattle.gtd_tool.specs.Plans.{AreDomainAndMoment, Asked, AsksFor, IsDomain, IsHorizonOf, IsNumberUpTo, IsRead, asked_by};
 ghost use Rattle.gtd_tool.specs.Plans as asked;
 ghost use Rattle.gtd_tool.specs.CommandLines as command;
-ghost use Rattle.gtd_tool.specs.Refusals.{DatePart, DomainPart, IsNoHorizon, IsRefusalOf, IsStopped, IsStoppedLine, MomentPart, parts_of};
+ghost use Rattle.gtd_tool.specs.Refusals.{AreNoHorizon, DatePart, DaysPart, DirectionPart, DomainPart, IsNoHorizon, IsRefusalOf, IsStopped, IsStoppedLine, MomentPart, NumberPart, parts_of};
 
 use crate::arguments::{CommandLine, read_line};
 use crate::plans::{Moment, MomentInHorizon, Plan};
 use crate::refusal::Refusal;
 use gtd_calendar::{read_date, read_stamp};
 use gtd_core::{Domain, Fault, Horizon, TextFault};
+use gtd_roads::{Direction, read_direction, read_number};
 use gtd_text::read_domain;
 use std::alloc::Global;
 
@@ -122,6 +124,143 @@ fn plan_ever(alloc: Global, domain: &str, moment: &str) -> Result<Plan, Refusal>
     Ok(Plan::Ever { domain, moment })
 }
 
+// The number that a word stands for.
+fn number_in(text: &str) -> Result<u64, Refusal>
+    ensures read { IfOk result (λ n. number_of text.now ≡ Some n) }
+    ensures stopped { IfErr result (IsStopped (NumberPart text.now ∷ [])) }
+{
+    match read_number(text.as_bytes()) {
+        Some(number) => Ok(number),
+        None => Err(Refusal::Usage),
+    }
+}
+
+// The direction that a word stands for.
+fn direction_in(text: &str) -> Result<Direction, Refusal>
+    ensures read { IfOk result (λ direction. direction_of text.now ≡ Some direction) }
+    ensures stopped { IfErr result (IsStopped (DirectionPart text.now ∷ [])) }
+{
+    match read_direction(text.as_bytes()) {
+        Some(direction) => Ok(direction),
+        None => Err(Refusal::Usage),
+    }
+}
+
+// The vehicle type that a word stands for; 255 for every greater number, which the run refuses as it would the number.
+fn vehicle_in(text: &str) -> Result<u8, Refusal>
+    ensures read { IfOk result (IsNumberUpTo 255 text.now) }
+    ensures stopped { IfErr result (IsStopped (NumberPart text.now ∷ [])) }
+{
+    let number = number_in(text)?;
+    Ok(if number <= 255 { number as u8 } else { 255 })
+}
+
+// The year that a word stands for; 65,535 for every greater number, which the run refuses as it would the number.
+fn year_in(text: &str) -> Result<u16, Refusal>
+    ensures read { IfOk result (IsNumberUpTo 65535 text.now) }
+    ensures stopped { IfErr result (IsStopped (NumberPart text.now ∷ [])) }
+{
+    let number = number_in(text)?;
+    Ok(if number <= 65_535 {
+        number as u16
+    } else {
+        65_535
+    })
+}
+
+// The horizon from one day up to and without another.
+fn horizon_between(from: i64, to: i64) -> Result<Horizon, Refusal>
+    ensures read { IfOk result (λ h. (from_day h ≡ from) × (to_day h ≡ to)) }
+    ensures fault { IfErr result (AreNoHorizon from to) }
+{
+    match Horizon::new(from, to) {
+        Ok(horizon) => Ok(horizon),
+        Err(fault) => Err(Refusal::Horizon(fault)),
+    }
+}
+
+// The horizon that two words for days stand for.
+fn days_in(from: &str, to: &str) -> Result<Horizon, Refusal>
+    ensures read { IfOk result (IsHorizonOf from.now to.now) }
+    ensures stopped { IfErr result (IsStopped
+        (DatePart from.now ∷ DatePart to.now ∷ DaysPart from.now to.now ∷ [])) }
+{
+    let first = date_of(from)?;
+    let last = date_of(to)?;
+    horizon_between(first, last)
+}
+
+// The text of a word, to be kept in a plan.
+fn owned(alloc: Global, text: &str) -> Result<String, Refusal>
+    ensures kept { IfOk result (λ copy. string_bytes copy ≡ text.now) }
+    ensures cause { IfErr result (λ r. r ≡ Refusal.Memory) }
+{
+    match String::from_str(alloc, text) {
+        Ok(copy) => Ok(copy),
+        Err(_) => Err(Refusal::Memory),
+    }
+}
+
+// The plan of `schedule`.
+fn plan_schedule(
+    alloc: Global,
+    file: &str,
+    from: &str,
+    to: &str,
+    vehicle: &str,
+) -> Result<Plan, Refusal>
+    ensures read { IfOk result (λ plan.
+        IsRead (command.Schedule file.now from.now to.now vehicle.now) (asked_by plan)) }
+    ensures stopped { IfErr result
+        (IsStopped (parts_of (command.Schedule file.now from.now to.now vehicle.now))) }
+{
+    let vehicle = vehicle_in(vehicle)?;
+    let horizon = days_in(from, to)?;
+    let file = owned(alloc, file)?;
+    Ok(Plan::Schedule {
+        file,
+        horizon,
+        vehicle,
+    })
+}
+
+// The plan of `year`.
+fn plan_year(
+    alloc: Global,
+    file: &str,
+    element: &str,
+    direction: &str,
+    vehicle: &str,
+    year: &str,
+) -> Result<Plan, Refusal>
+    ensures read { IfOk result (λ plan. IsRead
+        (command.Year file.now element.now direction.now vehicle.now year.now) (asked_by plan)) }
+    ensures stopped { IfErr result (IsStopped
+        (parts_of (command.Year file.now element.now direction.now vehicle.now year.now))) }
+{
+    let element = number_in(element)?;
+    let direction = direction_in(direction)?;
+    let vehicle = vehicle_in(vehicle)?;
+    let year = year_in(year)?;
+    let file = owned(alloc, file)?;
+    Ok(Plan::Year {
+        file,
+        element,
+        direction,
+        vehicle,
+        year,
+    })
+}
+
+// The plan of `migrate`.
+fn plan_migrate(alloc: Global, file: &str) -> Result<Plan, Refusal>
+    ensures read { IfOk result (λ plan. IsRead (command.Migrate file.now) (asked_by plan)) }
+    ensures stopped { IfErr result (IsStopped (parts_of (command.Migrate file.now))) }
+{
+    let file = owned(alloc, file)?;
+    Ok(Plan::Migrate { file })
+}
+
 // The plan of a command line whose words are as many as the command takes.
 fn plan_line(alloc: Global, line: CommandLine<'_>) -> Result<Plan, Refusal>
     ensures read { IfOk result (λ plan. IsRead (command_of line.entry) (asked_by plan)) }
@@ -133,6 +272,20 @@ fn plan_line(alloc: Global, line: CommandLine<'_>) -> Result<Plan, Refusal>
         CommandLine::At { domain, moment } => plan_at(alloc, domain, moment),
         CommandLine::Next { domain, moment, to } => plan_next(alloc, domain, moment, to),
         CommandLine::Ever { domain, moment } => plan_ever(alloc, domain, moment),
+        CommandLine::Schedule {
+            file,
+            from,
+            to,
+            vehicle,
+        } => plan_schedule(alloc, file, from, to, vehicle),
+        CommandLine::Year {
+            file,
+            element,
+            direction,
+            vehicle,
+            year,
+        } => plan_year(alloc, file, element, direction, vehicle, year),
+        CommandLine::Migrate { file } => plan_migrate(alloc, file),
     }
 }
 
@@ -147,9 +300,11 @@ fn plan_words(alloc: Global, words: &[String]) -> Result<Plan, Refusal>
 
 /// What the words after the program's name ask for, or their first refusal.
 ///
-/// In order: `Usage` where they are not a command and as many words as it takes; then the first fault of the words for
-/// a domain (`Text`), a moment (`Moment`) and a date (`Date`), from left to right; then `Horizon` where the days from
-/// that of the moment up to the date are none. Where memory was refused, `Memory` is the answer in place of these.
+/// In order: `Usage` where they are not a command and as many words as it takes, or where a word for a number or a
+/// direction stands for none; then the first fault of the words for a domain (`Text`), a moment (`Moment`) and a date
+/// (`Date`), from left to right; then `Horizon` where the days that are asked for are none. Where memory was refused,
+/// `Memory` is the answer in place of these. A vehicle type above 255 is taken as 255 and a year above 65,535 as 65,535,
+/// and the file is not opened: whether these are in their ranges is for [`perform`](crate::perform) to say.
 pub fn plan(alloc: Global, words: Vec<String>) -> Result<Plan, Refusal>
     // The plan is what the words ask for.
     ensures asked { IfOk result (λ plan. AsksFor (map string_bytes words.items) (asked_by plan)) }

@@ -5,6 +5,7 @@ ghost use Rattle.gtd_core.specs.Whole.{whole};
 ghost use Rattle.gtd_eval.specs.Ever.{IsMomentSecond};
 
 use gtd_core::{Domain, Horizon, Sec};
+use gtd_roads::Direction;
 
 /// A moment: a second from 1901-01-01T00:00:00 to 2199-12-31T23:59:59.
 #[derive(Clone, Copy, Debug, PartialEq, Eq)]
@@ -52,4 +53,48 @@ pub enum Plan {
         /// The moment.
         moment: Moment,
     },
+    /// To print the schedule of a record file.
+    Schedule {
+        /// The file's path.
+        file: String,
+        /// The days of the schedule.
+        horizon: Horizon,
+        /// The vehicle type, or 255 where a greater number was given.
+        vehicle: u8,
+    },
+    /// To print the table of a year for an element of a record file.
+    Year {
+        /// The file's path.
+        file: String,
+        /// The element's number.
+        element: u64,
+        /// The direction.
+        direction: Direction,
+        /// The vehicle type, or 255 where a greater number was given.
+        vehicle: u8,
+        /// The year, or 65,535 where a greater number was given.
+        year: u16,
+    },
+    /// To print a record file as one of version 2.
+    Migrate {
+        /// The file's path.
+        file: String,
+    },
+}
+
+impl Plan {
+    ghost use Rattle.std.specs.Prelude.{◌≡◌, option_map};
+    ghost use Rattle.gtd_tool.specs.Plans.{asked_by, file_of};
+
+    /// The path of the record file that is to be opened, if the plan reads one.
+    pub fn file(&self) -> Option<&str>
+        ensures value { option_map (λ path. path.now) result ≡ file_of (asked_by self.now) }
+    {
+        match self {
+            Plan::Schedule { file, .. } => Some(file.as_str()),
+            Plan::Year { file, .. } => Some(file.as_str()),
+            Plan::Migrate { file } => Some(file.as_str()),
+            _ => None,
+        }
+    }
 }

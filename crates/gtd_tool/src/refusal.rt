@@ -1,17 +1,38 @@
 //! Why a command line is not carried out.
 
-ghost use Rattle.std.specs.Prelude.{◌≡◌, OnErr, OnOk};
+ghost use Rattle.std.specs.Prelude.{◌≡◌, ◌++◌, codes, decimal, OnErr, OnOk};
 ghost use Rattle.std.specs.Io.KnownBytes.{Appends};
-ghost use Rattle.gtd_tool.specs.Refusals.{refusal_line, status_of};
+ghost use Rattle.gtd_tool.specs.Refusals.{records_status, refusal_line, status_of};
 ghost use Rattle.gtd_tool.specs.Writing.{AppendsPart};
 
 use crate::writing::put_texts;
 use gtd_calendar::StampFault;
 use gtd_core::{HorizonFault, TextFault};
+use gtd_roads::RecordFault;
 use itoa::Buffer;
-use std::io;
+use std::fmt::{Display, Formatter};
 use std::io::Write;
+use std::{fmt, io};
 use thiserror::Error;
+
+// The fault of a record file, as its line names it.
+#[derive(Drop)]
+struct RecordsText(RecordFault);
+
+impl Display for RecordsText {
+    fn fmt<W: fmt::Write>(&self, f: &mut Formatter<W>) -> fmt::Result {
+        let fault = self.0;
+        match fault {
+            RecordFault::FieldCount { row }
+            | RecordFault::Element { row }
+            | RecordFault::Direction { row }
+            | RecordFault::Vehicle { row } => write!(f, "row {row} {fault}"),
+            RecordFault::Domain { row, fault: why } => write!(f, "row {row} {fault} {why}"),
+            RecordFault::TooManyRows => write!(f, "row 65537 {fault}"),
+            _ => write!(f, "{fault}"),
+        }
+    }
+}
 
 /// Why a command line is not carried out. Its text is the line for standard error.
 #[derive(Clone, Copy, Debug, PartialEq, Eq, Error)]
@@ -34,6 +55,21 @@ pub enum Refusal {
     /// Some start of the domain gives a year, so that its changes for ever are not known.
     #[error("fault HasYear")]
     HasYear,
+    /// The vehicle type is not from 1 to 99.
+    #[error("fault VehicleRange")]
+    VehicleRange,
+    /// The year is not from 1901 to 2199.
+    #[error("fault YearRange")]
+    YearRange,
+    /// No record of the file names the element.
+    #[error("fault NoElement")]
+    NoElement,
+    /// The record file is not read. This is its first fault, or why the input failed, and never `NoMemory`.
+    #[error("fault {}", RecordsText(*.0))]
+    Records(RecordFault),
+    /// The record file is not opened.
+    #[error("fault Open")]
+    Open,
     /// A write to standard output failed.
     #[error("fault WriteFault")]
     Write,
@@ -43,7 +79,7 @@ pub enum Refusal {
 }
 
 impl Refusal {
-    /// The exit status: 1 where the input is refused, 2 for usage, 3 where a write or memory failed.
+    /// The exit status: 1 where the input is refused, 2 for usage, 3 where opening, reading, writing or memory failed.
     pub fn status(&self) -> u8
         ensures value { result ≡ status_of self.now }
     {
@@ -52,9 +88,13 @@ impl Refusal {
             | Refusal::Moment(_)
             | Refusal::Date(_)
             | Refusal::Horizon(_)
-            | Refusal::HasYear => 1,
+            | Refusal::HasYear
+            | Refusal::VehicleRange
+            | Refusal::YearRange
+            | Refusal::NoElement => 1,
+            Refusal::Records(fault) => records_status(*fault),
             Refusal::Usage => 2,
-            Refusal::Write | Refusal::Memory => 3,
+            Refusal::Open | Refusal::Write | Refusal::Memory => 3,
         }
     }
 
@@ -72,6 +112,11 @@ impl Refusal {
             Refusal::Date(fault) => put_texts(&["fault date ", fault.name(), "\n"], err),
             Refusal::Horizon(fault) => put_texts(&["fault horizon ", fault.name(), "\n"], err),
             Refusal::HasYear => put_texts(&["fault HasYear\n"], err),
+            Refusal::VehicleRange => put_texts(&["fault VehicleRange\n"], err),
+            Refusal::YearRange => put_texts(&["fault YearRange\n"], err),
+            Refusal::NoElement => put_texts(&["fault NoElement\n"], err),
+            Refusal::Records(fault) => put_records_fault(*fault, err),
+            Refusal::Open => put_texts(&["fault Open\n"], err),
             Refusal::Write => put_texts(&["fault WriteFault\n"], err),
             Refusal::Memory => put_texts(&["fault NoMemory\n"], err),
         }
@@ -88,4 +133,62 @@ fn put_fault<W: Write>(fault: &TextFault, err: &mut W) -> io::Result<()>
     let mut place = Buffer::new();
     let place = place.format(fault.place);
     put_texts(&["fault ", fault.kind.name(), " at ", place, "\n"], err)
+}
+
+// The status for a record file that is not read.
+fn records_status(fault: RecordFault) -> u8
+    ensures value { result ≡ records_status fault }
+{
+    match fault {
+        RecordFault::ReadFault | RecordFault::Endless | RecordFault::NoMemory => 3,
+        _ => 1,
+    }
+}
+
+// The line of a record file's fault.
+fn put_records_fault<W: Write>(fault: RecordFault, err: &mut W) -> io::Result<()>
+    ensures line { OnOk result (Appends (W.contents err.old) (W.contents err.new)
+        (refusal_line (Refusal.Records fault))) }
+    ensures part { OnErr result (AppendsPart (W.contents err.old) (W.contents err.new)
+        (refusal_line (Refusal.Records fault))) }
+{
+    match fault {
+        RecordFault::FieldCount { row } => put_row_fault(row, " FieldCount\n", err),
+        RecordFault::Element { row } => put_row_fault(row, " Element\n", err),
+        RecordFault::Direction { row } => put_row_fault(row, " Direction\n", err),
+        RecordFault::Vehicle { row } => put_row_fault(row, " Vehicle\n", err),
+        RecordFault::Domain { row, fault } => put_domain_fault(row, &fault, err),
+        RecordFault::TooManyRows => put_texts(&["fault row 65537 TooManyRows\n"], err),
+        _ => put_texts(&["fault ", fault.name(), "\n"], err),
+    }
+}
+
+// The line of a row's fault, by the rest of it after the row's number.
+fn put_row_fault<W: Write>(row: u32, rest: &str, err: &mut W) -> io::Result<()>
+    ensures line { OnOk result (Appends (W.contents err.old) (W.contents err.new)
+        (codes "fault row " ++ (decimal row ++ rest.now))) }
+    ensures part { OnErr result (AppendsPart (W.contents err.old) (W.contents err.new)
+        (codes "fault row " ++ (decimal row ++ rest.now))) }
+{
+    let mut number = Buffer::new();
+    let number = number.format(row);
+    put_texts(&["fault row ", number, rest], err)
+}
+
+// The line of a fault in a row's domain.
+fn put_domain_fault<W: Write>(row: u32, fault: &TextFault, err: &mut W) -> io::Result<()>
+    ensures line { OnOk result (Appends (W.contents err.old) (W.contents err.new)
+        (refusal_line (Refusal.Records (RecordFault.Domain row fault.now)))) }
+    ensures part { OnErr result (AppendsPart (W.contents err.old) (W.contents err.new)
+        (refusal_line (Refusal.Records (RecordFault.Domain row fault.now)))) }
+{
+    let mut number = Buffer::new();
+    let number = number.format(row);
+    let mut place = Buffer::new();
+    let place = place.format(fault.place);
+    let kind = fault.kind.name();
+    put_texts(
+        &["fault row ", number, " Domain ", kind, " at ", place, "\n"],
+        err,
+    )
 }

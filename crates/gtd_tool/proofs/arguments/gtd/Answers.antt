@@ -17,4 +17,7 @@ returns c =
     let canon = more _ _ _ (codes "canon") c.in_ok-program-2.ensures check in
     let at = more _ _ _ (codes "at") c.in_ok-program-3.ensures canon in
     let next = more _ _ _ (codes "next") c.in_ok-program-4.ensures at in
-    IfOk-weaker c.add_command-5.result _ _ (λ r h. more _ _ _ (codes "ever") h next) c.add_command-5.ensures
+    let ever = more _ _ _ (codes "ever") c.in_ok-program-5.ensures next in
+    let schedule = more _ _ _ (codes "schedule") c.in_ok-program-6.ensures ever in
+    let year = more _ _ _ (codes "year") c.in_ok-program-7.ensures schedule in
+    IfOk-weaker c.add_command-8.result _ _ (λ r h. more _ _ _ (codes "migrate") h year) c.add_command-8.ensures

@@ -1,0 +1,179 @@
+-- What a command that reads a record file prints, and why it is refused.
+use Rattle.std.specs.Prelude.{◌≡◌, ◌↔◌, ◌⊎◌, ⊤, ℕ, ◌+◌, Bool, List, Any, Option, IfSome, MatchOption, IsTrue, IsErrOf}
+use Rattle.std.specs.Prelude.{Result, Ok, Err, codes, ◌++◌}
+use Rattle.std.specs.Io.KnownBytes.{Appends}
+use Rattle.gtd_roads.specs.File.{IsFile}
+use Rattle.gtd_roads.specs.Reading.{IsOfFile}
+use Rattle.gtd_roads.specs.Restriction.{Restriction}
+use Rattle.gtd_roads.specs.declared.fault.RecordFault.{RecordFault}
+use Rattle.gtd_roads.specs.declared.fault.RecordFault.TheVariants as records
+use Rattle.gtd_runs.specs.Putting.{text_of}
+use Rattle.gtd_runs.specs.Run.{HasRun, IsVehicleType}
+use Rattle.gtd_runs.specs.Run.{failures_after_read}
+use Rattle.gtd_runs.specs.declared.fault.RunFault.{RunFault}
+use Rattle.gtd_runs.specs.declared.fault.RunFault.TheVariants as run
+use Rattle.gtd_schedule.specs.Schedule.{IsSchedule}
+use Rattle.gtd_year.specs.Table.{IsTableYear, IsYearTable}
+use Rattle.gtd_migrate.specs.Migrated.{migrated}
+use Rattle.gtd_tool.specs.Plans.{Asked, Schedule, Year, Migrate, file_of}
+use Rattle.gtd_tool.specs.Printed.{AppendsLine, AsksPastYears, IsAnswer, TakesMemory}
+use Rattle.gtd_tool.specs.Writing.{AppendsPart}
+use Rattle.gtd_tool.specs.declared.refusal.Refusal.{Refusal}
+use Rattle.gtd_tool.specs.declared.refusal.Refusal.TheVariants as refusal
+
+-- ---- what is asked of a file
+
+-- The command reads a record file.
+abbrev pub ReadsFile : Asked → Type 0
+ReadsFile asked = MatchOption (file_of asked) ⊥ (λ path. ⊤)
+
+-- The fact holds if the command reads a record file, or if it reads none.
+abbrev pub IfFile : Asked → Type 0 → Type 0
+IfFile asked P = MatchOption (file_of asked) ⊤ (λ path. P)
+
+abbrev pub IfAlone : Asked → Type 0 → Type 0
+IfAlone asked P = MatchOption (file_of asked) P (λ path. ⊤)
+
+-- If a vehicle type is asked for, it is from 1 to 99.
+abbrev pub IsVehicleInRange : Asked → Type 0
+IsVehicleInRange (Schedule path horizon vehicle) = IsVehicleType vehicle
+IsVehicleInRange (Year path element direction vehicle year) = IsVehicleType vehicle
+IsVehicleInRange asked = ⊤
+
+-- An element is asked for.
+abbrev pub AsksOfElement : Asked → Type 0
+AsksOfElement (Year path element direction vehicle year) = ⊤
+AsksOfElement asked = ⊥
+
+-- If a year is asked for, it is from 1901 to 2199.
+abbrev pub IsYearInRange : Asked → Type 0
+IsYearInRange (Year path element direction vehicle year) = IsTableYear year
+IsYearInRange asked = ⊤
+
+-- A text is printed of these restrictions: the table of a year needs one that names the element.
+abbrev pub IsAccepted : Asked → List Restriction → Type 0
+IsAccepted (Year path element direction vehicle year) found = Any (λ (r : Restriction). r.element ≡ element) found
+IsAccepted asked found = ⊤
+
+-- The lines of the text that is printed of these restrictions: their schedule, the table of a year, or their file of
+-- version 2.
+abbrev pub IsText : Asked → List Restriction → List (List ℕ) → Type 0
+IsText (Schedule path horizon vehicle) found lines = IsSchedule found vehicle horizon lines
+IsText (Year path element direction vehicle year) found lines = IsYearTable found element direction vehicle year lines
+IsText (Migrate path) found lines = lines ≡ migrated found
+IsText asked found lines = ⊥
+
+-- ---- what is printed
+
+-- The writer's known bytes grew by a text of these restrictions.
+pub record AppendsTextOf (asked : Asked) (found : List Restriction) (old new : Option (List ℕ)) : Type 0 where
+  pub lines : List (List ℕ)
+  pub is_text : IsText asked found lines
+  pub grown : Appends old new (text_of lines)
+
+-- The bytes are a record file, and the writer's known bytes grew by a text of its restrictions.
+pub record AppendsTextOfFile (asked : Asked) (bytes : List ℕ) (old new : Option (List ℕ)) : Type 0 where
+  pub found : List Restriction
+  pub file : IsFile bytes (Ok found)
+  pub accepted : IsAccepted asked found
+  pub text : AppendsTextOf asked found old new
+
+-- What was printed: the line of an answer; or, by a command that reads a file, a text of the file, if its bytes are
+-- known.
+abbrev pub IsPrinted : Asked → Option (List ℕ) → Option (List ℕ) → Option (List ℕ) → Type 0
+IsPrinted asked file old new =
+    MatchOption (file_of asked) (AppendsLine (IsAnswer asked) old new)
+    (λ path. IfSome file (λ bytes. AppendsTextOfFile asked bytes old new))
+
+-- A first part of each line that could be the answer's.
+abbrev pub IsPartOfLine : Asked → Option (List ℕ) → Option (List ℕ) → Type 0
+IsPartOfLine asked old new =
+    (answer : List ℕ) → IsAnswer asked answer → AppendsPart old new (answer ++ codes "\n")
+
+-- A first part of each text that could be the file's.
+abbrev pub IsPartOfText : Asked → List ℕ → Option (List ℕ) → Option (List ℕ) → Type 0
+IsPartOfText asked bytes old new =
+    (found : List Restriction) → IsFile bytes (Ok found) → (lines : List (List ℕ)) → IsText asked found lines
+    → AppendsPart old new (text_of lines)
+
+-- What was printed is a first part of what is to be, which may be none or all of it.
+abbrev pub IsPartPrinted : Asked → Option (List ℕ) → Option (List ℕ) → Option (List ℕ) → Type 0
+IsPartPrinted asked file old new =
+    MatchOption (file_of asked) (IsPartOfLine asked old new)
+    (λ path. IfSome file (λ bytes. IsPartOfText asked bytes old new))
+
+-- ---- why a command is refused
+
+-- Why a record file is not read: the input failed, or fell silent, or, if its bytes are known, this is their first
+-- fault.
+abbrev pub IsUnread : Option (List ℕ) → Bool → RecordFault → Type 0
+IsUnread file silent records.NoMemory = ⊥
+IsUnread file silent records.ReadFault = ⊤
+IsUnread file silent records.Endless = IsTrue silent
+IsUnread file silent why = IfSome file (λ bytes. IsFile bytes (Err why))
+
+-- The bytes are a record file of which no text is printed.
+abbrev pub IsLacking : Asked → List ℕ → Type 0
+IsLacking asked bytes = (found : List Restriction) × IsFile bytes (Ok found) × (IsAccepted asked found → ⊥)
+
+-- The bytes are no record file, or one of which no text is printed.
+abbrev pub IsRefusedFile : Asked → List ℕ → Type 0
+IsRefusedFile asked bytes = ((why : RecordFault) × IsFile bytes (Err why)) ⊎ IsLacking asked bytes
+
+-- Why a command is refused while it is carried out.
+abbrev pub IsCause : Asked → Option (List ℕ) → Bool → Refusal → Type 0
+IsCause asked file silent refusal.Write = ⊤
+IsCause asked file silent refusal.Memory = TakesMemory asked
+IsCause asked file silent refusal.HasYear = AsksPastYears asked
+IsCause asked file silent refusal.VehicleRange = IsVehicleInRange asked → ⊥
+IsCause asked file silent refusal.YearRange = IsVehicleInRange asked × (IsYearInRange asked → ⊥)
+IsCause asked file silent (refusal.Records why) = ReadsFile asked × IsUnread file silent why
+IsCause asked file silent refusal.NoElement = AsksOfElement asked × IfSome file (λ bytes. IsLacking asked bytes)
+IsCause asked file silent r = ⊥
+
+-- Nothing hindered the command: neither device failed, no memory was refused, and the input was not silent for 1,000
+-- pulls in a row.
+abbrev pub IsUnhindered : Result (Unit {0}) Refusal → Type 0
+IsUnhindered (Err (refusal.Records why)) = IsOfFile why
+IsUnhindered (Err refusal.Write) = ⊥
+IsUnhindered (Err refusal.Memory) = ⊥
+IsUnhindered result = ⊤
+
+-- What is asked for is in its ranges, nothing hindered the command, and the bytes of its file are known.
+abbrev pub IfRead : Asked → Option (List ℕ) → Result (Unit {0}) Refusal → (List ℕ → Type 0) → Type 0
+IfRead asked file result P =
+    ReadsFile asked → IsVehicleInRange asked → IsYearInRange asked → IsUnhindered result → IfSome file P
+
+-- one failure of the input more exactly where the refusal is that it failed
+abbrev pub failures_after : Result (Unit {0}) Refusal → ℕ → ℕ
+failures_after (Err (refusal.Records records.ReadFault)) count = count + 1
+failures_after result count = count
+
+-- ---- from the answer of a run to that of a command
+
+-- The refusal for a fault of a run.
+abbrev pub refusal_for : RunFault → Refusal
+refusal_for run.VehicleRange = refusal.VehicleRange
+refusal_for run.YearRange = refusal.YearRange
+refusal_for (run.Records records.NoMemory) = refusal.Memory
+refusal_for (run.Records why) = refusal.Records why
+refusal_for run.NoElement = refusal.NoElement
+refusal_for (run.WriteFault written) = refusal.Write
+refusal_for (run.NoMemory written) = refusal.Memory
+
+-- The answer of a command, for that of its run.
+abbrev pub outcome_of : Result ℕ RunFault → Result (Unit {0}) Refusal
+outcome_of (Ok count) = Ok tt
+outcome_of (Err fault) = Err (refusal_for fault)
+
+-- The command's run had an answer, by which all that the run promises is so.
+pub record Ran (asked : Asked) (file old new : Option (List ℕ)) (silent : Bool) (before after : ℕ)
+    (result : Result (Unit {0}) Refusal) : Type 0 where
+  pub answer : Result ℕ RunFault
+  pub outcome : result ≡ outcome_of answer
+  pub stands : HasRun (IsAccepted asked) (IsText asked) file old new answer
+  pub vehicle : IsErrOf answer run.VehicleRange ↔ (IsVehicleInRange asked → ⊥)
+  pub year : IsErrOf answer run.YearRange ↔ (IsVehicleInRange asked × (IsYearInRange asked → ⊥))
+  pub element : IsErrOf answer run.NoElement → AsksOfElement asked
+  pub endless : IsErrOf answer (run.Records records.Endless) → IsTrue silent
+  pub failures : after ≡ failures_after_read answer before
