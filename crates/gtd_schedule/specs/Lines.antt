@@ -21,3 +21,11 @@ abbrev pub AreShown : List Interval → Type 0
 AreShown [] = Unit {0}
 AreShown (span ∷ spans) =
     IsCalendarDay (day_of_second span.from) × IsCalendarDay (day_of_second span.until) × AreShown spans
+
+-- as many lines as the longest horizon has seconds: an element has no more in a direction
+abbrev pub most_lines : ℕ
+most_lines = 12_622_867_200
+
+-- more bytes than so many lines have
+abbrev pub most_bytes : ℕ
+most_bytes = 1_009_829_376_000

@@ -2,7 +2,7 @@
 
 ghost use Rattle.std.specs.Prelude.{◌≡◌, ◌+◌, ◌*◌, ◌<◌, ◌≤◌, ◌^◌, length, map, OnOk};
 ghost use Rattle.gtd_runs.specs.Putting.{Puts, PutsText, failures_after_stop, nothing_put};
-ghost use Rattle.gtd_schedule.specs.Lines.{AreShown};
+ghost use Rattle.gtd_schedule.specs.Lines.{AreShown, most_bytes, most_lines};
 ghost use Rattle.gtd_schedule.specs.Schedule.{AreElementLines, AreLines, AreLinesOf, IsSchedule, span_line};
 
 use crate::line::{write_head, write_span};
@@ -53,12 +53,12 @@ fn put_direction<O: Output>(
     horizon: Horizon,
 ) -> Result<(), Stop>
     requires countable { O.failure_count output.old < u64.MAX }
-    requires written { progress.old.written + 1009829376000 < 2 ^ 64 }
-    requires lines { progress.old.lines + 12622867200 < 2 ^ 64 }
+    requires written { progress.old.written + most_bytes < 2 ^ 64 }
+    requires lines { progress.old.lines + most_lines < 2 ^ 64 }
     ensures puts { PutsText (AreLines found.now vehicle horizon element direction) result
         (O.taken output.old) (O.taken output.new) progress.old progress.new }
-    ensures near { OnOk result ((progress.new.written ≤ progress.old.written + 1009829376000)
-        × (progress.new.lines ≤ progress.old.lines + 12622867200)) }
+    ensures near { OnOk result ((progress.new.written ≤ progress.old.written + most_bytes)
+        × (progress.new.lines ≤ progress.old.lines + most_lines)) }
     ensures failures { O.failure_count output.new
         ≡ failures_after_stop result (O.failure_count output.old) }
 {
@@ -80,12 +80,12 @@ fn put_element<O: Output>(
     horizon: Horizon,
 ) -> Result<(), Stop>
     requires countable { O.failure_count output.old < u64.MAX }
-    requires written { progress.old.written + 2019658752000 < 2 ^ 64 }
-    requires lines { progress.old.lines + 25245734400 < 2 ^ 64 }
+    requires written { progress.old.written + 2 * most_bytes < 2 ^ 64 }
+    requires lines { progress.old.lines + 2 * most_lines < 2 ^ 64 }
     ensures puts { PutsText (AreElementLines found.now vehicle horizon element) result
         (O.taken output.old) (O.taken output.new) progress.old progress.new }
-    ensures near { OnOk result ((progress.new.written ≤ progress.old.written + 2019658752000)
-        × (progress.new.lines ≤ progress.old.lines + 25245734400)) }
+    ensures near { OnOk result ((progress.new.written ≤ progress.old.written + 2 * most_bytes)
+        × (progress.new.lines ≤ progress.old.lines + 2 * most_lines)) }
     ensures failures { O.failure_count output.new
         ≡ failures_after_stop result (O.failure_count output.old) }
 {

@@ -8,6 +8,7 @@ use Rattle.gtd_roads.specs.declared.direction.Direction.{Direction}
 use Rattle.gtd_runs.specs.Putting.{Puts}
 use Rattle.gtd_runs.specs.declared.putting.Progress.{Progress}
 use Rattle.gtd_runs.specs.declared.putting.Stop.{Stop}
+use Rattle.gtd_schedule.specs.Lines.{most_bytes, most_lines}
 use Rattle.gtd_schedule.specs.Schedule.{span_line, AreLines}
 use Rattle.gtd_schedule.proofs.LineFacts.{length-lines}
 use Rattle.gtd_schedule.proofs.SpanFacts.{normal_few, normal_shown}
@@ -17,8 +18,8 @@ use Rattle.gtd_schedule.proofs.schedule.put_direction.Goals as goal
 
 -- what was put of so few spans
 near : (e : ℕ) (d : Direction) (v : ℕ) (r : Result (Unit {0}) Stop) (a b : Option (List ℕ)) (p q : Progress) (spans : List Interval)
-    → e < 2 ^ 64 → v < 256 → length spans ≤ 12622867200 → Puts r a b p q (map (span_line e d v) spans)
-    → OnOk r ((q.written ≤ p.written + 1009829376000) × (q.lines ≤ p.lines + 12622867200))
+    → e < 2 ^ 64 → v < 256 → length spans ≤ most_lines → Puts r a b p q (map (span_line e d v) spans)
+    → OnOk r ((q.written ≤ p.written + most_bytes) × (q.lines ≤ p.lines + most_lines))
 near e d v (Ok x) a b p q spans small type few puts =
     let w = ap (λ (t : Progress). t.written) puts.1 in
     let l = ap (λ (t : Progress). t.lines) puts.1 in
