@@ -1,15 +1,24 @@
 //! Laws of the definitions.
 
-ghost use Rattle.std.specs.Prelude.{◌≡◌, List, [], ◌∷◌, ℕ, codes};
+ghost use Rattle.std.specs.Prelude.{◌≡◌, ◌↔◌, List, [], ◌∷◌, ℕ, Ok, codes};
 ghost use Rattle.gtd_core.specs.Parts.{domain_tree};
 ghost use Rattle.gtd_core.specs.declared.domain.Domain.{Domain};
+ghost use Rattle.gtd_core.specs.declared.horizon.Horizon.{Horizon};
 ghost use Rattle.gtd_text.specs.Canonical.{canonical};
+ghost use Rattle.gtd_roads.specs.File.{IsFile};
+ghost use Rattle.gtd_roads.specs.Restriction.{Restriction};
+ghost use Rattle.gtd_roads.specs.declared.direction.Direction.{Direction};
+ghost use Rattle.gtd_runs.specs.Putting.{text_of};
+ghost use Rattle.gtd_schedule.specs.Schedule.{IsSchedule};
+ghost use Rattle.gtd_year.specs.Table.{IsYearTable};
+ghost use Rattle.gtd_migrate.specs.Migrated.{migrated};
 ghost use Rattle.gtd_tool.specs.CommandLines.{Text};
 ghost use Rattle.gtd_tool.specs.Plans.{Asked, AsksFor, Canon, Check};
 ghost use Rattle.gtd_tool.specs.Printed.{IsAnswer};
 ghost use Rattle.gtd_tool.specs.Refusals.{IsRefusalOf};
 ghost use Rattle.gtd_tool.specs.declared.refusal.Refusal.{Refusal};
 
+use gtd_migrate::laws::migration_changes_nothing;
 use gtd_text::laws::canonical_text_of_domain;
 
 /// A command line asks for one thing at most, or has one first refusal at most, and never both.
@@ -35,4 +44,20 @@ pub fn canonical_word()
         AsksFor (codes "canon" ∷ canonical (domain_tree domain) ∷ []) (Canon (domain_tree domain)) }
 {
     canonical_text_of_domain();
+}
+
+/// A record file and its migrated file have the same schedule for each vehicle type and over each horizon, and the same
+/// table of each year.
+pub fn migrated_files_mean_the_same()
+    ensures schedule { (bytes : List ℕ) (found again : List Restriction) → IsFile bytes (Ok found)
+        → IsFile (text_of (migrated found)) (Ok again)
+        → (vehicle : ℕ) (horizon : Horizon) (lines : List (List ℕ)) →
+        IsSchedule again vehicle horizon lines ↔ IsSchedule found vehicle horizon lines }
+    ensures table { (bytes : List ℕ) (found again : List Restriction) → IsFile bytes (Ok found)
+        → IsFile (text_of (migrated found)) (Ok again)
+        → (element : ℕ) (direction : Direction) (vehicle year : ℕ) (lines : List (List ℕ)) →
+        IsYearTable again element direction vehicle year lines
+        ↔ IsYearTable found element direction vehicle year lines }
+{
+    migration_changes_nothing();
 }
