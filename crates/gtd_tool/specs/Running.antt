@@ -120,9 +120,13 @@ IsLacking asked bytes = (found : List Restriction) × IsFile bytes (Ok found) ×
 abbrev pub IsRefusedFile : Asked → List ℕ → Type 0
 IsRefusedFile asked bytes = ((why : RecordFault) × IsFile bytes (Err why)) ⊎ IsLacking asked bytes
 
--- Why a command is refused while it is carried out.
+-- The bytes are a record file of which a text is printed.
+abbrev pub IsAcceptedFile : Asked → List ℕ → Type 0
+IsAcceptedFile asked bytes = (found : List Restriction) × IsFile bytes (Ok found) × IsAccepted asked found
+
+-- Why a command is refused while it is carried out. Nothing is written before the file is accepted.
 abbrev pub IsCause : Asked → Option (List ℕ) → Bool → Refusal → Type 0
-IsCause asked file silent refusal.Write = ⊤
+IsCause asked file silent refusal.Write = IfFile asked (IfSome file (λ bytes. IsAcceptedFile asked bytes))
 IsCause asked file silent refusal.Memory = TakesMemory asked
 IsCause asked file silent refusal.HasYear = AsksPastYears asked
 IsCause asked file silent refusal.VehicleRange = IsVehicleInRange asked → ⊥
