@@ -53,7 +53,7 @@ loan_passes contents n m began old v w is same bytes h =
 
 -- ---- runs
 
-if_some : {A : Type 0} (o : Option A) (P Q : A → Type 0) → ((x : A) → P x → Q x) → IfSome o P → IfSome o Q
+pub if_some : {A : Type 0} (o : Option A) (P Q : A → Type 0) → ((x : A) → P x → Q x) → IfSome o P → IfSome o Q
 if_some None P Q f h = tt
 if_some (Some x) P Q f h = f x h
 

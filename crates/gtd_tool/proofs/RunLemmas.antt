@@ -20,12 +20,9 @@ use Rattle.gtd_tool.specs.Stops.{IsStop}
 use Rattle.gtd_tool.specs.Writing.{AppendsPart}
 use Rattle.gtd_tool.specs.declared.refusal.Refusal.{Refusal}
 use Rattle.gtd_tool.specs.declared.refusal.Refusal.TheVariants as refusal
+use Rattle.gtd_tool.proofs.LoanLemmas.{if_some}
 
 -- ---- options
-
-if_some : {A : Type 0} (o : Option A) (P Q : A → Type 0) → ((x : A) → P x → Q x) → IfSome o P → IfSome o Q
-if_some None P Q f h = tt
-if_some (Some x) P Q f h = f x h
 
 if_some_all : {A : Type 0} (o : Option A) (P : A → Type 0) → ((x : A) → P x) → IfSome o P
 if_some_all None P f = tt
