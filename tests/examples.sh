@@ -26,8 +26,8 @@ compare() {
     fi
 }
 
-# none_missed WHERE COUNT: a document that must show commands and shows none fails.
-none_missed() {
+# must_show WHERE COUNT: a document that must show commands and shows none fails.
+must_show() {
     [ "$2" -gt 0 ] && return
     failed=$((failed + 1))
     echo "FAILED $1: it shows no command"
@@ -54,7 +54,7 @@ document() {
         esac
     done < "$top/$1"
     [ -n "$command" ] && compare "$1:$at" "$command" "$room/expected"
-    case $1 in README.md | docs/LANGUAGE.md) none_missed "$1" $shown ;; esac
+    case $1 in README.md | docs/LANGUAGE.md) must_show "$1" $shown ;; esac
 }
 
 document README.md
@@ -62,12 +62,12 @@ for path in "$top"/docs/*.md; do
     document "docs/${path##*/}"
 done
 
-# The table: a row holds a command and the file that it makes. A file that no row names is missed.
+# The table: a row holds a command and the file that it makes. A file that no row names fails.
 sed -n 's/^| `\(gtd [^`]*\)` | `\([^`]*\)` |$/\1\t\2/p' README.md > "$room/table"
 while IFS=$'\t' read -r command file; do
     compare examples/README.md "$command" "$file"
 done < "$room/table"
-none_missed examples/README.md "$(wc -l < "$room/table")"
+must_show examples/README.md "$(wc -l < "$room/table")"
 for file in *.schedule.csv *.migrated.csv *.year.txt; do
     grep -q $'\t'"$file\$" "$room/table" && continue
     failed=$((failed + 1))
