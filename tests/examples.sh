@@ -1,0 +1,78 @@
+#!/usr/bin/env bash
+# The examples, byte for byte: each command shown in the documents against the lines under it, and each command of the table
+# in examples/README.md against the file it names. All commands run in examples/. Run it after `rt ci`, which builds the program.
+set -u
+top=$(cd "$(dirname "$0")/.." && pwd)
+program=$top/crates/gtd/out/gtd
+[ -x "$program" ] || { echo "no program at $program: run rt ci first" >&2; exit 1; }
+cd "$top/examples" || exit 1
+room=$(mktemp -d)
+trap 'rm -rf "$room"' EXIT
+passed=0 failed=0
+
+# The program stands first on the path, alone in its folder.
+mkdir "$room/bin"
+ln -s "$program" "$room/bin/gtd"
+
+# compare WHERE COMMAND FILE: what the command writes, its faults among it, is exactly the file.
+compare() {
+    PATH=$room/bin:$PATH bash -c "$2" > "$room/out" 2>&1 < /dev/null
+    if cmp -s "$room/out" "$3"; then
+        passed=$((passed + 1))
+    else
+        failed=$((failed + 1))
+        echo "FAILED $1: $2"
+        diff "$3" "$room/out" | head -n 10
+    fi
+}
+
+# must_show WHERE COUNT: a document that must show commands and shows none fails.
+must_show() {
+    [ "$2" -gt 0 ] && return
+    failed=$((failed + 1))
+    echo "FAILED $1: it shows no command"
+}
+
+# document FILE: in fenced blocks, each line `$ gtd ..` or `$ cat ..`, and the lines up to the next `$ ` or the block's end.
+document() {
+    local line command='' fenced=0 number=0 at=0 shown=0
+    while IFS= read -r line || [ -n "$line" ]; do
+        number=$((number + 1))
+        case $line in
+            '```'* | '$ '*)
+                [ -n "$command" ] && compare "$1:$at" "$command" "$room/expected"
+                command='' at=$number
+                ;;
+            *) [ -n "$command" ] && printf '%s\n' "$line" >> "$room/expected" ;;
+        esac
+        case $fenced$line in
+            ?'```'*) fenced=$((1 - fenced)) ;;
+            1'$ gtd '* | 1'$ cat '*)
+                command=${line#'$ '} shown=$((shown + 1))
+                : > "$room/expected"
+                ;;
+        esac
+    done < "$top/$1"
+    [ -n "$command" ] && compare "$1:$at" "$command" "$room/expected"
+    case $1 in README.md | docs/LANGUAGE.md) must_show "$1" $shown ;; esac
+}
+
+document README.md
+for path in "$top"/docs/*.md; do
+    document "docs/${path##*/}"
+done
+
+# The table: a row holds a command and the file that it makes. A file that no row names fails.
+sed -n 's/^| `\(gtd [^`]*\)` | `\([^`]*\)` |$/\1\t\2/p' README.md > "$room/table"
+while IFS=$'\t' read -r command file; do
+    compare examples/README.md "$command" "$file"
+done < "$room/table"
+must_show examples/README.md "$(wc -l < "$room/table")"
+for file in *.schedule.csv *.migrated.csv *.year.txt; do
+    grep -q $'\t'"$file\$" "$room/table" && continue
+    failed=$((failed + 1))
+    echo "FAILED examples/README.md: no row makes $file"
+done
+
+echo "examples: $passed passed, $failed failed"
+[ "$failed" = 0 ]
