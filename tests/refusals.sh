@@ -1,6 +1,6 @@
 #!/usr/bin/env bash
-# Refuses each growth of each test of memory refused, one in a run, until a run asks for no more.
-# Run it after `rt ci`, which proves and builds the tests.
+# Runs each test of memory refused with its first growth refused, then with its second, and so on to its last.
+# Run it after `rt ci`, which proves and builds the tests. It needs a C compiler.
 set -u
 here=$(cd "$(dirname "$0")" && pwd)
 tests=$here/../crates/gtd_rows/out/gtd_rows_tests
@@ -21,7 +21,7 @@ for name in $names; do
             failed=$((failed + 1))
             echo "FAILED $name, growth $growth: status $status, said '$said$told'"
         fi
-        # A later growth is refused too, whatever an earlier one did: some are not needed.
+        # A success is not the end: a call can do without some growths.
         [[ $told == *'growth refused'* ]] || break
         refused=$((refused + 1))
     done

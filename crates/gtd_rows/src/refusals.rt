@@ -1,8 +1,8 @@
-//! Each call that takes memory, where one of its growths is refused. A run of `tests/refusals.sh` refuses the growths of
-//! each test one after the other, one in a run.
+//! Each call that takes memory, where one of its growths is refused. `tests/refusals.sh` refuses the growths of each test
+//! one after the other, one in a run.
 //!
-//! A call that is refused is asked once more, and has to succeed then: so with ample memory it succeeds at once.
-//! Where what a test itself needs is refused, the test ends.
+//! A call that is refused is made once more, and then has to succeed. So with ample memory it succeeds, and a refusal leaves
+//! nothing behind. Where a test is refused what it needs for itself, it ends.
 
 ghost use Rattle.std.specs.Prelude.{◌≡◌, ◌≤◌, vec_len, IfOk};
 ghost use Rattle.gtd_eval.specs.Cursors.{cursor_nodes, total_nodes};
@@ -239,7 +239,7 @@ fn expect_list(
     panic!(rt; "refused twice");
 }
 
-// Five spans, and the ends between them.
+// Five spans, more than a list has room for at first.
 static HOURS: [(i64, i64); 5] = [(0, 1), (2, 3), (4, 5), (6, 7), (8, 9)];
 
 #[test]
@@ -449,7 +449,7 @@ fn two_cursors(
     Ok(cursors)
 }
 
-// The seconds of the night and of the morning of a day, and those of neither, in hours.
+// The spans of the night or the morning of a day, and those of neither.
 const EITHER: [(i64, i64); 4] = [
     (0, 6 * HOUR),
     (8 * HOUR, 10 * HOUR),
@@ -527,7 +527,7 @@ fn an_output_into_memory(rt: HostRuntime) {
     panic!(rt; "refused twice");
 }
 
-// What the records of `R` are, or why they are not read.
+// The records of `R`, or why they are not read.
 fn records(alloc: Global) -> Result<Records, RecordFault> {
     let file = Vec::from_slice(alloc, R.as_bytes())?;
     read_records(alloc, &mut MemoryIn::new(file, 7, None, None))
@@ -725,7 +725,7 @@ fn expect_printed(rt: &impl Abort, alloc: Global, words: &[&str], text: &[u8]) {
         let Ok(file) = Vec::from_slice(alloc, R.as_bytes()) else {
             return;
         };
-        let Ok(mut out) = Vec::with_capacity(alloc, 1_000) else {
+        let Ok(mut out) = Vec::with_capacity(alloc, 10_000) else {
             return;
         };
         let mut input = MemoryIn::new(file, 7, None, None);
@@ -743,10 +743,37 @@ fn expect_printed(rt: &impl Abort, alloc: Global, words: &[&str], text: &[u8]) {
     panic!(rt; "refused twice");
 }
 
+// Other command lines, and what they print.
+static PRINTED: [(&[&str], &str); 5] = [
+    (&["check", "[(h8){h4}]-[(h10){h1}]"], "ok\n"),
+    (&["at", "[(M5h10){h1}]", "2024-05-17T10:59:59"], "in\n"),
+    (
+        &["next", "[(t2){d5}]", "2024-01-05T12:00:00", "2024-02-01"],
+        "2024-01-06T00:00:00 out\n",
+    ),
+    (
+        &["ever", "[(M2d29){d1}]", "2096-03-01T00:00:00"],
+        "2104-02-29T00:00:00 in\n",
+    ),
+    (&["migrate", "r.csv"], MIGRATED),
+];
+
 #[test]
 fn commands_that_are_carried_out(rt: HostRuntime) {
     let alloc = rt.alloc();
     let canonical = b"[[(M4d1){M3}]*[(h10){h4}]]\n";
     expect_printed(&rt, alloc, &CANON_WORDS, canonical);
     expect_printed(&rt, alloc, &SCHEDULE_WORDS, SCHEDULE.as_bytes());
+    for (words, text) in &PRINTED {
+        expect_printed(&rt, alloc, words, text.as_bytes());
+    }
+}
+
+#[test]
+fn a_year_that_is_carried_out(rt: HostRuntime) {
+    let Ok(table) = table_of_a_year(rt.alloc()) else {
+        return;
+    };
+    let words = ["year", "r.csv", "17", "positive", "11", "2024"];
+    expect_printed(&rt, rt.alloc(), &words, table.as_slice());
 }
