@@ -2,6 +2,7 @@
 # Runs each test of memory refused with its first growth refused, then with its second, and so on to its last.
 # Run it after `rt ci`, which proves and builds the tests. It needs a C compiler.
 set -u
+ulimit -c 0
 here=$(cd "$(dirname "$0")" && pwd)
 tests=$here/../crates/gtd_rows/out/gtd_rows_tests
 [ -x "$tests" ] || { echo "no tests at $tests: run rt ci first" >&2; exit 1; }
@@ -26,6 +27,8 @@ for name in $names; do
         refused=$((refused + 1))
     done
     echo "${name#refusals::}: $((growth - 1))"
+    # Each of them takes memory: with none refused, nothing was tested.
+    [ "$growth" != 1 ] || failed=$((failed + 1))
 done
 
 echo "refusals: $refused growths refused, $failed failed"
