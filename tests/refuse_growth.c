@@ -1,5 +1,5 @@
-// Refuses one growth of a process that it is loaded into by LD_PRELOAD: the one whose number, from 1, REFUSE_GROWTH gives.
-// Tells so on standard error. Growths are the calls that ask for memory.
+// Refuses one growth of memory of a process that it is loaded into by LD_PRELOAD: the one whose number, from 1, the
+// variable REFUSE_GROWTH gives. Tells so on standard error. Growths are the calls of malloc, calloc and realloc.
 #include <errno.h>
 #include <stddef.h>
 #include <stdlib.h>
