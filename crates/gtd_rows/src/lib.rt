@@ -1,11 +1,13 @@
 //! Tests that cross crates: what each command line prints, or how it is refused; what the runs put of record files, and
-//! what stands where a device fails.
+//! what stands where a device fails or memory is refused.
 #![tactic(auto)]
 
 #[cfg(test)]
 mod devices;
 #[cfg(test)]
 mod job;
+#[cfg(test)]
+mod refusals;
 #[cfg(test)]
 mod runs;
 #[cfg(test)]

@@ -316,7 +316,7 @@ static NO_COMMANDS: [&[&str]; 46] = [
     &["at", "-[(h1){h1}]", "2024-01-01T00:00:00"],
 ];
 
-fn owned(alloc: Global, words: &[&str]) -> Result<Vec<String>, AllocError> {
+pub(crate) fn owned(alloc: Global, words: &[&str]) -> Result<Vec<String>, AllocError> {
     let mut owned = Vec::new(alloc);
     for word in words {
         owned.push(word.to_string(alloc)?)?;
