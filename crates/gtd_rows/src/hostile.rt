@@ -1,9 +1,9 @@
 //! Files and words that were cut short or made to break things, and how they are refused.
 
-use crate::job::{APRIL, Job, LEAP_YEAR, R, input, run};
+use crate::job::{APRIL, Job, LEAP_YEAR, R, run};
 use crate::tests::{expect_refused, owned, repeated};
 use gtd_core::{Fault, TextFault};
-use gtd_roads::{Direction, MemoryOut, RecordFault};
+use gtd_roads::{Direction, MemoryIn, MemoryOut, RecordFault};
 use gtd_runs::RunFault;
 use gtd_tool::{Plan, Refusal, plan};
 use std::alloc::Global;
@@ -270,7 +270,8 @@ fn joined(rt: &impl Abort, alloc: Global, parts: &[&[u8]]) -> Vec<u8> {
 
 // What a run answers and puts.
 fn done(rt: &impl Abort, alloc: Global, file: &[u8], job: Job) -> (Result<u64, RunFault>, Vec<u8>) {
-    let mut input = input(rt, alloc, file, None, None);
+    let bytes = Vec::from_slice(alloc, file).expect(rt, "memory");
+    let mut input = MemoryIn::new(bytes, 4_096, None, None);
     let mut output = MemoryOut::new(alloc, 20_000, 1_000, None).expect(rt, "memory");
     let answer = run(rt, alloc, job, &mut input, &mut output);
     let put = Vec::from_slice(alloc, output.bytes()).expect(rt, "memory");
@@ -464,60 +465,84 @@ fn line_ends(rt: HostRuntime) {
     }
 }
 
-// A byte in front of one of four fields, behind it, or in its place: what the record before it was is no longer accepted.
-fn spoiled<'a>(fields: [&'a [u8]; 4], place: usize, byte: &'a [u8], front: bool) -> [&'a [u8]; 11] {
-    let comma = b",".as_slice();
-    let none = b"".as_slice();
-    let mut marks = [none; 4];
-    if let Some(mark) = marks.get_mut(place) {
-        *mark = byte;
+// The fields, with commas between them, and a byte in front of one of them or behind it.
+fn spoiled(
+    rt: &impl Abort,
+    alloc: Global,
+    fields: &[&str],
+    place: usize,
+    byte: u8,
+    is_front: bool,
+) -> Vec<u8> {
+    let mut row = Vec::new(alloc);
+    for (number, field) in fields.iter().enumerate() {
+        if number > 0 {
+            row.push(b',').expect(rt, "memory");
+        }
+        if number == place && is_front {
+            row.push(byte).expect(rt, "memory");
+        }
+        row.extend_from_slice(field.as_bytes()).expect(rt, "memory");
+        if number == place && !is_front {
+            row.push(byte).expect(rt, "memory");
+        }
     }
-    let [first, second, third, fourth] = marks;
-    let [element, closed, vehicles, domain] = fields;
-    if front {
-        [
-            first, element, comma, second, closed, comma, third, vehicles, comma, fourth, domain,
-        ]
-    } else {
-        [
-            element, first, comma, closed, second, comma, vehicles, third, comma, domain, fourth,
-        ]
-    }
+    row
 }
 
-// Bytes that no field may have: the control characters that end no line, and all above those of letters.
+// The byte is refused on either side of each field of a header and of a row.
+fn expect_refused_byte(rt: &impl Abort, alloc: Global, byte: u8) -> Result<(), Fail> {
+    let names = ["element", "direction", "vehicle", "domain"];
+    let fields = ["17", "both", "7", "[(h1){h1}]"];
+    let faults: [(usize, bool, &str); 8] = [
+        (0, true, "row 1 Element"),
+        (0, false, "row 1 Element"),
+        (1, true, "row 1 Direction"),
+        (1, false, "row 1 Direction"),
+        (2, true, "row 1 Vehicle"),
+        (2, false, "row 1 Vehicle"),
+        (3, true, "row 1 Domain BadToken at 0"),
+        (3, false, "row 1 Domain BadToken at 10"),
+    ];
+    for (place, is_front, fault) in faults {
+        let header = spoiled(rt, alloc, &names, place, byte, is_front);
+        expect_fault(rt, alloc, &[header.as_slice()], "Header")?;
+        let row = spoiled(rt, alloc, &fields, place, byte, is_front);
+        expect_fault(rt, alloc, &[HEADER.as_bytes(), row.as_slice()], fault)?;
+    }
+    Ok(())
+}
+
+// Bytes that no field may have: the control characters that end no line, and all above the visible ones.
 #[test]
-fn bytes_of_no_text(rt: HostRuntime) -> Result<(), Fail> {
+fn bytes_of_no_field(rt: HostRuntime) -> Result<(), Fail> {
     let alloc = rt.alloc();
-    let names: [&[u8]; 4] = [b"element", b"direction", b"vehicle", b"domain"];
-    let fields: [&[u8]; 4] = [b"17", b"both", b"7", b"[(h1){h1}]"];
-    let faults = ["Element", "Direction", "Vehicle", "Domain BadToken at "];
     for byte in 0..=255u8 {
-        if (32..127).contains(&byte) || byte == b'\n' || byte == b'\r' {
-            continue;
-        }
-        let byte = [byte];
-        for (place, fault) in faults.iter().enumerate() {
-            for front in [true, false] {
-                let header = spoiled(names, place, byte.as_slice(), front);
-                expect_fault(&rt, alloc, header.as_slice(), "Header")?;
-                let row = spoiled(fields, place, byte.as_slice(), front);
-                let row = joined(&rt, alloc, row.as_slice());
-                let offset = match (place, front) {
-                    (3, true) => "0",
-                    (3, false) => "10",
-                    _ => "",
-                };
-                let fault = format!(in alloc; "row 1 {fault}{offset}")?;
-                let parts = [HEADER.as_bytes(), row.as_slice()];
-                expect_fault(&rt, alloc, &parts, fault.as_str())?;
-            }
+        let is_visible = byte >= b' ' && byte < 127;
+        if !is_visible && byte != b'\n' && byte != b'\r' {
+            expect_refused_byte(&rt, alloc, byte)?;
         }
     }
     Ok(())
 }
 
-// Fields and rows of a million bytes.
+// A piece a million times, with a front and an end, is rows that have this fault, and no header.
+fn expect_long_fault(
+    rt: &impl Abort,
+    alloc: Global,
+    front: &str,
+    piece: &str,
+    end: &str,
+    fault: &str,
+) -> Result<(), Fail> {
+    let mut long = String::from_str(alloc, front)?;
+    let pieces = repeated(alloc, piece, 1_000_000)?;
+    long.push_str(pieces.as_str())?;
+    long.push_str(end)?;
+    expect_fault(rt, alloc, &[HEADER.as_bytes(), long.as_bytes()], fault)?;
+    expect_fault(rt, alloc, &[long.as_bytes()], "Header")
+}
+
 #[test]
 fn long_fields(rt: HostRuntime) -> Result<(), Fail> {
     let alloc = rt.alloc();
@@ -535,26 +560,58 @@ fn long_fields(rt: HostRuntime) -> Result<(), Fail> {
         ("", "\"", "", "row 1 FieldCount"),
         ("\n", "\r\n", "x", "row 1 FieldCount"),
     ];
-    for (front, piece, back, fault) in table {
-        let long = repeated(alloc, piece, 1_000_000)?;
-        let parts = [
-            HEADER.as_bytes(),
-            front.as_bytes(),
-            long.as_bytes(),
-            back.as_bytes(),
-        ];
-        expect_fault(&rt, alloc, &parts, fault)?;
-        let parts = [front.as_bytes(), long.as_bytes(), back.as_bytes()];
-        expect_fault(&rt, alloc, &parts, "Header")?;
+    for (front, piece, end, fault) in table {
+        expect_long_fault(&rt, alloc, front, piece, end, fault)?;
     }
     let spaces = repeated(alloc, " ", 1_000_000)?;
-    let parts = [
-        HEADER.as_bytes(),
-        b"17,both,0,".as_slice(),
-        spaces.as_bytes(),
-        b"(h1){h1}\n",
-    ];
-    expect_migrated(&rt, alloc, &parts, &[b"17,both,0,[(h1){h1}]\n"]);
+    expect_migrated(
+        &rt,
+        alloc,
+        &[
+            b"element,direction,vehicle,domain\n17,both,0,",
+            spaces.as_bytes(),
+            b"(h1){h1}\n",
+        ],
+        &[b"17,both,0,[(h1){h1}]\n"],
+    );
+    Ok(())
+}
+
+// 128 basic domains in a field are accepted; of one more the place is that in the field.
+#[test]
+fn many_basic_domains_in_a_field(rt: HostRuntime) -> Result<(), Fail> {
+    let alloc = rt.alloc();
+    let most = repeated(alloc, "+(h1){h1}", 127)?;
+    let open = repeated(alloc, "[", 127)?;
+    let close = repeated(alloc, "+[(h1){h1}]]", 127)?;
+    for quote in ["", "\""] {
+        let front = format!(in alloc; "{HEADER}1,both,0,\n17,both,0,{quote}(h1){{h1}}{most}")?;
+        let file = format!(in alloc; "{front}{quote}\n")?;
+        let rows = format!(in alloc; "1,both,0,\n17,both,0,{open}[(h1){{h1}}]{close}\n")?;
+        expect_migrated(&rt, alloc, &[file.as_bytes()], &[rows.as_bytes()]);
+        let file = format!(in alloc; "{front}+(h1){{h1}}{quote}\n")?;
+        expect_fault(
+            &rt,
+            alloc,
+            &[file.as_bytes()],
+            "row 2 Domain TooMany at 1152",
+        )?;
+        // What comes before a limit of the whole text, and what comes after it.
+        let file = format!(in alloc; "{front}+(h1){{h1}}!{quote}\n")?;
+        expect_fault(
+            &rt,
+            alloc,
+            &[file.as_bytes()],
+            "row 2 Domain BadToken at 1160",
+        )?;
+        let file = format!(in alloc; "{front}+(h1){{h1}}+{quote}\n")?;
+        expect_fault(
+            &rt,
+            alloc,
+            &[file.as_bytes()],
+            "row 2 Domain TooMany at 1152",
+        )?;
+    }
     Ok(())
 }
 
@@ -577,56 +634,42 @@ fn two_hundred_codes(alloc: Global) -> Result<String, Fail> {
     Ok(list)
 }
 
+// A list is read, alone or as all types but these, and printed in ascending order with each code once.
+fn expect_list(rt: &impl Abort, alloc: Global, list: &str, ascending: &str) -> Result<(), Fail> {
+    for sign in ["", "!"] {
+        let file = format!(in alloc; "{HEADER_2}17,both,{sign}{list},\n")?;
+        let rows = format!(in alloc; "17,both,{sign}{ascending},\n")?;
+        expect_migrated(rt, alloc, &[file.as_bytes()], &[rows.as_bytes()]);
+        let file = format!(in alloc; "{HEADER}17,both,{sign}{list},\n")?;
+        expect_fault(rt, alloc, &[file.as_bytes()], "row 1 Vehicle")?;
+    }
+    Ok(())
+}
+
 #[test]
 fn long_lists_of_vehicles(rt: HostRuntime) -> Result<(), Fail> {
     let alloc = rt.alloc();
     let list = two_hundred_codes(alloc)?;
-    assert_eq!(rt; list.as_bytes().split(|byte| *byte == b';').count(), 200);
     let mut all = String::from_str(alloc, "1")?;
     for code in 2..100u32 {
         let item = format!(in alloc; ";{code}")?;
         all.push_str(item.as_str())?;
     }
+    expect_list(&rt, alloc, list.as_str(), all.as_str())?;
     let sevens = repeated(alloc, "07;", 199)?;
-    let front = [HEADER_2.as_bytes(), b"17,both,".as_slice()];
-    let [header, row] = front;
-    let table: [(&str, &str, &str, &str); 4] = [
-        ("", list.as_str(), "", all.as_str()),
-        ("", sevens.as_str(), "7", "7"),
-        ("", sevens.as_str(), "1", "1;7"),
-        ("", sevens.as_str(), "99", "7;99"),
-    ];
-    for (sign, codes, last, ascending) in table {
-        for sign in [sign, "!"] {
-            let parts = [
-                header,
-                row,
-                sign.as_bytes(),
-                codes.as_bytes(),
-                last.as_bytes(),
-                b",",
-            ];
-            let migrated = [
-                b"17,both,".as_slice(),
-                sign.as_bytes(),
-                ascending.as_bytes(),
-                b",\n",
-            ];
-            expect_migrated(&rt, alloc, &parts, &migrated);
-        }
+    for (last, ascending) in [("7", "7"), ("1", "1;7"), ("99", "7;99")] {
+        let list = format!(in alloc; "{sevens}{last}")?;
+        expect_list(&rt, alloc, list.as_str(), ascending)?;
     }
+    let million = repeated(alloc, "07;", 1_000_000)?;
+    let list = format!(in alloc; "{million}99;1")?;
+    expect_list(&rt, alloc, list.as_str(), "1;7;99")?;
     for last in [
         "", "0", "00", "100", "007", "!7", " 7", "7;", "7!", "+7", "x",
     ] {
         for sign in ["", "!"] {
-            let parts = [
-                header,
-                row,
-                sign.as_bytes(),
-                sevens.as_bytes(),
-                last.as_bytes(),
-                b",",
-            ];
+            let row = format!(in alloc; "17,both,{sign}{sevens}{last},\n")?;
+            let parts = [HEADER_2.as_bytes(), row.as_bytes()];
             expect_fault(&rt, alloc, &parts, "row 1 Vehicle")?;
         }
     }
@@ -676,4 +719,250 @@ fn great_elements(rt: HostRuntime) {
         let job = Job::Year(element, Direction::Positive, 99, 2024);
         assert_eq!(rt; done(&rt, alloc, file.as_slice(), job).0, answer);
     }
+}
+
+// Days that are no horizon or no days, as words of a schedule, and the words that come before them.
+static NO_DAYS: [(&str, &str, &str); 42] = [
+    ("2024-04-01", "2024-04-01", "horizon Empty"),
+    ("2024-04-02", "2024-04-01", "horizon Empty"),
+    ("2700-01-01", "2700-01-01", "horizon Empty"),
+    ("2700-01-01", "1901-01-01", "horizon Empty"),
+    // 146,099 days.
+    ("1901-01-01", "2301-01-03", "horizon TooLong"),
+    ("2024-04-01", "2424-04-03", "horizon TooLong"),
+    ("2299-12-30", "2700-01-01", "horizon TooLong"),
+    ("1901-01-01", "2700-01-01", "horizon TooLong"),
+    // The first and the last day that a word may name.
+    ("1900-12-31", "1901-01-02", "date Range"),
+    ("2699-12-31", "2700-01-02", "date Range"),
+    ("2700-01-02", "2700-01-03", "date Range"),
+    ("2700-01-02", "2024-04-01", "date Range"),
+    ("0000-01-01", "2024-04-01", "date Range"),
+    ("2024-04-01", "9999-12-31", "date Range"),
+    ("2024-04-01", "1800-01-01", "date Range"),
+    // No dates, in whatever year.
+    ("2023-02-29", "2024-04-01", "date NoSuchDate"),
+    ("2100-02-29", "2100-03-01", "date NoSuchDate"),
+    ("2024-04-31", "2024-05-02", "date NoSuchDate"),
+    ("2024-04-00", "2024-05-02", "date NoSuchDate"),
+    ("2024-00-01", "2024-05-02", "date NoSuchDate"),
+    ("2024-13-01", "2024-05-02", "date NoSuchDate"),
+    ("2024-04-01", "2024-99-99", "date NoSuchDate"),
+    ("2024-04-01", "9999-02-29", "date NoSuchDate"),
+    ("1900-02-29", "2024-04-01", "date NoSuchDate"),
+    // Not the form of a date.
+    ("", "", "date Shape"),
+    ("2024-04-01", "", "date Shape"),
+    ("2024-4-01", "2024-04-02", "date Shape"),
+    ("2024-04-1", "2024-04-02", "date Shape"),
+    ("24-04-01", "2024-04-02", "date Shape"),
+    (" 2024-04-01", "2024-04-02", "date Shape"),
+    ("2024-04-01 ", "2024-04-02", "date Shape"),
+    ("2024-04-01", "2024-04-02\n", "date Shape"),
+    ("+024-04-01", "2024-04-02", "date Shape"),
+    ("20240401", "2024-04-02", "date Shape"),
+    ("2024/04/01", "2024-04-02", "date Shape"),
+    ("2024-04-01T00:00:00", "2024-04-02", "date Shape"),
+    ("02024-04-01", "2024-04-02", "date Shape"),
+    ("2024-04-0\u{661}", "2024-04-02", "date Shape"),
+    // From the left, and the words before the horizon.
+    ("2024-02-30", "then", "date NoSuchDate"),
+    ("1900-01-01", "2024-02-30", "date Range"),
+    ("now", "2700-01-02", "date Shape"),
+    ("2024-04-02", "2024-04-31", "date NoSuchDate"),
+];
+
+// Words for days, and the numbers of the days.
+static DAYS: [(&str, &str, i64, i64); 6] = [
+    // 146,098 days.
+    ("1901-01-01", "2301-01-02", -25_202, 120_896),
+    ("2299-12-31", "2700-01-01", 120_529, 266_627),
+    ("2024-04-01", "2024-04-02", 19_814, 19_815),
+    ("2699-12-31", "2700-01-01", 266_626, 266_627),
+    ("1901-01-01", "1901-01-02", -25_202, -25_201),
+    ("1969-12-31", "1970-01-01", -1, 0),
+];
+
+// Words for a vehicle type, and the type of their plan: 255 for every number that is greater.
+static VEHICLES: [(&str, u8); 10] = [
+    ("0", 0),
+    ("1", 1),
+    ("11", 11),
+    ("0000000011", 11),
+    ("100", 100),
+    ("255", 255),
+    ("256", 255),
+    ("267", 255),
+    ("4294967307", 255),
+    ("9999999999", 255),
+];
+
+// Words for no number. Those that begin with a hyphen are options, of which there are none.
+static NO_NUMBERS: [&str; 14] = [
+    "",
+    " ",
+    "+1",
+    "-1",
+    "--",
+    "1 ",
+    " 1",
+    "1.0",
+    "1e1",
+    "x",
+    "00000000011",
+    "99999999999",
+    "\u{661}",
+    "18446744073709551627",
+];
+
+const USAGE: &str = "usage: gtd COMMAND ARGUMENTS\n";
+
+// The plan of the words.
+fn planned(rt: &impl Abort, alloc: Global, words: &[&str]) -> Plan {
+    let words = owned(alloc, words).expect(rt, "memory");
+    match plan(alloc, words) {
+        Ok(plan) => plan,
+        Err(refusal) => panic!(rt; "{refusal}"),
+    }
+}
+
+#[test]
+fn days_of_schedules(rt: HostRuntime) -> Result<(), Fail> {
+    let alloc = rt.alloc();
+    for (from, to, fault) in &NO_DAYS {
+        let line = format!(in alloc; "fault {fault}\n")?;
+        let words = ["schedule", "roads.csv", from, to, "11"];
+        expect_refused(&rt, alloc, &words, 1, line.as_str())?;
+        // A number's shape comes before any date, its range after all of them.
+        let words = ["schedule", "roads.csv", from, to, "100"];
+        expect_refused(&rt, alloc, &words, 1, line.as_str())?;
+        let words = ["schedule", "roads.csv", from, to, "x"];
+        expect_refused(&rt, alloc, &words, 2, USAGE)?;
+    }
+    for (from, to, first, end) in &DAYS {
+        let words = ["schedule", "", from, to, "11"];
+        match planned(&rt, alloc, &words) {
+            Plan::Schedule { horizon, file, .. } => {
+                assert_eq!(rt; horizon.from_day(), *first);
+                assert_eq!(rt; horizon.to_day(), *end);
+                assert_eq!(rt; file.as_str(), "");
+            }
+            _ => panic!(rt; "another plan"),
+        }
+    }
+    Ok(())
+}
+
+#[test]
+fn numbers_of_vehicles(rt: HostRuntime) -> Result<(), Fail> {
+    let alloc = rt.alloc();
+    for (word, code) in &VEHICLES {
+        let schedule = ["schedule", "roads.csv", "2024-04-01", "2024-04-02", word];
+        let year = ["year", "roads.csv", "17", "positive", word, "2024"];
+        match planned(&rt, alloc, &schedule) {
+            Plan::Schedule { vehicle, .. } => assert_eq!(rt; vehicle, *code, "{word}"),
+            _ => panic!(rt; "another plan"),
+        }
+        match planned(&rt, alloc, &year) {
+            Plan::Year { vehicle, .. } => assert_eq!(rt; vehicle, *code, "{word}"),
+            _ => panic!(rt; "another plan"),
+        }
+        // The range is looked at before the file is read, which is empty here.
+        let line = if *code == 0 || *code > 99 {
+            "fault VehicleRange\n"
+        } else {
+            "fault Header\n"
+        };
+        expect_refused(&rt, alloc, &schedule, 1, line)?;
+        expect_refused(&rt, alloc, &year, 1, line)?;
+    }
+    Ok(())
+}
+
+#[test]
+fn words_for_no_number(rt: HostRuntime) -> Result<(), Fail> {
+    let alloc = rt.alloc();
+    for word in NO_NUMBERS {
+        let lines: [&[&str]; 4] = [
+            &["schedule", "roads.csv", "2024-04-01", "2024-04-02", word],
+            &["year", "roads.csv", word, "positive", "11", "2024"],
+            &["year", "roads.csv", "17", "positive", word, "2024"],
+            &["year", "roads.csv", "17", "positive", "11", word],
+        ];
+        for words in lines {
+            expect_refused(&rt, alloc, words, 2, USAGE)?;
+        }
+    }
+    for word in [
+        "",
+        "both",
+        "Positive",
+        "NEGATIVE",
+        "positive ",
+        "pos",
+        "+",
+        "0",
+    ] {
+        let words = ["year", "roads.csv", "17", word, "11", "2024"];
+        expect_refused(&rt, alloc, &words, 2, USAGE)?;
+    }
+    // Years, which are looked at after the vehicle type and before the file.
+    for word in ["0", "1900", "2200", "65535", "65536", "67560", "9999999999"] {
+        let words = ["year", "roads.csv", "17", "positive", "11", word];
+        expect_refused(&rt, alloc, &words, 1, "fault YearRange\n")?;
+        let words = ["year", "roads.csv", "17", "positive", "0", word];
+        expect_refused(&rt, alloc, &words, 1, "fault VehicleRange\n")?;
+    }
+    for word in ["1901", "2199", "0000002024"] {
+        let words = ["year", "roads.csv", "9999999999", "negative", "99", word];
+        expect_refused(&rt, alloc, &words, 1, "fault Header\n")?;
+    }
+    Ok(())
+}
+
+// A command line of this many words, the first of them a command's name.
+fn expect_too_many(
+    rt: &impl Abort,
+    alloc: Global,
+    name: &str,
+    word: &str,
+    count: usize,
+) -> Result<(), Fail> {
+    let mut words = Vec::new(alloc);
+    words.push(name)?;
+    for _ in 1..count {
+        words.push(word)?;
+    }
+    expect_refused(rt, alloc, words.as_slice(), 2, USAGE)
+}
+
+#[test]
+fn empty_words_and_many_words(rt: HostRuntime) -> Result<(), Fail> {
+    let alloc = rt.alloc();
+    let domain = "[(h1){h1}]";
+    let moment = "2024-04-01T00:00:00";
+    let table: [(&[&str], u8, &str); 9] = [
+        (&["check", ""], 1, "fault Incomplete at 0\n"),
+        (&["at", "", ""], 1, "fault Incomplete at 0\n"),
+        (&["at", domain, ""], 1, "fault moment Shape\n"),
+        (&["ever", domain, ""], 1, "fault moment Shape\n"),
+        (&["next", domain, moment, ""], 1, "fault date Shape\n"),
+        (&["schedule", "", "", "", ""], 2, USAGE),
+        (&["schedule", "", "", "", "11"], 1, "fault date Shape\n"),
+        (&["year", "", "", "", "", ""], 2, USAGE),
+        // The file is not opened here, and is empty.
+        (&["migrate", ""], 1, "fault Header\n"),
+    ];
+    for (words, status, line) in table {
+        expect_refused(&rt, alloc, words, status, line)?;
+    }
+    for name in [
+        "check", "canon", "at", "next", "ever", "schedule", "year", "migrate", "", "x",
+    ] {
+        for word in ["", name, "[(h1){h1}]", "11", "-"] {
+            expect_too_many(&rt, alloc, name, word, 40)?;
+            expect_too_many(&rt, alloc, name, word, 400)?;
+        }
+    }
+    Ok(())
 }
