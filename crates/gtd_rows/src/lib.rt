@@ -1,5 +1,5 @@
-//! Tests that cross crates: what each command line prints, or how it is refused; what the runs put of record files, and
-//! what stands where a device fails.
+//! Tests that cross crates: what each command line prints, or how it is refused; what the runs put of record files, of
+//! hostile ones too, and what stands where a device fails.
 #![tactic(auto)]
 
 #[cfg(test)]
@@ -12,3 +12,5 @@ mod job;
 mod runs;
 #[cfg(test)]
 mod tests;
+#[cfg(test)]
+mod words;
