@@ -676,39 +676,35 @@ fn long_lists_of_vehicles(rt: HostRuntime) -> Result<(), Fail> {
     Ok(())
 }
 
+// Rows that close elements of ten digits in one direction.
+const GREAT_ROWS: &str = "9999999999,negative,0,\n4294967296,negative,0,\n0000000009,negative,0,\n";
+
 // An element of ten digits is printed whole, in the longest line that a schedule may have, and in its order as a number.
 #[test]
-fn great_elements(rt: HostRuntime) {
+fn great_elements_in_schedules(rt: HostRuntime) {
     let alloc = rt.alloc();
-    let rows =
-        b"9999999999,negative,0,\n4294967296,negative,0,\n0000000009,negative,0,\n".as_slice();
-    let file = joined(&rt, alloc, &[HEADER.as_bytes(), rows]);
-    let (answer, put) = done(
-        &rt,
-        alloc,
-        file.as_slice(),
-        Job::Schedule(19_814, 19_815, 99),
-    );
-    let lines: [&str; 4] = [
-        SCHEDULE,
-        "9,positive,99,2024-04-01T00:00:00,2024-04-02T00:00:00\n",
-        "4294967296,positive,99,2024-04-01T00:00:00,2024-04-02T00:00:00\n",
-        "9999999999,positive,99,2024-04-01T00:00:00,2024-04-02T00:00:00\n",
+    let file = joined(&rt, alloc, &[HEADER.as_bytes(), GREAT_ROWS.as_bytes()]);
+    let april = Job::Schedule(19_814, 19_815, 99);
+    let (answer, put) = done(&rt, alloc, file.as_slice(), april);
+    let lines: [&[u8]; 4] = [
+        SCHEDULE.as_bytes(),
+        b"9,positive,99,2024-04-01T00:00:00,2024-04-02T00:00:00\n",
+        b"4294967296,positive,99,2024-04-01T00:00:00,2024-04-02T00:00:00\n",
+        b"9999999999,positive,99,2024-04-01T00:00:00,2024-04-02T00:00:00\n",
     ];
-    let mut expected = Vec::new(alloc);
-    for line in lines {
-        expected
-            .extend_from_slice(line.as_bytes())
-            .expect(&rt, "memory");
-    }
     assert_eq!(rt; answer, Ok(4));
-    assert_eq!(rt; put.as_slice(), expected.as_slice());
-    assert_eq!(rt;
-        put.split_inclusive(|byte| *byte == b'\n')
-            .map(|line| line.len())
-            .max(),
-        Some(63)
-    );
+    assert_eq!(rt; put.as_slice(), joined(&rt, alloc, &lines).as_slice());
+    let longest = put
+        .split_inclusive(|byte| *byte == b'\n')
+        .map(|line| line.len())
+        .max();
+    assert_eq!(rt; longest, Some(63));
+}
+
+#[test]
+fn great_elements_in_tables(rt: HostRuntime) {
+    let alloc = rt.alloc();
+    let file = joined(&rt, alloc, &[HEADER.as_bytes(), GREAT_ROWS.as_bytes()]);
     for (element, answer) in [
         (9_999_999_999, Ok(366)),
         (4_294_967_296, Ok(366)),
@@ -717,6 +713,8 @@ fn great_elements(rt: HostRuntime) {
         (0, Err(RunFault::NoElement)),
     ] {
         let job = Job::Year(element, Direction::Positive, 99, 2024);
-        assert_eq!(rt; done(&rt, alloc, file.as_slice(), job).0, answer);
+        let (found, put) = done(&rt, alloc, file.as_slice(), job);
+        assert_eq!(rt; found, answer);
+        assert_eq!(rt; put.len() as u64, 17 * found.unwrap_or(0));
     }
 }
