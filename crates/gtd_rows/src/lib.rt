@@ -1,9 +1,11 @@
-//! Tests that cross crates: what each command line prints, or how it is refused; what the runs put of record files, and
-//! what stands where a device fails or memory is refused.
+//! Tests that cross crates: what each command line prints, or how it is refused; what the runs put of record files, of
+//! hostile ones too, and what stands where a device fails or memory is refused.
 #![tactic(auto)]
 
 #[cfg(test)]
 mod devices;
+#[cfg(test)]
+mod hostile;
 #[cfg(test)]
 mod job;
 #[cfg(test)]
@@ -12,3 +14,5 @@ mod refusals;
 mod runs;
 #[cfg(test)]
 mod tests;
+#[cfg(test)]
+mod words;

@@ -342,7 +342,7 @@ fn expect_printed(rt: &impl Abort, alloc: Global, words: &[&str], text: &str) ->
 }
 
 // The command line is refused with this status and line, and prints nothing.
-fn expect_refused(
+pub(crate) fn expect_refused(
     rt: &impl Abort,
     alloc: Global,
     words: &[&str],
@@ -434,7 +434,7 @@ fn other_command_lines_are_faults_of_usage(rt: HostRuntime) -> Result<(), Fail> 
 }
 
 // A text as often as this, one after the other.
-fn repeated(alloc: Global, text: &str, count: usize) -> Result<String, AllocError> {
+pub(crate) fn repeated(alloc: Global, text: &str, count: usize) -> Result<String, AllocError> {
     let mut repeated = String::new(alloc);
     for _ in 0..count {
         repeated.push_str(text)?;
