@@ -5,7 +5,7 @@ use Rattle.std.specs.List.{list_any}
 use Rattle.std.specs.Str.{bytes_eq, chars, IsUtf8}
 use Rattle.clap.specs.Lexer.{long_of, short_of, name_and_value}
 use Rattle.clap.specs.Walk.{finished, rows_after, Held, Names, Row, Rule, Walk, Waiting, idle, positional, all_of, answers_to, nothing_held, positional_held, reading_by, settled, walk_from, walked}
-use Rattle.clap.specs.Simple.{entered, Shape, built, built_leaf, filled, inherited, is_simple, label_of, names_of, subcommand_of, with_index}
+use Rattle.clap.specs.Simple.{entered, Shape, built, built_leaf, filled, inherited, is_simple, label_of, subcommand_of, with_index}
 use Rattle.clap.specs.Kinds.{Kinds, or_else}
 use Rattle.clap.specs.Faults.{bundle_fault, check_fault, defaults_fault, entered_fault, settle_fault, fault_of, flags_fault, is_simple_and_free, level_fault, turn_fault, walk_fault}
 use Rattle.clap.specs.declared.error.kind.ErrorKind.TheVariants.{InvalidSubcommand, UnknownArgument}

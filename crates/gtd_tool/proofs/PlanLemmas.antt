@@ -7,7 +7,7 @@ use Rattle.gtd_calendar.specs.Read.{date_in}
 use Rattle.gtd_tool.specs.CommandLines.{Text}
 use Rattle.gtd_tool.specs.CommandLines as command
 use Rattle.gtd_tool.specs.Plans.{Asked, AsksFor, AreDomainAndMoment, asked_by}
-use Rattle.gtd_tool.specs.Refusals.{Part, DomainPart, MomentPart, DatePart, HorizonPart, DaysPart, parts_of, AreNoHorizon, IsNoHorizon, IsNoWant, IsFaultless, IsRefusalOf, IsStopped, IsStoppedLine}
+use Rattle.gtd_tool.specs.Refusals.{Part, DomainPart, MomentPart, DatePart, HorizonPart, parts_of, AreNoHorizon, IsNoHorizon, IsNoWant, IsFaultless, IsRefusalOf, IsStopped, IsStoppedLine}
 use Rattle.gtd_tool.specs.declared.plans.Plan.{Plan}
 use Rattle.gtd_tool.specs.declared.refusal.Refusal.{Refusal}
 use Rattle.gtd_tool.specs.declared.refusal.Refusal.TheVariants as refusal
