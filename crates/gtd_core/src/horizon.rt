@@ -64,12 +64,13 @@ const DAY: i64 = 86_400;
 
 impl Horizon {
     ghost use Rattle.gtd_core.specs.Whole.{whole, from_day, to_day};
+    ghost use Rattle.gtd_core.specs.Whole as days;
 
     /// The horizon from one day up to and without another, or the first of its faults: `Empty`, `TooEarly`, `TooLate`,
     /// `TooLong`.
     pub fn new(from_day: i64, to_day: i64) -> Result<Horizon, HorizonFault>
         ensures horizon { MatchResult result
-            (λ h. (h.from_day ≡ from_day) × (h.to_day ≡ to_day) × IsHorizon from_day to_day)
+            (λ h. (days.from_day h ≡ from_day) × (days.to_day h ≡ to_day) × IsHorizon from_day to_day)
             (λ fault. IsFault fault from_day to_day) }
     {
         if to_day <= from_day {

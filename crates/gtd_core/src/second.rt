@@ -108,7 +108,7 @@ impl Span {
         }
     }
 
-    /// The span with a later end.
+    /// The span with a later end, which the caller keeps not before its own.
     pub fn until_later(self, until: Sec) -> Span
         requires later { self.until ≤ℤ until.0 }
         ensures value { result ≡ record { from = self.from; until = until.0 } }

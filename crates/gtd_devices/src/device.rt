@@ -27,7 +27,7 @@ pub trait Input {
     ghost failure_count: { Self → ℕ };
 
     /// Asks for bytes, which come to the front of a buffer that is not empty. `Done` comes only at the end. A failure
-    /// takes no byte, and is counted.
+    /// takes no byte, and is counted. The caller keeps the count under `u64::MAX` before the call.
     fn pull(&mut self, into: &mut [u8]) -> Pull
         requires room { 0 < length into.old }
         requires countable { failure_count self.old < u64.MAX }
@@ -60,7 +60,8 @@ pub trait Output {
     /// How often the device has failed.
     ghost failure_count: { Self → ℕ };
 
-    /// Offers bytes, at least one, of which a front is taken, at least one. A failure takes none, and is counted.
+    /// Offers bytes, at least one, of which a front is taken, at least one. A failure takes none, and is counted. The
+    /// caller keeps the count under `u64::MAX` before the call.
     fn put(&mut self, bytes: &[u8]) -> Put
         requires offered { 0 < length bytes.now }
         requires countable { failure_count self.old < u64.MAX }
@@ -69,7 +70,8 @@ pub trait Output {
         ensures failures { failure_count self.new
             ≡ failures_after_put result (failure_count self.old) };
 
-    /// Ends the output: `Took(0)`, or a failure, which is counted.
+    /// Ends the output: `Took(0)`, or a failure, which is counted. The caller keeps the count under `u64::MAX` before
+    /// the call.
     fn finish(&mut self) -> Put
         requires countable { failure_count self.old < u64.MAX }
         ensures bytes { Finishes (taken self.old) (taken self.new) result }

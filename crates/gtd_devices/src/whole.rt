@@ -1,10 +1,12 @@
 //! An input read whole.
 
-ghost use Rattle.std.specs.Prelude.{◌≡◌, ◌<◌, ◌≤◌, length, IfOk, IfSome, IsErrOf, IsTrue};
+ghost use Rattle.std.specs.Prelude.{◌≡◌, ◌<◌, ◌≤◌, length, IfOk, IfSome, IsErrOf, IsTrue, codes};
+ghost use Rattle.gtd_devices.specs.Names.{input_fault_name};
 ghost use Rattle.gtd_devices.specs.Whole.{failures_after_whole};
 
 use crate::device::{Input, Pull};
 use std::alloc::{AllocError, Global};
+use thiserror::Error;
 
 /// How many bytes are asked for at once.
 const PIECE: usize = 4096;
@@ -13,16 +15,34 @@ const PIECE: usize = 4096;
 const SILENT_PULLS: u32 = 1000;
 
 /// Why an input is not read whole.
-#[derive(Clone, Copy, Debug, PartialEq, Eq)]
+#[derive(Clone, Copy, Debug, PartialEq, Eq, Error)]
 pub enum InputFault {
     /// The input failed.
+    #[error("ReadFault")]
     ReadFault,
     /// More bytes came than are wanted.
+    #[error("TooLarge")]
     TooLarge,
     /// No byte came for 1,000 pulls in a row.
+    #[error("Endless")]
     Endless,
     /// Memory was refused.
+    #[error("NoMemory")]
     NoMemory,
+}
+
+impl InputFault {
+    /// The fault's name: that of its variant.
+    pub fn name(&self) -> &'static str
+        ensures text { result.now ≡ input_fault_name self.now }
+    {
+        match self {
+            InputFault::ReadFault => "ReadFault",
+            InputFault::TooLarge => "TooLarge",
+            InputFault::Endless => "Endless",
+            InputFault::NoMemory => "NoMemory",
+        }
+    }
 }
 
 impl From<AllocError> for InputFault {
@@ -38,7 +58,8 @@ impl From<AllocError> for InputFault {
 /// All bytes that are still to come of an input, at most `most` of them.
 ///
 /// The input is pulled 4,096 bytes at a time, until it is at its end or a fault is met, whichever happens first.
-/// `NoMemory` is answered only where memory was refused.
+/// `NoMemory` is answered only where memory was refused. The caller keeps the input's failures under `u64::MAX` before
+/// the call.
 pub fn read_whole<I: Input>(
     alloc: Global,
     input: &mut I,

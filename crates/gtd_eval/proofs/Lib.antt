@@ -1,4 +1,3 @@
-pub mod ManyCursors
 pub mod Repeats
 pub mod Shapes
 pub mod Unions

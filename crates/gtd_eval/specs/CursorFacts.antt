@@ -1,14 +1,8 @@
 -- Facts about lists of cursors.
 use Rattle.std.proofs.Common.{◌≡◌, ◌⊎◌, ◌↔◌, ℕ, ◌+◌, List, [], ◌∷◌, ◌++◌, inl, inr, arith}
 use Rattle.std.specs.Prelude.{ℤ}
-use Rattle.gtd_spans.specs.Normal.{IsNormal}
-use Rattle.gtd_eval.specs.NodeFacts.{node_list-normal}
-use Rattle.gtd_eval.specs.Cursors.{cursor_list, SomeHolds, total_nodes, total_work, NoneHigher}
+use Rattle.gtd_eval.specs.Cursors.{SomeHolds, total_nodes, total_work, NoneHigher}
 use Rattle.gtd_eval.specs.declared.cursor.Cursor.{Cursor}
-
--- what a cursor has still to hand out is a normal list
-pub cursor-normal : (c : Cursor) → IsNormal (cursor_list c)
-cursor-normal c = node_list-normal c.node c.sound
 
 pub some-append : (ls rs : List Cursor) (t : ℤ) → SomeHolds (ls ++ rs) t ↔ (SomeHolds ls t ⊎ SomeHolds rs t)
 some-append [] rs t = ((λ h. inr h), (λ h. elim h [ inl z ↦ absurd z | inr k ↦ k ]))

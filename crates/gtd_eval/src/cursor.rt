@@ -73,7 +73,8 @@ impl Cursor {
 
     /// The cursor of the seconds of any of the cursors, which were made over the same horizon; of none if there are
     /// none. It has the nodes of them all and, for n cursors, n - 1 more (1 for none). Its tree is balanced: 2^k
-    /// cursors add at most k to the height. After a refusal the cursors are gone.
+    /// cursors add at most k to the height. The caller keeps the result within 16,777,216 nodes. After a refusal the
+    /// cursors are gone.
     pub fn any(
         alloc: Global,
         mut cursors: Vec<Cursor>,
@@ -125,8 +126,8 @@ impl Cursor {
         Ok(Node::Two(Sweep::new(Op::Union), left, right))
     }
 
-    /// The cursor of the seconds of a horizon that another cursor over it does not have. It has one node more. After a
-    /// refusal that cursor is gone.
+    /// The cursor of the seconds of a horizon that another cursor over it does not have. It has one node more, and the
+    /// caller keeps it within 16,777,216 nodes. After a refusal that cursor is gone.
     pub fn outside(alloc: Global, cursor: Cursor, horizon: Horizon) -> Result<Cursor, AllocError>
         requires few { cursor_nodes cursor < 16777216 }
         ensures seconds { IfOk result (λ c. (t : ℤ) → Holds (cursor_list c) t

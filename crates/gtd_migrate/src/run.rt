@@ -61,7 +61,8 @@ fn put_migrated<O: Output>(
 /// in its canonical form. Answers the number of lines, the header included.
 ///
 /// The first fault of reading the file comes first (`Records`); then `WriteFault` or `NoMemory`, whichever happens
-/// first. Nothing is put before the whole file was read and accepted.
+/// first. Nothing is put before the whole file was read and accepted. The caller keeps the failures of both devices under
+/// `u64::MAX` before the call.
 pub fn run_migrate<I: Input, O: Output>(
     alloc: Global,
     input: &mut I,

@@ -1,5 +1,5 @@
 -- The starts of days come in ascending order.
-use Rattle.std.proofs.Common.{ℕ, zero, suc, ◌+◌, Bool, List, [], ◌∷◌, ◌++◌, map, filter, drop, inl, inr, arith, ℤ, pos, ◌+ℤ◌, ◌-ℤ◌, ◌*ℤ◌, ◌<ℤ◌, ◌≤ℤ◌}
+use Rattle.std.proofs.Common.{ℕ, zero, suc, ◌+◌, Bool, List, [], ◌∷◌, ◌++◌, map, filter, inl, inr, arith, ℤ, pos, ◌+ℤ◌, ◌-ℤ◌, ◌*ℤ◌, ◌<ℤ◌, ◌≤ℤ◌}
 use Rattle.std.proofs.lemmas.Bool.{cases_Bool}
 use Rattle.gtd_calendar.proofs.Signed.{signed_arith}
 use Rattle.gtd_calendar.specs.Fields.{day_fields}
@@ -40,11 +40,6 @@ ascending-before (x ∷ xs) b ys h = (after-at x xs b ys h.0, ascending-before x
 pub ascending-after : (xs ys : List ℤ) → IsAscending (xs ++ ys) → IsAscending ys
 ascending-after [] ys h = h
 ascending-after (x ∷ xs) ys h = ascending-after xs ys h.1
-
-pub ascending-drop : (k : ℕ) (xs : List ℤ) → IsAscending xs → IsAscending (drop k xs)
-ascending-drop zero xs h = h
-ascending-drop (suc k) [] h = tt
-ascending-drop (suc k) (x ∷ xs) h = ascending-drop k xs h.1
 
 passing-after : (d b : ℤ) (test : ℕ → Bool) (n k : ℕ) → b <ℤ (d +ℤ pos n) → AllAfter b (map (λ j. d +ℤ pos j) (filter test (numbers_from n k)))
 unfolding numbers_from

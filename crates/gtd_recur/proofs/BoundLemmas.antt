@@ -8,9 +8,7 @@ use Rattle.gtd_core.specs.DurationBound.{lookback_of, IsDuration, bound_of}
 use Rattle.gtd_core.specs.Parts.{start_parts, duration_parts}
 use Rattle.gtd_core.specs.Whole.{from_day, to_day}
 use Rattle.gtd_recur.specs.Work.{window, window_begin, whole_work, work_of}
-use Rattle.gtd_recur.specs.declared.runs.Runs.{Runs}
-use Rattle.gtd_recur.specs.RunsToCome.{runs_basic, runs_horizon, runs_ticks}
-use Rattle.gtd_recur.proofs.StartsLemmas.{length-between, length-starts, small-counts, window_begin-is}
+use Rattle.gtd_recur.proofs.StartsLemmas.{length-between, length-starts, window_begin-is}
 
 lookback-le : (p : DurationParts) → IsDuration p → lookback_of p ≤ 36600
 lookback-le p h = few (bound_of p) h.1
@@ -34,11 +32,3 @@ work_of-le d h =
 
     few : (a b c : ℤ) (k long : ℕ) → a ≡ b -ℤ pos k → k ≤ 36600 → a +ℤ pos long ≡ c → (c -ℤ b) ≤ℤ pos 146098 → long ≤ 182698
     few a b c k long e le f most = omega (arith, signed_arith)
-
--- at every moment no more than the work was counted
-pub runs_ticks-le : (r : Runs) → runs_ticks r ≤ work_of (runs_basic r) (runs_horizon r)
-unfolding whole_work
-runs_ticks-le r =
-    let s = r.starts in
-    let small = small-counts (start_parts s.basic.start) (window_begin s.basic s.horizon) s.day s.next_day (to_day s.horizon) s.looked s.handed _ s.in_window s.counted s.left in
-    omega (arith, small.0, small.1)

@@ -123,11 +123,6 @@ pub held_clock : (p : StartParts) (finer : Bool) (from s : ℕ) (o : Option ℕ)
     → IsNextPassing (shows (held p.hour finer) (held p.minute (is_some p.second)) s) from o → IsNextPassing (begins_at p) from o
 held_clock p finer from s o is second h = same_passing _ _ from o (held_shows p finer s is second) h
 
-pub held_in : (high : ℕ) (o : Option ℕ) (finer : Bool) → IsWithin 0 high o → IsWithin 0 high (held o finer)
-held_in high (Some x) finer h = h
-held_in high None true h = tt
-held_in high None false h = (omega arith, omega arith)
-
 -- an hour that is neither before nor after the one wanted fits
 pub in_hour : (given : Option ℕ) (h k v : ℕ) → given ≡ Some h → given ≡ Some k → h ≤ v → v ≤ k → agrees given v ≡ true
 in_hour given h k v e f low high =

@@ -1,5 +1,5 @@
 -- Which days a given year or month excludes.
-use Rattle.std.proofs.Common.{◌≡◌, ℕ, ◌+◌, ◌<◌, ◌≤◌, ◌⊎◌, inl, inr, Bool, true, false, Option, Some, None, refl, sym, arith, ℤ, pos, neg_ℤ, ◌+ℤ◌, ◌-ℤ◌, ◌<ℤ◌, ◌≤ℤ◌, is_some, IfSome, ◌&&◌, ◌||◌}
+use Rattle.std.proofs.Common.{◌≡◌, ℕ, ◌+◌, ◌<◌, ◌≤◌, ◌⊎◌, inl, inr, Bool, true, false, Option, Some, None, refl, sym, arith, ℤ, pos, neg_ℤ, ◌+ℤ◌, ◌-ℤ◌, ◌<ℤ◌, ◌≤ℤ◌, is_some, IfSome, ◌||◌}
 use Rattle.std.specs.Prelude.{IsTrue}
 use Rattle.std.specs.Option.{unwrap_or}
 use Rattle.std.specs.Int.{IsInRange}
@@ -89,10 +89,6 @@ months-else y low high a b h g ge p q = record {
 
     later : (z : ℤ) (m : ℕ) → ¬ (IsBefore z m (y +ℤ pos 1) 1) → IsBefore y high z m
     later z m none = by_lt_z y z (λ lt. inl lt) (λ le. absurd (none (inl (omega (arith, signed_arith)))))
-
--- a month is not before itself
-not-itself : (y : ℤ) (m : ℕ) → ¬ (IsBefore y m y m)
-not-itself y m before = elim before [ inl lt ↦ omega (arith, signed_arith) | inr e ↦ (let lt = e.1 in omega (arith, lt)) ]
 
 -- the days of a year, or of one of its months
 year-skipped : (year : ℤ) (month : Option ℕ) (low high : ℕ) (n : ℤ) → low ≡ unwrap_or month 1 → high ≡ unwrap_or month 12
@@ -252,10 +248,6 @@ year-low n y low e = rw e (year-from n (pos 1800) (chain (day_number (pos 1800) 
     chain : (a n : ℤ) → a ≡ neg_ℤ (pos 62_091) → neg_ℤ (pos 61802) ≤ℤ n → a ≤ℤ n
     chain a n e le = omega (arith, signed_arith)
 
--- what a start's year and month ask of a day
-true-right : (b : Bool) → IsTrue b → IsTrue (b && true)
-true-right b h = and_from _ _ h refl
-
 pub fit-year : (p : StartParts) (n : ℤ) (y : ℕ) → p.week ≡ None → p.year ≡ Some y → IsOf (pos y) p.month n → IsTrue (month_and_year_fit p n)
 fit-year p n y none is h = rw (none, is) (and_from _ _ (month p.month (month_of n) h.1) ((Decides-int_eq (pos y) (year_of n)).1 (sym h.0)))
   where
@@ -282,14 +274,6 @@ fit-month p n m free is h = and_from _ _ (rw is (eq-eqb _ _ (sym h))) (no_year (
 
 pub month-fit : (p : StartParts) (n : ℤ) (m : ℕ) → p.month ≡ Some m → IsTrue (month_and_year_fit p n) → IsOfMonth m n
 month-fit p n m is h = let parts = and_parts (agrees p.month (month_of n)) (is_some p.week || year_agrees_with p.year (year_of n)) h in sym (eqb-true m (month_of n) (rw is at parts.0))
-
--- or nothing does
-pub fit-all : (p : StartParts) (n : ℤ) → ((is_some p.week ≡ true) ⊎ (p.year ≡ None)) → p.month ≡ None → IsTrue (month_and_year_fit p n)
-fit-all p n free is = and_from _ _ (rw is refl) (no_year (is_some p.week) p.year (year_of n) free)
-  where
-    no_year : (week : Bool) (given : Option ℕ) (y : ℤ) → ((week ≡ true) ⊎ (given ≡ None)) → (week || year_agrees_with given y) ≡ true
-    no_year true given y h = refl
-    no_year false given y h = elim h [ inl e ↦ cc | inr e ↦ rw e refl ]
 
 pub run-same : (p q : ℤ → Type 0) (day end from until : ℤ) → ((n : ℤ) → p n → q n) → ((n : ℤ) → q n → p n) → IsNextRun p day end from until → IsNextRun q day end from until
 run-same p q day end from until f g h = record {

@@ -150,13 +150,6 @@ count-append f xs ys = sum_by-append (λ (x : ℤ). cond (f x) 1 0) xs ys
 pub count-is : (f : ℤ → Bool) (x : ℤ) (xs : List ℤ) → count_by f (x ∷ xs) ≡ cond (f x) 1 0 + count_by f xs
 count-is f x xs = let none : 0 + cond (f x) 1 0 ≡ cond (f x) 1 0 = omega arith in count-append f (x ∷ []) xs ∙ rw none refl
 
-one-most : (b : Bool) → cond b 1 0 ≤ 1
-one-most true = omega arith
-one-most false = omega arith
-
-count-cons : (f : ℤ → Bool) (x : ℤ) (xs : List ℤ) → count_by f (x ∷ xs) ≤ 1 + count_by f xs
-count-cons f x xs = omega (arith, count-is f x xs, one-most (f x))
-
 count-none : (f : ℤ → Bool) (a : ℤ) (k : ℕ) → ((i : ℕ) → i < k → f (a +ℤ pos i) ≡ false) → count_by f (days_from a k) ≡ 0
 unfolding days_from
 count-none f a zero none = refl

@@ -8,9 +8,6 @@ use Rattle.gtd_roads.specs.Vehicles.{and_code, codes_of, type_of}
 abbrev pub and_codes : List ℕ → Option (List ℕ) → Option (List ℕ)
 and_codes codes more = option_map (λ rest. codes ++ rest) more
 
-none_then : (more : Option (List ℕ)) → and_code None more ≡ None
-none_then more = refl
-
 one_then : (codes : List ℕ) (code : ℕ) (more : Option (List ℕ)) → and_codes codes (and_code (Some code) more) ≡ and_codes (codes ++ code ∷ []) more
 one_then codes code None = refl
 one_then codes code (Some rest) = ap Some (sym (append_assoc codes (code ∷ []) rest))

@@ -1,5 +1,5 @@
 -- What the columns of a row say of the row.
-use Rattle.std.proofs.Common.{◌≡◌, ◌≢◌, ◌<◌, ap, refl, arith, ℕ, zero, suc, List, [], ◌∷◌, length, Option, Some, None}
+use Rattle.std.proofs.Common.{◌≡◌, ◌≢◌, ◌<◌, ap, arith, ℕ, zero, suc, List, [], ◌∷◌, length, Option, Some, None}
 use Rattle.std.specs.Prelude.{Result, Ok, Err, MatchOption}
 use Rattle.csv.specs.Records.{field_at}
 use Rattle.gtd_core.specs.Trees.{Tree}
@@ -35,14 +35,6 @@ four (p ∷ q ∷ r ∷ s ∷ t ∷ more) a b c d n e f g h = absurd (omega arit
 pub a_column : (text : List ℕ) (tree : Tree) → 0 < length text → IsReading text (Ok tree) → IsDomainColumn text (Ok (Some tree))
 a_column [] tree some h = absurd (omega arith)
 a_column (b ∷ text) tree some h = h
-
-pub a_fault : (text : List ℕ) (why : TextFault) → 0 < length text → IsReading text (Err why) → IsDomainColumn text (Err why)
-a_fault [] why some h = absurd (omega arith)
-a_fault (b ∷ text) why some h = h
-
-pub no_column : (text : List ℕ) → length text ≡ 0 → IsDomainColumn text (Ok None)
-no_column [] h = refl
-no_column (b ∷ text) h = absurd (omega arith)
 
 -- a row whose four columns are read
 pub full_row : (version : Version) (row : ℕ) (fields : Fields) (a b c d : List ℕ) (element : ℕ) (closed : Closed) (types : Vehicles) (read : Result (Option Tree) TextFault)

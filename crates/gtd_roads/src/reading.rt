@@ -34,7 +34,7 @@ fn read_index(alloc: Global, bytes: &[u8]) -> Result<Records, RecordFault>
 /// The whole input is pulled first: `ReadFault` where it failed, `TooLarge` where more than 16,777,216 bytes came,
 /// `Endless` where 1,000 pulls in a row gave no byte, whichever happens first. Then come `Header`, and row by row
 /// `TooManyRows`, `FieldCount`, `Element`, `Direction`, `Vehicle`, `Domain`. `NoMemory` is answered only where memory
-/// was refused.
+/// was refused. The caller keeps the input's failures under `u64::MAX` before the call.
 pub fn read_records<I: Input>(alloc: Global, input: &mut I) -> Result<Records, RecordFault>
     requires countable { I.failure_count input.old < u64.MAX }
     // Where the input tells its bytes, they are a file of these records, or have this first fault.

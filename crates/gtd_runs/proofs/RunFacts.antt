@@ -7,8 +7,8 @@ use Rattle.gtd_roads.specs.File.{IsFile}
 use Rattle.gtd_roads.specs.Reading.{IsOfFile}
 use Rattle.gtd_roads.specs.Restriction.{Restriction}
 use Rattle.gtd_roads.specs.declared.fault.RecordFault.{RecordFault}
-use Rattle.gtd_runs.specs.Putting.{Puts, PutsText, answer_of, failures_after_stop, nothing_put, text_of}
-use Rattle.gtd_runs.specs.Run.{AcceptedFilesArePut, HasRun, IsUnhindered, PutsWhole, RefusedFilesPutNothing, TookFirst, TookFirstOf, failures_after_write}
+use Rattle.gtd_runs.specs.Putting.{Puts, PutsText, answer_of, nothing_put, text_of}
+use Rattle.gtd_runs.specs.Run.{AcceptedFilesArePut, HasRun, IsUnhindered, PutsWhole, RefusedFilesPutNothing, TookFirst, TookFirstOf}
 use Rattle.gtd_runs.specs.Run.{UnacceptedFilesPutNothing}
 use Rattle.gtd_runs.specs.declared.fault.RunFault.{RunFault}
 use Rattle.gtd_runs.specs.declared.fault.RunFault.TheVariants as fault
@@ -27,12 +27,6 @@ took_first x a b q lines puts =
 -- counted from nothing
 none_before : (n : ℕ) → 0 + n ≡ n
 none_before n = omega arith
-
--- the failures that a stop counts are those of its answer
-pub same_failures : (r : Result (Unit {0}) Stop) (q : Progress) (n : ℕ) → failures_after_write (answer_of r q) n ≡ failures_after_stop r n
-same_failures (Ok x) q n = refl
-same_failures (Err Output) q n = refl
-same_failures (Err Memory) q n = refl
 
 module _ (IsAccepted : List Restriction → Type 0) (IsText : List Restriction → List (List ℕ) → Type 0) where
   stopped : (x : Stop) (file old new : Option (List ℕ)) (found : List Restriction) (q : Progress)

@@ -102,7 +102,8 @@ fn put_all<O: Output>(output: &mut O, bytes: &[u8]) -> Result<(), ShortPut>
 }
 
 /// Puts a line, its end included: offers it whole, then what is left of it until it is taken. Counts the bytes that were
-/// taken, and the line where all of them were.
+/// taken, and the line where all of them were. The caller keeps both counts within a `u64`, and the output's failures
+/// under `u64::MAX` before the call.
 pub fn put_line<O: Output>(
     output: &mut O,
     progress: &mut Progress,
@@ -131,7 +132,7 @@ pub fn put_line<O: Output>(
     }
 }
 
-/// Ends the output, after the last line.
+/// Ends the output, after the last line. The caller keeps its failures under `u64::MAX` before the call.
 pub fn finish<O: Output>(output: &mut O) -> Result<(), Stop>
     requires countable { O.failure_count output.old < u64.MAX }
     ensures bytes { Keeps (O.taken output.old) (O.taken output.new) }

@@ -17,7 +17,7 @@ use std::alloc::Global;
 ///
 /// In order: `VehicleRange`; then the first fault of reading the file (`Records`); then `WriteFault` or `NoMemory`,
 /// whichever happens first. Nothing is put before the whole file was read and accepted. Each span is put as it is found:
-/// no list of them is kept.
+/// no list of them is kept. The caller keeps the failures of both devices under `u64::MAX` before the call.
 pub fn run_schedule<I: Input, O: Output>(
     alloc: Global,
     input: &mut I,

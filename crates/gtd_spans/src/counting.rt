@@ -79,7 +79,8 @@ impl<S: SpanSource> ByDay<S> {
         ByDay { source, held }
     }
 
-    /// How many of the seconds are on the day that begins at midnight. Those before its end are then done.
+    /// How many of the seconds are on the day that begins at midnight. Those before its end are then done. The caller keeps
+    /// the number of the day's end within an `i64`.
     pub fn count(&mut self, midnight: Sec) -> u32
         requires fits { (midnight.0 +ℤ pos 86400) <ℤ pos (2 ^ 63) }
         ensures count { IsCount (Holds self.old) midnight.0 86400 result }

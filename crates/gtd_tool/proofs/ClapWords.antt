@@ -5,7 +5,7 @@ use Rattle.std.specs.List.{list_any}
 use Rattle.std.specs.Str.{bytes_eq, chars, IsUtf8}
 use Rattle.clap.specs.Lexer.{long_of, short_of, name_and_value}
 use Rattle.clap.specs.Walk.{finished, rows_after, Held, Names, Row, Rule, Walk, Waiting, idle, positional, all_of, answers_to, nothing_held, positional_held, reading_by, settled, walk_from, walked}
-use Rattle.clap.specs.Simple.{entered, Shape, built, built_leaf, filled, inherited, is_simple, label_of, names_of, subcommand_of, with_index}
+use Rattle.clap.specs.Simple.{entered, Shape, built, built_leaf, filled, inherited, is_simple, label_of, subcommand_of, with_index}
 use Rattle.clap.specs.Kinds.{Kinds, or_else}
 use Rattle.clap.specs.Faults.{bundle_fault, check_fault, defaults_fault, entered_fault, settle_fault, fault_of, flags_fault, is_simple_and_free, level_fault, turn_fault, walk_fault}
 use Rattle.clap.specs.declared.error.kind.ErrorKind.TheVariants.{InvalidSubcommand, UnknownArgument}
@@ -57,11 +57,6 @@ held_at (some seen last) = record { rows = rows_for seen; pending = Some (id, la
 
 abbrev walk_at : Read → Waiting → Bool → Walk
 walk_at r waiting trailing = record { held = held_at r; waiting = waiting; position = 1; is_trailing = trailing; stopped = None }
-
-settles : (r : Read) → (settled rules (held_at r)).rows ≡ rows_for (words_of r)
-settles nothing = refl
-settles (some [] last) = refl
-settles (some (v ∷ vs) last) = refl
 
 next_held : (r : Read) (x : Text) → positional_held rules rule x (held_at r) ≡ held_at (some (words_of r) x)
 next_held nothing x = refl
@@ -290,12 +285,6 @@ top = (built gtd_app).top
 abbrev names : Names
 names = map label command_names
 
-names_are : names_of (built gtd_app) ≡ names
-names_are = refl
-
-subs_are : (built gtd_app).subs ≡ map leaf command_names
-subs_are = refl
-
 -- a name among these is met, and its subcommand is found
 name_met : (word : Text) (cs : List Text) → find (answers_to word) (map label cs) ≡ cond (list_any (λ c. bytes_eq c word) cs) (Some (label word)) None
 name_met word [] = refl
@@ -362,9 +351,6 @@ entered_rows name rest e = rw (sub_met name command_names, e) refl
 abbrev by_walk : Kinds → Walk → Kinds
 by_walk k w = or_else k (or_else (entered_fault (built gtd_app) w.stopped) (or_else (settle_fault [] false w.held)
     (or_else (defaults_fault (settled [] w.held).rows []) (check_fault top (finished [] w.held) (is_some (entered (built gtd_app) w.stopped))))))
-
-fault_is : (words : List Text) → fault_of gtd_app words ≡ by_walk (walk_fault top names start words) (fold (walked [] names) start words)
-fault_is words = refl
 
 or_else_none : (k : Kinds) → or_else k [] ≡ k
 or_else_none [] = refl

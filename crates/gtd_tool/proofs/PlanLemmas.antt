@@ -7,7 +7,7 @@ use Rattle.gtd_calendar.specs.Read.{date_in}
 use Rattle.gtd_tool.specs.CommandLines.{Text}
 use Rattle.gtd_tool.specs.CommandLines as command
 use Rattle.gtd_tool.specs.Plans.{Asked, AsksFor, AreDomainAndMoment, asked_by}
-use Rattle.gtd_tool.specs.Refusals.{Part, DomainPart, MomentPart, DatePart, HorizonPart, DaysPart, parts_of, AreNoHorizon, IsNoHorizon, IsNoWant, IsFaultless, IsRefusalOf, IsStopped, IsStoppedLine}
+use Rattle.gtd_tool.specs.Refusals.{Part, DomainPart, MomentPart, DatePart, HorizonPart, parts_of, AreNoHorizon, IsNoHorizon, IsNoWant, IsFaultless, IsRefusalOf, IsStopped, IsStoppedLine}
 use Rattle.gtd_tool.specs.declared.plans.Plan.{Plan}
 use Rattle.gtd_tool.specs.declared.refusal.Refusal.{Refusal}
 use Rattle.gtd_tool.specs.declared.refusal.Refusal.TheVariants as refusal
@@ -41,20 +41,6 @@ stopped_horizon first second third x m to r p d h =
     after_moment first second x m (DatePart third ∷ HorizonPart second third ∷ []) r p
     (stopped_after (DatePart third) (HorizonPart second third ∷ []) r (date_faultless third to d)
     (inr (inl (m, to, p.moment_read, d, h), horizon_no_want _ to r h)))
-
--- a first fault of the parts in front is one of them all
-pub stopped_front : (p q : Part) (ps : List Part) (r : Refusal) → IsStopped (p ∷ q ∷ []) r → IsStopped (p ∷ q ∷ ps) r
-stopped_front p q ps r (inl m) = inl m
-stopped_front p q ps r (inr (inl h, w)) = inr (inl h, w)
-stopped_front p q ps r (inr (inr (none, inl h), w)) = inr (inr (none, inl h), w)
-stopped_front p q ps r (inr (inr (none, inr h), w)) = absurd h.1
-
-pub stopped_days : (first second : Text) (from to : ℤ) (r : Refusal) → date_in first ≡ Ok from → date_in second ≡ Ok to → AreNoHorizon from to r
-    → IsStopped (DatePart first ∷ DatePart second ∷ DaysPart first second ∷ []) r
-stopped_days first second from to r d e h =
-    stopped_after (DatePart first) (DatePart second ∷ DaysPart first second ∷ []) r (date_faultless first from d)
-    (stopped_after (DatePart second) (DaysPart first second ∷ []) r (date_faultless second to e)
-    (inr (inl (from, to, d, e, h), horizon_no_want from to r h)))
 
 pub plan_only : (words : List Text) (result : Result Plan Refusal) → IfOk result (λ plan. AsksFor words (asked_by plan))
     → IfErr result (IsStoppedLine words) → (asked : Asked) → AsksFor words asked

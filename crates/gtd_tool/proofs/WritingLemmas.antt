@@ -35,13 +35,6 @@ part_of a b bytes rest so = record { rest = rest; takes = so }
 pub part_none : (a : Option (List ℕ)) (bytes : List ℕ) → AppendsPart a a bytes
 part_none a bytes = part_of a a bytes bytes (takes_none a bytes)
 
--- all of the bytes are a first part
-pub part_all : (a b c : Option (List ℕ)) (bytes : List ℕ) → Appends a b bytes → Keeps b c → AppendsPart a c bytes
-part_all a b c bytes all kept = record {
-  rest = [];
-  takes = record { part = bytes; before = sym (append-nil bytes); taken = Appends-kept a b c bytes all kept };
-}
-
 -- a first part of the next bytes
 pub part_more : (a b c : Option (List ℕ)) (front bytes back : List ℕ) → Appends a b front → AppendsPart b c bytes → AppendsPart a c (front ++ (bytes ++ back))
 part_more a b c front bytes back before next = record {

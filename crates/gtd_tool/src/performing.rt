@@ -36,7 +36,7 @@ use std::io::Write;
 /// 2199; the first fault of reading the record file (`Records`); `NoElement` where no record names the element. `HasYear`
 /// is the answer where all later changes are asked of a domain that gives a year. Nothing is written before these, nor
 /// before the record file was read and accepted. `Write` and `Memory` come as they happen, and the writer has then taken
-/// a first part of what is printed.
+/// a first part of what is printed. The caller keeps the input's failures under `u64::MAX` before the call.
 pub fn perform<I: Input, W: Write>(
     alloc: Global,
     plan: &Plan,

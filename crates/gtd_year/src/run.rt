@@ -65,7 +65,7 @@ fn put_year<O: Output>(
 ///
 /// In order: `VehicleRange`; `YearRange`; the first fault of reading the file (`Records`); `NoElement` where no record
 /// names the element; then `WriteFault` or `NoMemory`, whichever happens first. Nothing is put before the whole file was
-/// read and accepted.
+/// read and accepted. The caller keeps the failures of both devices under `u64::MAX` before the call.
 pub fn run_year<I: Input, O: Output>(
     alloc: Global,
     input: &mut I,

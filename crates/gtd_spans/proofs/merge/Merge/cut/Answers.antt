@@ -2,7 +2,6 @@ use Rattle.std.proofs.Common.{◌≡◌, Some, None, refl, arith, ◌∷◌}
 use Rattle.std.specs.Prelude.{◌≤ℤ◌, ◌<ℤ◌}
 use Rattle.std.proofs.lemmas.Int.{ints}
 use Rattle.std.proofs.lemmas.Grind.{common_steps}
-use Rattle.gtd_core.specs.Interval.{Interval}
 use Rattle.gtd_core.specs.declared.domain.Op.TheVariants.{Minus}
 use Rattle.gtd_spans.specs.declared.merge.Side.TheVariants.{Open, Held}
 use Rattle.gtd_spans.proofs.UnionSteps.{from-weaken, normal-begins}
