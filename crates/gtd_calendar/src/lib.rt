@@ -9,9 +9,9 @@ pub use clock::{day_of_sec, end_of, second_of_day};
 pub use day::{DayFields, day_of, fields, weekday};
 pub use stamp::{StampFault, read_date, read_stamp, write_clock, write_date, write_stamp};
 
-pub mod clock;
-pub mod day;
+mod clock;
+mod day;
 pub mod laws;
-pub mod stamp;
+mod stamp;
 #[cfg(test)]
 mod tests;
