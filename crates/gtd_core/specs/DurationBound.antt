@@ -19,7 +19,7 @@ abbrev pub lookback_of : DurationParts → ℕ
 lookback_of parts = (bound_of parts + 86399) / 86400
 
 -- each number has at most six digits
-pub record IsDurationText (parts : DurationParts) : Type 0 where
+pub record HasSixDigits (parts : DurationParts) : Type 0 where
   pub years : parts.years ≤ 999999
   pub months : parts.months ≤ 999999
   pub weeks : parts.weeks ≤ 999999
@@ -30,4 +30,4 @@ pub record IsDurationText (parts : DurationParts) : Type 0 where
 
 -- and the bound is at most 36,600 days
 abbrev pub IsDuration : DurationParts → Type 0
-IsDuration parts = IsDurationText parts × (bound_of parts ≤ 3162240000)
+IsDuration parts = HasSixDigits parts × (bound_of parts ≤ 3162240000)

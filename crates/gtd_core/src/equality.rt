@@ -1,6 +1,7 @@
 //! When two expressions are equal: written by hand, since it goes by trees.
 
 ghost use Rattle.std.specs.Prelude.{◌≡◌};
+ghost use Rattle.gtd_core.specs.Parts.{domain_tree};
 ghost use Rattle.gtd_core.specs.Trees.{Single, tree_of};
 ghost use Rattle.gtd_core.specs.Equality.{same_start, same_duration, same_op, same_tree};
 ghost use Rattle.gtd_core.specs.EqualTrees.{tree_equivalence, tree_partial_equivalence};
@@ -31,9 +32,9 @@ impl Eq for Expr {
 }
 
 impl PartialEq for Domain {
-    ghost eq = { λ a b. same_tree (tree_of a.expr) (tree_of b.expr) };
+    ghost eq = { λ a b. same_tree (domain_tree a) (domain_tree b) };
 
-    ghost laws = { on_per (λ domain. tree_of domain.expr) tree_partial_equivalence };
+    ghost laws = { on_per domain_tree tree_partial_equivalence };
 
     fn eq(&self, other: &Domain) -> bool {
         *self.expr() == *other.expr()
@@ -41,7 +42,7 @@ impl PartialEq for Domain {
 }
 
 impl Eq for Domain {
-    ghost laws = { on_equiv (λ domain. tree_of domain.expr) tree_equivalence };
+    ghost laws = { on_equiv domain_tree tree_equivalence };
 }
 
 #[tactic(auto, using(crate::specs::EqualTrees::start_decided, crate::specs::EqualTrees::duration_decided))]

@@ -1,7 +1,7 @@
 //! Seconds of the local civil clock, and spans of them.
 
 ghost use Rattle.std.specs.Prelude.{◌≡◌, ◌<ℤ◌, ◌≤ℤ◌, ◌↔◌, ℤ, IsTrue, MatchOption};
-ghost use Rattle.gtd_core.specs.Days.{IsOnDay};
+ghost use Rattle.gtd_core.specs.Days.{IsOnDay, day_of_second};
 ghost use Rattle.gtd_core.specs.Interval.{Interval, Within};
 
 use std::marker::Model;
@@ -15,6 +15,7 @@ impl Sec {
     /// The number of the day that the second is on.
     pub fn day(self) -> i64
         ensures on_day { IsOnDay self.0 result }
+        ensures value { result ≡ day_of_second self.0 }
     {
         self.0.div_euclid(86_400)
     }

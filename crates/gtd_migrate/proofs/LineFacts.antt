@@ -11,7 +11,7 @@ use Rattle.gtd_core.specs.declared.start.StartParts.{StartParts}
 use Rattle.gtd_core.specs.declared.duration.DurationParts.{DurationParts}
 use Rattle.gtd_core.specs.declared.domain.Op.{Op}
 use Rattle.gtd_core.specs.declared.domain.Op.TheVariants.{Union, Meet, Minus}
-use Rattle.gtd_core.specs.DurationBound.{IsDurationText}
+use Rattle.gtd_core.specs.DurationBound.{HasSixDigits}
 use Rattle.gtd_core.specs.StartRanges.{IsStart, IsWithin}
 use Rattle.gtd_core.specs.Trees.{Tree, Single, Joined, AreValid, leaf_count}
 use Rattle.gtd_text.specs.Canonical.{canonical, clock_fields, day_fields, duration_text, field_text, month_fields, number_text, numbers_text, or_zero, place_fields, place_text, sign_text, start_text, weekday_text, weekdays_text, year_text}
@@ -89,7 +89,7 @@ zero_short [] n some few = some
 zero_short (b ∷ text) n some few = few
 
 -- the numbers of a duration have at most 49 bytes
-duration_short : (duration : DurationParts) → IsDurationText duration → length (duration_text duration) ≤ 49
+duration_short : (duration : DurationParts) → HasSixDigits duration → length (duration_text duration) ≤ 49
 unfolding duration_text
 duration_short d h =
     let y = number_text (codes "y") d.years in

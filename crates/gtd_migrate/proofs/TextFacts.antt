@@ -13,7 +13,7 @@ use Rattle.gtd_core.specs.declared.start.StartParts.{StartParts}
 use Rattle.gtd_core.specs.declared.duration.DurationParts.{DurationParts}
 use Rattle.gtd_core.specs.declared.domain.Op.{Op}
 use Rattle.gtd_core.specs.declared.domain.Op.TheVariants.{Union, Meet, Minus}
-use Rattle.gtd_core.specs.DurationBound.{IsDurationText}
+use Rattle.gtd_core.specs.DurationBound.{HasSixDigits}
 use Rattle.gtd_core.specs.StartRanges.{IsStart, IsWithin}
 use Rattle.gtd_core.specs.Trees.{Tree, Single, Joined, AreValid, leaf_count}
 use Rattle.gtd_text.proofs.CanonicalText.{canonical_stands}
@@ -146,7 +146,7 @@ zero_plain : (text : List ℕ) → IsPlain text → IsPlain (or_zero text)
 zero_plain [] p = refl
 zero_plain (b ∷ text) p = p
 
-duration_plain : (duration : DurationParts) → IsDurationText duration → IsPlain (duration_text duration)
+duration_plain : (duration : DurationParts) → HasSixDigits duration → IsPlain (duration_text duration)
 unfolding duration_text
 duration_plain d h =
     let y = number_text (codes "y") d.years in
