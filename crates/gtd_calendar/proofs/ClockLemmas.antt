@@ -4,9 +4,9 @@ use Rattle.std.proofs.Common.{◌≤ℤ◌}
 use Rattle.std.specs.Int.{int_rem_euclid}
 use Rattle.jiff_core.proofs.SignedLemmas.{signed_arith, one_part}
 use Rattle.gtd_core.specs.declared.duration.DurationParts.{DurationParts}
-use Rattle.gtd_core.specs.Days.{IsOnDay}
 use Rattle.gtd_core.specs.DurationBound.{bound_of, clock_seconds}
-use Rattle.gtd_calendar.specs.Clock.{day_of_second, second_of_day, months_later, stop}
+use Rattle.gtd_core.specs.Days.{day_of_second}
+use Rattle.gtd_calendar.specs.Clock.{second_of_day, months_later, stop}
 use Rattle.gtd_calendar.proofs.MonthLemmas.{months_later-bound}
 
 -- a second is its day and its place in the day
@@ -26,16 +26,6 @@ second-only s n k low e =
     only : (s n m : ℤ) (k l : ℕ) → k < 86400 → s ≡ pos 86400 *ℤ n +ℤ pos k → s ≡ pos 86400 *ℤ m +ℤ pos l → l < 86400
         → (m ≡ n) × (l ≡ k)
     only s n m k l low e f high = (omega (arith, signed_arith), omega (arith, signed_arith))
-
--- the day that a second is on
-pub on_day-is : (s n : ℤ) → IsOnDay s n → n ≡ day_of_second s
-on_day-is s n h =
-    let parts = second-parts s in
-    on s n (day_of_second s) (second_of_day s) h.0 h.1 parts.0 parts.1
-  where
-    on : (s n m : ℤ) (k : ℕ) → (n *ℤ pos 86400) ≤ℤ s → s <ℤ ((n +ℤ pos 1) *ℤ pos 86400) → s ≡ pos 86400 *ℤ m +ℤ pos k
-        → k < 86400 → n ≡ m
-    on s n m k from until e low = omega (arith, signed_arith)
 
 -- a stretch ends at or after its begin, and is never longer than its bound
 pub stop-bound : (p : DurationParts) (b : ℤ) → (b ≤ℤ stop p b) × (stop p b ≤ℤ (b +ℤ pos (bound_of p)))

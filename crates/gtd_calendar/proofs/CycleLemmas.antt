@@ -8,7 +8,8 @@ use Rattle.gtd_core.specs.DurationBound.{clock_seconds}
 use Rattle.gtd_calendar.specs.Calendar.{is_leap_year, year_length, IsWeekOf, month_length, days_of_months, first_day}
 use Rattle.gtd_calendar.specs.Calendar.{day_number, IsDateOf, year_of, month_of, day_of_month, place_in_year}
 use Rattle.gtd_calendar.specs.Calendar.{weekday_of, thursday_of, week_of, week_year_of}
-use Rattle.gtd_calendar.specs.Clock.{day_of_second, second_of_day, month_count, counted_year, counted_month}
+use Rattle.gtd_core.specs.Days.{day_of_second}
+use Rattle.gtd_calendar.specs.Clock.{second_of_day, month_count, counted_year, counted_month}
 use Rattle.gtd_calendar.specs.Clock.{day_in_month, months_later, stop}
 use Rattle.gtd_calendar.proofs.YearLemmas.{first_day-cycle}
 use Rattle.gtd_calendar.proofs.DateLemmas.{date_of-is, date_of-only, place_in_year-is}

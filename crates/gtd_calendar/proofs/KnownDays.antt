@@ -2,7 +2,8 @@
 use Rattle.std.specs.Prelude.{◌≡◌, ℕ, pos, negsuc, neg_ℤ}
 use Rattle.std.proofs.Common.{refl}
 use Rattle.gtd_core.specs.declared.duration.DurationParts.{DurationParts}
-use Rattle.gtd_calendar.specs.Clock.{day_of_second, second_of_day, day_in_month, months_later, stop}
+use Rattle.gtd_core.specs.Days.{day_of_second}
+use Rattle.gtd_calendar.specs.Clock.{second_of_day, day_in_month, months_later, stop}
 use Rattle.gtd_calendar.specs.Calendar.{first_day, days_of_months, day_number, year_of, place_in_year, last_begun}
 use Rattle.gtd_calendar.specs.Calendar.{month_of, day_of_month, weekday_of, thursday_of, week_year_of, week_of}
 

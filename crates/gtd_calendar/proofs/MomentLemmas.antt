@@ -12,12 +12,12 @@ use Rattle.gtd_calendar.specs.declared.stamp.StampFault.TheVariants.{Shape, NoSu
 use Rattle.gtd_calendar.specs.Calendar.{IsDate, day_number}
 use Rattle.gtd_calendar.specs.Clock.{IsClock}
 use Rattle.gtd_calendar.specs.Stamp.{IsYmdText, IsHmsText, IsMomentText, IsStampText}
-use Rattle.gtd_calendar.specs.Read.{IsReadableSecond, IsReadStamp, is_date, is_clock, second_in_range, second_if_any}
+use Rattle.gtd_calendar.specs.Read.{IsReadStamp, is_date, is_clock, second_in_range, second_if_any}
 use Rattle.gtd_calendar.specs.Read.{second_number, ymd_in, hms_in, stamp_in}
 use Rattle.gtd_calendar.specs.ReadParts.{IsYmd, IsHms, IsMoment}
 use Rattle.gtd_calendar.proofs.ShapeLemmas.{ymd_in-is, ymd_in-shape, hms_in-is, hms_in-shape}
 use Rattle.gtd_calendar.specs.Calendar.{IsCalendarDay}
-use Rattle.gtd_calendar.specs.Clock.{day_of_second}
+use Rattle.gtd_core.specs.Days.{IsMomentSecond, day_of_second}
 use Rattle.gtd_calendar.specs.Stamp.{stamp_text}
 use Rattle.gtd_calendar.proofs.ClockLemmas.{second-parts}
 use Rattle.gtd_calendar.proofs.StampLemmas.{is_date-true, is_date-parts, stamp_text-is}
@@ -52,17 +52,17 @@ pub is_clock-parts : (h m s : ℕ) → is_clock h m s ≡ true → IsClock h m s
 is_clock-parts h m s e = grind (arith, nat_tests)
 
 second-inside : (s : ℤ) → (int_lt s (neg_ℤ (pos 2_177_452_800)) || int_lt (pos 7_258_118_399) s) ≡ false
-    → IsReadableSecond s
+    → IsMomentSecond s
 second-inside s e = grind (arith, signed_arith)
 
 second-outside : (s : ℤ) → (int_lt s (neg_ℤ (pos 2_177_452_800)) || int_lt (pos 7_258_118_399) s) ≡ true
-    → IsReadableSecond s → ⊥
+    → IsMomentSecond s → ⊥
 second-outside s e h = grind (arith, signed_arith)
 
-second_in_range-ok : (s : ℤ) → IsReadableSecond s → second_in_range s ≡ Ok (record { 0 = s })
+second_in_range-ok : (s : ℤ) → IsMomentSecond s → second_in_range s ≡ Ok (record { 0 = s })
 second_in_range-ok s h = grind (arith, signed_arith)
 
-second_in_range-err : (s : ℤ) → (IsReadableSecond s → ⊥) → second_in_range s ≡ Err Range
+second_in_range-err : (s : ℤ) → (IsMomentSecond s → ⊥) → second_in_range s ≡ Err Range
 second_in_range-err s never =
     rw (true_from_ne_false (int_lt s (neg_ℤ (pos 2_177_452_800)) || int_lt (pos 7_258_118_399) s)
     (λ e. never (second-inside s e))) refl
@@ -172,16 +172,16 @@ stamp_in-is text =
         ))
 
 -- the day of a second that is read is one of the calendar
-readable-day : (s : ℤ) → IsReadableSecond s → IsCalendarDay (day_of_second s)
+readable-day : (s : ℤ) → IsMomentSecond s → IsCalendarDay (day_of_second s)
 readable-day s h =
     let parts = second-parts s in
     near s (day_of_second s) _ parts.0 parts.1 h
   where
-    near : (s n : ℤ) (k : ℕ) → s ≡ pos 86400 *ℤ n +ℤ pos k → k < 86400 → IsReadableSecond s → IsCalendarDay n
+    near : (s n : ℤ) (k : ℕ) → s ≡ pos 86400 *ℤ n +ℤ pos k → k < 86400 → IsMomentSecond s → IsCalendarDay n
     near s n k e low h = (omega (arith, signed_arith), omega (arith, signed_arith))
 
 -- what is written of a second that is read is read again
-pub stamp_in-again : (s : ℤ) → IsReadableSecond s → stamp_in (stamp_text s) ≡ Ok (record { 0 = s })
+pub stamp_in-again : (s : ℤ) → IsMomentSecond s → stamp_in (stamp_text s) ≡ Ok (record { 0 = s })
 stamp_in-again s h = sym (stamp_in-only (stamp_text s) (Ok (record { 0 = s })) (stamp_text-is s (readable-day s h), h))
 
 -- a text is no moment if what follows its first ten bytes is no clock

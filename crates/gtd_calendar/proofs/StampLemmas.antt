@@ -9,7 +9,8 @@ use Rattle.gtd_calendar.specs.declared.stamp.StampFault.{StampFault}
 use Rattle.gtd_calendar.specs.declared.stamp.StampFault.TheVariants.{Shape, NoSuchDate, Range}
 use Rattle.gtd_calendar.specs.Calendar.{IsDate, IsCalendarDay, month_length, day_number, year_of, month_of}
 use Rattle.gtd_calendar.specs.Calendar.{day_of_month}
-use Rattle.gtd_calendar.specs.Clock.{day_of_second, second_of_day}
+use Rattle.gtd_core.specs.Days.{day_of_second}
+use Rattle.gtd_calendar.specs.Clock.{second_of_day}
 use Rattle.gtd_calendar.specs.Stamp.{date_text, stamp_text, hms_text, IsYmdText, IsDateText}
 use Rattle.gtd_calendar.specs.Stamp.{IsStampText}
 use Rattle.gtd_calendar.specs.Read.{IsReadableDay, IsReadDate, is_date, day_in_range, day_if_any, ymd_in, date_in}

@@ -3,7 +3,8 @@ use Rattle.std.proofs.Common.{◌≡◌, ℕ, ◌+◌, ◌-◌, ◌*◌, ◌≤�
 use Rattle.jiff_core.proofs.SignedLemmas.{signed_arith}
 use Rattle.gtd_core.specs.declared.duration.DurationParts.{DurationParts}
 use Rattle.gtd_calendar.specs.Calendar.{month_length, IsDateOf, day_number, year_of, month_of, day_of_month}
-use Rattle.gtd_calendar.specs.Clock.{day_of_second, month_count, counted_year, counted_month}
+use Rattle.gtd_core.specs.Days.{day_of_second}
+use Rattle.gtd_calendar.specs.Clock.{month_count, counted_year, counted_month}
 use Rattle.gtd_calendar.specs.Clock.{day_in_month, months_later, stop, IsMonthsLater, IsStop}
 use Rattle.gtd_calendar.proofs.DateLemmas.{date_of-is, date_of-only, month_length_bounds}
 use Rattle.gtd_calendar.proofs.MonthLemmas.{counted-is, counted-parts}

@@ -1,14 +1,12 @@
--- Seconds, days and the end of a stretch.
+-- The clock and the end of a stretch.
 use Rattle.std.specs.Prelude.{◌≡◌, ◌<◌, ℕ, ◌+◌, ◌-◌, ◌*◌, min, ℤ, pos, ◌+ℤ◌, ◌*ℤ◌, unsigned_abs}
 use Rattle.std.specs.Int.{int_div_euclid, int_rem_euclid}
 use Rattle.gtd_core.specs.declared.duration.DurationParts.{DurationParts}
+use Rattle.gtd_core.specs.Days.{day_of_second}
 use Rattle.gtd_core.specs.DurationBound.{clock_seconds}
 use Rattle.gtd_calendar.specs.Calendar.{IsDateOf, month_length, day_number, year_of, month_of, day_of_month}
 
--- the day number of a second, and its place in the day
-unfoldable pub day_of_second : ℤ → ℤ
-day_of_second s = int_div_euclid s (pos 86400)
-
+-- the place of a second in its day
 unfoldable pub second_of_day : ℤ → ℕ
 second_of_day s = unsigned_abs (int_rem_euclid s (pos 86400))
 

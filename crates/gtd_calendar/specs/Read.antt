@@ -2,6 +2,7 @@
 use Rattle.std.specs.Prelude.{ℕ, ◌+◌, ◌-◌, ◌*◌, Bool, ◌&&◌, ◌||◌, nat_le, nat_lt, if◌then◌else◌, List, ◌∷◌, take}
 use Rattle.std.specs.Prelude.{drop, slice_index, bytes_eq, Option, Some, None, Result, Ok, Err, ℤ, pos, neg_ℤ, ◌+ℤ◌}
 use Rattle.std.specs.Prelude.{◌*ℤ◌, ◌≤ℤ◌, int_lt}
+use Rattle.gtd_core.specs.Days.{IsMomentSecond}
 use Rattle.gtd_core.specs.declared.second.Sec.{Sec}
 use Rattle.gtd_calendar.specs.declared.stamp.StampFault.{StampFault}
 use Rattle.gtd_calendar.specs.declared.stamp.StampFault.TheVariants.{Shape, NoSuchDate, Range}
@@ -12,10 +13,6 @@ use Rattle.gtd_calendar.specs.Stamp.{ymd_text, hms_text, IsYmdText, IsMomentText
 -- the days that are read: 1901-01-01 to 2700-01-01
 abbrev pub IsReadableDay : ℤ → Type 0
 IsReadableDay n = (neg_ℤ (pos 25202) ≤ℤ n) × (n ≤ℤ pos 266_627)
-
--- the seconds that are read: 1901-01-01T00:00:00 to 2199-12-31T23:59:59
-abbrev pub IsReadableSecond : ℤ → Type 0
-IsReadableSecond s = (neg_ℤ (pos 2_177_452_800) ≤ℤ s) × (s ≤ℤ pos 7_258_118_399)
 
 -- A day is read from its own text. Else the first of three faults is answered: the text has not the shape of a date;
 -- there is no such date; its day is out of range.
@@ -28,12 +25,12 @@ IsReadDate text (Err Range) = (n : ℤ) × IsDateText n text × (IsReadableDay n
 -- A second is read from its own text. Else the first of three faults is answered: the text has not the shape of a
 -- moment; there is no such date or no such clock; the second is out of range.
 abbrev pub IsReadStamp : List ℕ → Result Sec StampFault → Type 0
-IsReadStamp text (Ok x) = IsStampText x.0 text × IsReadableSecond x.0
+IsReadStamp text (Ok x) = IsStampText x.0 text × IsMomentSecond x.0
 IsReadStamp text (Err Shape) = (y m d h min s : ℕ) → IsMomentText text y m d h min s → ⊥
 IsReadStamp text (Err NoSuchDate) =
     (y : ℕ) × (m : ℕ) × (d : ℕ) × (h : ℕ) × (min : ℕ) × (s : ℕ)
     × IsMomentText text y m d h min s × (IsDate (pos y) m d → IsClock h min s → ⊥)
-IsReadStamp text (Err Range) = (s : ℤ) × IsStampText s text × (IsReadableSecond s → ⊥)
+IsReadStamp text (Err Range) = (s : ℤ) × IsStampText s text × (IsMomentSecond s → ⊥)
 
 -- What follows computes the answers; that there are no others is a law of this crate. First, the digit that stands at a
 -- place of a text, and the number of two digits.

@@ -1,7 +1,8 @@
-//! Seconds of days, and the ends of stretches.
+//! The clock, and the ends of stretches.
 
 ghost use Rattle.std.specs.Prelude.{◌≡◌, ◌+◌, ◌*◌, ◌<◌, ◌≤◌, pos, ◌+ℤ◌, ◌≤ℤ◌};
 ghost use Rattle.jiff_core.specs.Calendar.{IsEpochDay};
+ghost use Rattle.gtd_core.specs.Days.{day_of_second};
 ghost use Rattle.gtd_core.specs.DurationBound.{bound_of};
 ghost use Rattle.gtd_core.specs.Parts.{duration_parts};
 ghost use Rattle.gtd_calendar.specs.Calendar.{IsCalendarDay};
@@ -11,13 +12,6 @@ ghost use Rattle.gtd_calendar.specs.Clock as spec;
 use crate::day::date_of;
 use gtd_core::{Duration, Sec};
 use jiff_core::civil::Date;
-
-/// The number of the day that a second is on.
-pub fn day_of_sec(second: Sec) -> i64
-    ensures value { result ≡ spec.day_of_second second.0 }
-{
-    second.day()
-}
 
 /// How many seconds of its day come before a second: 0 to 86,399.
 pub fn second_of_day(second: Sec) -> u32
@@ -49,13 +43,13 @@ fn months_later(day: i64, months: u32) -> i64
 /// The date is moved by the years and months in one step, its day cut to the last one of the month reached; then by the
 /// weeks and days; the clock is kept, and the hours, minutes and seconds are added.
 pub fn end_of(start: Sec, duration: &Duration) -> Sec
-    requires { IsCalendarDay (spec.day_of_second start.0) }
+    requires { IsCalendarDay (day_of_second start.0) }
     ensures stop { IsStop (duration_parts duration.now) start.0 result.0 }
     ensures value { result.0 ≡ spec.stop (duration_parts duration.now) start.0 }
     ensures later { start.0 ≤ℤ result.0 }
     ensures within_bound { result.0 ≤ℤ (start.0 +ℤ pos (bound_of (duration_parts duration.now))) }
 {
-    let moved = months_later(day_of_sec(start), duration.whole_months());
+    let moved = months_later(start.day(), duration.whole_months());
     let day = moved + i64::from(duration.whole_days());
     Sec(86_400 * day + i64::from(second_of_day(start) + duration.clock()))
 }

@@ -7,8 +7,9 @@ ghost use Rattle.gtd_core.specs.declared.second.Sec.{Sec};
 ghost use Rattle.gtd_calendar.specs.Calendar.{first_day, year_length, month_length, weekday_of};
 ghost use Rattle.gtd_calendar.specs.Calendar.{IsCalendarDay, IsDateOf, year_of, month_of, day_of_month};
 ghost use Rattle.gtd_calendar.specs.Calendar.{IsWeekOf, week_of, week_year_of};
-ghost use Rattle.gtd_calendar.specs.Clock.{IsStop, day_of_second, stop};
-ghost use Rattle.gtd_calendar.specs.Read.{IsReadableDay, IsReadableSecond, IsReadDate, IsReadStamp, date_in, stamp_in};
+ghost use Rattle.gtd_core.specs.Days.{IsMomentSecond, day_of_second};
+ghost use Rattle.gtd_calendar.specs.Clock.{IsStop, stop};
+ghost use Rattle.gtd_calendar.specs.Read.{IsReadableDay, IsReadDate, IsReadStamp, date_in, stamp_in};
 ghost use Rattle.gtd_calendar.specs.Stamp.{IsDateText, IsStampText, date_text, stamp_text};
 ghost use Rattle.gtd_calendar.specs.declared.stamp.StampFault.{StampFault};
 
@@ -78,5 +79,5 @@ pub fn one_reading()
 /// What is written of a day or a second in the range that is read is read again.
 pub fn read_again()
     ensures date { (n : ℤ) → IsReadableDay n → date_in (date_text n) ≡ Ok n }
-    ensures stamp { (s : ℤ) → IsReadableSecond s → stamp_in (stamp_text s) ≡ Ok (record { 0 = s }) }
+    ensures stamp { (s : ℤ) → IsMomentSecond s → stamp_in (stamp_text s) ≡ Ok (record { 0 = s }) }
 {}

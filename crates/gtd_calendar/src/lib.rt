@@ -5,7 +5,7 @@
 //! crate that calls `jiff`, by the calendar that its crates share, `jiff_core`. No call of this crate takes memory.
 #![tactic(auto)]
 
-pub use clock::{day_of_sec, end_of, second_of_day};
+pub use clock::{end_of, second_of_day};
 pub use day::{DayFields, day_of, fields, weekday};
 pub use stamp::{StampFault, read_date, read_stamp, write_clock, write_date, write_stamp};
 

@@ -2,15 +2,16 @@
 
 ghost use Rattle.std.specs.Prelude.{◌≡◌, ◌↔◌, ◌<◌, ◌+◌, ◌*◌, ◌+ℤ◌, ◌*ℤ◌, pos, IsSome, IfSome, codes};
 ghost use Rattle.jiff_core.specs.Calendar.{IsEpochDay};
+ghost use Rattle.gtd_core.specs.Days.{day_of_second};
 ghost use Rattle.gtd_calendar.specs.Calendar.{IsCalendarDay};
-ghost use Rattle.gtd_calendar.specs.Clock.{IsClock, day_of_second};
+ghost use Rattle.gtd_calendar.specs.Clock.{IsClock};
 ghost use Rattle.gtd_calendar.specs.Names.{stamp_fault_name};
 ghost use Rattle.gtd_calendar.specs.Stamp as spec;
 ghost use Rattle.gtd_calendar.specs.Stamp.{IsDateText, IsStampText};
 ghost use Rattle.gtd_calendar.specs.Read.{IsReadDate, IsReadStamp, date_in, stamp_in};
 ghost use Rattle.gtd_calendar.specs.ReadParts.{IsTwoDigits, IsFourDigits, IsYmd, IsHms, IsMoment};
 
-use crate::clock::{day_of_sec, second_of_day};
+use crate::clock::second_of_day;
 use crate::day::{date_of, day_of_date};
 use gtd_core::Sec;
 use thiserror::Error;
@@ -86,7 +87,7 @@ pub fn write_stamp(second: Sec) -> [u8; 19]
     ensures text { IsStampText second.0 result }
     ensures value { result ≡ spec.stamp_text second.0 }
 {
-    let [y1, y2, y3, y4, _, m1, m2, _, d1, d2] = write_date(day_of_sec(second));
+    let [y1, y2, y3, y4, _, m1, m2, _, d1, d2] = write_date(second.day());
     let [t, h1, h2, _, min1, min2, _, s1, s2] = write_clock(second);
     [
         y1, y2, y3, y4, b'-', m1, m2, b'-', d1, d2, t, h1, h2, b':', min1, min2, b':', s1, s2,

@@ -1,7 +1,7 @@
 //! Worked dates and texts, and every day of 400 years counted one by one.
 
 use crate::{
-    DayFields, StampFault, day_of, day_of_sec, end_of, fields, read_date, read_stamp, write_date,
+    DayFields, StampFault, day_of, end_of, fields, read_date, read_stamp, write_date,
     write_stamp,
 };
 use gtd_core::{Duration, DurationParts, Sec};
@@ -175,7 +175,7 @@ fn known_fields_of_days(rt: HostRuntime) {
 
 // The text of a second of the calendar.
 fn known_stamp(second: Sec) -> Option<[u8; 19]> {
-    let day = day_of_sec(second);
+    let day = second.day();
     if day < -62_091 || day > 303_150 {
         return None;
     }
@@ -186,7 +186,7 @@ fn known_stamp(second: Sec) -> Option<[u8; 19]> {
 fn end_text(start: &str, parts: DurationParts) -> Option<[u8; 19]> {
     let start = read_stamp(start.as_bytes()).ok()?;
     let duration = Duration::new(parts)?;
-    let day = day_of_sec(start);
+    let day = start.day();
     if day < -62_091 || day > 303_150 {
         return None;
     }

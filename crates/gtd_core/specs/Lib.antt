@@ -7,5 +7,6 @@ pub mod Interval
 pub mod Names
 pub mod Parts
 pub mod StartRanges
+pub mod TreeCode
 pub mod Trees
 pub mod Whole

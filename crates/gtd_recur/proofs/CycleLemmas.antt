@@ -5,7 +5,8 @@ use Rattle.gtd_core.specs.declared.start.StartParts.{StartParts}
 use Rattle.gtd_core.specs.declared.duration.DurationParts.{DurationParts}
 use Rattle.gtd_calendar.specs.Calendar.{year_of, month_of}
 use Rattle.gtd_calendar.specs.Fields.{day_fields}
-use Rattle.gtd_calendar.specs.Clock.{day_of_second, stop}
+use Rattle.gtd_core.specs.Days.{day_of_second}
+use Rattle.gtd_calendar.specs.Clock.{stop}
 use Rattle.gtd_calendar.proofs.CycleLemmas.{month_length-cycle, date_of-cycle, weekday_of-cycle, week_of-cycle, day_of_second-cycle, stop-cycle}
 use Rattle.gtd_recur.specs.Begins.{begins, begins_on}
 use Rattle.gtd_recur.specs.Membership.{InStretches}

@@ -5,7 +5,8 @@ use Rattle.std.proofs.lemmas.Bool.{and_left}
 use Rattle.std.proofs.lemmas.List.{take-append-drop, length-take-le}
 use Rattle.gtd_calendar.proofs.Signed.{signed_arith}
 use Rattle.gtd_calendar.proofs.ClockLemmas.{second-parts}
-use Rattle.gtd_calendar.specs.Clock.{day_of_second, second_of_day}
+use Rattle.gtd_core.specs.Days.{day_of_second}
+use Rattle.gtd_calendar.specs.Clock.{second_of_day}
 use Rattle.gtd_core.specs.declared.start.StartParts.{StartParts}
 use Rattle.gtd_recur.specs.Begins.{month_and_year_fit}
 use Rattle.gtd_recur.specs.Work.{days_between, starts_of, least_work}

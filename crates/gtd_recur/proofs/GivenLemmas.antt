@@ -8,7 +8,8 @@ use Rattle.std.proofs.lemmas.Int.{by_lt_z}
 use Rattle.std.proofs.lemmas.Grind.{flat_map-append}
 use Rattle.gtd_calendar.proofs.Signed.{signed_arith}
 use Rattle.gtd_calendar.proofs.ClockLemmas.{second-parts, second-only}
-use Rattle.gtd_calendar.specs.Clock.{day_of_second, second_of_day}
+use Rattle.gtd_core.specs.Days.{day_of_second}
+use Rattle.gtd_calendar.specs.Clock.{second_of_day}
 use Rattle.gtd_core.specs.declared.start.StartParts.{StartParts}
 use Rattle.gtd_core.specs.Parts.{start_parts, duration_parts}
 use Rattle.gtd_core.specs.Whole.{from_day, to_day, whole}

@@ -7,7 +7,8 @@ use Rattle.gtd_core.specs.declared.start.StartParts.{StartParts}
 use Rattle.gtd_core.specs.declared.duration.DurationParts.{DurationParts}
 use Rattle.gtd_core.specs.DurationBound.{lookback_of}
 use Rattle.gtd_calendar.specs.Fields.{day_fields}
-use Rattle.gtd_calendar.specs.Clock.{day_of_second, second_of_day, stop}
+use Rattle.gtd_core.specs.Days.{day_of_second}
+use Rattle.gtd_calendar.specs.Clock.{second_of_day, stop}
 use Rattle.gtd_spans.specs.NormalFor.{IsNormalFor, normal-for}
 use Rattle.gtd_recur.specs.Begins.{begins, begins_on, begins_at}
 use Rattle.gtd_recur.specs.Membership.{InStretches}

@@ -3,7 +3,8 @@ use Rattle.std.specs.Prelude.{◌≡◌, Some, None, true, false, pos}
 use Rattle.std.proofs.Common.{refl}
 use Rattle.gtd_core.specs.declared.start.StartParts.{StartParts}
 use Rattle.gtd_calendar.specs.Calendar.{first_day, days_of_months, day_number, year_of, place_in_year, last_begun, month_of, day_of_month, weekday_of, thursday_of}
-use Rattle.gtd_calendar.specs.Clock.{day_of_second, second_of_day}
+use Rattle.gtd_core.specs.Days.{day_of_second}
+use Rattle.gtd_calendar.specs.Clock.{second_of_day}
 use Rattle.gtd_recur.specs.Begins.{begins}
 
 -- the 13th that is a Friday

@@ -4,7 +4,8 @@ use Rattle.std.proofs.lemmas.Bool.{and_parts, and_from, eqb-true, eq-eqb}
 use Rattle.std.proofs.lemmas.Bool.Decides.{Decides-int_eq}
 use Rattle.gtd_core.specs.declared.start.StartParts.{StartParts}
 use Rattle.gtd_calendar.specs.Calendar.{year_of, month_of, month_length, day_of_month, weekday_of, week_of, week_year_of, place_from_front, place_from_back}
-use Rattle.gtd_calendar.specs.Clock.{day_of_second, second_of_day}
+use Rattle.gtd_core.specs.Days.{day_of_second}
+use Rattle.gtd_calendar.specs.Clock.{second_of_day}
 use Rattle.gtd_calendar.specs.Fields.{day_fields}
 use Rattle.gtd_recur.specs.Begins.{agrees, agrees_or_least, gives_clock, gives_day, year_agrees_with, place_agrees, begins, begins_on, begins_at}
 use Rattle.gtd_recur.specs.Matching.{finest_of, finest_level, HoldsOnDay, HoldsOnClock, Matches}

@@ -7,7 +7,8 @@ use Rattle.gtd_core.specs.declared.start.StartParts.{StartParts}
 use Rattle.gtd_calendar.specs.declared.day.DayFields.{DayFields}
 use Rattle.gtd_calendar.specs.Calendar.{year_of, month_of}
 use Rattle.gtd_calendar.specs.Fields.{day_fields}
-use Rattle.gtd_calendar.specs.Clock.{day_of_second, second_of_day}
+use Rattle.gtd_core.specs.Days.{day_of_second}
+use Rattle.gtd_calendar.specs.Clock.{second_of_day}
 
 -- a field that is given has this value
 abbrev pub agrees : Option ℕ → ℕ → Bool

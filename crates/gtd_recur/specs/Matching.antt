@@ -3,7 +3,8 @@
 use Rattle.std.specs.Prelude.{◌≡◌, ◌⊎◌, ℕ, ◌-◌, ◌/◌, ◌%◌, ◌^◌, ◌<◌, Bool, if◌then◌else◌, is_some, ℤ, pos, IfSome, ◌||◌}
 use Rattle.gtd_core.specs.declared.start.StartParts.{StartParts}
 use Rattle.gtd_calendar.specs.Calendar.{year_of, month_of, month_length, day_of_month, weekday_of, week_of, week_year_of, place_from_front, place_from_back}
-use Rattle.gtd_calendar.specs.Clock.{day_of_second, second_of_day}
+use Rattle.gtd_core.specs.Days.{day_of_second}
+use Rattle.gtd_calendar.specs.Clock.{second_of_day}
 use Rattle.gtd_recur.specs.Begins.{gives_day}
 
 -- the finest level at which a field is given

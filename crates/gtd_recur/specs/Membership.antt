@@ -4,7 +4,8 @@ use Rattle.gtd_core.specs.declared.start.StartParts.{StartParts}
 use Rattle.gtd_core.specs.declared.duration.DurationParts.{DurationParts}
 use Rattle.gtd_core.specs.declared.domain.Basic.{Basic}
 use Rattle.gtd_core.specs.Parts.{start_parts, duration_parts}
-use Rattle.gtd_calendar.specs.Clock.{day_of_second, stop}
+use Rattle.gtd_core.specs.Days.{day_of_second}
+use Rattle.gtd_calendar.specs.Clock.{stop}
 use Rattle.gtd_recur.specs.Begins.{begins, begins_at}
 
 -- the stretch that begins at b holds the second s; its end does not belong to it

@@ -5,7 +5,8 @@ use Rattle.gtd_core.specs.declared.duration.DurationParts.{DurationParts}
 use Rattle.gtd_core.specs.declared.second.Sec.{Sec}
 use Rattle.gtd_core.specs.Interval.{Interval, Within}
 use Rattle.gtd_calendar.specs.Calendar.{IsCalendarDay}
-use Rattle.gtd_calendar.specs.Clock.{day_of_second, stop}
+use Rattle.gtd_core.specs.Days.{day_of_second}
+use Rattle.gtd_calendar.specs.Clock.{stop}
 use Rattle.gtd_spans.specs.Normal.{IsNormal, normal_list}
 use Rattle.gtd_spans.specs.Exists.{normal_list-normal}
 

@@ -8,7 +8,7 @@ use Rattle.gtd_core.specs.DurationBound.{lookback_of}
 use Rattle.gtd_core.specs.Parts.{start_parts, duration_parts}
 use Rattle.gtd_core.specs.Whole.{from_day, to_day}
 use Rattle.gtd_calendar.specs.Fields.{day_fields}
-use Rattle.gtd_calendar.specs.Clock.{day_of_second}
+use Rattle.gtd_core.specs.Days.{day_of_second}
 use Rattle.gtd_recur.specs.Begins.{begins_on, begins_at, month_and_year_fit}
 
 -- k days from day n on

@@ -7,7 +7,7 @@ ghost use Rattle.gtd_calendar.specs.Calendar.{IsCalendarDay};
 ghost use Rattle.gtd_recur.specs.Membership.{InBasic, IsHeldFromDay, IsLatestNotAfter, IsHorizonSecond};
 
 use crate::begin::{begins_on_day, latest_begin};
-use gtd_calendar::{day_of_sec, end_of, second_of_day};
+use gtd_calendar::{end_of, second_of_day};
 use gtd_core::{Basic, Duration, Sec, StartParts};
 
 // Whether a stretch that begins on that day holds the second. On one day the latest start ends last.
@@ -39,7 +39,7 @@ pub fn covers(basic: &Basic, second: Sec) -> bool
     ensures member { IsTrue result ↔ InBasic basic.now second.0 }
 {
     let start = basic.start.parts();
-    let today = day_of_sec(second);
+    let today = second.day();
     let latest_today = latest_begin(&start, second_of_day(second));
     let latest_before = latest_begin(&start, 86_399);
     for back in 0..basic.duration.lookback() + 1 {

@@ -7,7 +7,7 @@ ghost use Rattle.gtd_core.specs.Parts.{start_parts};
 ghost use Rattle.gtd_core.specs.Whole.{to_day};
 ghost use Rattle.gtd_core.specs.declared.start.StartParts.{StartParts};
 ghost use Rattle.gtd_core.specs.declared.duration.DurationParts.{DurationParts};
-ghost use Rattle.gtd_calendar.specs.Clock.{day_of_second};
+ghost use Rattle.gtd_core.specs.Days.{day_of_second};
 ghost use Rattle.gtd_recur.specs.Ascending.{IsAscending, Has};
 ghost use Rattle.gtd_recur.specs.Begins.{begins};
 ghost use Rattle.gtd_recur.specs.Matching.{Matches};

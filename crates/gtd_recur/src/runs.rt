@@ -4,7 +4,7 @@
 ghost use Rattle.std.specs.Prelude.{◌≡◌, length, ℤ, ◌+ℤ◌, IfSome, ◌≤◌, ◌<ℤ◌, pos, ◌∷◌};
 ghost use Rattle.gtd_core.specs.Parts.{duration_parts};
 ghost use Rattle.gtd_calendar.specs.Calendar.{IsCalendarDay};
-ghost use Rattle.gtd_calendar.specs.Clock.{day_of_second};
+ghost use Rattle.gtd_core.specs.Days.{day_of_second};
 ghost use Rattle.gtd_recur.specs.Ascending.{IsAscending, IsAscending-prop, AllAfter, AllBefore, Has};
 ghost use Rattle.gtd_recur.specs.Stretches.{IsAheadIn, IsAheadIn-prop, IsCut, IsEarlier, IsLater, IsRun, to_come};
 ghost use Rattle.gtd_recur.specs.StartsToCome.{starts_basic, starts_horizon, starts_to_come, starts_ticks};

@@ -43,7 +43,7 @@ impl Starts {
     ghost use Rattle.gtd_core.specs.Parts.{start_parts};
     ghost use Rattle.gtd_core.specs.Whole.{to_day};
     ghost use Rattle.gtd_calendar.specs.Calendar.{IsCalendarDay};
-    ghost use Rattle.gtd_calendar.specs.Clock.{day_of_second};
+    ghost use Rattle.gtd_core.specs.Days.{day_of_second};
     ghost use Rattle.gtd_recur.specs.Begins.{month_and_year_fit};
     ghost use Rattle.gtd_recur.specs.Jumps.{IsNextRun};
     ghost use Rattle.gtd_recur.specs.Starts.{TakesSecond, clock_starts};

@@ -1,7 +1,7 @@
 pub mod Columns
 pub mod Vehicles
 pub mod Restriction
-pub mod TreeCode
+pub mod RestrictionCode
 pub mod Names
 pub mod Reading
 pub mod Table

@@ -37,7 +37,7 @@ impl Model for Records {
     ghost use Rattle.std.specs.Coded.{coded_list};
     ghost use Rattle.gtd_roads.specs.Index.{IsIndexed};
     ghost use Rattle.gtd_roads.specs.Restriction.{Restriction};
-    ghost use Rattle.gtd_roads.specs.TreeCode.{restriction_code};
+    ghost use Rattle.gtd_roads.specs.RestrictionCode.{restriction_code};
 
     ghost Value = { List Restriction };
 

@@ -32,7 +32,7 @@ impl Model for Record {
     ghost use Rattle.std.specs.Prelude.{option_map};
     ghost use Rattle.gtd_core.specs.Parts.{domain_tree};
     ghost use Rattle.gtd_roads.specs.Restriction.{Restriction};
-    ghost use Rattle.gtd_roads.specs.TreeCode.{restriction_code};
+    ghost use Rattle.gtd_roads.specs.RestrictionCode.{restriction_code};
 
     ghost Value = { Restriction };
 

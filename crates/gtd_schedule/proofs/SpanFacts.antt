@@ -4,7 +4,8 @@ use Rattle.std.specs.Prelude.{Result, Ok, Err, ℤ, pos, negsuc, ◌+ℤ◌, ◌
 use Rattle.std.proofs.lemmas.Int.{ints}
 use Rattle.gtd_calendar.proofs.ClockLemmas.{second-parts}
 use Rattle.gtd_calendar.specs.Calendar.{IsCalendarDay}
-use Rattle.gtd_calendar.specs.Clock.{day_of_second, second_of_day}
+use Rattle.gtd_core.specs.Days.{day_of_second}
+use Rattle.gtd_calendar.specs.Clock.{second_of_day}
 use Rattle.gtd_core.specs.Interval.{Interval}
 use Rattle.gtd_core.specs.Whole.{whole}
 use Rattle.gtd_core.specs.declared.horizon.Horizon.{Horizon}

@@ -2,7 +2,7 @@
 use Rattle.std.specs.Prelude.{ℕ, List, [], ◌∷◌, ◌++◌, codes, decimal}
 use Rattle.gtd_core.specs.Interval.{Interval}
 use Rattle.gtd_calendar.specs.Calendar.{IsCalendarDay}
-use Rattle.gtd_calendar.specs.Clock.{day_of_second}
+use Rattle.gtd_core.specs.Days.{day_of_second}
 use Rattle.gtd_calendar.specs.Stamp.{stamp_text}
 use Rattle.gtd_roads.specs.declared.direction.Direction.{Direction}
 use Rattle.gtd_runs.specs.Words.{direction_word}

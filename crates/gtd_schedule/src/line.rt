@@ -2,11 +2,11 @@
 
 ghost use Rattle.std.specs.Prelude.{[], ◌∷◌, ◌≡◌, ◌++◌, ◌≤◌, length, take, OnOk};
 ghost use Rattle.gtd_calendar.specs.Calendar.{IsCalendarDay};
-ghost use Rattle.gtd_calendar.specs.Clock.{day_of_second};
+ghost use Rattle.gtd_core.specs.Days.{day_of_second};
 ghost use Rattle.gtd_calendar.specs.Stamp.{stamp_text};
 ghost use Rattle.gtd_schedule.specs.Lines.{line_head, span_text};
 
-use gtd_calendar::{day_of_sec, write_clock, write_date};
+use gtd_calendar::{write_clock, write_date};
 use gtd_core::{Sec, Span};
 use gtd_roads::Direction;
 use itoa::Buffer;
@@ -36,7 +36,7 @@ fn write_moment(line: &mut Vec<u8>, second: Sec, end: u8) -> Result<(), AllocErr
     requires day { IsCalendarDay (day_of_second second.0) }
     ensures moment { OnOk result (line.new.items ≡ line.old.items ++ (stamp_text second.0 ++ (end ∷ []))) }
 {
-    line.extend_from_slice(&write_date(day_of_sec(second)))?;
+    line.extend_from_slice(&write_date(second.day()))?;
     line.extend_from_slice(&write_clock(second))?;
     line.extend_from_slice(&[end])
 }

@@ -6,12 +6,13 @@ use Rattle.std.proofs.lemmas.Int.{ints, by_lt_z}
 use Rattle.gtd_core.specs.Trees.{Tree}
 use Rattle.gtd_core.specs.declared.second.Sec.{Sec}
 use Rattle.gtd_calendar.specs.Calendar.{IsCalendarDay}
-use Rattle.gtd_calendar.specs.Clock.{day_of_second, second_of_day}
+use Rattle.gtd_core.specs.Days.{IsMomentSecond, day_of_second}
+use Rattle.gtd_calendar.specs.Clock.{second_of_day}
 use Rattle.gtd_calendar.specs.Stamp.{stamp_text}
 use Rattle.gtd_calendar.proofs.ClockLemmas.{second-parts}
 use Rattle.gtd_spans.specs.Change.{NeverChanges, IsNextChange, SameAt}
 use Rattle.gtd_recur.specs.Membership.{IsHorizonSecond}
-use Rattle.gtd_eval.specs.Ever.{NeverChangesAfter, IsFirstChange, IsMomentSecond, cycle}
+use Rattle.gtd_eval.specs.Ever.{NeverChangesAfter, IsFirstChange, cycle}
 use Rattle.gtd_eval.specs.Membership.{InTree, SomeGivesYear}
 use Rattle.gtd_eval.proofs.Repeats.{tree-repeats, first-of-next}
 use Rattle.gtd_tool.specs.Plans.{Asked, Check, Canon, At, Next, Ever, Schedule, Year, Migrate}

@@ -12,7 +12,7 @@ use Rattle.gtd_core.specs.declared.second.Sec.{Sec}
 use Rattle.gtd_text.specs.Canonical.{canonical}
 use Rattle.gtd_text.proofs.OneMeaning.{one_meaning}
 use Rattle.gtd_text.proofs.ReadingLaws.{one_fault}
-use Rattle.gtd_calendar.specs.Clock.{day_of_second}
+use Rattle.gtd_core.specs.Days.{day_of_second}
 use Rattle.gtd_calendar.specs.Read.{date_in, stamp_in}
 use Rattle.gtd_roads.specs.Columns.{direction_of, number_of}
 use Rattle.gtd_roads.specs.declared.direction.Direction.{Direction}

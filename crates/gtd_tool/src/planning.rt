@@ -5,7 +5,7 @@ ghost use Rattle.gtd_core.specs.Horizons.{IsHorizon};
 ghost use Rattle.gtd_core.specs.Parts.{domain_tree};
 ghost use Rattle.gtd_core.specs.Whole.{from_day, to_day};
 ghost use Rattle.gtd_core.specs.declared.fault.TextFault.{TextFault};
-ghost use Rattle.gtd_calendar.specs.Clock.{day_of_second};
+ghost use Rattle.gtd_core.specs.Days.{day_of_second};
 ghost use Rattle.gtd_calendar.specs.Read.{date_in, stamp_in};
 ghost use Rattle.gtd_roads.specs.Columns.{direction_of, number_of};
 ghost use Rattle.gtd_tool.specs.LineCommands.{command_of};

@@ -2,7 +2,7 @@
 
 ghost use Rattle.gtd_core.specs.Interval.{Within};
 ghost use Rattle.gtd_core.specs.Whole.{whole};
-ghost use Rattle.gtd_eval.specs.Ever.{IsMomentSecond};
+ghost use Rattle.gtd_core.specs.Days.{IsMomentSecond};
 
 use gtd_core::{Domain, Horizon, Sec};
 use gtd_roads::Direction;

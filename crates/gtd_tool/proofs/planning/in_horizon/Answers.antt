@@ -2,13 +2,12 @@ use Rattle.std.proofs.Common.{◌≡◌, ◌∙◌, refl, subst, rules, to_z-of_
 use Rattle.std.proofs.Common.{FitsSigned}
 use Rattle.std.specs.Prelude.{ℤ}
 use Rattle.gtd_core.specs.Horizons.{IsHorizon, IsFault}
-use Rattle.gtd_calendar.specs.Clock.{day_of_second}
-use Rattle.gtd_calendar.proofs.ClockLemmas.{on_day-is}
+use Rattle.gtd_core.specs.Days.{day_of_second}
 use Rattle.gtd_tool.proofs.planning.in_horizon.Goals as goal
 
 pub returns-in-Ok-clause-read : goal.returns-in-Ok-clause-read
 returns-in-Ok-clause-read c =
-    let day : c.day.result ≡ day_of_second c.args.moment.second.0 = on_day-is _ _ c.day.ensures.on_day in
+    let day : c.day.result ≡ day_of_second c.args.moment.second.0 = c.day.ensures.value in
     let fits : FitsSigned w64 c.day.result = search rules in
     let to = to_z-of_z c.ranges.to in
     let h = c.in-Ok.ensures.horizon in
@@ -16,6 +15,6 @@ returns-in-Ok-clause-read c =
 
 pub returns-in-Err-clause-fault : goal.returns-in-Err-clause-fault
 returns-in-Err-clause-fault c =
-    let day : c.day.result ≡ day_of_second c.args.moment.second.0 = on_day-is _ _ c.day.ensures.on_day in
+    let day : c.day.result ≡ day_of_second c.args.moment.second.0 = c.day.ensures.value in
     let fits : FitsSigned w64 c.day.result = search rules in
     (c.in-Err.fault, subst (λ (n : ℤ). IsFault c.in-Err.fault n c.args.to) (to_z-of_z fits ∙ day) (subst (IsFault c.in-Err.fault _) (to_z-of_z c.ranges.to) c.in-Err.ensures.horizon), refl)

@@ -1,7 +1,6 @@
--- A code of expressions and of restrictions, by which a proof tells values that hold them apart.
-use Rattle.std.specs.Prelude.{◌≡◌, ◌++◌, ◌⊎◌, ℕ, List, [], ◌∷◌}
-use Rattle.std.specs.Prelude.{Option}
-use Rattle.std.specs.Coded.{Coded, code_by, coded_list, coded_option, coded_ℕ, coded×, coded⊎}
+-- A code of expressions, by which a proof tells values that hold them apart. There is nothing to believe.
+use Rattle.std.specs.Prelude.{◌≡◌, ◌++◌, ◌⊎◌, List, [], ◌∷◌}
+use Rattle.std.specs.Coded.{Coded, code_by, coded_list, coded×, coded⊎}
 use Rattle.std.proofs.Common.{inl, inr, refl, ap, ◌∙◌}
 use Rattle.gtd_core.specs.Trees.{Tree, Single, Joined}
 use Rattle.gtd_core.specs.declared.domain.Op.{Op}
@@ -11,11 +10,6 @@ use Rattle.gtd_core.specs.contracts.domain.Op as op
 use Rattle.gtd_core.specs.contracts.start.StartParts as start
 use Rattle.gtd_core.specs.contracts.duration.DurationParts as duration
 use Rattle.gtd_core.specs.StartRanges.{no_parts}
-use Rattle.gtd_roads.specs.Restriction.{Restriction}
-use Rattle.gtd_roads.specs.declared.direction.Closed.{Closed}
-use Rattle.gtd_roads.specs.declared.vehicles.Vehicles.{Vehicles}
-use Rattle.gtd_roads.specs.contracts.direction.Closed as closed
-use Rattle.gtd_roads.specs.contracts.vehicles.Vehicles as vehicles
 
 -- a basic domain, or an operator over the two trees before it
 abbrev Part : Type 0
@@ -62,11 +56,3 @@ abbrev pub tree_code : Coded Tree
 tree_code =
     code_by (List Part) (coded_list (coded⊎ (coded× start.the_row.coded duration.the_row.coded) op.the_row.coded))
     parts (λ ps. last (build ps [])) (λ tree. ap last (build-parts tree []))
-
-abbrev pub restriction_code : Coded Restriction
-restriction_code =
-    code_by (ℕ × (Closed × (Vehicles × Option Tree)))
-    (coded× coded_ℕ (coded× closed.the_row.coded (coded× vehicles.the_row.coded (coded_option tree_code))))
-    (λ r. (r.element, (r.closed, (r.vehicles, r.domain))))
-    (λ p. record { element = p.0; closed = p.1.0; vehicles = p.1.1.0; domain = p.1.1.1 })
-    (λ r. refl)
