@@ -23,7 +23,7 @@ use Rattle.gtd_text.proofs.ReadingLaws.{readable}
 use Rattle.gtd_text.proofs.Scanned.{found_first}
 use Rattle.gtd_text.specs.Canonical.{canonical, clock_fields, day_fields, duration_text, field_text, month_fields, number_text, numbers_text, or_zero, place_fields, place_text, sign_text, start_text, weekday_text, weekdays_text, year_text}
 use Rattle.gtd_text.specs.Lexing.{AreTokens}
-use Rattle.gtd_text.specs.Limits.{fault_of_tokens}
+use Rattle.gtd_text.specs.Found.{fault_of_tokens}
 use Rattle.gtd_text.specs.Reading.{HasNoFault, StandsFor}
 use Rattle.gtd_text.specs.declared.token.Token.{Token}
 use Rattle.gtd_roads.specs.Row.{IsDomainColumn, IsReading}

@@ -10,8 +10,10 @@ use Rattle.gtd_text.specs.declared.token.Token.{Token}
 use Rattle.gtd_text.specs.declared.token.TokenKind.{TokenKind}
 use Rattle.gtd_text.specs.declared.token.TokenKind.TheVariants.{OpenBracket, CloseBracket, OpenParenthesis}
 use Rattle.gtd_text.specs.FirstFault.{Phase, bracket_fault, parenthesis_count, parenthesis_fault, grammar_fault, brace_fault, IsClean, IsFirst, IsFirstFault, too_deep, too_many, misfit, incomplete, too_long}
-use Rattle.gtd_text.specs.Fitting.{depth, fits, fault_of, may_end, fault_after}
-use Rattle.gtd_text.specs.Limits.{depth_after, count_after, too_deep_after, too_many_after, opens_too_long, too_long as long_of, or_else, fault_of_tokens}
+use Rattle.gtd_text.specs.Fitting.{depth, fits, fault_of, may_end}
+use Rattle.gtd_text.specs.Found.{fault_after}
+use Rattle.gtd_text.specs.Found.{depth_after, count_after, too_deep_after, too_many_after, too_long as long_of, or_else, fault_of_tokens}
+use Rattle.gtd_text.specs.LongDurations.{opens_too_long}
 use Rattle.gtd_text.specs.Seen.{kinds, newest_first}
 use Rattle.gtd_text.proofs.Builds.{turned}
 

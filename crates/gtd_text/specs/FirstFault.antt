@@ -9,7 +9,7 @@ use Rattle.gtd_text.specs.declared.token.Token.{Token}
 use Rattle.gtd_text.specs.declared.token.TokenKind.{TokenKind}
 use Rattle.gtd_text.specs.declared.token.TokenKind.TheVariants.{OpenBracket, OpenParenthesis}
 use Rattle.gtd_text.specs.Fitting.{depth, fits, fault_of, may_end}
-use Rattle.gtd_text.specs.Limits.{opens_too_long}
+use Rattle.gtd_text.specs.LongDurations.{opens_too_long}
 use Rattle.gtd_text.specs.Seen.{kinds, newest_first}
 
 -- The fault of a token in a phase, if it has one, by the tokens before it, the newest first, by itself, and by those

@@ -1,7 +1,7 @@
 //! The fault of a text's tokens, if there is one. No call here takes memory.
 
 ghost use Rattle.std.specs.Prelude.{◌≡◌};
-ghost use Rattle.gtd_text.specs.Limits.{fault_of_tokens, or_else};
+ghost use Rattle.gtd_text.specs.Found.{fault_of_tokens, or_else};
 
 use crate::check::grammar::first_misfit;
 use crate::check::limits::{too_deep, too_long, too_many};

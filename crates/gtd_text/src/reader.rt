@@ -6,7 +6,8 @@ ghost use Rattle.gtd_core.specs.Trees.{Tree};
 ghost use Rattle.gtd_core.specs.declared.fault.TextFault.{TextFault};
 ghost use Rattle.gtd_text.specs.Faults.{no_memory};
 ghost use Rattle.gtd_text.specs.Grammar.{Stands, Sum};
-ghost use Rattle.gtd_text.specs.Reading.{AreReadable, StandsFor, IsFault, HasNoFault};
+ghost use Rattle.gtd_text.specs.Reading.{StandsFor, IsFault, HasNoFault};
+ghost use Rattle.gtd_text.specs.Found.{AreReadable};
 ghost use Rattle.gtd_text.specs.Seen.{kinds};
 
 use crate::builder::build_expr;

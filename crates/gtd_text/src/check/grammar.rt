@@ -4,7 +4,8 @@ ghost use Rattle.std.specs.Prelude.{◌≡◌, ◌<◌, ◌≤◌, ◌+◌, ◌^
 ghost use Rattle.gtd_text.specs.declared.token.TokenKind.{TokenKind};
 ghost use Rattle.gtd_text.specs.Seen.{newest_first};
 ghost use Rattle.gtd_text.specs.Fitting.{begins_item, follows_item, fits, fits_after_field, may_end};
-ghost use Rattle.gtd_text.specs.Fitting.{fault_of, field_fault, fault_after};
+ghost use Rattle.gtd_text.specs.Fitting.{fault_of, field_fault};
+ghost use Rattle.gtd_text.specs.Found.{fault_after};
 
 use crate::check::fields::{
     fits_duration, fits_start, has_letter, is_duration_letter, is_repeated_in_start,

@@ -2,8 +2,9 @@
 
 ghost use Rattle.std.specs.Prelude.{◌≡◌, ◌≤◌};
 ghost use Rattle.gtd_text.specs.Fields.{with_duration_fields, zero_parts};
-ghost use Rattle.gtd_text.specs.Limits.{depth_after, count_after, too_deep_after, too_many_after};
-ghost use Rattle.gtd_text.specs.Limits.{fields_at_front, opens_too_long, too_long};
+ghost use Rattle.gtd_text.specs.Found.{depth_after, count_after, too_deep_after, too_many_after};
+ghost use Rattle.gtd_text.specs.Found.{too_long};
+ghost use Rattle.gtd_text.specs.LongDurations.{fields_at_front, opens_too_long};
 ghost use Rattle.gtd_text.specs.Seen.{kinds};
 
 use crate::check::fields::duration_with;

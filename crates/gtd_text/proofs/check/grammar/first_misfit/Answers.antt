@@ -1,6 +1,6 @@
 use Rattle.std.proofs.Common.{ap, sym, ◌∙◌, take, arith}
 use Rattle.gtd_text.specs.Seen.{newest_first, seen}
-use Rattle.gtd_text.specs.Fitting.{fault_after}
+use Rattle.gtd_text.specs.Found.{fault_after}
 use Rattle.gtd_text.proofs.SeenLemmas.{newest_first-nil, no_token, newest_first-more, fault_after-more}
 use Rattle.gtd_text.proofs.check.grammar.first_misfit.Goals as goal
 

@@ -1,6 +1,6 @@
 use Rattle.std.proofs.Common.{◌≡◌, drop}
 use Rattle.gtd_text.specs.Fields.{with_duration_fields, zero_parts}
-use Rattle.gtd_text.specs.Limits.{fields_at_front}
+use Rattle.gtd_text.specs.LongDurations.{fields_at_front}
 use Rattle.gtd_text.specs.Seen.{kinds}
 use Rattle.gtd_text.proofs.check.limits.duration_at_front.Given as goal
 

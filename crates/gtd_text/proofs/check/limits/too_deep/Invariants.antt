@@ -1,5 +1,5 @@
 use Rattle.std.proofs.Common.{◌≡◌, ◌≤◌, drop}
-use Rattle.gtd_text.specs.Limits.{too_deep_after}
+use Rattle.gtd_text.specs.Found.{too_deep_after}
 use Rattle.gtd_text.proofs.check.limits.too_deep.Given as goal
 
 abbrev pub invariant-loop-token : goal.invariant-loop-token

@@ -1,5 +1,5 @@
 use Rattle.std.proofs.Common.{◌≡◌, drop}
-use Rattle.gtd_text.specs.Limits.{too_long}
+use Rattle.gtd_text.specs.Found.{too_long}
 use Rattle.gtd_text.proofs.check.limits.too_long.Given as goal
 
 abbrev pub invariant-loop-i : goal.invariant-loop-i
