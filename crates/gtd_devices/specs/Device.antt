@@ -1,5 +1,5 @@
 -- What a pull takes off the bytes still to come, and what a put adds to the bytes that were taken.
-use Rattle.std.specs.Prelude.{◌≡◌, ◌<◌, ◌≤◌, ℕ, ◌+◌, List, take, Option, ⊤}
+use Rattle.std.specs.Prelude.{◌≡◌, ◌<◌, ◌≤◌, ℕ, ◌+◌, Bool, true, false, List, take, Option, ⊤}
 use Rattle.std.specs.Io.KnownBytes.{Keeps, Appends, Consumes, IsAtEnd}
 use Rattle.gtd_devices.specs.declared.device.Pull.{Pull}
 use Rattle.gtd_devices.specs.declared.device.Pull.TheVariants.{Got, Done, Failed}
@@ -42,6 +42,11 @@ AddsFront old new put.Failed bytes = Keeps old new
 abbrev pub Finishes : Option (List ℕ) → Option (List ℕ) → Put → Type 0
 Finishes old new (put.Took n) = (n ≡ 0) × Keeps old new
 Finishes old new put.Failed = Keeps old new
+
+-- the end came
+abbrev pub has_ended : Put → Bool
+has_ended (put.Took n) = true
+has_ended put.Failed = false
 
 -- a failure is counted, and nothing else is
 abbrev pub failures_after_put : Put → ℕ → ℕ

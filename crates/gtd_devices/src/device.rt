@@ -1,8 +1,8 @@
 //! What gives bytes and what takes them.
 
-ghost use Rattle.std.specs.Prelude.{◌≡◌, ◌<◌, ℕ, Option, None, List, Bool, true, length, IsTrue};
+ghost use Rattle.std.specs.Prelude.{◌≡◌, ◌<◌, ℕ, Option, None, List, Bool, true, false, length, IsTrue};
 ghost use Rattle.gtd_devices.specs.Device.{IsGot, Within, TakesOff, failures_after_pull};
-ghost use Rattle.gtd_devices.specs.Device.{WithinPut, AddsFront, Finishes, failures_after_put};
+ghost use Rattle.gtd_devices.specs.Device.{WithinPut, AddsFront, Finishes, has_ended, failures_after_put};
 
 /// What one pull of an input did.
 #[derive(Clone, Copy, Debug, PartialEq, Eq)]
@@ -57,6 +57,9 @@ pub trait Output {
     /// The bytes that were taken, where the output tells them.
     ghost taken: { Self → Option (List ℕ) } = { λ _. None };
 
+    /// Whether the output was ended, and nothing was offered since.
+    ghost is_ended: { Self → Bool };
+
     /// How often the device has failed.
     ghost failure_count: { Self → ℕ };
 
@@ -67,6 +70,7 @@ pub trait Output {
         requires countable { failure_count self.old < u64.MAX }
         ensures within { WithinPut result (length bytes.now) }
         ensures bytes { AddsFront (taken self.old) (taken self.new) result bytes.now }
+        ensures unended { is_ended self.new ≡ false }
         ensures failures { failure_count self.new
             ≡ failures_after_put result (failure_count self.old) };
 
@@ -75,6 +79,7 @@ pub trait Output {
     fn finish(&mut self) -> Put
         requires countable { failure_count self.old < u64.MAX }
         ensures bytes { Finishes (taken self.old) (taken self.new) result }
+        ensures ended { is_ended self.new ≡ has_ended result }
         ensures failures { failure_count self.new
             ≡ failures_after_put result (failure_count self.old) };
 

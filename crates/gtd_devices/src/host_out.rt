@@ -1,6 +1,6 @@
 //! The output over any writer.
 
-ghost use Rattle.std.specs.Prelude.{◌≡◌};
+ghost use Rattle.std.specs.Prelude.{◌≡◌, false};
 
 use crate::device::{Output, Put};
 use std::io::{ErrorKind, Write};
@@ -13,6 +13,7 @@ const TRIES: u32 = 1000;
 #[derive(Drop)]
 pub struct HostOut<W> {
     writer: W,
+    ended: bool,
     failures: u64,
 }
 
@@ -20,10 +21,12 @@ impl<W: Write> HostOut<W> {
     /// The output over a writer, which has not failed yet.
     pub fn new(writer: W) -> HostOut<W>
         ensures bytes { ⟦<HostOut<W> as Output>⟧.taken result ≡ W.contents writer }
+        ensures unended { ⟦<HostOut<W> as Output>⟧.is_ended result ≡ false }
         ensures failures { ⟦<HostOut<W> as Output>⟧.failure_count result ≡ 0 }
     {
         HostOut {
             writer,
+            ended: false,
             failures: 0,
         }
     }
@@ -32,9 +35,12 @@ impl<W: Write> HostOut<W> {
 impl<W: Write> Output for HostOut<W> {
     ghost taken = { λ host. W.contents host.writer };
 
+    ghost is_ended = { λ host. host.ended };
+
     ghost failure_count = { λ host. host.failures };
 
     fn put(&mut self, bytes: &[u8]) -> Put {
+        self.ended = false;
         for _ in 0..TRIES {
             match self.writer.write(bytes) {
                 Ok(0) => break,
@@ -48,13 +54,12 @@ impl<W: Write> Output for HostOut<W> {
     }
 
     fn finish(&mut self) -> Put {
-        match self.writer.flush() {
-            Ok(()) => Put::Took(0),
-            Err(_) => {
-                self.failures += 1;
-                Put::Failed
-            }
+        self.ended = self.writer.flush().is_ok();
+        if self.ended {
+            return Put::Took(0);
         }
+        self.failures += 1;
+        Put::Failed
     }
 
     fn failures(&self) -> u64 {

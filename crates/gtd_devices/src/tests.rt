@@ -2,7 +2,7 @@ ghost use Rattle.std.specs.Prelude.{◌≡◌, ◌<◌};
 
 use crate::{Host, HostOut, Input, InputFault, MemoryIn, MemoryOut, Output, Pull, Put, read_whole};
 use std::alloc::Global;
-use std::io::{Error, ErrorKind, Result as IoResult, Write};
+use std::io::{Error, ErrorKind, Read, Result as IoResult, Write};
 use std::process::Abort;
 use std::test::Fail;
 
@@ -207,6 +207,95 @@ fn interrupted_writes(rt: HostRuntime) {
     assert_eq!(rt; output.put(b"17".as_slice()), Put::Took(2));
     assert_eq!(rt; output.finish(), Put::Failed);
     assert_eq!(rt; output.failures(), 2);
+}
+
+// A writer that takes no byte of its first write, and all of the others.
+#[derive(Drop)]
+struct Full {
+    writes: u32,
+}
+
+impl Write for Full {
+    fn write(&mut self, buf: &[u8]) -> IoResult<usize> {
+        self.writes = self.writes.saturating_add(1);
+        if self.writes == 1 { Ok(0) } else { Ok(buf.len()) }
+    }
+
+    fn flush(&mut self) -> IoResult<()> {
+        Ok(())
+    }
+}
+
+#[test]
+fn a_write_of_no_byte(rt: HostRuntime) {
+    let mut output = HostOut::new(Full { writes: 0 });
+    assert_eq!(rt; output.put(b"17".as_slice()), Put::Failed);
+    assert_eq!(rt; output.put(b"17".as_slice()), Put::Took(2));
+    assert_eq!(rt; output.failures(), 1);
+}
+
+// A reader of bytes that is interrupted before each read.
+#[derive(Drop)]
+struct Halting<'a> {
+    bytes: &'a [u8],
+    interrupted: bool,
+}
+
+impl Read for Halting<'_> {
+    fn read(&mut self, buf: &mut [u8]) -> IoResult<usize> {
+        self.interrupted = !self.interrupted;
+        if self.interrupted {
+            return Err(Error::from(ErrorKind::Interrupted));
+        }
+        self.bytes.read(buf)
+    }
+}
+
+fn halting() -> Host<Halting<'static>>
+    ensures { ⟦<Host<Halting<'static>> as Input>⟧.failure_count result ≡ 0 }
+{
+    Host::new(Halting {
+        bytes: TEXT.as_bytes(),
+        interrupted: false,
+    })
+}
+
+#[test]
+fn interrupted_reads(rt: HostRuntime) {
+    let mut buffer = [0u8; 100];
+    let mut input = halting();
+    for pull in [Pull::Got(0), Pull::Got(88), Pull::Got(0), Pull::Done] {
+        assert_eq!(rt; input.pull(&mut buffer), pull);
+    }
+    assert_eq!(rt; input.failures(), 0);
+    let mut input = halting();
+    whole(&rt, rt.alloc(), &mut input);
+    assert_eq!(rt; input.failures(), 0);
+}
+
+// A reader that fails once.
+#[derive(Drop)]
+struct Torn {
+    failed: bool,
+}
+
+impl Read for Torn {
+    fn read(&mut self, _: &mut [u8]) -> IoResult<usize> {
+        if self.failed {
+            return Ok(0);
+        }
+        self.failed = true;
+        Err(Error::from(ErrorKind::Other))
+    }
+}
+
+#[test]
+fn a_read_that_fails(rt: HostRuntime) {
+    let mut buffer = [0u8; 100];
+    let mut input = Host::new(Torn { failed: false });
+    assert_eq!(rt; input.pull(&mut buffer), Pull::Failed);
+    assert_eq!(rt; input.pull(&mut buffer), Pull::Done);
+    assert_eq!(rt; input.failures(), 1);
 }
 
 #[test]

@@ -1,4 +1,4 @@
-use Rattle.std.proofs.Common.{◌≡◌}
+use Rattle.std.proofs.Common.{◌≡◌, false}
 use Rattle.std.specs.Io.KnownBytes.{Keeps}
 use Rattle.gtd_devices.proofs.host_out.HostOutOutput.put.Given as goal
 
@@ -6,5 +6,6 @@ use Rattle.gtd_devices.proofs.host_out.HostOutOutput.put.Given as goal
 abbrev pub invariant-loop : goal.invariant-loop
 invariant-loop g l = record {
   bytes : Keeps (g.W.Write.contents l.fn.self.writer) (g.W.Write.contents l.self.writer);
+  ended : l.self.ended ≡ false;
   failures : l.self.failures ≡ l.fn.self.failures;
 }
