@@ -1,6 +1,6 @@
 //! The record file that an input brings, put to an output as a file of version 2.
 
-ghost use Rattle.std.specs.Prelude.{◌≡◌, ◌<◌, ◌≤◌, ⊤, length, map, IsErrOf, IsTrue, List};
+ghost use Rattle.std.specs.Prelude.{◌≡◌, ◌<◌, ◌≤◌, ⊤, length, map, IsErrOf, IsTrue, List, OnOk};
 ghost use Rattle.gtd_roads.specs.Restriction.{Restriction};
 ghost use Rattle.gtd_runs.specs.Putting.{Puts, failures_after_stop, nothing_put};
 ghost use Rattle.gtd_runs.specs.Run.{AcceptedFilesArePut, HasRun, RefusedFilesPutNothing};
@@ -48,6 +48,7 @@ fn put_migrated<O: Output>(
     requires begins { progress.old ≡ nothing_put }
     ensures puts { Puts result (O.taken output.old) (O.taken output.new)
         progress.old progress.new (migrated rows.now) }
+    ensures ended { OnOk result (IsTrue (O.is_ended output.new)) }
     ensures failures { O.failure_count output.new
         ≡ failures_after_stop result (O.failure_count output.old) }
 {
@@ -79,6 +80,8 @@ pub fn run_migrate<I: Input, O: Output>(
     // What stands by each answer: after a failure or a refusal of memory, the first bytes of the migrated file.
     ensures stands { HasRun (λ found. ⊤) (λ found lines. lines ≡ migrated found)
         (I.to_come input.old) (O.taken output.old) (O.taken output.new) result }
+    // The end comes last: an output that took the whole text was then ended.
+    ensures ended { OnOk result (IsTrue (O.is_ended output.new)) }
     ensures vehicle { IsErrOf result RunFault.VehicleRange → ⊥ }
     ensures year { IsErrOf result RunFault.YearRange → ⊥ }
     ensures element { IsErrOf result RunFault.NoElement → ⊥ }

@@ -1,7 +1,8 @@
 -- What stands where a run ended, and the claims that follow.
-use Rattle.std.proofs.Common.{◌≡◌, ◌∙◌, ◌+◌, ap, refl, arith, subst, length, ℕ, List, Option, Some, None}
-use Rattle.std.specs.Prelude.{◌≢◌, Result, Ok, Err, IfSome}
+use Rattle.std.proofs.Common.{◌≡◌, ◌∙◌, ◌+◌, ap, refl, arith, subst, length, Bool, ℕ, List, Option, Some, None}
+use Rattle.std.specs.Prelude.{◌≢◌, IsTrue, OnOk, Result, Ok, Err, IfSome}
 use Rattle.std.specs.Io.KnownBytes.{Keeps}
+use Rattle.std.proofs.KnownBytes.{Keeps-refl}
 use Rattle.gtd_roads.proofs.OneAnswer.{one_file}
 use Rattle.gtd_roads.specs.File.{IsFile}
 use Rattle.gtd_roads.specs.Reading.{IsOfFile}
@@ -58,6 +59,30 @@ module _ (IsAccepted : List Restriction → Type 0) (IsText : List Restriction �
   }
   has_run (Err Output) file old new found q of_file accepted puts = stopped Output file old new found q of_file accepted puts
   has_run (Err Memory) file old new found q of_file accepted puts = stopped Memory file old new found q of_file accepted puts
+
+  -- what a run did of a file that is not read
+  pub not_read : (why : RecordFault) (file taken : Option (List ℕ)) → IfSome file (λ bytes. IsOfFile why → IsFile bytes (Err why))
+      → HasRun IsAccepted IsText file taken taken (Err (fault.Records why))
+  not_read why None taken h = (Keeps-refl taken, λ free. tt)
+  not_read why (Some bytes) taken h = (Keeps-refl taken, h)
+
+-- a run that put its text, or that stopped, does not speak of its arguments
+pub not_vehicle : (put : Result (Unit {0}) Stop) (progress : Progress) → answer_of put progress ≢ Err fault.VehicleRange
+not_vehicle (Ok done) progress e = cc
+not_vehicle (Err Output) progress e = cc
+not_vehicle (Err Memory) progress e = cc
+
+pub not_year : (put : Result (Unit {0}) Stop) (progress : Progress) → answer_of put progress ≢ Err fault.YearRange
+not_year (Ok done) progress e = cc
+not_year (Err Output) progress e = cc
+not_year (Err Memory) progress e = cc
+
+-- a run whose text was put has ended its output
+pub answer_ended : (put : Result (Unit {0}) Stop) (progress : Progress) (ended : Bool) → OnOk put (IsTrue ended)
+    → OnOk (answer_of put progress) (IsTrue ended)
+answer_ended (Ok done) progress ended h = h
+answer_ended (Err Output) progress ended h = tt
+answer_ended (Err Memory) progress ended h = tt
 
 -- two lists of restrictions of one file are one
 same_found : (bytes : List ℕ) (a b : List Restriction) → IsFile bytes (Ok a) → IsFile bytes (Ok b) → a ≡ b

@@ -1,6 +1,6 @@
 //! Lines put to an output, and the count of what it took.
 
-ghost use Rattle.std.specs.Prelude.{◌≡◌, ◌+◌, ◌<◌, ◌^◌, length, take, OnOk, OnErr, IfErr};
+ghost use Rattle.std.specs.Prelude.{◌≡◌, ◌+◌, ◌<◌, ◌^◌, length, take, IsTrue, OnOk, IfErr};
 ghost use Rattle.std.specs.Io.KnownBytes.{Appends, Keeps};
 ghost use Rattle.gtd_runs.specs.Putting.{after_line, answer_of, failures_after_line, failures_after_stop, nothing_put};
 
@@ -136,6 +136,7 @@ pub fn put_line<O: Output>(
 pub fn finish<O: Output>(output: &mut O) -> Result<(), Stop>
     requires countable { O.failure_count output.old < u64.MAX }
     ensures bytes { Keeps (O.taken output.old) (O.taken output.new) }
+    ensures ended { OnOk result (IsTrue (O.is_ended output.new)) }
     ensures cause { IfErr result (λ stop. stop ≡ Stop.Output) }
     ensures failures { O.failure_count output.new
         ≡ failures_after_stop result (O.failure_count output.old) }

@@ -1,6 +1,6 @@
 //! The schedule of the record file that an input brings, put to an output.
 
-ghost use Rattle.std.specs.Prelude.{◌≡◌, ◌<◌, ◌↔◌, ⊤, IsErrOf, IsTrue, List};
+ghost use Rattle.std.specs.Prelude.{◌≡◌, ◌<◌, ◌↔◌, ⊤, IsErrOf, IsTrue, List, OnOk};
 ghost use Rattle.gtd_roads.specs.Restriction.{Restriction};
 ghost use Rattle.gtd_runs.specs.Run.{AcceptedFilesArePut, HasRun, IsVehicleType, RefusedFilesPutNothing};
 ghost use Rattle.gtd_runs.specs.Run.{failures_after_read, failures_after_write};
@@ -39,6 +39,8 @@ pub fn run_schedule<I: Input, O: Output>(
     ensures stands { HasRun
         (λ found. ⊤) (λ found lines. IsSchedule found vehicle horizon lines)
         (I.to_come input.old) (O.taken output.old) (O.taken output.new) result }
+    // The end comes last: an output that took the whole text was then ended.
+    ensures ended { OnOk result (IsTrue (O.is_ended output.new)) }
     ensures vehicle { IsErrOf result RunFault.VehicleRange ↔ (IsVehicleType vehicle → ⊥) }
     ensures year { IsErrOf result RunFault.YearRange → ⊥ }
     ensures element { IsErrOf result RunFault.NoElement → ⊥ }

@@ -1,6 +1,6 @@
 //! The lines of a schedule, put one after the other.
 
-ghost use Rattle.std.specs.Prelude.{◌≡◌, ◌+◌, ◌*◌, ◌<◌, ◌≤◌, ◌^◌, length, map, OnOk};
+ghost use Rattle.std.specs.Prelude.{◌≡◌, ◌+◌, ◌*◌, ◌<◌, ◌≤◌, ◌^◌, length, map, IsTrue, OnOk};
 ghost use Rattle.gtd_runs.specs.Putting.{Puts, PutsText, failures_after_stop, nothing_put};
 ghost use Rattle.gtd_schedule.specs.Lines.{AreShown, most_bytes, most_lines};
 ghost use Rattle.gtd_schedule.specs.Schedule.{AreElementLines, AreLines, AreLinesOf, IsSchedule, span_line};
@@ -141,6 +141,7 @@ pub(crate) fn put_schedule<O: Output>(
     requires few { length found.now ≤ 65536 }
     ensures puts { PutsText (IsSchedule found.now vehicle horizon) result
         (O.taken output.old) (O.taken output.new) progress.old progress.new }
+    ensures ended { OnOk result (IsTrue (O.is_ended output.new)) }
     ensures failures { O.failure_count output.new
         ≡ failures_after_stop result (O.failure_count output.old) }
 {

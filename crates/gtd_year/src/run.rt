@@ -40,6 +40,7 @@ fn put_year<O: Output>(
     ensures puts { PutsText (IsYearTable found.now element direction vehicle year) result
         (O.taken output.old) (O.taken output.new) progress.old progress.new }
     ensures days { OnOk result (progress.new.lines ≡ year_length (pos year)) }
+    ensures ended { OnOk result (IsTrue (O.is_ended output.new)) }
     ensures failures { O.failure_count output.new
         ≡ failures_after_stop result (O.failure_count output.old) }
 {
@@ -96,6 +97,8 @@ pub fn run_year<I: Input, O: Output>(
         (λ found lines. IsYearTable found element direction vehicle year lines)
         (I.to_come input.old) (O.taken output.old) (O.taken output.new) result }
     ensures days { IfOk result (λ count. count ≡ year_length (pos year)) }
+    // The end comes last: an output that took the whole text was then ended.
+    ensures ended { OnOk result (IsTrue (O.is_ended output.new)) }
     ensures vehicle { IsErrOf result RunFault.VehicleRange ↔ (IsVehicleType vehicle → ⊥) }
     ensures year { IsErrOf result RunFault.YearRange ↔ (IsVehicleType vehicle × (IsTableYear year → ⊥)) }
     ensures endless { IsErrOf result (RunFault.Records RecordFault.Endless) → IsTrue (I.may_fall_silent input.old) }

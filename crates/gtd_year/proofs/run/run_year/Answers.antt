@@ -1,11 +1,11 @@
 use Rattle.std.proofs.Common.{rules, ◌≡◌, ℕ, List}
 use Rattle.std.specs.Prelude.{Err, Any}
 use Rattle.gtd_roads.specs.Restriction.{Restriction}
-use Rattle.gtd_runs.proofs.RunFacts.{accepted_are_put, has_run, refused_put_nothing, unaccepted_put_nothing}
+use Rattle.gtd_runs.proofs.RunFacts.{accepted_are_put, answer_ended, has_run, not_read, not_vehicle, not_year, refused_put_nothing, unaccepted_put_nothing}
 use Rattle.gtd_runs.specs.Putting.{answer_of}
 use Rattle.gtd_runs.specs.declared.fault.RunFault.TheVariants as fault
 use Rattle.gtd_year.specs.Table.{IsYearTable}
-use Rattle.gtd_year.proofs.Ends.{not_named, not_read, not_vehicle, not_year}
+use Rattle.gtd_year.proofs.Ends.{not_named}
 use Rattle.gtd_year.proofs.run.run_year.Goals as goal
 
 pub returns-in-Err-clause-accepted : goal.returns-in-Err-clause-accepted
@@ -116,3 +116,8 @@ returns-clause-unnamed g c = λ vehicle year.
     let run = rw c.answer.ensures.value at (returns-clause-stands g c) in
     rw c.answer.ensures.value (unaccepted_put_nothing names table (answer_of put progress) file old new
     (not_vehicle put progress) (not_year put progress) run)
+
+pub returns-clause-ended : goal.returns-clause-ended
+returns-clause-ended g c =
+    rw c.answer.ensures.value (answer_ended c.put_year-put.result c.put_year-put.new.progress (g.O.Output.is_ended c.put_year-put.new.output)
+    c.put_year-put.ensures.ended)
