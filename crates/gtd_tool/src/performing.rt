@@ -11,7 +11,7 @@ ghost use Rattle.gtd_roads.specs.File.{IsFile};
 ghost use Rattle.gtd_roads.specs.Restriction.{Restriction};
 ghost use Rattle.gtd_tool.specs.Plans.{asked_by, file_of};
 ghost use Rattle.gtd_tool.specs.Plans as asked;
-ghost use Rattle.gtd_tool.specs.Printed.{AppendsLine, AppendsPartOfLine, AsksPastYears, IsAnswer, IsChange, IsChangeOr, IsState, TakesMemory};
+ghost use Rattle.gtd_tool.specs.Printed.{AppendsLine, AppendsPartOfLine, AsksPastYears, IsAnswer, IsChangeOr, IsState};
 ghost use Rattle.gtd_tool.specs.Running.{AppendsTextOf, IfAlone, IfFile, IfRead, IsAccepted, IsCause, IsLacking, IsPartPrinted, IsPrinted, IsRefusedFile, IsVehicleInRange, IsYearInRange, Ran, failures_after};
 ghost use Rattle.gtd_tool.specs.Stops.{IsStop};
 ghost use Rattle.gtd_tool.specs.Writing.{AppendsPart, joined};
@@ -65,14 +65,13 @@ pub fn perform<I: Input, W: Write>(
     // Files that do not name the element of a year's table are refused for that, where nothing hinders it.
     ensures lacking { IfRead (asked_by plan.now) (I.to_come input.old) result (λ bytes.
         IsLacking (asked_by plan.now) bytes → result ≡ Err Refusal.NoElement) }
-    // Each refusal has its cause.
+    // Each refusal has its cause: `Memory` comes only where a command takes memory, `Write` only once a file is accepted.
     ensures cause { IfErr result (IsCause (asked_by plan.now)
         (I.to_come input.old) (I.may_fall_silent input.old)) }
     ensures vehicle { (result ≡ Err Refusal.VehicleRange) ↔ (IsVehicleInRange (asked_by plan.now) → ⊥) }
     ensures table_year { (result ≡ Err Refusal.YearRange)
         ↔ (IsVehicleInRange (asked_by plan.now) × (IsYearInRange (asked_by plan.now) → ⊥)) }
     ensures year { (result ≡ Err Refusal.HasYear) ↔ AsksPastYears (asked_by plan.now) }
-    ensures memory { IfErr result (λ r. r ≡ Refusal.Memory → TakesMemory (asked_by plan.now)) }
     // Any other refusal than for a failed write or for want of memory comes before anything is written.
     ensures unwritten { IfErr result (λ r. r ≢ Refusal.Write → r ≢ Refusal.Memory
         → Keeps (W.contents out.old) (W.contents out.new)) }
