@@ -9,15 +9,15 @@ use Rattle.std.specs.declared.cmp.Ordering.TheVariants.{Less}
 use Rattle.std.proofs.lemmas.Bool.Decides.{nat_tests}
 use Rattle.std.proofs.lemmas.Map.Keys.{sorted_from_strictly_increasing}
 
-abbrev AllAbove : ℕ → List ℕ → Type 0
+abbrev pub AllAbove : ℕ → List ℕ → Type 0
 AllAbove n [] = Unit {0}
 AllAbove n (x ∷ xs) = (n < x) × AllAbove n xs
 
-abbrev Rises : List ℕ → Type 0
+abbrev pub Rises : List ℕ → Type 0
 Rises [] = Unit {0}
 Rises (x ∷ xs) = AllAbove x xs × Rises xs
 
-abbrev In : ℕ → List ℕ → Type 0
+abbrev pub In : ℕ → List ℕ → Type 0
 In n [] = ⊥
 In n (x ∷ xs) = (x ≡ n) ⊎ In n xs
 

@@ -32,6 +32,7 @@ use Rattle.gtd_roads.specs.declared.direction.Direction.{Direction}
 use Rattle.gtd_roads.specs.declared.direction.Direction.TheVariants.{Positive, Negative}
 use Rattle.gtd_roads.specs.declared.vehicles.Vehicles.{Vehicles}
 use Rattle.gtd_roads.specs.declared.vehicles.Vehicles.TheVariants.{Every, Only, AllBut}
+use Rattle.gtd_roads.proofs.Rising.{AllAbove, In, Rises}
 use Rattle.gtd_schedule.proofs.ScheduleFacts.{same_decides}
 use Rattle.gtd_schedule.specs.Schedule.{AreElementLines, AreLines, AreLinesOf, IsSchedule, header_line, span_line}
 use Rattle.gtd_spans.specs.Combine.{combine}
@@ -176,18 +177,6 @@ module _ (found : List Restriction) (vehicle : ℕ) (horizon : Horizon) where
       ((p.0 ++ n.0) ++ more.0, (p.0 ++ n.0, more.0, one, more.1, refl))
 
 -- ---- the elements
-
-abbrev AllAbove : ℕ → List ℕ → Type 0
-AllAbove n [] = Unit {0}
-AllAbove n (x ∷ xs) = (n < x) × AllAbove n xs
-
-abbrev Rises : List ℕ → Type 0
-Rises [] = Unit {0}
-Rises (x ∷ xs) = AllAbove x xs × Rises xs
-
-abbrev In : ℕ → List ℕ → Type 0
-In n [] = ⊥
-In n (x ∷ xs) = (x ≡ n) ⊎ In n xs
 
 -- a list with one number more, at its place
 record IsInserted (n : ℕ) (xs ys : List ℕ) : Type 0 where
