@@ -74,7 +74,12 @@ fn schedules(rt: HostRuntime) {
     expect_put(&rt, alloc, &["\u{feff}", R], APRIL, &[SCHEDULE, positive]);
     expect_put(&rt, alloc, &[HEADER], APRIL, &[SCHEDULE]);
     expect_put(&rt, alloc, &[HEADER_2], APRIL, &[SCHEDULE]);
-    // Elements are numbers, in ascending order.
+}
+
+// Elements are numbers, in ascending order.
+#[test]
+fn elements_of_schedules(rt: HostRuntime) {
+    let alloc = rt.alloc();
     expect_put(
         &rt,
         alloc,
@@ -86,7 +91,12 @@ fn schedules(rt: HostRuntime) {
             "17,positive,1,2024-01-01T12:00:00,2024-01-02T00:00:00\n17,negative,1,2024-01-01T12:00:00,2024-01-02T00:00:00\n",
         ],
     );
-    // The last day that a horizon may have.
+}
+
+// The last day that a horizon may have.
+#[test]
+fn last_schedule(rt: HostRuntime) {
+    let alloc = rt.alloc();
     expect_put(
         &rt,
         alloc,
@@ -97,7 +107,12 @@ fn schedules(rt: HostRuntime) {
             "17,positive,11,2699-12-31T00:00:00,2700-01-01T00:00:00\n",
         ],
     );
-    // All vehicle types but two.
+}
+
+// All vehicle types but two.
+#[test]
+fn schedules_of_version_2(rt: HostRuntime) {
+    let alloc = rt.alloc();
     expect_put(
         &rt,
         alloc,
