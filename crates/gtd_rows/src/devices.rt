@@ -3,8 +3,10 @@
 ghost use Rattle.std.specs.Prelude.{◌≡◌, ◌<◌};
 
 use crate::job::{APRIL, Job, LEAP_YEAR, R, input, run};
+use crate::tests::owned;
 use gtd_roads::{HostOut, Input, MemoryIn, MemoryOut, Pull, RecordFault};
 use gtd_runs::RunFault;
+use gtd_tool::{Refusal, perform, plan};
 use std::alloc::Global;
 use std::io;
 use std::io::{Error, ErrorKind, Write};
@@ -262,6 +264,38 @@ fn writers_that_are_interrupted(rt: HostRuntime) -> Result<(), Fail> {
             flushes,
         });
         assert_eq!(rt; run(&rt, alloc, APRIL, &mut input, &mut output), expected);
+    }
+    Ok(())
+}
+
+// Commands over a record file.
+static FILE_COMMANDS: [&[&str]; 3] = [
+    &["schedule", "r.csv", "2024-04-01", "2024-04-02", "11"],
+    &["year", "r.csv", "17", "positive", "11", "2024"],
+    &["migrate", "r.csv"],
+];
+
+// A command fails where its writer takes all bytes and fails at its flush.
+#[test]
+fn flushes_of_file_commands(rt: HostRuntime) -> Result<(), Fail> {
+    let alloc = rt.alloc();
+    for words in &FILE_COMMANDS {
+        let Ok(plan) = plan(alloc, owned(alloc, words)?) else {
+            panic!(rt; "no plan of {words:?}");
+        };
+        for (flushes, expected) in [(true, Ok(())), (false, Err(Refusal::Write))] {
+            let mut input = input(&rt, alloc, R.as_bytes(), None, None);
+            let mut out = Busy {
+                interruptions: 0,
+                left: 0,
+                flushes,
+            };
+            assert_eq!(rt;
+                perform(alloc, &plan, &mut input, &mut out),
+                expected,
+                "{words:?}"
+            );
+        }
     }
     Ok(())
 }
