@@ -1,11 +1,13 @@
 #!/usr/bin/env bash
-# Runs each test of memory refused with its first growth refused, then with its second, and so on to its last.
-# Run it after `rt ci`, which proves and builds the tests. It needs a C compiler.
+# Runs each test of memory refused with its first growth refused, then with its second, and so on to its last; and so
+# each command of the program. Run it after `rt ci`, which proves and builds both. It needs a C compiler.
 set -u
 ulimit -c 0
 here=$(cd "$(dirname "$0")" && pwd)
 tests=$here/../crates/gtd_rows/out/gtd_rows_tests
+program=$here/../crates/gtd/out/gtd
 [ -x "$tests" ] || { echo "no tests at $tests: run rt ci first" >&2; exit 1; }
+[ -x "$program" ] || { echo "no program at $program: run rt ci first" >&2; exit 1; }
 room=$(mktemp -d)
 trap 'rm -rf "$room"' EXIT
 "${CC:-cc}" -O2 -shared -fPIC -o "$room/refuse.so" "$here/refuse_growth.c" || exit 1
@@ -30,6 +32,48 @@ for name in $names; do
     # Each of them takes memory: with none refused, nothing was tested.
     [ "$growth" != 1 ] || failed=$((failed + 1))
 done
+
+# as_before: the last run of the program ended as it does with all its memory, though it may tell of a growth refused.
+as_before() {
+    [ "$status" = 0 ] && [ "${told#growth refused}" = '' ] && cmp -s "$room/out" "$room/whole"
+}
+
+# in_want: the last run told of want of memory, and had printed a first part of what it prints.
+in_want() {
+    [ "$status" = 3 ] && [ "$told" = $'growth refused\nfault NoMemory' ] \
+        && cmp -s -n "$(stat -c %s "$room/out")" "$room/out" "$room/whole"
+}
+
+# program_refused WORDS..: the command, with its growths refused in turn.
+program_refused() {
+    "$program" "$@" > "$room/whole" || failed=$((failed + 1))
+    for ((growth = 1; ; growth++)); do
+        LD_PRELOAD=$room/refuse.so REFUSE_GROWTH=$growth "$program" "$@" > "$room/out" 2> "$room/err"
+        status=$?
+        told=$(< "$room/err")
+        as_before || in_want || {
+            failed=$((failed + 1))
+            echo "FAILED gtd $1, growth $growth: status $status, told '$told'"
+        }
+        [[ $told == *'growth refused'* ]] || break
+        refused=$((refused + 1))
+    done
+    echo "gtd $1: $((growth - 1))"
+    [ "$growth" != 1 ] || failed=$((failed + 1))
+}
+
+domain='[(M4d1){M3}]*[(h10){h4}]'
+printf '%s\n' element,direction,vehicle,domain "17,positive,0,$domain" 17,negative,11, > "$room/r.csv"
+# A path so long that opening it takes memory.
+file=$room$(printf '/.%.0s' {1..400})/r.csv
+program_refused check "$domain"
+program_refused canon "$domain"
+program_refused at "$domain" 2024-04-01T10:00:00
+program_refused next "$domain" 2024-04-01T10:00:00 2024-05-01
+program_refused ever "$domain" 2024-04-01T10:00:00
+program_refused schedule "$file" 2024-04-01 2024-05-01 11
+program_refused year "$file" 17 positive 11 2024
+program_refused migrate "$file"
 
 echo "refusals: $refused growths refused, $failed failed"
 [ "$failed" = 0 ]
