@@ -1,8 +1,7 @@
 //! Worked dates and texts, and every day of 400 years counted one by one.
 
 use crate::{
-    DayFields, StampFault, day_of, end_of, fields, read_date, read_stamp, write_date,
-    write_stamp,
+    DayFields, StampFault, day_of, end_of, fields, read_date, read_stamp, write_date, write_stamp,
 };
 use gtd_core::{Duration, DurationParts, Sec};
 

@@ -218,7 +218,11 @@ struct Full {
 impl Write for Full {
     fn write(&mut self, buf: &[u8]) -> IoResult<usize> {
         self.writes = self.writes.saturating_add(1);
-        if self.writes == 1 { Ok(0) } else { Ok(buf.len()) }
+        if self.writes == 1 {
+            Ok(0)
+        } else {
+            Ok(buf.len())
+        }
     }
 
     fn flush(&mut self) -> IoResult<()> {

@@ -93,7 +93,13 @@ fn faults_of_files(rt: HostRuntime) -> Result<(), Fail> {
         (RecordFault::Element { row: 3 }, "Element"),
         (RecordFault::Direction { row: 3 }, "Direction"),
         (RecordFault::Vehicle { row: 3 }, "Vehicle"),
-        (RecordFault::Domain { row: 3, fault: FAULT }, "Domain"),
+        (
+            RecordFault::Domain {
+                row: 3,
+                fault: FAULT,
+            },
+            "Domain",
+        ),
         (RecordFault::TooManyRows, "TooManyRows"),
         (RecordFault::NoMemory, "NoMemory"),
         (RecordFault::Endless, "Endless"),
@@ -112,7 +118,11 @@ fn faults_of_runs(rt: HostRuntime) -> Result<(), Fail> {
         (RunFault::YearRange, "YearRange", "YearRange"),
         (RunFault::Records(RecordFault::Header), "Records", "Header"),
         (RunFault::NoElement, "NoElement", "NoElement"),
-        (RunFault::WriteFault { written: 5 }, "WriteFault", "WriteFault"),
+        (
+            RunFault::WriteFault { written: 5 },
+            "WriteFault",
+            "WriteFault",
+        ),
         (RunFault::NoMemory { written: 5 }, "NoMemory", "NoMemory"),
     ] {
         assert_eq!(rt; fault.name(), name);
@@ -144,9 +154,21 @@ fn lines_of_refusals(rt: HostRuntime) -> Result<(), Fail> {
         (Refusal::Usage, 2, "usage: gtd COMMAND ARGUMENTS"),
         (Refusal::Text(FAULT), 1, "fault FieldRange at 2"),
         (Refusal::Moment(StampFault::Shape), 1, "fault moment Shape"),
-        (Refusal::Date(StampFault::NoSuchDate), 1, "fault date NoSuchDate"),
-        (Refusal::Horizon(HorizonFault::TooEarly), 1, "fault horizon TooEarly"),
-        (Refusal::Horizon(HorizonFault::TooLate), 1, "fault horizon TooLate"),
+        (
+            Refusal::Date(StampFault::NoSuchDate),
+            1,
+            "fault date NoSuchDate",
+        ),
+        (
+            Refusal::Horizon(HorizonFault::TooEarly),
+            1,
+            "fault horizon TooEarly",
+        ),
+        (
+            Refusal::Horizon(HorizonFault::TooLate),
+            1,
+            "fault horizon TooLate",
+        ),
         (Refusal::HasYear, 1, "fault HasYear"),
         (Refusal::VehicleRange, 1, "fault VehicleRange"),
         (Refusal::YearRange, 1, "fault YearRange"),
@@ -167,12 +189,23 @@ fn lines_of_record_faults(rt: HostRuntime) -> Result<(), Fail> {
         (RecordFault::ReadFault, 3, "fault ReadFault"),
         (RecordFault::TooLarge, 1, "fault TooLarge"),
         (RecordFault::Header, 1, "fault Header"),
-        (RecordFault::FieldCount { row: 3 }, 1, "fault row 3 FieldCount"),
+        (
+            RecordFault::FieldCount { row: 3 },
+            1,
+            "fault row 3 FieldCount",
+        ),
         (RecordFault::Element { row: 3 }, 1, "fault row 3 Element"),
-        (RecordFault::Direction { row: 3 }, 1, "fault row 3 Direction"),
+        (
+            RecordFault::Direction { row: 3 },
+            1,
+            "fault row 3 Direction",
+        ),
         (RecordFault::Vehicle { row: 3 }, 1, "fault row 3 Vehicle"),
         (
-            RecordFault::Domain { row: 3, fault: FAULT },
+            RecordFault::Domain {
+                row: 3,
+                fault: FAULT,
+            },
             1,
             "fault row 3 Domain FieldRange at 2",
         ),
