@@ -63,9 +63,8 @@ program_refused() {
 }
 
 domain='[(M4d1){M3}]*[(h10){h4}]'
-printf '%s\n' element,direction,vehicle,domain "17,positive,0,$domain" 17,negative,11, > "$room/r.csv"
-# A path so long that opening it takes memory.
-file=$room$(printf '/.%.0s' {1..400})/r.csv
+file=$room/r.csv
+printf '%s\n' element,direction,vehicle,domain "17,positive,0,$domain" 17,negative,11, > "$file"
 program_refused check "$domain"
 program_refused canon "$domain"
 program_refused at "$domain" 2024-04-01T10:00:00
