@@ -1,37 +1,47 @@
 #!/usr/bin/env bash
 # Runs each test of memory refused with its first growth refused, then with its second, and so on to its last; and so
-# each command of the program. Run it after `rt ci`, which proves and builds both. It needs a C compiler.
+# each command of the program. Run it after `rt ci`, which proves and builds what it runs. It needs a C compiler.
 set -u
 ulimit -c 0
 here=$(cd "$(dirname "$0")" && pwd)
-tests=$here/../crates/gtd_rows/out/gtd_rows_tests
+layer_tests=$here/../crates/gtd_layer_rows/out/gtd_layer_rows_tests
+command_tests=$here/../crates/gtd_rows/out/gtd_rows_tests
 program=$here/../crates/gtd/out/gtd
-[ -x "$tests" ] || { echo "no tests at $tests: run rt ci first" >&2; exit 1; }
-[ -x "$program" ] || { echo "no program at $program: run rt ci first" >&2; exit 1; }
+for built in "$layer_tests" "$command_tests" "$program"; do
+    [ -x "$built" ] || { echo "nothing at $built: run rt ci first" >&2; exit 1; }
+done
 room=$(mktemp -d)
 trap 'rm -rf "$room"' EXIT
 "${CC:-cc}" -O2 -shared -fPIC -o "$room/refuse.so" "$here/refuse_growth.c" || exit 1
 
 refused=0 failed=0
-names=$("$tests" --list | sed -n 's/^\(refusals::.*\): test$/\1/p')
-[ -n "$names" ] || { echo "no tests of memory refused" >&2; exit 1; }
-for name in $names; do
-    for ((growth = 1; ; growth++)); do
-        LD_PRELOAD=$room/refuse.so REFUSE_GROWTH=$growth "$tests" "$name" > "$room/out" 2> "$room/err"
-        status=$?
-        said=$(< "$room/out") told=$(< "$room/err")
-        if [ "$status" != 0 ] || [[ $said != *'test result: ok'* ]]; then
-            failed=$((failed + 1))
-            echo "FAILED $name, growth $growth: status $status, said '$said$told'"
-        fi
-        # A success is not the end: a call can do without some growths.
-        [[ $told == *'growth refused'* ]] || break
-        refused=$((refused + 1))
+
+# tests_refused TESTS: the tests of memory refused in this program, with their growths refused in turn.
+tests_refused() {
+    local names name
+    names=$("$1" --list | sed -n 's/^\(refusals::.*\): test$/\1/p')
+    [ -n "$names" ] || { echo "no tests of memory refused in $1" >&2; exit 1; }
+    for name in $names; do
+        for ((growth = 1; ; growth++)); do
+            LD_PRELOAD=$room/refuse.so REFUSE_GROWTH=$growth "$1" "$name" > "$room/out" 2> "$room/err"
+            status=$?
+            said=$(< "$room/out") told=$(< "$room/err")
+            if [ "$status" != 0 ] || [[ $said != *'test result: ok'* ]]; then
+                failed=$((failed + 1))
+                echo "FAILED $name, growth $growth: status $status, said '$said$told'"
+            fi
+            # A success is not the end: a call can do without some growths.
+            [[ $told == *'growth refused'* ]] || break
+            refused=$((refused + 1))
+        done
+        echo "${name#refusals::}: $((growth - 1))"
+        # Each of them takes memory: with none refused, nothing was tested.
+        [ "$growth" != 1 ] || failed=$((failed + 1))
     done
-    echo "${name#refusals::}: $((growth - 1))"
-    # Each of them takes memory: with none refused, nothing was tested.
-    [ "$growth" != 1 ] || failed=$((failed + 1))
-done
+}
+
+tests_refused "$layer_tests"
+tests_refused "$command_tests"
 
 # as_before: the last run of the program ended as it does with all its memory, though it may tell of a growth refused.
 as_before() {

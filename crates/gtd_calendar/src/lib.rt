@@ -13,5 +13,3 @@ mod clock;
 mod day;
 pub mod laws;
 mod stamp;
-#[cfg(test)]
-mod tests;

@@ -15,6 +15,4 @@ mod device;
 mod host;
 mod host_out;
 mod memory;
-#[cfg(test)]
-mod tests;
 mod whole;

@@ -17,5 +17,3 @@ pub mod laws;
 mod membership;
 mod node;
 mod queries;
-#[cfg(test)]
-mod tests;

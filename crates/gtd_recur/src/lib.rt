@@ -15,5 +15,3 @@ pub mod laws;
 mod runs;
 mod spans;
 mod starts;
-#[cfg(test)]
-mod tests;

@@ -27,6 +27,4 @@ mod record;
 mod row;
 mod schedule;
 mod table;
-#[cfg(test)]
-mod tests;
 mod vehicles;

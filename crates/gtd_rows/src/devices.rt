@@ -15,11 +15,42 @@ use std::test::Fail;
 
 static JOBS: [Job; 3] = [APRIL, LEAP_YEAR, Job::Migrate];
 
+// What a run over the input answers, and an output that takes all of what it puts.
+fn run_over<I: Input>(
+    rt: &impl Abort,
+    alloc: Global,
+    job: Job,
+    input: &mut I,
+) -> (Result<u64, RunFault>, MemoryOut)
+    requires readable { I.failure_count input.old < u64.MAX }
+{
+    let mut output = MemoryOut::new(alloc, 10_000, 10_000, None).expect(rt, "memory");
+    let answer = run(rt, alloc, job, input, &mut output);
+    (answer, output)
+}
+
+// What a run over a sound file answers, and the output, which has so much room, takes so many bytes at once, and fails at
+// its call of this number.
+fn run_into(
+    rt: &impl Abort,
+    alloc: Global,
+    job: Job,
+    room: usize,
+    piece: usize,
+    fail_call: Option<u64>,
+) -> (Result<u64, RunFault>, MemoryOut)
+    requires some_byte { 0 < piece }
+{
+    let mut input = input(rt, alloc, R.as_bytes(), None, None);
+    let mut output = MemoryOut::new(alloc, room, piece, fail_call).expect(rt, "memory");
+    let answer = run(rt, alloc, job, &mut input, &mut output);
+    (answer, output)
+}
+
 // What a run over a sound file puts, with ample memory and devices that do not fail.
 fn whole(rt: &impl Abort, alloc: Global, job: Job) -> (u64, Vec<u8>) {
-    let mut input = input(rt, alloc, R.as_bytes(), None, None);
-    let mut output = MemoryOut::new(alloc, 10_000, 10_000, None).expect(rt, "memory");
-    match run(rt, alloc, job, &mut input, &mut output) {
+    let (answer, output) = run_into(rt, alloc, job, 10_000, 10_000, None);
+    match answer {
         Ok(count) => (
             count,
             Vec::from_slice(alloc, output.bytes()).expect(rt, "memory"),
@@ -28,35 +59,47 @@ fn whole(rt: &impl Abort, alloc: Global, job: Job) -> (u64, Vec<u8>) {
     }
 }
 
+// 88 bytes come in 13 pieces of 7 at most, and the 14th pull finds the end.
 #[test]
-fn inputs_that_fail_or_fall_silent(rt: HostRuntime) {
+fn inputs_that_fail(rt: HostRuntime) {
     let alloc = rt.alloc();
     for job in JOBS {
-        let (count, _) = whole(&rt, alloc, job);
-        for call in 1u64..16 {
+        for call in 1u64..15 {
             let mut failing = input(&rt, alloc, R.as_bytes(), Some(call), None);
-            let mut output = MemoryOut::new(alloc, 10_000, 10_000, None).expect(&rt, "memory");
-            let answer = run(&rt, alloc, job, &mut failing, &mut output);
-            if call == 15 {
-                assert_eq!(rt; answer, Ok(count));
-                assert_eq!(rt; failing.failures(), 0);
-            } else {
-                assert_eq!(rt; answer, Err(RunFault::Records(RecordFault::ReadFault)));
-                assert_eq!(rt; failing.failures(), 1);
-                assert!(rt; output.bytes().is_empty());
-            }
+            let (answer, output) = run_over(&rt, alloc, job, &mut failing);
+            assert_eq!(rt; answer, Err(RunFault::Records(RecordFault::ReadFault)));
+            assert_eq!(rt; failing.failures(), 1);
+            assert!(rt; output.bytes().is_empty());
         }
-        for call in 1u64..16 {
+    }
+}
+
+#[test]
+fn inputs_that_fall_silent(rt: HostRuntime) {
+    let alloc = rt.alloc();
+    for job in JOBS {
+        for call in 1u64..15 {
             let mut silent = input(&rt, alloc, R.as_bytes(), None, Some(call));
-            let mut output = MemoryOut::new(alloc, 10_000, 10_000, None).expect(&rt, "memory");
-            let answer = run(&rt, alloc, job, &mut silent, &mut output);
+            let (answer, output) = run_over(&rt, alloc, job, &mut silent);
+            assert_eq!(rt; answer, Err(RunFault::Records(RecordFault::Endless)));
             assert_eq!(rt; silent.failures(), 0);
-            if call == 15 {
-                assert_eq!(rt; answer, Ok(count));
-            } else {
-                assert_eq!(rt; answer, Err(RunFault::Records(RecordFault::Endless)));
-                assert!(rt; output.bytes().is_empty());
-            }
+            assert!(rt; output.bytes().is_empty());
+        }
+    }
+}
+
+// There is no 15th pull.
+#[test]
+fn inputs_that_would_fail_after_their_end(rt: HostRuntime) {
+    let alloc = rt.alloc();
+    for job in JOBS {
+        let (count, text) = whole(&rt, alloc, job);
+        for (fail, silent) in [(Some(15), None), (None, Some(15))] {
+            let mut input = input(&rt, alloc, R.as_bytes(), fail, silent);
+            let (answer, output) = run_over(&rt, alloc, job, &mut input);
+            assert_eq!(rt; answer, Ok(count));
+            assert_eq!(rt; input.failures(), 0);
+            assert_eq!(rt; output.bytes(), text.as_slice());
         }
     }
 }
@@ -92,9 +135,7 @@ fn outputs_that_fail_at_a_call(rt: HostRuntime) {
             20..=30 => 92 + 5 * (call - 20),
             _ => 147,
         };
-        let mut input = input(&rt, alloc, R.as_bytes(), None, None);
-        let mut output = MemoryOut::new(alloc, 1_000, 5, Some(call)).expect(&rt, "memory");
-        let answer = run(&rt, alloc, APRIL, &mut input, &mut output);
+        let (answer, output) = run_into(&rt, alloc, APRIL, 1_000, 5, Some(call));
         let whole = if call == 32 {
             Ok(3)
         } else {
@@ -115,9 +156,7 @@ fn each_run_stops_at_the_first_failure(rt: HostRuntime) {
         let calls = [1, 2, 3, 7, 8, 9, 17, 18, end.saturating_sub(1), end];
         for call in calls {
             let (taken, _) = taken_before(text.as_slice(), call);
-            let mut input = input(&rt, alloc, R.as_bytes(), None, None);
-            let mut output = MemoryOut::new(alloc, 10_000, 5, Some(call)).expect(&rt, "memory");
-            let answer = run(&rt, alloc, job, &mut input, &mut output);
+            let (answer, output) = run_into(&rt, alloc, job, 10_000, 5, Some(call));
             let written = taken as u64;
             assert_eq!(rt;
                 answer,
@@ -126,10 +165,9 @@ fn each_run_stops_at_the_first_failure(rt: HostRuntime) {
             );
             assert_eq!(rt; output.bytes(), &text[..taken.min(text.len())]);
         }
-        let mut input = input(&rt, alloc, R.as_bytes(), None, None);
         let after = end.saturating_add(1);
-        let mut output = MemoryOut::new(alloc, 10_000, 5, Some(after)).expect(&rt, "memory");
-        assert_eq!(rt; run(&rt, alloc, job, &mut input, &mut output), Ok(count));
+        let (answer, _) = run_into(&rt, alloc, job, 10_000, 5, Some(after));
+        assert_eq!(rt; answer, Ok(count));
     }
 }
 
@@ -139,16 +177,13 @@ fn outputs_with_too_little_room(rt: HostRuntime) {
     for job in JOBS {
         let (count, text) = whole(&rt, alloc, job);
         for room in 0..text.len().min(200) {
-            let mut input = input(&rt, alloc, R.as_bytes(), None, None);
-            let mut output = MemoryOut::new(alloc, room, 10_000, None).expect(&rt, "memory");
-            let answer = run(&rt, alloc, job, &mut input, &mut output);
+            let (answer, output) = run_into(&rt, alloc, job, room, 10_000, None);
             let written = room as u64;
             assert_eq!(rt; answer, Err(RunFault::WriteFault { written }));
             assert_eq!(rt; output.bytes(), &text[..room.min(text.len())]);
         }
-        let mut input = input(&rt, alloc, R.as_bytes(), None, None);
-        let mut output = MemoryOut::new(alloc, text.len(), 1, None).expect(&rt, "memory");
-        assert_eq!(rt; run(&rt, alloc, job, &mut input, &mut output), Ok(count));
+        let (answer, output) = run_into(&rt, alloc, job, text.len(), 1, None);
+        assert_eq!(rt; answer, Ok(count));
         assert_eq!(rt; output.bytes(), text.as_slice());
     }
 }
@@ -198,7 +233,7 @@ impl Input for Mute {
 }
 
 #[test]
-fn silence_ends_a_run_at_its_thousandth_pull(rt: HostRuntime) {
+fn silence_of_999_pulls_is_waited_for(rt: HostRuntime) {
     let alloc = rt.alloc();
     for job in JOBS {
         let (count, text) = whole(&rt, alloc, job);
@@ -208,13 +243,17 @@ fn silence_ends_a_run_at_its_thousandth_pull(rt: HostRuntime) {
             silent: 999,
             left: 999,
         };
-        let mut output = MemoryOut::new(alloc, 10_000, 10_000, None).expect(&rt, "memory");
-        assert_eq!(rt; run(&rt, alloc, job, &mut slow, &mut output), Ok(count));
+        let (answer, output) = run_over(&rt, alloc, job, &mut slow);
+        assert_eq!(rt; answer, Ok(count));
         assert_eq!(rt; output.bytes(), text.as_slice());
+    }
+}
 
+#[test]
+fn silence_for_ever_ends_at_its_thousandth_pull(rt: HostRuntime) {
+    for job in JOBS {
         let mut mute = Mute { pulls: 0 };
-        let mut output = MemoryOut::new(alloc, 10_000, 10_000, None).expect(&rt, "memory");
-        let answer = run(&rt, alloc, job, &mut mute, &mut output);
+        let (answer, output) = run_over(&rt, rt.alloc(), job, &mut mute);
         assert_eq!(rt; answer, Err(RunFault::Records(RecordFault::Endless)));
         assert_eq!(rt; mute.pulls, 1000);
         assert!(rt; output.bytes().is_empty());

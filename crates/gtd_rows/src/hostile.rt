@@ -383,7 +383,12 @@ fn files_cut_short(rt: HostRuntime) {
             }
         }
     }
-    // A mark that was cut is none.
+}
+
+// A mark that was cut is none.
+#[test]
+fn marks_cut_short(rt: HostRuntime) {
+    let alloc = rt.alloc();
     for length in 1..3usize {
         let mark = &MARK.as_bytes()[..length];
         for job in JOBS {
@@ -662,7 +667,7 @@ fn expect_list(rt: &impl Abort, alloc: Global, list: &str, ascending: &str) -> R
 }
 
 #[test]
-fn long_lists_of_vehicles(rt: HostRuntime) -> Result<(), Fail> {
+fn lists_of_all_vehicles(rt: HostRuntime) -> Result<(), Fail> {
     let alloc = rt.alloc();
     let list = two_hundred_codes(alloc)?;
     let mut all = String::from_str(alloc, "1")?;
@@ -670,7 +675,12 @@ fn long_lists_of_vehicles(rt: HostRuntime) -> Result<(), Fail> {
         let item = format!(in alloc; ";{code}")?;
         all.push_str(item.as_str())?;
     }
-    expect_list(&rt, alloc, list.as_str(), all.as_str())?;
+    expect_list(&rt, alloc, list.as_str(), all.as_str())
+}
+
+#[test]
+fn lists_that_repeat_a_vehicle(rt: HostRuntime) -> Result<(), Fail> {
+    let alloc = rt.alloc();
     let sevens = repeated(alloc, "07;", 199)?;
     for (last, ascending) in [("7", "7"), ("1", "1;7"), ("99", "7;99")] {
         let list = format!(in alloc; "{sevens}{last}")?;
@@ -678,7 +688,13 @@ fn long_lists_of_vehicles(rt: HostRuntime) -> Result<(), Fail> {
     }
     let million = repeated(alloc, "07;", 1_000_000)?;
     let list = format!(in alloc; "{million}99;1")?;
-    expect_list(&rt, alloc, list.as_str(), "1;7;99")?;
+    expect_list(&rt, alloc, list.as_str(), "1;7;99")
+}
+
+#[test]
+fn long_lists_that_are_none(rt: HostRuntime) -> Result<(), Fail> {
+    let alloc = rt.alloc();
+    let sevens = repeated(alloc, "07;", 199)?;
     for last in [
         "", "0", "00", "100", "007", "!7", " 7", "7;", "7!", "+7", "x",
     ] {

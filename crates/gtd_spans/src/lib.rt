@@ -23,5 +23,3 @@ mod merge;
 mod operations;
 mod source;
 mod sweep;
-#[cfg(test)]
-mod tests;

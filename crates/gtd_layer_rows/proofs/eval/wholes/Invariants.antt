@@ -1,6 +1,6 @@
 use Rattle.std.proofs.Common.{◌≡◌, vec_len}
 use Rattle.gtd_eval.specs.Cursors.{total_nodes}
-use Rattle.gtd_eval.proofs.tests.wholes.Given as goal
+use Rattle.gtd_layer_rows.proofs.eval.wholes.Given as goal
 
 abbrev pub invariant-loop : goal.invariant-loop
 invariant-loop l = record {

@@ -1,18 +1,20 @@
+//! Inputs and outputs that are interrupted, fail, fall silent or take little at a time.
+
 ghost use Rattle.std.specs.Prelude.{◌≡◌, ◌<◌};
 
-use crate::{Host, HostOut, Input, InputFault, MemoryIn, MemoryOut, Output, Pull, Put, read_whole};
+use crate::roads::R;
+use gtd_devices::{
+    Host, HostOut, Input, InputFault, MemoryIn, MemoryOut, Output, Pull, Put, read_whole,
+};
 use std::alloc::Global;
 use std::io::{Error, ErrorKind, Read, Result as IoResult, Write};
 use std::process::Abort;
 use std::test::Fail;
 
-const TEXT: &str =
-    "element,direction,vehicle,domain\n17,positive,0,[(M4d1){M3}]*[(h10){h4}]\n17,negative,11,\n";
-
 fn memory(rt: &impl Abort, alloc: Global, fail: Option<u64>, silent: Option<u64>) -> MemoryIn
     ensures { ⟦<MemoryIn as Input>⟧.failure_count result ≡ 0 }
 {
-    let bytes = Vec::from_slice(alloc, TEXT.as_bytes()).expect(rt, "memory");
+    let bytes = Vec::from_slice(alloc, R.as_bytes()).expect(rt, "memory");
     MemoryIn::new(bytes, 7, fail, silent)
 }
 
@@ -20,7 +22,7 @@ fn whole<I: Input>(rt: &impl Abort, alloc: Global, input: &mut I)
     requires { I.failure_count input.old < u64.MAX }
 {
     match read_whole(alloc, input, 88) {
-        Ok(bytes) => assert_eq!(rt; bytes.as_slice(), TEXT.as_bytes()),
+        Ok(bytes) => assert_eq!(rt; bytes.as_slice(), R.as_bytes()),
         Err(fault) => panic!(rt; "{fault:?}"),
     }
 }
@@ -198,6 +200,10 @@ fn interrupted_writes(rt: HostRuntime) {
     assert_eq!(rt; output.put(b"18".as_slice()), Put::Took(2));
     assert_eq!(rt; output.finish(), Put::Took(0));
     assert_eq!(rt; output.failures(), 0);
+}
+
+#[test]
+fn writes_that_are_given_up(rt: HostRuntime) {
     let mut output = HostOut::new(Busy {
         interruptions: 1000,
         left: 1000,
@@ -259,7 +265,7 @@ fn reader_that_halts() -> Host<Halting<'static>>
     ensures { ⟦<Host<Halting<'static>> as Input>⟧.failure_count result ≡ 0 }
 {
     Host::new(Halting {
-        bytes: TEXT.as_bytes(),
+        bytes: R.as_bytes(),
         interrupted: false,
     })
 }
@@ -303,13 +309,13 @@ fn a_read_that_fails(rt: HostRuntime) {
 
 #[test]
 fn a_reader_of_bytes(rt: HostRuntime) {
-    let mut input = Host::new(TEXT.as_bytes());
+    let mut input = Host::new(R.as_bytes());
     whole(&rt, rt.alloc(), &mut input);
     assert_eq!(rt; input.failures(), 0);
 }
 
 #[test]
-fn room_pieces_and_calls(rt: HostRuntime) -> Result<(), Fail> {
+fn pieces_and_calls(rt: HostRuntime) -> Result<(), Fail> {
     let mut output = MemoryOut::new(rt.alloc(), 1000, 5, Some(3))?;
     assert_eq!(rt; output.put(b"element,direction".as_slice()), Put::Took(5));
     assert_eq!(rt; output.put(b"nt,direction".as_slice()), Put::Took(5));
@@ -317,7 +323,11 @@ fn room_pieces_and_calls(rt: HostRuntime) -> Result<(), Fail> {
     assert_eq!(rt; output.bytes(), b"element,di".as_slice());
     assert_eq!(rt; output.failures(), 1);
     assert_eq!(rt; output.finish(), Put::Took(0));
+    Ok(())
+}
 
+#[test]
+fn room_and_an_end_that_fails(rt: HostRuntime) -> Result<(), Fail> {
     let mut output = MemoryOut::new(rt.alloc(), 3, 5, Some(2))?;
     assert_eq!(rt; output.put(b"element".as_slice()), Put::Took(3));
     assert_eq!(rt; output.finish(), Put::Failed);

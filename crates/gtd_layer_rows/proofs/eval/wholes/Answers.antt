@@ -1,6 +1,6 @@
 use Rattle.std.proofs.Common.{[], ◌∷◌, arith}
 use Rattle.gtd_eval.specs.CursorFacts.{nodes-append}
-use Rattle.gtd_eval.proofs.tests.wholes.Goals as goal
+use Rattle.gtd_layer_rows.proofs.eval.wholes.Goals as goal
 
 pub loop-preserved : goal.loop-preserved
 loop-preserved c =

@@ -1,7 +1,7 @@
 //! Worked examples, and runs against single seconds.
 
-use crate::{Runs, Starts, covers, spans_of};
 use gtd_core::{Basic, Duration, DurationParts, Horizon, Sec, Span, Start, StartParts};
+use gtd_recur::{Runs, Starts, covers, spans_of};
 use gtd_spans::SpanSource;
 use std::process::Abort;
 use std::test::Fail;

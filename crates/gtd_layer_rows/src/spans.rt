@@ -1,41 +1,14 @@
 //! Worked examples, and each operation against its seconds one by one.
 
-use crate::{
+use crate::lists::{has_ends, list_of, source_of};
+use gtd_core::{Horizon, Op, Sec, Span};
+use gtd_spans::{
     Ask, Both, ByDay, Outside, SpanList, SpanSource, Sweep, Unite, Without, complement, meet,
     minus, same, union, within,
 };
-use gtd_core::{Horizon, Op, Sec, Span};
-use std::alloc::Global;
+use std::alloc::{AllocError, Global};
 use std::process::Abort;
 use std::test::Fail;
-
-/// The list of the spans with these ends, pushed in turn.
-fn list_of(rt: &impl Abort, alloc: Global, ends: &[(i64, i64)]) -> Result<SpanList, Fail> {
-    let mut list = SpanList::new(alloc);
-    let mut latest = Sec(i64::MIN);
-    for &(from, until) in ends {
-        let span = Span::new(Sec(from), Sec(until)).ok_or("no second")?;
-        let from = span.from();
-        assert!(rt; latest.0 <= from.0);
-        latest = from;
-        list.push_start(span)?;
-    }
-    Ok(list)
-}
-
-/// Whether the spans of the list have these ends.
-fn has_ends(list: &SpanList, ends: &[(i64, i64)]) -> bool {
-    let spans = list.spans();
-    if spans.len() != ends.len() {
-        return false;
-    }
-    for (span, &(from, until)) in spans.iter().zip(ends) {
-        if span.from() != Sec(from) || span.until() != Sec(until) {
-            return false;
-        }
-    }
-    true
-}
 
 /// Asserts that the source gives spans with these ends, and then none, again and again.
 fn gives<S: SpanSource>(rt: &impl Abort, source: &mut S, ends: &[(i64, i64)]) {
@@ -51,29 +24,59 @@ fn gives<S: SpanSource>(rt: &impl Abort, source: &mut S, ends: &[(i64, i64)]) {
 }
 
 #[test]
-fn lists(rt: HostRuntime) -> Result<(), Fail> {
+fn lists_that_are_pushed(rt: HostRuntime) -> Result<(), Fail> {
     let alloc = rt.alloc();
     let pushed = list_of(&rt, alloc, &[(10, 20), (15, 18), (20, 30), (40, 41)])?;
     assert!(rt; has_ends(&pushed, &[(10, 30), (40, 41)]));
+    let copy = SpanList::collect(alloc, &mut source_of(&pushed))?;
+    assert!(rt; same(&copy, &pushed));
+    Ok(())
+}
+
+#[test]
+fn lists_that_are_the_same(rt: HostRuntime) -> Result<(), Fail> {
+    let alloc = rt.alloc();
     let whole = list_of(&rt, alloc, &[(0, 10)])?;
     let parts = list_of(&rt, alloc, &[(0, 5), (5, 10)])?;
     assert!(rt; same(&whole, &parts));
     let next = list_of(&rt, alloc, &[(10, 20)])?;
     assert!(rt; !same(&whole, &next));
+    Ok(())
+}
+
+#[test]
+fn operations(rt: HostRuntime) -> Result<(), Fail> {
+    let alloc = rt.alloc();
+    let whole = list_of(&rt, alloc, &[(0, 10)])?;
+    let next = list_of(&rt, alloc, &[(10, 20)])?;
     assert!(rt; has_ends(&union(alloc, &whole, &next)?, &[(0, 20)]));
     assert!(rt; has_ends(&meet(alloc, &whole, &next)?, &[]));
     let long = list_of(&rt, alloc, &[(0, 30)])?;
     assert!(rt; has_ends(&minus(alloc, &long, &next)?, &[(0, 10), (20, 30)]));
+    Ok(())
+}
+
+#[test]
+fn lists_in_a_day(rt: HostRuntime) -> Result<(), Fail> {
+    let alloc = rt.alloc();
     let day = Horizon::new(0, 1).expect(&rt, "a horizon");
+    let next = list_of(&rt, alloc, &[(10, 20)])?;
     assert!(rt; has_ends(&complement(alloc, &next, day)?, &[(0, 10), (20, 86_400)]));
     let wide = list_of(&rt, alloc, &[(-5, 5), (86_399, 86_500)])?;
     assert!(rt; has_ends(&within(alloc, &wide, day)?, &[(0, 5), (86_399, 86_400)]));
-    let inner = within(alloc, &next, day)?;
-    assert_eq!(rt; inner.next_change(Sec(0), day), Some(Sec(10)));
-    assert_eq!(rt; inner.next_change(Sec(10), day), Some(Sec(20)));
-    assert_eq!(rt; inner.next_change(Sec(20), day), None);
-    let copy = SpanList::collect(alloc, &mut pushed.source())?;
-    assert!(rt; same(&copy, &pushed));
+    Ok(())
+}
+
+#[test]
+fn changes_of_a_list(rt: HostRuntime) -> Result<(), Fail> {
+    let day = Horizon::new(0, 1).expect(&rt, "a horizon");
+    let list = list_of(&rt, rt.alloc(), &[(10, 20)])?;
+    let inner = within(rt.alloc(), &list, day)?;
+    for (second, change) in [(0, Some(Sec(10))), (10, Some(Sec(20))), (20, None)] {
+        let second = Sec(second);
+        assert!(rt; day.from() <= second && second < day.until());
+        assert_eq!(rt; inner.next_change(second, day), change);
+    }
     Ok(())
 }
 
@@ -84,27 +87,31 @@ fn sources(rt: HostRuntime) -> Result<(), Fail> {
     let b = list_of(&rt, alloc, &[(10, 20)])?;
     let c = list_of(&rt, alloc, &[(5, 25)])?;
     let day = Horizon::new(0, 1).expect(&rt, "a horizon");
-    gives(&rt, &mut Unite::new(a.source(), b.source()), &[(0, 30)]);
     gives(
         &rt,
-        &mut Both::new(a.source(), c.source()),
+        &mut Unite::new(source_of(&a), source_of(&b)),
+        &[(0, 30)],
+    );
+    gives(
+        &rt,
+        &mut Both::new(source_of(&a), source_of(&c)),
         &[(5, 10), (20, 25)],
     );
     gives(
         &rt,
-        &mut Without::new(a.source(), c.source()),
+        &mut Without::new(source_of(&a), source_of(&c)),
         &[(0, 5), (25, 30)],
     );
     gives(
         &rt,
-        &mut Outside::new(a.source(), day),
+        &mut Outside::new(source_of(&a), day),
         &[(10, 20), (30, 86_400)],
     );
     Ok(())
 }
 
 #[test]
-fn sweeps(rt: HostRuntime) {
+fn a_sweep_outside(rt: HostRuntime) {
     let day = Horizon::new(0, 1).expect(&rt, "a horizon");
     let mut sweep = Sweep::outside(day);
     assert_eq!(rt; sweep.step(), Ask::Left);
@@ -118,6 +125,10 @@ fn sweeps(rt: HostRuntime) {
     );
     assert_eq!(rt; sweep.step(), Ask::End);
     assert_eq!(rt; sweep.step(), Ask::End);
+}
+
+#[test]
+fn a_sweep_of_two_sides(rt: HostRuntime) {
     let mut sweep = Sweep::new(Op::Union);
     assert_eq!(rt; sweep.step(), Ask::Left);
     sweep.tell(None);
@@ -137,7 +148,7 @@ fn days(rt: HostRuntime) -> Result<(), Fail> {
         alloc,
         &[(86_390, 86_410), (86_420, 86_421), (200_000, 300_000)],
     )?;
-    let mut seconds = ByDay::new(list.source());
+    let mut seconds = ByDay::new(source_of(&list));
     for (midnight, count) in [
         (0, 10),
         (86_400, 11),
@@ -156,7 +167,7 @@ fn is_in(mask: u8, second: i64) -> bool {
 }
 
 /// The list of the seconds from -2 to 3 whose bits are set, each pushed as a span of its own.
-fn seconds_of(rt: &impl Abort, alloc: Global, mask: u8) -> Result<SpanList, Fail> {
+fn seconds_of(rt: &impl Abort, alloc: Global, mask: u8) -> Result<SpanList, AllocError> {
     let mut ends = Vec::new(alloc);
     for second in -2..4i64 {
         if is_in(mask, second) {

@@ -3,10 +3,10 @@
 ghost use Rattle.std.specs.Prelude.{◌≡◌, ◌≤◌, vec_len, IfOk};
 ghost use Rattle.gtd_eval.specs.Cursors.{cursor_nodes, total_nodes};
 
-use crate::{Cursor, EverFault, holds, next_change, next_change_ever, spans};
 use gtd_core::{
     Basic, Domain, Duration, DurationParts, Expr, Horizon, Op, Sec, Span, Start, StartParts,
 };
+use gtd_eval::{Cursor, EverFault, holds, next_change, next_change_ever, spans};
 use gtd_spans::{SpanList, SpanSource};
 use std::alloc::{AllocError, Global};
 use std::process::Abort;
@@ -447,7 +447,7 @@ fn check_hours(rt: &impl Abort, cursor: &mut Cursor, wanted: &[(i64, i64)]) {
 }
 
 #[test]
-fn unions_and_complements(rt: HostRuntime) -> Result<(), Fail> {
+fn unions(rt: HostRuntime) -> Result<(), Fail> {
     let alloc = rt.alloc();
     let horizon = horizon(&rt, MONDAY, MONDAY + 1);
     let night = domain(&rt, clock(&rt, 22, 8));
@@ -456,9 +456,25 @@ fn unions_and_complements(rt: HostRuntime) -> Result<(), Fail> {
     assert_eq!(rt; cursor.nodes(), 5);
     check_hours(&rt, &mut cursor, &[(0, 6), (8, 10), (11, 12), (22, 24)]);
     assert_eq!(rt; cursor.nodes(), 5);
+    Ok(())
+}
+
+#[test]
+fn complements(rt: HostRuntime) -> Result<(), Fail> {
+    let alloc = rt.alloc();
+    let horizon = horizon(&rt, MONDAY, MONDAY + 1);
+    let night = domain(&rt, clock(&rt, 22, 8));
+    let morning = domain(&rt, broken_morning(&rt, alloc)?);
     let mut gaps = neither(alloc, &night, &morning, horizon)?;
     assert_eq!(rt; gaps.nodes(), 6);
     check_hours(&rt, &mut gaps, &[(6, 8), (10, 11), (12, 22)]);
+    Ok(())
+}
+
+#[test]
+fn no_cursors(rt: HostRuntime) -> Result<(), Fail> {
+    let alloc = rt.alloc();
+    let horizon = horizon(&rt, MONDAY, MONDAY + 1);
     let mut none = Cursor::any(alloc, Vec::new(alloc), horizon)?;
     assert_eq!(rt; none.nodes(), 1);
     assert_eq!(rt; none.next(), None);
@@ -473,13 +489,20 @@ fn unions_and_complements(rt: HostRuntime) -> Result<(), Fail> {
 }
 
 #[test]
-fn ticks_and_nodes(rt: HostRuntime) -> Result<(), Fail> {
+fn ticks(rt: HostRuntime) -> Result<(), Fail> {
     let alloc = rt.alloc();
     let horizon = horizon(&rt, MONDAY, MONDAY + 7);
     let expr = join(alloc, clock(&rt, 10, 4), Op::Meet, mondays(&rt))?;
     let mut cursor = Cursor::open(alloc, &domain(&rt, expr), horizon)?;
     check_hours(&rt, &mut cursor, &[(10, 14)]);
     assert!(rt; 0 < cursor.ticks() && cursor.ticks() <= 25);
+    Ok(())
+}
+
+#[test]
+fn nodes_of_the_largest_domain(rt: HostRuntime) -> Result<(), Fail> {
+    let alloc = rt.alloc();
+    let horizon = horizon(&rt, MONDAY, MONDAY + 7);
     let mut expr = clock(&rt, 1, 1);
     for _ in 1..128 {
         expr = join(alloc, expr, Op::Union, clock(&rt, 1, 1))?;

@@ -1,13 +1,16 @@
-use crate::{
+//! Worked record files: what they close, and how they are refused.
+
+use gtd_core::{Fault, Horizon, Sec, Span, TextFault};
+use gtd_roads::{
     Direction, MemoryIn, RecordFault, Records, read_direction, read_number, read_records,
     schedule_of,
 };
-use gtd_core::{Fault, Horizon, Sec, Span, TextFault};
 use std::alloc::Global;
 use std::process::Abort;
 use std::test::Fail;
 
-const R: &str =
+/// A file of two rows: 88 bytes.
+pub(crate) const R: &str =
     "element,direction,vehicle,domain\n17,positive,0,[(M4d1){M3}]*[(h10){h4}]\n17,negative,11,\n";
 
 const HEADER: &str = "element,direction,vehicle,domain\n";

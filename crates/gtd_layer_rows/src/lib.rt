@@ -1,0 +1,21 @@
+//! Tests of the layers below the commands, by worked examples, and of each call that takes memory, where that is refused.
+#![tactic(auto)]
+
+#[cfg(test)]
+mod calendar;
+#[cfg(test)]
+mod devices;
+#[cfg(test)]
+mod eval;
+#[cfg(test)]
+mod lists;
+#[cfg(test)]
+mod recur;
+#[cfg(test)]
+mod refusals;
+#[cfg(test)]
+mod roads;
+#[cfg(test)]
+mod spans;
+#[cfg(test)]
+mod text;

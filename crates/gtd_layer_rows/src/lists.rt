@@ -1,0 +1,67 @@
+//! Lists of spans, by the ends of their spans.
+
+ghost use Rattle.gtd_spans.specs.Normal.{IsNormal};
+ghost use Rattle.gtd_spans.specs.FitsProp.{IsNormal-prop};
+
+use gtd_core::{Sec, Span};
+use gtd_spans::{SpanList, SpanSource};
+use std::alloc::{AllocError, Global};
+use std::process::Abort;
+
+/// The list of the spans with these ends, pushed in turn.
+pub(crate) fn list_of(
+    rt: &impl Abort,
+    alloc: Global,
+    ends: &[(i64, i64)],
+) -> Result<SpanList, AllocError> {
+    let mut list = SpanList::new(alloc);
+    let mut latest = Sec(i64::MIN);
+    for &(from, until) in ends {
+        let span = Span::new(Sec(from), Sec(until)).expect(rt, "no second");
+        let from = span.from();
+        assert!(rt; latest.0 <= from.0);
+        latest = from;
+        list.push_start(span)?;
+    }
+    Ok(list)
+}
+
+/// Whether the spans of the list have these ends.
+pub(crate) fn has_ends(list: &SpanList, ends: &[(i64, i64)]) -> bool {
+    let spans = list.spans();
+    if spans.len() != ends.len() {
+        return false;
+    }
+    for (span, &(from, until)) in spans.iter().zip(ends) {
+        if span.from() != Sec(from) || span.until() != Sec(until) {
+            return false;
+        }
+    }
+    true
+}
+
+/// A source of the spans of a list.
+#[derive(Drop)]
+pub(crate) struct Listed<'a> {
+    spans: &'a [Span],
+    ghost normal: { IsNormal spans.now } by { IsNormal-prop spans.now },
+}
+
+impl SpanSource for Listed<'_> {
+    ghost rest = { λ s. s.spans.now };
+
+    fn next(&mut self) -> Option<Span> {
+        let (first, rest) = self.spans.split_first()?;
+        self.spans = rest;
+        Some(*first)
+    }
+
+    ghost is_normal = { λ s. s.normal };
+}
+
+/// The spans of the list, one after the other.
+pub(crate) fn source_of(list: &SpanList) -> Listed<'_> {
+    Listed {
+        spans: list.spans(),
+    }
+}
