@@ -1,5 +1,5 @@
-//! Each call that takes memory, where one of its growths is refused. `tests/refusals.sh` refuses the growths of each test
-//! one after the other, one in a run.
+//! Each call of a layer that takes memory, where one of its growths is refused. `tests/refusals.sh` refuses the growths of
+//! each test one after the other, one in a run.
 //!
 //! A call that is refused is made once more, and then has to succeed. So with ample memory it succeeds, and a refusal leaves
 //! nothing behind. Where a test is refused what it needs for itself, it ends.
