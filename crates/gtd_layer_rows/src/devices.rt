@@ -276,7 +276,13 @@ fn interrupted_reads(rt: HostRuntime) {
     let mut input = reader_that_halts();
     assert_eq!(rt; input.pull(&mut buffer), Pull::Got(0));
     assert_eq!(rt; input.pull(&mut buffer), Pull::Got(88));
+    assert_eq!(rt; input.pull(&mut buffer), Pull::Got(0));
+    assert_eq!(rt; input.pull(&mut buffer), Pull::Done);
     assert_eq!(rt; input.failures(), 0);
+}
+
+#[test]
+fn a_text_whose_reads_are_interrupted(rt: HostRuntime) {
     let mut input = reader_that_halts();
     whole(&rt, rt.alloc(), &mut input);
     assert_eq!(rt; input.failures(), 0);

@@ -157,18 +157,20 @@ fn check(
     Ok(())
 }
 
+/// A basic domain, the days of a horizon, and the spans of the domain in it.
+type Row = (StartParts, DurationParts, i64, i64, &'static [(i64, i64)]);
+
+fn check_rows(rt: &impl Abort, alloc: Global, rows: &[Row]) -> Result<(), AllocError> {
+    for &(start, duration, from_day, to_day, wanted) in rows {
+        let expr = leaf(rt, start, duration);
+        check(rt, alloc, expr, from_day, to_day, wanted)?;
+    }
+    Ok(())
+}
+
 #[test]
-fn basic_domains(rt: HostRuntime) -> Result<(), Fail> {
-    let first = in_year(2020, date(1, 1));
-    let nth = StartParts {
-        nth: Some((5, 2)),
-        ..StartParts::default()
-    };
-    let january = StartParts {
-        month: Some(1),
-        ..week(1)
-    };
-    let table: [(StartParts, DurationParts, i64, i64, &[(i64, i64)]); 12] = [
+fn days_and_hours(rt: HostRuntime) -> Result<(), Fail> {
+    let rows: &[Row] = &[
         (
             hour(22),
             hours(8),
@@ -200,6 +202,15 @@ fn basic_domains(rt: HostRuntime) -> Result<(), Fail> {
             MONDAY + 7,
             &[(19_728 * DAY, 19_730 * DAY)],
         ),
+    ];
+    check_rows(&rt, rt.alloc(), rows)?;
+    Ok(())
+}
+
+#[test]
+fn years_and_months(rt: HostRuntime) -> Result<(), Fail> {
+    let first = in_year(2020, date(1, 1));
+    let rows: &[Row] = &[
         (
             first,
             years(5),
@@ -222,6 +233,18 @@ fn basic_domains(rt: HostRuntime) -> Result<(), Fail> {
             20_454,
             &[(19_782 * DAY, 20_147 * DAY)],
         ),
+    ];
+    check_rows(&rt, rt.alloc(), rows)?;
+    Ok(())
+}
+
+#[test]
+fn weeks_of_years(rt: HostRuntime) -> Result<(), Fail> {
+    let january = StartParts {
+        month: Some(1),
+        ..week(1)
+    };
+    let rows: &[Row] = &[
         (
             in_year(2025, week(1)),
             weeks(1),
@@ -243,24 +266,31 @@ fn basic_domains(rt: HostRuntime) -> Result<(), Fail> {
             20_454,
             &[(19_723 * DAY, 19_724 * DAY)],
         ),
-        (
-            nth,
-            days(1),
-            MONDAY,
-            20_089,
-            &[
-                (19_751 * DAY, 19_752 * DAY),
-                (19_842 * DAY, 19_843 * DAY),
-                (19_933 * DAY, 19_934 * DAY),
-                (19_996 * DAY, 19_997 * DAY),
-                (20_087 * DAY, 20_088 * DAY),
-            ],
-        ),
     ];
-    for (start, duration, from_day, to_day, wanted) in table {
-        let expr = leaf(&rt, start, duration);
-        check(&rt, rt.alloc(), expr, from_day, to_day, wanted)?;
-    }
+    check_rows(&rt, rt.alloc(), rows)?;
+    Ok(())
+}
+
+#[test]
+fn places_in_the_month(rt: HostRuntime) -> Result<(), Fail> {
+    let nth = StartParts {
+        nth: Some((5, 2)),
+        ..StartParts::default()
+    };
+    let rows: &[Row] = &[(
+        nth,
+        days(1),
+        MONDAY,
+        20_089,
+        &[
+            (19_751 * DAY, 19_752 * DAY),
+            (19_842 * DAY, 19_843 * DAY),
+            (19_933 * DAY, 19_934 * DAY),
+            (19_996 * DAY, 19_997 * DAY),
+            (20_087 * DAY, 20_088 * DAY),
+        ],
+    )];
+    check_rows(&rt, rt.alloc(), rows)?;
     Ok(())
 }
 
@@ -400,6 +430,12 @@ fn changes_for_ever(rt: HostRuntime) -> Result<(), Fail> {
             "from {second}"
         );
     }
+    Ok(())
+}
+
+#[test]
+fn changes_for_ever_of_a_year(rt: HostRuntime) -> Result<(), Fail> {
+    let alloc = rt.alloc();
     let year = leaf(&rt, in_year(2024, StartParts::default()), days(1));
     let either = domain(&rt, join(alloc, clock(&rt, 1, 1), Op::Union, year)?);
     assert_eq!(rt;

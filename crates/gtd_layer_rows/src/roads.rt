@@ -111,23 +111,27 @@ fn headers(rt: HostRuntime) {
     }
 }
 
+/// The parts of a file of version 2 with one row, for these vehicles.
+fn for_vehicles(vehicles: &str) -> [&[u8]; 4] {
+    [
+        HEADER_2.as_bytes(),
+        b"17,both,".as_slice(),
+        vehicles.as_bytes(),
+        b",".as_slice(),
+    ]
+}
+
+#[test]
+fn no_vehicles_of_version_2(rt: HostRuntime) {
+    let fault = RecordFault::Vehicle { row: 1 };
+    for field in ["", "!", "11;", "0;11", "!0", "000", "11;100"] {
+        refused(&rt, rt.alloc(), &for_vehicles(field), fault);
+    }
+}
+
+// The codes from 1 to 13, as far as the field closes for them.
 #[test]
 fn vehicles_of_version_2(rt: HostRuntime) {
-    let alloc = rt.alloc();
-    for field in ["", "!", "11;", "0;11", "!0", "000", "11;100"] {
-        refused(
-            &rt,
-            alloc,
-            &[
-                HEADER_2.as_bytes(),
-                b"17,both,".as_slice(),
-                field.as_bytes(),
-                b",".as_slice(),
-            ],
-            RecordFault::Vehicle { row: 1 },
-        );
-    }
-    // The codes from 1 to 13, as far as the field closes for them.
     let table: [(&str, &str); 5] = [
         ("00", "xxxxxxxxxxxxx"),
         ("11;07;11", "......x...x.."),
@@ -136,16 +140,7 @@ fn vehicles_of_version_2(rt: HostRuntime) {
         ("13;1", "x...........x"),
     ];
     for (field, closed) in table {
-        let records = accepted(
-            &rt,
-            alloc,
-            &[
-                HEADER_2.as_bytes(),
-                b"17,both,".as_slice(),
-                field.as_bytes(),
-                b",".as_slice(),
-            ],
-        );
+        let records = accepted(&rt, rt.alloc(), &for_vehicles(field));
         for (vehicle, mark) in (1u8..14).zip(closed.as_bytes()) {
             assert_eq!(rt;
                 records.closed_at(17, Direction::Positive, vehicle, Sec(APRIL)),
