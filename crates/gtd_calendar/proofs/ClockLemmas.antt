@@ -1,13 +1,13 @@
 -- Days and seconds, and how long a stretch is at most.
 use Rattle.std.proofs.Common.{◌≡◌, ℕ, ◌+◌, ◌*◌, ◌<◌, arith, ℤ, pos, ◌+ℤ◌, ◌*ℤ◌, ◌<ℤ◌}
-use Rattle.std.proofs.Common.{◌≤ℤ◌}
+use Rattle.std.proofs.Common.{◌≤ℤ◌, ◌≤◌}
 use Rattle.std.specs.Int.{int_rem_euclid}
 use Rattle.jiff_core.proofs.SignedLemmas.{signed_arith, one_part}
 use Rattle.gtd_core.specs.declared.duration.DurationParts.{DurationParts}
 use Rattle.gtd_core.specs.DurationBound.{bound_of, clock_seconds}
 use Rattle.gtd_core.specs.Days.{day_of_second}
 use Rattle.gtd_calendar.specs.Clock.{second_of_day, months_later, stop}
-use Rattle.gtd_calendar.proofs.MonthLemmas.{months_later-bound}
+use Rattle.gtd_calendar.proofs.MonthLemmas.{months_later-order, months_later-bound}
 
 -- a second is its day and its place in the day
 pub second-parts : (s : ℤ) → (s ≡ pos 86400 *ℤ day_of_second s +ℤ pos (second_of_day s)) × (second_of_day s < 86400)
@@ -53,3 +53,13 @@ stop-same_day p b c same =
   where
     moved : (a : ℤ) (k l clock : ℕ) → (a +ℤ pos (k + clock)) +ℤ pos l ≡ (a +ℤ pos (l + clock)) +ℤ pos k
     moved a k l clock = omega (arith, signed_arith)
+
+-- a stretch that begins on a later day, no earlier on the clock, ends no earlier
+pub stop-order : (p : DurationParts) (b c : ℤ) → day_of_second b ≤ℤ day_of_second c → second_of_day b ≤ second_of_day c → stop p b ≤ℤ stop p c
+unfolding stop
+stop-order p b c day clock =
+    ends (months_later (day_of_second b) (12 * p.years + p.months)) (months_later (day_of_second c) (12 * p.years + p.months)) (7 * p.weeks + p.days) (second_of_day b) (second_of_day c) (clock_seconds p)
+    (months_later-order (day_of_second b) (day_of_second c) (12 * p.years + p.months) day) clock
+  where
+    ends : (x y : ℤ) (d i j k : ℕ) → x ≤ℤ y → i ≤ j → (pos 86400 *ℤ (x +ℤ pos d) +ℤ pos (i + k)) ≤ℤ (pos 86400 *ℤ (y +ℤ pos d) +ℤ pos (j + k))
+    ends x y d i j k le low = omega (arith, signed_arith)

@@ -41,7 +41,7 @@ repeats-many set r (suc k) t =
     ((λ h. subst set e (j.0 (i.0 h))), (λ h. i.1 (j.1 (subst set (sym e) h))))
 
 -- how far behind s the second is
-behind : (s t : ℤ) → s <ℤ t → (n : ℕ) × (t ≡ s +ℤ pos (1 + n))
+pub behind : (s t : ℤ) → s <ℤ t → (n : ℕ) × (t ≡ s +ℤ pos (1 + n))
 behind s t lt = let n : ℕ = unsigned_abs ((t -ℤ s) -ℤ pos 1) in (n, grind (arith, ints))
 
 -- a set that repeats, and does not change for a whole cycle, never changes

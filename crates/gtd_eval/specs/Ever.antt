@@ -15,3 +15,7 @@ pub record IsFirstChange (set : ℤ → Type 0) (s c : ℤ) : Type 0 where
 -- The seconds of 400 years of the Gregorian calendar, 146,097 days, after which it repeats.
 abbrev pub cycle : ℤ
 cycle = pos 12622780800
+
+-- The seconds of a week.
+abbrev pub week : ℤ
+week = pos 604800

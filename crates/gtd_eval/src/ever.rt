@@ -6,7 +6,7 @@ ghost use Rattle.gtd_eval.specs.Membership.{InDomain, SomeGivesYear};
 ghost use Rattle.gtd_core.specs.Days.{IsMomentSecond};
 ghost use Rattle.gtd_eval.specs.Ever.{NeverChangesAfter, IsFirstChange};
 
-use crate::membership::gives_year;
+use crate::membership::{days_to_repeat, gives_year};
 use crate::queries::next_change;
 use gtd_core::{Domain, Horizon, Sec};
 use std::alloc::Global;
@@ -37,9 +37,6 @@ impl EverFault {
     }
 }
 
-/// The 146,097 days of 400 years, after which the calendar repeats, and one more: the rest of the moment's own day.
-const DAYS: i64 = 146_098;
-
 /// The least later second, however late, at which membership in the domain differs from that at the given one, which is
 /// a moment. `None` exactly where there is no such second. Faults, in order: `HasYear` exactly where some start of the
 /// domain gives a year, `NoMemory`.
@@ -59,7 +56,7 @@ pub fn next_change_ever(
         return Err(EverFault::HasYear);
     }
     let day = second.day();
-    let Ok(horizon) = Horizon::new(day, day + DAYS) else {
+    let Ok(horizon) = Horizon::new(day, day + days_to_repeat(domain.expr())) else {
         unreachable!();
     };
     match next_change(alloc, domain, second, horizon) {

@@ -3,10 +3,11 @@
 ghost use Rattle.std.specs.Prelude.{◌↔◌, IsTrue};
 ghost use Rattle.gtd_core.specs.Trees.{tree_of};
 ghost use Rattle.gtd_recur.specs.Membership.{IsHorizonSecond};
-ghost use Rattle.gtd_eval.specs.Membership.{InDomain, InTree, SomeGivesYear};
+ghost use Rattle.gtd_eval.specs.Membership.{InDomain, InTree, SomeGivesYear, AllWeekly};
+ghost use Rattle.std.specs.Prelude.{◌≡◌, ◌⊎◌, pos};
 
 use gtd_core::{Domain, Expr, Op, Sec};
-use gtd_recur::covers;
+use gtd_recur::{covers, is_weekly as is_basic_weekly};
 
 /// Whether the domain contains the second, which is on a day that a horizon may have. Takes no memory.
 pub fn holds(domain: &Domain, second: Sec) -> bool
@@ -38,4 +39,22 @@ pub(crate) fn gives_year(expr: &Expr) -> bool
         Expr::Leaf(basic) => basic.start.parts().year.is_some(),
         Expr::Join(_, left, right) => gives_year(left) || gives_year(right),
     }
+}
+
+// Whether each basic domain of the expression repeats after 7 days.
+fn is_weekly(expr: &Expr) -> bool
+    ensures weekly { IsTrue result → AllWeekly (tree_of expr.now) }
+{
+    match expr {
+        Expr::Leaf(basic) => is_basic_weekly(basic),
+        Expr::Join(_, left, right) => is_weekly(left) && is_weekly(right),
+    }
+}
+
+/// The 7 days or the 146,097 days of 400 years after which an expression repeats none of whose starts gives a year, and
+/// one more: the rest of a moment's own day.
+pub(crate) fn days_to_repeat(expr: &Expr) -> i64
+    ensures days { (result ≡ pos 146_098) ⊎ ((result ≡ pos 8) × AllWeekly (tree_of expr.now)) }
+{
+    if is_weekly(expr) { 8 } else { 146_098 }
 }

@@ -142,7 +142,7 @@ pub given-up_to : (s t : Starts) (end c : ℤ) → IsSameWalk s t → starts_to_
 given-up_to s t end c same e given m low high =
     rw (given-next s t c same e) (before-append (m +ℤ pos 1) (starts_given s) (c ∷ []) (before-weaken (end +ℤ pos 1) (m +ℤ pos 1) (starts_given s) (omega (arith, signed_arith)) given) (omega (arith, signed_arith), tt))
 
-starts_of-append : (p : StartParts) (xs ys : List ℤ) → starts_of p (xs ++ ys) ≡ starts_of p xs ++ starts_of p ys
+pub starts_of-append : (p : StartParts) (xs ys : List ℤ) → starts_of p (xs ++ ys) ≡ starts_of p xs ++ starts_of p ys
 unfolding starts_of
 starts_of-append p xs ys = flat_map-append (starts_on p) xs ys
 

@@ -2,10 +2,13 @@ pub mod Ascending
 pub mod Begins
 pub mod ClockSearch
 pub mod Jumps
+pub mod Look
 pub mod Matching
 pub mod Membership
 pub mod RunsToCome
 pub mod Starts
 pub mod StartsToCome
+pub mod Stepping
 pub mod Stretches
+pub mod Weekly
 pub mod Work

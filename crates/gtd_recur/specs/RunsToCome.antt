@@ -10,7 +10,7 @@ use Rattle.gtd_recur.specs.Stretches.{runs_between, to_come}
 use Rattle.gtd_recur.specs.StartsToCome.{starts_to_come, starts_ticks}
 
 abbrev pub runs_basic : Runs → Basic
-runs_basic r = r.starts.basic
+runs_basic r = record { start = r.starts.basic.start; duration = r.duration }
 
 abbrev pub runs_horizon : Runs → Horizon
 runs_horizon r = r.starts.horizon
@@ -18,7 +18,7 @@ runs_horizon r = r.starts.horizon
 -- the spans that are still to be handed out, as a normal list
 abbrev pub runs_to_come : Runs → List Interval
 runs_to_come r =
-    runs_between (duration_parts r.starts.basic.duration) (to_come r.ahead (starts_to_come r.starts))
+    runs_between (duration_parts r.duration) (to_come r.ahead (starts_to_come r.starts))
     (whole r.starts.horizon).from (whole r.starts.horizon).until
 
 -- the days that were looked at, and the starts that were taken

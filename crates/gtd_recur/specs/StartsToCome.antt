@@ -1,5 +1,5 @@
 -- What is seen of a walk over the starts of a basic domain: the domain, the horizon, the starts still to come, the ticks.
-use Rattle.std.specs.Prelude.{◌≡◌, ℕ, ◌+◌, ◌≤◌, List, take, Option, Some, None, ℤ, pos, ◌+ℤ◌}
+use Rattle.std.specs.Prelude.{◌≡◌, ℕ, ◌+◌, ◌<◌, ◌≤◌, true, List, ◌++◌, take, Option, Some, None, ℤ, pos, ◌+ℤ◌, ◌*ℤ◌, ◌≤ℤ◌}
 use Rattle.std.proofs.Props.{props}
 use Rattle.gtd_core.specs.declared.second.Sec.{Sec}
 use Rattle.gtd_core.specs.declared.domain.Basic.{Basic}
@@ -9,6 +9,9 @@ use Rattle.gtd_core.specs.Whole.{to_day}
 use Rattle.gtd_recur.specs.declared.starts.Starts.{Starts}
 use Rattle.gtd_recur.specs.Ascending.{AllBefore, AllBefore-prop}
 use Rattle.gtd_recur.specs.Starts.{starts_left}
+use Rattle.gtd_core.specs.Days.{day_of_second}
+use Rattle.gtd_recur.specs.Begins.{begins_at}
+use Rattle.gtd_recur.specs.Stepping.{Stepped}
 use Rattle.gtd_recur.specs.Work.{starts_in, least_of_window}
 
 abbrev pub starts_basic : Starts → Basic
@@ -43,3 +46,23 @@ IsCountedTo s (Some b) =
 pub IsCountedTo-prop : (s : Starts) (o : Option Sec) → IsProp (IsCountedTo s o)
 IsCountedTo-prop s None = hlevel props
 IsCountedTo-prop s (Some b) = hlevel (props, AllBefore-prop (b.0 +ℤ pos 1) (starts_given s))
+
+-- the start is on the open day, of which the starts behind it are left
+pub record IsOpenAfter (s : Starts) (b : ℤ) : Type 0 where
+  pub clock : ℕ
+  pub next : s.clock ≡ clock + 1
+  pub low : clock < 86400
+  pub is : b ≡ pos 86400 *ℤ s.day +ℤ pos clock
+  pub begins : begins_at (start_parts s.basic.start) clock ≡ true
+
+-- the starts behind b up to the last of its day were passed over, each a step after the one before it, where a length is
+-- at least that step; or none was
+pub record IsPassed (s t : Starts) (b length last : ℤ) : Type 0 where
+  pub step : ℕ
+  pub list : List ℤ
+  pub split : starts_to_come s ≡ list ++ starts_to_come t
+  pub stepped : Stepped step b list last
+  pub near : pos step ≤ℤ length
+  pub day : day_of_second last ≡ day_of_second b
+  pub same : IsSameWalk s t
+  pub grows : starts_ticks s ≤ starts_ticks t

@@ -8,6 +8,7 @@ ghost use Rattle.std.specs.Int.{IsInRange};
 ghost use Rattle.gtd_core.specs.StartRanges.{IsStart, IsWithin};
 ghost use Rattle.gtd_recur.specs.Begins as spec;
 ghost use Rattle.gtd_recur.specs.ClockSearch as clock;
+ghost use Rattle.gtd_recur.specs.Stepping.{IsStep};
 
 use gtd_calendar::{DayFields, fields, weekday};
 use gtd_core::StartParts;
@@ -106,8 +107,8 @@ fn begins_on(start: &StartParts, day: &DayFields) -> bool
         && least_day(start, day)
 }
 
-// Whether only the weekday of a day says whether it fits the start.
-fn asks_no_date(start: &StartParts) -> bool
+/// Whether only the weekday of a day says whether it fits the start.
+pub(crate) fn asks_no_date(start: &StartParts) -> bool
     ensures { IsTrue result → (f : DayFields) → spec.begins_on start.now f ≡ spec.weekday_agrees start.now f }
 {
     start.year.is_none()
@@ -258,4 +259,16 @@ pub(crate) fn latest_begin(start: &StartParts, limit: u32) -> Option<u32>
     let minute = held(start.minute, finer_than_minute);
     let second = u32::from(start.second.unwrap_or(0));
     latest_clock(hour, minute, second, limit)
+}
+
+/// How far apart the starts of a day lie, where it has several.
+pub(crate) fn day_step(start: &StartParts) -> u32
+    requires valid { IsStart start.now }
+    ensures step { IsStep (spec.begins_at start.now) result }
+{
+    if start.minute.is_none() && start.second.is_some() {
+        60
+    } else {
+        3600
+    }
 }

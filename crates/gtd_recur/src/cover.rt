@@ -1,14 +1,17 @@
 //! Whether a basic domain contains a second.
 
-ghost use Rattle.std.specs.Prelude.{◌≡◌, ◌↔◌, IsTrue};
+ghost use Rattle.std.specs.Prelude.{◌≡◌, ◌≤◌, ◌↔◌, IsTrue};
+ghost use Rattle.gtd_core.specs.Whole.{from_day};
+ghost use Rattle.gtd_recur.specs.Look.{IsFirstLook};
+ghost use Rattle.gtd_recur.specs.Weekly.{IsWeekly};
 ghost use Rattle.gtd_core.specs.Parts.{start_parts, duration_parts};
 ghost use Rattle.gtd_core.specs.StartRanges.{IsStart};
 ghost use Rattle.gtd_calendar.specs.Calendar.{IsCalendarDay};
 ghost use Rattle.gtd_recur.specs.Membership.{InBasic, IsHeldFromDay, IsLatestNotAfter, IsHorizonSecond};
 
-use crate::begin::{begins_on_day, latest_begin};
+use crate::begin::{asks_no_date, begins_on_day, latest_begin};
 use gtd_calendar::{end_of, second_of_day};
-use gtd_core::{Basic, Duration, Sec, StartParts};
+use gtd_core::{Basic, Duration, Horizon, Sec, StartParts};
 
 // Whether a stretch that begins on that day holds the second. On one day the latest start ends last.
 fn held_from_day(
@@ -59,4 +62,37 @@ pub fn covers(basic: &Basic, second: Sec) -> bool
         }
     }
     false
+}
+
+// How far back a look for a day is worth more than the walk that it spares.
+const FURTHEST: u32 = 400;
+
+/// How many days before a horizon the starts have to be walked from: from a day on which the start begins, since no stretch
+/// from an earlier day ends later than the last from that day; or all the lookback.
+pub(crate) fn first_look(start: &StartParts, lookback: u32, horizon: Horizon) -> u32
+    requires lookback_in { lookback ≤ 36_600 }
+    ensures look { IsFirstLook start.now (from_day horizon) lookback result }
+{
+    if start.year.is_some() {
+        return lookback;
+    }
+    let most = if lookback < FURTHEST {
+        lookback
+    } else {
+        FURTHEST
+    };
+    for back in 1..most + 1 {
+        if begins_on_day(start, horizon.from_day() - i64::from(back)) {
+            return back;
+        }
+    }
+    if most == lookback { 0 } else { lookback }
+}
+
+/// Whether the basic domain repeats after 7 days, since of a day its start asks for nothing but the weekday, and its
+/// duration has no months and no years.
+pub fn is_weekly(basic: &Basic) -> bool
+    ensures weekly { IsTrue result → IsWeekly (start_parts basic.now.start) (duration_parts basic.now.duration) }
+{
+    basic.duration.whole_months() == 0 && asks_no_date(basic.start.as_parts())
 }

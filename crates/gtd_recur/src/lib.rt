@@ -3,7 +3,7 @@
 //! Seconds are those of the local civil clock, days are numbered from 1970-01-01. No call takes memory but `spans_of`.
 #![tactic(auto)]
 
-pub use cover::covers;
+pub use cover::{covers, is_weekly};
 pub use runs::Runs;
 pub use spans::spans_of;
 pub use starts::Starts;

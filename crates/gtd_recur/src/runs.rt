@@ -3,6 +3,7 @@
 
 ghost use Rattle.std.specs.Prelude.{◌≡◌, length, ℤ, ◌+ℤ◌, IfSome, ◌≤◌, ◌<ℤ◌, pos, ◌∷◌};
 ghost use Rattle.gtd_core.specs.Parts.{duration_parts};
+ghost use Rattle.gtd_core.specs.DurationBound.{lookback_of};
 ghost use Rattle.gtd_calendar.specs.Calendar.{IsCalendarDay};
 ghost use Rattle.gtd_core.specs.Days.{day_of_second};
 ghost use Rattle.gtd_recur.specs.Ascending.{IsAscending, IsAscending-prop, AllAfter, AllBefore, Has};
@@ -11,29 +12,33 @@ ghost use Rattle.gtd_recur.specs.StartsToCome.{starts_basic, starts_horizon, sta
 ghost use Rattle.gtd_recur.specs.StartsToCome.{IsSameWalk, IsCountedTo, IsCountedTo-prop, starts_given};
 ghost use Rattle.gtd_recur.specs.Work.{starts_in, work_up_to};
 
+use crate::cover::first_look;
 use crate::starts::Starts;
 use gtd_calendar::end_of;
-use gtd_core::{Basic, Horizon, Sec, Span};
+use gtd_core::{Basic, Duration, DurationParts, Horizon, Sec, Span};
 use gtd_spans::SpanSource;
 
 /// The runs of a basic domain in a horizon that are still to come. It is a source of the list that is normal for the
 /// domain's seconds in the horizon.
 #[derive(Clone, Copy, Debug)]
 pub struct Runs {
+    /// How long the stretches are. The walk below looks back no further than it must.
+    pub(crate) duration: Duration,
     /// The start that was taken ahead: the first of those that are still to come.
     ahead: Option<Sec>,
     pub(crate) starts: Starts,
     ghost ascending: { IsAscending (to_come ahead (starts_to_come starts)) } by { IsAscending-prop _ },
     ghost ahead_in: { IsAheadIn ahead } by { IsAheadIn-prop _ },
     ghost counted: { IsCountedTo starts ahead } by { IsCountedTo-prop starts ahead },
+    ghost narrow: { lookback_of (duration_parts starts.basic.duration) ≤ lookback_of (duration_parts duration) },
 }
 
 // The end of the run that begins at a start, and the first start after it.
-fn run_end(starts: &mut Starts, first: Sec) -> (Sec, Option<Sec>)
+fn run_end(starts: &mut Starts, duration: &Duration, first: Sec) -> (Sec, Option<Sec>)
     requires first_in { IsCalendarDay (day_of_second first.0) }
     requires ascending { IsAscending (first.0 ∷ starts_to_come starts.old) }
     requires counted { AllBefore (first.0 +ℤ pos 1) (starts_given starts.old) }
-    ensures run { IsRun (duration_parts (starts_basic starts.old).duration) (first.0 ∷ starts_to_come starts.old)
+    ensures run { IsRun (duration_parts duration.now) (first.0 ∷ starts_to_come starts.old)
         (to_come result.1 (starts_to_come starts.new)) first.0 result.0.0 }
     ensures after { AllAfter result.0.0 (to_come result.1 (starts_to_come starts.new)) }
     ensures ascending { IsAscending (to_come result.1 (starts_to_come starts.new)) }
@@ -46,8 +51,7 @@ fn run_end(starts: &mut Starts, first: Sec) -> (Sec, Option<Sec>)
         → starts_ticks starts.new ≤ work_up_to (starts_basic starts.old) (starts_horizon starts.old) b }
     ensures grows { starts_ticks starts.old ≤ starts_ticks starts.new }
 {
-    let duration = starts.basic.duration;
-    let mut end = end_of(first, &duration);
+    let mut end = end_of(first, duration);
     loop {
         let Some(start) = starts.next() else {
             return (end, None);
@@ -55,7 +59,9 @@ fn run_end(starts: &mut Starts, first: Sec) -> (Sec, Option<Sec>)
         if start > end {
             return (end, Some(start));
         }
-        end = later(end, end_of(start, &duration));
+        let reached = end_of(start, duration);
+        let last = starts.pass_day(start, reached.0 - start.0);
+        end = later(end, Sec(reached.0 + (last.0 - start.0)));
     }
 }
 
@@ -80,6 +86,20 @@ fn cut(from: Sec, until: Sec, first: Sec, end: Sec) -> Option<Span>
     Span::new(later(first, from), earlier(end, until))
 }
 
+// The duration of so many days.
+fn days_long(days: u32) -> Duration
+    requires few { days ≤ 36_600 }
+    ensures lookback { lookback_of (duration_parts result) ≡ days }
+{
+    match Duration::new(DurationParts {
+        days,
+        ..DurationParts::default()
+    }) {
+        Some(duration) => duration,
+        None => unreachable!(),
+    }
+}
+
 impl Runs {
     ghost use Rattle.std.specs.Prelude.{◌≡◌, IfSome, ◌≤◌, ◌<ℤ◌, ℤ};
     ghost use Rattle.gtd_core.specs.Whole.{whole};
@@ -96,9 +116,20 @@ impl Runs {
         ensures basic { runs_basic result ≡ basic }
         ensures horizon { runs_horizon result ≡ horizon }
     {
-        let mut starts = Starts::new(basic, horizon);
+        let back = first_look(&basic.start.parts(), basic.duration.lookback(), horizon);
+        let mut starts = Starts::new(
+            Basic {
+                start: basic.start,
+                duration: days_long(back),
+            },
+            horizon,
+        );
         let ahead = starts.next();
-        Runs { ahead, starts }
+        Runs {
+            duration: basic.duration,
+            ahead,
+            starts,
+        }
     }
 
     /// One for each day that was looked at, and one for each start that was taken.
@@ -123,7 +154,7 @@ impl Runs {
     {
         let (from, until) = (self.starts.horizon.from(), self.starts.horizon.until());
         while let Some(first) = self.ahead {
-            let (end, ahead) = run_end(&mut self.starts, first);
+            let (end, ahead) = run_end(&mut self.starts, &self.duration, first);
             self.ahead = ahead;
             if let Some(span) = cut(from, until, first, end) {
                 return Some(span);

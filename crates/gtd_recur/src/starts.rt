@@ -7,7 +7,7 @@ ghost use Rattle.gtd_recur.specs.Starts.{AreLeft, IsInWindow, IsLookedCount, Are
 ghost use Rattle.gtd_recur.specs.Starts.{AreLeft-prop, IsInWindow-prop, IsLookedCount-prop, AreFitting-prop};
 ghost use Rattle.gtd_recur.specs.Work.{starts_in, window_begin};
 
-use crate::begin::{begins_on_day, next_begin};
+use crate::begin::{begins_on_day, day_step, latest_begin, next_begin};
 use crate::jump::{Days, next_days};
 use gtd_core::{Basic, Horizon, Sec};
 
@@ -49,7 +49,8 @@ impl Starts {
     ghost use Rattle.gtd_recur.specs.Starts.{TakesSecond, clock_starts};
     ghost use Rattle.gtd_recur.specs.Work.{starts_in, work_up_to, work_of, least_of_window, counted_work};
     ghost use Rattle.gtd_recur.specs.StartsToCome.{starts_basic, starts_horizon, starts_to_come, starts_ticks};
-    ghost use Rattle.gtd_recur.specs.StartsToCome.{IsSameWalk, starts_given};
+    ghost use Rattle.gtd_recur.specs.StartsToCome.{IsSameWalk, IsOpenAfter, IsPassed, starts_given};
+    ghost use Rattle.std.specs.Prelude.{◌≤ℤ◌};
 
     /// The walk over all starts of the basic domain on the days from the horizon's first less the lookback to its last.
     pub fn new(basic: Basic, horizon: Horizon) -> Starts
@@ -97,6 +98,7 @@ impl Starts {
         ensures rises { IfSome result (λ b. starts_ticks self.old + 1 ≤ starts_ticks self.new) }
         ensures grows { starts_ticks self.old ≤ starts_ticks self.new }
         ensures calendar { IfSome result (λ b. IsCalendarDay (day_of_second b.0)) }
+        ensures open { IfSome result (λ b. IsOpenAfter self.new b.0) }
     {
         loop {
             if let Some(start) = self.next_of_day() {
@@ -125,6 +127,7 @@ impl Starts {
         ensures grows { starts_ticks self.old ≤ starts_ticks self.new }
         ensures calendar { IfSome result (λ b. IsCalendarDay (day_of_second b.0)) }
         ensures next_day { self.new.next_day ≡ self.old.next_day }
+        ensures open { IfSome result (λ b. IsOpenAfter self.new b.0) }
     {
         match next_begin(&self.basic.start.parts(), self.clock) {
             Some(clock) => {
@@ -137,6 +140,24 @@ impl Starts {
                 None
             }
         }
+    }
+
+    // Passes over the starts behind one up to the last of its day, where they lie no further apart than a length.
+    pub(crate) fn pass_day(&mut self, start: Sec, length: i64) -> Sec
+        requires open { IsOpenAfter self.old start.0 }
+        requires length_in { pos 0 ≤ℤ length }
+        ensures passed { IsPassed self.old self.new start.0 length result.0 }
+    {
+        let step = day_step(self.basic.start.as_parts());
+        if length < i64::from(step) {
+            return start;
+        }
+        let Some(last) = latest_begin(self.basic.start.as_parts(), 86_399) else {
+            return start;
+        };
+        self.handed += u64::from((last + 1 - self.clock) / step);
+        self.clock = 86_400;
+        Sec(86_400 * self.day + i64::from(last))
     }
 
     // Looks at the next day, which opens it. Only here are a day's fields read, and each such day is counted.

@@ -9,6 +9,7 @@ abbrev pub invariant-loop-self : goal.invariant-loop-self
 invariant-loop-self l = record {
   left : runs_to_come l.fn.self ≡ runs_to_come l.self;
   same : IsSameWalk l.fn.self.starts l.self.starts;
+  duration : l.self.duration ≡ l.fn.self.duration;
   grows : starts_ticks l.fn.self.starts ≤ starts_ticks l.self.starts;
 }
 

@@ -84,3 +84,10 @@ returns-in-Some-clause-calendar c =
     let plain : to_z w64 (of_z w64 (to_z w64 (of_z w64 (pos 86400 *ℤ to_z w64 (of_z w64 s.day))) +ℤ to_z w64 (of_z w64 c.from.result))) ≡ pos 86400 *ℤ s.day +ℤ pos c.in-Some.clock = omega (arith, signed_arith) in
     let on = (second-only _ s.day c.in-Some.clock found.1 refl).0 in
     rw (plain, on) (omega (arith, signed_arith, s.in_window.first_in, s.in_window.day_in), omega (arith, signed_arith, s.in_window.next_in, s.in_window.end_in, s.in_window.last_in))
+
+pub returns-in-Some-clause-open : goal.returns-in-Some-clause-open
+returns-in-Some-clause-open c =
+    let s = c.args.self.now in
+    let found = rw (c.parts.ensures.value, c.in-Some.is) at c.next_begin.ensures in
+    let plain : to_z w64 (of_z w64 (to_z w64 (of_z w64 (pos 86400 *ℤ to_z w64 (of_z w64 s.day))) +ℤ to_z w64 (of_z w64 c.from.result))) ≡ pos 86400 *ℤ s.day +ℤ pos c.in-Some.clock = omega (arith, signed_arith) in
+    record { clock = c.in-Some.clock; next = refl; low = found.1; is = plain; begins = found.2 }

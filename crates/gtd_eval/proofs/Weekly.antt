@@ -1,0 +1,54 @@
+-- Sets that repeat after 7 days, and their changes.
+use Rattle.gtd_core.specs.declared.second.Sec.{Sec}
+use Rattle.std.proofs.Common.{Option, Some, None, MatchOption, IsSome, refl, ◌≡◌, ◌↔◌, ℕ, zero, suc, ◌+◌, ◌*◌, ◌/◌, ◌%◌, List, sym, subst, inl, inr, arith}
+use Rattle.std.specs.Prelude.{ℤ, pos, ◌+ℤ◌, ◌-ℤ◌, ◌≤ℤ◌, ◌<ℤ◌, unsigned_abs}
+use Rattle.std.proofs.lemmas.Int.{ints}
+use Rattle.gtd_core.specs.Interval.{Interval}
+use Rattle.gtd_spans.specs.Normal.{Holds}
+use Rattle.gtd_spans.specs.NormalFor.{IsNormalFor, combined-both}
+use Rattle.gtd_spans.specs.Change.{SameAt, NeverChanges, IsNextChange}
+use Rattle.gtd_recur.proofs.WeekLemmas.{week-forward, week-back}
+use Rattle.gtd_eval.specs.Membership.{InTree, AllWeekly}
+use Rattle.gtd_core.specs.Trees.{Tree, Single, Joined}
+use Rattle.gtd_eval.specs.Ever.{NeverChangesAfter, IsFirstChange, week}
+use Rattle.gtd_eval.proofs.Repeats.{behind, first-of-next}
+
+pub tree-weekly : (e : Tree) (t : ℤ) → AllWeekly e → InTree e t ↔ InTree e (t +ℤ week)
+tree-weekly (Single start duration) t w = (week-forward start duration t w, week-back start duration t w)
+tree-weekly (Joined op left right) t w = combined-both op _ _ _ _ (tree-weekly left t w.0) (tree-weekly right t w.1)
+
+abbrev pub RepeatsWeekly : (ℤ → Type 0) → Type 0
+RepeatsWeekly set = (t : ℤ) → set t ↔ set (t +ℤ week)
+
+at-once-week : (t : ℤ) → t +ℤ pos (0 * 604800) ≡ t
+at-once-week t = omega (arith, ints)
+
+once-more-week : (t : ℤ) (k : ℕ) → (t +ℤ pos (k * 604800)) +ℤ week ≡ t +ℤ pos ((suc k) * 604800)
+once-more-week t k = omega (arith, ints)
+
+repeats-weekly : (set : ℤ → Type 0) → RepeatsWeekly set → (k : ℕ) (t : ℤ) → set t ↔ set (t +ℤ pos (k * 604800))
+repeats-weekly set r zero t = rw at-once-week ((λ h. h), (λ h. h))
+repeats-weekly set r (suc k) t =
+    let i = repeats-weekly set r k t in
+    let j = r (t +ℤ pos (k * 604800)) in
+    let e = once-more-week t k in
+    ((λ h. subst set e (j.0 (i.0 h))), (λ h. i.1 (j.1 (subst set (sym e) h))))
+
+-- a set that repeats, and does not change for a whole week, never changes
+pub never-after-week : (set : ℤ → Type 0) → RepeatsWeekly set → (s until : ℤ) → (s +ℤ week) <ℤ until → NeverChanges set s until → NeverChangesAfter set s
+never-after-week set r s until far never t lt =
+    let b = behind s t lt in
+    let n : ℕ = b.0 in
+    let k : ℕ = n / 604800 in
+    let u : ℤ = s +ℤ pos (1 + n % 604800) in
+    let e : u +ℤ pos (k * 604800) ≡ t = omega (arith, ints, b.1) in
+    let same = never u (omega (arith, ints)) (omega (arith, ints, far)) in
+    let many = repeats-weekly set r k u in
+    ((λ h. subst set e (many.0 (same.0 h))), (λ h. same.1 (many.1 (subst set (sym e) h))))
+
+-- what the changes in more than a week say of all later ones
+pub changes-after-week : (set : ℤ → Type 0) → RepeatsWeekly set → (s until : ℤ) → (s +ℤ week) <ℤ until
+    → (o : Option Sec) → MatchOption o (NeverChanges set s until) (λ c. IsNextChange set s until c.0)
+    → MatchOption o (NeverChangesAfter set s) (λ c. IsFirstChange set s c.0)
+changes-after-week set r s until far None h = never-after-week set r s until far h
+changes-after-week set r s until far (Some c) h = first-of-next set s until c.0 h

@@ -1,0 +1,10 @@
+use Rattle.std.proofs.Common.{arith}
+use Rattle.gtd_recur.proofs.LookLemmas.{work-widen}
+use Rattle.gtd_recur.proofs.runs.Runs.ticks.Goals as goal
+
+pub returns-clause-at_most : goal.returns-clause-at_most
+returns-clause-at_most c =
+    let s = c.args.self.now in
+    let most = c.ticks.ensures.at_most in
+    let less = work-widen s.starts.basic s.duration s.starts.horizon s.narrow in
+    omega (arith, most, less)
