@@ -4,7 +4,7 @@
 //! The laws in [`laws`] say that the file so put is accepted, and means what its source means.
 #![tactic(auto)]
 
-pub use run::run_migrate;
+pub use run::{Migration, run_migrate};
 
 pub mod laws;
 mod line;

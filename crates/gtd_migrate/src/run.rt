@@ -1,15 +1,15 @@
 //! The record file that an input brings, put to an output as a file of version 2.
 
-ghost use Rattle.std.specs.Prelude.{◌≡◌, ◌<◌, ◌≤◌, ⊤, length, map, IsErrOf, IsTrue, List, OnOk};
+ghost use Rattle.std.specs.Prelude.{◌≡◌, ◌<◌, ◌≤◌, ⊤, None, length, map, IsErrOf, IsTrue, List, OnOk};
 ghost use Rattle.gtd_roads.specs.Restriction.{Restriction};
-ghost use Rattle.gtd_runs.specs.Putting.{Puts, failures_after_stop, nothing_put};
+ghost use Rattle.gtd_runs.specs.Putting.{Puts, failures_after_stop};
 ghost use Rattle.gtd_runs.specs.Run.{AcceptedFilesArePut, HasRun, RefusedFilesPutNothing};
 ghost use Rattle.gtd_runs.specs.Run.{failures_after_read, failures_after_write};
 ghost use Rattle.gtd_migrate.specs.Migrated.{migrated, row_line};
 
 use crate::line::write_line;
-use gtd_roads::{Input, Output, Record, RecordFault, read_records};
-use gtd_runs::{Progress, RunFault, Stop, finish, put_line};
+use gtd_roads::{Input, Output, Record, RecordFault, Records};
+use gtd_runs::{Progress, Report, RunFault, Stop, Subject, finish, put_line, run_report};
 use std::alloc::Global;
 
 // Puts the lines of records, in their order, after the header line.
@@ -36,26 +36,35 @@ fn put_rows<O: Output>(
     Ok(())
 }
 
-// Puts the migrated file of records, and ends the output.
-fn put_migrated<O: Output>(
-    alloc: Global,
-    output: &mut O,
-    progress: &mut Progress,
-    rows: &[Record],
-) -> Result<(), Stop>
-    requires countable { O.failure_count output.old < u64.MAX }
-    requires few { length rows.now ≤ 65536 }
-    requires begins { progress.old ≡ nothing_put }
-    ensures puts { Puts result (O.taken output.old) (O.taken output.new)
-        progress.old progress.new (migrated rows.now) }
-    ensures ended { OnOk result (IsTrue (O.is_ended output.new)) }
-    ensures failures { O.failure_count output.new
-        ≡ failures_after_stop result (O.failure_count output.old) }
-{
-    let mut line = Vec::new(alloc);
-    put_line(output, progress, b"element,direction,vehicles,domain\n")?;
-    put_rows(alloc, output, progress, &mut line, rows)?;
-    finish(output)
+/// The file of version 2.
+#[derive(Clone, Copy, Debug, PartialEq, Eq)]
+pub struct Migration;
+
+impl Report for Migration {
+    ghost subject = { λ report. record { vehicle = None; year = None; element = None } };
+
+    ghost is_text = { λ report found lines. lines ≡ migrated found };
+
+    fn subject(&self) -> Subject {
+        Subject {
+            vehicle: None,
+            year: None,
+            element: None,
+        }
+    }
+
+    fn put<O: Output>(
+        &self,
+        alloc: Global,
+        output: &mut O,
+        progress: &mut Progress,
+        found: &Records,
+    ) -> Result<(), Stop> {
+        let mut line = Vec::new(alloc);
+        put_line(output, progress, b"element,direction,vehicles,domain\n")?;
+        put_rows(alloc, output, progress, &mut line, found.rows())?;
+        finish(output)
+    }
 }
 
 /// Puts the record file that an input brings as a file of version 2: its rows in their order, with their repeats, each
@@ -91,11 +100,5 @@ pub fn run_migrate<I: Input, O: Output>(
     ensures write_faults { O.failure_count output.new
         ≡ failures_after_write result (O.failure_count output.old) }
 {
-    let found = match read_records(alloc, input) {
-        Ok(found) => found,
-        Err(fault) => return Err(RunFault::Records(fault)),
-    };
-    let mut progress = Progress::new();
-    let put = put_migrated(alloc, output, &mut progress, found.rows());
-    progress.answer(put)
+    run_report(alloc, input, output, &Migration)
 }

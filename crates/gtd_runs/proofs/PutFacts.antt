@@ -7,7 +7,7 @@ use Rattle.std.proofs.KnownBytes.{Appends-kept, Appends-nil, Appends-trans}
 use Rattle.std.proofs.Math.Seq.{take-append-add, take-length}
 use Rattle.std.proofs.lemmas.List.{append-nil, take-append-le}
 use Rattle.std.proofs.lemmas.List.Concat.{flat_map-append}
-use Rattle.gtd_runs.specs.Putting.{Puts, text_of}
+use Rattle.gtd_runs.specs.Putting.{Puts, PutsText, text_of}
 use Rattle.gtd_runs.specs.declared.putting.Progress.{Progress}
 use Rattle.gtd_runs.specs.declared.putting.Stop.{Stop}
 
@@ -83,3 +83,9 @@ pub puts_ended : (r : Result (Unit {0}) Stop) (a b c : Option (List ℕ)) (p q :
     → Puts (Ok tt) a b p q lines → Keeps b c → Puts r a c p q lines
 puts_ended (Ok x) a b c p q lines puts kept = (Appends-kept a b c (text_of lines) puts.0 kept, puts.1)
 puts_ended (Err x) a b c p q lines puts kept = put_whole x a b c p q lines puts kept
+
+-- where there is one text of a kind, what was put of it was put of each
+pub puts_text : (IsText : List (List ℕ) → Type 0) (r : Result (Unit {0}) Stop) (a b : Option (List ℕ)) (p q : Progress) (lines : List (List ℕ))
+    → IsText lines → ((other : List (List ℕ)) → IsText other → other ≡ lines) → Puts r a b p q lines → PutsText IsText r a b p q
+puts_text IsText (Ok x) a b p q lines is one puts = (lines, is, puts)
+puts_text IsText (Err x) a b p q lines is one puts = λ other text. rw (one other text) puts

@@ -1,6 +1,6 @@
 -- What stands where a run ended, and the claims that follow.
 use Rattle.std.proofs.Common.{◌≡◌, ◌∙◌, ◌+◌, ap, refl, arith, subst, length, Bool, ℕ, List, Option, Some, None}
-use Rattle.std.specs.Prelude.{◌≢◌, IsTrue, OnOk, Result, Ok, Err, IfSome}
+use Rattle.std.specs.Prelude.{◌≢◌, IsTrue, OnOk, Result, Ok, Err, IfOk, IfSome}
 use Rattle.std.specs.Io.KnownBytes.{Keeps}
 use Rattle.std.proofs.KnownBytes.{Keeps-refl}
 use Rattle.gtd_roads.proofs.OneAnswer.{one_file}
@@ -9,7 +9,7 @@ use Rattle.gtd_roads.specs.Reading.{IsOfFile}
 use Rattle.gtd_roads.specs.Restriction.{Restriction}
 use Rattle.gtd_roads.specs.declared.fault.RecordFault.{RecordFault}
 use Rattle.gtd_runs.specs.Putting.{Puts, PutsText, answer_of, nothing_put, text_of}
-use Rattle.gtd_runs.specs.Run.{AcceptedFilesArePut, HasRun, IsUnhindered, PutsWhole, RefusedFilesPutNothing, TookFirst, TookFirstOf}
+use Rattle.gtd_runs.specs.Run.{AcceptedFilesArePut, HasRun, IsLineCount, IsUnhindered, PutsWhole, RefusedFilesPutNothing, TookFirst, TookFirstOf}
 use Rattle.gtd_runs.specs.Run.{UnacceptedFilesPutNothing}
 use Rattle.gtd_runs.specs.declared.fault.RunFault.{RunFault}
 use Rattle.gtd_runs.specs.declared.fault.RunFault.TheVariants as fault
@@ -65,6 +65,20 @@ module _ (IsAccepted : List Restriction → Type 0) (IsText : List Restriction �
       → HasRun IsAccepted IsText file taken taken (Err (fault.Records why))
   not_read why None taken h = (Keeps-refl taken, λ free. tt)
   not_read why (Some bytes) taken h = (Keeps-refl taken, h)
+
+  -- what a run did of a file that does not name the element
+  pub not_named : (file taken : Option (List ℕ)) (found : List Restriction) → IfSome file (λ bytes. IsFile bytes (Ok found))
+      → (IsAccepted found → ⊥) → HasRun IsAccepted IsText file taken taken (Err fault.NoElement)
+  not_named None taken found h never = (Keeps-refl taken, tt)
+  not_named (Some bytes) taken found h never = (Keeps-refl taken, (found, h, never))
+
+-- the answer of a run whose text was put is the number of lines of a text
+pub answer_lines : (IsText : List Restriction → List (List ℕ) → Type 0) (r : Result (Unit {0}) Stop) (old new : Option (List ℕ))
+    (found : List Restriction) (q : Progress) → PutsText (IsText found) r old new nothing_put q → IfOk (answer_of r q) (IsLineCount IsText)
+answer_lines IsText (Ok x) old new found q puts =
+    (found, puts.0, puts.1, ap (λ (t : Progress). t.lines) puts.2.1 ∙ none_before (length puts.0))
+answer_lines IsText (Err Output) old new found q puts = tt
+answer_lines IsText (Err Memory) old new found q puts = tt
 
 -- a run that put its text, or that stopped, does not speak of its arguments
 pub not_vehicle : (put : Result (Unit {0}) Stop) (progress : Progress) → answer_of put progress ≢ Err fault.VehicleRange

@@ -1,4 +1,5 @@
 pub mod Names
 pub mod Putting
 pub mod Run
+pub mod Subjects
 pub mod Words

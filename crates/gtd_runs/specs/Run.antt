@@ -1,6 +1,6 @@
 -- What a run over a record file did, by its answer, and the claims that are made of it. A run is for a kind of
 -- texts: of which restrictions a text is put, and which text that is. A text is given by its lines.
-use Rattle.std.specs.Prelude.{◌≡◌, ◌≤◌, ◌<◌, ℕ, ◌+◌, List, length, take, ⊤, Option, IfSome, Result, Ok, Err}
+use Rattle.std.specs.Prelude.{◌≡◌, ◌≤◌, ℕ, ◌+◌, List, length, take, ⊤, Option, IfSome, Result, Ok, Err}
 use Rattle.std.specs.Io.KnownBytes.{Appends, Keeps}
 use Rattle.gtd_roads.specs.File.{IsFile}
 use Rattle.gtd_roads.specs.Reading.{IsOfFile}
@@ -10,10 +10,6 @@ use Rattle.gtd_roads.specs.declared.fault.RecordFault.TheVariants as records
 use Rattle.gtd_runs.specs.Putting.{text_of}
 use Rattle.gtd_runs.specs.declared.fault.RunFault.{RunFault}
 use Rattle.gtd_runs.specs.declared.fault.RunFault.TheVariants as fault
-
--- a vehicle type: from 1 to 99
-abbrev pub IsVehicleType : ℕ → Type 0
-IsVehicleType vehicle = (0 < vehicle) × (vehicle ≤ 99)
 
 -- Nothing hindered the run: neither device failed, no memory was refused, and the input was not silent for 1,000 pulls in
 -- a row.
@@ -29,6 +25,10 @@ pub record PutsWhole (IsText : List (List ℕ) → Type 0) (old new : Option (Li
   pub is_text : IsText lines
   pub taken : Appends old new (text_of lines)
   pub count : answer ≡ Ok (length lines)
+
+-- The answer is the number of lines of a text of this kind.
+abbrev pub IsLineCount : (List Restriction → List (List ℕ) → Type 0) → ℕ → Type 0
+IsLineCount IsText count = (found : List Restriction) × (lines : List (List ℕ)) × IsText found lines × (count ≡ length lines)
 
 -- The output took just the first n bytes of the text.
 abbrev pub TookFirst : Option (List ℕ) → Option (List ℕ) → ℕ → List ℕ → Type 0

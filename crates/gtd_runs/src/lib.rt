@@ -1,12 +1,15 @@
-//! What the runs over a record file have in common: the lines that they put, how those are counted, why a run stops, and
-//! what stands then.
+//! The run over a record file: [`run_report`] reads a file whole, and then puts a [`Report`] of its records line by line.
+//! Why a run stops, and what stands then, is said once for every report.
 //!
-//! A run reads a record file whole, and then puts a text line by line. Each line is offered whole, then what is left of
-//! it until it is taken.
+//! Each line is offered whole, then what is left of it until it is taken.
 #![tactic(auto)]
 
 pub use fault::RunFault;
 pub use putting::{Progress, ShortPut, Stop, finish, put_line};
+pub use report::{Report, run_report};
+pub use subject::Subject;
 
 mod fault;
 mod putting;
+mod report;
+mod subject;

@@ -26,7 +26,7 @@ use Rattle.gtd_roads.specs.declared.fault.RecordFault.{RecordFault}
 use Rattle.gtd_roads.specs.declared.fault.RecordFault.TheVariants as fault
 use Rattle.gtd_roads.specs.declared.vehicles.Vehicles.{Vehicles}
 use Rattle.gtd_roads.specs.declared.vehicles.Version.{Version}
-use Rattle.gtd_runs.specs.Run.{IsVehicleType}
+use Rattle.gtd_runs.specs.Subjects.{IsVehicleType}
 use Rattle.gtd_schedule.proofs.LineFacts.{length-line}
 use Rattle.gtd_schedule.specs.Schedule.{AreLines, AreLinesOf, IsSchedule, header_line, span_line}
 

@@ -5,7 +5,7 @@ ghost use Rattle.std.specs.List.{All};
 ghost use Rattle.gtd_core.specs.declared.horizon.Horizon.{Horizon};
 ghost use Rattle.gtd_roads.specs.File.{IsFile};
 ghost use Rattle.gtd_roads.specs.Restriction.{Restriction};
-ghost use Rattle.gtd_runs.specs.Run.{IsVehicleType};
+ghost use Rattle.gtd_runs.specs.Subjects.{IsVehicleType};
 ghost use Rattle.gtd_schedule.specs.Schedule.{IsSchedule};
 
 /// Restrictions have one schedule at most, for a vehicle type and over a horizon.

@@ -1,16 +1,60 @@
 //! The schedule of the record file that an input brings, put to an output.
 
-ghost use Rattle.std.specs.Prelude.{◌≡◌, ◌<◌, ◌↔◌, ⊤, IsErrOf, IsTrue, List, OnOk};
+ghost use Rattle.std.specs.Prelude.{◌≡◌, ◌<◌, ◌↔◌, ⊤, None, Some, IsErrOf, IsTrue, List, OnOk};
 ghost use Rattle.gtd_roads.specs.Restriction.{Restriction};
-ghost use Rattle.gtd_runs.specs.Run.{AcceptedFilesArePut, HasRun, IsVehicleType, RefusedFilesPutNothing};
+ghost use Rattle.gtd_runs.specs.Run.{AcceptedFilesArePut, HasRun, RefusedFilesPutNothing};
 ghost use Rattle.gtd_runs.specs.Run.{failures_after_read, failures_after_write};
+ghost use Rattle.gtd_runs.specs.Subjects.{IsVehicleType};
 ghost use Rattle.gtd_schedule.specs.Schedule.{IsSchedule};
 
-use crate::schedule::put_schedule;
+use crate::elements::put_elements;
 use gtd_core::Horizon;
-use gtd_roads::{Input, Output, RecordFault, read_records};
-use gtd_runs::{Progress, RunFault};
+use gtd_roads::{Input, Output, RecordFault, Records};
+use gtd_runs::{Progress, Report, RunFault, Stop, Subject, finish, put_line, run_report};
 use std::alloc::Global;
+
+/// The schedule over the days of a horizon, for a vehicle type.
+#[derive(Clone, Copy, Debug, PartialEq, Eq)]
+pub struct Schedule {
+    /// The days.
+    pub horizon: Horizon,
+    /// The vehicle type.
+    pub vehicle: u8,
+}
+
+impl Report for Schedule {
+    ghost subject = { λ report. record { vehicle = Some report.vehicle; year = None; element = None } };
+
+    ghost is_text = { λ report found lines. IsSchedule found report.vehicle report.horizon lines };
+
+    fn subject(&self) -> Subject {
+        Subject {
+            vehicle: Some(self.vehicle),
+            year: None,
+            element: None,
+        }
+    }
+
+    fn put<O: Output>(
+        &self,
+        alloc: Global,
+        output: &mut O,
+        progress: &mut Progress,
+        found: &Records,
+    ) -> Result<(), Stop> {
+        put_line(output, progress, b"element,direction,vehicle,from,until\n")?;
+        put_elements(
+            alloc,
+            output,
+            progress,
+            found,
+            found.elements(),
+            self.vehicle,
+            self.horizon,
+        )?;
+        finish(output)
+    }
+}
 
 /// Puts the schedule of the record file that an input brings: over the days of the horizon, for a vehicle type from 1 to
 /// 99. Answers the number of its lines, the header included.
@@ -50,14 +94,5 @@ pub fn run_schedule<I: Input, O: Output>(
     ensures write_faults { O.failure_count output.new
         ≡ failures_after_write result (O.failure_count output.old) }
 {
-    if vehicle == 0 || vehicle > 99 {
-        return Err(RunFault::VehicleRange);
-    }
-    let found = match read_records(alloc, input) {
-        Ok(found) => found,
-        Err(fault) => return Err(RunFault::Records(fault)),
-    };
-    let mut progress = Progress::new();
-    let put = put_schedule(alloc, output, &mut progress, &found, vehicle, horizon);
-    progress.answer(put)
+    run_report(alloc, input, output, &Schedule { horizon, vehicle })
 }

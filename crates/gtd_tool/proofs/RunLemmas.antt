@@ -14,6 +14,8 @@ use Rattle.gtd_runs.specs.Putting.{text_of}
 use Rattle.gtd_runs.specs.Run.{HasRun, TookFirst, IsUnhindered as IsRunUnhindered, failures_after_read}
 use Rattle.gtd_runs.specs.declared.fault.RunFault.{RunFault}
 use Rattle.gtd_runs.specs.declared.fault.RunFault.TheVariants as run
+use Rattle.gtd_runs.specs.declared.subject.Subject.{Subject}
+use Rattle.gtd_runs.specs.Subjects.{IsAccepted as IsAcceptedFor}
 use Rattle.gtd_tool.specs.Plans.{Asked}
 use Rattle.gtd_tool.specs.Running.{AppendsTextOf, IsAccepted, IsLacking, IsPartOfText, IsRefusedFile, IsText, IsUnhindered, IsVehicleInRange, IsYearInRange, Ran, failures_after, outcome_of, refusal_for}
 use Rattle.gtd_tool.specs.Stops.{IsStop}
@@ -27,6 +29,16 @@ use Rattle.gtd_tool.proofs.LoanLemmas.{if_some}
 if_some_all : {A : Type 0} (o : Option A) (P : A → Type 0) → ((x : A) → P x) → IfSome o P
 if_some_all None P f = tt
 if_some_all (Some x) P f = f x
+
+-- ---- what is asked of
+
+if_none : {A : Type 0} (o : Option A) (P : A → Type 0) → (IfSome o P → ⊥) → MatchOption o ⊥ (λ x. ⊤)
+if_none None P never = absurd (never tt)
+if_none (Some x) P never = tt
+
+-- restrictions that a report refuses are refused for its element
+pub of_element : (subject : Subject) → (found : List Restriction) × (IsAcceptedFor subject found → ⊥) → MatchOption subject.element ⊥ (λ element. ⊤)
+of_element subject refused = if_none subject.element _ refused.1
 
 -- ---- one answer of a file
 

@@ -1,5 +1,5 @@
 -- What a command that reads a record file prints, and why it is refused.
-use Rattle.std.specs.Prelude.{◌≡◌, ◌↔◌, ◌⊎◌, ⊤, ℕ, ◌+◌, Bool, List, Any, Option, IfSome, MatchOption, IsTrue, IsErrOf}
+use Rattle.std.specs.Prelude.{◌≡◌, ◌↔◌, ◌⊎◌, ⊤, ℕ, ◌+◌, Bool, List, Option, Some, None, IfSome, MatchOption, IsTrue, IsErrOf}
 use Rattle.std.specs.Prelude.{Result, Ok, Err, codes, ◌++◌}
 use Rattle.std.specs.Io.KnownBytes.{Appends}
 use Rattle.gtd_roads.specs.File.{IsFile}
@@ -8,12 +8,14 @@ use Rattle.gtd_roads.specs.Restriction.{Restriction}
 use Rattle.gtd_roads.specs.declared.fault.RecordFault.{RecordFault}
 use Rattle.gtd_roads.specs.declared.fault.RecordFault.TheVariants as records
 use Rattle.gtd_runs.specs.Putting.{text_of}
-use Rattle.gtd_runs.specs.Run.{HasRun, IsVehicleType}
+use Rattle.gtd_runs.specs.Run.{HasRun}
 use Rattle.gtd_runs.specs.Run.{failures_after_read}
 use Rattle.gtd_runs.specs.declared.fault.RunFault.{RunFault}
 use Rattle.gtd_runs.specs.declared.fault.RunFault.TheVariants as run
+use Rattle.gtd_runs.specs.declared.subject.Subject.{Subject}
+use Rattle.gtd_runs.specs.Subjects as subjects
 use Rattle.gtd_schedule.specs.Schedule.{IsSchedule}
-use Rattle.gtd_year.specs.Table.{IsTableYear, IsYearTable}
+use Rattle.gtd_year.specs.Table.{IsYearTable}
 use Rattle.gtd_migrate.specs.Migrated.{migrated}
 use Rattle.gtd_tool.specs.Plans.{Asked, Schedule, Year, Migrate, file_of}
 use Rattle.gtd_tool.specs.Printed.{AppendsLine, AsksPastYears, IsAnswer, TakesMemory}
@@ -34,26 +36,28 @@ IfFile asked P = MatchOption (file_of asked) ⊤ (λ path. P)
 abbrev pub IfAlone : Asked → Type 0 → Type 0
 IfAlone asked P = MatchOption (file_of asked) P (λ path. ⊤)
 
+-- What a report of the file is asked of.
+abbrev pub subject_of : Asked → Subject
+subject_of (Schedule path horizon vehicle) = record { vehicle = Some vehicle; year = None; element = None }
+subject_of (Year path element direction vehicle year) =
+    record { vehicle = Some vehicle; year = Some year; element = Some element }
+subject_of asked = record { vehicle = None; year = None; element = None }
+
 -- If a vehicle type is asked for, it is from 1 to 99.
 abbrev pub IsVehicleInRange : Asked → Type 0
-IsVehicleInRange (Schedule path horizon vehicle) = IsVehicleType vehicle
-IsVehicleInRange (Year path element direction vehicle year) = IsVehicleType vehicle
-IsVehicleInRange asked = ⊤
+IsVehicleInRange asked = subjects.IsVehicleInRange (subject_of asked)
 
 -- An element is asked for.
 abbrev pub AsksOfElement : Asked → Type 0
-AsksOfElement (Year path element direction vehicle year) = ⊤
-AsksOfElement asked = ⊥
+AsksOfElement asked = MatchOption (subject_of asked).element ⊥ (λ element. ⊤)
 
 -- If a year is asked for, it is from 1901 to 2199.
 abbrev pub IsYearInRange : Asked → Type 0
-IsYearInRange (Year path element direction vehicle year) = IsTableYear year
-IsYearInRange asked = ⊤
+IsYearInRange asked = subjects.IsYearInRange (subject_of asked)
 
 -- A text is printed of these restrictions: the table of a year needs one that names the element.
 abbrev pub IsAccepted : Asked → List Restriction → Type 0
-IsAccepted (Year path element direction vehicle year) found = Any (λ (r : Restriction). r.element ≡ element) found
-IsAccepted asked found = ⊤
+IsAccepted asked found = subjects.IsAccepted (subject_of asked) found
 
 -- The lines of the text that is printed of these restrictions: their schedule, the table of a year, or their file of
 -- version 2.
@@ -170,14 +174,19 @@ abbrev pub outcome_of : Result ℕ RunFault → Result (Unit {0}) Refusal
 outcome_of (Ok count) = Ok tt
 outcome_of (Err fault) = Err (refusal_for fault)
 
--- The command's run had an answer, by which all that the run promises is so.
-pub record Ran (asked : Asked) (file old new : Option (List ℕ)) (silent : Bool) (before after : ℕ)
-    (result : Result (Unit {0}) Refusal) : Type 0 where
+-- The run of a report had an answer, by which all that the run promises is so.
+pub record RanReport (subject : Subject) (Text : List Restriction → List (List ℕ) → Type 0) (file old new : Option (List ℕ))
+    (silent : Bool) (before after : ℕ) (result : Result (Unit {0}) Refusal) : Type 0 where
   pub answer : Result ℕ RunFault
   pub outcome : result ≡ outcome_of answer
-  pub stands : HasRun (IsAccepted asked) (IsText asked) file old new answer
-  pub vehicle : IsErrOf answer run.VehicleRange ↔ (IsVehicleInRange asked → ⊥)
-  pub year : IsErrOf answer run.YearRange ↔ (IsVehicleInRange asked × (IsYearInRange asked → ⊥))
-  pub element : IsErrOf answer run.NoElement → AsksOfElement asked
+  pub stands : HasRun (subjects.IsAccepted subject) Text file old new answer
+  pub vehicle : IsErrOf answer run.VehicleRange ↔ (subjects.IsVehicleInRange subject → ⊥)
+  pub year : IsErrOf answer run.YearRange ↔ (subjects.IsVehicleInRange subject × (subjects.IsYearInRange subject → ⊥))
+  pub element : IsErrOf answer run.NoElement → MatchOption subject.element ⊥ (λ element. ⊤)
   pub endless : IsErrOf answer (run.Records records.Endless) → IsTrue silent
   pub failures : after ≡ failures_after_read answer before
+
+-- That of the report that is asked for.
+abbrev pub Ran : Asked → Option (List ℕ) → Option (List ℕ) → Option (List ℕ) → Bool → ℕ → ℕ → Result (Unit {0}) Refusal → Type 0
+Ran asked file old new silent before after result =
+    RanReport (subject_of asked) (IsText asked) file old new silent before after result

@@ -18,13 +18,16 @@ ghost use Rattle.gtd_tool.specs.Writing.{AppendsPart, joined};
 
 use crate::plans::{Moment, MomentInHorizon, Plan};
 use crate::refusal::Refusal;
-use crate::running::{print_migrated, print_schedule, print_year};
+use crate::running::print_report;
 use crate::writing::{put, put_texts};
 use gtd_calendar::write_stamp;
 use gtd_core::{Domain, Sec};
 use gtd_eval::{EverFault, holds, next_change, next_change_ever};
+use gtd_migrate::Migration;
 use gtd_roads::{Input, RecordFault};
+use gtd_schedule::Schedule;
 use gtd_text::print_domain;
+use gtd_year::YearTable;
 use std::alloc::Global;
 use std::io;
 use std::io::Write;
@@ -111,15 +114,29 @@ fn carry_out<I: Input, W: Write>(
             horizon,
             vehicle,
             ..
-        } => print_schedule(alloc, input, out, *horizon, *vehicle),
+        } => {
+            let report = Schedule {
+                horizon: *horizon,
+                vehicle: *vehicle,
+            };
+            print_report(alloc, input, out, &report)
+        }
         Plan::Year {
             element,
             direction,
             vehicle,
             year,
             ..
-        } => print_year(alloc, input, out, *element, *direction, *vehicle, *year),
-        Plan::Migrate { .. } => print_migrated(alloc, input, out),
+        } => {
+            let report = YearTable {
+                element: *element,
+                direction: *direction,
+                vehicle: *vehicle,
+                year: *year,
+            };
+            print_report(alloc, input, out, &report)
+        }
+        Plan::Migrate { .. } => print_report(alloc, input, out, &Migration),
     }
 }
 

@@ -144,10 +144,3 @@ whole_table all first place days done few are =
     let r : AreDayLines (Holds all) first (place + (days - place)) (done ++ more.0) =
     days_then (Holds all) first next place (days - place) done more.0 refl are more.1 in
     (more.0, subst (λ (k : ℕ). AreDayLines (Holds all) first k (done ++ more.0)) n r)
-
--- where there is one text of a kind, what was put of it was put of each
-pub put_text : (IsText : List (List ℕ) → Type 0) (r : Result (Unit {0}) Stop) (old new : Option (List ℕ)) (before after : Progress)
-    (lines : List (List ℕ)) → IsText lines → ((other : List (List ℕ)) → IsText other → other ≡ lines)
-    → Puts r old new before after lines → PutsText IsText r old new before after
-put_text IsText (Ok done) old new before after lines is one puts = (lines, is, puts)
-put_text IsText (Err stop) old new before after lines is one puts = λ other text. rw (one other text) puts

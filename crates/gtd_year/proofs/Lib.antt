@@ -1,4 +1,3 @@
 pub mod DayFacts
-pub mod Ends
 pub mod SomeTable
 pub mod YearFacts

@@ -12,7 +12,8 @@ use Rattle.gtd_core.specs.declared.horizon.HorizonFault.{HorizonFault}
 use Rattle.gtd_core.specs.declared.horizon.HorizonFault.TheVariants.{Empty, TooEarly, TooLate, TooLong}
 use Rattle.gtd_eval.specs.NormalOver.{IsNormalOver}
 use Rattle.gtd_spans.specs.Normal.{Holds}
-use Rattle.gtd_year.specs.Table.{AreDayLines, IsTableYear}
+use Rattle.gtd_runs.specs.Subjects.{IsTableYear}
+use Rattle.gtd_year.specs.Table.{AreDayLines}
 use Rattle.gtd_year.proofs.DayFacts.{same_days}
 
 no_months : (y : ℤ) → days_of_months y (1 - 1) + (1 - 1) ≡ 0

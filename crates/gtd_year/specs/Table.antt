@@ -1,6 +1,6 @@
 -- The table of a year: in how many seconds of each day a road element is open. A line has its end: the LF is its last
 -- byte.
-use Rattle.std.specs.Prelude.{◌≡◌, ◌≤◌, ◌-◌, ◌++◌, ℕ, zero, suc, ℤ, pos, ◌+ℤ◌, ◌*ℤ◌, List, [], ◌∷◌}
+use Rattle.std.specs.Prelude.{◌≡◌, ◌-◌, ◌++◌, ℕ, zero, suc, ℤ, pos, ◌+ℤ◌, ◌*ℤ◌, List, [], ◌∷◌}
 use Rattle.std.specs.Prelude.{length, replicate, codes, decimal}
 use Rattle.gtd_calendar.specs.Calendar.{first_day, year_length}
 use Rattle.gtd_calendar.specs.Stamp.{date_text}
@@ -8,10 +8,6 @@ use Rattle.gtd_spans.specs.Counting.{IsCount}
 use Rattle.gtd_roads.specs.Closing.{IsOpen}
 use Rattle.gtd_roads.specs.Restriction.{Restriction}
 use Rattle.gtd_roads.specs.declared.direction.Direction.{Direction}
-
--- a year that a table may be of
-abbrev pub IsTableYear : ℕ → Type 0
-IsTableYear year = (1901 ≤ year) × (year ≤ 2199)
 
 -- the number, right-aligned in five places
 abbrev pub right_aligned : ℕ → List ℕ

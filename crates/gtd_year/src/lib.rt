@@ -1,7 +1,7 @@
 //! The table of a year: in how many seconds of each day a road element is open.
 #![tactic(auto)]
 
-pub use run::run_year;
+pub use run::{YearTable, run_year};
 
 pub mod laws;
 mod run;

@@ -1,63 +1,78 @@
 //! The year's table of an element of the record file that an input brings, put to an output.
 
-ghost use Rattle.std.specs.Prelude.{◌≡◌, ◌<◌, ◌↔◌, Any, OnOk, IfOk, IsErrOf, IsTrue, List, pos};
+ghost use Rattle.std.specs.Prelude.{◌≡◌, ◌<◌, ◌↔◌, Any, Some, OnOk, IfOk, IsErrOf, IsTrue, List, pos};
 ghost use Rattle.gtd_calendar.specs.Calendar.{year_length};
 ghost use Rattle.gtd_roads.specs.Restriction.{Restriction};
-ghost use Rattle.gtd_runs.specs.Putting.{PutsText, failures_after_stop, nothing_put};
-ghost use Rattle.gtd_runs.specs.Run.{AcceptedFilesArePut, HasRun, IsVehicleType, RefusedFilesPutNothing};
+ghost use Rattle.gtd_runs.specs.Run.{AcceptedFilesArePut, HasRun, RefusedFilesPutNothing};
 ghost use Rattle.gtd_runs.specs.Run.{UnacceptedFilesPutNothing};
 ghost use Rattle.gtd_runs.specs.Run.{failures_after_read, failures_after_write};
-ghost use Rattle.gtd_year.specs.Table.{IsTableYear, IsYearTable};
+ghost use Rattle.gtd_runs.specs.Subjects.{IsTableYear, IsVehicleType};
+ghost use Rattle.gtd_year.specs.Table.{IsYearTable};
 
 use crate::table::put_days;
 use crate::year::days_of_year;
-use gtd_roads::{Direction, Input, Output, RecordFault, Records, open_seconds, read_records};
-use gtd_runs::{Progress, RunFault, Stop, finish};
+use gtd_roads::{Direction, Input, Output, RecordFault, Records, open_seconds};
+use gtd_runs::{Progress, Report, RunFault, Stop, Subject, finish, run_report};
 use gtd_spans::ByDay;
 use std::alloc::Global;
 
-// Whether some record names the element.
-fn names_element(found: &Records, element: u64) -> bool
-    ensures named { IsTrue result ↔ Any (λ (r : Restriction). r.element ≡ element) found.now }
-{
-    found.elements().contains(&element)
+/// The table of a year of an element in a direction, for a vehicle type.
+#[derive(Clone, Copy, Debug, PartialEq, Eq)]
+pub struct YearTable {
+    /// The element.
+    pub element: u64,
+    /// The direction.
+    pub direction: Direction,
+    /// The vehicle type.
+    pub vehicle: u8,
+    /// The year.
+    pub year: u16,
 }
 
-// Puts the table of a year, and ends the output.
-fn put_year<O: Output>(
-    alloc: Global,
-    output: &mut O,
-    progress: &mut Progress,
-    found: &Records,
-    element: u64,
-    direction: Direction,
-    vehicle: u8,
-    year: u16,
-) -> Result<(), Stop>
-    requires countable { O.failure_count output.old < u64.MAX }
-    requires begins { progress.old ≡ nothing_put }
-    requires year { IsTableYear year }
-    ensures puts { PutsText (IsYearTable found.now element direction vehicle year) result
-        (O.taken output.old) (O.taken output.new) progress.old progress.new }
-    ensures days { OnOk result (progress.new.lines ≡ year_length (pos year)) }
-    ensures ended { OnOk result (IsTrue (O.is_ended output.new)) }
-    ensures failures { O.failure_count output.new
-        ≡ failures_after_stop result (O.failure_count output.old) }
-{
-    let days = days_of_year(year);
-    let open = open_seconds(alloc, found, element, direction, vehicle, days)?;
-    let mut seconds = ByDay::new(open);
-    let mut line = Vec::new(alloc);
-    let first = days.from_day();
-    put_days(
-        output,
-        progress,
-        &mut line,
-        &mut seconds,
-        first,
-        (days.to_day() - first) as u16,
-    )?;
-    finish(output)
+impl Report for YearTable {
+    ghost subject = { λ report.
+        record { vehicle = Some report.vehicle; year = Some report.year; element = Some report.element } };
+
+    ghost is_text = { λ report found lines.
+        IsYearTable found report.element report.direction report.vehicle report.year lines };
+
+    fn subject(&self) -> Subject {
+        Subject {
+            vehicle: Some(self.vehicle),
+            year: Some(self.year),
+            element: Some(self.element),
+        }
+    }
+
+    fn put<O: Output>(
+        &self,
+        alloc: Global,
+        output: &mut O,
+        progress: &mut Progress,
+        found: &Records,
+    ) -> Result<(), Stop> {
+        let days = days_of_year(self.year);
+        let open = open_seconds(
+            alloc,
+            found,
+            self.element,
+            self.direction,
+            self.vehicle,
+            days,
+        )?;
+        let mut seconds = ByDay::new(open);
+        let mut line = Vec::new(alloc);
+        let first = days.from_day();
+        put_days(
+            output,
+            progress,
+            &mut line,
+            &mut seconds,
+            first,
+            (days.to_day() - first) as u16,
+        )?;
+        finish(output)
+    }
 }
 
 /// Puts the year's table of an element of the record file that an input brings: for each day of a year from 1901 to 2199,
@@ -107,29 +122,11 @@ pub fn run_year<I: Input, O: Output>(
     ensures write_faults { O.failure_count output.new
         ≡ failures_after_write result (O.failure_count output.old) }
 {
-    if vehicle == 0 || vehicle > 99 {
-        return Err(RunFault::VehicleRange);
-    }
-    if year < 1901 || year > 2199 {
-        return Err(RunFault::YearRange);
-    }
-    let found = match read_records(alloc, input) {
-        Ok(found) => found,
-        Err(fault) => return Err(RunFault::Records(fault)),
-    };
-    if !names_element(&found, element) {
-        return Err(RunFault::NoElement);
-    }
-    let mut progress = Progress::new();
-    let put = put_year(
-        alloc,
-        output,
-        &mut progress,
-        &found,
+    let table = YearTable {
         element,
         direction,
         vehicle,
         year,
-    );
-    progress.answer(put)
+    };
+    run_report(alloc, input, output, &table)
 }

@@ -23,3 +23,12 @@ returns-in-Ever-clause-printed g c = rw (c.in-Ever.is) c.print_ever.ensures.prin
 
 pub returns-in-Ever-clause-stopped : goal.returns-in-Ever-clause-stopped
 returns-in-Ever-clause-stopped g c = rw (c.in-Ever.is) c.print_ever.ensures.stopped
+
+pub returns-in-Schedule-clause-ran : goal.returns-in-Schedule-clause-ran
+returns-in-Schedule-clause-ran g c = rw (c.in-Schedule.is) c.print_report.ensures.ran
+
+pub returns-in-Year-clause-ran : goal.returns-in-Year-clause-ran
+returns-in-Year-clause-ran g c = rw (c.in-Year.is) c.print_report-in-Year.ensures.ran
+
+pub returns-in-Migrate-clause-ran : goal.returns-in-Migrate-clause-ran
+returns-in-Migrate-clause-ran g c = rw (c.in-Migrate.is) c.print_report-in-Migrate.ensures.ran

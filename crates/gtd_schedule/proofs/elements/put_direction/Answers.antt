@@ -14,7 +14,7 @@ use Rattle.gtd_schedule.proofs.LineFacts.{length-lines}
 use Rattle.gtd_schedule.proofs.SpanFacts.{normal_few, normal_shown}
 use Rattle.gtd_schedule.proofs.ScheduleFacts.{one_lines}
 use Rattle.gtd_schedule.proofs.TextFacts.{texts_of}
-use Rattle.gtd_schedule.proofs.schedule.put_direction.Goals as goal
+use Rattle.gtd_schedule.proofs.elements.put_direction.Goals as goal
 
 -- what was put of so few spans
 near : (e : ℕ) (d : Direction) (v : ℕ) (r : Result (Unit {0}) Stop) (a b : Option (List ℕ)) (p q : Progress) (spans : List Interval)

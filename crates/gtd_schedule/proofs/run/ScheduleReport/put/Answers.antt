@@ -6,7 +6,7 @@ use Rattle.gtd_runs.specs.Putting.{PutsText}
 use Rattle.gtd_schedule.specs.Schedule.{AreLinesOf, IsSchedule, header_line}
 use Rattle.gtd_schedule.proofs.ScheduleFacts.{IsHeader, few_elements, one_header, one_schedule, schedule_lines, schedule_parts}
 use Rattle.gtd_schedule.proofs.TextFacts.{Then, texts_as, texts_ended, texts_then}
-use Rattle.gtd_schedule.proofs.schedule.put_schedule.Goals as goal
+use Rattle.gtd_schedule.proofs.run.ScheduleReport.put.Goals as goal
 
 pub returns-in_err-put_line-clause-puts : goal.returns-in_err-put_line-clause-puts
 returns-in_err-put_line-clause-puts g c =
@@ -28,8 +28,8 @@ pub returns-in_err-put_elements-clause-puts : goal.returns-in_err-put_elements-c
 returns-in_err-put_elements-clause-puts g c =
     let p = err_from_is_err_and c.from_residual-in_err-put_elements.result c.from_residual-in_err-put_elements.ensures.1 in
     let found = c.args.found.now in
-    let vehicle = c.args.vehicle in
-    let horizon = c.args.horizon in
+    let vehicle = c.args.self.now.vehicle in
+    let horizon = c.args.self.now.horizon in
     let elements = c.elements.result.now in
     let named = c.elements.ensures.named in
     let header = IsHeader found vehicle horizon in
@@ -50,8 +50,8 @@ returns-in_err-put_elements-clause-puts g c =
 pub returns-clause-puts : goal.returns-clause-puts
 returns-clause-puts g c =
     let found = c.args.found.now in
-    let vehicle = c.args.vehicle in
-    let horizon = c.args.horizon in
+    let vehicle = c.args.self.now.vehicle in
+    let horizon = c.args.self.now.horizon in
     let elements = c.elements.result.now in
     let named = c.elements.ensures.named in
     let header = IsHeader found vehicle horizon in

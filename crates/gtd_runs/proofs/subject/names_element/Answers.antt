@@ -1,6 +1,6 @@
 use Rattle.std.proofs.Common.{rules, ◌↔◌, IsTrue}
 use Rattle.std.specs.List.{Contains}
-use Rattle.gtd_year.proofs.run.names_element.Goals as goal
+use Rattle.gtd_runs.proofs.subject.names_element.Goals as goal
 
 pub returns : goal.returns
 returns c =

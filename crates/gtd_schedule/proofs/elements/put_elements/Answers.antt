@@ -11,7 +11,7 @@ use Rattle.gtd_runs.specs.declared.putting.Stop.{Stop}
 use Rattle.gtd_schedule.specs.Schedule.{AreElementLines, AreLinesOf}
 use Rattle.gtd_schedule.proofs.ScheduleFacts.{one_element_lines}
 use Rattle.gtd_schedule.proofs.TextFacts.{CarriesText, texts_cut, texts_then}
-use Rattle.gtd_schedule.proofs.schedule.put_elements.Goals as goal
+use Rattle.gtd_schedule.proofs.elements.put_elements.Goals as goal
 
 module _ (found : List Restriction) (vehicle : ℕ) (horizon : Horizon) (elements : List ℕ) (i : ℕ) (here : i < length elements)
     (a b d : Option (List ℕ)) (p q t : Progress)

@@ -4,7 +4,7 @@ use Rattle.gtd_roads.specs.declared.direction.Direction.TheVariants.{Positive, N
 use Rattle.gtd_schedule.specs.Schedule.{AreElementLines, AreLines}
 use Rattle.gtd_schedule.proofs.ScheduleFacts.{element_lines, element_parts, one_lines}
 use Rattle.gtd_schedule.proofs.TextFacts.{Then, texts_as, texts_cut, texts_then}
-use Rattle.gtd_schedule.proofs.schedule.put_element.Goals as goal
+use Rattle.gtd_schedule.proofs.elements.put_element.Goals as goal
 
 pub returns-in_err-put_direction-clause-puts : goal.returns-in_err-put_direction-clause-puts
 returns-in_err-put_direction-clause-puts g c =

@@ -2,7 +2,7 @@ use Rattle.std.proofs.Common.{◌≡◌, ◌≤◌, ◌+◌, ◌*◌, drop}
 use Rattle.gtd_schedule.proofs.TextFacts.{CarriesText}
 use Rattle.gtd_schedule.specs.Lines.{most_bytes, most_lines}
 use Rattle.gtd_schedule.specs.Schedule.{AreLinesOf}
-use Rattle.gtd_schedule.proofs.schedule.put_elements.Given as goal
+use Rattle.gtd_schedule.proofs.elements.put_elements.Given as goal
 
 -- where the lines of the elements that are left are put, those of all are
 abbrev pub invariant-loop-element : goal.invariant-loop-element

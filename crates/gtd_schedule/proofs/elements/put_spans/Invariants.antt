@@ -2,7 +2,7 @@ use Rattle.std.proofs.Common.{◌≡◌, ◌≤◌, ◌+◌, ◌*◌, length, ma
 use Rattle.gtd_schedule.proofs.SpanFacts.{Carries}
 use Rattle.gtd_schedule.specs.Lines.{AreShown, line_head}
 use Rattle.gtd_schedule.specs.Schedule.{span_line}
-use Rattle.gtd_schedule.proofs.schedule.put_spans.Given as goal
+use Rattle.gtd_schedule.proofs.elements.put_spans.Given as goal
 
 -- the buffer begins with the head, and where the rest is put, all is
 abbrev pub invariant-loop-span : goal.invariant-loop-span

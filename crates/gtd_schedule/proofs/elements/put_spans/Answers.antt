@@ -11,7 +11,7 @@ use Rattle.gtd_schedule.specs.Lines.{AreShown, line_head, span_text}
 use Rattle.gtd_schedule.specs.Schedule.{span_line}
 use Rattle.gtd_schedule.proofs.LineFacts.{length-put_line, line_parts}
 use Rattle.gtd_schedule.proofs.SpanFacts.{carries_none, carries_one, carries_short}
-use Rattle.gtd_schedule.proofs.schedule.put_spans.Goals as goal
+use Rattle.gtd_schedule.proofs.elements.put_spans.Goals as goal
 
 -- the bytes of a line, from the head and the rest
 whole_line : (e : ℕ) (d : Direction) (v : ℕ) (x : Interval) (head now line : List ℕ) → head ≡ line_head e d v → now ≡ head ++ span_text x → line ≡ now

@@ -1,22 +1,19 @@
-use Rattle.std.proofs.Common.{rules, ◌≡◌, ◌∙◌, ap, arith, length, pos, FitsSigned, to_z, of_z, w64, to_z-of_z}
-use Rattle.std.specs.Prelude.{Ok, Err, OnOk, Result}
+use Rattle.std.proofs.Common.{rules, ◌≡◌, ◌∙◌, pos, FitsSigned, to_z, of_z, w64, to_z-of_z}
 use Rattle.std.proofs.lemmas.Result.{err_from_is_err_and}
 use Rattle.gtd_calendar.specs.Calendar.{first_day, year_length}
 use Rattle.gtd_eval.specs.Cursors.{cursor_list}
 use Rattle.gtd_roads.specs.Closing.{IsOpen}
-use Rattle.gtd_runs.proofs.PutFacts.{puts_ended}
-use Rattle.gtd_runs.specs.declared.putting.Progress.{Progress}
-use Rattle.gtd_runs.specs.declared.putting.Stop.{Stop}
+use Rattle.gtd_runs.proofs.PutFacts.{puts_ended, puts_text}
 use Rattle.gtd_year.specs.Table.{IsYearTable}
-use Rattle.gtd_year.proofs.DayFacts.{length-days, one_table, put_text}
+use Rattle.gtd_year.proofs.DayFacts.{one_table}
 use Rattle.gtd_year.proofs.YearFacts.{days_between, year_length-few, year_table}
-use Rattle.gtd_year.proofs.run.put_year.Goals as goal
+use Rattle.gtd_year.proofs.run.YearTableReport.put.Goals as goal
 
 pub returns-in_err-put_days-clause-puts : goal.returns-in_err-put_days-clause-puts
 returns-in_err-put_days-clause-puts g c =
     let p = err_from_is_err_and c.from_residual-in_err-put_days.result c.from_residual-in_err-put_days.ensures.1 in
-    let y = pos c.args.year in
-    let set = IsOpen c.args.found.now c.args.element c.args.direction c.args.vehicle in
+    let y = pos c.args.self.now.year in
+    let set = IsOpen c.args.found.now c.args.self.now.element c.args.self.now.direction c.args.self.now.vehicle in
     let put = c.in_err-put_days.ensures.puts in
     let days = c.days_of_year-days in
     let from_fits : FitsSigned w64 c.from_day-first.result = search rules in
@@ -25,14 +22,14 @@ returns-in_err-put_days-clause-puts g c =
     to_z-of_z from_fits ∙ c.from_day-first.ensures.value ∙ days.ensures.first in
     let to = to_z-of_z to_fits ∙ c.to_day.ensures.value ∙ days.ensures.next in
     let count = days_between (first_day y) _ (year_length y) (year_length-few y) to in
-    let table = year_table set days.result (cursor_list c.in_ok-open.open) _ _ _ c.args.year put.0 c.in_ok-open.ensures.seconds
+    let table = year_table set days.result (cursor_list c.in_ok-open.open) _ _ _ c.args.self.now.year put.0 c.in_ok-open.ensures.seconds
     c.new-seconds.ensures.value days.ensures.first days.ensures.next from (rw from count) put.1 in
     rw (p.1) (λ lines is. rw (one_table set (first_day y) (year_length y) lines put.0 is table) put.2)
 
 pub returns-clause-puts : goal.returns-clause-puts
 returns-clause-puts g c =
-    let y = pos c.args.year in
-    let set = IsOpen c.args.found.now c.args.element c.args.direction c.args.vehicle in
+    let y = pos c.args.self.now.year in
+    let set = IsOpen c.args.found.now c.args.self.now.element c.args.self.now.direction c.args.self.now.vehicle in
     let taken = g.O.Output.taken in
     let put = c.in_ok-put_days.ensures.puts in
     let days = c.days_of_year-days in
@@ -42,32 +39,10 @@ returns-clause-puts g c =
     to_z-of_z from_fits ∙ c.from_day-first.ensures.value ∙ days.ensures.first in
     let to = to_z-of_z to_fits ∙ c.to_day.ensures.value ∙ days.ensures.next in
     let count = days_between (first_day y) _ (year_length y) (year_length-few y) to in
-    let table = year_table set days.result (cursor_list c.in_ok-open.open) _ _ _ c.args.year put.0 c.in_ok-open.ensures.seconds
+    let table = year_table set days.result (cursor_list c.in_ok-open.open) _ _ _ c.args.self.now.year put.0 c.in_ok-open.ensures.seconds
     c.new-seconds.ensures.value days.ensures.first days.ensures.next from (rw from count) put.1 in
-    put_text (IsYearTable c.args.found.now c.args.element c.args.direction c.args.vehicle c.args.year) c.finish.result
+    puts_text (IsYearTable c.args.found.now c.args.self.now.element c.args.self.now.direction c.args.self.now.vehicle c.args.self.now.year) c.finish.result
     (taken c.args.output.now) (taken c.finish.new.output) c.args.progress.now c.put_days.new.progress put.0 table
     (λ other is. one_table set (first_day y) (year_length y) other put.0 is table)
     (puts_ended c.finish.result (taken c.args.output.now) (taken c.put_days.new.output) (taken c.finish.new.output)
     c.args.progress.now c.put_days.new.progress put.0 put.2 c.finish.ensures.bytes)
-
-pub returns-clause-days : goal.returns-clause-days
-returns-clause-days g c =
-    let y = pos c.args.year in
-    let put = c.in_ok-put_days.ensures.puts in
-    let days = c.days_of_year-days in
-    let from_fits : FitsSigned w64 c.from_day-first.result = search rules in
-    let to_fits : FitsSigned w64 c.to_day.result = search rules in
-    let from : to_z w64 (of_z w64 c.from_day-first.result) ≡ first_day y =
-    to_z-of_z from_fits ∙ c.from_day-first.ensures.value ∙ days.ensures.first in
-    let to = to_z-of_z to_fits ∙ c.to_day.ensures.value ∙ days.ensures.next in
-    let count = days_between (first_day y) _ (year_length y) (year_length-few y) to in
-    let l = length-days _ _ _ put.0 put.1 in
-    let n = ap (λ (p : Progress). p.lines) put.2.1 in
-    let none = ap (λ (p : Progress). p.lines) c.requires.begins in
-    let all : length put.0 ≡ year_length y = l.0 ∙ rw from count in
-    let lines : c.put_days.new.progress.lines ≡ year_length y = omega (arith, all, n, none) in
-    when_done c.finish.result lines
-  where
-    when_done : {A : Type 0} (r : Result (Unit {0}) Stop) → A → OnOk r A
-    when_done (Ok x) a = a
-    when_done (Err x) a = tt

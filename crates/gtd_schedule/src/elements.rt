@@ -1,14 +1,14 @@
-//! The lines of a schedule, put one after the other.
+//! The lines of elements, put one after the other.
 
-ghost use Rattle.std.specs.Prelude.{◌≡◌, ◌+◌, ◌*◌, ◌<◌, ◌≤◌, ◌^◌, length, map, IsTrue, OnOk};
-ghost use Rattle.gtd_runs.specs.Putting.{Puts, PutsText, failures_after_stop, nothing_put};
+ghost use Rattle.std.specs.Prelude.{◌≡◌, ◌+◌, ◌*◌, ◌<◌, ◌≤◌, ◌^◌, length, map, OnOk};
+ghost use Rattle.gtd_runs.specs.Putting.{Puts, PutsText, failures_after_stop};
 ghost use Rattle.gtd_schedule.specs.Lines.{AreShown, most_bytes, most_lines};
-ghost use Rattle.gtd_schedule.specs.Schedule.{AreElementLines, AreLines, AreLinesOf, IsSchedule, span_line};
+ghost use Rattle.gtd_schedule.specs.Schedule.{AreElementLines, AreLines, AreLinesOf, span_line};
 
 use crate::line::{write_head, write_span};
 use gtd_core::Horizon;
 use gtd_roads::{Direction, Output, Records, open_seconds};
-use gtd_runs::{Progress, Stop, finish, put_line};
+use gtd_runs::{Progress, Stop, put_line};
 use gtd_spans::SpanSource;
 use std::alloc::Global;
 
@@ -100,7 +100,7 @@ fn put_element<O: Output>(
 }
 
 // Puts the lines of elements, in their order.
-fn put_elements<O: Output>(
+pub(crate) fn put_elements<O: Output>(
     alloc: Global,
     output: &mut O,
     progress: &mut Progress,
@@ -125,35 +125,4 @@ fn put_elements<O: Output>(
         )?;
     }
     Ok(())
-}
-
-/// Puts the schedule of records, from its header on, and ends the output.
-pub(crate) fn put_schedule<O: Output>(
-    alloc: Global,
-    output: &mut O,
-    progress: &mut Progress,
-    found: &Records,
-    vehicle: u8,
-    horizon: Horizon,
-) -> Result<(), Stop>
-    requires countable { O.failure_count output.old < u64.MAX }
-    requires begins { progress.old ≡ nothing_put }
-    requires few { length found.now ≤ 65536 }
-    ensures puts { PutsText (IsSchedule found.now vehicle horizon) result
-        (O.taken output.old) (O.taken output.new) progress.old progress.new }
-    ensures ended { OnOk result (IsTrue (O.is_ended output.new)) }
-    ensures failures { O.failure_count output.new
-        ≡ failures_after_stop result (O.failure_count output.old) }
-{
-    put_line(output, progress, b"element,direction,vehicle,from,until\n")?;
-    put_elements(
-        alloc,
-        output,
-        progress,
-        found,
-        found.elements(),
-        vehicle,
-        horizon,
-    )?;
-    finish(output)
 }

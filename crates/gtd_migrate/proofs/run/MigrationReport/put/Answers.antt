@@ -1,0 +1,50 @@
+use Rattle.std.proofs.Common.{◌≡◌, refl, [], ◌∷◌, map}
+use Rattle.std.specs.Prelude.{Ok, Err}
+use Rattle.std.proofs.lemmas.Result.{err_from_is_err_and}
+use Rattle.gtd_runs.proofs.PutFacts.{one_put, one_short, puts_cut, puts_ended, puts_text, puts_then}
+use Rattle.gtd_migrate.specs.Migrated.{header_line, migrated, row_line}
+use Rattle.gtd_migrate.proofs.run.MigrationReport.put.Goals as goal
+
+pub returns-in_err-put_line-clause-puts : goal.returns-in_err-put_line-clause-puts
+returns-in_err-put_line-clause-puts g c =
+    let p = err_from_is_err_and c.from_residual.result c.from_residual.ensures.1 in
+    let a = g.O.Output.taken c.args.output.now in
+    let b = g.O.Output.taken c.put_line.new.output in
+    let q = c.put_line.new.progress in
+    let e = c.in_err-put_line.ensures in
+    let found = c.args.found.now in
+    rw (p.1)
+    (puts_text (λ lines. lines ≡ migrated found) (Err p.0) a b c.args.progress.now q (migrated found) refl (λ other is. is)
+    (puts_cut p.0 a b c.args.progress.now q (header_line ∷ []) (map row_line found)
+    (one_short p.0 header_line c.in_err-put_line.field-0.0.taken a b c.args.progress.now q e.some.0 e.some.1 e.progress)))
+
+pub returns-in_err-put_rows-clause-puts : goal.returns-in_err-put_rows-clause-puts
+returns-in_err-put_rows-clause-puts g c =
+    let p = err_from_is_err_and c.from_residual-in_err-put_rows.result c.from_residual-in_err-put_rows.ensures.1 in
+    let a = g.O.Output.taken c.args.output.now in
+    let b = g.O.Output.taken c.put_line.new.output in
+    let d = g.O.Output.taken c.put_rows.new.output in
+    let q = c.put_line.new.progress in
+    let s = c.put_rows.new.progress in
+    let e = c.in_ok-put_line.ensures in
+    let found = c.args.found.now in
+    rw (p.1)
+    (puts_text (λ lines. lines ≡ migrated found) (Err p.0) a d c.args.progress.now s (migrated found) refl (λ other is. is)
+    (puts_then (Err p.0) a b d c.args.progress.now q s (header_line ∷ []) (map row_line found)
+    (one_put header_line a b c.args.progress.now q e.all e.progress) (rw c.rows.ensures.rows at c.in_err-put_rows.ensures.puts)))
+
+pub returns-clause-puts : goal.returns-clause-puts
+returns-clause-puts g c =
+    let a = g.O.Output.taken c.args.output.now in
+    let b = g.O.Output.taken c.put_line.new.output in
+    let d = g.O.Output.taken c.put_rows.new.output in
+    let f = g.O.Output.taken c.finish.new.output in
+    let q = c.put_line.new.progress in
+    let s = c.put_rows.new.progress in
+    let e = c.in_ok-put_line.ensures in
+    let found = c.args.found.now in
+    puts_text (λ lines. lines ≡ migrated found) c.finish.result a f c.args.progress.now s (migrated found) refl (λ other is. is)
+    (puts_ended c.finish.result a d f c.args.progress.now s (migrated found)
+    (puts_then (Ok tt) a b d c.args.progress.now q s (header_line ∷ []) (map row_line found)
+    (one_put header_line a b c.args.progress.now q e.all e.progress) (rw c.rows.ensures.rows at c.in_ok-put_rows.ensures.puts))
+    c.finish.ensures.bytes)
