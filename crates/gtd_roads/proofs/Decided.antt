@@ -66,7 +66,7 @@ module _ (P : Restriction → Type 0) (decided : (r : Restriction) → Decided (
       neither r rest first later (suc k) x few is h = later (k, x, omega (arith, few), is, h)
 
 module _ (found : List Restriction) (element : ℕ) (direction : Direction) (vehicle : ℕ) where
-  closes : (s : ℤ) (r : Restriction) → Decided (Closes element direction vehicle s r)
+  pub closes : (s : ℤ) (r : Restriction) → Decided (Closes element direction vehicle s r)
   closes s r =
       let concerns = both _ _ (closes_direction r.closed direction) (serves r.vehicles vehicle) in
       elim (both _ _ (same_number r.element element) (both _ _ concerns (holds_at r.domain s))) [

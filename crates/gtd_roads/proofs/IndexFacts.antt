@@ -85,6 +85,34 @@ module _ (rows : List Restriction) (places all : List Place) (same : all ≡ pla
       none (k - from) p r (omega arith) (ap (λ (n : ℕ). get_or rows n r) there ∙ a.3) c))
       (λ lt. let b = below k p (omega arith) lt in omega (arith, b, name, c.names))
 
+-- the place of a row of the element is one of those up to one that is of a later element or past the end
+module _ (rows : List Restriction) (places all : List Place) (same : all ≡ places) (placed : ArePlaces rows places)
+    (element from : ℕ)
+    (below : (k : ℕ) (d : Place) → 0 ≤ k → k < from → (slice_index_or places k d).element < element)
+    (rest : (k : ℕ) (d : Place) → from ≤ k → k < length places → element ≤ (slice_index_or places k d).element) where
+  abbrev pub IsPlaced : ℕ → Place → Type 0
+  IsPlaced stop p = (j : ℕ) × (j < stop) × (slice_index_or (take (length all - from) (drop from all)) j p ≡ p)
+
+  pub row_placed : (stop : ℕ) → ((d : Place) → from + stop < length places → (slice_index_or places (from + stop) d).element ≡ element → ⊥)
+      → (row : ℕ) (r : Restriction) → row < length rows → slice_index_or rows row r ≡ r → r.element ≡ element
+      → IsPlaced stop (record { element = r.element; row = row })
+  row_placed stop after row r within stands names =
+      let p : Place = record { element = r.element; row = row } in
+      let h = placed.each row r within stands in
+      let k = h.0 in
+      let name = ap (λ (q : Place). q.element) h.2 in
+      by_le {P = IsPlaced stop p} from k
+      (λ ge.
+      by_le {P = IsPlaced stop p} (from + stop) k
+      (λ past.
+      let s = placed.sorted (from + stop) k p past h.1 in
+      let m = rest (from + stop) p (omega arith) (omega (arith, h.1, past)) in
+      absurd (after p (omega (arith, h.1, past)) (omega (arith, s, m, name, names))))
+      (λ before.
+      let e : from + (k - from) ≡ k = omega arith in
+      (k - from, omega arith, part_at places all same from (k - from) p (omega (arith, e, h.1)) ∙ ap (λ (n : ℕ). get_or places n p) e ∙ h.2)))
+      (λ lt. let b = below k p (omega arith) lt in absurd (omega (arith, b, name, names)))
+
 -- how far the places from there on reach
 pub part_within : (all : List Place) (from k : ℕ) → k < length (take (length all - from) (drop from all)) → from + k < length all
 part_within all from k h = let l = simp (length-take, length-drop) at h in omega (arith, l)

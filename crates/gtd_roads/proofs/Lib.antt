@@ -9,3 +9,9 @@ pub mod Rising
 pub mod OneAnswer
 pub mod OpenFacts
 pub mod Decided
+pub mod CutFacts
+pub mod ClosingRowFacts
+pub mod FaultFacts
+pub mod ListedFacts
+pub mod CutBytes
+pub mod CutFile

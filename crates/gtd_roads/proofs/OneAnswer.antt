@@ -50,7 +50,7 @@ head_is x y xs ys e = cc
 tail_is : (x y : Fields) (xs ys : List Fields) → x ∷ xs ≡ y ∷ ys → xs ≡ ys
 tail_is x y xs ys e = cc
 
-one_version : (v w : Version) → header v ≡ header w → v ≡ w
+pub one_version : (v w : Version) → header v ≡ header w → v ≡ w
 one_version version.One version.One e = refl
 one_version version.One version.Two e = cc
 one_version version.Two version.One e = cc
@@ -92,7 +92,7 @@ module _ (one_tree : (text : List ℕ) (e f : Tree) → StandsFor text e → Sta
       ∙ sym g.4)))
       a b p q
 
-  one_row : (v : Version) (row : ℕ) (fields : Fields) (a b : Result Restriction RecordFault) → IsRow v row fields a → IsRow v row fields b → a ≡ b
+  pub one_row : (v : Version) (row : ℕ) (fields : Fields) (a b : Result Restriction RecordFault) → IsRow v row fields a → IsRow v row fields b → a ≡ b
   one_row v row [] a b p q = p ∙ sym q
   one_row v row (c ∷ []) a b p q = p ∙ sym q
   one_row v row (c ∷ d ∷ []) a b p q = p ∙ sym q

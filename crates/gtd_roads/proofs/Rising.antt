@@ -38,12 +38,12 @@ above n m [] a i = absurd i
 above n m (x ∷ xs) a (inl e) = omega (arith, a.0, e)
 above n m (x ∷ xs) a (inr i) = above n m xs a.1 i
 
-to_in : (n : ℕ) (xs : List ℕ) (k : ℕ) → k < length xs → slice_index_or xs k n ≡ n → In n xs
+pub to_in : (n : ℕ) (xs : List ℕ) (k : ℕ) → k < length xs → slice_index_or xs k n ≡ n → In n xs
 to_in n [] k h e = absurd (omega arith)
 to_in n (x ∷ xs) zero h e = inl e
 to_in n (x ∷ xs) (suc k) h e = inr (to_in n xs k (omega arith) e)
 
-from_in : (n : ℕ) (xs : List ℕ) → In n xs → Contains xs n
+pub from_in : (n : ℕ) (xs : List ℕ) → In n xs → Contains xs n
 from_in n [] i = absurd i
 from_in n (x ∷ xs) (inl e) = (0, omega arith, e)
 from_in n (x ∷ xs) (inr i) = let c = from_in n xs i in (suc c.0, (let l = c.1 in omega arith), c.2)

@@ -6,6 +6,9 @@ pub mod Names
 pub mod Reading
 pub mod Table
 pub mod Row
+pub mod Cut
 pub mod File
+pub mod Faults
 pub mod Closing
+pub mod ClosingRows
 pub mod Index

@@ -19,7 +19,7 @@ use std::alloc::Global;
 const ROW_LIMIT: u32 = 65_536;
 
 // The version whose header a row is.
-fn version_of(row: &ByteRecord) -> Option<Version>
+pub(crate) fn version_of(row: &ByteRecord) -> Option<Version>
     ensures { MatchOption result ((v : Version) → fields_of row.now ≢ header v) (λ v. fields_of row.now ≡ header v) }
 {
     let Some(columns) = four_columns(row) else {

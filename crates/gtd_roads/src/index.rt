@@ -5,6 +5,7 @@ ghost use Rattle.std.specs.List.{AllWithin};
 ghost use Rattle.std.specs.List.Sorted.{IsNonDecreasingBy, IsStrictlyIncreasing};
 ghost use Rattle.gtd_recur.specs.Membership.{IsHorizonSecond};
 ghost use Rattle.gtd_roads.specs.Closing.{AreElements, IsClosed};
+ghost use Rattle.gtd_roads.specs.ClosingRows.{AreClosingRows};
 ghost use Rattle.gtd_roads.specs.Index.{AreClosing, ArePlaces};
 ghost use Rattle.gtd_roads.specs.Vehicles.{IsAscending};
 
@@ -90,6 +91,15 @@ pub(crate) fn places_below(places: &[Place], element: u64) -> usize
     places.partition_point(|place| place.element < element)
 }
 
+// The same numbers, ascending and each once.
+fn in_order(mut numbers: Vec<usize>) -> Vec<usize>
+    ensures { IsAscending numbers.items result.items }
+{
+    numbers.sort_unstable();
+    numbers.dedup();
+    numbers
+}
+
 impl Records {
     // The records of rows, in their order.
     pub(crate) fn new(alloc: Global, rows: Vec<Record>) -> Result<Records, AllocError>
@@ -135,6 +145,35 @@ impl Records {
             }
         }
         false
+    }
+
+    /// The numbers of the rows, from 1, that close the element in the direction for the vehicle type, which is from 1 to
+    /// 99, at the second, which is on a day that a horizon may have: ascending. `AllocError` is answered only where
+    /// memory was refused.
+    pub fn closing_rows(
+        &self,
+        alloc: Global,
+        element: u64,
+        direction: Direction,
+        vehicle: u8,
+        second: Sec,
+    ) -> Result<Vec<usize>, AllocError>
+        requires in_range { IsHorizonSecond second.0 }
+        ensures rows { IfOk result
+            (λ rows. AreClosingRows self.now element direction vehicle second.0 rows.items) }
+    {
+        let from = places_below(self.places.as_slice(), element);
+        let mut rows = Vec::new(alloc);
+        for place in &self.places[from..] {
+            if place.element != element {
+                return Ok(in_order(rows));
+            }
+            let restriction = &self.rows[place.row];
+            if restriction.closes(direction, vehicle, second) {
+                rows.push(place.row + 1)?;
+            }
+        }
+        Ok(in_order(rows))
     }
 
     // The cursors of the records that close the element in the direction for the vehicle type.

@@ -9,6 +9,7 @@
 pub use column::{read_direction, read_number};
 pub use direction::{Closed, Direction};
 pub use fault::RecordFault;
+pub use faults::read_faults;
 pub use gtd_devices::{Host, HostOut, Input, MemoryIn, MemoryOut, Output, Pull, Put};
 pub use index::Records;
 pub use reading::read_records;
@@ -19,6 +20,7 @@ pub use vehicles::{Codes, Vehicles};
 mod column;
 mod direction;
 mod fault;
+mod faults;
 mod file;
 mod index;
 pub mod laws;

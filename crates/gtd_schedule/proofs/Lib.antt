@@ -4,3 +4,4 @@ pub mod SpanFacts
 pub mod ScheduleFacts
 pub mod ShortLines
 pub mod SomeSchedule
+pub mod SplitFacts

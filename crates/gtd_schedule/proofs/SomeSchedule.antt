@@ -53,7 +53,7 @@ tree_list (Joined op left right) horizon =
     (combine op a.0 b.0, combine-normal-for op (InTree left) (InTree right) (whole horizon).from (whole horizon).until a.0 b.0 a.1 b.1)
 
 -- two sets of the same seconds have the same one
-same_normal : (P Q : ℤ → Type 0) (horizon : Horizon) (xs : List Interval) → ((t : ℤ) → P t ↔ Q t) → IsNormalOver P horizon xs → IsNormalOver Q horizon xs
+pub same_normal : (P Q : ℤ → Type 0) (horizon : Horizon) (xs : List Interval) → ((t : ℤ) → P t ↔ Q t) → IsNormalOver P horizon xs → IsNormalOver Q horizon xs
 same_normal P Q horizon xs same n =
     normal-for Q (whole horizon).from (whole horizon).until xs (normal-of P (whole horizon).from (whole horizon).until xs n)
     (λ t. (
@@ -98,10 +98,10 @@ same_number a b = elim (eqb_tells a b) [ inl s ↦ inl s.1 | inr d ↦ inr d.1 ]
 
 -- ---- some of the restrictions
 
-any_first : (P : Restriction → Type 0) (r : Restriction) (rs : List Restriction) → P r → Any P (r ∷ rs)
+pub any_first : (P : Restriction → Type 0) (r : Restriction) (rs : List Restriction) → P r → Any P (r ∷ rs)
 any_first P r rs p = (0, r, omega arith, refl, p)
 
-any_later : (P : Restriction → Type 0) (r : Restriction) (rs : List Restriction) → Any P rs → Any P (r ∷ rs)
+pub any_later : (P : Restriction → Type 0) (r : Restriction) (rs : List Restriction) → Any P rs → Any P (r ∷ rs)
 any_later P r rs a = (suc a.0, a.1, (let l = a.2 in omega arith), a.3, a.4)
 
 any_at : (P : Restriction → Type 0) (r : Restriction) (rs : List Restriction) (k : ℕ) (s : Restriction)
@@ -109,10 +109,10 @@ any_at : (P : Restriction → Type 0) (r : Restriction) (rs : List Restriction) 
 any_at P r rs zero s h is p = inl (subst P (sym is) p)
 any_at P r rs (suc k) s h is p = inr (k, s, omega arith, is, p)
 
-any_split : (P : Restriction → Type 0) (r : Restriction) (rs : List Restriction) → Any P (r ∷ rs) → P r ⊎ Any P rs
+pub any_split : (P : Restriction → Type 0) (r : Restriction) (rs : List Restriction) → Any P (r ∷ rs) → P r ⊎ Any P rs
 any_split P r rs a = any_at P r rs a.0 a.1 a.2 a.3 a.4
 
-any_none : (P : Restriction → Type 0) → Any P [] → ⊥
+pub any_none : (P : Restriction → Type 0) → Any P [] → ⊥
 any_none P a = let l = a.2 in omega arith
 
 -- ---- the lines
@@ -244,22 +244,22 @@ all_less : (n : ℕ) (xs : List ℕ) → AllAbove n xs → AllByRecursion (λ y.
 all_less n [] a = tt
 all_less n (x ∷ xs) a = (less n x a.0, all_less n xs a.1)
 
-sorted : (xs : List ℕ) → Rises xs → IsStrictlySortedBy nat_cmp xs
+pub sorted : (xs : List ℕ) → Rises xs → IsStrictlySortedBy nat_cmp xs
 unfolding IsStrictlySortedBy
 sorted [] r = tt
 sorted (x ∷ xs) r = (all_less x xs r.0, sorted xs r.1)
 
-to_in : (n : ℕ) (xs : List ℕ) (k : ℕ) → k < length xs → slice_index_or xs k n ≡ n → In n xs
+pub to_in : (n : ℕ) (xs : List ℕ) (k : ℕ) → k < length xs → slice_index_or xs k n ≡ n → In n xs
 to_in n [] k h e = absurd (omega arith)
 to_in n (x ∷ xs) zero h e = inl e
 to_in n (x ∷ xs) (suc k) h e = inr (to_in n xs k (omega arith) e)
 
-from_in : (n : ℕ) (xs : List ℕ) → In n xs → Contains xs n
+pub from_in : (n : ℕ) (xs : List ℕ) → In n xs → Contains xs n
 from_in n [] i = absurd i
 from_in n (x ∷ xs) (inl e) = (0, omega arith, e)
 from_in n (x ∷ xs) (inr i) = let c = from_in n xs i in (suc c.0, (let l = c.1 in omega arith), c.2)
 
-some_elements : (found : List Restriction) → (elements : List ℕ) × AreElements found elements
+pub some_elements : (found : List Restriction) → (elements : List ℕ) × AreElements found elements
 some_elements found =
     let k = numbers found in (
       k.0,

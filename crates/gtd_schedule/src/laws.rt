@@ -1,12 +1,13 @@
 //! Laws of the definitions: calls that do nothing, and whose contracts are what is proved.
 
-ghost use Rattle.std.specs.Prelude.{◌≡◌, ◌≤◌, ℕ, List, Ok, length};
+ghost use Rattle.std.specs.Prelude.{◌≡◌, ◌≤◌, ◌++◌, ◌∷◌, ℕ, List, Ok, length};
 ghost use Rattle.std.specs.List.{All};
 ghost use Rattle.gtd_core.specs.declared.horizon.Horizon.{Horizon};
 ghost use Rattle.gtd_roads.specs.File.{IsFile};
 ghost use Rattle.gtd_roads.specs.Restriction.{Restriction};
 ghost use Rattle.gtd_runs.specs.Subjects.{IsVehicleType};
-ghost use Rattle.gtd_schedule.specs.Schedule.{IsSchedule};
+ghost use Rattle.gtd_schedule.specs.Schedule.{IsSchedule, header_line};
+ghost use Rattle.gtd_schedule.specs.Split.{below, not_below};
 
 /// Restrictions have one schedule at most, for a vehicle type and over a horizon.
 pub fn one_schedule()
@@ -25,4 +26,13 @@ pub fn short_lines()
     ensures short { (bytes : List ℕ) (found : List Restriction) (vehicle : ℕ) (horizon : Horizon)
         (lines : List (List ℕ)) → IsFile bytes (Ok found) → IsVehicleType vehicle
         → IsSchedule found vehicle horizon lines → All (λ line. length line ≤ 63) lines }
+{}
+
+/// Schedules of ascending ranges of elements, one after the other, are one schedule: that of the restrictions of elements
+/// below a number, and the lines of that of the others, are the schedule of all.
+pub fn schedule_in_parts()
+    ensures parts { (found : List Restriction) (vehicle : ℕ) (horizon : Horizon) (k : ℕ) (a b : List (List ℕ)) →
+        IsSchedule (below k found) vehicle horizon (header_line ∷ a)
+        → IsSchedule (not_below k found) vehicle horizon (header_line ∷ b)
+        → IsSchedule found vehicle horizon (header_line ∷ (a ++ b)) }
 {}

@@ -1,0 +1,4 @@
+pub mod DayFacts
+pub mod LineFacts
+pub mod NowFacts
+pub mod SomeNow

@@ -1,0 +1,124 @@
+-- What is said of a moment is one text, in parts.
+use Rattle.std.proofs.Common.{◌≡◌, ◌∙◌, sym, ap, refl, subst, arith, ◌<◌, ◌≤◌, ◌+◌, ◌⊎◌, inl, inr, ◌↔◌, ℕ, Bool, true, false, List, [], ◌∷◌, ◌++◌, length, Option, Some, None}
+use Rattle.std.specs.Prelude.{ℤ, pos, ◌+ℤ◌, ◌*ℤ◌, ◌≤ℤ◌, ◌<ℤ◌, IsTrue, MatchOption}
+use Rattle.std.proofs.lemmas.Int.{ints, by_lt_z}
+use Rattle.gtd_core.specs.Days.{day_of_second}
+use Rattle.gtd_roads.proofs.Rising.{one_list}
+use Rattle.gtd_roads.specs.Closing.{AreElements, IsOpen}
+use Rattle.gtd_roads.specs.ClosingRows.{AreClosingRows}
+use Rattle.gtd_roads.specs.Restriction.{Restriction}
+use Rattle.gtd_roads.specs.declared.direction.Direction.{Direction}
+use Rattle.gtd_roads.specs.declared.direction.Direction.TheVariants.{Positive, Negative}
+use Rattle.gtd_schedule.proofs.ScheduleFacts.{one_elements}
+use Rattle.gtd_schedule.proofs.TextFacts.{Then, IsOne}
+use Rattle.gtd_now.specs.Now.{AreElementLines, AreLines, AreLinesOf, IsLine, IsLookEnd, IsNow, header_line, state_line}
+use Rattle.gtd_spans.specs.Change.{IsNextChange, NeverChanges}
+
+-- ---- one line
+
+one_state : (A : Type 0) (a b : Bool) → IsTrue a ↔ A → IsTrue b ↔ A → a ≡ b
+one_state A true true p q = refl
+one_state A true false p q = absurd (let h = q.1 (p.0 refl) in cc)
+one_state A false true p q = absurd (let h = p.1 (q.0 refl) in cc)
+one_state A false false p q = refl
+
+one_last : (day a b : ℤ) → IsLookEnd day a → IsLookEnd day b → a ≡ b
+one_last day a b (inl p) (inl q) = omega (arith, ints, p.0, q.0)
+one_last day a b (inl p) (inr q) = absurd (omega (arith, ints, p.0, p.1, q.1))
+one_last day a b (inr p) (inl q) = absurd (omega (arith, ints, q.0, q.1, p.1))
+one_last day a b (inr p) (inr q) = omega (arith, ints, p.0, q.0)
+
+one_change : (set : ℤ → Type 0) (s until : ℤ) (a b : Option ℤ)
+    → MatchOption a (NeverChanges set s until) (λ c. IsNextChange set s until c)
+    → MatchOption b (NeverChanges set s until) (λ c. IsNextChange set s until c) → a ≡ b
+one_change set s until None None p q = refl
+one_change set s until None (Some d) p q = absurd (q.differs (p d q.later q.within))
+one_change set s until (Some c) None p q = absurd (p.differs (q c p.later p.within))
+one_change set s until (Some c) (Some d) p q =
+    by_lt_z c d
+    (λ lt. absurd (p.differs (q.least c p.later lt)))
+    (λ ge. by_lt_z d c
+    (λ lt. absurd (q.differs (p.least d q.later lt)))
+    (λ le. let e : c ≡ d = omega (arith, ints, ge, le) in ap (λ (x : ℤ). Some x) e))
+
+one_rows : (found : List Restriction) (element : ℕ) (direction : Direction) (vehicle : ℕ) (second : ℤ) (a b : List ℕ)
+    → AreClosingRows found element direction vehicle second a → AreClosingRows found element direction vehicle second b → a ≡ b
+one_rows found element direction vehicle second a b p q =
+    one_list a b p.ascending q.ascending (λ n h. (q.each n).1 ((p.each n).0 h)) (λ n h. (p.each n).1 ((q.each n).0 h))
+
+module _ (found : List Restriction) (vehicle : ℕ) (second : ℤ) where
+  one_line : (element : ℕ) (direction : Direction) (a b : List ℕ) → IsLine found vehicle second element direction a → IsLine found vehicle second element direction b → a ≡ b
+  one_line element direction a b p q =
+      let set = IsOpen found element direction vehicle in
+      let state = one_state (set second) p.is_open q.is_open p.state q.state in
+      let last = one_last (day_of_second second) p.last q.last p.ends q.ends in
+      let change = one_change set second (p.last *ℤ pos 86400) p.change q.change p.until
+      (subst (λ (l : ℤ). MatchOption q.change (NeverChanges set second (l *ℤ pos 86400)) (λ c. IsNextChange set second (l *ℤ pos 86400) c)) (sym last) q.until) in
+      let rows = one_rows found element direction vehicle second p.rows q.rows p.closing q.closing in
+      p.whole
+      ∙ ap (λ (x : Bool). state_line element direction vehicle x p.change p.rows) state
+      ∙ ap (λ (x : Option ℤ). state_line element direction vehicle q.is_open x p.rows) change
+      ∙ ap (λ (x : List ℕ). state_line element direction vehicle q.is_open q.change x) rows
+      ∙ sym q.whole
+
+  -- an element has one list of lines in a direction
+  pub one_lines : (element : ℕ) (direction : Direction) → IsOne (AreLines found vehicle second element direction)
+  one_lines element direction a b p q =
+      p.each ∙ ap (λ (l : List ℕ). l ∷ []) (one_line element direction p.line q.line p.is_line q.is_line) ∙ sym q.each
+
+  -- an element has one list of lines
+  pub one_element_lines : (element : ℕ) → IsOne (AreElementLines found vehicle second element)
+  one_element_lines element a b p q =
+      let x = one_lines element Positive p.positive q.positive p.are_positive q.are_positive in
+      let y = one_lines element Negative p.negative q.negative p.are_negative q.are_negative in
+      p.both ∙ rw (x, y) refl ∙ sym q.both
+
+  -- so have elements
+  pub one_lines_of : (elements : List ℕ) → IsOne (AreLinesOf found vehicle second elements)
+  one_lines_of [] a b p q = p ∙ sym q
+  one_lines_of (e ∷ elements) a b p q =
+      let x = one_element_lines e p.0 q.0 p.2 q.2 in
+      let y = one_lines_of elements p.1 q.1 p.3 q.3 in
+      p.4 ∙ rw (x, y) refl ∙ sym q.4
+
+  -- restrictions have one text
+  pub one_now : IsOne (IsNow found vehicle second)
+  one_now a b p q =
+      let e = one_elements found p.elements q.elements p.named q.named in
+      let r = one_lines_of q.elements p.rest q.rest (subst (λ (l : List ℕ). AreLinesOf found vehicle second l p.rest) e p.each) q.each in
+      p.whole ∙ ap (λ (l : List (List ℕ)). header_line ∷ l) r ∙ sym q.whole
+
+  -- the lines of an element are those of one direction and then of the other
+  pub element_lines : (element : ℕ) (lines : List (List ℕ))
+      → Then (AreLines found vehicle second element Positive) (AreLines found vehicle second element Negative) lines
+      → AreElementLines found vehicle second element lines
+  element_lines element lines parts =
+      record { positive = parts.0; negative = parts.1; are_positive = parts.2; are_negative = parts.3; both = parts.4 }
+
+  pub element_parts : (element : ℕ) (lines : List (List ℕ)) → AreElementLines found vehicle second element lines
+      → Then (AreLines found vehicle second element Positive) (AreLines found vehicle second element Negative) lines
+  element_parts element lines are = (are.positive, are.negative, are.are_positive, are.are_negative, are.both)
+
+  -- the header alone
+  abbrev pub IsHeader : List (List ℕ) → Type 0
+  IsHeader lines = lines ≡ header_line ∷ []
+
+  pub one_header : IsOne IsHeader
+  one_header a b p q = p ∙ sym q
+
+  -- what is said is the header and then the lines of the elements
+  pub now_lines : (elements : List ℕ) → AreElements found elements → (lines : List (List ℕ))
+      → Then IsHeader (AreLinesOf found vehicle second elements) lines → IsNow found vehicle second lines
+  now_lines elements named lines parts = record {
+    elements = elements;
+    named = named;
+    rest = parts.1;
+    each = parts.3;
+    whole = parts.4 ∙ ap (λ (l : List (List ℕ)). l ++ parts.1) parts.2;
+  }
+
+  pub now_parts : (elements : List ℕ) → AreElements found elements → (lines : List (List ℕ))
+      → IsNow found vehicle second lines → Then IsHeader (AreLinesOf found vehicle second elements) lines
+  now_parts elements named lines is =
+      let e = one_elements found is.elements elements is.named named in
+      (header_line ∷ [], is.rest, refl, subst (λ (l : List ℕ). AreLinesOf found vehicle second l is.rest) e is.each, is.whole)

@@ -1,0 +1,213 @@
+-- Restrictions have a text of each moment.
+use Rattle.std.proofs.Common.{◌≡◌, ◌∙◌, sym, refl, subst, arith, ◌<◌, ◌≤◌, ◌+◌, ◌⊎◌, inl, inr, ◌↔◌, ℕ, zero, suc, Bool, true, false, List, [], ◌∷◌, ◌++◌, length, Option, Some, None}
+use Rattle.std.specs.Prelude.{ℤ, pos, ◌+ℤ◌, ◌-ℤ◌, ◌*ℤ◌, negsuc, ◌≤ℤ◌, ◌<ℤ◌, IsTrue, MatchOption, slice_index_or}
+use Rattle.std.proofs.lemmas.Int.{ints, by_lt_z}
+use Rattle.std.proofs.lemmas.Map.Keys.{IsStrictlyIncreasing-from_sorted}
+use Rattle.gtd_core.specs.Days.{day_of_second}
+use Rattle.gtd_recur.specs.Membership.{IsHorizonSecond}
+use Rattle.gtd_now.proofs.DayFacts.{looks_at}
+use Rattle.gtd_recur.proofs.Decided.{Decided}
+use Rattle.gtd_roads.proofs.Decided.{closes, open_or_not}
+use Rattle.gtd_roads.proofs.Rising.{AllAbove, In, Rises, from_in, to_in}
+use Rattle.gtd_roads.specs.Closing.{Closes, IsOpen}
+use Rattle.gtd_roads.specs.ClosingRows.{AreClosingRows, IsClosingRow}
+use Rattle.gtd_roads.specs.Restriction.{Restriction}
+use Rattle.gtd_roads.specs.declared.direction.Direction.{Direction}
+use Rattle.gtd_roads.specs.declared.direction.Direction.TheVariants.{Positive, Negative}
+use Rattle.gtd_schedule.proofs.SomeSchedule.{some_elements, sorted}
+use Rattle.gtd_spans.specs.Change.{IsNextChange, NeverChanges, SameAt}
+use Rattle.gtd_now.proofs.LineFacts.{open_by_rows}
+use Rattle.gtd_now.specs.Lines.{none_closes}
+use Rattle.gtd_now.specs.Now.{AreElementLines, AreLines, AreLinesOf, IsLine, IsLookEnd, IsNow, header_line, state_line}
+
+-- ---- the end
+
+some_end : (day : ℤ) → (last : ℤ) × IsLookEnd day last
+some_end day =
+    by_lt_z {P = (last : ℤ) × IsLookEnd day last} (pos 266627) (day +ℤ pos 146098)
+    (λ lt. (pos 266627, inr (refl, lt)))
+    (λ ge. (day +ℤ pos 146098, inl (refl, ge)))
+
+-- ---- the change
+
+module _ (set : ℤ → Type 0) (decided : (t : ℤ) → Decided (set t)) (s : ℤ) where
+  same : (t : ℤ) → Decided (SameAt set s t)
+  same t =
+      elim (decided s) [
+        | inl a ↦ elim (decided t) [ inl b ↦ inl ((λ h. b), (λ h. a)) | inr b ↦ inr (λ h. b (h.0 a)) ]
+        | inr a ↦ elim (decided t) [ inl b ↦ inr (λ h. a (h.1 b)) | inr b ↦ inl ((λ h. absurd (a h)), (λ h. absurd (b h))) ]
+      ]
+
+  abbrev Found : ℤ → ℕ → Type 0
+  Found t n = ((u : ℤ) → t ≤ℤ u → u <ℤ (t +ℤ pos n) → SameAt set s u)
+      ⊎ ((c : ℤ) × (t ≤ℤ c) × (c <ℤ (t +ℤ pos n)) × (SameAt set s c → ⊥) × ((u : ℤ) → t ≤ℤ u → u <ℤ c → SameAt set s u))
+
+  look : (n : ℕ) (t : ℤ) → Found t n
+  look zero t = inl (λ u low high. absurd (omega (arith, ints, low, high)))
+  look (suc n) t =
+      elim (same t) [
+        | inr differs ↦ inr (t, omega (arith, ints), omega (arith, ints), differs, (λ u low high. absurd (omega (arith, ints, low, high))))
+        | inl h ↦ elim (look n (t +ℤ pos 1)) [
+          | inl all ↦ inl (λ u low high. first t u h (λ k. all u k (omega (arith, ints, high))) low)
+          | inr r ↦ inr (r.0, omega (arith, ints, r.1), omega (arith, ints, r.2), r.3, (λ u low high. first t u h (λ k. r.4 u k high) low))
+        ]
+      ]
+    where
+      first : (t u : ℤ) → SameAt set s t → ((t +ℤ pos 1) ≤ℤ u → SameAt set s u) → t ≤ℤ u → SameAt set s u
+      first t u h more low =
+          by_lt_z {P = SameAt set s u} t u (λ lt. more (omega (arith, ints, lt)))
+          (λ ge. let e : t ≡ u = omega (arith, ints, ge, low) in subst (λ (z : ℤ). SameAt set s z) e h)
+
+  some_change : (until : ℤ) (n : ℕ) → (s +ℤ pos (n + 1)) ≡ until
+      → (o : Option ℤ) × MatchOption o (NeverChanges set s until) (λ c. IsNextChange set s until c)
+  some_change until n e =
+      elim (look n (s +ℤ pos 1)) [
+        | inl all ↦ (None, (λ t later early. all t (omega (arith, ints, later)) (omega (arith, ints, e, early))))
+        | inr r ↦ (
+          Some r.0,
+          record {
+            later = omega (arith, ints, r.1);
+            within = omega (arith, ints, r.2, e);
+            differs = r.3;
+            least = λ t later early. r.4 t (omega (arith, ints, later)) early;
+          },
+        )
+      ]
+
+-- ---- the rows
+
+module _ (found : List Restriction) (element : ℕ) (direction : Direction) (vehicle : ℕ) (second : ℤ) where
+  -- one of these restrictions closes it, where k stand before them
+  record ClosingFrom (k : ℕ) (rows : List Restriction) (n : ℕ) : Type 0 where
+    at : ℕ
+    is : n ≡ k + at + 1
+    within : at < length rows
+    row : Restriction
+    stands : slice_index_or rows at row ≡ row
+    closed : Closes element direction vehicle second row
+
+  record Numbers (k : ℕ) (rows : List Restriction) : Type 0 where
+    numbers : List ℕ
+    rising : Rises numbers
+    above : AllAbove k numbers
+    each : (n : ℕ) → In n numbers ↔ ClosingFrom k rows n
+
+  lower : (n : ℕ) (xs : List ℕ) → AllAbove (n + 1) xs → AllAbove n xs
+  lower n [] a = tt
+  lower n (y ∷ ys) a = ((let l = a.0 in omega arith), lower n ys a.1)
+
+  after : (k : ℕ) (r : Restriction) (rows : List Restriction) (n : ℕ) → ClosingFrom (k + 1) rows n → ClosingFrom k (r ∷ rows) n
+  after k r rows n c = record {
+    at = suc c.at;
+    is = (let e = c.is in omega arith);
+    within = (let l = c.within in omega arith);
+    row = c.row;
+    stands = c.stands;
+    closed = c.closed;
+  }
+
+  by_place : (P : Type 0) (k : ℕ) (r : Restriction) (rows : List Restriction) (n at : ℕ) (row : Restriction) → n ≡ k + at + 1 → at < length (r ∷ rows)
+      → slice_index_or (r ∷ rows) at row ≡ row → Closes element direction vehicle second row
+      → (n ≡ k + 1 → Closes element direction vehicle second r → P) → (ClosingFrom (k + 1) rows n → P) → P
+  by_place P k r rows n zero row e lt stands closed first more =
+      first (omega arith) (subst (Closes element direction vehicle second) (sym stands) closed)
+  by_place P k r rows n (suc at) row e lt stands closed first more =
+      more (record { at = at; is = omega arith; within = omega arith; row = row; stands = stands; closed = closed })
+
+  numbers_of : (k : ℕ) (rows : List Restriction) → Numbers k rows
+  numbers_of k [] = record { numbers = []; rising = tt; above = tt; each = λ n. ((λ h. absurd h), (λ c. let l = c.within in absurd (omega arith))) }
+  numbers_of k (r ∷ rows) =
+      let more = numbers_of (k + 1) rows in
+      elim (closes found element direction vehicle second r) [
+        | inl does ↦ record {
+          numbers = (k + 1) ∷ more.numbers;
+          rising = (more.above, more.rising);
+          above = (omega arith, lower k more.numbers more.above);
+          each = λ n. (
+            (λ h. elim h [
+              | inl e ↦ record { at = 0; is = omega (arith, e); within = omega arith; row = r; stands = refl; closed = does }
+              | inr i ↦ after k r rows n ((more.each n).0 i)
+            ]),
+            (λ c. by_place (In n ((k + 1) ∷ more.numbers)) k r rows n c.at c.row c.is c.within c.stands c.closed (λ e h. inl (sym e)) (λ d. inr ((more.each n).1 d))),
+          );
+        }
+        | inr never ↦ record {
+          numbers = more.numbers;
+          rising = more.rising;
+          above = lower k more.numbers more.above;
+          each = λ n. (
+            (λ h. after k r rows n ((more.each n).0 h)),
+            (λ c. by_place (In n more.numbers) k r rows n c.at c.row c.is c.within c.stands c.closed (λ e h. absurd (never h)) (λ d. (more.each n).1 d)),
+          );
+        }
+      ]
+
+  some_rows : (rows : List ℕ) × AreClosingRows found element direction vehicle second rows
+  some_rows =
+      let r = numbers_of 0 found in (
+        r.numbers,
+        record {
+          ascending = IsStrictlyIncreasing-from_sorted r.numbers (sorted r.numbers r.rising);
+          each = λ n. (
+            (λ c.
+                let f = (r.each n).0 (to_in n r.numbers c.0 c.1 c.2) in
+                let e = f.is in
+                record { before = f.at; is = omega arith; within = f.within; row = f.row; stands = f.stands; closes = f.closed }),
+            (λ f.
+                let e = f.is in
+                from_in n r.numbers ((r.each n).1 (record { at = f.before; is = omega arith; within = f.within; row = f.row; stands = f.stands; closed = f.closes }))),
+          );
+        },
+      )
+
+-- ---- the lines
+
+gap : (s until : ℤ) → s <ℤ until → (n : ℕ) × ((s +ℤ pos (n + 1)) ≡ until)
+gap s until lt = by_sign ((until -ℤ s) -ℤ pos 1) refl
+  where
+    by_sign : (d : ℤ) → ((until -ℤ s) -ℤ pos 1) ≡ d → (n : ℕ) × ((s +ℤ pos (n + 1)) ≡ until)
+    by_sign (pos n) e = (n, omega (arith, ints, e))
+    by_sign (negsuc n) e = absurd (omega (arith, ints, e, lt))
+
+module _ (found : List Restriction) (vehicle : ℕ) (second : ℤ) (range : IsHorizonSecond second) where
+  some_line : (element : ℕ) (direction : Direction) → (lines : List (List ℕ)) × AreLines found vehicle second element direction lines
+  some_line element direction =
+      let e = some_end (day_of_second second) in
+      let g = gap second (e.0 *ℤ pos 86400) (looks_at second (day_of_second second) e.0 range refl e.1).1 in
+      let c = some_change (IsOpen found element direction vehicle) (open_or_not found element direction vehicle) second (e.0 *ℤ pos 86400) g.0 g.1 in
+      let r = some_rows found element direction vehicle second in
+      let line = state_line element direction vehicle (none_closes r.0) c.0 r.0 in (
+        line ∷ [],
+        record {
+          line = line;
+          is_line = record {
+            is_open = none_closes r.0;
+            state = open_by_rows found element direction vehicle second r.0 r.1;
+            last = e.0;
+            ends = e.1;
+            change = c.0;
+            until = c.1;
+            rows = r.0;
+            closing = r.1;
+            whole = refl;
+          };
+          each = refl;
+        },
+      )
+
+  some_lines_of : (elements : List ℕ) → (lines : List (List ℕ)) × AreLinesOf found vehicle second elements lines
+  some_lines_of [] = ([], refl)
+  some_lines_of (e ∷ elements) =
+      let p = some_line e Positive in
+      let n = some_line e Negative in
+      let more = some_lines_of elements in
+      let one : AreElementLines found vehicle second e (p.0 ++ n.0) =
+      record { positive = p.0; negative = n.0; are_positive = p.1; are_negative = n.1; both = refl } in
+      ((p.0 ++ n.0) ++ more.0, (p.0 ++ n.0, more.0, one, more.1, refl))
+
+-- there is a text
+pub some_now : (found : List Restriction) (vehicle : ℕ) (second : ℤ) → IsHorizonSecond second → (lines : List (List ℕ)) × IsNow found vehicle second lines
+some_now found vehicle second range =
+    let e = some_elements found in
+    let l = some_lines_of found vehicle second range e.0 in
+    (header_line ∷ l.0, record { elements = e.0; named = e.1; rest = l.0; each = l.1; whole = refl })

@@ -1,0 +1,74 @@
+use Rattle.std.proofs.Common.{refl, arith, [], ◌∷◌}
+use Rattle.std.specs.Prelude.{Ok, Err}
+use Rattle.std.proofs.lemmas.Result.{err_from_is_err_and}
+use Rattle.gtd_runs.proofs.PutFacts.{one_put, one_short, puts_cut}
+use Rattle.gtd_runs.specs.Putting.{PutsText}
+use Rattle.gtd_now.specs.Now.{AreLinesOf, IsNow, header_line}
+use Rattle.gtd_schedule.proofs.ScheduleFacts.{few_elements}
+use Rattle.gtd_now.proofs.NowFacts.{IsHeader, one_header, one_now, now_lines, now_parts}
+use Rattle.gtd_schedule.proofs.TextFacts.{Then, texts_as, texts_ended, texts_then}
+use Rattle.gtd_now.proofs.now.put_now.Goals as goal
+
+pub returns-in_err-put_line-clause-puts : goal.returns-in_err-put_line-clause-puts
+returns-in_err-put_line-clause-puts g c =
+    let p = err_from_is_err_and c.from_residual.result c.from_residual.ensures.1 in
+    let a = g.O.Output.taken c.args.output.now in
+    let b = g.O.Output.taken c.put_line.new.output in
+    let e = c.in_err-put_line.ensures in
+    let before = c.args.progress.now in
+    let after = c.put_line.new.progress in
+    let short = one_short p.0 header_line c.in_err-put_line.field-0.0.taken a b before after e.some.0 e.some.1 e.progress in
+    rw (p.1) (λ lines schedule. rw (schedule.whole) (puts_cut p.0 a b before after (header_line ∷ []) schedule.rest short))
+
+pub put_elements-requires-clause-few : goal.put_elements-requires-clause-few
+put_elements-requires-clause-few g c =
+    let few = few_elements c.args.found.now c.elements.result.now c.elements.ensures.named in
+    omega (arith, few, c.requires.few)
+
+pub returns-in_err-put_elements-clause-puts : goal.returns-in_err-put_elements-clause-puts
+returns-in_err-put_elements-clause-puts g c =
+    let p = err_from_is_err_and c.from_residual-in_err-put_elements.result c.from_residual-in_err-put_elements.ensures.1 in
+    let found = c.args.found.now in
+    let vehicle = c.args.vehicle in
+    let second = c.args.second.0 in
+    let elements = c.elements.result.now in
+    let named = c.elements.ensures.named in
+    let header = IsHeader found vehicle second in
+    let rest = AreLinesOf found vehicle second elements in
+    let a = g.O.Output.taken c.args.output.now in
+    let b = g.O.Output.taken c.put_line.new.output in
+    let d = g.O.Output.taken c.put_elements.new.output in
+    let e = c.in_ok-put_line.ensures in
+    let before = c.args.progress.now in
+    let now = c.put_line.new.progress in
+    let after = c.put_elements.new.progress in
+    let first : PutsText header (Ok tt) a b before now =
+    (header_line ∷ [], refl, one_put header_line a b before now e.all e.progress) in
+    rw (p.1) (texts_as (Then header rest) (IsNow found vehicle second) (Err p.0) a d before after
+    (now_lines found vehicle second elements named) (now_parts found vehicle second elements named)
+    (texts_then header rest (Err p.0) a b d before now after (one_header found vehicle second) first c.in_err-put_elements.ensures.puts))
+
+pub returns-clause-puts : goal.returns-clause-puts
+returns-clause-puts g c =
+    let found = c.args.found.now in
+    let vehicle = c.args.vehicle in
+    let second = c.args.second.0 in
+    let elements = c.elements.result.now in
+    let named = c.elements.ensures.named in
+    let header = IsHeader found vehicle second in
+    let rest = AreLinesOf found vehicle second elements in
+    let a = g.O.Output.taken c.args.output.now in
+    let b = g.O.Output.taken c.put_line.new.output in
+    let d = g.O.Output.taken c.put_elements.new.output in
+    let f = g.O.Output.taken c.finish.new.output in
+    let e = c.in_ok-put_line.ensures in
+    let before = c.args.progress.now in
+    let now = c.put_line.new.progress in
+    let after = c.put_elements.new.progress in
+    let first : PutsText header (Ok tt) a b before now =
+    (header_line ∷ [], refl, one_put header_line a b before now e.all e.progress) in
+    texts_ended (IsNow found vehicle second) c.finish.result a d f before after (one_now found vehicle second)
+    (texts_as (Then header rest) (IsNow found vehicle second) (Ok tt) a d before after
+    (now_lines found vehicle second elements named) (now_parts found vehicle second elements named)
+    (texts_then header rest (Ok tt) a b d before now after (one_header found vehicle second) first c.in_ok-put_elements.ensures.puts))
+    c.finish.ensures.bytes

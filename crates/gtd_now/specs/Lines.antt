@@ -1,0 +1,24 @@
+-- The parts of the lines, as they are written.
+use Rattle.std.specs.Prelude.{◌++◌, ℕ, ℤ, List, [], ◌∷◌, Bool, true, false, Option, Some, None, codes, decimal}
+use Rattle.gtd_core.specs.declared.second.Sec.{Sec}
+use Rattle.gtd_roads.specs.declared.direction.Direction.{Direction}
+use Rattle.gtd_runs.specs.Words.{direction_word}
+
+-- the element, the direction and the vehicle type, each with its comma
+abbrev pub line_head : ℕ → Direction → ℕ → List ℕ
+line_head element direction vehicle =
+    decimal element ++ codes "," ++ direction_word direction ++ codes "," ++ decimal vehicle ++ codes ","
+
+-- whether no row closes
+abbrev pub none_closes : List ℕ → Bool
+none_closes [] = true
+none_closes (row ∷ rows) = false
+
+-- a moment's second
+abbrev pub second_of : Option Sec → Option ℤ
+second_of None = None
+second_of (Some second) = Some second.0
+
+-- more bytes than a line has
+abbrev pub most_bytes : ℕ
+most_bytes = 2_000_000

@@ -1,0 +1,87 @@
+-- The state of road elements at a moment: whether each is open or closed, until when, and which rows close it. A line has
+-- its end: the LF is its last byte.
+use Rattle.std.specs.Prelude.{◌≡◌, ◌++◌, ◌⊎◌, ℕ, ℤ, pos, ◌+ℤ◌, ◌*ℤ◌, ◌≤ℤ◌, ◌<ℤ◌, ◌↔◌, Bool, true, false, IsTrue, List, [], ◌∷◌, Option, Some, None, MatchOption, flat_map, codes, decimal}
+use Rattle.gtd_calendar.specs.Stamp.{stamp_text}
+use Rattle.gtd_core.specs.Days.{day_of_second}
+use Rattle.gtd_roads.specs.Closing.{AreElements, IsOpen}
+use Rattle.gtd_roads.specs.ClosingRows.{AreClosingRows}
+use Rattle.gtd_roads.specs.Restriction.{Restriction}
+use Rattle.gtd_roads.specs.declared.direction.Direction.{Direction}
+use Rattle.gtd_roads.specs.declared.direction.Direction.TheVariants.{Positive, Negative}
+use Rattle.gtd_runs.specs.Words.{direction_word}
+use Rattle.gtd_spans.specs.Change.{IsNextChange, NeverChanges}
+
+-- the header line
+abbrev pub header_line : List ℕ
+header_line = codes "element,direction,vehicle,state,until,rows\n"
+
+-- the word for a state, by whether it is open
+abbrev pub state_word : Bool → List ℕ
+state_word true = codes "open"
+state_word false = codes "closed"
+
+-- the moment of a change, and nothing where there is none
+abbrev pub change_text : Option ℤ → List ℕ
+change_text None = []
+change_text (Some second) = stamp_text second
+
+-- numbers in their order, with semicolons between them
+abbrev pub rows_text : List ℕ → List ℕ
+rows_text [] = []
+rows_text (row ∷ rest) = decimal row ++ flat_map (λ other. codes ";" ++ decimal other) rest
+
+-- the line of an element in a direction for a vehicle type
+abbrev pub state_line : ℕ → Direction → ℕ → Bool → Option ℤ → List ℕ → List ℕ
+state_line element direction vehicle is_open change rows =
+    decimal element ++ codes "," ++ direction_word direction ++ codes "," ++ decimal vehicle ++ codes ","
+    ++ state_word is_open ++ codes "," ++ change_text change ++ codes "," ++ rows_text rows ++ codes "\n"
+
+-- The day before which a change is looked for: 146,098 days after the moment's, one more than 400 years have, or
+-- 2700-01-01 (day 266,627) where that is earlier.
+abbrev pub IsLookEnd : ℤ → ℤ → Type 0
+IsLookEnd day last =
+    ((last ≡ day +ℤ pos 146098) × (last ≤ℤ pos 266627)) ⊎ ((last ≡ pos 266627) × (pos 266627 <ℤ (day +ℤ pos 146098)))
+
+module _ (found : List Restriction) (vehicle : ℕ) (second : ℤ) where
+  -- What is to be said of an element in a direction: it is open exactly if no restriction closes it; it changes at the
+  -- first later second at which it differs, of those that are looked at; and just these rows close it.
+  pub record IsLine (element : ℕ) (direction : Direction) (line : List ℕ) : Type 0 where
+    pub is_open : Bool
+    pub state : IsTrue is_open ↔ IsOpen found element direction vehicle second
+    pub last : ℤ
+    pub ends : IsLookEnd (day_of_second second) last
+    pub change : Option ℤ
+    pub until : MatchOption change (NeverChanges (IsOpen found element direction vehicle) second (last *ℤ pos 86400))
+        (λ c. IsNextChange (IsOpen found element direction vehicle) second (last *ℤ pos 86400) c)
+    pub rows : List ℕ
+    pub closing : AreClosingRows found element direction vehicle second rows
+    pub whole : line ≡ state_line element direction vehicle is_open change rows
+
+  -- its one line
+  pub record AreLines (element : ℕ) (direction : Direction) (lines : List (List ℕ)) : Type 0 where
+    pub line : List ℕ
+    pub is_line : IsLine element direction line
+    pub each : lines ≡ line ∷ []
+
+  -- The lines of an element, positive before negative.
+  pub record AreElementLines (element : ℕ) (lines : List (List ℕ)) : Type 0 where
+    pub positive : List (List ℕ)
+    pub negative : List (List ℕ)
+    pub are_positive : AreLines element Positive positive
+    pub are_negative : AreLines element Negative negative
+    pub both : lines ≡ positive ++ negative
+
+  -- the lines of the elements, in their order
+  abbrev pub AreLinesOf : List ℕ → List (List ℕ) → Type 0
+  AreLinesOf [] lines = lines ≡ []
+  AreLinesOf (element ∷ elements) lines =
+      (first : List (List ℕ)) × (rest : List (List ℕ))
+      × AreElementLines element first × AreLinesOf elements rest × (lines ≡ first ++ rest)
+
+  -- The header, and the lines of each element that the restrictions name, in ascending order.
+  pub record IsNow (lines : List (List ℕ)) : Type 0 where
+    pub elements : List ℕ
+    pub named : AreElements found elements
+    pub rest : List (List ℕ)
+    pub each : AreLinesOf elements rest
+    pub whole : lines ≡ header_line ∷ rest

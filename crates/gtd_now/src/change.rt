@@ -1,0 +1,86 @@
+//! When the state of an element changes.
+
+ghost use Rattle.std.specs.Prelude.{◌≡◌, ◌*ℤ◌, pos, ℤ, IfOk, MatchOption};
+ghost use Rattle.gtd_core.specs.Days.{day_of_second};
+ghost use Rattle.gtd_core.specs.Interval.{Within};
+ghost use Rattle.gtd_core.specs.Whole.{from_day, to_day, whole};
+ghost use Rattle.gtd_recur.specs.Membership.{IsHorizonSecond};
+ghost use Rattle.gtd_roads.specs.Closing.{IsOpen};
+ghost use Rattle.gtd_spans.specs.Change.{IsNextChange, NeverChanges};
+ghost use Rattle.gtd_now.specs.Now.{IsLookEnd};
+
+use gtd_core::{Horizon, Sec};
+use gtd_roads::{Direction, Records, open_seconds};
+use std::alloc::{AllocError, Global};
+
+/// 2700-01-01.
+const LAST_DAY: i64 = 266_627;
+
+/// The days that are looked at: one more than 400 years have.
+const MOST_DAYS: i64 = 146_098;
+
+// The day before which a change is looked for, from a day on.
+fn look_end(day: i64) -> i64
+    requires { IsHorizonSecond (day *ℤ pos 86400) }
+    ensures { IsLookEnd day result }
+{
+    let last = day + MOST_DAYS;
+    if last <= LAST_DAY { last } else { LAST_DAY }
+}
+
+// The days in which a change is looked for, from that of a second on.
+fn days_from(second: Sec) -> Horizon
+    requires in_range { IsHorizonSecond second.0 }
+    ensures first { from_day result ≡ day_of_second second.0 }
+    ensures last { IsLookEnd (day_of_second second.0) (to_day result) }
+{
+    let day = second.day();
+    match Horizon::new(day, look_end(day)) {
+        Ok(days) => days,
+        Err(_) => unreachable!(),
+    }
+}
+
+// The least later second of the days at which the element is open or closed, other than at the given one.
+fn change_in(
+    alloc: Global,
+    found: &Records,
+    element: u64,
+    direction: Direction,
+    vehicle: u8,
+    second: Sec,
+    days: Horizon,
+) -> Result<Option<Sec>, AllocError>
+    requires inside { Within (whole days) second.0 }
+    ensures change { IfOk result (λ change. MatchOption change
+        (NeverChanges (IsOpen found.now element direction vehicle) second.0 (whole days).until)
+        (λ c. IsNextChange (IsOpen found.now element direction vehicle) second.0 (whole days).until c.0)) }
+{
+    let mut open = open_seconds(alloc, found, element, direction, vehicle, days)?;
+    Ok(gtd_spans::next_change(&mut open, second, days.until()))
+}
+
+// The least later second that is looked at, at which the element is open or closed, other than at the given one.
+pub(crate) fn change_of(
+    alloc: Global,
+    found: &Records,
+    element: u64,
+    direction: Direction,
+    vehicle: u8,
+    second: Sec,
+) -> Result<Option<Sec>, AllocError>
+    requires in_range { IsHorizonSecond second.0 }
+    ensures change { IfOk result (λ change. (last : ℤ) × IsLookEnd (day_of_second second.0) last × MatchOption change
+        (NeverChanges (IsOpen found.now element direction vehicle) second.0 (last *ℤ pos 86400))
+        (λ c. IsNextChange (IsOpen found.now element direction vehicle) second.0 (last *ℤ pos 86400) c.0)) }
+{
+    change_in(
+        alloc,
+        found,
+        element,
+        direction,
+        vehicle,
+        second,
+        days_from(second),
+    )
+}

@@ -1,0 +1,10 @@
+//! The state of the road elements of a record file at a moment: open or closed, until when, and by which rows.
+#![tactic(auto)]
+
+pub use run::run_now;
+
+mod change;
+pub mod laws;
+mod line;
+mod now;
+mod run;

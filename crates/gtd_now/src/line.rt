@@ -1,0 +1,115 @@
+//! The lines of elements at a moment.
+
+ghost use Rattle.std.specs.Prelude.{[], ◌∷◌, ◌≡◌, ◌+◌, ◌*◌, ◌++◌, ◌≤◌, ℤ, ⊤, length, IfOk, OnOk, MatchOption};
+ghost use Rattle.gtd_calendar.specs.Calendar.{IsCalendarDay};
+ghost use Rattle.gtd_core.specs.Days.{day_of_second};
+ghost use Rattle.gtd_recur.specs.Membership.{IsHorizonSecond};
+ghost use Rattle.gtd_now.specs.Lines.{line_head, most_bytes, none_closes, second_of};
+ghost use Rattle.gtd_now.specs.Now.{IsLine, change_text, rows_text, state_line, state_word};
+
+use crate::change::change_of;
+use gtd_calendar::write_stamp;
+use gtd_core::Sec;
+use gtd_roads::{Direction, Records};
+use itoa::Buffer;
+use std::alloc::{AllocError, Global};
+
+// Writes what the line of an element in a direction begins with, in place of what the buffer had.
+fn write_head(
+    line: &mut Vec<u8>,
+    element: u64,
+    direction: Direction,
+    vehicle: u8,
+) -> Result<(), AllocError>
+    ensures head { OnOk result (line.new.items ≡ line_head element direction vehicle) }
+{
+    line.clear();
+    line.extend_from_slice(Buffer::new().format(element).as_bytes())?;
+    line.extend_from_slice(match direction {
+        Direction::Positive => b",positive,".as_slice(),
+        Direction::Negative => b",negative,".as_slice(),
+    })?;
+    line.extend_from_slice(Buffer::new().format(vehicle).as_bytes())?;
+    line.extend_from_slice(b",")
+}
+
+// Writes the state and its comma behind what the buffer has: open where no row closes.
+fn push_state(line: &mut Vec<u8>, rows: &[usize]) -> Result<(), AllocError>
+    ensures state { OnOk result (line.new.items
+        ≡ line.old.items ++ (state_word (none_closes rows.now) ++ (44 ∷ []))) }
+{
+    if rows.is_empty() {
+        line.extend_from_slice(b"open,")
+    } else {
+        line.extend_from_slice(b"closed,")
+    }
+}
+
+// Writes the moment of a change, if there is one, and a comma behind what the buffer has.
+fn push_change(line: &mut Vec<u8>, change: Option<Sec>) -> Result<(), AllocError>
+    requires day { MatchOption change ⊤ (λ c. IsCalendarDay (day_of_second c.0)) }
+    ensures change { OnOk result (line.new.items
+        ≡ line.old.items ++ (change_text (second_of change) ++ (44 ∷ []))) }
+{
+    if let Some(second) = change {
+        line.extend_from_slice(&write_stamp(second))?;
+    }
+    line.extend_from_slice(b",")
+}
+
+// Writes numbers in their order, with semicolons between them, behind what the buffer has.
+fn push_rows(line: &mut Vec<u8>, rows: &[usize]) -> Result<(), AllocError>
+    ensures text { OnOk result (line.new.items ≡ line.old.items ++ rows_text rows.now) }
+    ensures short { OnOk result (length line.new.items ≤ length line.old.items + 21 * length rows.now) }
+{
+    let Some((first, rest)) = rows.split_first() else {
+        return Ok(());
+    };
+    line.extend_from_slice(Buffer::new().format(*first).as_bytes())?;
+    for row in rest {
+        line.extend_from_slice(b";")?;
+        line.extend_from_slice(Buffer::new().format(*row).as_bytes())?;
+    }
+    Ok(())
+}
+
+// Writes a line, in place of what the buffer had.
+fn write_state(
+    line: &mut Vec<u8>,
+    element: u64,
+    direction: Direction,
+    vehicle: u8,
+    change: Option<Sec>,
+    rows: &[usize],
+) -> Result<(), AllocError>
+    requires day { MatchOption change ⊤ (λ c. IsCalendarDay (day_of_second c.0)) }
+    ensures line { OnOk result (line.new.items
+        ≡ state_line element direction vehicle (none_closes rows.now) (second_of change) rows.now) }
+    ensures short { OnOk result (length line.new.items ≤ 100 + 21 * length rows.now) }
+{
+    write_head(line, element, direction, vehicle)?;
+    push_state(line, rows)?;
+    push_change(line, change)?;
+    push_rows(line, rows)?;
+    line.extend_from_slice(b"\n")
+}
+
+// Writes the line of an element in a direction at a second, in place of what the buffer had.
+pub(crate) fn write_line(
+    alloc: Global,
+    line: &mut Vec<u8>,
+    found: &Records,
+    element: u64,
+    direction: Direction,
+    vehicle: u8,
+    second: Sec,
+) -> Result<(), AllocError>
+    requires in_range { IsHorizonSecond second.0 }
+    requires few { length found.now ≤ 65536 }
+    ensures line { OnOk result (IsLine found.now vehicle second.0 element direction line.new.items) }
+    ensures short { OnOk result (length line.new.items ≤ most_bytes) }
+{
+    let rows = found.closing_rows(alloc, element, direction, vehicle, second)?;
+    let change = change_of(alloc, found, element, direction, vehicle, second)?;
+    write_state(line, element, direction, vehicle, change, rows.as_slice())
+}

@@ -1,0 +1,5 @@
+use Rattle.gtd_schedule.proofs.SplitFacts.{schedule_in_parts}
+use Rattle.gtd_schedule.proofs.laws.schedule_in_parts.Goals as goal
+
+pub returns : goal.returns
+returns c = record { parts = schedule_in_parts }
