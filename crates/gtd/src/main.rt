@@ -5,7 +5,7 @@
 //! failed.
 #![tactic(auto)]
 
-use gtd_devices::Host;
+use gtd_roads::Host;
 use gtd_tool::{Plan, Refusal, perform, plan};
 use std::fs::File;
 use std::io::{BufWriter, ErrorKind, Read};

@@ -19,7 +19,7 @@ use Rattle.gtd_calendar.proofs.ShapeLemmas.{ymd_in-is, ymd_in-shape, hms_in-is, 
 use Rattle.gtd_calendar.specs.Calendar.{IsCalendarDay}
 use Rattle.gtd_core.specs.Days.{IsMomentSecond, day_of_second}
 use Rattle.gtd_calendar.specs.Stamp.{stamp_text}
-use Rattle.gtd_calendar.proofs.ClockLemmas.{second-parts}
+use Rattle.gtd_calendar.specs.facts.ClockLemmas.{second-parts}
 use Rattle.gtd_calendar.proofs.StampLemmas.{is_date-true, is_date-parts, stamp_text-is}
 
 -- a moment's first ten bytes are its date, and the others its clock

@@ -1,23 +1,24 @@
 -- The texts of days and seconds, and what reading them answers.
 use Rattle.std.proofs.Common.{◌≡◌, ℕ, ◌+◌, ◌*◌, ◌/◌, ◌%◌, ◌<◌, ◌≤◌, true, false, ◌&&◌, ◌||◌, nat_le}
 use Rattle.std.proofs.Common.{int_lt, List, ◌∷◌, Option, Some, None, Result, Ok, Err, refl, sym, ◌∙◌}
-use Rattle.std.proofs.Common.{arith, ℤ, pos, neg_ℤ, unsigned_abs}
+use Rattle.std.proofs.Common.{arith, ℤ, pos, unsigned_abs}
 use Rattle.std.proofs.lemmas.Bool.Decides.{nat_tests}
 use Rattle.std.proofs.lemmas.Bool.{false_from_ne_true, true_from_ne_false, cond_both, true≢false}
+use Rattle.gtd_core.specs.Limits.{first_horizon_day, horizons_end}
 use Rattle.jiff_core.proofs.SignedLemmas.{signed_arith, one_part}
 use Rattle.gtd_calendar.specs.declared.stamp.StampFault.{StampFault}
 use Rattle.gtd_calendar.specs.declared.stamp.StampFault.TheVariants.{Shape, NoSuchDate, Range}
-use Rattle.gtd_calendar.specs.Calendar.{IsDate, IsCalendarDay, month_length, day_number, year_of, month_of}
-use Rattle.gtd_calendar.specs.Calendar.{day_of_month}
+use Rattle.gtd_calendar.specs.Calendar.{IsDate, IsCalendarDay, month_length, day_number}
+use Rattle.gtd_calendar.specs.ComputedDates.{year_of, month_of, day_of_month}
 use Rattle.gtd_core.specs.Days.{day_of_second}
 use Rattle.gtd_calendar.specs.Clock.{second_of_day}
 use Rattle.gtd_calendar.specs.Stamp.{date_text, stamp_text, hms_text, IsYmdText, IsDateText}
 use Rattle.gtd_calendar.specs.Stamp.{IsStampText}
 use Rattle.gtd_calendar.specs.Read.{IsReadableDay, IsReadDate, is_date, day_in_range, day_if_any, ymd_in, date_in}
 use Rattle.gtd_calendar.specs.ReadParts.{IsYmd}
-use Rattle.gtd_calendar.proofs.DateLemmas.{date_of-is, date_of-only, month_length_bounds}
-use Rattle.gtd_calendar.proofs.OrderLemmas.{year_of-calendar}
-use Rattle.gtd_calendar.proofs.ClockLemmas.{second-parts, second-only}
+use Rattle.gtd_calendar.specs.facts.DateLemmas.{date_of-is, date_of-only, month_length_bounds}
+use Rattle.gtd_calendar.specs.facts.OrderLemmas.{year_of-calendar}
+use Rattle.gtd_calendar.specs.facts.ClockLemmas.{second-parts, second-only}
 use Rattle.gtd_calendar.proofs.ShapeLemmas.{ymd_in-is, ymd_in-shape, ymd-only}
 
 -- the text that is computed of a day is the text of its date
@@ -84,15 +85,15 @@ is_date-false y m d never = false_from_ne_true (is_date y m d) (λ e. never (is_
 pub day_in_range-ok : (n : ℤ) → IsReadableDay n → day_in_range n ≡ Ok n
 day_in_range-ok n h = grind (arith, signed_arith)
 
-day-inside : (n : ℤ) → (int_lt n (neg_ℤ (pos 25202)) || int_lt (pos 266_627) n) ≡ false → IsReadableDay n
+day-inside : (n : ℤ) → (int_lt n first_horizon_day || int_lt horizons_end n) ≡ false → IsReadableDay n
 day-inside n e = grind (arith, signed_arith)
 
-day-outside : (n : ℤ) → (int_lt n (neg_ℤ (pos 25202)) || int_lt (pos 266_627) n) ≡ true → IsReadableDay n → ⊥
+day-outside : (n : ℤ) → (int_lt n first_horizon_day || int_lt horizons_end n) ≡ true → IsReadableDay n → ⊥
 day-outside n e h = grind (arith, signed_arith)
 
 day_in_range-err : (n : ℤ) → (IsReadableDay n → ⊥) → day_in_range n ≡ Err Range
 day_in_range-err n never =
-    rw (true_from_ne_false (int_lt n (neg_ℤ (pos 25202)) || int_lt (pos 266_627) n) (λ e. never (day-inside n e))) refl
+    rw (true_from_ne_false (int_lt n first_horizon_day || int_lt horizons_end n) (λ e. never (day-inside n e))) refl
 
 -- what a date's text is read as
 pub date_in-only : (text : List ℕ) (r : Result ℤ StampFault) → IsReadDate text r → r ≡ date_in text
@@ -135,7 +136,7 @@ date_in-is text = answered text (ymd_in text) (ymd_in-shape text)
         ranged text y m d h date =
             let n = day_number (pos y) m d in
             let is : IsDateText n text = record { year = y; month = m; day = d; date = (date, refl); shown = h } in
-            cond_both (int_lt n (neg_ℤ (pos 25202)) || int_lt (pos 266_627) n) (Err Range) (Ok n) (IsReadDate text)
+            cond_both (int_lt n first_horizon_day || int_lt horizons_end n) (Err Range) (Ok n) (IsReadDate text)
             (λ e. (n, is, day-outside n e))
             (λ e. (is, day-inside n e))
 

@@ -2,6 +2,7 @@
 use Rattle.std.specs.Prelude.{ℕ, ◌+◌, ◌-◌, ◌*◌, Bool, ◌&&◌, ◌||◌, nat_le, nat_lt, if◌then◌else◌, List, ◌∷◌, take}
 use Rattle.std.specs.Prelude.{drop, slice_index, bytes_eq, Option, Some, None, Result, Ok, Err, ℤ, pos, neg_ℤ, ◌+ℤ◌}
 use Rattle.std.specs.Prelude.{◌*ℤ◌, ◌≤ℤ◌, int_lt}
+use Rattle.gtd_core.specs.Limits.{first_horizon_day, horizons_end}
 use Rattle.gtd_core.specs.Days.{IsMomentSecond}
 use Rattle.gtd_core.specs.declared.second.Sec.{Sec}
 use Rattle.gtd_calendar.specs.declared.stamp.StampFault.{StampFault}
@@ -12,7 +13,7 @@ use Rattle.gtd_calendar.specs.Stamp.{ymd_text, hms_text, IsYmdText, IsMomentText
 
 -- the days that are read: 1901-01-01 to 2700-01-01
 abbrev pub IsReadableDay : ℤ → Type 0
-IsReadableDay n = (neg_ℤ (pos 25202) ≤ℤ n) × (n ≤ℤ pos 266_627)
+IsReadableDay n = (first_horizon_day ≤ℤ n) × (n ≤ℤ horizons_end)
 
 -- A day is read from its own text. Else the first of three faults is answered: the text has not the shape of a date;
 -- there is no such date; its day is out of range.
@@ -65,7 +66,7 @@ is_clock h m s = nat_lt h 24 && nat_lt m 60 && nat_lt s 60
 
 -- the answer for a day, and for a second, by its range
 abbrev pub day_in_range : ℤ → Result ℤ StampFault
-day_in_range n = if int_lt n (neg_ℤ (pos 25202)) || int_lt (pos 266_627) n then Err Range else Ok n
+day_in_range n = if int_lt n first_horizon_day || int_lt horizons_end n then Err Range else Ok n
 
 abbrev pub second_in_range : ℤ → Result Sec StampFault
 second_in_range s =

@@ -1,17 +1,18 @@
 //! The clock, and the ends of stretches.
 
 ghost use Rattle.std.specs.Prelude.{◌≡◌, ◌+◌, ◌*◌, ◌<◌, ◌≤◌, pos, ◌+ℤ◌, ◌≤ℤ◌};
-ghost use Rattle.jiff_core.specs.Calendar.{IsEpochDay};
+ghost use Rattle.jiff.specs.Words.{IsEpochDay};
 ghost use Rattle.gtd_core.specs.Days.{day_of_second};
 ghost use Rattle.gtd_core.specs.DurationBound.{bound_of};
 ghost use Rattle.gtd_core.specs.Parts.{duration_parts};
 ghost use Rattle.gtd_calendar.specs.Calendar.{IsCalendarDay};
 ghost use Rattle.gtd_calendar.specs.Clock.{IsStop};
 ghost use Rattle.gtd_calendar.specs.Clock as spec;
+ghost use Rattle.gtd_calendar.specs.ComputedEnds as computed;
 
-use crate::day::date_of;
+use crate::day::{date_of, number_of};
 use gtd_core::{Duration, Sec};
-use jiff_core::civil::Date;
+use jiff::civil;
 
 /// How many seconds of its day come before a second: 0 to 86,399.
 pub fn second_of_day(second: Sec) -> u32
@@ -21,20 +22,30 @@ pub fn second_of_day(second: Sec) -> u32
     second.0.rem_euclid(86_400) as u32
 }
 
+// The day that stands in the month of a count of months, from January of the year 0, or that month's last where it has no
+// such day.
+fn day_in_month(count: u32, day: u8) -> i64
+    requires count_in { count ≤ 40_000 }
+    requires day_in { 1 ≤ day }
+    ensures value { result ≡ computed.day_in_month (pos count) day }
+{
+    let first = civil::date((count / 12) as i16, (count % 12) as i8 + 1, 1);
+    number_of(first) + i64::from(day.min(first.days_in_month() as u8)) - 1
+}
+
 // The day that many months later, the day of the month cut to the last one of the month reached.
 fn months_later(day: i64, months: u32) -> i64
     requires day_in { IsCalendarDay day }
     requires months_in { months ≤ 1200 }
-    ensures value { result ≡ spec.months_later day months }
+    ensures value { result ≡ computed.months_later day months }
     ensures bound { IsEpochDay result }
 {
     if months == 0 {
         return day;
     }
     let date = date_of(day);
-    let count = 12 * date.year as u32 + u32::from(date.month - 1) + months;
-    let moved = Date::constrain((count / 12) as i16, (count % 12) as u8 + 1, date.day);
-    i64::from(moved.to_unix_epoch_day())
+    let count = 12 * date.year() as u32 + (date.month() as u32 - 1) + months;
+    day_in_month(count, date.day() as u8)
 }
 
 /// The second after the last one of the stretch that begins at a second, whose day the caller keeps from 1800-01-01 to
@@ -45,7 +56,7 @@ fn months_later(day: i64, months: u32) -> i64
 pub fn end_of(start: Sec, duration: &Duration) -> Sec
     requires { IsCalendarDay (day_of_second start.0) }
     ensures stop { IsStop (duration_parts duration.now) start.0 result.0 }
-    ensures value { result.0 ≡ spec.stop (duration_parts duration.now) start.0 }
+    ensures value { result.0 ≡ computed.stop (duration_parts duration.now) start.0 }
     ensures later { start.0 ≤ℤ result.0 }
     ensures within_bound { result.0 ≤ℤ (start.0 +ℤ pos (bound_of (duration_parts duration.now))) }
 {

@@ -1,14 +1,18 @@
 //! Laws of the calendar's definitions, over all whole numbers.
 
-ghost use Rattle.std.specs.Prelude.{◌≡◌, List, Result, Ok, ℤ, ℕ, pos, ◌+ℤ◌, ◌≤ℤ◌};
+ghost use Rattle.std.specs.Prelude.{◌≡◌, ◌/◌, ◌%◌, List, Result, Ok, ℤ, ℕ, pos, ◌+ℤ◌, ◌≤ℤ◌};
 ghost use Rattle.gtd_core.specs.DurationBound.{bound_of};
 ghost use Rattle.gtd_core.specs.declared.duration.DurationParts.{DurationParts};
 ghost use Rattle.gtd_core.specs.declared.second.Sec.{Sec};
 ghost use Rattle.gtd_calendar.specs.Calendar.{first_day, year_length, month_length, weekday_of};
-ghost use Rattle.gtd_calendar.specs.Calendar.{IsCalendarDay, IsDateOf, year_of, month_of, day_of_month};
-ghost use Rattle.gtd_calendar.specs.Calendar.{IsWeekOf, week_of, week_year_of};
+ghost use Rattle.gtd_calendar.specs.Calendar.{IsCalendarDay, IsDateOf, IsWeekOf};
+ghost use Rattle.gtd_calendar.specs.ComputedDates.{year_of, month_of, day_of_month, week_of, week_year_of};
 ghost use Rattle.gtd_core.specs.Days.{IsMomentSecond, day_of_second};
-ghost use Rattle.gtd_calendar.specs.Clock.{IsStop, stop};
+ghost use Rattle.gtd_calendar.specs.Fields.{AreFieldsOf};
+ghost use Rattle.gtd_calendar.specs.ComputedFields.{day_fields};
+ghost use Rattle.gtd_calendar.specs.declared.day.DayFields.{DayFields};
+ghost use Rattle.gtd_calendar.specs.Clock.{IsStop, IsTimeOf, second_of_day};
+ghost use Rattle.gtd_calendar.specs.ComputedEnds.{stop};
 ghost use Rattle.gtd_calendar.specs.Read.{IsReadableDay, IsReadDate, IsReadStamp, date_in, stamp_in};
 ghost use Rattle.gtd_calendar.specs.Stamp.{IsDateText, IsStampText, date_text, stamp_text};
 ghost use Rattle.gtd_calendar.specs.declared.stamp.StampFault.{StampFault};
@@ -33,6 +37,21 @@ pub fn one_date()
 pub fn one_week()
     ensures has { (n : ℤ) → IsWeekOf n (week_year_of n) (week_of n) }
     ensures only { (n y : ℤ) (w : ℕ) → IsWeekOf n y w → (y ≡ week_year_of n) × (w ≡ week_of n) }
+{}
+
+/// Each day has exactly one set of fields, and it is the one that is computed.
+pub fn one_day()
+    ensures has { (n : ℤ) → AreFieldsOf n (day_fields n) }
+    ensures only { (n : ℤ) (f : DayFields) → AreFieldsOf n f → f ≡ day_fields n }
+{}
+
+/// Each second is at exactly one hour, minute and second of one day: those of its place in its day, which are computed.
+pub fn one_time()
+    ensures has { (s : ℤ) → IsTimeOf s (day_of_second s) (second_of_day s / 3600) (second_of_day s / 60 % 60)
+        (second_of_day s % 60) }
+    ensures only { (s n : ℤ) (hour minute second : ℕ) → IsTimeOf s n hour minute second → (n ≡ day_of_second s)
+        × (hour ≡ second_of_day s / 3600) × (minute ≡ second_of_day s / 60 % 60)
+        × (second ≡ second_of_day s % 60) }
 {}
 
 /// Each stretch has exactly one end, and it is the one that is computed.

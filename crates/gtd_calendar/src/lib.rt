@@ -2,7 +2,7 @@
 //! moments.
 //!
 //! Days are given by their numbers, 1970-01-01 being 0, and seconds by theirs, of the local civil clock. It is the one
-//! crate that calls `jiff`, by the calendar that its crates share, `jiff_core`. No call of this crate takes memory.
+//! crate that calls `jiff`. No call of this crate takes memory.
 #![tactic(auto)]
 
 pub use clock::{end_of, second_of_day};

@@ -1,7 +1,7 @@
 //! The texts of dates and moments.
 
 ghost use Rattle.std.specs.Prelude.{◌≡◌, ◌↔◌, ◌<◌, ◌+◌, ◌*◌, ◌+ℤ◌, ◌*ℤ◌, pos, IsSome, IfSome, codes};
-ghost use Rattle.jiff_core.specs.Calendar.{IsEpochDay};
+ghost use Rattle.jiff.specs.Words.{IsEpochDay};
 ghost use Rattle.gtd_core.specs.Days.{day_of_second};
 ghost use Rattle.gtd_calendar.specs.Calendar.{IsCalendarDay};
 ghost use Rattle.gtd_calendar.specs.Clock.{IsClock};
@@ -14,6 +14,7 @@ ghost use Rattle.gtd_calendar.specs.ReadParts.{IsTwoDigits, IsFourDigits, IsYmd,
 use crate::clock::second_of_day;
 use crate::day::{date_of, day_of_date};
 use gtd_core::Sec;
+use gtd_core::limits::{FIRST_HORIZON_DAY, FIRST_MOMENT, HORIZONS_END, LAST_MOMENT};
 use thiserror::Error;
 
 /// Why a text is no date or no moment.
@@ -59,12 +60,12 @@ pub fn write_date(day: i64) -> [u8; 10]
     ensures value { result ≡ spec.date_text day }
 {
     let date = date_of(day);
-    let year = date.year as u32;
+    let year = date.year() as u32;
     let century = year / 100;
     let [y1, y2] = two_digits(century);
     let [y3, y4] = two_digits(year - 100 * century);
-    let [m1, m2] = two_digits(u32::from(date.month));
-    let [d1, d2] = two_digits(u32::from(date.day));
+    let [m1, m2] = two_digits(date.month() as u32);
+    let [d1, d2] = two_digits(date.day() as u32);
     [y1, y2, y3, y4, b'-', m1, m2, b'-', d1, d2]
 }
 
@@ -174,7 +175,7 @@ pub fn read_date(text: &[u8]) -> Result<i64, StampFault>
 {
     let (year, month, day) = ymd(text).ok_or(StampFault::Shape)?;
     let number = day_of_date(year as i16, month, day).ok_or(StampFault::NoSuchDate)?;
-    if number < -25_202 || number > 266_627 {
+    if number < FIRST_HORIZON_DAY || number > HORIZONS_END {
         return Err(StampFault::Range);
     }
     Ok(number)
@@ -192,7 +193,7 @@ pub fn read_stamp(text: &[u8]) -> Result<Sec, StampFault>
     let (year, month, day, hour, minute, second) = moment(text).ok_or(StampFault::Shape)?;
     let day = day_of_date(year as i16, month, day).ok_or(StampFault::NoSuchDate)?;
     let number = second_on_day(day, hour, minute, second).ok_or(StampFault::NoSuchDate)?;
-    if number < -2_177_452_800 || number > 7_258_118_399 {
+    if number < FIRST_MOMENT || number > LAST_MOMENT {
         return Err(StampFault::Range);
     }
     Ok(Sec(number))

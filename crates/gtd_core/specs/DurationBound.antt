@@ -1,5 +1,6 @@
 -- How long a stretch of a duration can be at most.
 use Rattle.std.specs.Prelude.{ℕ, ◌+◌, ◌*◌, ◌/◌, ◌≤◌}
+use Rattle.gtd_core.specs.Limits.{day_seconds, most_bound}
 use Rattle.gtd_core.specs.declared.duration.DurationParts.{DurationParts}
 
 -- the most days that the calendar part can take: a year has at most 366, a month at most 31
@@ -12,11 +13,11 @@ clock_seconds parts = 3600 * parts.hours + 60 * parts.minutes + parts.seconds
 
 -- the bound: a number of seconds that no stretch exceeds
 abbrev pub bound_of : DurationParts → ℕ
-bound_of parts = 86400 * day_bound parts + clock_seconds parts
+bound_of parts = day_seconds * day_bound parts + clock_seconds parts
 
 -- the lookback: the bound in days, rounded up
 abbrev pub lookback_of : DurationParts → ℕ
-lookback_of parts = (bound_of parts + 86399) / 86400
+lookback_of parts = (bound_of parts + 86399) / day_seconds
 
 -- each number has at most six digits
 pub record HasSixDigits (parts : DurationParts) : Type 0 where
@@ -30,4 +31,4 @@ pub record HasSixDigits (parts : DurationParts) : Type 0 where
 
 -- and the bound is at most 36,600 days
 abbrev pub IsDuration : DurationParts → Type 0
-IsDuration parts = HasSixDigits parts × (bound_of parts ≤ 3162240000)
+IsDuration parts = HasSixDigits parts × (bound_of parts ≤ most_bound)

@@ -1,5 +1,6 @@
 -- Which two days are a horizon, and the first fault of those that are not.
-use Rattle.std.specs.Prelude.{ℤ, pos, negsuc, ◌-ℤ◌, ◌≤ℤ◌, ◌<ℤ◌}
+use Rattle.std.specs.Prelude.{ℤ, pos, ◌-ℤ◌, ◌≤ℤ◌, ◌<ℤ◌}
+use Rattle.gtd_core.specs.Limits.{first_horizon_day, horizons_end, most_horizon_days}
 use Rattle.gtd_core.specs.declared.horizon.HorizonFault.{HorizonFault}
 use Rattle.gtd_core.specs.declared.horizon.HorizonFault.TheVariants.{Empty, TooEarly, TooLate, TooLong}
 
@@ -7,12 +8,14 @@ use Rattle.gtd_core.specs.declared.horizon.HorizonFault.TheVariants.{Empty, TooE
 -- one day more than 400 years have.
 abbrev pub IsHorizon : ℤ → ℤ → Type 0
 IsHorizon from_day to_day =
-    (from_day <ℤ to_day) × (negsuc 25201 ≤ℤ from_day) × (to_day ≤ℤ pos 266627) × ((to_day -ℤ from_day) ≤ℤ pos 146098)
+    (from_day <ℤ to_day) × (first_horizon_day ≤ℤ from_day) × (to_day ≤ℤ horizons_end)
+    × ((to_day -ℤ from_day) ≤ℤ pos most_horizon_days)
 
 -- the first fault of two days: each comes only where those before it do not hold
-abbrev pub IsFault : HorizonFault → ℤ → ℤ → Type 0
-IsFault Empty from_day to_day = to_day ≤ℤ from_day
-IsFault TooEarly from_day to_day = (from_day <ℤ to_day) × (from_day <ℤ negsuc 25201)
-IsFault TooLate from_day to_day = (from_day <ℤ to_day) × (negsuc 25201 ≤ℤ from_day) × (pos 266627 <ℤ to_day)
-IsFault TooLong from_day to_day =
-    (from_day <ℤ to_day) × (negsuc 25201 ≤ℤ from_day) × (to_day ≤ℤ pos 266627) × (pos 146098 <ℤ (to_day -ℤ from_day))
+abbrev pub IsHorizonFault : HorizonFault → ℤ → ℤ → Type 0
+IsHorizonFault Empty from_day to_day = to_day ≤ℤ from_day
+IsHorizonFault TooEarly from_day to_day = (from_day <ℤ to_day) × (from_day <ℤ first_horizon_day)
+IsHorizonFault TooLate from_day to_day = (from_day <ℤ to_day) × (first_horizon_day ≤ℤ from_day) × (horizons_end <ℤ to_day)
+IsHorizonFault TooLong from_day to_day =
+    (from_day <ℤ to_day) × (first_horizon_day ≤ℤ from_day) × (to_day ≤ℤ horizons_end)
+    × (pos most_horizon_days <ℤ (to_day -ℤ from_day))

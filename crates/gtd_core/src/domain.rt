@@ -1,9 +1,11 @@
 //! Time domains: basic ones, joined by operators.
 
 ghost use Rattle.std.specs.Prelude.{◌≡◌, ◌≤◌, ◌<◌, ◌↔◌, ℕ, IfOk, IfErr, IsOk, IsSome, IfSome, ◌+◌};
+ghost use Rattle.gtd_core.specs.Limits.{most_basic_domains};
 ghost use Rattle.gtd_core.specs.Trees.{tree_of, leaf_count};
 
 use crate::duration::Duration;
+use crate::limits::MOST_BASIC_DOMAINS;
 use crate::start::Start;
 
 /// A basic domain: stretches of one duration, one from each second that the start matches.
@@ -37,7 +39,7 @@ pub enum Expr {
 #[derive(Debug, Drop)]
 pub struct Domain {
     expr: Expr,
-    pub ghost few_leaves: { leaf_count (tree_of expr) ≤ 128 },
+    pub ghost few_leaves: { leaf_count (tree_of expr) ≤ most_basic_domains },
 }
 
 impl Domain {
@@ -47,9 +49,9 @@ impl Domain {
     pub fn new(expr: Expr) -> Result<Domain, Expr>
         ensures kept { IfOk result (λ domain. domain_expr domain ≡ expr) }
         ensures given_back { IfErr result (λ back. back ≡ expr) }
-        ensures accepted { IsOk result ↔ (leaf_count (tree_of expr) ≤ 128) }
+        ensures accepted { IsOk result ↔ (leaf_count (tree_of expr) ≤ most_basic_domains) }
     {
-        if leaves_within(&expr, 128).is_some() {
+        if leaves_within(&expr, MOST_BASIC_DOMAINS).is_some() {
             Ok(Domain { expr })
         } else {
             Err(expr)

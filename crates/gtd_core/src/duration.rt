@@ -3,6 +3,9 @@
 ghost use Rattle.std.specs.Prelude.{◌≡◌, ◌↔◌, IfSome, IsSome, ◌+◌, ◌*◌, ◌^◌, ◌<◌, ◌≤◌, pos};
 ghost use Rattle.gtd_core.specs.DurationBound.{IsDuration, bound_of, clock_seconds, day_bound, lookback_of};
 ghost use Rattle.std.proofs.Props.{props};
+ghost use Rattle.gtd_core.specs.Limits.{most_bound};
+
+use crate::limits::MOST_BOUND;
 
 /// The numbers of a duration, one for each unit.
 #[derive(Clone, Copy, Debug, PartialEq, Eq, Default)]
@@ -48,7 +51,7 @@ impl Duration {
             && parts.hours <= 999_999
             && parts.minutes <= 999_999
             && parts.seconds <= 999_999
-            && parts.bound() <= 3_162_240_000
+            && parts.bound() <= MOST_BOUND
         {
             Some(Duration { parts })
         } else {
@@ -89,7 +92,7 @@ impl Duration {
     /// The hours, minutes and seconds, in seconds.
     pub fn clock(&self) -> u32
         ensures value { result ≡ clock_seconds (duration_parts self.now) }
-        ensures bound { result ≤ 3_162_240_000 }
+        ensures bound { result ≤ most_bound }
     {
         3600 * self.parts.hours + 60 * self.parts.minutes + self.parts.seconds
     }

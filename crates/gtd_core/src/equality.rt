@@ -4,7 +4,7 @@ ghost use Rattle.std.specs.Prelude.{◌≡◌};
 ghost use Rattle.gtd_core.specs.Parts.{domain_tree};
 ghost use Rattle.gtd_core.specs.Trees.{Single, tree_of};
 ghost use Rattle.gtd_core.specs.Equality.{same_start, same_duration, same_op, same_tree};
-ghost use Rattle.gtd_core.specs.EqualTrees.{tree_equivalence, tree_partial_equivalence};
+ghost use Rattle.gtd_core.specs.facts.EqualTrees.{tree_equivalence, tree_partial_equivalence};
 ghost use Rattle.std.specs.Cmp.{on_per, on_equiv};
 
 use crate::domain::{Basic, Domain, Expr, Op};
@@ -45,7 +45,7 @@ impl Eq for Domain {
     ghost laws = { on_equiv domain_tree tree_equivalence };
 }
 
-#[tactic(auto, using(crate::specs::EqualTrees::start_decided, crate::specs::EqualTrees::duration_decided))]
+#[tactic(auto, using(crate::specs::facts::EqualTrees::start_decided, crate::specs::facts::EqualTrees::duration_decided))]
 fn is_same_basic(basic: &Basic, other: &Basic) -> bool
     ensures { result ≡ same_tree (Single basic.now.start.parts basic.now.duration.parts)
         (Single other.now.start.parts other.now.duration.parts) }
@@ -54,14 +54,14 @@ fn is_same_basic(basic: &Basic, other: &Basic) -> bool
         && is_same_duration(basic.duration.parts(), other.duration.parts())
 }
 
-#[tactic(auto, using(crate::specs::EqualTrees::start_decided))]
+#[tactic(auto, using(crate::specs::facts::EqualTrees::start_decided))]
 fn is_same_start(start: StartParts, other: StartParts) -> bool
     ensures { result ≡ same_start start other }
 {
     start == other
 }
 
-#[tactic(auto, using(crate::specs::EqualTrees::duration_decided))]
+#[tactic(auto, using(crate::specs::facts::EqualTrees::duration_decided))]
 fn is_same_duration(duration: DurationParts, other: DurationParts) -> bool
     ensures { result ≡ same_duration duration other }
 {

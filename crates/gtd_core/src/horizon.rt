@@ -1,9 +1,11 @@
 //! The days over which a question is asked.
 
-ghost use Rattle.std.specs.Prelude.{◌≡◌, ◌<ℤ◌, ◌≤ℤ◌, ◌-ℤ◌, ◌*ℤ◌, pos, negsuc, MatchResult, codes};
-ghost use Rattle.gtd_core.specs.Horizons.{IsHorizon, IsFault};
+ghost use Rattle.std.specs.Prelude.{◌≡◌, ◌<ℤ◌, ◌≤ℤ◌, ◌-ℤ◌, ◌*ℤ◌, pos, MatchResult, codes};
+ghost use Rattle.gtd_core.specs.Limits.{first_horizon_day, horizons_end, most_horizon_days};
+ghost use Rattle.gtd_core.specs.Horizons.{IsHorizon, IsHorizonFault};
 ghost use Rattle.gtd_core.specs.Names.{horizon_fault_name};
 
+use crate::limits::{DAY_SECONDS, FIRST_HORIZON_DAY, HORIZONS_END, MOST_HORIZON_DAYS};
 use crate::second::{Sec, Span};
 use thiserror::Error;
 
@@ -16,9 +18,9 @@ pub struct Horizon {
     from_day: i64,
     to_day: i64,
     pub ghost not_empty: { from_day <ℤ to_day },
-    pub ghost not_early: { negsuc 25201 ≤ℤ from_day },
-    pub ghost not_late: { to_day ≤ℤ pos 266627 },
-    pub ghost not_long: { (to_day -ℤ from_day) ≤ℤ pos 146098 },
+    pub ghost not_early: { first_horizon_day ≤ℤ from_day },
+    pub ghost not_late: { to_day ≤ℤ horizons_end },
+    pub ghost not_long: { (to_day -ℤ from_day) ≤ℤ pos most_horizon_days },
 }
 
 /// Why two days are no horizon.
@@ -52,16 +54,6 @@ impl HorizonFault {
     }
 }
 
-/// 1901-01-01.
-const FIRST_DAY: i64 = -25_202;
-/// 2700-01-01.
-const LAST_DAY: i64 = 266_627;
-
-const MOST_DAYS: i64 = 146_098;
-
-/// The seconds of a day.
-const DAY: i64 = 86_400;
-
 impl Horizon {
     ghost use Rattle.gtd_core.specs.Whole.{whole, from_day, to_day};
     ghost use Rattle.gtd_core.specs.Whole as days;
@@ -71,18 +63,18 @@ impl Horizon {
     pub fn new(from_day: i64, to_day: i64) -> Result<Horizon, HorizonFault>
         ensures horizon { MatchResult result
             (λ h. (days.from_day h ≡ from_day) × (days.to_day h ≡ to_day) × IsHorizon from_day to_day)
-            (λ fault. IsFault fault from_day to_day) }
+            (λ fault. IsHorizonFault fault from_day to_day) }
     {
         if to_day <= from_day {
             return Err(HorizonFault::Empty);
         }
-        if from_day < FIRST_DAY {
+        if from_day < FIRST_HORIZON_DAY {
             return Err(HorizonFault::TooEarly);
         }
-        if to_day > LAST_DAY {
+        if to_day > HORIZONS_END {
             return Err(HorizonFault::TooLate);
         }
-        if to_day - from_day > MOST_DAYS {
+        if to_day - from_day > MOST_HORIZON_DAYS {
             return Err(HorizonFault::TooLong);
         }
         Ok(Horizon { from_day, to_day })
@@ -106,14 +98,14 @@ impl Horizon {
     pub fn from(self) -> Sec
         ensures value { result.0 ≡ (whole self).from }
     {
-        Sec(self.from_day * DAY)
+        Sec(self.from_day * DAY_SECONDS)
     }
 
     /// The second after the last one.
     pub fn until(self) -> Sec
         ensures value { result.0 ≡ (whole self).until }
     {
-        Sec(self.to_day * DAY)
+        Sec(self.to_day * DAY_SECONDS)
     }
 
     /// All seconds of the horizon.

@@ -16,5 +16,6 @@ mod equality;
 mod fault;
 mod horizon;
 pub mod laws;
+pub mod limits;
 mod second;
 mod start;

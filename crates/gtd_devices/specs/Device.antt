@@ -11,10 +11,10 @@ abbrev pub IsGot : Pull → ℕ → Type 0
 IsGot pull n = pull ≡ Got n
 
 -- no more bytes came than there was room for
-abbrev pub Within : Pull → ℕ → Type 0
-Within (Got n) room = n ≤ room
-Within Done room = ⊤
-Within Failed room = ⊤
+abbrev pub IsWithinRoom : Pull → ℕ → Type 0
+IsWithinRoom (Got n) room = n ≤ room
+IsWithinRoom Done room = ⊤
+IsWithinRoom Failed room = ⊤
 
 -- the bytes that came are the first of those still to come; the end comes only where none is, and a failure takes none
 abbrev pub TakesOff : Option (List ℕ) → Option (List ℕ) → Pull → List ℕ → Type 0
@@ -29,9 +29,9 @@ failures_after_pull Done count = count
 failures_after_pull Failed count = count + 1
 
 -- at least one byte was taken, and no more than were offered
-abbrev pub WithinPut : Put → ℕ → Type 0
-WithinPut (put.Took n) offered = (0 < n) × (n ≤ offered)
-WithinPut put.Failed offered = ⊤
+abbrev pub IsWithinOffer : Put → ℕ → Type 0
+IsWithinOffer (put.Took n) offered = (0 < n) × (n ≤ offered)
+IsWithinOffer put.Failed offered = ⊤
 
 -- a front of the bytes offered is added to those taken, and none at a failure
 abbrev pub AddsFront : Option (List ℕ) → Option (List ℕ) → Put → List ℕ → Type 0

@@ -1,3 +1,3 @@
 pub mod Device
-pub mod Names
-pub mod Whole
+pub mod InputFaultNames
+pub mod WholeInput

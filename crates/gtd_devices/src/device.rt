@@ -1,8 +1,8 @@
 //! What gives bytes and what takes them.
 
 ghost use Rattle.std.specs.Prelude.{◌≡◌, ◌<◌, ℕ, Option, None, List, Bool, true, false, length, IsTrue};
-ghost use Rattle.gtd_devices.specs.Device.{IsGot, Within, TakesOff, failures_after_pull};
-ghost use Rattle.gtd_devices.specs.Device.{WithinPut, AddsFront, Finishes, has_ended, failures_after_put};
+ghost use Rattle.gtd_devices.specs.Device.{IsGot, IsWithinRoom, TakesOff, failures_after_pull};
+ghost use Rattle.gtd_devices.specs.Device.{IsWithinOffer, AddsFront, Finishes, has_ended, failures_after_put};
 
 /// What one pull of an input did.
 #[derive(Clone, Copy, Debug, PartialEq, Eq)]
@@ -31,7 +31,7 @@ pub trait Input {
     fn pull(&mut self, into: &mut [u8]) -> Pull
         requires room { 0 < length into.old }
         requires countable { failure_count self.old < u64.MAX }
-        ensures within { Within result (length into.new) }
+        ensures within { IsWithinRoom result (length into.new) }
         ensures bytes { TakesOff (to_come self.old) (to_come self.new) result into.new }
         ensures silent { IsGot result 0 → IsTrue (may_fall_silent self.old) }
         ensures as_silent { may_fall_silent self.new ≡ may_fall_silent self.old }
@@ -68,7 +68,7 @@ pub trait Output {
     fn put(&mut self, bytes: &[u8]) -> Put
         requires offered { 0 < length bytes.now }
         requires countable { failure_count self.old < u64.MAX }
-        ensures within { WithinPut result (length bytes.now) }
+        ensures within { IsWithinOffer result (length bytes.now) }
         ensures bytes { AddsFront (taken self.old) (taken self.new) result bytes.now }
         ensures unended { is_ended self.new ≡ false }
         ensures failures { failure_count self.new

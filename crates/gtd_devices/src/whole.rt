@@ -1,8 +1,8 @@
 //! An input read whole.
 
 ghost use Rattle.std.specs.Prelude.{◌≡◌, ◌<◌, ◌≤◌, length, IfOk, IfSome, IsErrOf, IsTrue, codes};
-ghost use Rattle.gtd_devices.specs.Names.{input_fault_name};
-ghost use Rattle.gtd_devices.specs.Whole.{failures_after_whole};
+ghost use Rattle.gtd_devices.specs.InputFaultNames.{input_fault_name};
+ghost use Rattle.gtd_devices.specs.WholeInput.{failures_after_whole};
 
 use crate::device::{Input, Pull};
 use std::alloc::{AllocError, Global};

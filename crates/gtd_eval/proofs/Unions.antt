@@ -1,14 +1,15 @@
 -- A tree over two trees that are unions of cursors.
-use Rattle.std.proofs.Common.{◌≡◌, ◌↔◌, ℕ, zero, suc, ◌+◌, ◌-◌, ◌*◌, ◌/◌, ◌^◌, ◌<◌, ◌≤◌, List, [], ◌∷◌, ◌++◌, length, sym, ap, inl, inr, arith, length-append, max}
+use Rattle.std.proofs.Common.{◌≡◌, ◌↔◌, ℕ, zero, suc, ◌+◌, ◌-◌, ◌*◌, ◌/◌, ◌^◌, ◌<◌, ◌≤◌, List, [], ◌∷◌, ◌++◌, length, sym, ap}
+use Rattle.std.proofs.Common.{inl, inr, arith, length-append, max}
 use Rattle.std.specs.Prelude.{ℤ}
 use Rattle.gtd_core.specs.Interval.{Interval}
 use Rattle.gtd_core.specs.declared.domain.Op.TheVariants.{Union}
 use Rattle.gtd_spans.specs.Normal.{Holds}
 use Rattle.gtd_spans.specs.Combine.{combine}
-use Rattle.gtd_spans.specs.Combining.{combine-holds}
+use Rattle.gtd_spans.specs.facts.Combining.{combine-holds}
 use Rattle.gtd_eval.specs.Nodes.{node_list, node_count, node_height, node_work}
 use Rattle.gtd_eval.specs.Cursors.{SomeHolds, total_nodes, total_work, NoneHigher, IsUnionOf}
-use Rattle.gtd_eval.specs.CursorFacts.{some-append, nodes-append, work-append, higher-append}
+use Rattle.gtd_eval.specs.facts.CursorFacts.{some-append, nodes-append, work-append, higher-append}
 use Rattle.gtd_eval.specs.declared.node.Node.{Node}
 use Rattle.gtd_eval.specs.declared.cursor.Cursor.{Cursor}
 
@@ -26,7 +27,8 @@ pub two-nodes : (ls rs : List Cursor) (l r : Node) → IsUnionOf ls l → IsUnio
     → (1 + node_count l + node_count r) + 1 ≡ total_nodes (ls ++ rs) + length (ls ++ rs)
 two-nodes ls rs l r u v = omega (arith, u.nodes, v.nodes, nodes-append ls rs, length-append ls rs)
 
-pub two-work : (ls rs : List Cursor) (l r : Node) → IsUnionOf ls l → IsUnionOf rs r → node_work l + node_work r ≡ total_work (ls ++ rs)
+pub two-work : (ls rs : List Cursor) (l r : Node) → IsUnionOf ls l → IsUnionOf rs r → node_work l + node_work r
+    ≡ total_work (ls ++ rs)
 two-work ls rs l r u v = omega (arith, u.work, v.work, work-append ls rs)
 
 double : (j : ℕ) → 2 ^ (suc j) ≡ 2 * 2 ^ j

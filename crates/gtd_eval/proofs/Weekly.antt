@@ -1,17 +1,17 @@
 -- Sets that repeat after 7 days, and their changes.
 use Rattle.gtd_core.specs.declared.second.Sec.{Sec}
-use Rattle.std.proofs.Common.{Option, Some, None, MatchOption, IsSome, refl, ◌≡◌, ◌↔◌, ℕ, zero, suc, ◌+◌, ◌*◌, ◌/◌, ◌%◌, List, sym, subst, inl, inr, arith}
-use Rattle.std.specs.Prelude.{ℤ, pos, ◌+ℤ◌, ◌-ℤ◌, ◌≤ℤ◌, ◌<ℤ◌, unsigned_abs}
+use Rattle.std.proofs.Common.{Option, Some, None, MatchOption, ◌≡◌, ◌↔◌, ℕ, zero, suc, ◌+◌, ◌*◌, ◌/◌, ◌%◌}
+use Rattle.std.proofs.Common.{sym, subst, arith}
+use Rattle.std.specs.Prelude.{ℤ, pos, ◌+ℤ◌, ◌<ℤ◌}
 use Rattle.std.proofs.lemmas.Int.{ints}
-use Rattle.gtd_core.specs.Interval.{Interval}
-use Rattle.gtd_spans.specs.Normal.{Holds}
-use Rattle.gtd_spans.specs.NormalFor.{IsNormalFor, combined-both}
-use Rattle.gtd_spans.specs.Change.{SameAt, NeverChanges, IsNextChange}
-use Rattle.gtd_recur.proofs.WeekLemmas.{week-forward, week-back}
-use Rattle.gtd_eval.specs.Membership.{InTree, AllWeekly}
+use Rattle.gtd_spans.specs.facts.NormalFor.{combined-both}
+use Rattle.gtd_spans.specs.Change.{NeverChanges, IsNextChange}
+use Rattle.gtd_recur.specs.facts.WeekLemmas.{week-forward, week-back}
+use Rattle.gtd_eval.specs.Membership.{InTree}
+use Rattle.gtd_eval.specs.Weekly.{AllWeekly}
 use Rattle.gtd_core.specs.Trees.{Tree, Single, Joined}
 use Rattle.gtd_eval.specs.Ever.{NeverChangesAfter, IsFirstChange, week}
-use Rattle.gtd_eval.proofs.Repeats.{behind, first-of-next}
+use Rattle.gtd_eval.specs.facts.Repeats.{behind, first-of-next}
 
 pub tree-weekly : (e : Tree) (t : ℤ) → AllWeekly e → InTree e t ↔ InTree e (t +ℤ week)
 tree-weekly (Single start duration) t w = (week-forward start duration t w, week-back start duration t w)
@@ -35,7 +35,8 @@ repeats-weekly set r (suc k) t =
     ((λ h. subst set e (j.0 (i.0 h))), (λ h. i.1 (j.1 (subst set (sym e) h))))
 
 -- a set that repeats, and does not change for a whole week, never changes
-pub never-after-week : (set : ℤ → Type 0) → RepeatsWeekly set → (s until : ℤ) → (s +ℤ week) <ℤ until → NeverChanges set s until → NeverChangesAfter set s
+pub never-after-week : (set : ℤ → Type 0) → RepeatsWeekly set → (s until : ℤ) → (s +ℤ week) <ℤ until → NeverChanges set s until
+    → NeverChangesAfter set s
 never-after-week set r s until far never t lt =
     let b = behind s t lt in
     let n : ℕ = b.0 in

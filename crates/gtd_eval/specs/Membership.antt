@@ -5,7 +5,6 @@ use Rattle.gtd_core.specs.Parts.{domain_tree}
 use Rattle.gtd_core.specs.declared.domain.Domain.{Domain}
 use Rattle.gtd_spans.specs.Combine.{Combined}
 use Rattle.gtd_recur.specs.Membership.{InStretches}
-use Rattle.gtd_recur.specs.Weekly.{IsWeekly}
 
 -- The expression contains the second: a basic domain where one of its stretches holds it, and two joined ones by the
 -- operators of GDF time domains (ISO 14825:2004): either, both, or the left and not the right.
@@ -21,8 +20,3 @@ InDomain domain = InTree (domain_tree domain)
 abbrev pub SomeGivesYear : Tree → Type 0
 SomeGivesYear (Single start duration) = IsSome start.year
 SomeGivesYear (Joined op left right) = SomeGivesYear left ⊎ SomeGivesYear right
-
--- each basic domain of the expression repeats after 7 days
-abbrev pub AllWeekly : Tree → Type 0
-AllWeekly (Single start duration) = IsWeekly start duration
-AllWeekly (Joined op left right) = AllWeekly left × AllWeekly right

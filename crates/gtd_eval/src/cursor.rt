@@ -1,8 +1,9 @@
 //! The seconds of a domain, span by span.
 
 ghost use Rattle.std.specs.Prelude.{◌≡◌, ◌≤◌};
+ghost use Rattle.gtd_core.specs.Limits.{most_nodes};
 ghost use Rattle.gtd_eval.specs.Nodes.{node_list, node_count, IsSound};
-ghost use Rattle.gtd_eval.specs.NodeFacts.{node_list-normal, IsSound-prop};
+ghost use Rattle.gtd_eval.specs.facts.NodeFacts.{node_list-normal, IsSound-prop};
 
 use crate::node::Node;
 use gtd_core::{Domain, Horizon, Op, Span};
@@ -15,7 +16,7 @@ use std::alloc::{AllocError, Global};
 pub struct Cursor {
     node: Node,
     ghost sound: { IsSound node } by { IsSound-prop node },
-    ghost small: { node_count node ≤ 16777216 },
+    ghost small: { node_count node ≤ most_nodes },
 }
 
 impl SpanSource for Cursor {
@@ -45,7 +46,8 @@ impl Cursor {
     ghost use Rattle.gtd_spans.specs.Normal.{Holds, IsNormal};
     ghost use Rattle.gtd_eval.specs.Membership.{InDomain};
     ghost use Rattle.gtd_eval.specs.NormalOver.{IsNormalOver};
-    ghost use Rattle.gtd_eval.specs.Cursors.{cursor_list, cursor_nodes, cursor_ticks, cursor_height, cursor_work, domain_work, SomeHolds, total_nodes, total_work, NoneHigher, IsUnionOfLast};
+    ghost use Rattle.gtd_eval.specs.Cursors.{cursor_list, cursor_nodes, cursor_ticks, cursor_height, cursor_work, domain_work};
+    ghost use Rattle.gtd_eval.specs.Cursors.{SomeHolds, total_nodes, total_work, NoneHigher, IsUnionOfLast};
 
     /// The cursor of the seconds of a domain in a horizon. For k basic domains it has 2k - 1 nodes.
     pub fn open(alloc: Global, domain: &Domain, horizon: Horizon) -> Result<Cursor, AllocError>
@@ -129,7 +131,7 @@ impl Cursor {
     /// The cursor of the seconds of a horizon that another cursor over it does not have. It has one node more, and the
     /// caller keeps it within 16,777,216 nodes. After a refusal that cursor is gone.
     pub fn outside(alloc: Global, cursor: Cursor, horizon: Horizon) -> Result<Cursor, AllocError>
-        requires few { cursor_nodes cursor < 16777216 }
+        requires few { cursor_nodes cursor < most_nodes }
         ensures seconds { IfOk result (λ c. (t : ℤ) → Holds (cursor_list c) t
             ↔ (Within (whole horizon) t × (Holds (cursor_list cursor) t → ⊥))) }
         ensures normal { IfOk result (λ c. IsNormal (cursor_list c)) }

@@ -3,7 +3,8 @@
 ghost use Rattle.std.specs.Prelude.{◌↔◌, ◌+ℤ◌, ℤ};
 ghost use Rattle.gtd_core.specs.Trees.{Tree};
 ghost use Rattle.gtd_eval.specs.Ever.{cycle, week};
-ghost use Rattle.gtd_eval.specs.Membership.{InTree, SomeGivesYear, AllWeekly};
+ghost use Rattle.gtd_eval.specs.Membership.{InTree, SomeGivesYear};
+ghost use Rattle.gtd_eval.specs.Weekly.{AllWeekly};
 
 /// An expression none of whose starts gives a year contains a second exactly if it contains the one 146,097 days later,
 /// for every whole number, before 1970 too.

@@ -2,10 +2,13 @@
 
 ghost use Rattle.std.specs.Prelude.{◌↔◌, IsTrue};
 ghost use Rattle.gtd_core.specs.Trees.{tree_of};
-ghost use Rattle.gtd_recur.specs.Membership.{IsHorizonSecond};
-ghost use Rattle.gtd_eval.specs.Membership.{InDomain, InTree, SomeGivesYear, AllWeekly};
+ghost use Rattle.gtd_core.specs.Days.{IsHorizonSecond};
+ghost use Rattle.gtd_eval.specs.Membership.{InDomain, InTree, SomeGivesYear};
+ghost use Rattle.gtd_eval.specs.Weekly.{AllWeekly};
 ghost use Rattle.std.specs.Prelude.{◌≡◌, ◌⊎◌, pos};
+ghost use Rattle.gtd_core.specs.Limits.{most_horizon_days};
 
+use gtd_core::limits::MOST_HORIZON_DAYS;
 use gtd_core::{Domain, Expr, Op, Sec};
 use gtd_recur::{covers, is_weekly as is_basic_weekly};
 
@@ -54,7 +57,11 @@ fn is_weekly(expr: &Expr) -> bool
 /// The 7 days or the 146,097 days of 400 years after which an expression repeats none of whose starts gives a year, and
 /// one more: the rest of a moment's own day.
 pub(crate) fn days_to_repeat(expr: &Expr) -> i64
-    ensures days { (result ≡ pos 146_098) ⊎ ((result ≡ pos 8) × AllWeekly (tree_of expr.now)) }
+    ensures days { (result ≡ pos most_horizon_days) ⊎ ((result ≡ pos 8) × AllWeekly (tree_of expr.now)) }
 {
-    if is_weekly(expr) { 8 } else { 146_098 }
+    if is_weekly(expr) {
+        8
+    } else {
+        MOST_HORIZON_DAYS
+    }
 }

@@ -1,6 +1,7 @@
 //! Trees of sweeps, which hand out spans one after another.
 
 ghost use Rattle.std.specs.Prelude.{◌≡◌, []};
+ghost use Rattle.gtd_core.specs.Limits.{most_nodes};
 ghost use Rattle.gtd_spans.specs.Sweeping.{still, Fits, HasOneSide, Takes};
 ghost use Rattle.gtd_eval.specs.Nodes.{node_list, node_shape, IsSound};
 
@@ -69,7 +70,7 @@ impl Node {
 
     /// The number of nodes of the tree.
     pub(crate) fn count(&self) -> u64
-        requires few { node_count self.now ≤ 16777216 }
+        requires few { node_count self.now ≤ most_nodes }
         ensures value { result ≡ node_count self.now }
     {
         match self {
@@ -81,7 +82,7 @@ impl Node {
 
     /// The sum of the ticks of the runs of the tree.
     pub(crate) fn ticks(&self) -> u64
-        requires few { node_count self.now ≤ 16777216 }
+        requires few { node_count self.now ≤ most_nodes }
         ensures value { result ≡ node_ticks self.now }
         ensures at_most { result ≤ node_work self.now }
     {

@@ -1,7 +1,7 @@
 //! Lists of spans, by the ends of their spans.
 
 ghost use Rattle.gtd_spans.specs.Normal.{IsNormal};
-ghost use Rattle.gtd_spans.specs.FitsProp.{IsNormal-prop};
+ghost use Rattle.gtd_spans.specs.facts.FitsProp.{IsNormal-prop};
 
 use gtd_core::{Sec, Span};
 use gtd_spans::{SpanList, SpanSource};

@@ -11,11 +11,10 @@ ghost use Rattle.gtd_spans.specs.Pushing.{NoneBeginsAfter};
 use crate::lists::{has_ends, list_of};
 use crate::roads::R;
 use gtd_core::{Basic, Domain, Expr, Fault, Horizon, Op, Sec, Span, TextFault};
+use gtd_devices::{MemoryIn, MemoryOut};
 use gtd_eval::{Cursor, EverFault, next_change, next_change_ever, spans};
+use gtd_records::{Direction, RecordFault, Records, open_seconds, read_records, schedule_of};
 use gtd_recur::spans_of;
-use gtd_roads::{
-    Direction, MemoryIn, MemoryOut, RecordFault, Records, open_seconds, read_records, schedule_of,
-};
 use gtd_spans::{SpanList, SpanSource, complement, meet, minus, union, within};
 use gtd_text::{TokenKind, print_domain, read_domain, tokens};
 use std::alloc::{AllocError, Global};

@@ -1,9 +1,9 @@
 //! Worked record files: what they close, and how they are refused.
 
 use gtd_core::{Fault, Horizon, Sec, Span, TextFault};
-use gtd_roads::{
-    Direction, MemoryIn, RecordFault, Records, read_direction, read_number, read_records,
-    schedule_of,
+use gtd_devices::MemoryIn;
+use gtd_records::{
+    Direction, RecordFault, Records, read_direction, read_number, read_records, schedule_of,
 };
 use std::alloc::Global;
 use std::process::Abort;

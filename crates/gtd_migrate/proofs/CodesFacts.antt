@@ -1,5 +1,6 @@
 -- The vehicle types of a row that was read: the text of their column is read again as them.
-use Rattle.std.proofs.Common.{◌≡◌, ◌∙◌, ◌<◌, ◌^◌, ap, refl, sym, subst, arith, cond, ℕ, zero, suc, List, [], ◌∷◌, ◌++◌, length, length-append, map, Bool, true, false, Option, Some, None}
+use Rattle.std.proofs.Common.{◌≡◌, ◌∙◌, ◌<◌, ◌^◌, ap, refl, sym, subst, arith, cond, ℕ, zero, suc, List, [], ◌∷◌, ◌++◌, length}
+use Rattle.std.proofs.Common.{length-append, map, Bool, true, false, Option, Some, None}
 use Rattle.std.specs.Prelude.{codes, decimal, flat_map, nat_le, option_map, ◌&&◌, ◌==◌}
 use Rattle.std.specs.Char.{is_ascii_digit, digit_value}
 use Rattle.std.specs.List.{All, Contains, list_all}
@@ -10,13 +11,14 @@ use Rattle.std.proofs.lemmas.Bool.Decides.{nat_tests}
 use Rattle.std.proofs.lemmas.Fmt.{decimal_is_IsNumeral, decimal_nonempty, length-decimal-le}
 use Rattle.std.proofs.lemmas.List.{append-nil}
 use Rattle.std.proofs.lemmas.List.Splits.{length-slice_split, slice_split_at, slice_split_none}
-use Rattle.gtd_roads.proofs.NumberFacts.{number_below}
-use Rattle.gtd_roads.specs.Columns.{code_of, number_of}
-use Rattle.gtd_roads.specs.Vehicles.{IsAscending, IsOrdered, and_code, codes_of, is_zero, items_of, listed, named, single, type_of, vehicles_of}
-use Rattle.gtd_roads.specs.declared.vehicles.Vehicles.{Vehicles}
-use Rattle.gtd_roads.specs.declared.vehicles.Vehicles.TheVariants.{Every, Only, AllBut}
-use Rattle.gtd_roads.specs.declared.vehicles.Version.{Version}
-use Rattle.gtd_roads.specs.declared.vehicles.Version.TheVariants as version
+use Rattle.gtd_records.specs.facts.NumberFacts.{number_below}
+use Rattle.gtd_records.specs.Columns.{code_of, number_of}
+use Rattle.gtd_records.specs.Vehicles.{IsAscending, IsOrdered, and_code, codes_of, is_zero, items_of, types_listed, named, single}
+use Rattle.gtd_records.specs.Vehicles.{type_of, vehicles_of}
+use Rattle.gtd_records.specs.declared.vehicles.Vehicles.{Vehicles}
+use Rattle.gtd_records.specs.declared.vehicles.Vehicles.TheVariants.{Every, Only, AllBut}
+use Rattle.gtd_records.specs.declared.vehicles.Version.{Version}
+use Rattle.gtd_records.specs.declared.vehicles.Version.TheVariants as version
 use Rattle.gtd_migrate.specs.Migrated.{codes_text, vehicles_text}
 use Rattle.gtd_migrate.proofs.TextFacts.{IsPlain, decimal_plain, plain_joined}
 
@@ -42,7 +44,8 @@ IsNamed (AllBut types) = IsList types
 code_below : (text : List ℕ) (code : ℕ) → code_of text ≡ Some code → code < 100
 code_below text code e = by_length (nat_le (length text) 2) refl e
   where
-    by_length : (b : Bool) → nat_le (length text) 2 ≡ b → ◌≡◌ {A = Option ℕ} (cond b (number_of text) None) (Some code) → code < 100
+    by_length : (b : Bool) → nat_le (length text) 2 ≡ b → ◌≡◌ {A = Option ℕ} (cond b (number_of text) None) (Some code)
+        → code < 100
     by_length true few h = let below = number_below text code 2 h (leb-true (length text) 2 few) in omega arith
     by_length false few h = absurd cc
 
@@ -50,7 +53,8 @@ named_some : (o : Option ℕ) (code : ℕ) → named o ≡ Some code → (o ≡ 
 named_some None code e = absurd cc
 named_some (Some x) code e = by_zero (x == 0) refl e
   where
-    by_zero : (b : Bool) → (x == 0) ≡ b → ◌≡◌ {A = Option ℕ} (cond b None (Some x)) (Some code) → (Some x ≡ Some code) × (0 < code)
+    by_zero : (b : Bool) → (x == 0) ≡ b → ◌≡◌ {A = Option ℕ} (cond b None (Some x)) (Some code) → (Some x ≡ Some code)
+        × (0 < code)
     by_zero true is h = absurd cc
     by_zero false is h = let same : x ≡ code = cc in (h, subst (λ (n : ℕ). 0 < n) same (grind (arith, nat_tests)))
 
@@ -130,17 +134,20 @@ single_named : (o : Option ℕ) (given types : Vehicles) → ((code : ℕ) → o
 single_named None given types within e is = absurd cc
 single_named (Some code) given types within e is =
     let w = within code refl in
-    only_named (Some (code ∷ [])) given types (λ all s. let same : code ∷ [] ≡ all = cc in subst (λ (l : List ℕ). AreTypes l × (0 < length l)) same ((w.0, w.1, tt), omega arith)) e is
+    only_named (Some (code ∷ [])) given types (λ all s. let same : code ∷ [] ≡ all = cc in
+    subst (λ (l : List ℕ). AreTypes l × (0 < length l)) same ((w.0, w.1, tt), omega arith)) e is
 
-listed_named : (text : List ℕ) (given types : Vehicles) → listed text ≡ Some given → IsOrdered given types → IsNamed types
+listed_named : (text : List ℕ) (given types : Vehicles) → types_listed text ≡ Some given → IsOrdered given types → IsNamed types
 listed_named [] given types e is = absurd cc
 listed_named (first ∷ rest) given types e is = by_mark (first == 33) e
   where
-    by_mark : (b : Bool) → cond b (option_map AllBut (codes_of (items_of rest))) (option_map Only (codes_of (items_of (first ∷ rest)))) ≡ Some given → IsNamed types
+    by_mark : (b : Bool) → cond b (option_map AllBut (codes_of (items_of rest)))
+        (option_map Only (codes_of (items_of (first ∷ rest)))) ≡ Some given → IsNamed types
     by_mark true h = all_but_named (codes_of (items_of rest)) given types (items_are rest) h is
     by_mark false h = only_named (codes_of (items_of (first ∷ rest))) given types (items_are (first ∷ rest)) h is
 
-pub vehicles_named : (v : Version) (text : List ℕ) (given types : Vehicles) → vehicles_of v text ≡ Some given → IsOrdered given types → IsNamed types
+pub vehicles_named : (v : Version) (text : List ℕ) (given types : Vehicles) → vehicles_of v text ≡ Some given
+    → IsOrdered given types → IsNamed types
 vehicles_named version.One text given types e is = by_zero (is_zero (code_of text)) e
   where
     by_zero : (b : Bool) → cond b (Some Every) (single text) ≡ Some given → IsNamed types
@@ -148,7 +155,7 @@ vehicles_named version.One text given types e is = by_zero (is_zero (code_of tex
     by_zero false h = single_named (type_of text) given types (type_within text) h is
 vehicles_named version.Two text given types e is = by_zero (is_zero (code_of text)) e
   where
-    by_zero : (b : Bool) → cond b (Some Every) (listed text) ≡ Some given → IsNamed types
+    by_zero : (b : Bool) → cond b (Some Every) (types_listed text) ≡ Some given → IsNamed types
     by_zero true h = every_named given types h is
     by_zero false h = listed_named text given types h is
 
@@ -196,7 +203,8 @@ digits_of n h = (decimal_is_IsNumeral n (omega arith)).0.1
 
 items_read : (x : ℕ) (rest : List ℕ) → x < 100 → AreTypes rest → items_of (codes_text (x ∷ rest)) ≡ map decimal (x ∷ rest)
 items_read x [] h are =
-    ap items_of (append-nil (decimal x)) ∙ slice_split_none (λ (b : ℕ). b == 59) (decimal x) (no_semicolon (decimal x) (digits_of x h))
+    ap items_of (append-nil (decimal x)) ∙ slice_split_none (λ (b : ℕ). b == 59) (decimal x)
+    (no_semicolon (decimal x) (digits_of x h))
 items_read x (y ∷ rest) h are =
     slice_split_at (λ (b : ℕ). b == 59) (decimal x) 59 (codes_text (y ∷ rest)) (no_semicolon (decimal x) (digits_of x h)) refl
     ∙ ap (λ (l : List (List ℕ)). decimal x ∷ l) (items_read y rest are.1 are.2)
@@ -219,7 +227,8 @@ list_not_zero x (y ∷ rest) are =
     let d = length-append (decimal y) (flat_map (λ (other : ℕ). codes ";" ++ decimal other) rest) in
     long_code (codes_text (x ∷ y ∷ rest)) (omega arith)
 
-no_mark : (text rest : List ℕ) → 0 < length text → AllDigits 10 text → listed (text ++ rest) ≡ option_map Only (codes_of (items_of (text ++ rest)))
+no_mark : (text rest : List ℕ) → 0 < length text → AllDigits 10 text → types_listed (text ++ rest)
+    ≡ option_map Only (codes_of (items_of (text ++ rest)))
 no_mark [] rest some h = absurd (omega arith)
 no_mark (c ∷ text) rest some h = rw ((digit_is c h.0).2) refl
 
@@ -244,7 +253,8 @@ vehicles_read (Only []) is = absurd (let s = is.some in omega arith)
 vehicles_read (Only (x ∷ rest)) is =
     let are = is.each in
     rw (list_not_zero x rest are)
-    (no_mark (decimal x) (flat_map (λ (other : ℕ). codes ";" ++ decimal other) rest) (decimal_nonempty x (let h = are.1 in omega arith)) (digits_of x are.1)
+    (no_mark (decimal x) (flat_map (λ (other : ℕ). codes ";" ++ decimal other) rest)
+    (decimal_nonempty x (let h = are.1 in omega arith)) (digits_of x are.1)
     ∙ ap (option_map Only) (list_read x rest are))
 vehicles_read (AllBut []) is = absurd (let s = is.some in omega arith)
 vehicles_read (AllBut (x ∷ rest)) is =

@@ -3,3 +3,4 @@ pub mod RowsFacts
 pub mod TextFacts
 pub mod CodesFacts
 pub mod MigrateFacts
+pub mod ClaimFacts

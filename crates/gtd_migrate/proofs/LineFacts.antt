@@ -1,10 +1,11 @@
 -- How long the line of a row can be.
-use Rattle.std.proofs.Common.{◌<◌, ◌≤◌, ◌+◌, ◌*◌, arith, ℕ, zero, suc, List, [], ◌∷◌, ◌++◌, length, length-append, add-one, Option, Some, None, Bool, true, false}
+use Rattle.std.proofs.Common.{◌<◌, ◌≤◌, ◌+◌, ◌*◌, arith, ℕ, zero, suc, List, [], ◌∷◌, ◌++◌, length, length-append, add-one}
+use Rattle.std.proofs.Common.{Option, Some, None, Bool, true, false}
 use Rattle.std.specs.Prelude.{codes, decimal, ◌==◌, if◌then◌else◌}
 use Rattle.std.specs.List.{slice_index}
 use Rattle.std.specs.List.Sorted.{IsStrictlyIncreasing}
 use Rattle.std.proofs.lemmas.Fmt.{length-decimal-le}
-use Rattle.gtd_core.proofs.Leaves.{leaves_are_valid}
+use Rattle.gtd_core.specs.facts.Leaves.{leaves_are_valid}
 use Rattle.gtd_core.specs.Parts.{domain_tree}
 use Rattle.gtd_core.specs.declared.domain.Domain.{Domain}
 use Rattle.gtd_core.specs.declared.start.StartParts.{StartParts}
@@ -14,7 +15,9 @@ use Rattle.gtd_core.specs.declared.domain.Op.TheVariants.{Union, Meet, Minus}
 use Rattle.gtd_core.specs.DurationBound.{HasSixDigits}
 use Rattle.gtd_core.specs.StartRanges.{IsStart, IsWithin}
 use Rattle.gtd_core.specs.Trees.{Tree, Single, Joined, AreValid, leaf_count}
-use Rattle.gtd_text.specs.Canonical.{canonical, clock_fields, day_fields, duration_text, field_text, month_fields, number_text, numbers_text, or_zero, place_fields, place_text, sign_text, start_text, weekday_text, weekdays_text, year_text}
+use Rattle.gtd_text.specs.Canonical.{canonical, clock_fields, day_fields, duration_text, field_text, month_fields, number_text}
+use Rattle.gtd_text.specs.Canonical.{numbers_text, or_zero, place_fields, place_text, sign_text, start_text, weekday_text}
+use Rattle.gtd_text.specs.Canonical.{weekdays_text, year_text}
 
 -- ---- the canonical text of an expression
 
@@ -66,7 +69,8 @@ start_short s h =
     joined_short (month_fields s ++ place_fields s ++ day_fields s) (clock_fields s) 34 9
     (three_short (month_fields s) (place_fields s) (day_fields s) 11 6 17
     (three_short (year_text s.year) (field_text (codes "M") s.month) (field_text (codes "w") s.week) 5 3 3 (year_short s.year)
-    (field_short (codes "M") 1 12 s.month (omega arith) (omega arith) h.month) (field_short (codes "w") 1 53 s.week (omega arith) (omega arith) h.week))
+    (field_short (codes "M") 1 12 s.month (omega arith) (omega arith) h.month)
+    (field_short (codes "w") 1 53 s.week (omega arith) (omega arith) h.week))
     (joined_short (place_text (codes "f") s.nth) (place_text (codes "l") s.nth_back) 3 3
     (place_short (codes "f") s.nth (omega arith)) (place_short (codes "l") s.nth_back (omega arith)))
     (joined_short (field_text (codes "d") s.day) (weekdays_text s.weekdays) 3 14
@@ -76,7 +80,8 @@ start_short s h =
     (field_short (codes "m") 0 59 s.minute (omega arith) (omega arith) h.minute)
     (field_short (codes "s") 0 59 s.second (omega arith) (omega arith) h.second))
 
-number_by : (b : Bool) (letter : List ℕ) (n : ℕ) → length letter ≤ 1 → n ≤ 999999 → length (if b then [] else letter ++ decimal n) ≤ 7
+number_by : (b : Bool) (letter : List ℕ) (n : ℕ) → length letter ≤ 1 → n ≤ 999999
+    → length (if b then [] else letter ++ decimal n) ≤ 7
 number_by true letter n l few = omega arith
 number_by false letter n l few =
     joined_short letter (decimal n) 1 6 l (length-decimal-le 6 n (omega arith) (omega arith) (omega arith))

@@ -1,5 +1,6 @@
 -- The migrated file of restrictions that were read is a file of just those restrictions.
-use Rattle.std.proofs.Common.{◌≡◌, ◌∙◌, ◌<◌, ◌≤◌, ◌+◌, ◌^◌, ap, refl, sym, subst, arith, inl, inr, cond, ℕ, zero, suc, List, [], ◌∷◌, ◌++◌, length, length-append, append_assoc, map, Bool, true, false, Option, Some, None}
+use Rattle.std.proofs.Common.{◌≡◌, ◌∙◌, ◌<◌, ◌≤◌, ◌+◌, ◌^◌, ap, refl, sym, subst, arith, inl, inr, cond, ℕ, zero, suc, List, []}
+use Rattle.std.proofs.Common.{◌∷◌, ◌++◌, length, length-append, append_assoc, map, Bool, true, false, Option, Some, None}
 use Rattle.std.specs.Prelude.{codes, decimal, flat_map, nat_le, IfSome, MatchOption, Result, Ok, Err, ◌&&◌, ◌||◌, ◌==◌}
 use Rattle.std.specs.Char.{is_ascii_digit}
 use Rattle.std.specs.List.{list_all, list_any}
@@ -15,28 +16,30 @@ use Rattle.csv.specs.Writing.{default_writer, fields_text, is_blank, needs_byte,
 use Rattle.csv.specs.declared.parser.State.TheVariants as st
 use Rattle.gtd_core.specs.Trees.{Tree}
 use Rattle.gtd_core.specs.declared.fault.TextFault.{TextFault}
-use Rattle.gtd_roads.proofs.FileFacts.{record_count}
-use Rattle.gtd_roads.proofs.NumberFacts.{number_below}
-use Rattle.gtd_roads.proofs.OneAnswer.{one_file}
-use Rattle.gtd_roads.proofs.RowFacts.{full_row}
-use Rattle.gtd_roads.specs.Columns.{closed_of, number_of}
-use Rattle.gtd_roads.specs.File.{AreRecords, IsFile, IsTable, header, most_bytes, most_rows}
-use Rattle.gtd_roads.specs.Restriction.{Restriction}
-use Rattle.gtd_roads.specs.Row.{IsDomainColumn, IsFullRow, IsRow, with_domain}
-use Rattle.gtd_roads.specs.Table.{Fields}
-use Rattle.gtd_roads.specs.Vehicles.{IsOrdered, IsRead, vehicles_of}
-use Rattle.gtd_roads.specs.declared.direction.Closed.{Closed}
-use Rattle.gtd_roads.specs.declared.direction.Closed.TheVariants.{One, Both}
-use Rattle.gtd_roads.specs.declared.direction.Direction.TheVariants.{Positive, Negative}
-use Rattle.gtd_roads.specs.declared.fault.RecordFault.{RecordFault}
-use Rattle.gtd_roads.specs.declared.fault.RecordFault.TheVariants as fault
-use Rattle.gtd_roads.specs.declared.vehicles.Vehicles.{Vehicles}
-use Rattle.gtd_roads.specs.declared.vehicles.Version.{Version}
-use Rattle.gtd_roads.specs.declared.vehicles.Version.TheVariants as version
+use Rattle.gtd_records.specs.facts.FileFacts.{record_count}
+use Rattle.gtd_records.specs.facts.NumberFacts.{number_below}
+use Rattle.gtd_records.specs.facts.OneAnswer.{one_file}
+use Rattle.gtd_records.specs.facts.RowFacts.{full_row}
+use Rattle.gtd_records.specs.Columns.{closed_of, number_of}
+use Rattle.gtd_core.specs.Limits.{most_file_bytes, most_rows}
+use Rattle.gtd_records.specs.File.{AreRecords, IsFile, IsTable, header}
+use Rattle.gtd_records.specs.Restriction.{Restriction}
+use Rattle.gtd_records.specs.Row.{IsDomainColumn, IsFullRow, IsRow, with_domain}
+use Rattle.gtd_records.specs.Table.{Fields}
+use Rattle.gtd_records.specs.Vehicles.{IsOrdered, AreTypesRead, vehicles_of}
+use Rattle.gtd_records.specs.declared.direction.Closed.{Closed}
+use Rattle.gtd_records.specs.declared.direction.Closed.TheVariants.{One, Both}
+use Rattle.gtd_records.specs.declared.direction.Direction.TheVariants.{Positive, Negative}
+use Rattle.gtd_records.specs.declared.fault.RecordFault.{RecordFault}
+use Rattle.gtd_records.specs.declared.fault.RecordFault.TheVariants as fault
+use Rattle.gtd_records.specs.declared.vehicles.Vehicles.{Vehicles}
+use Rattle.gtd_records.specs.declared.vehicles.Version.{Version}
+use Rattle.gtd_records.specs.declared.vehicles.Version.TheVariants as version
 use Rattle.gtd_runs.specs.Putting.{text_of}
 use Rattle.gtd_migrate.specs.Migrated.{closed_word, domain_text, header_line, migrated, row_line, vehicles_text}
 use Rattle.gtd_migrate.proofs.CodesFacts.{IsNamed, number_read, ordered_itself, vehicles_named, vehicles_plain, vehicles_read}
-use Rattle.gtd_migrate.proofs.TextFacts.{IsPlain, IsPrintableTree, canonical_plain, decimal_plain, domain_read, read_is_printable}
+use Rattle.gtd_migrate.proofs.TextFacts.{IsPlain, canonical_unquoted, decimal_plain, domain_read}
+use Rattle.gtd_text.specs.facts.Printable.{IsPrintableTree, read_is_printable}
 
 -- ---- what was read can be printed
 
@@ -53,22 +56,26 @@ ArePrintable (r ∷ found) = IsPrintable r × ArePrintable found
 number_short : (text : List ℕ) (n : ℕ) → number_of text ≡ Some n → length text ≤ 10
 number_short text n e = by_form (nat_le 1 (length text)) (nat_le (length text) 10) (list_all is_ascii_digit text) refl e
   where
-    by_form : (a b d : Bool) → nat_le (length text) 10 ≡ b → ◌≡◌ {A = Option ℕ} (cond (a && b && d) (Some (digits_value 10 text)) None) (Some n) → length text ≤ 10
+    by_form : (a b d : Bool) → nat_le (length text) 10 ≡ b → ◌≡◌ {A = Option ℕ}
+        (cond (a && b && d) (Some (digits_value 10 text)) None) (Some n) → length text ≤ 10
     by_form a true d ten h = leb-true (length text) 10 ten
     by_form true false d ten h = absurd cc
     by_form false false d ten h = absurd cc
 
-match_some : {A : Type 0} (o : Option A) (P : Type 0) (Q : A → Type 0) → (P → ⊥) → MatchOption o P Q → (x : A) × (o ≡ Some x) × Q x
+match_some : {A : Type 0} (o : Option A) (P : Type 0) (Q : A → Type 0) → (P → ⊥) → MatchOption o P Q → (x : A) × (o ≡ Some x)
+    × Q x
 match_some None P Q none m = absurd (none m)
 match_some (Some x) P Q none m = (x, refl, m)
 
 column_printable : (text : List ℕ) (domain : Option Tree) → IsDomainColumn text (Ok domain) → IfSome domain IsPrintableTree
 column_printable text None is = tt
 column_printable [] (Some tree) is = absurd cc
-column_printable (b ∷ text) (Some tree) is = read_is_printable (b ∷ text) tree is
+column_printable (b ∷ text) (Some tree) is = read_is_printable (b ∷ text) tree is.0 is.1
 
-made : (version : Version) (row element : ℕ) (closed : Closed) (given types : Vehicles) (number vehicles domain : List ℕ) (read : Result (Option Tree) TextFault) (r : Restriction)
-    → number_of number ≡ Some element → vehicles_of version vehicles ≡ Some given → IsOrdered given types → IsDomainColumn domain read
+made : (version : Version) (row element : ℕ) (closed : Closed) (given types : Vehicles) (number vehicles domain : List ℕ)
+    (read : Result (Option Tree) TextFault) (r : Restriction)
+    → number_of number ≡ Some element → vehicles_of version vehicles ≡ Some given → IsOrdered given types
+    → IsDomainColumn domain read
     → Ok r ≡ with_domain row element closed types read → IsPrintable r
 made version row element closed given types number vehicles domain (Err why) r a b d e is = absurd cc
 made version row element closed given types number vehicles domain (Ok tree) r a b d e is =
@@ -82,12 +89,16 @@ made version row element closed given types number vehicles domain (Ok tree) r a
 full_printable : (version : Version) (row : ℕ) (element closed vehicles domain : List ℕ) (r : Restriction)
     → IsFullRow version row element closed vehicles domain (Ok r) → IsPrintable r
 full_printable version row element closed vehicles domain r is =
-    let a = match_some (number_of element) _ _ (λ (e : ◌≡◌ {A = Result Restriction RecordFault} (Ok r) (Err (fault.Element row))). cc) is in
-    let b = match_some (closed_of closed) _ _ (λ (e : ◌≡◌ {A = Result Restriction RecordFault} (Ok r) (Err (fault.Direction row))). cc) a.2 in
-    let n = match_some (vehicles_of version vehicles) _ _ (λ (e : ◌≡◌ {A = Result Restriction RecordFault} (Ok r) (Err (fault.Vehicle row))). cc) b.2 in
+    let a = match_some (number_of element) _ _ (λ (e : ◌≡◌ {A = Result Restriction RecordFault} (Ok r) (Err (fault.Element row))).
+    cc) is in
+    let b = match_some (closed_of closed) _ _
+    (λ (e : ◌≡◌ {A = Result Restriction RecordFault} (Ok r) (Err (fault.Direction row))). cc) a.2 in
+    let n = match_some (vehicles_of version vehicles) _ _ (λ
+    (e : ◌≡◌ {A = Result Restriction RecordFault} (Ok r) (Err (fault.Vehicle row))). cc) b.2 in
     made version row a.0 b.0 n.0 n.2.0 element vehicles domain n.2.1 r a.1 n.1 n.2.2 n.2.3 n.2.4
 
-row_printable : (version : Version) (row : ℕ) (fields : Fields) (r : Restriction) → IsRow version row fields (Ok r) → IsPrintable r
+row_printable : (version : Version) (row : ℕ) (fields : Fields) (r : Restriction) → IsRow version row fields (Ok r)
+    → IsPrintable r
 row_printable version row [] r is = absurd cc
 row_printable version row (a ∷ []) r is = absurd cc
 row_printable version row (a ∷ b ∷ []) r is = absurd cc
@@ -95,10 +106,14 @@ row_printable version row (a ∷ b ∷ c ∷ []) r is = absurd cc
 row_printable version row (a ∷ b ∷ c ∷ d ∷ []) r is = full_printable version row a b c d r is
 row_printable version row (a ∷ b ∷ c ∷ d ∷ e ∷ more) r is = absurd cc
 
-records_printable : (version : Version) (number : ℕ) (rows : List Fields) (found : List Restriction) → AreRecords version number rows found → ArePrintable found
+records_printable : (version : Version) (number : ℕ) (rows : List Fields) (found : List Restriction)
+    → AreRecords version number rows found → ArePrintable found
 records_printable version number [] found are = subst ArePrintable (sym are) tt
 records_printable version number (row ∷ rows) found are =
-    subst ArePrintable (sym are.4) (row_printable version number row are.0 are.2, records_printable version (number + 1) rows are.1 are.3)
+    subst ArePrintable (sym are.4) (
+      row_printable version number row are.0 are.2,
+      records_printable version (number + 1) rows are.1 are.3,
+    )
 
 table_printable : (text : List Fields) (found : List Restriction) → IsTable text (Ok found) → ArePrintable found
 table_printable text found (inl t) = records_printable t.0 1 t.1 found t.3.1
@@ -133,7 +148,7 @@ closed_read Both = refl
 
 domain_plain : (domain : Option Tree) → IfSome domain IsPrintableTree → IsPlain (domain_text domain)
 domain_plain None is = refl
-domain_plain (Some tree) is = canonical_plain tree is.valid
+domain_plain (Some tree) is = canonical_unquoted tree is.valid
 
 column_read : (domain : Option Tree) → IfSome domain IsPrintableTree → IsDomainColumn (domain_text domain) (Ok domain)
 column_read None is = refl
@@ -143,16 +158,18 @@ column_read (Some tree) is = domain_read tree is
 abbrev columns_of : Restriction → Fields
 columns_of r = decimal r.element ∷ closed_word r.closed ∷ vehicles_text r.vehicles ∷ domain_text r.domain ∷ []
 
-vehicles_are : (v : Vehicles) → IsNamed v → IsRead (vehicles_of version.Two (vehicles_text v)) (Some v)
+vehicles_are : (v : Vehicles) → IsNamed v → AreTypesRead (vehicles_of version.Two (vehicles_text v)) (Some v)
 vehicles_are v is = rw (vehicles_read v is) (v, ordered_itself v is, refl)
 
 row_read : (row : ℕ) (r : Restriction) → IsPrintable r → IsRow version.Two row (columns_of r) (Ok r)
 row_read row r p =
-    full_row version.Two row (columns_of r) (decimal r.element) (closed_word r.closed) (vehicles_text r.vehicles) (domain_text r.domain)
+    full_row version.Two row (columns_of r) (decimal r.element) (closed_word r.closed) (vehicles_text r.vehicles)
+    (domain_text r.domain)
     r.element r.closed r.vehicles (Ok r.domain) refl (number_read r.element p.element) (closed_read r.closed)
     (vehicles_are r.vehicles p.vehicles) (column_read r.domain p.domain)
 
-rows_read : (number : ℕ) (found : List Restriction) → ArePrintable found → AreRecords version.Two number (map columns_of found) found
+rows_read : (number : ℕ) (found : List Restriction) → ArePrintable found
+    → AreRecords version.Two number (map columns_of found) found
 rows_read number [] p = refl
 rows_read number (r ∷ found) p = (r, found, row_read number r p.0, rows_read (number + 1) found p.1, refl)
 
@@ -176,7 +193,8 @@ header_is = refl
 
 -- a row that was written is read first
 row_then : (x y : List ℕ) (ys : List (List ℕ)) (tail : List ℕ) (fuel : ℕ)
-    → records_from default_config (suc fuel) st.StartRecord (row_text default_writer (x ∷ y ∷ ys) ++ tail) ≡ (x ∷ y ∷ ys) ∷ records_from default_config fuel st.StartRecord tail
+    → records_from default_config (suc fuel) st.StartRecord (row_text default_writer (x ∷ y ∷ ys) ++ tail) ≡ (x ∷ y ∷ ys)
+    ∷ records_from default_config fuel st.StartRecord tail
 unfolding records_from
 row_then x y ys tail fuel = ap (records_next (records_from default_config fuel)) (read-write-many x y ys tail)
 
@@ -188,7 +206,8 @@ lines_read [] (suc fuel) h p = refl
 lines_read (r ∷ found) zero h p = absurd (omega arith)
 lines_read (r ∷ found) (suc fuel) h p =
     ap (λ (t : List ℕ). records_from default_config (suc fuel) st.StartRecord (t ++ flat_map row_line found)) (line_is r p.0)
-    ∙ row_then (decimal r.element) (closed_word r.closed) (vehicles_text r.vehicles ∷ domain_text r.domain ∷ []) (flat_map row_line found) fuel
+    ∙ row_then (decimal r.element) (closed_word r.closed) (vehicles_text r.vehicles ∷ domain_text r.domain ∷ [])
+    (flat_map row_line found) fuel
     ∙ ap (λ (l : List Fields). columns_of r ∷ l) (lines_read found fuel (omega arith) p.1)
 
 -- there are no more lines than bytes
@@ -201,7 +220,8 @@ lines_long (r ∷ found) =
     omega arith
 
 all_read : (found : List Restriction) (fuel : ℕ) → length found + 1 < fuel → ArePrintable found
-    → records_from default_config fuel st.StartRecord (header_line ++ flat_map row_line found) ≡ header version.Two ∷ map columns_of found
+    → records_from default_config fuel st.StartRecord (header_line ++ flat_map row_line found) ≡ header version.Two
+    ∷ map columns_of found
 all_read found zero h p = absurd (omega arith)
 all_read found (suc fuel) h p =
     let lines = flat_map row_line found in
@@ -216,7 +236,8 @@ no_mark lines = refl
 written : (found : List Restriction) → text_of (migrated found) ≡ header_line ++ flat_map row_line found
 written found = ap (λ (l : List ℕ). header_line ++ l) (flat_map-map (λ (line : List ℕ). line) row_line found)
 
-written_is_file : (found : List Restriction) → length found ≤ most_rows → ArePrintable found → length (header_line ++ flat_map row_line found) ≤ most_bytes
+written_is_file : (found : List Restriction) → length found ≤ most_rows → ArePrintable found
+    → length (header_line ++ flat_map row_line found) ≤ most_file_bytes
     → IsFile (header_line ++ flat_map row_line found) (Ok found)
 written_is_file found few p fits =
     let lines = flat_map row_line found in
@@ -229,10 +250,11 @@ written_is_file found few p fits =
 
 -- the migrated file of a record file is a file of just the same restrictions
 pub migrated_is_file : (bytes : List ℕ) (found : List Restriction) → IsFile bytes (Ok found)
-    → length (text_of (migrated found)) ≤ most_bytes → IsFile (text_of (migrated found)) (Ok found)
+    → length (text_of (migrated found)) ≤ most_file_bytes → IsFile (text_of (migrated found)) (Ok found)
 migrated_is_file bytes found file fits =
     let w = written found in
-    let fits_too : length (header_line ++ flat_map row_line found) ≤ most_bytes = subst (λ (t : List ℕ). length t ≤ most_bytes) w fits in
+    let fits_too : length (header_line ++ flat_map row_line found) ≤ most_file_bytes =
+    subst (λ (t : List ℕ). length t ≤ most_file_bytes) w fits in
     subst (λ (t : List ℕ). IsFile t (Ok found)) (sym w)
     (written_is_file found (file_few bytes found file) (file_printable bytes found file) fits_too)
 

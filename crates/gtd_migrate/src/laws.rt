@@ -2,10 +2,11 @@
 
 ghost use Rattle.std.specs.Prelude.{◌≡◌, ◌≤◌, ◌==◌, ◌↔◌, ℕ, ℤ, false, List, length, Ok};
 ghost use Rattle.std.specs.List.{list_any};
-ghost use Rattle.gtd_roads.specs.Closing.{AreElements, IsClosed, IsOpen};
-ghost use Rattle.gtd_roads.specs.File.{IsFile};
-ghost use Rattle.gtd_roads.specs.Restriction.{Restriction};
-ghost use Rattle.gtd_roads.specs.declared.direction.Direction.{Direction};
+ghost use Rattle.gtd_core.specs.Limits.{most_file_bytes};
+ghost use Rattle.gtd_records.specs.Closing.{AreElements, IsClosed, IsOpen};
+ghost use Rattle.gtd_records.specs.File.{IsFile};
+ghost use Rattle.gtd_records.specs.Restriction.{Restriction};
+ghost use Rattle.gtd_records.specs.declared.direction.Direction.{Direction};
 ghost use Rattle.gtd_runs.specs.Putting.{text_of};
 ghost use Rattle.gtd_migrate.specs.Migrated.{migrated};
 
@@ -13,7 +14,7 @@ ghost use Rattle.gtd_migrate.specs.Migrated.{migrated};
 /// record file may have. No field of it needs quotes: it has no quotation mark.
 pub fn migrated_is_accepted()
     ensures accepted { (bytes : List ℕ) (found : List Restriction) → IsFile bytes (Ok found)
-        → length (text_of (migrated found)) ≤ 16777216
+        → length (text_of (migrated found)) ≤ most_file_bytes
         → IsFile (text_of (migrated found)) (Ok found) }
     ensures unquoted { (bytes : List ℕ) (found : List Restriction) → IsFile bytes (Ok found)
         → list_any (λ b. b == 34) (text_of (migrated found)) ≡ false }

@@ -1,14 +1,16 @@
 //! The record file that an input brings, put to an output as a file of version 2.
 
 ghost use Rattle.std.specs.Prelude.{◌≡◌, ◌<◌, ◌≤◌, ⊤, None, length, map, IsErrOf, IsTrue, List, OnOk};
-ghost use Rattle.gtd_roads.specs.Restriction.{Restriction};
+ghost use Rattle.gtd_core.specs.Limits.{most_rows};
+ghost use Rattle.gtd_records.specs.Restriction.{Restriction};
 ghost use Rattle.gtd_runs.specs.Putting.{Puts, failures_after_stop};
-ghost use Rattle.gtd_runs.specs.Run.{AcceptedFilesArePut, HasRun, RefusedFilesPutNothing};
-ghost use Rattle.gtd_runs.specs.Run.{failures_after_read, failures_after_write};
+ghost use Rattle.gtd_runs.specs.Run.{HasRun, failures_after_read, failures_after_write};
 ghost use Rattle.gtd_migrate.specs.Migrated.{migrated, row_line};
+ghost use Rattle.gtd_migrate.specs.Theorem.{MigrationClaim};
 
 use crate::line::write_line;
-use gtd_roads::{Input, Output, Record, RecordFault, Records};
+use gtd_devices::{Input, Output};
+use gtd_records::{Record, RecordFault, Records};
 use gtd_runs::{Progress, Report, RunFault, Stop, Subject, finish, put_line, run_report};
 use std::alloc::Global;
 
@@ -21,7 +23,7 @@ fn put_rows<O: Output>(
     rows: &[Record],
 ) -> Result<(), Stop>
     requires countable { O.failure_count output.old < u64.MAX }
-    requires few { length rows.now ≤ 65536 }
+    requires few { length rows.now ≤ most_rows }
     requires written { progress.old.written ≤ 34 }
     requires lines { progress.old.lines ≤ 1 }
     ensures puts { Puts result (O.taken output.old) (O.taken output.new)
@@ -80,12 +82,9 @@ pub fn run_migrate<I: Input, O: Output>(
 ) -> Result<u64, RunFault>
     requires readable { I.failure_count input.old < u64.MAX }
     requires writable { O.failure_count output.old < u64.MAX }
-    // Where nothing hinders it, the output took the migrated file, and the answer is the number of its lines.
-    ensures accepted { AcceptedFilesArePut (λ found. ⊤) (λ found lines. lines ≡ migrated found)
-        (I.to_come input.old) (O.taken output.old) (O.taken output.new) result }
-    // Refused files print nothing: where nothing hinders it, the answer is the first fault of the file.
-    ensures refused { RefusedFilesPutNothing
-        (I.to_come input.old) (O.taken output.old) (O.taken output.new) result }
+    // Where nothing hindered the run: of a restriction file the output took the migrated file, and the answer is the number
+    // of its lines; of any other file it took nothing, and the answer is the file's first fault.
+    ensures claim { MigrationClaim (I.to_come input.old) (O.taken output.old) (O.taken output.new) result }
     // What stands by each answer: after a failure or a refusal of memory, the first bytes of the migrated file.
     ensures stands { HasRun (λ found. ⊤) (λ found lines. lines ≡ migrated found)
         (I.to_come input.old) (O.taken output.old) (O.taken output.new) result }

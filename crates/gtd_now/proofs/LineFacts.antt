@@ -1,6 +1,7 @@
 -- What a line says, and how long it is.
-use Rattle.std.proofs.Common.{◌≡◌, ◌∙◌, ap, refl, subst, arith, ◌<◌, ◌≤◌, ◌+◌, ◌*◌, ◌^◌, inl, inr, ◌↔◌, ℕ, zero, suc, Bool, true, false, List, [], ◌∷◌, ◌++◌, length, length-append, Option, Some, None}
-use Rattle.std.specs.Prelude.{ℤ, pos, ◌*ℤ◌, ⊤, Any, IsTrue, MatchOption, OnOk, Result, Ok, Err, decimal, if◌then◌else◌}
+use Rattle.std.proofs.Common.{◌≡◌, ◌∙◌, ap, refl, arith, ◌<◌, ◌≤◌, ◌+◌, ◌*◌, ◌^◌, inl, inr, ◌↔◌, ℕ, suc, Bool, true}
+use Rattle.std.proofs.Common.{false, List, [], ◌∷◌, ◌++◌, length, length-append, Option, Some, None}
+use Rattle.std.specs.Prelude.{ℤ, pos, ◌*ℤ◌, ⊤, IsTrue, MatchOption, OnOk, Result, Ok, Err, if◌then◌else◌}
 use Rattle.std.specs.Result.{is_ok}
 use Rattle.std.specs.List.{AllByRecursion, Contains}
 use Rattle.std.specs.List.Sorted.{IsStrictlySortedBy}
@@ -11,15 +12,14 @@ use Rattle.std.proofs.lemmas.Fmt.{length-decimal-le}
 use Rattle.std.proofs.lemmas.Map.Keys.{sorted_from_strictly_increasing}
 use Rattle.gtd_calendar.specs.Calendar.{IsCalendarDay}
 use Rattle.gtd_calendar.specs.Stamp.{stamp_text}
-use Rattle.gtd_core.specs.Days.{day_of_second}
+use Rattle.gtd_core.specs.Days.{day_of_second, IsHorizonSecond}
 use Rattle.gtd_core.specs.declared.second.Sec.{Sec}
-use Rattle.gtd_recur.specs.Membership.{IsHorizonSecond}
-use Rattle.gtd_roads.proofs.Rising.{AllAbove, In, Rises}
-use Rattle.gtd_roads.specs.Closing.{IsOpen}
-use Rattle.gtd_roads.specs.ClosingRows.{AreClosingRows}
-use Rattle.gtd_roads.specs.Restriction.{Restriction}
-use Rattle.gtd_roads.specs.declared.direction.Direction.{Direction}
-use Rattle.gtd_schedule.proofs.LineFacts.{length-head}
+use Rattle.gtd_records.specs.facts.Rising.{AllAbove, In, Rises}
+use Rattle.gtd_records.specs.Closing.{IsOpen}
+use Rattle.gtd_records.specs.ClosingRows.{AreClosingRows}
+use Rattle.gtd_records.specs.Restriction.{Restriction}
+use Rattle.gtd_records.specs.declared.direction.Direction.{Direction}
+use Rattle.gtd_schedule.specs.facts.LineFacts.{length-head}
 use Rattle.gtd_spans.specs.Change.{IsNextChange, NeverChanges}
 use Rattle.gtd_now.proofs.DayFacts.{change_shown}
 use Rattle.gtd_now.specs.Lines.{line_head, none_closes, second_of}
@@ -48,7 +48,8 @@ length-change None = omega arith
 length-change (Some t) = let l = length-stamp t in omega arith
 
 -- a line, made part by part
-pub short_line : (element : ℕ) (direction : Direction) (vehicle n : ℕ) (b : Bool) (o : Option ℤ) (one two three four five : List ℕ)
+pub short_line : (element : ℕ) (direction : Direction) (vehicle n : ℕ) (b : Bool) (o : Option ℤ)
+    (one two three four five : List ℕ)
     → element < 2 ^ 64 → vehicle < 256 → one ≡ line_head element direction vehicle → two ≡ one ++ (state_word b ++ (44 ∷ []))
     → three ≡ two ++ (change_text o ++ (44 ∷ [])) → length four ≤ length three + 21 * n → five ≡ four ++ (10 ∷ [])
     → length five ≤ 100 + 21 * n
@@ -73,7 +74,8 @@ module _ (found : List Restriction) (element : ℕ) (direction : Direction) (veh
   pub open_by_rows : (rows : List ℕ) → AreClosingRows found element direction vehicle second rows
       → IsTrue (none_closes rows) ↔ IsOpen found element direction vehicle second
   open_by_rows [] are = (
-    (λ e closed. let c = (are.each (closed.0 + 1)).1 (record { before = closed.0; is = refl; within = closed.2; row = closed.1; stands = closed.3; closes = closed.4 }) in
+    (λ e closed. let c = (are.each (closed.0 + 1)).1 (record
+        { before = closed.0; is = refl; within = closed.2; row = closed.1; stands = closed.3; closes = closed.4 }) in
         let l = c.1 in omega arith),
     (λ o. refl),
   )
@@ -130,11 +132,14 @@ same_change : (A : Type 0) (B : ℤ → Type 0) (o : Option Sec) → MatchOption
 same_change A B None h = h
 same_change A B (Some c) h = h
 
-pub line_is : (found : List Restriction) (vehicle : ℕ) (second : ℤ) (element : ℕ) (direction : Direction) (line rows : List ℕ) (o : Option Sec)
+pub line_is : (found : List Restriction) (vehicle : ℕ) (second : ℤ) (element : ℕ) (direction : Direction) (line rows : List ℕ)
+    (o : Option Sec)
     → AreClosingRows found element direction vehicle second rows
-    → ((last : ℤ) × IsLookEnd (day_of_second second) last × MatchOption o (NeverChanges (IsOpen found element direction vehicle) second (last *ℤ pos 86400))
+    → ((last : ℤ) × IsLookEnd (day_of_second second) last × MatchOption o
+    (NeverChanges (IsOpen found element direction vehicle) second (last *ℤ pos 86400))
     (λ c. IsNextChange (IsOpen found element direction vehicle) second (last *ℤ pos 86400) c.0))
-    → line ≡ state_line element direction vehicle (none_closes rows) (second_of o) rows → IsLine found vehicle second element direction line
+    → line ≡ state_line element direction vehicle (none_closes rows) (second_of o) rows
+    → IsLine found vehicle second element direction line
 line_is found vehicle second element direction line rows o are change is = record {
   is_open = none_closes rows;
   state = open_by_rows found element direction vehicle second rows are;

@@ -1,16 +1,17 @@
 -- What is said of a moment is one text, in parts.
-use Rattle.std.proofs.Common.{◌≡◌, ◌∙◌, sym, ap, refl, subst, arith, ◌<◌, ◌≤◌, ◌+◌, ◌⊎◌, inl, inr, ◌↔◌, ℕ, Bool, true, false, List, [], ◌∷◌, ◌++◌, length, Option, Some, None}
-use Rattle.std.specs.Prelude.{ℤ, pos, ◌+ℤ◌, ◌*ℤ◌, ◌≤ℤ◌, ◌<ℤ◌, IsTrue, MatchOption}
+use Rattle.std.proofs.Common.{◌≡◌, ◌∙◌, sym, ap, refl, subst, arith, inl, inr, ◌↔◌, ℕ, Bool, true, false}
+use Rattle.std.proofs.Common.{List, [], ◌∷◌, ◌++◌, Option, Some, None}
+use Rattle.std.specs.Prelude.{ℤ, pos, ◌*ℤ◌, IsTrue, MatchOption}
 use Rattle.std.proofs.lemmas.Int.{ints, by_lt_z}
 use Rattle.gtd_core.specs.Days.{day_of_second}
-use Rattle.gtd_roads.proofs.Rising.{one_list}
-use Rattle.gtd_roads.specs.Closing.{AreElements, IsOpen}
-use Rattle.gtd_roads.specs.ClosingRows.{AreClosingRows}
-use Rattle.gtd_roads.specs.Restriction.{Restriction}
-use Rattle.gtd_roads.specs.declared.direction.Direction.{Direction}
-use Rattle.gtd_roads.specs.declared.direction.Direction.TheVariants.{Positive, Negative}
-use Rattle.gtd_schedule.proofs.ScheduleFacts.{one_elements}
-use Rattle.gtd_schedule.proofs.TextFacts.{Then, IsOne}
+use Rattle.gtd_records.specs.facts.Rising.{one_list}
+use Rattle.gtd_records.specs.Closing.{AreElements, IsOpen}
+use Rattle.gtd_records.specs.ClosingRows.{AreClosingRows}
+use Rattle.gtd_records.specs.Restriction.{Restriction}
+use Rattle.gtd_records.specs.declared.direction.Direction.{Direction}
+use Rattle.gtd_records.specs.declared.direction.Direction.TheVariants.{Positive, Negative}
+use Rattle.gtd_schedule.specs.facts.ScheduleFacts.{one_elements}
+use Rattle.gtd_schedule.specs.facts.TextFacts.{Then, IsOne}
 use Rattle.gtd_now.specs.Now.{AreElementLines, AreLines, AreLinesOf, IsLine, IsLookEnd, IsNow, header_line, state_line}
 use Rattle.gtd_spans.specs.Change.{IsNextChange, NeverChanges}
 
@@ -47,13 +48,15 @@ one_rows found element direction vehicle second a b p q =
     one_list a b p.ascending q.ascending (λ n h. (q.each n).1 ((p.each n).0 h)) (λ n h. (p.each n).1 ((q.each n).0 h))
 
 module _ (found : List Restriction) (vehicle : ℕ) (second : ℤ) where
-  one_line : (element : ℕ) (direction : Direction) (a b : List ℕ) → IsLine found vehicle second element direction a → IsLine found vehicle second element direction b → a ≡ b
+  one_line : (element : ℕ) (direction : Direction) (a b : List ℕ) → IsLine found vehicle second element direction a
+      → IsLine found vehicle second element direction b → a ≡ b
   one_line element direction a b p q =
       let set = IsOpen found element direction vehicle in
       let state = one_state (set second) p.is_open q.is_open p.state q.state in
       let last = one_last (day_of_second second) p.last q.last p.ends q.ends in
       let change = one_change set second (p.last *ℤ pos 86400) p.change q.change p.until
-      (subst (λ (l : ℤ). MatchOption q.change (NeverChanges set second (l *ℤ pos 86400)) (λ c. IsNextChange set second (l *ℤ pos 86400) c)) (sym last) q.until) in
+      (subst (λ (l : ℤ). MatchOption q.change (NeverChanges set second (l *ℤ pos 86400))
+      (λ c. IsNextChange set second (l *ℤ pos 86400) c)) (sym last) q.until) in
       let rows = one_rows found element direction vehicle second p.rows q.rows p.closing q.closing in
       p.whole
       ∙ ap (λ (x : Bool). state_line element direction vehicle x p.change p.rows) state
@@ -85,7 +88,8 @@ module _ (found : List Restriction) (vehicle : ℕ) (second : ℤ) where
   pub one_now : IsOne (IsNow found vehicle second)
   one_now a b p q =
       let e = one_elements found p.elements q.elements p.named q.named in
-      let r = one_lines_of q.elements p.rest q.rest (subst (λ (l : List ℕ). AreLinesOf found vehicle second l p.rest) e p.each) q.each in
+      let r = one_lines_of q.elements p.rest q.rest (subst (λ (l : List ℕ). AreLinesOf found vehicle second l p.rest) e p.each)
+      q.each in
       p.whole ∙ ap (λ (l : List (List ℕ)). header_line ∷ l) r ∙ sym q.whole
 
   -- the lines of an element are those of one direction and then of the other

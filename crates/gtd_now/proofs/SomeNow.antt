@@ -1,32 +1,33 @@
 -- Restrictions have a text of each moment.
-use Rattle.std.proofs.Common.{◌≡◌, ◌∙◌, sym, refl, subst, arith, ◌<◌, ◌≤◌, ◌+◌, ◌⊎◌, inl, inr, ◌↔◌, ℕ, zero, suc, Bool, true, false, List, [], ◌∷◌, ◌++◌, length, Option, Some, None}
-use Rattle.std.specs.Prelude.{ℤ, pos, ◌+ℤ◌, ◌-ℤ◌, ◌*ℤ◌, negsuc, ◌≤ℤ◌, ◌<ℤ◌, IsTrue, MatchOption, slice_index_or}
+use Rattle.std.proofs.Common.{◌≡◌, sym, refl, subst, arith, ◌<◌, ◌+◌, ◌⊎◌, inl, inr, ◌↔◌, ℕ, zero, suc}
+use Rattle.std.proofs.Common.{List, [], ◌∷◌, ◌++◌, length, Option, Some, None}
+use Rattle.std.specs.Prelude.{ℤ, pos, ◌+ℤ◌, ◌-ℤ◌, ◌*ℤ◌, negsuc, ◌≤ℤ◌, ◌<ℤ◌, MatchOption, slice_index_or}
 use Rattle.std.proofs.lemmas.Int.{ints, by_lt_z}
 use Rattle.std.proofs.lemmas.Map.Keys.{IsStrictlyIncreasing-from_sorted}
-use Rattle.gtd_core.specs.Days.{day_of_second}
-use Rattle.gtd_recur.specs.Membership.{IsHorizonSecond}
+use Rattle.gtd_core.specs.Limits.{horizons_end, most_horizon_days}
+use Rattle.gtd_core.specs.Days.{day_of_second, IsHorizonSecond}
 use Rattle.gtd_now.proofs.DayFacts.{looks_at}
-use Rattle.gtd_recur.proofs.Decided.{Decided}
-use Rattle.gtd_roads.proofs.Decided.{closes, open_or_not}
-use Rattle.gtd_roads.proofs.Rising.{AllAbove, In, Rises, from_in, to_in}
-use Rattle.gtd_roads.specs.Closing.{Closes, IsOpen}
-use Rattle.gtd_roads.specs.ClosingRows.{AreClosingRows, IsClosingRow}
-use Rattle.gtd_roads.specs.Restriction.{Restriction}
-use Rattle.gtd_roads.specs.declared.direction.Direction.{Direction}
-use Rattle.gtd_roads.specs.declared.direction.Direction.TheVariants.{Positive, Negative}
-use Rattle.gtd_schedule.proofs.SomeSchedule.{some_elements, sorted}
+use Rattle.gtd_records.specs.facts.OpenDecisions.{closes, open_or_not}
+use Rattle.gtd_records.specs.facts.Rising.{AllAbove, In, Rises, from_in, to_in}
+use Rattle.gtd_core.specs.facts.Deciding.{Decided}
+use Rattle.gtd_records.specs.Closing.{Closes, IsOpen}
+use Rattle.gtd_records.specs.ClosingRows.{AreClosingRows}
+use Rattle.gtd_records.specs.Restriction.{Restriction}
+use Rattle.gtd_records.specs.declared.direction.Direction.{Direction}
+use Rattle.gtd_records.specs.declared.direction.Direction.TheVariants.{Positive, Negative}
+use Rattle.gtd_schedule.specs.facts.SomeSchedule.{some_elements, sorted}
 use Rattle.gtd_spans.specs.Change.{IsNextChange, NeverChanges, SameAt}
 use Rattle.gtd_now.proofs.LineFacts.{open_by_rows}
 use Rattle.gtd_now.specs.Lines.{none_closes}
-use Rattle.gtd_now.specs.Now.{AreElementLines, AreLines, AreLinesOf, IsLine, IsLookEnd, IsNow, header_line, state_line}
+use Rattle.gtd_now.specs.Now.{AreElementLines, AreLines, AreLinesOf, IsLookEnd, IsNow, header_line, state_line}
 
 -- ---- the end
 
 some_end : (day : ℤ) → (last : ℤ) × IsLookEnd day last
 some_end day =
-    by_lt_z {P = (last : ℤ) × IsLookEnd day last} (pos 266627) (day +ℤ pos 146098)
-    (λ lt. (pos 266627, inr (refl, lt)))
-    (λ ge. (day +ℤ pos 146098, inl (refl, ge)))
+    by_lt_z {P = (last : ℤ) × IsLookEnd day last} horizons_end (day +ℤ pos most_horizon_days)
+    (λ lt. (horizons_end, inr (refl, lt)))
+    (λ ge. (day +ℤ pos most_horizon_days, inl (refl, ge)))
 
 -- ---- the change
 
@@ -46,10 +47,22 @@ module _ (set : ℤ → Type 0) (decided : (t : ℤ) → Decided (set t)) (s : �
   look zero t = inl (λ u low high. absurd (omega (arith, ints, low, high)))
   look (suc n) t =
       elim (same t) [
-        | inr differs ↦ inr (t, omega (arith, ints), omega (arith, ints), differs, (λ u low high. absurd (omega (arith, ints, low, high))))
+        | inr differs ↦ inr (
+          t,
+          omega (arith, ints),
+          omega (arith, ints),
+          differs,
+          (λ u low high. absurd (omega (arith, ints, low, high))),
+        )
         | inl h ↦ elim (look n (t +ℤ pos 1)) [
           | inl all ↦ inl (λ u low high. first t u h (λ k. all u k (omega (arith, ints, high))) low)
-          | inr r ↦ inr (r.0, omega (arith, ints, r.1), omega (arith, ints, r.2), r.3, (λ u low high. first t u h (λ k. r.4 u k high) low))
+          | inr r ↦ inr (
+            r.0,
+            omega (arith, ints, r.1),
+            omega (arith, ints, r.2),
+            r.3,
+            (λ u low high. first t u h (λ k. r.4 u k high) low),
+          )
         ]
       ]
     where
@@ -106,7 +119,8 @@ module _ (found : List Restriction) (element : ℕ) (direction : Direction) (veh
     closed = c.closed;
   }
 
-  by_place : (P : Type 0) (k : ℕ) (r : Restriction) (rows : List Restriction) (n at : ℕ) (row : Restriction) → n ≡ k + at + 1 → at < length (r ∷ rows)
+  by_place : (P : Type 0) (k : ℕ) (r : Restriction) (rows : List Restriction) (n at : ℕ) (row : Restriction) → n ≡ k + at + 1
+      → at < length (r ∷ rows)
       → slice_index_or (r ∷ rows) at row ≡ row → Closes element direction vehicle second row
       → (n ≡ k + 1 → Closes element direction vehicle second r → P) → (ClosingFrom (k + 1) rows n → P) → P
   by_place P k r rows n zero row e lt stands closed first more =
@@ -115,7 +129,13 @@ module _ (found : List Restriction) (element : ℕ) (direction : Direction) (veh
       more (record { at = at; is = omega arith; within = omega arith; row = row; stands = stands; closed = closed })
 
   numbers_of : (k : ℕ) (rows : List Restriction) → Numbers k rows
-  numbers_of k [] = record { numbers = []; rising = tt; above = tt; each = λ n. ((λ h. absurd h), (λ c. let l = c.within in absurd (omega arith))) }
+  numbers_of k [] = record {
+    numbers = [];
+    rising = tt;
+    above = tt;
+    each =
+        λ n. ((λ h. absurd h), (λ c. let l = c.within in absurd (omega arith)));
+  }
   numbers_of k (r ∷ rows) =
       let more = numbers_of (k + 1) rows in
       elim (closes found element direction vehicle second r) [
@@ -128,7 +148,8 @@ module _ (found : List Restriction) (element : ℕ) (direction : Direction) (veh
               | inl e ↦ record { at = 0; is = omega (arith, e); within = omega arith; row = r; stands = refl; closed = does }
               | inr i ↦ after k r rows n ((more.each n).0 i)
             ]),
-            (λ c. by_place (In n ((k + 1) ∷ more.numbers)) k r rows n c.at c.row c.is c.within c.stands c.closed (λ e h. inl (sym e)) (λ d. inr ((more.each n).1 d))),
+            (λ c. by_place (In n ((k + 1) ∷ more.numbers)) k r rows n c.at c.row c.is c.within c.stands c.closed
+                (λ e h. inl (sym e)) (λ d. inr ((more.each n).1 d))),
           );
         }
         | inr never ↦ record {
@@ -137,7 +158,8 @@ module _ (found : List Restriction) (element : ℕ) (direction : Direction) (veh
           above = lower k more.numbers more.above;
           each = λ n. (
             (λ h. after k r rows n ((more.each n).0 h)),
-            (λ c. by_place (In n more.numbers) k r rows n c.at c.row c.is c.within c.stands c.closed (λ e h. absurd (never h)) (λ d. (more.each n).1 d)),
+            (λ c. by_place (In n more.numbers) k r rows n c.at c.row c.is c.within c.stands c.closed (λ e h. absurd (never h))
+                (λ d. (more.each n).1 d)),
           );
         }
       ]
@@ -155,7 +177,14 @@ module _ (found : List Restriction) (element : ℕ) (direction : Direction) (veh
                 record { before = f.at; is = omega arith; within = f.within; row = f.row; stands = f.stands; closes = f.closed }),
             (λ f.
                 let e = f.is in
-                from_in n r.numbers ((r.each n).1 (record { at = f.before; is = omega arith; within = f.within; row = f.row; stands = f.stands; closed = f.closes }))),
+                from_in n r.numbers ((r.each n).1 (record {
+                  at = f.before;
+                  is = omega arith;
+                  within = f.within;
+                  row = f.row;
+                  stands = f.stands;
+                  closed = f.closes;
+                }))),
           );
         },
       )
@@ -170,11 +199,13 @@ gap s until lt = by_sign ((until -ℤ s) -ℤ pos 1) refl
     by_sign (negsuc n) e = absurd (omega (arith, ints, e, lt))
 
 module _ (found : List Restriction) (vehicle : ℕ) (second : ℤ) (range : IsHorizonSecond second) where
-  some_line : (element : ℕ) (direction : Direction) → (lines : List (List ℕ)) × AreLines found vehicle second element direction lines
+  some_line : (element : ℕ) (direction : Direction) → (lines : List (List ℕ))
+      × AreLines found vehicle second element direction lines
   some_line element direction =
       let e = some_end (day_of_second second) in
       let g = gap second (e.0 *ℤ pos 86400) (looks_at second (day_of_second second) e.0 range refl e.1).1 in
-      let c = some_change (IsOpen found element direction vehicle) (open_or_not found element direction vehicle) second (e.0 *ℤ pos 86400) g.0 g.1 in
+      let c = some_change (IsOpen found element direction vehicle) (open_or_not found element direction vehicle) second
+      (e.0 *ℤ pos 86400) g.0 g.1 in
       let r = some_rows found element direction vehicle second in
       let line = state_line element direction vehicle (none_closes r.0) c.0 r.0 in (
         line ∷ [],
@@ -206,7 +237,8 @@ module _ (found : List Restriction) (vehicle : ℕ) (second : ℤ) (range : IsHo
       ((p.0 ++ n.0) ++ more.0, (p.0 ++ n.0, more.0, one, more.1, refl))
 
 -- there is a text
-pub some_now : (found : List Restriction) (vehicle : ℕ) (second : ℤ) → IsHorizonSecond second → (lines : List (List ℕ)) × IsNow found vehicle second lines
+pub some_now : (found : List Restriction) (vehicle : ℕ) (second : ℤ) → IsHorizonSecond second → (lines : List (List ℕ))
+    × IsNow found vehicle second lines
 some_now found vehicle second range =
     let e = some_elements found in
     let l = some_lines_of found vehicle second range e.0 in

@@ -1,8 +1,8 @@
 -- The parts of the lines, as they are written.
 use Rattle.std.specs.Prelude.{◌++◌, ℕ, ℤ, List, [], ◌∷◌, Bool, true, false, Option, Some, None, codes, decimal}
 use Rattle.gtd_core.specs.declared.second.Sec.{Sec}
-use Rattle.gtd_roads.specs.declared.direction.Direction.{Direction}
-use Rattle.gtd_runs.specs.Words.{direction_word}
+use Rattle.gtd_records.specs.declared.direction.Direction.{Direction}
+use Rattle.gtd_runs.specs.DirectionWords.{direction_word}
 
 -- the element, the direction and the vehicle type, each with its comma
 abbrev pub line_head : ℕ → Direction → ℕ → List ℕ
@@ -20,5 +20,5 @@ second_of None = None
 second_of (Some second) = Some second.0
 
 -- more bytes than a line has
-abbrev pub most_bytes : ℕ
-most_bytes = 2_000_000
+abbrev pub most_state_bytes : ℕ
+most_state_bytes = 2_000_000

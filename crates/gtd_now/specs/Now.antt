@@ -1,14 +1,16 @@
 -- The state of road elements at a moment: whether each is open or closed, until when, and which rows close it. A line has
 -- its end: the LF is its last byte.
-use Rattle.std.specs.Prelude.{◌≡◌, ◌++◌, ◌⊎◌, ℕ, ℤ, pos, ◌+ℤ◌, ◌*ℤ◌, ◌≤ℤ◌, ◌<ℤ◌, ◌↔◌, Bool, true, false, IsTrue, List, [], ◌∷◌, Option, Some, None, MatchOption, flat_map, codes, decimal}
+use Rattle.std.specs.Prelude.{◌≡◌, ◌++◌, ◌⊎◌, ℕ, ℤ, pos, ◌+ℤ◌, ◌*ℤ◌, ◌≤ℤ◌, ◌<ℤ◌, ◌↔◌, Bool, true, false, IsTrue, List, [], ◌∷◌}
+use Rattle.std.specs.Prelude.{Option, Some, None, MatchOption, flat_map, codes, decimal}
+use Rattle.gtd_core.specs.Limits.{horizons_end, most_horizon_days}
 use Rattle.gtd_calendar.specs.Stamp.{stamp_text}
 use Rattle.gtd_core.specs.Days.{day_of_second}
-use Rattle.gtd_roads.specs.Closing.{AreElements, IsOpen}
-use Rattle.gtd_roads.specs.ClosingRows.{AreClosingRows}
-use Rattle.gtd_roads.specs.Restriction.{Restriction}
-use Rattle.gtd_roads.specs.declared.direction.Direction.{Direction}
-use Rattle.gtd_roads.specs.declared.direction.Direction.TheVariants.{Positive, Negative}
-use Rattle.gtd_runs.specs.Words.{direction_word}
+use Rattle.gtd_records.specs.Closing.{AreElements, IsOpen}
+use Rattle.gtd_records.specs.ClosingRows.{AreClosingRows}
+use Rattle.gtd_records.specs.Restriction.{Restriction}
+use Rattle.gtd_records.specs.declared.direction.Direction.{Direction}
+use Rattle.gtd_records.specs.declared.direction.Direction.TheVariants.{Positive, Negative}
+use Rattle.gtd_runs.specs.DirectionWords.{direction_word}
 use Rattle.gtd_spans.specs.Change.{IsNextChange, NeverChanges}
 
 -- the header line
@@ -40,7 +42,8 @@ state_line element direction vehicle is_open change rows =
 -- 2700-01-01 (day 266,627) where that is earlier.
 abbrev pub IsLookEnd : ℤ → ℤ → Type 0
 IsLookEnd day last =
-    ((last ≡ day +ℤ pos 146098) × (last ≤ℤ pos 266627)) ⊎ ((last ≡ pos 266627) × (pos 266627 <ℤ (day +ℤ pos 146098)))
+    ((last ≡ day +ℤ pos most_horizon_days) × (last ≤ℤ horizons_end))
+    ⊎ ((last ≡ horizons_end) × (horizons_end <ℤ (day +ℤ pos most_horizon_days)))
 
 module _ (found : List Restriction) (vehicle : ℕ) (second : ℤ) where
   -- What is to be said of an element in a direction: it is open exactly if no restriction closes it; it changes at the

@@ -1,31 +1,29 @@
 //! When the state of an element changes.
 
 ghost use Rattle.std.specs.Prelude.{◌≡◌, ◌*ℤ◌, pos, ℤ, IfOk, MatchOption};
-ghost use Rattle.gtd_core.specs.Days.{day_of_second};
+ghost use Rattle.gtd_core.specs.Days.{day_of_second, IsHorizonSecond};
 ghost use Rattle.gtd_core.specs.Interval.{Within};
 ghost use Rattle.gtd_core.specs.Whole.{from_day, to_day, whole};
-ghost use Rattle.gtd_recur.specs.Membership.{IsHorizonSecond};
-ghost use Rattle.gtd_roads.specs.Closing.{IsOpen};
+ghost use Rattle.gtd_records.specs.Closing.{IsOpen};
 ghost use Rattle.gtd_spans.specs.Change.{IsNextChange, NeverChanges};
 ghost use Rattle.gtd_now.specs.Now.{IsLookEnd};
 
+use gtd_core::limits::{HORIZONS_END, MOST_HORIZON_DAYS};
 use gtd_core::{Horizon, Sec};
-use gtd_roads::{Direction, Records, open_seconds};
+use gtd_records::{Direction, Records, open_seconds};
 use std::alloc::{AllocError, Global};
-
-/// 2700-01-01.
-const LAST_DAY: i64 = 266_627;
-
-/// The days that are looked at: one more than 400 years have.
-const MOST_DAYS: i64 = 146_098;
 
 // The day before which a change is looked for, from a day on.
 fn look_end(day: i64) -> i64
     requires { IsHorizonSecond (day *ℤ pos 86400) }
     ensures { IsLookEnd day result }
 {
-    let last = day + MOST_DAYS;
-    if last <= LAST_DAY { last } else { LAST_DAY }
+    let last = day + MOST_HORIZON_DAYS;
+    if last <= HORIZONS_END {
+        last
+    } else {
+        HORIZONS_END
+    }
 }
 
 // The days in which a change is looked for, from that of a second on.

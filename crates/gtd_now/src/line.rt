@@ -1,16 +1,16 @@
 //! The lines of elements at a moment.
 
 ghost use Rattle.std.specs.Prelude.{[], ◌∷◌, ◌≡◌, ◌+◌, ◌*◌, ◌++◌, ◌≤◌, ℤ, ⊤, length, IfOk, OnOk, MatchOption};
+ghost use Rattle.gtd_core.specs.Limits.{most_rows};
 ghost use Rattle.gtd_calendar.specs.Calendar.{IsCalendarDay};
-ghost use Rattle.gtd_core.specs.Days.{day_of_second};
-ghost use Rattle.gtd_recur.specs.Membership.{IsHorizonSecond};
-ghost use Rattle.gtd_now.specs.Lines.{line_head, most_bytes, none_closes, second_of};
+ghost use Rattle.gtd_core.specs.Days.{day_of_second, IsHorizonSecond};
+ghost use Rattle.gtd_now.specs.Lines.{line_head, most_state_bytes, none_closes, second_of};
 ghost use Rattle.gtd_now.specs.Now.{IsLine, change_text, rows_text, state_line, state_word};
 
 use crate::change::change_of;
 use gtd_calendar::write_stamp;
 use gtd_core::Sec;
-use gtd_roads::{Direction, Records};
+use gtd_records::{Direction, Records};
 use itoa::Buffer;
 use std::alloc::{AllocError, Global};
 
@@ -105,9 +105,9 @@ pub(crate) fn write_line(
     second: Sec,
 ) -> Result<(), AllocError>
     requires in_range { IsHorizonSecond second.0 }
-    requires few { length found.now ≤ 65536 }
+    requires few { length found.now ≤ most_rows }
     ensures line { OnOk result (IsLine found.now vehicle second.0 element direction line.new.items) }
-    ensures short { OnOk result (length line.new.items ≤ most_bytes) }
+    ensures short { OnOk result (length line.new.items ≤ most_state_bytes) }
 {
     let rows = found.closing_rows(alloc, element, direction, vehicle, second)?;
     let change = change_of(alloc, found, element, direction, vehicle, second)?;

@@ -1,14 +1,16 @@
 //! The lines of a moment, put one after the other.
 
 ghost use Rattle.std.specs.Prelude.{◌≡◌, ◌+◌, ◌*◌, ◌<◌, ◌≤◌, ◌^◌, length, IsTrue, OnOk};
-ghost use Rattle.gtd_recur.specs.Membership.{IsHorizonSecond};
+ghost use Rattle.gtd_core.specs.Limits.{most_rows};
+ghost use Rattle.gtd_core.specs.Days.{IsHorizonSecond};
 ghost use Rattle.gtd_runs.specs.Putting.{PutsText, failures_after_stop, nothing_put};
-ghost use Rattle.gtd_now.specs.Lines.{most_bytes};
+ghost use Rattle.gtd_now.specs.Lines.{most_state_bytes};
 ghost use Rattle.gtd_now.specs.Now.{AreElementLines, AreLines, AreLinesOf, IsNow};
 
 use crate::line::write_line;
 use gtd_core::Sec;
-use gtd_roads::{Direction, Output, Records};
+use gtd_devices::Output;
+use gtd_records::{Direction, Records};
 use gtd_runs::{Progress, Stop, finish, put_line};
 use std::alloc::Global;
 
@@ -26,12 +28,12 @@ fn put_direction<O: Output>(
 ) -> Result<(), Stop>
     requires countable { O.failure_count output.old < u64.MAX }
     requires in_range { IsHorizonSecond second.0 }
-    requires known { length found.now ≤ 65536 }
-    requires written { progress.old.written + most_bytes < 2 ^ 64 }
+    requires known { length found.now ≤ most_rows }
+    requires written { progress.old.written + most_state_bytes < 2 ^ 64 }
     requires lines { progress.old.lines + 1 < 2 ^ 64 }
     ensures puts { PutsText (AreLines found.now vehicle second.0 element direction) result
         (O.taken output.old) (O.taken output.new) progress.old progress.new }
-    ensures near { OnOk result ((progress.new.written ≤ progress.old.written + most_bytes)
+    ensures near { OnOk result ((progress.new.written ≤ progress.old.written + most_state_bytes)
         × (progress.new.lines ≤ progress.old.lines + 1)) }
     ensures failures { O.failure_count output.new
         ≡ failures_after_stop result (O.failure_count output.old) }
@@ -54,12 +56,12 @@ fn put_element<O: Output>(
 ) -> Result<(), Stop>
     requires countable { O.failure_count output.old < u64.MAX }
     requires in_range { IsHorizonSecond second.0 }
-    requires known { length found.now ≤ 65536 }
-    requires written { progress.old.written + 2 * most_bytes < 2 ^ 64 }
+    requires known { length found.now ≤ most_rows }
+    requires written { progress.old.written + 2 * most_state_bytes < 2 ^ 64 }
     requires lines { progress.old.lines + 2 < 2 ^ 64 }
     ensures puts { PutsText (AreElementLines found.now vehicle second.0 element) result
         (O.taken output.old) (O.taken output.new) progress.old progress.new }
-    ensures near { OnOk result ((progress.new.written ≤ progress.old.written + 2 * most_bytes)
+    ensures near { OnOk result ((progress.new.written ≤ progress.old.written + 2 * most_state_bytes)
         × (progress.new.lines ≤ progress.old.lines + 2)) }
     ensures failures { O.failure_count output.new
         ≡ failures_after_stop result (O.failure_count output.old) }
@@ -86,8 +88,8 @@ fn put_elements<O: Output>(
 ) -> Result<(), Stop>
     requires countable { O.failure_count output.old < u64.MAX }
     requires in_range { IsHorizonSecond second.0 }
-    requires known { length found.now ≤ 65536 }
-    requires few { length elements.now ≤ 65536 }
+    requires known { length found.now ≤ most_rows }
+    requires few { length elements.now ≤ most_rows }
     requires written { progress.old.written ≤ 1000 }
     requires lines { progress.old.lines ≤ 1 }
     ensures puts { PutsText (AreLinesOf found.now vehicle second.0 elements.now) result
@@ -116,7 +118,7 @@ pub(crate) fn put_now<O: Output>(
     requires countable { O.failure_count output.old < u64.MAX }
     requires in_range { IsHorizonSecond second.0 }
     requires begins { progress.old ≡ nothing_put }
-    requires few { length found.now ≤ 65536 }
+    requires few { length found.now ≤ most_rows }
     ensures puts { PutsText (IsNow found.now vehicle second.0) result
         (O.taken output.old) (O.taken output.new) progress.old progress.new }
     ensures ended { OnOk result (IsTrue (O.is_ended output.new)) }

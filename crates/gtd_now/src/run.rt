@@ -1,8 +1,8 @@
 //! The schedule of the record file that an input brings, put to an output.
 
 ghost use Rattle.std.specs.Prelude.{◌≡◌, ◌<◌, ◌↔◌, ⊤, IsErrOf, IsTrue, List, OnOk};
-ghost use Rattle.gtd_recur.specs.Membership.{IsHorizonSecond};
-ghost use Rattle.gtd_roads.specs.Restriction.{Restriction};
+ghost use Rattle.gtd_core.specs.Days.{IsHorizonSecond};
+ghost use Rattle.gtd_records.specs.Restriction.{Restriction};
 ghost use Rattle.gtd_runs.specs.Run.{AcceptedFilesArePut, HasRun, RefusedFilesPutNothing};
 ghost use Rattle.gtd_runs.specs.Subjects.{IsVehicleType};
 ghost use Rattle.gtd_runs.specs.Run.{failures_after_read, failures_after_write};
@@ -10,7 +10,8 @@ ghost use Rattle.gtd_now.specs.Now.{IsNow};
 
 use crate::now::put_now;
 use gtd_core::Sec;
-use gtd_roads::{Input, Output, RecordFault, read_records};
+use gtd_devices::{Input, Output};
+use gtd_records::{RecordFault, read_records};
 use gtd_runs::{Progress, RunFault};
 use std::alloc::Global;
 

@@ -1,13 +1,15 @@
 -- What a walk has handed out, and how much it counted for it.
-use Rattle.std.proofs.Common.{◌≡◌, ◌⊎◌, ℕ, zero, suc, ◌+◌, ◌<◌, ◌≤◌, Bool, true, false, not, cond, List, [], ◌∷◌, ◌++◌, length, take, drop, Option, Some, None, refl, sym, ap, ◌∙◌, inl, inr, arith, append_assoc, ℤ, pos, ◌+ℤ◌, ◌-ℤ◌, ◌*ℤ◌, ◌<ℤ◌, ◌≤ℤ◌, int_lt, unsigned_abs, ◌&&◌}
+use Rattle.std.proofs.Common.{◌≡◌, ◌⊎◌, ℕ, zero, suc, ◌+◌, ◌<◌, ◌≤◌, Bool, true, false, not, cond, List, [], ◌∷◌, ◌++◌, length}
+use Rattle.std.proofs.Common.{take, drop, Option, Some, None, refl, sym, ap, ◌∙◌, inl, inr, arith, append_assoc, ℤ, pos, ◌+ℤ◌}
+use Rattle.std.proofs.Common.{◌-ℤ◌, ◌*ℤ◌, ◌<ℤ◌, ◌≤ℤ◌, int_lt, unsigned_abs, ◌&&◌}
 use Rattle.std.specs.Prelude.{count_by, IfSome}
 use Rattle.gtd_core.specs.declared.second.Sec.{Sec}
 use Rattle.std.proofs.lemmas.Bool.{cases_Bool, and_left}
 use Rattle.std.proofs.lemmas.List.{take-append-drop, take_all, take_at, length-drop, length-append, length-take-le}
 use Rattle.std.proofs.lemmas.Int.{by_lt_z}
 use Rattle.std.proofs.lemmas.Grind.{flat_map-append}
-use Rattle.gtd_calendar.proofs.Signed.{signed_arith}
-use Rattle.gtd_calendar.proofs.ClockLemmas.{second-parts, second-only}
+use Rattle.gtd_calendar.specs.facts.Signed.{signed_arith}
+use Rattle.gtd_calendar.specs.facts.ClockLemmas.{second-parts, second-only}
 use Rattle.gtd_core.specs.Days.{day_of_second}
 use Rattle.gtd_calendar.specs.Clock.{second_of_day}
 use Rattle.gtd_core.specs.declared.start.StartParts.{StartParts}
@@ -19,13 +21,16 @@ use Rattle.gtd_core.specs.declared.horizon.Horizon.{Horizon}
 use Rattle.gtd_recur.specs.declared.starts.Starts.{Starts}
 use Rattle.gtd_recur.specs.Begins.{month_and_year_fit}
 use Rattle.gtd_recur.specs.Ascending.{AllAfter, AllBefore, Has}
-use Rattle.gtd_recur.specs.Work.{days_from, days_between, starts_on, starts_of, starts_in, window, window_begin, work, least_work, least_of_horizon}
+use Rattle.gtd_recur.specs.Work.{days_from, days_between, starts_on, starts_of, starts_in, window, window_begin, work, least_work}
+use Rattle.gtd_recur.specs.Work.{least_of_horizon}
 use Rattle.gtd_recur.specs.Starts.{TakesSecond}
 use Rattle.gtd_recur.specs.StartsToCome.{IsSameWalk, IsCountedTo, starts_given, starts_to_come, starts_ticks}
-use Rattle.gtd_recur.proofs.AscendingLemmas.{window-ascending, ascending-after, before-weaken, starts_of-ascending, starts_on-ascending}
+use Rattle.gtd_recur.proofs.AscendingLemmas.{window-ascending, ascending-after, before-weaken, starts_of-ascending}
+use Rattle.gtd_recur.proofs.AscendingLemmas.{starts_on-ascending}
 use Rattle.gtd_recur.proofs.CountLemmas.{count-no, no_lt, between-after}
 use Rattle.gtd_recur.proofs.CoverLemmas.{test_from_lt}
-use Rattle.gtd_recur.proofs.StartsLemmas.{window_begin-is, count-append, count-is, days_between-append, days_between-is, later_by, starts_of-cons, starts_of-nil}
+use Rattle.gtd_recur.specs.facts.StartsLemmas.{window_begin-is, count-append, count-is, days_between-append, days_between-is}
+use Rattle.gtd_recur.specs.facts.StartsLemmas.{later_by, starts_of-cons, starts_of-nil}
 use Rattle.gtd_recur.proofs.HorizonLemmas.{has-either}
 
 -- the start, the days and the starts of a walk
@@ -59,8 +64,10 @@ before-append m (x ∷ xs) ys p q = (p.0, before-append m xs ys p.1 q)
 take-next : (k : ℕ) (all : List ℤ) (b : ℤ) (more : List ℤ) → drop k all ≡ b ∷ more → take (k + 1) all ≡ take k all ++ b ∷ []
 take-next k all b more e =
     let low : k ≤ length all = (let a = length-drop k all in let l = ap (λ (l : List ℤ). length l) e in omega (arith, a, l)) in
-    let split : all ≡ (take k all ++ b ∷ []) ++ more = sym (take-append-drop k all) ∙ ap (λ (l : List ℤ). take k all ++ l) e ∙ sym (append_assoc (take k all) (b ∷ []) more) in
-    let long : length (take k all ++ b ∷ []) ≡ k + 1 = (let p = length-append (take k all) (b ∷ []) in let q = length-take-le k all low in omega (arith, p, q)) in
+    let split : all ≡ (take k all ++ b ∷ []) ++ more = sym (take-append-drop k all) ∙ ap (λ (l : List ℤ). take k all ++ l) e
+    ∙ sym (append_assoc (take k all) (b ∷ []) more) in
+    let long : length (take k all ++ b ∷ []) ≡ k + 1 = (let p = length-append (take k all) (b ∷ []) in
+    let q = length-take-le k all low in omega (arith, p, q)) in
     ap (λ (l : List ℤ). take (k + 1) l) split ∙ take_at (take k all ++ b ∷ []) more (k + 1) long
 
 -- the walks go over the same starts
@@ -68,7 +75,8 @@ pub same-all : (s t : Starts) → IsSameWalk s t → all_of s ≡ all_of t
 same-all s t h = rw (h.basic, h.horizon) refl
 
 -- one more is handed out
-pub given-next : (s t : Starts) (b : ℤ) → IsSameWalk s t → starts_to_come s ≡ b ∷ starts_to_come t → starts_given t ≡ starts_given s ++ b ∷ []
+pub given-next : (s t : Starts) (b : ℤ) → IsSameWalk s t → starts_to_come s ≡ b ∷ starts_to_come t → starts_given t
+    ≡ starts_given s ++ b ∷ []
 given-next s t b h e =
     let all = same-all s t h in
     let long = ap (λ (l : List ℤ). length l) e in
@@ -99,7 +107,8 @@ day-mono a b le =
     let q = second-parts b in
     mono a b (day_of_second a) (day_of_second b) (second_of_day a) (second_of_day b) p.0 p.1 q.0 q.1 le
   where
-    mono : (a b n m : ℤ) (i j : ℕ) → a ≡ pos 86400 *ℤ n +ℤ pos i → i < 86400 → b ≡ pos 86400 *ℤ m +ℤ pos j → j < 86400 → a ≤ℤ b → n ≤ℤ m
+    mono : (a b n m : ℤ) (i j : ℕ) → a ≡ pos 86400 *ℤ n +ℤ pos i → i < 86400 → b ≡ pos 86400 *ℤ m +ℤ pos j → j < 86400 → a ≤ℤ b
+        → n ≤ℤ m
     mono a b n m i j p q r s le = omega (arith, signed_arith)
 
 not_lt : (a b : ℤ) → not (int_lt a b) ≡ true → b ≤ℤ a
@@ -113,45 +122,59 @@ pub work-mono : (p : StartParts) (days : List ℤ) (a b : ℤ) → a ≤ℤ b �
 unfolding work
 work-mono p days a b le =
     let d = day-mono a b le in
-    let on = count-mono (λ n. not (int_lt (day_of_second a) n)) (λ n. not (int_lt (day_of_second b) n)) days (λ n h. ap not (no_lt (day_of_second b) n (let k = not_lt (day_of_second a) n h in omega (arith, signed_arith)))) in
-    let at = count-mono (λ c. not (int_lt a c)) (λ c. not (int_lt b c)) (starts_of p days) (λ c h. ap not (no_lt b c (let k = not_lt a c h in omega (arith, signed_arith)))) in
+    let on = count-mono (λ n. not (int_lt (day_of_second a) n)) (λ n. not (int_lt (day_of_second b) n)) days
+    (λ n h. ap not (no_lt (day_of_second b) n (let k = not_lt (day_of_second a) n h in omega (arith, signed_arith)))) in
+    let at = count-mono (λ c. not (int_lt a c)) (λ c. not (int_lt b c)) (starts_of p days)
+    (λ c h. ap not (no_lt b c (let k = not_lt a c h in omega (arith, signed_arith)))) in
     omega (arith, on, at)
 
 -- once the start after an end is handed out, no more was counted than may be up to any start after the end
-pub at_most-some : (s t : Starts) (end c : ℤ) → IsSameWalk s t → starts_to_come s ≡ c ∷ starts_to_come t → AllBefore (end +ℤ pos 1) (starts_given s) → starts_ticks t ≤ work (parts_of s) (days_of s) c
+pub at_most-some : (s t : Starts) (end c : ℤ) → IsSameWalk s t → starts_to_come s ≡ c ∷ starts_to_come t
+    → AllBefore (end +ℤ pos 1) (starts_given s) → starts_ticks t ≤ work (parts_of s) (days_of s) c
     → (b : ℤ) → Has (all_of s) b → end <ℤ b → starts_ticks t ≤ work (parts_of s) (days_of s) b
 at_most-some s t end c same e given at b has late =
     let split : all_of s ≡ starts_given s ++ c ∷ starts_to_come t = all-split s ∙ ap (λ (l : List ℤ). starts_given s ++ l) e in
     let asc = rw split at (window-ascending (parts_of s) (begin_of s) (end_of s)) in
     let after = ascending-after (starts_given s) (c ∷ starts_to_come t) asc in
     let reached : c ≤ℤ b = elim (has-either (starts_given s) (c ∷ starts_to_come t) b (rw split at has)) [
-      | inl before ↦ absurd (let lt = has-before (end +ℤ pos 1) b (starts_given s) given before in omega (arith, signed_arith, lt, late))
-      | inr here ↦ elim here [ inl is ↦ omega (arith, signed_arith, is) | inr rest ↦ (let lt = has-after c b (starts_to_come t) after.0 rest in omega (arith, signed_arith, lt)) ]
+      | inl before ↦ absurd (let lt = has-before (end +ℤ pos 1) b (starts_given s) given before in
+          omega (arith, signed_arith, lt, late))
+      | inr here ↦ elim here [
+        | inl is ↦ omega (arith, signed_arith, is)
+        | inr rest ↦
+            (let lt = has-after c b (starts_to_come t) after.0 rest in omega (arith, signed_arith, lt))
+      ]
     ] in
     let more = work-mono (parts_of s) (days_of s) c b reached in
     omega (arith, at, more)
 
 -- where all were handed out up to an end, no start is after it
-pub at_most-none : (s : Starts) (end : ℤ) → starts_to_come s ≡ [] → AllBefore (end +ℤ pos 1) (starts_given s) → (b : ℤ) → Has (all_of s) b → end <ℤ b → ⊥
+pub at_most-none : (s : Starts) (end : ℤ) → starts_to_come s ≡ [] → AllBefore (end +ℤ pos 1) (starts_given s) → (b : ℤ)
+    → Has (all_of s) b → end <ℤ b → ⊥
 at_most-none s end none given b has late =
     let lt = has-before (end +ℤ pos 1) b (all_of s) (rw (given-all s none) at given) has in
     omega (arith, signed_arith, lt, late)
 
 -- what was handed out with one start more
-pub given-up_to : (s t : Starts) (end c : ℤ) → IsSameWalk s t → starts_to_come s ≡ c ∷ starts_to_come t → AllBefore (end +ℤ pos 1) (starts_given s) → (m : ℤ) → end ≤ℤ m → c ≤ℤ m → AllBefore (m +ℤ pos 1) (starts_given t)
+pub given-up_to : (s t : Starts) (end c : ℤ) → IsSameWalk s t → starts_to_come s ≡ c ∷ starts_to_come t
+    → AllBefore (end +ℤ pos 1) (starts_given s) → (m : ℤ) → end ≤ℤ m → c ≤ℤ m → AllBefore (m +ℤ pos 1) (starts_given t)
 given-up_to s t end c same e given m low high =
-    rw (given-next s t c same e) (before-append (m +ℤ pos 1) (starts_given s) (c ∷ []) (before-weaken (end +ℤ pos 1) (m +ℤ pos 1) (starts_given s) (omega (arith, signed_arith)) given) (omega (arith, signed_arith), tt))
+    rw (given-next s t c same e) (before-append (m +ℤ pos 1) (starts_given s) (c ∷ [])
+    (before-weaken (end +ℤ pos 1) (m +ℤ pos 1) (starts_given s) (omega (arith, signed_arith)) given)
+    (omega (arith, signed_arith), tt))
 
 pub starts_of-append : (p : StartParts) (xs ys : List ℤ) → starts_of p (xs ++ ys) ≡ starts_of p xs ++ starts_of p ys
 unfolding starts_of
 starts_of-append p xs ys = flat_map-append (starts_on p) xs ys
 
 -- fewer days ask for less
-pub least-fewer : (p : StartParts) (first n end b : ℤ) → first ≤ℤ n → n ≤ℤ end → least_work p (days_between n end) b ≤ least_work p (days_between first end) b
+pub least-fewer : (p : StartParts) (first n end b : ℤ) → first ≤ℤ n → n ≤ℤ end
+    → least_work p (days_between n end) b ≤ least_work p (days_between first end) b
 unfolding least_work
 least-fewer p first n end b low high =
     let split = days_between-append first n end low high in
-    let days = count-append (λ m. int_lt m (day_of_second b) && month_and_year_fit p m) (days_between first n) (days_between n end) in
+    let days = count-append (λ m. int_lt m (day_of_second b) && month_and_year_fit p m) (days_between first n)
+    (days_between n end) in
     let starts = count-append (λ c. int_lt c b) (starts_of p (days_between first n)) (starts_of p (days_between n end)) in
     rw (split, starts_of-append p (days_between first n) (days_between n end)) (omega (arith, days, starts))
 
@@ -160,20 +183,26 @@ pub least-first : (p : StartParts) (n end from : ℤ) → from ≡ pos 86400 *�
 unfolding least_work days_between
 least-first p n end from e =
     let day : day_of_second from ≡ n = (second-only from n 0 (omega arith) (omega (arith, signed_arith))).0 in
-    let on = count-no (λ m. int_lt m n && month_and_year_fit p m) (n -ℤ pos 1) (days_between n end) (λ m lt. and_left _ _ (no_lt m n (omega (arith, signed_arith)))) (between-after n end (n -ℤ pos 1) (omega (arith, signed_arith))) in
-    let at = count-no (λ c. int_lt c from) (pos 86400 *ℤ n -ℤ pos 1) (starts_of p (days_between n end)) (λ c lt. no_lt c from (omega (arith, signed_arith))) (starts_of-ascending p n (unsigned_abs (end -ℤ n))).1 in
+    let on = count-no (λ m. int_lt m n && month_and_year_fit p m) (n -ℤ pos 1) (days_between n end)
+    (λ m lt. and_left _ _ (no_lt m n (omega (arith, signed_arith))))
+    (between-after n end (n -ℤ pos 1) (omega (arith, signed_arith))) in
+    let at = count-no (λ c. int_lt c from) (pos 86400 *ℤ n -ℤ pos 1) (starts_of p (days_between n end))
+    (λ c lt. no_lt c from (omega (arith, signed_arith))) (starts_of-ascending p n (unsigned_abs (end -ℤ n))).1 in
     rw day (omega (arith, on, at))
 
 days-last : (p : StartParts) (n : ℤ) (k : ℕ) → AllBefore (pos 86400 *ℤ (n +ℤ pos k)) (starts_of p (days_from n k))
 unfolding days_from
 days-last p n zero = rw (starts_of-nil p) tt
 days-last p n (suc k) =
-    let here = before-weaken (pos 86400 *ℤ (n +ℤ pos 1)) (pos 86400 *ℤ (n +ℤ pos (suc k))) (starts_on p n) (omega (arith, signed_arith)) (starts_on-ascending p n).2 in
+    let here = before-weaken (pos 86400 *ℤ (n +ℤ pos 1)) (pos 86400 *ℤ (n +ℤ pos (suc k))) (starts_on p n)
+    (omega (arith, signed_arith)) (starts_on-ascending p n).2 in
     let same : n +ℤ pos 1 +ℤ pos k ≡ n +ℤ pos (suc k) = omega (arith, signed_arith) in
-    rw (starts_of-cons p n (days_from (n +ℤ pos 1) k)) (before-append _ (starts_on p n) _ here (rw same at (days-last p (n +ℤ pos 1) k)))
+    rw (starts_of-cons p n (days_from (n +ℤ pos 1) k)) (before-append _ (starts_on p n) _ here
+    (rw same at (days-last p (n +ℤ pos 1) k)))
 
 -- the starts of a window are before the day at its end
-pub window-last : (p : StartParts) (first end : ℤ) → first ≤ℤ end → AllBefore (pos 86400 *ℤ end) (starts_of p (days_between first end))
+pub window-last : (p : StartParts) (first end : ℤ) → first ≤ℤ end
+    → AllBefore (pos 86400 *ℤ end) (starts_of p (days_between first end))
 window-last p first end le =
     let e = later_by first end le in
     rw (days_between-is first end (unsigned_abs (end -ℤ first)) e) (rw (← e) at (days-last p first (unsigned_abs (end -ℤ first))))
@@ -204,32 +233,40 @@ whole-order h = more (from_day h) (to_day h) (horizon-order h)
     more a b le = omega (arith, signed_arith)
 
 -- right after a run is handed out
-pub run-at_most : (s t : Starts) (end u : ℤ) → ((b : ℤ) → Has (all_of s) b → end <ℤ b → starts_ticks t ≤ work (parts_of s) (days_of s) b)
-    → ((u ≡ end) ⊎ (u ≡ (whole s.horizon).until)) → (b : ℤ) → Has (all_of s) b → u <ℤ b → starts_ticks t ≤ work (parts_of s) (days_of s) b
+pub run-at_most : (s t : Starts) (end u : ℤ) → ((b : ℤ) → Has (all_of s) b → end <ℤ b
+    → starts_ticks t ≤ work (parts_of s) (days_of s) b)
+    → ((u ≡ end) ⊎ (u ≡ (whole s.horizon).until)) → (b : ℤ) → Has (all_of s) b → u <ℤ b
+    → starts_ticks t ≤ work (parts_of s) (days_of s) b
 run-at_most s t end u at one b has late = elim one [
   | inl e ↦ at b has (omega (arith, signed_arith, e, late))
-  | inr e ↦ absurd (apart u b (end_of s) e late (has-before (pos 86400 *ℤ end_of s) b (all_of s) (window-last (parts_of s) (begin_of s) (end_of s) (window-order s.basic s.horizon)) has))
+  | inr e ↦ absurd (apart u b (end_of s) e late (has-before (pos 86400 *ℤ end_of s) b (all_of s)
+      (window-last (parts_of s) (begin_of s) (end_of s) (window-order s.basic s.horizon)) has))
 ]
   where
     apart : (u b n : ℤ) → u ≡ n *ℤ pos 86400 → u <ℤ b → b <ℤ (pos 86400 *ℤ n) → ⊥
     apart u b n p q r = omega (arith, signed_arith)
 
-pub run-at_least : (s t : Starts) (first f : ℤ) → least_work (parts_of s) (days_of s) first ≤ starts_ticks s → starts_ticks s ≤ starts_ticks t
+pub run-at_least : (s t : Starts) (first f : ℤ) → least_work (parts_of s) (days_of s) first ≤ starts_ticks s
+    → starts_ticks s ≤ starts_ticks t
     → ((f ≡ first) ⊎ (f ≡ (whole s.horizon).from)) → least_of_horizon s.basic s.horizon f ≤ starts_ticks t
 run-at_least s t first f least grows one = elim one [
-  | inl e ↦ let less = least-fewer (parts_of s) (begin_of s) (from_day s.horizon) (end_of s) first (begin-low s.basic s.horizon) (horizon-order s.horizon) in rw e (omega (arith, less, least, grows))
-  | inr e ↦ let zero = least-first (parts_of s) (from_day s.horizon) (end_of s) (from_day s.horizon *ℤ pos 86400) (flip (from_day s.horizon)) in rw e (omega (arith, zero))
+  | inl e ↦ let less = least-fewer (parts_of s) (begin_of s) (from_day s.horizon) (end_of s) first (begin-low s.basic s.horizon)
+      (horizon-order s.horizon) in rw e (omega (arith, less, least, grows))
+  | inr e ↦ let zero = least-first (parts_of s) (from_day s.horizon) (end_of s) (from_day s.horizon *ℤ pos 86400)
+      (flip (from_day s.horizon)) in rw e (omega (arith, zero))
 ]
   where
     flip : (n : ℤ) → n *ℤ pos 86400 ≡ pos 86400 *ℤ n
     flip n = omega (arith, signed_arith)
 
 -- the first start of all, taken ahead
-pub counted-first : (s t : Starts) (o : Option Sec) → IsSameWalk s t → starts_given s ≡ [] → TakesSecond (starts_to_come s) o (starts_to_come t)
+pub counted-first : (s t : Starts) (o : Option Sec) → IsSameWalk s t → starts_given s ≡ []
+    → TakesSecond (starts_to_come s) o (starts_to_come t)
     → IfSome o (λ b. least_work (parts_of s) (days_of s) b.0 + 1 ≤ starts_ticks t) → IsCountedTo t o
 counted-first s t None same nothing takes least = tt
 counted-first s t (Some b) same nothing takes least =
     let begun : AllBefore (b.0 +ℤ pos 1) (starts_given s) = rw nothing tt in (
-      rw (given-next s t b.0 same takes) (before-append (b.0 +ℤ pos 1) (starts_given s) (b.0 ∷ []) begun (omega (arith, signed_arith), tt)),
+      rw (given-next s t b.0 same takes) (before-append (b.0 +ℤ pos 1) (starts_given s) (b.0 ∷ []) begun
+          (omega (arith, signed_arith), tt)),
       rw (same.basic, same.horizon) (omega (arith, least)),
     )

@@ -1,26 +1,32 @@
 -- The starts of the window hold what the basic domain holds in the horizon.
-use Rattle.std.proofs.Common.{◌≡◌, ◌⊎◌, ℕ, zero, suc, ◌+◌, ◌<◌, ◌≤◌, Bool, true, List, [], ◌∷◌, ◌++◌, map, filter, refl, sym, ap, inl, inr, arith, ℤ, pos, ◌+ℤ◌, ◌-ℤ◌, ◌*ℤ◌, ◌<ℤ◌, ◌≤ℤ◌}
+use Rattle.std.proofs.Common.{◌≡◌, ◌⊎◌, ℕ, zero, suc, ◌+◌, ◌<◌, ◌≤◌, Bool, true, List, [], ◌∷◌, ◌++◌, map, filter, refl, sym, ap}
+use Rattle.std.proofs.Common.{inl, inr, arith, ℤ, pos, ◌+ℤ◌, ◌-ℤ◌, ◌*ℤ◌, ◌<ℤ◌, ◌≤ℤ◌}
 use Rattle.std.proofs.lemmas.Bool.{cases_Bool, cases_lt}
-use Rattle.gtd_calendar.proofs.Signed.{signed_arith}
-use Rattle.gtd_calendar.proofs.ClockLemmas.{second-parts}
+use Rattle.gtd_calendar.specs.facts.Signed.{signed_arith}
+use Rattle.gtd_calendar.specs.facts.ClockLemmas.{second-parts}
 use Rattle.gtd_core.specs.declared.start.StartParts.{StartParts}
 use Rattle.gtd_core.specs.declared.duration.DurationParts.{DurationParts}
 use Rattle.gtd_core.specs.DurationBound.{lookback_of}
-use Rattle.gtd_calendar.specs.Fields.{day_fields}
+use Rattle.gtd_calendar.specs.ComputedFields.{day_fields}
 use Rattle.gtd_core.specs.Days.{day_of_second}
-use Rattle.gtd_calendar.specs.Clock.{second_of_day, stop}
-use Rattle.gtd_spans.specs.NormalFor.{IsNormalFor, normal-for}
+use Rattle.gtd_spans.specs.Normal.{IsNormalFor}
+use Rattle.gtd_spans.specs.facts.NormalFor.{normal-for}
+use Rattle.gtd_calendar.specs.Clock.{second_of_day}
+use Rattle.gtd_calendar.specs.ComputedEnds.{stop}
 use Rattle.gtd_recur.specs.Begins.{begins, begins_on, begins_at}
 use Rattle.gtd_recur.specs.Membership.{InStretches}
+use Rattle.gtd_recur.specs.facts.MembershipLemmas.{from_computed}
 use Rattle.gtd_recur.specs.Work.{days_between, numbers_from, starts_on, starts_of}
 use Rattle.gtd_recur.specs.Starts.{clock_starts, TakesSecond}
 use Rattle.std.specs.Prelude.{Option, Some, None, IfSome}
 use Rattle.gtd_core.specs.declared.second.Sec.{Sec}
 use Rattle.gtd_calendar.specs.Calendar.{IsCalendarDay}
 use Rattle.gtd_recur.specs.Ascending.{Has}
-use Rattle.gtd_recur.specs.Stretches.{HeldBy, runs_between, runs_between-normal, to_come, IsAheadIn}
+use Rattle.gtd_recur.specs.Stretches.{HeldBy, runs_between, to_come, IsAheadIn}
+use Rattle.gtd_recur.specs.facts.StretchFacts.{runs_between-normal}
 use Rattle.gtd_recur.proofs.CoverLemmas.{begins-parts, begins-from, held_in_lookback}
-use Rattle.gtd_recur.proofs.StartsLemmas.{starts_on-yes, starts_on-no, starts_of-cons, starts_of-nil, days_between-append, days_between-next}
+use Rattle.gtd_recur.specs.facts.StartsLemmas.{starts_on-yes, starts_on-no, starts_of-cons, starts_of-nil, days_between-append}
+use Rattle.gtd_recur.specs.facts.StartsLemmas.{days_between-next}
 use Rattle.gtd_recur.proofs.StretchLemmas.{runs_between-holds}
 
 pub has-left : (xs ys : List ℤ) (b : ℤ) → Has xs b → Has (xs ++ ys) b
@@ -33,7 +39,11 @@ has-right (x ∷ xs) ys b h = inr (has-right xs ys b h)
 
 pub has-either : (xs ys : List ℤ) (b : ℤ) → Has (xs ++ ys) b → Has xs b ⊎ Has ys b
 has-either [] ys b h = inr h
-has-either (x ∷ xs) ys b h = elim h [ inl e ↦ inl (inl e) | inr r ↦ elim (has-either xs ys b r) [ inl p ↦ inl (inr p) | inr q ↦ inr q ] ]
+has-either (x ∷ xs) ys b h = elim h [
+  | inl e ↦ inl (inl e)
+  | inr r ↦
+      elim (has-either xs ys b r) [ inl p ↦ inl (inr p) | inr q ↦ inr q ]
+]
 
 -- a second is held by the stretch of one of the starts
 pub held-from : (p : DurationParts) (bs : List ℤ) (b t : ℤ) → Has bs b → b ≤ℤ t → t <ℤ stop p b → HeldBy p bs t
@@ -44,19 +54,27 @@ pub held-to : (p : DurationParts) (bs : List ℤ) (t : ℤ) → HeldBy p bs t �
 held-to p [] t h = absurd h
 held-to p (x ∷ xs) t h = elim h [ inl w ↦ (x, inl refl, w.0, w.1) | inr r ↦ let k = held-to p xs t r in (k.0, inr k.1, k.2, k.3) ]
 
-has-passing : (d : ℤ) (test : ℕ → Bool) (n c k : ℕ) → n ≤ k → k < n + c → test k ≡ true → Has (map (λ j. d +ℤ pos j) (filter test (numbers_from n c))) (d +ℤ pos k)
+has-passing : (d : ℤ) (test : ℕ → Bool) (n c k : ℕ) → n ≤ k → k < n + c → test k ≡ true
+    → Has (map (λ j. d +ℤ pos j) (filter test (numbers_from n c))) (d +ℤ pos k)
 unfolding numbers_from
 has-passing d test n zero k low high on = absurd (omega arith)
 has-passing d test n (suc c) k low high on = elim (cases_lt n k) [
-  | inl lt ↦ let rest = has-passing d test (n + 1) c k (omega arith) (omega arith) on in elim (cases_Bool (test n)) [ inl here ↦ rw here (inr rest) | inr off ↦ rw off rest ]
-  | inr ge ↦ let same : k ≡ n = omega arith in let here : test n ≡ true = rw same at on in rw here (inl (ap (λ (j : ℕ). d +ℤ pos j) same))
+  | inl lt ↦ let rest = has-passing d test (n + 1) c k (omega arith) (omega arith) on in
+      elim (cases_Bool (test n)) [ inl here ↦ rw here (inr rest) | inr off ↦ rw off rest ]
+  | inr ge ↦ let same : k ≡ n = omega arith in let here : test n ≡ true = rw same at on in
+      rw here (inl (ap (λ (j : ℕ). d +ℤ pos j) same))
 ]
 
-passing-has : (d b : ℤ) (test : ℕ → Bool) (n c : ℕ) → Has (map (λ j. d +ℤ pos j) (filter test (numbers_from n c))) b → (k : ℕ) × (k < n + c) × (test k ≡ true) × (b ≡ d +ℤ pos k)
+passing-has : (d b : ℤ) (test : ℕ → Bool) (n c : ℕ) → Has (map (λ j. d +ℤ pos j) (filter test (numbers_from n c))) b → (k : ℕ)
+    × (k < n + c) × (test k ≡ true) × (b ≡ d +ℤ pos k)
 unfolding numbers_from
 passing-has d b test n zero h = absurd h
 passing-has d b test n (suc c) h = elim (cases_Bool (test n)) [
-  | inl here ↦ elim (rw here at h) [ inl e ↦ (n, omega arith, here, e) | inr r ↦ let k = passing-has d b test (n + 1) c r in (k.0, omega (arith, k.1), k.2, k.3) ]
+  | inl here ↦ elim (rw here at h) [
+    | inl e ↦ (n, omega arith, here, e)
+    | inr r ↦ let k = passing-has d b test (n + 1) c r in
+        (k.0, omega (arith, k.1), k.2, k.3)
+  ]
   | inr off ↦ let k = passing-has d b test (n + 1) c (rw off at h) in (k.0, omega (arith, k.1), k.2, k.3)
 ]
 
@@ -64,7 +82,8 @@ passing-has d b test n (suc c) h = elim (cases_Bool (test n)) [
 pub starts_on-begins : (p : StartParts) (n b : ℤ) → Has (starts_on p n) b → begins p b ≡ true
 unfolding clock_starts
 starts_on-begins p n b h = elim (cases_Bool (begins_on p (day_fields n))) [
-  | inl on ↦ let k = passing-has (pos 86400 *ℤ n) b (begins_at p) 0 86400 (rw (starts_on-yes p n on) at h) in rw (k.3) (begins-from p n k.0 (omega (arith, k.1)) on k.2)
+  | inl on ↦ let k = passing-has (pos 86400 *ℤ n) b (begins_at p) 0 86400 (rw (starts_on-yes p n on) at h) in
+      rw (k.3) (begins-from p n k.0 (omega (arith, k.1)) on k.2)
   | inr off ↦ absurd (rw (starts_on-no p n off) at h)
 ]
 
@@ -81,7 +100,8 @@ unfolding clock_starts
 begins-starts_on p b h =
     let fit = begins-parts p b h in
     let parts = second-parts b in
-    let has = has-passing (pos 86400 *ℤ day_of_second b) (begins_at p) 0 86400 (second_of_day b) (omega arith) (omega (arith, parts.1)) fit.1 in
+    let has = has-passing (pos 86400 *ℤ day_of_second b) (begins_at p) 0 86400 (second_of_day b) (omega arith)
+    (omega (arith, parts.1)) fit.1 in
     rw (starts_on-yes p (day_of_second b) fit.0) (rw (← parts.0) at has)
 
 has-starts_of : (p : StartParts) (days : List ℤ) (n b : ℤ) → Has days n → Has (starts_on p n) b → Has (starts_of p days) b
@@ -92,22 +112,26 @@ has-starts_of p (m ∷ ms) n b h on = rw (starts_of-cons p m ms) (elim h [
 ])
 
 has-day : (a b n : ℤ) → a ≤ℤ n → n <ℤ b → Has (days_between a b) n
-has-day a b n low high = rw (days_between-append a n b low (omega (arith, signed_arith)), days_between-next n b high) (has-right (days_between a n) (n ∷ days_between (n +ℤ pos 1) b) n (inl refl))
+has-day a b n low high = rw (days_between-append a n b low (omega (arith, signed_arith)), days_between-next n b high)
+    (has-right (days_between a n) (n ∷ days_between (n +ℤ pos 1) b) n (inl refl))
 
 -- the starts of a window are those that begin on its days
-pub begins-window : (p : StartParts) (first end b : ℤ) → begins p b ≡ true → first ≤ℤ day_of_second b → day_of_second b <ℤ end → Has (starts_of p (days_between first end)) b
-begins-window p first end b h low high = has-starts_of p (days_between first end) (day_of_second b) b (has-day first end (day_of_second b) low high) (begins-starts_on p b h)
+pub begins-window : (p : StartParts) (first end b : ℤ) → begins p b ≡ true → first ≤ℤ day_of_second b → day_of_second b <ℤ end
+    → Has (starts_of p (days_between first end)) b
+begins-window p first end b h low high = has-starts_of p (days_between first end) (day_of_second b) b
+    (has-day first end (day_of_second b) low high) (begins-starts_on p b h)
 
 -- the runs of the window's starts are those of the basic domain
 pub window-runs : (p : StartParts) (q : DurationParts) (first from to : ℤ) → first ≡ from -ℤ pos (lookback_of q) → from ≤ℤ to
-    → IsNormalFor (InStretches p q) (from *ℤ pos 86400) (to *ℤ pos 86400) (runs_between q (starts_of p (days_between first to)) (from *ℤ pos 86400) (to *ℤ pos 86400))
-unfolding InStretches
+    → IsNormalFor (InStretches p q) (from *ℤ pos 86400) (to *ℤ pos 86400)
+    (runs_between q (starts_of p (days_between first to)) (from *ℤ pos 86400) (to *ℤ pos 86400))
 window-runs p q first from to back le =
     let bs = starts_of p (days_between first to) in
-    normal-for (InStretches p q) (from *ℤ pos 86400) (to *ℤ pos 86400) _ (runs_between-normal q bs (from *ℤ pos 86400) (to *ℤ pos 86400)) (λ t.
+    normal-for (InStretches p q) (from *ℤ pos 86400) (to *ℤ pos 86400) _
+    (runs_between-normal q bs (from *ℤ pos 86400) (to *ℤ pos 86400)) (λ t.
     let i = runs_between-holds q bs (from *ℤ pos 86400) (to *ℤ pos 86400) t (omega (arith, signed_arith)) in (
       (λ h. let k = i.0 h in let held = held-to q bs t k.2 in
-          (k.0, k.1, (held.0, (starts_of-begins p (days_between first to) held.0 held.1, held.2, held.3)))),
+          (k.0, k.1, from_computed p q t (held.0, (starts_of-begins p (days_between first to) held.0 held.1, held.2, held.3)))),
       (λ h. let near = held_in_lookback p q t h.2 in
           let parts = second-parts t in
           let on = near.2.1 in
@@ -117,13 +141,15 @@ window-runs p q first from to back le =
             h.1,
             held-from q bs near.2.0 t
                 (begins-window p first to near.2.0 held.0
-                (early first from t (day_of_second t) (day_of_second near.2.0) (second_of_day t) near.0 (lookback_of q) back h.0 parts.0 parts.1 near.1 on)
+                (early first from t (day_of_second t) (day_of_second near.2.0) (second_of_day t) near.0
+                (lookback_of q) back h.0 parts.0 parts.1 near.1 on)
                 (late to t (day_of_second t) (day_of_second near.2.0) (second_of_day t) near.0 h.1 parts.0 parts.1 on))
                 held.1 held.2,
           )),
     ))
   where
-    early : (first from t n m : ℤ) (i k back : ℕ) → first ≡ from -ℤ pos back → (from *ℤ pos 86400) ≤ℤ t → t ≡ pos 86400 *ℤ n +ℤ pos i → i < 86400 → k ≤ back → m ≡ n -ℤ pos k → first ≤ℤ m
+    early : (first from t n m : ℤ) (i k back : ℕ) → first ≡ from -ℤ pos back → (from *ℤ pos 86400) ≤ℤ t → t ≡ pos 86400 *ℤ n
+        +ℤ pos i → i < 86400 → k ≤ back → m ≡ n -ℤ pos k → first ≤ℤ m
     early first from t n m i k back g a b c e f = omega (arith, signed_arith)
 
     late : (to t n m : ℤ) (i k : ℕ) → t <ℤ (to *ℤ pos 86400) → t ≡ pos 86400 *ℤ n +ℤ pos i → i < 86400 → m ≡ n -ℤ pos k → m <ℤ to

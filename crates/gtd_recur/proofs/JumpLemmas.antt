@@ -1,30 +1,56 @@
 -- Which days a given year or month excludes.
-use Rattle.std.proofs.Common.{◌≡◌, ℕ, ◌+◌, ◌<◌, ◌≤◌, ◌⊎◌, inl, inr, Bool, true, false, Option, Some, None, refl, sym, arith, ℤ, pos, neg_ℤ, ◌+ℤ◌, ◌-ℤ◌, ◌<ℤ◌, ◌≤ℤ◌, is_some, IfSome, ◌||◌}
+use Rattle.std.proofs.Common.{◌≡◌, ℕ, ◌+◌, ◌<◌, ◌≤◌, ◌⊎◌, inl, inr, Bool, true, false, Option, Some, None, refl, sym, arith, ℤ}
+use Rattle.std.proofs.Common.{pos, ◌+ℤ◌, ◌-ℤ◌, ◌<ℤ◌, ◌≤ℤ◌, is_some, IfSome, ◌||◌}
 use Rattle.std.specs.Prelude.{IsTrue}
 use Rattle.std.specs.Option.{unwrap_or}
 use Rattle.std.specs.Int.{IsInRange}
 use Rattle.std.proofs.lemmas.Bool.{and_parts, and_from, cases_lt, eqb-true, eq-eqb}
 use Rattle.std.proofs.lemmas.Bool.Decides.{Decides-int_eq}
 use Rattle.std.proofs.lemmas.Int.{by_lt_z}
-use Rattle.gtd_calendar.proofs.Signed.{signed_arith}
+use Rattle.gtd_core.specs.Limits.{horizons_end, first_calendar_day, first_window_day}
+use Rattle.gtd_calendar.specs.facts.Signed.{signed_arith}
 use Rattle.gtd_core.specs.declared.start.StartParts.{StartParts}
-use Rattle.gtd_calendar.specs.Calendar.{year_of, month_of, day_number, first_day, days_of_months, guessed_year}
-use Rattle.gtd_calendar.proofs.DateLemmas.{date_of-is, date_of-only, month_length_bounds}
-use Rattle.gtd_calendar.proofs.OrderLemmas.{before_month, before_first, year_of-calendar}
-use Rattle.gtd_calendar.proofs.YearLemmas.{guessed_year-near}
+use Rattle.gtd_calendar.specs.facts.DateLemmas.{date_of-is, date_of-only, month_length_bounds}
+use Rattle.gtd_calendar.specs.facts.OrderLemmas.{before_month, before_first, year_of-calendar}
+use Rattle.gtd_calendar.specs.facts.YearLemmas.{guessed_year-near}
+use Rattle.gtd_calendar.specs.Calendar.{day_number, first_day, days_of_months}
+use Rattle.gtd_calendar.specs.ComputedDates.{year_of, month_of, guessed_year}
 use Rattle.gtd_recur.specs.Begins.{month_and_year_fit, agrees, year_agrees_with}
 use Rattle.gtd_recur.specs.Jumps.{IsNextRun, IsBefore, AreMonths, IsClipped, IsOf, IsOfMonth}
 use Rattle.gtd_recur.specs.Stretches.{IsLater, IsEarlier}
 
 -- those of the days that are from one on and before an end
-pub clipped : (first last day end a b : ℤ) → first <ℤ last → day <ℤ last → IsLater first day a → a <ℤ end → IsEarlier last end b → IsClipped first last day end a b
+pub clipped : (first last day end a b : ℤ) → first <ℤ last → day <ℤ last → IsLater first day a → a <ℤ end → IsEarlier last end b
+    → IsClipped first last day end a b
 clipped first last day end a b some ahead later low earlier = record {
   low = later.1;
-  order = elim (earlier.2) [ inl e ↦ elim (later.2) [ inl f ↦ omega (arith, signed_arith, e, f) | inr f ↦ omega (arith, signed_arith, e, f) ] | inr e ↦ omega (arith, signed_arith, e) ];
+  order = elim (earlier.2) [
+    | inl e ↦ elim (later.2) [
+      | inl f ↦ omega (arith, signed_arith, e, f)
+      | inr f ↦
+          omega (arith, signed_arith, e, f)
+    ]
+    | inr e ↦ omega (arith, signed_arith, e)
+  ];
   within = earlier.1;
-  some = λ lt. elim (earlier.2) [ inl e ↦ elim (later.2) [ inl f ↦ omega (arith, signed_arith, e, f) | inr f ↦ omega (arith, signed_arith, e, f) ] | inr e ↦ omega (arith, signed_arith, e) ];
-  early = λ n ge lt. elim (later.2) [ inl f ↦ omega (arith, signed_arith, f, lt) | inr f ↦ absurd (omega (arith, signed_arith, f, lt, ge)) ];
-  inside = λ n ge lt. (let p = later.0 in omega (arith, signed_arith, p, ge), let q = earlier.0 in omega (arith, signed_arith, q, lt));
+  some = λ lt. elim (earlier.2) [
+    | inl e ↦ elim (later.2) [
+      | inl f ↦ omega (arith, signed_arith, e, f)
+      | inr f ↦
+          omega (arith, signed_arith, e, f)
+    ]
+    | inr e ↦ omega (arith, signed_arith, e)
+  ];
+  early = λ n ge lt. elim (later.2) [
+    | inl f ↦ omega (arith, signed_arith, f, lt)
+    | inr f ↦
+        absurd (omega (arith, signed_arith, f, lt, ge))
+  ];
+  inside = λ n ge lt. (
+    let p = later.0 in omega (arith, signed_arith, p, ge),
+    let q = earlier.0 in
+        omega (arith, signed_arith, q, lt),
+  );
 }
 
 -- a day from the first of a month on is not of an earlier month
@@ -48,30 +74,38 @@ first_date y m h =
     (only.0, only.1)
 
 -- between the first of a month and that of a later one
-on_months : (y z : ℤ) (low high : ℕ) (w : ℤ) (m : ℕ) → ¬ (IsBefore z m y low) → (z ≡ y) × (m ≤ high) ⊎ (z <ℤ y) → (z ≡ y) × (low ≤ m) × (m ≤ high)
+on_months : (y z : ℤ) (low high : ℕ) (w : ℤ) (m : ℕ) → ¬ (IsBefore z m y low) → (z ≡ y) × (m ≤ high) ⊎ (z <ℤ y) → (z ≡ y)
+    × (low ≤ m) × (m ≤ high)
 on_months y z low high w m first last = elim last [
   | inl here ↦ elim (cases_lt m low) [ inl lt ↦ absurd (first (inr (here.0, lt))) | inr ge ↦ (here.0, ge, here.1) ]
   | inr early ↦ absurd (first (inl early))
 ]
 
-pub months-then : (y : ℤ) (low high : ℕ) (a b : ℤ) → IsInRange 1 12 low → IsInRange low 12 high → high < 12 → a ≡ day_number y low 1 → b ≡ day_number y (high + 1) 1
+pub months-then : (y : ℤ) (low high : ℕ) (a b : ℤ) → IsInRange 1 12 low → IsInRange low 12 high → high < 12 → a
+    ≡ day_number y low 1 → b ≡ day_number y (high + 1) 1
     → AreMonths y low high a b
 months-then y low high a b h g lt p q = record {
-  order = rw (p, q) (let date = first_date y low h in before_first (day_number y low 1) y (high + 1) (omega (arith, g.0, h.0), omega arith) (inr (sym date.0, let d = date.1 in omega (arith, d, g.0))));
+  order = rw (p, q) (let date = first_date y low h in before_first (day_number y low 1) y (high + 1)
+      (omega (arith, g.0, h.0), omega arith) (inr (sym date.0, let d = date.1 in omega (arith, d, g.0))));
   before = λ n early. before_month n y low h (rw (← p) early);
   on = λ n from until. on_months y (year_of n) low high y (month_of n) (not_before_first n y low h (rw (← p) from))
-      (elim (before_month n y (high + 1) (omega (arith, g.0, h.0), omega arith) (rw (← q) until)) [ inl early ↦ inr early | inr here ↦ inl (here.0, let m = here.1 in omega (arith, m)) ]);
-  after = λ n late. later (year_of n) (month_of n) (not_before_first n y (high + 1) (omega (arith, g.0, h.0), omega arith) (rw (← q) late));
+      (elim (before_month n y (high + 1) (omega (arith, g.0, h.0), omega arith) (rw (← q) until))
+      [ inl early ↦ inr early | inr here ↦ inl (here.0, let m = here.1 in omega (arith, m)) ]);
+  after = λ n late. later (year_of n) (month_of n) (not_before_first n y (high + 1) (omega (arith, g.0, h.0), omega arith)
+      (rw (← q) late));
 }
   where
     later : (z : ℤ) (m : ℕ) → ¬ (IsBefore z m y (high + 1)) → IsBefore y high z m
     later z m none = by_lt_z y z (λ lt. inl lt) (λ le. by_lt_z z y (λ gt. absurd (none (inl gt)))
-        (λ ge. let e : z ≡ y = omega (arith, signed_arith) in elim (cases_lt high m) [ inl over ↦ inr (sym e, over) | inr under ↦ absurd (none (inr (e, omega arith))) ]))
+        (λ ge. let e : z ≡ y = omega (arith, signed_arith) in
+        elim (cases_lt high m) [ inl over ↦ inr (sym e, over) | inr under ↦ absurd (none (inr (e, omega arith))) ]))
 
-pub months-else : (y : ℤ) (low high : ℕ) (a b : ℤ) → IsInRange 1 12 low → IsInRange low 12 high → 12 ≤ high → a ≡ day_number y low 1 → b ≡ day_number (y +ℤ pos 1) 1 1
+pub months-else : (y : ℤ) (low high : ℕ) (a b : ℤ) → IsInRange 1 12 low → IsInRange low 12 high → 12 ≤ high → a
+    ≡ day_number y low 1 → b ≡ day_number (y +ℤ pos 1) 1 1
     → AreMonths y low high a b
 months-else y low high a b h g ge p q = record {
-  order = rw (p, q) (let date = first_date y low h in before_first (day_number y low 1) (y +ℤ pos 1) 1 (omega arith, omega arith) (inl (next (year_of (day_number y low 1)) (date.0))));
+  order = rw (p, q) (let date = first_date y low h in before_first (day_number y low 1) (y +ℤ pos 1) 1 (omega arith, omega arith)
+      (inl (next (year_of (day_number y low 1)) (date.0))));
   before = λ n early. before_month n y low h (rw (← p) early);
   on = λ n from until. on_months y (year_of n) low high y (month_of n) (not_before_first n y low h (rw (← p) from))
       (elim (before_month n (y +ℤ pos 1) 1 (omega arith, omega arith) (rw (← q) until)) [
@@ -94,12 +128,28 @@ months-else y low high a b h g ge p q = record {
 year-skipped : (year : ℤ) (month : Option ℕ) (low high : ℕ) (n : ℤ) → low ≡ unwrap_or month 1 → high ≡ unwrap_or month 12
     → IsBefore (year_of n) (month_of n) year low ⊎ IsBefore year high (year_of n) (month_of n) → ¬ (IsOf year month n)
 year-skipped year None low high n e f outside is = elim outside [
-  | inl before ↦ elim before [ inl lt ↦ (let y = is.0 in omega (arith, signed_arith, y, lt)) | inr m ↦ (let lt = m.1 in let l = month_low n in omega (arith, lt, l, e)) ]
-  | inr after ↦ elim after [ inl lt ↦ (let y = is.0 in omega (arith, signed_arith, y, lt)) | inr m ↦ (let lt = m.1 in let l = month_high n in omega (arith, lt, l, f)) ]
+  | inl before ↦ elim before [
+    | inl lt ↦ (let y = is.0 in omega (arith, signed_arith, y, lt))
+    | inr m ↦
+        (let lt = m.1 in let l = month_low n in omega (arith, lt, l, e))
+  ]
+  | inr after ↦ elim after [
+    | inl lt ↦ (let y = is.0 in omega (arith, signed_arith, y, lt))
+    | inr m ↦
+        (let lt = m.1 in let l = month_high n in omega (arith, lt, l, f))
+  ]
 ]
 year-skipped year (Some k) low high n e f outside is = elim outside [
-  | inl before ↦ elim before [ inl lt ↦ (let y = is.0 in omega (arith, signed_arith, y, lt)) | inr m ↦ (let lt = m.1 in let l = is.1 in omega (arith, lt, l, e)) ]
-  | inr after ↦ elim after [ inl lt ↦ (let y = is.0 in omega (arith, signed_arith, y, lt)) | inr m ↦ (let lt = m.1 in let l = is.1 in omega (arith, lt, l, f)) ]
+  | inl before ↦ elim before [
+    | inl lt ↦ (let y = is.0 in omega (arith, signed_arith, y, lt))
+    | inr m ↦
+        (let lt = m.1 in let l = is.1 in omega (arith, lt, l, e))
+  ]
+  | inr after ↦ elim after [
+    | inl lt ↦ (let y = is.0 in omega (arith, signed_arith, y, lt))
+    | inr m ↦
+        (let lt = m.1 in let l = is.1 in omega (arith, lt, l, f))
+  ]
 ]
 
 year-on : (year : ℤ) (month : Option ℕ) (low high : ℕ) (n : ℤ) → low ≡ unwrap_or month 1 → high ≡ unwrap_or month 12
@@ -107,8 +157,10 @@ year-on : (year : ℤ) (month : Option ℕ) (low high : ℕ) (n : ℤ) → low �
 year-on year None low high n e f on = (on.0, tt)
 year-on year (Some k) low high n e f on = (on.0, let a = on.1 in let b = on.2 in omega (arith, a, b, e, f))
 
-pub year-run : (year : ℤ) (month : Option ℕ) (low high : ℕ) (first last day end from until : ℤ) → low ≡ unwrap_or month 1 → high ≡ unwrap_or month 12
-    → AreMonths year low high first last → IsClipped first last day end from until → IsNextRun (IsOf year month) day end from until
+pub year-run : (year : ℤ) (month : Option ℕ) (low high : ℕ) (first last day end from until : ℤ) → low ≡ unwrap_or month 1 → high
+    ≡ unwrap_or month 12
+    → AreMonths year low high first last → IsClipped first last day end from until
+    → IsNextRun (IsOf year month) day end from until
 year-run year month low high first last day end from until e f are clip = record {
   low = clip.low;
   order = clip.order;
@@ -118,7 +170,8 @@ year-run year month low high first last day end from until e f are clip = record
   run = λ n ge lt. let in_run = clip.inside n ge lt in year-on year month low high n e f (are.on n in_run.0 in_run.1);
 }
 
-pub year-past : (year : ℤ) (month : Option ℕ) (low high : ℕ) (first last day end : ℤ) → low ≡ unwrap_or month 1 → high ≡ unwrap_or month 12
+pub year-past : (year : ℤ) (month : Option ℕ) (low high : ℕ) (first last day end : ℤ) → low ≡ unwrap_or month 1 → high
+    ≡ unwrap_or month 12
     → AreMonths year low high first last → day ≤ℤ end → last ≤ℤ day → IsNextRun (IsOf year month) day end end end
 year-past year month low high first last day end e f are le past = record {
   low = le;
@@ -129,16 +182,16 @@ year-past year month low high first last day end e f are le past = record {
   run = λ n ge lt. absurd (omega (arith, signed_arith));
 }
 
-first-2700 : day_number (pos 2700) 1 1 ≡ pos 266_627
+first-2700 : day_number (pos 2700) 1 1 ≡ horizons_end
 unfolding day_number first_day days_of_months
 first-2700 = refl
 
-first-1800 : day_number (pos 1800) 1 1 ≡ neg_ℤ (pos 62_091)
+first-1800 : day_number (pos 1800) 1 1 ≡ first_calendar_day
 unfolding day_number first_day days_of_months
 first-1800 = refl
 
 -- the days that a window can have are of the years 1800 to 2699
-window-year : (n : ℤ) → neg_ℤ (pos 61802) ≤ℤ n → n <ℤ pos 266_627 → (pos 1800 ≤ℤ year_of n) × (year_of n ≤ℤ pos 2699)
+window-year : (n : ℤ) → first_window_day ≤ℤ n → n <ℤ horizons_end → (pos 1800 ≤ℤ year_of n) × (year_of n ≤ℤ pos 2699)
 window-year n low high =
     let calendar = year_of-calendar n (omega (arith, signed_arith), omega (arith, signed_arith)) in (
       calendar.0,
@@ -148,7 +201,8 @@ window-year n low high =
       ],
     )
 
-pub year-never : (year : ℤ) (month : Option ℕ) (day end : ℤ) → neg_ℤ (pos 61802) ≤ℤ day → day ≤ℤ end → end ≤ℤ pos 266_627 → (year <ℤ pos 1800) ⊎ (pos 2699 <ℤ year)
+pub year-never : (year : ℤ) (month : Option ℕ) (day end : ℤ) → first_window_day ≤ℤ day → day ≤ℤ end → end ≤ℤ horizons_end
+    → (year <ℤ pos 1800) ⊎ (pos 2699 <ℤ year)
     → IsNextRun (IsOf year month) day end end end
 year-never year month day end low le high outside = record {
   low = le;
@@ -160,7 +214,11 @@ year-never year month day end low le high outside = record {
 }
   where
     apart : (z : ℤ) → z ≡ year → (pos 1800 ≤ℤ z) × (z ≤ℤ pos 2699) → ⊥
-    apart z e h = elim outside [ inl lt ↦ omega (arith, signed_arith, e, lt, h.0) | inr gt ↦ omega (arith, signed_arith, e, gt, h.1) ]
+    apart z e h = elim outside [
+      | inl lt ↦ omega (arith, signed_arith, e, lt, h.0)
+      | inr gt ↦
+          omega (arith, signed_arith, e, gt, h.1)
+    ]
 
 -- a later day is not of an earlier year
 not_earlier : (a n : ℤ) → a ≤ℤ n → ¬ (year_of n <ℤ year_of a)
@@ -172,14 +230,16 @@ not_earlier a n le lt =
     apart a n f p q r = omega (arith, signed_arith)
 
     from_first : (a : ℤ) → day_number (year_of a) 1 1 ≤ℤ a
-    from_first a = by_lt_z a (day_number (year_of a) 1 1) (λ early. absurd (elim (before_month a (year_of a) 1 (omega arith, omega arith) early) [
-      | inl lt ↦ omega (arith, signed_arith, lt)
-      | inr here ↦ (let m = here.1 in let l = month_low a in omega (arith, m, l))
-    ])) (λ ge. ge)
+    from_first a = by_lt_z a (day_number (year_of a) 1 1) (λ early.
+        absurd (elim (before_month a (year_of a) 1 (omega arith, omega arith) early) [
+          | inl lt ↦ omega (arith, signed_arith, lt)
+          | inr here ↦ (let m = here.1 in let l = month_low a in omega (arith, m, l))
+        ])) (λ ge. ge)
 
 -- the days of a month, in this year
 pub month-this_year : (year : ℤ) (month : ℕ) (first last day end from until : ℤ) → year ≡ year_of day → day <ℤ last
-    → AreMonths year month month first last → IsClipped first last day end from until → IsNextRun (IsOfMonth month) day end from until
+    → AreMonths year month month first last → IsClipped first last day end from until
+    → IsNextRun (IsOfMonth month) day end from until
 month-this_year year month first last day end from until e ahead are clip = record {
   low = clip.low;
   order = clip.order;
@@ -189,12 +249,15 @@ month-this_year year month first last day end from until e ahead are clip = reco
     | inl early ↦ not_earlier day n ge (omega (arith, signed_arith, e, early))
     | inr here ↦ (let m = here.1 in omega (arith, m, is))
   ];
-  run = λ n ge lt. let in_run = clip.inside n ge lt in let on = are.on n in_run.0 in_run.1 in (let a = on.1 in let b = on.2 in omega (arith, a, b));
+  run = λ n ge lt. let in_run = clip.inside n ge lt in let on = are.on n in_run.0 in_run.1 in
+      (let a = on.1 in let b = on.2 in omega (arith, a, b));
 }
 
 -- or in the next one, where it is over in this
-pub month-next_year : (year : ℤ) (month : ℕ) (first last here past day end from until : ℤ) → year ≡ year_of day → past ≤ℤ day → AreMonths year month month here past
-    → AreMonths (year +ℤ pos 1) month month first last → IsClipped first last day end from until → IsNextRun (IsOfMonth month) day end from until
+pub month-next_year : (year : ℤ) (month : ℕ) (first last here past day end from until : ℤ) → year ≡ year_of day → past ≤ℤ day
+    → AreMonths year month month here past
+    → AreMonths (year +ℤ pos 1) month month first last → IsClipped first last day end from until
+    → IsNextRun (IsOfMonth month) day end from until
 month-next_year year month first last here past day end from until e over before are clip = record {
   low = clip.low;
   order = clip.order;
@@ -207,11 +270,13 @@ month-next_year year month first last here past day end from until e over before
     ]
     | inr m ↦ (let lt = m.1 in omega (arith, lt, is))
   ];
-  run = λ n ge lt. let in_run = clip.inside n ge lt in let on = are.on n in_run.0 in_run.1 in (let a = on.1 in let b = on.2 in omega (arith, a, b));
+  run = λ n ge lt. let in_run = clip.inside n ge lt in let on = are.on n in_run.0 in_run.1 in
+      (let a = on.1 in let b = on.2 in omega (arith, a, b));
 }
 
 -- the next year's month is still to come
-pub next-open : (year : ℤ) (month : ℕ) (first last day : ℤ) → year ≡ year_of day → AreMonths (year +ℤ pos 1) month month first last → day <ℤ last
+pub next-open : (year : ℤ) (month : ℕ) (first last day : ℤ) → year ≡ year_of day
+    → AreMonths (year +ℤ pos 1) month month first last → day <ℤ last
 next-open year month first last day e are = by_lt_z day last (λ lt. lt) (λ ge. absurd (elim (are.after day ge) [
   | inl late ↦ omega (arith, signed_arith, e, late)
   | inr m ↦ (let y = m.0 in omega (arith, signed_arith, e, y))
@@ -223,39 +288,48 @@ unfolding day_number days_of_months
 year_begin y = omega (arith, signed_arith)
 
 year-before : (n y : ℤ) → n <ℤ day_number y 1 1 → year_of n <ℤ y
-year-before n y lt = elim (before_month n y 1 (omega arith, omega arith) lt) [ inl early ↦ early | inr here ↦ absurd (let m = here.1 in let l = month_low n in omega (arith, m, l)) ]
+year-before n y lt = elim (before_month n y 1 (omega arith, omega arith) lt)
+    [ inl early ↦ early | inr here ↦ absurd (let m = here.1 in let l = month_low n in omega (arith, m, l)) ]
 
 year-from : (n y : ℤ) → day_number y 1 1 ≤ℤ n → y ≤ℤ year_of n
 year-from n y le = by_lt_z (year_of n) y (λ lt. absurd (not_before_first n y 1 (omega arith, omega arith) le (inl lt))) (λ ge. ge)
 
 near : (n g : ℤ) → g ≡ guessed_year n → ((g -ℤ pos 1) ≤ℤ year_of n) × (year_of n <ℤ (g +ℤ pos 2))
 near n g e =
-    let guess = guessed_year-near n g e in
-    (year-from n (g -ℤ pos 1) (rw (year_begin (g -ℤ pos 1)) guess.0), year-before n (g +ℤ pos 2) (rw (year_begin (g +ℤ pos 2)) guess.1))
+    let guess = guessed_year-near n g e in (
+      year-from n (g -ℤ pos 1) (rw (year_begin (g -ℤ pos 1)) guess.0),
+      year-before n (g +ℤ pos 2) (rw (year_begin (g +ℤ pos 2)) guess.1),
+    )
 
 pub year-early : (n g : ℤ) → g ≡ guessed_year n → n <ℤ day_number g 1 1 → (g -ℤ pos 1) ≡ year_of n
-year-early n g e lt = let guess = near n g e in let low = guess.0 in let high = year-before n g lt in omega (arith, signed_arith, low, high)
+year-early n g e lt = let guess = near n g e in let low = guess.0 in let high = year-before n g lt in
+    omega (arith, signed_arith, low, high)
 
 pub year-here : (n g : ℤ) → day_number g 1 1 ≤ℤ n → n <ℤ day_number (g +ℤ pos 1) 1 1 → g ≡ year_of n
-year-here n g le lt = let low = year-from n g le in let high = year-before n (g +ℤ pos 1) lt in omega (arith, signed_arith, low, high)
+year-here n g le lt = let low = year-from n g le in let high = year-before n (g +ℤ pos 1) lt in
+    omega (arith, signed_arith, low, high)
 
 pub year-late : (n g : ℤ) → g ≡ guessed_year n → day_number (g +ℤ pos 1) 1 1 ≤ℤ n → (g +ℤ pos 1) ≡ year_of n
-year-late n g e le = let guess = near n g e in let high = guess.1 in let low = year-from n (g +ℤ pos 1) le in omega (arith, signed_arith, low, high)
+year-late n g e le = let guess = near n g e in let high = guess.1 in let low = year-from n (g +ℤ pos 1) le in
+    omega (arith, signed_arith, low, high)
 
-pub year-low : (n y : ℤ) → neg_ℤ (pos 61802) ≤ℤ n → y ≡ year_of n → pos 1800 ≤ℤ y
+pub year-low : (n y : ℤ) → first_window_day ≤ℤ n → y ≡ year_of n → pos 1800 ≤ℤ y
 year-low n y low e = rw e (year-from n (pos 1800) (chain (day_number (pos 1800) 1 1) n first-1800 low))
   where
-    chain : (a n : ℤ) → a ≡ neg_ℤ (pos 62_091) → neg_ℤ (pos 61802) ≤ℤ n → a ≤ℤ n
+    chain : (a n : ℤ) → a ≡ first_calendar_day → first_window_day ≤ℤ n → a ≤ℤ n
     chain a n e le = omega (arith, signed_arith)
 
-pub fit-year : (p : StartParts) (n : ℤ) (y : ℕ) → p.week ≡ None → p.year ≡ Some y → IsOf (pos y) p.month n → IsTrue (month_and_year_fit p n)
-fit-year p n y none is h = rw (none, is) (and_from _ _ (month p.month (month_of n) h.1) ((Decides-int_eq (pos y) (year_of n)).1 (sym h.0)))
+pub fit-year : (p : StartParts) (n : ℤ) (y : ℕ) → p.week ≡ None → p.year ≡ Some y → IsOf (pos y) p.month n
+    → IsTrue (month_and_year_fit p n)
+fit-year p n y none is h = rw (none, is) (and_from _ _ (month p.month (month_of n) h.1)
+    ((Decides-int_eq (pos y) (year_of n)).1 (sym h.0)))
   where
     month : (given : Option ℕ) (m : ℕ) → IfSome given (λ k. m ≡ k) → agrees given m ≡ true
     month None m h = refl
     month (Some k) m h = eq-eqb _ _ (sym h)
 
-pub year-fit : (p : StartParts) (n : ℤ) (y : ℕ) → p.week ≡ None → p.year ≡ Some y → IsTrue (month_and_year_fit p n) → IsOf (pos y) p.month n
+pub year-fit : (p : StartParts) (n : ℤ) (y : ℕ) → p.week ≡ None → p.year ≡ Some y → IsTrue (month_and_year_fit p n)
+    → IsOf (pos y) p.month n
 year-fit p n y none is h =
     let parts = and_parts _ _ (rw (none, is) at h) in
     (sym ((Decides-int_eq (pos y) (year_of n)).0 parts.1), month p.month (month_of n) parts.0)
@@ -265,17 +339,21 @@ year-fit p n y none is h =
     month (Some k) m h = sym (eqb-true _ _ h)
 
 -- where no year of the date is given, the month alone asks
-pub fit-month : (p : StartParts) (n : ℤ) (m : ℕ) → ((is_some p.week ≡ true) ⊎ (p.year ≡ None)) → p.month ≡ Some m → IsOfMonth m n → IsTrue (month_and_year_fit p n)
+pub fit-month : (p : StartParts) (n : ℤ) (m : ℕ) → ((is_some p.week ≡ true) ⊎ (p.year ≡ None)) → p.month ≡ Some m → IsOfMonth m n
+    → IsTrue (month_and_year_fit p n)
 fit-month p n m free is h = and_from _ _ (rw is (eq-eqb _ _ (sym h))) (no_year (is_some p.week) p.year (year_of n) free)
   where
-    no_year : (week : Bool) (given : Option ℕ) (y : ℤ) → ((week ≡ true) ⊎ (given ≡ None)) → (week || year_agrees_with given y) ≡ true
+    no_year : (week : Bool) (given : Option ℕ) (y : ℤ) → ((week ≡ true) ⊎ (given ≡ None)) → (week || year_agrees_with given y)
+        ≡ true
     no_year true given y h = refl
     no_year false given y h = elim h [ inl e ↦ cc | inr e ↦ rw e refl ]
 
 pub month-fit : (p : StartParts) (n : ℤ) (m : ℕ) → p.month ≡ Some m → IsTrue (month_and_year_fit p n) → IsOfMonth m n
-month-fit p n m is h = let parts = and_parts (agrees p.month (month_of n)) (is_some p.week || year_agrees_with p.year (year_of n)) h in sym (eqb-true m (month_of n) (rw is at parts.0))
+month-fit p n m is h = let parts = and_parts (agrees p.month (month_of n))
+    (is_some p.week || year_agrees_with p.year (year_of n)) h in sym (eqb-true m (month_of n) (rw is at parts.0))
 
-pub run-same : (p q : ℤ → Type 0) (day end from until : ℤ) → ((n : ℤ) → p n → q n) → ((n : ℤ) → q n → p n) → IsNextRun p day end from until → IsNextRun q day end from until
+pub run-same : (p q : ℤ → Type 0) (day end from until : ℤ) → ((n : ℤ) → p n → q n) → ((n : ℤ) → q n → p n)
+    → IsNextRun p day end from until → IsNextRun q day end from until
 run-same p q day end from until f g h = record {
   low = h.low;
   order = h.order;

@@ -1,22 +1,25 @@
 -- The starts of a day lie one step apart.
-use Rattle.std.proofs.Common.{◌≡◌, ℕ, zero, suc, ◌+◌, ◌-◌, ◌*◌, ◌/◌, ◌%◌, ◌<◌, ◌≤◌, Bool, true, false, Option, Some, None, List, [], ◌∷◌, ◌++◌, length, take, drop, refl, sym, ap, ◌∙◌, arith, is_some, ◌||◌, ◌⊎◌, inl, inr, ℤ, pos, ◌+ℤ◌, ◌*ℤ◌, ◌≤ℤ◌}
-use Rattle.std.proofs.lemmas.Bool.{both_ways, false_from_ne_true, eq-eqb, cases_lt}
-use Rattle.std.proofs.lemmas.List.{drop-drop, drop_at, take_at, length-append, append_assoc}
-use Rattle.gtd_calendar.proofs.Signed.{signed_arith}
+use Rattle.std.proofs.Common.{◌≡◌, ℕ, zero, suc, ◌+◌, ◌-◌, ◌*◌, ◌/◌, ◌<◌, ◌≤◌, true, Some, List}
+use Rattle.std.proofs.Common.{[], ◌∷◌, ◌++◌, length, drop, refl, sym, ap, ◌∙◌, arith, ◌⊎◌, inl, inr, ℤ, pos}
+use Rattle.std.proofs.Common.{◌+ℤ◌, ◌*ℤ◌}
+use Rattle.std.proofs.lemmas.Bool.{both_ways, cases_lt}
+use Rattle.std.proofs.lemmas.List.{drop-drop, drop_at, length-append}
+use Rattle.gtd_calendar.specs.facts.Signed.{signed_arith}
 use Rattle.gtd_core.specs.declared.start.StartParts.{StartParts}
-use Rattle.gtd_recur.specs.Begins.{agrees, begins_at}
-use Rattle.gtd_recur.specs.ClockSearch.{held, shows, IsNextPassing, IsLastPassing}
+use Rattle.gtd_recur.specs.Begins.{begins_at}
+use Rattle.gtd_recur.specs.ClockSearch.{IsLastPassing}
 use Rattle.gtd_recur.specs.Stepping.{IsStep, Stepped}
 use Rattle.gtd_recur.specs.Starts.{clock_starts, starts_left, AreLeft}
-use Rattle.gtd_recur.proofs.ClockSearch.{shows-parts, shows-from, agrees-is, held_shows, or_zero}
-use Rattle.gtd_recur.proofs.StartsLemmas.{clock_starts-some, clock_starts-none, clock_starts-nil}
+use Rattle.gtd_recur.specs.facts.StartsLemmas.{clock_starts-some, clock_starts-none, clock_starts-nil}
 
 -- the starts of a day behind one of them
-pub stepping : (p : StartParts) (n : ℤ) (step last : ℕ) → IsStep (begins_at p) step → IsLastPassing (begins_at p) 86399 (Some last) → (f k : ℕ) → begins_at p k ≡ true → k ≤ last → last ≤ k + f
+pub stepping : (p : StartParts) (n : ℤ) (step last : ℕ) → IsStep (begins_at p) step
+    → IsLastPassing (begins_at p) 86399 (Some last) → (f k : ℕ) → begins_at p k ≡ true → k ≤ last → last ≤ k + f
     → Stepped step (pos 86400 *ℤ n +ℤ pos k) (clock_starts p n (k + 1)) (pos 86400 *ℤ n +ℤ pos last)
 stepping p n step last is end zero k on low high =
     let same : last ≡ k = omega arith in
-    let none : clock_starts p n (k + 1) ≡ [] = clock_starts-none p n (k + 1) (omega (arith, end.0)) (λ j le lt. end.2 j (omega arith) (omega arith)) in
+    let none : clock_starts p n (k + 1) ≡ [] = clock_starts-none p n (k + 1) (omega (arith, end.0))
+    (λ j le lt. end.2 j (omega arith) (omega arith)) in
     rw none (rw same refl)
 stepping p n step last is end (suc f) k on low high = elim (cases_lt k last) [
   | inl lt ↦
@@ -25,11 +28,17 @@ stepping p n step last is end (suc f) k on low high = elim (cases_lt k last) [
         | inl less ↦ absurd (both_ways _ (is.between k last on lt less) end.1)
         | inr ge ↦ omega (arith, ge)
       ] in
-      let next = clock_starts-some p n (k + 1) (k + step) (more k step is.known, omega (arith, within, end.0), some, λ j ge less. is.between k j on (omega arith) less) in
+      let next = clock_starts-some p n (k + 1) (k + step) (
+        more k step is.known,
+        omega (arith, within, end.0),
+        some,
+        λ j ge less. is.between k j on (omega arith) less,
+      ) in
       rw next (far n k step, stepping p n step last is end f (k + step) some within (left k step last f is.known high))
   | inr ge ↦
       let same : last ≡ k = omega (arith, ge) in
-      let none : clock_starts p n (k + 1) ≡ [] = clock_starts-none p n (k + 1) (omega (arith, end.0)) (λ j le lt. end.2 j (omega arith) (omega arith)) in
+      let none : clock_starts p n (k + 1) ≡ [] = clock_starts-none p n (k + 1) (omega (arith, end.0))
+      (λ j le lt. end.2 j (omega arith) (omega arith)) in
       rw none (rw same refl)
 ]
   where
@@ -43,8 +52,13 @@ stepping p n step last is end (suc f) k on low high = elim (cases_lt k last) [
     left k step last f e h = elim e [ inl x ↦ omega arith | inr x ↦ omega arith ]
 
 -- how many they are
-pub stepped-many : (step : ℕ) (b : ℤ) (xs : List ℤ) (last : ℤ) → (step ≡ 60) ⊎ (step ≡ 3600) → Stepped step b xs last → ((step ≡ 60) × (last ≡ b +ℤ pos 60 *ℤ pos (length xs))) ⊎ ((step ≡ 3600) × (last ≡ b +ℤ pos 3600 *ℤ pos (length xs)))
-stepped-many step b xs last e h = elim e [ inl x ↦ inl (x, by60 b xs last (rw x at h)) | inr x ↦ inr (x, by3600 b xs last (rw x at h)) ]
+pub stepped-many : (step : ℕ) (b : ℤ) (xs : List ℤ) (last : ℤ) → (step ≡ 60) ⊎ (step ≡ 3600) → Stepped step b xs last
+    → ((step ≡ 60) × (last ≡ b +ℤ pos 60 *ℤ pos (length xs))) ⊎ ((step ≡ 3600) × (last ≡ b +ℤ pos 3600 *ℤ pos (length xs)))
+stepped-many step b xs last e h = elim e [
+  | inl x ↦ inl (x, by60 b xs last (rw x at h))
+  | inr x ↦
+      inr (x, by3600 b xs last (rw x at h))
+]
   where
     by60 : (b : ℤ) (xs : List ℤ) (last : ℤ) → Stepped 60 b xs last → last ≡ b +ℤ pos 60 *ℤ pos (length xs)
     by60 b [] last h = omega (arith, signed_arith)
@@ -54,17 +68,20 @@ stepped-many step b xs last e h = elim e [ inl x ↦ inl (x, by60 b xs last (rw 
     by3600 b [] last h = omega (arith, signed_arith)
     by3600 b (x ∷ xs) last h = let i = by3600 x xs last h.1 in let e = h.0 in omega (arith, signed_arith, i, e)
 
-pub passed-count : (n : ℤ) (step k last : ℕ) (xs : List ℤ) → (step ≡ 60) ⊎ (step ≡ 3600) → k ≤ last → Stepped step (pos 86400 *ℤ n +ℤ pos k) xs (pos 86400 *ℤ n +ℤ pos last)
+pub passed-count : (n : ℤ) (step k last : ℕ) (xs : List ℤ) → (step ≡ 60) ⊎ (step ≡ 3600) → k ≤ last
+    → Stepped step (pos 86400 *ℤ n +ℤ pos k) xs (pos 86400 *ℤ n +ℤ pos last)
     → (last + 1 - (k + 1)) / step ≡ length xs
 passed-count n step k last xs e low h = elim (stepped-many step _ xs _ e h) [
   | inl w ↦ rw (w.0) (by60 n k last (length xs) low w.1)
   | inr w ↦ rw (w.0) (by3600 n k last (length xs) low w.1)
 ]
   where
-    by60 : (n : ℤ) (k last m : ℕ) → k ≤ last → pos 86400 *ℤ n +ℤ pos last ≡ pos 86400 *ℤ n +ℤ pos k +ℤ pos 60 *ℤ pos m → (last + 1 - (k + 1)) / 60 ≡ m
+    by60 : (n : ℤ) (k last m : ℕ) → k ≤ last → pos 86400 *ℤ n +ℤ pos last ≡ pos 86400 *ℤ n +ℤ pos k +ℤ pos 60 *ℤ pos m
+        → (last + 1 - (k + 1)) / 60 ≡ m
     by60 n k last m low e = let f : last ≡ k + 60 * m = omega (arith, signed_arith) in omega arith
 
-    by3600 : (n : ℤ) (k last m : ℕ) → k ≤ last → pos 86400 *ℤ n +ℤ pos last ≡ pos 86400 *ℤ n +ℤ pos k +ℤ pos 3600 *ℤ pos m → (last + 1 - (k + 1)) / 3600 ≡ m
+    by3600 : (n : ℤ) (k last m : ℕ) → k ≤ last → pos 86400 *ℤ n +ℤ pos last ≡ pos 86400 *ℤ n +ℤ pos k +ℤ pos 3600 *ℤ pos m
+        → (last + 1 - (k + 1)) / 3600 ≡ m
     by3600 n k last m low e = let f : last ≡ k + 3600 * m = omega (arith, signed_arith) in omega arith
 
 -- several are handed out at once
@@ -73,16 +90,19 @@ handed-many k all left more xs h e =
     let count = rw e at h.count in
     record {
       count = (let l = length-append xs more in omega (arith, l, count));
-      rest = sym (sym (drop-drop (length xs) k all) ∙ ap (λ (l : List ℤ). drop (length xs) l) (sym h.rest ∙ e) ∙ drop_at xs more (length xs) refl);
+      rest = sym (sym (drop-drop (length xs) k all) ∙ ap (λ (l : List ℤ). drop (length xs) l) (sym h.rest ∙ e)
+          ∙ drop_at xs more (length xs) refl);
     }
 
 -- where those behind one are passed over, the others are left
-pub left-passed : (p : StartParts) (n next end : ℤ) (from : ℕ) → starts_left p n from next end ≡ clock_starts p n from ++ starts_left p n 86400 next end
+pub left-passed : (p : StartParts) (n next end : ℤ) (from : ℕ) → starts_left p n from next end ≡ clock_starts p n from
+    ++ starts_left p n 86400 next end
 unfolding starts_left
 left-passed p n next end from = rw (clock_starts-nil p n) refl
 
 -- a start is not behind the last of its day
-pub last-behind : (p : StartParts) (k last : ℕ) → IsLastPassing (begins_at p) 86399 (Some last) → k < 86400 → begins_at p k ≡ true → k ≤ last
+pub last-behind : (p : StartParts) (k last : ℕ) → IsLastPassing (begins_at p) 86399 (Some last) → k < 86400 → begins_at p k ≡ true
+    → k ≤ last
 last-behind p k last end low on = elim (cases_lt last k) [
   | inl lt ↦ absurd (both_ways _ (end.2 k lt (omega (arith, low))) on)
   | inr ge ↦ omega (arith, ge)

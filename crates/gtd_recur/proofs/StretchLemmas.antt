@@ -1,20 +1,22 @@
 -- The runs that the stretches of starts make.
-use Rattle.std.proofs.Common.{◌≡◌, ◌⊎◌, ◌↔◌, is_gt, int_cmp, true, false, List, [], ◌∷◌, Option, Some, None, ap, ◌∙◌, inl, inr, arith, ℤ, ◌-ℤ◌, ◌<ℤ◌, ◌≤ℤ◌, ◌&&◌, unsigned_abs}
+use Rattle.std.proofs.Common.{◌≡◌, ◌⊎◌, ◌↔◌, is_gt, int_cmp, true, false, List, [], ◌∷◌, Option, Some, None, ap, ◌∙◌, inl, inr}
+use Rattle.std.proofs.Common.{arith, ℤ, ◌-ℤ◌, ◌<ℤ◌, ◌≤ℤ◌, ◌&&◌, unsigned_abs}
 use Rattle.std.specs.Prelude.{int_le, int_lt, MatchOption}
 use Rattle.std.specs.Bool.{Decides}
 use Rattle.std.proofs.lemmas.Int.{ints, by_lt_z}
-use Rattle.gtd_calendar.proofs.Signed.{signed_arith}
+use Rattle.gtd_calendar.specs.facts.Signed.{signed_arith}
 use Rattle.gtd_core.specs.declared.duration.DurationParts.{DurationParts}
 use Rattle.gtd_core.specs.declared.domain.Op.TheVariants.{Union}
 use Rattle.gtd_core.specs.Interval.{Interval}
-use Rattle.gtd_calendar.specs.Clock.{stop}
+use Rattle.gtd_calendar.specs.ComputedEnds.{stop}
 use Rattle.gtd_spans.specs.Normal.{Holds, AllBeginAfter, IsNormal}
-use Rattle.gtd_spans.specs.Combining.{combined-decides}
-use Rattle.gtd_spans.specs.Exists.{normal_list-holds}
-use Rattle.gtd_spans.specs.OneList.{one-list}
+use Rattle.gtd_spans.specs.facts.Combining.{combined-decides}
+use Rattle.gtd_spans.specs.facts.Exists.{normal_list-holds}
+use Rattle.gtd_spans.specs.facts.OneList.{one-list}
 use Rattle.gtd_recur.specs.Ascending.{AllAfter}
-use Rattle.gtd_recur.specs.Stretches.{HeldBy, held_by, runs_between, runs_between-normal, IsCut, IsRun, IsLater, IsEarlier}
-use Rattle.gtd_recur.proofs.StartsLemmas.{later_by}
+use Rattle.gtd_recur.specs.Stretches.{HeldBy, held_by, runs_between, IsCut, IsRun, IsLater, IsEarlier}
+use Rattle.gtd_recur.specs.facts.StretchFacts.{runs_between-normal}
+use Rattle.gtd_recur.specs.facts.StartsLemmas.{later_by}
 
 stretch-decides : (b e t : ℤ) → Decides (int_le b t && int_lt t e) ((b ≤ℤ t) × (t <ℤ e))
 stretch-decides b e t = grind (arith, ints)
@@ -42,23 +44,30 @@ begin-after u [] n h = tt
 begin-after u (x ∷ xs) n h = (h x.from (inl (omega (arith, signed_arith), n.0)), begin-after u xs n.2 (λ t k. h t (inr k)))
 
 -- a run that is in the horizon comes first
-pub run-first : (p : DurationParts) (before after : List ℤ) (from until first end : ℤ) (x : Interval) → from ≤ℤ until → IsRun p before after first end → AllAfter end after
+pub run-first : (p : DurationParts) (before after : List ℤ) (from until first end : ℤ) (x : Interval) → from ≤ℤ until
+    → IsRun p before after first end → AllAfter end after
     → IsCut from until first end (Some x) → runs_between p before from until ≡ x ∷ runs_between p after from until
 run-first p before after from until first end x le run a cut =
     let rest = runs_between-normal p after from until in
     let gap = begin-after x.until (runs_between p after from until) rest (λ t h.
-    let late = held-after p end t after a ((runs_between-holds p after from until t le).0 h).2 in omega (arith, signed_arith, late, cut.2)) in
+    let late = held-after p end t after a ((runs_between-holds p after from until t le).0 h).2 in
+    omega (arith, signed_arith, late, cut.2)) in
     one-list _ _ (runs_between-normal p before from until) (cut.0, gap, rest) (λ t.
     let i = runs_between-holds p before from until t le in
     let j = runs_between-holds p after from until t le in
     let held = run.held t in
     let within = cut.1 t in (
       (λ h. let k = i.0 h in elim (held.0 k.2) [ inl w ↦ inl (within.1 (w.0, w.1, k.0, k.1)) | inr r ↦ inr (j.1 (k.0, k.1, r)) ]),
-      (λ h. elim h [ inl w ↦ let k = within.0 w in i.1 (k.2, k.3, held.1 (inl (k.0, k.1))) | inr r ↦ let k = j.0 r in i.1 (k.0, k.1, held.1 (inr k.2)) ]),
+      (λ h. elim h [
+        | inl w ↦ let k = within.0 w in i.1 (k.2, k.3, held.1 (inl (k.0, k.1)))
+        | inr r ↦ let k = j.0 r in
+            i.1 (k.0, k.1, held.1 (inr k.2))
+      ]),
     ))
 
 -- one that is not leaves the others
-pub run-none : (p : DurationParts) (before after : List ℤ) (from until first end : ℤ) → from ≤ℤ until → IsRun p before after first end
+pub run-none : (p : DurationParts) (before after : List ℤ) (from until first end : ℤ) → from ≤ℤ until
+    → IsRun p before after first end
     → IsCut from until first end None → runs_between p before from until ≡ runs_between p after from until
 run-none p before after from until first end le run cut =
     one-list _ _ (runs_between-normal p before from until) (runs_between-normal p after from until) (λ t.
@@ -71,14 +80,17 @@ run-none p before after from until first end le run cut =
 
 -- no starts make no run
 pub runs-nil : (p : DurationParts) (from until : ℤ) → from ≤ℤ until → runs_between p [] from until ≡ []
-runs-nil p from until le = one-list _ [] (runs_between-normal p [] from until) tt (λ t. ((λ h. ((runs_between-holds p [] from until t le).0 h).2), (λ h. absurd h)))
+runs-nil p from until le = one-list _ [] (runs_between-normal p [] from until) tt
+    (λ t. ((λ h. ((runs_between-holds p [] from until t le).0 h).2), (λ h. absurd h)))
 
 -- a run of one start
-pub run-begun : (p : DurationParts) (first end : ℤ) (left : List ℤ) → first ≤ℤ end → end ≡ stop p first → IsRun p (first ∷ left) left first end
+pub run-begun : (p : DurationParts) (first end : ℤ) (left : List ℤ) → first ≤ℤ end → end ≡ stop p first
+    → IsRun p (first ∷ left) left first end
 run-begun p first end left order e = record { order = order; held = λ t. rw e ((λ h. h), (λ h. h)) }
 
 -- a run that goes on over the next start, which it reaches
-pub run-longer : (p : DurationParts) (before left : List ℤ) (first end start next : ℤ) → IsRun p before (start ∷ left) first end → first ≤ℤ start → start ≤ℤ end
+pub run-longer : (p : DurationParts) (before left : List ℤ) (first end start next : ℤ) → IsRun p before (start ∷ left) first end
+    → first ≤ℤ start → start ≤ℤ end
     → end ≤ℤ next → stop p start ≤ℤ next → ((next ≡ end) ⊎ (next ≡ stop p start)) → IsRun p before left first next
 run-longer p before left first end start next run begun reached later ends one = record {
   order = omega (arith, signed_arith);
@@ -109,7 +121,12 @@ cut-is from until first end f u (Some x) l e m =
     let lt = m.0 in (
       omega (arith, signed_arith, p, q, lt),
       (λ t. (
-        (λ w. (omega (arith, signed_arith, p, w.0, l.0), omega (arith, signed_arith, q, w.1, e.0), omega (arith, signed_arith, p, w.0, l.1), omega (arith, signed_arith, q, w.1, e.1))),
+        (λ w. (
+          omega (arith, signed_arith, p, w.0, l.0),
+          omega (arith, signed_arith, q, w.1, e.0),
+          omega (arith, signed_arith, p, w.0, l.1),
+          omega (arith, signed_arith, q, w.1, e.1),
+        )),
         (λ h. (
           elim (l.2) [ inl k ↦ omega (arith, signed_arith, p, k, h.0) | inr k ↦ omega (arith, signed_arith, p, k, h.2) ],
           elim (e.2) [ inl k ↦ omega (arith, signed_arith, q, k, h.1) | inr k ↦ omega (arith, signed_arith, q, k, h.3) ],

@@ -1,14 +1,15 @@
--- When a start begins: its fields against the date, the week and the clock of a second. Letters and levels are those of
--- GDF time domains (ISO 14825:2004), weeks those of ISO 8601; what an omitted field means is this project's own.
--- The levels are, from the coarsest on: the year; the month and the week; the day; the hour; the minute; the second.
-use Rattle.std.specs.Prelude.{ℕ, ◌-◌, ◌/◌, ◌%◌, ◌^◌, Bool, true, false, not, ◌&&◌, ◌||◌, ◌==◌, if◌then◌else◌, Option, Some, None, is_some, ℤ, pos}
+-- When a start begins, computed: its fields against the date, the week and the clock of a second, level by level. It is a
+-- law of this crate that it begins just at the seconds that it matches.
+use Rattle.std.specs.Prelude.{ℕ, ◌-◌, ◌/◌, ◌%◌, ◌^◌, Bool, true, false, ◌&&◌, ◌||◌, ◌==◌, if◌then◌else◌}
+use Rattle.std.specs.Prelude.{Option, Some, None, is_some, ℤ, pos}
 use Rattle.std.specs.Ordering.{int_eq}
 use Rattle.gtd_core.specs.declared.start.StartParts.{StartParts}
 use Rattle.gtd_calendar.specs.declared.day.DayFields.{DayFields}
-use Rattle.gtd_calendar.specs.Calendar.{year_of, month_of}
-use Rattle.gtd_calendar.specs.Fields.{day_fields}
+use Rattle.gtd_calendar.specs.ComputedDates.{year_of, month_of}
+use Rattle.gtd_calendar.specs.ComputedFields.{day_fields}
 use Rattle.gtd_core.specs.Days.{day_of_second}
 use Rattle.gtd_calendar.specs.Clock.{second_of_day}
+pub use Rattle.gtd_recur.specs.Matching.{gives_day}
 
 -- a field that is given has this value
 abbrev pub agrees : Option ℕ → ℕ → Bool
@@ -23,10 +24,6 @@ agrees_or_least None finer least v = finer || (least == v)
 -- a field of the hour, the minute or the second is given
 abbrev pub gives_clock : StartParts → Bool
 gives_clock p = is_some p.hour || (is_some p.minute || is_some p.second)
-
--- a field of the day's level is given: a day of the month, a place in the month from either end, or weekdays
-abbrev pub gives_day : StartParts → Bool
-gives_day p = is_some p.day || (is_some p.nth || (is_some p.nth_back || not (p.weekdays == 0)))
 
 -- a year that is given is this one
 abbrev pub year_agrees_with : Option ℕ → ℤ → Bool

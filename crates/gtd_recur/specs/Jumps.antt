@@ -1,6 +1,6 @@
 -- Which days a given month or year leaves to be looked at.
 use Rattle.std.specs.Prelude.{◌≡◌, ℕ, ◌≤◌, ◌<◌, ◌⊎◌, Option, ℤ, ◌≤ℤ◌, ◌<ℤ◌, IfSome}
-use Rattle.gtd_calendar.specs.Calendar.{year_of, month_of}
+use Rattle.gtd_calendar.specs.ComputedDates.{year_of, month_of}
 
 -- the next run of days, from a day on and before an end, that have a property: those before it have it not
 pub record IsNextRun (has : ℤ → Type 0) (day end from until : ℤ) : Type 0 where

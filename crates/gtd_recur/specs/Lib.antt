@@ -1,6 +1,7 @@
 pub mod Ascending
 pub mod Begins
 pub mod ClockSearch
+pub mod ComputedStretches
 pub mod Jumps
 pub mod Look
 pub mod Matching
@@ -12,3 +13,14 @@ pub mod Stepping
 pub mod Stretches
 pub mod Weekly
 pub mod Work
+pub mod facts
+pub use Rattle.gtd_calendar.specs.Calendar
+pub use Rattle.gtd_core.specs.Days
+pub use Rattle.gtd_core.specs.DurationBound
+pub use Rattle.gtd_core.specs.Parts
+pub use Rattle.gtd_core.specs.Whole
+pub use Rattle.gtd_core.specs.declared.domain.Basic
+pub use Rattle.gtd_core.specs.declared.duration.DurationParts
+pub use Rattle.gtd_core.specs.declared.horizon.Horizon
+pub use Rattle.gtd_core.specs.declared.start.StartParts
+pub use Rattle.gtd_spans.specs.Normal

@@ -1,6 +1,7 @@
 -- The starts of a window of days, from the front of which one is taken time and again.
-use Rattle.std.specs.Prelude.{◌≡◌, ℕ, ◌+◌, ◌-◌, ◌++◌, List, [], ◌∷◌, map, filter, count_by, length, drop, Option, Some, None, ℤ, pos, neg_ℤ, ◌+ℤ◌, ◌*ℤ◌, ◌≤ℤ◌, ◌<ℤ◌, IsTrue}
-use Rattle.std.proofs.Props.{props}
+use Rattle.std.specs.Prelude.{◌≡◌, ℕ, ◌+◌, ◌-◌, ◌++◌, List, [], ◌∷◌, map, filter, count_by, length, drop, Option, Some, None, ℤ}
+use Rattle.std.specs.Prelude.{pos, ◌+ℤ◌, ◌*ℤ◌, ◌≤ℤ◌, ◌<ℤ◌, IsTrue}
+use Rattle.gtd_core.specs.Limits.{horizons_end, first_window_day}
 use Rattle.gtd_core.specs.declared.start.StartParts.{StartParts}
 use Rattle.gtd_core.specs.declared.second.Sec.{Sec}
 use Rattle.gtd_recur.specs.Begins.{begins_at, month_and_year_fit}
@@ -24,34 +25,21 @@ pub record AreLeft (handed : ℕ) (all left : List ℤ) : Type 0 where
   pub count : handed + length left ≡ length all
   pub rest : left ≡ drop handed all
 
-pub AreLeft-prop : (handed : ℕ) (all left : List ℤ) → IsProp (AreLeft handed all left)
-AreLeft-prop handed all left = hlevel props
-
 -- a window of days of the calendar, the day that is open in it, and the next to look at
 pub record IsInWindow (first day next end : ℤ) : Type 0 where
-  pub first_in : neg_ℤ (pos 61802) ≤ℤ first
+  pub first_in : first_window_day ≤ℤ first
   pub day_in : first ≤ℤ (day +ℤ pos 1)
   pub next_in : day <ℤ next
   pub end_in : next ≤ℤ end
-  pub last_in : end ≤ℤ pos 266627
-
-pub IsInWindow-prop : (first day next end : ℤ) → IsProp (IsInWindow first day next end)
-IsInWindow-prop first day next end = hlevel props
+  pub last_in : end ≤ℤ horizons_end
 
 -- the days up to the open one that no given month or year excludes were looked at, and there is none before the next
 pub record IsLookedCount (p : StartParts) (first day next : ℤ) (looked : ℕ) : Type 0 where
   pub up_to : count_by (month_and_year_fit p) (days_between first (day +ℤ pos 1)) ≡ looked
   pub jumped : count_by (month_and_year_fit p) (days_between (day +ℤ pos 1) next) ≡ 0
 
-pub IsLookedCount-prop : (p : StartParts) (first day next : ℤ) (looked : ℕ)
-    → IsProp (IsLookedCount p first day next looked)
-IsLookedCount-prop p first day next looked = hlevel props
-
 -- the days from the next up to some day, which is the last of all only at the end, are not excluded
 pub record AreFitting (p : StartParts) (next until end : ℤ) : Type 0 where
   pub within : until ≤ℤ end
   pub some : next <ℤ end → next <ℤ until
   pub fit : (n : ℤ) → next ≤ℤ n → n <ℤ until → IsTrue (month_and_year_fit p n)
-
-pub AreFitting-prop : (p : StartParts) (next until end : ℤ) → IsProp (AreFitting p next until end)
-AreFitting-prop p next until end = hlevel props

@@ -1,13 +1,12 @@
 -- What is seen of a walk over the starts of a basic domain: the domain, the horizon, the starts still to come, the ticks.
 use Rattle.std.specs.Prelude.{◌≡◌, ℕ, ◌+◌, ◌<◌, ◌≤◌, true, List, ◌++◌, take, Option, Some, None, ℤ, pos, ◌+ℤ◌, ◌*ℤ◌, ◌≤ℤ◌}
-use Rattle.std.proofs.Props.{props}
 use Rattle.gtd_core.specs.declared.second.Sec.{Sec}
 use Rattle.gtd_core.specs.declared.domain.Basic.{Basic}
 use Rattle.gtd_core.specs.declared.horizon.Horizon.{Horizon}
 use Rattle.gtd_core.specs.Parts.{start_parts}
 use Rattle.gtd_core.specs.Whole.{to_day}
 use Rattle.gtd_recur.specs.declared.starts.Starts.{Starts}
-use Rattle.gtd_recur.specs.Ascending.{AllBefore, AllBefore-prop}
+use Rattle.gtd_recur.specs.Ascending.{AllBefore}
 use Rattle.gtd_recur.specs.Starts.{starts_left}
 use Rattle.gtd_core.specs.Days.{day_of_second}
 use Rattle.gtd_recur.specs.Begins.{begins_at}
@@ -42,10 +41,6 @@ abbrev pub IsCountedTo : Starts → Option Sec → Type 0
 IsCountedTo s None = Unit {0}
 IsCountedTo s (Some b) =
     AllBefore (b.0 +ℤ pos 1) (starts_given s) × (least_of_window s.basic s.horizon b.0 ≤ starts_ticks s)
-
-pub IsCountedTo-prop : (s : Starts) (o : Option Sec) → IsProp (IsCountedTo s o)
-IsCountedTo-prop s None = hlevel props
-IsCountedTo-prop s (Some b) = hlevel (props, AllBefore-prop (b.0 +ℤ pos 1) (starts_given s))
 
 -- the start is on the open day, of which the starts behind it are left
 pub record IsOpenAfter (s : Starts) (b : ℤ) : Type 0 where

@@ -1,14 +1,13 @@
 -- The stretches of listed starts, and the runs that they make.
-use Rattle.std.specs.Prelude.{◌≡◌, Bool, false, ◌&&◌, ◌||◌, ◌⊎◌, ◌↔◌, List, [], ◌∷◌, Option, Some, None, ℤ, ◌-ℤ◌, ◌≤ℤ◌, ◌<ℤ◌, int_le, int_lt, unsigned_abs}
-use Rattle.std.proofs.Props.{props}
+use Rattle.std.specs.Prelude.{◌≡◌, Bool, false, ◌&&◌, ◌||◌, ◌⊎◌, ◌↔◌, List, [], ◌∷◌, Option, Some, None, ℤ, ◌-ℤ◌, ◌≤ℤ◌, ◌<ℤ◌}
+use Rattle.std.specs.Prelude.{int_le, int_lt, unsigned_abs}
 use Rattle.gtd_core.specs.declared.duration.DurationParts.{DurationParts}
 use Rattle.gtd_core.specs.declared.second.Sec.{Sec}
 use Rattle.gtd_core.specs.Interval.{Interval, Within}
 use Rattle.gtd_calendar.specs.Calendar.{IsCalendarDay}
 use Rattle.gtd_core.specs.Days.{day_of_second}
-use Rattle.gtd_calendar.specs.Clock.{stop}
-use Rattle.gtd_spans.specs.Normal.{IsNormal, normal_list}
-use Rattle.gtd_spans.specs.Exists.{normal_list-normal}
+use Rattle.gtd_spans.specs.Normal.{normal_list}
+use Rattle.gtd_calendar.specs.ComputedEnds.{stop}
 
 -- a stretch of one of the starts holds the second
 abbrev pub HeldBy : DurationParts → List ℤ → ℤ → Type 0
@@ -24,10 +23,6 @@ held_by p (b ∷ bs) t = (int_le b t && int_lt t (stop p b)) || held_by p bs t
 unfoldable pub runs_between : DurationParts → List ℤ → ℤ → ℤ → List Interval
 runs_between p bs from until = normal_list (held_by p bs) from (unsigned_abs (until -ℤ from))
 
-pub runs_between-normal : (p : DurationParts) (bs : List ℤ) (from until : ℤ) → IsNormal (runs_between p bs from until)
-unfolding runs_between
-runs_between-normal p bs from until = normal_list-normal _ _ _
-
 -- the start that was taken ahead, if there is one, and those that are left
 abbrev pub to_come : Option Sec → List ℤ → List ℤ
 to_come None left = []
@@ -37,10 +32,6 @@ to_come (Some b) left = b.0 ∷ left
 abbrev pub IsAheadIn : Option Sec → Type 0
 IsAheadIn None = Unit {0}
 IsAheadIn (Some b) = IsCalendarDay (day_of_second b.0)
-
-pub IsAheadIn-prop : (o : Option Sec) → IsProp (IsAheadIn o)
-IsAheadIn-prop None = hlevel props
-IsAheadIn-prop (Some b) = hlevel props
 
 -- the seconds from one up to another that are also from a third up to a fourth
 abbrev pub IsCut : ℤ → ℤ → ℤ → ℤ → Option Interval → Type 0

@@ -2,7 +2,7 @@
 
 ghost use Rattle.std.specs.Prelude.{◌≡◌, ◌+◌, ◌*◌, ◌%◌, ◌<◌, ◌≤◌, ℕ, true, IsTrue};
 ghost use Rattle.gtd_calendar.specs.Calendar.{IsCalendarDay};
-ghost use Rattle.gtd_calendar.specs.Fields.{day_fields};
+ghost use Rattle.gtd_calendar.specs.ComputedFields.{day_fields};
 ghost use Rattle.gtd_calendar.specs.declared.day.DayFields.{DayFields};
 ghost use Rattle.std.specs.Int.{IsInRange};
 ghost use Rattle.gtd_core.specs.StartRanges.{IsStart, IsWithin};

@@ -7,7 +7,9 @@ ghost use Rattle.gtd_recur.specs.Weekly.{IsWeekly};
 ghost use Rattle.gtd_core.specs.Parts.{start_parts, duration_parts};
 ghost use Rattle.gtd_core.specs.StartRanges.{IsStart};
 ghost use Rattle.gtd_calendar.specs.Calendar.{IsCalendarDay};
-ghost use Rattle.gtd_recur.specs.Membership.{InBasic, IsHeldFromDay, IsLatestNotAfter, IsHorizonSecond};
+ghost use Rattle.gtd_recur.specs.Membership.{InBasic};
+ghost use Rattle.gtd_recur.specs.ComputedStretches.{IsHeldFromDay, IsLatestNotAfter};
+ghost use Rattle.gtd_core.specs.Days.{IsHorizonSecond};
 
 use crate::begin::{asks_no_date, begins_on_day, latest_begin};
 use gtd_calendar::{end_of, second_of_day};

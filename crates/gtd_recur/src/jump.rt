@@ -1,10 +1,12 @@
 //! The days that a given year or month does not exclude. The others are jumped over.
 
-ghost use Rattle.std.specs.Prelude.{◌≡◌, ◌≤ℤ◌, ◌<ℤ◌, ◌≤◌, ℤ, pos, neg_ℤ, IsTrue, IfSome};
+ghost use Rattle.std.specs.Prelude.{◌≡◌, ◌≤ℤ◌, ◌<ℤ◌, ◌≤◌, ℤ, pos, IsTrue, IfSome};
 ghost use Rattle.std.specs.Int.{IsInRange};
 ghost use Rattle.std.specs.Option.{unwrap_or};
+ghost use Rattle.gtd_core.specs.Limits.{horizons_end, first_window_day};
 ghost use Rattle.gtd_core.specs.StartRanges.{IsStart};
-ghost use Rattle.gtd_calendar.specs.Calendar.{IsCalendarDay, IsCalendarYear, day_number, guessed_year, year_of};
+ghost use Rattle.gtd_calendar.specs.Calendar.{IsCalendarDay, IsCalendarYear, day_number};
+ghost use Rattle.gtd_calendar.specs.ComputedDates.{guessed_year, year_of};
 ghost use Rattle.gtd_recur.specs.Begins.{month_and_year_fit};
 ghost use Rattle.gtd_recur.specs.Jumps.{IsNextRun, AreMonths, IsClipped, IsOf, IsOfMonth};
 ghost use Rattle.gtd_recur.specs.Stretches.{IsLater, IsEarlier};
@@ -23,9 +25,9 @@ pub(crate) struct Days {
 /// there is none, it is empty and at the end.
 pub(crate) fn next_days(start: &StartParts, day: i64, end: i64) -> Days
     requires valid { IsStart start.now }
-    requires day_in { neg_ℤ (pos 61802) ≤ℤ day }
+    requires day_in { first_window_day ≤ℤ day }
     requires order { day ≤ℤ end }
-    requires end_in { end ≤ℤ pos 266627 }
+    requires end_in { end ≤ℤ horizons_end }
     ensures run { IsNextRun (λ n. IsTrue (month_and_year_fit start.now n)) day end result.from result.until }
 {
     if start.week.is_none() {
@@ -45,9 +47,9 @@ pub(crate) fn next_days(start: &StartParts, day: i64, end: i64) -> Days
 // The next run of days of one year, or of one of its months.
 fn days_of_year(year: i64, month: Option<u8>, day: i64, end: i64) -> Days
     requires month_in { IfSome month (IsInRange 1 12) }
-    requires day_in { neg_ℤ (pos 61802) ≤ℤ day }
+    requires day_in { first_window_day ≤ℤ day }
     requires order { day ≤ℤ end }
-    requires end_in { end ≤ℤ pos 266627 }
+    requires end_in { end ≤ℤ horizons_end }
     ensures run { IsNextRun (IsOf year month) day end result.from result.until }
 {
     if year < 1800 || year > 2699 {
@@ -70,9 +72,9 @@ fn days_of_year(year: i64, month: Option<u8>, day: i64, end: i64) -> Days
 // The next run of days of a month, whatever the year.
 fn days_of_month(month: u8, day: i64, end: i64) -> Days
     requires month_in { IsInRange 1 12 month }
-    requires day_in { neg_ℤ (pos 61802) ≤ℤ day }
+    requires day_in { first_window_day ≤ℤ day }
     requires order { day ≤ℤ end }
-    requires end_in { end ≤ℤ pos 266627 }
+    requires end_in { end ≤ℤ horizons_end }
     ensures run { IsNextRun (IsOfMonth month) day end result.from result.until }
 {
     let year = year_of_day(day);
@@ -116,8 +118,8 @@ fn first_of(year: i64, month: u8) -> i64
 
 // The year of a day.
 fn year_of_day(day: i64) -> i64
-    requires low { neg_ℤ (pos 61802) ≤ℤ day }
-    requires high { day ≤ℤ pos 266627 }
+    requires low { first_window_day ≤ℤ day }
+    requires high { day ≤ℤ horizons_end }
     ensures value { result ≡ year_of day }
     ensures bound { (pos 1800 ≤ℤ result) × (result ≤ℤ pos 2701) }
 {
@@ -133,8 +135,8 @@ fn year_of_day(day: i64) -> i64
 
 // The year of a day by the mean length of a year, which is at most one off.
 fn guessed_year(day: i64) -> i64
-    requires low { neg_ℤ (pos 61802) ≤ℤ day }
-    requires high { day ≤ℤ pos 266627 }
+    requires low { first_window_day ≤ℤ day }
+    requires high { day ≤ℤ horizons_end }
     ensures value { result ≡ guessed_year day }
     ensures bound { (pos 1800 ≤ℤ result) × (result ≤ℤ pos 2700) }
 {

@@ -10,6 +10,7 @@ ghost use Rattle.gtd_core.specs.declared.duration.DurationParts.{DurationParts};
 ghost use Rattle.gtd_core.specs.Days.{day_of_second};
 ghost use Rattle.gtd_recur.specs.Ascending.{IsAscending, Has};
 ghost use Rattle.gtd_recur.specs.Begins.{begins};
+ghost use Rattle.gtd_recur.specs.ComputedStretches.{InComputedStretches};
 ghost use Rattle.gtd_recur.specs.Matching.{Matches};
 ghost use Rattle.gtd_recur.specs.Membership.{InStretches};
 ghost use Rattle.gtd_recur.specs.Work.{starts_in, window_begin, work_of};
@@ -44,4 +45,10 @@ pub fn work_is_bounded()
 /// its least.
 pub fn matching()
     ensures matches { (p : StartParts) (s : ℤ) → IsTrue (begins p s) ↔ Matches p s }
+{}
+
+/// A second is in a basic domain exactly if it is held from some second at which the start begins to the end of the
+/// stretch, as both are computed.
+pub fn membership()
+    ensures computed { (p : StartParts) (q : DurationParts) (s : ℤ) → InStretches p q s ↔ InComputedStretches p q s }
 {}

@@ -6,10 +6,13 @@ ghost use Rattle.gtd_core.specs.Parts.{duration_parts};
 ghost use Rattle.gtd_core.specs.DurationBound.{lookback_of};
 ghost use Rattle.gtd_calendar.specs.Calendar.{IsCalendarDay};
 ghost use Rattle.gtd_core.specs.Days.{day_of_second};
-ghost use Rattle.gtd_recur.specs.Ascending.{IsAscending, IsAscending-prop, AllAfter, AllBefore, Has};
-ghost use Rattle.gtd_recur.specs.Stretches.{IsAheadIn, IsAheadIn-prop, IsCut, IsEarlier, IsLater, IsRun, to_come};
+ghost use Rattle.gtd_recur.specs.Ascending.{IsAscending, AllAfter, AllBefore, Has};
+ghost use Rattle.gtd_recur.specs.facts.AscendingProps.{IsAscending-prop};
+ghost use Rattle.gtd_recur.specs.Stretches.{IsAheadIn, IsCut, IsEarlier, IsLater, IsRun, to_come};
+ghost use Rattle.gtd_recur.specs.facts.StretchFacts.{IsAheadIn-prop};
 ghost use Rattle.gtd_recur.specs.StartsToCome.{starts_basic, starts_horizon, starts_to_come, starts_ticks};
-ghost use Rattle.gtd_recur.specs.StartsToCome.{IsSameWalk, IsCountedTo, IsCountedTo-prop, starts_given};
+ghost use Rattle.gtd_recur.specs.StartsToCome.{IsSameWalk, IsCountedTo, starts_given};
+ghost use Rattle.gtd_recur.specs.facts.WalkProps.{IsCountedTo-prop};
 ghost use Rattle.gtd_recur.specs.Work.{starts_in, work_up_to};
 
 use crate::cover::first_look;
@@ -103,7 +106,7 @@ fn days_long(days: u32) -> Duration
 impl Runs {
     ghost use Rattle.std.specs.Prelude.{◌≡◌, IfSome, ◌≤◌, ◌<ℤ◌, ℤ};
     ghost use Rattle.gtd_core.specs.Whole.{whole};
-    ghost use Rattle.gtd_spans.specs.NormalFor.{IsNormalFor};
+    ghost use Rattle.gtd_spans.specs.Normal.{IsNormalFor};
     ghost use Rattle.gtd_spans.specs.Sweeping.{Takes};
     ghost use Rattle.gtd_recur.specs.Ascending.{Has};
     ghost use Rattle.gtd_recur.specs.Membership.{InBasic};
@@ -170,7 +173,8 @@ impl SpanSource for Runs {
     ghost use Rattle.gtd_core.specs.Whole.{whole};
     ghost use Rattle.gtd_spans.specs.Sweeping.{Takes};
     ghost use Rattle.gtd_recur.specs.Ascending.{Has};
-    ghost use Rattle.gtd_recur.specs.Stretches.{runs_between, runs_between-normal, to_come};
+    ghost use Rattle.gtd_recur.specs.Stretches.{runs_between, to_come};
+    ghost use Rattle.gtd_recur.specs.facts.StretchFacts.{runs_between-normal};
     ghost use Rattle.gtd_recur.specs.StartsToCome.{starts_to_come};
     ghost use Rattle.gtd_recur.specs.RunsToCome.{runs_basic, runs_horizon, runs_to_come, runs_ticks};
     ghost use Rattle.gtd_recur.specs.Work.{starts_in, work_up_to, least_of_horizon};

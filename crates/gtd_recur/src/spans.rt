@@ -2,7 +2,7 @@
 
 ghost use Rattle.std.specs.Prelude.{IfOk};
 ghost use Rattle.gtd_core.specs.Whole.{whole};
-ghost use Rattle.gtd_spans.specs.NormalFor.{IsNormalFor};
+ghost use Rattle.gtd_spans.specs.Normal.{IsNormalFor};
 ghost use Rattle.gtd_recur.specs.Membership.{InBasic};
 
 use crate::runs::Runs;

@@ -4,7 +4,7 @@ ghost use Rattle.std.specs.Prelude.{◌≤◌};
 ghost use Rattle.gtd_core.specs.Parts.{start_parts};
 ghost use Rattle.gtd_core.specs.Whole.{to_day};
 ghost use Rattle.gtd_recur.specs.Starts.{AreLeft, IsInWindow, IsLookedCount, AreFitting, starts_left};
-ghost use Rattle.gtd_recur.specs.Starts.{AreLeft-prop, IsInWindow-prop, IsLookedCount-prop, AreFitting-prop};
+ghost use Rattle.gtd_recur.specs.facts.WindowProps.{AreLeft-prop, IsInWindow-prop, IsLookedCount-prop, AreFitting-prop};
 ghost use Rattle.gtd_recur.specs.Work.{starts_in, window_begin};
 
 use crate::begin::{begins_on_day, day_step, latest_begin, next_begin};

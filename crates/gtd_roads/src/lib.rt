@@ -1,32 +1,22 @@
-//! Restriction records of road elements: files of them, and the seconds in which an element is open.
+//! Record files: devices, records, and the runs over them, at one root.
 //!
-//! A record closes a road element in one direction or both, for some vehicle types, at the seconds of a time domain.
-//! [`read_records`] reads a record file of either version from a device, and answers its [`Records`] or its first
-//! fault. [`Records::closed_at`] says whether some record closes an element at a second, [`schedule_of`] when it is open, and
-//! [`open_seconds`] the same, span by span.
+//! This crate has no function of its own. It hands on the crates that a caller of a run would otherwise list one by one:
+//! devices that give bytes and take them, the records of a file, the seconds and horizons that they are asked about, and the
+//! runs. [`run_schedule`] is the call that the headline is proved of; `specs/Theorem.antt` is that statement.
 #![tactic(auto)]
 
-pub use column::{read_direction, read_number};
-pub use direction::{Closed, Direction};
-pub use fault::RecordFault;
-pub use faults::read_faults;
-pub use gtd_devices::{Host, HostOut, Input, MemoryIn, MemoryOut, Output, Pull, Put};
-pub use index::Records;
-pub use reading::read_records;
-pub use record::Record;
-pub use schedule::{open_seconds, schedule_of};
-pub use vehicles::{Codes, Vehicles};
+pub use gtd_core::{Fault, Horizon, HorizonFault, Sec, Span, TextFault};
+pub use gtd_devices::{
+    Host, HostOut, Input, InputFault, MemoryIn, MemoryOut, Output, Pull, Put, read_whole,
+};
+pub use gtd_migrate::{Migration, run_migrate};
+pub use gtd_records::{
+    Closed, Codes, Direction, Record, RecordFault, Records, Vehicles, open_seconds, read_direction,
+    read_faults, read_number, read_records, schedule_of,
+};
+pub use gtd_runs::{Report, RunFault, Subject, run_report};
+pub use gtd_schedule::{Schedule, run_schedule};
+pub use gtd_spans::{SpanList, SpanSource};
+pub use gtd_year::{YearTable, run_year};
 
-mod column;
-mod direction;
-mod fault;
-mod faults;
-mod file;
-mod index;
 pub mod laws;
-mod reading;
-mod record;
-mod row;
-mod schedule;
-mod table;
-mod vehicles;

@@ -4,7 +4,8 @@ ghost use Rattle.std.specs.Prelude.{◌≡◌, ◌<◌};
 
 use crate::job::{APRIL, Job, LEAP_YEAR, R, input, run};
 use crate::tests::owned;
-use gtd_roads::{HostOut, Input, MemoryIn, MemoryOut, Pull, RecordFault};
+use gtd_devices::{HostOut, Input, MemoryIn, MemoryOut, Pull};
+use gtd_records::RecordFault;
 use gtd_runs::RunFault;
 use gtd_tool::{Refusal, perform, plan};
 use std::alloc::Global;

@@ -4,7 +4,7 @@ use gtd_calendar::StampFault;
 use gtd_core::{Fault, HorizonFault, TextFault};
 use gtd_devices::InputFault;
 use gtd_eval::EverFault;
-use gtd_roads::RecordFault;
+use gtd_records::RecordFault;
 use gtd_runs::RunFault;
 use gtd_tool::Refusal;
 use std::alloc::Global;

@@ -3,7 +3,8 @@
 use crate::job::{APRIL, Job, LEAP_YEAR, R, run};
 use crate::tests::{expect_refused, repeated};
 use gtd_core::{Fault, TextFault};
-use gtd_roads::{Direction, MemoryIn, MemoryOut, RecordFault};
+use gtd_devices::{MemoryIn, MemoryOut};
+use gtd_records::{Direction, RecordFault};
 use gtd_runs::RunFault;
 use gtd_tool::Refusal;
 use std::alloc::Global;

@@ -3,8 +3,9 @@
 ghost use Rattle.std.specs.Prelude.{◌≡◌, ◌<◌};
 
 use gtd_core::Horizon;
+use gtd_devices::{Input, MemoryIn, Output};
 use gtd_migrate::run_migrate;
-use gtd_roads::{Direction, Input, MemoryIn, Output};
+use gtd_records::Direction;
 use gtd_runs::RunFault;
 use gtd_schedule::run_schedule;
 use gtd_year::run_year;

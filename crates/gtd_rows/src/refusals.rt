@@ -7,7 +7,8 @@
 use crate::job::{APRIL, Job, LEAP_YEAR, R, run};
 use crate::tests::owned;
 use gtd_core::{Expr, Op};
-use gtd_roads::{MemoryIn, MemoryOut, RecordFault};
+use gtd_devices::{MemoryIn, MemoryOut};
+use gtd_records::RecordFault;
 use gtd_runs::RunFault;
 use gtd_tool::{Plan, Refusal, perform, plan};
 use std::alloc::{AllocError, Global};

@@ -2,7 +2,8 @@
 
 use crate::job::{APRIL, Job, LEAP_YEAR, R, input, run};
 use gtd_core::{Fault, TextFault};
-use gtd_roads::{Direction, MemoryOut, RecordFault};
+use gtd_devices::MemoryOut;
+use gtd_records::{Direction, RecordFault};
 use gtd_runs::RunFault;
 use std::alloc::Global;
 use std::process::Abort;

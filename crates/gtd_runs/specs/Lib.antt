@@ -1,5 +1,8 @@
-pub mod Names
+pub mod RunFaultNames
 pub mod Putting
 pub mod Run
 pub mod Subjects
-pub mod Words
+pub mod DirectionWords
+pub mod facts
+pub use Rattle.gtd_core.specs.Limits
+pub use Rattle.gtd_records.specs.Restriction

@@ -1,9 +1,9 @@
 //! Why a run does not put its whole text.
 
 ghost use Rattle.std.specs.Prelude.{◌≡◌};
-ghost use Rattle.gtd_runs.specs.Names.{run_fault_name};
+ghost use Rattle.gtd_runs.specs.RunFaultNames.{run_fault_name};
 
-use gtd_roads::RecordFault;
+use gtd_records::RecordFault;
 use thiserror::Error;
 
 /// Why a run does not put its whole text. The variants stand in the order of their numbers, which begin at 1; of the

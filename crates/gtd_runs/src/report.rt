@@ -1,7 +1,8 @@
 //! A text of the records of a file, and the one run that puts it.
 
 ghost use Rattle.std.specs.Prelude.{◌≡◌, ◌<◌, ◌≤◌, ◌↔◌, ℕ, List, length, IfOk, IsErrOf, IsTrue, OnOk};
-ghost use Rattle.gtd_roads.specs.Restriction.{Restriction};
+ghost use Rattle.gtd_core.specs.Limits.{most_rows};
+ghost use Rattle.gtd_records.specs.Restriction.{Restriction};
 ghost use Rattle.gtd_runs.specs.declared.subject.Subject.{Subject};
 ghost use Rattle.gtd_runs.specs.Putting.{PutsText, failures_after_stop, nothing_put};
 ghost use Rattle.gtd_runs.specs.Run.{AcceptedFilesArePut, HasRun, IsLineCount, RefusedFilesPutNothing};
@@ -12,7 +13,7 @@ use crate::fault::RunFault;
 use crate::putting::{Progress, Stop};
 use crate::subject::{Subject, is_accepted, is_vehicle_in_range, is_year_in_range};
 use gtd_devices::{Input, Output};
-use gtd_roads::{RecordFault, Records, read_records};
+use gtd_records::{RecordFault, Records, read_records};
 use std::alloc::Global;
 
 /// A text of the records of a file.
@@ -38,7 +39,7 @@ pub trait Report {
     ) -> Result<(), Stop>
         requires countable { O.failure_count output.old < u64.MAX }
         requires begins { progress.old ≡ nothing_put }
-        requires few { length found.now ≤ 65536 }
+        requires few { length found.now ≤ most_rows }
         requires vehicle { IsVehicleInRange (subject self.now) }
         requires year { IsYearInRange (subject self.now) }
         ensures puts { PutsText (is_text self.now found.now) result

@@ -1,10 +1,10 @@
 //! What a report is asked of.
 
 ghost use Rattle.std.specs.Prelude.{◌≡◌, ◌↔◌, Any, IsTrue, List};
-ghost use Rattle.gtd_roads.specs.Restriction.{Restriction};
+ghost use Rattle.gtd_records.specs.Restriction.{Restriction};
 ghost use Rattle.gtd_runs.specs.Subjects.{IsAccepted, IsVehicleInRange, IsYearInRange};
 
-use gtd_roads::Records;
+use gtd_records::Records;
 
 /// What a report is asked of: a vehicle type, a year and an element, each where it is asked of one.
 #[derive(Clone, Copy, Debug, PartialEq, Eq)]

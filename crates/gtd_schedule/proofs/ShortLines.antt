@@ -1,5 +1,6 @@
 -- How long the lines of a file's schedule are.
-use Rattle.std.proofs.Common.{◌≡◌, ◌∙◌, inl, inr, slice_index_or, ◌<◌, ◌≤◌, ◌^◌, ◌+◌, ◌&&◌, nat_le, ap, refl, subst, arith, cond, map, ℕ, Bool, List, [], ◌∷◌, length, Option, Some, None}
+use Rattle.std.proofs.Common.{◌≡◌, ◌∙◌, inl, inr, slice_index_or, ◌<◌, ◌≤◌, ◌^◌, ◌+◌, ◌&&◌, nat_le, ap, refl, subst, arith, cond}
+use Rattle.std.proofs.Common.{map, ℕ, Bool, List, [], ◌∷◌, length, Option, Some, None}
 use Rattle.std.specs.Prelude.{MatchOption, Result, Ok, Err}
 use Rattle.std.specs.Char.{is_ascii_digit}
 use Rattle.std.specs.List.{All, list_all}
@@ -10,31 +11,32 @@ use Rattle.gtd_core.specs.Interval.{Interval}
 use Rattle.gtd_core.specs.Trees.{Tree}
 use Rattle.gtd_core.specs.declared.fault.TextFault.{TextFault}
 use Rattle.gtd_core.specs.declared.horizon.Horizon.{Horizon}
-use Rattle.gtd_roads.proofs.IndexFacts.{any_default}
-use Rattle.gtd_roads.proofs.NumberFacts.{number_below}
-use Rattle.gtd_roads.specs.Closing.{AreElements}
-use Rattle.gtd_roads.specs.Columns.{closed_of, number_of}
-use Rattle.gtd_roads.specs.File.{AreRecords, IsFile, IsTable}
-use Rattle.gtd_roads.specs.Restriction.{Restriction}
-use Rattle.gtd_roads.specs.Row.{IsDomainColumn, IsRow, with_domain}
-use Rattle.gtd_roads.specs.Table.{Fields}
-use Rattle.gtd_roads.specs.Vehicles.{IsOrdered, vehicles_of}
-use Rattle.gtd_roads.specs.declared.direction.Closed.{Closed}
-use Rattle.gtd_roads.specs.declared.direction.Direction.{Direction}
-use Rattle.gtd_roads.specs.declared.direction.Direction.TheVariants.{Positive, Negative}
-use Rattle.gtd_roads.specs.declared.fault.RecordFault.{RecordFault}
-use Rattle.gtd_roads.specs.declared.fault.RecordFault.TheVariants as fault
-use Rattle.gtd_roads.specs.declared.vehicles.Vehicles.{Vehicles}
-use Rattle.gtd_roads.specs.declared.vehicles.Version.{Version}
+use Rattle.gtd_records.specs.facts.IndexFacts.{any_default}
+use Rattle.gtd_records.specs.facts.NumberFacts.{number_below}
+use Rattle.gtd_records.specs.Closing.{AreElements}
+use Rattle.gtd_records.specs.Columns.{closed_of, number_of}
+use Rattle.gtd_records.specs.File.{AreRecords, IsFile, IsTable}
+use Rattle.gtd_records.specs.Restriction.{Restriction}
+use Rattle.gtd_records.specs.Row.{IsDomainColumn, IsRow, with_domain}
+use Rattle.gtd_records.specs.Table.{Fields}
+use Rattle.gtd_records.specs.Vehicles.{IsOrdered, vehicles_of}
+use Rattle.gtd_records.specs.declared.direction.Closed.{Closed}
+use Rattle.gtd_records.specs.declared.direction.Direction.{Direction}
+use Rattle.gtd_records.specs.declared.direction.Direction.TheVariants.{Positive, Negative}
+use Rattle.gtd_records.specs.declared.fault.RecordFault.{RecordFault}
+use Rattle.gtd_records.specs.declared.fault.RecordFault.TheVariants as fault
+use Rattle.gtd_records.specs.declared.vehicles.Vehicles.{Vehicles}
+use Rattle.gtd_records.specs.declared.vehicles.Version.{Version}
 use Rattle.gtd_runs.specs.Subjects.{IsVehicleType}
-use Rattle.gtd_schedule.proofs.LineFacts.{length-line}
+use Rattle.gtd_schedule.specs.facts.LineFacts.{length-line}
 use Rattle.gtd_schedule.specs.Schedule.{AreLines, AreLinesOf, IsSchedule, header_line, span_line}
 
 -- the number of a column is of ten digits at most
 few_digits : (text : List ℕ) (n : ℕ) → number_of text ≡ Some n → n < 10 ^ 10
 few_digits text n is = number_below text n 10 is (short (length text) (list_all is_ascii_digit text) _ n is)
   where
-    short : (k : ℕ) (b : Bool) (v n : ℕ) → ◌≡◌ {A = Option ℕ} (cond (nat_le 1 k && nat_le k 10 && b) (Some v) None) (Some n) → k ≤ 10
+    short : (k : ℕ) (b : Bool) (v n : ℕ) → ◌≡◌ {A = Option ℕ} (cond (nat_le 1 k && nat_le k 10 && b) (Some v) None) (Some n)
+        → k ≤ 10
     short k b v n e = grind (arith, nat_tests)
 
 -- the restriction of a row has the number of its first column
@@ -62,7 +64,8 @@ row_small v number (e ∷ c ∷ w ∷ d ∷ []) r is = by_number (number_of e) r
     by_types : (x : ℕ) (k : Closed) (o : Option Vehicles)
         → MatchOption o (◌≡◌ {A = Result Restriction RecordFault} (Ok r) (Err (fault.Vehicle number))) (λ named.
         (types : Vehicles) × (read : Result (Option Tree) TextFault)
-        × IsOrdered named types × IsDomainColumn d read × (◌≡◌ {A = Result Restriction RecordFault} (Ok r) (with_domain number x k types read)))
+        × IsOrdered named types × IsDomainColumn d read × (◌≡◌ {A = Result Restriction RecordFault} (Ok r)
+        (with_domain number x k types read)))
         → r.element ≡ x
     by_types x k None h = cc
     by_types x k (Some named) h = row_element v number x k h.0 h.1 r h.4
@@ -71,7 +74,8 @@ row_small v number (e ∷ c ∷ w ∷ d ∷ []) r is = by_number (number_of e) r
         → MatchOption o (◌≡◌ {A = Result Restriction RecordFault} (Ok r) (Err (fault.Direction number))) (λ k.
         MatchOption (vehicles_of v w) (◌≡◌ {A = Result Restriction RecordFault} (Ok r) (Err (fault.Vehicle number))) (λ named.
         (types : Vehicles) × (read : Result (Option Tree) TextFault)
-        × IsOrdered named types × IsDomainColumn d read × (◌≡◌ {A = Result Restriction RecordFault} (Ok r) (with_domain number x k types read))))
+        × IsOrdered named types × IsDomainColumn d read × (◌≡◌ {A = Result Restriction RecordFault} (Ok r)
+        (with_domain number x k types read))))
         → r.element ≡ x
     by_closed x None h = cc
     by_closed x (Some k) h = by_types x k (vehicles_of v w) h
@@ -81,7 +85,8 @@ row_small v number (e ∷ c ∷ w ∷ d ∷ []) r is = by_number (number_of e) r
         MatchOption (closed_of c) (◌≡◌ {A = Result Restriction RecordFault} (Ok r) (Err (fault.Direction number))) (λ k.
         MatchOption (vehicles_of v w) (◌≡◌ {A = Result Restriction RecordFault} (Ok r) (Err (fault.Vehicle number))) (λ named.
         (types : Vehicles) × (read : Result (Option Tree) TextFault)
-        × IsOrdered named types × IsDomainColumn d read × (◌≡◌ {A = Result Restriction RecordFault} (Ok r) (with_domain number x k types read)))))
+        × IsOrdered named types × IsDomainColumn d read × (◌≡◌ {A = Result Restriction RecordFault} (Ok r)
+        (with_domain number x k types read)))))
         → IsSmall r.element
     by_number None is h = cc
     by_number (Some x) is h =
@@ -94,17 +99,21 @@ rows_small : (v : Version) (number : ℕ) (rows : List Fields) (found : List Res
     → All (λ (r : Restriction). IsSmall r.element) found
 rows_small v number [] found are = rw are (λ k d h. absurd (omega arith))
 rows_small v number (row ∷ rows) found are =
-    rw (are.4) (All-cons (λ (r : Restriction). IsSmall r.element) are.0 are.1 (row_small v number row are.0 are.2) (rows_small v (number + 1) rows are.1 are.3))
+    rw (are.4) (All-cons (λ (r : Restriction). IsSmall r.element) are.0 are.1 (row_small v number row are.0 are.2)
+    (rows_small v (number + 1) rows are.1 are.3))
 
-table_small : (text : List Fields) (found : List Restriction) → IsTable text (Ok found) → All (λ (r : Restriction). IsSmall r.element) found
+table_small : (text : List Fields) (found : List Restriction) → IsTable text (Ok found)
+    → All (λ (r : Restriction). IsSmall r.element) found
 table_small text found (inl t) = rows_small t.0 1 t.1 found t.3.1
 table_small text found (inr t) = absurd (cc (t.1))
 
-file_small : (bytes : List ℕ) (found : List Restriction) → IsFile bytes (Ok found) → All (λ (r : Restriction). IsSmall r.element) found
+file_small : (bytes : List ℕ) (found : List Restriction) → IsFile bytes (Ok found)
+    → All (λ (r : Restriction). IsSmall r.element) found
 file_small bytes found (inl p) = table_small _ found p.1
 file_small bytes found (inr p) = absurd (cc (p.1))
 
-elements_small : (found : List Restriction) (elements : List ℕ) → All (λ (r : Restriction). IsSmall r.element) found → AreElements found elements
+elements_small : (found : List Restriction) (elements : List ℕ) → All (λ (r : Restriction). IsSmall r.element) found
+    → AreElements found elements
     → All IsSmall elements
 elements_small found elements small are = λ k d h.
     let a = (are.named (slice_index_or elements k d)).0 (k, h, any_default elements k (slice_index_or elements k d) d h) in
@@ -129,7 +138,8 @@ module _ (found : List Restriction) (vehicle : ℕ) (type : vehicle < 100) (hori
       → AreLines found vehicle horizon element direction lines → All IsShort lines
   direction_short element direction lines small are = rw are.each (spans_short element direction are.spans small)
 
-  elements_short : (elements : List ℕ) (lines : List (List ℕ)) → All IsSmall elements → AreLinesOf found vehicle horizon elements lines
+  elements_short : (elements : List ℕ) (lines : List (List ℕ)) → All IsSmall elements
+      → AreLinesOf found vehicle horizon elements lines
       → All IsShort lines
   elements_short [] lines small are = rw are (λ k d h. absurd (omega arith))
   elements_short (e ∷ elements) lines small are =

@@ -2,7 +2,7 @@
 use Rattle.std.proofs.Common.{◌≡◌, arith, ◌<◌, ◌≤◌, ℕ, inl, inr, List, [], ◌∷◌, length, Option}
 use Rattle.std.specs.Prelude.{Result, Ok, Err, ℤ, pos, negsuc, ◌+ℤ◌, ◌-ℤ◌, ◌*ℤ◌, ◌≤ℤ◌, ◌<ℤ◌}
 use Rattle.std.proofs.lemmas.Int.{ints}
-use Rattle.gtd_calendar.proofs.ClockLemmas.{second-parts}
+use Rattle.gtd_calendar.specs.facts.ClockLemmas.{second-parts}
 use Rattle.gtd_calendar.specs.Calendar.{IsCalendarDay}
 use Rattle.gtd_core.specs.Days.{day_of_second}
 use Rattle.gtd_calendar.specs.Clock.{second_of_day}
@@ -10,7 +10,7 @@ use Rattle.gtd_core.specs.Interval.{Interval}
 use Rattle.gtd_core.specs.Whole.{whole}
 use Rattle.gtd_core.specs.declared.horizon.Horizon.{Horizon}
 use Rattle.gtd_eval.specs.NormalOver.{IsNormalOver}
-use Rattle.gtd_runs.proofs.PutFacts.{puts_cut, puts_none, puts_then}
+use Rattle.gtd_runs.specs.facts.PutFacts.{puts_cut, puts_none, puts_then}
 use Rattle.gtd_runs.specs.Putting.{Puts}
 use Rattle.gtd_runs.specs.declared.putting.Progress.{Progress}
 use Rattle.gtd_runs.specs.declared.putting.Stop.{Stop}
@@ -19,7 +19,8 @@ use Rattle.gtd_spans.specs.Normal.{AllBeginFrom, AreInOrder, Holds}
 
 -- What is put of the lines that are left makes what is put of all.
 abbrev pub Carries : Option (List ℕ) → Progress → List (List ℕ) → Option (List ℕ) → Progress → List (List ℕ) → Type 0
-Carries a p all b q left = (r : Result (Unit {0}) Stop) (c : Option (List ℕ)) (s : Progress) → Puts r b c q s left → Puts r a c p s all
+Carries a p all b q left = (r : Result (Unit {0}) Stop) (c : Option (List ℕ)) (s : Progress) → Puts r b c q s left
+    → Puts r a c p s all
 
 module _ (a b d : Option (List ℕ)) (p q t : Progress) (all left more : List (List ℕ)) (line : List ℕ) where
   -- one line more
@@ -27,11 +28,13 @@ module _ (a b d : Option (List ℕ)) (p q t : Progress) (all left more : List (L
   carries_one carries is one = λ r c s then. carries r c s (rw is (puts_then r b d c q t s (line ∷ []) more one then))
 
   -- the putting stopped within the next line
-  pub carries_short : (e : Stop) → Carries a p all b q left → left ≡ line ∷ more → Puts (Err e) b d q t (line ∷ []) → Puts (Err e) a d p t all
+  pub carries_short : (e : Stop) → Carries a p all b q left → left ≡ line ∷ more → Puts (Err e) b d q t (line ∷ [])
+      → Puts (Err e) a d p t all
   carries_short e carries is short = carries (Err e) d t (rw is (puts_cut e b d q t (line ∷ []) more short))
 
 -- no line is left
-pub carries_none : (a b : Option (List ℕ)) (p q : Progress) (all left : List (List ℕ)) → Carries a p all b q left → left ≡ [] → Puts (Ok tt) a b p q all
+pub carries_none : (a b : Option (List ℕ)) (p q : Progress) (all left : List (List ℕ)) → Carries a p all b q left → left ≡ []
+    → Puts (Ok tt) a b p q all
 carries_none a b p q all left carries is = carries (Ok tt) b q (rw is (puts_none b q))
 
 -- Spans one behind the other, from one second on and before another.
@@ -60,14 +63,16 @@ begin_from from [] order inside = tt
 begin_from from (x ∷ xs) order inside =
     (inside x.from (inl (omega (arith, ints), order.0)), begin_from from xs order.2 (λ t h. inside t (inr h)))
 
-day_in : (t n : ℤ) (k : ℕ) → negsuc 2177452799 ≤ℤ t → t ≤ℤ pos 23036572800 → t ≡ pos 86400 *ℤ n +ℤ pos k → k < 86400 → IsCalendarDay n
+day_in : (t n : ℤ) (k : ℕ) → negsuc 2177452799 ≤ℤ t → t ≤ℤ pos 23036572800 → t ≡ pos 86400 *ℤ n +ℤ pos k → k < 86400
+    → IsCalendarDay n
 day_in t n k low high is clock = (omega (arith, ints, low, is, clock), omega (arith, ints, high, is))
 
 calendar_day : (t : ℤ) → negsuc 2177452799 ≤ℤ t → t ≤ℤ pos 23036572800 → IsCalendarDay (day_of_second t)
 calendar_day t low high =
     let parts = second-parts t in day_in t (day_of_second t) (second_of_day t) low high parts.0 parts.1
 
-fit_shown : (from until : ℤ) (xs : List Interval) → negsuc 2177452799 ≤ℤ from → until ≤ℤ pos 23036572800 → Fit from until xs → AreShown xs
+fit_shown : (from until : ℤ) (xs : List Interval) → negsuc 2177452799 ≤ℤ from → until ≤ℤ pos 23036572800 → Fit from until xs
+    → AreShown xs
 fit_shown from until [] low high fit = tt
 fit_shown from until (x ∷ xs) low high fit =
     let ends = fit_ends x.until until xs fit.2 in (

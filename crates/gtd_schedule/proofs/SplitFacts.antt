@@ -1,29 +1,46 @@
 -- Schedules of ascending ranges of elements, one after the other, are one schedule.
-use Rattle.std.proofs.Common.{◌≡◌, ◌∙◌, sym, ap, refl, subst, arith, ◌<◌, ◌≤◌, ◌⊎◌, inl, inr, ◌↔◌, cond, Bool, true, false, ℕ, zero, suc, List, [], ◌∷◌, ◌++◌, length, append_assoc, nat_lt, nat_le}
-use Rattle.std.specs.Prelude.{Any, slice_index_or}
+use Rattle.std.proofs.Common.{◌≡◌, ◌∙◌, ap, refl, subst, arith, ◌<◌, ◌≤◌, ◌⊎◌, inl, inr, ◌↔◌, cond, Bool, true, false, ℕ}
+use Rattle.std.proofs.Common.{List, [], ◌∷◌, ◌++◌, append_assoc, nat_lt, nat_le}
+use Rattle.std.specs.Prelude.{Any, ℤ}
 use Rattle.std.specs.List.{Contains, AllByRecursion, filter}
-use Rattle.std.specs.List.Sorted.{IsStrictlyIncreasing, IsStrictlySortedBy}
+use Rattle.std.specs.List.Sorted.{IsStrictlySortedBy}
 use Rattle.std.specs.Ordering.{nat_cmp}
 use Rattle.std.specs.declared.cmp.Ordering.TheVariants.{Less}
 use Rattle.std.proofs.lemmas.Bool.Decides.{nat_tests}
 use Rattle.std.proofs.lemmas.List.Elements.{filter_passes}
 use Rattle.std.proofs.lemmas.Map.Keys.{IsStrictlyIncreasing-from_sorted, sorted_from_strictly_increasing}
 use Rattle.gtd_core.specs.declared.horizon.Horizon.{Horizon}
-use Rattle.gtd_roads.proofs.IndexFacts.{by_le}
-use Rattle.gtd_roads.proofs.Rising.{AllAbove, In, Rises}
-use Rattle.gtd_roads.specs.Closing.{AreElements, Closes, IsOpen}
-use Rattle.gtd_roads.specs.Restriction.{Restriction}
-use Rattle.gtd_roads.specs.declared.direction.Direction.{Direction}
-use Rattle.gtd_roads.specs.declared.direction.Direction.TheVariants.{Positive, Negative}
-use Rattle.gtd_schedule.proofs.SomeSchedule.{any_first, any_later, any_split, same_normal, sorted, to_in, from_in}
+use Rattle.gtd_records.specs.facts.IndexFacts.{by_le}
+use Rattle.gtd_records.specs.facts.Rising.{AllAbove, In, Rises}
+use Rattle.gtd_records.specs.Closing.{AreElements, Closes, IsOpen}
+use Rattle.gtd_records.specs.Restriction.{Restriction}
+use Rattle.gtd_records.specs.declared.direction.Direction.{Direction}
+use Rattle.gtd_records.specs.declared.direction.Direction.TheVariants.{Positive, Negative}
+use Rattle.gtd_schedule.specs.facts.SomeSchedule.{any_first, any_later, any_split, sorted, to_in, from_in}
 use Rattle.gtd_schedule.specs.Schedule.{AreElementLines, AreLines, AreLinesOf, IsSchedule, header_line}
 use Rattle.gtd_schedule.specs.Split.{below, not_below}
+use Rattle.gtd_core.specs.Interval.{Interval}
+use Rattle.gtd_core.specs.Whole.{whole}
+use Rattle.gtd_eval.specs.NormalOver.{IsNormalOver}
+use Rattle.gtd_spans.specs.facts.NormalFor.{normal-for, normal-of}
+
+-- two sets of the same seconds have the same normal list
+same_normal : (P Q : ℤ → Type 0) (horizon : Horizon) (xs : List Interval)
+    → ((t : ℤ) → P t ↔ Q t) → IsNormalOver P horizon xs → IsNormalOver Q horizon xs
+same_normal P Q horizon xs same n =
+    normal-for Q (whole horizon).from (whole horizon).until xs (normal-of P (whole horizon).from (whole horizon).until xs n)
+    (λ t. (
+      (λ h. let i = n.inside t h in (i.0, i.1, (same t).0 i.2)),
+      (λ i. n.complete t (i.0, i.1, (same t).1 i.2)),
+    ))
 
 -- ---- what is kept of a list
 
-any_to : (P : Restriction → Type 0) (r : Restriction) (rs kept : List Restriction) (b : Bool) → (P r → b ≡ true) → (Any P rs → Any P kept)
+any_to : (P : Restriction → Type 0) (r : Restriction) (rs kept : List Restriction) (b : Bool) → (P r → b ≡ true)
+    → (Any P rs → Any P kept)
     → Any P (r ∷ rs) → Any P (cond b (r ∷ kept) kept)
-any_to P r rs kept true pass more a = elim (any_split P r rs a) [ inl p ↦ any_first P r kept p | inr h ↦ any_later P r kept (more h) ]
+any_to P r rs kept true pass more a = elim (any_split P r rs a)
+    [ inl p ↦ any_first P r kept p | inr h ↦ any_later P r kept (more h) ]
 any_to P r rs kept false pass more a = elim (any_split P r rs a) [ inl p ↦ (let e = pass p in cc) | inr h ↦ more h ]
 
 any_from : (P : Restriction → Type 0) (r : Restriction) (rs kept : List Restriction) (b : Bool) → (Any P kept → Any P rs)
@@ -41,7 +58,8 @@ module _ (test : Restriction → Bool) (P : Restriction → Type 0) where
   to_kept pass (r ∷ rs) a = any_to P r rs (filter test rs) (test r) (pass r) (to_kept pass rs) a
 
 -- what is kept of an element passes
-kept_passes : (test : Restriction → Bool) (rs : List Restriction) (n : ℕ) → Any (λ (r : Restriction). r.element ≡ n) (filter test rs)
+kept_passes : (test : Restriction → Bool) (rs : List Restriction) (n : ℕ)
+    → Any (λ (r : Restriction). r.element ≡ n) (filter test rs)
     → (r : Restriction) × (test r ≡ true) × (r.element ≡ n)
 kept_passes test rs n a =
     let p = filter_passes test rs a.0 a.1 a.2 in
@@ -69,7 +87,8 @@ above_all : (n k : ℕ) (ys : List ℕ) → n < k → ((m : ℕ) → In m ys →
 above_all n k [] lt high = tt
 above_all n k (y ∷ ys) lt high = ((let h = high y (inl refl) in omega arith), above_all n k ys lt (λ m i. high m (inr i)))
 
-rises_both : (k : ℕ) (xs ys : List ℕ) → ((m : ℕ) → In m xs → m < k) → ((m : ℕ) → In m ys → k ≤ m) → Rises xs → Rises ys → Rises (xs ++ ys)
+rises_both : (k : ℕ) (xs ys : List ℕ) → ((m : ℕ) → In m xs → m < k) → ((m : ℕ) → In m ys → k ≤ m) → Rises xs → Rises ys
+    → Rises (xs ++ ys)
 rises_both k [] ys low high r s = s
 rises_both k (x ∷ xs) ys low high r s =
     (above_both x xs ys r.0 (above_all x k ys (low x (inl refl)) high), rises_both k xs ys (λ m i. low m (inr i)) high r.1 s)
@@ -108,11 +127,14 @@ passes_high k n m t e = grind (arith, nat_tests)
 module _ (found : List Restriction) (vehicle : ℕ) (horizon : Horizon) where
   module _ (test : Restriction → Bool) where
     -- the lines of an element whose restrictions are all kept are those of the whole
-    kept_lines : (element : ℕ) → ((r : Restriction) → r.element ≡ element → test r ≡ true) → (direction : Direction) (lines : List (List ℕ))
-        → AreLines (filter test found) vehicle horizon element direction lines → AreLines found vehicle horizon element direction lines
+    kept_lines : (element : ℕ) → ((r : Restriction) → r.element ≡ element → test r ≡ true)
+        → (direction : Direction) (lines : List (List ℕ))
+        → AreLines (filter test found) vehicle horizon element direction lines
+        → AreLines found vehicle horizon element direction lines
     kept_lines element pass direction lines are = record {
       spans = are.spans;
-      normal = same_normal (IsOpen (filter test found) element direction vehicle) (IsOpen found element direction vehicle) horizon are.spans
+      normal = same_normal (IsOpen (filter test found) element direction vehicle)
+          (IsOpen found element direction vehicle) horizon are.spans
           (λ t. (
             (λ o c. o (to_kept test (Closes element direction vehicle t) (λ r h. pass r h.names) found c)),
             (λ o c. o (of_kept test (Closes element direction vehicle t) found c)),
@@ -130,7 +152,8 @@ module _ (found : List Restriction) (vehicle : ℕ) (horizon : Horizon) where
       both = are.both;
     }
 
-    kept_lines_of : (elements : List ℕ) → ((n : ℕ) → In n elements → (r : Restriction) → r.element ≡ n → test r ≡ true) → (lines : List (List ℕ))
+    kept_lines_of : (elements : List ℕ) → ((n : ℕ) → In n elements → (r : Restriction) → r.element ≡ n → test r ≡ true)
+        → (lines : List (List ℕ))
         → AreLinesOf (filter test found) vehicle horizon elements lines → AreLinesOf found vehicle horizon elements lines
     kept_lines_of [] pass lines are = are
     kept_lines_of (e ∷ elements) pass lines are = (
@@ -142,7 +165,8 @@ module _ (found : List Restriction) (vehicle : ℕ) (horizon : Horizon) where
     )
 
   -- the lines of elements, and of those after them
-  lines_both : (xs ys : List ℕ) (a b : List (List ℕ)) → AreLinesOf found vehicle horizon xs a → AreLinesOf found vehicle horizon ys b
+  lines_both : (xs ys : List ℕ) (a b : List (List ℕ)) → AreLinesOf found vehicle horizon xs a
+      → AreLinesOf found vehicle horizon ys b
       → AreLinesOf found vehicle horizon (xs ++ ys) (a ++ b)
   lines_both [] ys a b p q = rw p q
   lines_both (x ∷ xs) ys a b p q =
@@ -161,7 +185,8 @@ high_elements found k xs are m i =
     let r = kept_passes (λ (r : Restriction). nat_le k r.element) found m a in
     passes_high k m r.0.element r.1 r.2
 
-both_elements : (found : List Restriction) (k : ℕ) (xs ys : List ℕ) → AreElements (below k found) xs → AreElements (not_below k found) ys
+both_elements : (found : List Restriction) (k : ℕ) (xs ys : List ℕ) → AreElements (below k found) xs
+    → AreElements (not_below k found) ys
     → AreElements found (xs ++ ys)
 both_elements found k xs ys p q =
     let r = rises_both k xs ys (low_elements found k xs p) (high_elements found k ys q)
@@ -170,14 +195,18 @@ both_elements found k xs ys p q =
       ascending = IsStrictlyIncreasing-from_sorted (xs ++ ys) (sorted (xs ++ ys) r);
       named = λ n. (
         (λ c. elim (in_both n xs ys (in_of n (xs ++ ys) c)) [
-          | inl i ↦ of_kept (λ (r : Restriction). nat_lt r.element k) (λ (r : Restriction). r.element ≡ n) found ((p.named n).0 (from_in n xs i))
-          | inr i ↦ of_kept (λ (r : Restriction). nat_le k r.element) (λ (r : Restriction). r.element ≡ n) found ((q.named n).0 (from_in n ys i))
+          | inl i ↦ of_kept (λ (r : Restriction). nat_lt r.element k) (λ (r : Restriction). r.element ≡ n) found
+              ((p.named n).0 (from_in n xs i))
+          | inr i ↦ of_kept (λ (r : Restriction). nat_le k r.element) (λ (r : Restriction). r.element ≡ n) found
+              ((q.named n).0 (from_in n ys i))
         ]),
         (λ a. from_in n (xs ++ ys) (by_le {P = In n (xs ++ ys)} k n
             (λ le. in_second n xs ys (in_of n ys ((q.named n).1
-            (to_kept (λ (r : Restriction). nat_le k r.element) (λ (r : Restriction). r.element ≡ n) (λ r e. high_passes k n r.element e le) found a))))
+            (to_kept (λ (r : Restriction). nat_le k r.element) (λ (r : Restriction). r.element ≡ n)
+            (λ r e. high_passes k n r.element e le) found a))))
             (λ lt. in_first n xs ys (in_of n xs ((p.named n).1
-            (to_kept (λ (r : Restriction). nat_lt r.element k) (λ (r : Restriction). r.element ≡ n) (λ r e. low_passes k n r.element e lt) found a)))))),
+            (to_kept (λ (r : Restriction). nat_lt r.element k) (λ (r : Restriction). r.element ≡ n)
+            (λ r e. low_passes k n r.element e lt) found a)))))),
       );
     }
 
@@ -191,7 +220,8 @@ under a b e = ap rest e
 
 -- the schedules of the two parts are the schedule of the whole
 pub schedule_in_parts : (found : List Restriction) (vehicle : ℕ) (horizon : Horizon) (k : ℕ) (a b : List (List ℕ))
-    → IsSchedule (below k found) vehicle horizon (header_line ∷ a) → IsSchedule (not_below k found) vehicle horizon (header_line ∷ b)
+    → IsSchedule (below k found) vehicle horizon (header_line ∷ a)
+    → IsSchedule (not_below k found) vehicle horizon (header_line ∷ b)
     → IsSchedule found vehicle horizon (header_line ∷ (a ++ b))
 schedule_in_parts found vehicle horizon k a b p q =
     let low = kept_lines_of found vehicle horizon (λ (r : Restriction). nat_lt r.element k) p.elements

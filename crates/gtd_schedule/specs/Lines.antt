@@ -4,8 +4,8 @@ use Rattle.gtd_core.specs.Interval.{Interval}
 use Rattle.gtd_calendar.specs.Calendar.{IsCalendarDay}
 use Rattle.gtd_core.specs.Days.{day_of_second}
 use Rattle.gtd_calendar.specs.Stamp.{stamp_text}
-use Rattle.gtd_roads.specs.declared.direction.Direction.{Direction}
-use Rattle.gtd_runs.specs.Words.{direction_word}
+use Rattle.gtd_records.specs.declared.direction.Direction.{Direction}
+use Rattle.gtd_runs.specs.DirectionWords.{direction_word}
 
 -- the element, the direction and the vehicle type, each with its comma
 abbrev pub line_head : ℕ → Direction → ℕ → List ℕ
@@ -27,5 +27,5 @@ abbrev pub most_lines : ℕ
 most_lines = 12_622_867_200
 
 -- more bytes than so many lines have
-abbrev pub most_bytes : ℕ
-most_bytes = 1_009_829_376_000
+abbrev pub most_schedule_bytes : ℕ
+most_schedule_bytes = 1_009_829_376_000

@@ -5,11 +5,11 @@ use Rattle.gtd_core.specs.Interval.{Interval}
 use Rattle.gtd_core.specs.declared.horizon.Horizon.{Horizon}
 use Rattle.gtd_calendar.specs.Stamp.{stamp_text}
 use Rattle.gtd_eval.specs.NormalOver.{IsNormalOver}
-use Rattle.gtd_roads.specs.Closing.{AreElements, IsOpen}
-use Rattle.gtd_roads.specs.Restriction.{Restriction}
-use Rattle.gtd_roads.specs.declared.direction.Direction.{Direction}
-use Rattle.gtd_roads.specs.declared.direction.Direction.TheVariants.{Positive, Negative}
-use Rattle.gtd_runs.specs.Words.{direction_word}
+use Rattle.gtd_records.specs.Closing.{AreElements, IsOpen}
+use Rattle.gtd_records.specs.Restriction.{Restriction}
+use Rattle.gtd_records.specs.declared.direction.Direction.{Direction}
+use Rattle.gtd_records.specs.declared.direction.Direction.TheVariants.{Positive, Negative}
+use Rattle.gtd_runs.specs.DirectionWords.{direction_word}
 
 -- the header line
 abbrev pub header_line : List ℕ

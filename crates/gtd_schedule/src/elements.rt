@@ -1,13 +1,15 @@
 //! The lines of elements, put one after the other.
 
 ghost use Rattle.std.specs.Prelude.{◌≡◌, ◌+◌, ◌*◌, ◌<◌, ◌≤◌, ◌^◌, length, map, OnOk};
+ghost use Rattle.gtd_core.specs.Limits.{most_rows};
 ghost use Rattle.gtd_runs.specs.Putting.{Puts, PutsText, failures_after_stop};
-ghost use Rattle.gtd_schedule.specs.Lines.{AreShown, most_bytes, most_lines};
+ghost use Rattle.gtd_schedule.specs.Lines.{AreShown, most_schedule_bytes, most_lines};
 ghost use Rattle.gtd_schedule.specs.Schedule.{AreElementLines, AreLines, AreLinesOf, span_line};
 
 use crate::line::{write_head, write_span};
 use gtd_core::Horizon;
-use gtd_roads::{Direction, Output, Records, open_seconds};
+use gtd_devices::Output;
+use gtd_records::{Direction, Records, open_seconds};
 use gtd_runs::{Progress, Stop, put_line};
 use gtd_spans::SpanSource;
 use std::alloc::Global;
@@ -53,11 +55,11 @@ fn put_direction<O: Output>(
     horizon: Horizon,
 ) -> Result<(), Stop>
     requires countable { O.failure_count output.old < u64.MAX }
-    requires written { progress.old.written + most_bytes < 2 ^ 64 }
+    requires written { progress.old.written + most_schedule_bytes < 2 ^ 64 }
     requires lines { progress.old.lines + most_lines < 2 ^ 64 }
     ensures puts { PutsText (AreLines found.now vehicle horizon element direction) result
         (O.taken output.old) (O.taken output.new) progress.old progress.new }
-    ensures near { OnOk result ((progress.new.written ≤ progress.old.written + most_bytes)
+    ensures near { OnOk result ((progress.new.written ≤ progress.old.written + most_schedule_bytes)
         × (progress.new.lines ≤ progress.old.lines + most_lines)) }
     ensures failures { O.failure_count output.new
         ≡ failures_after_stop result (O.failure_count output.old) }
@@ -80,11 +82,11 @@ fn put_element<O: Output>(
     horizon: Horizon,
 ) -> Result<(), Stop>
     requires countable { O.failure_count output.old < u64.MAX }
-    requires written { progress.old.written + 2 * most_bytes < 2 ^ 64 }
+    requires written { progress.old.written + 2 * most_schedule_bytes < 2 ^ 64 }
     requires lines { progress.old.lines + 2 * most_lines < 2 ^ 64 }
     ensures puts { PutsText (AreElementLines found.now vehicle horizon element) result
         (O.taken output.old) (O.taken output.new) progress.old progress.new }
-    ensures near { OnOk result ((progress.new.written ≤ progress.old.written + 2 * most_bytes)
+    ensures near { OnOk result ((progress.new.written ≤ progress.old.written + 2 * most_schedule_bytes)
         × (progress.new.lines ≤ progress.old.lines + 2 * most_lines)) }
     ensures failures { O.failure_count output.new
         ≡ failures_after_stop result (O.failure_count output.old) }
@@ -110,7 +112,7 @@ pub(crate) fn put_elements<O: Output>(
     horizon: Horizon,
 ) -> Result<(), Stop>
     requires countable { O.failure_count output.old < u64.MAX }
-    requires few { length elements.now ≤ 65536 }
+    requires few { length elements.now ≤ most_rows }
     requires written { progress.old.written ≤ 1000 }
     requires lines { progress.old.lines ≤ 1 }
     ensures puts { PutsText (AreLinesOf found.now vehicle horizon elements.now) result

@@ -3,8 +3,8 @@
 ghost use Rattle.std.specs.Prelude.{◌≡◌, ◌≤◌, ◌++◌, ◌∷◌, ℕ, List, Ok, length};
 ghost use Rattle.std.specs.List.{All};
 ghost use Rattle.gtd_core.specs.declared.horizon.Horizon.{Horizon};
-ghost use Rattle.gtd_roads.specs.File.{IsFile};
-ghost use Rattle.gtd_roads.specs.Restriction.{Restriction};
+ghost use Rattle.gtd_records.specs.File.{IsFile};
+ghost use Rattle.gtd_records.specs.Restriction.{Restriction};
 ghost use Rattle.gtd_runs.specs.Subjects.{IsVehicleType};
 ghost use Rattle.gtd_schedule.specs.Schedule.{IsSchedule, header_line};
 ghost use Rattle.gtd_schedule.specs.Split.{below, not_below};

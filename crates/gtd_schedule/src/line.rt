@@ -8,7 +8,7 @@ ghost use Rattle.gtd_schedule.specs.Lines.{line_head, span_text};
 
 use gtd_calendar::{write_clock, write_date};
 use gtd_core::{Sec, Span};
-use gtd_roads::Direction;
+use gtd_records::Direction;
 use itoa::Buffer;
 use std::alloc::AllocError;
 

@@ -1,15 +1,16 @@
 //! The schedule of the record file that an input brings, put to an output.
 
 ghost use Rattle.std.specs.Prelude.{◌≡◌, ◌<◌, ◌↔◌, ⊤, None, Some, IsErrOf, IsTrue, List, OnOk};
-ghost use Rattle.gtd_roads.specs.Restriction.{Restriction};
-ghost use Rattle.gtd_runs.specs.Run.{AcceptedFilesArePut, HasRun, RefusedFilesPutNothing};
-ghost use Rattle.gtd_runs.specs.Run.{failures_after_read, failures_after_write};
+ghost use Rattle.gtd_records.specs.Restriction.{Restriction};
+ghost use Rattle.gtd_runs.specs.Run.{HasRun, failures_after_read, failures_after_write};
 ghost use Rattle.gtd_runs.specs.Subjects.{IsVehicleType};
 ghost use Rattle.gtd_schedule.specs.Schedule.{IsSchedule};
+ghost use Rattle.gtd_schedule.specs.Theorem.{Headline};
 
 use crate::elements::put_elements;
 use gtd_core::Horizon;
-use gtd_roads::{Input, Output, RecordFault, Records};
+use gtd_devices::{Input, Output};
+use gtd_records::{RecordFault, Records};
 use gtd_runs::{Progress, Report, RunFault, Stop, Subject, finish, put_line, run_report};
 use std::alloc::Global;
 
@@ -71,13 +72,9 @@ pub fn run_schedule<I: Input, O: Output>(
 ) -> Result<u64, RunFault>
     requires readable { I.failure_count input.old < u64.MAX }
     requires writable { O.failure_count output.old < u64.MAX }
-    // Accepted files are scheduled: where nothing hinders it, the output took the schedule of the file, and the answer
-    // is the number of its lines.
-    ensures accepted { IsVehicleType vehicle → AcceptedFilesArePut
-        (λ found. ⊤) (λ found lines. IsSchedule found vehicle horizon lines)
-        (I.to_come input.old) (O.taken output.old) (O.taken output.new) result }
-    // Refused files print nothing: where nothing hinders it, the answer is the first fault of the file.
-    ensures refused { IsVehicleType vehicle → RefusedFilesPutNothing
+    // The headline: where nothing hindered the run, the output took the schedule of a restriction file, and the answer is
+    // the number of its lines; of any other file it took nothing, and the answer is the file's first fault.
+    ensures headline { IsVehicleType vehicle → Headline vehicle horizon
         (I.to_come input.old) (O.taken output.old) (O.taken output.new) result }
     // What stands by each answer: after a failure or a refusal of memory, the first bytes of the same schedule.
     ensures stands { HasRun

@@ -7,8 +7,8 @@ use Rattle.gtd_core.specs.declared.domain.Op.TheVariants.{Minus}
 use Rattle.gtd_spans.specs.Normal.{Holds, IsNormal}
 use Rattle.gtd_spans.specs.Combine.{combine}
 use Rattle.gtd_spans.specs.Merging.{listed, AllBeginFrom}
-use Rattle.gtd_spans.specs.OneList.{after-holds, first-holds}
-use Rattle.gtd_spans.specs.Combining.{combine-normal, combine-holds}
+use Rattle.gtd_spans.specs.facts.OneList.{after-holds, first-holds}
+use Rattle.gtd_spans.specs.facts.Combining.{combine-normal, combine-holds}
 use Rattle.gtd_spans.proofs.UnionSteps.{Handed, from-holds}
 use Rattle.gtd_spans.proofs.MeetSteps.{handed-by}
 
@@ -45,20 +45,26 @@ pub give-left : (x : Interval) (l rs : List Interval) → IsNormal (x ∷ l) →
 give-left x l rs n a = minus-by (Some x) (x ∷ l) rs l rs
     (n.0, (λ t h k. after-holds x.until t l n.1 h))
     (λ t h k. elim h [ inl w ↦ inl (inl w) | inr j ↦ inr (j, k) ])
-    (λ t z. elim z [ inl w ↦ (inl w, (λ k. let q = from-holds x.until t rs a k in omega (arith, ints, w.1, q))) | inr e ↦ absurd e ])
+    (λ t z. elim z [
+      | inl w ↦ (inl w, (λ k. let q = from-holds x.until t rs a k in omega (arith, ints, w.1, q)))
+      | inr e ↦
+          absurd e
+    ])
     (λ t h k. (inr h, k))
 
 -- the part of the first interval on the left that is before the first one on the right
-pub give-part : (x y : Interval) (l r : List Interval) → IsNormal (x ∷ l) → IsNormal (y ∷ r) → x.from <ℤ y.from → y.from <ℤ x.until
+pub give-part : (x y : Interval) (l r : List Interval) → IsNormal (x ∷ l) → IsNormal (y ∷ r) → x.from <ℤ y.from → y.from
+    <ℤ x.until
     → Handed (Some (record { from = x.from; until = y.from })) (combine Minus (x ∷ l) (y ∷ r))
     (combine Minus (record { from = y.from; until = x.until } ∷ l) (y ∷ r))
-give-part x y l r n m lt lu = minus-by (Some (record { from = x.from; until = y.from })) (x ∷ l) (y ∷ r) (record { from = y.from; until = x.until } ∷ l) (y ∷ r) (
-  lt,
-  (λ t h k. by_lt_z y.from t (λ s. s) (λ ge. absurd (elim h [
-    | inl w ↦ k (inl (w.0, omega (arith, ints, m.0, w.0)))
-    | inr j ↦ let q = after-holds x.until t l n.1 j in omega (arith, ints, q)
-  ]))),
-)
+give-part x y l r n m lt lu = minus-by (Some (record { from = x.from; until = y.from })) (x ∷ l) (y ∷ r)
+    (record { from = y.from; until = x.until } ∷ l) (y ∷ r) (
+      lt,
+      (λ t h k. by_lt_z y.from t (λ s. s) (λ ge. absurd (elim h [
+        | inl w ↦ k (inl (w.0, omega (arith, ints, m.0, w.0)))
+        | inr j ↦ let q = after-holds x.until t l n.1 j in omega (arith, ints, q)
+      ]))),
+    )
     (λ t h k. elim h [
       | inl w ↦ by_lt_z t y.from (λ s. inl (inl (w.0, s))) (λ s. inr (inl (s, w.1), k))
       | inr j ↦ inr (inr j, k)
@@ -70,7 +76,8 @@ give-part x y l r n m lt lu = minus-by (Some (record { from = x.from; until = y.
     (λ t h k. (elim h [ inl w ↦ inl (omega (arith, ints, w.0), w.1) | inr j ↦ inr j ], k))
 
 -- the first interval on the right covers the front of the first one on the left, and goes
-pub trim-left : (x y : Interval) (l r : List Interval) → IsNormal (x ∷ l) → IsNormal (y ∷ r) → y.from ≤ℤ x.from → x.from <ℤ y.until → y.until <ℤ x.until
+pub trim-left : (x y : Interval) (l r : List Interval) → IsNormal (x ∷ l) → IsNormal (y ∷ r) → y.from ≤ℤ x.from → x.from
+    <ℤ y.until → y.until <ℤ x.until
     → Handed None (combine Minus (x ∷ l) (y ∷ r)) (combine Minus (record { from = y.until; until = x.until } ∷ l) r)
 trim-left x y l r n m le lt lu = minus-by None (x ∷ l) (y ∷ r) (record { from = y.until; until = x.until } ∷ l) r tt
     (λ t h k. inr (
@@ -93,7 +100,8 @@ trim-left x y l r n m le lt lu = minus-by None (x ∷ l) (y ∷ r) (record { fro
     ))
 
 -- the first interval on the right covers the first one on the left
-pub drop-left : (x y : Interval) (l r : List Interval) → IsNormal (x ∷ l) → IsNormal (y ∷ r) → y.from ≤ℤ x.from → x.until ≤ℤ y.until
+pub drop-left : (x y : Interval) (l r : List Interval) → IsNormal (x ∷ l) → IsNormal (y ∷ r) → y.from ≤ℤ x.from → x.until
+    ≤ℤ y.until
     → Handed None (combine Minus (x ∷ l) (y ∷ r)) (combine Minus l (y ∷ r))
 drop-left x y l r n m le lu = minus-by None (x ∷ l) (y ∷ r) l (y ∷ r) tt
     (λ t h k. elim h [
@@ -104,7 +112,8 @@ drop-left x y l r n m le lu = minus-by None (x ∷ l) (y ∷ r) l (y ∷ r) tt
     (λ t h k. (inr h, k))
 
 -- the part before the first interval on the right, which goes: what is behind it is left
-pub give-trim : (x y : Interval) (l r : List Interval) → IsNormal (x ∷ l) → IsNormal (y ∷ r) → x.from <ℤ y.from → y.until <ℤ x.until
+pub give-trim : (x y : Interval) (l r : List Interval) → IsNormal (x ∷ l) → IsNormal (y ∷ r) → x.from <ℤ y.from → y.until
+    <ℤ x.until
     → Handed (Some (record { from = x.from; until = y.from })) (combine Minus (x ∷ l) (y ∷ r))
     (combine Minus (record { from = y.until; until = x.until } ∷ l) r)
 give-trim x y l r n m lt lu =
@@ -113,10 +122,12 @@ give-trim x y l r n m lt lu =
     let part : Interval = record { from = x.from; until = y.from } in
     let rest : Interval = record { from = y.from; until = x.until } in
     let begun : y.from ≤ℤ y.from = omega (arith, ints) in
-    give-part x y l r n m lt within ∙ ap (λ (t : List Interval). part ∷ t) (trim-left rest y l r (within, n.1, n.2) m begun some lu)
+    give-part x y l r n m lt within ∙ ap (λ (t : List Interval). part ∷ t)
+    (trim-left rest y l r (within, n.1, n.2) m begun some lu)
 
 -- the part before the first interval on the right, which covers what is behind it
-pub give-drop : (x y : Interval) (l r : List Interval) → IsNormal (x ∷ l) → IsNormal (y ∷ r) → x.from <ℤ y.from → y.from <ℤ x.until → x.until ≤ℤ y.until
+pub give-drop : (x y : Interval) (l r : List Interval) → IsNormal (x ∷ l) → IsNormal (y ∷ r) → x.from <ℤ y.from → y.from
+    <ℤ x.until → x.until ≤ℤ y.until
     → Handed (Some (record { from = x.from; until = y.from })) (combine Minus (x ∷ l) (y ∷ r)) (combine Minus l (y ∷ r))
 give-drop x y l r n m lt within lu =
     let part : Interval = record { from = x.from; until = y.from } in

@@ -10,8 +10,8 @@ use Rattle.gtd_spans.specs.declared.merge.Merge.{Merge}
 use Rattle.gtd_spans.specs.Normal.{Holds, AllBeginAfter, IsNormal}
 use Rattle.gtd_spans.specs.Combine.{combine}
 use Rattle.gtd_spans.specs.Merging.{listed, side_list, still, AllBeginFrom, KeptFits, Fits}
-use Rattle.gtd_spans.specs.OneList.{one-list}
-use Rattle.gtd_spans.specs.Combining.{combine-normal, combine-holds}
+use Rattle.gtd_spans.specs.facts.OneList.{one-list}
+use Rattle.gtd_spans.specs.facts.Combining.{combine-normal, combine-holds}
 
 -- a normal list that holds no second up to b begins after b
 pub after-from-holds : (b : ℤ) (xs : List Interval) → IsNormal xs → ((t : ℤ) → Holds xs t → b <ℤ t) → AllBeginAfter b xs
@@ -72,7 +72,8 @@ moved o g x kept ls rs old is joins t =
 
 -- what the old list holds, where x comes off the left side; where it comes off the right side
 old-left : (o : Option Interval) (x : Interval) (ls rs : List Interval) (t : ℤ)
-    → Holds (combine Union (listed o) (combine Union (x ∷ ls) rs)) t ↔ ((Holds (listed o) t ⊎ Within x t) ⊎ (Holds ls t ⊎ Holds rs t))
+    → Holds (combine Union (listed o) (combine Union (x ∷ ls) rs)) t
+    ↔ ((Holds (listed o) t ⊎ Within x t) ⊎ (Holds ls t ⊎ Holds rs t))
 old-left o x ls rs t = let u = union3-holds (listed o) (x ∷ ls) rs t in (
   (λ h. elim (u.0 h) [
     | inl a ↦ inl (inl a)
@@ -85,7 +86,8 @@ old-left o x ls rs t = let u = union3-holds (listed o) (x ∷ ls) rs t in (
 )
 
 old-right : (o : Option Interval) (x : Interval) (ls rs : List Interval) (t : ℤ)
-    → Holds (combine Union (listed o) (combine Union ls (x ∷ rs))) t ↔ ((Holds (listed o) t ⊎ Within x t) ⊎ (Holds ls t ⊎ Holds rs t))
+    → Holds (combine Union (listed o) (combine Union ls (x ∷ rs))) t
+    ↔ ((Holds (listed o) t ⊎ Within x t) ⊎ (Holds ls t ⊎ Holds rs t))
 old-right o x ls rs t = let u = union3-holds (listed o) ls (x ∷ rs) t in (
   (λ h. elim (u.0 h) [
     | inl a ↦ inl (inl a)
@@ -124,11 +126,13 @@ handed (Some g) kept ls rs old n gap fa fb same =
     ))
 
 -- what is kept back does not begin after the next interval of a side
-kept-left : (o : Option Interval) (x : Interval) (ls rs : List Interval) → KeptFits o (x ∷ ls) rs → IfSome o (λ k. k.from ≤ℤ x.from)
+kept-left : (o : Option Interval) (x : Interval) (ls rs : List Interval) → KeptFits o (x ∷ ls) rs
+    → IfSome o (λ k. k.from ≤ℤ x.from)
 kept-left None x ls rs k = tt
 kept-left (Some o) x ls rs k = k.1.0
 
-kept-right : (o : Option Interval) (x : Interval) (ls rs : List Interval) → KeptFits o ls (x ∷ rs) → IfSome o (λ k. k.from ≤ℤ x.from)
+kept-right : (o : Option Interval) (x : Interval) (ls rs : List Interval) → KeptFits o ls (x ∷ rs)
+    → IfSome o (λ k. k.from ≤ℤ x.from)
 kept-right None x ls rs k = tt
 kept-right (Some o) x ls rs k = k.2.0
 
@@ -197,8 +201,11 @@ pub took-kept : (s : Merge) → s.op ≡ Union → s.left ≡ Ended → s.right 
     → (l r : List Interval) → Fits s l r
     → Fits (kept_taken s) l r × Handed s.kept (still s l r) (still (kept_taken s) l r) × (still (kept_taken s) l r ≡ [])
 took-kept s op el er l r f =
-    let k : KeptFits s.kept [] [] = rw (el, er) at f.kept in
-    (record { left = f.left; right = f.right; kept = tt; keeps = rw op tt }, rw (op, el, er) (handed-kept s.kept k), rw (op, el, er) nothing-left)
+    let k : KeptFits s.kept [] [] = rw (el, er) at f.kept in (
+      record { left = f.left; right = f.right; kept = tt; keeps = rw op tt },
+      rw (op, el, er) (handed-kept s.kept k),
+      rw (op, el, er) nothing-left,
+    )
 
 pub handed-as : (g h : Option Interval) (old new : List Interval) → g ≡ h → Handed g old new → Handed h old new
 handed-as g h old new e k = let P : Option Interval → Type 0 = λ o. Handed o old new in subst P e k

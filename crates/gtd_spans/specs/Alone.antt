@@ -1,5 +1,4 @@
 -- Which operators a sweep of one side may have.
-use Rattle.std.proofs.Props.{props}
 use Rattle.gtd_core.specs.declared.domain.Op.{Op}
 use Rattle.gtd_core.specs.declared.domain.Op.TheVariants.{Union, Meet, Minus}
 use Rattle.gtd_spans.specs.declared.sweep.Sides.{Sides}
@@ -11,9 +10,3 @@ TakesAway Both op = Unit {0}
 TakesAway Left Union = ⊥
 TakesAway Left Meet = ⊥
 TakesAway Left Minus = Unit {0}
-
-pub TakesAway-prop : (s : Sides) (op : Op) → IsProp (TakesAway s op)
-TakesAway-prop Both op = hlevel props
-TakesAway-prop Left Union = hlevel props
-TakesAway-prop Left Meet = hlevel props
-TakesAway-prop Left Minus = hlevel props

@@ -6,11 +6,9 @@ ghost use Rattle.gtd_spans.specs.Normal.{Holds, IsNormal};
 ghost use Rattle.gtd_spans.specs.Counting.{IsCount, to_come};
 
 use crate::source::SpanSource;
+use gtd_core::limits::DAY_SECONDS;
 use gtd_core::{Sec, Span};
 use std::marker::Model;
-
-/// The seconds of a day.
-const DAY: i64 = 86_400;
 
 /// How many seconds of a span are on the day that begins at midnight.
 fn seconds_within(span: Span, midnight: Sec) -> u32
@@ -18,7 +16,7 @@ fn seconds_within(span: Span, midnight: Sec) -> u32
     ensures count { IsCount (Within span) midnight.0 86400 result }
     ensures few { result ≤ 86400 }
 {
-    let day = Span::between(midnight, Sec(midnight.0 + DAY));
+    let day = Span::between(midnight, Sec(midnight.0 + DAY_SECONDS));
     match span.meet(day) {
         Some(part) => (part.until().0 - part.from().0) as u32,
         None => 0,
@@ -35,7 +33,7 @@ fn count_day<S: SpanSource>(source: &mut S, held: &mut Option<Span>, midnight: S
     ensures normal { IsNormal (to_come held.new (S.rest source.new)) }
     ensures few { result ≤ 86400 }
 {
-    let end = midnight.0 + DAY;
+    let end = midnight.0 + DAY_SECONDS;
     let mut count = 0u32;
     while let Some(span) = *held {
         if span.from().0 >= end {

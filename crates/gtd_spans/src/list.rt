@@ -7,7 +7,7 @@ ghost use Rattle.gtd_core.specs.Interval.{Within};
 ghost use Rattle.gtd_core.specs.Whole.{whole};
 ghost use Rattle.gtd_spans.specs.Normal.{Holds, IsNormal};
 ghost use Rattle.gtd_spans.specs.Pushing.{NoneBeginsAfter, SomeReaches, AllEndBefore};
-ghost use Rattle.gtd_spans.specs.FitsProp.{IsNormal-prop};
+ghost use Rattle.gtd_spans.specs.facts.FitsProp.{IsNormal-prop};
 
 use crate::source::{SpanSource, next_change};
 use gtd_core::{Horizon, Sec, Span};

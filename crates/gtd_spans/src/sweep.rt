@@ -5,7 +5,8 @@ ghost use Rattle.gtd_core.specs.Interval.{Interval, Within};
 ghost use Rattle.gtd_core.specs.Whole.{whole};
 ghost use Rattle.gtd_core.specs.declared.domain.Op.TheVariants.{Minus};
 ghost use Rattle.gtd_spans.specs.Normal.{Holds, IsNormal};
-ghost use Rattle.gtd_spans.specs.Alone.{TakesAway, TakesAway-prop};
+ghost use Rattle.gtd_spans.specs.Alone.{TakesAway};
+ghost use Rattle.gtd_spans.specs.facts.AloneProps.{TakesAway-prop};
 ghost use Rattle.gtd_spans.specs.Combine.{Combined, combine};
 
 use crate::merge::{Ask, Merge};

@@ -1,5 +1,6 @@
 -- When a brace opens a duration that is too long.
 use Rattle.std.specs.Prelude.{List, [], ◌∷◌, Bool, false, nat_lt}
+use Rattle.gtd_core.specs.Limits.{most_bound}
 use Rattle.gtd_core.specs.DurationBound.{bound_of}
 use Rattle.gtd_text.specs.declared.token.TokenKind.{TokenKind}
 use Rattle.gtd_text.specs.declared.token.TokenKind.TheVariants.{OpenBrace, Field}
@@ -13,7 +14,7 @@ fields_at_front (sign ∷ tokens) = []
 
 -- The bound of the duration of these fields is over 3,162,240,000 seconds, which is 36,600 days.
 abbrev pub is_too_long : List TokenKind → Bool
-is_too_long fields = nat_lt 3162240000 (bound_of (with_duration_fields zero_parts fields))
+is_too_long fields = nat_lt most_bound (bound_of (with_duration_fields zero_parts fields))
 
 -- A brace opens before these tokens, and the duration of the fields that follow it is too long.
 abbrev pub opens_too_long : TokenKind → List TokenKind → Bool

@@ -1,17 +1,23 @@
 //! Laws of the definitions: calls that do nothing, and whose contracts are what is proved.
 
-ghost use Rattle.std.specs.Prelude.{◌≡◌, ◌≤◌, ◌↔◌, ℕ, List, true};
+ghost use Rattle.std.specs.Prelude.{◌≡◌, ◌≤◌, ◌↔◌, ℕ, List, Some, None, drop, true};
+ghost use Rattle.gtd_core.specs.Limits.{most_basic_domains};
 ghost use Rattle.gtd_core.specs.Equality.{same_tree};
 ghost use Rattle.gtd_core.specs.Parts.{domain_tree};
 ghost use Rattle.gtd_core.specs.Trees.{Tree, AreValid, leaf_count};
 ghost use Rattle.gtd_core.specs.declared.domain.Domain.{Domain};
+ghost use Rattle.gtd_core.specs.declared.fault.Fault.{Fault};
 ghost use Rattle.gtd_core.specs.declared.fault.TextFault.{TextFault};
 ghost use Rattle.gtd_text.specs.Canonical.{canonical};
-ghost use Rattle.gtd_text.specs.FirstFault.{IsClean, grammar_fault};
+ghost use Rattle.gtd_text.specs.FirstFault.{IsClean};
+ghost use Rattle.gtd_text.specs.Fitting.{grammar_fault};
 ghost use Rattle.gtd_text.specs.Fitting.{may_end};
+ghost use Rattle.gtd_text.specs.GoingOn.{GoesOn};
 ghost use Rattle.gtd_text.specs.Grammar.{Stands, Sum};
+ghost use Rattle.gtd_text.specs.Lexing.{IsToken, BeginsNoToken, IsFaultAt};
 ghost use Rattle.gtd_text.specs.Reading.{StandsFor, HasNoFault, IsFault};
-ghost use Rattle.gtd_text.specs.Seen.{kinds, newest_first};
+ghost use Rattle.gtd_text.specs.TokenKinds.{kinds, newest_first};
+ghost use Rattle.gtd_text.specs.TokenAt.{token_at, fault_at_front};
 ghost use Rattle.gtd_text.specs.declared.token.Token.{Token};
 
 use gtd_core::laws::{equality_of_trees, leaves_are_valid};
@@ -28,7 +34,7 @@ pub fn one_meaning()
 pub fn canonical_text()
     ensures stands { (e : Tree) → AreValid e → StandsFor (canonical e) e }
     ensures only { (e f : Tree) → AreValid e → StandsFor (canonical e) f → f ≡ e }
-    ensures faultless { (e : Tree) → AreValid e → leaf_count e ≤ 128 → HasNoFault (canonical e) }
+    ensures faultless { (e : Tree) → AreValid e → leaf_count e ≤ most_basic_domains → HasNoFault (canonical e) }
 {}
 
 /// The same of each domain, without a premise; and two domains are equal (`==`) exactly if their canonical texts are.
@@ -45,9 +51,28 @@ pub fn canonical_text_of_domain()
     equality_of_trees();
 }
 
-/// Tokens stand for an expression exactly if none of them is at fault by the grammar, and they do not end too early.
+/// Tokens stand for an expression exactly if none of them is at fault by the table of what may come next, and they do not
+/// end too early by it.
 pub fn grammar_and_faults()
     ensures agree { (tokens : List Token) →
         (IsClean grammar_fault tokens × (may_end (newest_first tokens) ≡ true))
         ↔ ((e : Tree) × Stands Sum (kinds tokens) e) }
+{}
+
+/// None of some tokens is at fault by that table exactly if more can follow them, so that all together stand for an
+/// expression. So the first token at fault is the first with which no expression goes on.
+pub fn tokens_go_on()
+    ensures agree { (tokens : List Token) →
+        IsClean grammar_fault tokens ↔ GoesOn (kinds tokens) }
+{}
+
+/// A token stands in a text exactly if it is the one that is computed from the bytes at its place; none begins exactly
+/// where none is computed; and so with the fault there.
+pub fn tokens_as_computed()
+    ensures token { (text : List ℕ) (token : Token) →
+        IsToken text token ↔ (token_at text token.from ≡ Some token) }
+    ensures none { (text : List ℕ) (place : ℕ) →
+        BeginsNoToken text place ↔ (token_at text place ≡ None) }
+    ensures fault { (text : List ℕ) (place : ℕ) (fault : Fault) →
+        IsFaultAt text place fault ↔ (fault ≡ fault_at_front (drop place text)) }
 {}

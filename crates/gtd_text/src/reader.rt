@@ -8,7 +8,7 @@ ghost use Rattle.gtd_text.specs.Faults.{no_memory};
 ghost use Rattle.gtd_text.specs.Grammar.{Stands, Sum};
 ghost use Rattle.gtd_text.specs.Reading.{StandsFor, IsFault, HasNoFault};
 ghost use Rattle.gtd_text.specs.Found.{AreReadable};
-ghost use Rattle.gtd_text.specs.Seen.{kinds};
+ghost use Rattle.gtd_text.specs.TokenKinds.{kinds};
 
 use crate::builder::build_expr;
 use crate::check::first_fault;

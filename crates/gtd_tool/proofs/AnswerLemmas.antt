@@ -1,23 +1,23 @@
 -- What is printed of a domain.
-use Rattle.std.proofs.Common.{◌≡◌, ◌∙◌, inl, inr, ℕ, List, ◌++◌, codes, Option, Some, None, sym, ap, subst, arith, append_assoc, ◌<◌}
+use Rattle.std.proofs.Common.{◌≡◌, ◌∙◌, inl, inr, ℕ, List, ◌++◌, codes, Option, Some, None, sym, ap, subst, arith, append_assoc}
+use Rattle.std.proofs.Common.{◌<◌}
 use Rattle.std.specs.Prelude.{Result, Ok, Err, OnOk, OnErr, IfErr, IfSome, MatchOption, ◌↔◌, ℤ, pos, ◌+ℤ◌, ◌-ℤ◌, ◌*ℤ◌, ◌≤ℤ◌, ◌<ℤ◌}
 use Rattle.std.specs.Io.KnownBytes.{Appends}
 use Rattle.std.proofs.lemmas.Int.{ints, by_lt_z}
 use Rattle.gtd_core.specs.Trees.{Tree}
 use Rattle.gtd_core.specs.declared.second.Sec.{Sec}
 use Rattle.gtd_calendar.specs.Calendar.{IsCalendarDay}
-use Rattle.gtd_core.specs.Days.{IsMomentSecond, day_of_second}
+use Rattle.gtd_core.specs.Days.{IsMomentSecond, day_of_second, IsHorizonSecond}
 use Rattle.gtd_calendar.specs.Clock.{second_of_day}
 use Rattle.gtd_calendar.specs.Stamp.{stamp_text}
-use Rattle.gtd_calendar.proofs.ClockLemmas.{second-parts}
+use Rattle.gtd_calendar.specs.facts.ClockLemmas.{second-parts}
 use Rattle.gtd_spans.specs.Change.{NeverChanges, IsNextChange, SameAt}
-use Rattle.gtd_recur.specs.Membership.{IsHorizonSecond}
 use Rattle.gtd_eval.specs.Ever.{NeverChangesAfter, IsFirstChange, cycle}
 use Rattle.gtd_eval.specs.Membership.{InTree, SomeGivesYear}
-use Rattle.gtd_eval.proofs.Repeats.{tree-repeats, first-of-next}
+use Rattle.gtd_eval.specs.facts.Repeats.{tree-repeats, first-of-next}
 use Rattle.gtd_tool.specs.Plans.{Asked, Check, Canon, At, Next, Ever, Schedule, Year, Migrate}
 use Rattle.gtd_tool.specs.Printed.{AppendsLine, AppendsPartOfLine, IsAnswer, IsChange, IsChangeOr, IsState}
-use Rattle.gtd_tool.specs.Stops.{IsStop}
+use Rattle.gtd_tool.specs.CutShort.{IsCutShort}
 use Rattle.gtd_tool.specs.Writing.{AppendsPart}
 use Rattle.gtd_tool.proofs.WritingLemmas.{part_none}
 use Rattle.gtd_tool.specs.declared.refusal.Refusal.{Refusal}
@@ -51,7 +51,8 @@ one_answer (Check d) a b p q = p ∙ sym q
 one_answer (Canon d) a b p q = p ∙ sym q
 one_answer (At d m) a b p q = one_state d m.0 a b p q
 one_answer (Next d m to) a b (inl (t, p, x)) (inl (u, q, y)) =
-    one_change d t u a b (one_first (InTree d) m.0 t u (first-of-next (InTree d) m.0 (to *ℤ pos 86400) t p) (first-of-next (InTree d) m.0 (to *ℤ pos 86400) u q)) x y
+    one_change d t u a b (one_first (InTree d) m.0 t u (first-of-next (InTree d) m.0 (to *ℤ pos 86400) t p)
+    (first-of-next (InTree d) m.0 (to *ℤ pos 86400) u q)) x y
 one_answer (Next d m to) a b (inl (t, p, x)) (inr q) = absurd (p.differs (q.0 t p.later p.within))
 one_answer (Next d m to) a b (inr p) (inl (u, q, y)) = absurd (q.differs (p.0 u q.later q.within))
 one_answer (Next d m to) a b (inr p) (inr q) = p.1 ∙ sym q.1
@@ -104,7 +105,8 @@ on_err (Err e) P Q f h = f h
 same_line : (stamp state : List ℕ) → (stamp ++ (codes " " ++ state)) ++ codes "\n" ≡ stamp ++ (codes " " ++ (state ++ codes "\n"))
 same_line stamp state = append_assoc stamp (codes " " ++ state) (codes "\n")
 
-is_change : (d : Tree) (t : ℤ) (stamp state : List ℕ) → stamp ≡ stamp_text t → IsState d t state → IsChange d t (stamp ++ (codes " " ++ state))
+is_change : (d : Tree) (t : ℤ) (stamp state : List ℕ) → stamp ≡ stamp_text t → IsState d t state
+    → IsChange d t (stamp ++ (codes " " ++ state))
 is_change d t stamp state e h = (state, h, ap (λ (s : List ℕ). s ++ (codes " " ++ state)) e)
 
 pub change_line : (d : Tree) (t : ℤ) (stamp state : List ℕ) (old new : Option (List ℕ)) → stamp ≡ stamp_text t → IsState d t state
@@ -134,21 +136,24 @@ pub next_part : (d : Tree) (m : Sec) (to : ℤ) (o : Option Sec) (old new : Opti
 next_part d m to o old new h (answer, is, part) = (answer, next_is d m to o answer h is, part)
 
 pub stop_of_write : {A : Type 0} (asked : Asked) (old new : Option (List ℕ)) (unwritten : Type 0) (r : Result A Refusal)
-    → OnErr r (AppendsPartOfLine (IsAnswer asked) old new) → IfErr r (λ e. e ≡ refusal.Write) → IfErr r (IsStop asked old new unwritten)
+    → OnErr r (AppendsPartOfLine (IsAnswer asked) old new) → IfErr r (λ e. e ≡ refusal.Write)
+    → IfErr r (IsCutShort asked old new unwritten)
 stop_of_write asked old new unwritten (Ok x) part is = tt
-stop_of_write asked old new unwritten (Err e) part is = subst (IsStop asked old new unwritten) (sym is) part
+stop_of_write asked old new unwritten (Err e) part is = subst (IsCutShort asked old new unwritten) (sym is) part
 
 -- whichever answer it is, the writer has taken a first part of its line
 pub part_of_any : {A X : Type 0} (asked : Asked) (known : X → Option (List ℕ)) (old new : X) (r : Result A Refusal)
-    → IfErr r (IsStop asked (known old) (known new) (new ≡ old))
+    → IfErr r (IsCutShort asked (known old) (known new) (new ≡ old))
     → OnErr r ((answer : List ℕ) → IsAnswer asked answer → AppendsPart (known old) (known new) (answer ++ codes "\n"))
 part_of_any asked known old new (Ok x) h = tt
 part_of_any asked known old new (Err refusal.Write) h = λ answer is.
     subst (λ (a : List ℕ). AppendsPart (known old) (known new) (a ++ codes "\n")) (one_answer asked h.0 answer h.1 is) h.2
 part_of_any asked known old new (Err refusal.Memory) h = λ answer is.
-    subst (λ (x : _). AppendsPart (known old) (known x) (answer ++ codes "\n")) (sym h.0) (part_none (known old) (answer ++ codes "\n"))
+    subst (λ (x : _). AppendsPart (known old) (known x) (answer ++ codes "\n")) (sym h.0)
+    (part_none (known old) (answer ++ codes "\n"))
 part_of_any asked known old new (Err refusal.HasYear) h = λ answer is.
-    subst (λ (x : _). AppendsPart (known old) (known x) (answer ++ codes "\n")) (sym h.0) (part_none (known old) (answer ++ codes "\n"))
+    subst (λ (x : _). AppendsPart (known old) (known x) (answer ++ codes "\n")) (sym h.0)
+    (part_none (known old) (answer ++ codes "\n"))
 part_of_any asked known old new (Err refusal.Usage) h = absurd h
 part_of_any asked known old new (Err (refusal.Text f)) h = absurd h
 part_of_any asked known old new (Err (refusal.Moment f)) h = absurd h

@@ -1,13 +1,18 @@
 -- What `clap` makes of a command line of `gtd`.
-use Rattle.std.proofs.Common.{◌≡◌, ◌∙◌, ◌&&◌, ◌⊎◌, ℕ, Bool, cond, codes, true, false, refl, sym, ap, subst, arith, List, [], ◌∷◌, ◌++◌, map, length, Option, Some, None, inl, inr, is_some, true≢false, option_map, append_assoc, append-nil, eqb-true}
+use Rattle.std.proofs.Common.{◌≡◌, ◌∙◌, ◌&&◌, ◌⊎◌, ℕ, Bool, cond, codes, true, false, refl, sym, ap, subst, arith, List, [], ◌∷◌}
+use Rattle.std.proofs.Common.{◌++◌, map, length, Option, Some, None, inl, inr, is_some, true≢false, option_map, append_assoc}
+use Rattle.std.proofs.Common.{append-nil, eqb-true}
 use Rattle.std.specs.Prelude.{⊤, encode_utf8, encode_utf8_all, ◌==◌, slice_get, fold, find}
 use Rattle.std.specs.List.{list_any}
 use Rattle.std.specs.Str.{bytes_eq, chars, IsUtf8}
 use Rattle.clap.specs.Lexer.{long_of, short_of, name_and_value}
-use Rattle.clap.specs.Walk.{finished, rows_after, Held, Names, Row, Rule, Walk, Waiting, idle, positional, all_of, answers_to, nothing_held, positional_held, reading_by, settled, walk_from, walked}
-use Rattle.clap.specs.Simple.{entered, Shape, built, built_leaf, filled, inherited, is_simple, label_of, subcommand_of, with_index}
+use Rattle.clap.specs.Walk.{finished, rows_after, Held, Names, Row, Rule, Walk, Waiting, idle, positional, all_of, answers_to}
+use Rattle.clap.specs.Walk.{nothing_held, positional_held, reading_by, settled, walk_from, walked}
+use Rattle.clap.specs.Simple.{entered, Shape, built, built_leaf, filled, inherited, is_simple, label_of, subcommand_of}
+use Rattle.clap.specs.Simple.{with_index}
 use Rattle.clap.specs.Kinds.{Kinds, or_else}
-use Rattle.clap.specs.Faults.{bundle_fault, check_fault, defaults_fault, entered_fault, settle_fault, fault_of, flags_fault, is_simple_and_free, level_fault, turn_fault, walk_fault}
+use Rattle.clap.specs.Faults.{bundle_fault, check_fault, defaults_fault, entered_fault, settle_fault, fault_of, flags_fault}
+use Rattle.clap.specs.Faults.{is_simple_and_free, level_fault, turn_fault, walk_fault}
 use Rattle.clap.specs.declared.error.kind.ErrorKind.TheVariants.{InvalidSubcommand, UnknownArgument}
 use Rattle.clap.specs.declared.parser.matches.ValueSource.TheVariants.{CommandLine}
 use Rattle.clap.proofs.WalkLemmas.{walk_stopped}
@@ -73,11 +78,18 @@ words_after r (x ∷ xs) = words_after (some (words_of r) x) xs ∙ append_assoc
 
 -- ---- after `--`
 
-trail_walk : (r : Read) (w : Waiting) (rest : List Text) → (fold (walked rules []) (walk_at r w true) rest).held ≡ held_at (after r rest)
+trail_walk : (r : Read) (w : Waiting) (rest : List Text) → (fold (walked rules []) (walk_at r w true) rest).held
+    ≡ held_at (after r rest)
 unfolding walked
 trail_walk r w [] = refl
 trail_walk r w (x ∷ xs) =
-    ap (λ (h : Held). (fold (walked rules []) (record { held = h; waiting = positional; position = 1; is_trailing = true; stopped = None }) xs).held) (next_held r x)
+    ap (λ (h : Held). (fold (walked rules []) (record {
+      held = h;
+      waiting = positional;
+      position = 1;
+      is_trailing = true;
+      stopped = None;
+    }) xs).held) (next_held r x)
     ∙ trail_walk (some (words_of r) x) positional xs
 
 trail_turn : (name : Text) (r : Read) (w : Waiting) (x : Text) → turn_fault (leaf name) [] (walk_at r w true) x ≡ []
@@ -89,7 +101,13 @@ unfolding walked walk_fault
 trail_fault name r w [] = refl
 trail_fault name r w (x ∷ xs) =
     ap (λ (k : Kinds). or_else k (walk_fault (leaf name) [] (walked rules [] (walk_at r w true) x) xs)) (trail_turn name r w x)
-    ∙ ap (λ (h : Held). walk_fault (leaf name) [] (record { held = h; waiting = positional; position = 1; is_trailing = true; stopped = None }) xs) (next_held r x)
+    ∙ ap (λ (h : Held). walk_fault (leaf name) [] (record {
+      held = h;
+      waiting = positional;
+      position = 1;
+      is_trailing = true;
+      stopped = None;
+    }) xs) (next_held r x)
     ∙ trail_fault name (some (words_of r) x) positional xs
 
 -- ---- what a word looks like
@@ -101,7 +119,8 @@ data WordKind (word : Text) : Type 0 where
   -- `--name`
   long : (p : Text × Option Text) → long_of word ≡ Some p → is_option word ≡ true → WordKind word
   -- `-abc`
-  short : (f : ℕ) (fs : Text) (x : ℕ) → long_of word ≡ None → short_of word ≡ Some (f ∷ fs) → slice_get (chars (f ∷ fs)) 0 ≡ Some x → is_option word ≡ true → WordKind word
+  short : (f : ℕ) (fs : Text) (x : ℕ) → long_of word ≡ None → short_of word ≡ Some (f ∷ fs) → slice_get (chars (f ∷ fs)) 0
+      ≡ Some x → is_option word ≡ true → WordKind word
   -- any other
   bare : long_of word ≡ None → short_of word ≡ None → is_option word ≡ false → WordKind word
 
@@ -110,14 +129,16 @@ chars_after_hyphen : (first y : ℕ) (zs : Text) → first ≡ 45 → IsUtf8 (fi
 chars_after_hyphen first y zs e text none =
     let hyphen : encode_utf8 45 ≡ 45 ∷ [] = encode_ascii 45 (omega arith) in
     let spelt : chars (first ∷ y ∷ zs) ≡ 45 ∷ [] =
-    chars_past_char (first ∷ y ∷ zs) (y ∷ zs) 45 text (ap (λ (n : ℕ). n ∷ y ∷ zs) e ∙ ap (λ (bs : Text). bs ++ y ∷ zs) (sym hyphen))
+    chars_past_char (first ∷ y ∷ zs) (y ∷ zs) 45 text (ap (λ (n : ℕ). n ∷ y ∷ zs) e
+    ∙ ap (λ (bs : Text). bs ++ y ∷ zs) (sym hyphen))
     ∙ ap (λ (cs : Text). 45 ∷ cs) none in
     let back : first ∷ y ∷ zs ≡ 45 ∷ [] =
     sym (encodes-chars (first ∷ y ∷ zs) text) ∙ ap encode_utf8_all spelt ∙ ap (λ (bs : Text). bs ++ []) hyphen in
     let lengths : length (first ∷ y ∷ zs) ≡ 1 = ap length back in
     absurd (omega arith)
 
-after_hyphen : (first y : ℕ) (zs : Text) (b : Bool) → (first == 45) ≡ true → (y == 45) ≡ b → bytes_eq (first ∷ y ∷ zs) dashes ≡ false
+after_hyphen : (first y : ℕ) (zs : Text) (b : Bool) → (first == 45) ≡ true → (y == 45) ≡ b → bytes_eq (first ∷ y ∷ zs) dashes
+    ≡ false
     → IsUtf8 (first ∷ y ∷ zs) → WordKind (first ∷ y ∷ zs)
 after_hyphen first y [] true e f other text = absurd (true≢false (sym (rw (e, f) refl) ∙ other))
 after_hyphen first y (z ∷ zs) true e f other text = long (name_and_value (z ∷ zs)) (rw (e, f) refl) e
@@ -127,7 +148,8 @@ after_hyphen first y zs false e f other text = by_chars (chars (y ∷ zs)) refl
     by_chars [] g = absurd (chars_after_hyphen first y zs (eqb-true _ _ e) text g)
     by_chars (c ∷ cs) g = short y zs c (rw (e, f) refl) (rw (e, f) refl) (ap (λ (t : Text). slice_get t 0) g) e
 
-kind_at : (first : ℕ) (rest : Text) (b : Bool) → (first == 45) ≡ b → bytes_eq (first ∷ rest) dashes ≡ false → IsUtf8 (first ∷ rest) → WordKind (first ∷ rest)
+kind_at : (first : ℕ) (rest : Text) (b : Bool) → (first == 45) ≡ b → bytes_eq (first ∷ rest) dashes ≡ false
+    → IsUtf8 (first ∷ rest) → WordKind (first ∷ rest)
 kind_at first [] false e other text = bare (rw e refl) (rw e refl) refl
 kind_at first [] true e other text = bare (rw e refl) (rw e refl) refl
 kind_at first (y ∷ zs) false e other text = bare (rw e refl) (rw e refl) e
@@ -151,17 +173,20 @@ wait_of (some seen last) = positional
 abbrev unknown : Kinds
 unknown = UnknownArgument ∷ []
 
-dash_turn : (name : Text) (r : Read) (word : Text) → bytes_eq word dashes ≡ true → turn_fault (leaf name) [] (walk_at r (wait_of r) false) word ≡ []
+dash_turn : (name : Text) (r : Read) (word : Text) → bytes_eq word dashes ≡ true
+    → turn_fault (leaf name) [] (walk_at r (wait_of r) false) word ≡ []
 dash_turn name nothing word e = rw e refl
 dash_turn name (some seen last) word e = rw e refl
 
-dash_walk : (r : Read) (word : Text) → bytes_eq word dashes ≡ true → walked rules [] (walk_at r (wait_of r) false) word ≡ walk_at r (wait_of r) true
+dash_walk : (r : Read) (word : Text) → bytes_eq word dashes ≡ true → walked rules [] (walk_at r (wait_of r) false) word
+    ≡ walk_at r (wait_of r) true
 unfolding walked
 dash_walk nothing word e = rw e refl
 dash_walk (some seen last) word e = rw e refl
 
 -- a bundle of flags that the command has not
-bundle_refused : (h : Held) (f : ℕ) (fs : Text) (x : ℕ) → slice_get (chars (f ∷ fs)) 0 ≡ Some x → h.skip ≡ 0 → bundle_fault rules false (f ∷ fs) h ≡ unknown
+bundle_refused : (h : Held) (f : ℕ) (fs : Text) (x : ℕ) → slice_get (chars (f ∷ fs)) 0 ≡ Some x → h.skip ≡ 0
+    → bundle_fault rules false (f ∷ fs) h ≡ unknown
 unfolding flags_fault
 bundle_refused h f fs x e none = rw (none, e) refl
 
@@ -170,7 +195,8 @@ option_turn : (name : Text) (r : Read) (word : Text) → bytes_eq word dashes �
 option_turn name nothing word e o (long p l _) = rw (e, l) refl
 option_turn name (some seen last) word e o (long p l _) = rw (e, l) refl
 option_turn name nothing word e o (short f fs x l s c _) = rw (e, l, s, bundle_refused nothing_held f fs x c refl) refl
-option_turn name (some seen last) word e o (short f fs x l s c _) = rw (e, l, s, bundle_refused (held_at (some seen last)) f fs x c refl) refl
+option_turn name (some seen last) word e o (short f fs x l s c _) =
+    rw (e, l, s, bundle_refused (held_at (some seen last)) f fs x c refl) refl
 option_turn name r word e o (bare l s is) = absurd (true≢false (sym o ∙ is))
 
 word_turn : (name : Text) (r : Read) (word : Text) → bytes_eq word dashes ≡ false → is_option word ≡ false → WordKind word
@@ -197,7 +223,8 @@ Reads name r rest (Some words) = (walk_fault (leaf name) [] (walk_at r (wait_of 
     × ((fold (walked rules []) (walk_at r (wait_of r) false) rest).held ≡ held_at (after r words))
 
 -- after a word that stands for itself
-one_more : (name : Text) (r : Read) (word : Text) (rest : List Text) (o : Option (List Text)) → turn_fault (leaf name) [] (walk_at r (wait_of r) false) word ≡ []
+one_more : (name : Text) (r : Read) (word : Text) (rest : List Text) (o : Option (List Text))
+    → turn_fault (leaf name) [] (walk_at r (wait_of r) false) word ≡ []
     → walked rules [] (walk_at r (wait_of r) false) word ≡ walk_at (some (words_of r) word) positional false
     → Reads name (some (words_of r) word) rest o → Reads name r (word ∷ rest) (option_map (λ words. word ∷ words) o)
 unfolding walk_fault
@@ -210,32 +237,39 @@ one_more name r word rest (Some words) t s h = (
   ap (λ (w : Walk). (fold (walked rules []) w rest).held) s ∙ h.1,
 )
 
-after_dashes : (name : Text) (r : Read) (word : Text) (rest : List Text) → bytes_eq word dashes ≡ true → Reads name r (word ∷ rest) (Some rest)
+after_dashes : (name : Text) (r : Read) (word : Text) (rest : List Text) → bytes_eq word dashes ≡ true
+    → Reads name r (word ∷ rest) (Some rest)
 unfolding walk_fault
 after_dashes name r word rest e = (
-  ap (λ (k : Kinds). or_else k (walk_fault (leaf name) [] (walked rules [] (walk_at r (wait_of r) false) word) rest)) (dash_turn name r word e)
+  ap (λ (k : Kinds). or_else k (walk_fault (leaf name) [] (walked rules [] (walk_at r (wait_of r) false) word) rest))
+      (dash_turn name r word e)
       ∙ ap (λ (w : Walk). walk_fault (leaf name) [] w rest) (dash_walk r word e) ∙ trail_fault name r (wait_of r) rest,
   ap (λ (w : Walk). (fold (walked rules []) w rest).held) (dash_walk r word e) ∙ trail_walk r (wait_of r) rest,
 )
 
-an_option : (name : Text) (r : Read) (word : Text) (rest : List Text) → bytes_eq word dashes ≡ false → is_option word ≡ true → IsUtf8 word → Reads name r (word ∷ rest) None
+an_option : (name : Text) (r : Read) (word : Text) (rest : List Text) → bytes_eq word dashes ≡ false → is_option word ≡ true
+    → IsUtf8 word → Reads name r (word ∷ rest) None
 unfolding walk_fault
 an_option name r word rest e o text =
-    ap (λ (k : Kinds). or_else k (walk_fault (leaf name) [] (walked rules [] (walk_at r (wait_of r) false) word) rest)) (option_turn name r word e o (kind_of_word word e text))
+    ap (λ (k : Kinds). or_else k (walk_fault (leaf name) [] (walked rules [] (walk_at r (wait_of r) false) word) rest))
+    (option_turn name r word e o (kind_of_word word e text))
 
-by_dash : (name : Text) (r : Read) (word : Text) (rest : List Text) (b o : Bool) → bytes_eq word dashes ≡ b → is_option word ≡ o → IsUtf8 word
+by_dash : (name : Text) (r : Read) (word : Text) (rest : List Text) (b o : Bool) → bytes_eq word dashes ≡ b → is_option word ≡ o
+    → IsUtf8 word
     → Reads name (some (words_of r) word) rest (plain_words rest)
     → Reads name r (word ∷ rest) (cond b (Some rest) (cond o None (option_map (λ words. word ∷ words) (plain_words rest))))
 by_dash name r word rest true o e f text more = after_dashes name r word rest e
 by_dash name r word rest false true e f text more = an_option name r word rest e f text
-by_dash name r word rest false false e f text more = one_more name r word rest (plain_words rest) (word_turn name r word e f (kind_of_word word e text))
+by_dash name r word rest false false e f text more = one_more name r word rest (plain_words rest)
+    (word_turn name r word e f (kind_of_word word e text))
     (word_walk r word e f (kind_of_word word e text)) more
 
 leaf_reads : (name : Text) (r : Read) (rest : List Text) → AreTexts rest → Reads name r rest (plain_words rest)
 unfolding walk_fault
 leaf_reads name r [] texts = (refl, refl)
 leaf_reads name r (word ∷ rest) texts =
-    by_dash name r word rest (bytes_eq word dashes) (is_option word) refl refl texts.0 (leaf_reads name (some (words_of r) word) rest texts.1)
+    by_dash name r word rest (bytes_eq word dashes) (is_option word) refl refl texts.0
+    (leaf_reads name (some (words_of r) word) rest texts.1)
 
 abbrev end_fault : Text → Held → Kinds
 end_fault name end = or_else (settle_fault rules false end)
@@ -271,7 +305,8 @@ leaf_level name rest None h = refused_first _ _ h
 leaf_level name rest (Some words) h = (
   ap (λ (k : Kinds). or_else k (end_fault name (fold (walked rules []) (walk_at nothing idle false) rest).held)) h.0
       ∙ ap (end_fault name) h.1 ∙ end_passes name (after nothing words),
-  ap (λ (e : Held). all_of id (finished rules e)) h.1 ∙ row_words (after nothing words) ∙ ap found_words (words_after nothing words),
+  ap (λ (e : Held). all_of id (finished rules e)) h.1 ∙ row_words (after nothing words)
+      ∙ ap found_words (words_after nothing words),
 )
 
 -- ---- the command above
@@ -286,26 +321,32 @@ abbrev names : Names
 names = map label command_names
 
 -- a name among these is met, and its subcommand is found
-name_met : (word : Text) (cs : List Text) → find (answers_to word) (map label cs) ≡ cond (list_any (λ c. bytes_eq c word) cs) (Some (label word)) None
+name_met : (word : Text) (cs : List Text) → find (answers_to word) (map label cs)
+    ≡ cond (list_any (λ c. bytes_eq c word) cs) (Some (label word)) None
 name_met word [] = refl
 name_met word (c ∷ cs) = go (bytes_eq c word) refl (name_met word cs)
   where
-    go : (b : Bool) → bytes_eq c word ≡ b → find (answers_to word) (map label cs) ≡ cond (list_any (λ d. bytes_eq d word) cs) (Some (label word)) None
+    go : (b : Bool) → bytes_eq c word ≡ b → find (answers_to word) (map label cs)
+        ≡ cond (list_any (λ d. bytes_eq d word) cs) (Some (label word)) None
         → find (answers_to word) (map label (c ∷ cs)) ≡ cond (list_any (λ d. bytes_eq d word) (c ∷ cs)) (Some (label word)) None
     go true e more = rw e (ap (λ (t : Text). Some (label t)) (same_text c word (sym e)))
     go false e more = rw e more
 
-sub_met : (word : Text) (cs : List Text) → find (λ s. answers_to word (label_of s)) (map leaf cs) ≡ cond (list_any (λ c. bytes_eq c word) cs) (Some (leaf word)) None
+sub_met : (word : Text) (cs : List Text) → find (λ s. answers_to word (label_of s)) (map leaf cs)
+    ≡ cond (list_any (λ c. bytes_eq c word) cs) (Some (leaf word)) None
 sub_met word [] = refl
 sub_met word (c ∷ cs) = go (bytes_eq c word) refl (sub_met word cs)
   where
-    go : (b : Bool) → bytes_eq c word ≡ b → find (λ s. answers_to word (label_of s)) (map leaf cs) ≡ cond (list_any (λ d. bytes_eq d word) cs) (Some (leaf word)) None
-        → find (λ s. answers_to word (label_of s)) (map leaf (c ∷ cs)) ≡ cond (list_any (λ d. bytes_eq d word) (c ∷ cs)) (Some (leaf word)) None
+    go : (b : Bool) → bytes_eq c word ≡ b → find (λ s. answers_to word (label_of s)) (map leaf cs)
+        ≡ cond (list_any (λ d. bytes_eq d word) cs) (Some (leaf word)) None
+        → find (λ s. answers_to word (label_of s)) (map leaf (c ∷ cs))
+        ≡ cond (list_any (λ d. bytes_eq d word) (c ∷ cs)) (Some (leaf word)) None
     go true e more = rw e (ap (λ (t : Text). Some (leaf t)) (same_text c word (sym e)))
     go false e more = rw e more
 
 -- after the name the words are left to the subcommand
-stopped_fault : (w : Walk) (name : Text) (seen rest : List Text) → walk_fault top names (record w { stopped = Some (name, seen) }) rest ≡ []
+stopped_fault : (w : Walk) (name : Text) (seen rest : List Text)
+    → walk_fault top names (record w { stopped = Some (name, seen) }) rest ≡ []
 unfolding walked walk_fault
 stopped_fault w name seen [] = refl
 stopped_fault w name seen (x ∷ xs) = stopped_fault w name (seen ++ x ∷ []) xs
@@ -328,8 +369,10 @@ name_walk name e = rw (name_met name command_names, e) refl
 abbrev after_name : Text → List Text → Walk
 after_name name rest = record start { stopped = Some (name, rest) }
 
-name_walks : (name : Text) (rest : List Text) → is_command name ≡ true → fold (walked [] names) start (name ∷ rest) ≡ after_name name rest
-name_walks name rest e = ap (λ (w : Walk). fold (walked [] names) w rest) (name_walk name e) ∙ sym (walk_stopped [] names start name [] rest)
+name_walks : (name : Text) (rest : List Text) → is_command name ≡ true → fold (walked [] names) start (name ∷ rest)
+    ≡ after_name name rest
+name_walks name rest e = ap (λ (w : Walk). fold (walked [] names) w rest) (name_walk name e)
+    ∙ sym (walk_stopped [] names start name [] rest)
 
 name_passes : (name : Text) (rest : List Text) → is_command name ≡ true → walk_fault top names start (name ∷ rest) ≡ []
 unfolding walk_fault
@@ -350,7 +393,8 @@ entered_rows name rest e = rw (sub_met name command_names, e) refl
 -- the whole parse, by the walk over the words
 abbrev by_walk : Kinds → Walk → Kinds
 by_walk k w = or_else k (or_else (entered_fault (built gtd_app) w.stopped) (or_else (settle_fault [] false w.held)
-    (or_else (defaults_fault (settled [] w.held).rows []) (check_fault top (finished [] w.held) (is_some (entered (built gtd_app) w.stopped))))))
+    (or_else (defaults_fault (settled [] w.held).rows []) (check_fault top (finished [] w.held)
+    (is_some (entered (built gtd_app) w.stopped))))))
 
 or_else_none : (k : Kinds) → or_else k [] ≡ k
 or_else_none [] = refl
@@ -361,32 +405,40 @@ unfolding defaults_fault
 command_fault name rest e =
     ap (λ (k : Kinds). by_walk k (fold (walked [] names) start (name ∷ rest))) (name_passes name rest e)
     ∙ ap (by_walk []) (name_walks name rest e)
-    ∙ ap (λ (o : Option (Text × List Row)). or_else (entered_fault (built gtd_app) (Some (name, rest))) (check_fault top [] (is_some o))) (entered_rows name rest e)
+    ∙ ap (λ (o : Option (Text × List Row)). or_else (entered_fault (built gtd_app) (Some (name, rest)))
+    (check_fault top [] (is_some o))) (entered_rows name rest e)
     ∙ or_else_none _ ∙ entered_sub name rest e
 
-command_rows : (name : Text) (rest : List Text) → is_command name ≡ true → subcommand_of gtd_app (name ∷ rest) ≡ Some (name, rows_after rules [] rest)
+command_rows : (name : Text) (rest : List Text) → is_command name ≡ true → subcommand_of gtd_app (name ∷ rest)
+    ≡ Some (name, rows_after rules [] rest)
 command_rows name rest e =
     ap (λ (w : Walk). entered (built gtd_app) w.stopped) (name_walks name rest e) ∙ entered_rows name rest e
 
 abbrev pub ClapReads : List Text → Option (Text × List Text) → Type 0
 ClapReads words None = IsRefusedBy (fault_of gtd_app words)
-ClapReads words (Some p) = (fault_of gtd_app words ≡ []) × ((rows : List Row) × (subcommand_of gtd_app words ≡ Some (p.0, rows)) × (all_of id rows ≡ found_words p.1))
+ClapReads words (Some p) = (fault_of gtd_app words ≡ []) × ((rows : List Row) × (subcommand_of gtd_app words ≡ Some (p.0, rows))
+    × (all_of id rows ≡ found_words p.1))
 
 command_reads : (name : Text) (rest : List Text) (o : Option (List Text)) → is_command name ≡ true → LeafReads name rest o
     → ClapReads (name ∷ rest) (option_map (λ words. (name, words)) o)
 command_reads name rest None e h = subst IsRefusedBy (sym (command_fault name rest e)) h
-command_reads name rest (Some words) e h = (command_fault name rest e ∙ h.0, (rows_after rules [] rest, command_rows name rest e, h.1))
+command_reads name rest (Some words) e h = (
+  command_fault name rest e ∙ h.0,
+  (rows_after rules [] rest, command_rows name rest e, h.1),
+)
 
 -- ---- a first word that is no command
 
-top_bundle : (f : ℕ) (fs : Text) (x : ℕ) → slice_get (chars (f ∷ fs)) 0 ≡ Some x → bundle_fault [] false (f ∷ fs) nothing_held ≡ unknown
+top_bundle : (f : ℕ) (fs : Text) (x : ℕ) → slice_get (chars (f ∷ fs)) 0 ≡ Some x → bundle_fault [] false (f ∷ fs) nothing_held
+    ≡ unknown
 unfolding flags_fault
 top_bundle f fs x e = rw e refl
 
 abbrev Strays : Kinds → Type 0
 Strays k = (k ≡ unknown) ⊎ (k ≡ UnknownArgument ∷ InvalidSubcommand ∷ [])
 
-top_turn : (word : Text) → is_command word ≡ false → bytes_eq word dashes ≡ false → WordKind word → Strays (turn_fault top names start word)
+top_turn : (word : Text) → is_command word ≡ false → bytes_eq word dashes ≡ false → WordKind word
+    → Strays (turn_fault top names start word)
 top_turn word e d (long p l _) = inl (rw (name_met word command_names, e, d, l) refl)
 top_turn word e d (short f fs x l s c _) = inl (rw (name_met word command_names, e, d, l, s, top_bundle f fs x c) refl)
 top_turn word e d (bare l s _) = inr (rw (name_met word command_names, e, d, l, s) refl)
@@ -395,12 +447,14 @@ strays : (a b c : Kinds) → Strays a → IsRefusedBy (or_else (or_else a b) c)
 strays a b c (inl h) = rw h tt
 strays a b c (inr h) = rw h tt
 
-top_dash : (word : Text) (rest : List Text) → is_command word ≡ false → bytes_eq word dashes ≡ true → IsRefusedBy (fault_of gtd_app (word ∷ rest))
+top_dash : (word : Text) (rest : List Text) → is_command word ≡ false → bytes_eq word dashes ≡ true
+    → IsRefusedBy (fault_of gtd_app (word ∷ rest))
 unfolding walk_fault walked defaults_fault
 top_dash word [] e d = rw (name_met word command_names, e, d) tt
 top_dash word (x ∷ xs) e d = rw (name_met word command_names, e, d) tt
 
-no_command : (word : Text) (rest : List Text) (d : Bool) → is_command word ≡ false → bytes_eq word dashes ≡ d → IsUtf8 word → IsRefusedBy (fault_of gtd_app (word ∷ rest))
+no_command : (word : Text) (rest : List Text) (d : Bool) → is_command word ≡ false → bytes_eq word dashes ≡ d → IsUtf8 word
+    → IsRefusedBy (fault_of gtd_app (word ∷ rest))
 unfolding walk_fault
 no_command word rest true e d text = top_dash word rest e d
 no_command word rest false e d text = strays _ _ _ (top_turn word e d (kind_of_word word d text))

@@ -4,9 +4,9 @@ use Rattle.std.specs.Prelude.{IfSome, Result, Ok, Err}
 use Rattle.std.specs.Io.KnownBytes.{Appends, Keeps}
 use Rattle.std.proofs.KnownBytes.{Appends-kept, Appends-nil}
 use Rattle.gtd_roads.specs.Restriction.{Restriction}
-use Rattle.gtd_runs.specs.Run.{HasRun, PutsTextOf, TookFirstOf}
-use Rattle.gtd_runs.specs.declared.fault.RunFault.{RunFault}
-use Rattle.gtd_runs.specs.declared.fault.RunFault.TheVariants as run
+use Rattle.gtd_roads.specs.Run.{HasRun, PutsTextOf, TookFirstOf}
+use Rattle.gtd_roads.specs.RunFault.{RunFault}
+use Rattle.gtd_roads.specs.RunFault.TheVariants as run
 use Rattle.gtd_tool.specs.Lending.{marked}
 
 -- all that one took, the other took
@@ -35,7 +35,8 @@ same_mark n m x y bytes e = (sym (ap front e), ap back e)
     back [] = []
     back (z ∷ zs) = zs
 
-marked_passes : {X : Type 0} (contents : X → Option (List ℕ)) (n m : ℕ) (a b : Option (List ℕ)) (v w : X) (bytes : List ℕ) → contents w ≡ b
+marked_passes : {X : Type 0} (contents : X → Option (List ℕ)) (n m : ℕ) (a b : Option (List ℕ)) (v w : X) (bytes : List ℕ)
+    → contents w ≡ b
     → (n ≡ m → v ≡ w) → Appends (marked n a) (marked m b) bytes → Appends a (contents v) bytes
 marked_passes contents n m None b v w bytes is same h = tt
 marked_passes contents n m (Some x) None v w bytes is same h = absurd h
@@ -46,7 +47,8 @@ marked_passes contents n m (Some x) (Some y) v w bytes is same h =
 
 -- Where the device began with the writer's bytes after the loan's name, and ends with those of a writer that is the lender's
 -- if the name is the same, the lender's bytes grew by all that the device took.
-pub loan_passes : {X : Type 0} (contents : X → Option (List ℕ)) (n m : ℕ) (began : Option (List ℕ)) (old v w : X) → began ≡ marked n (contents old)
+pub loan_passes : {X : Type 0} (contents : X → Option (List ℕ)) (n m : ℕ) (began : Option (List ℕ)) (old v w : X) → began
+    ≡ marked n (contents old)
     → (n ≡ m → v ≡ w) → Passes began (marked m (contents w)) (contents old) (contents v)
 loan_passes contents n m began old v w is same bytes h =
     marked_passes contents n m (contents old) (contents w) v w bytes refl same (rw is at h)
@@ -57,8 +59,10 @@ pub if_some : {A : Type 0} (o : Option A) (P Q : A → Type 0) → ((x : A) → 
 if_some None P Q f h = tt
 if_some (Some x) P Q f h = f x h
 
-module _ (IsAccepted : List Restriction → Type 0) (IsText : List Restriction → List (List ℕ) → Type 0) (a b c d : Option (List ℕ)) (pass : Passes a b c d) where
-  whole : (bytes : List ℕ) (answer : Result ℕ RunFault) → PutsTextOf IsAccepted IsText bytes a b answer → PutsTextOf IsAccepted IsText bytes c d answer
+module _ (IsAccepted : List Restriction → Type 0) (IsText : List Restriction → List (List ℕ) → Type 0) (a b c d : Option (List ℕ))
+    (pass : Passes a b c d) where
+  whole : (bytes : List ℕ) (answer : Result ℕ RunFault) → PutsTextOf IsAccepted IsText bytes a b answer
+      → PutsTextOf IsAccepted IsText bytes c d answer
   whole bytes answer h = record {
     found = h.found;
     file = h.file;
@@ -75,7 +79,8 @@ module _ (IsAccepted : List Restriction → Type 0) (IsText : List Restriction �
   }
 
   -- what a run did, it did to the writer
-  pub passed_run : (answer : Result ℕ RunFault) (file : Option (List ℕ)) → HasRun IsAccepted IsText file a b answer → HasRun IsAccepted IsText file c d answer
+  pub passed_run : (answer : Result ℕ RunFault) (file : Option (List ℕ)) → HasRun IsAccepted IsText file a b answer
+      → HasRun IsAccepted IsText file c d answer
   passed_run (Ok count) file h = if_some file _ _ (λ bytes x. whole bytes (Ok count) x) h
   passed_run (Err run.VehicleRange) file h = passes_kept a b c d pass h
   passed_run (Err run.YearRange) file h = passes_kept a b c d pass h

@@ -7,7 +7,8 @@ use Rattle.gtd_calendar.specs.Read.{date_in}
 use Rattle.gtd_tool.specs.CommandLines.{Text}
 use Rattle.gtd_tool.specs.CommandLines as command
 use Rattle.gtd_tool.specs.Plans.{Asked, AsksFor, AreDomainAndMoment, asked_by}
-use Rattle.gtd_tool.specs.Refusals.{Part, DomainPart, MomentPart, DatePart, HorizonPart, parts_of, AreNoHorizon, IsNoHorizon, IsNoWant, IsFaultless, IsRefusalOf, IsStopped, IsStoppedLine}
+use Rattle.gtd_tool.specs.Refusals.{Part, DomainPart, MomentPart, DatePart, HorizonPart, parts_of, AreNoHorizon, IsNoHorizon}
+use Rattle.gtd_tool.specs.Refusals.{IsNoWant, IsFaultless, IsRefusalOf, IsStopped, IsStoppedLine}
 use Rattle.gtd_tool.specs.declared.plans.Plan.{Plan}
 use Rattle.gtd_tool.specs.declared.refusal.Refusal.{Refusal}
 use Rattle.gtd_tool.specs.declared.refusal.Refusal.TheVariants as refusal
@@ -35,7 +36,8 @@ is_text r = false
 horizon_no_want : (from to : ℤ) (r : Refusal) → AreNoHorizon from to r → IsNoWant r
 horizon_no_want from to r h fault e = absurd (true≢false (ap is_text (sym e ∙ h.2)))
 
-pub stopped_horizon : (first second third : Text) (x : Tree) (m : Sec) (to : ℤ) (r : Refusal) → AreDomainAndMoment first second x m
+pub stopped_horizon : (first second third : Text) (x : Tree) (m : Sec) (to : ℤ) (r : Refusal)
+    → AreDomainAndMoment first second x m
     → date_in third ≡ Ok to → IsNoHorizon m to r → IsStopped (parts_of (command.Next first second third)) r
 stopped_horizon first second third x m to r p d h =
     after_moment first second x m (DatePart third ∷ HorizonPart second third ∷ []) r p

@@ -1,24 +1,28 @@
 -- What a command that reads a record file did, from what its run did.
-use Rattle.std.proofs.Common.{◌≡◌, ◌∙◌, inl, inr, ℕ, List, [], Bool, Option, Some, None, refl, sym, ap, subst, take, drop, take-append-drop}
+use Rattle.std.proofs.Common.{◌≡◌, ◌∙◌, inl, inr, ℕ, List, [], Bool, Option, Some, None, refl, sym, ap, subst, take, drop}
+use Rattle.std.proofs.Common.{take-append-drop}
 use Rattle.std.specs.Prelude.{◌≢◌, ⊤, IfSome, IfErr, IsOk, MatchOption, OnErr, Result, Ok, Err}
 use Rattle.std.specs.Io.KnownBytes.{Keeps}
 use Rattle.std.proofs.KnownBytes.{Appends-kept, Appends-nil}
-use Rattle.gtd_roads.proofs.OneAnswer.{one_file}
+use Rattle.gtd_roads.specs.facts.OneAnswer.{one_file}
 use Rattle.gtd_roads.specs.File.{IsFile}
 use Rattle.gtd_roads.specs.Reading.{IsOfFile}
 use Rattle.gtd_roads.specs.Restriction.{Restriction}
-use Rattle.gtd_roads.specs.declared.fault.RecordFault.{RecordFault}
-use Rattle.gtd_roads.specs.declared.fault.RecordFault.TheVariants as records
-use Rattle.gtd_runs.proofs.RunFacts.{accepted_are_put, refused_put_nothing}
-use Rattle.gtd_runs.specs.Putting.{text_of}
-use Rattle.gtd_runs.specs.Run.{HasRun, TookFirst, IsUnhindered as IsRunUnhindered, failures_after_read}
-use Rattle.gtd_runs.specs.declared.fault.RunFault.{RunFault}
-use Rattle.gtd_runs.specs.declared.fault.RunFault.TheVariants as run
-use Rattle.gtd_runs.specs.declared.subject.Subject.{Subject}
-use Rattle.gtd_runs.specs.Subjects.{IsAccepted as IsAcceptedFor}
+use Rattle.gtd_roads.specs.RecordFault.{RecordFault}
+use Rattle.gtd_roads.specs.RecordFault.TheVariants as records
+use Rattle.gtd_roads.specs.facts.RunFacts.{accepted_are_put, refused_put_nothing}
+use Rattle.gtd_roads.specs.Putting.{text_of}
+use Rattle.gtd_roads.specs.Run.{HasRun, TookFirst, IsUnhindered as IsRunUnhindered, failures_after_read}
+use Rattle.gtd_roads.specs.RunFault.{RunFault}
+use Rattle.gtd_roads.specs.RunFault.TheVariants as run
+use Rattle.gtd_roads.specs.Subject.{Subject}
+use Rattle.gtd_roads.specs.Subjects.{IsAccepted as IsAcceptedFor}
+use Rattle.gtd_roads.specs.facts.OneAnswer.{one_file}
+use Rattle.gtd_roads.specs.facts.RunFacts.{accepted_are_put, refused_put_nothing}
 use Rattle.gtd_tool.specs.Plans.{Asked}
-use Rattle.gtd_tool.specs.Running.{AppendsTextOf, IsAccepted, IsLacking, IsPartOfText, IsRefusedFile, IsText, IsUnhindered, IsVehicleInRange, IsYearInRange, Ran, failures_after, outcome_of, refusal_for}
-use Rattle.gtd_tool.specs.Stops.{IsStop}
+use Rattle.gtd_tool.specs.Running.{AppendsTextOf, IsAccepted, IsLacking, IsPartOfText, IsRefusedFile, IsText, IsUnhindered}
+use Rattle.gtd_tool.specs.Running.{IsVehicleInRange, IsYearInRange, Ran, failures_after, outcome_of, refusal_for}
+use Rattle.gtd_tool.specs.CutShort.{IsCutShort}
 use Rattle.gtd_tool.specs.Writing.{AppendsPart}
 use Rattle.gtd_tool.specs.declared.refusal.Refusal.{Refusal}
 use Rattle.gtd_tool.specs.declared.refusal.Refusal.TheVariants as refusal
@@ -37,7 +41,8 @@ if_none None P never = absurd (never tt)
 if_none (Some x) P never = tt
 
 -- restrictions that a report refuses are refused for its element
-pub of_element : (subject : Subject) → (found : List Restriction) × (IsAcceptedFor subject found → ⊥) → MatchOption subject.element ⊥ (λ element. ⊤)
+pub of_element : (subject : Subject) → (found : List Restriction) × (IsAcceptedFor subject found → ⊥)
+    → MatchOption subject.element ⊥ (λ element. ⊤)
 of_element subject refused = if_none subject.element _ refused.1
 
 -- ---- one answer of a file
@@ -78,9 +83,11 @@ module _ (asked : Asked) (file old new : Option (List ℕ)) where
   part_at (Err (run.Records why)) h = kept_text h.0
   part_at (Err run.NoElement) h = kept_text h.0
   part_at (Err (run.WriteFault n)) h = if_some file _ _ (λ bytes took found is lines text.
-      first_part old new n (text_of lines) (took.first lines (subst (λ (f : List Restriction). IsText asked f lines) (same_found bytes found took.found is took.file) text))) h
+      first_part old new n (text_of lines) (took.first lines
+      (subst (λ (f : List Restriction). IsText asked f lines) (same_found bytes found took.found is took.file) text))) h
   part_at (Err (run.NoMemory n)) h = if_some file _ _ (λ bytes took found is lines text.
-      first_part old new n (text_of lines) (took.first lines (subst (λ (f : List Restriction). IsText asked f lines) (same_found bytes found took.found is took.file) text))) h
+      first_part old new n (text_of lines) (took.first lines
+      (subst (λ (f : List Restriction). IsText asked f lines) (same_found bytes found took.found is took.file) text))) h
 
 -- ---- nothing in the way
 
@@ -144,15 +151,20 @@ read_failures (Err (run.Records records.TooManyRows)) n = refl
 
 -- ---- the claims
 
-module _ (asked : Asked) (file old new : Option (List ℕ)) (silent : Bool) (before after : ℕ) (result : Result (Unit {0}) Refusal) where
-  pub ran_part : Ran asked file old new silent before after result → OnErr result (IfSome file (λ bytes. IsPartOfText asked bytes old new))
-  ran_part ran = subst (λ (r : Result (Unit {0}) Refusal). OnErr r (IfSome file (λ bytes. IsPartOfText asked bytes old new))) (sym ran.outcome)
+module _ (asked : Asked) (file old new : Option (List ℕ)) (silent : Bool) (before after : ℕ)
+    (result : Result (Unit {0}) Refusal) where
+  pub ran_part : Ran asked file old new silent before after result
+      → OnErr result (IfSome file (λ bytes. IsPartOfText asked bytes old new))
+  ran_part ran = subst (λ (r : Result (Unit {0}) Refusal). OnErr r (IfSome file (λ bytes. IsPartOfText asked bytes old new)))
+      (sym ran.outcome)
       (part_at asked file old new ran.answer ran.stands)
 
   pub ran_failures : Ran asked file old new silent before after result → after ≡ failures_after result before
-  ran_failures ran = ran.failures ∙ read_failures ran.answer before ∙ ap (λ (r : Result (Unit {0}) Refusal). failures_after r before) (sym ran.outcome)
+  ran_failures ran = ran.failures ∙ read_failures ran.answer before
+      ∙ ap (λ (r : Result (Unit {0}) Refusal). failures_after r before) (sym ran.outcome)
 
-  vehicle_fits : (ran : Ran asked file old new silent before after result) → IsVehicleInRange asked → ran.answer ≢ Err run.VehicleRange
+  vehicle_fits : (ran : Ran asked file old new silent before after result) → IsVehicleInRange asked
+      → ran.answer ≢ Err run.VehicleRange
   vehicle_fits ran fits e = ran.vehicle.0 e fits
 
   year_fits : (ran : Ran asked file old new silent before after result) → IsYearInRange asked → ran.answer ≢ Err run.YearRange
@@ -161,24 +173,31 @@ module _ (asked : Asked) (file old new : Option (List ℕ)) (silent : Bool) (bef
   free : (ran : Ran asked file old new silent before after result) → IsUnhindered result → IsRunUnhindered ran.answer
   free ran h = unhindered_run ran.answer (subst IsUnhindered ran.outcome h)
 
-  pub ran_accepted : Ran asked file old new silent before after result → IsVehicleInRange asked → IsYearInRange asked → IsUnhindered result
-      → IfSome file (λ bytes. (found : List Restriction) → IsFile bytes (Ok found) → IsAccepted asked found → IsOk result × AppendsTextOf asked found old new)
+  pub ran_accepted : Ran asked file old new silent before after result → IsVehicleInRange asked → IsYearInRange asked
+      → IsUnhindered result
+      → IfSome file (λ bytes. (found : List Restriction) → IsFile bytes (Ok found) → IsAccepted asked found → IsOk result
+      × AppendsTextOf asked found old new)
   ran_accepted ran vehicle year h = if_some file _ _ (λ bytes put found is accepted.
       let whole = put found is accepted in
       let done : result ≡ Ok tt = ran.outcome ∙ ap outcome_of whole.count in
       (rw done refl, record { lines = whole.lines; is_text = whole.is_text; grown = whole.taken }))
-      (accepted_are_put (IsAccepted asked) (IsText asked) ran.answer file old new (vehicle_fits ran vehicle) (year_fits ran year) ran.stands (free ran h))
+      (accepted_are_put (IsAccepted asked) (IsText asked) ran.answer file old new (vehicle_fits ran vehicle)
+      (year_fits ran year) ran.stands (free ran h))
 
-  pub ran_refused : Ran asked file old new silent before after result → IsVehicleInRange asked → IsYearInRange asked → IsUnhindered result
+  pub ran_refused : Ran asked file old new silent before after result → IsVehicleInRange asked → IsYearInRange asked
+      → IsUnhindered result
       → IfSome file (λ bytes. (why : RecordFault) → IsFile bytes (Err why) → result ≡ Err (refusal.Records why))
   ran_refused ran vehicle year h = if_some file _ _ (λ bytes put why is.
       let answer = (put why is).0 in
       let of_file : IsOfFile why = subst IsRunUnhindered answer (free ran h) in
       ran.outcome ∙ ap outcome_of answer ∙ ap (λ (r : Refusal). Err r) (refusal_of_file why of_file))
-      (refused_put_nothing (IsAccepted asked) (IsText asked) ran.answer file old new (vehicle_fits ran vehicle) (year_fits ran year) ran.stands (free ran h))
+      (refused_put_nothing (IsAccepted asked) (IsText asked) ran.answer file old new (vehicle_fits ran vehicle)
+      (year_fits ran year) ran.stands (free ran h))
 
-  lacking_at : (answer : Result ℕ RunFault) (bytes : List ℕ) → answer ≢ Err run.VehicleRange → answer ≢ Err run.YearRange → IsRunUnhindered answer
-      → HasRun (IsAccepted asked) (IsText asked) (Some bytes) old new answer → IsLacking asked bytes → outcome_of answer ≡ Err refusal.NoElement
+  lacking_at : (answer : Result ℕ RunFault) (bytes : List ℕ) → answer ≢ Err run.VehicleRange → answer ≢ Err run.YearRange
+      → IsRunUnhindered answer
+      → HasRun (IsAccepted asked) (IsText asked) (Some bytes) old new answer → IsLacking asked bytes → outcome_of answer
+      ≡ Err refusal.NoElement
   lacking_at (Ok count) bytes v y h so lack =
       absurd (lack.2 (subst (IsAccepted asked) (same_found bytes so.found lack.0 so.file lack.1) so.accepted))
   lacking_at (Err run.VehicleRange) bytes v y h so lack = absurd (v refl)
@@ -188,20 +207,24 @@ module _ (asked : Asked) (file old new : Option (List ℕ)) (silent : Bool) (bef
   lacking_at (Err (run.WriteFault n)) bytes v y h so lack = absurd h
   lacking_at (Err (run.NoMemory n)) bytes v y h so lack = absurd h
 
-pub ran_lacking : (asked : Asked) (file old new : Option (List ℕ)) (silent : Bool) (before after : ℕ) (result : Result (Unit {0}) Refusal)
+pub ran_lacking : (asked : Asked) (file old new : Option (List ℕ)) (silent : Bool) (before after : ℕ)
+    (result : Result (Unit {0}) Refusal)
     → Ran asked file old new silent before after result → IsVehicleInRange asked → IsYearInRange asked → IsUnhindered result
     → IfSome file (λ bytes. IsLacking asked bytes → result ≡ Err refusal.NoElement)
 ran_lacking asked None old new silent before after result ran vehicle year h = tt
 ran_lacking asked (Some bytes) old new silent before after result ran vehicle year h = λ lack.
-    ran.outcome ∙ lacking_at asked (Some bytes) old new silent before after result ran.answer bytes (vehicle_fits asked (Some bytes) old new silent before after result ran vehicle)
-    (year_fits asked (Some bytes) old new silent before after result ran year) (free asked (Some bytes) old new silent before after result ran h) ran.stands lack
+    ran.outcome ∙ lacking_at asked (Some bytes) old new silent before after result ran.answer bytes
+    (vehicle_fits asked (Some bytes) old new silent before after result ran vehicle)
+    (year_fits asked (Some bytes) old new silent before after result ran year)
+    (free asked (Some bytes) old new silent before after result ran h) ran.stands lack
 
 module _ (asked : Asked) (old new : Option (List ℕ)) (bytes : List ℕ) where
   no_text : (found : List Restriction) → IsFile bytes (Ok found) → IsAccepted asked found → IsRefusedFile asked bytes → ⊥
   no_text found is accepted (inl (why, not)) = apart bytes found why is not
   no_text found is accepted (inr lack) = lack.2 (subst (IsAccepted asked) (same_found bytes found lack.0 is lack.1) accepted)
 
-  refused_keeps : (answer : Result ℕ RunFault) → HasRun (IsAccepted asked) (IsText asked) (Some bytes) old new answer → IsRefusedFile asked bytes → Keeps old new
+  refused_keeps : (answer : Result ℕ RunFault) → HasRun (IsAccepted asked) (IsText asked) (Some bytes) old new answer
+      → IsRefusedFile asked bytes → Keeps old new
   refused_keeps (Ok count) so h = absurd (no_text so.found so.file so.accepted h)
   refused_keeps (Err run.VehicleRange) so h = so
   refused_keeps (Err run.YearRange) so h = so
@@ -210,7 +233,8 @@ module _ (asked : Asked) (old new : Option (List ℕ)) (bytes : List ℕ) where
   refused_keeps (Err (run.WriteFault n)) so h = absurd (no_text so.found so.file so.accepted h)
   refused_keeps (Err (run.NoMemory n)) so h = absurd (no_text so.found so.file so.accepted h)
 
-pub ran_nothing : (asked : Asked) (file old new : Option (List ℕ)) (silent : Bool) (before after : ℕ) (result : Result (Unit {0}) Refusal)
+pub ran_nothing : (asked : Asked) (file old new : Option (List ℕ)) (silent : Bool) (before after : ℕ)
+    (result : Result (Unit {0}) Refusal)
     → Ran asked file old new silent before after result → IfSome file (λ bytes. IsRefusedFile asked bytes → Keeps old new)
 ran_nothing asked None old new silent before after result ran = tt
 ran_nothing asked (Some bytes) old new silent before after result ran = refused_keeps asked old new bytes ran.answer ran.stands
@@ -232,7 +256,8 @@ alone None P Q f h = f h
 alone (Some path) P Q f h = tt
 
 -- what reads no file, and is stopped, saw no failure of the input
-no_failure : (asked : Asked) (old new : Option (List ℕ)) (unwritten : Type 0) (r : Result (Unit {0}) Refusal) (n : ℕ) → IfErr r (IsStop asked old new unwritten)
+no_failure : (asked : Asked) (old new : Option (List ℕ)) (unwritten : Type 0) (r : Result (Unit {0}) Refusal) (n : ℕ)
+    → IfErr r (IsCutShort asked old new unwritten)
     → n ≡ failures_after r n
 no_failure asked old new unwritten (Ok x) n h = refl
 no_failure asked old new unwritten (Err refusal.Write) n h = refl
@@ -249,13 +274,17 @@ no_failure asked old new unwritten (Err refusal.NoElement) n h = refl
 no_failure asked old new unwritten (Err (refusal.Records f)) n h = absurd h
 no_failure asked old new unwritten (Err refusal.Open) n h = refl
 
-pub input_failures : {X : Type 0} (count : X → ℕ) (o : Option (List ℕ)) (asked : Asked) (old new : Option (List ℕ)) (unwritten : Type 0)
-    (r : Result (Unit {0}) Refusal) (x y : X) (P : Type 0) → MatchOption o (y ≡ x) (λ path. ⊤) → MatchOption o (IfErr r (IsStop asked old new unwritten)) (λ path. ⊤)
+pub input_failures : {X : Type 0} (count : X → ℕ) (o : Option (List ℕ)) (asked : Asked) (old new : Option (List ℕ))
+    (unwritten : Type 0)
+    (r : Result (Unit {0}) Refusal) (x y : X) (P : Type 0) → MatchOption o (y ≡ x) (λ path. ⊤)
+    → MatchOption o (IfErr r (IsCutShort asked old new unwritten)) (λ path. ⊤)
     → (P → count y ≡ failures_after r (count x)) → MatchOption o ⊤ (λ path. P) → count y ≡ failures_after r (count x)
-input_failures count None asked old new unwritten r x y P same stop f h = ap count same ∙ no_failure asked old new unwritten r (count x) stop
+input_failures count None asked old new unwritten r x y P same stop f h =
+    ap count same ∙ no_failure asked old new unwritten r (count x) stop
 input_failures count (Some path) asked old new unwritten r x y P same stop f h = f h
 
-pub on_err_either : {E : Type 0} (o : Option (List ℕ)) (r : Result (Unit {0}) E) (A B P : Type 0) → MatchOption o (OnErr r A) (λ path. ⊤) → (P → OnErr r B)
+pub on_err_either : {E : Type 0} (o : Option (List ℕ)) (r : Result (Unit {0}) E) (A B P : Type 0)
+    → MatchOption o (OnErr r A) (λ path. ⊤) → (P → OnErr r B)
     → MatchOption o ⊤ (λ path. P) → OnErr r (MatchOption o A (λ path. B))
 on_err_either None r A B P alone f h = alone
 on_err_either (Some path) r A B P alone f h = f h

@@ -1,5 +1,6 @@
 -- How the bytes that a writer took grow.
-use Rattle.std.proofs.Common.{◌≡◌, ◌∙◌, ℕ, true, List, [], ◌++◌, Option, refl, sym, ap, subst, append_assoc, append-nil, length, take, drop, take-append-drop, eqb-true, get_or, ◌<◌, suc}
+use Rattle.std.proofs.Common.{◌≡◌, ◌∙◌, ℕ, true, List, [], ◌++◌, Option, refl, sym, ap, subst, append_assoc, append-nil, length}
+use Rattle.std.proofs.Common.{take, drop, take-append-drop, eqb-true, get_or, ◌<◌, suc}
 use Rattle.std.proofs.lemmas.List.{nil_from_length}
 use Rattle.std.specs.Prelude.{◌==◌}
 use Rattle.std.specs.Io.KnownBytes.{Appends, Keeps}
@@ -16,16 +17,25 @@ pub takes_more : (a b c : Option (List ℕ)) (bytes rest : List ℕ) (n : ℕ) �
     → TakesBefore a c bytes (drop n rest)
 takes_more a b c bytes rest n so more = record {
   part = so.part ++ take n rest;
-  before = so.before ∙ ap (λ (r : List ℕ). so.part ++ r) (sym (take-append-drop n rest)) ∙ sym (append_assoc so.part (take n rest) (drop n rest));
+  before = so.before ∙ ap (λ (r : List ℕ). so.part ++ r) (sym (take-append-drop n rest))
+      ∙ sym (append_assoc so.part (take n rest) (drop n rest));
   taken = Appends-trans a b c so.part (take n rest) so.taken more;
 }
 
-pub takes_kept : (a b c : Option (List ℕ)) (bytes rest : List ℕ) → TakesBefore a b bytes rest → Keeps b c → TakesBefore a c bytes rest
-takes_kept a b c bytes rest so kept = record { part = so.part; before = so.before; taken = Appends-kept a b c so.part so.taken kept }
+pub takes_kept : (a b c : Option (List ℕ)) (bytes rest : List ℕ) → TakesBefore a b bytes rest → Keeps b c
+    → TakesBefore a c bytes rest
+takes_kept a b c bytes rest so kept = record {
+  part = so.part;
+  before = so.before;
+  taken =
+      Appends-kept a b c so.part so.taken kept;
+}
 
-pub takes_all : (a b : Option (List ℕ)) (bytes rest : List ℕ) → TakesBefore a b bytes rest → (length rest == 0) ≡ true → Appends a b bytes
+pub takes_all : (a b : Option (List ℕ)) (bytes rest : List ℕ) → TakesBefore a b bytes rest → (length rest == 0) ≡ true
+    → Appends a b bytes
 takes_all a b bytes rest so none =
-    let all : bytes ≡ so.part = so.before ∙ ap (λ (r : List ℕ). so.part ++ r) (nil_from_length rest (eqb-true _ _ none)) ∙ append-nil so.part in
+    let all : bytes ≡ so.part = so.before ∙ ap (λ (r : List ℕ). so.part ++ r) (nil_from_length rest (eqb-true _ _ none))
+    ∙ append-nil so.part in
     subst (Appends a b) (sym all) so.taken
 
 pub part_of : (a b : Option (List ℕ)) (bytes rest : List ℕ) → TakesBefore a b bytes rest → AppendsPart a b bytes
@@ -36,12 +46,14 @@ pub part_none : (a : Option (List ℕ)) (bytes : List ℕ) → AppendsPart a a b
 part_none a bytes = part_of a a bytes bytes (takes_none a bytes)
 
 -- a first part of the next bytes
-pub part_more : (a b c : Option (List ℕ)) (front bytes back : List ℕ) → Appends a b front → AppendsPart b c bytes → AppendsPart a c (front ++ (bytes ++ back))
+pub part_more : (a b c : Option (List ℕ)) (front bytes back : List ℕ) → Appends a b front → AppendsPart b c bytes
+    → AppendsPart a c (front ++ (bytes ++ back))
 part_more a b c front bytes back before next = record {
   rest = next.rest ++ back;
   takes = record {
     part = front ++ next.takes.part;
-    before = ap (λ (x : List ℕ). front ++ (x ++ back)) next.takes.before ∙ ap (λ (x : List ℕ). front ++ x) (append_assoc next.takes.part next.rest back)
+    before = ap (λ (x : List ℕ). front ++ (x ++ back)) next.takes.before
+        ∙ ap (λ (x : List ℕ). front ++ x) (append_assoc next.takes.part next.rest back)
         ∙ sym (append_assoc front next.takes.part (next.rest ++ back));
     taken = Appends-trans a b c front next.takes.part before next.takes.taken;
   };
@@ -66,7 +78,8 @@ part_front a b bytes back next = record {
 }
 
 -- a first part of the bytes that come last
-pub part_then : (a b c : Option (List ℕ)) (front bytes : List ℕ) → Appends a b front → AppendsPart b c bytes → AppendsPart a c (front ++ bytes)
+pub part_then : (a b c : Option (List ℕ)) (front bytes : List ℕ) → Appends a b front → AppendsPart b c bytes
+    → AppendsPart a c (front ++ bytes)
 part_then a b c front bytes before next = record {
   rest = next.rest;
   takes = record {

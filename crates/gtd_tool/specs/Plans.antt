@@ -10,7 +10,7 @@ use Rattle.gtd_text.specs.Reading.{StandsFor, HasNoFault}
 use Rattle.gtd_core.specs.Days.{day_of_second}
 use Rattle.gtd_calendar.specs.Read.{date_in, stamp_in}
 use Rattle.gtd_roads.specs.Columns.{direction_of, number_of}
-use Rattle.gtd_roads.specs.declared.direction.Direction.{Direction}
+use Rattle.gtd_roads.specs.Direction.{Direction}
 use Rattle.gtd_tool.specs.CommandLines.{Text, Command, command_in}
 use Rattle.gtd_tool.specs.CommandLines as command
 use Rattle.gtd_tool.specs.declared.plans.Plan.{Plan}

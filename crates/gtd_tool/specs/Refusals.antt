@@ -1,7 +1,7 @@
 -- Why a command line is refused, the status of each refusal and its line.
 use Rattle.std.specs.Prelude.{◌≡◌, ◌≢◌, ◌⊎◌, ◌++◌, ℕ, ℤ, List, [], ◌∷◌, Some, None, Ok, Err, codes, decimal}
 use Rattle.gtd_core.specs.Names.{fault_name, horizon_fault_name}
-use Rattle.gtd_core.specs.Horizons.{IsFault as IsFaultOfHorizon}
+use Rattle.gtd_core.specs.Horizons.{IsHorizonFault}
 use Rattle.gtd_core.specs.declared.fault.Fault.TheVariants.{NoMemory}
 use Rattle.gtd_core.specs.declared.fault.TextFault.{TextFault}
 use Rattle.gtd_core.specs.declared.horizon.HorizonFault.{HorizonFault}
@@ -12,9 +12,9 @@ use Rattle.gtd_calendar.specs.Names.{stamp_fault_name}
 use Rattle.gtd_calendar.specs.Read.{date_in, stamp_in}
 use Rattle.gtd_calendar.specs.declared.stamp.StampFault.{StampFault}
 use Rattle.gtd_roads.specs.Columns.{direction_of, number_of}
-use Rattle.gtd_roads.specs.Names.{record_fault_name}
-use Rattle.gtd_roads.specs.declared.fault.RecordFault.{RecordFault}
-use Rattle.gtd_roads.specs.declared.fault.RecordFault.TheVariants as records
+use Rattle.gtd_roads.specs.RecordFaultNames.{record_fault_name}
+use Rattle.gtd_roads.specs.RecordFault.{RecordFault}
+use Rattle.gtd_roads.specs.RecordFault.TheVariants as records
 use Rattle.gtd_tool.specs.CommandLines.{Text, Command, command_in, Check, Canon, At, Next, Ever, Schedule, Year, Migrate}
 use Rattle.gtd_tool.specs.declared.refusal.Refusal.{Refusal}
 use Rattle.gtd_tool.specs.declared.refusal.Refusal.TheVariants as refusal
@@ -46,7 +46,7 @@ parts_of (Migrate file) = []
 
 -- The days from one up to another are no horizon, and this is why.
 abbrev pub AreNoHorizon : ℤ → ℤ → Refusal → Type 0
-AreNoHorizon from to r = (fault : HorizonFault) × IsFaultOfHorizon fault from to × (r ≡ refusal.Horizon fault)
+AreNoHorizon from to r = (fault : HorizonFault) × IsHorizonFault fault from to × (r ≡ refusal.Horizon fault)
 
 -- The days from that of the moment up to this one are no horizon, and this is why.
 abbrev pub IsNoHorizon : Sec → ℤ → Refusal → Type 0

@@ -5,18 +5,18 @@ use Rattle.std.specs.Io.KnownBytes.{Appends}
 use Rattle.gtd_roads.specs.File.{IsFile}
 use Rattle.gtd_roads.specs.Reading.{IsOfFile}
 use Rattle.gtd_roads.specs.Restriction.{Restriction}
-use Rattle.gtd_roads.specs.declared.fault.RecordFault.{RecordFault}
-use Rattle.gtd_roads.specs.declared.fault.RecordFault.TheVariants as records
-use Rattle.gtd_runs.specs.Putting.{text_of}
-use Rattle.gtd_runs.specs.Run.{HasRun}
-use Rattle.gtd_runs.specs.Run.{failures_after_read}
-use Rattle.gtd_runs.specs.declared.fault.RunFault.{RunFault}
-use Rattle.gtd_runs.specs.declared.fault.RunFault.TheVariants as run
-use Rattle.gtd_runs.specs.declared.subject.Subject.{Subject}
-use Rattle.gtd_runs.specs.Subjects as subjects
-use Rattle.gtd_schedule.specs.Schedule.{IsSchedule}
-use Rattle.gtd_year.specs.Table.{IsYearTable}
-use Rattle.gtd_migrate.specs.Migrated.{migrated}
+use Rattle.gtd_roads.specs.RecordFault.{RecordFault}
+use Rattle.gtd_roads.specs.RecordFault.TheVariants as records
+use Rattle.gtd_roads.specs.Putting.{text_of}
+use Rattle.gtd_roads.specs.Run.{HasRun}
+use Rattle.gtd_roads.specs.Run.{failures_after_read}
+use Rattle.gtd_roads.specs.RunFault.{RunFault}
+use Rattle.gtd_roads.specs.RunFault.TheVariants as run
+use Rattle.gtd_roads.specs.Subject.{Subject}
+use Rattle.gtd_roads.specs.Subjects as subjects
+use Rattle.gtd_roads.specs.Schedule.{IsSchedule}
+use Rattle.gtd_roads.specs.YearTable.{IsYearTable}
+use Rattle.gtd_roads.specs.Migrated.{migrated}
 use Rattle.gtd_tool.specs.Plans.{Asked, Schedule, Year, Migrate, file_of}
 use Rattle.gtd_tool.specs.Printed.{AppendsLine, AsksPastYears, IsAnswer, TakesMemory}
 use Rattle.gtd_tool.specs.Writing.{AppendsPart}

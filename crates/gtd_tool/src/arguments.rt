@@ -1,6 +1,7 @@
 //! The command line: the name of a command, and words that stand for themselves, as `clap` reads them.
 
-ghost use Rattle.std.specs.Prelude.{List, ◌≡◌, ◌⊎◌, if◌then◌else◌, [], None, Some, false, IfErr, IfOk, map, option_map, string_bytes};
+ghost use Rattle.std.specs.Prelude.{List, ◌≡◌, ◌⊎◌, if◌then◌else◌, [], None, Some, false, IfErr, IfOk, map, option_map};
+ghost use Rattle.std.specs.Prelude.{string_bytes};
 ghost use Rattle.clap.specs.Simple.{app_of, with_subcommand};
 ghost use Rattle.clap.specs.Values.{kind_of};
 ghost use Rattle.gtd_tool.specs.ClapCommand.{HasGiven, gtd_app, is_memory, leaf_given, none_given};
@@ -163,7 +164,7 @@ fn line_of<'a>(name: &str, words: &[&'a str]) -> Option<CommandLine<'a>>
 }
 
 // An error of `clap` is want of memory, or a fault of usage.
-fn refusal_of(error: &clap::Error) -> Refusal
+fn usage_refusal(error: &clap::Error) -> Refusal
     ensures { result ≡ (if is_memory (kind_of error.now) then Refusal.Memory else Refusal.Usage) }
 {
     match error.kind() {
@@ -181,7 +182,7 @@ fn parse<'a>(alloc: Global, words: &'a [String]) -> Result<ArgMatches<'a>, Refus
     let program = gtd(alloc).map_err(|_| Refusal::Memory)?;
     match program.try_get_matches_from(words) {
         Ok(matches) => Ok(matches),
-        Err(error) => Err(refusal_of(&error)),
+        Err(error) => Err(usage_refusal(&error)),
     }
 }
 

@@ -7,18 +7,18 @@ ghost use Rattle.gtd_core.specs.declared.horizon.Horizon.{Horizon};
 ghost use Rattle.gtd_text.specs.Canonical.{canonical};
 ghost use Rattle.gtd_roads.specs.File.{IsFile};
 ghost use Rattle.gtd_roads.specs.Restriction.{Restriction};
-ghost use Rattle.gtd_roads.specs.declared.direction.Direction.{Direction};
-ghost use Rattle.gtd_runs.specs.Putting.{text_of};
-ghost use Rattle.gtd_schedule.specs.Schedule.{IsSchedule};
-ghost use Rattle.gtd_year.specs.Table.{IsYearTable};
-ghost use Rattle.gtd_migrate.specs.Migrated.{migrated};
+ghost use Rattle.gtd_roads.specs.Direction.{Direction};
+ghost use Rattle.gtd_roads.specs.Putting.{text_of};
+ghost use Rattle.gtd_roads.specs.Schedule.{IsSchedule};
+ghost use Rattle.gtd_roads.specs.YearTable.{IsYearTable};
+ghost use Rattle.gtd_roads.specs.Migrated.{migrated};
 ghost use Rattle.gtd_tool.specs.CommandLines.{Text};
 ghost use Rattle.gtd_tool.specs.Plans.{Asked, AsksFor, Canon, Check};
 ghost use Rattle.gtd_tool.specs.Printed.{IsAnswer};
 ghost use Rattle.gtd_tool.specs.Refusals.{IsRefusalOf};
 ghost use Rattle.gtd_tool.specs.declared.refusal.Refusal.{Refusal};
 
-use gtd_migrate::laws::migration_changes_nothing;
+use gtd_roads::laws::migration_changes_nothing;
 use gtd_text::laws::canonical_text_of_domain;
 
 /// A command line asks for one thing at most, or has one first refusal at most, and never both.

@@ -1,19 +1,21 @@
 //! Carrying a plan out.
 
-ghost use Rattle.std.specs.Prelude.{◌≡◌, ◌≢◌, ◌↔◌, ◌⊎◌, ◌<◌, ◌++◌, List, None, codes, Ok, Err, IfErr, IfOk, IsOk, IfSome, MatchOption, OnErr, OnOk};
+ghost use Rattle.std.specs.Prelude.{◌≡◌, ◌≢◌, ◌↔◌, ◌⊎◌, ◌<◌, ◌++◌, List, None, codes, Ok, Err, IfErr, IfOk, IsOk, IfSome};
+ghost use Rattle.std.specs.Prelude.{MatchOption, OnErr, OnOk};
 ghost use Rattle.std.specs.Io.KnownBytes.{Appends, Keeps};
 ghost use Rattle.gtd_core.specs.Parts.{domain_tree};
 ghost use Rattle.gtd_core.specs.Whole.{to_day};
 ghost use Rattle.gtd_eval.specs.Ever.{NeverChangesAfter, IsFirstChange};
 ghost use Rattle.gtd_eval.specs.Membership.{InDomain, SomeGivesYear};
-ghost use Rattle.gtd_recur.specs.Membership.{IsHorizonSecond};
 ghost use Rattle.gtd_roads.specs.File.{IsFile};
 ghost use Rattle.gtd_roads.specs.Restriction.{Restriction};
+ghost use Rattle.gtd_core.specs.Days.{IsHorizonSecond};
 ghost use Rattle.gtd_tool.specs.Plans.{asked_by, file_of};
 ghost use Rattle.gtd_tool.specs.Plans as asked;
 ghost use Rattle.gtd_tool.specs.Printed.{AppendsLine, AppendsPartOfLine, AsksPastYears, IsAnswer, IsChangeOr, IsState};
-ghost use Rattle.gtd_tool.specs.Running.{AppendsTextOf, IfAlone, IfFile, IfRead, IsAccepted, IsCause, IsLacking, IsPartPrinted, IsPrinted, IsRefusedFile, IsVehicleInRange, IsYearInRange, Ran, failures_after};
-ghost use Rattle.gtd_tool.specs.Stops.{IsStop};
+ghost use Rattle.gtd_tool.specs.Running.{AppendsTextOf, IfAlone, IfFile, IfRead, IsAccepted, IsCause, IsLacking, IsPartPrinted};
+ghost use Rattle.gtd_tool.specs.Running.{IsPrinted, IsRefusedFile, IsVehicleInRange, IsYearInRange, Ran, failures_after};
+ghost use Rattle.gtd_tool.specs.CutShort.{IsCutShort};
 ghost use Rattle.gtd_tool.specs.Writing.{AppendsPart, joined};
 
 use crate::plans::{Moment, MomentInHorizon, Plan};
@@ -23,11 +25,8 @@ use crate::writing::{put, put_texts};
 use gtd_calendar::write_stamp;
 use gtd_core::{Domain, Sec};
 use gtd_eval::{EverFault, holds, next_change, next_change_ever};
-use gtd_migrate::Migration;
-use gtd_roads::{Input, RecordFault};
-use gtd_schedule::Schedule;
+use gtd_roads::{Input, Migration, RecordFault, Schedule, YearTable};
 use gtd_text::print_domain;
-use gtd_year::YearTable;
 use std::alloc::Global;
 use std::io;
 use std::io::Write;
@@ -96,7 +95,7 @@ fn carry_out<I: Input, W: Write>(
     requires readable { I.failure_count input.old < u64.MAX }
     ensures printed { IfAlone (asked_by plan.now) (OnOk result
         (AppendsLine (IsAnswer (asked_by plan.now)) (W.contents out.old) (W.contents out.new))) }
-    ensures stopped { IfAlone (asked_by plan.now) (IfErr result (IsStop (asked_by plan.now)
+    ensures stopped { IfAlone (asked_by plan.now) (IfErr result (IsCutShort (asked_by plan.now)
         (W.contents out.old) (W.contents out.new) (out.new ≡ out.old))) }
     ensures year { AsksPastYears (asked_by plan.now) → result ≡ Err Refusal.HasYear }
     ensures untouched { IfAlone (asked_by plan.now) (input.new ≡ input.old) }
@@ -144,7 +143,7 @@ fn carry_out<I: Input, W: Write>(
 fn print_canonical<W: Write>(alloc: Global, domain: &Domain, out: &mut W) -> Result<(), Refusal>
     ensures printed { OnOk result (AppendsLine (IsAnswer (asked.Canon (domain_tree domain.now)))
         (W.contents out.old) (W.contents out.new)) }
-    ensures stopped { IfErr result (IsStop (asked.Canon (domain_tree domain.now))
+    ensures stopped { IfErr result (IsCutShort (asked.Canon (domain_tree domain.now))
         (W.contents out.old) (W.contents out.new) (out.new ≡ out.old)) }
 {
     let text = print_domain(alloc, domain).map_err(|_| Refusal::Memory)?;
@@ -172,7 +171,7 @@ fn print_next<W: Write>(
     ensures printed { OnOk result (AppendsLine
         (IsAnswer (asked.Next (domain_tree domain.now) moment.second (to_day moment.horizon)))
         (W.contents out.old) (W.contents out.new)) }
-    ensures stopped { IfErr result (IsStop
+    ensures stopped { IfErr result (IsCutShort
         (asked.Next (domain_tree domain.now) moment.second (to_day moment.horizon))
         (W.contents out.old) (W.contents out.new) (out.new ≡ out.old)) }
 {
@@ -192,17 +191,17 @@ fn print_ever<W: Write>(
     ensures printed { OnOk result (AppendsLine
         (IsAnswer (asked.Ever (domain_tree domain.now) moment.second))
         (W.contents out.old) (W.contents out.new)) }
-    ensures stopped { IfErr result (IsStop (asked.Ever (domain_tree domain.now) moment.second)
+    ensures stopped { IfErr result (IsCutShort (asked.Ever (domain_tree domain.now) moment.second)
         (W.contents out.old) (W.contents out.new) (out.new ≡ out.old)) }
     ensures year { SomeGivesYear (domain_tree domain.now) → result ≡ Err Refusal.HasYear }
 {
     match next_change_ever(alloc, domain, moment.second) {
         Ok(change) => print_change(domain, change, "never", out),
-        Err(fault) => Err(refusal_of(fault)),
+        Err(fault) => Err(ever_refusal(fault)),
     }
 }
 
-fn refusal_of(fault: EverFault) -> Refusal
+fn ever_refusal(fault: EverFault) -> Refusal
     ensures { ((fault ≡ EverFault.HasYear) × (result ≡ Refusal.HasYear))
         ⊎ ((fault ≡ EverFault.NoMemory) × (result ≡ Refusal.Memory)) }
 {

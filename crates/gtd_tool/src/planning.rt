@@ -12,7 +12,8 @@ ghost use Rattle.gtd_tool.specs.LineCommands.{command_of};
 ghost use Rattle.gtd_tool.specs.Plans.{AreDomainAndMoment, Asked, AsksFor, IsDomain, IsHorizonOf, IsNumberUpTo, IsRead, asked_by};
 ghost use Rattle.gtd_tool.specs.Plans as asked;
 ghost use Rattle.gtd_tool.specs.CommandLines as command;
-ghost use Rattle.gtd_tool.specs.Refusals.{AreNoHorizon, DatePart, DaysPart, DirectionPart, DomainPart, IsNoHorizon, IsRefusalOf, IsStopped, IsStoppedLine, MomentPart, NumberPart, parts_of};
+ghost use Rattle.gtd_tool.specs.Refusals.{AreNoHorizon, DatePart, DaysPart, DirectionPart, DomainPart, IsNoHorizon, IsRefusalOf};
+ghost use Rattle.gtd_tool.specs.Refusals.{IsStopped, IsStoppedLine, MomentPart, NumberPart, parts_of};
 
 use crate::arguments::{CommandLine, read_line};
 use crate::plans::{Moment, MomentInHorizon, Plan};
@@ -30,12 +31,12 @@ fn domain_of(alloc: Global, text: &str) -> Result<Domain, Refusal>
 {
     match read_domain(alloc, text.as_bytes()) {
         Ok(domain) => Ok(domain),
-        Err(fault) => Err(refusal_of(fault)),
+        Err(fault) => Err(text_refusal(fault)),
     }
 }
 
 // Want of memory is no fault of the text.
-fn refusal_of(fault: TextFault) -> Refusal
+fn text_refusal(fault: TextFault) -> Refusal
     ensures { ((fault.kind ≡ Fault.NoMemory) × (result ≡ Refusal.Memory))
         ⊎ ((fault.kind ≢ Fault.NoMemory) × (result ≡ Refusal.Text fault)) }
 {

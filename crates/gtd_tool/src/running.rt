@@ -5,13 +5,12 @@ ghost use Rattle.gtd_tool.specs.Running.{RanReport, outcome_of, refusal_for};
 
 use crate::lending::Lent;
 use crate::refusal::Refusal;
-use gtd_roads::{HostOut, Input, RecordFault};
-use gtd_runs::{Report, RunFault, run_report};
+use gtd_roads::{HostOut, Input, RecordFault, Report, RunFault, run_report};
 use std::alloc::Global;
 use std::io::Write;
 
 // The refusal for a fault of a run.
-fn refusal_of(fault: RunFault) -> Refusal
+fn run_refusal(fault: RunFault) -> Refusal
     ensures value { result ≡ refusal_for fault }
 {
     match fault {
@@ -33,7 +32,7 @@ fn outcome(answer: Result<u64, RunFault>) -> Result<(), Refusal>
 {
     match answer {
         Ok(_) => Ok(()),
-        Err(fault) => Err(refusal_of(fault)),
+        Err(fault) => Err(run_refusal(fault)),
     }
 }
 

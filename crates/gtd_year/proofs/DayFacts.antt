@@ -1,7 +1,7 @@
 -- The lines of days.
 use Rattle.std.proofs.Common.{◌≡◌, ◌∙◌, sym, ap, refl, subst, ◌≤◌, ◌+◌, ◌*◌, ◌-◌, ◌↔◌, ℕ, zero, suc, arith}
 use Rattle.std.proofs.Common.{List, [], ◌∷◌, ◌++◌, length, length-append, append_assoc, take}
-use Rattle.std.specs.Prelude.{ℤ, pos, ◌+ℤ◌, ◌*ℤ◌, ◌≤ℤ◌, ◌<ℤ◌, decimal, codes, replicate, All, Option, Result, Ok, Err}
+use Rattle.std.specs.Prelude.{ℤ, pos, ◌+ℤ◌, ◌*ℤ◌, ◌≤ℤ◌, ◌<ℤ◌, decimal, codes, replicate, All}
 use Rattle.std.proofs.lemmas.Int.{ints}
 use Rattle.std.proofs.lemmas.List.{length-replicate, take_all}
 use Rattle.std.proofs.lemmas.List.Elements.{All-cons, All-nil}
@@ -10,11 +10,9 @@ use Rattle.gtd_calendar.specs.Stamp.{date_text}
 use Rattle.gtd_core.specs.Interval.{Interval}
 use Rattle.gtd_spans.specs.Counting.{IsCount}
 use Rattle.gtd_spans.specs.Normal.{Holds}
-use Rattle.gtd_spans.proofs.CountFacts.{count-few, count-held, count-same, one-count}
-use Rattle.gtd_runs.specs.Putting.{Puts, PutsText, text_of}
-use Rattle.gtd_runs.specs.declared.putting.Progress.{Progress}
-use Rattle.gtd_runs.specs.declared.putting.Stop.{Stop}
-use Rattle.gtd_year.specs.Table.{AreDayLines, day_line, right_aligned}
+use Rattle.gtd_spans.specs.facts.CountFacts.{count-few, count-held, count-same, one-count}
+use Rattle.gtd_runs.specs.Putting.{text_of}
+use Rattle.gtd_year.specs.YearTable.{AreDayLines, day_line, right_aligned}
 
 -- a date has ten bytes
 length-date : (day : ℤ) → length (date_text day) ≡ 10

@@ -1,3 +1,4 @@
 pub mod DayFacts
 pub mod SomeTable
 pub mod YearFacts
+pub mod ClaimFacts

@@ -1,12 +1,12 @@
 -- Each second is one in which the element is open, or is not, and so the seconds of a day can be counted.
 use Rattle.std.proofs.Common.{refl, ◌+◌, ℕ, zero, suc, inl, inr, List, [], ◌∷◌}
 use Rattle.std.specs.Prelude.{ℤ, pos, ◌+ℤ◌, ◌*ℤ◌}
-use Rattle.gtd_roads.proofs.Decided.{open_or_not}
-use Rattle.gtd_roads.specs.Closing.{IsOpen}
-use Rattle.gtd_roads.specs.Restriction.{Restriction}
-use Rattle.gtd_roads.specs.declared.direction.Direction.{Direction}
+use Rattle.gtd_records.specs.facts.OpenDecisions.{open_or_not}
+use Rattle.gtd_records.specs.Closing.{IsOpen}
+use Rattle.gtd_records.specs.Restriction.{Restriction}
+use Rattle.gtd_records.specs.declared.direction.Direction.{Direction}
 use Rattle.gtd_spans.specs.Counting.{IsCount}
-use Rattle.gtd_year.specs.Table.{AreDayLines, day_line}
+use Rattle.gtd_year.specs.YearTable.{AreDayLines, day_line}
 
 module _ (found : List Restriction) (element : ℕ) (direction : Direction) (vehicle : ℕ) where
   counted : (t : ℤ) (n : ℕ) → (count : ℕ) × IsCount (IsOpen found element direction vehicle) t n count

@@ -1,11 +1,12 @@
 -- The days of the years that a table may be of.
 use Rattle.std.proofs.Common.{◌≡◌, ◌∙◌, ap, refl, subst, unsigned_abs, to_z, of_z, w64, ◌≤◌, ◌+◌, ◌-◌, ℕ, List, arith}
-use Rattle.std.specs.Prelude.{ℤ, pos, negsuc, ◌+ℤ◌, ◌-ℤ◌, ◌≤ℤ◌}
-use Rattle.gtd_calendar.proofs.Signed.{signed_arith}
-use Rattle.gtd_calendar.proofs.YearLemmas.{first_day-next}
+use Rattle.std.specs.Prelude.{ℤ, pos, ◌+ℤ◌, ◌-ℤ◌, ◌≤ℤ◌}
+use Rattle.gtd_core.specs.Limits.{first_horizon_day}
+use Rattle.gtd_calendar.specs.facts.Signed.{signed_arith}
+use Rattle.gtd_calendar.specs.facts.YearLemmas.{first_day-next}
 use Rattle.gtd_calendar.specs.Calendar.{day_number, days_of_months, first_day, year_length}
 use Rattle.gtd_core.specs.Interval.{Interval}
-use Rattle.gtd_core.specs.Horizons.{IsFault, IsHorizon}
+use Rattle.gtd_core.specs.Horizons.{IsHorizonFault, IsHorizon}
 use Rattle.gtd_core.specs.Whole.{from_day, to_day}
 use Rattle.gtd_core.specs.declared.horizon.Horizon.{Horizon}
 use Rattle.gtd_core.specs.declared.horizon.HorizonFault.{HorizonFault}
@@ -13,7 +14,7 @@ use Rattle.gtd_core.specs.declared.horizon.HorizonFault.TheVariants.{Empty, TooE
 use Rattle.gtd_eval.specs.NormalOver.{IsNormalOver}
 use Rattle.gtd_spans.specs.Normal.{Holds}
 use Rattle.gtd_runs.specs.Subjects.{IsTableYear}
-use Rattle.gtd_year.specs.Table.{AreDayLines}
+use Rattle.gtd_year.specs.YearTable.{AreDayLines}
 use Rattle.gtd_year.proofs.DayFacts.{same_days}
 
 no_months : (y : ℤ) → days_of_months y (1 - 1) + (1 - 1) ≡ 0
@@ -35,7 +36,7 @@ next_year year =
     ap first_day same ∙ first_day-next (pos year)
 
 -- the days of such a year are a horizon
-in_range : (year : ℕ) → IsTableYear year → (negsuc 25201 ≤ℤ first_day (pos year)) × (first_day (pos year) ≤ℤ pos 84000)
+in_range : (year : ℕ) → IsTableYear year → (first_horizon_day ≤ℤ first_day (pos year)) × (first_day (pos year) ≤ℤ pos 84000)
 unfolding first_day
 in_range year h = (omega (arith, signed_arith, h.0, h.1), omega (arith, signed_arith, h.0, h.1))
 
@@ -44,9 +45,11 @@ year_length-in y = (grind arith, grind arith)
 
 pub year_horizon : (year : ℕ) → IsTableYear year → IsHorizon (first_day (pos year)) (first_day (pos (year + 1)))
 year_horizon year h =
-    within (first_day (pos year)) (first_day (pos (year + 1))) (year_length (pos year)) (in_range year h) (year_length-in (pos year)) (next_year year)
+    within (first_day (pos year)) (first_day (pos (year + 1))) (year_length (pos year)) (in_range year h)
+    (year_length-in (pos year)) (next_year year)
   where
-    within : (a b : ℤ) (n : ℕ) → (negsuc 25201 ≤ℤ a) × (a ≤ℤ pos 84000) → (365 ≤ n) × (n ≤ 366) → b ≡ a +ℤ pos n → IsHorizon a b
+    within : (a b : ℤ) (n : ℕ) → (first_horizon_day ≤ℤ a) × (a ≤ℤ pos 84000) → (365 ≤ n) × (n ≤ 366) → b ≡ a +ℤ pos n
+        → IsHorizon a b
     within a b n r s e = (
       omega (arith, signed_arith, e, s.0),
       r.0,
@@ -55,7 +58,7 @@ year_horizon year h =
     )
 
 -- a horizon has no fault
-pub no_fault : (fault : HorizonFault) (a b : ℤ) → IsHorizon a b → IsFault fault a b → ⊥
+pub no_fault : (fault : HorizonFault) (a b : ℤ) → IsHorizon a b → IsHorizonFault fault a b → ⊥
 no_fault Empty a b h f = omega (arith, signed_arith, h.0, f)
 no_fault TooEarly a b h f = omega (arith, signed_arith, h.1, f.1)
 no_fault TooLate a b h f = omega (arith, signed_arith, h.2, f.2)
@@ -71,7 +74,8 @@ pub year_length-few : (y : ℤ) → year_length y ≤ 366
 year_length-few y = (year_length-in y).1
 
 -- the lines of the normal list of a year's open seconds are those of the set
-pub year_table : (set : ℤ → Type 0) (horizon : Horizon) (list seconds : List Interval) (first : ℤ) (days year : ℕ) (lines : List (List ℕ))
+pub year_table : (set : ℤ → Type 0) (horizon : Horizon) (list seconds : List Interval) (first : ℤ) (days year : ℕ)
+    (lines : List (List ℕ))
     → IsNormalOver set horizon list → seconds ≡ list → from_day horizon ≡ first_day (pos year)
     → to_day horizon ≡ first_day (pos year) +ℤ pos (year_length (pos year)) → first ≡ first_day (pos year)
     → days ≡ year_length (pos year) → AreDayLines (Holds seconds) first days lines

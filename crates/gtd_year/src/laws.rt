@@ -2,9 +2,9 @@
 
 ghost use Rattle.std.specs.Prelude.{◌≡◌, All, ℕ, List, length, pos};
 ghost use Rattle.gtd_calendar.specs.Calendar.{year_length};
-ghost use Rattle.gtd_roads.specs.Restriction.{Restriction};
-ghost use Rattle.gtd_roads.specs.declared.direction.Direction.{Direction};
-ghost use Rattle.gtd_year.specs.Table.{IsYearTable};
+ghost use Rattle.gtd_records.specs.Restriction.{Restriction};
+ghost use Rattle.gtd_records.specs.declared.direction.Direction.{Direction};
+ghost use Rattle.gtd_year.specs.YearTable.{IsYearTable};
 
 /// Given restrictions have exactly one table of an element, a direction, a vehicle type and a year.
 pub fn one_table()

@@ -2,16 +2,16 @@
 
 ghost use Rattle.std.specs.Prelude.{◌≡◌, ◌<◌, ◌↔◌, Any, Some, OnOk, IfOk, IsErrOf, IsTrue, List, pos};
 ghost use Rattle.gtd_calendar.specs.Calendar.{year_length};
-ghost use Rattle.gtd_roads.specs.Restriction.{Restriction};
-ghost use Rattle.gtd_runs.specs.Run.{AcceptedFilesArePut, HasRun, RefusedFilesPutNothing};
-ghost use Rattle.gtd_runs.specs.Run.{UnacceptedFilesPutNothing};
-ghost use Rattle.gtd_runs.specs.Run.{failures_after_read, failures_after_write};
+ghost use Rattle.gtd_records.specs.Restriction.{Restriction};
+ghost use Rattle.gtd_runs.specs.Run.{HasRun, failures_after_read, failures_after_write};
 ghost use Rattle.gtd_runs.specs.Subjects.{IsTableYear, IsVehicleType};
-ghost use Rattle.gtd_year.specs.Table.{IsYearTable};
+ghost use Rattle.gtd_year.specs.Theorem.{YearClaim};
+ghost use Rattle.gtd_year.specs.YearTable.{IsYearTable};
 
 use crate::table::put_days;
 use crate::year::days_of_year;
-use gtd_roads::{Direction, Input, Output, RecordFault, Records, open_seconds};
+use gtd_devices::{Input, Output};
+use gtd_records::{Direction, RecordFault, Records, open_seconds};
 use gtd_runs::{Progress, Report, RunFault, Stop, Subject, finish, run_report};
 use gtd_spans::ByDay;
 use std::alloc::Global;
@@ -93,18 +93,9 @@ pub fn run_year<I: Input, O: Output>(
 ) -> Result<u64, RunFault>
     requires readable { I.failure_count input.old < u64.MAX }
     requires writable { O.failure_count output.old < u64.MAX }
-    // Where nothing hinders it, the output took the table of an element that the file names, and the answer is the
-    // number of its lines.
-    ensures accepted { IsVehicleType vehicle → IsTableYear year → AcceptedFilesArePut
-        (λ found. Any (λ (r : Restriction). r.element ≡ element) found)
-        (λ found lines. IsYearTable found element direction vehicle year lines)
-        (I.to_come input.old) (O.taken output.old) (O.taken output.new) result }
-    // Refused files print nothing: where nothing hinders it, the answer is the first fault of the file.
-    ensures refused { IsVehicleType vehicle → IsTableYear year → RefusedFilesPutNothing
-        (I.to_come input.old) (O.taken output.old) (O.taken output.new) result }
-    // An element that the file does not name has no table: where nothing hinders it, the answer says so.
-    ensures unnamed { IsVehicleType vehicle → IsTableYear year → UnacceptedFilesPutNothing
-        (λ found. Any (λ (r : Restriction). r.element ≡ element) found)
+    // Where nothing hindered the run: of a file that names the element the output took its table, and the answer is the
+    // number of its lines; of any other file it took nothing, and the answer says which.
+    ensures claim { IsVehicleType vehicle → IsTableYear year → YearClaim element direction vehicle year
         (I.to_come input.old) (O.taken output.old) (O.taken output.new) result }
     // What stands by each answer: after a failure or a refusal of memory, the first bytes of the same table.
     ensures stands { HasRun

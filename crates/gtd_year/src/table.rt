@@ -1,22 +1,21 @@
 //! The lines of days, each with a number of seconds, put one after the other.
 
-ghost use Rattle.std.specs.Prelude.{◌≡◌, ◌<◌, ◌≤◌, ◌↔◌, ◌+ℤ◌, ◌*ℤ◌, ◌≤ℤ◌, ℤ, pos, negsuc, ℕ, List, OnOk};
+ghost use Rattle.std.specs.Prelude.{◌≡◌, ◌<◌, ◌≤◌, ◌↔◌, ◌+ℤ◌, ◌*ℤ◌, ◌≤ℤ◌, ℤ, pos, ℕ, List, OnOk};
+ghost use Rattle.gtd_core.specs.Limits.{first_horizon_day, horizons_end};
 ghost use Rattle.gtd_calendar.specs.Calendar.{IsCalendarDay};
 ghost use Rattle.gtd_runs.specs.Putting.{Puts, failures_after_stop, nothing_put};
 ghost use Rattle.gtd_spans.specs.Counting.{IsCount};
 ghost use Rattle.gtd_spans.specs.Normal.{Holds};
-ghost use Rattle.gtd_year.specs.Table.{AreDayLines, day_line};
+ghost use Rattle.gtd_year.specs.YearTable.{AreDayLines, day_line};
 
 use gtd_calendar::write_date;
 use gtd_core::Sec;
-use gtd_roads::Output;
+use gtd_core::limits::DAY_SECONDS;
+use gtd_devices::Output;
 use gtd_runs::{Progress, Stop, put_line};
 use gtd_spans::{ByDay, SpanSource};
 use itoa::Buffer;
 use std::alloc::AllocError;
-
-/// The seconds of a day.
-const DAY: i64 = 86_400;
 
 /// The bytes of a line before its LF: a date, a space, and five places.
 const WIDTH: usize = 16;
@@ -50,7 +49,7 @@ fn count_day<S: SpanSource>(
     ensures later { (t : ℤ) → ((day +ℤ pos 1) *ℤ pos 86400) ≤ℤ t
         → Holds seconds.old t ↔ Holds seconds.new t }
 {
-    let count = seconds.count(Sec(day * DAY));
+    let count = seconds.count(Sec(day * DAY_SECONDS));
     write_day_line(line, day, count)
 }
 
@@ -65,8 +64,8 @@ pub(crate) fn put_days<O: Output, S: SpanSource>(
 ) -> Result<(), Stop>
     requires countable { O.failure_count output.old < u64.MAX }
     requires begins { progress.old ≡ nothing_put }
-    requires not_early { negsuc 25201 ≤ℤ first }
-    requires not_late { (first +ℤ pos days) ≤ℤ pos 266627 }
+    requires not_early { first_horizon_day ≤ℤ first }
+    requires not_late { (first +ℤ pos days) ≤ℤ horizons_end }
     ensures puts { (lines : List (List ℕ)) × AreDayLines (Holds seconds.old) first days lines
         × Puts result (O.taken output.old) (O.taken output.new) progress.old progress.new lines }
     ensures failures { O.failure_count output.new

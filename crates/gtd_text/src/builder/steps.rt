@@ -5,9 +5,9 @@ ghost use Rattle.gtd_core.specs.Trees.{tree_of};
 ghost use Rattle.gtd_core.specs.Parts.{start_parts};
 ghost use Rattle.gtd_text.specs.declared.token.TokenKind.{TokenKind};
 ghost use Rattle.gtd_text.specs.declared.builder.state.State.TheVariants as state;
-ghost use Rattle.gtd_text.specs.Views.{sum_of, product_of};
+ghost use Rattle.gtd_text.specs.PendingParts.{sum_of, product_of};
 ghost use Rattle.gtd_text.specs.Building as building;
-ghost use Rattle.gtd_text.specs.Stages.{Takes, fields_with, opened, pending_of, stage_of};
+ghost use Rattle.gtd_text.specs.BuilderStates.{TakesToken, fields_with, opened, pending_of, stage_of};
 
 use crate::builder::join::{times, total};
 use crate::builder::state::{Pending, State};
@@ -23,7 +23,7 @@ pub fn next_state(
     state: State,
     kind: TokenKind,
 ) -> Result<State, AllocError>
-    requires { Takes (opened outer.old.items) state kind }
+    requires { TakesToken (opened outer.old.items) state kind }
     ensures { (fields : List TokenKind) (next : building.State) →
         building.step (stage_of (opened outer.old.items) fields state) kind ≡ Some next
         → IfOk result (λ after.
@@ -46,7 +46,7 @@ fn expecting(
     pending: Pending,
     kind: TokenKind,
 ) -> Result<State, AllocError>
-    requires { Takes (opened outer.old.items) (state.Expecting pending) kind }
+    requires { TakesToken (opened outer.old.items) (state.Expecting pending) kind }
     ensures { (fields : List TokenKind) (next : building.State) →
         building.step (building.Expecting (opened outer.old.items) (sum_of pending.sum)
         (product_of pending.product)) kind ≡ Some next
@@ -84,7 +84,7 @@ fn pop_pending(outer: &mut Vec<Pending>) -> Option<Pending>
 
 /// A field of a start, or the end of the start.
 fn in_start(pending: Pending, parts: StartParts, kind: TokenKind) -> State
-    requires { (outer : List building.Pending) × Takes outer (state.InStart pending parts) kind }
+    requires { (outer : List building.Pending) × TakesToken outer (state.InStart pending parts) kind }
     ensures { (outer : List building.Pending) (fields : List TokenKind) (next : building.State) →
         building.step (building.InStart outer (sum_of pending.sum) (product_of pending.product)
         fields parts) kind ≡ Some next
@@ -104,7 +104,7 @@ fn in_start(pending: Pending, parts: StartParts, kind: TokenKind) -> State
 
 /// The brace of a duration.
 fn after_start(pending: Pending, start: Start, kind: TokenKind) -> State
-    requires { (outer : List building.Pending) × Takes outer (state.AfterStart pending start) kind }
+    requires { (outer : List building.Pending) × TakesToken outer (state.AfterStart pending start) kind }
     ensures { (outer : List building.Pending) (fields : List TokenKind) (next : building.State) →
         building.step (building.AfterStart outer (sum_of pending.sum) (product_of pending.product)
         (start_parts start)) kind ≡ Some next
@@ -125,7 +125,7 @@ fn in_duration(
     kind: TokenKind,
 ) -> Result<State, AllocError>
     requires { (outer : List building.Pending)
-        × Takes outer (state.InDuration pending start parts) kind }
+        × TakesToken outer (state.InDuration pending start parts) kind }
     ensures { (outer : List building.Pending) (fields : List TokenKind) (next : building.State) →
         building.step (building.InDuration outer (sum_of pending.sum) (product_of pending.product)
         (start_parts start) fields parts) kind ≡ Some next
@@ -157,7 +157,7 @@ fn after_item(
     term: Expr,
     kind: TokenKind,
 ) -> Result<State, AllocError>
-    requires { Takes (opened outer.old.items) (state.AfterItem sum term) kind }
+    requires { TakesToken (opened outer.old.items) (state.AfterItem sum term) kind }
     ensures { (fields : List TokenKind) (next : building.State) →
         building.step (building.AfterItem (opened outer.old.items) (sum_of sum) (tree_of term)) kind
         ≡ Some next

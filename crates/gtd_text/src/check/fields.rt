@@ -5,7 +5,7 @@ ghost use Rattle.gtd_text.specs.declared.token.TokenKind.{TokenKind};
 ghost use Rattle.gtd_text.specs.Fields.{has_letter, is_start_letter, is_duration_letter};
 ghost use Rattle.gtd_text.specs.Fields.{is_place_value, is_start_value, is_repeated_in_start};
 ghost use Rattle.gtd_text.specs.Fields.{fits_start, fits_duration, with_start_field, with_duration_field};
-ghost use Rattle.gtd_text.specs.Seen.{newest_first};
+ghost use Rattle.gtd_text.specs.TokenKinds.{newest_first};
 
 use crate::token::{Token, TokenKind};
 use gtd_core::{DurationParts, StartParts};

@@ -2,9 +2,9 @@
 
 ghost use Rattle.std.specs.Prelude.{◌≡◌, ◌<◌, ◌≤◌, ◌+◌, ◌^◌, List, [], ◌∷◌, length};
 ghost use Rattle.gtd_text.specs.declared.token.TokenKind.{TokenKind};
-ghost use Rattle.gtd_text.specs.Seen.{newest_first};
+ghost use Rattle.gtd_text.specs.TokenKinds.{newest_first};
 ghost use Rattle.gtd_text.specs.Fitting.{begins_item, follows_item, fits, fits_after_field, may_end};
-ghost use Rattle.gtd_text.specs.Fitting.{fault_of, field_fault};
+ghost use Rattle.gtd_text.specs.Misfits.{fault_of, field_fault};
 ghost use Rattle.gtd_text.specs.Found.{fault_after};
 
 use crate::check::fields::{
@@ -23,7 +23,8 @@ pub struct Seen {
 }
 
 impl Seen {
-    ghost use Rattle.gtd_text.specs.Seen.{seen, newest_first};
+    ghost use Rattle.gtd_text.specs.TokenKinds.{newest_first};
+    ghost use Rattle.gtd_text.specs.Summary.{seen};
 
     fn with(self, kind: TokenKind) -> Seen
         requires { self.depth + 1 < 2 ^ 64 }

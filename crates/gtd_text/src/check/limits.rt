@@ -5,17 +5,12 @@ ghost use Rattle.gtd_text.specs.Fields.{with_duration_fields, zero_parts};
 ghost use Rattle.gtd_text.specs.Found.{depth_after, count_after, too_deep_after, too_many_after};
 ghost use Rattle.gtd_text.specs.Found.{too_long};
 ghost use Rattle.gtd_text.specs.LongDurations.{fields_at_front, opens_too_long};
-ghost use Rattle.gtd_text.specs.Seen.{kinds};
+ghost use Rattle.gtd_text.specs.TokenKinds.{kinds};
 
 use crate::check::fields::duration_with;
 use crate::token::{Token, TokenKind};
+use gtd_core::limits::{MOST_BASIC_DOMAINS, MOST_BOUND, MOST_DEPTH};
 use gtd_core::{DurationParts, Fault, TextFault};
-
-/// The most open brackets, and the most basic domains.
-const MOST: u32 = 128;
-
-/// 36,600 days, in seconds.
-const MOST_SECONDS: u64 = 3_162_240_000;
 
 /// The first bracket that opens too deep.
 pub fn too_deep(tokens: &[Token]) -> Option<TextFault>
@@ -24,7 +19,7 @@ pub fn too_deep(tokens: &[Token]) -> Option<TextFault>
     let mut depth = 0;
     for token in tokens {
         depth = depth_after(depth, token.kind);
-        if MOST < depth {
+        if u32::from(MOST_DEPTH) < depth {
             return Some(TextFault {
                 kind: Fault::TooDeep,
                 place: token.from,
@@ -41,7 +36,7 @@ pub fn too_many(tokens: &[Token]) -> Option<TextFault>
     let mut count = 0;
     for token in tokens {
         count = count_after(count, token.kind);
-        if MOST < count {
+        if u32::from(MOST_BASIC_DOMAINS) < count {
             return Some(TextFault {
                 kind: Fault::TooMany,
                 place: token.from,
@@ -91,7 +86,7 @@ fn opens_too_long(kind: TokenKind, after: &[Token]) -> bool
     ensures { result ≡ opens_too_long kind (kinds after.now) }
 {
     match kind {
-        TokenKind::OpenBrace => MOST_SECONDS < duration_at_front(after).bound(),
+        TokenKind::OpenBrace => MOST_BOUND < duration_at_front(after).bound(),
         _ => false,
     }
 }

@@ -2,9 +2,9 @@ use Rattle.std.proofs.Common.{arith, rules, ◌≡◌, to_z, of_z, w64, to_z-of_
 use Rattle.std.proofs.Common.{◌*◌, FitsSigned}
 use Rattle.jiff_core.proofs.SignedLemmas.{signed_arith}
 use Rattle.gtd_core.specs.Days.{day_of_second}
-use Rattle.gtd_calendar.specs.Clock.{stop, months_later}
-use Rattle.gtd_calendar.proofs.ClockLemmas.{stop-bound}
-use Rattle.gtd_calendar.proofs.StopLemmas.{stop-is}
+use Rattle.gtd_calendar.specs.ComputedEnds.{stop, months_later}
+use Rattle.gtd_calendar.specs.facts.ClockLemmas.{stop-bound}
+use Rattle.gtd_calendar.specs.facts.StopLemmas.{stop-is}
 use Rattle.gtd_core.specs.Parts.{duration_parts}
 use Rattle.gtd_calendar.proofs.clock.end_of.Goals as goal
 

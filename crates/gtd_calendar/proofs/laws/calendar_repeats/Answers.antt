@@ -1,4 +1,4 @@
-use Rattle.gtd_calendar.proofs.CycleLemmas.{date-cycle, month_length-cycle, weekday_of-cycle, week-cycle, stop-cycle}
+use Rattle.gtd_calendar.specs.facts.CycleLemmas.{date-cycle, month_length-cycle, weekday_of-cycle, week-cycle, stop-cycle}
 use Rattle.gtd_calendar.proofs.laws.calendar_repeats.Goals as goal
 
 pub returns-clause-dates : goal.returns-clause-dates

@@ -1,4 +1,4 @@
-use Rattle.gtd_calendar.proofs.StopLemmas.{stop-is, stop-only}
+use Rattle.gtd_calendar.specs.facts.StopLemmas.{stop-is, stop-only}
 use Rattle.gtd_calendar.proofs.laws.one_end.Goals as goal
 
 pub returns-clause-has : goal.returns-clause-has

@@ -1,4 +1,4 @@
-use Rattle.gtd_calendar.proofs.WeekLemmas.{week_of-is, week_of-only}
+use Rattle.gtd_calendar.specs.facts.WeekLemmas.{week_of-is, week_of-only}
 use Rattle.gtd_calendar.proofs.laws.one_week.Goals as goal
 
 pub returns-clause-has : goal.returns-clause-has

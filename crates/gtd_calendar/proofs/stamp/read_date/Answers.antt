@@ -14,12 +14,12 @@ returns-in_err-number-clause-day c = search rules
 pub returns-in_err-number-clause-value : goal.returns-in_err-number-clause-value
 returns-in_err-number-clause-value c = date_in-only c.args.text.now _ (returns-in_err-number-clause-day c)
 
-pub returns-then-number-ltminus25202-clause-day : goal.returns-then-number-ltminus25202-clause-day
-returns-then-number-ltminus25202-clause-day c = search rules
+pub returns-then-number-lt-FIRST_HORIZON_DAY-clause-day : goal.returns-then-number-lt-FIRST_HORIZON_DAY-clause-day
+returns-then-number-lt-FIRST_HORIZON_DAY-clause-day c = search rules
 
-pub returns-then-number-ltminus25202-clause-value : goal.returns-then-number-ltminus25202-clause-value
-returns-then-number-ltminus25202-clause-value c =
-    date_in-only c.args.text.now _ (returns-then-number-ltminus25202-clause-day c)
+pub returns-then-number-lt-FIRST_HORIZON_DAY-clause-value : goal.returns-then-number-lt-FIRST_HORIZON_DAY-clause-value
+returns-then-number-lt-FIRST_HORIZON_DAY-clause-value c =
+    date_in-only c.args.text.now _ (returns-then-number-lt-FIRST_HORIZON_DAY-clause-day c)
 
 pub returns-clause-day : goal.returns-clause-day
 returns-clause-day c = search rules

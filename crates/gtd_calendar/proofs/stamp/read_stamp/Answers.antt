@@ -20,12 +20,12 @@ returns-in_err-number-clause-second c = search rules
 pub returns-in_err-number-clause-value : goal.returns-in_err-number-clause-value
 returns-in_err-number-clause-value c = stamp_in-only c.args.text.now _ (returns-in_err-number-clause-second c)
 
-pub returns-then-number-ltminus2177452800-clause-second : goal.returns-then-number-ltminus2177452800-clause-second
-returns-then-number-ltminus2177452800-clause-second c = search rules
+pub returns-then-number-lt-FIRST_MOMENT-clause-second : goal.returns-then-number-lt-FIRST_MOMENT-clause-second
+returns-then-number-lt-FIRST_MOMENT-clause-second c = search rules
 
-pub returns-then-number-ltminus2177452800-clause-value : goal.returns-then-number-ltminus2177452800-clause-value
-returns-then-number-ltminus2177452800-clause-value c =
-    stamp_in-only c.args.text.now _ (returns-then-number-ltminus2177452800-clause-second c)
+pub returns-then-number-lt-FIRST_MOMENT-clause-value : goal.returns-then-number-lt-FIRST_MOMENT-clause-value
+returns-then-number-lt-FIRST_MOMENT-clause-value c =
+    stamp_in-only c.args.text.now _ (returns-then-number-lt-FIRST_MOMENT-clause-second c)
 
 pub returns-clause-second : goal.returns-clause-second
 returns-clause-second c = search rules

@@ -1,4 +1,4 @@
-use Rattle.gtd_core.specs.EqualTrees.{tree_equal, equal_same}
+use Rattle.gtd_core.specs.facts.EqualTrees.{tree_equal, equal_same}
 use Rattle.gtd_core.proofs.laws.equality_of_trees.Goals as goal
 
 pub returns : goal.returns

@@ -1,4 +1,4 @@
-use Rattle.gtd_core.proofs.Leaves.{leaves_are_valid}
+use Rattle.gtd_core.specs.facts.Leaves.{leaves_are_valid}
 use Rattle.gtd_core.proofs.laws.leaves_are_valid.Goals as goal
 
 pub returns : goal.returns

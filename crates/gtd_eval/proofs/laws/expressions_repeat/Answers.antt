@@ -1,4 +1,4 @@
-use Rattle.gtd_eval.proofs.Repeats.{tree-repeats}
+use Rattle.gtd_eval.specs.facts.Repeats.{tree-repeats}
 use Rattle.gtd_eval.proofs.laws.expressions_repeat.Goals as goal
 
 pub returns : goal.returns

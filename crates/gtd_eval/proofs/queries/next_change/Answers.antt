@@ -1,7 +1,7 @@
 use Rattle.gtd_core.specs.Whole.{whole}
 use Rattle.gtd_eval.specs.Cursors.{cursor_list}
 use Rattle.gtd_eval.specs.Membership.{InDomain}
-use Rattle.gtd_eval.proofs.Repeats.{changes-in}
+use Rattle.gtd_eval.specs.facts.Repeats.{changes-in}
 use Rattle.gtd_eval.proofs.queries.next_change.Goals as goal
 
 pub returns : goal.returns

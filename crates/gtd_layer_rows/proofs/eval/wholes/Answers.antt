@@ -1,5 +1,5 @@
 use Rattle.std.proofs.Common.{[], ◌∷◌, arith}
-use Rattle.gtd_eval.specs.CursorFacts.{nodes-append}
+use Rattle.gtd_eval.specs.facts.CursorFacts.{nodes-append}
 use Rattle.gtd_layer_rows.proofs.eval.wholes.Goals as goal
 
 pub loop-preserved : goal.loop-preserved

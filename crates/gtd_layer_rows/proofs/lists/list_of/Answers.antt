@@ -5,7 +5,8 @@ use Rattle.gtd_layer_rows.proofs.lists.list_of.Goals as goal
 
 pub push_start-requires : goal.push_start-requires
 push_start-requires g c = record {
-  order = none-after c.loop-from.latest.0 c.expect-span.result.from c.loop-from.list (omega (arith, ints, c.from-from.ensures.value)) c.loop-from.invariant;
+  order = none-after c.loop-from.latest.0 c.expect-span.result.from c.loop-from.list
+      (omega (arith, ints, c.from-from.ensures.value)) c.loop-from.invariant;
 }
 
 pub loop-from-preserved : goal.loop-from-preserved

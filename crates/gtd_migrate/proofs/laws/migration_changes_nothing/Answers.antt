@@ -1,7 +1,7 @@
 use Rattle.std.proofs.Common.{◌≡◌, ap, sym, subst, List}
 use Rattle.std.specs.Prelude.{◌↔◌}
-use Rattle.gtd_roads.specs.Closing.{AreElements, IsClosed, IsOpen}
-use Rattle.gtd_roads.specs.Restriction.{Restriction}
+use Rattle.gtd_records.specs.Closing.{AreElements, IsClosed, IsOpen}
+use Rattle.gtd_records.specs.Restriction.{Restriction}
 use Rattle.gtd_migrate.specs.Migrated.{migrated}
 use Rattle.gtd_migrate.proofs.MigrateFacts.{same_restrictions}
 use Rattle.gtd_migrate.proofs.laws.migration_changes_nothing.Goals as goal
@@ -19,11 +19,14 @@ returns-clause-elements c bytes found again file migrated_file elements =
 
 pub returns-clause-closed : goal.returns-clause-closed
 returns-clause-closed c bytes found again file migrated_file element direction vehicle second =
-    either (λ (f : List Restriction). IsClosed f element direction vehicle second) again found (same_restrictions bytes found again file migrated_file)
+    either (λ (f : List Restriction). IsClosed f element direction vehicle second) again found
+    (same_restrictions bytes found again file migrated_file)
 
 pub returns-clause-opened : goal.returns-clause-opened
 returns-clause-opened c bytes found again file migrated_file element direction vehicle second =
-    either (λ (f : List Restriction). IsOpen f element direction vehicle second) again found (same_restrictions bytes found again file migrated_file)
+    either (λ (f : List Restriction). IsOpen f element direction vehicle second) again found
+    (same_restrictions bytes found again file migrated_file)
 
 pub returns-clause-itself : goal.returns-clause-itself
-returns-clause-itself c bytes found again file migrated_file = ap migrated (same_restrictions bytes found again file migrated_file)
+returns-clause-itself c bytes found again file migrated_file =
+    ap migrated (same_restrictions bytes found again file migrated_file)

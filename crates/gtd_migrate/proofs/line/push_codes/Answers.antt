@@ -14,6 +14,7 @@ returns-clause-short c =
     let done = c.loop-code.auto.code-index-end in
     let rest = c.in-Some.ensures.cases.1 in
     let number = c.format.ensures.short in
-    let first = longer c.args.line.now.items c.as_bytes.result.now c.extend_from_slice.new.self.items c.in_ok-extend_from_slice.ensures.items in
+    let first = longer c.args.line.now.items c.as_bytes.result.now c.extend_from_slice.new.self.items
+    c.in_ok-extend_from_slice.ensures.items in
     let bytes = c.as_bytes.ensures.len in
     omega arith

@@ -1,7 +1,7 @@
 use Rattle.std.proofs.Common.{◌≡◌, ◌∙◌, sym, ap, arith, suc, [], ◌∷◌, ◌++◌, length, take, drop, map}
 use Rattle.std.specs.Prelude.{Ok, Err}
 use Rattle.std.proofs.lemmas.Result.{err_from_is_err_and}
-use Rattle.gtd_runs.proofs.PutFacts.{one_put, one_short, puts_cut, puts_nothing, puts_then}
+use Rattle.gtd_runs.specs.facts.PutFacts.{one_put, one_short, puts_cut, puts_nothing, puts_then}
 use Rattle.gtd_runs.specs.declared.putting.Progress.{Progress}
 use Rattle.gtd_migrate.specs.Migrated.{row_line}
 use Rattle.gtd_migrate.proofs.RowsFacts.{more_rows, rows_left, rows_split}
@@ -15,8 +15,10 @@ returns-in_err-write_line-clause-puts g c =
     let rows = c.args.rows.now in
     let left = map row_line (drop at rows) in
     rw (p.1, rows_left rows at)
-    (puts_then (Err p.0) (taken c.args.output.now) (taken c.loop-row.output) (taken c.loop-row.output) c.args.progress.now c.loop-row.progress c.loop-row.progress
-    (map row_line (take at rows)) left c.loop-row.invariant.puts (puts_nothing p.0 (taken c.loop-row.output) c.loop-row.progress left))
+    (puts_then (Err p.0) (taken c.args.output.now) (taken c.loop-row.output)
+    (taken c.loop-row.output) c.args.progress.now c.loop-row.progress c.loop-row.progress
+    (map row_line (take at rows)) left c.loop-row.invariant.puts
+    (puts_nothing p.0 (taken c.loop-row.output) c.loop-row.progress left))
 
 pub returns-in_err-put_line-clause-puts : goal.returns-in_err-put_line-clause-puts
 returns-in_err-put_line-clause-puts g c =
@@ -34,7 +36,8 @@ returns-in_err-put_line-clause-puts g c =
     let more = map row_line (drop (suc at) rows) in
     let is : c.as_slice.result.now ≡ row_line r = c.as_slice.ensures.value ∙ c.in_ok-write_line.ensures.text in
     rw (p.1, rows_split rows at r c.loop-row-test.true (sym c.row-item.is))
-    (puts_then (Err p.0) a b d c.args.progress.now q s (map row_line (take at rows)) ((row_line r ∷ []) ++ more) c.loop-row.invariant.puts
+    (puts_then (Err p.0) a b d c.args.progress.now q s (map row_line (take at rows))
+    ((row_line r ∷ []) ++ more) c.loop-row.invariant.puts
     (puts_cut p.0 b d q s (row_line r ∷ []) more
     (one_short p.0 (row_line r) c.in_err-put_line.field-0.0.taken b d q s (rw is at e.some.0) (rw is at e.some.1) e.progress)))
 
@@ -58,7 +61,8 @@ loop-row-preserved g c =
     let written = ap (λ (t : Progress). t.written) e.progress in
     record {
       puts = rw (more_rows rows at r c.loop-row-test.true (sym c.row-item.is))
-          (puts_then (Ok tt) (taken c.args.output.now) b d c.args.progress.now q s (map row_line (take at rows)) (row_line r ∷ []) i.puts
+          (puts_then (Ok tt) (taken c.args.output.now) b d c.args.progress.now q s (map row_line (take at rows))
+          (row_line r ∷ []) i.puts
           (one_put (row_line r) b d q s (rw is at e.all) (rw is at e.progress)));
       written = (let w = i.written in omega arith);
       lines = (let l = i.lines in omega arith);

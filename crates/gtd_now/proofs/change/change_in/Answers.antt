@@ -1,12 +1,13 @@
 use Rattle.gtd_core.specs.Whole.{whole}
-use Rattle.gtd_eval.proofs.Repeats.{changes-in}
+use Rattle.gtd_eval.specs.facts.Repeats.{changes-in}
 use Rattle.gtd_eval.specs.Cursors.{cursor_list}
-use Rattle.gtd_roads.specs.Closing.{IsOpen}
+use Rattle.gtd_records.specs.Closing.{IsOpen}
 use Rattle.gtd_now.proofs.change.change_in.Goals as goal
 
 pub returns : goal.returns
 returns c = record {
-  change = changes-in (IsOpen c.args.found.now c.args.element c.args.direction c.args.vehicle) (whole c.args.days).from (whole c.args.days).until
+  change = changes-in (IsOpen c.args.found.now c.args.element c.args.direction c.args.vehicle) (whole c.args.days).from
+      (whole c.args.days).until
       c.args.second.0 (cursor_list c.in_ok-open.open) c.in_ok-open.ensures.seconds c.requires.inside.0
       c.next_change.result (rw (← c.until.ensures.value) c.next_change.ensures.change);
 }

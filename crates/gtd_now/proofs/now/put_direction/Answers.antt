@@ -1,11 +1,10 @@
-use Rattle.std.proofs.Common.{◌≡◌, ap, refl, arith, ◌<◌, ◌≤◌, ◌+◌, ◌^◌, ℕ, List, [], ◌∷◌, length}
-use Rattle.std.specs.Prelude.{Ok, Err}
+use Rattle.std.proofs.Common.{ap, refl, arith, [], ◌∷◌, length}
+use Rattle.std.specs.Prelude.{Err}
 use Rattle.std.proofs.lemmas.Result.{err_from_is_err_and}
-use Rattle.gtd_runs.proofs.PutFacts.{one_put, one_short, puts_nothing}
-use Rattle.gtd_schedule.proofs.TextFacts.{texts_of}
+use Rattle.gtd_runs.specs.facts.PutFacts.{one_put, one_short, puts_nothing}
+use Rattle.gtd_schedule.specs.facts.TextFacts.{texts_of}
 use Rattle.gtd_now.proofs.NowFacts.{one_lines}
-use Rattle.gtd_now.specs.Lines.{most_bytes}
-use Rattle.gtd_now.specs.Now.{AreLines, IsLine}
+use Rattle.gtd_now.specs.Now.{AreLines}
 use Rattle.gtd_now.proofs.now.put_direction.Goals as goal
 
 pub returns-in_err-write_line-clause-puts : goal.returns-in_err-write_line-clause-puts
@@ -27,10 +26,12 @@ returns-in_err-put_line-clause-puts g c =
     let b = g.O.Output.taken c.put_line.new.output in
     let line = c.as_slice.result.now in
     let e = c.in_err-put_line.ensures in
-    rw (p.1) (texts_of (AreLines c.args.found.now c.args.vehicle c.args.second.0 c.args.element c.args.direction) (Err p.0) a b c.args.progress.now c.put_line.new.progress
+    rw (p.1) (texts_of (AreLines c.args.found.now c.args.vehicle c.args.second.0 c.args.element c.args.direction)
+    (Err p.0) a b c.args.progress.now c.put_line.new.progress
     (line ∷ []) (one_lines c.args.found.now c.args.vehicle c.args.second.0 c.args.element c.args.direction)
     (record { line = line; is_line = rw (c.as_slice.ensures.value) (c.in_ok-write_line.ensures.line); each = refl })
-    (one_short p.0 line c.in_err-put_line.field-0.0.taken a b c.args.progress.now c.put_line.new.progress e.some.0 e.some.1 e.progress))
+    (one_short p.0 line c.in_err-put_line.field-0.0.taken a b c.args.progress.now c.put_line.new.progress e.some.0 e.some.1
+    e.progress))
 
 pub returns-clause-puts : goal.returns-clause-puts
 returns-clause-puts g c =

@@ -1,38 +1,42 @@
-use Rattle.std.proofs.Common.{◌≡◌, ◌∙◌, sym, ap, refl, subst, arith, ◌<◌, ◌+◌, ℕ, List, ◌∷◌, [], drop, get_or, length, Option, add-one}
+use Rattle.std.proofs.Common.{◌≡◌, ◌∙◌, sym, ap, refl, subst, arith, ◌<◌, ◌+◌, ℕ, List, ◌∷◌, [], drop, get_or, length, Option}
+use Rattle.std.proofs.Common.{add-one}
 use Rattle.std.specs.Prelude.{Ok, Err}
 use Rattle.std.proofs.Math.Seq.{drop-cons, drop-length}
 use Rattle.std.proofs.lemmas.Result.{err_from_is_err_and}
 use Rattle.std.specs.Prelude.{ℤ}
-use Rattle.gtd_roads.specs.Restriction.{Restriction}
-use Rattle.gtd_runs.proofs.PutFacts.{puts_none}
+use Rattle.gtd_records.specs.Restriction.{Restriction}
+use Rattle.gtd_runs.specs.facts.PutFacts.{puts_none}
 use Rattle.gtd_runs.specs.Putting.{PutsText}
 use Rattle.gtd_runs.specs.declared.putting.Progress.{Progress}
 use Rattle.gtd_runs.specs.declared.putting.Stop.{Stop}
 use Rattle.gtd_now.specs.Now.{AreElementLines, AreLinesOf}
 use Rattle.gtd_now.proofs.NowFacts.{one_element_lines}
-use Rattle.gtd_schedule.proofs.TextFacts.{CarriesText, texts_cut, texts_then}
+use Rattle.gtd_schedule.specs.facts.TextFacts.{CarriesText, texts_cut, texts_then}
 use Rattle.gtd_now.proofs.now.put_elements.Goals as goal
 
 module _ (found : List Restriction) (vehicle : ℕ) (second : ℤ) (elements : List ℕ) (i : ℕ) (here : i < length elements)
     (a b d : Option (List ℕ)) (p q t : Progress)
-    (carries : CarriesText (AreLinesOf found vehicle second elements) a p (AreLinesOf found vehicle second (drop i elements)) b q) where
-  next : drop i elements ≡ get_or elements i 0 ∷ drop (i + 1) elements
-  next = drop-cons elements i 0 here ∙ ap (λ (n : ℕ). get_or elements i 0 ∷ drop n elements) (sym (add-one i))
+    (carries : CarriesText (AreLinesOf found vehicle second elements) a p (AreLinesOf found vehicle second (drop i elements)) b q)
+  where
+    next : drop i elements ≡ get_or elements i 0 ∷ drop (i + 1) elements
+    next = drop-cons elements i 0 here ∙ ap (λ (n : ℕ). get_or elements i 0 ∷ drop n elements) (sym (add-one i))
 
-  -- one element more
-  one_more : PutsText (AreElementLines found vehicle second (get_or elements i 0)) (Ok tt) b d q t
-      → CarriesText (AreLinesOf found vehicle second elements) a p (AreLinesOf found vehicle second (drop (i + 1) elements)) d t
-  one_more put = λ r c s then. carries r c s
-      (subst (λ (l : List ℕ). PutsText (AreLinesOf found vehicle second l) r b c q s) (sym next)
-      (texts_then (AreElementLines found vehicle second (get_or elements i 0)) (AreLinesOf found vehicle second (drop (i + 1) elements)) r b d c q t s
-      (one_element_lines found vehicle second (get_or elements i 0)) put then))
+    -- one element more
+    one_more : PutsText (AreElementLines found vehicle second (get_or elements i 0)) (Ok tt) b d q t
+        → CarriesText (AreLinesOf found vehicle second elements) a p (AreLinesOf found vehicle second (drop (i + 1) elements)) d t
+    one_more put = λ r c s then. carries r c s
+        (subst (λ (l : List ℕ). PutsText (AreLinesOf found vehicle second l) r b c q s) (sym next)
+        (texts_then (AreElementLines found vehicle second (get_or elements i 0))
+        (AreLinesOf found vehicle second (drop (i + 1) elements)) r b d c q t s
+        (one_element_lines found vehicle second (get_or elements i 0)) put then))
 
-  -- the putting stopped within the next
-  stopped : (x : Stop) → PutsText (AreElementLines found vehicle second (get_or elements i 0)) (Err x) b d q t
-      → PutsText (AreLinesOf found vehicle second elements) (Err x) a d p t
-  stopped x put = carries (Err x) d t
-      (subst (λ (l : List ℕ). PutsText (AreLinesOf found vehicle second l) (Err x) b d q t) (sym next)
-      (texts_cut (AreElementLines found vehicle second (get_or elements i 0)) (AreLinesOf found vehicle second (drop (i + 1) elements)) x b d q t put))
+    -- the putting stopped within the next
+    stopped : (x : Stop) → PutsText (AreElementLines found vehicle second (get_or elements i 0)) (Err x) b d q t
+        → PutsText (AreLinesOf found vehicle second elements) (Err x) a d p t
+    stopped x put = carries (Err x) d t
+        (subst (λ (l : List ℕ). PutsText (AreLinesOf found vehicle second l) (Err x) b d q t) (sym next)
+        (texts_cut (AreElementLines found vehicle second (get_or elements i 0))
+        (AreLinesOf found vehicle second (drop (i + 1) elements)) x b d q t put))
 
 -- no element is left
 none_left : (found : List Restriction) (vehicle : ℕ) (second : ℤ) (elements : List ℕ) (i : ℕ) → i ≡ length elements
@@ -41,7 +45,8 @@ none_left : (found : List Restriction) (vehicle : ℕ) (second : ℤ) (elements 
     → PutsText (AreLinesOf found vehicle second elements) (Ok tt) a b p q
 none_left found vehicle second elements i end a b p q carries =
     let left : drop i elements ≡ [] = ap (λ (n : ℕ). drop n elements) end ∙ drop-length elements in
-    carries (Ok tt) b q (subst (λ (l : List ℕ). PutsText (AreLinesOf found vehicle second l) (Ok tt) b b q q) (sym left) ([], refl, puts_none b q))
+    carries (Ok tt) b q (subst (λ (l : List ℕ). PutsText (AreLinesOf found vehicle second l) (Ok tt) b b q q) (sym left)
+    ([], refl, puts_none b q))
 
 pub loop-element-init : goal.loop-element-init
 loop-element-init g c = record {
@@ -67,9 +72,11 @@ pub returns-in_err-put_element-clause-puts : goal.returns-in_err-put_element-cla
 returns-in_err-put_element-clause-puts g c =
     let p = err_from_is_err_and c.from_residual.result c.from_residual.ensures.1 in
     let taken = g.O.Output.taken in
-    rw (p.1) (stopped c.args.found.now c.args.vehicle c.args.second.0 c.args.elements.now c.loop-element.element-index (omega arith)
+    rw (p.1) (stopped c.args.found.now c.args.vehicle c.args.second.0 c.args.elements.now c.loop-element.element-index
+    (omega arith)
     (taken c.args.output.now) (taken c.loop-element.output) (taken c.put_element.new.output)
-    c.args.progress.now c.loop-element.progress c.put_element.new.progress c.loop-element.invariant.carries p.0 c.in_err-put_element.ensures.puts)
+    c.args.progress.now c.loop-element.progress c.put_element.new.progress c.loop-element.invariant.carries p.0
+    c.in_err-put_element.ensures.puts)
 
 pub loop-element-preserved : goal.loop-element-preserved
 loop-element-preserved g c =
@@ -80,7 +87,8 @@ loop-element-preserved g c =
     let l = i.lines in
     let taken = g.O.Output.taken in
     record {
-      carries = one_more c.args.found.now c.args.vehicle c.args.second.0 c.args.elements.now c.loop-element.element-index (omega arith)
+      carries = one_more c.args.found.now c.args.vehicle c.args.second.0 c.args.elements.now c.loop-element.element-index
+          (omega arith)
           (taken c.args.output.now) (taken c.loop-element.output) (taken c.put_element.new.output)
           c.args.progress.now c.loop-element.progress c.put_element.new.progress i.carries put.puts;
       written = omega arith;
@@ -91,4 +99,5 @@ loop-element-preserved g c =
 pub returns-clause-puts : goal.returns-clause-puts
 returns-clause-puts g c =
     none_left c.args.found.now c.args.vehicle c.args.second.0 c.args.elements.now c.loop-element.element-index (omega arith)
-    (g.O.Output.taken c.args.output.now) (g.O.Output.taken c.loop-element.output) c.args.progress.now c.loop-element.progress c.loop-element.invariant.carries
+    (g.O.Output.taken c.args.output.now) (g.O.Output.taken c.loop-element.output) c.args.progress.now c.loop-element.progress
+    c.loop-element.invariant.carries

@@ -1,12 +1,12 @@
 use Rattle.std.proofs.Common.{refl, arith, [], ◌∷◌}
 use Rattle.std.specs.Prelude.{Ok, Err}
 use Rattle.std.proofs.lemmas.Result.{err_from_is_err_and}
-use Rattle.gtd_runs.proofs.PutFacts.{one_put, one_short, puts_cut}
+use Rattle.gtd_runs.specs.facts.PutFacts.{one_put, one_short, puts_cut}
 use Rattle.gtd_runs.specs.Putting.{PutsText}
 use Rattle.gtd_now.specs.Now.{AreLinesOf, IsNow, header_line}
-use Rattle.gtd_schedule.proofs.ScheduleFacts.{few_elements}
+use Rattle.gtd_schedule.specs.facts.ScheduleFacts.{few_elements}
 use Rattle.gtd_now.proofs.NowFacts.{IsHeader, one_header, one_now, now_lines, now_parts}
-use Rattle.gtd_schedule.proofs.TextFacts.{Then, texts_as, texts_ended, texts_then}
+use Rattle.gtd_schedule.specs.facts.TextFacts.{Then, texts_as, texts_ended, texts_then}
 use Rattle.gtd_now.proofs.now.put_now.Goals as goal
 
 pub returns-in_err-put_line-clause-puts : goal.returns-in_err-put_line-clause-puts
@@ -46,7 +46,8 @@ returns-in_err-put_elements-clause-puts g c =
     (header_line ∷ [], refl, one_put header_line a b before now e.all e.progress) in
     rw (p.1) (texts_as (Then header rest) (IsNow found vehicle second) (Err p.0) a d before after
     (now_lines found vehicle second elements named) (now_parts found vehicle second elements named)
-    (texts_then header rest (Err p.0) a b d before now after (one_header found vehicle second) first c.in_err-put_elements.ensures.puts))
+    (texts_then header rest (Err p.0) a b d before now after
+    (one_header found vehicle second) first c.in_err-put_elements.ensures.puts))
 
 pub returns-clause-puts : goal.returns-clause-puts
 returns-clause-puts g c =
@@ -70,5 +71,6 @@ returns-clause-puts g c =
     texts_ended (IsNow found vehicle second) c.finish.result a d f before after (one_now found vehicle second)
     (texts_as (Then header rest) (IsNow found vehicle second) (Ok tt) a d before after
     (now_lines found vehicle second elements named) (now_parts found vehicle second elements named)
-    (texts_then header rest (Ok tt) a b d before now after (one_header found vehicle second) first c.in_ok-put_elements.ensures.puts))
+    (texts_then header rest (Ok tt) a b d before now after (one_header found vehicle second) first
+    c.in_ok-put_elements.ensures.puts))
     c.finish.ensures.bytes

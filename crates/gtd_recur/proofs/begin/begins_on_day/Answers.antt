@@ -1,9 +1,10 @@
 use Rattle.std.proofs.Common.{◌≡◌, ◌∙◌, sym, refl, Bool, true, false, ◌&&◌, ◌||◌, is_some, to_z, of_z, w64, to_z-of_z}
 use Rattle.gtd_calendar.specs.Calendar.{weekday_of}
-use Rattle.gtd_calendar.specs.Fields.{day_fields}
+use Rattle.gtd_calendar.specs.ComputedFields.{day_fields}
 use Rattle.gtd_core.specs.declared.start.StartParts.{StartParts}
 use Rattle.gtd_calendar.specs.declared.day.DayFields.{DayFields}
-use Rattle.gtd_recur.specs.Begins.{agrees, agrees_or_least, begins_on, gives_clock, gives_day, is_weekday, least_day, place_agrees, weekday_agrees, year_agrees}
+use Rattle.gtd_recur.specs.Begins.{agrees, agrees_or_least, begins_on, gives_clock, gives_day, is_weekday, least_day}
+use Rattle.gtd_recur.specs.Begins.{place_agrees, weekday_agrees, year_agrees}
 use Rattle.gtd_recur.proofs.begin.begins_on_day.Goals as goal
 
 -- a conjunction whose last part but one is false
@@ -19,19 +20,22 @@ fails true true true true true true w l h = rw h refl
 -- a start does not begin on a day of another weekday
 unfit : (p : StartParts) (f : DayFields) → weekday_agrees p f ≡ false → begins_on p f ≡ false
 unfit p f h =
-    fails (year_agrees p f) (agrees_or_least p.month (is_some p.week || (gives_day p || gives_clock p)) 1 f.month) (agrees p.week f.week) (agrees p.day f.day)
+    fails (year_agrees p f) (agrees_or_least p.month (is_some p.week || (gives_day p || gives_clock p)) 1 f.month)
+    (agrees p.week f.week) (agrees p.day f.day)
     (place_agrees p.nth f.nth f.weekday) (place_agrees p.nth_back f.nth_back f.weekday) (weekday_agrees p f) (least_day p f) h
 
 pub returns-then-not-is_weekday : goal.returns-then-not-is_weekday
 returns-then-not-is_weekday c =
     let plain : to_z w64 (of_z w64 c.args.day) ≡ c.args.day = to_z-of_z c.ranges.day in
     let weekday : c.weekday.result ≡ weekday_of c.args.day = rw plain at c.weekday.ensures.value in
-    let other : is_weekday c.args.start.now (weekday_of c.args.day) ≡ false = rw weekday at (sym c.is_weekday.ensures ∙ c.if-not-is_weekday.true) in
+    let other : is_weekday c.args.start.now (weekday_of c.args.day) ≡ false =
+    rw weekday at (sym c.is_weekday.ensures ∙ c.if-not-is_weekday.true) in
     sym (unfit c.args.start.now (day_fields c.args.day) other)
 
 pub returns-then-asks_no_date : goal.returns-then-asks_no_date
 returns-then-asks_no_date c =
     let plain : to_z w64 (of_z w64 c.args.day) ≡ c.args.day = to_z-of_z c.ranges.day in
     let weekday : c.weekday.result ≡ weekday_of c.args.day = rw plain at c.weekday.ensures.value in
-    let fits : is_weekday c.args.start.now (weekday_of c.args.day) ≡ true = rw weekday at (sym c.is_weekday.ensures ∙ c.if-not-is_weekday.false) in
+    let fits : is_weekday c.args.start.now (weekday_of c.args.day) ≡ true =
+    rw weekday at (sym c.is_weekday.ensures ∙ c.if-not-is_weekday.false) in
     c.if-asks_no_date.true ∙ sym (c.asks_no_date.ensures c.if-asks_no_date.true (day_fields c.args.day) ∙ fits)

@@ -7,7 +7,8 @@ pub returns : goal.returns
 returns c =
     let minute : c.is_some.result ≡ is_some c.args.start.now.minute = c.is_some.ensures in
     let second : c.is_some-finer_than_minute.result ≡ is_some c.args.start.now.second = c.is_some-finer_than_minute.ensures in
-    let finer = or_else c.is_some.result c.is_some-finer_than_minute.result c.if-is_some.finer_than_hour (elim c.if-is_some.branch [
+    let finer = or_else c.is_some.result c.is_some-finer_than_minute.result c.if-is_some.finer_than_hour
+    (elim c.if-is_some.branch [
       | then-is_some w ↦ inl (w.if-is_some.true, w.finer_than_hour-is ∙ w.if-is_some.true)
       | else-is_some w ↦ inr (w.if-is_some.false, w.finer_than_hour-is)
     ]) in

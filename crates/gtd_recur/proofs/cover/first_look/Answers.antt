@@ -1,9 +1,7 @@
-use Rattle.std.proofs.Common.{◌≡◌, ◌∙◌, ℕ, ◌<◌, ◌≤◌, ◌+◌, arith, inl, inr, refl, sym, pos, ◌-ℤ◌, to_z, of_z, w64, true, false}
+use Rattle.std.proofs.Common.{◌≡◌, ◌∙◌, ◌≤◌, arith, inl, inr, sym, pos, ◌-ℤ◌, to_z, of_z, w64}
 use Rattle.std.proofs.lemmas.Bool.{cases_lt}
-use Rattle.gtd_calendar.proofs.Signed.{signed_arith}
+use Rattle.gtd_calendar.specs.facts.Signed.{signed_arith}
 use Rattle.gtd_core.specs.Whole.{from_day}
-use Rattle.gtd_calendar.specs.Fields.{day_fields}
-use Rattle.gtd_recur.specs.Begins.{begins_on}
 use Rattle.gtd_recur.proofs.cover.first_look.Goals.{then-lookback-lt-FURTHEST, else-lookback-lt-FURTHEST}
 use Rattle.gtd_recur.proofs.cover.first_look.Goals as goal
 
@@ -19,10 +17,16 @@ returns-then-begins_on_day c =
     let b = c.from.ensures in
     let test = c.loop-back-test.true in
     let low : c.loop-back.back ≤ c.args.lookback = omega (arith, most, test) in
-    let plain : to_z w64 (of_z w64 (to_z w64 (of_z w64 c.from_day.result) -ℤ to_z w64 (of_z w64 c.from.result))) ≡ from_day h -ℤ pos c.loop-back.back
+    let plain : to_z w64 (of_z w64 (to_z w64 (of_z w64 c.from_day.result) -ℤ to_z w64 (of_z w64 c.from.result)))
+    ≡ from_day h -ℤ pos c.loop-back.back
     = omega (arith, signed_arith, is, b, h.not_early, h.not_late, h.not_empty, l, low) in
     let here = rw plain at c.begins_on_day.ensures in
-    record { look = record { within = low; reason = inl (omega (arith, c.loop-back.auto.back), sym here ∙ c.if-begins_on_day.true) } }
+    record {
+      look = record {
+        within = low;
+        reason = inl (omega (arith, c.loop-back.auto.back), sym here ∙ c.if-begins_on_day.true);
+      };
+    }
 
 pub loop-back-preserved : goal.loop-back-preserved
 loop-back-preserved c =
@@ -36,7 +40,8 @@ loop-back-preserved c =
     let b = c.from.ensures in
     let test = c.loop-back-test.true in
     let low : c.loop-back.back ≤ c.args.lookback = omega (arith, most, test) in
-    let plain : to_z w64 (of_z w64 (to_z w64 (of_z w64 c.from_day.result) -ℤ to_z w64 (of_z w64 c.from.result))) ≡ from_day h -ℤ pos c.loop-back.back
+    let plain : to_z w64 (of_z w64 (to_z w64 (of_z w64 c.from_day.result) -ℤ to_z w64 (of_z w64 c.from.result)))
+    ≡ from_day h -ℤ pos c.loop-back.back
     = omega (arith, signed_arith, is, b, h.not_early, h.not_late, h.not_empty, l, low) in
     let here = rw plain at c.begins_on_day.ensures in
     λ k some lt. elim (cases_lt k c.loop-back.back) [

@@ -1,6 +1,6 @@
 use Rattle.std.proofs.Common.{◌≡◌, ◌<◌, ℕ, pos, ◌-ℤ◌, false}
 use Rattle.gtd_core.specs.Whole.{from_day}
-use Rattle.gtd_calendar.specs.Fields.{day_fields}
+use Rattle.gtd_calendar.specs.ComputedFields.{day_fields}
 use Rattle.gtd_recur.specs.Begins.{begins_on}
 use Rattle.gtd_recur.proofs.cover.first_look.Given as goal
 

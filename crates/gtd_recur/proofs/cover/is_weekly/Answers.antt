@@ -1,2 +1,0 @@
-use Rattle.gtd_recur.proofs.WeekLemmas.{week-forward, week-back}
-use Rattle.gtd_recur.proofs.cover.is_weekly.Goals as goal

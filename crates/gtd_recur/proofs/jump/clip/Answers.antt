@@ -1,5 +1,5 @@
 use Rattle.std.proofs.Common.{rules, arith, ◌≡◌, ◌<ℤ◌, FitsSigned, to_z, of_z, to_z-of_z, w64}
-use Rattle.gtd_calendar.proofs.Signed.{signed_arith}
+use Rattle.gtd_calendar.specs.facts.Signed.{signed_arith}
 use Rattle.gtd_recur.proofs.JumpLemmas.{clipped}
 use Rattle.gtd_recur.proofs.jump.clip.Goals as goal
 
@@ -16,4 +16,8 @@ returns c =
     let day : to_z w64 (of_z w64 c.args.day) ≡ c.args.day = to_z-of_z c.ranges.day in
     let end : to_z w64 (of_z w64 c.args.end) ≡ c.args.end = to_z-of_z c.ranges.end in
     let low : c.later-from.result <ℤ c.args.end = omega (arith, signed_arith, c.if-from-end.false) in
-    record { clipped = rw (from, until) (clipped c.args.days.from c.args.days.until c.args.day c.args.end c.later-from.result c.earlier.result c.requires.some c.requires.open (rw (first, day) at c.later-from.ensures) low (rw (last, end) at c.earlier.ensures)) }
+    record {
+      clipped = rw (from, until) (clipped c.args.days.from c.args.days.until c.args.day c.args.end c.later-from.result
+          c.earlier.result c.requires.some c.requires.open (rw (first, day) at c.later-from.ensures) low
+          (rw (last, end) at c.earlier.ensures));
+    }

@@ -1,7 +1,8 @@
 use Rattle.std.proofs.Common.{rules, arith, inl, inr, ◌≡◌, ◌≤ℤ◌, ◌<ℤ◌, pos, FitsSigned, to_z, of_z, to_z-of_z, w64, ◌⊎◌}
-use Rattle.gtd_calendar.proofs.Signed.{signed_arith}
+use Rattle.gtd_calendar.specs.facts.Signed.{signed_arith}
 use Rattle.gtd_recur.proofs.JumpLemmas.{year-run, year-past, year-never}
-use Rattle.gtd_recur.proofs.jump.days_of_year.Goals.{then-year-lt1800-via-then-year-lt1800, then-year-lt1800-via-else-year-lt1800+then-year-gt2699}
+use Rattle.gtd_recur.proofs.jump.days_of_year.Goals.{then-year-lt1800-via-then-year-lt1800}
+use Rattle.gtd_recur.proofs.jump.days_of_year.Goals.{then-year-lt1800-via-else-year-lt1800+then-year-gt2699}
 use Rattle.gtd_recur.proofs.jump.days_of_year.Goals as goal
 
 pub returns-then-year-lt1800 : goal.returns-then-year-lt1800
@@ -11,14 +12,21 @@ returns-then-year-lt1800 c =
       | then-year-lt1800-via-then-year-lt1800 w ↦ inl (omega (arith, signed_arith, w.if-year-lt1800.true))
       | then-year-lt1800-via-else-year-lt1800+then-year-gt2699 w ↦ inr (omega (arith, signed_arith, w.if-year-gt2699.true))
     ] in
-    record { run = rw end (year-never c.args.year c.args.month c.args.day c.args.end c.requires.day_in c.requires.order c.requires.end_in outside) }
+    record {
+      run = rw end (year-never c.args.year c.args.month c.args.day c.args.end c.requires.day_in c.requires.order
+          c.requires.end_in outside);
+    }
 
 pub returns-then-day-months : goal.returns-then-day-months
 returns-then-day-months c =
     let year : to_z w64 (of_z w64 c.args.year) ≡ c.args.year = to_z-of_z c.ranges.year in
     let day : to_z w64 (of_z w64 c.args.day) ≡ c.args.day = to_z-of_z c.ranges.day in
     let end : to_z w64 (of_z w64 c.args.end) ≡ c.args.end = to_z-of_z c.ranges.end in
-    record { run = year-run c.args.year c.args.month c.unwrap_or.result c.unwrap_or-2.result c.months-months.result.from c.months-months.result.until c.args.day c.args.end c.clip.result.from c.clip.result.until c.unwrap_or.ensures c.unwrap_or-2.ensures (rw year at c.months-months.ensures.months) (rw (day, end) at c.clip.ensures.clipped) }
+    record {
+      run = year-run c.args.year c.args.month c.unwrap_or.result c.unwrap_or-2.result c.months-months.result.from
+          c.months-months.result.until c.args.day c.args.end c.clip.result.from c.clip.result.until c.unwrap_or.ensures
+          c.unwrap_or-2.ensures (rw year at c.months-months.ensures.months) (rw (day, end) at c.clip.ensures.clipped);
+    }
 
 pub returns-else-day-months : goal.returns-else-day-months
 returns-else-day-months c =
@@ -26,4 +34,8 @@ returns-else-day-months c =
     let end : to_z w64 (of_z w64 c.args.end) ≡ c.args.end = to_z-of_z c.ranges.end in
     let fits : FitsSigned w64 c.months-months.result.until = search rules in
     let past : c.months-months.result.until ≤ℤ c.args.day = omega (arith, signed_arith, c.if-day-months.false) in
-    record { run = rw end (year-past c.args.year c.args.month c.unwrap_or.result c.unwrap_or-2.result c.months-months.result.from c.months-months.result.until c.args.day c.args.end c.unwrap_or.ensures c.unwrap_or-2.ensures (rw year at c.months-months.ensures.months) c.requires.order past) }
+    record {
+      run = rw end (year-past c.args.year c.args.month c.unwrap_or.result c.unwrap_or-2.result c.months-months.result.from
+          c.months-months.result.until c.args.day c.args.end c.unwrap_or.ensures c.unwrap_or-2.ensures
+          (rw year at c.months-months.ensures.months) c.requires.order past);
+    }

@@ -1,5 +1,5 @@
 use Rattle.std.proofs.Common.{arith, inl, inr, ◌≡◌, pos, true, to_z, of_z, to_z-of_z, w64, is_some, ◌⊎◌, None}
-use Rattle.gtd_calendar.proofs.Signed.{signed_arith}
+use Rattle.gtd_calendar.specs.facts.Signed.{signed_arith}
 use Rattle.std.specs.Prelude.{IsTrue}
 use Rattle.gtd_recur.specs.Begins.{month_and_year_fit}
 use Rattle.gtd_recur.specs.Jumps.{IsOf, IsOfMonth}
@@ -14,8 +14,12 @@ returns-in-Some c =
     let given : to_z w64 (of_z w64 c.from.result) ≡ pos c.in-Some.year = omega (arith, signed_arith) in
     let none = none_given _ c.if-is_none.ensures in
     record {
-      run = run-same (IsOf (pos c.in-Some.year) c.args.start.now.month) (λ n. IsTrue (month_and_year_fit c.args.start.now n)) c.args.day c.args.end c.days_of_year.result.from c.days_of_year.result.until
-          (λ n h. fit-year c.args.start.now n c.in-Some.year none c.in-Some.is h) (λ n h. year-fit c.args.start.now n c.in-Some.year none c.in-Some.is h) (rw (day, end, given) at c.days_of_year.ensures.run);
+      run = run-same (IsOf (pos c.in-Some.year) c.args.start.now.month)
+          (λ n. IsTrue (month_and_year_fit c.args.start.now n)) c.args.day c.args.end c.days_of_year.result.from
+          c.days_of_year.result.until
+          (λ n h. fit-year c.args.start.now n c.in-Some.year none c.in-Some.is h)
+          (λ n h. year-fit c.args.start.now n c.in-Some.year none c.in-Some.is h)
+          (rw (day, end, given) at c.days_of_year.ensures.run);
     }
 
 pub returns-in-Some-month : goal.returns-in-Some-month
@@ -27,6 +31,9 @@ returns-in-Some-month c =
       | else-is_none w ↦ inl (w.if-is_none.ensures)
     ] in
     record {
-      run = run-same (IsOfMonth c.in-Some-month.month) (λ n. IsTrue (month_and_year_fit c.args.start.now n)) c.args.day c.args.end c.days_of_month.result.from c.days_of_month.result.until
-          (λ n h. fit-month c.args.start.now n c.in-Some-month.month free c.in-Some-month.is h) (λ n h. month-fit c.args.start.now n c.in-Some-month.month c.in-Some-month.is h) (rw (day, end) at c.days_of_month.ensures.run);
+      run = run-same (IsOfMonth c.in-Some-month.month) (λ n. IsTrue (month_and_year_fit c.args.start.now n)) c.args.day c.args.end
+          c.days_of_month.result.from c.days_of_month.result.until
+          (λ n h. fit-month c.args.start.now n c.in-Some-month.month free c.in-Some-month.is h)
+          (λ n h. month-fit c.args.start.now n c.in-Some-month.month c.in-Some-month.is h)
+          (rw (day, end) at c.days_of_month.ensures.run);
     }

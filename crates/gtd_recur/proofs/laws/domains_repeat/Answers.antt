@@ -1,4 +1,4 @@
-use Rattle.gtd_recur.proofs.CycleLemmas.{in_stretches-forward, in_stretches-back}
+use Rattle.gtd_recur.specs.facts.CycleLemmas.{in_stretches-forward, in_stretches-back}
 use Rattle.gtd_recur.proofs.laws.domains_repeat.Goals as goal
 
 pub returns : goal.returns

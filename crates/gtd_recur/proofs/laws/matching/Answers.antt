@@ -1,4 +1,4 @@
-use Rattle.gtd_recur.proofs.MatchLemmas.{begins-matches}
+use Rattle.gtd_recur.specs.facts.MatchLemmas.{begins-matches}
 use Rattle.gtd_recur.proofs.laws.matching.Goals as goal
 
 pub returns : goal.returns

@@ -12,6 +12,7 @@ returns-clause-order c = λ d h. window-ascending (start_parts d.start) (window_
 
 pub returns-clause-members : goal.returns-clause-members
 returns-clause-members c = λ d h b. (
-  λ has. let on = has-window (start_parts d.start) (window_begin d h) (to_day h) b (window-order d h) has in (starts_of-begins (start_parts d.start) (window d h) b has, on.0, on.1),
+  λ has. let on = has-window (start_parts d.start) (window_begin d h) (to_day h) b (window-order d h) has in
+      (starts_of-begins (start_parts d.start) (window d h) b has, on.0, on.1),
   λ k. begins-window (start_parts d.start) (window_begin d h) (to_day h) b k.0 k.1 k.2,
 )

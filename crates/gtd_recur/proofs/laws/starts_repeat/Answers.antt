@@ -1,4 +1,4 @@
-use Rattle.gtd_recur.proofs.CycleLemmas.{begins-cycle}
+use Rattle.gtd_recur.specs.facts.CycleLemmas.{begins-cycle}
 use Rattle.gtd_recur.proofs.laws.starts_repeat.Goals as goal
 
 pub returns : goal.returns

@@ -1,4 +1,4 @@
-use Rattle.gtd_recur.proofs.BoundLemmas.{work_of-le}
+use Rattle.gtd_recur.specs.facts.BoundLemmas.{work_of-le}
 use Rattle.gtd_recur.proofs.laws.work_is_bounded.Goals as goal
 
 pub returns : goal.returns

@@ -1,4 +1,4 @@
-use Rattle.std.proofs.Common.{◌≡◌, ◌≤◌, ◌+◌, ◌-◌, ◌∙◌, ◌++◌, sym, ap, refl, arith, ℕ, List, length, take, drop, length-drop}
+use Rattle.std.proofs.Common.{◌≡◌, ◌+◌, ◌-◌, ◌∙◌, ◌++◌, sym, arith, ℕ, List, length, take, drop, length-drop}
 use Rattle.std.proofs.KnownBytes.{Appends-trans}
 use Rattle.std.proofs.Math.Seq.{take-add}
 use Rattle.std.proofs.lemmas.List.{take_all}
@@ -15,6 +15,7 @@ loop-taken-preserved g c =
     record {
       within = omega (arith, c.in-Took.ensures.within);
       bytes = rw (rest_taken c.args.bytes.now c.loop-taken.taken c.in-Took.n) at
-          (Appends-trans (taken c.args.output.now) (taken c.loop-taken.output) (taken c.put.new.self) _ _ i.bytes c.in-Took.ensures.bytes);
+          (Appends-trans (taken c.args.output.now) (taken c.loop-taken.output)
+          (taken c.put.new.self) _ _ i.bytes c.in-Took.ensures.bytes);
       failures = c.in-Took.ensures.failures ∙ i.failures;
     }

@@ -1,5 +1,4 @@
-use Rattle.gtd_runs.proofs.RunFacts.{accepted_are_put, refused_put_nothing, unaccepted_put_nothing}
-use Rattle.gtd_runs.specs.Subjects.{IsAccepted}
+use Rattle.gtd_runs.specs.facts.RunFacts.{accepted_are_put, refused_put_nothing, unaccepted_put_nothing}
 use Rattle.gtd_runs.proofs.report.run_report.Goals as goal
 
 pub returns-clause-accepted : goal.returns-clause-accepted

@@ -1,9 +1,9 @@
 use Rattle.std.specs.Prelude.{Err}
 use Rattle.std.proofs.lemmas.Result.{err_from_is_err_and}
-use Rattle.gtd_roads.specs.declared.direction.Direction.TheVariants.{Positive, Negative}
+use Rattle.gtd_records.specs.declared.direction.Direction.TheVariants.{Positive, Negative}
 use Rattle.gtd_schedule.specs.Schedule.{AreElementLines, AreLines}
-use Rattle.gtd_schedule.proofs.ScheduleFacts.{element_lines, element_parts, one_lines}
-use Rattle.gtd_schedule.proofs.TextFacts.{Then, texts_as, texts_cut, texts_then}
+use Rattle.gtd_schedule.specs.facts.ScheduleFacts.{element_lines, element_parts, one_lines}
+use Rattle.gtd_schedule.specs.facts.TextFacts.{Then, texts_as, texts_cut, texts_then}
 use Rattle.gtd_schedule.proofs.elements.put_element.Goals as goal
 
 pub returns-in_err-put_direction-clause-puts : goal.returns-in_err-put_direction-clause-puts

@@ -1,20 +1,22 @@
-use Rattle.std.proofs.Common.{◌≡◌, ◌∙◌, ap, refl, arith, ◌<◌, ◌≤◌, ◌+◌, ◌*◌, ◌^◌, ℕ, suc, List, [], ◌∷◌, ◌++◌, length, map, take, subst, length-append}
+use Rattle.std.proofs.Common.{◌≡◌, ◌∙◌, ap, refl, arith, ◌<◌, ◌≤◌, ◌+◌, ◌*◌, ◌^◌, ℕ, suc, List, [], ◌∷◌, ◌++◌, length, map, take}
+use Rattle.std.proofs.Common.{subst, length-append}
 use Rattle.std.specs.Prelude.{Ok, Err}
 use Rattle.std.proofs.Math.Seq.{take-length}
 use Rattle.std.proofs.lemmas.List.{take_at, length-take-le}
 use Rattle.std.proofs.lemmas.Result.{err_from_is_err_and}
 use Rattle.gtd_core.specs.Interval.{Interval}
-use Rattle.gtd_roads.specs.declared.direction.Direction.{Direction}
-use Rattle.gtd_runs.proofs.PutFacts.{one_put, one_short, puts_nothing}
+use Rattle.gtd_records.specs.declared.direction.Direction.{Direction}
+use Rattle.gtd_runs.specs.facts.PutFacts.{one_put, one_short, puts_nothing}
 use Rattle.gtd_runs.specs.Putting.{Puts}
 use Rattle.gtd_schedule.specs.Lines.{AreShown, line_head, span_text}
 use Rattle.gtd_schedule.specs.Schedule.{span_line}
-use Rattle.gtd_schedule.proofs.LineFacts.{length-put_line, line_parts}
+use Rattle.gtd_schedule.specs.facts.LineFacts.{length-put_line, line_parts}
 use Rattle.gtd_schedule.proofs.SpanFacts.{carries_none, carries_one, carries_short}
 use Rattle.gtd_schedule.proofs.elements.put_spans.Goals as goal
 
 -- the bytes of a line, from the head and the rest
-whole_line : (e : ℕ) (d : Direction) (v : ℕ) (x : Interval) (head now line : List ℕ) → head ≡ line_head e d v → now ≡ head ++ span_text x → line ≡ now
+whole_line : (e : ℕ) (d : Direction) (v : ℕ) (x : Interval) (head now line : List ℕ) → head ≡ line_head e d v → now ≡ head
+    ++ span_text x → line ≡ now
     → line ≡ span_line e d v x
 whole_line e d v x head now line begins is same = same ∙ is ∙ ap (λ (h : List ℕ). h ++ span_text x) begins ∙ line_parts e d v x
 
@@ -36,7 +38,8 @@ next_lines : (f : Interval → List ℕ) (x : Interval) (xs spans : List Interva
 next_lines f x xs spans is = ap (map f) is
 
 -- there is room for one line more
-room_written : (now old len line n : ℕ) → now + 80 * suc n ≤ old + 80 * len → old + 80 * len < 2 ^ 64 → line ≤ 80 → (now + line < 2 ^ 64) × (now + line + 80 * n ≤ old + 80 * len)
+room_written : (now old len line n : ℕ) → now + 80 * suc n ≤ old + 80 * len → old + 80 * len < 2 ^ 64 → line ≤ 80
+    → (now + line < 2 ^ 64) × (now + line + 80 * n ≤ old + 80 * len)
 room_written now old len line n h k l = (omega arith, omega arith)
 
 room_lines : (now old len n : ℕ) → now + suc n ≤ old + len → old + len < 2 ^ 64 → (now + 1 < 2 ^ 64) × (now + 1 + n ≤ old + len)
@@ -46,7 +49,8 @@ pub loop-span-init : goal.loop-span-init
 loop-span-init g c = record {
   shown = c.requires.shown;
   room = omega (arith, c.len-head.ensures);
-  head = all_head c.len-head.result c.write_head.new.line.items (omega (arith, c.len-head.ensures)) ∙ c.in_ok-write_head.ensures.head;
+  head = all_head c.len-head.result c.write_head.new.line.items (omega (arith, c.len-head.ensures))
+      ∙ c.in_ok-write_head.ensures.head;
   written = omega arith;
   lines = omega arith;
   failures = refl;
@@ -59,12 +63,14 @@ write_span-requires-clause-head g c = c.loop-span.invariant.room
 pub write_span-requires-clause-from : goal.write_span-requires-clause-from
 write_span-requires-clause-from g c =
     let rest = g.S.SpanSource.rest in
-    (shown_first c.in-Some.span (rest c.next.new.self) (rest c.loop-span.spans) c.loop-span.invariant.shown c.in-Some.ensures.takes).0
+    (shown_first c.in-Some.span (rest c.next.new.self) (rest c.loop-span.spans) c.loop-span.invariant.shown
+    c.in-Some.ensures.takes).0
 
 pub write_span-requires-clause-until : goal.write_span-requires-clause-until
 write_span-requires-clause-until g c =
     let rest = g.S.SpanSource.rest in
-    (shown_first c.in-Some.span (rest c.next.new.self) (rest c.loop-span.spans) c.loop-span.invariant.shown c.in-Some.ensures.takes).1
+    (shown_first c.in-Some.span (rest c.next.new.self) (rest c.loop-span.spans) c.loop-span.invariant.shown
+    c.in-Some.ensures.takes).1
 
 pub returns-in_err-write_span-clause-puts : goal.returns-in_err-write_span-clause-puts
 returns-in_err-write_span-clause-puts g c =
@@ -83,16 +89,19 @@ put_line-requires-clause-written g c =
     let v = c.args.vehicle in
     let x = c.in-Some.span in
     let line = c.as_slice.result.now in
-    let is = whole_line e d v x (take c.len-head.result c.loop-span.line.items) c.write_span.new.line.items line i.head c.in_ok-write_span.ensures.line c.as_slice.ensures.value in
+    let is = whole_line e d v x (take c.len-head.result c.loop-span.line.items) c.write_span.new.line.items line i.head
+    c.in_ok-write_span.ensures.line c.as_slice.ensures.value in
     let short : length line ≤ 80 = rw is (length-put_line e d v x (omega arith) (omega arith)) in
-    (room_written c.loop-span.progress.written c.args.progress.now.written (length (rest c.args.spans.now)) (length line) (length (rest c.next.new.self))
+    (room_written c.loop-span.progress.written c.args.progress.now.written (length (rest c.args.spans.now)) (length line)
+    (length (rest c.next.new.self))
     (rw (c.in-Some.ensures.takes) at i.written) c.requires.written short).0
 
 pub put_line-requires-clause-lines : goal.put_line-requires-clause-lines
 put_line-requires-clause-lines g c =
     let rest = g.S.SpanSource.rest in
     let i = c.loop-span.invariant in
-    (room_lines c.loop-span.progress.lines c.args.progress.now.lines (length (rest c.args.spans.now)) (length (rest c.next.new.self))
+    (room_lines c.loop-span.progress.lines c.args.progress.now.lines (length (rest c.args.spans.now))
+    (length (rest c.next.new.self))
     (rw (c.in-Some.ensures.takes) at i.lines) c.requires.lines).0
 
 pub loop-span-preserved : goal.loop-span-preserved
@@ -109,17 +118,21 @@ loop-span-preserved g c =
     let line = c.as_slice.result.now in
     let more = rest c.next.new.self in
     let takes = c.in-Some.ensures.takes in
-    let is = whole_line e d v x (take n now) c.write_span.new.line.items line i.head c.in_ok-write_span.ensures.line c.as_slice.ensures.value in
+    let is = whole_line e d v x (take n now) c.write_span.new.line.items line i.head c.in_ok-write_span.ensures.line
+    c.as_slice.ensures.value in
     let short : length line ≤ 80 = rw is (length-put_line e d v x (omega arith) (omega arith)) in
-    let kept = same_head (take n now) c.write_span.new.line.items (span_text x) n (long_head n now i.room) c.in_ok-write_span.ensures.line in
+    let kept = same_head (take n now) c.write_span.new.line.items (span_text x) n
+    (long_head n now i.room) c.in_ok-write_span.ensures.line in
     let put = c.in_ok-put_line.ensures in
     let a = g.O.Output.taken c.args.output.now in
     let b = g.O.Output.taken c.loop-span.output in
     let t = g.O.Output.taken c.put_line.new.output in
     let one : Puts (Ok tt) b t c.loop-span.progress c.put_line.new.progress (f x ∷ []) =
     one_put (f x) b t c.loop-span.progress c.put_line.new.progress (rw is at put.all) (rw is at put.progress) in
-    let written = (room_written c.loop-span.progress.written c.args.progress.now.written (length (rest c.args.spans.now)) (length line) (length more) (rw takes at i.written) c.requires.written short).1 in
-    let lines = (room_lines c.loop-span.progress.lines c.args.progress.now.lines (length (rest c.args.spans.now)) (length more) (rw takes at i.lines) c.requires.lines).1 in
+    let written = (room_written c.loop-span.progress.written c.args.progress.now.written (length (rest c.args.spans.now))
+    (length line) (length more) (rw takes at i.written) c.requires.written short).1 in
+    let lines = (room_lines c.loop-span.progress.lines c.args.progress.now.lines (length (rest c.args.spans.now)) (length more)
+    (rw takes at i.lines) c.requires.lines).1 in
     let after = put.progress in
     record {
       shown = (shown_first x more (rest c.loop-span.spans) i.shown takes).2;
@@ -129,7 +142,8 @@ loop-span-preserved g c =
       lines = rw after lines;
       failures = put.failures ∙ i.failures;
       carries = carries_one a b t c.args.progress.now c.loop-span.progress c.put_line.new.progress
-          (map f (rest c.args.spans.now)) (map f (rest c.loop-span.spans)) (map f more) (f x) i.carries (next_lines f x more (rest c.loop-span.spans) takes) one;
+          (map f (rest c.args.spans.now)) (map f (rest c.loop-span.spans)) (map f more) (f x) i.carries
+          (next_lines f x more (rest c.loop-span.spans) takes) one;
     }
 
 pub returns-in_err-put_line-clause-puts : goal.returns-in_err-put_line-clause-puts
@@ -144,19 +158,24 @@ returns-in_err-put_line-clause-puts g c =
     let x = c.in-Some.span in
     let line = c.as_slice.result.now in
     let more = rest c.next.new.self in
-    let is = whole_line e d v x (take c.len-head.result c.loop-span.line.items) c.write_span.new.line.items line i.head c.in_ok-write_span.ensures.line c.as_slice.ensures.value in
+    let is = whole_line e d v x (take c.len-head.result c.loop-span.line.items) c.write_span.new.line.items line i.head
+    c.in_ok-write_span.ensures.line c.as_slice.ensures.value in
     let put = c.in_err-put_line.ensures in
     let a = g.O.Output.taken c.args.output.now in
     let b = g.O.Output.taken c.loop-span.output in
     let t = g.O.Output.taken c.put_line.new.output in
     let short : Puts (Err p.0) b t c.loop-span.progress c.put_line.new.progress (f x ∷ []) =
-    one_short p.0 (f x) c.in_err-put_line.field-0.0.taken b t c.loop-span.progress c.put_line.new.progress (rw is at put.some.0) (rw is at put.some.1) put.progress in
+    one_short p.0 (f x) c.in_err-put_line.field-0.0.taken b t c.loop-span.progress c.put_line.new.progress (rw is at put.some.0)
+    (rw is at put.some.1) put.progress in
     rw (p.1) (carries_short a b t c.args.progress.now c.loop-span.progress c.put_line.new.progress
-    (map f (rest c.args.spans.now)) (map f (rest c.loop-span.spans)) (map f more) (f x) p.0 i.carries (next_lines f x more (rest c.loop-span.spans) c.in-Some.ensures.takes) short)
+    (map f (rest c.args.spans.now)) (map f (rest c.loop-span.spans)) (map f more) (f x) p.0 i.carries
+    (next_lines f x more (rest c.loop-span.spans) c.in-Some.ensures.takes) short)
 
 pub returns-clause-puts : goal.returns-clause-puts
 returns-clause-puts g c =
     let rest = g.S.SpanSource.rest in
     let f = span_line c.args.element c.args.direction c.args.vehicle in
-    carries_none (g.O.Output.taken c.args.output.now) (g.O.Output.taken c.loop-span.output) c.args.progress.now c.loop-span.progress
-    (map f (rest c.args.spans.now)) (map f (rest c.loop-span.spans)) c.loop-span.invariant.carries (ap (map f) c.in_default.ensures.takes.0)
+    carries_none (g.O.Output.taken c.args.output.now) (g.O.Output.taken c.loop-span.output) c.args.progress.now
+    c.loop-span.progress
+    (map f (rest c.args.spans.now)) (map f (rest c.loop-span.spans)) c.loop-span.invariant.carries
+    (ap (map f) c.in_default.ensures.takes.0)

@@ -24,6 +24,7 @@ returns c =
     let from = rw (c.truncate.ensures.items, c.from.ensures.value) at c.in_ok-write_moment.ensures.moment in
     record {
       line = on_ok c.write_moment-2.result _ (whole ≡ head ++ span_text c.args.span)
-          (λ e. in_two head (stamp_text c.args.span.from) (stamp_text c.args.span.until) first whole from (rw (c.until.ensures.value) at e))
+          (λ e. in_two head (stamp_text c.args.span.from) (stamp_text c.args.span.until) first whole from
+          (rw (c.until.ensures.value) at e))
           c.write_moment-2.ensures.moment;
     }

@@ -1,4 +1,4 @@
-use Rattle.gtd_spans.proofs.CountFacts.{one-count}
+use Rattle.gtd_spans.specs.facts.CountFacts.{one-count}
 use Rattle.gtd_spans.proofs.laws.one_count.Goals as goal
 
 pub returns : goal.returns

@@ -1,4 +1,4 @@
-use Rattle.gtd_spans.specs.NormalFor.{one-normal-list}
+use Rattle.gtd_spans.specs.facts.NormalFor.{one-normal-list}
 use Rattle.gtd_spans.proofs.laws.one_normal_list.Goals as goal
 
 pub returns : goal.returns

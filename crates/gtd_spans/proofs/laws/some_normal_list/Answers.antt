@@ -1,4 +1,4 @@
-use Rattle.gtd_spans.proofs.SomeList.{some-normal-list}
+use Rattle.gtd_spans.specs.facts.SomeList.{some-normal-list}
 use Rattle.gtd_spans.proofs.laws.some_normal_list.Goals as goal
 
 pub returns : goal.returns

@@ -6,8 +6,8 @@ use Rattle.gtd_core.specs.Interval.{Interval}
 use Rattle.gtd_core.specs.contracts.second.SpanPartialEq.TheImpl.{eq-value}
 use Rattle.gtd_core.specs.declared.domain.Op.TheVariants.{Meet}
 use Rattle.gtd_spans.specs.Normal.{Holds}
-use Rattle.gtd_spans.specs.OneList.{one-list, same-interval}
-use Rattle.gtd_spans.specs.Combining.{combined-decides}
+use Rattle.gtd_spans.specs.facts.OneList.{one-list, same-interval}
+use Rattle.gtd_spans.specs.facts.Combining.{combined-decides}
 use Rattle.gtd_spans.proofs.operations.same.Goals as goal
 
 eq-decides : (x y : Interval) → Decides (eq-value.it x y) (x ≡ y)

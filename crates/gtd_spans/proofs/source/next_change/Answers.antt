@@ -22,8 +22,10 @@ returns-then-lt g c =
     let rest : List Interval = g.S.SpanSource.rest c.next.new.self in
     let r = rest-here xs (g.S.SpanSource.rest c.loop-x.source) rest c.in-Some.x c.args.second.0 c.in-Some.ensures.takes
     (g.met.S.SpanSource.is_normal c.loop-x.source) c.loop-x.invariant in
-    let lt : c.args.second.0 <ℤ c.in-Some.x.from = lt-told _ _ _ _ c.lt.result c.lt.ensures c.if-lt.true refl c.from.ensures.value in
-    let here : Holds xs c.in-Some.x.from = (r.same c.in-Some.x.from (omega (arith, ints))).1 (inl (omega (arith, ints), c.from.ensures.not_empty)) in
+    let lt : c.args.second.0 <ℤ c.in-Some.x.from = lt-told _ _ _ _ c.lt.result c.lt.ensures c.if-lt.true refl
+    c.from.ensures.value in
+    let here : Holds xs c.in-Some.x.from = (r.same c.in-Some.x.from (omega (arith, ints))).1
+    (inl (omega (arith, ints), c.from.ensures.not_empty)) in
     record {
       change = rw c.from-then-lt.ensures.value
           (change-at-from xs rest c.in-Some.x c.args.second.0 c.args.until.0 r lt (c.requires.early c.in-Some.x.from here));
@@ -35,7 +37,13 @@ returns-then-lt-3 g c =
     let rest : List Interval = g.S.SpanSource.rest c.next.new.self in
     let r = rest-here xs (g.S.SpanSource.rest c.loop-x.source) rest c.in-Some.x c.args.second.0 c.in-Some.ensures.takes
     (g.met.S.SpanSource.is_normal c.loop-x.source) c.loop-x.invariant in
-    let le : c.in-Some.x.from ≤ℤ c.args.second.0 = ge-told _ _ _ _ c.lt.result c.lt.ensures c.if-lt.false refl c.from.ensures.value in
-    let lt : c.args.second.0 <ℤ c.in-Some.x.until = lt-told _ _ _ _ c.lt-in-Some.result c.lt-in-Some.ensures c.if-lt-2.true refl c.until.ensures.value in
-    let lu : c.in-Some.x.until <ℤ c.args.until.0 = lt-told _ _ _ _ c.lt-then-lt-2.result c.lt-then-lt-2.ensures c.if-lt-3.true c.until-then-lt-2.ensures.value refl in
-    record { change = rw c.until-then-lt-3.ensures.value (change-at-until xs rest c.in-Some.x c.args.second.0 c.args.until.0 r le lt lu) }
+    let le : c.in-Some.x.from ≤ℤ c.args.second.0 = ge-told _ _ _ _ c.lt.result c.lt.ensures c.if-lt.false refl
+    c.from.ensures.value in
+    let lt : c.args.second.0 <ℤ c.in-Some.x.until = lt-told _ _ _ _ c.lt-in-Some.result c.lt-in-Some.ensures c.if-lt-2.true refl
+    c.until.ensures.value in
+    let lu : c.in-Some.x.until <ℤ c.args.until.0 = lt-told _ _ _ _ c.lt-then-lt-2.result c.lt-then-lt-2.ensures c.if-lt-3.true
+    c.until-then-lt-2.ensures.value refl in
+    record {
+      change = rw c.until-then-lt-3.ensures.value (change-at-until xs rest c.in-Some.x c.args.second.0 c.args.until.0 r le
+          lt lu);
+    }

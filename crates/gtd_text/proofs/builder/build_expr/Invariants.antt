@@ -1,6 +1,6 @@
 use Rattle.std.proofs.Common.{drop}
-use Rattle.gtd_text.specs.Seen.{kinds}
-use Rattle.gtd_text.specs.Stages.{opened}
+use Rattle.gtd_text.specs.TokenKinds.{kinds}
+use Rattle.gtd_text.specs.BuilderStates.{opened}
 use Rattle.gtd_text.proofs.BuildLemmas.{Goes}
 use Rattle.gtd_text.proofs.builder.build_expr.Given as goal
 

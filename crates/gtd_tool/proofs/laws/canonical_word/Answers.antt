@@ -9,12 +9,28 @@ pub returns-clause-check : goal.returns-clause-check
 returns-clause-check c = λ domain. record {
   command = command.Check (canonical (domain_tree domain));
   named = check_canonical (domain_tree domain);
-  read = (domain_tree domain, record { stands = c.canonical_text_of_domain.ensures.stands domain; faultless = c.canonical_text_of_domain.ensures.faultless domain }, refl);
+  read = (
+    domain_tree domain,
+    record {
+      stands = c.canonical_text_of_domain.ensures.stands domain;
+      faultless =
+          c.canonical_text_of_domain.ensures.faultless domain;
+    },
+    refl,
+  );
 }
 
 pub returns-clause-canon : goal.returns-clause-canon
 returns-clause-canon c = λ domain. record {
   command = command.Canon (canonical (domain_tree domain));
   named = canon_canonical (domain_tree domain);
-  read = (domain_tree domain, record { stands = c.canonical_text_of_domain.ensures.stands domain; faultless = c.canonical_text_of_domain.ensures.faultless domain }, refl);
+  read = (
+    domain_tree domain,
+    record {
+      stands = c.canonical_text_of_domain.ensures.stands domain;
+      faultless =
+          c.canonical_text_of_domain.ensures.faultless domain;
+    },
+    refl,
+  );
 }

@@ -1,8 +1,8 @@
 use Rattle.std.proofs.Common.{◌≡◌, sym, subst, List}
 use Rattle.std.specs.Prelude.{◌↔◌}
 use Rattle.gtd_roads.specs.Restriction.{Restriction}
-use Rattle.gtd_schedule.specs.Schedule.{IsSchedule}
-use Rattle.gtd_year.specs.Table.{IsYearTable}
+use Rattle.gtd_roads.specs.Schedule.{IsSchedule}
+use Rattle.gtd_roads.specs.YearTable.{IsYearTable}
 use Rattle.gtd_tool.proofs.laws.migrated_files_mean_the_same.Goals as goal
 
 -- what is said of one list is said of the other, where they are one

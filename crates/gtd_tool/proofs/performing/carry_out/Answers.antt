@@ -5,11 +5,13 @@ use Rattle.gtd_tool.proofs.AnswerLemmas.{on_ok, on_err, stop_of_write}
 use Rattle.gtd_tool.proofs.performing.carry_out.Goals as goal
 
 pub returns-in-Check-clause-printed : goal.returns-in-Check-clause-printed
-returns-in-Check-clause-printed g c = rw (c.in-Check.is) (on_ok c.print.result _ _ (λ all. (codes "ok", refl, all)) c.print.ensures.printed)
+returns-in-Check-clause-printed g c = rw (c.in-Check.is) (on_ok c.print.result _ _
+    (λ all. (codes "ok", refl, all)) c.print.ensures.printed)
 
 pub returns-in-Check-clause-stopped : goal.returns-in-Check-clause-stopped
 returns-in-Check-clause-stopped g c =
-    rw (c.in-Check.is) (stop_of_write (Check (domain_tree c.in-Check.field-0)) (g.W.Write.contents c.args.out.now) (g.W.Write.contents c.print.new.out) _ c.print.result
+    rw (c.in-Check.is) (stop_of_write (Check (domain_tree c.in-Check.field-0)) (g.W.Write.contents c.args.out.now)
+    (g.W.Write.contents c.print.new.out) _ c.print.result
     (on_err c.print.result _ _ (λ part. (codes "ok", refl, part)) c.print.ensures.part) c.print.ensures.cause)
 
 pub returns-in-Next-clause-printed : goal.returns-in-Next-clause-printed

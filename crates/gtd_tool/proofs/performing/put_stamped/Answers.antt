@@ -9,4 +9,5 @@ returns-in_err-put-clause-part g c =
     rw (p.1) (part_front _ _ _ _ c.in_err-put.ensures.part)
 
 pub returns-clause-part : goal.returns-clause-part
-returns-clause-part g c = on_err c.put_and_flush.result _ _ (part_then _ _ _ _ _ c.in_ok-put.ensures.whole) c.put_and_flush.ensures.part
+returns-clause-part g c = on_err c.put_and_flush.result _ _ (part_then _ _ _ _ _ c.in_ok-put.ensures.whole)
+    c.put_and_flush.ensures.part

@@ -10,5 +10,6 @@ pub returns-in_err-moment-clause-stopped : goal.returns-in_err-moment-clause-sto
 returns-in_err-moment-clause-stopped c =
     let p = err_from_is_err_and c.from_residual-in_err-moment.result c.from_residual-in_err-moment.ensures.1 in
     let moment = MomentPart c.args.moment.now ∷ [] in
-    rw (p.1) (stopped_after (DomainPart c.args.domain.now) moment p.0 (domain_faultless c.args.domain.now (domain_tree c.in_ok-domain.domain) c.in_ok-domain.ensures.read)
+    rw (p.1) (stopped_after (DomainPart c.args.domain.now) moment p.0
+    (domain_faultless c.args.domain.now (domain_tree c.in_ok-domain.domain) c.in_ok-domain.ensures.read)
     (subst (IsStopped moment) (sym p.2) c.in_err-moment.ensures.stopped))

@@ -1,7 +1,7 @@
 use Rattle.std.proofs.Common.{◌≡◌, ◌∙◌, refl, subst, rules, to_z-of_z, w64}
 use Rattle.std.proofs.Common.{FitsSigned}
 use Rattle.std.specs.Prelude.{ℤ}
-use Rattle.gtd_core.specs.Horizons.{IsHorizon, IsFault}
+use Rattle.gtd_core.specs.Horizons.{IsHorizon, IsHorizonFault}
 use Rattle.gtd_core.specs.Days.{day_of_second}
 use Rattle.gtd_tool.proofs.planning.in_horizon.Goals as goal
 
@@ -16,5 +16,9 @@ returns-in-Ok-clause-read c =
 pub returns-in-Err-clause-fault : goal.returns-in-Err-clause-fault
 returns-in-Err-clause-fault c =
     let day : c.day.result ≡ day_of_second c.args.moment.second.0 = c.day.ensures.value in
-    let fits : FitsSigned w64 c.day.result = search rules in
-    (c.in-Err.fault, subst (λ (n : ℤ). IsFault c.in-Err.fault n c.args.to) (to_z-of_z fits ∙ day) (subst (IsFault c.in-Err.fault _) (to_z-of_z c.ranges.to) c.in-Err.ensures.horizon), refl)
+    let fits : FitsSigned w64 c.day.result = search rules in (
+      c.in-Err.fault,
+      subst (λ (n : ℤ). IsHorizonFault c.in-Err.fault n c.args.to) (to_z-of_z fits ∙ day)
+          (subst (IsHorizonFault c.in-Err.fault _) (to_z-of_z c.ranges.to) c.in-Err.ensures.horizon),
+      refl,
+    )

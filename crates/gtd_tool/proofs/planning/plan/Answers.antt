@@ -5,8 +5,10 @@ use Rattle.gtd_tool.proofs.planning.plan.Goals as goal
 
 pub returns-clause-only : goal.returns-clause-only
 returns-clause-only c = λ asked asks.
-    plan_only (map string_bytes c.as_slice.result.now) c.plan_words.result c.plan_words.ensures.asked c.plan_words.ensures.stopped asked (rw (c.as_slice.ensures.value) asks)
+    plan_only (map string_bytes c.as_slice.result.now) c.plan_words.result c.plan_words.ensures.asked c.plan_words.ensures.stopped
+    asked (rw (c.as_slice.ensures.value) asks)
 
 pub returns-clause-first : goal.returns-clause-first
 returns-clause-first c = λ refusal is.
-    plan_first (map string_bytes c.as_slice.result.now) c.plan_words.result c.plan_words.ensures.asked c.plan_words.ensures.stopped refusal (rw (c.as_slice.ensures.value) is)
+    plan_first (map string_bytes c.as_slice.result.now) c.plan_words.result c.plan_words.ensures.asked
+    c.plan_words.ensures.stopped refusal (rw (c.as_slice.ensures.value) is)

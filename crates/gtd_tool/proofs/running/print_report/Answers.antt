@@ -10,7 +10,8 @@ returns g c =
       ran = record {
         answer = c.run_report.result;
         outcome = c.outcome.ensures.value;
-        stands = passed_run _ _ _ _ _ _ (loan_passes g.W.Write.contents _ _ _ _ _ _ c.new-output.ensures.bytes (search rules)) c.run_report.result _ e.stands;
+        stands = passed_run _ _ _ _ _ _ (loan_passes g.W.Write.contents _ _ _ _ _ _ c.new-output.ensures.bytes (search rules))
+            c.run_report.result _ e.stands;
         vehicle = e.vehicle;
         year = e.year;
         element = λ is. of_element (g.R.Report.subject c.args.report.now) (e.element is);

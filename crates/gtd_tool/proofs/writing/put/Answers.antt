@@ -13,7 +13,8 @@ pub loop-preserved : goal.loop-preserved
 loop-preserved g c = elim c.match-write.branch [
   | in-Ok w ↦
       let rest : c.match-write.rest.now ≡ drop w.in-Ok.taken c.loop.rest.now = ap (λ (r : Bor (List ℕ)). r.now) w.rest-is
-      ∙ take_all (length c.loop.rest.now - w.in-Ok.taken) (drop w.in-Ok.taken c.loop.rest.now) (omega (arith, length-drop w.in-Ok.taken c.loop.rest.now)) in
+      ∙ take_all (length c.loop.rest.now - w.in-Ok.taken) (drop w.in-Ok.taken c.loop.rest.now)
+      (omega (arith, length-drop w.in-Ok.taken c.loop.rest.now)) in
       subst (TakesBefore _ _ _) (sym rest) (takes_more _ _ _ _ _ w.in-Ok.taken c.loop.invariant w.in-Ok.ensures.bytes)
   | in-Err+else-ne w ↦
       let rest : c.match-write.rest.now ≡ c.loop.rest.now = ap (λ (r : Bor (List ℕ)). r.now) w.rest-is in

@@ -7,6 +7,9 @@ use Rattle.gtd_tool.proofs.writing.put_texts.Goals as goal
 pub returns-in_err-put-clause-part : goal.returns-in_err-put-clause-part
 returns-in_err-put-clause-part g c =
     let p = err_from_is_err_and c.from_residual.result c.from_residual.ensures.1 in
-    let texts : joined c.args.texts.now ≡ joined (take c.loop-text.text-index c.args.texts.now) ++ (c.as_bytes.result.now ++ joined (drop (suc c.loop-text.text-index) c.args.texts.now)) =
-    joined-at c.args.texts.now c.loop-text.text-index _ c.loop-text-test.true ∙ ap (λ (t : List ℕ). joined (take c.loop-text.text-index c.args.texts.now) ++ (t ++ joined (drop (suc c.loop-text.text-index) c.args.texts.now))) (sym c.as_bytes.ensures.value) in
+    let texts : joined c.args.texts.now ≡ joined (take c.loop-text.text-index c.args.texts.now)
+    ++ (c.as_bytes.result.now ++ joined (drop (suc c.loop-text.text-index) c.args.texts.now)) =
+    joined-at c.args.texts.now c.loop-text.text-index _ c.loop-text-test.true
+    ∙ ap (λ (t : List ℕ). joined (take c.loop-text.text-index c.args.texts.now)
+    ++ (t ++ joined (drop (suc c.loop-text.text-index) c.args.texts.now))) (sym c.as_bytes.ensures.value) in
     rw (p.1) (subst (AppendsPart _ _) (sym texts) (part_more _ _ _ _ _ _ c.loop-text.invariant c.in_err-put.ensures.part))

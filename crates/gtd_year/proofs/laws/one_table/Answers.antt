@@ -1,6 +1,6 @@
 use Rattle.std.specs.Prelude.{pos}
 use Rattle.gtd_calendar.specs.Calendar.{first_day, year_length}
-use Rattle.gtd_roads.specs.Closing.{IsOpen}
+use Rattle.gtd_records.specs.Closing.{IsOpen}
 use Rattle.gtd_year.proofs.DayFacts as days
 use Rattle.gtd_year.proofs.SomeTable.{some_lines}
 use Rattle.gtd_year.proofs.laws.one_table.Goals as goal

@@ -2,13 +2,13 @@ use Rattle.std.proofs.Common.{◌≡◌, ◌∙◌, ◌+◌, ap, refl, arith, []
 use Rattle.std.proofs.Common.{rules, FitsSigned, to_z, of_z, w64, to_z-of_z}
 use Rattle.std.specs.Prelude.{Ok, Err, ℤ, pos, ◌+ℤ◌, ◌*ℤ◌}
 use Rattle.std.proofs.lemmas.Result.{err_from_is_err_and}
-use Rattle.gtd_calendar.proofs.Signed.{signed_arith}
+use Rattle.gtd_calendar.specs.facts.Signed.{signed_arith}
 use Rattle.gtd_spans.specs.Normal.{Holds}
-use Rattle.gtd_spans.proofs.CountFacts.{count-few}
-use Rattle.gtd_runs.proofs.PutFacts.{one_put, one_short, puts_cut, puts_none, puts_nothing, puts_then}
+use Rattle.gtd_spans.specs.facts.CountFacts.{count-few}
+use Rattle.gtd_runs.specs.facts.PutFacts.{one_put, one_short, puts_cut, puts_none, puts_nothing, puts_then}
 use Rattle.gtd_runs.specs.Putting.{Puts}
 use Rattle.gtd_runs.specs.declared.putting.Progress.{Progress}
-use Rattle.gtd_year.specs.Table.{AreDayLines}
+use Rattle.gtd_year.specs.YearTable.{AreDayLines}
 use Rattle.gtd_year.proofs.DayFacts.{length-day_line, length-days, no_days, one_more, whole_table}
 use Rattle.gtd_year.proofs.table.put_days.Goals as goal
 
@@ -25,7 +25,8 @@ pub returns-in_err-count_day-clause-puts : goal.returns-in_err-count_day-clause-
 returns-in_err-count_day-clause-puts g c =
     let fits : FitsSigned w64 c.args.first = search rules in
     let same : to_z w64 (of_z w64 c.args.first) ≡ c.args.first = to_z-of_z fits in
-    let before : AreDayLines (Holds c.args.seconds.now) c.args.first c.loop-place.place c.loop-place.invariant.done = rw same at c.loop-place.invariant.are in
+    let before : AreDayLines (Holds c.args.seconds.now) c.args.first c.loop-place.place c.loop-place.invariant.done =
+    rw same at c.loop-place.invariant.are in
     let p = err_from_is_err_and c.from_residual.result c.from_residual.ensures.1 in
     let i = c.loop-place.invariant in
     let taken = g.O.Output.taken in
@@ -42,7 +43,8 @@ pub put_line-requires-clause-written : goal.put_line-requires-clause-written
 put_line-requires-clause-written g c =
     let fits : FitsSigned w64 c.args.first = search rules in
     let same : to_z w64 (of_z w64 c.args.first) ≡ c.args.first = to_z-of_z fits in
-    let before : AreDayLines (Holds c.args.seconds.now) c.args.first c.loop-place.place c.loop-place.invariant.done = rw same at c.loop-place.invariant.are in
+    let before : AreDayLines (Holds c.args.seconds.now) c.args.first c.loop-place.place c.loop-place.invariant.done =
+    rw same at c.loop-place.invariant.are in
     let i = c.loop-place.invariant in
     let l = length-days (Holds c.args.seconds.now) c.args.first c.loop-place.place i.done before in
     let w = ap (λ (p : Progress). p.written) i.puts.1 in
@@ -57,7 +59,8 @@ pub put_line-requires-clause-lines : goal.put_line-requires-clause-lines
 put_line-requires-clause-lines g c =
     let fits : FitsSigned w64 c.args.first = search rules in
     let same : to_z w64 (of_z w64 c.args.first) ≡ c.args.first = to_z-of_z fits in
-    let before : AreDayLines (Holds c.args.seconds.now) c.args.first c.loop-place.place c.loop-place.invariant.done = rw same at c.loop-place.invariant.are in
+    let before : AreDayLines (Holds c.args.seconds.now) c.args.first c.loop-place.place c.loop-place.invariant.done =
+    rw same at c.loop-place.invariant.are in
     let i = c.loop-place.invariant in
     let l = length-days (Holds c.args.seconds.now) c.args.first c.loop-place.place i.done before in
     let w = ap (λ (p : Progress). p.lines) i.puts.1 in
@@ -68,7 +71,8 @@ pub returns-in_err-put_line-clause-puts : goal.returns-in_err-put_line-clause-pu
 returns-in_err-put_line-clause-puts g c =
     let fits : FitsSigned w64 c.args.first = search rules in
     let same : to_z w64 (of_z w64 c.args.first) ≡ c.args.first = to_z-of_z fits in
-    let before : AreDayLines (Holds c.args.seconds.now) c.args.first c.loop-place.place c.loop-place.invariant.done = rw same at c.loop-place.invariant.are in
+    let before : AreDayLines (Holds c.args.seconds.now) c.args.first c.loop-place.place c.loop-place.invariant.done =
+    rw same at c.loop-place.invariant.are in
     let p = err_from_is_err_and c.from_residual-in_err-put_line.result c.from_residual-in_err-put_line.ensures.1 in
     let i = c.loop-place.invariant in
     let taken = g.O.Output.taken in
@@ -82,11 +86,15 @@ returns-in_err-put_line-clause-puts g c =
     let at : day ≡ c.args.first +ℤ pos c.loop-place.place = omega (arith, signed_arith) in
     let left = rw same at i.left in
     let is = c.as_slice.ensures.value ∙ it.2 in
-    let are = one_more c.args.seconds.now c.loop-place.seconds c.args.first day c.loop-place.place it.0 i.done line at before left it.1 is in
-    let t = whole_table c.args.seconds.now c.args.first (c.loop-place.place + 1) c.args.days (i.done ++ (line ∷ [])) (omega arith) are in
+    let are = one_more c.args.seconds.now c.loop-place.seconds c.args.first day c.loop-place.place it.0 i.done line at before left
+    it.1 is in
+    let t = whole_table c.args.seconds.now c.args.first (c.loop-place.place + 1) c.args.days (i.done ++ (line ∷ []))
+    (omega arith) are in
     let one : Puts (Err p.0) b d c.loop-place.progress c.put_line.new.progress (line ∷ []) =
-    one_short p.0 line c.in_err-put_line.field-0.0.taken b d c.loop-place.progress c.put_line.new.progress e.some.0 e.some.1 e.progress in
-    let puts = puts_then (Err p.0) a b d c.args.progress.now c.loop-place.progress c.put_line.new.progress i.done ((line ∷ []) ++ t.0) i.puts
+    one_short p.0 line c.in_err-put_line.field-0.0.taken b d c.loop-place.progress c.put_line.new.progress e.some.0 e.some.1
+    e.progress in
+    let puts = puts_then (Err p.0) a b d c.args.progress.now c.loop-place.progress c.put_line.new.progress i.done
+    ((line ∷ []) ++ t.0) i.puts
     (puts_cut p.0 b d c.loop-place.progress c.put_line.new.progress (line ∷ []) t.0 one) in
     ((i.done ++ (line ∷ [])) ++ t.0, t.1, rw (p.1) (rw (append_assoc i.done (line ∷ []) t.0) puts))
 
@@ -94,7 +102,8 @@ pub loop-place-preserved : goal.loop-place-preserved
 loop-place-preserved g c =
     let fits : FitsSigned w64 c.args.first = search rules in
     let same : to_z w64 (of_z w64 c.args.first) ≡ c.args.first = to_z-of_z fits in
-    let before : AreDayLines (Holds c.args.seconds.now) c.args.first c.loop-place.place c.loop-place.invariant.done = rw same at c.loop-place.invariant.are in
+    let before : AreDayLines (Holds c.args.seconds.now) c.args.first c.loop-place.place c.loop-place.invariant.done =
+    rw same at c.loop-place.invariant.are in
     let i = c.loop-place.invariant in
     let taken = g.O.Output.taken in
     let a = taken c.args.output.now in
@@ -109,7 +118,8 @@ loop-place-preserved g c =
     let at : day ≡ c.args.first +ℤ pos c.loop-place.place = omega (arith, signed_arith) in
     let left = rw same at i.left in
     let is = c.as_slice.ensures.value ∙ it.2 in
-    let are = one_more c.args.seconds.now c.loop-place.seconds c.args.first day c.loop-place.place it.0 i.done line at before left it.1 is in
+    let are = one_more c.args.seconds.now c.loop-place.seconds c.args.first day c.loop-place.place it.0 i.done line at before left
+    it.1 is in
     record {
       done = i.done ++ (line ∷ []);
       are = rw same are;
@@ -117,6 +127,7 @@ loop-place-preserved g c =
           let p = left t (omega (arith, signed_arith, h)) in
           let q = c.count_day.ensures.later t (omega (arith, signed_arith, h)) in
           ((λ k. q.0 (p.0 k)), (λ k. p.1 (q.1 k))));
-      puts = puts_then (Ok tt) a b d c.args.progress.now c.loop-place.progress c.put_line.new.progress i.done (line ∷ []) i.puts one;
+      puts = puts_then (Ok tt) a b d c.args.progress.now c.loop-place.progress c.put_line.new.progress i.done
+          (line ∷ []) i.puts one;
       failures = e.failures ∙ i.failures;
     }

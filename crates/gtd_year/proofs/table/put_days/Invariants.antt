@@ -2,7 +2,7 @@ use Rattle.std.proofs.Common.{◌≡◌, List, ℕ, ◌↔◌}
 use Rattle.std.specs.Prelude.{Ok, ℤ, pos, ◌+ℤ◌, ◌*ℤ◌, ◌≤ℤ◌}
 use Rattle.gtd_spans.specs.Normal.{Holds}
 use Rattle.gtd_runs.specs.Putting.{Puts}
-use Rattle.gtd_year.specs.Table.{AreDayLines}
+use Rattle.gtd_year.specs.YearTable.{AreDayLines}
 use Rattle.gtd_year.proofs.table.put_days.Given as goal
 
 -- the lines of the days so far were put, and what is to come has the seconds of the days left

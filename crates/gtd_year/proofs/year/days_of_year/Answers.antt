@@ -9,7 +9,8 @@ unreachable-requires c =
     let first_fits : FitsSigned w64 c.new_year.result = search rules in
     let next_fits : FitsSigned w64 c.new_year-2.result = search rules in
     let first : to_z w64 (of_z w64 c.new_year.result) ≡ first_day (pos year) = to_z-of_z first_fits ∙ c.new_year.ensures.day in
-    let next : to_z w64 (of_z w64 c.new_year-2.result) ≡ first_day (pos (year + 1)) = to_z-of_z next_fits ∙ c.new_year-2.ensures.day in
+    let next : to_z w64 (of_z w64 c.new_year-2.result) ≡ first_day (pos (year + 1)) =
+    to_z-of_z next_fits ∙ c.new_year-2.ensures.day in
     no_fault c.in-Err.field-0 _ _ (rw (first, next) (year_horizon year c.requires.year)) c.in-Err.ensures.horizon
 
 pub returns-clause-next : goal.returns-clause-next

@@ -1,5 +1,5 @@
 use Rattle.std.proofs.Common.{rules, ◌≡◌, ◌∙◌, pos, ℤ, FitsSigned, to_z, of_z, w64, to_z-of_z, ap, arith}
-use Rattle.gtd_calendar.proofs.Signed.{signed_arith}
+use Rattle.gtd_calendar.specs.facts.Signed.{signed_arith}
 use Rattle.gtd_calendar.specs.Calendar.{day_number}
 use Rattle.gtd_year.proofs.YearFacts.{new_year_is}
 use Rattle.gtd_year.proofs.year.new_year.Goals as goal

@@ -1,5 +1,5 @@
 use Rattle.std.proofs.Common.{◌<◌, List, ◌++◌, ap, ◌∙◌, arith, length-append, append_assoc}
-use Rattle.gtd_eval.specs.NodeFacts.{node_list-normal}
+use Rattle.gtd_eval.specs.facts.NodeFacts.{node_list-normal}
 use Rattle.gtd_eval.specs.Cursors.{IsUnionOf}
 use Rattle.gtd_eval.specs.declared.cursor.Cursor.{Cursor}
 use Rattle.gtd_eval.proofs.Unions.{two-seconds, two-nodes, two-work, two-height}

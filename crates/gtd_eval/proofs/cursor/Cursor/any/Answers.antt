@@ -2,7 +2,7 @@ use Rattle.std.proofs.Common.{◌≡◌, ◌≤◌, ◌^◌, ◌+◌, ℕ, List,
 use Rattle.std.specs.Prelude.{vec_len}
 use Rattle.gtd_eval.specs.Cursors.{IsUnionOf, NoneHigher}
 use Rattle.gtd_eval.specs.Nodes.{node_height}
-use Rattle.gtd_eval.specs.NodeFacts.{node_list-normal}
+use Rattle.gtd_eval.specs.facts.NodeFacts.{node_list-normal}
 use Rattle.gtd_eval.specs.declared.cursor.Cursor.{Cursor}
 use Rattle.gtd_eval.specs.declared.node.Node.{Node}
 use Rattle.gtd_eval.proofs.Unions.{all-taken}

@@ -2,11 +2,11 @@ use Rattle.std.proofs.Common.{◌≡◌, ◌∙◌, ap, [], ◌∷◌, arith}
 use Rattle.gtd_core.specs.Whole.{whole}
 use Rattle.gtd_core.specs.declared.domain.Op.TheVariants.{Minus}
 use Rattle.gtd_spans.specs.Combine.{combine}
-use Rattle.gtd_spans.specs.SweepFacts.{still-normal}
+use Rattle.gtd_spans.specs.facts.SweepFacts.{still-normal}
 use Rattle.gtd_spans.specs.Sweeping.{still}
-use Rattle.gtd_spans.specs.Whole.{minus-whole}
+use Rattle.gtd_spans.specs.facts.Whole.{minus-whole}
 use Rattle.gtd_eval.specs.Nodes.{node_list, IsSound}
-use Rattle.gtd_eval.specs.NodeFacts.{node_list-normal}
+use Rattle.gtd_eval.specs.facts.NodeFacts.{node_list-normal}
 use Rattle.gtd_eval.specs.Cursors.{cursor_list}
 use Rattle.gtd_eval.proofs.cursor.Cursor.outside.Goals as goal
 
@@ -20,7 +20,8 @@ invariant_of-result c =
 
 pub returns-clause-seconds : goal.returns-clause-seconds
 returns-clause-seconds c =
-    let e : still c.outside.result (node_list c.in_ok-inner.inner.value) [] ≡ combine Minus (whole c.args.horizon ∷ []) (cursor_list c.args.cursor) =
+    let e : still c.outside.result (node_list c.in_ok-inner.inner.value) []
+    ≡ combine Minus (whole c.args.horizon ∷ []) (cursor_list c.args.cursor) =
     c.outside.ensures.meaning (node_list c.in_ok-inner.inner.value) []
     ∙ ap (λ (n : _). combine Minus (whole c.args.horizon ∷ []) (node_list n)) c.in_ok-inner.ensures.ok in
     λ t. rw e (minus-whole (whole c.args.horizon) (cursor_list c.args.cursor) t)

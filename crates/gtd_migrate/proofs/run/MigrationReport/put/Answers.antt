@@ -1,7 +1,7 @@
 use Rattle.std.proofs.Common.{◌≡◌, refl, [], ◌∷◌, map}
 use Rattle.std.specs.Prelude.{Ok, Err}
 use Rattle.std.proofs.lemmas.Result.{err_from_is_err_and}
-use Rattle.gtd_runs.proofs.PutFacts.{one_put, one_short, puts_cut, puts_ended, puts_text, puts_then}
+use Rattle.gtd_runs.specs.facts.PutFacts.{one_put, one_short, puts_cut, puts_ended, puts_text, puts_then}
 use Rattle.gtd_migrate.specs.Migrated.{header_line, migrated, row_line}
 use Rattle.gtd_migrate.proofs.run.MigrationReport.put.Goals as goal
 

@@ -4,7 +4,7 @@ use Rattle.gtd_core.specs.Whole.{whole}
 use Rattle.gtd_recur.specs.RunsToCome.{runs_to_come}
 use Rattle.gtd_recur.specs.StartsToCome.{IsCountedTo}
 use Rattle.gtd_recur.proofs.GivenLemmas.{run-at_most, run-at_least, whole-order}
-use Rattle.gtd_calendar.proofs.Signed.{signed_arith}
+use Rattle.gtd_calendar.specs.facts.Signed.{signed_arith}
 use Rattle.gtd_recur.proofs.LookLemmas.{run-widen}
 use Rattle.gtd_recur.proofs.StretchLemmas.{run-first, run-none, runs-nil}
 use Rattle.gtd_recur.proofs.runs.Runs.next_run.Goals as goal
@@ -18,7 +18,9 @@ returns-in-Some-cut-clause-takes c =
     let from : c.from-from.result.0 ≡ (whole s.starts.horizon).from = rw same.horizon c.from-from.ensures.value in
     let until : c.until-until.result.0 ≡ (whole s.starts.horizon).until = rw same.horizon c.until-until.ensures.value in
     let cut = rw (from, until) at c.in-Some-cut.ensures in
-    let first = run-first (duration_parts s.duration) _ _ (whole s.starts.horizon).from (whole s.starts.horizon).until c.in-Some.first.0 c.run_end-ahead.result.0.0 c.in-Some-cut.span (whole-order s.starts.horizon) run c.run_end-ahead.ensures.after cut in
+    let first = run-first (duration_parts s.duration) _ _ (whole s.starts.horizon).from
+    (whole s.starts.horizon).until c.in-Some.first.0 c.run_end-ahead.result.0.0 c.in-Some-cut.span
+    (whole-order s.starts.horizon) run c.run_end-ahead.ensures.after cut in
     c.loop-self.invariant.left ∙ rw (c.in-Some.is, next.basic, next.horizon) (rw (next.basic, next.horizon) at first)
 
 pub returns-in-Some-cut-clause-at_most : goal.returns-in-Some-cut-clause-at_most
@@ -30,11 +32,14 @@ returns-in-Some-cut-clause-at_most c =
     let from : c.from-from.result.0 ≡ (whole s.starts.horizon).from = rw same.horizon c.from-from.ensures.value in
     let until : c.until-until.result.0 ≡ (whole s.starts.horizon).until = rw same.horizon c.until-until.ensures.value in
     let cut = rw (from, until) at c.in-Some-cut.ensures in
-    let end = run-at_most s.starts c.run_end-ahead.new.starts c.run_end-ahead.result.0.0 c.in-Some-cut.span.until c.run_end-ahead.ensures.at_most cut.3 in
+    let end = run-at_most s.starts c.run_end-ahead.new.starts c.run_end-ahead.result.0.0 c.in-Some-cut.span.until
+    c.run_end-ahead.ensures.at_most cut.3 in
     let w = (cut.1 c.in-Some-cut.span.from).0 (omega (arith, signed_arith), cut.0) in
     let begun = cut.0 in
     let late = w.2 in
-    rw (← same.basic, ← same.horizon, ← c.loop-self.invariant.duration) (run-widen s.starts.basic s.duration s.starts.horizon c.in-Some-cut.span.until _ s.narrow (omega (arith, signed_arith, begun, late)) end)
+    rw (← same.basic, ← same.horizon, ← c.loop-self.invariant.duration)
+    (run-widen s.starts.basic s.duration s.starts.horizon c.in-Some-cut.span.until _ s.narrow
+    (omega (arith, signed_arith, begun, late)) end)
 
 pub returns-in-Some-cut-clause-at_least : goal.returns-in-Some-cut-clause-at_least
 returns-in-Some-cut-clause-at_least c =
@@ -46,7 +51,8 @@ returns-in-Some-cut-clause-at_least c =
     let until : c.until-until.result.0 ≡ (whole s.starts.horizon).until = rw same.horizon c.until-until.ensures.value in
     let cut = rw (from, until) at c.in-Some-cut.ensures in
     let counted : IsCountedTo s.starts (Some c.in-Some.first) = rw c.in-Some.is at s.counted in
-    rw (← same.basic, ← same.horizon) (run-at_least s.starts c.run_end-ahead.new.starts c.in-Some.first.0 c.in-Some-cut.span.from counted.1 c.run_end-ahead.ensures.grows cut.4)
+    rw (← same.basic, ← same.horizon) (run-at_least s.starts c.run_end-ahead.new.starts c.in-Some.first.0 c.in-Some-cut.span.from
+    counted.1 c.run_end-ahead.ensures.grows cut.4)
 
 pub loop-self-preserved : goal.loop-self-preserved
 loop-self-preserved c =
@@ -57,7 +63,8 @@ loop-self-preserved c =
     let from : c.from-from.result.0 ≡ (whole s.starts.horizon).from = rw same.horizon c.from-from.ensures.value in
     let until : c.until-until.result.0 ≡ (whole s.starts.horizon).until = rw same.horizon c.until-until.ensures.value in
     let cut = rw (from, until) at c.in_default-cut.ensures in
-    let none = run-none (duration_parts s.duration) _ _ (whole s.starts.horizon).from (whole s.starts.horizon).until c.in-Some.first.0 c.run_end-ahead.result.0.0 (whole-order s.starts.horizon) run cut in
+    let none = run-none (duration_parts s.duration) _ _ (whole s.starts.horizon).from
+    (whole s.starts.horizon).until c.in-Some.first.0 c.run_end-ahead.result.0.0 (whole-order s.starts.horizon) run cut in
     record {
       left = c.loop-self.invariant.left ∙ rw (c.in-Some.is, next.basic, next.horizon) (rw (next.basic, next.horizon) at none);
       same = record { basic = next.basic ∙ same.basic; horizon = next.horizon ∙ same.horizon };
@@ -68,7 +75,8 @@ loop-self-preserved c =
 pub returns-clause-takes : goal.returns-clause-takes
 returns-clause-takes c =
     let s = c.loop-self.self in
-    let nil : runs_to_come s ≡ [] = rw c.in_default.is (runs-nil (duration_parts s.duration) (whole s.starts.horizon).from (whole s.starts.horizon).until (whole-order s.starts.horizon)) in
+    let nil : runs_to_come s ≡ [] = rw c.in_default.is (runs-nil (duration_parts s.duration) (whole s.starts.horizon).from
+    (whole s.starts.horizon).until (whole-order s.starts.horizon)) in
     (c.loop-self.invariant.left ∙ nil, nil)
 
 pub returns-in-Some-cut-clause-basic : goal.returns-in-Some-cut-clause-basic

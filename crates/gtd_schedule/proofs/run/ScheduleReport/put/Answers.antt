@@ -1,11 +1,12 @@
 use Rattle.std.proofs.Common.{refl, arith, [], ◌∷◌}
 use Rattle.std.specs.Prelude.{Ok, Err}
 use Rattle.std.proofs.lemmas.Result.{err_from_is_err_and}
-use Rattle.gtd_runs.proofs.PutFacts.{one_put, one_short, puts_cut}
+use Rattle.gtd_runs.specs.facts.PutFacts.{one_put, one_short, puts_cut}
 use Rattle.gtd_runs.specs.Putting.{PutsText}
 use Rattle.gtd_schedule.specs.Schedule.{AreLinesOf, IsSchedule, header_line}
-use Rattle.gtd_schedule.proofs.ScheduleFacts.{IsHeader, few_elements, one_header, one_schedule, schedule_lines, schedule_parts}
-use Rattle.gtd_schedule.proofs.TextFacts.{Then, texts_as, texts_ended, texts_then}
+use Rattle.gtd_schedule.specs.facts.ScheduleFacts.{IsHeader, few_elements, one_header, one_schedule, schedule_lines}
+use Rattle.gtd_schedule.specs.facts.ScheduleFacts.{schedule_parts}
+use Rattle.gtd_schedule.specs.facts.TextFacts.{Then, texts_as, texts_ended, texts_then}
 use Rattle.gtd_schedule.proofs.run.ScheduleReport.put.Goals as goal
 
 pub returns-in_err-put_line-clause-puts : goal.returns-in_err-put_line-clause-puts
@@ -45,7 +46,8 @@ returns-in_err-put_elements-clause-puts g c =
     (header_line ∷ [], refl, one_put header_line a b before now e.all e.progress) in
     rw (p.1) (texts_as (Then header rest) (IsSchedule found vehicle horizon) (Err p.0) a d before after
     (schedule_lines found vehicle horizon elements named) (schedule_parts found vehicle horizon elements named)
-    (texts_then header rest (Err p.0) a b d before now after (one_header found vehicle horizon) first c.in_err-put_elements.ensures.puts))
+    (texts_then header rest (Err p.0) a b d before now after
+    (one_header found vehicle horizon) first c.in_err-put_elements.ensures.puts))
 
 pub returns-clause-puts : goal.returns-clause-puts
 returns-clause-puts g c =
@@ -69,5 +71,6 @@ returns-clause-puts g c =
     texts_ended (IsSchedule found vehicle horizon) c.finish.result a d f before after (one_schedule found vehicle horizon)
     (texts_as (Then header rest) (IsSchedule found vehicle horizon) (Ok tt) a d before after
     (schedule_lines found vehicle horizon elements named) (schedule_parts found vehicle horizon elements named)
-    (texts_then header rest (Ok tt) a b d before now after (one_header found vehicle horizon) first c.in_ok-put_elements.ensures.puts))
+    (texts_then header rest (Ok tt) a b d before now after (one_header found vehicle horizon) first
+    c.in_ok-put_elements.ensures.puts))
     c.finish.ensures.bytes

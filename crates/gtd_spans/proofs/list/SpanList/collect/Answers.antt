@@ -9,4 +9,7 @@ push_beyond-requires g c =
     let rest : List Interval = g.S.SpanSource.rest c.next.new.self in
     let all : g.S.SpanSource.rest c.args.source.now ≡ c.loop-x.list ++ (c.in-Some.x ∷ rest) =
     c.loop-x.invariant ∙ ap (λ (r : List Interval). c.loop-x.list ++ r) c.in-Some.ensures.takes in
-    record { beyond = normal-before c.loop-x.list rest c.in-Some.x (subst IsNormal all (g.met.S.SpanSource.is_normal c.args.source.now)) }
+    record {
+      beyond = normal-before c.loop-x.list rest c.in-Some.x
+          (subst IsNormal all (g.met.S.SpanSource.is_normal c.args.source.now));
+    }

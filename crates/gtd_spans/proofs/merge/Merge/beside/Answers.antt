@@ -1,6 +1,6 @@
 use Rattle.gtd_core.specs.declared.domain.Op.TheVariants.{Minus}
 use Rattle.std.proofs.Common.{[], ◌∷◌}
-use Rattle.gtd_spans.specs.Combining.{combine-normal}
+use Rattle.gtd_spans.specs.facts.Combining.{combine-normal}
 use Rattle.gtd_spans.proofs.UnionSteps.{union-nil}
 use Rattle.gtd_spans.proofs.merge.Merge.beside.Goals as goal
 

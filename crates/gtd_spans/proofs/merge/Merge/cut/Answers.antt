@@ -13,19 +13,22 @@ pub returns-then-le-clause-steps : goal.returns-then-le-clause-steps
 returns-then-le-clause-steps c =
     let le : c.args.y.until ≤ℤ c.args.x.from = grind (arith, ints, common_steps) in (
       ((λ h. let k : Held c.args.x ≡ Open = rw c.requires.left at h in cc), refl),
-      step-by Minus c.args.self.now c.args.x c.args.y c.args.self.now.left Open None c.requires.op (minus-keeps _) c.requires.left c.requires.right
+      step-by Minus c.args.self.now c.args.x c.args.y c.args.self.now.left Open None c.requires.op
+          (minus-keeps _) c.requires.left c.requires.right
           (λ l r n m. (rw c.requires.left n, m.2, rw c.requires.left (drop-right c.args.x c.args.y l r n le))),
     )
 
 pub returns-then-le-2-clause-steps : goal.returns-then-le-2-clause-steps
 returns-then-le-2-clause-steps c =
     let le : c.args.x.until ≤ℤ c.args.y.from = grind (arith, ints, common_steps) in
-    step-by Minus c.args.self.now c.args.x c.args.y Open c.args.self.now.right (Some c.args.x) c.requires.op (minus-keeps _) c.requires.left c.requires.right
+    step-by Minus c.args.self.now c.args.x c.args.y Open c.args.self.now.right (Some c.args.x) c.requires.op
+    (minus-keeps _) c.requires.left c.requires.right
     (λ l r n m. (
       n.2,
       rw c.requires.right m,
       rw c.requires.right
-          (give-left c.args.x l (c.args.y ∷ r) n (from-weaken c.args.y.from c.args.x.until (c.args.y ∷ r) le (normal-begins c.args.y r m))),
+          (give-left c.args.x l (c.args.y ∷ r) n (from-weaken c.args.y.from c.args.x.until (c.args.y ∷ r) le
+          (normal-begins c.args.y r m))),
     ))
 
 pub returns-then-lt-clause-steps : goal.returns-then-lt-clause-steps
@@ -62,7 +65,8 @@ returns-then-lt-3-clause-steps c =
     rw (c.until-then-lt-3.ensures.value, c.until-then-lt-3-2.ensures.value) at c.between-then-lt-3.ensures.value in
     rw rest (
       ((λ h. let k : Held (record { from = c.args.y.until; until = c.args.x.until }) ≡ Open = h in cc), refl),
-      step-by Minus c.args.self.now c.args.x c.args.y (Held (record { from = c.args.y.until; until = c.args.x.until })) Open None c.requires.op
+      step-by Minus c.args.self.now c.args.x c.args.y (Held (record { from = c.args.y.until; until = c.args.x.until })) Open None
+          c.requires.op
           (minus-keeps _) c.requires.left c.requires.right
           (λ l r n m. ((lu, n.1, n.2), m.2, trim-left c.args.x c.args.y l r n m le lt lu)),
     )
@@ -72,6 +76,7 @@ returns-clause-steps c =
     let le : c.args.y.from ≤ℤ c.args.x.from = grind (arith, ints, common_steps) in
     let lu : c.args.x.until ≤ℤ c.args.y.until = grind (arith, ints, common_steps) in (
       refl,
-      step-by Minus c.args.self.now c.args.x c.args.y Open c.args.self.now.right None c.requires.op (minus-keeps _) c.requires.left c.requires.right
+      step-by Minus c.args.self.now c.args.x c.args.y Open c.args.self.now.right None c.requires.op
+          (minus-keeps _) c.requires.left c.requires.right
           (λ l r n m. (n.2, rw c.requires.right m, rw c.requires.right (drop-left c.args.x c.args.y l r n m le lu))),
     )

@@ -1,6 +1,6 @@
 use Rattle.std.proofs.Common.{[]}
 use Rattle.gtd_core.specs.Whole.{whole}
-use Rattle.gtd_spans.specs.Whole.{minus-whole}
+use Rattle.gtd_spans.specs.facts.Whole.{minus-whole}
 use Rattle.gtd_spans.proofs.source.Outside.new.Goals as goal
 
 pub invariant_of-result : goal.invariant_of-result

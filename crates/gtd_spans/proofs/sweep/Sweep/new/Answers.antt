@@ -1,4 +1,4 @@
-use Rattle.gtd_spans.specs.Combining.{combine-normal, combine-holds}
+use Rattle.gtd_spans.specs.facts.Combining.{combine-normal, combine-holds}
 use Rattle.gtd_spans.proofs.sweep.Sweep.new.Goals as goal
 
 pub returns-clause-normal : goal.returns-clause-normal

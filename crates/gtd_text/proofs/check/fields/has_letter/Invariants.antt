@@ -1,6 +1,6 @@
 use Rattle.std.proofs.Common.{◌≡◌, length}
 use Rattle.gtd_text.specs.Fields.{has_letter}
-use Rattle.gtd_text.specs.Seen.{newest_first}
+use Rattle.gtd_text.specs.TokenKinds.{newest_first}
 use Rattle.gtd_text.proofs.check.fields.has_letter.Given as goal
 
 abbrev pub invariant-loop-last : goal.invariant-loop-last

@@ -1,5 +1,6 @@
 use Rattle.std.proofs.Common.{ap, sym, ◌∙◌, take, arith}
-use Rattle.gtd_text.specs.Seen.{newest_first, seen}
+use Rattle.gtd_text.specs.TokenKinds.{newest_first}
+use Rattle.gtd_text.specs.Summary.{seen}
 use Rattle.gtd_text.specs.Found.{fault_after}
 use Rattle.gtd_text.proofs.SeenLemmas.{newest_first-nil, no_token, newest_first-more, fault_after-more}
 use Rattle.gtd_text.proofs.check.grammar.first_misfit.Goals as goal
@@ -16,7 +17,9 @@ loop-i-preserved c =
     let tokens = c.args.tokens.now in
     let before = newest_first (take c.loop-i.i tokens) in
     record {
-      known = c.with-seen.ensures.seen before c.loop-i.invariant.known ∙ ap seen (sym (newest_first-more tokens c.loop-i.i no_token c.loop-i-test.true));
-      so_far = fault_after-more c.args.len tokens c.loop-i.i no_token _ c.loop-i-test.true (sym c.if-not-fits.ensures) c.loop-i.invariant.so_far;
+      known = c.with-seen.ensures.seen before c.loop-i.invariant.known
+          ∙ ap seen (sym (newest_first-more tokens c.loop-i.i no_token c.loop-i-test.true));
+      so_far = fault_after-more c.args.len tokens c.loop-i.i no_token _ c.loop-i-test.true
+          (sym c.if-not-fits.ensures) c.loop-i.invariant.so_far;
       few = omega arith;
     }

@@ -1,5 +1,6 @@
 use Rattle.std.proofs.Common.{◌≡◌, ◌≤◌, [], take, drop}
-use Rattle.gtd_text.specs.Seen.{newest_first, seen}
+use Rattle.gtd_text.specs.TokenKinds.{newest_first}
+use Rattle.gtd_text.specs.Summary.{seen}
 use Rattle.gtd_text.specs.Found.{fault_after}
 use Rattle.gtd_text.proofs.check.grammar.first_misfit.Given as goal
 

@@ -2,9 +2,9 @@ use Rattle.std.proofs.Common.{rules, ◌≡◌, ◌∙◌, pos, FitsSigned, to_z
 use Rattle.std.proofs.lemmas.Result.{err_from_is_err_and}
 use Rattle.gtd_calendar.specs.Calendar.{first_day, year_length}
 use Rattle.gtd_eval.specs.Cursors.{cursor_list}
-use Rattle.gtd_roads.specs.Closing.{IsOpen}
-use Rattle.gtd_runs.proofs.PutFacts.{puts_ended, puts_text}
-use Rattle.gtd_year.specs.Table.{IsYearTable}
+use Rattle.gtd_records.specs.Closing.{IsOpen}
+use Rattle.gtd_runs.specs.facts.PutFacts.{puts_ended, puts_text}
+use Rattle.gtd_year.specs.YearTable.{IsYearTable}
 use Rattle.gtd_year.proofs.DayFacts.{one_table}
 use Rattle.gtd_year.proofs.YearFacts.{days_between, year_length-few, year_table}
 use Rattle.gtd_year.proofs.run.YearTableReport.put.Goals as goal
@@ -22,7 +22,8 @@ returns-in_err-put_days-clause-puts g c =
     to_z-of_z from_fits ∙ c.from_day-first.ensures.value ∙ days.ensures.first in
     let to = to_z-of_z to_fits ∙ c.to_day.ensures.value ∙ days.ensures.next in
     let count = days_between (first_day y) _ (year_length y) (year_length-few y) to in
-    let table = year_table set days.result (cursor_list c.in_ok-open.open) _ _ _ c.args.self.now.year put.0 c.in_ok-open.ensures.seconds
+    let table = year_table set days.result (cursor_list c.in_ok-open.open) _ _ _ c.args.self.now.year put.0
+    c.in_ok-open.ensures.seconds
     c.new-seconds.ensures.value days.ensures.first days.ensures.next from (rw from count) put.1 in
     rw (p.1) (λ lines is. rw (one_table set (first_day y) (year_length y) lines put.0 is table) put.2)
 
@@ -39,9 +40,11 @@ returns-clause-puts g c =
     to_z-of_z from_fits ∙ c.from_day-first.ensures.value ∙ days.ensures.first in
     let to = to_z-of_z to_fits ∙ c.to_day.ensures.value ∙ days.ensures.next in
     let count = days_between (first_day y) _ (year_length y) (year_length-few y) to in
-    let table = year_table set days.result (cursor_list c.in_ok-open.open) _ _ _ c.args.self.now.year put.0 c.in_ok-open.ensures.seconds
+    let table = year_table set days.result (cursor_list c.in_ok-open.open) _ _ _ c.args.self.now.year put.0
+    c.in_ok-open.ensures.seconds
     c.new-seconds.ensures.value days.ensures.first days.ensures.next from (rw from count) put.1 in
-    puts_text (IsYearTable c.args.found.now c.args.self.now.element c.args.self.now.direction c.args.self.now.vehicle c.args.self.now.year) c.finish.result
+    puts_text (IsYearTable c.args.found.now c.args.self.now.element c.args.self.now.direction c.args.self.now.vehicle
+    c.args.self.now.year) c.finish.result
     (taken c.args.output.now) (taken c.finish.new.output) c.args.progress.now c.put_days.new.progress put.0 table
     (λ other is. one_table set (first_day y) (year_length y) other put.0 is table)
     (puts_ended c.finish.result (taken c.args.output.now) (taken c.put_days.new.output) (taken c.finish.new.output)

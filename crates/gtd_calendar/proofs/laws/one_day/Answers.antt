@@ -1,0 +1,8 @@
+use Rattle.gtd_calendar.specs.facts.FieldLemmas.{fields-are, fields-only}
+use Rattle.gtd_calendar.proofs.laws.one_day.Goals as goal
+
+pub returns-clause-has : goal.returns-clause-has
+returns-clause-has c = fields-are
+
+pub returns-clause-only : goal.returns-clause-only
+returns-clause-only c = fields-only

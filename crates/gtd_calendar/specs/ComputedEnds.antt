@@ -1,0 +1,35 @@
+-- The end of a stretch, computed. It is a law of this crate that it is the stretch's end, and that there is no other.
+use Rattle.std.specs.Prelude.{ℕ, ◌+◌, ◌-◌, ◌*◌, min, ℤ, pos, ◌+ℤ◌, ◌*ℤ◌, unsigned_abs}
+use Rattle.std.specs.Int.{int_div_euclid, int_rem_euclid}
+use Rattle.gtd_core.specs.declared.duration.DurationParts.{DurationParts}
+use Rattle.gtd_core.specs.Days.{day_of_second}
+use Rattle.gtd_core.specs.DurationBound.{clock_seconds}
+use Rattle.gtd_calendar.specs.Calendar.{month_length, day_number}
+use Rattle.gtd_calendar.specs.Clock.{second_of_day}
+use Rattle.gtd_calendar.specs.ComputedDates.{year_of, month_of, day_of_month}
+
+-- months counted from January of the year 0
+abbrev pub month_count : ℤ → ℕ → ℤ
+month_count y m = pos 12 *ℤ y +ℤ pos (m - 1)
+
+-- the year and the month that stand at a count
+abbrev pub counted_year : ℤ → ℤ
+counted_year t = int_div_euclid t (pos 12)
+
+abbrev pub counted_month : ℤ → ℕ
+counted_month t = unsigned_abs (int_rem_euclid t (pos 12)) + 1
+
+-- the day that stands in the month of a count, or the month's last where it has no such day
+unfoldable pub day_in_month : ℤ → ℕ → ℤ
+day_in_month t d =
+    day_number (counted_year t) (counted_month t) (min d (month_length (counted_year t) (counted_month t)))
+
+-- a day moved by months, its day of the month cut to the last of the month reached
+unfoldable pub months_later : ℤ → ℕ → ℤ
+months_later n k = day_in_month (month_count (year_of n) (month_of n) +ℤ pos k) (day_of_month n)
+
+-- the end of the stretch of duration p that begins at second b
+unfoldable pub stop : DurationParts → ℤ → ℤ
+stop p b =
+    pos 86400 *ℤ (months_later (day_of_second b) (12 * p.years + p.months) +ℤ pos (7 * p.weeks + p.days))
+    +ℤ pos (second_of_day b + clock_seconds p)

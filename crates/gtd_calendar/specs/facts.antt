@@ -1,0 +1,12 @@
+pub mod ClockLemmas
+pub mod CycleLemmas
+pub mod DateLemmas
+pub mod JiffLemmas
+pub mod MonthLemmas
+pub mod OrderLemmas
+pub mod Signed
+pub mod YearLemmas
+pub mod FieldLemmas
+pub mod StopLemmas
+pub mod TimeLemmas
+pub mod WeekLemmas

@@ -1,0 +1,4 @@
+pub mod EqualTrees
+pub mod Leaves
+pub mod TreeCode
+pub mod Deciding

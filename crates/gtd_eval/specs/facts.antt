@@ -1,0 +1,5 @@
+pub mod CursorFacts
+pub mod TreeDecisions
+pub mod NodeFacts
+pub mod Repeats
+pub mod SingleFacts

@@ -1,0 +1,56 @@
+//! A caller that knows `gtd_roads` alone: what it proves with the clauses of a run, and tests of every item at that root.
+#![tactic(auto)]
+
+ghost use Rattle.std.specs.Prelude.{◌≡◌, ◌<◌, ◌≤◌, ◌↔◌, IsTrue, OnOk};
+ghost use Rattle.gtd_roads.specs.Closing.{IsClosed};
+ghost use Rattle.gtd_roads.specs.Days.{IsHorizonSecond};
+ghost use Rattle.gtd_roads.specs.Subjects.{IsVehicleType};
+ghost use Rattle.gtd_roads.specs.Theorem.{Headline, MigrationClaim};
+
+use gtd_roads::{
+    Direction, Horizon, Input, Output, Records, RunFault, Sec, run_migrate, run_schedule,
+};
+use std::alloc::Global;
+
+#[cfg(test)]
+mod tests;
+
+/// Puts the schedule of a record file for the vehicle type 11, to an output that was not ended.
+pub fn schedule_of_eleven<I: Input, O: Output>(
+    alloc: Global,
+    input: &mut I,
+    output: &mut O,
+    horizon: Horizon,
+) -> Result<u64, RunFault>
+    requires readable { I.failure_count input.old < u64.MAX }
+    requires writable { O.failure_count output.old < u64.MAX }
+    ensures headline { Headline 11 horizon
+        (I.to_come input.old) (O.taken output.old) (O.taken output.new) result }
+    ensures ended { OnOk result (IsTrue (O.is_ended output.new)) }
+{
+    run_schedule(alloc, input, output, horizon, 11)
+}
+
+/// Puts the file of version 2 that stands for the restrictions of a record file.
+pub fn migrate<I: Input, O: Output>(
+    alloc: Global,
+    input: &mut I,
+    output: &mut O,
+) -> Result<u64, RunFault>
+    requires readable { I.failure_count input.old < u64.MAX }
+    requires writable { O.failure_count output.old < u64.MAX }
+    ensures claim { MigrationClaim (I.to_come input.old) (O.taken output.old) (O.taken output.new) result }
+{
+    run_migrate(alloc, input, output)
+}
+
+/// Whether some record closes the element in both directions for the vehicle type 11 at the second, which is on a day of
+/// horizons.
+pub fn is_closed_for_eleven(found: &Records, element: u64, second: Sec) -> bool
+    requires day { IsHorizonSecond second.0 }
+    ensures both { IsTrue result ↔ (IsClosed found.now element Direction.Positive 11 second.0
+        × IsClosed found.now element Direction.Negative 11 second.0) }
+{
+    found.closed_at(element, Direction::Positive, 11, second)
+        && found.closed_at(element, Direction::Negative, 11, second)
+}

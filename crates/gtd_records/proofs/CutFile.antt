@@ -1,0 +1,58 @@
+-- An accepted file may be cut between two of its rows, byte for byte.
+use Rattle.std.proofs.Common.{◌≡◌, ◌∙◌, sym, ap, refl, subst, arith, ◌≤◌, inl, inr, ℕ, List, [], ◌∷◌, ◌++◌, length}
+use Rattle.std.proofs.Common.{length-append}
+use Rattle.std.specs.Prelude.{Ok}
+use Rattle.std.proofs.lemmas.Bool.{cases_Bool}
+use Rattle.csv.specs.Reading.{default_config, is_bom, records, strip_bom}
+use Rattle.csv.specs.declared.parser.State.TheVariants as st
+use Rattle.gtd_records.proofs.CutBytes.{cut_records}
+use Rattle.gtd_records.proofs.CutFacts.{cut}
+use Rattle.gtd_records.specs.Cut.{state_after}
+use Rattle.gtd_core.specs.Limits.{most_file_bytes}
+use Rattle.gtd_records.specs.File.{IsFile, IsTable, header}
+use Rattle.gtd_records.specs.Restriction.{Restriction}
+use Rattle.gtd_records.specs.Table.{Fields, IsBetween}
+use Rattle.gtd_records.specs.declared.vehicles.Version.{Version}
+
+strips : (head rest : List ℕ) → 3 ≤ length head → strip_bom (head ++ rest) ≡ strip_bom head ++ rest
+unfolding strip_bom
+strips [] rest long = absurd (omega arith)
+strips (a ∷ []) rest long = absurd (omega arith)
+strips (a ∷ b ∷ []) rest long = absurd (omega arith)
+strips (a ∷ b ∷ c ∷ more) rest long = elim (cases_Bool (is_bom a b c)) [ inl e ↦ rw e refl | inr e ↦ rw e refl ]
+
+module _ (v : Version) (head : List ℕ) (long : 3 ≤ length head)
+    (is_head : records default_config (strip_bom head) ≡ header v ∷ [])
+    (ends : IsBetween (state_after st.StartRecord (strip_bom head))) where
+  under : (rest : List ℕ) → records default_config (strip_bom (head ++ rest)) ≡ header v ∷ records default_config rest
+  under rest =
+      ap (λ (l : List ℕ). records default_config l) (strips head rest long)
+      ∙ cut_records (strip_bom head) rest ends
+      ∙ ap (λ (l : List Fields). l ++ records default_config rest) is_head
+
+  part : (rest : List ℕ) (found : List Restriction) → length (head ++ rest) ≤ most_file_bytes
+      → IsTable (header v ∷ records default_config rest) (Ok found)
+      → IsFile (head ++ rest) (Ok found)
+  part rest found few is = inl (few, subst (λ (t : List Fields). IsTable t (Ok found)) (sym (under rest)) is)
+
+  pub cut_file : (one two : List ℕ) (found : List Restriction) → IsBetween (state_after st.StartRecord one)
+      → IsFile (head ++ (one ++ two)) (Ok found)
+      → (first : List Restriction) × (second : List Restriction) × IsFile (head ++ one) (Ok first)
+      × IsFile (head ++ two) (Ok second)
+      × (found ≡ first ++ second)
+  cut_file one two found between (inl p) =
+      let rows = ap (λ (l : List Fields). header v ∷ l) (cut_records one two between) in
+      let table = subst (λ (t : List Fields). IsTable t (Ok found)) (under (one ++ two) ∙ rows) p.1 in
+      let c = cut v (records default_config one) (records default_config two) found table in
+      let few = p.0 in
+      let l = length-append head (one ++ two) in
+      let m = length-append one two in
+      let a = length-append head one in
+      let b = length-append head two in (
+        c.0,
+        c.1,
+        part one c.0 (omega (arith, few, l, m, a)) c.2,
+        part two c.1 (omega (arith, few, l, m, b)) c.3,
+        c.4,
+      )
+  cut_file one two found between (inr p) = absurd (cc (p.1))

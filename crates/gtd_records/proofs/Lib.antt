@@ -1,0 +1,10 @@
+pub mod ListFacts
+pub mod TableFacts
+pub mod ReadFacts
+pub mod OpenFacts
+pub mod CutFacts
+pub mod ClosingRowFacts
+pub mod FaultFacts
+pub mod ListedFacts
+pub mod CutBytes
+pub mod CutFile

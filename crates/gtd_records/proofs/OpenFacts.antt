@@ -1,0 +1,113 @@
+-- The cursors of the restrictions that close an element.
+use Rattle.std.proofs.Common.{◌≡◌, ◌∙◌, sym, ap, subst, ◌<◌, ◌+◌, ◌⊎◌, inl, inr, ◌↔◌, ℕ, List, [], ◌∷◌, ◌++◌, length, arith}
+use Rattle.std.specs.Prelude.{Any, slice_index_or, ℤ, Result, Ok, Err, IfOk}
+use Rattle.gtd_core.specs.Interval.{Interval, Within}
+use Rattle.gtd_core.specs.Whole.{whole}
+use Rattle.gtd_core.specs.declared.horizon.Horizon.{Horizon}
+use Rattle.gtd_eval.specs.Cursors.{SomeHolds, cursor_list}
+use Rattle.gtd_eval.specs.NormalOver.{IsNormalOver}
+use Rattle.gtd_eval.specs.declared.cursor.Cursor.{Cursor}
+use Rattle.gtd_spans.specs.Normal.{Holds, IsNormal}
+use Rattle.gtd_spans.specs.facts.NormalFor.{normal-for}
+use Rattle.gtd_records.specs.facts.IndexFacts.{any_default, by_le, one_record}
+use Rattle.gtd_records.specs.Closing.{Closes, Concerns, HoldsAt, IsClosed, IsOpen}
+use Rattle.gtd_records.specs.Restriction.{Restriction}
+use Rattle.gtd_records.specs.declared.index.Place.{Place}
+use Rattle.gtd_records.specs.declared.direction.Direction.{Direction}
+
+some_push : (cs : List Cursor) (c : Cursor) (t : ℤ) → SomeHolds (cs ++ c ∷ []) t → SomeHolds cs t ⊎ Holds (cursor_list c) t
+some_push [] c t (inl h) = inr h
+some_push [] c t (inr h) = absurd h
+some_push (d ∷ cs) c t (inl h) = inl (inl h)
+some_push (d ∷ cs) c t (inr h) = elim (some_push cs c t h) [ inl s ↦ inl (inr s) | inr l ↦ inr l ]
+
+push_old : (cs : List Cursor) (c : Cursor) (t : ℤ) → SomeHolds cs t → SomeHolds (cs ++ c ∷ []) t
+push_old [] c t h = absurd h
+push_old (d ∷ cs) c t (inl h) = inl h
+push_old (d ∷ cs) c t (inr h) = inr (push_old cs c t h)
+
+push_new : (cs : List Cursor) (c : Cursor) (t : ℤ) → Holds (cursor_list c) t → SomeHolds (cs ++ c ∷ []) t
+push_new [] c t h = inl h
+push_new (d ∷ cs) c t h = inr (push_new cs c t h)
+
+module _ (rows : List Restriction) (part : List Place) (element : ℕ) (direction : Direction) (vehicle : ℕ)
+    (horizon : Horizon) where
+  -- no restriction at the first places closes the element at the second
+  abbrev pub NoneCloses : ℕ → ℤ → Type 0
+  NoneCloses stop t =
+      (k : ℕ) (d : Place) (r : Restriction) → k < stop → slice_index_or rows (slice_index_or part k d).row r ≡ r
+      → Closes element direction vehicle t r → ⊥
+
+  -- the cursors are those of the restrictions at the first places that close the element
+  pub record AreClosingSoFar (stop : ℕ) (cursors : List Cursor) : Type 0 where
+    pub sound : (t : ℤ) → SomeHolds cursors t → IsClosed rows element direction vehicle t
+    pub complete : (t : ℤ) → Within (whole horizon) t → (SomeHolds cursors t → ⊥) → NoneCloses stop t
+
+  none_more : (i : ℕ) (t : ℤ) (p : Place) (s : Restriction) → i < length part → (slice_index_or part i p).row < length rows → s
+      ≡ slice_index_or rows (slice_index_or part i p).row s
+      → (Closes element direction vehicle t s → ⊥) → NoneCloses i t → NoneCloses (i + 1) t
+  none_more i t p s here there at none before = λ k d r lt is c.
+      by_le {P = ⊥} i k
+      (λ ge.
+      let e : k ≡ i = omega arith in
+      let same_place = ap (λ (n : ℕ). slice_index_or part n d) e ∙ any_default part i d p here in
+      let same : r ≡ s = one_record rows (slice_index_or part i p).row r s there
+      (subst (λ (q : Place). slice_index_or rows q.row r ≡ r) same_place is) at in
+      none (subst (Closes element direction vehicle t) same c))
+      (λ less. before k d r less is c)
+
+  -- a restriction that concerns nothing asked for adds none
+  pub same_cursors : (i : ℕ) (cursors : List Cursor) (p : Place) (s : Restriction) → i < length part
+      → (slice_index_or part i p).row < length rows
+      → s ≡ slice_index_or rows (slice_index_or part i p).row s → (Concerns direction vehicle s → ⊥) → AreClosingSoFar i cursors
+      → AreClosingSoFar (i + 1) cursors
+  same_cursors i cursors p s here there at none are = record {
+    sound = are.sound;
+    complete = λ t within not. none_more i t p s here there at (λ c. none c.concerns) (are.complete t within not);
+  }
+
+  -- one that does adds its cursor
+  pub one_cursor : (i : ℕ) (cursors : List Cursor) (c : Cursor) (p : Place) (s : Restriction) → i < length part
+      → (slice_index_or part i p).row < length rows
+      → s ≡ slice_index_or rows (slice_index_or part i p).row s → s.element ≡ element → Concerns direction vehicle s
+      → ((t : ℤ) → Holds (cursor_list c) t ↔ (Within (whole horizon) t × HoldsAt s.domain t))
+      → AreClosingSoFar i cursors → AreClosingSoFar (i + 1) (cursors ++ c ∷ [])
+  one_cursor i cursors c p s here there at names concerns is are = record {
+    sound = λ t h. elim (some_push cursors c t h) [
+      | inl old ↦ are.sound t old
+      | inr new ↦ (
+        (slice_index_or part i p).row,
+        s,
+        there,
+        sym at,
+        record { names = names; concerns = concerns; holds = ((is t).0 new).1 },
+      )
+    ];
+    complete = λ t within not. none_more i t p s here there at (λ q. not (push_new cursors c t ((is t).1 (within, q.holds))))
+        (are.complete t within (λ old. not (push_old cursors c t old)));
+  }
+
+  -- where the first places have all restrictions of the element, no other closes it
+  pub all_closing : (stop : ℕ) (cursors : List Cursor) → AreClosingSoFar stop cursors
+      → ((t : ℤ) → NoneCloses stop t → Any (Closes element direction vehicle t) rows → ⊥)
+      → (t : ℤ) → Within (whole horizon) t → (SomeHolds cursors t → ⊥) → IsOpen rows element direction vehicle t
+  all_closing stop cursors are all t within not = all t (are.complete t within not)
+
+-- what lies outside of all that is closed is open
+pub open_normal : (rows : List Restriction) (element : ℕ) (direction : Direction) (vehicle : ℕ) (horizon : Horizon)
+    (cursors : List Cursor) (closed spare : List Interval)
+    → ((t : ℤ) → SomeHolds cursors t → IsClosed rows element direction vehicle t)
+    → ((t : ℤ) → Within (whole horizon) t → (SomeHolds cursors t → ⊥) → IsOpen rows element direction vehicle t)
+    → ((t : ℤ) → Holds closed t ↔ SomeHolds cursors t)
+    → ((t : ℤ) → Holds spare t ↔ (Within (whole horizon) t × (Holds closed t → ⊥)))
+    → IsNormal spare → IsNormalOver (IsOpen rows element direction vehicle) horizon spare
+open_normal rows element direction vehicle horizon cursors closed spare sound complete any outside normal =
+    normal-for (IsOpen rows element direction vehicle) (whole horizon).from (whole horizon).until spare normal
+    (λ t. (
+      (λ h. let o = (outside t).0 h in (o.0.0, o.0.1, complete t o.0 (λ s. o.1 ((any t).1 s)))),
+      (λ q. (outside t).1 ((q.0, q.1), (λ h. q.2 (sound t ((any t).0 h))))),
+    ))
+
+pub ok_both : {T E : Type 0} {P Q R : T → Type 0} (r : Result T E) → IfOk r P → IfOk r Q → ((x : T) → P x → Q x → R x) → IfOk r R
+ok_both (Ok x) p q h = h x p q
+ok_both (Err e) p q h = tt

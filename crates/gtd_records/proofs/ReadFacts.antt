@@ -1,0 +1,21 @@
+-- From the text of a file to its bytes.
+use Rattle.std.proofs.Common.{◌≡◌, ◌≢◌, ◌≤◌, inl, subst, ℕ, List, length}
+use Rattle.std.specs.Prelude.{Option, Some, None, IfSome, Result, Ok, Err, MatchResult}
+use Rattle.csv.specs.Reading.{default_config, records, strip_bom}
+use Rattle.gtd_records.specs.File.{IsFile, IsTable}
+use Rattle.gtd_records.specs.Reading.{IsOfFile}
+use Rattle.gtd_records.specs.Restriction.{Restriction}
+use Rattle.gtd_records.specs.declared.fault.RecordFault.{RecordFault}
+use Rattle.gtd_records.specs.declared.fault.RecordFault.TheVariants as fault
+
+not_memory : (why : RecordFault) → IsOfFile why → why ≢ fault.NoMemory
+not_memory why of = λ e. subst IsOfFile e of
+
+pub of_table : (bytes : List ℕ) (told : Option (List ℕ)) (r : Result (List Restriction) RecordFault) → length bytes ≤ 16777216
+    → IfSome told (λ all. bytes ≡ all)
+    → MatchResult r (λ found. IsTable (records default_config (strip_bom bytes)) (Ok found))
+    (λ why. why ≢ fault.NoMemory → IsTable (records default_config (strip_bom bytes)) (Err why))
+    → IfSome told (λ all. MatchResult r (λ found. IsFile all (Ok found)) (λ why. IsOfFile why → IsFile all (Err why)))
+of_table bytes None r few is t = tt
+of_table bytes (Some all) (Ok found) few is t = subst (λ b. IsFile b (Ok found)) is (inl (few, t))
+of_table bytes (Some all) (Err why) few is t = λ of. subst (λ b. IsFile b (Err why)) is (inl (few, t (not_memory why of)))

@@ -1,0 +1,22 @@
+use Rattle.std.proofs.Common.{◌≡◌, sym, subst, refl, arith, rules, length}
+use Rattle.std.proofs.lemmas.List.Sorted.{All-permutation, Contains-permutation, IsNonDecreasingBy-from_sort_by_key}
+use Rattle.gtd_records.specs.Index.{IsPlace}
+use Rattle.gtd_records.specs.declared.index.Place.{Place}
+use Rattle.gtd_records.specs.facts.IndexFacts.{at_index}
+use Rattle.gtd_records.proofs.index.places_of.Goals as goal
+
+pub returns : goal.returns
+returns c =
+    let rows = c.args.rows.now in
+    let i = c.loop-row.invariant in
+    let all : c.loop-row.row ≡ length rows = omega arith in
+    let moved = c.sort_unstable_by_key.ensures.permutation in
+    record {
+      sorted = IsNonDecreasingBy-from_sort_by_key (λ (p : Place). p.element) _ c.sort_unstable_by_key.ensures.sorted
+          (λ a r q k. search rules);
+      sound = All-permutation (IsPlace rows) _ _ moved
+          (λ k d h. let a = at_index rows k (omega arith) in
+          subst (IsPlace rows) (sym (i.each k d a.0 (omega arith) a.1)) (a.0, omega arith, a.1, refl));
+      each = λ k r h e. Contains-permutation _ _ _ moved (k, omega arith, i.each k _ r (omega arith) e);
+      many = search rules;
+    }

@@ -1,0 +1,10 @@
+use Rattle.gtd_records.proofs.CutBytes.{cut_records}
+use Rattle.gtd_records.proofs.CutFile.{cut_file}
+use Rattle.gtd_records.proofs.laws.parts_of_a_text.Goals as goal
+
+pub returns : goal.returns
+returns c = record {
+  cut = cut_records;
+  file = λ v head one two found long is ends between.
+      cut_file v head long is ends one two found between;
+}

@@ -1,0 +1,45 @@
+-- When a road element is closed, and when it is open. Its directions are those of GDF (ISO 14825:2004): the positive one
+-- goes from its From node to its To node.
+use Rattle.std.specs.Prelude.{◌≡◌, ℕ, ℤ, List, Any, Option, Some, None, ⊤, ◌↔◌}
+use Rattle.std.specs.List.{Contains}
+use Rattle.std.specs.List.Sorted.{IsStrictlyIncreasing}
+use Rattle.gtd_core.specs.Trees.{Tree}
+use Rattle.gtd_eval.specs.Membership.{InTree}
+use Rattle.gtd_records.specs.Restriction.{Restriction}
+use Rattle.gtd_records.specs.Vehicles.{Serves}
+use Rattle.gtd_records.specs.declared.direction.Closed.{Closed}
+use Rattle.gtd_records.specs.declared.direction.Closed.TheVariants.{One, Both}
+use Rattle.gtd_records.specs.declared.direction.Direction.{Direction}
+
+-- what is closed has this direction
+abbrev pub ClosesDirection : Closed → Direction → Type 0
+ClosesDirection (One closed) direction = closed ≡ direction
+ClosesDirection Both direction = ⊤
+
+-- the expression contains the second, and where there is none every second is meant
+abbrev pub HoldsAt : Option Tree → ℤ → Type 0
+HoldsAt None second = ⊤
+HoldsAt (Some tree) second = InTree tree second
+
+-- the restriction closes its element in the direction for the vehicle type, at whatever seconds
+abbrev pub Concerns : Direction → ℕ → Restriction → Type 0
+Concerns direction vehicle r = ClosesDirection r.closed direction × Serves r.vehicles vehicle
+
+-- the restriction closes the element in the direction for the vehicle type at the second
+pub record Closes (element : ℕ) (direction : Direction) (vehicle : ℕ) (second : ℤ) (r : Restriction) : Type 0 where
+  pub names : r.element ≡ element
+  pub concerns : Concerns direction vehicle r
+  pub holds : HoldsAt r.domain second
+
+-- some restriction closes it
+abbrev pub IsClosed : List Restriction → ℕ → Direction → ℕ → ℤ → Type 0
+IsClosed found element direction vehicle second = Any (Closes element direction vehicle second) found
+
+-- no restriction closes it
+abbrev pub IsOpen : List Restriction → ℕ → Direction → ℕ → ℤ → Type 0
+IsOpen found element direction vehicle second = IsClosed found element direction vehicle second → ⊥
+
+-- the elements that the restrictions name, ascending and each once
+pub record AreElements (found : List Restriction) (elements : List ℕ) : Type 0 where
+  pub ascending : IsStrictlyIncreasing elements
+  pub named : (element : ℕ) → Contains elements element ↔ Any (λ (r : Restriction). r.element ≡ element) found

@@ -1,0 +1,41 @@
+-- How the restrictions of a file are found by their element.
+use Rattle.std.specs.Prelude.{◌≡◌, ◌<◌, ◌≤◌, ◌+◌, ℕ, ℤ, List, length, slice_index_or}
+use Rattle.std.specs.List.{All, Contains}
+use Rattle.std.specs.List.Sorted.{IsNonDecreasingBy}
+use Rattle.gtd_core.specs.Limits.{most_rows, most_nodes}
+use Rattle.gtd_core.specs.Interval.{Within}
+use Rattle.gtd_core.specs.Whole.{whole}
+use Rattle.gtd_core.specs.declared.horizon.Horizon.{Horizon}
+use Rattle.gtd_eval.specs.Cursors.{SomeHolds, total_nodes}
+use Rattle.gtd_eval.specs.declared.cursor.Cursor.{Cursor}
+use Rattle.gtd_records.specs.Closing.{AreElements, IsClosed, IsOpen}
+use Rattle.gtd_records.specs.Restriction.{Restriction}
+use Rattle.gtd_records.specs.declared.direction.Direction.{Direction}
+use Rattle.gtd_records.specs.declared.index.Place.{Place}
+
+-- the place's row is a restriction of its element
+abbrev pub IsPlace : List Restriction → Place → Type 0
+IsPlace rows p = (r : Restriction) × (p.row < length rows) × (slice_index_or rows p.row r ≡ r) × (r.element ≡ p.element)
+
+-- the places of all rows, by element
+pub record ArePlaces (rows : List Restriction) (places : List Place) : Type 0 where
+  pub sorted : IsNonDecreasingBy (λ (p : Place). p.element) places
+  pub sound : All (IsPlace rows) places
+  pub each : (k : ℕ) (r : Restriction) → k < length rows → slice_index_or rows k r ≡ r
+      → Contains places (record { element = r.element; row = k })
+  pub many : length places ≡ length rows
+
+-- the places and the elements of all rows, which are as many as a file may have
+pub record IsIndexed (rows : List Restriction) (places : List Place) (elements : List ℕ) : Type 0 where
+  pub placed : ArePlaces rows places
+  pub named : AreElements rows elements
+  pub few : length rows ≤ most_rows
+
+-- The cursors have the seconds of the horizon at which a restriction closes the element in the direction for the vehicle
+-- type, and few enough nodes to be united and complemented.
+pub record AreClosing (rows : List Restriction) (element : ℕ) (direction : Direction) (vehicle : ℕ)
+    (horizon : Horizon) (cursors : List Cursor) : Type 0 where
+  pub few : total_nodes cursors + length cursors ≤ most_nodes
+  pub sound : (t : ℤ) → SomeHolds cursors t → IsClosed rows element direction vehicle t
+  pub complete : (t : ℤ) → Within (whole horizon) t → (SomeHolds cursors t → ⊥)
+      → IsOpen rows element direction vehicle t

@@ -1,0 +1,201 @@
+-- Records found by their element.
+use Rattle.std.proofs.Common.{◌≡◌, ◌∙◌, sym, ap, refl, subst, ◌<◌, ◌≤◌, ◌+◌, ℕ, zero, suc, List, [], ◌∷◌, length, map, get_or}
+use Rattle.std.proofs.Common.{take, drop, ◌-◌, ◌*◌, arith}
+use Rattle.std.specs.Prelude.{Any, slice_index_or, ℤ}
+use Rattle.std.specs.List.{Contains}
+use Rattle.std.specs.List.Sorted.{IsNonDecreasingBy, IsSorted}
+use Rattle.std.specs.Ordering.{nat_cmp}
+use Rattle.std.proofs.Common.{is_lt, false}
+use Rattle.std.proofs.lemmas.List.{length-map}
+use Rattle.std.proofs.lemmas.Bool.Decides.{nat_tests}
+use Rattle.std.proofs.lemmas.List.{get_or-take, get_or-drop}
+use Rattle.std.proofs.Common.{length-drop, length-take}
+use Rattle.gtd_records.specs.Index.{ArePlaces, IsPlace}
+use Rattle.gtd_records.specs.Closing.{AreElements, Closes}
+use Rattle.gtd_records.specs.Vehicles.{IsAscending}
+use Rattle.gtd_records.specs.declared.direction.Direction.{Direction}
+use Rattle.gtd_records.specs.declared.index.Place.{Place}
+use Rattle.gtd_records.specs.Restriction.{Restriction}
+
+pub by_le : {P : Type 0} (a b : ℕ) → (a ≤ b → P) → (b < a → P) → P
+by_le zero b f g = f (omega arith)
+by_le (suc a) zero f g = g (omega arith)
+by_le (suc a) (suc b) f g = by_le a b (λ h. f (omega arith)) (λ h. g (omega arith))
+
+-- what stands at an index
+pub at_index : {X : Type 0} (xs : List X) (k : ℕ) → k < length xs → (x : X) × (slice_index_or xs k x ≡ x)
+at_index [] k h = absurd (omega arith)
+at_index (x ∷ xs) zero h = (x, refl)
+at_index (x ∷ xs) (suc k) h = at_index xs k (omega arith)
+
+-- an index within a list has one value, whatever stands past its end
+pub any_default : {X : Type 0} (xs : List X) (k : ℕ) (d e : X) → k < length xs → slice_index_or xs k d ≡ slice_index_or xs k e
+any_default [] k d e h = absurd (omega arith)
+any_default (x ∷ xs) zero d e h = refl
+any_default (x ∷ xs) (suc k) d e h = any_default xs k d e (omega arith)
+
+-- an image is in the images
+pub any_from_map : {X : Type 0} (f : X → ℕ) (xs : List X) (k n : ℕ) → k < length (map f xs) → slice_index_or (map f xs) k n ≡ n
+    → Any (λ x. f x ≡ n) xs
+any_from_map f [] k n h e = absurd (omega arith)
+any_from_map f (x ∷ xs) zero n h e = (0, x, omega arith, refl, e)
+any_from_map f (x ∷ xs) (suc k) n h e =
+    let r = any_from_map f xs k n (omega arith) e in
+    (suc r.0, r.1, (let l = r.2 in omega arith), r.3, r.4)
+
+pub map_from_any : {X : Type 0} (f : X → ℕ) (xs : List X) (k n : ℕ) (x : X) → k < length xs → slice_index_or xs k x ≡ x → f x ≡ n
+    → Contains (map f xs) n
+map_from_any f [] k n x h e g = absurd (omega arith)
+map_from_any f (y ∷ xs) zero n x h e g = (0, omega arith, ap f e ∙ g)
+map_from_any f (y ∷ xs) (suc k) n x h e g =
+    let r = map_from_any f xs k n x (omega arith) e g in
+    (suc r.0, (let l = r.1 in omega arith), r.2)
+
+-- the places from there on
+pub part_at : (places all : List Place) → all ≡ places → (from k : ℕ) (d : Place) → from + k < length places
+    → slice_index_or (take (length all - from) (drop from all)) k d ≡ slice_index_or places (from + k) d
+part_at places all same from k d h =
+    let l = ap length same in
+    get_or-take (length all - from) (drop from all) k d (omega (arith, l)) ∙ get_or-drop from all k d
+    ∙ ap (λ (xs : List Place). get_or xs (from + k) d) same
+
+module _ (rows : List Restriction) (places all : List Place) (same : all ≡ places) (placed : ArePlaces rows places)
+    (element : ℕ) (direction : Direction) (vehicle : ℕ) (second : ℤ) (from : ℕ)
+    (below : (k : ℕ) (d : Place) → 0 ≤ k → k < from → (slice_index_or places k d).element < element)
+    (rest : (k : ℕ) (d : Place) → from ≤ k → k < length places → element ≤ (slice_index_or places k d).element) where
+  -- where no place up to one closes the element, and that one is of a later element or past the end, no record does
+  pub none_closes : (stop : ℕ)
+      → ((k : ℕ) (d : Place) (r : Restriction) → k < stop → slice_index_or rows
+      (slice_index_or (take (length all - from) (drop from all)) k d).row r ≡ r → Closes element direction vehicle second r
+      → ⊥)
+      → ((d : Place) → from + stop < length places → (slice_index_or places (from + stop) d).element ≡ element → ⊥)
+      → Any (Closes element direction vehicle second) rows → ⊥
+  none_closes stop none after a =
+      let r = a.1 in
+      let c = a.4 in
+      let p : Place = record { element = r.element; row = a.0 } in
+      let h = placed.each a.0 r a.2 a.3 in
+      let k = h.0 in
+      let name = ap (λ (q : Place). q.element) h.2 in
+      let row = ap (λ (q : Place). q.row) h.2 in
+      by_le {P = ⊥} from k
+      (λ ge.
+      by_le {P = ⊥} (from + stop) k
+      (λ past.
+      let s = placed.sorted (from + stop) k p past h.1 in
+      let m = rest (from + stop) p (omega arith) (omega (arith, h.1, past)) in
+      after p (omega (arith, h.1, past)) (omega (arith, s, m, name, c.names)))
+      (λ before.
+      let e : from + (k - from) ≡ k = omega arith in
+      let at = part_at places all same from (k - from) p (omega (arith, e, h.1)) ∙ ap (λ (n : ℕ). get_or places n p) e in
+      let there = ap (λ (q : Place). q.row) at ∙ row in
+      none (k - from) p r (omega arith) (ap (λ (n : ℕ). get_or rows n r) there ∙ a.3) c))
+      (λ lt. let b = below k p (omega arith) lt in omega (arith, b, name, c.names))
+
+-- the place of a row of the element is one of those up to one that is of a later element or past the end
+module _ (rows : List Restriction) (places all : List Place) (same : all ≡ places) (placed : ArePlaces rows places)
+    (element from : ℕ)
+    (below : (k : ℕ) (d : Place) → 0 ≤ k → k < from → (slice_index_or places k d).element < element)
+    (rest : (k : ℕ) (d : Place) → from ≤ k → k < length places → element ≤ (slice_index_or places k d).element) where
+  abbrev pub IsPlaced : ℕ → Place → Type 0
+  IsPlaced stop p = (j : ℕ) × (j < stop) × (slice_index_or (take (length all - from) (drop from all)) j p ≡ p)
+
+  pub row_placed : (stop : ℕ) → ((d : Place) → from + stop < length places → (slice_index_or places (from + stop) d).element
+      ≡ element → ⊥)
+      → (row : ℕ) (r : Restriction) → row < length rows → slice_index_or rows row r ≡ r → r.element ≡ element
+      → IsPlaced stop (record { element = r.element; row = row })
+  row_placed stop after row r within stands names =
+      let p : Place = record { element = r.element; row = row } in
+      let h = placed.each row r within stands in
+      let k = h.0 in
+      let name = ap (λ (q : Place). q.element) h.2 in
+      by_le {P = IsPlaced stop p} from k
+      (λ ge.
+      by_le {P = IsPlaced stop p} (from + stop) k
+      (λ past.
+      let s = placed.sorted (from + stop) k p past h.1 in
+      let m = rest (from + stop) p (omega arith) (omega (arith, h.1, past)) in
+      absurd (after p (omega (arith, h.1, past)) (omega (arith, s, m, name, names))))
+      (λ before.
+      let e : from + (k - from) ≡ k = omega arith in (
+        k - from,
+        omega arith,
+        part_at places all same from (k - from) p (omega (arith, e, h.1))
+            ∙ ap (λ (n : ℕ). get_or places n p) e ∙ h.2,
+      )))
+      (λ lt. let b = below k p (omega arith) lt in absurd (omega (arith, b, name, names)))
+
+-- how far the places from there on reach
+pub part_within : (all : List Place) (from k : ℕ) → k < length (take (length all - from) (drop from all)) → from + k < length all
+part_within all from k h = let l = simp (length-take, length-drop) at h in omega (arith, l)
+
+pub part_past : (all : List Place) (from k : ℕ) → length (take (length all - from) (drop from all)) ≤ k → length all ≤ from + k
+part_past all from k h = let l = simp (length-take, length-drop) at h in omega (arith, l)
+
+-- the record at a place is of its element
+pub place_element : (rows : List Restriction) (p : Place) (r : Restriction) → IsPlace rows p → r ≡ slice_index_or rows p.row r
+    → r.element ≡ p.element
+place_element rows p r h is =
+    let e : r ≡ h.0 = is ∙ any_default rows p.row r h.0 h.1 ∙ h.2 in
+    ap (λ (x : Restriction). x.element) e ∙ h.3
+
+-- two records at a place are one
+pub one_record : (rows : List Restriction) (n : ℕ) (r s : Restriction) → n < length rows → slice_index_or rows n r ≡ r → s
+    ≡ slice_index_or rows n s → r ≡ s
+one_record rows n r s h a b = sym a ∙ any_default rows n r s h ∙ sym b
+
+-- what stands from there on are places
+pub part_sound : (rows : List Restriction) (places all : List Place) (same : all ≡ places) → ArePlaces rows places
+    → (from k : ℕ) (d : Place) → k < length (take (length all - from) (drop from all))
+    → IsPlace rows (slice_index_or (take (length all - from) (drop from all)) k d)
+part_sound rows places all same placed from k d h =
+    let within = part_within all from k h in
+    let l = ap length same in
+    subst (IsPlace rows) (sym (part_at places all same from k d (omega (arith, within, l))))
+    (placed.sound (from + k) d (omega (arith, within, l)))
+
+not_less : (a b : ℕ) → b ≤ a → is_lt (nat_cmp a b) ≡ false
+not_less a b h = grind (arith, nat_tests)
+
+-- places that stand by element have elements in order
+number_at : (places : List Place) (k d : ℕ) (p : Place) → k < length places → get_or (map (λ (q : Place). q.element) places) k d
+    ≡ (slice_index_or places k p).element
+number_at [] k d p h = absurd (omega arith)
+number_at (q ∷ places) zero d p h = refl
+number_at (q ∷ places) (suc k) d p h = number_at places k d p (omega arith)
+
+pub sorted_numbers : (places : List Place) → IsNonDecreasingBy (λ (p : Place). p.element) places
+    → IsSorted nat_cmp (map (λ (p : Place). p.element) places)
+sorted_numbers places sorted = λ k d low high.
+    let p : Place = record { element = 0; row = 0 } in
+    let within : k + 1 < length places = rw length-map at high in
+    rw (number_at places (k + 1) d p within, number_at places k d p (omega arith))
+    (not_less _ _ (sorted k (k + 1) p (omega arith) within))
+
+-- the elements of the places are those of the rows
+module _ (rows : List Restriction) (places : List Place) (placed : ArePlaces rows places) where
+  place_named : (x : ℕ) → Contains (map (λ (p : Place). p.element) places) x → Any (λ (r : Restriction). r.element ≡ x) rows
+  place_named x h =
+      let a = any_from_map (λ (p : Place). p.element) places h.0 x h.1 h.2 in
+      let q = subst (IsPlace rows) a.3 (placed.sound a.0 a.1 a.2) in
+      (a.1.row, q.0, q.1, q.2, q.3 ∙ a.4)
+
+  named_place : (x : ℕ) → Any (λ (r : Restriction). r.element ≡ x) rows → Contains (map (λ (p : Place). p.element) places) x
+  named_place x a =
+      let c = placed.each a.0 a.1 a.2 a.3 in
+      map_from_any (λ (p : Place). p.element) places c.0 x (record { element = a.1.element; row = a.0 }) c.1 c.2 a.4
+
+  pub are_elements : (elements : List ℕ) → IsAscending (map (λ (p : Place). p.element) places) elements
+      → AreElements rows elements
+  are_elements elements is = record {
+    ascending = is.order;
+    named = λ x. ((λ h. place_named x ((is.same x).0 h)), (λ a. (is.same x).1 (named_place x a)));
+  }
+
+-- so many cursors of 255 nodes are few enough to be united and complemented
+pub fewer : (all places : List Place) {rows : ℕ} → all ≡ places → length places ≡ rows → rows ≤ 65536 → length all ≤ 65536
+fewer all places same many few = let l = ap length same in omega (arith, l, many, few)
+
+pub few_nodes : (n i : ℕ) (all : List Place) (from : ℕ) → i ≤ length (take (length all - from) (drop from all))
+    → length all ≤ 65536 → n ≤ 256 * i → n ≤ 16777216
+few_nodes n i all from within few nodes = let l = simp (length-take, length-drop) at within in omega (arith, l)

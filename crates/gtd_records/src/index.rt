@@ -1,0 +1,204 @@
+//! The records of a file in memory, found by their element.
+
+ghost use Rattle.std.specs.Prelude.{◌≡◌, ◌↔◌, ◌<◌, ◌≤◌, ℕ, List, length, map, IfOk, IsTrue};
+ghost use Rattle.std.specs.List.{AllWithin};
+ghost use Rattle.std.specs.List.Sorted.{IsNonDecreasingBy, IsStrictlyIncreasing};
+ghost use Rattle.gtd_core.specs.Limits.{most_rows};
+ghost use Rattle.gtd_core.specs.Days.{IsHorizonSecond};
+ghost use Rattle.gtd_records.specs.Closing.{AreElements, IsClosed};
+ghost use Rattle.gtd_records.specs.ClosingRows.{AreClosingRows};
+ghost use Rattle.gtd_records.specs.Index.{AreClosing, ArePlaces};
+ghost use Rattle.gtd_records.specs.Vehicles.{IsAscending};
+
+use crate::direction::Direction;
+use crate::record::Record;
+use gtd_core::{Horizon, Sec};
+use gtd_eval::Cursor;
+use std::alloc::{AllocError, Global};
+use std::marker::Model;
+
+/// Where a record of an element stands in the file.
+#[derive(Clone, Copy, Debug)]
+pub struct Place {
+    /// The record's element.
+    pub element: u64,
+    /// The number of rows before the record's.
+    pub row: usize,
+}
+
+/// The records of a file, in the order of its rows and found by their element. There are at most 65,536.
+#[derive(Drop)]
+pub struct Records {
+    rows: Vec<Record>,
+    places: Vec<Place>,
+    elements: Vec<u64>,
+}
+
+impl Model for Records {
+    ghost use Rattle.std.specs.Prelude.{List};
+    ghost use Rattle.std.specs.Coded.{coded_list};
+    ghost use Rattle.gtd_records.specs.Index.{IsIndexed};
+    ghost use Rattle.gtd_records.specs.Restriction.{Restriction};
+    ghost use Rattle.gtd_records.specs.facts.RestrictionCode.{restriction_code};
+
+    ghost Value = { List Restriction };
+
+    ghost coded = { coded_list restriction_code };
+
+    ghost view = { λ a. a.rows.items };
+
+    ghost invariant = { λ a. IsIndexed a.rows.items a.places.items a.elements.items };
+}
+
+// The places of records, by element.
+fn places_of(alloc: Global, rows: &[Record]) -> Result<Vec<Place>, AllocError>
+    ensures { IfOk result (λ places. ArePlaces rows.now places.items) }
+{
+    let mut places = Vec::new(alloc);
+    for (row, record) in rows.iter().enumerate() {
+        places.push(Place {
+            element: record.element,
+            row,
+        })?;
+    }
+    places.sort_unstable_by_key(|place| place.element);
+    Ok(places)
+}
+
+// The elements of places, in their order.
+fn numbers_of(alloc: Global, places: &[Place]) -> Result<Vec<u64>, AllocError>
+    ensures { IfOk result (λ numbers. numbers.items ≡ map (λ (p : Place). p.element) places.now) }
+{
+    places.iter().map(|place| place.element).collect(alloc)
+}
+
+// The elements of places that stand by element, each once.
+fn elements_of(alloc: Global, places: &[Place]) -> Result<Vec<u64>, AllocError>
+    requires { IsNonDecreasingBy (λ (p : Place). p.element) places.now }
+    ensures { IfOk result (λ elements. IsAscending (map (λ (p : Place). p.element) places.now) elements.items) }
+{
+    let mut elements = numbers_of(alloc, places)?;
+    elements.dedup();
+    Ok(elements)
+}
+
+// The number of places of elements below one.
+pub(crate) fn places_below(places: &[Place], element: u64) -> usize
+    requires { IsNonDecreasingBy (λ (p : Place). p.element) places.now }
+    ensures within { result ≤ length places.now }
+    ensures below { AllWithin (λ (p : Place). p.element < element) places.now 0 result }
+    ensures rest { AllWithin (λ (p : Place). element ≤ p.element) places.now result (length places.now) }
+{
+    places.partition_point(|place| place.element < element)
+}
+
+// The same numbers, ascending and each once.
+fn in_order(mut numbers: Vec<usize>) -> Vec<usize>
+    ensures { IsAscending numbers.items result.items }
+{
+    numbers.sort_unstable();
+    numbers.dedup();
+    numbers
+}
+
+impl Records {
+    // The records of rows, in their order.
+    pub(crate) fn new(alloc: Global, rows: Vec<Record>) -> Result<Records, AllocError>
+        requires { length rows.items ≤ most_rows }
+        ensures { IfOk result (λ records. records ≡ rows.items) }
+    {
+        let places = places_of(alloc, rows.as_slice())?;
+        let elements = elements_of(alloc, places.as_slice())?;
+        Ok(Records {
+            rows,
+            places,
+            elements,
+        })
+    }
+
+    /// The records, in the order of the file's rows. Takes no memory.
+    pub fn rows(&self) -> &[Record]
+        ensures rows { result.now ≡ self.now }
+    {
+        self.rows.as_slice()
+    }
+
+    /// The elements that the records name, ascending and each once. Takes no memory.
+    pub fn elements(&self) -> &[u64]
+        ensures named { AreElements self.now result.now }
+    {
+        self.elements.as_slice()
+    }
+
+    /// Whether some record closes the element in the direction for the vehicle type, which is from 1 to 99, at the
+    /// second, which is on a day that a horizon may have. Takes no memory.
+    pub fn closed_at(&self, element: u64, direction: Direction, vehicle: u8, second: Sec) -> bool
+        requires in_range { IsHorizonSecond second.0 }
+        ensures closed { IsTrue result ↔ IsClosed self.now element direction vehicle second.0 }
+    {
+        let from = places_below(self.places.as_slice(), element);
+        for place in &self.places[from..] {
+            if place.element != element {
+                return false;
+            }
+            if self.rows[place.row].closes(direction, vehicle, second) {
+                return true;
+            }
+        }
+        false
+    }
+
+    /// The numbers of the rows, from 1, that close the element in the direction for the vehicle type, which is from 1 to
+    /// 99, at the second, which is on a day that a horizon may have: ascending. `AllocError` is answered only where
+    /// memory was refused.
+    pub fn closing_rows(
+        &self,
+        alloc: Global,
+        element: u64,
+        direction: Direction,
+        vehicle: u8,
+        second: Sec,
+    ) -> Result<Vec<usize>, AllocError>
+        requires in_range { IsHorizonSecond second.0 }
+        ensures rows { IfOk result
+            (λ rows. AreClosingRows self.now element direction vehicle second.0 rows.items) }
+    {
+        let from = places_below(self.places.as_slice(), element);
+        let mut rows = Vec::new(alloc);
+        for place in &self.places[from..] {
+            if place.element != element {
+                return Ok(in_order(rows));
+            }
+            let restriction = &self.rows[place.row];
+            if restriction.closes(direction, vehicle, second) {
+                rows.push(place.row + 1)?;
+            }
+        }
+        Ok(in_order(rows))
+    }
+
+    // The cursors of the records that close the element in the direction for the vehicle type.
+    pub(crate) fn closing(
+        &self,
+        alloc: Global,
+        element: u64,
+        direction: Direction,
+        vehicle: u8,
+        horizon: Horizon,
+    ) -> Result<Vec<Cursor>, AllocError>
+        ensures { IfOk result (λ cursors. AreClosing self.now element direction vehicle horizon cursors.items) }
+    {
+        let from = places_below(self.places.as_slice(), element);
+        let mut cursors = Vec::new(alloc);
+        for place in &self.places[from..] {
+            if place.element != element {
+                return Ok(cursors);
+            }
+            let restriction = &self.rows[place.row];
+            if restriction.concerns(direction, vehicle) {
+                cursors.push(restriction.cursor(alloc, horizon)?)?;
+            }
+        }
+        Ok(cursors)
+    }
+}

@@ -1,0 +1,31 @@
+//! Restriction records of road elements: files of them, and the seconds in which an element is open.
+//!
+//! A record closes a road element in one direction or both, for some vehicle types, at the seconds of a time domain.
+//! [`read_records`] reads a record file of either version from a device, and answers its [`Records`] or its first
+//! fault. [`Records::closed_at`] says whether some record closes an element at a second, [`schedule_of`] when it is open, and
+//! [`open_seconds`] the same, span by span.
+#![tactic(auto)]
+
+pub use column::{read_direction, read_number};
+pub use direction::{Closed, Direction};
+pub use fault::RecordFault;
+pub use faults::read_faults;
+pub use index::Records;
+pub use reading::read_records;
+pub use record::Record;
+pub use schedule::{open_seconds, schedule_of};
+pub use vehicles::{Codes, Vehicles};
+
+mod column;
+mod direction;
+mod fault;
+mod faults;
+mod file;
+mod index;
+pub mod laws;
+mod reading;
+mod record;
+mod row;
+mod schedule;
+mod table;
+mod vehicles;

@@ -1,0 +1,51 @@
+//! The records that an input brings.
+
+ghost use Rattle.std.specs.Prelude.{◌≡◌, ◌<◌, ◌≤◌, ◌≢◌, length, Ok, Err, IfOk, MatchResult, IfSome, IsErrOf, IsTrue};
+ghost use Rattle.gtd_core.specs.Limits.{most_rows};
+ghost use Rattle.csv.specs.Reading.{default_config, strip_bom, records};
+ghost use Rattle.gtd_records.specs.File.{IsFile, IsTable};
+ghost use Rattle.gtd_records.specs.Reading.{IsOfFile, failures_after_records};
+
+use crate::fault::RecordFault;
+use crate::file::read_table;
+use crate::index::Records;
+use gtd_core::limits::MOST_FILE_BYTES;
+use gtd_devices::{Input, read_whole};
+use std::alloc::Global;
+
+// The records of a file's bytes, found by their element, or the file's first fault.
+fn read_index(alloc: Global, bytes: &[u8]) -> Result<Records, RecordFault>
+    ensures { MatchResult result
+        (λ found. IsTable (records default_config (strip_bom bytes.now)) (Ok found))
+        (λ why. why ≢ RecordFault.NoMemory → IsTable (records default_config (strip_bom bytes.now)) (Err why)) }
+{
+    match read_table(alloc, bytes) {
+        Ok(rows) => match Records::new(alloc, rows) {
+            Ok(found) => Ok(found),
+            Err(_) => Err(RecordFault::NoMemory),
+        },
+        Err(fault) => Err(fault),
+    }
+}
+
+/// The records of the file that an input brings, or its first fault.
+///
+/// The whole input is pulled first: `ReadFault` where it failed, `TooLarge` where more than 16,777,216 bytes came,
+/// `Endless` where 1,000 pulls in a row gave no byte, whichever happens first. Then come `Header`, and row by row
+/// `TooManyRows`, `FieldCount`, `Element`, `Direction`, `Vehicle`, `Domain`. `NoMemory` is answered only where memory
+/// was refused. The caller keeps the input's failures under `u64::MAX` before the call.
+pub fn read_records<I: Input>(alloc: Global, input: &mut I) -> Result<Records, RecordFault>
+    requires countable { I.failure_count input.old < u64.MAX }
+    // Where the input tells its bytes, they are a file of these records, or have this first fault.
+    ensures file { IfSome (I.to_come input.old) (λ bytes. MatchResult result
+        (λ found. IsFile bytes (Ok found))
+        (λ why. IsOfFile why → IsFile bytes (Err why))) }
+    ensures few { IfOk result (λ found. length found ≤ most_rows) }
+    ensures endless { IsErrOf result RecordFault.Endless → IsTrue (I.may_fall_silent input.old) }
+    // `ReadFault` exactly where the input failed in this call.
+    ensures failures { I.failure_count input.new
+        ≡ failures_after_records result (I.failure_count input.old) }
+{
+    let bytes = read_whole(alloc, input, MOST_FILE_BYTES)?;
+    read_index(alloc, bytes.as_slice())
+}

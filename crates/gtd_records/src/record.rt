@@ -1,0 +1,93 @@
+//! One restriction record.
+
+ghost use Rattle.std.specs.Prelude.{◌↔◌, ◌≤◌, ℤ, IfOk, IsTrue};
+ghost use Rattle.gtd_core.specs.Interval.{Within};
+ghost use Rattle.gtd_core.specs.Whole.{whole};
+ghost use Rattle.gtd_core.specs.Days.{IsHorizonSecond};
+ghost use Rattle.gtd_eval.specs.Cursors.{cursor_list, cursor_nodes};
+ghost use Rattle.gtd_records.specs.Closing.{Closes, Concerns, HoldsAt};
+ghost use Rattle.gtd_spans.specs.Normal.{Holds};
+
+use crate::direction::{Closed, Direction};
+use crate::vehicles::Vehicles;
+use gtd_core::{Domain, Horizon, Sec};
+use gtd_eval::{Cursor, holds};
+use std::alloc::{AllocError, Global};
+use std::marker::Model;
+
+/// One restriction of a road element.
+#[derive(Drop)]
+pub struct Record {
+    /// The road element's number.
+    pub element: u64,
+    /// The directions that it closes.
+    pub closed: Closed,
+    /// The vehicle types that it closes them for.
+    pub vehicles: Vehicles,
+    /// When it closes them: at the seconds of a domain, or always.
+    pub domain: Option<Domain>,
+}
+
+impl Model for Record {
+    ghost use Rattle.std.specs.Prelude.{option_map};
+    ghost use Rattle.gtd_core.specs.Parts.{domain_tree};
+    ghost use Rattle.gtd_records.specs.Restriction.{Restriction};
+    ghost use Rattle.gtd_records.specs.facts.RestrictionCode.{restriction_code};
+
+    ghost Value = { Restriction };
+
+    ghost coded = { restriction_code };
+
+    ghost view = { λ a. record {
+      element = a.element;
+      closed = a.closed;
+      vehicles = a.vehicles;
+      domain = option_map domain_tree a.domain;
+    } };
+}
+
+impl Record {
+    // Whether the record closes its element in a direction for a vehicle type, at whatever seconds.
+    pub(crate) fn concerns(&self, direction: Direction, vehicle: u8) -> bool
+        ensures { IsTrue result ↔ Concerns direction vehicle self.now }
+    {
+        if !self.vehicles.serves(vehicle) {
+            return false;
+        }
+        match self.closed {
+            Closed::One(closed) => closed == direction,
+            Closed::Both => true,
+        }
+    }
+
+    // Whether the record closes its element in a direction for a vehicle type at a second.
+    pub(crate) fn closes(&self, direction: Direction, vehicle: u8, second: Sec) -> bool
+        requires { IsHorizonSecond second.0 }
+        ensures { IsTrue result ↔ Closes self.now.element direction vehicle second.0 self.now }
+    {
+        self.concerns(direction, vehicle) && self.holds(second)
+    }
+
+    // Whether the record closes what it concerns at a second.
+    fn holds(&self, second: Sec) -> bool
+        requires { IsHorizonSecond second.0 }
+        ensures { IsTrue result ↔ HoldsAt self.now.domain second.0 }
+    {
+        match &self.domain {
+            Some(domain) => holds(domain, second),
+            None => true,
+        }
+    }
+
+    // The seconds of a horizon at which the record closes what it concerns.
+    pub(crate) fn cursor(&self, alloc: Global, horizon: Horizon) -> Result<Cursor, AllocError>
+        ensures seconds { IfOk result (λ c. (t : ℤ) → Holds (cursor_list c) t
+            ↔ (Within (whole horizon) t × HoldsAt self.now.domain t)) }
+        ensures nodes { IfOk result (λ c. cursor_nodes c ≤ 255) }
+    {
+        match &self.domain {
+            Some(domain) => Cursor::open(alloc, domain, horizon),
+            None => Ok(Cursor::whole(horizon)),
+        }
+    }
+}

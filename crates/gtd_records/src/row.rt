@@ -1,0 +1,98 @@
+//! The rows of a record file.
+
+ghost use Rattle.std.specs.Prelude.{◌≡◌, ◌≢◌, [], ◌∷◌, length, IfSome, IfNone, Err};
+ghost use Rattle.csv.specs.Records.{fields_of};
+ghost use Rattle.gtd_records.specs.Row.{IsRow, IsDomainRead};
+
+use crate::column::{read_closed, read_number};
+use crate::fault::RecordFault;
+use crate::record::Record;
+use crate::vehicles::{Version, read_vehicles};
+use csv::ByteRecord;
+use gtd_core::{Domain, Fault};
+use gtd_text::read_domain;
+use std::alloc::Global;
+
+// The columns of a row that has four.
+#[derive(Drop)]
+pub(crate) struct Columns<'a> {
+    pub(crate) element: &'a [u8],
+    pub(crate) closed: &'a [u8],
+    pub(crate) vehicles: &'a [u8],
+    pub(crate) domain: &'a [u8],
+}
+
+// The four columns of a row, if it has four.
+pub(crate) fn four_columns(row: &ByteRecord) -> Option<Columns<'_>>
+    ensures four { IfSome result (λ columns. fields_of row.now
+        ≡ columns.element.now ∷ columns.closed.now ∷ columns.vehicles.now ∷ columns.domain.now ∷ []) }
+    ensures other { IfNone result (length (fields_of row.now) ≢ 4) }
+{
+    if row.len() != 4 {
+        return None;
+    }
+    let Some(element) = row.get(0) else {
+        return None;
+    };
+    let Some(closed) = row.get(1) else {
+        return None;
+    };
+    let Some(vehicles) = row.get(2) else {
+        return None;
+    };
+    let Some(domain) = row.get(3) else {
+        return None;
+    };
+    Some(Columns {
+        element,
+        closed,
+        vehicles,
+        domain,
+    })
+}
+
+// The domain of a row's last column, which may be empty, or its fault in the row with this number.
+fn read_last(alloc: Global, number: u32, text: &[u8]) -> Result<Option<Domain>, RecordFault>
+    ensures { result ≢ Err RecordFault.NoMemory → IsDomainRead number text.now result }
+{
+    if text.is_empty() {
+        return Ok(None);
+    }
+    match read_domain(alloc, text) {
+        Ok(domain) => Ok(Some(domain)),
+        Err(fault) => match fault.kind {
+            Fault::NoMemory => Err(RecordFault::NoMemory),
+            _ => Err(RecordFault::Domain { row: number, fault }),
+        },
+    }
+}
+
+// The record that a row of a file stands for, or its first fault from the left.
+pub(crate) fn read_row(
+    alloc: Global,
+    version: Version,
+    number: u32,
+    row: &ByteRecord,
+) -> Result<Record, RecordFault>
+    ensures { result ≢ Err RecordFault.NoMemory → IsRow version number (fields_of row.now) result }
+{
+    let Some(columns) = four_columns(row) else {
+        return Err(RecordFault::FieldCount { row: number });
+    };
+    let Some(element) = read_number(columns.element) else {
+        return Err(RecordFault::Element { row: number });
+    };
+    let Some(closed) = read_closed(columns.closed) else {
+        return Err(RecordFault::Direction { row: number });
+    };
+    let Some(vehicles) = read_vehicles(alloc, version, columns.vehicles)? else {
+        return Err(RecordFault::Vehicle { row: number });
+    };
+    let domain = read_last(alloc, number, columns.domain)?;
+    Ok(Record {
+        element,
+        closed,
+        vehicles,
+        domain,
+    })
+}

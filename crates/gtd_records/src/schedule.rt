@@ -1,0 +1,51 @@
+//! The seconds in which an element is open.
+
+ghost use Rattle.std.specs.Prelude.{IfOk};
+ghost use Rattle.gtd_eval.specs.Cursors.{cursor_list};
+ghost use Rattle.gtd_eval.specs.NormalOver.{IsNormalOver};
+ghost use Rattle.gtd_records.specs.Closing.{IsOpen};
+ghost use Rattle.gtd_records.specs.Index.{AreClosing};
+
+use crate::direction::Direction;
+use crate::index::Records;
+use gtd_core::Horizon;
+use gtd_eval::Cursor;
+use gtd_spans::SpanList;
+use std::alloc::{AllocError, Global};
+
+/// The seconds of the horizon in which no record closes the element in the direction for the vehicle type, which is
+/// from 1 to 99, span by span. An element that no record names is open throughout. `AllocError` is answered only where
+/// memory was refused.
+pub fn open_seconds(
+    alloc: Global,
+    records: &Records,
+    element: u64,
+    direction: Direction,
+    vehicle: u8,
+    horizon: Horizon,
+) -> Result<Cursor, AllocError>
+    ensures seconds { IfOk result
+        (λ c. IsNormalOver (IsOpen records.now element direction vehicle) horizon (cursor_list c)) }
+{
+    let closing = records.closing(alloc, element, direction, vehicle, horizon)?;
+    let closed = Cursor::any(alloc, closing, horizon)?;
+    Cursor::outside(alloc, closed, horizon)
+}
+
+/// The seconds of the horizon in which no record closes the element in the direction for the vehicle type, which is
+/// from 1 to 99. An element that no record names is open throughout. `AllocError` is answered only where memory was
+/// refused.
+pub fn schedule_of(
+    alloc: Global,
+    records: &Records,
+    element: u64,
+    direction: Direction,
+    vehicle: u8,
+    horizon: Horizon,
+) -> Result<SpanList, AllocError>
+    ensures seconds { IfOk result
+        (λ list. IsNormalOver (IsOpen records.now element direction vehicle) horizon list) }
+{
+    let mut open = open_seconds(alloc, records, element, direction, vehicle, horizon)?;
+    SpanList::collect(alloc, &mut open)
+}

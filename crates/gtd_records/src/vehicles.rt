@@ -1,0 +1,180 @@
+//! The vehicle types that a record closes for.
+
+ghost use Rattle.std.specs.Prelude.{◌≡◌, ◌↔◌, IsTrue, IfOk, option_map};
+ghost use Rattle.std.specs.List.{Contains};
+ghost use Rattle.std.specs.List.Sorted.{IsStrictlyIncreasing};
+ghost use Rattle.gtd_records.specs.Columns.{code_of};
+ghost use Rattle.gtd_records.specs.Vehicles.{IsAscending, IsCodes, AreTypesRead, Serves};
+ghost use Rattle.gtd_records.specs.Vehicles.{codes_of, is_zero, items_of, types_listed, single, type_of, vehicles_of};
+
+use crate::column::read_code;
+use std::alloc::{AllocError, Global};
+use std::marker::Model;
+
+/// Which header a record file has, and so how its third column is read.
+#[derive(Clone, Copy, Debug, PartialEq, Eq)]
+pub enum Version {
+    /// The column `vehicle`: one code.
+    One,
+    /// The column `vehicles`: a list of codes, or all but a list.
+    Two,
+}
+
+/// Codes of vehicle types, ascending and each once.
+#[derive(Drop)]
+pub struct Codes {
+    codes: Vec<u8>,
+}
+
+impl Model for Codes {
+    ghost use Rattle.std.specs.Prelude.{List, ℕ};
+    ghost use Rattle.std.specs.List.Sorted.{IsStrictlyIncreasing};
+
+    ghost Value = { List ℕ };
+
+    ghost view = { λ a. a.codes.items };
+
+    ghost invariant = { λ a. IsStrictlyIncreasing a.codes.items };
+}
+
+/// The vehicle types that a record closes for, by their codes.
+#[derive(Drop)]
+pub enum Vehicles {
+    /// Every type.
+    Every,
+    /// These types.
+    Only(Codes),
+    /// Every type but these.
+    AllBut(Codes),
+}
+
+impl Codes {
+    // The same codes, ascending and each once.
+    fn ascending(mut codes: Vec<u8>) -> Codes
+        ensures { IsAscending codes.items result }
+    {
+        codes.sort_unstable();
+        codes.dedup();
+        Codes { codes }
+    }
+
+    /// The codes, ascending and each once.
+    pub fn as_slice(&self) -> &[u8]
+        ensures codes { result.now ≡ self.now }
+        ensures ascending { IsStrictlyIncreasing result.now }
+    {
+        self.codes.as_slice()
+    }
+
+    fn contains(&self, code: u8) -> bool
+        ensures member { IsTrue result ↔ Contains self.now code }
+    {
+        self.codes.contains(&code)
+    }
+}
+
+impl Vehicles {
+    // Whether a type is one of them.
+    pub(crate) fn serves(&self, vehicle: u8) -> bool
+        ensures member { IsTrue result ↔ Serves self.now vehicle }
+    {
+        match self {
+            Vehicles::Every => true,
+            Vehicles::Only(types) => types.contains(vehicle),
+            Vehicles::AllBut(types) => !types.contains(vehicle),
+        }
+    }
+}
+
+// Whether a column is the code 0.
+fn is_zero(text: &[u8]) -> bool
+    ensures value { result ≡ is_zero (code_of text.now) }
+{
+    match read_code(text) {
+        Some(code) => code == 0,
+        None => false,
+    }
+}
+
+// The type that an item of a list names, from 1 to 99.
+fn read_type(text: &[u8]) -> Option<u8>
+    ensures value { result ≡ type_of text.now }
+{
+    match read_code(text) {
+        Some(0) => None,
+        Some(code) => Some(code),
+        None => None,
+    }
+}
+
+// The codes of a list, in its order, if each item is one.
+fn read_codes(alloc: Global, text: &[u8]) -> Result<Option<Vec<u8>>, AllocError>
+    ensures { IfOk result (λ read. option_map (λ v. v.items) read ≡ codes_of (items_of text.now)) }
+{
+    let mut codes = Vec::new(alloc);
+    for item in text.split(|byte| *byte == b';') {
+        let Some(code) = read_type(item) else {
+            return Ok(None);
+        };
+        codes.push(code)?;
+    }
+    Ok(Some(codes))
+}
+
+// The codes of a list, ascending and each once, if each item is a code.
+fn read_list(alloc: Global, text: &[u8]) -> Result<Option<Codes>, AllocError>
+    ensures { IfOk result (λ read. IsCodes (codes_of (items_of text.now)) read) }
+{
+    match read_codes(alloc, text)? {
+        Some(codes) => Ok(Some(Codes::ascending(codes))),
+        None => Ok(None),
+    }
+}
+
+// The types that a list names, or after a `!` all but them.
+fn read_listed(alloc: Global, text: &[u8]) -> Result<Option<Vehicles>, AllocError>
+    ensures { IfOk result (λ read. AreTypesRead (types_listed text.now) read) }
+{
+    let Some((first, rest)) = text.split_first() else {
+        return Ok(None);
+    };
+    if *first == b'!' {
+        return match read_list(alloc, rest)? {
+            Some(types) => Ok(Some(Vehicles::AllBut(types))),
+            None => Ok(None),
+        };
+    }
+    match read_list(alloc, text)? {
+        Some(types) => Ok(Some(Vehicles::Only(types))),
+        None => Ok(None),
+    }
+}
+
+// The one type that a column names.
+fn read_single(alloc: Global, text: &[u8]) -> Result<Option<Vehicles>, AllocError>
+    ensures { IfOk result (λ read. AreTypesRead (single text.now) read) }
+{
+    let Some(code) = read_type(text) else {
+        return Ok(None);
+    };
+    let mut codes = Vec::new(alloc);
+    codes.push(code)?;
+    Ok(Some(Vehicles::Only(Codes::ascending(codes))))
+}
+
+// The types that the third column of a record file names, if it does.
+pub(crate) fn read_vehicles(
+    alloc: Global,
+    version: Version,
+    text: &[u8],
+) -> Result<Option<Vehicles>, AllocError>
+    ensures { IfOk result (λ read. AreTypesRead (vehicles_of version text.now) read) }
+{
+    if is_zero(text) {
+        return Ok(Some(Vehicles::Every));
+    }
+    match version {
+        Version::One => read_single(alloc, text),
+        Version::Two => read_listed(alloc, text),
+    }
+}

@@ -1,0 +1,12 @@
+pub mod AscendingProps
+pub mod BoundLemmas
+pub mod CycleLemmas
+pub mod StretchDecisions
+pub mod StartsLemmas
+pub mod StretchFacts
+pub mod WalkProps
+pub mod WeekLemmas
+pub mod WindowProps
+pub mod WorkLemmas
+pub mod MatchLemmas
+pub mod MembershipLemmas

@@ -1,5 +1,0 @@
-use Rattle.gtd_roads.proofs.CutFacts.{cut, joined}
-use Rattle.gtd_roads.proofs.laws.parts_of_a_table.Goals as goal
-
-pub returns : goal.returns
-returns c = record { cut = cut; joined = joined }

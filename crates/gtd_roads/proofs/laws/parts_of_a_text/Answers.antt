@@ -1,6 +1,0 @@
-use Rattle.gtd_roads.proofs.CutBytes.{cut_records}
-use Rattle.gtd_roads.proofs.CutFile.{cut_file}
-use Rattle.gtd_roads.proofs.laws.parts_of_a_text.Goals as goal
-
-pub returns : goal.returns
-returns c = record { cut = cut_records; file = λ v head one two found long is ends between. cut_file v head long is ends one two found between }

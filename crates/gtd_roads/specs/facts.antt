@@ -1,0 +1,2 @@
+pub use Rattle.gtd_records.specs.facts.OneAnswer
+pub use Rattle.gtd_runs.specs.facts.RunFacts

@@ -1,0 +1,4 @@
+pub mod LineFacts
+pub mod ScheduleFacts
+pub mod SomeSchedule
+pub mod TextFacts

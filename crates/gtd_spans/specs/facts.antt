@@ -1,0 +1,10 @@
+pub mod AloneProps
+pub mod Combining
+pub mod CountFacts
+pub mod Exists
+pub mod FitsProp
+pub mod NormalFor
+pub mod OneList
+pub mod SomeList
+pub mod SweepFacts
+pub mod Whole

@@ -1,0 +1,119 @@
+-- What the lexer has read so far.
+use Rattle.std.proofs.Common.{◌≡◌, ℕ, ◌+◌, ◌<◌, ◌≤◌, Bool, true, false, cond, List, [], ◌∷◌, ◌++◌, length, drop, Option, Some}
+use Rattle.std.proofs.Common.{None, refl, sym, ap, subst, ◌∙◌, arith, append_assoc}
+use Rattle.std.proofs.Common.{inl, inr}
+use Rattle.std.proofs.lemmas.Bool.{cases_eq}
+use Rattle.std.specs.Prelude.{slice_index, ◌==◌}
+use Rattle.std.proofs.lemmas.List.{append-nil, length-take, length-drop}
+use Rattle.std.specs.List.{take_while, prefix_len}
+use Rattle.std.specs.Char.{is_ascii_digit}
+use Rattle.gtd_text.specs.declared.token.Token.{Token}
+use Rattle.gtd_text.specs.declared.token.TokenKind.{TokenKind}
+use Rattle.gtd_text.specs.declared.token.TokenKind.TheVariants.{OpenBracket, CloseBracket, OpenParenthesis, CloseParenthesis}
+use Rattle.gtd_text.specs.declared.token.TokenKind.TheVariants.{OpenBrace, CloseBrace, Plus, Star, Minus, Field}
+use Rattle.gtd_text.specs.Fields.{is_start_letter, is_from_to}
+use Rattle.gtd_text.specs.Lexing.{IsToken, AreSpaces, Reads}
+use Rattle.gtd_text.specs.TokenAt.{sign_of, field_of, kind_at_front, length_of, token_from, token_at}
+use Rattle.gtd_text.specs.facts.TokenForms.{stands}
+
+pick : (b : Bool) (x : TokenKind) (o : Option TokenKind) (k : TokenKind) → length_of x ≡ 1 → (o ≡ Some k → length_of k ≡ 1)
+    → cond b (Some x) o ≡ Some k → length_of k ≡ 1
+pick true x o k one h e = let same : x ≡ k = cc in ap length_of (sym same) ∙ one
+pick false x o k one h e = h e
+
+sign_length : (byte : ℕ) (kind : TokenKind) → sign_of byte ≡ Some kind → length_of kind ≡ 1
+sign_length byte kind =
+    pick (byte == 91) OpenBracket _ kind refl
+    (pick (byte == 93) CloseBracket _ kind refl
+    (pick (byte == 40) OpenParenthesis _ kind refl
+    (pick (byte == 41) CloseParenthesis _ kind refl
+    (pick (byte == 123) OpenBrace _ kind refl
+    (pick (byte == 125) CloseBrace _ kind refl
+    (pick (byte == 43) Plus _ kind refl
+    (pick (byte == 42) Star _ kind refl
+    (pick (byte == 45) Minus None kind refl (λ e. absurd cc)))))))))
+
+field_length : (b : Bool) (letter value digits : ℕ) (kind : TokenKind) → cond b (Some (Field letter value digits)) None
+    ≡ Some kind → length_of kind ≡ digits + 1
+field_length true letter value digits kind e = let same : Field letter value digits ≡ kind = cc in ap length_of (sym same)
+field_length false letter value digits kind e = absurd cc
+
+front_length : (b : Bool) (byte : ℕ) (bytes : List ℕ) (kind : TokenKind)
+    → cond b (field_of byte (take_while is_ascii_digit bytes)) (sign_of byte) ≡ Some kind → (0 < length_of kind)
+    × (length_of kind ≤ length (byte ∷ bytes))
+front_length true byte bytes kind e =
+    let len = field_length (is_from_to 1 6 (length (take_while is_ascii_digit bytes))) byte _
+    (length (take_while is_ascii_digit bytes)) kind e in
+    let short = length-take (prefix_len is_ascii_digit bytes) bytes in
+    (omega (arith, len), omega (arith, len, short))
+front_length false byte bytes kind e = let len = sign_length byte kind e in (omega (arith, len), omega (arith, len))
+
+kind_length : (bytes : List ℕ) (kind : TokenKind) → kind_at_front bytes ≡ Some kind → (0 < length_of kind)
+    × (length_of kind ≤ length bytes)
+kind_length [] kind e = absurd cc
+kind_length (byte ∷ bytes) kind e = front_length (is_start_letter byte) byte bytes kind e
+
+-- a token that was found, and where it is
+pub record Found (text : List ℕ) (place : ℕ) (token : Token) : Type 0 where
+  pub from : token.from ≡ place
+  pub past : place < token.to
+  pub inside : token.to ≤ length text
+  pub again : IsToken text token
+
+found_from : (text : List ℕ) (place : ℕ) (o : Option TokenKind) (token : Token) → place < length text
+    → kind_at_front (drop place text) ≡ o → token_from place o ≡ Some token → Found text place token
+found_from text place None token lt e f = absurd cc
+found_from text place (Some kind) token lt e f =
+    let same : record { kind = kind; from = place; to = place + length_of kind } ≡ token = cc in
+    let len = kind_length (drop place text) kind e in
+    let from : token.from ≡ place = ap (λ (t : Token). t.from) (sym same) in
+    let to : token.to ≡ place + length_of kind = ap (λ (t : Token). t.to) (sym same) in
+    record {
+      from = from;
+      past = omega (arith, to, len.0);
+      inside = omega (arith, to, len.1, length-drop place text);
+      again = (stands text place token (ap (token_from place) e ∙ f)).1;
+    }
+
+pub found : (text : List ℕ) (place : ℕ) (token : Token) → place < length text → token_at text place ≡ Some token
+    → Found text place token
+found text place token lt e = found_from text place (kind_at_front (drop place text)) token lt refl e
+
+no_spaces : (text : List ℕ) (place : ℕ) → AreSpaces text place place
+no_spaces text place = (omega arith, λ i le lt. absurd (omega arith))
+
+space_more : (text : List ℕ) (place to : ℕ) → slice_index text place ≡ 32 → AreSpaces text (place + 1) to
+    → AreSpaces text place to
+space_more text place to space h = (
+  omega (arith, h.0),
+  λ i le lt. elim (cases_eq i place) [
+    | inl same ↦ rw same space
+    | inr other ↦ h.1 i (omega (arith, other, le)) lt
+  ],
+)
+
+pub reads_space : (text : List ℕ) (place : ℕ) (tokens : List Token) (to : ℕ) → slice_index text place ≡ 32
+    → Reads text (place + 1) tokens to → Reads text place tokens to
+reads_space text place [] to space h = space_more text place to space h
+reads_space text place (token ∷ tokens) to space h = (space_more text place token.from space h.0, h.1, h.2)
+
+pub reads_token : (text : List ℕ) (place : ℕ) (token : Token) (tokens : List Token) (to : ℕ) → Found text place token
+    → Reads text token.to tokens to → Reads text place (token ∷ tokens) to
+reads_token text place token tokens to f h = (subst (λ n. AreSpaces text place n) (sym f.from) (no_spaces text place), f.again, h)
+
+-- whatever more is read from here comes after what was read
+abbrev pub HasRead : List ℕ → List Token → ℕ → Type 0
+HasRead text tokens place = (more : List Token) (to : ℕ) → Reads text place more to → Reads text 0 (tokens ++ more) to
+
+pub all_read : (text : List ℕ) (tokens : List Token) (place : ℕ) → HasRead text tokens place → Reads text 0 tokens place
+all_read text tokens place h = subst (λ l. Reads text 0 l place) (append-nil tokens) (h [] place (no_spaces text place))
+
+pub read_more : (text : List ℕ) (tokens : List Token) (place : ℕ) (token : Token) → HasRead text tokens place
+    → Found text place token → HasRead text (tokens ++ token ∷ []) token.to
+read_more text tokens place token h f more to r =
+    subst (λ l. Reads text 0 l to) (sym (append_assoc tokens (token ∷ []) more))
+    (h (token ∷ more) to (reads_token text place token more to f r))
+
+pub read_space : (text : List ℕ) (tokens : List Token) (place : ℕ) → slice_index text place ≡ 32 → HasRead text tokens place
+    → HasRead text tokens (place + 1)
+read_space text tokens place space h more to r = h more to (reads_space text place more to space r)

@@ -1,0 +1,15 @@
+-- A text stands for one expression at most.
+use Rattle.std.proofs.Common.{◌≡◌, ℕ, List, length, Some, sym, ap, ◌∙◌}
+use Rattle.gtd_core.specs.Trees.{Tree}
+use Rattle.gtd_text.specs.Building.{build, at_front}
+use Rattle.gtd_text.specs.TokenKinds.{kinds}
+use Rattle.gtd_text.specs.Reading.{StandsFor}
+use Rattle.gtd_text.specs.facts.Builds.{builds_whole}
+use Rattle.gtd_text.specs.facts.Unique.{one_list}
+
+pub one_meaning : (text : List ℕ) (e f : Tree) → StandsFor text e → StandsFor text f → e ≡ f
+one_meaning text e f h k =
+    let same = one_list text 0 h.tokens k.tokens (length text) h.read k.read in
+    let both : Some e ≡ Some f = sym (builds_whole (kinds h.tokens) e h.stand) ∙ ap (λ l. build at_front (kinds l)) same
+    ∙ builds_whole (kinds k.tokens) f k.stand in
+    cc
