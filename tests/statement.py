@@ -48,7 +48,7 @@ class Module:
 
     def __init__(self, path):
         self.path = path
-        self.definitions, self.names, self.modules, self.passed_on = {}, {}, {}, []
+        self.definitions, self.names, self.modules = {}, {}, {}
 
 
 def imports(text):
@@ -95,7 +95,8 @@ def read_definitions(module, text):
             current.lines += lines[current.last():number]
 
 
-def read_module(path):
+def read_source(path):
+    """What the names of a file stand for, by its imports."""
     text = open(path, encoding="utf-8").read()
     module = Module(os.path.relpath(path, TOP))
     for target, names, short in imports(text):
@@ -104,8 +105,13 @@ def read_module(path):
         else:
             for name, here in names:
                 module.names[here] = (target, name)
-    module.passed_on = [target for target in re.findall(r"^pub use (Rattle\.\S+?)(?:\.\{.*)?$", text, re.M)]
-    read_definitions(module, text)
+    return module
+
+
+def read_module(path):
+    """A file of specs/: its imports and its definitions."""
+    module = read_source(path)
+    read_definitions(module, open(path, encoding="utf-8").read())
     return module
 
 
@@ -195,18 +201,6 @@ class Statement:
         ghost = "\n".join(line for line in definition.lines if not line.strip().startswith("//"))
         if "ghost" in ghost:
             self.follow(ghost, read_source(os.path.join(TOP, definition.path)))
-
-
-def read_source(path):
-    text = open(path, encoding="utf-8").read()
-    module = Module(os.path.relpath(path, TOP))
-    for target, names, short in imports(text):
-        if names is None:
-            module.modules[short] = target
-        else:
-            for name, here in names:
-                module.names[here] = (target, name)
-    return module
 
 
 def clause(path, function, name):
