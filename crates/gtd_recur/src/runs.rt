@@ -135,7 +135,8 @@ impl Runs {
         }
     }
 
-    /// One for each day that was looked at, and one for each start that was taken.
+    /// One for each day that was looked at since the walk began, and one for each start that was taken. The days that
+    /// `new` reads backwards from the horizon to find where it may begin, at most 400, are not counted.
     pub fn ticks(&self) -> u64
         ensures value { result ≡ runs_ticks self.now }
         ensures at_most { result ≤ work_of (runs_basic self.now) (runs_horizon self.now) }
