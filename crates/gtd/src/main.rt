@@ -12,6 +12,9 @@ use std::io::{BufWriter, ErrorKind, Read};
 use std::process::ExitCode;
 use std::{env, io};
 
+// The bytes that are gathered before standard output is written to: as many as a pipe holds.
+const OUTPUT_BUFFER: usize = 65_536;
+
 // The words after the program's name. A word that is no text is a fault of usage.
 fn words_of(rt: &HostRuntime) -> Result<Vec<String>, Refusal> {
     let words = env::args(rt).map_err(|error| match error.kind() {
@@ -35,7 +38,8 @@ fn open(rt: &HostRuntime, path: &str) -> Result<File, Refusal> {
 // Carries the plan out, from a reader to standard output.
 fn print<R: Read + Drop>(rt: &HostRuntime, plan: &Plan, reader: R) -> Result<(), Refusal> {
     let mut input = Host::new(reader);
-    let mut out = BufWriter::new(rt.alloc(), io::writer(rt)).map_err(|_| Refusal::Memory)?;
+    let made = BufWriter::with_capacity(rt.alloc(), OUTPUT_BUFFER, io::writer(rt));
+    let mut out = made.map_err(|_| Refusal::Memory)?;
     perform(rt.alloc(), plan, &mut input, &mut out)
 }
 

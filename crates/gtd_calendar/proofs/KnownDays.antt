@@ -3,13 +3,12 @@ use Rattle.std.specs.Prelude.{◌≡◌, ℕ, pos, negsuc, neg_ℤ}
 use Rattle.std.proofs.Common.{refl}
 use Rattle.gtd_core.specs.Limits.{first_horizon_day, horizons_end, moments_end, first_calendar_day}
 use Rattle.gtd_core.specs.declared.duration.DurationParts.{DurationParts}
-use Rattle.gtd_core.specs.Days.{day_of_second}
+use Rattle.gtd_core.specs.Seconds.{day_of_second}
 use Rattle.gtd_calendar.specs.Clock.{second_of_day}
 use Rattle.gtd_calendar.specs.ComputedEnds.{day_in_month, months_later, stop}
-use Rattle.gtd_calendar.specs.Calendar.{first_day, days_of_months, day_number}
-use Rattle.gtd_calendar.specs.ComputedDates.{year_of, place_in_year, last_begun}
-use Rattle.gtd_calendar.specs.Calendar.{weekday_of, thursday_of}
-use Rattle.gtd_calendar.specs.ComputedDates.{month_of, day_of_month, week_year_of, week_of}
+use Rattle.gtd_calendar.specs.Calendar.{first_day, days_of_months, day_number, weekday_of, thursday_of}
+use Rattle.gtd_calendar.specs.ComputedDates.{year_of, place_in_year, last_begun, month_of, day_of_month, week_year_of}
+use Rattle.gtd_calendar.specs.ComputedDates.{week_of}
 
 pub known_first_days : (first_day (pos 1970) ≡ pos 0) × (first_day (pos 1800) ≡ first_calendar_day)
     × (first_day (pos 1901) ≡ first_horizon_day) × (first_day (pos 2000) ≡ pos 10957)

@@ -1,7 +1,6 @@
 -- The shapes of moments, and what reading one answers.
-use Rattle.std.proofs.Common.{◌≡◌, ℕ, ◌<◌, true, false, ◌&&◌, ◌||◌}
-use Rattle.std.proofs.Common.{int_lt, List, take, drop, Option, Some, None, Result, Ok, Err, refl, sym}
-use Rattle.std.proofs.Common.{◌∙◌, arith, ℤ, pos, neg_ℤ, ◌+ℤ◌, ◌*ℤ◌}
+use Rattle.std.proofs.Common.{◌≡◌, ℕ, ◌<◌, true, false, ◌&&◌, ◌||◌, int_lt, List, take, drop, Option, Some, None, Result, Ok}
+use Rattle.std.proofs.Common.{Err, refl, sym, ◌∙◌, arith, ℤ, pos, neg_ℤ, ◌+ℤ◌, ◌*ℤ◌}
 use Rattle.std.proofs.lemmas.Bool.Decides.{nat_tests}
 use Rattle.std.proofs.lemmas.Bool.{false_from_ne_true, true_from_ne_false, cond_both, and_parts, and_from, true≢false}
 use Rattle.std.proofs.lemmas.List.{take-append-drop}
@@ -9,16 +8,14 @@ use Rattle.jiff_core.proofs.SignedLemmas.{signed_arith}
 use Rattle.gtd_core.specs.declared.second.Sec.{Sec}
 use Rattle.gtd_calendar.specs.declared.stamp.StampFault.{StampFault}
 use Rattle.gtd_calendar.specs.declared.stamp.StampFault.TheVariants.{Shape, NoSuchDate, Range}
-use Rattle.gtd_calendar.specs.Calendar.{IsDate, day_number}
+use Rattle.gtd_calendar.specs.Calendar.{IsDate, day_number, IsCalendarDay}
 use Rattle.gtd_calendar.specs.Clock.{IsClock}
-use Rattle.gtd_calendar.specs.Stamp.{IsYmdText, IsHmsText, IsMomentText, IsStampText}
-use Rattle.gtd_calendar.specs.Read.{IsReadStamp, is_date, is_clock, second_in_range, second_if_any}
-use Rattle.gtd_calendar.specs.Read.{second_number, ymd_in, hms_in, stamp_in}
+use Rattle.gtd_calendar.specs.Stamp.{IsYmdText, IsHmsText, IsMomentText, IsStampText, stamp_text}
+use Rattle.gtd_calendar.specs.Read.{IsReadStamp, is_date, is_clock, second_in_range, second_if_any, second_number, ymd_in}
+use Rattle.gtd_calendar.specs.Read.{hms_in, stamp_in}
 use Rattle.gtd_calendar.specs.ReadParts.{IsYmd, IsHms, IsMoment}
 use Rattle.gtd_calendar.proofs.ShapeLemmas.{ymd_in-is, ymd_in-shape, hms_in-is, hms_in-shape}
-use Rattle.gtd_calendar.specs.Calendar.{IsCalendarDay}
-use Rattle.gtd_core.specs.Days.{IsMomentSecond, day_of_second}
-use Rattle.gtd_calendar.specs.Stamp.{stamp_text}
+use Rattle.gtd_core.specs.Seconds.{IsMomentSecond, day_of_second}
 use Rattle.gtd_calendar.specs.facts.ClockLemmas.{second-parts}
 use Rattle.gtd_calendar.proofs.StampLemmas.{is_date-true, is_date-parts, stamp_text-is}
 

@@ -1,7 +1,6 @@
 -- The texts of days and seconds, and what reading them answers.
-use Rattle.std.proofs.Common.{◌≡◌, ℕ, ◌+◌, ◌*◌, ◌/◌, ◌%◌, ◌<◌, ◌≤◌, true, false, ◌&&◌, ◌||◌, nat_le}
-use Rattle.std.proofs.Common.{int_lt, List, ◌∷◌, Option, Some, None, Result, Ok, Err, refl, sym, ◌∙◌}
-use Rattle.std.proofs.Common.{arith, ℤ, pos, unsigned_abs}
+use Rattle.std.proofs.Common.{◌≡◌, ℕ, ◌+◌, ◌*◌, ◌/◌, ◌%◌, ◌<◌, ◌≤◌, true, false, ◌&&◌, ◌||◌, nat_le, int_lt, List, ◌∷◌}
+use Rattle.std.proofs.Common.{Option, Some, None, Result, Ok, Err, refl, sym, ◌∙◌, arith, ℤ, pos, unsigned_abs}
 use Rattle.std.proofs.lemmas.Bool.Decides.{nat_tests}
 use Rattle.std.proofs.lemmas.Bool.{false_from_ne_true, true_from_ne_false, cond_both, true≢false}
 use Rattle.gtd_core.specs.Limits.{first_horizon_day, horizons_end}
@@ -10,10 +9,9 @@ use Rattle.gtd_calendar.specs.declared.stamp.StampFault.{StampFault}
 use Rattle.gtd_calendar.specs.declared.stamp.StampFault.TheVariants.{Shape, NoSuchDate, Range}
 use Rattle.gtd_calendar.specs.Calendar.{IsDate, IsCalendarDay, month_length, day_number}
 use Rattle.gtd_calendar.specs.ComputedDates.{year_of, month_of, day_of_month}
-use Rattle.gtd_core.specs.Days.{day_of_second}
+use Rattle.gtd_core.specs.Seconds.{day_of_second}
 use Rattle.gtd_calendar.specs.Clock.{second_of_day}
-use Rattle.gtd_calendar.specs.Stamp.{date_text, stamp_text, hms_text, IsYmdText, IsDateText}
-use Rattle.gtd_calendar.specs.Stamp.{IsStampText}
+use Rattle.gtd_calendar.specs.Stamp.{date_text, stamp_text, hms_text, IsYmdText, IsDateText, IsStampText}
 use Rattle.gtd_calendar.specs.Read.{IsReadableDay, IsReadDate, is_date, day_in_range, day_if_any, ymd_in, date_in}
 use Rattle.gtd_calendar.specs.ReadParts.{IsYmd}
 use Rattle.gtd_calendar.specs.facts.DateLemmas.{date_of-is, date_of-only, month_length_bounds}

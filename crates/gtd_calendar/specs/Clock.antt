@@ -3,8 +3,8 @@ use Rattle.std.specs.Prelude.{◌≡◌, ◌<◌, ℕ, ◌+◌, ◌*◌, min, �
 use Rattle.std.specs.Int.{int_rem_euclid}
 use Rattle.gtd_core.specs.Limits.{day_seconds}
 use Rattle.gtd_core.specs.declared.duration.DurationParts.{DurationParts}
-use Rattle.gtd_core.specs.Days.{day_of_second}
-use Rattle.gtd_core.specs.DurationBound.{clock_seconds}
+use Rattle.gtd_core.specs.Seconds.{day_of_second}
+use Rattle.gtd_core.specs.Ranges.{clock_seconds}
 use Rattle.gtd_calendar.specs.Calendar.{IsDateOf, month_length}
 
 -- the place of a second in its day

@@ -1,9 +1,10 @@
 -- The end of a stretch, computed. It is a law of this crate that it is the stretch's end, and that there is no other.
 use Rattle.std.specs.Prelude.{ℕ, ◌+◌, ◌-◌, ◌*◌, min, ℤ, pos, ◌+ℤ◌, ◌*ℤ◌, unsigned_abs}
 use Rattle.std.specs.Int.{int_div_euclid, int_rem_euclid}
+use Rattle.gtd_core.specs.Limits.{day_seconds}
 use Rattle.gtd_core.specs.declared.duration.DurationParts.{DurationParts}
-use Rattle.gtd_core.specs.Days.{day_of_second}
-use Rattle.gtd_core.specs.DurationBound.{clock_seconds}
+use Rattle.gtd_core.specs.Seconds.{day_of_second}
+use Rattle.gtd_core.specs.Ranges.{clock_seconds}
 use Rattle.gtd_calendar.specs.Calendar.{month_length, day_number}
 use Rattle.gtd_calendar.specs.Clock.{second_of_day}
 use Rattle.gtd_calendar.specs.ComputedDates.{year_of, month_of, day_of_month}
@@ -31,5 +32,5 @@ months_later n k = day_in_month (month_count (year_of n) (month_of n) +ℤ pos k
 -- the end of the stretch of duration p that begins at second b
 unfoldable pub stop : DurationParts → ℤ → ℤ
 stop p b =
-    pos 86400 *ℤ (months_later (day_of_second b) (12 * p.years + p.months) +ℤ pos (7 * p.weeks + p.days))
+    pos day_seconds *ℤ (months_later (day_of_second b) (12 * p.years + p.months) +ℤ pos (7 * p.weeks + p.days))
     +ℤ pos (second_of_day b + clock_seconds p)

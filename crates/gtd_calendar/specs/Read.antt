@@ -1,9 +1,9 @@
 -- What reading a date or a moment answers.
-use Rattle.std.specs.Prelude.{ℕ, ◌+◌, ◌-◌, ◌*◌, Bool, ◌&&◌, ◌||◌, nat_le, nat_lt, if◌then◌else◌, List, ◌∷◌, take}
-use Rattle.std.specs.Prelude.{drop, slice_index, bytes_eq, Option, Some, None, Result, Ok, Err, ℤ, pos, neg_ℤ, ◌+ℤ◌}
-use Rattle.std.specs.Prelude.{◌*ℤ◌, ◌≤ℤ◌, int_lt}
-use Rattle.gtd_core.specs.Limits.{first_horizon_day, horizons_end}
-use Rattle.gtd_core.specs.Days.{IsMomentSecond}
+use Rattle.std.specs.Prelude.{ℕ, ◌+◌, ◌-◌, ◌*◌, Bool, ◌&&◌, ◌||◌, nat_le, nat_lt, if◌then◌else◌, List, ◌∷◌, take, drop}
+use Rattle.std.specs.Prelude.{slice_index, bytes_eq, Option, Some, None, Result, Ok, Err, ℤ, pos, neg_ℤ, ◌+ℤ◌, ◌*ℤ◌, ◌≤ℤ◌}
+use Rattle.std.specs.Prelude.{int_lt}
+use Rattle.gtd_core.specs.Limits.{day_seconds, first_horizon_day, horizons_end}
+use Rattle.gtd_core.specs.Seconds.{IsMomentSecond}
 use Rattle.gtd_core.specs.declared.second.Sec.{Sec}
 use Rattle.gtd_calendar.specs.declared.stamp.StampFault.{StampFault}
 use Rattle.gtd_calendar.specs.declared.stamp.StampFault.TheVariants.{Shape, NoSuchDate, Range}
@@ -81,7 +81,7 @@ day_if_any (Some x) =
 
 -- the second with the numbers of a date and of a clock
 abbrev pub second_number : ℕ × ℕ × ℕ → ℕ × ℕ × ℕ → ℤ
-second_number x c = pos 86400 *ℤ day_number (pos x.0) x.1 x.2 +ℤ pos (3600 * c.0 + 60 * c.1 + c.2)
+second_number x c = pos day_seconds *ℤ day_number (pos x.0) x.1 x.2 +ℤ pos (3600 * c.0 + 60 * c.1 + c.2)
 
 -- the answer for these
 abbrev pub second_if_any : Option (ℕ × ℕ × ℕ) → Option (ℕ × ℕ × ℕ) → Result Sec StampFault

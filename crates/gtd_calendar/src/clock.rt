@@ -2,24 +2,26 @@
 
 ghost use Rattle.std.specs.Prelude.{◌≡◌, ◌+◌, ◌*◌, ◌<◌, ◌≤◌, pos, ◌+ℤ◌, ◌≤ℤ◌};
 ghost use Rattle.jiff.specs.Words.{IsEpochDay};
-ghost use Rattle.gtd_core.specs.Days.{day_of_second};
-ghost use Rattle.gtd_core.specs.DurationBound.{bound_of};
+ghost use Rattle.gtd_core.specs.Seconds.{day_of_second};
+ghost use Rattle.gtd_core.specs.Ranges.{bound_of};
 ghost use Rattle.gtd_core.specs.Parts.{duration_parts};
 ghost use Rattle.gtd_calendar.specs.Calendar.{IsCalendarDay};
 ghost use Rattle.gtd_calendar.specs.Clock.{IsStop};
 ghost use Rattle.gtd_calendar.specs.Clock as spec;
 ghost use Rattle.gtd_calendar.specs.ComputedEnds as computed;
+ghost use Rattle.gtd_core.specs.Limits.{day_seconds};
 
 use crate::day::{date_of, number_of};
+use gtd_core::limits::DAY_SECONDS;
 use gtd_core::{Duration, Sec};
 use jiff::civil;
 
 /// How many seconds of its day come before a second: 0 to 86,399.
 pub fn second_of_day(second: Sec) -> u32
     ensures value { result ≡ spec.second_of_day second.0 }
-    ensures bound { result < 86_400 }
+    ensures bound { result < day_seconds }
 {
-    second.0.rem_euclid(86_400) as u32
+    second.0.rem_euclid(DAY_SECONDS) as u32
 }
 
 // The day that stands in the month of a count of months, from January of the year 0, or that month's last where it has no
@@ -60,7 +62,13 @@ pub fn end_of(start: Sec, duration: &Duration) -> Sec
     ensures later { start.0 ≤ℤ result.0 }
     ensures within_bound { result.0 ≤ℤ (start.0 +ℤ pos (bound_of (duration_parts duration.now))) }
 {
-    let moved = months_later(start.day(), duration.whole_months());
+    let months = duration.whole_months();
+    if months == 0 {
+        let lasts = DAY_SECONDS as u64 * u64::from(duration.whole_days())
+            + u64::from(duration.clock());
+        return Sec(start.0 + lasts as i64);
+    }
+    let moved = months_later(start.day(), months);
     let day = moved + i64::from(duration.whole_days());
-    Sec(86_400 * day + i64::from(second_of_day(start) + duration.clock()))
+    Sec(DAY_SECONDS * day + i64::from(second_of_day(start) + duration.clock()))
 }

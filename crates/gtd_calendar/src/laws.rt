@@ -1,14 +1,13 @@
 //! Laws of the calendar's definitions, over all whole numbers.
 
 ghost use Rattle.std.specs.Prelude.{◌≡◌, ◌/◌, ◌%◌, List, Result, Ok, ℤ, ℕ, pos, ◌+ℤ◌, ◌≤ℤ◌};
-ghost use Rattle.gtd_core.specs.DurationBound.{bound_of};
+ghost use Rattle.gtd_core.specs.Ranges.{bound_of};
 ghost use Rattle.gtd_core.specs.declared.duration.DurationParts.{DurationParts};
 ghost use Rattle.gtd_core.specs.declared.second.Sec.{Sec};
-ghost use Rattle.gtd_calendar.specs.Calendar.{first_day, year_length, month_length, weekday_of};
-ghost use Rattle.gtd_calendar.specs.Calendar.{IsCalendarDay, IsDateOf, IsWeekOf};
+ghost use Rattle.gtd_calendar.specs.Calendar.{first_day, year_length, month_length, weekday_of, IsCalendarDay, IsDateOf};
+ghost use Rattle.gtd_calendar.specs.Calendar.{IsWeekOf, AreFieldsOf};
 ghost use Rattle.gtd_calendar.specs.ComputedDates.{year_of, month_of, day_of_month, week_of, week_year_of};
-ghost use Rattle.gtd_core.specs.Days.{IsMomentSecond, day_of_second};
-ghost use Rattle.gtd_calendar.specs.Fields.{AreFieldsOf};
+ghost use Rattle.gtd_core.specs.Seconds.{IsMomentSecond, day_of_second};
 ghost use Rattle.gtd_calendar.specs.ComputedFields.{day_fields};
 ghost use Rattle.gtd_calendar.specs.declared.day.DayFields.{DayFields};
 ghost use Rattle.gtd_calendar.specs.Clock.{IsStop, IsTimeOf, second_of_day};

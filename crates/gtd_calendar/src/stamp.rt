@@ -2,7 +2,7 @@
 
 ghost use Rattle.std.specs.Prelude.{◌≡◌, ◌↔◌, ◌<◌, ◌+◌, ◌*◌, ◌+ℤ◌, ◌*ℤ◌, pos, IsSome, IfSome, codes};
 ghost use Rattle.jiff.specs.Words.{IsEpochDay};
-ghost use Rattle.gtd_core.specs.Days.{day_of_second};
+ghost use Rattle.gtd_core.specs.Seconds.{day_of_second};
 ghost use Rattle.gtd_calendar.specs.Calendar.{IsCalendarDay};
 ghost use Rattle.gtd_calendar.specs.Clock.{IsClock};
 ghost use Rattle.gtd_calendar.specs.Names.{stamp_fault_name};
@@ -10,11 +10,12 @@ ghost use Rattle.gtd_calendar.specs.Stamp as spec;
 ghost use Rattle.gtd_calendar.specs.Stamp.{IsDateText, IsStampText};
 ghost use Rattle.gtd_calendar.specs.Read.{IsReadDate, IsReadStamp, date_in, stamp_in};
 ghost use Rattle.gtd_calendar.specs.ReadParts.{IsTwoDigits, IsFourDigits, IsYmd, IsHms, IsMoment};
+ghost use Rattle.gtd_core.specs.Limits.{day_seconds};
 
 use crate::clock::second_of_day;
 use crate::day::{date_of, day_of_date};
 use gtd_core::Sec;
-use gtd_core::limits::{FIRST_HORIZON_DAY, FIRST_MOMENT, HORIZONS_END, LAST_MOMENT};
+use gtd_core::limits::{DAY_SECONDS, FIRST_HORIZON_DAY, FIRST_MOMENT, HORIZONS_END, LAST_MOMENT};
 use thiserror::Error;
 
 /// Why a text is no date or no moment.
@@ -156,13 +157,13 @@ fn second_on_day(day: i64, hour: u8, minute: u8, second: u8) -> Option<i64>
     requires day_in { IsEpochDay day }
     ensures exists { IsSome result ↔ IsClock hour minute second }
     ensures value { IfSome result
-        (λ s. s ≡ pos 86400 *ℤ day +ℤ pos (3600 * hour + 60 * minute + second)) }
+        (λ s. s ≡ pos day_seconds *ℤ day +ℤ pos (3600 * hour + 60 * minute + second)) }
 {
     if hour > 23 || minute > 59 || second > 59 {
         return None;
     }
     let clock = 3600 * u32::from(hour) + 60 * u32::from(minute) + u32::from(second);
-    Some(86_400 * day + i64::from(clock))
+    Some(DAY_SECONDS * day + i64::from(clock))
 }
 
 /// The day of a text `YYYY-MM-DD`.

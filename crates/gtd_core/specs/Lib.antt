@@ -1,12 +1,10 @@
-pub mod Days
-pub mod DurationBound
 pub mod Equality
 pub mod Horizons
-pub mod Interval
 pub mod Limits
 pub mod Names
 pub mod Parts
-pub mod StartRanges
+pub mod Ranges
+pub mod Seconds
 pub mod Trees
 pub mod Whole
 pub mod facts

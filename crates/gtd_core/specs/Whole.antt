@@ -1,6 +1,7 @@
 -- The days and the seconds of a horizon.
 use Rattle.std.specs.Prelude.{ℤ, pos, ◌*ℤ◌}
-use Rattle.gtd_core.specs.Interval.{Interval}
+use Rattle.gtd_core.specs.Limits.{day_seconds}
+use Rattle.gtd_core.specs.Seconds.{Interval}
 use Rattle.gtd_core.specs.declared.horizon.Horizon.{Horizon}
 
 -- its first day
@@ -13,4 +14,4 @@ to_day horizon = horizon.to_day
 
 -- all seconds of its days
 abbrev pub whole : Horizon → Interval
-whole horizon = record { from = horizon.from_day *ℤ pos 86400; until = horizon.to_day *ℤ pos 86400 }
+whole horizon = record { from = horizon.from_day *ℤ pos day_seconds; until = horizon.to_day *ℤ pos day_seconds }

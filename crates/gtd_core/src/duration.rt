@@ -1,11 +1,11 @@
 //! How long a stretch of time lasts.
 
 ghost use Rattle.std.specs.Prelude.{◌≡◌, ◌↔◌, IfSome, IsSome, ◌+◌, ◌*◌, ◌^◌, ◌<◌, ◌≤◌, pos};
-ghost use Rattle.gtd_core.specs.DurationBound.{IsDuration, bound_of, clock_seconds, day_bound, lookback_of};
+ghost use Rattle.gtd_core.specs.Ranges.{IsDuration, bound_of, clock_seconds, day_bound, lookback_of};
 ghost use Rattle.std.proofs.Props.{props};
 ghost use Rattle.gtd_core.specs.Limits.{most_bound};
 
-use crate::limits::MOST_BOUND;
+use crate::limits::{DAY_SECONDS, MOST_BOUND};
 
 /// The numbers of a duration, one for each unit.
 #[derive(Clone, Copy, Debug, PartialEq, Eq, Default)]
@@ -24,7 +24,7 @@ impl DurationParts {
     pub fn bound(&self) -> u64
         ensures value { result ≡ bound_of self.now }
     {
-        86_400 * most_days(self) + clock_seconds(self)
+        DAY_SECONDS as u64 * most_days(self) + clock_seconds(self)
     }
 }
 
@@ -102,7 +102,7 @@ impl Duration {
         ensures value { result ≡ lookback_of (duration_parts self.now) }
         ensures bound { result ≤ 36_600 }
     {
-        (self.bound() as u32).div_ceil(86_400)
+        (self.bound() as u32).div_ceil(DAY_SECONDS as u32)
     }
 }
 

@@ -1,9 +1,9 @@
 //! Seconds of the local civil clock, and spans of them.
 
 ghost use Rattle.std.specs.Prelude.{◌≡◌, ◌<ℤ◌, ◌≤ℤ◌, ◌↔◌, ℤ, IsTrue, MatchOption};
-ghost use Rattle.gtd_core.specs.Days.{IsOnDay, day_of_second};
-ghost use Rattle.gtd_core.specs.Interval.{Interval, Within};
+ghost use Rattle.gtd_core.specs.Seconds.{IsOnDay, day_of_second, Interval, Within};
 
+use crate::limits::DAY_SECONDS;
 use std::marker::Model;
 
 /// A second of the local civil clock, by its number: 86,400 times the day number (1970-01-01 is day 0) plus the second
@@ -17,7 +17,7 @@ impl Sec {
         ensures on_day { IsOnDay self.0 result }
         ensures value { result ≡ day_of_second self.0 }
     {
-        self.0.div_euclid(86_400)
+        self.0.div_euclid(DAY_SECONDS)
     }
 }
 
@@ -30,7 +30,7 @@ pub struct Span {
 
 impl Model for Span {
     ghost use Rattle.std.specs.Prelude.{◌<ℤ◌};
-    ghost use Rattle.gtd_core.specs.Interval.{Interval};
+    ghost use Rattle.gtd_core.specs.Seconds.{Interval};
 
     ghost Value = { Interval };
 

@@ -1,7 +1,7 @@
 //! When a stretch of time begins.
 
 ghost use Rattle.std.specs.Prelude.{◌≡◌, ◌≢◌, ◌↔◌, IfSome, IsSome, IsTrue};
-ghost use Rattle.gtd_core.specs.StartRanges.{IsStart, IsWithin, IsPlace};
+ghost use Rattle.gtd_core.specs.Ranges.{IsStart, IsWithin, IsPlace};
 ghost use Rattle.std.proofs.Props.{props};
 
 /// The fields of a start, each where it is given. Letters are those of the texts.

@@ -1,12 +1,11 @@
 -- What a cursor has still to hand out, and how large its tree is.
-use Rattle.std.specs.Prelude.{◌≡◌, ℕ, ◌+◌, ◌^◌, ◌≤◌, ◌⊎◌, ◌↔◌, ℤ, List, [], ◌∷◌, ◌++◌, length}
-use Rattle.gtd_core.specs.Interval.{Interval}
+use Rattle.std.specs.Prelude.{ℕ, ◌+◌, ◌≤◌, ◌⊎◌, ℤ, List, [], ◌∷◌}
+use Rattle.gtd_core.specs.Seconds.{Interval}
 use Rattle.gtd_core.specs.Parts.{domain_expr}
 use Rattle.gtd_core.specs.declared.domain.Domain.{Domain}
 use Rattle.gtd_core.specs.declared.horizon.Horizon.{Horizon}
 use Rattle.gtd_spans.specs.Normal.{Holds}
-use Rattle.gtd_eval.specs.Nodes.{node_list, node_count, node_ticks, node_height, node_work, IsSound, expr_work}
-use Rattle.gtd_eval.specs.declared.node.Node.{Node}
+use Rattle.gtd_eval.specs.Nodes.{node_list, node_count, node_ticks, node_height, node_work, expr_work}
 use Rattle.gtd_eval.specs.declared.cursor.Cursor.{Cursor}
 
 -- the normal list that the cursor has still to hand out
@@ -52,18 +51,3 @@ total_work (c ∷ cs) = cursor_work c + total_work cs
 abbrev pub NoneHigher : ℕ → List Cursor → Type 0
 NoneHigher h [] = Unit {0}
 NoneHigher h (c ∷ cs) = (cursor_height c ≤ h) × NoneHigher h cs
-
--- the tree is the union of the cursors
-pub record IsUnionOf (cs : List Cursor) (n : Node) : Type 0 where
-  pub sound : IsSound n
-  pub seconds : (t : ℤ) → Holds (node_list n) t ↔ SomeHolds cs t
-  pub nodes : node_count n + 1 ≡ total_nodes cs + length cs
-  pub work : node_work n ≡ total_work cs
-  pub height : (h k : ℕ) → NoneHigher h cs → length cs ≤ 2 ^ k → node_height n ≤ h + k
-
--- the tree is the union of the last cursors of a list, so many of them, which were taken off it
-pub record IsUnionOfLast (count : ℕ) (before : List Cursor) (n : Node) (after : List Cursor) : Type 0 where
-  pub taken : List Cursor
-  pub split : before ≡ after ++ taken
-  pub many : length taken ≡ count
-  pub union : IsUnionOf taken n

@@ -1,15 +1,14 @@
+pub mod Chains
 pub mod Cursors
 pub mod Ever
 pub mod Membership
 pub mod Names
 pub mod Nodes
-pub mod NormalOver
 pub mod Shape
 pub mod Single
 pub mod Weekly
 pub mod facts
-pub use Rattle.gtd_core.specs.Days
-pub use Rattle.gtd_core.specs.Interval
+pub use Rattle.gtd_core.specs.Seconds
 pub use Rattle.gtd_core.specs.Limits
 pub use Rattle.gtd_core.specs.Parts
 pub use Rattle.gtd_core.specs.Trees

@@ -1,10 +1,14 @@
--- Which seconds an expression contains.
-use Rattle.std.specs.Prelude.{ℤ, ◌⊎◌, IsSome}
+-- Which seconds an expression contains, and which list is normal for a set of seconds over a horizon.
+use Rattle.std.specs.Prelude.{ℤ, ◌⊎◌, IsSome, List}
 use Rattle.gtd_core.specs.Trees.{Tree, Single, Joined}
 use Rattle.gtd_core.specs.Parts.{domain_tree}
 use Rattle.gtd_core.specs.declared.domain.Domain.{Domain}
 use Rattle.gtd_spans.specs.Combine.{Combined}
 use Rattle.gtd_recur.specs.Membership.{InStretches}
+use Rattle.gtd_core.specs.Seconds.{Interval}
+use Rattle.gtd_core.specs.Whole.{whole}
+use Rattle.gtd_core.specs.declared.horizon.Horizon.{Horizon}
+use Rattle.gtd_spans.specs.Normal.{IsNormalFor}
 
 -- The expression contains the second: a basic domain where one of its stretches holds it, and two joined ones by the
 -- operators of GDF time domains (ISO 14825:2004): either, both, or the left and not the right.
@@ -20,3 +24,8 @@ InDomain domain = InTree (domain_tree domain)
 abbrev pub SomeGivesYear : Tree → Type 0
 SomeGivesYear (Single start duration) = IsSome start.year
 SomeGivesYear (Joined op left right) = SomeGivesYear left ⊎ SomeGivesYear right
+
+-- The intervals are in order, disjoint and as long as can be, and hold just the seconds of the set that are on the
+-- horizon's days.
+abbrev pub IsNormalOver : (ℤ → Type 0) → Horizon → List Interval → Type 0
+IsNormalOver set horizon xs = IsNormalFor set (whole horizon).from (whole horizon).until xs

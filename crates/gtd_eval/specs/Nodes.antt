@@ -1,29 +1,30 @@
 -- What a tree of sweeps has still to hand out, when its parts fit together, and how large it is.
-use Rattle.std.specs.Prelude.{ℕ, ◌+◌, List, []}
-use Rattle.gtd_core.specs.Interval.{Interval}
+use Rattle.std.specs.Prelude.{ℕ, ◌+◌, List}
+use Rattle.gtd_core.specs.Seconds.{Interval}
 use Rattle.gtd_core.specs.declared.domain.Expr.{Expr}
 use Rattle.gtd_core.specs.declared.domain.Expr.TheVariants.{Leaf as LeafExpr, Join'}
 use Rattle.gtd_core.specs.declared.horizon.Horizon.{Horizon}
 use Rattle.gtd_spans.specs.Merging.{listed}
-use Rattle.gtd_spans.specs.Sweeping.{still, Fits, HasOneSide}
+use Rattle.gtd_spans.specs.Gaps.{gaps_left}
+use Rattle.gtd_spans.specs.Sweeping.{still, Fits}
 use Rattle.gtd_recur.specs.RunsToCome.{runs_to_come, runs_basic, runs_horizon, runs_ticks}
-use Rattle.gtd_eval.specs.Shape.{Shape, fixed, runs, one, two, shape_nodes, shape_height, shape_work}
+use Rattle.gtd_eval.specs.Shape.{Shape, fixed, runs, between, two, shape_nodes, shape_height, shape_work}
 use Rattle.gtd_eval.specs.Single.{IsSingle}
 use Rattle.gtd_recur.specs.Work.{work_of}
-use Rattle.gtd_eval.specs.declared.node.Node.{Node, Fixed, Leaf, One', Two'}
+use Rattle.gtd_eval.specs.declared.node.Node.{Node, Fixed, Leaf, Between', Two'}
 
 -- the normal list that the tree has still to hand out
 abbrev pub node_list : Node → List Interval
 node_list (Fixed span) = listed span
 node_list (Leaf leaf) = runs_to_come leaf
-node_list (One' sweep p inner) = still sweep (node_list inner) []
+node_list (Between' gaps p inner) = gaps_left gaps (node_list inner)
 node_list (Two' sweep p left q right) = still sweep (node_list left) (node_list right)
 
 -- each sweep of the tree fits what its sides have still to hand out
 abbrev pub IsSound : Node → Type 0
 IsSound (Fixed span) = IsSingle span
 IsSound (Leaf leaf) = Unit {0}
-IsSound (One' sweep p inner) = HasOneSide sweep × Fits sweep (node_list inner) [] × IsSound inner
+IsSound (Between' gaps p inner) = IsSound inner
 IsSound (Two' sweep p left q right) =
     Fits sweep (node_list left) (node_list right) × IsSound left × IsSound right
 
@@ -31,7 +32,7 @@ IsSound (Two' sweep p left q right) =
 abbrev pub node_shape : Node → Shape
 node_shape (Fixed span) = fixed
 node_shape (Leaf leaf) = runs (runs_basic leaf) (runs_horizon leaf)
-node_shape (One' sweep p inner) = one (node_shape inner)
+node_shape (Between' gaps p inner) = between (node_shape inner)
 node_shape (Two' sweep p left q right) = two (node_shape left) (node_shape right)
 
 -- how many nodes the tree has; how many the longest way down has; the sum of the work of its runs
@@ -48,7 +49,7 @@ node_work node = shape_work (node_shape node)
 abbrev pub node_ticks : Node → ℕ
 node_ticks (Fixed span) = 0
 node_ticks (Leaf leaf) = runs_ticks leaf
-node_ticks (One' sweep p inner) = node_ticks inner
+node_ticks (Between' gaps p inner) = node_ticks inner
 node_ticks (Two' sweep p left q right) = node_ticks left + node_ticks right
 
 -- the sum of the work of the basic domains of an expression in a horizon

@@ -6,8 +6,9 @@ ghost use Rattle.gtd_eval.specs.Nodes.{node_list, node_count, IsSound};
 ghost use Rattle.gtd_eval.specs.facts.NodeFacts.{node_list-normal, IsSound-prop};
 
 use crate::node::Node;
-use gtd_core::{Domain, Horizon, Op, Span};
-use gtd_spans::{SpanSource, Sweep};
+use gtd_core::{Domain, Expr, Horizon, Op, Span};
+use gtd_recur::Runs;
+use gtd_spans::{Gaps, SpanSource, Sweep};
 use std::alloc::{AllocError, Global};
 
 /// A source of the seconds of a domain in a horizon, of those of any of several cursors, or of those that a cursor leaves
@@ -39,26 +40,70 @@ impl SpanSource for Cursor {
 
 impl Cursor {
     ghost use Rattle.std.specs.Prelude.{◌+◌, ◌*◌, ◌<◌, ◌^◌, ◌↔◌, [], ◌∷◌, ℕ, ℤ, IfOk, OnOk, vec_len};
-    ghost use Rattle.gtd_core.specs.Interval.{Within};
+    ghost use Rattle.gtd_core.specs.Seconds.{Within};
     ghost use Rattle.gtd_core.specs.Parts.{domain_tree};
-    ghost use Rattle.gtd_core.specs.Trees.{leaf_count};
+    ghost use Rattle.gtd_core.specs.Limits.{most_basic_domains};
+    ghost use Rattle.gtd_core.specs.Trees.{leaf_count, tree_of};
     ghost use Rattle.gtd_core.specs.Whole.{whole};
     ghost use Rattle.gtd_spans.specs.Normal.{Holds, IsNormal};
-    ghost use Rattle.gtd_eval.specs.Membership.{InDomain};
-    ghost use Rattle.gtd_eval.specs.NormalOver.{IsNormalOver};
-    ghost use Rattle.gtd_eval.specs.Cursors.{cursor_list, cursor_nodes, cursor_ticks, cursor_height, cursor_work, domain_work};
-    ghost use Rattle.gtd_eval.specs.Cursors.{SomeHolds, total_nodes, total_work, NoneHigher, IsUnionOfLast};
+    ghost use Rattle.gtd_eval.specs.Membership.{InDomain, IsNormalOver};
+    ghost use Rattle.gtd_eval.specs.Cursors.{cursor_list, cursor_nodes, cursor_ticks, cursor_height, cursor_work};
+    ghost use Rattle.gtd_eval.specs.Cursors.{domain_work, SomeHolds, total_nodes, total_work, NoneHigher};
+    ghost use Rattle.gtd_core.specs.declared.domain.Op as declared;
+    ghost use Rattle.gtd_eval.specs.Chains as spec;
+    ghost use Rattle.gtd_eval.specs.Chains.{AreTerms, IsBasicChain, IsChainOfLast};
+    ghost use Rattle.gtd_eval.specs.Nodes.{expr_work};
 
-    /// The cursor of the seconds of a domain in a horizon. For k basic domains it has 2k - 1 nodes.
+    /// The cursor of the seconds of a domain in a horizon. For k basic domains it has 2k - 1 nodes. Its tree is balanced
+    /// over each chain of one operator: one chain of 2^k basic domains makes a tree of at most k + 1 levels.
     pub fn open(alloc: Global, domain: &Domain, horizon: Horizon) -> Result<Cursor, AllocError>
         ensures normal { IfOk result
             (λ c. IsNormalOver (InDomain domain.now) horizon (cursor_list c)) }
         ensures nodes { IfOk result
             (λ c. cursor_nodes c + 1 ≡ 2 * leaf_count (domain_tree domain.now)) }
         ensures work { IfOk result (λ c. cursor_work c ≡ domain_work domain.now horizon) }
+        ensures height { (op : declared.Op) (k : ℕ) → IsBasicChain op (domain_tree domain.now)
+            → leaf_count (domain_tree domain.now) ≤ 2 ^ k → IfOk result (λ c. cursor_height c ≤ k + 1) }
     {
-        let node = Node::open(alloc, domain.expr(), horizon)?;
+        let mut cursors = Vec::new(alloc);
+        Cursor::push_terms(alloc, Op::Union, domain.expr(), horizon, &mut cursors)?;
+        let count = cursors.len();
+        let node = Cursor::join_last(alloc, Op::Union, &mut cursors, count)?;
         Ok(Cursor { node })
+    }
+
+    // Puts cursors for an expression behind a list: one for each term of a chain of the operator, and one alone for an
+    // expression of another operator.
+    fn push_terms(
+        alloc: Global,
+        op: Op,
+        expr: &Expr,
+        horizon: Horizon,
+        cursors: &mut Vec<Cursor>,
+    ) -> Result<(), AllocError>
+        requires few { leaf_count (tree_of expr.now) ≤ most_basic_domains }
+        ensures terms { OnOk result
+            (AreTerms op (tree_of expr.now) horizon (expr_work expr.now horizon) cursors.old.items cursors.new.items) }
+    {
+        match expr {
+            Expr::Leaf(basic) => {
+                let node = Node::Leaf(Runs::new(*basic, horizon));
+                cursors.push(Cursor { node })?;
+                Ok(())
+            }
+            Expr::Join(inner, left, right) => {
+                let before = cursors.len();
+                Cursor::push_terms(alloc, *inner, left, horizon, cursors)?;
+                Cursor::push_terms(alloc, Cursor::right_of(*inner), right, horizon, cursors)?;
+                if *inner == op {
+                    return Ok(());
+                }
+                let count = cursors.len() - before;
+                let node = Cursor::join_last(alloc, *inner, cursors, count)?;
+                cursors.push(Cursor { node })?;
+                Ok(())
+            }
+        }
     }
 
     /// The cursor of all seconds of a horizon, of one node.
@@ -99,20 +144,33 @@ impl Cursor {
                 node: Node::Fixed(None),
             });
         }
-        let node = Cursor::unite_last(alloc, &mut cursors, count)?;
+        let node = Cursor::join_last(alloc, Op::Union, &mut cursors, count)?;
         Ok(Cursor { node })
     }
 
-    // The union of the last cursors, so many of them, which are taken off the list.
-    fn unite_last(
+    // The operator that joins what stands on the right in a chain: what is taken away one after another is taken away
+    // together.
+    fn right_of(op: Op) -> Op
+        ensures { result ≡ spec.right_of op }
+    {
+        match op {
+            Op::Union => Op::Union,
+            Op::Meet => Op::Meet,
+            Op::Minus => Op::Union,
+        }
+    }
+
+    // The chain by the operator of the last cursors, so many of them, which are taken off the list. Its tree is balanced.
+    fn join_last(
         alloc: Global,
+        op: Op,
         cursors: &mut Vec<Cursor>,
         count: usize,
     ) -> Result<Node, AllocError>
         requires some { 0 < count }
         requires enough { count ≤ vec_len cursors.old }
-        ensures union { IfOk result
-            (λ node. IsUnionOfLast count cursors.old.items node cursors.new.items) }
+        ensures chain { IfOk result
+            (λ node. IsChainOfLast op count cursors.old.items node cursors.new.items) }
     {
         if count == 1 {
             return match cursors.pop() {
@@ -121,11 +179,11 @@ impl Cursor {
             };
         }
         let half = count / 2;
-        let right = Cursor::unite_last(alloc, cursors, half)?;
-        let left = Cursor::unite_last(alloc, cursors, count - half)?;
+        let right = Cursor::join_last(alloc, Cursor::right_of(op), cursors, half)?;
+        let left = Cursor::join_last(alloc, op, cursors, count - half)?;
         let left = Box::new(alloc, left)?;
         let right = Box::new(alloc, right)?;
-        Ok(Node::Two(Sweep::new(Op::Union), left, right))
+        Ok(Node::Two(Sweep::new(op), left, right))
     }
 
     /// The cursor of the seconds of a horizon that another cursor over it does not have. It has one node more, and the
@@ -141,7 +199,7 @@ impl Cursor {
     {
         let inner = Box::new(alloc, cursor.node)?;
         Ok(Cursor {
-            node: Node::One(Sweep::outside(horizon), inner),
+            node: Node::Between(Gaps::new(horizon), inner),
         })
     }
 

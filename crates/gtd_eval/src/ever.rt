@@ -3,7 +3,7 @@
 ghost use Rattle.std.specs.Prelude.{◌≡◌, ◌↔◌, IfOk, MatchOption, codes};
 ghost use Rattle.gtd_core.specs.Parts.{domain_tree};
 ghost use Rattle.gtd_eval.specs.Membership.{InDomain, SomeGivesYear};
-ghost use Rattle.gtd_core.specs.Days.{IsMomentSecond};
+ghost use Rattle.gtd_core.specs.Seconds.{IsMomentSecond};
 ghost use Rattle.gtd_eval.specs.Ever.{NeverChangesAfter, IsFirstChange};
 
 use crate::membership::{days_to_repeat, gives_year};

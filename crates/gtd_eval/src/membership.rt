@@ -1,11 +1,10 @@
 //! Whether a domain contains a second.
 
-ghost use Rattle.std.specs.Prelude.{◌↔◌, IsTrue};
+ghost use Rattle.std.specs.Prelude.{◌↔◌, IsTrue, ◌≡◌, ◌⊎◌, pos};
 ghost use Rattle.gtd_core.specs.Trees.{tree_of};
-ghost use Rattle.gtd_core.specs.Days.{IsHorizonSecond};
+ghost use Rattle.gtd_core.specs.Seconds.{IsHorizonSecond};
 ghost use Rattle.gtd_eval.specs.Membership.{InDomain, InTree, SomeGivesYear};
 ghost use Rattle.gtd_eval.specs.Weekly.{AllWeekly};
-ghost use Rattle.std.specs.Prelude.{◌≡◌, ◌⊎◌, pos};
 ghost use Rattle.gtd_core.specs.Limits.{most_horizon_days};
 
 use gtd_core::limits::MOST_HORIZON_DAYS;
@@ -46,7 +45,7 @@ pub(crate) fn gives_year(expr: &Expr) -> bool
 
 // Whether each basic domain of the expression repeats after 7 days.
 fn is_weekly(expr: &Expr) -> bool
-    ensures weekly { IsTrue result → AllWeekly (tree_of expr.now) }
+    ensures weekly { IsTrue result ↔ AllWeekly (tree_of expr.now) }
 {
     match expr {
         Expr::Leaf(basic) => is_basic_weekly(basic),
@@ -58,6 +57,7 @@ fn is_weekly(expr: &Expr) -> bool
 /// one more: the rest of a moment's own day.
 pub(crate) fn days_to_repeat(expr: &Expr) -> i64
     ensures days { (result ≡ pos most_horizon_days) ⊎ ((result ≡ pos 8) × AllWeekly (tree_of expr.now)) }
+    ensures short { AllWeekly (tree_of expr.now) → result ≡ pos 8 }
 {
     if is_weekly(expr) {
         8

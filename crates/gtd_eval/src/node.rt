@@ -1,14 +1,14 @@
 //! Trees of sweeps, which hand out spans one after another.
 
-ghost use Rattle.std.specs.Prelude.{◌≡◌, []};
+ghost use Rattle.std.specs.Prelude.{◌≡◌};
 ghost use Rattle.gtd_core.specs.Limits.{most_nodes};
-ghost use Rattle.gtd_spans.specs.Sweeping.{still, Fits, HasOneSide, Takes};
+ghost use Rattle.gtd_spans.specs.Gaps.{gaps_left};
+ghost use Rattle.gtd_spans.specs.Sweeping.{still, Fits, Takes};
 ghost use Rattle.gtd_eval.specs.Nodes.{node_list, node_shape, IsSound};
 
-use gtd_core::{Expr, Horizon, Span};
+use gtd_core::Span;
 use gtd_recur::Runs;
-use gtd_spans::{Ask, SpanSource, Sweep};
-use std::alloc::{AllocError, Global};
+use gtd_spans::{Ask, Gaps, SpanSource, Sweep};
 
 /// A tree of sweeps over fixed spans and the runs of basic domains. A node is of a fixed size and holds no collection.
 #[derive(Debug, Drop)]
@@ -17,40 +17,16 @@ pub enum Node {
     Fixed(Option<Span>),
     /// The runs of a basic domain.
     Leaf(Runs),
-    /// A sweep over one side.
-    One(Sweep, Box<Node>),
+    /// What the spans of a tree leave of a range of seconds.
+    Between(Gaps, Box<Node>),
     /// A sweep over a left and a right side.
     Two(Sweep, Box<Node>, Box<Node>),
 }
 
 impl Node {
-    ghost use Rattle.std.specs.Prelude.{◌≡◌, ◌≤◌, ◌+◌, ◌*◌, IfOk};
-    ghost use Rattle.gtd_core.specs.Trees.{tree_of, leaf_count};
+    ghost use Rattle.std.specs.Prelude.{◌≡◌, ◌≤◌};
     ghost use Rattle.gtd_spans.specs.Sweeping.{Takes};
-    ghost use Rattle.gtd_eval.specs.Membership.{InTree};
-    ghost use Rattle.gtd_eval.specs.Nodes.{node_list, node_shape, node_count, node_work, IsSound, node_ticks, expr_work};
-    ghost use Rattle.gtd_eval.specs.NormalOver.{IsNormalOver};
-
-    /// The tree of an expression in a horizon.
-    pub(crate) fn open(alloc: Global, expr: &Expr, horizon: Horizon) -> Result<Node, AllocError>
-        ensures sound { IfOk result (λ node. IsSound node) }
-        ensures normal { IfOk result
-            (λ node. IsNormalOver (InTree (tree_of expr.now)) horizon (node_list node)) }
-        ensures nodes { IfOk result
-            (λ node. node_count node + 1 ≡ 2 * leaf_count (tree_of expr.now)) }
-        ensures work { IfOk result (λ node. node_work node ≡ expr_work expr.now horizon) }
-    {
-        match expr {
-            Expr::Leaf(basic) => Ok(Node::Leaf(Runs::new(*basic, horizon))),
-            Expr::Join(op, left, right) => {
-                let left = Node::open(alloc, left, horizon)?;
-                let right = Node::open(alloc, right, horizon)?;
-                let left = Box::new(alloc, left)?;
-                let right = Box::new(alloc, right)?;
-                Ok(Node::Two(Sweep::new(*op), left, right))
-            }
-        }
-    }
+    ghost use Rattle.gtd_eval.specs.Nodes.{node_list, node_shape, node_count, node_work, IsSound, node_ticks};
 
     /// Takes the first span off the list that is still to come.
     #[cycle(next)]
@@ -63,7 +39,7 @@ impl Node {
         match self {
             Node::Fixed(span) => span.take(),
             Node::Leaf(runs) => runs.next(),
-            Node::One(sweep, inner) => next_of_one(sweep, inner),
+            Node::Between(gaps, inner) => next_gap(gaps, inner),
             Node::Two(sweep, left, right) => next_of_two(sweep, left, right),
         }
     }
@@ -75,7 +51,7 @@ impl Node {
     {
         match self {
             Node::Fixed(_) | Node::Leaf(_) => 1,
-            Node::One(_, inner) => 1 + inner.count(),
+            Node::Between(_, inner) => 1 + inner.count(),
             Node::Two(_, left, right) => 1 + left.count() + right.count(),
         }
     }
@@ -89,36 +65,26 @@ impl Node {
         match self {
             Node::Fixed(_) => 0,
             Node::Leaf(runs) => runs.ticks(),
-            Node::One(_, inner) => inner.ticks(),
+            Node::Between(_, inner) => inner.ticks(),
             Node::Two(_, left, right) => left.ticks() + right.ticks(),
         }
     }
 }
 
-// The next span of a sweep over one side.
+// The next gap between the spans of a tree.
 #[cycle(next)]
-fn next_of_one(sweep: &mut Sweep, inner: &mut Node) -> Option<Span>
-    requires one_side { HasOneSide sweep.old }
-    requires fits { Fits sweep.old (node_list inner.old) [] }
+fn next_gap(gaps: &mut Gaps, inner: &mut Node) -> Option<Span>
     requires sound { IsSound inner.old }
-    ensures one_side { HasOneSide sweep.new }
-    ensures fits { Fits sweep.new (node_list inner.new) [] }
     ensures sound { IsSound inner.new }
-    ensures takes { Takes (still sweep.old (node_list inner.old) []) result
-        (still sweep.new (node_list inner.new) []) }
+    ensures takes { Takes (gaps_left gaps.old (node_list inner.old)) result (gaps_left gaps.new (node_list inner.new)) }
     ensures shape { node_shape inner.new ≡ node_shape inner.old }
 {
-    loop {
-        match sweep.step() {
-            Ask::Left => {
-                let told = inner.next();
-                sweep.tell(told);
-            }
-            Ask::Right => unreachable!(),
-            Ask::Give(span) => return Some(span),
-            Ask::End => return None,
+    while let Some(span) = inner.next() {
+        if let Some(gap) = gaps.before(span) {
+            return Some(gap);
         }
     }
+    gaps.last()
 }
 
 // The next span of a sweep over two sides.

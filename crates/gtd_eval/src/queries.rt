@@ -1,11 +1,10 @@
 //! What is asked of a domain over a horizon.
 
 ghost use Rattle.std.specs.Prelude.{IfOk, MatchOption};
-ghost use Rattle.gtd_core.specs.Interval.{Within};
+ghost use Rattle.gtd_core.specs.Seconds.{Within};
 ghost use Rattle.gtd_core.specs.Whole.{whole};
 ghost use Rattle.gtd_spans.specs.Change.{NeverChanges, IsNextChange};
-ghost use Rattle.gtd_eval.specs.Membership.{InDomain};
-ghost use Rattle.gtd_eval.specs.NormalOver.{IsNormalOver};
+ghost use Rattle.gtd_eval.specs.Membership.{InDomain, IsNormalOver};
 
 use crate::cursor::Cursor;
 use gtd_core::{Domain, Horizon, Sec};

@@ -2,7 +2,7 @@
 use Rattle.std.proofs.Common.{List, [], ◌∷◌, arith}
 use Rattle.std.specs.Prelude.{ℤ, ◌≤ℤ◌}
 use Rattle.std.proofs.lemmas.Int.{ints}
-use Rattle.gtd_core.specs.Interval.{Interval}
+use Rattle.gtd_core.specs.Seconds.{Interval}
 use Rattle.gtd_spans.specs.Pushing.{NoneBeginsAfter}
 
 pub none-after : (b c : ℤ) (xs : List Interval) → b ≤ℤ c → NoneBeginsAfter b xs → NoneBeginsAfter c xs

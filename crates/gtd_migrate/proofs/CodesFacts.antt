@@ -1,6 +1,6 @@
 -- The vehicle types of a row that was read: the text of their column is read again as them.
-use Rattle.std.proofs.Common.{◌≡◌, ◌∙◌, ◌<◌, ◌^◌, ap, refl, sym, subst, arith, cond, ℕ, zero, suc, List, [], ◌∷◌, ◌++◌, length}
-use Rattle.std.proofs.Common.{length-append, map, Bool, true, false, Option, Some, None}
+use Rattle.std.proofs.Common.{◌≡◌, ◌∙◌, ◌<◌, ◌^◌, ap, refl, sym, subst, arith, cond, ℕ, zero, suc, List, [], ◌∷◌, ◌++◌}
+use Rattle.std.proofs.Common.{length, length-append, map, Bool, true, false, Option, Some, None}
 use Rattle.std.specs.Prelude.{codes, decimal, flat_map, nat_le, option_map, ◌&&◌, ◌==◌}
 use Rattle.std.specs.Char.{is_ascii_digit, digit_value}
 use Rattle.std.specs.List.{All, Contains, list_all}
@@ -12,9 +12,8 @@ use Rattle.std.proofs.lemmas.Fmt.{decimal_is_IsNumeral, decimal_nonempty, length
 use Rattle.std.proofs.lemmas.List.{append-nil}
 use Rattle.std.proofs.lemmas.List.Splits.{length-slice_split, slice_split_at, slice_split_none}
 use Rattle.gtd_records.specs.facts.NumberFacts.{number_below}
-use Rattle.gtd_records.specs.Columns.{code_of, number_of}
-use Rattle.gtd_records.specs.Vehicles.{IsAscending, IsOrdered, and_code, codes_of, is_zero, items_of, types_listed, named, single}
-use Rattle.gtd_records.specs.Vehicles.{type_of, vehicles_of}
+use Rattle.gtd_records.specs.Columns.{code_of, number_of, IsAscending, IsOrdered, and_code, codes_of, is_zero, items_of}
+use Rattle.gtd_records.specs.Columns.{types_listed, named, single, type_of, vehicles_of}
 use Rattle.gtd_records.specs.declared.vehicles.Vehicles.{Vehicles}
 use Rattle.gtd_records.specs.declared.vehicles.Vehicles.TheVariants.{Every, Only, AllBut}
 use Rattle.gtd_records.specs.declared.vehicles.Version.{Version}

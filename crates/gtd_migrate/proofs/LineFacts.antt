@@ -12,12 +12,11 @@ use Rattle.gtd_core.specs.declared.start.StartParts.{StartParts}
 use Rattle.gtd_core.specs.declared.duration.DurationParts.{DurationParts}
 use Rattle.gtd_core.specs.declared.domain.Op.{Op}
 use Rattle.gtd_core.specs.declared.domain.Op.TheVariants.{Union, Meet, Minus}
-use Rattle.gtd_core.specs.DurationBound.{HasSixDigits}
-use Rattle.gtd_core.specs.StartRanges.{IsStart, IsWithin}
+use Rattle.gtd_core.specs.Ranges.{HasSixDigits, IsStart, IsWithin}
 use Rattle.gtd_core.specs.Trees.{Tree, Single, Joined, AreValid, leaf_count}
-use Rattle.gtd_text.specs.Canonical.{canonical, clock_fields, day_fields, duration_text, field_text, month_fields, number_text}
-use Rattle.gtd_text.specs.Canonical.{numbers_text, or_zero, place_fields, place_text, sign_text, start_text, weekday_text}
-use Rattle.gtd_text.specs.Canonical.{weekdays_text, year_text}
+use Rattle.gtd_text.specs.Canonical.{canonical, clock_fields, day_fields, duration_text, field_text, month_fields}
+use Rattle.gtd_text.specs.Canonical.{number_text, numbers_text, or_zero, place_fields, place_text, sign_text, start_text}
+use Rattle.gtd_text.specs.Canonical.{weekday_text, weekdays_text, year_text}
 
 -- ---- the canonical text of an expression
 

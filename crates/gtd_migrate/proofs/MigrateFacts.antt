@@ -1,6 +1,6 @@
 -- The migrated file of restrictions that were read is a file of just those restrictions.
-use Rattle.std.proofs.Common.{◌≡◌, ◌∙◌, ◌<◌, ◌≤◌, ◌+◌, ◌^◌, ap, refl, sym, subst, arith, inl, inr, cond, ℕ, zero, suc, List, []}
-use Rattle.std.proofs.Common.{◌∷◌, ◌++◌, length, length-append, append_assoc, map, Bool, true, false, Option, Some, None}
+use Rattle.std.proofs.Common.{◌≡◌, ◌∙◌, ◌<◌, ◌≤◌, ◌+◌, ◌^◌, ap, refl, sym, subst, arith, inl, inr, cond, ℕ, zero, suc, List}
+use Rattle.std.proofs.Common.{[], ◌∷◌, ◌++◌, length, length-append, append_assoc, map, Bool, true, false, Option, Some, None}
 use Rattle.std.specs.Prelude.{codes, decimal, flat_map, nat_le, IfSome, MatchOption, Result, Ok, Err, ◌&&◌, ◌||◌, ◌==◌}
 use Rattle.std.specs.Char.{is_ascii_digit}
 use Rattle.std.specs.List.{list_all, list_any}
@@ -20,13 +20,11 @@ use Rattle.gtd_records.specs.facts.FileFacts.{record_count}
 use Rattle.gtd_records.specs.facts.NumberFacts.{number_below}
 use Rattle.gtd_records.specs.facts.OneAnswer.{one_file}
 use Rattle.gtd_records.specs.facts.RowFacts.{full_row}
-use Rattle.gtd_records.specs.Columns.{closed_of, number_of}
+use Rattle.gtd_records.specs.Columns.{closed_of, number_of, Fields, IsOrdered, AreTypesRead, vehicles_of}
 use Rattle.gtd_core.specs.Limits.{most_file_bytes, most_rows}
 use Rattle.gtd_records.specs.File.{AreRecords, IsFile, IsTable, header}
-use Rattle.gtd_records.specs.Restriction.{Restriction}
+use Rattle.gtd_records.specs.Closing.{Restriction}
 use Rattle.gtd_records.specs.Row.{IsDomainColumn, IsFullRow, IsRow, with_domain}
-use Rattle.gtd_records.specs.Table.{Fields}
-use Rattle.gtd_records.specs.Vehicles.{IsOrdered, AreTypesRead, vehicles_of}
 use Rattle.gtd_records.specs.declared.direction.Closed.{Closed}
 use Rattle.gtd_records.specs.declared.direction.Closed.TheVariants.{One, Both}
 use Rattle.gtd_records.specs.declared.direction.Direction.TheVariants.{Positive, Negative}

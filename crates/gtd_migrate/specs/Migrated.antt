@@ -3,12 +3,12 @@
 use Rattle.std.specs.Prelude.{◌++◌, ℕ, List, [], ◌∷◌, map, flat_map, codes, decimal, Option, Some, None}
 use Rattle.gtd_core.specs.Trees.{Tree}
 use Rattle.gtd_text.specs.Canonical.{canonical}
-use Rattle.gtd_records.specs.Restriction.{Restriction}
+use Rattle.gtd_records.specs.Closing.{Restriction}
 use Rattle.gtd_records.specs.declared.direction.Closed.{Closed}
 use Rattle.gtd_records.specs.declared.direction.Closed.TheVariants.{One, Both}
 use Rattle.gtd_records.specs.declared.vehicles.Vehicles.{Vehicles}
 use Rattle.gtd_records.specs.declared.vehicles.Vehicles.TheVariants.{Every, Only, AllBut}
-use Rattle.gtd_runs.specs.DirectionWords.{direction_word}
+use Rattle.gtd_runs.specs.Putting.{direction_word}
 
 -- the header line
 abbrev pub header_line : List ℕ

@@ -7,7 +7,7 @@ use Rattle.std.specs.Prelude.{◌≡◌, ℕ, List, Option, IfSome, Result, Ok, 
 use Rattle.std.specs.Io.KnownBytes.{Keeps}
 use Rattle.gtd_migrate.specs.Migrated.{migrated}
 use Rattle.gtd_records.specs.File.{IsFile}
-use Rattle.gtd_records.specs.Restriction.{Restriction}
+use Rattle.gtd_records.specs.Closing.{Restriction}
 use Rattle.gtd_records.specs.declared.fault.RecordFault.{RecordFault}
 use Rattle.gtd_runs.specs.Run.{IsUnhindered, PutsWhole}
 use Rattle.gtd_runs.specs.declared.fault.RunFault.{RunFault}

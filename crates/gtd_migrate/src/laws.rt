@@ -3,9 +3,8 @@
 ghost use Rattle.std.specs.Prelude.{◌≡◌, ◌≤◌, ◌==◌, ◌↔◌, ℕ, ℤ, false, List, length, Ok};
 ghost use Rattle.std.specs.List.{list_any};
 ghost use Rattle.gtd_core.specs.Limits.{most_file_bytes};
-ghost use Rattle.gtd_records.specs.Closing.{AreElements, IsClosed, IsOpen};
+ghost use Rattle.gtd_records.specs.Closing.{AreElements, IsClosed, IsOpen, Restriction};
 ghost use Rattle.gtd_records.specs.File.{IsFile};
-ghost use Rattle.gtd_records.specs.Restriction.{Restriction};
 ghost use Rattle.gtd_records.specs.declared.direction.Direction.{Direction};
 ghost use Rattle.gtd_runs.specs.Putting.{text_of};
 ghost use Rattle.gtd_migrate.specs.Migrated.{migrated};

@@ -2,7 +2,7 @@
 
 ghost use Rattle.std.specs.Prelude.{◌≡◌, ◌<◌, ◌≤◌, ⊤, None, length, map, IsErrOf, IsTrue, List, OnOk};
 ghost use Rattle.gtd_core.specs.Limits.{most_rows};
-ghost use Rattle.gtd_records.specs.Restriction.{Restriction};
+ghost use Rattle.gtd_records.specs.Closing.{Restriction};
 ghost use Rattle.gtd_runs.specs.Putting.{Puts, failures_after_stop};
 ghost use Rattle.gtd_runs.specs.Run.{HasRun, failures_after_read, failures_after_write};
 ghost use Rattle.gtd_migrate.specs.Migrated.{migrated, row_line};

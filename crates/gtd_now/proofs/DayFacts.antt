@@ -5,7 +5,7 @@ use Rattle.std.proofs.lemmas.Int.{ints}
 use Rattle.gtd_calendar.specs.facts.ClockLemmas.{second-parts}
 use Rattle.gtd_calendar.specs.Calendar.{IsCalendarDay}
 use Rattle.gtd_calendar.specs.Clock.{second_of_day}
-use Rattle.gtd_core.specs.Days.{day_of_second, IsHorizonSecond}
+use Rattle.gtd_core.specs.Seconds.{day_of_second, IsHorizonSecond}
 use Rattle.gtd_now.specs.Now.{IsLookEnd}
 
 within : (t n first last : ℤ) (k : ℕ) → IsHorizonSecond t → t ≡ pos 86400 *ℤ n +ℤ pos k → k < 86400 → first ≡ n → IsLookEnd n last

@@ -1,13 +1,12 @@
 -- What is said of a moment is one text, in parts.
-use Rattle.std.proofs.Common.{◌≡◌, ◌∙◌, sym, ap, refl, subst, arith, inl, inr, ◌↔◌, ℕ, Bool, true, false}
-use Rattle.std.proofs.Common.{List, [], ◌∷◌, ◌++◌, Option, Some, None}
+use Rattle.std.proofs.Common.{◌≡◌, ◌∙◌, sym, ap, refl, subst, arith, inl, inr, ◌↔◌, ℕ, Bool, true, false, List, [], ◌∷◌, ◌++◌}
+use Rattle.std.proofs.Common.{Option, Some, None}
 use Rattle.std.specs.Prelude.{ℤ, pos, ◌*ℤ◌, IsTrue, MatchOption}
 use Rattle.std.proofs.lemmas.Int.{ints, by_lt_z}
-use Rattle.gtd_core.specs.Days.{day_of_second}
+use Rattle.gtd_core.specs.Seconds.{day_of_second}
 use Rattle.gtd_records.specs.facts.Rising.{one_list}
-use Rattle.gtd_records.specs.Closing.{AreElements, IsOpen}
+use Rattle.gtd_records.specs.Closing.{AreElements, IsOpen, Restriction}
 use Rattle.gtd_records.specs.ClosingRows.{AreClosingRows}
-use Rattle.gtd_records.specs.Restriction.{Restriction}
 use Rattle.gtd_records.specs.declared.direction.Direction.{Direction}
 use Rattle.gtd_records.specs.declared.direction.Direction.TheVariants.{Positive, Negative}
 use Rattle.gtd_schedule.specs.facts.ScheduleFacts.{one_elements}

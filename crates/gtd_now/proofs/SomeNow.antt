@@ -1,18 +1,17 @@
 -- Restrictions have a text of each moment.
-use Rattle.std.proofs.Common.{◌≡◌, sym, refl, subst, arith, ◌<◌, ◌+◌, ◌⊎◌, inl, inr, ◌↔◌, ℕ, zero, suc}
-use Rattle.std.proofs.Common.{List, [], ◌∷◌, ◌++◌, length, Option, Some, None}
+use Rattle.std.proofs.Common.{◌≡◌, sym, refl, subst, arith, ◌<◌, ◌+◌, ◌⊎◌, inl, inr, ◌↔◌, ℕ, zero, suc, List, [], ◌∷◌, ◌++◌}
+use Rattle.std.proofs.Common.{length, Option, Some, None}
 use Rattle.std.specs.Prelude.{ℤ, pos, ◌+ℤ◌, ◌-ℤ◌, ◌*ℤ◌, negsuc, ◌≤ℤ◌, ◌<ℤ◌, MatchOption, slice_index_or}
 use Rattle.std.proofs.lemmas.Int.{ints, by_lt_z}
 use Rattle.std.proofs.lemmas.Map.Keys.{IsStrictlyIncreasing-from_sorted}
 use Rattle.gtd_core.specs.Limits.{horizons_end, most_horizon_days}
-use Rattle.gtd_core.specs.Days.{day_of_second, IsHorizonSecond}
+use Rattle.gtd_core.specs.Seconds.{day_of_second, IsHorizonSecond}
 use Rattle.gtd_now.proofs.DayFacts.{looks_at}
 use Rattle.gtd_records.specs.facts.OpenDecisions.{closes, open_or_not}
 use Rattle.gtd_records.specs.facts.Rising.{AllAbove, In, Rises, from_in, to_in}
 use Rattle.gtd_core.specs.facts.Deciding.{Decided}
-use Rattle.gtd_records.specs.Closing.{Closes, IsOpen}
+use Rattle.gtd_records.specs.Closing.{Closes, IsOpen, Restriction}
 use Rattle.gtd_records.specs.ClosingRows.{AreClosingRows}
-use Rattle.gtd_records.specs.Restriction.{Restriction}
 use Rattle.gtd_records.specs.declared.direction.Direction.{Direction}
 use Rattle.gtd_records.specs.declared.direction.Direction.TheVariants.{Positive, Negative}
 use Rattle.gtd_schedule.specs.facts.SomeSchedule.{some_elements, sorted}

@@ -1,16 +1,15 @@
 -- The state of road elements at a moment: whether each is open or closed, until when, and which rows close it. A line has
 -- its end: the LF is its last byte.
-use Rattle.std.specs.Prelude.{◌≡◌, ◌++◌, ◌⊎◌, ℕ, ℤ, pos, ◌+ℤ◌, ◌*ℤ◌, ◌≤ℤ◌, ◌<ℤ◌, ◌↔◌, Bool, true, false, IsTrue, List, [], ◌∷◌}
-use Rattle.std.specs.Prelude.{Option, Some, None, MatchOption, flat_map, codes, decimal}
-use Rattle.gtd_core.specs.Limits.{horizons_end, most_horizon_days}
+use Rattle.std.specs.Prelude.{◌≡◌, ◌++◌, ◌⊎◌, ℕ, ℤ, pos, ◌+ℤ◌, ◌*ℤ◌, ◌≤ℤ◌, ◌<ℤ◌, ◌↔◌, Bool, true, false, IsTrue, List, []}
+use Rattle.std.specs.Prelude.{◌∷◌, Option, Some, None, MatchOption, flat_map, codes, decimal}
+use Rattle.gtd_core.specs.Limits.{day_seconds, horizons_end, most_horizon_days}
 use Rattle.gtd_calendar.specs.Stamp.{stamp_text}
-use Rattle.gtd_core.specs.Days.{day_of_second}
-use Rattle.gtd_records.specs.Closing.{AreElements, IsOpen}
+use Rattle.gtd_core.specs.Seconds.{day_of_second}
+use Rattle.gtd_records.specs.Closing.{AreElements, IsOpen, Restriction}
 use Rattle.gtd_records.specs.ClosingRows.{AreClosingRows}
-use Rattle.gtd_records.specs.Restriction.{Restriction}
 use Rattle.gtd_records.specs.declared.direction.Direction.{Direction}
 use Rattle.gtd_records.specs.declared.direction.Direction.TheVariants.{Positive, Negative}
-use Rattle.gtd_runs.specs.DirectionWords.{direction_word}
+use Rattle.gtd_runs.specs.Putting.{direction_word}
 use Rattle.gtd_spans.specs.Change.{IsNextChange, NeverChanges}
 
 -- the header line
@@ -54,8 +53,8 @@ module _ (found : List Restriction) (vehicle : ℕ) (second : ℤ) where
     pub last : ℤ
     pub ends : IsLookEnd (day_of_second second) last
     pub change : Option ℤ
-    pub until : MatchOption change (NeverChanges (IsOpen found element direction vehicle) second (last *ℤ pos 86400))
-        (λ c. IsNextChange (IsOpen found element direction vehicle) second (last *ℤ pos 86400) c)
+    pub until : MatchOption change (NeverChanges (IsOpen found element direction vehicle) second (last *ℤ pos day_seconds))
+        (λ c. IsNextChange (IsOpen found element direction vehicle) second (last *ℤ pos day_seconds) c)
     pub rows : List ℕ
     pub closing : AreClosingRows found element direction vehicle second rows
     pub whole : line ≡ state_line element direction vehicle is_open change rows

@@ -1,12 +1,12 @@
 //! When the state of an element changes.
 
 ghost use Rattle.std.specs.Prelude.{◌≡◌, ◌*ℤ◌, pos, ℤ, IfOk, MatchOption};
-ghost use Rattle.gtd_core.specs.Days.{day_of_second, IsHorizonSecond};
-ghost use Rattle.gtd_core.specs.Interval.{Within};
+ghost use Rattle.gtd_core.specs.Seconds.{day_of_second, IsHorizonSecond, Within};
 ghost use Rattle.gtd_core.specs.Whole.{from_day, to_day, whole};
 ghost use Rattle.gtd_records.specs.Closing.{IsOpen};
 ghost use Rattle.gtd_spans.specs.Change.{IsNextChange, NeverChanges};
 ghost use Rattle.gtd_now.specs.Now.{IsLookEnd};
+ghost use Rattle.gtd_core.specs.Limits.{day_seconds};
 
 use gtd_core::limits::{HORIZONS_END, MOST_HORIZON_DAYS};
 use gtd_core::{Horizon, Sec};
@@ -15,7 +15,7 @@ use std::alloc::{AllocError, Global};
 
 // The day before which a change is looked for, from a day on.
 fn look_end(day: i64) -> i64
-    requires { IsHorizonSecond (day *ℤ pos 86400) }
+    requires { IsHorizonSecond (day *ℤ pos day_seconds) }
     ensures { IsLookEnd day result }
 {
     let last = day + MOST_HORIZON_DAYS;
@@ -69,8 +69,8 @@ pub(crate) fn change_of(
 ) -> Result<Option<Sec>, AllocError>
     requires in_range { IsHorizonSecond second.0 }
     ensures change { IfOk result (λ change. (last : ℤ) × IsLookEnd (day_of_second second.0) last × MatchOption change
-        (NeverChanges (IsOpen found.now element direction vehicle) second.0 (last *ℤ pos 86400))
-        (λ c. IsNextChange (IsOpen found.now element direction vehicle) second.0 (last *ℤ pos 86400) c.0)) }
+        (NeverChanges (IsOpen found.now element direction vehicle) second.0 (last *ℤ pos day_seconds))
+        (λ c. IsNextChange (IsOpen found.now element direction vehicle) second.0 (last *ℤ pos day_seconds) c.0)) }
 {
     change_in(
         alloc,

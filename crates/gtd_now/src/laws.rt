@@ -1,8 +1,8 @@
 //! Laws of the definitions: calls that do nothing, and whose contracts are what is proved.
 
 ghost use Rattle.std.specs.Prelude.{◌≡◌, ℕ, ℤ, List};
-ghost use Rattle.gtd_core.specs.Days.{IsHorizonSecond};
-ghost use Rattle.gtd_records.specs.Restriction.{Restriction};
+ghost use Rattle.gtd_core.specs.Seconds.{IsHorizonSecond};
+ghost use Rattle.gtd_records.specs.Closing.{Restriction};
 ghost use Rattle.gtd_now.specs.Now.{IsNow};
 
 /// Of given restrictions one text at most is to be put, for a vehicle type and a moment.

@@ -3,7 +3,7 @@
 ghost use Rattle.std.specs.Prelude.{[], ◌∷◌, ◌≡◌, ◌+◌, ◌*◌, ◌++◌, ◌≤◌, ℤ, ⊤, length, IfOk, OnOk, MatchOption};
 ghost use Rattle.gtd_core.specs.Limits.{most_rows};
 ghost use Rattle.gtd_calendar.specs.Calendar.{IsCalendarDay};
-ghost use Rattle.gtd_core.specs.Days.{day_of_second, IsHorizonSecond};
+ghost use Rattle.gtd_core.specs.Seconds.{day_of_second, IsHorizonSecond};
 ghost use Rattle.gtd_now.specs.Lines.{line_head, most_state_bytes, none_closes, second_of};
 ghost use Rattle.gtd_now.specs.Now.{IsLine, change_text, rows_text, state_line, state_word};
 

@@ -2,7 +2,7 @@
 
 ghost use Rattle.std.specs.Prelude.{◌≡◌, ◌+◌, ◌*◌, ◌<◌, ◌≤◌, ◌^◌, length, IsTrue, OnOk};
 ghost use Rattle.gtd_core.specs.Limits.{most_rows};
-ghost use Rattle.gtd_core.specs.Days.{IsHorizonSecond};
+ghost use Rattle.gtd_core.specs.Seconds.{IsHorizonSecond};
 ghost use Rattle.gtd_runs.specs.Putting.{PutsText, failures_after_stop, nothing_put};
 ghost use Rattle.gtd_now.specs.Lines.{most_state_bytes};
 ghost use Rattle.gtd_now.specs.Now.{AreElementLines, AreLines, AreLinesOf, IsNow};

@@ -1,26 +1,59 @@
-//! The schedule of the record file that an input brings, put to an output.
+//! The state of the road elements of the record file that an input brings, put to an output.
 
-ghost use Rattle.std.specs.Prelude.{◌≡◌, ◌<◌, ◌↔◌, ⊤, IsErrOf, IsTrue, List, OnOk};
-ghost use Rattle.gtd_core.specs.Days.{IsHorizonSecond};
-ghost use Rattle.gtd_records.specs.Restriction.{Restriction};
-ghost use Rattle.gtd_runs.specs.Run.{AcceptedFilesArePut, HasRun, RefusedFilesPutNothing};
+ghost use Rattle.std.specs.Prelude.{◌≡◌, ◌<◌, ◌↔◌, ⊤, None, Some, IsErrOf, IsTrue, List, OnOk};
+ghost use Rattle.gtd_core.specs.Seconds.{IsHorizonSecond};
+ghost use Rattle.gtd_records.specs.Closing.{Restriction};
+ghost use Rattle.gtd_runs.specs.Run.{AcceptedFilesArePut, HasRun, RefusedFilesPutNothing, failures_after_read};
+ghost use Rattle.gtd_runs.specs.Run.{failures_after_write};
 ghost use Rattle.gtd_runs.specs.Subjects.{IsVehicleType};
-ghost use Rattle.gtd_runs.specs.Run.{failures_after_read, failures_after_write};
 ghost use Rattle.gtd_now.specs.Now.{IsNow};
 
 use crate::now::put_now;
 use gtd_core::Sec;
 use gtd_devices::{Input, Output};
-use gtd_records::{RecordFault, read_records};
-use gtd_runs::{Progress, RunFault};
+use gtd_records::{RecordFault, Records};
+use gtd_runs::{Progress, Report, RunFault, Stop, Subject, run_report};
 use std::alloc::Global;
 
-/// Puts the schedule of the record file that an input brings: over the days of the horizon, for a vehicle type from 1 to
-/// 99. Answers the number of its lines, the header included.
+/// The state of each element and direction at a second of the days of horizons, for a vehicle type.
+#[derive(Clone, Copy)]
+struct State {
+    vehicle: u8,
+    second: Sec,
+    ghost in_range: { IsHorizonSecond second.0 },
+}
+
+impl Report for State {
+    ghost subject = { λ report. record { vehicle = Some report.vehicle; year = None; element = None } };
+
+    ghost is_text = { λ report found lines. IsNow found report.vehicle report.second.0 lines };
+
+    fn subject(&self) -> Subject {
+        Subject {
+            vehicle: Some(self.vehicle),
+            year: None,
+            element: None,
+        }
+    }
+
+    fn put<O: Output>(
+        &self,
+        alloc: Global,
+        output: &mut O,
+        progress: &mut Progress,
+        found: &Records,
+    ) -> Result<(), Stop> {
+        put_now(alloc, output, progress, found, self.vehicle, self.second)
+    }
+}
+
+/// Puts the state, at a second, of the road elements of the record file that an input brings, for a vehicle type from 1
+/// to 99: whether each is open in each direction, until when, and which rows close it. Answers the number of lines, the
+/// header included. The caller keeps the second on a day that a horizon may have.
 ///
 /// In order: `VehicleRange`; then the first fault of reading the file (`Records`); then `WriteFault` or `NoMemory`,
-/// whichever happens first. Nothing is put before the whole file was read and accepted. Each span is put as it is found:
-/// no list of them is kept. The caller keeps the failures of both devices under `u64::MAX` before the call.
+/// whichever happens first. Nothing is put before the whole file was read and accepted. The caller keeps the failures of
+/// both devices under `u64::MAX` before the call.
 pub fn run_now<I: Input, O: Output>(
     alloc: Global,
     input: &mut I,
@@ -31,7 +64,7 @@ pub fn run_now<I: Input, O: Output>(
     requires in_range { IsHorizonSecond second.0 }
     requires readable { I.failure_count input.old < u64.MAX }
     requires writable { O.failure_count output.old < u64.MAX }
-    // Accepted files are scheduled: where nothing hinders it, the output took the schedule of the file, and the answer
+    // Accepted files are shown: where nothing hinders it, the output took the state of the file's elements, and the answer
     // is the number of its lines.
     ensures accepted { IsVehicleType vehicle → AcceptedFilesArePut
         (λ found. ⊤) (λ found lines. IsNow found vehicle second.0 lines)
@@ -39,7 +72,7 @@ pub fn run_now<I: Input, O: Output>(
     // Refused files print nothing: where nothing hinders it, the answer is the first fault of the file.
     ensures refused { IsVehicleType vehicle → RefusedFilesPutNothing
         (I.to_come input.old) (O.taken output.old) (O.taken output.new) result }
-    // What stands by each answer: after a failure or a refusal of memory, the first bytes of the same schedule.
+    // What stands by each answer: after a failure or a refusal of memory, the first bytes of the same text.
     ensures stands { HasRun
         (λ found. ⊤) (λ found lines. IsNow found vehicle second.0 lines)
         (I.to_come input.old) (O.taken output.old) (O.taken output.new) result }
@@ -54,14 +87,5 @@ pub fn run_now<I: Input, O: Output>(
     ensures write_faults { O.failure_count output.new
         ≡ failures_after_write result (O.failure_count output.old) }
 {
-    if vehicle == 0 || vehicle > 99 {
-        return Err(RunFault::VehicleRange);
-    }
-    let found = match read_records(alloc, input) {
-        Ok(found) => found,
-        Err(fault) => return Err(RunFault::Records(fault)),
-    };
-    let mut progress = Progress::new();
-    let put = put_now(alloc, output, &mut progress, &found, vehicle, second);
-    progress.answer(put)
+    run_report(alloc, input, output, &State { vehicle, second })
 }

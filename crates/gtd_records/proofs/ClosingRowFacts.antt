@@ -1,14 +1,12 @@
 -- The numbers of the rows that close an element, found place by place.
-use Rattle.std.proofs.Common.{◌≡◌, ◌∙◌, sym, subst, arith, ◌<◌, ◌+◌, inl, inr, ℕ, List, [], ◌∷◌, ◌++◌}
-use Rattle.std.proofs.Common.{length}
+use Rattle.std.proofs.Common.{◌≡◌, ◌∙◌, sym, subst, arith, ◌<◌, ◌+◌, inl, inr, ℕ, List, [], ◌∷◌, ◌++◌, length}
 use Rattle.std.specs.Prelude.{ℤ, slice_index_or}
 use Rattle.std.specs.List.{Contains}
 use Rattle.std.proofs.lemmas.List.Elements.{Contains-append_left, Contains-push, Contains-push_cases}
 use Rattle.gtd_records.specs.facts.IndexFacts.{any_default, by_le, one_record}
-use Rattle.gtd_records.specs.Closing.{Closes}
+use Rattle.gtd_records.specs.Closing.{Closes, Restriction}
 use Rattle.gtd_records.specs.ClosingRows.{AreClosingRows, IsClosingRow}
-use Rattle.gtd_records.specs.Restriction.{Restriction}
-use Rattle.gtd_records.specs.Vehicles.{IsAscending}
+use Rattle.gtd_records.specs.Columns.{IsAscending}
 use Rattle.gtd_records.specs.declared.direction.Direction.{Direction}
 use Rattle.gtd_records.specs.declared.index.Place.{Place}
 

@@ -1,6 +1,6 @@
 -- The records of a text that is cut between two records are those of the one part and then of the other.
-use Rattle.std.proofs.Common.{◌≡◌, ◌∙◌, sym, ap, refl, subst, arith, ◌<◌, ◌+◌, ◌⊎◌, inl, inr, ℕ, zero, suc}
-use Rattle.std.proofs.Common.{false, List, [], ◌∷◌, ◌++◌, length, Option, Some, None}
+use Rattle.std.proofs.Common.{◌≡◌, ◌∙◌, sym, ap, refl, subst, arith, ◌<◌, ◌+◌, ◌⊎◌, inl, inr, ℕ, zero, suc, false, List, []}
+use Rattle.std.proofs.Common.{◌∷◌, ◌++◌, length, Option, Some, None}
 use Rattle.std.proofs.lemmas.Bool.Decides.{nat_tests}
 use Rattle.std.proofs.lemmas.Bool.{cases_Bool}
 use Rattle.csv.specs.Machine.{Read, step, is_end, fields_after, field_after, next_record}
@@ -11,7 +11,8 @@ use Rattle.csv.specs.declared.parser.State.{State}
 use Rattle.csv.specs.declared.parser.State.TheVariants as st
 use Rattle.gtd_records.proofs.TableFacts.{first_then_rest, leaves, none_left, takes}
 use Rattle.gtd_records.specs.Cut.{state_after}
-use Rattle.gtd_records.specs.Table.{Fields, IsBetween, records_after}
+use Rattle.gtd_records.specs.Table.{IsBetween, records_after}
+use Rattle.gtd_records.specs.Columns.{Fields}
 
 abbrev IsComment : State → Type 0
 IsComment s = s ≡ st.InComment

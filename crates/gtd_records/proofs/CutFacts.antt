@@ -1,17 +1,15 @@
 -- An accepted file may be cut between two of its rows: each part, under the header, is accepted.
-use Rattle.std.proofs.Common.{◌≡◌, ◌∙◌, ap, refl, arith, ◌≤◌, ◌+◌, inl, inr, ℕ, List, [], ◌∷◌, ◌++◌, length}
-use Rattle.std.proofs.Common.{length-append, Option, Some, None}
+use Rattle.std.proofs.Common.{◌≡◌, ◌∙◌, ap, refl, arith, ◌≤◌, ◌+◌, inl, inr, ℕ, List, [], ◌∷◌, ◌++◌, length, length-append}
+use Rattle.std.proofs.Common.{Option, Some, None}
 use Rattle.std.specs.Prelude.{MatchOption, Result, Ok, Err}
 use Rattle.gtd_core.specs.Trees.{Tree}
 use Rattle.gtd_core.specs.declared.fault.TextFault.{TextFault}
 use Rattle.gtd_records.specs.facts.OneAnswer.{one_version}
-use Rattle.gtd_records.specs.Columns.{closed_of, number_of}
+use Rattle.gtd_records.specs.Columns.{closed_of, number_of, Fields, IsOrdered, vehicles_of}
 use Rattle.gtd_core.specs.Limits.{most_rows}
 use Rattle.gtd_records.specs.File.{AreRecords, IsSound, IsTable, header}
-use Rattle.gtd_records.specs.Restriction.{Restriction}
+use Rattle.gtd_records.specs.Closing.{Restriction}
 use Rattle.gtd_records.specs.Row.{IsDomainColumn, IsRow, with_domain}
-use Rattle.gtd_records.specs.Table.{Fields}
-use Rattle.gtd_records.specs.Vehicles.{IsOrdered, vehicles_of}
 use Rattle.gtd_records.specs.declared.direction.Closed.{Closed}
 use Rattle.gtd_records.specs.declared.fault.RecordFault.{RecordFault}
 use Rattle.gtd_records.specs.declared.fault.RecordFault.TheVariants as fault

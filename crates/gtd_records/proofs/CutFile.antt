@@ -10,8 +10,9 @@ use Rattle.gtd_records.proofs.CutFacts.{cut}
 use Rattle.gtd_records.specs.Cut.{state_after}
 use Rattle.gtd_core.specs.Limits.{most_file_bytes}
 use Rattle.gtd_records.specs.File.{IsFile, IsTable, header}
-use Rattle.gtd_records.specs.Restriction.{Restriction}
-use Rattle.gtd_records.specs.Table.{Fields, IsBetween}
+use Rattle.gtd_records.specs.Closing.{Restriction}
+use Rattle.gtd_records.specs.Table.{IsBetween}
+use Rattle.gtd_records.specs.Columns.{Fields}
 use Rattle.gtd_records.specs.declared.vehicles.Version.{Version}
 
 strips : (head rest : List ℕ) → 3 ≤ length head → strip_bom (head ++ rest) ≡ strip_bom head ++ rest

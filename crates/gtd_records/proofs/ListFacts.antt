@@ -1,8 +1,9 @@
 -- The codes of a list, item by item.
-use Rattle.std.proofs.Common.{◌≡◌, ◌∙◌, sym, ap, refl, ◌<◌, ◌≤◌, ◌+◌, ℕ, List, [], ◌∷◌, ◌++◌, length, get_or, drop, append_assoc}
+use Rattle.std.proofs.Common.{◌≡◌, ◌∙◌, sym, ap, refl, ◌<◌, ◌≤◌, ◌+◌, ℕ, List, [], ◌∷◌, ◌++◌, length, get_or, drop}
+use Rattle.std.proofs.Common.{append_assoc}
 use Rattle.std.specs.Prelude.{Option, Some, None, option_map}
 use Rattle.std.proofs.lemmas.List.{at_drop_more, at_drop_all, append-nil}
-use Rattle.gtd_records.specs.Vehicles.{and_code, codes_of, type_of}
+use Rattle.gtd_records.specs.Columns.{and_code, codes_of, type_of}
 
 -- codes in front of those of more items
 abbrev pub and_codes : List ℕ → Option (List ℕ) → Option (List ℕ)

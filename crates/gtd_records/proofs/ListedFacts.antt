@@ -1,6 +1,6 @@
 -- Which rows are listed: just those that stand for no restriction.
-use Rattle.std.proofs.Common.{◌≡◌, ◌∙◌, sym, ap, refl, subst, arith, ◌<◌, ◌+◌, inl, inr, ◌↔◌, map, ℕ, zero, suc, List, [], ◌∷◌}
-use Rattle.std.proofs.Common.{length, Option, Some, None}
+use Rattle.std.proofs.Common.{◌≡◌, ◌∙◌, sym, ap, refl, subst, arith, ◌<◌, ◌+◌, inl, inr, ◌↔◌, map, ℕ, zero, suc, List, []}
+use Rattle.std.proofs.Common.{◌∷◌, length, Option, Some, None}
 use Rattle.std.specs.Prelude.{MatchOption, Result, Ok, Err, slice_index_or}
 use Rattle.std.specs.List.{Contains}
 use Rattle.gtd_core.specs.Trees.{Tree}
@@ -9,12 +9,10 @@ use Rattle.gtd_text.specs.facts.OneMeaning.{one_meaning}
 use Rattle.gtd_text.specs.facts.ReadingLaws.{one_fault}
 use Rattle.gtd_records.specs.facts.OneAnswer.{one_row}
 use Rattle.gtd_records.specs.facts.Rising.{In, from_in, to_in}
-use Rattle.gtd_records.specs.Columns.{closed_of, number_of}
+use Rattle.gtd_records.specs.Columns.{closed_of, number_of, Fields, IsOrdered, vehicles_of}
 use Rattle.gtd_records.specs.Faults.{AreRowFaults, IsFaultyRow, row_number, with_fault}
-use Rattle.gtd_records.specs.Restriction.{Restriction}
+use Rattle.gtd_records.specs.Closing.{Restriction}
 use Rattle.gtd_records.specs.Row.{IsDomainColumn, IsRow, with_domain}
-use Rattle.gtd_records.specs.Table.{Fields}
-use Rattle.gtd_records.specs.Vehicles.{IsOrdered, vehicles_of}
 use Rattle.gtd_records.specs.declared.direction.Closed.{Closed}
 use Rattle.gtd_records.specs.declared.fault.RecordFault.{RecordFault}
 use Rattle.gtd_records.specs.declared.fault.RecordFault.TheVariants as fault

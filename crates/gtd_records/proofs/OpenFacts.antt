@@ -1,17 +1,16 @@
 -- The cursors of the restrictions that close an element.
 use Rattle.std.proofs.Common.{◌≡◌, ◌∙◌, sym, ap, subst, ◌<◌, ◌+◌, ◌⊎◌, inl, inr, ◌↔◌, ℕ, List, [], ◌∷◌, ◌++◌, length, arith}
 use Rattle.std.specs.Prelude.{Any, slice_index_or, ℤ, Result, Ok, Err, IfOk}
-use Rattle.gtd_core.specs.Interval.{Interval, Within}
+use Rattle.gtd_core.specs.Seconds.{Interval, Within}
 use Rattle.gtd_core.specs.Whole.{whole}
 use Rattle.gtd_core.specs.declared.horizon.Horizon.{Horizon}
 use Rattle.gtd_eval.specs.Cursors.{SomeHolds, cursor_list}
-use Rattle.gtd_eval.specs.NormalOver.{IsNormalOver}
+use Rattle.gtd_eval.specs.Membership.{IsNormalOver}
 use Rattle.gtd_eval.specs.declared.cursor.Cursor.{Cursor}
 use Rattle.gtd_spans.specs.Normal.{Holds, IsNormal}
 use Rattle.gtd_spans.specs.facts.NormalFor.{normal-for}
 use Rattle.gtd_records.specs.facts.IndexFacts.{any_default, by_le, one_record}
-use Rattle.gtd_records.specs.Closing.{Closes, Concerns, HoldsAt, IsClosed, IsOpen}
-use Rattle.gtd_records.specs.Restriction.{Restriction}
+use Rattle.gtd_records.specs.Closing.{Closes, Concerns, HoldsAt, IsClosed, IsOpen, Restriction}
 use Rattle.gtd_records.specs.declared.index.Place.{Place}
 use Rattle.gtd_records.specs.declared.direction.Direction.{Direction}
 

@@ -2,9 +2,8 @@
 use Rattle.std.proofs.Common.{◌≡◌, ◌≢◌, ◌≤◌, inl, subst, ℕ, List, length}
 use Rattle.std.specs.Prelude.{Option, Some, None, IfSome, Result, Ok, Err, MatchResult}
 use Rattle.csv.specs.Reading.{default_config, records, strip_bom}
-use Rattle.gtd_records.specs.File.{IsFile, IsTable}
-use Rattle.gtd_records.specs.Reading.{IsOfFile}
-use Rattle.gtd_records.specs.Restriction.{Restriction}
+use Rattle.gtd_records.specs.File.{IsFile, IsTable, IsOfFile}
+use Rattle.gtd_records.specs.Closing.{Restriction}
 use Rattle.gtd_records.specs.declared.fault.RecordFault.{RecordFault}
 use Rattle.gtd_records.specs.declared.fault.RecordFault.TheVariants as fault
 

@@ -10,7 +10,8 @@ use Rattle.csv.specs.declared.reader.Trim.TheVariants as trim
 use Rattle.csv.proofs.ReadFacts.{rows-end}
 use Rattle.csv.specs.declared.parser.State.{State}
 use Rattle.csv.specs.declared.parser.State.TheVariants as st
-use Rattle.gtd_records.specs.Table.{Fields, HasLeft, IsBetween, TakesFirst, records_after}
+use Rattle.gtd_records.specs.Table.{HasLeft, IsBetween, TakesFirst, records_after}
+use Rattle.gtd_records.specs.Columns.{Fields}
 
 -- a byte that ends a record leaves the reader between two
 ends_field : (c : ℕ) → is_end (in_field default_config c).1 ≡ true → IsBetween (in_field default_config c).0

@@ -1,15 +1,22 @@
--- When a road element is closed, and when it is open. Its directions are those of GDF (ISO 14825:2004): the positive one
--- goes from its From node to its To node.
-use Rattle.std.specs.Prelude.{◌≡◌, ℕ, ℤ, List, Any, Option, Some, None, ⊤, ◌↔◌}
+-- What a restriction is, and when it closes a road element.
+use Rattle.std.specs.Prelude.{ℕ, Option, ◌≡◌, ℤ, List, Any, Some, None, ⊤, ◌↔◌}
+use Rattle.gtd_core.specs.Trees.{Tree}
+use Rattle.gtd_records.specs.declared.direction.Closed.{Closed}
+use Rattle.gtd_records.specs.declared.vehicles.Vehicles.{Vehicles}
 use Rattle.std.specs.List.{Contains}
 use Rattle.std.specs.List.Sorted.{IsStrictlyIncreasing}
-use Rattle.gtd_core.specs.Trees.{Tree}
 use Rattle.gtd_eval.specs.Membership.{InTree}
-use Rattle.gtd_records.specs.Restriction.{Restriction}
-use Rattle.gtd_records.specs.Vehicles.{Serves}
-use Rattle.gtd_records.specs.declared.direction.Closed.{Closed}
+use Rattle.gtd_records.specs.Columns.{Serves}
 use Rattle.gtd_records.specs.declared.direction.Closed.TheVariants.{One, Both}
 use Rattle.gtd_records.specs.declared.direction.Direction.{Direction}
+
+-- The element, in which direction it is closed, for which vehicle types, and at the seconds of which expression: at all
+-- seconds where none is given.
+pub record Restriction : Type 0 where
+  pub element : ℕ
+  pub closed : Closed
+  pub vehicles : Vehicles
+  pub domain : Option Tree
 
 -- what is closed has this direction
 abbrev pub ClosesDirection : Closed → Direction → Type 0

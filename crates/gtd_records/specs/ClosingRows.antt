@@ -2,8 +2,7 @@
 use Rattle.std.specs.Prelude.{◌≡◌, ◌<◌, ◌+◌, ◌↔◌, ℕ, ℤ, List, length, slice_index_or}
 use Rattle.std.specs.List.{Contains}
 use Rattle.std.specs.List.Sorted.{IsStrictlyIncreasing}
-use Rattle.gtd_records.specs.Closing.{Closes}
-use Rattle.gtd_records.specs.Restriction.{Restriction}
+use Rattle.gtd_records.specs.Closing.{Closes, Restriction}
 use Rattle.gtd_records.specs.declared.direction.Direction.{Direction}
 
 module _ (found : List Restriction) (element : ℕ) (direction : Direction) (vehicle : ℕ) (second : ℤ) where

@@ -1,14 +1,28 @@
 -- What a record file is: its restrictions, or its first fault.
-use Rattle.std.specs.Prelude.{◌≡◌, ◌<◌, ◌≤◌, ◌⊎◌, ℕ, ◌+◌, List, [], ◌∷◌, ◌++◌, length, codes, Result, Ok, Err}
+use Rattle.std.specs.Prelude.{◌≡◌, ◌<◌, ◌≤◌, ◌⊎◌, ℕ, ◌+◌, List, [], ◌∷◌, ◌++◌, length, codes, Result, Ok, Err, ⊤}
 use Rattle.gtd_core.specs.Limits.{most_rows, most_file_bytes}
 use Rattle.csv.specs.Reading.{default_config, records, strip_bom}
-use Rattle.gtd_records.specs.Restriction.{Restriction}
+use Rattle.gtd_records.specs.Closing.{Restriction}
 use Rattle.gtd_records.specs.Row.{IsRow}
-use Rattle.gtd_records.specs.Table.{Fields}
+use Rattle.gtd_records.specs.Columns.{Fields}
 use Rattle.gtd_records.specs.declared.fault.RecordFault.{RecordFault}
 use Rattle.gtd_records.specs.declared.fault.RecordFault.TheVariants as fault
 use Rattle.gtd_records.specs.declared.vehicles.Version.{Version}
 use Rattle.gtd_records.specs.declared.vehicles.Version.TheVariants as version
+
+-- the fault is of the file, and not of the device or of memory
+abbrev pub IsOfFile : RecordFault → Type 0
+IsOfFile fault.ReadFault = ⊥
+IsOfFile fault.Endless = ⊥
+IsOfFile fault.NoMemory = ⊥
+IsOfFile fault.TooLarge = ⊤
+IsOfFile fault.Header = ⊤
+IsOfFile (fault.FieldCount row) = ⊤
+IsOfFile (fault.Element row) = ⊤
+IsOfFile (fault.Direction row) = ⊤
+IsOfFile (fault.Vehicle row) = ⊤
+IsOfFile (fault.Domain row why) = ⊤
+IsOfFile fault.TooManyRows = ⊤
 
 -- the word over the third column
 abbrev pub vehicles_word : Version → List ℕ

@@ -3,13 +3,12 @@ use Rattle.std.specs.Prelude.{◌≡◌, ◌<◌, ◌≤◌, ◌+◌, ℕ, ℤ, 
 use Rattle.std.specs.List.{All, Contains}
 use Rattle.std.specs.List.Sorted.{IsNonDecreasingBy}
 use Rattle.gtd_core.specs.Limits.{most_rows, most_nodes}
-use Rattle.gtd_core.specs.Interval.{Within}
+use Rattle.gtd_core.specs.Seconds.{Within}
 use Rattle.gtd_core.specs.Whole.{whole}
 use Rattle.gtd_core.specs.declared.horizon.Horizon.{Horizon}
 use Rattle.gtd_eval.specs.Cursors.{SomeHolds, total_nodes}
 use Rattle.gtd_eval.specs.declared.cursor.Cursor.{Cursor}
-use Rattle.gtd_records.specs.Closing.{AreElements, IsClosed, IsOpen}
-use Rattle.gtd_records.specs.Restriction.{Restriction}
+use Rattle.gtd_records.specs.Closing.{AreElements, IsClosed, IsOpen, Restriction}
 use Rattle.gtd_records.specs.declared.direction.Direction.{Direction}
 use Rattle.gtd_records.specs.declared.index.Place.{Place}
 

@@ -5,10 +5,8 @@ use Rattle.gtd_core.specs.Trees.{Tree}
 use Rattle.gtd_core.specs.declared.domain.Domain.{Domain}
 use Rattle.gtd_core.specs.declared.fault.TextFault.{TextFault}
 use Rattle.gtd_text.specs.Reading.{StandsFor, HasNoFault, IsFault}
-use Rattle.gtd_records.specs.Columns.{number_of, closed_of}
-use Rattle.gtd_records.specs.Restriction.{Restriction}
-use Rattle.gtd_records.specs.Table.{Fields}
-use Rattle.gtd_records.specs.Vehicles.{IsOrdered, vehicles_of}
+use Rattle.gtd_records.specs.Columns.{number_of, closed_of, Fields, IsOrdered, vehicles_of}
+use Rattle.gtd_records.specs.Closing.{Restriction}
 use Rattle.gtd_records.specs.declared.direction.Closed.{Closed}
 use Rattle.gtd_records.specs.declared.fault.RecordFault.{RecordFault}
 use Rattle.gtd_records.specs.declared.fault.RecordFault.TheVariants as fault

@@ -6,9 +6,10 @@ ghost use Rattle.csv.specs.Reading.{default_config, records, strip_bom};
 ghost use Rattle.csv.specs.Records.{fields_of};
 ghost use Rattle.gtd_records.specs.Faults.{AreFaults, AreFileFaults, AreTableFaults};
 ghost use Rattle.gtd_devices.specs.WholeInput.{failures_after_whole};
-ghost use Rattle.gtd_records.specs.Restriction.{Restriction};
+ghost use Rattle.gtd_records.specs.Closing.{Restriction};
 ghost use Rattle.gtd_records.specs.Row.{IsRow};
-ghost use Rattle.gtd_records.specs.Table.{Fields, HasLeft};
+ghost use Rattle.gtd_records.specs.Table.{HasLeft};
+ghost use Rattle.gtd_records.specs.Columns.{Fields};
 
 use crate::fault::RecordFault;
 use crate::file::version_of;

@@ -4,11 +4,11 @@ ghost use Rattle.std.specs.Prelude.{◌≡◌, ◌↔◌, ◌<◌, ◌≤◌, �
 ghost use Rattle.std.specs.List.{AllWithin};
 ghost use Rattle.std.specs.List.Sorted.{IsNonDecreasingBy, IsStrictlyIncreasing};
 ghost use Rattle.gtd_core.specs.Limits.{most_rows};
-ghost use Rattle.gtd_core.specs.Days.{IsHorizonSecond};
+ghost use Rattle.gtd_core.specs.Seconds.{IsHorizonSecond};
 ghost use Rattle.gtd_records.specs.Closing.{AreElements, IsClosed};
 ghost use Rattle.gtd_records.specs.ClosingRows.{AreClosingRows};
 ghost use Rattle.gtd_records.specs.Index.{AreClosing, ArePlaces};
-ghost use Rattle.gtd_records.specs.Vehicles.{IsAscending};
+ghost use Rattle.gtd_records.specs.Columns.{IsAscending};
 
 use crate::direction::Direction;
 use crate::record::Record;
@@ -38,7 +38,7 @@ impl Model for Records {
     ghost use Rattle.std.specs.Prelude.{List};
     ghost use Rattle.std.specs.Coded.{coded_list};
     ghost use Rattle.gtd_records.specs.Index.{IsIndexed};
-    ghost use Rattle.gtd_records.specs.Restriction.{Restriction};
+    ghost use Rattle.gtd_records.specs.Closing.{Restriction};
     ghost use Rattle.gtd_records.specs.facts.RestrictionCode.{restriction_code};
 
     ghost Value = { List Restriction };

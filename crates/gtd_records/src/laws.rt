@@ -8,8 +8,9 @@ ghost use Rattle.gtd_records.specs.Cut.{state_after};
 ghost use Rattle.gtd_records.specs.Faults.{AreFileFaults, AreRowFaults, IsFaultyRow, row_number};
 ghost use Rattle.gtd_core.specs.Limits.{most_rows};
 ghost use Rattle.gtd_records.specs.File.{IsFile, IsTable, header};
-ghost use Rattle.gtd_records.specs.Restriction.{Restriction};
-ghost use Rattle.gtd_records.specs.Table.{Fields, IsBetween};
+ghost use Rattle.gtd_records.specs.Closing.{Restriction};
+ghost use Rattle.gtd_records.specs.Table.{IsBetween};
+ghost use Rattle.gtd_records.specs.Columns.{Fields};
 ghost use Rattle.gtd_records.specs.declared.fault.RecordFault.{RecordFault};
 ghost use Rattle.gtd_records.specs.declared.vehicles.Version.{Version};
 

@@ -1,9 +1,8 @@
 //! One restriction record.
 
 ghost use Rattle.std.specs.Prelude.{◌↔◌, ◌≤◌, ℤ, IfOk, IsTrue};
-ghost use Rattle.gtd_core.specs.Interval.{Within};
+ghost use Rattle.gtd_core.specs.Seconds.{Within, IsHorizonSecond};
 ghost use Rattle.gtd_core.specs.Whole.{whole};
-ghost use Rattle.gtd_core.specs.Days.{IsHorizonSecond};
 ghost use Rattle.gtd_eval.specs.Cursors.{cursor_list, cursor_nodes};
 ghost use Rattle.gtd_records.specs.Closing.{Closes, Concerns, HoldsAt};
 ghost use Rattle.gtd_spans.specs.Normal.{Holds};
@@ -31,7 +30,7 @@ pub struct Record {
 impl Model for Record {
     ghost use Rattle.std.specs.Prelude.{option_map};
     ghost use Rattle.gtd_core.specs.Parts.{domain_tree};
-    ghost use Rattle.gtd_records.specs.Restriction.{Restriction};
+    ghost use Rattle.gtd_records.specs.Closing.{Restriction};
     ghost use Rattle.gtd_records.specs.facts.RestrictionCode.{restriction_code};
 
     ghost Value = { Restriction };

@@ -2,7 +2,7 @@
 
 ghost use Rattle.std.specs.Prelude.{IfOk};
 ghost use Rattle.gtd_eval.specs.Cursors.{cursor_list};
-ghost use Rattle.gtd_eval.specs.NormalOver.{IsNormalOver};
+ghost use Rattle.gtd_eval.specs.Membership.{IsNormalOver};
 ghost use Rattle.gtd_records.specs.Closing.{IsOpen};
 ghost use Rattle.gtd_records.specs.Index.{AreClosing};
 

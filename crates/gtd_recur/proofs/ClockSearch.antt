@@ -1,12 +1,13 @@
 -- What a clock shows, and the first time from a second on that it shows it.
-use Rattle.std.proofs.Common.{◌≡◌, ℕ, ◌+◌, ◌*◌, ◌/◌, ◌%◌, ◌<◌, ◌≤◌, Bool, true, false, Option, Some, None, refl, sym, ◌∙◌, arith}
-use Rattle.std.proofs.Common.{is_some, ◌||◌, ◌==◌, ◌⊎◌, inl, inr}
+use Rattle.std.proofs.Common.{◌≡◌, ℕ, ◌+◌, ◌*◌, ◌/◌, ◌%◌, ◌<◌, ◌≤◌, Bool, true, false, Option, Some, None, refl, sym, ◌∙◌}
+use Rattle.std.proofs.Common.{arith, is_some, ◌||◌, ◌==◌, ◌⊎◌, inl, inr}
 use Rattle.std.proofs.lemmas.Bool.{and_parts, and_from, both_ways, false_from_ne_true, eqb-true, eq-eqb, cases_lt}
 use Rattle.std.specs.Option.{unwrap_or}
-use Rattle.gtd_core.specs.StartRanges.{IsWithin}
+use Rattle.gtd_core.specs.Ranges.{IsWithin}
 use Rattle.gtd_core.specs.declared.start.StartParts.{StartParts}
 use Rattle.gtd_recur.specs.Begins.{agrees, agrees_or_least, begins_at}
-use Rattle.gtd_recur.specs.ClockSearch.{held, shows, minute_fits as fits_minute, IsNextPassing, IsLastPassing, IsSixtiesWithin}
+use Rattle.gtd_recur.specs.ClockSearch.{held, shows, minute_fits as fits_minute, IsNextPassing, IsLastPassing}
+use Rattle.gtd_recur.specs.ClockSearch.{IsSixtiesWithin}
 
 pub shows-parts : (h m : Option ℕ) (s k : ℕ) → shows h m s k ≡ true → (agrees h (k / 3600) ≡ true)
     × (agrees m (k / 60 % 60) ≡ true) × (s ≡ k % 60)

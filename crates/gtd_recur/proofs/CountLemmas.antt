@@ -1,19 +1,18 @@
 -- How much was counted when a start is handed out.
-use Rattle.std.proofs.Common.{◌≡◌, ℕ, zero, suc, ◌+◌, ◌≤◌, Bool, true, false, not, ◌&&◌, List, [], ◌∷◌, ◌++◌, length, take, cond}
-use Rattle.std.proofs.Common.{inl, inr, refl, ap, ◌∙◌, arith, ℤ, pos, ◌+ℤ◌, ◌<ℤ◌, ◌≤ℤ◌, int_lt}
+use Rattle.std.proofs.Common.{◌≡◌, ℕ, zero, suc, ◌+◌, ◌≤◌, Bool, true, false, not, ◌&&◌, List, [], ◌∷◌, ◌++◌, length, take}
+use Rattle.std.proofs.Common.{cond, inl, inr, refl, ap, ◌∙◌, arith, ℤ, pos, ◌+ℤ◌, ◌<ℤ◌, ◌≤ℤ◌, int_lt}
 use Rattle.std.specs.Prelude.{count_by}
 use Rattle.std.proofs.lemmas.Bool.{cases_Bool, and_left}
 use Rattle.std.proofs.lemmas.List.{take-append-drop, length-take-le}
 use Rattle.std.proofs.lemmas.List.Sums.{count_by-le-length}
 use Rattle.gtd_calendar.specs.facts.Signed.{signed_arith}
-use Rattle.gtd_core.specs.Days.{day_of_second}
+use Rattle.gtd_core.specs.Seconds.{day_of_second}
 use Rattle.gtd_core.specs.declared.start.StartParts.{StartParts}
 use Rattle.gtd_recur.specs.Begins.{month_and_year_fit}
-use Rattle.gtd_recur.specs.Work.{days_from, days_between, starts_of, work, least_work}
+use Rattle.gtd_recur.specs.Work.{days_from, days_between, starts_of, least_work}
 use Rattle.gtd_recur.specs.Starts.{AreLeft, IsInWindow, IsLookedCount}
 use Rattle.gtd_recur.specs.Ascending.{AllAfter, AllBefore, IsAscending}
-use Rattle.gtd_recur.specs.facts.StartsLemmas.{count-append, count-is, length-between, looked-most, days_between-append}
-use Rattle.gtd_recur.specs.facts.StartsLemmas.{days_between-is, later_by}
+use Rattle.gtd_recur.specs.facts.StartsLemmas.{count-append, count-is, days_between-append, days_between-is, later_by}
 use Rattle.gtd_recur.proofs.AscendingLemmas.{window-ascending, ascending-before, ascending-after}
 use Rattle.gtd_recur.proofs.CoverLemmas.{lt_from_test}
 
@@ -75,18 +74,8 @@ between-before a b le =
     let e = later_by a b le in
     rw (days_between-is a b _ e) (days-before a _ b (omega (arith, signed_arith, e)))
 
--- days up to one of them
-days-up_to : (first day end : ℤ) → first ≤ℤ (day +ℤ pos 1) → (day +ℤ pos 1) ≤ℤ end
-    → length (days_between first (day +ℤ pos 1)) ≤ count_by (λ n. not (int_lt day n)) (days_between first end)
-days-up_to first day end low high =
-    let split = days_between-append first (day +ℤ pos 1) end low high in
-    let counted = count-append (λ n. not (int_lt day n)) (days_between first (day +ℤ pos 1)) (days_between (day +ℤ pos 1) end) in
-    let all = count-all (λ n. not (int_lt day n)) (day +ℤ pos 1) (days_between first (day +ℤ pos 1))
-    (λ n lt. ap not (no_lt day n (omega (arith, signed_arith)))) (between-before first (day +ℤ pos 1) low) in
-    rw split (omega (arith, counted, all))
-
 -- the starts up to one that is handed out next
-handed-up_to : (k : ℕ) (all more : List ℤ) (b : ℤ) → IsAscending all → AreLeft k all (b ∷ more)
+pub handed-up_to : (k : ℕ) (all more : List ℤ) (b : ℤ) → IsAscending all → AreLeft k all (b ∷ more)
     → k + 1 ≤ count_by (λ c. not (int_lt b c)) all
 handed-up_to k all more b asc h =
     let split : take k all ++ b ∷ more ≡ all = ap (λ (l : List ℤ). take k all ++ l) h.rest ∙ take-append-drop k all in
@@ -119,39 +108,18 @@ handed-before k all more b asc h =
     let total = rw split at counted in
     omega (arith, total, here, one, rest, most, long)
 
--- no more was counted than there is up to the start that is handed out
-pub at_most : (p : StartParts) (first day next end b : ℤ) (looked k : ℕ) (more : List ℤ) → day_of_second b ≡ day
-    → IsInWindow first day next end → IsLookedCount p first day next looked
-    → AreLeft k (starts_of p (days_between first end)) (b ∷ more) → looked + (k + 1) ≤ work p (days_between first end) b
-unfolding work
-at_most p first day next end b looked k more on w counted h =
-    let long = length-between first (day +ℤ pos 1) w.day_in in
-    let fits : looked ≤ length (days_between first (day +ℤ pos 1)) =
-    fits_in first day looked (length (days_between first (day +ℤ pos 1)))
-    (looked-most p first day next looked w.day_in counted) long in
-    let days = days-up_to first day end w.day_in (omega (arith, signed_arith, w.next_in, w.end_in)) in
-    let starts = handed-up_to k (starts_of p (days_between first end)) more b (window-ascending p first end) h in
-    rw on (omega (arith, fits, days, starts))
-  where
-    fits_in : (first day : ℤ) (looked long : ℕ) → (first +ℤ pos looked) ≤ℤ (day +ℤ pos 1) → first +ℤ pos long ≡ day +ℤ pos 1
-        → looked ≤ long
-    fits_in first day looked long p q = omega (arith, signed_arith)
-
--- and no less than must be before it
-pub at_least : (p : StartParts) (first day next end b : ℤ) (looked k : ℕ) (more : List ℤ) → day_of_second b ≡ day
-    → IsInWindow first day next end → IsLookedCount p first day next looked
+-- no less was counted than must be before the start that is handed out
+pub at_least : (p : StartParts) (first seen day next end b : ℤ) (looked k : ℕ) (more : List ℤ) → day_of_second b ≡ day
+    → IsInWindow first day next end → IsLookedCount p first seen day next looked
     → AreLeft k (starts_of p (days_between first end)) (b ∷ more) → least_work p (days_between first end) b + 1 ≤ looked + (k + 1)
 unfolding least_work
-at_least p first day next end b looked k more on w counted h =
+at_least p first seen day next end b looked k more on w counted h =
     let split = days_between-append first next end (omega (arith, signed_arith, w.day_in, w.next_in)) w.end_in in
     let both = count-append (λ n. int_lt n day && month_and_year_fit p n) (days_between first next) (days_between next end) in
     let fewer = count-both (λ n. int_lt n day) (month_and_year_fit p) (days_between first next) in
     let none = count-no (λ n. int_lt n day && month_and_year_fit p n) day (days_between next end)
     (λ n lt. and_left _ _ (no_lt n day (omega (arith, signed_arith)))) (between-after next end day w.next_in) in
-    let least : count_by (month_and_year_fit p) (days_between first next) ≡ looked + 0 =
-    rw (days_between-append first (day +ℤ pos 1) next w.day_in (omega (arith, signed_arith, w.next_in)))
-    (count-append (month_and_year_fit p) (days_between first (day +ℤ pos 1)) (days_between (day +ℤ pos 1) next)
-    ∙ rw (counted.up_to, counted.jumped) refl) in
+    let least = counted.all in
     let starts = handed-before k (starts_of p (days_between first end)) more b (window-ascending p first end) h in
     let days : count_by (λ n. int_lt n day && month_and_year_fit p n) (days_between first end) ≤ looked =
     rw split (omega (arith, both, fewer, none, least)) in

@@ -6,10 +6,10 @@ use Rattle.gtd_core.specs.Limits.{first_horizon_day, horizons_end}
 use Rattle.gtd_calendar.specs.facts.Signed.{signed_arith}
 use Rattle.gtd_core.specs.declared.start.StartParts.{StartParts}
 use Rattle.gtd_core.specs.declared.duration.DurationParts.{DurationParts}
-use Rattle.gtd_core.specs.DurationBound.{bound_of, lookback_of}
+use Rattle.gtd_core.specs.Ranges.{bound_of, lookback_of}
 use Rattle.gtd_calendar.specs.facts.ClockLemmas.{second-parts, second-only, stop-same_day, stop-bound}
 use Rattle.gtd_calendar.specs.ComputedFields.{day_fields}
-use Rattle.gtd_core.specs.Days.{day_of_second, IsHorizonSecond}
+use Rattle.gtd_core.specs.Seconds.{day_of_second, IsHorizonSecond}
 use Rattle.gtd_calendar.specs.Clock.{second_of_day}
 use Rattle.gtd_calendar.specs.ComputedEnds.{stop}
 use Rattle.gtd_recur.specs.Begins.{begins, begins_on, begins_at}

@@ -1,7 +1,7 @@
 -- What a walk has handed out, and how much it counted for it.
-use Rattle.std.proofs.Common.{◌≡◌, ◌⊎◌, ℕ, zero, suc, ◌+◌, ◌<◌, ◌≤◌, Bool, true, false, not, cond, List, [], ◌∷◌, ◌++◌, length}
-use Rattle.std.proofs.Common.{take, drop, Option, Some, None, refl, sym, ap, ◌∙◌, inl, inr, arith, append_assoc, ℤ, pos, ◌+ℤ◌}
-use Rattle.std.proofs.Common.{◌-ℤ◌, ◌*ℤ◌, ◌<ℤ◌, ◌≤ℤ◌, int_lt, unsigned_abs, ◌&&◌}
+use Rattle.std.proofs.Common.{◌≡◌, ◌⊎◌, ℕ, zero, suc, ◌+◌, ◌<◌, ◌≤◌, Bool, true, false, not, cond, List, [], ◌∷◌, ◌++◌}
+use Rattle.std.proofs.Common.{length, take, drop, Option, Some, None, refl, sym, ap, ◌∙◌, inl, inr, arith, append_assoc, ℤ}
+use Rattle.std.proofs.Common.{pos, ◌+ℤ◌, ◌-ℤ◌, ◌*ℤ◌, ◌<ℤ◌, ◌≤ℤ◌, int_lt, unsigned_abs, ◌&&◌}
 use Rattle.std.specs.Prelude.{count_by, IfSome}
 use Rattle.gtd_core.specs.declared.second.Sec.{Sec}
 use Rattle.std.proofs.lemmas.Bool.{cases_Bool, and_left}
@@ -10,21 +10,21 @@ use Rattle.std.proofs.lemmas.Int.{by_lt_z}
 use Rattle.std.proofs.lemmas.Grind.{flat_map-append}
 use Rattle.gtd_calendar.specs.facts.Signed.{signed_arith}
 use Rattle.gtd_calendar.specs.facts.ClockLemmas.{second-parts, second-only}
-use Rattle.gtd_core.specs.Days.{day_of_second}
+use Rattle.gtd_core.specs.Seconds.{day_of_second}
 use Rattle.gtd_calendar.specs.Clock.{second_of_day}
 use Rattle.gtd_core.specs.declared.start.StartParts.{StartParts}
 use Rattle.gtd_core.specs.Parts.{start_parts, duration_parts}
 use Rattle.gtd_core.specs.Whole.{from_day, to_day, whole}
-use Rattle.gtd_core.specs.DurationBound.{lookback_of}
+use Rattle.gtd_core.specs.Ranges.{lookback_of}
 use Rattle.gtd_core.specs.declared.domain.Basic.{Basic}
 use Rattle.gtd_core.specs.declared.horizon.Horizon.{Horizon}
-use Rattle.gtd_recur.specs.declared.starts.Starts.{Starts}
+use Rattle.gtd_recur.specs.declared.walk.Walk.{Walk}
 use Rattle.gtd_recur.specs.Begins.{month_and_year_fit}
 use Rattle.gtd_recur.specs.Ascending.{AllAfter, AllBefore, Has}
-use Rattle.gtd_recur.specs.Work.{days_from, days_between, starts_on, starts_of, starts_in, window, window_begin, work, least_work}
+use Rattle.gtd_recur.specs.Work.{days_from, days_between, starts_on, starts_of, window_begin, work, least_work}
 use Rattle.gtd_recur.specs.Work.{least_of_horizon}
 use Rattle.gtd_recur.specs.Starts.{TakesSecond}
-use Rattle.gtd_recur.specs.StartsToCome.{IsSameWalk, IsCountedTo, starts_given, starts_to_come, starts_ticks}
+use Rattle.gtd_recur.specs.Walking.{IsSameWindow, IsCountedTo, walk_given, walk_to_come, walk_ticks, walk_all, walk_days}
 use Rattle.gtd_recur.proofs.AscendingLemmas.{window-ascending, ascending-after, before-weaken, starts_of-ascending}
 use Rattle.gtd_recur.proofs.AscendingLemmas.{starts_on-ascending}
 use Rattle.gtd_recur.proofs.CountLemmas.{count-no, no_lt, between-after}
@@ -33,20 +33,14 @@ use Rattle.gtd_recur.specs.facts.StartsLemmas.{window_begin-is, count-append, co
 use Rattle.gtd_recur.specs.facts.StartsLemmas.{later_by, starts_of-cons, starts_of-nil}
 use Rattle.gtd_recur.proofs.HorizonLemmas.{has-either}
 
--- the start, the days and the starts of a walk
-abbrev pub parts_of : Starts → StartParts
+-- the start and the days of a walk, and its first day and the day at its end
+abbrev pub parts_of : Walk → StartParts
 parts_of s = start_parts s.basic.start
 
-abbrev pub days_of : Starts → List ℤ
-days_of s = window s.basic s.horizon
+abbrev pub begin_of : Walk → ℤ
+begin_of s = s.first
 
-abbrev pub all_of : Starts → List ℤ
-all_of s = starts_in s.basic s.horizon
-
-abbrev pub begin_of : Starts → ℤ
-begin_of s = window_begin s.basic s.horizon
-
-abbrev pub end_of : Starts → ℤ
+abbrev pub end_of : Walk → ℤ
 end_of s = to_day s.horizon
 
 pub has-before : (m b : ℤ) (xs : List ℤ) → AllBefore m xs → Has xs b → b <ℤ m
@@ -71,12 +65,12 @@ take-next k all b more e =
     ap (λ (l : List ℤ). take (k + 1) l) split ∙ take_at (take k all ++ b ∷ []) more (k + 1) long
 
 -- the walks go over the same starts
-pub same-all : (s t : Starts) → IsSameWalk s t → all_of s ≡ all_of t
-same-all s t h = rw (h.basic, h.horizon) refl
+pub same-all : (s t : Walk) → IsSameWindow s t → walk_all s ≡ walk_all t
+same-all s t h = rw (h.basic, h.horizon, h.first) refl
 
 -- one more is handed out
-pub given-next : (s t : Starts) (b : ℤ) → IsSameWalk s t → starts_to_come s ≡ b ∷ starts_to_come t → starts_given t
-    ≡ starts_given s ++ b ∷ []
+pub given-next : (s t : Walk) (b : ℤ) → IsSameWindow s t → walk_to_come s ≡ b ∷ walk_to_come t → walk_given t
+    ≡ walk_given s ++ b ∷ []
 given-next s t b h e =
     let all = same-all s t h in
     let long = ap (λ (l : List ℤ). length l) e in
@@ -84,14 +78,14 @@ given-next s t b h e =
     let p = s.left.count in
     let q = t.left.count in
     let one : t.handed ≡ s.handed + 1 = omega (arith, long, total, p, q) in
-    rw (one, ← all) (take-next s.handed (all_of s) b (starts_to_come t) (sym (s.left.rest) ∙ e))
+    rw (one, ← all) (take-next s.handed (walk_all s) b (walk_to_come t) (sym (s.left.rest) ∙ e))
 
 -- all are handed out
-pub given-all : (s : Starts) → starts_to_come s ≡ [] → starts_given s ≡ all_of s
-given-all s e = take_all s.handed (all_of s) (let count = rw e at s.left.count in omega arith)
+pub given-all : (s : Walk) → walk_to_come s ≡ [] → walk_given s ≡ walk_all s
+given-all s e = take_all s.handed (walk_all s) (let count = rw e at s.left.count in omega arith)
 
-pub all-split : (s : Starts) → all_of s ≡ starts_given s ++ starts_to_come s
-all-split s = sym (take-append-drop s.handed (all_of s)) ∙ ap (λ (l : List ℤ). starts_given s ++ l) (sym s.left.rest)
+pub all-split : (s : Walk) → walk_all s ≡ walk_given s ++ walk_to_come s
+all-split s = sym (take-append-drop s.handed (walk_all s)) ∙ ap (λ (l : List ℤ). walk_given s ++ l) (sym s.left.rest)
 
 fewer : (a b : Bool) → (a ≡ true → b ≡ true) → cond a 1 0 ≤ cond b 1 0
 fewer false b h = omega arith
@@ -101,7 +95,7 @@ pub count-mono : (f g : ℤ → Bool) (xs : List ℤ) → ((x : ℤ) → f x ≡
 count-mono f g [] h = omega arith
 count-mono f g (x ∷ xs) h = omega (arith, count-is f x xs, count-is g x xs, count-mono f g xs h, fewer (f x) (g x) (h x))
 
-day-mono : (a b : ℤ) → a ≤ℤ b → day_of_second a ≤ℤ day_of_second b
+pub day-mono : (a b : ℤ) → a ≤ℤ b → day_of_second a ≤ℤ day_of_second b
 day-mono a b le =
     let p = second-parts a in
     let q = second-parts b in
@@ -111,56 +105,46 @@ day-mono a b le =
         → n ≤ℤ m
     mono a b n m i j p q r s le = omega (arith, signed_arith)
 
-not_lt : (a b : ℤ) → not (int_lt a b) ≡ true → b ≤ℤ a
+pub not_lt : (a b : ℤ) → not (int_lt a b) ≡ true → b ≤ℤ a
 not_lt a b h = elim (cases_Bool (int_lt a b)) [ inl on ↦ absurd (let f : false ≡ true = rw on at h in cc) | inr off ↦ le a b off ]
   where
     le : (a b : ℤ) → int_lt a b ≡ false → b ≤ℤ a
     le a b off = by_lt_z a b (λ lt. absurd (let f : false ≡ true = sym off ∙ test_from_lt a b lt in cc)) (λ ge. ge)
 
--- what may be counted grows with time
-pub work-mono : (p : StartParts) (days : List ℤ) (a b : ℤ) → a ≤ℤ b → work p days a ≤ work p days b
-unfolding work
-work-mono p days a b le =
-    let d = day-mono a b le in
-    let on = count-mono (λ n. not (int_lt (day_of_second a) n)) (λ n. not (int_lt (day_of_second b) n)) days
-    (λ n h. ap not (no_lt (day_of_second b) n (let k = not_lt (day_of_second a) n h in omega (arith, signed_arith)))) in
-    let at = count-mono (λ c. not (int_lt a c)) (λ c. not (int_lt b c)) (starts_of p days)
-    (λ c h. ap not (no_lt b c (let k = not_lt a c h in omega (arith, signed_arith)))) in
-    omega (arith, on, at)
-
 -- once the start after an end is handed out, no more was counted than may be up to any start after the end
-pub at_most-some : (s t : Starts) (end c : ℤ) → IsSameWalk s t → starts_to_come s ≡ c ∷ starts_to_come t
-    → AllBefore (end +ℤ pos 1) (starts_given s) → starts_ticks t ≤ work (parts_of s) (days_of s) c
-    → (b : ℤ) → Has (all_of s) b → end <ℤ b → starts_ticks t ≤ work (parts_of s) (days_of s) b
-at_most-some s t end c same e given at b has late =
-    let split : all_of s ≡ starts_given s ++ c ∷ starts_to_come t = all-split s ∙ ap (λ (l : List ℤ). starts_given s ++ l) e in
+pub at_most-some : (s t : Walk) (end c : ℤ) → IsSameWindow s t → walk_to_come s ≡ c ∷ walk_to_come t
+    → AllBefore (end +ℤ pos 1) (walk_given s)
+    → ((u : ℤ) → c ≤ℤ u → s.seen ≤ℤ (day_of_second u +ℤ pos 1) → walk_ticks t ≤ work (parts_of s) (walk_days s) u)
+    → (b : ℤ) → Has (walk_all s) b → end <ℤ b → s.seen ≤ℤ (day_of_second b +ℤ pos 1)
+    → walk_ticks t ≤ work (parts_of s) (walk_days s) b
+at_most-some s t end c same e given at b has late seen =
+    let split : walk_all s ≡ walk_given s ++ c ∷ walk_to_come t = all-split s ∙ ap (λ (l : List ℤ). walk_given s ++ l) e in
     let asc = rw split at (window-ascending (parts_of s) (begin_of s) (end_of s)) in
-    let after = ascending-after (starts_given s) (c ∷ starts_to_come t) asc in
-    let reached : c ≤ℤ b = elim (has-either (starts_given s) (c ∷ starts_to_come t) b (rw split at has)) [
-      | inl before ↦ absurd (let lt = has-before (end +ℤ pos 1) b (starts_given s) given before in
+    let after = ascending-after (walk_given s) (c ∷ walk_to_come t) asc in
+    let reached : c ≤ℤ b = elim (has-either (walk_given s) (c ∷ walk_to_come t) b (rw split at has)) [
+      | inl before ↦ absurd (let lt = has-before (end +ℤ pos 1) b (walk_given s) given before in
           omega (arith, signed_arith, lt, late))
       | inr here ↦ elim here [
         | inl is ↦ omega (arith, signed_arith, is)
         | inr rest ↦
-            (let lt = has-after c b (starts_to_come t) after.0 rest in omega (arith, signed_arith, lt))
+            (let lt = has-after c b (walk_to_come t) after.0 rest in omega (arith, signed_arith, lt))
       ]
     ] in
-    let more = work-mono (parts_of s) (days_of s) c b reached in
-    omega (arith, at, more)
+    at b reached seen
 
 -- where all were handed out up to an end, no start is after it
-pub at_most-none : (s : Starts) (end : ℤ) → starts_to_come s ≡ [] → AllBefore (end +ℤ pos 1) (starts_given s) → (b : ℤ)
-    → Has (all_of s) b → end <ℤ b → ⊥
+pub at_most-none : (s : Walk) (end : ℤ) → walk_to_come s ≡ [] → AllBefore (end +ℤ pos 1) (walk_given s) → (b : ℤ)
+    → Has (walk_all s) b → end <ℤ b → ⊥
 at_most-none s end none given b has late =
-    let lt = has-before (end +ℤ pos 1) b (all_of s) (rw (given-all s none) at given) has in
+    let lt = has-before (end +ℤ pos 1) b (walk_all s) (rw (given-all s none) at given) has in
     omega (arith, signed_arith, lt, late)
 
 -- what was handed out with one start more
-pub given-up_to : (s t : Starts) (end c : ℤ) → IsSameWalk s t → starts_to_come s ≡ c ∷ starts_to_come t
-    → AllBefore (end +ℤ pos 1) (starts_given s) → (m : ℤ) → end ≤ℤ m → c ≤ℤ m → AllBefore (m +ℤ pos 1) (starts_given t)
+pub given-up_to : (s t : Walk) (end c : ℤ) → IsSameWindow s t → walk_to_come s ≡ c ∷ walk_to_come t
+    → AllBefore (end +ℤ pos 1) (walk_given s) → (m : ℤ) → end ≤ℤ m → c ≤ℤ m → AllBefore (m +ℤ pos 1) (walk_given t)
 given-up_to s t end c same e given m low high =
-    rw (given-next s t c same e) (before-append (m +ℤ pos 1) (starts_given s) (c ∷ [])
-    (before-weaken (end +ℤ pos 1) (m +ℤ pos 1) (starts_given s) (omega (arith, signed_arith)) given)
+    rw (given-next s t c same e) (before-append (m +ℤ pos 1) (walk_given s) (c ∷ [])
+    (before-weaken (end +ℤ pos 1) (m +ℤ pos 1) (walk_given s) (omega (arith, signed_arith)) given)
     (omega (arith, signed_arith), tt))
 
 pub starts_of-append : (p : StartParts) (xs ys : List ℤ) → starts_of p (xs ++ ys) ≡ starts_of p xs ++ starts_of p ys
@@ -226,6 +210,13 @@ window-order d h = chain (window_begin d h) (from_day h) (to_day h) (begin-low d
     chain : (a b c : ℤ) → a ≤ℤ b → b ≤ℤ c → a ≤ℤ c
     chain a b c p q = omega (arith, signed_arith)
 
+-- a walk begins before its horizon does
+pub walk-low : (s : Walk) → s.first ≤ℤ from_day s.horizon
+walk-low s = let a = s.counted.low in let b = s.seen_in in omega (arith, signed_arith, a, b)
+
+pub walk-order : (s : Walk) → s.first ≤ℤ to_day s.horizon
+walk-order s = let a = walk-low s in let b = horizon-order s.horizon in omega (arith, signed_arith, a, b)
+
 pub whole-order : (h : Horizon) → (whole h).from ≤ℤ (whole h).until
 whole-order h = more (from_day h) (to_day h) (horizon-order h)
   where
@@ -233,24 +224,24 @@ whole-order h = more (from_day h) (to_day h) (horizon-order h)
     more a b le = omega (arith, signed_arith)
 
 -- right after a run is handed out
-pub run-at_most : (s t : Starts) (end u : ℤ) → ((b : ℤ) → Has (all_of s) b → end <ℤ b
-    → starts_ticks t ≤ work (parts_of s) (days_of s) b)
-    → ((u ≡ end) ⊎ (u ≡ (whole s.horizon).until)) → (b : ℤ) → Has (all_of s) b → u <ℤ b
-    → starts_ticks t ≤ work (parts_of s) (days_of s) b
-run-at_most s t end u at one b has late = elim one [
-  | inl e ↦ at b has (omega (arith, signed_arith, e, late))
-  | inr e ↦ absurd (apart u b (end_of s) e late (has-before (pos 86400 *ℤ end_of s) b (all_of s)
-      (window-last (parts_of s) (begin_of s) (end_of s) (window-order s.basic s.horizon)) has))
+pub run-at_most : (s t : Walk) (end u : ℤ) → ((b : ℤ) → Has (walk_all s) b → end <ℤ b → s.seen ≤ℤ (day_of_second b +ℤ pos 1)
+    → walk_ticks t ≤ work (parts_of s) (walk_days s) b)
+    → ((u ≡ end) ⊎ (u ≡ (whole s.horizon).until)) → (b : ℤ) → Has (walk_all s) b → u <ℤ b
+    → s.seen ≤ℤ (day_of_second b +ℤ pos 1) → walk_ticks t ≤ work (parts_of s) (walk_days s) b
+run-at_most s t end u at one b has late seen = elim one [
+  | inl e ↦ at b has (omega (arith, signed_arith, e, late)) seen
+  | inr e ↦ absurd (apart u b (end_of s) e late (has-before (pos 86400 *ℤ end_of s) b (walk_all s)
+      (window-last (parts_of s) (begin_of s) (end_of s) (walk-order s)) has))
 ]
   where
     apart : (u b n : ℤ) → u ≡ n *ℤ pos 86400 → u <ℤ b → b <ℤ (pos 86400 *ℤ n) → ⊥
     apart u b n p q r = omega (arith, signed_arith)
 
-pub run-at_least : (s t : Starts) (first f : ℤ) → least_work (parts_of s) (days_of s) first ≤ starts_ticks s
-    → starts_ticks s ≤ starts_ticks t
-    → ((f ≡ first) ⊎ (f ≡ (whole s.horizon).from)) → least_of_horizon s.basic s.horizon f ≤ starts_ticks t
+pub run-at_least : (s t : Walk) (first f : ℤ) → least_work (parts_of s) (walk_days s) first ≤ walk_ticks s
+    → walk_ticks s ≤ walk_ticks t
+    → ((f ≡ first) ⊎ (f ≡ (whole s.horizon).from)) → least_of_horizon s.basic s.horizon f ≤ walk_ticks t
 run-at_least s t first f least grows one = elim one [
-  | inl e ↦ let less = least-fewer (parts_of s) (begin_of s) (from_day s.horizon) (end_of s) first (begin-low s.basic s.horizon)
+  | inl e ↦ let less = least-fewer (parts_of s) (begin_of s) (from_day s.horizon) (end_of s) first (walk-low s)
       (horizon-order s.horizon) in rw e (omega (arith, less, least, grows))
   | inr e ↦ let zero = least-first (parts_of s) (from_day s.horizon) (end_of s) (from_day s.horizon *ℤ pos 86400)
       (flip (from_day s.horizon)) in rw e (omega (arith, zero))
@@ -260,13 +251,13 @@ run-at_least s t first f least grows one = elim one [
     flip n = omega (arith, signed_arith)
 
 -- the first start of all, taken ahead
-pub counted-first : (s t : Starts) (o : Option Sec) → IsSameWalk s t → starts_given s ≡ []
-    → TakesSecond (starts_to_come s) o (starts_to_come t)
-    → IfSome o (λ b. least_work (parts_of s) (days_of s) b.0 + 1 ≤ starts_ticks t) → IsCountedTo t o
+pub counted-first : (s t : Walk) (o : Option Sec) → IsSameWindow s t → walk_given s ≡ []
+    → TakesSecond (walk_to_come s) o (walk_to_come t)
+    → IfSome o (λ b. least_work (parts_of s) (walk_days s) b.0 + 1 ≤ walk_ticks t) → IsCountedTo t o
 counted-first s t None same nothing takes least = tt
 counted-first s t (Some b) same nothing takes least =
-    let begun : AllBefore (b.0 +ℤ pos 1) (starts_given s) = rw nothing tt in (
-      rw (given-next s t b.0 same takes) (before-append (b.0 +ℤ pos 1) (starts_given s) (b.0 ∷ []) begun
+    let begun : AllBefore (b.0 +ℤ pos 1) (walk_given s) = rw nothing tt in (
+      rw (given-next s t b.0 same takes) (before-append (b.0 +ℤ pos 1) (walk_given s) (b.0 ∷ []) begun
           (omega (arith, signed_arith), tt)),
-      rw (same.basic, same.horizon) (omega (arith, least)),
+      rw (same.basic, same.horizon, same.first) (omega (arith, least)),
     )

@@ -1,14 +1,14 @@
 -- The starts of the window hold what the basic domain holds in the horizon.
-use Rattle.std.proofs.Common.{◌≡◌, ◌⊎◌, ℕ, zero, suc, ◌+◌, ◌<◌, ◌≤◌, Bool, true, List, [], ◌∷◌, ◌++◌, map, filter, refl, sym, ap}
-use Rattle.std.proofs.Common.{inl, inr, arith, ℤ, pos, ◌+ℤ◌, ◌-ℤ◌, ◌*ℤ◌, ◌<ℤ◌, ◌≤ℤ◌}
+use Rattle.std.proofs.Common.{◌≡◌, ◌⊎◌, ℕ, zero, suc, ◌+◌, ◌<◌, ◌≤◌, Bool, true, List, [], ◌∷◌, ◌++◌, map, filter, refl, sym}
+use Rattle.std.proofs.Common.{ap, inl, inr, arith, ℤ, pos, ◌+ℤ◌, ◌-ℤ◌, ◌*ℤ◌, ◌<ℤ◌, ◌≤ℤ◌}
 use Rattle.std.proofs.lemmas.Bool.{cases_Bool, cases_lt}
 use Rattle.gtd_calendar.specs.facts.Signed.{signed_arith}
 use Rattle.gtd_calendar.specs.facts.ClockLemmas.{second-parts}
 use Rattle.gtd_core.specs.declared.start.StartParts.{StartParts}
 use Rattle.gtd_core.specs.declared.duration.DurationParts.{DurationParts}
-use Rattle.gtd_core.specs.DurationBound.{lookback_of}
+use Rattle.gtd_core.specs.Ranges.{lookback_of}
 use Rattle.gtd_calendar.specs.ComputedFields.{day_fields}
-use Rattle.gtd_core.specs.Days.{day_of_second}
+use Rattle.gtd_core.specs.Seconds.{day_of_second}
 use Rattle.gtd_spans.specs.Normal.{IsNormalFor}
 use Rattle.gtd_spans.specs.facts.NormalFor.{normal-for}
 use Rattle.gtd_calendar.specs.Clock.{second_of_day}
@@ -25,8 +25,8 @@ use Rattle.gtd_recur.specs.Ascending.{Has}
 use Rattle.gtd_recur.specs.Stretches.{HeldBy, runs_between, to_come, IsAheadIn}
 use Rattle.gtd_recur.specs.facts.StretchFacts.{runs_between-normal}
 use Rattle.gtd_recur.proofs.CoverLemmas.{begins-parts, begins-from, held_in_lookback}
-use Rattle.gtd_recur.specs.facts.StartsLemmas.{starts_on-yes, starts_on-no, starts_of-cons, starts_of-nil, days_between-append}
-use Rattle.gtd_recur.specs.facts.StartsLemmas.{days_between-next}
+use Rattle.gtd_recur.specs.facts.StartsLemmas.{starts_on-yes, starts_on-no, starts_of-cons, starts_of-nil}
+use Rattle.gtd_recur.specs.facts.StartsLemmas.{days_between-append, days_between-next}
 use Rattle.gtd_recur.proofs.StretchLemmas.{runs_between-holds}
 
 pub has-left : (xs ys : List ℤ) (b : ℤ) → Has xs b → Has (xs ++ ys) b

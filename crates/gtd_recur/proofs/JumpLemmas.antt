@@ -125,7 +125,7 @@ months-else y low high a b h g ge p q = record {
     later z m none = by_lt_z y z (λ lt. inl lt) (λ le. absurd (none (inl (omega (arith, signed_arith)))))
 
 -- the days of a year, or of one of its months
-year-skipped : (year : ℤ) (month : Option ℕ) (low high : ℕ) (n : ℤ) → low ≡ unwrap_or month 1 → high ≡ unwrap_or month 12
+pub year-skipped : (year : ℤ) (month : Option ℕ) (low high : ℕ) (n : ℤ) → low ≡ unwrap_or month 1 → high ≡ unwrap_or month 12
     → IsBefore (year_of n) (month_of n) year low ⊎ IsBefore year high (year_of n) (month_of n) → ¬ (IsOf year month n)
 year-skipped year None low high n e f outside is = elim outside [
   | inl before ↦ elim before [
@@ -152,7 +152,7 @@ year-skipped year (Some k) low high n e f outside is = elim outside [
   ]
 ]
 
-year-on : (year : ℤ) (month : Option ℕ) (low high : ℕ) (n : ℤ) → low ≡ unwrap_or month 1 → high ≡ unwrap_or month 12
+pub year-on : (year : ℤ) (month : Option ℕ) (low high : ℕ) (n : ℤ) → low ≡ unwrap_or month 1 → high ≡ unwrap_or month 12
     → (year_of n ≡ year) × (low ≤ month_of n) × (month_of n ≤ high) → IsOf year month n
 year-on year None low high n e f on = (on.0, tt)
 year-on year (Some k) low high n e f on = (on.0, let a = on.1 in let b = on.2 in omega (arith, a, b, e, f))
@@ -191,7 +191,7 @@ unfolding day_number first_day days_of_months
 first-1800 = refl
 
 -- the days that a window can have are of the years 1800 to 2699
-window-year : (n : ℤ) → first_window_day ≤ℤ n → n <ℤ horizons_end → (pos 1800 ≤ℤ year_of n) × (year_of n ≤ℤ pos 2699)
+pub window-year : (n : ℤ) → first_window_day ≤ℤ n → n <ℤ horizons_end → (pos 1800 ≤ℤ year_of n) × (year_of n ≤ℤ pos 2699)
 window-year n low high =
     let calendar = year_of-calendar n (omega (arith, signed_arith), omega (arith, signed_arith)) in (
       calendar.0,
@@ -221,7 +221,7 @@ year-never year month day end low le high outside = record {
     ]
 
 -- a later day is not of an earlier year
-not_earlier : (a n : ℤ) → a ≤ℤ n → ¬ (year_of n <ℤ year_of a)
+pub not_earlier : (a n : ℤ) → a ≤ℤ n → ¬ (year_of n <ℤ year_of a)
 not_earlier a n le lt =
     let first = first_date (year_of a) 1 (omega arith, omega arith) in
     apart a n (day_number (year_of a) 1 1) le (before_first n (year_of a) 1 (omega arith, omega arith) (inl lt)) (from_first a)

@@ -4,7 +4,7 @@ use Rattle.std.proofs.Common.{refl}
 use Rattle.gtd_core.specs.declared.start.StartParts.{StartParts}
 use Rattle.gtd_calendar.specs.Calendar.{first_day, days_of_months, day_number, weekday_of, thursday_of}
 use Rattle.gtd_calendar.specs.ComputedDates.{year_of, place_in_year, last_begun, month_of, day_of_month}
-use Rattle.gtd_core.specs.Days.{day_of_second}
+use Rattle.gtd_core.specs.Seconds.{day_of_second}
 use Rattle.gtd_calendar.specs.Clock.{second_of_day}
 use Rattle.gtd_recur.specs.Begins.{begins}
 

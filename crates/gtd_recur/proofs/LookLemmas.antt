@@ -1,39 +1,35 @@
 -- A walk that begins at a day from which the stretches reach as far as all before.
-use Rattle.std.proofs.Common.{◌≡◌, ℕ, ◌<◌, ◌≤◌, true, refl}
-use Rattle.std.proofs.Common.{inl, inr, arith, ℤ, pos, ◌+ℤ◌, ◌-ℤ◌, ◌*ℤ◌, ◌<ℤ◌, ◌≤ℤ◌, int_lt, not}
-use Rattle.std.proofs.Common.{unsigned_abs}
+use Rattle.std.proofs.Common.{◌≡◌, ℕ, ◌<◌, ◌≤◌, true, refl, inl, inr, arith, ℤ, pos, ◌+ℤ◌, ◌-ℤ◌, ◌*ℤ◌, ◌<ℤ◌, ◌≤ℤ◌, int_lt}
+use Rattle.std.proofs.Common.{not, unsigned_abs}
 use Rattle.std.proofs.lemmas.Bool.{both_ways}
 use Rattle.std.proofs.lemmas.Int.{by_lt_z, ints}
 use Rattle.gtd_calendar.specs.facts.Signed.{signed_arith}
 use Rattle.gtd_calendar.specs.facts.ClockLemmas.{second-parts, second-only, stop-order}
 use Rattle.gtd_core.specs.declared.start.StartParts.{StartParts}
 use Rattle.gtd_core.specs.declared.duration.DurationParts.{DurationParts}
-use Rattle.gtd_core.specs.DurationBound.{lookback_of}
+use Rattle.gtd_core.specs.Ranges.{lookback_of}
 use Rattle.gtd_calendar.specs.ComputedFields.{day_fields}
-use Rattle.gtd_core.specs.Days.{day_of_second}
+use Rattle.gtd_core.specs.Seconds.{day_of_second}
 use Rattle.gtd_spans.specs.Normal.{IsNormalFor}
 use Rattle.gtd_spans.specs.facts.NormalFor.{normal-for}
 use Rattle.gtd_calendar.specs.Clock.{second_of_day}
 use Rattle.gtd_calendar.specs.ComputedEnds.{stop}
 use Rattle.gtd_recur.specs.Ascending.{Has}
 use Rattle.gtd_recur.specs.Begins.{begins, begins_on}
-use Rattle.gtd_recur.specs.Look.{IsFirstLook}
+use Rattle.gtd_recur.specs.Look.{IsFirstDay, IsFirstLook}
 use Rattle.gtd_recur.specs.Membership.{InStretches}
 use Rattle.gtd_recur.specs.Stretches.{runs_between}
 use Rattle.gtd_recur.specs.facts.StretchFacts.{runs_between-normal}
 use Rattle.gtd_recur.specs.facts.MembershipLemmas.{from_computed}
-use Rattle.gtd_core.specs.Parts.{start_parts, duration_parts}
+use Rattle.gtd_core.specs.Parts.{start_parts}
 use Rattle.gtd_core.specs.Whole.{from_day, to_day, whole as horizon_whole}
-use Rattle.gtd_core.specs.declared.domain.Basic.{Basic}
-use Rattle.gtd_core.specs.declared.duration.Duration.{Duration}
-use Rattle.gtd_core.specs.declared.horizon.Horizon.{Horizon}
+use Rattle.gtd_recur.specs.declared.walk.Walk.{Walk}
+use Rattle.gtd_recur.specs.Walking.{walk_all, walk_days}
 use Rattle.gtd_recur.specs.Work.{days_between, starts_of, work, whole_work, window_begin, starts_in, work_up_to, work_of}
-use Rattle.gtd_recur.specs.facts.StartsLemmas.{window_begin-is}
-use Rattle.gtd_recur.proofs.GivenLemmas.{begin-low, horizon-order}
+use Rattle.gtd_recur.proofs.GivenLemmas.{horizon-order, walk-low, walk-order, has-before, window-last, starts_of-append}
 use Rattle.gtd_recur.proofs.CoverLemmas.{begins-parts, begins-from, held_in_lookback}
-use Rattle.gtd_recur.proofs.GivenLemmas.{has-before, window-last, starts_of-append}
 use Rattle.gtd_recur.proofs.HorizonLemmas.{has-either, held-from, held-to, starts_of-begins, begins-window}
-use Rattle.gtd_recur.specs.facts.StartsLemmas.{count-append, days_between-append}
+use Rattle.gtd_recur.specs.facts.StartsLemmas.{count-append, days_between-append, later_by}
 use Rattle.std.proofs.lemmas.List.{length-append}
 use Rattle.gtd_recur.proofs.StretchLemmas.{runs_between-holds}
 
@@ -156,38 +152,57 @@ whole-narrow p wide first to low high =
     let starts = length-append (starts_of p (days_between wide first)) (starts_of p (days_between first to)) in
     rw (split, starts_of-append p (days_between wide first) (days_between first to)) (omega (arith, days, starts))
 
--- the same recurrence with another duration
-abbrev pub lasting : Basic → Duration → Basic
-lasting d q = record { start = d.start; duration = q }
-
-begin-narrow : (d : Basic) (q : Duration) (h : Horizon) → lookback_of (duration_parts d.duration) ≤ lookback_of (duration_parts q)
-    → window_begin (lasting d q) h ≤ℤ window_begin d h
-begin-narrow d q h less = apart (window_begin (lasting d q) h) (window_begin d h) (from_day h) _ _
-    (window_begin-is (lasting d q) h) (window_begin-is d h) less
-  where
-    apart : (a b n : ℤ) (i j : ℕ) → a ≡ n -ℤ pos j → b ≡ n -ℤ pos i → i ≤ j → a ≤ℤ b
-    apart a b n i j p q le = omega (arith, signed_arith)
-
-order-narrow : (d : Basic) (h : Horizon) → window_begin d h ≤ℤ to_day h
-order-narrow d h = chain (window_begin d h) (from_day h) (to_day h) (begin-low d h) (horizon-order h)
-  where
-    chain : (a b c : ℤ) → a ≤ℤ b → b ≤ℤ c → a ≤ℤ c
-    chain a b c p q = omega (arith, signed_arith)
-
--- what a walk over the narrower window may count, one over the whole window may
-pub run-widen : (d : Basic) (q : Duration) (h : Horizon) (u : ℤ) (ticks : ℕ)
-    → lookback_of (duration_parts d.duration) ≤ lookback_of (duration_parts q) → (horizon_whole h).from <ℤ u
-    → ((b : ℤ) → Has (starts_in d h) b → u <ℤ b → ticks ≤ work_up_to d h b) → (b : ℤ) → Has (starts_in (lasting d q) h) b → u <ℤ b
-    → ticks ≤ work_up_to (lasting d q) h b
-run-widen d q h u ticks less late most b has after =
-    let p = start_parts d.start in
-    let low = begin-narrow d q h less in
-    let here = most b (has-narrow p (window_begin (lasting d q) h) (window_begin d h) (from_day h) (to_day h) b low
-    (begin-low d h) (horizon-order h) (omega (arith, signed_arith, late, after)) has) after in
-    let more = work-narrow p (window_begin (lasting d q) h) (window_begin d h) (to_day h) b low (order-narrow d h) in
+-- what may be counted over the days of a walk may be over the whole window
+pub run-widen : (s : Walk) (u : ℤ) (ticks : ℕ) → (horizon_whole s.horizon).from <ℤ u
+    → ((b : ℤ) → Has (walk_all s) b → u <ℤ b → s.seen ≤ℤ (day_of_second b +ℤ pos 1)
+    → ticks ≤ work (start_parts s.basic.start) (walk_days s) b)
+    → (b : ℤ) → Has (starts_in s.basic s.horizon) b → u <ℤ b → ticks ≤ work_up_to s.basic s.horizon b
+run-widen s u ticks late most b has after =
+    let p = start_parts s.basic.start in
+    let n = from_day s.horizon in
+    let parts = second-parts b in
+    let on : n ≤ℤ day_of_second b = later n b (day_of_second b) (second_of_day b) (omega (arith, signed_arith, late, after))
+    parts.0 parts.1 in
+    let here = most b (has-narrow p (window_begin s.basic s.horizon) s.first n (to_day s.horizon) b s.first_in
+    (walk-low s) (horizon-order s.horizon) (omega (arith, signed_arith, late, after)) has) after
+    (let a = s.seen_in in omega (arith, signed_arith, a, on)) in
+    let more = work-narrow p (window_begin s.basic s.horizon) s.first (to_day s.horizon) b s.first_in (walk-order s) in
     omega (arith, here, more)
+  where
+    later : (n b m : ℤ) (k : ℕ) → (n *ℤ pos 86400) <ℤ b → b ≡ pos 86400 *ℤ m +ℤ pos k → k < 86400 → n ≤ℤ m
+    later n b m k lt e low = omega (arith, signed_arith)
 
-pub work-widen : (d : Basic) (q : Duration) (h : Horizon) → lookback_of (duration_parts d.duration) ≤ lookback_of
-    (duration_parts q) → work_of d h ≤ work_of (lasting d q) h
-work-widen d q h less = whole-narrow (start_parts d.start) (window_begin (lasting d q) h) (window_begin d h) (to_day h)
-    (begin-narrow d q h less) (order-narrow d h)
+pub work-widen : (s : Walk) → whole_work (start_parts s.basic.start) (walk_days s) ≤ work_of s.basic s.horizon
+work-widen s = whole-narrow (start_parts s.basic.start) (window_begin s.basic s.horizon) s.first (to_day s.horizon) s.first_in
+    (walk-order s)
+
+-- a look backwards by days is one by how far back they are
+pub first-look : (p : StartParts) (low n first : ℤ) (lookback looked : ℕ) → low ≡ n -ℤ pos lookback
+    → IsFirstDay p low n first looked
+    → (first ≡ n -ℤ pos (unsigned_abs (n -ℤ first))) × IsFirstLook p n lookback (unsigned_abs (n -ℤ first))
+first-look p low n first lookback looked e h =
+    let back = unsigned_abs (n -ℤ first) in
+    let is : first ≡ n -ℤ pos back = behind n first back (later_by first n h.within) in (
+      is,
+      record {
+        within = near low n first lookback back e is h.begin;
+        reason = elim (h.reason) [
+          | inl on ↦ inl (some n first back is on.0, rw is at on.1)
+          | inr last ↦ inr (λ k gt le. absurd (none low n first lookback back k e is last gt le))
+        ];
+      },
+    )
+  where
+    behind : (n first : ℤ) (back : ℕ) → n ≡ first +ℤ pos back → first ≡ n -ℤ pos back
+    behind n first back e = omega (arith, signed_arith)
+
+    near : (low n first : ℤ) (lookback back : ℕ) → low ≡ n -ℤ pos lookback → first ≡ n -ℤ pos back → low ≤ℤ first
+        → back ≤ lookback
+    near low n first lookback back a b c = omega (arith, signed_arith)
+
+    some : (n first : ℤ) (back : ℕ) → first ≡ n -ℤ pos back → first <ℤ n → 0 < back
+    some n first back a b = omega (arith, signed_arith)
+
+    none : (low n first : ℤ) (lookback back k : ℕ) → low ≡ n -ℤ pos lookback → first ≡ n -ℤ pos back → first ≡ low → back < k
+        → k ≤ lookback → ⊥
+    none low n first lookback back k a b c d f = omega (arith, signed_arith)

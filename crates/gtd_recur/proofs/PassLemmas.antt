@@ -1,6 +1,6 @@
 -- A run that goes on over the starts of a day that are passed over.
-use Rattle.std.proofs.Common.{◌≡◌, neg_ℤ, to_z, of_z, w64, ℕ, ◌<◌, ◌≤◌, List, [], ◌∷◌, ◌++◌, length, take, refl, sym, ap}
-use Rattle.std.proofs.Common.{◌∙◌, arith, ◌⊎◌, inl, inr, ℤ, pos, ◌+ℤ◌, ◌-ℤ◌, ◌*ℤ◌, ◌≤ℤ◌}
+use Rattle.std.proofs.Common.{◌≡◌, neg_ℤ, to_z, of_z, w64, ℕ, ◌<◌, ◌≤◌, List, [], ◌∷◌, ◌++◌, length, take, refl, sym, ap, ◌∙◌}
+use Rattle.std.proofs.Common.{arith, ◌⊎◌, inl, inr, ℤ, pos, ◌+ℤ◌, ◌-ℤ◌, ◌*ℤ◌, ◌≤ℤ◌}
 use Rattle.std.proofs.lemmas.List.{take_at, length-append, append_assoc}
 use Rattle.std.proofs.lemmas.Int.{by_lt_z}
 use Rattle.gtd_core.specs.Limits.{first_calendar_day, last_calendar_day}
@@ -9,14 +9,14 @@ use Rattle.gtd_calendar.specs.Calendar.{IsCalendarDay}
 use Rattle.gtd_calendar.specs.facts.ClockLemmas.{second-parts, stop-same_day}
 use Rattle.gtd_calendar.specs.Clock.{second_of_day}
 use Rattle.gtd_calendar.specs.ComputedEnds.{stop}
-use Rattle.gtd_core.specs.Days.{day_of_second}
+use Rattle.gtd_core.specs.Seconds.{day_of_second}
 use Rattle.gtd_core.specs.declared.duration.DurationParts.{DurationParts}
-use Rattle.gtd_recur.specs.declared.starts.Starts.{Starts}
+use Rattle.gtd_recur.specs.declared.walk.Walk.{Walk}
 use Rattle.gtd_recur.specs.Ascending.{AllAfter, AllBefore}
 use Rattle.gtd_recur.specs.Stepping.{Stepped}
 use Rattle.gtd_recur.specs.Stretches.{IsRun, IsLater}
-use Rattle.gtd_recur.specs.StartsToCome.{IsSameWalk, starts_given, starts_to_come}
-use Rattle.gtd_recur.proofs.GivenLemmas.{all_of, all-split, same-all}
+use Rattle.gtd_recur.specs.Walking.{IsSameWindow, walk_all, walk_given, walk_to_come}
+use Rattle.gtd_recur.proofs.GivenLemmas.{all-split, same-all}
 use Rattle.gtd_recur.proofs.StretchLemmas.{run-longer}
 
 pub stepped-low : (step : ℕ) (b : ℤ) (xs : List ℤ) (last : ℤ) → Stepped step b xs last → b ≤ℤ last
@@ -107,17 +107,17 @@ run-day p before left first end b last e step xs run low reached near h day late
     (λ ge. pass end (omega (arith, signed_arith)) ge (inl refl))
 
 -- what was handed out, with several more
-pub given-many : (s t : Starts) (xs : List ℤ) → IsSameWalk s t → starts_to_come s ≡ xs ++ starts_to_come t → starts_given t
-    ≡ starts_given s ++ xs
+pub given-many : (s t : Walk) (xs : List ℤ) → IsSameWindow s t → walk_to_come s ≡ xs ++ walk_to_come t → walk_given t
+    ≡ walk_given s ++ xs
 given-many s t xs h e =
     let all = same-all s t h in
-    let split : all_of t ≡ (starts_given s ++ xs) ++ starts_to_come t =
-    sym all ∙ all-split s ∙ ap (λ (l : List ℤ). starts_given s ++ l) e
-    ∙ sym (append_assoc (starts_given s) xs (starts_to_come t)) in
-    let long : length (starts_given s ++ xs) ≡ t.handed = (let q = t.left.count in
-    let r = length-append (starts_given s ++ xs) (starts_to_come t) in let total = ap (λ (l : List ℤ). length l) split in
+    let split : walk_all t ≡ (walk_given s ++ xs) ++ walk_to_come t =
+    sym all ∙ all-split s ∙ ap (λ (l : List ℤ). walk_given s ++ l) e
+    ∙ sym (append_assoc (walk_given s) xs (walk_to_come t)) in
+    let long : length (walk_given s ++ xs) ≡ t.handed = (let q = t.left.count in
+    let r = length-append (walk_given s ++ xs) (walk_to_come t) in let total = ap (λ (l : List ℤ). length l) split in
     omega (arith, q, r, total)) in
-    ap (λ (l : List ℤ). take t.handed l) split ∙ take_at (starts_given s ++ xs) (starts_to_come t) t.handed long
+    ap (λ (l : List ℤ). take t.handed l) split ∙ take_at (walk_given s ++ xs) (walk_to_come t) t.handed long
 
 pub after-rest : (b : ℤ) (xs ys : List ℤ) → AllAfter b (xs ++ ys) → AllAfter b ys
 after-rest b [] ys h = h

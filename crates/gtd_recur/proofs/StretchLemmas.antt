@@ -1,13 +1,13 @@
 -- The runs that the stretches of starts make.
-use Rattle.std.proofs.Common.{◌≡◌, ◌⊎◌, ◌↔◌, is_gt, int_cmp, true, false, List, [], ◌∷◌, Option, Some, None, ap, ◌∙◌, inl, inr}
-use Rattle.std.proofs.Common.{arith, ℤ, ◌-ℤ◌, ◌<ℤ◌, ◌≤ℤ◌, ◌&&◌, unsigned_abs}
+use Rattle.std.proofs.Common.{◌≡◌, ◌⊎◌, ◌↔◌, is_gt, int_cmp, true, false, List, [], ◌∷◌, Option, Some, None, ap, ◌∙◌, inl}
+use Rattle.std.proofs.Common.{inr, arith, ℤ, ◌-ℤ◌, ◌<ℤ◌, ◌≤ℤ◌, ◌&&◌, unsigned_abs}
 use Rattle.std.specs.Prelude.{int_le, int_lt, MatchOption}
 use Rattle.std.specs.Bool.{Decides}
 use Rattle.std.proofs.lemmas.Int.{ints, by_lt_z}
 use Rattle.gtd_calendar.specs.facts.Signed.{signed_arith}
 use Rattle.gtd_core.specs.declared.duration.DurationParts.{DurationParts}
 use Rattle.gtd_core.specs.declared.domain.Op.TheVariants.{Union}
-use Rattle.gtd_core.specs.Interval.{Interval}
+use Rattle.gtd_core.specs.Seconds.{Interval}
 use Rattle.gtd_calendar.specs.ComputedEnds.{stop}
 use Rattle.gtd_spans.specs.Normal.{Holds, AllBeginAfter, IsNormal}
 use Rattle.gtd_spans.specs.facts.Combining.{combined-decides}

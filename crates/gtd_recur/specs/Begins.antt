@@ -1,15 +1,15 @@
 -- When a start begins, computed: its fields against the date, the week and the clock of a second, level by level. It is a
 -- law of this crate that it begins just at the seconds that it matches.
-use Rattle.std.specs.Prelude.{ℕ, ◌-◌, ◌/◌, ◌%◌, ◌^◌, Bool, true, false, ◌&&◌, ◌||◌, ◌==◌, if◌then◌else◌}
-use Rattle.std.specs.Prelude.{Option, Some, None, is_some, ℤ, pos}
+use Rattle.std.specs.Prelude.{ℕ, ◌-◌, ◌/◌, ◌%◌, ◌^◌, Bool, true, false, ◌&&◌, ◌||◌, ◌==◌, if◌then◌else◌, Option, Some, None}
+use Rattle.std.specs.Prelude.{is_some, ℤ, pos}
 use Rattle.std.specs.Ordering.{int_eq}
 use Rattle.gtd_core.specs.declared.start.StartParts.{StartParts}
 use Rattle.gtd_calendar.specs.declared.day.DayFields.{DayFields}
 use Rattle.gtd_calendar.specs.ComputedDates.{year_of, month_of}
 use Rattle.gtd_calendar.specs.ComputedFields.{day_fields}
-use Rattle.gtd_core.specs.Days.{day_of_second}
+use Rattle.gtd_core.specs.Seconds.{day_of_second}
 use Rattle.gtd_calendar.specs.Clock.{second_of_day}
-pub use Rattle.gtd_recur.specs.Matching.{gives_day}
+pub use Rattle.gtd_recur.specs.Membership.{gives_day}
 
 -- a field that is given has this value
 abbrev pub agrees : Option ℕ → ℕ → Bool

@@ -1,6 +1,7 @@
 -- What the enumeration of a day's clock finds.
 use Rattle.std.specs.Prelude.{◌≡◌, ℕ, ◌+◌, ◌*◌, ◌/◌, ◌%◌, ◌<◌, ◌≤◌, Bool, true, false, ◌&&◌, ◌==◌, if◌then◌else◌, Option, Some}
 use Rattle.std.specs.Prelude.{None}
+use Rattle.gtd_core.specs.Limits.{day_seconds}
 use Rattle.gtd_core.specs.declared.start.StartParts.{StartParts}
 use Rattle.gtd_recur.specs.Begins.{agrees, begins_at}
 
@@ -25,8 +26,8 @@ minute_fits m i = agrees m (i % 60)
 -- the first second of a day, from one on, that passes a test, if there is one
 abbrev pub IsNextPassing : (ℕ → Bool) → ℕ → Option ℕ → Type 0
 IsNextPassing test from (Some k) =
-    (from ≤ k) × (k < 86400) × (test k ≡ true) × ((j : ℕ) → from ≤ j → j < k → test j ≡ false)
-IsNextPassing test from None = (j : ℕ) → from ≤ j → j < 86400 → test j ≡ false
+    (from ≤ k) × (k < day_seconds) × (test k ≡ true) × ((j : ℕ) → from ≤ j → j < k → test j ≡ false)
+IsNextPassing test from None = (j : ℕ) → from ≤ j → j < day_seconds → test j ≡ false
 
 -- the value that a level of the clock is held at, where it is not free
 abbrev pub held : Option ℕ → Bool → Option ℕ

@@ -1,8 +1,9 @@
 -- The seconds of a basic domain, computed. It is a law of this crate that they are the seconds of the basic domain.
 use Rattle.std.specs.Prelude.{◌≡◌, ℕ, ◌<◌, true, false, Option, Some, None, ℤ, pos, ◌+ℤ◌, ◌*ℤ◌, ◌≤ℤ◌, ◌<ℤ◌, IsTrue}
+use Rattle.gtd_core.specs.Limits.{day_seconds}
 use Rattle.gtd_core.specs.declared.start.StartParts.{StartParts}
 use Rattle.gtd_core.specs.declared.duration.DurationParts.{DurationParts}
-use Rattle.gtd_core.specs.Days.{day_of_second}
+use Rattle.gtd_core.specs.Seconds.{day_of_second}
 use Rattle.gtd_calendar.specs.ComputedEnds.{stop}
 use Rattle.gtd_recur.specs.Begins.{begins, begins_at}
 
@@ -21,6 +22,6 @@ IsHeldFromDay p q n s = (b : ℤ) × (day_of_second b ≡ n) × IsHeldToStop p q
 -- the latest second of day n, not after s, at which the clock fits, if there is one
 abbrev pub IsLatestNotAfter : StartParts → ℤ → ℤ → Option ℕ → Type 0
 IsLatestNotAfter p n s (Some k) =
-    (k < 86400) × (begins_at p k ≡ true) × ((pos 86400 *ℤ n +ℤ pos k) ≤ℤ s)
-    × ((j : ℕ) → k < j → j < 86400 → (pos 86400 *ℤ n +ℤ pos j) ≤ℤ s → begins_at p j ≡ false)
-IsLatestNotAfter p n s None = (j : ℕ) → j < 86400 → (pos 86400 *ℤ n +ℤ pos j) ≤ℤ s → begins_at p j ≡ false
+    (k < day_seconds) × (begins_at p k ≡ true) × ((pos day_seconds *ℤ n +ℤ pos k) ≤ℤ s)
+    × ((j : ℕ) → k < j → j < day_seconds → (pos day_seconds *ℤ n +ℤ pos j) ≤ℤ s → begins_at p j ≡ false)
+IsLatestNotAfter p n s None = (j : ℕ) → j < day_seconds → (pos day_seconds *ℤ n +ℤ pos j) ≤ℤ s → begins_at p j ≡ false

@@ -11,6 +11,15 @@ pub record IsNextRun (has : ℤ → Type 0) (day end from until : ℤ) : Type 0 
   pub skipped : (n : ℤ) → day ≤ℤ n → n <ℤ from → has n → ⊥
   pub run : (n : ℤ) → from ≤ℤ n → n <ℤ until → has n
 
+-- the last run of days, before an end and not before a day, that have a property: those behind it have it not
+pub record IsLastRun (has : ℤ → Type 0) (low end from until : ℤ) : Type 0 where
+  pub begin : low ≤ℤ from
+  pub order : from ≤ℤ until
+  pub within : until ≤ℤ end
+  pub some : low <ℤ until → from <ℤ until
+  pub skipped : (n : ℤ) → until ≤ℤ n → n <ℤ end → has n → ⊥
+  pub run : (n : ℤ) → from ≤ℤ n → n <ℤ until → has n
+
 -- a month of one year comes before a month of another, or of the same
 abbrev pub IsBefore : ℤ → ℕ → ℤ → ℕ → Type 0
 IsBefore y m z k = (y <ℤ z) ⊎ ((y ≡ z) × (m < k))
@@ -29,6 +38,15 @@ pub record IsClipped (first last day end from until : ℤ) : Type 0 where
   pub within : until ≤ℤ end
   pub some : from <ℤ end → from <ℤ until
   pub early : (n : ℤ) → day ≤ℤ n → n <ℤ from → n <ℤ first
+  pub inside : (n : ℤ) → from ≤ℤ n → n <ℤ until → (first ≤ℤ n) × (n <ℤ last)
+
+-- of the days from `first` up to and without `last`, those before an end and not before a day
+pub record IsClippedBack (first last low end from until : ℤ) : Type 0 where
+  pub begin : low ≤ℤ from
+  pub order : from ≤ℤ until
+  pub within : until ≤ℤ end
+  pub some : low <ℤ until → from <ℤ until
+  pub late : (n : ℤ) → until ≤ℤ n → low ≤ℤ n → n <ℤ end → last ≤ℤ n
   pub inside : (n : ℤ) → from ≤ℤ n → n <ℤ until → (first ≤ℤ n) × (n <ℤ last)
 
 -- the day is of the year, and of the month where one is given

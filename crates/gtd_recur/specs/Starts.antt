@@ -1,7 +1,7 @@
 -- The starts of a window of days, from the front of which one is taken time and again.
 use Rattle.std.specs.Prelude.{◌≡◌, ℕ, ◌+◌, ◌-◌, ◌++◌, List, [], ◌∷◌, map, filter, count_by, length, drop, Option, Some, None, ℤ}
 use Rattle.std.specs.Prelude.{pos, ◌+ℤ◌, ◌*ℤ◌, ◌≤ℤ◌, ◌<ℤ◌, IsTrue}
-use Rattle.gtd_core.specs.Limits.{horizons_end, first_window_day}
+use Rattle.gtd_core.specs.Limits.{day_seconds, horizons_end, first_window_day}
 use Rattle.gtd_core.specs.declared.start.StartParts.{StartParts}
 use Rattle.gtd_core.specs.declared.second.Sec.{Sec}
 use Rattle.gtd_recur.specs.Begins.{begins_at, month_and_year_fit}
@@ -9,7 +9,7 @@ use Rattle.gtd_recur.specs.Work.{days_between, numbers_from, starts_of}
 
 -- the seconds of day n, from one of them on, at which the clock of a start fits
 unfoldable pub clock_starts : StartParts → ℤ → ℕ → List ℤ
-clock_starts p n from = map (λ k. pos 86400 *ℤ n +ℤ pos k) (filter (begins_at p) (numbers_from from (86400 - from)))
+clock_starts p n from = map (λ k. pos day_seconds *ℤ n +ℤ pos k) (filter (begins_at p) (numbers_from from (day_seconds - from)))
 
 -- the starts that are left of an open day, and those of the days from `next` up to `end`
 unfoldable pub starts_left : StartParts → ℤ → ℕ → ℤ → ℤ → List ℤ
@@ -33,10 +33,14 @@ pub record IsInWindow (first day next end : ℤ) : Type 0 where
   pub end_in : next ≤ℤ end
   pub last_in : end ≤ℤ horizons_end
 
--- the days up to the open one that no given month or year excludes were looked at, and there is none before the next
-pub record IsLookedCount (p : StartParts) (first day next : ℤ) (looked : ℕ) : Type 0 where
-  pub up_to : count_by (month_and_year_fit p) (days_between first (day +ℤ pos 1)) ≡ looked
-  pub jumped : count_by (month_and_year_fit p) (days_between (day +ℤ pos 1) next) ≡ 0
+-- Of the days before the next one just those were looked at that no given month or year excludes. Those before the day
+-- `seen` were looked at first; between the open day, or `seen` if that is later, and the next one none is left out.
+pub record IsLookedCount (p : StartParts) (first seen day next : ℤ) (looked : ℕ) : Type 0 where
+  pub low : first ≤ℤ seen
+  pub high : seen ≤ℤ next
+  pub all : count_by (month_and_year_fit p) (days_between first next) ≡ looked
+  pub jumped : seen ≤ℤ (day +ℤ pos 1) → count_by (month_and_year_fit p) (days_between (day +ℤ pos 1) next) ≡ 0
+  pub unopened : (day +ℤ pos 1) ≤ℤ seen → count_by (month_and_year_fit p) (days_between seen next) ≡ 0
 
 -- the days from the next up to some day, which is the last of all only at the end, are not excluded
 pub record AreFitting (p : StartParts) (next until end : ℤ) : Type 0 where

@@ -3,9 +3,8 @@ use Rattle.std.specs.Prelude.{◌≡◌, Bool, false, ◌&&◌, ◌||◌, ◌⊎
 use Rattle.std.specs.Prelude.{int_le, int_lt, unsigned_abs}
 use Rattle.gtd_core.specs.declared.duration.DurationParts.{DurationParts}
 use Rattle.gtd_core.specs.declared.second.Sec.{Sec}
-use Rattle.gtd_core.specs.Interval.{Interval, Within}
+use Rattle.gtd_core.specs.Seconds.{Interval, Within, day_of_second}
 use Rattle.gtd_calendar.specs.Calendar.{IsCalendarDay}
-use Rattle.gtd_core.specs.Days.{day_of_second}
 use Rattle.gtd_spans.specs.Normal.{normal_list}
 use Rattle.gtd_calendar.specs.ComputedEnds.{stop}
 

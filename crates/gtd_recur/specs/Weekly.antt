@@ -1,11 +1,21 @@
 -- Basic domains that repeat after 7 days.
-use Rattle.std.specs.Prelude.{◌≡◌, ◌+◌, ◌*◌}
-use Rattle.gtd_calendar.specs.declared.day.DayFields.{DayFields}
+use Rattle.std.specs.Prelude.{◌≡◌, ◌≢◌, ◌⊎◌, None, IsTrue}
 use Rattle.gtd_core.specs.declared.start.StartParts.{StartParts}
 use Rattle.gtd_core.specs.declared.duration.DurationParts.{DurationParts}
-use Rattle.gtd_recur.specs.Begins.{begins_on, weekday_agrees}
+use Rattle.gtd_recur.specs.Begins.{gives_clock}
 
--- of a day the start asks for nothing but its weekday, and the duration has no months and no years
+-- of a day the start asks for nothing but its weekday: weekdays or a field of the clock are given, and no other field is
+pub record AsksNoDate (p : StartParts) : Type 0 where
+  pub year : p.year ≡ None
+  pub month : p.month ≡ None
+  pub week : p.week ≡ None
+  pub day : p.day ≡ None
+  pub nth : p.nth ≡ None
+  pub nth_back : p.nth_back ≡ None
+  pub some : (p.weekdays ≢ 0) ⊎ IsTrue (gives_clock p)
+
+-- the start asks for no date, and the duration has no months and no years
 pub record IsWeekly (p : StartParts) (q : DurationParts) : Type 0 where
-  pub date : (f : DayFields) → begins_on p f ≡ weekday_agrees p f
-  pub months : 12 * q.years + q.months ≡ 0
+  pub start : AsksNoDate p
+  pub years : q.years ≡ 0
+  pub months : q.months ≡ 0

@@ -1,15 +1,16 @@
 -- The days and the starts that a horizon asks for, and what looking for them costs.
-use Rattle.std.specs.Prelude.{ℕ, zero, suc, ◌+◌, ◌&&◌, not, if◌then◌else◌, List, [], ◌∷◌, map, filter, count_by, length, ℤ, pos}
-use Rattle.std.specs.Prelude.{◌+ℤ◌, ◌-ℤ◌, ◌*ℤ◌, int_lt, unsigned_abs}
+use Rattle.std.specs.Prelude.{ℕ, zero, suc, ◌+◌, ◌&&◌, not, if◌then◌else◌, List, [], ◌∷◌, map, filter, count_by, length, ℤ}
+use Rattle.std.specs.Prelude.{pos, ◌+ℤ◌, ◌-ℤ◌, ◌*ℤ◌, int_lt, unsigned_abs}
 use Rattle.std.specs.List.{flat_map}
+use Rattle.gtd_core.specs.Limits.{day_seconds}
 use Rattle.gtd_core.specs.declared.start.StartParts.{StartParts}
 use Rattle.gtd_core.specs.declared.domain.Basic.{Basic}
 use Rattle.gtd_core.specs.declared.horizon.Horizon.{Horizon}
-use Rattle.gtd_core.specs.DurationBound.{lookback_of}
+use Rattle.gtd_core.specs.Ranges.{lookback_of}
 use Rattle.gtd_core.specs.Parts.{start_parts, duration_parts}
 use Rattle.gtd_core.specs.Whole.{from_day, to_day}
 use Rattle.gtd_calendar.specs.ComputedFields.{day_fields}
-use Rattle.gtd_core.specs.Days.{day_of_second}
+use Rattle.gtd_core.specs.Seconds.{day_of_second}
 use Rattle.gtd_recur.specs.Begins.{begins_on, begins_at, month_and_year_fit}
 
 -- k days from day n on
@@ -29,8 +30,8 @@ numbers_from n (suc k) = n ∷ numbers_from (n + 1) k
 -- the seconds of a day that the start matches, in order
 unfoldable pub starts_on : StartParts → ℤ → List ℤ
 starts_on p n =
-    if begins_on p (day_fields n) then map (λ k. pos 86400 *ℤ n +ℤ pos k) (filter (begins_at p) (numbers_from 0 86400))
-    else []
+    if begins_on p (day_fields n)
+    then map (λ k. pos day_seconds *ℤ n +ℤ pos k) (filter (begins_at p) (numbers_from 0 day_seconds)) else []
 
 -- those of days
 unfoldable pub starts_of : StartParts → List ℤ → List ℤ

@@ -1,14 +1,15 @@
 //! When a start begins: whether a day fits it, and the seconds of a day at which the clock does.
 
-ghost use Rattle.std.specs.Prelude.{◌≡◌, ◌+◌, ◌*◌, ◌%◌, ◌<◌, ◌≤◌, ℕ, true, IsTrue};
+ghost use Rattle.std.specs.Prelude.{◌≡◌, ◌+◌, ◌*◌, ◌%◌, ◌<◌, ◌≤◌, ◌↔◌, ℕ, true, IsTrue};
 ghost use Rattle.gtd_calendar.specs.Calendar.{IsCalendarDay};
 ghost use Rattle.gtd_calendar.specs.ComputedFields.{day_fields};
-ghost use Rattle.gtd_calendar.specs.declared.day.DayFields.{DayFields};
 ghost use Rattle.std.specs.Int.{IsInRange};
-ghost use Rattle.gtd_core.specs.StartRanges.{IsStart, IsWithin};
+ghost use Rattle.gtd_core.specs.Ranges.{IsStart, IsWithin};
 ghost use Rattle.gtd_recur.specs.Begins as spec;
 ghost use Rattle.gtd_recur.specs.ClockSearch as clock;
 ghost use Rattle.gtd_recur.specs.Stepping.{IsStep};
+ghost use Rattle.gtd_recur.specs.Weekly.{AsksNoDate};
+ghost use Rattle.gtd_core.specs.Limits.{day_seconds};
 
 use gtd_calendar::{DayFields, fields, weekday};
 use gtd_core::StartParts;
@@ -109,7 +110,7 @@ fn begins_on(start: &StartParts, day: &DayFields) -> bool
 
 /// Whether only the weekday of a day says whether it fits the start.
 pub(crate) fn asks_no_date(start: &StartParts) -> bool
-    ensures { IsTrue result → (f : DayFields) → spec.begins_on start.now f ≡ spec.weekday_agrees start.now f }
+    ensures { IsTrue result ↔ AsksNoDate start.now }
 {
     start.year.is_none()
         && start.month.is_none()
@@ -133,7 +134,7 @@ pub(crate) fn begins_on_day(start: &StartParts, day: i64) -> bool
 
 // The least number of sixties with which an offset reaches a number.
 fn sixties(from: u32, offset: u32) -> u32
-    requires from_in { from ≤ 86_400 }
+    requires from_in { from ≤ day_seconds }
     requires offset_in { offset < 60 }
     ensures reaches { from ≤ 60 * result + offset }
     ensures least { (i : ℕ) → from ≤ 60 * i + offset → result ≤ i }
@@ -173,7 +174,7 @@ fn next_clock(hour: Option<u32>, minute: Option<u32>, second: u32, from: u32) ->
     requires hour_in { IsWithin 0 23 hour }
     requires minute_in { IsWithin 0 59 minute }
     requires second_in { second < 60 }
-    requires from_in { from ≤ 86_400 }
+    requires from_in { from ≤ day_seconds }
     ensures { clock.IsNextPassing (clock.shows hour minute second) from result }
 {
     let minutes = next_minute(minute, sixties(from, second));
@@ -217,7 +218,7 @@ fn latest_clock(hour: Option<u32>, minute: Option<u32>, second: u32, limit: u32)
     requires hour_in { IsWithin 0 23 hour }
     requires minute_in { IsWithin 0 59 minute }
     requires second_in { second < 60 }
-    requires limit_in { limit < 86_400 }
+    requires limit_in { limit < day_seconds }
     ensures { clock.IsLastPassing (clock.shows hour minute second) limit result }
 {
     let within = sixties_within(limit, second)?;
@@ -233,7 +234,7 @@ fn latest_clock(hour: Option<u32>, minute: Option<u32>, second: u32, limit: u32)
 /// The first second of a day, from one of its seconds on, at which the start begins.
 pub(crate) fn next_begin(start: &StartParts, from: u32) -> Option<u32>
     requires valid { IsStart start.now }
-    requires from_in { from ≤ 86_400 }
+    requires from_in { from ≤ day_seconds }
     ensures { clock.IsNextPassing (spec.begins_at start.now) from result }
 {
     let finer_than_minute = start.second.is_some();
@@ -250,7 +251,7 @@ pub(crate) fn next_begin(start: &StartParts, from: u32) -> Option<u32>
 /// The latest second of a day, up to a limit, at which the start begins.
 pub(crate) fn latest_begin(start: &StartParts, limit: u32) -> Option<u32>
     requires valid { IsStart start.now }
-    requires limit_in { limit < 86_400 }
+    requires limit_in { limit < day_seconds }
     ensures { clock.IsLatestBegin start.now limit result }
 {
     let finer_than_minute = start.second.is_some();

@@ -1,19 +1,23 @@
 //! Whether a basic domain contains a second.
 
-ghost use Rattle.std.specs.Prelude.{◌≡◌, ◌≤◌, ◌↔◌, IsTrue};
-ghost use Rattle.gtd_core.specs.Whole.{from_day};
-ghost use Rattle.gtd_recur.specs.Look.{IsFirstLook};
+ghost use Rattle.std.specs.Prelude.{◌≡◌, ◌↔◌, ℤ, ◌≤ℤ◌, ◌<ℤ◌, IsTrue};
+ghost use Rattle.gtd_core.specs.Limits.{horizons_end, first_window_day};
+ghost use Rattle.gtd_recur.specs.Begins.{month_and_year_fit};
+ghost use Rattle.gtd_recur.specs.Jumps.{IsLastRun};
+ghost use Rattle.gtd_recur.specs.Look.{IsLookBack};
 ghost use Rattle.gtd_recur.specs.Weekly.{IsWeekly};
 ghost use Rattle.gtd_core.specs.Parts.{start_parts, duration_parts};
-ghost use Rattle.gtd_core.specs.StartRanges.{IsStart};
+ghost use Rattle.gtd_core.specs.Ranges.{IsStart};
 ghost use Rattle.gtd_calendar.specs.Calendar.{IsCalendarDay};
 ghost use Rattle.gtd_recur.specs.Membership.{InBasic};
 ghost use Rattle.gtd_recur.specs.ComputedStretches.{IsHeldFromDay, IsLatestNotAfter};
-ghost use Rattle.gtd_core.specs.Days.{IsHorizonSecond};
+ghost use Rattle.gtd_core.specs.Seconds.{IsHorizonSecond};
 
 use crate::begin::{asks_no_date, begins_on_day, latest_begin};
+use crate::jump::{Days, last_days};
 use gtd_calendar::{end_of, second_of_day};
-use gtd_core::{Basic, Duration, Horizon, Sec, StartParts};
+use gtd_core::limits::DAY_SECONDS;
+use gtd_core::{Basic, Duration, Sec, StartParts};
 
 // Whether a stretch that begins on that day holds the second. On one day the latest start ends last.
 fn held_from_day(
@@ -33,7 +37,7 @@ fn held_from_day(
     if !begins_on_day(start, day) {
         return false;
     }
-    let begin = Sec(86_400 * day + i64::from(clock));
+    let begin = Sec(DAY_SECONDS * day + i64::from(clock));
     second.0 < end_of(begin, duration).0
 }
 
@@ -66,35 +70,71 @@ pub fn covers(basic: &Basic, second: Sec) -> bool
     false
 }
 
-// How far back a look for a day is worth more than the walk that it spares.
-const FURTHEST: u32 = 400;
+/// Where a look backwards ended.
+#[derive(Clone, Copy, Debug)]
+pub(crate) struct LookBack {
+    /// The last day on which the start begins, if there is one, and else the first that it was to look at.
+    pub(crate) first: i64,
+    /// That day, open from its first second on; or, where the start begins on none, the day before it, which is closed.
+    pub(crate) day: i64,
+    pub(crate) clock: u32,
+    /// How many days were looked at.
+    pub(crate) looked: u64,
+}
 
-/// How many days before a horizon the starts have to be walked from: from a day on which the start begins, since no stretch
-/// from an earlier day ends later than the last from that day; or all the lookback.
-pub(crate) fn first_look(start: &StartParts, lookback: u32, horizon: Horizon) -> u32
-    requires lookback_in { lookback ≤ 36_600 }
-    ensures look { IsFirstLook start.now (from_day horizon) lookback result }
+/// Looks backwards from a horizon's first day, and not beyond a lowest day, for a day on which the start begins: no stretch
+/// from an earlier day ends later than the last from that day. Days that a given month or year excludes are passed over.
+pub(crate) fn first_look(start: &StartParts, low: i64, seen: i64) -> LookBack
+    requires valid { IsStart start.now }
+    requires low_in { first_window_day ≤ℤ low }
+    requires order { low ≤ℤ seen }
+    requires seen_in { seen ≤ℤ horizons_end }
+    ensures look { IsLookBack start.now low seen result.first result.day result.clock
+        result.looked }
 {
-    if start.year.is_some() {
-        return lookback;
-    }
-    let most = if lookback < FURTHEST {
-        lookback
-    } else {
-        FURTHEST
-    };
-    for back in 1..most + 1 {
-        if begins_on_day(start, horizon.from_day() - i64::from(back)) {
-            return back;
+    let mut days = last_days(start, low, seen);
+    let mut looked = 0;
+    while low < days.until {
+        let day = days.until - 1;
+        looked += 1;
+        if begins_on_day(start, day) {
+            return LookBack {
+                first: day,
+                day,
+                clock: 0,
+                looked,
+            };
         }
+        days = days_before(start, low, days.from, day);
     }
-    if most == lookback { 0 } else { lookback }
+    LookBack {
+        first: low,
+        day: low - 1,
+        clock: DAY_SECONDS as u32,
+        looked,
+    }
+}
+
+// The days to look at before one: the rest of its run, or else the run before that.
+fn days_before(start: &StartParts, low: i64, from: i64, day: i64) -> Days
+    requires valid { IsStart start.now }
+    requires low_in { first_window_day ≤ℤ low }
+    requires from_in { low ≤ℤ from }
+    requires order { from ≤ℤ day }
+    requires day_in { day ≤ℤ horizons_end }
+    requires fit { (n : ℤ) → from ≤ℤ n → n <ℤ day → IsTrue (month_and_year_fit start.now n) }
+    ensures run { IsLastRun (λ n. IsTrue (month_and_year_fit start.now n)) low day result.from result.until }
+{
+    if from < day {
+        return Days { from, until: day };
+    }
+    last_days(start, low, day)
 }
 
 /// Whether the basic domain repeats after 7 days, since of a day its start asks for nothing but the weekday, and its
 /// duration has no months and no years.
 pub fn is_weekly(basic: &Basic) -> bool
-    ensures weekly { IsTrue result → IsWeekly (start_parts basic.now.start) (duration_parts basic.now.duration) }
+    ensures weekly { IsTrue result ↔ IsWeekly (start_parts basic.now.start) (duration_parts basic.now.duration) }
 {
     basic.duration.whole_months() == 0 && asks_no_date(basic.start.as_parts())
 }

@@ -4,11 +4,11 @@ ghost use Rattle.std.specs.Prelude.{◌≡◌, ◌≤ℤ◌, ◌<ℤ◌, ◌≤�
 ghost use Rattle.std.specs.Int.{IsInRange};
 ghost use Rattle.std.specs.Option.{unwrap_or};
 ghost use Rattle.gtd_core.specs.Limits.{horizons_end, first_window_day};
-ghost use Rattle.gtd_core.specs.StartRanges.{IsStart};
+ghost use Rattle.gtd_core.specs.Ranges.{IsStart};
 ghost use Rattle.gtd_calendar.specs.Calendar.{IsCalendarDay, IsCalendarYear, day_number};
 ghost use Rattle.gtd_calendar.specs.ComputedDates.{guessed_year, year_of};
 ghost use Rattle.gtd_recur.specs.Begins.{month_and_year_fit};
-ghost use Rattle.gtd_recur.specs.Jumps.{IsNextRun, AreMonths, IsClipped, IsOf, IsOfMonth};
+ghost use Rattle.gtd_recur.specs.Jumps.{IsNextRun, IsLastRun, AreMonths, IsClipped, IsClippedBack, IsOf, IsOfMonth};
 ghost use Rattle.gtd_recur.specs.Stretches.{IsLater, IsEarlier};
 
 use gtd_calendar::day_of;
@@ -86,6 +86,80 @@ fn days_of_month(month: u8, day: i64, end: i64) -> Days
     }
 }
 
+/// The last run of days, before an end and not before a day, that the month and the year of a start do not exclude. Where
+/// there is none, it is empty and at that day.
+pub(crate) fn last_days(start: &StartParts, low: i64, end: i64) -> Days
+    requires valid { IsStart start.now }
+    requires low_in { first_window_day ≤ℤ low }
+    requires order { low ≤ℤ end }
+    requires end_in { end ≤ℤ horizons_end }
+    ensures run { IsLastRun (λ n. IsTrue (month_and_year_fit start.now n)) low end result.from result.until }
+{
+    if start.week.is_none() {
+        if let Some(year) = start.year {
+            return last_of_year(i64::from(year), start.month, low, end);
+        }
+    }
+    match start.month {
+        Some(month) => last_of_month(month, low, end),
+        None => Days {
+            from: low,
+            until: end,
+        },
+    }
+}
+
+// The last run of days of one year, or of one of its months.
+fn last_of_year(year: i64, month: Option<u8>, low: i64, end: i64) -> Days
+    requires month_in { IfSome month (IsInRange 1 12) }
+    requires low_in { first_window_day ≤ℤ low }
+    requires order { low ≤ℤ end }
+    requires end_in { end ≤ℤ horizons_end }
+    ensures run { IsLastRun (IsOf year month) low end result.from result.until }
+{
+    if year < 1800 || year > 2699 {
+        return Days {
+            from: low,
+            until: low,
+        };
+    }
+    let months = months(year, month.unwrap_or(1), month.unwrap_or(12));
+    if months.from < end {
+        clip_back(months, low, end)
+    } else {
+        Days {
+            from: low,
+            until: low,
+        }
+    }
+}
+
+// The last run of days of a month, whatever the year.
+fn last_of_month(month: u8, low: i64, end: i64) -> Days
+    requires month_in { IsInRange 1 12 month }
+    requires low_in { first_window_day ≤ℤ low }
+    requires order { low ≤ℤ end }
+    requires end_in { end ≤ℤ horizons_end }
+    ensures run { IsLastRun (IsOfMonth month) low end result.from result.until }
+{
+    let none = Days {
+        from: low,
+        until: low,
+    };
+    if low >= end {
+        return none;
+    }
+    let year = year_of_day(end - 1);
+    let this_year = months(year, month, month);
+    if this_year.from < end {
+        return clip_back(this_year, low, end);
+    }
+    if year < 1801 {
+        return none;
+    }
+    clip_back(months(year - 1, month, month), low, end)
+}
+
 // The days of some months of a year that follow one another.
 fn months(year: i64, low: u8, high: u8) -> Days
     requires year_in { (pos 1800 ≤ℤ year) × (year ≤ℤ pos 2798) }
@@ -160,6 +234,26 @@ fn clip(days: Days, day: i64, end: i64) -> Days
     Days {
         from,
         until: earlier(days.until, end),
+    }
+}
+
+// Those of the days that are before an end and not before a day.
+fn clip_back(days: Days, low: i64, end: i64) -> Days
+    requires some { days.from <ℤ days.until }
+    requires open { days.from <ℤ end }
+    requires order { low ≤ℤ end }
+    ensures clipped { IsClippedBack days.from days.until low end result.from result.until }
+{
+    let until = earlier(days.until, end);
+    if until <= low {
+        return Days {
+            from: low,
+            until: low,
+        };
+    }
+    Days {
+        from: later(days.from, low),
+        until,
     }
 }
 

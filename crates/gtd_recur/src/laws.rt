@@ -7,12 +7,11 @@ ghost use Rattle.gtd_core.specs.Parts.{start_parts};
 ghost use Rattle.gtd_core.specs.Whole.{to_day};
 ghost use Rattle.gtd_core.specs.declared.start.StartParts.{StartParts};
 ghost use Rattle.gtd_core.specs.declared.duration.DurationParts.{DurationParts};
-ghost use Rattle.gtd_core.specs.Days.{day_of_second};
+ghost use Rattle.gtd_core.specs.Seconds.{day_of_second};
 ghost use Rattle.gtd_recur.specs.Ascending.{IsAscending, Has};
 ghost use Rattle.gtd_recur.specs.Begins.{begins};
 ghost use Rattle.gtd_recur.specs.ComputedStretches.{InComputedStretches};
-ghost use Rattle.gtd_recur.specs.Matching.{Matches};
-ghost use Rattle.gtd_recur.specs.Membership.{InStretches};
+ghost use Rattle.gtd_recur.specs.Membership.{Matches, InStretches};
 ghost use Rattle.gtd_recur.specs.Work.{starts_in, window_begin, work_of};
 
 /// A start that gives no year matches a second exactly if it matches the one 146,097 days later.

@@ -15,3 +15,4 @@ pub mod laws;
 mod runs;
 mod spans;
 mod starts;
+mod walk;

@@ -1,8 +1,7 @@
 pub mod Theorem
 pub mod facts
-pub use Rattle.gtd_core.specs.Days
+pub use Rattle.gtd_core.specs.Seconds
 pub use Rattle.gtd_core.specs.Horizons
-pub use Rattle.gtd_core.specs.Interval
 pub use Rattle.gtd_core.specs.Limits
 pub use Rattle.gtd_core.specs.Parts
 pub use Rattle.gtd_core.specs.Trees
@@ -13,7 +12,7 @@ pub use Rattle.gtd_core.specs.declared.second.Sec
 pub use Rattle.gtd_calendar.specs.Calendar
 pub use Rattle.gtd_spans.specs.Normal
 pub use Rattle.gtd_eval.specs.Cursors
-pub use Rattle.gtd_eval.specs.NormalOver
+pub use Rattle.gtd_eval.specs.Membership
 pub use Rattle.gtd_devices.specs.Device
 pub use Rattle.gtd_devices.specs.InputFaultNames
 pub use Rattle.gtd_devices.specs.WholeInput
@@ -25,10 +24,8 @@ pub use Rattle.gtd_records.specs.Faults
 pub use Rattle.gtd_records.specs.File
 pub use Rattle.gtd_records.specs.Reading
 pub use Rattle.gtd_records.specs.RecordFaultNames
-pub use Rattle.gtd_records.specs.Restriction
 pub use Rattle.gtd_records.specs.Cut
 pub use Rattle.gtd_records.specs.Table
-pub use Rattle.gtd_records.specs.Vehicles
 pub use Rattle.gtd_records.specs.declared.direction.Closed
 pub use Rattle.gtd_records.specs.declared.direction.Direction
 pub use Rattle.gtd_records.specs.declared.fault.RecordFault
@@ -37,7 +34,6 @@ pub use Rattle.gtd_runs.specs.Putting
 pub use Rattle.gtd_runs.specs.Run
 pub use Rattle.gtd_runs.specs.RunFaultNames
 pub use Rattle.gtd_runs.specs.Subjects
-pub use Rattle.gtd_runs.specs.DirectionWords
 pub use Rattle.gtd_runs.specs.declared.fault.RunFault
 pub use Rattle.gtd_runs.specs.declared.putting.Stop
 pub use Rattle.gtd_runs.specs.declared.subject.Subject

@@ -15,8 +15,9 @@ use std::alloc::{AllocError, Global};
 use std::process::Abort;
 
 /// The schedule of `R` for 2024-04-01 and vehicle type 11: 147 bytes.
-const SCHEDULE: &str =
-    "element,direction,vehicle,from,until\n17,positive,11,2024-04-01T00:00:00,2024-04-01T10:00:00\n17,positive,11,2024-04-01T14:00:00,2024-04-02T00:00:00\n";
+const SCHEDULE: &str = "element,direction,vehicle,from,until\n\
+    17,positive,11,2024-04-01T00:00:00,2024-04-01T10:00:00\n\
+    17,positive,11,2024-04-01T14:00:00,2024-04-02T00:00:00\n";
 
 /// `R` as a file of version 2: 91 bytes.
 const MIGRATED: &str =

@@ -1,8 +1,7 @@
-pub mod RunFaultNames
 pub mod Putting
 pub mod Run
+pub mod RunFaultNames
 pub mod Subjects
-pub mod DirectionWords
 pub mod facts
 pub use Rattle.gtd_core.specs.Limits
-pub use Rattle.gtd_records.specs.Restriction
+pub use Rattle.gtd_records.specs.Closing

@@ -1,5 +1,5 @@
 -- What an output took of lines, and how it is counted. A line has its end: the LF is its last byte.
-use Rattle.std.specs.Prelude.{◌≡◌, ◌≤◌, ◌+◌, ℕ, List, length, take, flat_map, Option, Result, Ok, Err}
+use Rattle.std.specs.Prelude.{◌≡◌, ◌≤◌, ◌+◌, ℕ, List, length, take, flat_map, Option, Result, Ok, Err, codes}
 use Rattle.std.specs.Io.KnownBytes.{Appends}
 use Rattle.gtd_runs.specs.declared.fault.RunFault.{RunFault}
 use Rattle.gtd_runs.specs.declared.fault.RunFault.TheVariants as fault
@@ -7,6 +7,13 @@ use Rattle.gtd_runs.specs.declared.putting.Progress.{Progress}
 use Rattle.gtd_runs.specs.declared.putting.ShortPut.{ShortPut}
 use Rattle.gtd_runs.specs.declared.putting.Stop.{Stop}
 use Rattle.gtd_runs.specs.declared.putting.Stop.TheVariants.{Output, Memory}
+use Rattle.gtd_records.specs.declared.direction.Direction.{Direction}
+use Rattle.gtd_records.specs.declared.direction.Direction.TheVariants.{Positive, Negative}
+
+-- the word for a direction
+abbrev pub direction_word : Direction → List ℕ
+direction_word Positive = codes "positive"
+direction_word Negative = codes "negative"
 
 -- the text of lines, one after the other
 abbrev pub text_of : List (List ℕ) → List ℕ

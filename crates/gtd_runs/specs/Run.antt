@@ -2,9 +2,8 @@
 -- texts: of which restrictions a text is put, and which text that is. A text is given by its lines.
 use Rattle.std.specs.Prelude.{◌≡◌, ◌≤◌, ℕ, ◌+◌, List, length, take, ⊤, Option, IfSome, Result, Ok, Err}
 use Rattle.std.specs.Io.KnownBytes.{Appends, Keeps}
-use Rattle.gtd_records.specs.File.{IsFile}
-use Rattle.gtd_records.specs.Reading.{IsOfFile}
-use Rattle.gtd_records.specs.Restriction.{Restriction}
+use Rattle.gtd_records.specs.File.{IsFile, IsOfFile}
+use Rattle.gtd_records.specs.Closing.{Restriction}
 use Rattle.gtd_records.specs.declared.fault.RecordFault.{RecordFault}
 use Rattle.gtd_records.specs.declared.fault.RecordFault.TheVariants as records
 use Rattle.gtd_runs.specs.Putting.{text_of}

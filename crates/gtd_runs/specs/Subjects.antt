@@ -1,6 +1,6 @@
 -- What is refused of what a report is asked of: before the file is read, and by what the file has.
 use Rattle.std.specs.Prelude.{◌≡◌, ◌≤◌, ◌<◌, ℕ, List, Any, IfSome}
-use Rattle.gtd_records.specs.Restriction.{Restriction}
+use Rattle.gtd_records.specs.Closing.{Restriction}
 use Rattle.gtd_runs.specs.declared.subject.Subject.{Subject}
 
 -- a vehicle type: from 1 to 99

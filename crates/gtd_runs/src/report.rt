@@ -2,7 +2,7 @@
 
 ghost use Rattle.std.specs.Prelude.{◌≡◌, ◌<◌, ◌≤◌, ◌↔◌, ℕ, List, length, IfOk, IsErrOf, IsTrue, OnOk};
 ghost use Rattle.gtd_core.specs.Limits.{most_rows};
-ghost use Rattle.gtd_records.specs.Restriction.{Restriction};
+ghost use Rattle.gtd_records.specs.Closing.{Restriction};
 ghost use Rattle.gtd_runs.specs.declared.subject.Subject.{Subject};
 ghost use Rattle.gtd_runs.specs.Putting.{PutsText, failures_after_stop, nothing_put};
 ghost use Rattle.gtd_runs.specs.Run.{AcceptedFilesArePut, HasRun, IsLineCount, RefusedFilesPutNothing};

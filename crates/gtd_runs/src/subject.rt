@@ -1,7 +1,7 @@
 //! What a report is asked of.
 
 ghost use Rattle.std.specs.Prelude.{◌≡◌, ◌↔◌, Any, IsTrue, List};
-ghost use Rattle.gtd_records.specs.Restriction.{Restriction};
+ghost use Rattle.gtd_records.specs.Closing.{Restriction};
 ghost use Rattle.gtd_runs.specs.Subjects.{IsAccepted, IsVehicleInRange, IsYearInRange};
 
 use gtd_records::Records;

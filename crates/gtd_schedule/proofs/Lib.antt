@@ -1,4 +1,5 @@
 pub mod SpanFacts
+pub mod NextDay
 pub mod ShortLines
 pub mod SplitFacts
 pub mod HeadlineFacts

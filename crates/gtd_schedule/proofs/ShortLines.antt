@@ -1,25 +1,22 @@
 -- How long the lines of a file's schedule are.
-use Rattle.std.proofs.Common.{◌≡◌, ◌∙◌, inl, inr, slice_index_or, ◌<◌, ◌≤◌, ◌^◌, ◌+◌, ◌&&◌, nat_le, ap, refl, subst, arith, cond}
-use Rattle.std.proofs.Common.{map, ℕ, Bool, List, [], ◌∷◌, length, Option, Some, None}
+use Rattle.std.proofs.Common.{◌≡◌, ◌∙◌, inl, inr, slice_index_or, ◌<◌, ◌≤◌, ◌^◌, ◌+◌, ◌&&◌, nat_le, ap, refl, subst, arith}
+use Rattle.std.proofs.Common.{cond, map, ℕ, Bool, List, [], ◌∷◌, length, Option, Some, None}
 use Rattle.std.specs.Prelude.{MatchOption, Result, Ok, Err}
 use Rattle.std.specs.Char.{is_ascii_digit}
 use Rattle.std.specs.List.{All, list_all}
 use Rattle.std.proofs.lemmas.Bool.Decides.{nat_tests}
 use Rattle.std.proofs.lemmas.Fmt.{length-decimal-le}
 use Rattle.std.proofs.lemmas.List.Elements.{All-append, All-cons, All-head, All-tail}
-use Rattle.gtd_core.specs.Interval.{Interval}
+use Rattle.gtd_core.specs.Seconds.{Interval}
 use Rattle.gtd_core.specs.Trees.{Tree}
 use Rattle.gtd_core.specs.declared.fault.TextFault.{TextFault}
 use Rattle.gtd_core.specs.declared.horizon.Horizon.{Horizon}
 use Rattle.gtd_records.specs.facts.IndexFacts.{any_default}
 use Rattle.gtd_records.specs.facts.NumberFacts.{number_below}
-use Rattle.gtd_records.specs.Closing.{AreElements}
-use Rattle.gtd_records.specs.Columns.{closed_of, number_of}
+use Rattle.gtd_records.specs.Closing.{AreElements, Restriction}
+use Rattle.gtd_records.specs.Columns.{closed_of, number_of, Fields, IsOrdered, vehicles_of}
 use Rattle.gtd_records.specs.File.{AreRecords, IsFile, IsTable}
-use Rattle.gtd_records.specs.Restriction.{Restriction}
 use Rattle.gtd_records.specs.Row.{IsDomainColumn, IsRow, with_domain}
-use Rattle.gtd_records.specs.Table.{Fields}
-use Rattle.gtd_records.specs.Vehicles.{IsOrdered, vehicles_of}
 use Rattle.gtd_records.specs.declared.direction.Closed.{Closed}
 use Rattle.gtd_records.specs.declared.direction.Direction.{Direction}
 use Rattle.gtd_records.specs.declared.direction.Direction.TheVariants.{Positive, Negative}

@@ -4,12 +4,11 @@ use Rattle.std.specs.Prelude.{Result, Ok, Err, ℤ, pos, negsuc, ◌+ℤ◌, ◌
 use Rattle.std.proofs.lemmas.Int.{ints}
 use Rattle.gtd_calendar.specs.facts.ClockLemmas.{second-parts}
 use Rattle.gtd_calendar.specs.Calendar.{IsCalendarDay}
-use Rattle.gtd_core.specs.Days.{day_of_second}
+use Rattle.gtd_core.specs.Seconds.{day_of_second, Interval}
 use Rattle.gtd_calendar.specs.Clock.{second_of_day}
-use Rattle.gtd_core.specs.Interval.{Interval}
 use Rattle.gtd_core.specs.Whole.{whole}
 use Rattle.gtd_core.specs.declared.horizon.Horizon.{Horizon}
-use Rattle.gtd_eval.specs.NormalOver.{IsNormalOver}
+use Rattle.gtd_eval.specs.Membership.{IsNormalOver}
 use Rattle.gtd_runs.specs.facts.PutFacts.{puts_cut, puts_none, puts_then}
 use Rattle.gtd_runs.specs.Putting.{Puts}
 use Rattle.gtd_runs.specs.declared.putting.Progress.{Progress}

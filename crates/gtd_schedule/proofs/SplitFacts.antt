@@ -12,16 +12,15 @@ use Rattle.std.proofs.lemmas.Map.Keys.{IsStrictlyIncreasing-from_sorted, sorted_
 use Rattle.gtd_core.specs.declared.horizon.Horizon.{Horizon}
 use Rattle.gtd_records.specs.facts.IndexFacts.{by_le}
 use Rattle.gtd_records.specs.facts.Rising.{AllAbove, In, Rises}
-use Rattle.gtd_records.specs.Closing.{AreElements, Closes, IsOpen}
-use Rattle.gtd_records.specs.Restriction.{Restriction}
+use Rattle.gtd_records.specs.Closing.{AreElements, Closes, IsOpen, Restriction}
 use Rattle.gtd_records.specs.declared.direction.Direction.{Direction}
 use Rattle.gtd_records.specs.declared.direction.Direction.TheVariants.{Positive, Negative}
 use Rattle.gtd_schedule.specs.facts.SomeSchedule.{any_first, any_later, any_split, sorted, to_in, from_in}
 use Rattle.gtd_schedule.specs.Schedule.{AreElementLines, AreLines, AreLinesOf, IsSchedule, header_line}
 use Rattle.gtd_schedule.specs.Split.{below, not_below}
-use Rattle.gtd_core.specs.Interval.{Interval}
+use Rattle.gtd_core.specs.Seconds.{Interval}
 use Rattle.gtd_core.specs.Whole.{whole}
-use Rattle.gtd_eval.specs.NormalOver.{IsNormalOver}
+use Rattle.gtd_eval.specs.Membership.{IsNormalOver}
 use Rattle.gtd_spans.specs.facts.NormalFor.{normal-for, normal-of}
 
 -- two sets of the same seconds have the same normal list

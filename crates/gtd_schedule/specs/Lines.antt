@@ -1,11 +1,10 @@
 -- The lines of a schedule, as they are written: what all lines of an element in a direction begin with, and the rest.
 use Rattle.std.specs.Prelude.{ℕ, List, [], ◌∷◌, ◌++◌, codes, decimal}
-use Rattle.gtd_core.specs.Interval.{Interval}
+use Rattle.gtd_core.specs.Seconds.{Interval, day_of_second}
 use Rattle.gtd_calendar.specs.Calendar.{IsCalendarDay}
-use Rattle.gtd_core.specs.Days.{day_of_second}
 use Rattle.gtd_calendar.specs.Stamp.{stamp_text}
 use Rattle.gtd_records.specs.declared.direction.Direction.{Direction}
-use Rattle.gtd_runs.specs.DirectionWords.{direction_word}
+use Rattle.gtd_runs.specs.Putting.{direction_word}
 
 -- the element, the direction and the vehicle type, each with its comma
 abbrev pub line_head : ℕ → Direction → ℕ → List ℕ

@@ -1,15 +1,14 @@
 -- The schedule of a record file: when each of its road elements is open, over the days of a horizon and for a vehicle
 -- type. A line has its end: the LF is its last byte.
 use Rattle.std.specs.Prelude.{◌≡◌, ◌++◌, ℕ, List, [], ◌∷◌, map, codes, decimal}
-use Rattle.gtd_core.specs.Interval.{Interval}
+use Rattle.gtd_core.specs.Seconds.{Interval}
 use Rattle.gtd_core.specs.declared.horizon.Horizon.{Horizon}
 use Rattle.gtd_calendar.specs.Stamp.{stamp_text}
-use Rattle.gtd_eval.specs.NormalOver.{IsNormalOver}
-use Rattle.gtd_records.specs.Closing.{AreElements, IsOpen}
-use Rattle.gtd_records.specs.Restriction.{Restriction}
+use Rattle.gtd_eval.specs.Membership.{IsNormalOver}
+use Rattle.gtd_records.specs.Closing.{AreElements, IsOpen, Restriction}
 use Rattle.gtd_records.specs.declared.direction.Direction.{Direction}
 use Rattle.gtd_records.specs.declared.direction.Direction.TheVariants.{Positive, Negative}
-use Rattle.gtd_runs.specs.DirectionWords.{direction_word}
+use Rattle.gtd_runs.specs.Putting.{direction_word}
 
 -- the header line
 abbrev pub header_line : List ℕ

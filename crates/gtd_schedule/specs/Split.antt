@@ -1,7 +1,7 @@
 -- The restrictions of a file in two parts, by their elements.
 use Rattle.std.specs.Prelude.{ℕ, List, nat_lt, nat_le}
 use Rattle.std.specs.List.{filter}
-use Rattle.gtd_records.specs.Restriction.{Restriction}
+use Rattle.gtd_records.specs.Closing.{Restriction}
 
 -- the restrictions of the elements below a number, in their order
 abbrev pub below : ℕ → List Restriction → List Restriction

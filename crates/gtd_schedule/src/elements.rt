@@ -6,6 +6,7 @@ ghost use Rattle.gtd_runs.specs.Putting.{Puts, PutsText, failures_after_stop};
 ghost use Rattle.gtd_schedule.specs.Lines.{AreShown, most_schedule_bytes, most_lines};
 ghost use Rattle.gtd_schedule.specs.Schedule.{AreElementLines, AreLines, AreLinesOf, span_line};
 
+use crate::day_text::DayText;
 use crate::line::{write_head, write_span};
 use gtd_core::Horizon;
 use gtd_devices::Output;
@@ -35,8 +36,9 @@ fn put_spans<O: Output, S: SpanSource>(
 {
     write_head(line, element, direction, vehicle)?;
     let head = line.len();
+    let mut days = DayText::new(0);
     while let Some(span) = spans.next() {
-        write_span(line, head, span)?;
+        write_span(line, &mut days, head, span)?;
         put_line(output, progress, line.as_slice())?;
     }
     Ok(())

@@ -2,11 +2,12 @@
 
 ghost use Rattle.std.specs.Prelude.{[], ◌∷◌, ◌≡◌, ◌++◌, ◌≤◌, length, take, OnOk};
 ghost use Rattle.gtd_calendar.specs.Calendar.{IsCalendarDay};
-ghost use Rattle.gtd_core.specs.Days.{day_of_second};
+ghost use Rattle.gtd_core.specs.Seconds.{day_of_second};
 ghost use Rattle.gtd_calendar.specs.Stamp.{stamp_text};
 ghost use Rattle.gtd_schedule.specs.Lines.{line_head, span_text};
 
-use gtd_calendar::{write_clock, write_date};
+use crate::day_text::DayText;
+use gtd_calendar::write_clock;
 use gtd_core::{Sec, Span};
 use gtd_records::Direction;
 use itoa::Buffer;
@@ -32,23 +33,34 @@ pub(crate) fn write_head(
 }
 
 // Writes a moment behind what the buffer has, and the byte that ends it.
-fn write_moment(line: &mut Vec<u8>, second: Sec, end: u8) -> Result<(), AllocError>
+fn write_moment(
+    line: &mut Vec<u8>,
+    days: &mut DayText,
+    second: Sec,
+    end: u8,
+) -> Result<(), AllocError>
     requires day { IsCalendarDay (day_of_second second.0) }
     ensures moment { OnOk result (line.new.items ≡ line.old.items ++ (stamp_text second.0 ++ (end ∷ []))) }
 {
-    line.extend_from_slice(&write_date(second.day()))?;
+    let date = days.text_of(second.day());
+    line.extend_from_slice(&date)?;
     line.extend_from_slice(&write_clock(second))?;
     line.extend_from_slice(&[end])
 }
 
 // Writes the line of a span behind the head of its line, which has so many bytes.
-pub(crate) fn write_span(line: &mut Vec<u8>, head: usize, span: Span) -> Result<(), AllocError>
+pub(crate) fn write_span(
+    line: &mut Vec<u8>,
+    days: &mut DayText,
+    head: usize,
+    span: Span,
+) -> Result<(), AllocError>
     requires head { head ≤ length line.old.items }
     requires from { IsCalendarDay (day_of_second span.from) }
     requires until { IsCalendarDay (day_of_second span.until) }
     ensures line { OnOk result (line.new.items ≡ take head line.old.items ++ span_text span) }
 {
     line.truncate(head);
-    write_moment(line, span.from(), b',')?;
-    write_moment(line, span.until(), b'\n')
+    write_moment(line, days, span.from(), b',')?;
+    write_moment(line, days, span.until(), b'\n')
 }

@@ -1,7 +1,7 @@
 //! The schedule of the record file that an input brings, put to an output.
 
 ghost use Rattle.std.specs.Prelude.{◌≡◌, ◌<◌, ◌↔◌, ⊤, None, Some, IsErrOf, IsTrue, List, OnOk};
-ghost use Rattle.gtd_records.specs.Restriction.{Restriction};
+ghost use Rattle.gtd_records.specs.Closing.{Restriction};
 ghost use Rattle.gtd_runs.specs.Run.{HasRun, failures_after_read, failures_after_write};
 ghost use Rattle.gtd_runs.specs.Subjects.{IsVehicleType};
 ghost use Rattle.gtd_schedule.specs.Schedule.{IsSchedule};

@@ -1,10 +1,10 @@
 -- The steps of an intersection, and what they share with those of a difference.
-use Rattle.std.proofs.Common.{◌≡◌, ◌⊎◌, ◌↔◌, List, [], ◌∷◌, refl, inl, inr, arith, Option, Some, None, IfSome, MatchOption, Bool}
-use Rattle.std.proofs.Common.{true, false, is_le, int_cmp}
+use Rattle.std.proofs.Common.{◌≡◌, ◌⊎◌, ◌↔◌, List, [], ◌∷◌, refl, inl, inr, arith, Option, Some, None, IfSome, MatchOption}
+use Rattle.std.proofs.Common.{Bool, true, false, is_le, int_cmp}
 use Rattle.std.specs.Prelude.{ℤ, ◌≤ℤ◌, ◌<ℤ◌}
 use Rattle.std.proofs.lemmas.Int.{ints}
 use Rattle.std.proofs.lemmas.Grind.{common_steps}
-use Rattle.gtd_core.specs.Interval.{Interval, Within}
+use Rattle.gtd_core.specs.Seconds.{Interval, Within}
 use Rattle.gtd_core.specs.declared.domain.Op.{Op}
 use Rattle.gtd_core.specs.declared.domain.Op.TheVariants.{Meet, Minus}
 use Rattle.gtd_spans.specs.declared.merge.Side.{Side}

@@ -2,7 +2,7 @@
 use Rattle.std.proofs.Common.{◌≡◌, ◌⊎◌, ◌↔◌, List, [], ◌∷◌, refl, subst, inl, inr, arith, Option, Some, None, IfSome}
 use Rattle.std.specs.Prelude.{ℤ, ◌≤ℤ◌, ◌<ℤ◌}
 use Rattle.std.proofs.lemmas.Int.{ints}
-use Rattle.gtd_core.specs.Interval.{Interval, Within}
+use Rattle.gtd_core.specs.Seconds.{Interval, Within}
 use Rattle.gtd_core.specs.declared.domain.Op.TheVariants.{Union}
 use Rattle.gtd_spans.specs.declared.merge.Side.{Side}
 use Rattle.gtd_spans.specs.declared.merge.Side.TheVariants.{Open, Held, Ended}

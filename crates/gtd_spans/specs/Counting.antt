@@ -1,6 +1,6 @@
 -- How many seconds of a set there are, counted one by one.
 use Rattle.std.specs.Prelude.{◌≡◌, ℕ, zero, suc, ◌+◌, ℤ, pos, ◌+ℤ◌, ◌⊎◌, List, [], ◌∷◌, Option, Some, None}
-use Rattle.gtd_core.specs.Interval.{Interval}
+use Rattle.gtd_core.specs.Seconds.{Interval}
 
 -- of the n seconds from a second on, so many are in the set
 unfoldable pub IsCount : (ℤ → Type 0) → ℤ → ℕ → ℕ → Type 0

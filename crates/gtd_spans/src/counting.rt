@@ -1,9 +1,10 @@
 //! The seconds of a source of spans, counted day by day.
 
 ghost use Rattle.std.specs.Prelude.{◌≡◌, ◌↔◌, ◌+ℤ◌, ◌≤ℤ◌, ◌<ℤ◌, ◌≤◌, ◌^◌, ℤ, pos};
-ghost use Rattle.gtd_core.specs.Interval.{Within};
+ghost use Rattle.gtd_core.specs.Seconds.{Within};
 ghost use Rattle.gtd_spans.specs.Normal.{Holds, IsNormal};
 ghost use Rattle.gtd_spans.specs.Counting.{IsCount, to_come};
+ghost use Rattle.gtd_core.specs.Limits.{day_seconds};
 
 use crate::source::SpanSource;
 use gtd_core::limits::DAY_SECONDS;
@@ -12,9 +13,9 @@ use std::marker::Model;
 
 /// How many seconds of a span are on the day that begins at midnight.
 fn seconds_within(span: Span, midnight: Sec) -> u32
-    requires fits { (midnight.0 +ℤ pos 86400) <ℤ pos (2 ^ 63) }
-    ensures count { IsCount (Within span) midnight.0 86400 result }
-    ensures few { result ≤ 86400 }
+    requires fits { (midnight.0 +ℤ pos day_seconds) <ℤ pos (2 ^ 63) }
+    ensures count { IsCount (Within span) midnight.0 day_seconds result }
+    ensures few { result ≤ day_seconds }
 {
     let day = Span::between(midnight, Sec(midnight.0 + DAY_SECONDS));
     match span.meet(day) {
@@ -25,13 +26,13 @@ fn seconds_within(span: Span, midnight: Sec) -> u32
 
 /// How many seconds of the spans to come are on the day. Spans that end on the day are taken off.
 fn count_day<S: SpanSource>(source: &mut S, held: &mut Option<Span>, midnight: Sec) -> u32
-    requires fits { (midnight.0 +ℤ pos 86400) <ℤ pos (2 ^ 63) }
+    requires fits { (midnight.0 +ℤ pos day_seconds) <ℤ pos (2 ^ 63) }
     requires normal { IsNormal (to_come held.old (S.rest source.old)) }
-    ensures count { IsCount (Holds (to_come held.old (S.rest source.old))) midnight.0 86400 result }
-    ensures later { (t : ℤ) → (midnight.0 +ℤ pos 86400) ≤ℤ t
+    ensures count { IsCount (Holds (to_come held.old (S.rest source.old))) midnight.0 day_seconds result }
+    ensures later { (t : ℤ) → (midnight.0 +ℤ pos day_seconds) ≤ℤ t
         → Holds (to_come held.old (S.rest source.old)) t ↔ Holds (to_come held.new (S.rest source.new)) t }
     ensures normal { IsNormal (to_come held.new (S.rest source.new)) }
-    ensures few { result ≤ 86400 }
+    ensures few { result ≤ day_seconds }
 {
     let end = midnight.0 + DAY_SECONDS;
     let mut count = 0u32;
@@ -57,7 +58,7 @@ pub struct ByDay<S: SpanSource> {
 
 impl<S: SpanSource> Model for ByDay<S> {
     ghost use Rattle.std.specs.Prelude.{List};
-    ghost use Rattle.gtd_core.specs.Interval.{Interval};
+    ghost use Rattle.gtd_core.specs.Seconds.{Interval};
     ghost use Rattle.gtd_spans.specs.Normal.{IsNormal};
     ghost use Rattle.gtd_spans.specs.Counting.{to_come};
 
@@ -80,11 +81,11 @@ impl<S: SpanSource> ByDay<S> {
     /// How many of the seconds are on the day that begins at midnight. Those before its end are then done. The caller keeps
     /// the number of the day's end within an `i64`.
     pub fn count(&mut self, midnight: Sec) -> u32
-        requires fits { (midnight.0 +ℤ pos 86400) <ℤ pos (2 ^ 63) }
-        ensures count { IsCount (Holds self.old) midnight.0 86400 result }
-        ensures later { (t : ℤ) → (midnight.0 +ℤ pos 86400) ≤ℤ t
+        requires fits { (midnight.0 +ℤ pos day_seconds) <ℤ pos (2 ^ 63) }
+        ensures count { IsCount (Holds self.old) midnight.0 day_seconds result }
+        ensures later { (t : ℤ) → (midnight.0 +ℤ pos day_seconds) ≤ℤ t
             → Holds self.old t ↔ Holds self.new t }
-        ensures few { result ≤ 86400 }
+        ensures few { result ≤ day_seconds }
     {
         count_day(&mut self.source, &mut self.held, midnight)
     }

@@ -1,7 +1,7 @@
 //! What holds of all sets of seconds, whatever reads or makes them.
 
 ghost use Rattle.std.specs.Prelude.{◌≡◌, ◌⊎◌, ℕ, ℤ, List};
-ghost use Rattle.gtd_core.specs.Interval.{Interval};
+ghost use Rattle.gtd_core.specs.Seconds.{Interval};
 ghost use Rattle.gtd_spans.specs.Normal.{IsNormalFor};
 ghost use Rattle.gtd_spans.specs.Counting.{IsCount};
 

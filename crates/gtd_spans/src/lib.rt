@@ -10,6 +10,7 @@
 #![tactic(auto)]
 
 pub use counting::ByDay;
+pub use gaps::Gaps;
 pub use list::SpanList;
 pub use merge::Ask;
 pub use operations::{complement, meet, minus, same, union, within};
@@ -17,6 +18,7 @@ pub use source::{Both, Outside, SpanSource, Unite, Without, next_change};
 pub use sweep::Sweep;
 
 mod counting;
+mod gaps;
 pub mod laws;
 mod list;
 mod merge;

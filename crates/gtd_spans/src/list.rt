@@ -1,9 +1,8 @@
 //! Normal lists of spans.
 
-ghost use Rattle.std.specs.Prelude.{◌≡◌, ◌⊎◌, ◌↔◌, ◌++◌, ℤ, [], ◌∷◌};
-ghost use Rattle.std.specs.Prelude.{OnOk, OnErr, IfOk, IsOk, IsTrue, IsFalse, MatchOption};
+ghost use Rattle.std.specs.Prelude.{◌≡◌, ◌⊎◌, ◌↔◌, ◌++◌, ℤ, [], ◌∷◌, OnOk, OnErr, IfOk, IsOk, IsTrue, IsFalse, MatchOption};
 ghost use Rattle.gtd_spans.specs.Change.{NeverChanges, IsNextChange};
-ghost use Rattle.gtd_core.specs.Interval.{Within};
+ghost use Rattle.gtd_core.specs.Seconds.{Within};
 ghost use Rattle.gtd_core.specs.Whole.{whole};
 ghost use Rattle.gtd_spans.specs.Normal.{Holds, IsNormal};
 ghost use Rattle.gtd_spans.specs.Pushing.{NoneBeginsAfter, SomeReaches, AllEndBefore};
@@ -22,7 +21,7 @@ pub struct SpanList {
 
 impl Model for SpanList {
     ghost use Rattle.std.specs.Prelude.{List};
-    ghost use Rattle.gtd_core.specs.Interval.{Interval};
+    ghost use Rattle.gtd_core.specs.Seconds.{Interval};
     ghost use Rattle.gtd_spans.specs.Normal.{IsNormal};
 
     ghost Value = { List Interval };

@@ -1,12 +1,12 @@
 //! The merge of two sorted sides under a sweep.
 
 ghost use Rattle.std.specs.Prelude.{◌≡◌, ◌≢◌, ◌⊎◌, ◌↔◌, ◌<ℤ◌, ◌≤ℤ◌, ℤ, ◌+◌, List, IfSome};
-ghost use Rattle.gtd_core.specs.Interval.{Interval, Within};
+ghost use Rattle.gtd_core.specs.Seconds.{Interval, Within};
 ghost use Rattle.gtd_core.specs.declared.domain.Op.TheVariants.{Union, Meet, Minus};
 ghost use Rattle.gtd_spans.specs.Normal.{Holds, IsNormal};
 ghost use Rattle.gtd_spans.specs.Combine.{combine};
-ghost use Rattle.gtd_spans.specs.Merging.{listed, side_list, AllBeginFrom, Fits, still, AwaitsLeft, AwaitsRight};
-ghost use Rattle.gtd_spans.specs.Merging.{Steps, SameEnded, TellsLeft, TellsRight, unended_sides, told_count};
+ghost use Rattle.gtd_spans.specs.Merging.{listed, side_list, AllBeginFrom, Fits, still, AwaitsLeft, AwaitsRight, Steps};
+ghost use Rattle.gtd_spans.specs.Merging.{SameEnded, TellsLeft, TellsRight, unended_sides, told_count};
 
 use gtd_core::{Op, Span};
 

@@ -1,7 +1,7 @@
 //! What set operators make of lists. Each collects a source over the two lists, and answers want of memory alone.
 
 ghost use Rattle.std.specs.Prelude.{◌⊎◌, ◌↔◌, ℤ, IfOk, IsTrue};
-ghost use Rattle.gtd_core.specs.Interval.{Within};
+ghost use Rattle.gtd_core.specs.Seconds.{Within};
 ghost use Rattle.gtd_core.specs.Whole.{whole};
 ghost use Rattle.gtd_spans.specs.Normal.{Holds, IsNormal, HoldSame};
 ghost use Rattle.gtd_spans.specs.Combine.{Combined};

@@ -2,7 +2,7 @@
 
 ghost use Rattle.std.specs.Prelude.{◌≡◌, ◌⊎◌, ◌↔◌, ◌<ℤ◌, ℤ, List, [], ◌∷◌, MatchOption};
 ghost use Rattle.gtd_spans.specs.Change.{NeverChanges, IsNextChange};
-ghost use Rattle.gtd_core.specs.Interval.{Interval, Within};
+ghost use Rattle.gtd_core.specs.Seconds.{Interval, Within};
 ghost use Rattle.gtd_core.specs.Whole.{whole};
 ghost use Rattle.gtd_core.specs.declared.domain.Op.TheVariants.{Union, Meet, Minus};
 ghost use Rattle.gtd_spans.specs.Normal.{Holds, IsNormal};

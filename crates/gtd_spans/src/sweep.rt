@@ -1,7 +1,7 @@
 //! Set operators without their sides.
 
 ghost use Rattle.std.specs.Prelude.{◌≡◌, ◌≢◌, ◌≤◌, ◌+◌, ◌↔◌, ℤ, List, [], ◌∷◌, None};
-ghost use Rattle.gtd_core.specs.Interval.{Interval, Within};
+ghost use Rattle.gtd_core.specs.Seconds.{Interval, Within};
 ghost use Rattle.gtd_core.specs.Whole.{whole};
 ghost use Rattle.gtd_core.specs.declared.domain.Op.TheVariants.{Minus};
 ghost use Rattle.gtd_spans.specs.Normal.{Holds, IsNormal};
@@ -36,8 +36,8 @@ pub struct Sweep {
 impl Sweep {
     ghost use Rattle.gtd_spans.specs.declared.merge.Ask.TheVariants.{Left, Right};
     ghost use Rattle.gtd_spans.specs.Merging.{told_count};
-    ghost use Rattle.gtd_spans.specs.Sweeping.{still, Fits, AwaitsLeft, AwaitsRight, HasOneSide};
-    ghost use Rattle.gtd_spans.specs.Sweeping.{LeftEnded, RightEnded, Steps, TellsLeft, TellsRight, unended_sides};
+    ghost use Rattle.gtd_spans.specs.Sweeping.{still, Fits, AwaitsLeft, AwaitsRight, HasOneSide, LeftEnded, RightEnded};
+    ghost use Rattle.gtd_spans.specs.Sweeping.{Steps, TellsLeft, TellsRight, unended_sides};
 
     /// The sweep of an operator over two sides, before any step.
     pub fn new(op: Op) -> Sweep

@@ -1,20 +1,86 @@
 -- Which fault the tokens of a text have: the first phase that has one decides, and in it the first token at fault.
 -- The phases are the depth of brackets, the count of parentheses, the grammar, and the durations. The limits and the
 -- order of the phases are this project's own.
-use Rattle.std.specs.Prelude.{◌≡◌, ℕ, ◌+◌, ◌==◌, List, [], ◌∷◌, ◌++◌, Option, Some, None, if◌then◌else◌}
-use Rattle.gtd_core.specs.Limits.{most_basic_domains, most_depth}
+use Rattle.std.specs.Prelude.{List, ◌++◌, [], ◌∷◌, Bool, false, nat_lt, ℕ, ◌+◌, ◌-◌, Option, Some, None, if◌then◌else◌, ◌≡◌}
+use Rattle.std.specs.Prelude.{◌==◌}
 use Rattle.gtd_core.specs.Trees.{Tree}
+use Rattle.gtd_text.specs.declared.token.TokenKind.{TokenKind}
+use Rattle.gtd_text.specs.Grammar.{Stands, Sum}
+use Rattle.gtd_core.specs.Limits.{most_bound, most_basic_domains, most_depth}
+use Rattle.gtd_core.specs.Ranges.{bound_of}
+use Rattle.gtd_text.specs.declared.token.TokenKind.TheVariants.{OpenBrace, Field, OpenBracket, CloseBracket, OpenParenthesis}
+use Rattle.gtd_text.specs.declared.token.TokenKind.TheVariants.{Minus}
+use Rattle.gtd_text.specs.Fields.{with_duration_fields, zero_parts, has_letter, is_start_letter, is_duration_letter}
+use Rattle.gtd_text.specs.Fields.{is_repeated_in_start}
 use Rattle.gtd_core.specs.declared.fault.Fault.{Fault}
 use Rattle.gtd_core.specs.declared.fault.Fault.TheVariants as faults
 use Rattle.gtd_core.specs.declared.fault.TextFault.{TextFault}
 use Rattle.gtd_text.specs.declared.token.Token.{Token}
-use Rattle.gtd_text.specs.declared.token.TokenKind.{TokenKind}
-use Rattle.gtd_text.specs.declared.token.TokenKind.TheVariants.{OpenBracket, OpenParenthesis}
-use Rattle.gtd_text.specs.GoingOn.{GoesOn}
-use Rattle.gtd_text.specs.Grammar.{Stands, Sum}
-use Rattle.gtd_text.specs.Misfits.{depth, fault_of}
-use Rattle.gtd_text.specs.LongDurations.{opens_too_long}
-use Rattle.gtd_text.specs.TokenKinds.{kinds, newest_first}
+use Rattle.gtd_text.specs.Lexing.{kinds, newest_first}
+
+-- More tokens can follow these, or none, so that all together stand for an expression.
+pub record GoesOn (tokens : List TokenKind) : Type 0 where
+  pub after : List TokenKind
+  pub tree : Tree
+  pub stand : Stands Sum (tokens ++ after) tree
+
+-- The fields that tokens begin with.
+abbrev pub fields_at_front : List TokenKind → List TokenKind
+fields_at_front [] = []
+fields_at_front (Field letter value digits ∷ tokens) = Field letter value digits ∷ fields_at_front tokens
+fields_at_front (sign ∷ tokens) = []
+
+-- The bound of the duration of these fields is over 3,162,240,000 seconds, which is 36,600 days.
+abbrev pub is_too_long : List TokenKind → Bool
+is_too_long fields = nat_lt most_bound (bound_of (with_duration_fields zero_parts fields))
+
+-- A brace opens before these tokens, and the duration of the fields that follow it is too long.
+abbrev pub opens_too_long : TokenKind → List TokenKind → Bool
+opens_too_long OpenBrace after = is_too_long (fields_at_front after)
+opens_too_long token after = false
+
+-- Tokens that stand before a place are listed the newest first.
+
+-- How many brackets are open. A bracket that closes where none is open leaves it 0.
+abbrev pub depth : List TokenKind → ℕ
+depth [] = 0
+depth (OpenBracket ∷ before) = depth before + 1
+depth (CloseBracket ∷ before) = depth before - 1
+depth (token ∷ before) = depth before
+
+-- The last token that is no field.
+abbrev pub last_sign : List TokenKind → Option TokenKind
+last_sign [] = None
+last_sign (Field letter value digits ∷ before) = last_sign before
+last_sign (sign ∷ before) = Some sign
+
+-- The token directly before.
+abbrev pub last_token : List TokenKind → Option TokenKind
+last_token [] = None
+last_token (token ∷ before) = Some token
+
+-- Which fault it is that a field does not fit. A field belongs here by its letter if the last sign is `(` and a start
+-- has the letter, or `{` and a duration has it. Then the fault is that it is repeated, or else that it is out of
+-- range.
+abbrev pub field_fault : Option TokenKind → List TokenKind → ℕ → Fault
+field_fault (Some OpenParenthesis) before letter =
+    if is_start_letter letter then (if is_repeated_in_start before letter then faults.Repeated else faults.FieldRange)
+    else faults.Unexpected
+field_fault (Some OpenBrace) before letter =
+    if is_duration_letter letter then (if has_letter letter before then faults.Repeated else faults.FieldRange)
+    else faults.Unexpected
+field_fault sign before letter = faults.Unexpected
+
+-- A minus directly after `{` would make a duration negative.
+abbrev pub minus_fault : Option TokenKind → Fault
+minus_fault (Some OpenBrace) = faults.Negative
+minus_fault last = faults.Unexpected
+
+-- Which fault it is that a token does not fit after these.
+abbrev pub fault_of : List TokenKind → TokenKind → Fault
+fault_of before (Field letter value digits) = field_fault (last_sign before) before letter
+fault_of before Minus = minus_fault (last_token before)
+fault_of before token = faults.Unexpected
 
 -- The fault of a token in a phase, if it has one, by the tokens before it, the newest first, by itself, and by those
 -- after it.

@@ -9,14 +9,11 @@ ghost use Rattle.gtd_core.specs.declared.domain.Domain.{Domain};
 ghost use Rattle.gtd_core.specs.declared.fault.Fault.{Fault};
 ghost use Rattle.gtd_core.specs.declared.fault.TextFault.{TextFault};
 ghost use Rattle.gtd_text.specs.Canonical.{canonical};
-ghost use Rattle.gtd_text.specs.FirstFault.{IsClean};
-ghost use Rattle.gtd_text.specs.Fitting.{grammar_fault};
-ghost use Rattle.gtd_text.specs.Fitting.{may_end};
-ghost use Rattle.gtd_text.specs.GoingOn.{GoesOn};
+ghost use Rattle.gtd_text.specs.FirstFault.{IsClean, GoesOn};
+ghost use Rattle.gtd_text.specs.Fitting.{grammar_fault, may_end};
 ghost use Rattle.gtd_text.specs.Grammar.{Stands, Sum};
-ghost use Rattle.gtd_text.specs.Lexing.{IsToken, BeginsNoToken, IsFaultAt};
+ghost use Rattle.gtd_text.specs.Lexing.{IsToken, BeginsNoToken, IsFaultAt, kinds, newest_first};
 ghost use Rattle.gtd_text.specs.Reading.{StandsFor, HasNoFault, IsFault};
-ghost use Rattle.gtd_text.specs.TokenKinds.{kinds, newest_first};
 ghost use Rattle.gtd_text.specs.TokenAt.{token_at, fault_at_front};
 ghost use Rattle.gtd_text.specs.declared.token.Token.{Token};
 

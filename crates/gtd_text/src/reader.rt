@@ -5,15 +5,13 @@ ghost use Rattle.gtd_core.specs.Parts.{domain_tree};
 ghost use Rattle.gtd_core.specs.Trees.{Tree};
 ghost use Rattle.gtd_core.specs.declared.fault.TextFault.{TextFault};
 ghost use Rattle.gtd_text.specs.Faults.{no_memory};
-ghost use Rattle.gtd_text.specs.Grammar.{Stands, Sum};
 ghost use Rattle.gtd_text.specs.Reading.{StandsFor, IsFault, HasNoFault};
-ghost use Rattle.gtd_text.specs.Found.{AreReadable};
-ghost use Rattle.gtd_text.specs.TokenKinds.{kinds};
+ghost use Rattle.gtd_text.specs.Found.{IsReadable};
+ghost use Rattle.gtd_text.specs.ToCome.{IsLexed};
 
 use crate::builder::build_expr;
 use crate::check::first_fault;
-use crate::lexer::{NO_MEMORY, tokens};
-use crate::token::Token;
+use crate::lexer::{NO_MEMORY, token_fault};
 use gtd_core::{Domain, TextFault};
 use std::alloc::{AllocError, Global};
 
@@ -46,19 +44,31 @@ fn read(alloc: Global, text: &[u8]) -> Result<Domain, TextFault>
     ensures faultless { IfOk result (λ domain. HasNoFault text.now) }
     ensures fault { IfErr result (λ fault. (fault ≡ no_memory) ⊎ IsFault text.now fault) }
 {
-    let tokens = tokens(alloc, text)?;
-    match first_fault(&tokens, text.len()) {
+    match token_fault(text) {
         Some(fault) => Err(fault),
-        None => domain_of(alloc, &tokens).map_err(|_| NO_MEMORY),
+        None => read_tokens(alloc, text),
     }
 }
 
-// The domain that the tokens of a text without a fault stand for.
-fn domain_of(alloc: Global, tokens: &[Token]) -> Result<Domain, AllocError>
-    requires { AreReadable tokens.now }
-    ensures { IfOk result (λ domain. Stands Sum (kinds tokens.now) (domain_tree domain)) }
+// The same of a text that is tokens.
+fn read_tokens(alloc: Global, text: &[u8]) -> Result<Domain, TextFault>
+    requires { IsLexed text.now }
+    ensures found { IfOk result (λ domain. StandsFor text.now (domain_tree domain)) }
+    ensures faultless { IfOk result (λ domain. HasNoFault text.now) }
+    ensures fault { IfErr result (λ fault. (fault ≡ no_memory) ⊎ IsFault text.now fault) }
 {
-    match Domain::new(build_expr(alloc, tokens)?) {
+    match first_fault(text) {
+        Some(fault) => Err(fault),
+        None => domain_of(alloc, text).map_err(|_| NO_MEMORY),
+    }
+}
+
+// The domain that a text without a fault stands for.
+fn domain_of(alloc: Global, text: &[u8]) -> Result<Domain, AllocError>
+    requires { IsReadable text.now }
+    ensures { IfOk result (λ domain. StandsFor text.now (domain_tree domain)) }
+{
+    match Domain::new(build_expr(alloc, text)?) {
         Ok(domain) => Ok(domain),
         // There are as many basic domains as parentheses.
         Err(_) => unreachable!(),

@@ -1,13 +1,14 @@
 -- What is printed of a domain.
-use Rattle.std.proofs.Common.{◌≡◌, ◌∙◌, inl, inr, ℕ, List, ◌++◌, codes, Option, Some, None, sym, ap, subst, arith, append_assoc}
-use Rattle.std.proofs.Common.{◌<◌}
-use Rattle.std.specs.Prelude.{Result, Ok, Err, OnOk, OnErr, IfErr, IfSome, MatchOption, ◌↔◌, ℤ, pos, ◌+ℤ◌, ◌-ℤ◌, ◌*ℤ◌, ◌≤ℤ◌, ◌<ℤ◌}
+use Rattle.std.proofs.Common.{◌≡◌, ◌∙◌, inl, inr, ℕ, List, ◌++◌, codes, Option, Some, None, sym, ap, subst, arith}
+use Rattle.std.proofs.Common.{append_assoc, ◌<◌}
+use Rattle.std.specs.Prelude.{Result, Ok, Err, OnOk, OnErr, IfErr, IfSome, MatchOption, ◌↔◌, ℤ, pos, ◌+ℤ◌, ◌-ℤ◌, ◌*ℤ◌, ◌≤ℤ◌}
+use Rattle.std.specs.Prelude.{◌<ℤ◌}
 use Rattle.std.specs.Io.KnownBytes.{Appends}
 use Rattle.std.proofs.lemmas.Int.{ints, by_lt_z}
 use Rattle.gtd_core.specs.Trees.{Tree}
 use Rattle.gtd_core.specs.declared.second.Sec.{Sec}
 use Rattle.gtd_calendar.specs.Calendar.{IsCalendarDay}
-use Rattle.gtd_core.specs.Days.{IsMomentSecond, day_of_second, IsHorizonSecond}
+use Rattle.gtd_core.specs.Seconds.{IsMomentSecond, day_of_second, IsHorizonSecond}
 use Rattle.gtd_calendar.specs.Clock.{second_of_day}
 use Rattle.gtd_calendar.specs.Stamp.{stamp_text}
 use Rattle.gtd_calendar.specs.facts.ClockLemmas.{second-parts}

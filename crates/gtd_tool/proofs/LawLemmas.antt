@@ -1,6 +1,6 @@
 -- A command line has one answer.
-use Rattle.std.proofs.Common.{◌≡◌, ◌∙◌, inl, inr, List, [], ◌∷◌, codes, Option, Some, None, is_some, refl, sym, ap, ap₂, subst}
-use Rattle.std.proofs.Common.{true≢false, arith, ℕ}
+use Rattle.std.proofs.Common.{◌≡◌, ◌∙◌, inl, inr, List, [], ◌∷◌, codes, Option, Some, None, is_some, refl, sym, ap, ap₂}
+use Rattle.std.proofs.Common.{subst, true≢false, arith, ℕ}
 use Rattle.std.specs.Prelude.{unwrap_or, option_map, Result, Ok, Err, ℤ, is_ok}
 use Rattle.std.proofs.lemmas.Int.{ints}
 use Rattle.gtd_core.specs.Trees.{Tree, Single, Joined}
@@ -13,7 +13,7 @@ use Rattle.gtd_core.specs.declared.second.Sec.{Sec}
 use Rattle.gtd_text.specs.Canonical.{canonical}
 use Rattle.gtd_text.specs.facts.OneMeaning.{one_meaning}
 use Rattle.gtd_text.specs.facts.ReadingLaws.{one_fault}
-use Rattle.gtd_core.specs.Days.{day_of_second}
+use Rattle.gtd_core.specs.Seconds.{day_of_second}
 use Rattle.gtd_calendar.specs.Read.{date_in, stamp_in}
 use Rattle.gtd_roads.specs.Columns.{direction_of, number_of}
 use Rattle.gtd_roads.specs.Direction.{Direction}

@@ -3,7 +3,7 @@ use Rattle.std.proofs.Common.{◌≡◌, ◌∙◌, ℕ, List, [], ◌∷◌, �
 use Rattle.std.specs.Prelude.{IfSome, Result, Ok, Err}
 use Rattle.std.specs.Io.KnownBytes.{Appends, Keeps}
 use Rattle.std.proofs.KnownBytes.{Appends-kept, Appends-nil}
-use Rattle.gtd_roads.specs.Restriction.{Restriction}
+use Rattle.gtd_roads.specs.Closing.{Restriction}
 use Rattle.gtd_roads.specs.Run.{HasRun, PutsTextOf, TookFirstOf}
 use Rattle.gtd_roads.specs.RunFault.{RunFault}
 use Rattle.gtd_roads.specs.RunFault.TheVariants as run

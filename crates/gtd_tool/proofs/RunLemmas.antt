@@ -6,8 +6,8 @@ use Rattle.std.specs.Io.KnownBytes.{Keeps}
 use Rattle.std.proofs.KnownBytes.{Appends-kept, Appends-nil}
 use Rattle.gtd_roads.specs.facts.OneAnswer.{one_file}
 use Rattle.gtd_roads.specs.File.{IsFile}
-use Rattle.gtd_roads.specs.Reading.{IsOfFile}
-use Rattle.gtd_roads.specs.Restriction.{Restriction}
+use Rattle.gtd_roads.specs.File.{IsOfFile}
+use Rattle.gtd_roads.specs.Closing.{Restriction}
 use Rattle.gtd_roads.specs.RecordFault.{RecordFault}
 use Rattle.gtd_roads.specs.RecordFault.TheVariants as records
 use Rattle.gtd_roads.specs.facts.RunFacts.{accepted_are_put, refused_put_nothing}

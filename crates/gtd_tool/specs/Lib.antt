@@ -8,8 +8,7 @@ pub mod Printed
 pub mod CutShort
 pub mod Running
 pub mod Lending
-pub use Rattle.gtd_core.specs.Days
-pub use Rattle.gtd_core.specs.Interval
+pub use Rattle.gtd_core.specs.Seconds
 pub use Rattle.gtd_core.specs.Parts
 pub use Rattle.gtd_core.specs.Whole
 pub use Rattle.gtd_core.specs.declared.domain.Domain
@@ -19,7 +18,7 @@ pub use Rattle.gtd_roads.specs.Direction
 pub use Rattle.gtd_roads.specs.File
 pub use Rattle.gtd_roads.specs.Migrated
 pub use Rattle.gtd_roads.specs.Putting
-pub use Rattle.gtd_roads.specs.Restriction
+pub use Rattle.gtd_roads.specs.Closing
 pub use Rattle.gtd_roads.specs.Schedule
 pub use Rattle.gtd_roads.specs.YearTable
 pub use Rattle.gtd_text.specs.Canonical

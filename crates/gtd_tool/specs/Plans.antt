@@ -7,7 +7,7 @@ use Rattle.gtd_core.specs.Horizons.{IsHorizon}
 use Rattle.gtd_core.specs.declared.horizon.Horizon.{Horizon}
 use Rattle.gtd_core.specs.declared.second.Sec.{Sec}
 use Rattle.gtd_text.specs.Reading.{StandsFor, HasNoFault}
-use Rattle.gtd_core.specs.Days.{day_of_second}
+use Rattle.gtd_core.specs.Seconds.{day_of_second}
 use Rattle.gtd_calendar.specs.Read.{date_in, stamp_in}
 use Rattle.gtd_roads.specs.Columns.{direction_of, number_of}
 use Rattle.gtd_roads.specs.Direction.{Direction}

@@ -1,6 +1,7 @@
 -- What a command prints.
 use Rattle.std.specs.Prelude.{◌≡◌, ◌⊎◌, ◌++◌, ⊤, ℕ, ℤ, pos, ◌*ℤ◌, List, Option, Some, None, codes}
 use Rattle.std.specs.Io.KnownBytes.{Appends}
+use Rattle.gtd_core.specs.Limits.{day_seconds}
 use Rattle.gtd_core.specs.Trees.{Tree}
 use Rattle.gtd_core.specs.declared.second.Sec.{Sec}
 use Rattle.gtd_text.specs.Canonical.{canonical}
@@ -33,8 +34,8 @@ IsAnswer (Check domain) answer = answer ≡ codes "ok"
 IsAnswer (Canon domain) answer = answer ≡ canonical domain
 IsAnswer (At domain moment) answer = IsState domain moment.0 answer
 IsAnswer (Next domain moment to) answer =
-    ((t : ℤ) × IsNextChange (InTree domain) moment.0 (to *ℤ pos 86400) t × IsChange domain t answer)
-    ⊎ (NeverChanges (InTree domain) moment.0 (to *ℤ pos 86400) × (answer ≡ codes "none"))
+    ((t : ℤ) × IsNextChange (InTree domain) moment.0 (to *ℤ pos day_seconds) t × IsChange domain t answer)
+    ⊎ (NeverChanges (InTree domain) moment.0 (to *ℤ pos day_seconds) × (answer ≡ codes "none"))
 IsAnswer (Ever domain moment) answer =
     ((t : ℤ) × IsFirstChange (InTree domain) moment.0 t × IsChange domain t answer)
     ⊎ (NeverChangesAfter (InTree domain) moment.0 × (answer ≡ codes "never"))

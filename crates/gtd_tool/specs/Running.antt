@@ -3,8 +3,8 @@ use Rattle.std.specs.Prelude.{◌≡◌, ◌↔◌, ◌⊎◌, ⊤, ℕ, ◌+◌
 use Rattle.std.specs.Prelude.{Result, Ok, Err, codes, ◌++◌}
 use Rattle.std.specs.Io.KnownBytes.{Appends}
 use Rattle.gtd_roads.specs.File.{IsFile}
-use Rattle.gtd_roads.specs.Reading.{IsOfFile}
-use Rattle.gtd_roads.specs.Restriction.{Restriction}
+use Rattle.gtd_roads.specs.File.{IsOfFile}
+use Rattle.gtd_roads.specs.Closing.{Restriction}
 use Rattle.gtd_roads.specs.RecordFault.{RecordFault}
 use Rattle.gtd_roads.specs.RecordFault.TheVariants as records
 use Rattle.gtd_roads.specs.Putting.{text_of}

@@ -6,7 +6,7 @@ ghost use Rattle.gtd_core.specs.declared.domain.Domain.{Domain};
 ghost use Rattle.gtd_core.specs.declared.horizon.Horizon.{Horizon};
 ghost use Rattle.gtd_text.specs.Canonical.{canonical};
 ghost use Rattle.gtd_roads.specs.File.{IsFile};
-ghost use Rattle.gtd_roads.specs.Restriction.{Restriction};
+ghost use Rattle.gtd_roads.specs.Closing.{Restriction};
 ghost use Rattle.gtd_roads.specs.Direction.{Direction};
 ghost use Rattle.gtd_roads.specs.Putting.{text_of};
 ghost use Rattle.gtd_roads.specs.Schedule.{IsSchedule};

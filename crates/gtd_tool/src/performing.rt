@@ -8,13 +8,14 @@ ghost use Rattle.gtd_core.specs.Whole.{to_day};
 ghost use Rattle.gtd_eval.specs.Ever.{NeverChangesAfter, IsFirstChange};
 ghost use Rattle.gtd_eval.specs.Membership.{InDomain, SomeGivesYear};
 ghost use Rattle.gtd_roads.specs.File.{IsFile};
-ghost use Rattle.gtd_roads.specs.Restriction.{Restriction};
-ghost use Rattle.gtd_core.specs.Days.{IsHorizonSecond};
+ghost use Rattle.gtd_roads.specs.Closing.{Restriction};
+ghost use Rattle.gtd_core.specs.Seconds.{IsHorizonSecond};
 ghost use Rattle.gtd_tool.specs.Plans.{asked_by, file_of};
 ghost use Rattle.gtd_tool.specs.Plans as asked;
 ghost use Rattle.gtd_tool.specs.Printed.{AppendsLine, AppendsPartOfLine, AsksPastYears, IsAnswer, IsChangeOr, IsState};
-ghost use Rattle.gtd_tool.specs.Running.{AppendsTextOf, IfAlone, IfFile, IfRead, IsAccepted, IsCause, IsLacking, IsPartPrinted};
-ghost use Rattle.gtd_tool.specs.Running.{IsPrinted, IsRefusedFile, IsVehicleInRange, IsYearInRange, Ran, failures_after};
+ghost use Rattle.gtd_tool.specs.Running.{AppendsTextOf, IfAlone, IfFile, IfRead, IsAccepted, IsCause, IsLacking};
+ghost use Rattle.gtd_tool.specs.Running.{IsPartPrinted, IsPrinted, IsRefusedFile, IsVehicleInRange, IsYearInRange, Ran};
+ghost use Rattle.gtd_tool.specs.Running.{failures_after};
 ghost use Rattle.gtd_tool.specs.CutShort.{IsCutShort};
 ghost use Rattle.gtd_tool.specs.Writing.{AppendsPart, joined};
 

@@ -1,8 +1,7 @@
 //! What a command line asks for.
 
-ghost use Rattle.gtd_core.specs.Interval.{Within};
+ghost use Rattle.gtd_core.specs.Seconds.{Within, IsMomentSecond};
 ghost use Rattle.gtd_core.specs.Whole.{whole};
-ghost use Rattle.gtd_core.specs.Days.{IsMomentSecond};
 
 use gtd_core::{Domain, Horizon, Sec};
 use gtd_roads::Direction;

@@ -5,13 +5,13 @@ use Rattle.gtd_core.specs.Limits.{first_horizon_day}
 use Rattle.gtd_calendar.specs.facts.Signed.{signed_arith}
 use Rattle.gtd_calendar.specs.facts.YearLemmas.{first_day-next}
 use Rattle.gtd_calendar.specs.Calendar.{day_number, days_of_months, first_day, year_length}
-use Rattle.gtd_core.specs.Interval.{Interval}
+use Rattle.gtd_core.specs.Seconds.{Interval}
 use Rattle.gtd_core.specs.Horizons.{IsHorizonFault, IsHorizon}
 use Rattle.gtd_core.specs.Whole.{from_day, to_day}
 use Rattle.gtd_core.specs.declared.horizon.Horizon.{Horizon}
 use Rattle.gtd_core.specs.declared.horizon.HorizonFault.{HorizonFault}
 use Rattle.gtd_core.specs.declared.horizon.HorizonFault.TheVariants.{Empty, TooEarly, TooLate, TooLong}
-use Rattle.gtd_eval.specs.NormalOver.{IsNormalOver}
+use Rattle.gtd_eval.specs.Membership.{IsNormalOver}
 use Rattle.gtd_spans.specs.Normal.{Holds}
 use Rattle.gtd_runs.specs.Subjects.{IsTableYear}
 use Rattle.gtd_year.specs.YearTable.{AreDayLines}

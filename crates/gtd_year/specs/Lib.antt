@@ -1,7 +1,7 @@
 pub mod YearTable
 pub mod Theorem
 pub use Rattle.gtd_calendar.specs.Calendar
-pub use Rattle.gtd_records.specs.Restriction
+pub use Rattle.gtd_records.specs.Closing
 pub use Rattle.gtd_records.specs.declared.direction.Direction
 pub use Rattle.gtd_runs.specs.Run
 pub use Rattle.gtd_runs.specs.Subjects

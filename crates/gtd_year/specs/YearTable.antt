@@ -1,12 +1,12 @@
 -- The table of a year: in how many seconds of each day a road element is open. A line has its end: the LF is its last
 -- byte.
-use Rattle.std.specs.Prelude.{◌≡◌, ◌-◌, ◌++◌, ℕ, zero, suc, ℤ, pos, ◌+ℤ◌, ◌*ℤ◌, List, [], ◌∷◌}
-use Rattle.std.specs.Prelude.{length, replicate, codes, decimal}
+use Rattle.std.specs.Prelude.{◌≡◌, ◌-◌, ◌++◌, ℕ, zero, suc, ℤ, pos, ◌+ℤ◌, ◌*ℤ◌, List, [], ◌∷◌, length, replicate, codes}
+use Rattle.std.specs.Prelude.{decimal}
+use Rattle.gtd_core.specs.Limits.{day_seconds}
 use Rattle.gtd_calendar.specs.Calendar.{first_day, year_length}
 use Rattle.gtd_calendar.specs.Stamp.{date_text}
 use Rattle.gtd_spans.specs.Counting.{IsCount}
-use Rattle.gtd_records.specs.Closing.{IsOpen}
-use Rattle.gtd_records.specs.Restriction.{Restriction}
+use Rattle.gtd_records.specs.Closing.{IsOpen, Restriction}
 use Rattle.gtd_records.specs.declared.direction.Direction.{Direction}
 
 -- the number, right-aligned in five places
@@ -21,7 +21,7 @@ day_line day count = date_text day ++ codes " " ++ right_aligned count ++ codes 
 unfoldable pub AreDayLines : (ℤ → Type 0) → ℤ → ℕ → List (List ℕ) → Type 0
 AreDayLines set day zero lines = lines ≡ []
 AreDayLines set day (suc days) lines =
-    (count : ℕ) × (rest : List (List ℕ)) × IsCount set (day *ℤ pos 86400) 86400 count
+    (count : ℕ) × (rest : List (List ℕ)) × IsCount set (day *ℤ pos day_seconds) day_seconds count
     × AreDayLines set (day +ℤ pos 1) days rest × (lines ≡ day_line day count ∷ rest)
 
 -- One line for each day of the year: how many of its seconds the element is open in the direction for the vehicle type.

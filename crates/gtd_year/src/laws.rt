@@ -2,7 +2,7 @@
 
 ghost use Rattle.std.specs.Prelude.{◌≡◌, All, ℕ, List, length, pos};
 ghost use Rattle.gtd_calendar.specs.Calendar.{year_length};
-ghost use Rattle.gtd_records.specs.Restriction.{Restriction};
+ghost use Rattle.gtd_records.specs.Closing.{Restriction};
 ghost use Rattle.gtd_records.specs.declared.direction.Direction.{Direction};
 ghost use Rattle.gtd_year.specs.YearTable.{IsYearTable};
 

@@ -1,7 +1,7 @@
 //! The lines of days, each with a number of seconds, put one after the other.
 
 ghost use Rattle.std.specs.Prelude.{◌≡◌, ◌<◌, ◌≤◌, ◌↔◌, ◌+ℤ◌, ◌*ℤ◌, ◌≤ℤ◌, ℤ, pos, ℕ, List, OnOk};
-ghost use Rattle.gtd_core.specs.Limits.{first_horizon_day, horizons_end};
+ghost use Rattle.gtd_core.specs.Limits.{day_seconds, first_horizon_day, horizons_end};
 ghost use Rattle.gtd_calendar.specs.Calendar.{IsCalendarDay};
 ghost use Rattle.gtd_runs.specs.Putting.{Puts, failures_after_stop, nothing_put};
 ghost use Rattle.gtd_spans.specs.Counting.{IsCount};
@@ -23,7 +23,7 @@ const WIDTH: usize = 16;
 // Writes a day's line, in place of what the buffer had.
 fn write_day_line(line: &mut Vec<u8>, day: i64, count: u32) -> Result<(), AllocError>
     requires day { IsCalendarDay day }
-    requires few { count ≤ 86400 }
+    requires few { count ≤ day_seconds }
     ensures line { OnOk result (line.new.items ≡ day_line day count) }
 {
     let mut buffer = Buffer::new();
@@ -44,9 +44,9 @@ fn count_day<S: SpanSource>(
     day: i64,
 ) -> Result<(), AllocError>
     requires day { IsCalendarDay day }
-    ensures line { OnOk result ((count : ℕ) × IsCount (Holds seconds.old) (day *ℤ pos 86400) 86400 count
+    ensures line { OnOk result ((count : ℕ) × IsCount (Holds seconds.old) (day *ℤ pos day_seconds) day_seconds count
         × (line.new.items ≡ day_line day count)) }
-    ensures later { (t : ℤ) → ((day +ℤ pos 1) *ℤ pos 86400) ≤ℤ t
+    ensures later { (t : ℤ) → ((day +ℤ pos 1) *ℤ pos day_seconds) ≤ℤ t
         → Holds seconds.old t ↔ Holds seconds.new t }
 {
     let count = seconds.count(Sec(day * DAY_SECONDS));

@@ -1,12 +1,11 @@
 -- Days and seconds, and how long a stretch is at most.
-use Rattle.std.proofs.Common.{◌≡◌, ℕ, ◌+◌, ◌*◌, ◌<◌, arith, ℤ, pos, ◌+ℤ◌, ◌*ℤ◌}
-use Rattle.std.proofs.Common.{◌≤ℤ◌, ◌≤◌}
+use Rattle.std.proofs.Common.{◌≡◌, ℕ, ◌+◌, ◌*◌, ◌<◌, arith, ℤ, pos, ◌+ℤ◌, ◌*ℤ◌, ◌≤ℤ◌, ◌≤◌}
 use Rattle.std.specs.Int.{int_rem_euclid}
 use Rattle.jiff_core.proofs.SignedLemmas.{signed_arith, one_part}
 use Rattle.gtd_core.specs.declared.duration.DurationParts.{DurationParts}
-use Rattle.gtd_core.specs.DurationBound.{bound_of, clock_seconds}
-use Rattle.gtd_core.specs.Days.{day_of_second}
-use Rattle.gtd_calendar.specs.facts.MonthLemmas.{months_later-order, months_later-bound}
+use Rattle.gtd_core.specs.Ranges.{bound_of, clock_seconds}
+use Rattle.gtd_core.specs.Seconds.{day_of_second}
+use Rattle.gtd_calendar.specs.facts.MonthLemmas.{months_later-order, months_later-bound, months_later-none}
 use Rattle.gtd_calendar.specs.Clock.{second_of_day}
 use Rattle.gtd_calendar.specs.ComputedEnds.{months_later, stop}
 
@@ -43,6 +42,19 @@ stop-bound p b =
         → (b ≤ℤ (pos 86400 *ℤ (m +ℤ pos days) +ℤ pos (second + clock)))
         × ((pos 86400 *ℤ (m +ℤ pos days) +ℤ pos (second + clock)) ≤ℤ (b +ℤ pos bound))
     ends b n m second reach days clock bound e low high is = (omega (arith, signed_arith), omega (arith, signed_arith))
+
+-- without years and months a stretch ends a fixed count of seconds behind its begin
+pub stop-without_months : (p : DurationParts) (b : ℤ) → 12 * p.years + p.months ≡ 0
+    → stop p b ≡ b +ℤ pos (86400 * (7 * p.weeks + p.days) + clock_seconds p)
+unfolding stop
+stop-without_months p b none =
+    let parts = second-parts b in
+    rw (none, months_later-none (day_of_second b))
+    (moved b (day_of_second b) (second_of_day b) (7 * p.weeks + p.days) (clock_seconds p) parts.0)
+  where
+    moved : (b n : ℤ) (second days clock : ℕ) → b ≡ pos 86400 *ℤ n +ℤ pos second
+        → pos 86400 *ℤ (n +ℤ pos days) +ℤ pos (second + clock) ≡ b +ℤ pos (86400 * days + clock)
+    moved b n second days clock e = omega (arith, signed_arith)
 
 -- on one day stretches end in the order and at the distance in which they begin
 pub stop-same_day : (p : DurationParts) (b c : ℤ) → day_of_second b ≡ day_of_second c

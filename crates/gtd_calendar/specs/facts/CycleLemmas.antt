@@ -1,15 +1,13 @@
 -- Four hundred years are 146,097 days, which is a whole number of weeks, and the calendar repeats after them.
-use Rattle.std.proofs.Common.{◌≡◌, ℕ, zero, suc, ◌+◌, ◌-◌, ◌*◌, refl, sym, ap, ◌∙◌}
-use Rattle.std.proofs.Common.{arith, ℤ, pos, ◌+ℤ◌, ◌*ℤ◌}
+use Rattle.std.proofs.Common.{◌≡◌, ℕ, zero, suc, ◌+◌, ◌-◌, ◌*◌, refl, sym, ap, ◌∙◌, arith, ℤ, pos, ◌+ℤ◌, ◌*ℤ◌}
 use Rattle.std.proofs.lemmas.Bool.Decides.{nat_tests}
 use Rattle.jiff_core.proofs.SignedLemmas.{signed_arith, one_part}
 use Rattle.gtd_core.specs.declared.duration.DurationParts.{DurationParts}
-use Rattle.gtd_core.specs.DurationBound.{clock_seconds}
+use Rattle.gtd_core.specs.Ranges.{clock_seconds}
 use Rattle.gtd_calendar.specs.Calendar.{is_leap_year, year_length, IsWeekOf, month_length, days_of_months, first_day}
-use Rattle.gtd_calendar.specs.Calendar.{day_number, IsDateOf}
+use Rattle.gtd_calendar.specs.Calendar.{day_number, IsDateOf, weekday_of, thursday_of}
 use Rattle.gtd_calendar.specs.ComputedDates.{year_of, month_of, day_of_month, place_in_year, week_of, week_year_of}
-use Rattle.gtd_calendar.specs.Calendar.{weekday_of, thursday_of}
-use Rattle.gtd_core.specs.Days.{day_of_second}
+use Rattle.gtd_core.specs.Seconds.{day_of_second}
 use Rattle.gtd_calendar.specs.facts.YearLemmas.{first_day-cycle}
 use Rattle.gtd_calendar.specs.facts.DateLemmas.{date_of-is, date_of-only, place_in_year-is}
 use Rattle.gtd_calendar.specs.facts.MonthLemmas.{counted-is, counted-parts}

@@ -1,8 +1,7 @@
 -- What the fields of a day and the day of a date say, by the relation of dates.
 use Rattle.std.proofs.Common.{◌≡◌, ℕ, refl, Option, Some, None, ℤ, IsSome, IfSome, ◌↔◌}
 use Rattle.gtd_calendar.specs.declared.day.DayFields.{DayFields}
-use Rattle.gtd_calendar.specs.Calendar.{IsDate, IsDateOf, IsWeekOf, day_number, month_length, place_from_back}
-use Rattle.gtd_calendar.specs.Fields.{AreFieldsOf}
+use Rattle.gtd_calendar.specs.Calendar.{IsDate, IsDateOf, IsWeekOf, day_number, month_length, place_from_back, AreFieldsOf}
 use Rattle.gtd_calendar.specs.ComputedFields.{day_fields}
 use Rattle.gtd_calendar.specs.facts.DateLemmas.{date_of-is, date_of-only}
 use Rattle.gtd_calendar.specs.facts.WeekLemmas.{week_of-is, week_of-only}

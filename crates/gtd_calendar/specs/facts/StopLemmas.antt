@@ -4,7 +4,7 @@ use Rattle.jiff_core.proofs.SignedLemmas.{signed_arith}
 use Rattle.gtd_core.specs.declared.duration.DurationParts.{DurationParts}
 use Rattle.gtd_calendar.specs.Calendar.{month_length, IsDateOf, day_number}
 use Rattle.gtd_calendar.specs.ComputedDates.{year_of, month_of, day_of_month}
-use Rattle.gtd_core.specs.Days.{day_of_second}
+use Rattle.gtd_core.specs.Seconds.{day_of_second}
 use Rattle.gtd_calendar.specs.facts.DateLemmas.{date_of-is, date_of-only, month_length_bounds}
 use Rattle.gtd_calendar.specs.facts.MonthLemmas.{counted-is, counted-parts}
 use Rattle.gtd_calendar.specs.ComputedEnds.{month_count, counted_year, counted_month, day_in_month, months_later, stop}

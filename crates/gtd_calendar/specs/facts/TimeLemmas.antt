@@ -1,6 +1,6 @@
 -- Each second is at one hour, minute and second of one day.
 use Rattle.std.proofs.Common.{◌≡◌, ℕ, ◌+◌, ◌*◌, ◌/◌, ◌%◌, ◌<◌, sym, arith, ℤ, pos, ◌+ℤ◌, ◌*ℤ◌}
-use Rattle.gtd_core.specs.Days.{day_of_second}
+use Rattle.gtd_core.specs.Seconds.{day_of_second}
 use Rattle.gtd_calendar.specs.Clock.{second_of_day, IsTimeOf}
 use Rattle.gtd_calendar.specs.facts.ClockLemmas.{second-parts, second-only}
 

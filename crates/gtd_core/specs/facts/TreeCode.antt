@@ -9,7 +9,7 @@ use Rattle.gtd_core.specs.declared.duration.DurationParts.{DurationParts}
 use Rattle.gtd_core.specs.contracts.domain.Op as op
 use Rattle.gtd_core.specs.contracts.start.StartParts as start
 use Rattle.gtd_core.specs.contracts.duration.DurationParts as duration
-use Rattle.gtd_core.specs.StartRanges.{no_parts}
+use Rattle.gtd_core.specs.Ranges.{no_parts}
 
 -- a basic domain, or an operator over the two trees before it
 abbrev Part : Type 0

@@ -4,9 +4,8 @@ use Rattle.std.proofs.Common.{Option, Some, None, MatchOption, IsSome, refl, ◌
 use Rattle.std.proofs.Common.{sym, subst, inl, inr, arith}
 use Rattle.std.specs.Prelude.{ℤ, pos, ◌+ℤ◌, ◌-ℤ◌, ◌≤ℤ◌, ◌<ℤ◌, unsigned_abs}
 use Rattle.std.proofs.lemmas.Int.{ints}
-use Rattle.gtd_core.specs.Interval.{Interval}
-use Rattle.gtd_spans.specs.Normal.{Holds}
-use Rattle.gtd_spans.specs.Normal.{IsNormalFor}
+use Rattle.gtd_core.specs.Seconds.{Interval}
+use Rattle.gtd_spans.specs.Normal.{Holds, IsNormalFor}
 use Rattle.gtd_spans.specs.facts.NormalFor.{combined-both}
 use Rattle.gtd_spans.specs.Change.{SameAt, NeverChanges, IsNextChange}
 use Rattle.gtd_recur.specs.facts.CycleLemmas.{in_stretches-forward, in_stretches-back}

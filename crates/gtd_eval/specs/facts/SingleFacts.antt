@@ -1,7 +1,7 @@
 -- Facts of the definitions in `Single`.
 use Rattle.std.specs.Prelude.{Option, Some, None}
 use Rattle.std.proofs.Props.{props}
-use Rattle.gtd_core.specs.Interval.{Interval}
+use Rattle.gtd_core.specs.Seconds.{Interval}
 use Rattle.gtd_spans.specs.Normal.{IsNormal}
 use Rattle.gtd_spans.specs.Merging.{listed}
 use Rattle.gtd_eval.specs.Single.{IsSingle}

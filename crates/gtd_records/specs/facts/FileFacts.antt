@@ -1,15 +1,15 @@
 -- The rows that were read so far, and what the next one makes of them.
 use Rattle.std.proofs.Common.{◌≡◌, ◌∙◌, ◌≤◌, ◌+◌, inl, inr, sym, ap, refl, arith, ℕ, true, false, List, [], ◌∷◌, ◌++◌, length}
-use Rattle.std.proofs.Common.{Option, append_assoc, length-append, add-zero}
-use Rattle.std.proofs.Common.{Vec, Global}
+use Rattle.std.proofs.Common.{Option, append_assoc, length-append, add-zero, Vec, Global}
 use Rattle.std.specs.Prelude.{Result, Ok, Err, MatchResult, IfOk}
 use Rattle.std.proofs.lemmas.List.{append-nil}
 use Rattle.csv.specs.declared.reader.Reader.{Reader}
 use Rattle.gtd_core.specs.Limits.{most_rows}
 use Rattle.gtd_records.specs.File.{AreRecords, FirstFault, IsSound, IsTable}
 use Rattle.gtd_records.specs.Row.{IsRow}
-use Rattle.gtd_records.specs.Table.{Fields, HasLeft, TakesFirst}
-use Rattle.gtd_records.specs.Restriction.{Restriction}
+use Rattle.gtd_records.specs.Table.{HasLeft, TakesFirst}
+use Rattle.gtd_records.specs.Columns.{Fields}
+use Rattle.gtd_records.specs.Closing.{Restriction}
 use Rattle.gtd_records.specs.declared.vehicles.Version.{Version}
 use Rattle.gtd_records.specs.declared.fault.RecordFault.{RecordFault}
 use Rattle.gtd_records.specs.declared.fault.RecordFault.TheVariants as fault

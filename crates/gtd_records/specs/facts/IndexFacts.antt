@@ -1,21 +1,17 @@
 -- Records found by their element.
 use Rattle.std.proofs.Common.{◌≡◌, ◌∙◌, sym, ap, refl, subst, ◌<◌, ◌≤◌, ◌+◌, ℕ, zero, suc, List, [], ◌∷◌, length, map, get_or}
-use Rattle.std.proofs.Common.{take, drop, ◌-◌, ◌*◌, arith}
+use Rattle.std.proofs.Common.{take, drop, ◌-◌, ◌*◌, arith, is_lt, false, length-drop, length-take}
 use Rattle.std.specs.Prelude.{Any, slice_index_or, ℤ}
 use Rattle.std.specs.List.{Contains}
 use Rattle.std.specs.List.Sorted.{IsNonDecreasingBy, IsSorted}
 use Rattle.std.specs.Ordering.{nat_cmp}
-use Rattle.std.proofs.Common.{is_lt, false}
-use Rattle.std.proofs.lemmas.List.{length-map}
+use Rattle.std.proofs.lemmas.List.{length-map, get_or-take, get_or-drop}
 use Rattle.std.proofs.lemmas.Bool.Decides.{nat_tests}
-use Rattle.std.proofs.lemmas.List.{get_or-take, get_or-drop}
-use Rattle.std.proofs.Common.{length-drop, length-take}
 use Rattle.gtd_records.specs.Index.{ArePlaces, IsPlace}
-use Rattle.gtd_records.specs.Closing.{AreElements, Closes}
-use Rattle.gtd_records.specs.Vehicles.{IsAscending}
+use Rattle.gtd_records.specs.Closing.{AreElements, Closes, Restriction}
+use Rattle.gtd_records.specs.Columns.{IsAscending}
 use Rattle.gtd_records.specs.declared.direction.Direction.{Direction}
 use Rattle.gtd_records.specs.declared.index.Place.{Place}
-use Rattle.gtd_records.specs.Restriction.{Restriction}
 
 pub by_le : {P : Type 0} (a b : ℕ) → (a ≤ b → P) → (b < a → P) → P
 by_le zero b f g = f (omega arith)

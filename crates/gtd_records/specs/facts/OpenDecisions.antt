@@ -1,6 +1,6 @@
 -- An element is open at a second, or it is not.
-use Rattle.std.proofs.Common.{◌≡◌, sym, refl, subst, ◌<◌, inl, inr, ℕ, zero, suc, arith}
-use Rattle.std.proofs.Common.{List, [], ◌∷◌, length, get_or, Option, Some, None}
+use Rattle.std.proofs.Common.{◌≡◌, sym, refl, subst, ◌<◌, inl, inr, ℕ, zero, suc, arith, List, [], ◌∷◌, length, get_or}
+use Rattle.std.proofs.Common.{Option, Some, None}
 use Rattle.std.specs.Prelude.{ℤ, Any, IsTrue, nat_eq}
 use Rattle.std.specs.List.{Contains, list_any}
 use Rattle.std.specs.Cmp.{nat_eq_equiv}
@@ -9,9 +9,8 @@ use Rattle.std.proofs.lemmas.Map.Views.{Contains-from_any, list_any-from_Contain
 use Rattle.gtd_core.specs.Trees.{Tree}
 use Rattle.gtd_eval.specs.facts.TreeDecisions.{in_tree}
 use Rattle.gtd_core.specs.facts.Deciding.{Decided, both, is_true, not}
-use Rattle.gtd_records.specs.Closing.{Closes, ClosesDirection, HoldsAt, IsOpen}
-use Rattle.gtd_records.specs.Restriction.{Restriction}
-use Rattle.gtd_records.specs.Vehicles.{Serves}
+use Rattle.gtd_records.specs.Closing.{Closes, ClosesDirection, HoldsAt, IsOpen, Restriction}
+use Rattle.gtd_records.specs.Columns.{Serves}
 use Rattle.gtd_records.specs.declared.direction.Closed.{Closed}
 use Rattle.gtd_records.specs.declared.direction.Closed.TheVariants.{One, Both}
 use Rattle.gtd_records.specs.declared.direction.Direction.{Direction}

@@ -4,7 +4,7 @@ use Rattle.std.specs.Coded.{Coded, code_by, coded_option, coded_ℕ, coded×}
 use Rattle.std.proofs.Common.{refl}
 use Rattle.gtd_core.specs.Trees.{Tree}
 use Rattle.gtd_core.specs.facts.TreeCode.{tree_code}
-use Rattle.gtd_records.specs.Restriction.{Restriction}
+use Rattle.gtd_records.specs.Closing.{Restriction}
 use Rattle.gtd_records.specs.declared.direction.Closed.{Closed}
 use Rattle.gtd_records.specs.declared.vehicles.Vehicles.{Vehicles}
 use Rattle.gtd_records.specs.contracts.direction.Closed as closed

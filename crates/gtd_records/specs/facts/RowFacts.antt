@@ -1,5 +1,6 @@
 -- What the columns of a row say of the row.
-use Rattle.std.proofs.Common.{◌≡◌, ◌≢◌, ◌<◌, ◌⊎◌, inl, inr, ap, arith, ℕ, zero, suc, List, [], ◌∷◌, length, Option, Some, None}
+use Rattle.std.proofs.Common.{◌≡◌, ◌≢◌, ◌<◌, ◌⊎◌, inl, inr, ap, arith, ℕ, zero, suc, List, [], ◌∷◌, length, Option, Some}
+use Rattle.std.proofs.Common.{None}
 use Rattle.std.specs.Prelude.{Result, Ok, Err, MatchOption}
 use Rattle.csv.specs.Records.{field_at}
 use Rattle.gtd_core.specs.Trees.{Tree}
@@ -7,10 +8,8 @@ use Rattle.gtd_core.specs.declared.fault.Fault.TheVariants.{NoMemory}
 use Rattle.gtd_core.specs.declared.fault.TextFault.{TextFault}
 use Rattle.gtd_text.specs.Faults.{no_memory}
 use Rattle.gtd_text.specs.Reading.{IsFault}
-use Rattle.gtd_records.specs.Columns.{number_of, closed_of}
+use Rattle.gtd_records.specs.Columns.{number_of, closed_of, Fields, IsOrdered, AreTypesRead, vehicles_of}
 use Rattle.gtd_records.specs.Row.{IsDomainColumn, IsReading, IsRow, with_domain}
-use Rattle.gtd_records.specs.Table.{Fields}
-use Rattle.gtd_records.specs.Vehicles.{IsOrdered, AreTypesRead, vehicles_of}
 use Rattle.gtd_records.specs.declared.direction.Closed.{Closed}
 use Rattle.gtd_records.specs.declared.vehicles.Vehicles.{Vehicles}
 use Rattle.gtd_records.specs.declared.fault.RecordFault.TheVariants as fault

@@ -5,7 +5,7 @@ use Rattle.gtd_calendar.specs.facts.Signed.{signed_arith}
 use Rattle.gtd_core.specs.declared.domain.Basic.{Basic}
 use Rattle.gtd_core.specs.declared.duration.DurationParts.{DurationParts}
 use Rattle.gtd_core.specs.declared.horizon.Horizon.{Horizon}
-use Rattle.gtd_core.specs.DurationBound.{lookback_of, IsDuration, bound_of}
+use Rattle.gtd_core.specs.Ranges.{lookback_of, IsDuration, bound_of}
 use Rattle.gtd_core.specs.Parts.{start_parts, duration_parts}
 use Rattle.gtd_core.specs.Whole.{from_day, to_day}
 use Rattle.gtd_recur.specs.Work.{window, window_begin, whole_work, work_of}

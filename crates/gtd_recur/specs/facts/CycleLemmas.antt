@@ -5,7 +5,7 @@ use Rattle.gtd_core.specs.declared.start.StartParts.{StartParts}
 use Rattle.gtd_core.specs.declared.duration.DurationParts.{DurationParts}
 use Rattle.gtd_calendar.specs.ComputedDates.{year_of, month_of}
 use Rattle.gtd_calendar.specs.ComputedFields.{day_fields}
-use Rattle.gtd_core.specs.Days.{day_of_second}
+use Rattle.gtd_core.specs.Seconds.{day_of_second}
 use Rattle.gtd_calendar.specs.facts.CycleLemmas.{month_length-cycle, date_of-cycle, weekday_of-cycle, week_of-cycle}
 use Rattle.gtd_calendar.specs.facts.CycleLemmas.{day_of_second-cycle, stop-cycle}
 use Rattle.gtd_calendar.specs.ComputedEnds.{stop}

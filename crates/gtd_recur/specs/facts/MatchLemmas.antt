@@ -1,18 +1,18 @@
 -- A start matches just the seconds at which it begins.
-use Rattle.std.proofs.Common.{◌≡◌, ◌↔◌, ◌⊎◌, ℕ, ◌-◌, ◌/◌, ◌%◌, ◌^◌, ◌<◌, inl, inr, Bool, true, false, ◌||◌, ◌==◌, cond, Option}
-use Rattle.std.proofs.Common.{Some, None, is_some, refl, sym, subst, arith, ℤ, pos, IfSome}
+use Rattle.std.proofs.Common.{◌≡◌, ◌↔◌, ◌⊎◌, ℕ, ◌-◌, ◌/◌, ◌%◌, ◌^◌, ◌<◌, inl, inr, Bool, true, false, ◌||◌, ◌==◌, cond}
+use Rattle.std.proofs.Common.{Option, Some, None, is_some, refl, sym, subst, arith, ℤ, pos, IfSome}
 use Rattle.std.proofs.lemmas.Bool.{and_parts, and_from, eqb-true, eq-eqb}
 use Rattle.std.proofs.lemmas.Bool.Decides.{Decides-int_eq}
 use Rattle.gtd_core.specs.declared.start.StartParts.{StartParts}
 use Rattle.gtd_calendar.specs.declared.day.DayFields.{DayFields}
-use Rattle.gtd_core.specs.Days.{day_of_second}
+use Rattle.gtd_core.specs.Seconds.{day_of_second}
 use Rattle.gtd_calendar.specs.Clock.{second_of_day}
 use Rattle.gtd_calendar.specs.ComputedFields.{day_fields}
 use Rattle.gtd_calendar.specs.facts.FieldLemmas.{fields-are, fields-only}
 use Rattle.gtd_calendar.specs.facts.TimeLemmas.{time_of-is, time_of-only}
 use Rattle.gtd_recur.specs.Begins.{agrees, agrees_or_least, gives_clock, year_agrees_with, place_agrees, begins, begins_on}
 use Rattle.gtd_recur.specs.Begins.{begins_at}
-use Rattle.gtd_recur.specs.Matching.{finest_of, finest_level, gives_day, HoldsOnDay, HoldsOnClock, Matches}
+use Rattle.gtd_recur.specs.Membership.{finest_of, finest_level, gives_day, HoldsOnDay, HoldsOnClock, Matches}
 
 -- a field alone
 agrees-to : (o : Option ℕ) (v : ℕ) → agrees o v ≡ true → IfSome o (λ x. x ≡ v)

@@ -1,7 +1,7 @@
 -- Days, the starts on them, and what is left of them.
-use Rattle.std.proofs.Common.{◌≡◌, ℕ, zero, suc, ◌+◌, ◌-◌, ◌*◌, ◌<◌, ◌≤◌, Bool, true, false, Some, None, inl, inr, List, [], ◌∷◌}
-use Rattle.std.proofs.Common.{◌++◌, filter, length, drop, cond, refl, sym, ap, ◌∙◌, arith, ℤ, pos, neg_ℤ, ◌+ℤ◌, ◌-ℤ◌, ◌*ℤ◌, ◌<ℤ◌}
-use Rattle.std.proofs.Common.{◌≤ℤ◌, unsigned_abs, ◌⊎◌, to_z, of_z, w64}
+use Rattle.std.proofs.Common.{◌≡◌, ℕ, zero, suc, ◌+◌, ◌-◌, ◌*◌, ◌<◌, ◌≤◌, Bool, true, false, Some, None, inl, inr, List, []}
+use Rattle.std.proofs.Common.{◌∷◌, ◌++◌, filter, length, drop, cond, refl, sym, ap, ◌∙◌, arith, ℤ, pos, neg_ℤ, ◌+ℤ◌, ◌-ℤ◌}
+use Rattle.std.proofs.Common.{◌*ℤ◌, ◌<ℤ◌, ◌≤ℤ◌, unsigned_abs, ◌⊎◌, to_z, of_z, w64}
 use Rattle.std.specs.Prelude.{count_by}
 use Rattle.std.proofs.lemmas.List.{drop-drop, length-append, length-map}
 use Rattle.std.proofs.lemmas.List.Sums.{sum_by-append, length-filter, count_by-le-length}
@@ -14,7 +14,7 @@ use Rattle.gtd_calendar.specs.Calendar.{IsCalendarDay}
 use Rattle.gtd_core.specs.declared.start.StartParts.{StartParts}
 use Rattle.gtd_core.specs.declared.domain.Basic.{Basic}
 use Rattle.gtd_core.specs.declared.horizon.Horizon.{Horizon}
-use Rattle.gtd_core.specs.DurationBound.{lookback_of}
+use Rattle.gtd_core.specs.Ranges.{lookback_of}
 use Rattle.gtd_core.specs.Parts.{duration_parts}
 use Rattle.gtd_core.specs.Whole.{from_day}
 use Rattle.gtd_recur.specs.Begins.{begins_on, begins_at, month_and_year_fit}
@@ -181,21 +181,6 @@ count-between f a b le none =
     inside : (a b : ℤ) (i j : ℕ) → b ≡ a +ℤ pos j → i < j → (a +ℤ pos i) <ℤ b
     inside a b i j e lt = omega (arith, signed_arith)
 
--- a day more that passes it, behind days that do not
-count-more : (f : ℤ → Bool) (first day n : ℤ) (k : ℕ) → first ≤ℤ (day +ℤ pos 1) → day <ℤ n → f n ≡ true
-    → count_by f (days_between first (day +ℤ pos 1)) ≡ k → count_by f (days_between (day +ℤ pos 1) n) ≡ 0
-    → count_by f (days_between first (n +ℤ pos 1)) ≡ k + 1
-count-more f first day n k low lt on up none =
-    let le : (day +ℤ pos 1) ≤ℤ n = omega (arith, signed_arith) in
-    let last : first ≤ℤ n = omega (arith, signed_arith) in
-    let gap = count-append f (days_between first (day +ℤ pos 1)) (days_between (day +ℤ pos 1) n) in
-    let upto = count-append f (days_between first n) (days_between n (n +ℤ pos 1)) in
-    let one : count_by f (days_between n (n +ℤ pos 1)) ≡ 1 =
-    rw (days_between-is n (n +ℤ pos 1) 1 refl, one_day n) (count-is f n [] ∙ rw on refl) in
-    let before : count_by f (days_between first n) ≡ k + 0 =
-    rw (days_between-append first (day +ℤ pos 1) n low le) (gap ∙ rw (up, none) refl) in
-    rw (days_between-append first n (n +ℤ pos 1) last (omega (arith, signed_arith))) (omega (arith, upto, one, before))
-
 length-numbers : (n k : ℕ) → length (numbers_from n k) ≡ k
 unfolding numbers_from
 length-numbers n zero = refl
@@ -312,59 +297,67 @@ window_begin-is d h = refl
 pub small-z : (a : ℤ) → neg_ℤ (pos 62100) ≤ℤ a → a ≤ℤ pos 303_160 → to_z w64 (of_z w64 a) ≡ a
 small-z a low high = omega (arith, signed_arith)
 
--- no more days were looked at than there are up to the open one
-pub looked-most : (p : StartParts) (first day next : ℤ) (looked : ℕ) → first ≤ℤ (day +ℤ pos 1)
-    → IsLookedCount p first day next looked → (first +ℤ pos looked) ≤ℤ (day +ℤ pos 1)
-looked-most p first day next looked low h =
-    let long = length-between first (day +ℤ pos 1) low in
-    let most = count_by-le-length (month_and_year_fit p) (days_between first (day +ℤ pos 1)) in
-    most_of first (day +ℤ pos 1) looked _ _ h.up_to most long
+-- no more days were looked at than there are before the next one
+pub looked-most : (p : StartParts) (first seen day next : ℤ) (looked : ℕ) → IsLookedCount p first seen day next looked
+    → (first +ℤ pos looked) ≤ℤ next
+looked-most p first seen day next looked h =
+    let long = length-between first next (omega (arith, signed_arith, h.low, h.high)) in
+    let most = count_by-le-length (month_and_year_fit p) (days_between first next) in
+    most_of first next looked _ _ h.all most long
   where
     most_of : (a b : ℤ) (looked count long : ℕ) → count ≡ looked → count ≤ long → a +ℤ pos long ≡ b → (a +ℤ pos looked) ≤ℤ b
     most_of a b looked count long p q r = omega (arith, signed_arith)
 
 -- so do the counts
-pub small-counts : (p : StartParts) (first day next end : ℤ) (looked handed : ℕ) (left : List ℤ) → IsInWindow first day next end
-    → IsLookedCount p first day next looked
+pub small-counts : (p : StartParts) (first seen day next end : ℤ) (looked handed : ℕ) (left : List ℤ)
+    → IsInWindow first day next end → IsLookedCount p first seen day next looked
     → AreLeft handed (starts_of p (days_between first end)) left
     → (looked ≤ length (days_between first end)) × (handed + length left ≤ length (starts_of p (days_between first end)))
     × (looked < 400_000) × (handed + length left < 40_000_000_000)
-small-counts p first day next end looked handed left window counted are =
+small-counts p first seen day next end looked handed left window counted are =
     let long = length-between first end (omega (arith, signed_arith)) in
     let many = length-starts p (days_between first end) in
-    let most = looked-most p first day next looked window.day_in counted in
+    let most = looked-most p first seen day next looked counted in
     let count = are.count in (
-      fits first day next end looked (length (days_between first end)) window.first_in window.next_in window.end_in window.last_in
-          long most,
+      fits first next end looked (length (days_between first end)) window.end_in long most,
       omega arith,
-      short first day next end looked window.first_in window.next_in window.end_in window.last_in most,
+      short first next end looked window.first_in window.end_in window.last_in most,
       few first end (length (days_between first end)) (length (starts_of p (days_between first end)))
           (handed + length left) window.first_in window.last_in long many count,
     )
   where
-    fits : (first day next end : ℤ) (looked long : ℕ) → first_window_day ≤ℤ first → day <ℤ next → next ≤ℤ end → end
-        ≤ℤ horizons_end
-        → first +ℤ pos long ≡ end → (first +ℤ pos looked) ≤ℤ (day +ℤ pos 1) → looked ≤ long
-    fits first day next end looked long a b c d e f = omega (arith, signed_arith)
+    fits : (first next end : ℤ) (looked long : ℕ) → next ≤ℤ end → first +ℤ pos long ≡ end → (first +ℤ pos looked) ≤ℤ next
+        → looked ≤ long
+    fits first next end looked long a b c = omega (arith, signed_arith)
 
-    short : (first day next end : ℤ) (looked : ℕ) → first_window_day ≤ℤ first → day <ℤ next → next ≤ℤ end → end ≤ℤ horizons_end
-        → (first +ℤ pos looked) ≤ℤ (day +ℤ pos 1) → looked < 400_000
-    short first day next end looked a b c d f = omega (arith, signed_arith)
+    short : (first next end : ℤ) (looked : ℕ) → first_window_day ≤ℤ first → next ≤ℤ end → end ≤ℤ horizons_end
+        → (first +ℤ pos looked) ≤ℤ next → looked < 400_000
+    short first next end looked a b c d = omega (arith, signed_arith)
 
     few : (first end : ℤ) (long all k : ℕ) → first_window_day ≤ℤ first → end ≤ℤ horizons_end → first +ℤ pos long ≡ end
         → all ≤ 86400 * long → k ≡ all → k < 40_000_000_000
     few first end long all k a b c d e = omega (arith, signed_arith)
 
 -- a day that was looked at is followed by days that are jumped over
-pub looked-count : (p : StartParts) (first day n r end : ℤ) (looked : ℕ) → IsInWindow first day n end → n <ℤ r
+pub looked-count : (p : StartParts) (first seen day n r end : ℤ) (looked : ℕ) → IsInWindow first day n end → n <ℤ r
     → month_and_year_fit p n ≡ true
-    → ((i : ℤ) → n <ℤ i → i <ℤ r → month_and_year_fit p i ≡ false) → IsLookedCount p first day n looked
-    → IsLookedCount p first n r (looked + 1)
-looked-count p first day n r end looked window lt on skipped h = record {
-  up_to = count-more (month_and_year_fit p) first day n looked window.day_in window.next_in on h.up_to h.jumped;
-  jumped = count-between (month_and_year_fit p) (n +ℤ pos 1) r (omega (arith, signed_arith))
-      (λ i low high. skipped i (omega (arith, signed_arith)) high);
-}
+    → ((i : ℤ) → n <ℤ i → i <ℤ r → month_and_year_fit p i ≡ false) → IsLookedCount p first seen day n looked
+    → IsLookedCount p first seen n r (looked + 1)
+looked-count p first seen day n r end looked window lt on skipped h =
+    let gap = count-between (month_and_year_fit p) (n +ℤ pos 1) r (omega (arith, signed_arith, lt))
+    (λ i low high. skipped i (omega (arith, signed_arith, low)) high) in
+    let low : first ≤ℤ n = omega (arith, signed_arith, h.low, h.high) in
+    let here = rw on at (count-is (month_and_year_fit p) n (days_between (n +ℤ pos 1) r)) in
+    let both = count-append (month_and_year_fit p) (days_between first n) (n ∷ days_between (n +ℤ pos 1) r) in
+    let all = h.all in
+    record {
+      low = h.low;
+      high = (let a = h.high in omega (arith, signed_arith, a, lt));
+      all = rw (days_between-append first n r low (omega (arith, signed_arith, lt)), days_between-next n r lt)
+          (omega (arith, both, here, all, gap));
+      jumped = λ le. gap;
+      unopened = λ le. absurd (let a = h.high in omega (arith, signed_arith, a, le));
+    }
 
 pub looked-window : (first day n r end : ℤ) → IsInWindow first day n end → n <ℤ r → r ≤ℤ end → IsInWindow first n r end
 looked-window first day n r end window lt le = record {
@@ -383,16 +376,6 @@ window-calendar first day next end w lt = (
   omega (arith, signed_arith, w.first_in, w.day_in, w.next_in),
   omega (arith, signed_arith, w.last_in),
 )
-
-pub begun-count : (p : StartParts) (first next : ℤ) → first ≤ℤ next
-    → ((n : ℤ) → first ≤ℤ n → n <ℤ next → month_and_year_fit p n ≡ false)
-    → IsLookedCount p first (first -ℤ pos 1) next 0
-begun-count p first next le skipped =
-    let same : first -ℤ pos 1 +ℤ pos 1 ≡ first = omega (arith, signed_arith) in
-    record {
-      up_to = rw (same, days_between-nil first) refl;
-      jumped = rw same (count-between (month_and_year_fit p) first next le skipped);
-    }
 
 pub begun-window : (first from to next : ℤ) (back : ℕ) → first ≡ from -ℤ pos back → back ≤ 36600 → first_horizon_day ≤ℤ from → to
     ≤ℤ horizons_end

@@ -1,11 +1,10 @@
 -- A second is in a basic domain, or it is not.
-use Rattle.std.proofs.Common.{subst, inl, inr, ℕ, zero, suc}
+use Rattle.std.proofs.Common.{subst, inl, inr, ℕ, zero, suc, arith}
 use Rattle.std.specs.Prelude.{ℤ, pos, ◌+ℤ◌, ◌-ℤ◌, ◌≤ℤ◌, ◌<ℤ◌}
-use Rattle.std.proofs.Common.{arith}
 use Rattle.std.proofs.lemmas.Int.{ints, by_lt_z}
 use Rattle.gtd_calendar.specs.facts.ClockLemmas.{stop-bound}
 use Rattle.gtd_calendar.specs.ComputedEnds.{stop}
-use Rattle.gtd_core.specs.DurationBound.{bound_of}
+use Rattle.gtd_core.specs.Ranges.{bound_of}
 use Rattle.gtd_core.specs.declared.duration.DurationParts.{DurationParts}
 use Rattle.gtd_core.specs.declared.start.StartParts.{StartParts}
 use Rattle.gtd_recur.specs.Begins.{begins}

@@ -1,11 +1,11 @@
--- Facts of the definitions in `StartsToCome`.
+-- Facts of the definitions in `Walking`.
 use Rattle.std.specs.Prelude.{Option, Some, None, pos, ◌+ℤ◌}
 use Rattle.std.proofs.Props.{props}
 use Rattle.gtd_core.specs.declared.second.Sec.{Sec}
-use Rattle.gtd_recur.specs.declared.starts.Starts.{Starts}
+use Rattle.gtd_recur.specs.declared.walk.Walk.{Walk}
 use Rattle.gtd_recur.specs.facts.AscendingProps.{AllBefore-prop}
-use Rattle.gtd_recur.specs.StartsToCome.{starts_given, IsCountedTo}
+use Rattle.gtd_recur.specs.Walking.{walk_given, IsCountedTo}
 
-pub IsCountedTo-prop : (s : Starts) (o : Option Sec) → IsProp (IsCountedTo s o)
-IsCountedTo-prop s None = hlevel props
-IsCountedTo-prop s (Some b) = hlevel (props, AllBefore-prop (b.0 +ℤ pos 1) (starts_given s))
+pub IsCountedTo-prop : (w : Walk) (o : Option Sec) → IsProp (IsCountedTo w o)
+IsCountedTo-prop w None = hlevel props
+IsCountedTo-prop w (Some b) = hlevel (props, AllBefore-prop (b.0 +ℤ pos 1) (walk_given w))

@@ -1,21 +1,24 @@
 -- A start that asks for no date begins again a week later.
-use Rattle.std.proofs.Common.{◌≡◌, ◌+◌, ◌*◌, ℕ, refl, sym, ◌∙◌, ap, arith, ℤ, pos, ◌+ℤ◌, ◌-ℤ◌, ◌*ℤ◌, ◌<ℤ◌, ◌≤ℤ◌}
+use Rattle.std.proofs.Common.{◌≢◌, ◌⊎◌, inl, inr, Bool, true, false, not, ◌&&◌, ◌||◌, ◌==◌, ◌≡◌, ◌+◌, ◌*◌, ℕ, refl, sym, ◌∙◌}
+use Rattle.std.proofs.Common.{ap, arith, ℤ, pos, ◌+ℤ◌, ◌-ℤ◌, ◌*ℤ◌, ◌<ℤ◌, ◌≤ℤ◌}
+use Rattle.std.proofs.lemmas.Bool.{ne_eqb}
 use Rattle.gtd_calendar.specs.facts.Signed.{signed_arith, one_part}
 use Rattle.std.specs.Int.{int_rem_euclid}
 use Rattle.gtd_core.specs.declared.start.StartParts.{StartParts}
 use Rattle.gtd_core.specs.declared.duration.DurationParts.{DurationParts}
-use Rattle.gtd_core.specs.DurationBound.{clock_seconds}
+use Rattle.gtd_core.specs.Ranges.{clock_seconds}
 use Rattle.gtd_calendar.specs.Calendar.{weekday_of}
+use Rattle.gtd_calendar.specs.declared.day.DayFields.{DayFields}
 use Rattle.gtd_calendar.specs.ComputedFields.{day_fields}
-use Rattle.gtd_core.specs.Days.{day_of_second}
+use Rattle.gtd_core.specs.Seconds.{day_of_second}
 use Rattle.gtd_calendar.specs.facts.ClockLemmas.{second-parts, second-only}
 use Rattle.gtd_calendar.specs.facts.MonthLemmas.{months_later-none}
 use Rattle.gtd_calendar.specs.Clock.{second_of_day}
 use Rattle.gtd_calendar.specs.ComputedEnds.{stop}
-use Rattle.gtd_recur.specs.Begins.{begins, begins_on, is_weekday}
+use Rattle.gtd_recur.specs.Begins.{begins, begins_on, gives_clock, is_weekday, weekday_agrees}
 use Rattle.gtd_recur.specs.Membership.{InStretches}
 use Rattle.gtd_recur.specs.facts.MembershipLemmas.{from_computed, to_computed}
-use Rattle.gtd_recur.specs.Weekly.{IsWeekly}
+use Rattle.gtd_recur.specs.Weekly.{AsksNoDate, IsWeekly}
 
 weekday-week : (n : ℤ) → weekday_of (n +ℤ pos 7) ≡ weekday_of n
 unfolding weekday_of
@@ -36,10 +39,32 @@ day-week s =
     later : (s n : ℤ) (k : ℕ) → s ≡ pos 86400 *ℤ n +ℤ pos k → s +ℤ pos 604_800 ≡ pos 86400 *ℤ (n +ℤ pos 7) +ℤ pos k
     later s n k e = omega (arith, signed_arith)
 
+-- a day's level is free where weekdays or the clock are given
+free : (days clock month day weekday : Bool) → (days ≡ true) ⊎ (clock ≡ true)
+    → ((days || clock) || month) && (weekday && (days || (clock || day))) ≡ weekday
+free true clock month day true h = refl
+free true clock month day false h = refl
+free false true month day true h = refl
+free false true month day false h = refl
+free false false month day weekday h = absurd (elim h [ inl e ↦ cc | inr e ↦ cc ])
+
+given-days : (k : ℕ) → k ≢ 0 → not (k == 0) ≡ true
+given-days k h = rw (ne_eqb k 0 h) refl
+
+some-given : (k : ℕ) (clock : Bool) → (k ≢ 0) ⊎ (clock ≡ true) → (not (k == 0) ≡ true) ⊎ (clock ≡ true)
+some-given k clock (inl days) = inl (given-days k days)
+some-given k clock (inr given) = inr given
+
+-- a start that asks for no date begins on a day just where the weekday agrees
+pub date-free : (p : StartParts) (f : DayFields) → AsksNoDate p → begins_on p f ≡ weekday_agrees p f
+date-free p f a = rw (a.year, a.month, a.week, a.day, a.nth, a.nth_back)
+    (free (not (p.weekdays == 0)) (gives_clock p) (1 == f.month) (f.day == 1) (weekday_agrees p f)
+    (some-given p.weekdays (gives_clock p) a.some))
+
 begins_on-week : (p : StartParts) (q : DurationParts) (n : ℤ) → IsWeekly p q → begins_on p (day_fields (n +ℤ pos 7))
     ≡ begins_on p (day_fields n)
-begins_on-week p q n w = w.date (day_fields (n +ℤ pos 7)) ∙ ap (λ (k : ℕ). is_weekday p k) (weekday-week n)
-    ∙ sym (w.date (day_fields n))
+begins_on-week p q n w = date-free p (day_fields (n +ℤ pos 7)) w.start ∙ ap (λ (k : ℕ). is_weekday p k) (weekday-week n)
+    ∙ sym (date-free p (day_fields n) w.start)
 
 begins-week : (p : StartParts) (q : DurationParts) (s : ℤ) → IsWeekly p q → begins p (s +ℤ pos 604_800) ≡ begins p s
 unfolding begins
@@ -49,7 +74,8 @@ stop-week : (p : StartParts) (q : DurationParts) (s : ℤ) → IsWeekly p q → 
 unfolding stop
 stop-week p q s w =
     let at = day-week s in
-    rw (w.months, at.0, at.1, months_later-none (day_of_second s +ℤ pos 7), months_later-none (day_of_second s))
+    let none : 12 * q.years + q.months ≡ 0 = omega (arith, w.years, w.months) in
+    rw (none, at.0, at.1, months_later-none (day_of_second s +ℤ pos 7), months_later-none (day_of_second s))
     (moved (day_of_second s) (7 * q.weeks + q.days) (second_of_day s + clock_seconds q))
   where
     moved : (n : ℤ) (d k : ℕ) → pos 86400 *ℤ (n +ℤ pos 7 +ℤ pos d) +ℤ pos k ≡ (pos 86400 *ℤ (n +ℤ pos d) +ℤ pos k) +ℤ pos 604_800

@@ -10,9 +10,9 @@ AreLeft-prop handed all left = hlevel props
 pub IsInWindow-prop : (first day next end : ℤ) → IsProp (IsInWindow first day next end)
 IsInWindow-prop first day next end = hlevel props
 
-pub IsLookedCount-prop : (p : StartParts) (first day next : ℤ) (looked : ℕ)
-    → IsProp (IsLookedCount p first day next looked)
-IsLookedCount-prop p first day next looked = hlevel props
+pub IsLookedCount-prop : (p : StartParts) (first seen day next : ℤ) (looked : ℕ)
+    → IsProp (IsLookedCount p first seen day next looked)
+IsLookedCount-prop p first seen day next looked = hlevel props
 
 pub AreFitting-prop : (p : StartParts) (next until end : ℤ) → IsProp (AreFitting p next until end)
 AreFitting-prop p next until end = hlevel props

@@ -3,14 +3,12 @@ use Rattle.std.proofs.Common.{◌≡◌, ◌∙◌, ◌+◌, ap, refl, arith, su
 use Rattle.std.specs.Prelude.{◌≢◌, IsTrue, OnOk, Result, Ok, Err, IfOk, IfSome}
 use Rattle.std.proofs.KnownBytes.{Keeps-refl}
 use Rattle.gtd_records.specs.facts.OneAnswer.{one_file}
-use Rattle.gtd_records.specs.File.{IsFile}
-use Rattle.gtd_records.specs.Reading.{IsOfFile}
-use Rattle.gtd_records.specs.Restriction.{Restriction}
+use Rattle.gtd_records.specs.File.{IsFile, IsOfFile}
+use Rattle.gtd_records.specs.Closing.{Restriction}
 use Rattle.gtd_records.specs.declared.fault.RecordFault.{RecordFault}
 use Rattle.gtd_runs.specs.Putting.{Puts, PutsText, answer_of, nothing_put, text_of}
-use Rattle.gtd_runs.specs.Run.{AcceptedFilesArePut, HasRun, IsLineCount, PutsWhole, RefusedFilesPutNothing}
-use Rattle.gtd_runs.specs.Run.{TookFirst, TookFirstOf}
-use Rattle.gtd_runs.specs.Run.{UnacceptedFilesPutNothing}
+use Rattle.gtd_runs.specs.Run.{AcceptedFilesArePut, HasRun, IsLineCount, PutsWhole, RefusedFilesPutNothing, TookFirst}
+use Rattle.gtd_runs.specs.Run.{TookFirstOf, UnacceptedFilesPutNothing}
 use Rattle.gtd_runs.specs.declared.fault.RunFault.{RunFault}
 use Rattle.gtd_runs.specs.declared.fault.RunFault.TheVariants as fault
 use Rattle.gtd_runs.specs.declared.putting.Progress.{Progress}

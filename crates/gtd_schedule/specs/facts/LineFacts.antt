@@ -3,11 +3,10 @@ use Rattle.std.proofs.Common.{◌≡◌, ◌<◌, ◌≤◌, ◌+◌, ◌*◌, �
 use Rattle.std.proofs.Common.{append_assoc}
 use Rattle.std.specs.Prelude.{decimal}
 use Rattle.std.proofs.lemmas.Fmt.{length-decimal-le}
-use Rattle.gtd_core.specs.Interval.{Interval}
+use Rattle.gtd_core.specs.Seconds.{Interval}
 use Rattle.gtd_records.specs.declared.direction.Direction.{Direction}
 use Rattle.gtd_records.specs.declared.direction.Direction.TheVariants.{Positive, Negative}
-use Rattle.gtd_runs.specs.Putting.{text_of}
-use Rattle.gtd_runs.specs.DirectionWords.{direction_word}
+use Rattle.gtd_runs.specs.Putting.{text_of, direction_word}
 use Rattle.gtd_schedule.specs.Lines.{line_head, span_text}
 use Rattle.gtd_schedule.specs.Schedule.{span_line}
 

@@ -11,8 +11,7 @@ use Rattle.gtd_core.specs.Whole.{whole}
 use Rattle.gtd_core.specs.declared.horizon.Horizon.{Horizon}
 use Rattle.gtd_records.specs.facts.IndexFacts.{map_from_any}
 use Rattle.gtd_records.specs.facts.Rising.{one_list}
-use Rattle.gtd_records.specs.Closing.{AreElements, IsOpen}
-use Rattle.gtd_records.specs.Restriction.{Restriction}
+use Rattle.gtd_records.specs.Closing.{AreElements, IsOpen, Restriction}
 use Rattle.gtd_records.specs.declared.direction.Direction.{Direction}
 use Rattle.gtd_records.specs.declared.direction.Direction.TheVariants.{Positive, Negative}
 use Rattle.gtd_schedule.specs.facts.TextFacts.{Then, IsOne}

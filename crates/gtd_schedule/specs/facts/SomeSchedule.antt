@@ -1,6 +1,6 @@
 -- Restrictions have a schedule.
-use Rattle.std.proofs.Common.{◌≡◌, ◌∙◌, sym, refl, subst, arith, ◌<◌, ◌⊎◌, inl, inr, ◌↔◌, map, ℕ, zero, suc, List, [], ◌∷◌, ◌++◌}
-use Rattle.std.proofs.Common.{length}
+use Rattle.std.proofs.Common.{◌≡◌, ◌∙◌, sym, refl, subst, arith, ◌<◌, ◌⊎◌, inl, inr, ◌↔◌, map, ℕ, zero, suc, List, [], ◌∷◌}
+use Rattle.std.proofs.Common.{◌++◌, length}
 use Rattle.std.specs.Prelude.{Any, slice_index_or}
 use Rattle.std.specs.List.{Contains, AllByRecursion}
 use Rattle.std.specs.List.Sorted.{IsStrictlySortedBy}
@@ -8,13 +8,12 @@ use Rattle.std.specs.Ordering.{nat_cmp}
 use Rattle.std.specs.declared.cmp.Ordering.TheVariants.{Less}
 use Rattle.std.proofs.lemmas.Bool.Decides.{nat_tests}
 use Rattle.std.proofs.lemmas.Map.Keys.{IsStrictlyIncreasing-from_sorted}
-use Rattle.gtd_core.specs.Interval.{Interval}
+use Rattle.gtd_core.specs.Seconds.{Interval}
 use Rattle.gtd_core.specs.Whole.{whole}
 use Rattle.gtd_core.specs.declared.horizon.Horizon.{Horizon}
-use Rattle.gtd_eval.specs.NormalOver.{IsNormalOver}
+use Rattle.gtd_eval.specs.Membership.{IsNormalOver}
 use Rattle.gtd_records.specs.facts.IndexFacts.{by_le}
-use Rattle.gtd_records.specs.Closing.{AreElements, IsOpen}
-use Rattle.gtd_records.specs.Restriction.{Restriction}
+use Rattle.gtd_records.specs.Closing.{AreElements, IsOpen, Restriction}
 use Rattle.gtd_records.specs.declared.direction.Direction.{Direction}
 use Rattle.gtd_records.specs.declared.direction.Direction.TheVariants.{Positive, Negative}
 use Rattle.gtd_records.specs.facts.Rising.{AllAbove, In, Rises}

@@ -3,7 +3,7 @@ use Rattle.std.proofs.Common.{◌≡◌, ◌⊎◌, ◌↔◌, List, [], ◌∷�
 use Rattle.std.specs.Prelude.{ℕ, ◌+◌, ℤ, pos, neg_ℤ, ◌≤ℤ◌, ◌<ℤ◌, int_le, int_lt, unsigned_abs}
 use Rattle.std.specs.Bool.{Decides}
 use Rattle.std.proofs.lemmas.Int.{ints}
-use Rattle.gtd_core.specs.Interval.{Interval, Within}
+use Rattle.gtd_core.specs.Seconds.{Interval, Within}
 use Rattle.gtd_core.specs.declared.domain.Op.{Op}
 use Rattle.gtd_core.specs.declared.domain.Op.TheVariants.{Union, Meet, Minus}
 use Rattle.gtd_spans.specs.Normal.{Holds, IsNormal}

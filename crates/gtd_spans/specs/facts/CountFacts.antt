@@ -1,16 +1,14 @@
 -- Counts of the seconds of a set.
 use Rattle.std.proofs.Common.{◌≡◌, ◌∙◌, sym, ap, refl, subst, ◌+◌, ◌≤◌, ◌⊎◌, ◌↔◌, inl, inr, ℕ, zero, suc, arith, zero-add}
-use Rattle.std.specs.Prelude.{ℤ, pos, ◌+ℤ◌, ◌≤ℤ◌, ◌<ℤ◌}
+use Rattle.std.specs.Prelude.{ℤ, pos, ◌+ℤ◌, ◌≤ℤ◌, ◌<ℤ◌, List, [], ◌∷◌, ◌-◌}
 use Rattle.std.proofs.lemmas.Int.{ints, by_lt_z}
-use Rattle.std.specs.Prelude.{List, [], ◌∷◌, ◌-◌}
 use borrow.Author.Differences.{up, down}
-use Rattle.gtd_core.specs.Interval.{Interval, Within}
+use Rattle.gtd_core.specs.Seconds.{Interval, Within}
 use Rattle.gtd_spans.specs.Normal.{Holds, IsNormal}
 use Rattle.gtd_spans.specs.facts.OneList.{after-holds, first-holds}
 use Rattle.std.specs.Prelude.{Option, Some, None}
 use Rattle.gtd_spans.specs.Sweeping.{Takes}
-use Rattle.gtd_spans.specs.Counting.{to_come}
-use Rattle.gtd_spans.specs.Counting.{IsCount}
+use Rattle.gtd_spans.specs.Counting.{to_come, IsCount}
 
 -- the n seconds from t on
 abbrev pub Among : ℤ → ℕ → ℤ → Type 0

@@ -2,9 +2,8 @@
 use Rattle.std.specs.Prelude.{ℤ, pos, ◌-ℤ◌, ◌≤ℤ◌, ◌≡◌, ◌↔◌, List, [], ◌∷◌}
 use Rattle.std.proofs.Common.{arith, inl, inr}
 use Rattle.std.proofs.lemmas.Int.{ints, by_lt_z}
-use Rattle.gtd_core.specs.Interval.{Interval}
-use Rattle.gtd_spans.specs.Normal.{Holds, AllBeginFrom, AllBeginAfter, IsNormal}
-use Rattle.gtd_spans.specs.Normal.{IsIn, AreInOrder, AreMaximal, IsNormalFor}
+use Rattle.gtd_core.specs.Seconds.{Interval}
+use Rattle.gtd_spans.specs.Normal.{Holds, AllBeginFrom, AllBeginAfter, IsNormal, IsIn, AreInOrder, AreMaximal, IsNormalFor}
 use Rattle.gtd_core.specs.declared.domain.Op.{Op}
 use Rattle.gtd_core.specs.declared.domain.Op.TheVariants.{Union, Meet, Minus}
 use Rattle.gtd_spans.specs.Combine.{Combined, combine}

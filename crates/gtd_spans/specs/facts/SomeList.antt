@@ -3,7 +3,7 @@ use Rattle.std.proofs.Common.{◌≡◌, ◌⊎◌, ◌↔◌, ◌-◌, ◌+◌,
 use Rattle.std.specs.Prelude.{ℤ, pos, ◌+ℤ◌, ◌≤ℤ◌}
 use Rattle.std.proofs.lemmas.Int.{ints, by_lt_z}
 use borrow.Author.Differences.{up, down}
-use Rattle.gtd_core.specs.Interval.{Interval}
+use Rattle.gtd_core.specs.Seconds.{Interval}
 use Rattle.gtd_spans.specs.Normal.{IsNormalFor, normal_list}
 use Rattle.gtd_spans.specs.facts.NormalFor.{normal-for}
 use Rattle.gtd_spans.specs.facts.Exists.{normal_list-normal, normal_list-holds}

@@ -1,7 +1,7 @@
 -- Facts about sweeps.
 use Rattle.std.specs.Prelude.{List}
 use Rattle.std.proofs.Props.{props}
-use Rattle.gtd_core.specs.Interval.{Interval}
+use Rattle.gtd_core.specs.Seconds.{Interval}
 use Rattle.gtd_spans.specs.Normal.{IsNormal}
 use Rattle.gtd_spans.specs.facts.Combining.{combine-normal}
 use Rattle.gtd_spans.specs.facts.FitsProp.{Fits-prop as FitsMerge-prop}

@@ -1,7 +1,7 @@
 -- Operators with a side of one interval.
 use Rattle.std.proofs.Common.{◌↔◌, List, [], ◌∷◌, inl, inr}
 use Rattle.std.specs.Prelude.{ℤ}
-use Rattle.gtd_core.specs.Interval.{Interval, Within}
+use Rattle.gtd_core.specs.Seconds.{Interval, Within}
 use Rattle.gtd_core.specs.declared.domain.Op.TheVariants.{Meet, Minus}
 use Rattle.gtd_spans.specs.Normal.{Holds}
 use Rattle.gtd_spans.specs.Combine.{combine}

@@ -6,14 +6,14 @@ use Rattle.std.specs.Prelude.{◌&&◌}
 use Rattle.gtd_core.specs.declared.start.StartParts.{StartParts}
 use Rattle.gtd_core.specs.declared.duration.DurationParts.{DurationParts}
 use Rattle.gtd_core.specs.declared.domain.Op.{Op}
-use Rattle.gtd_core.specs.declared.domain.Op.TheVariants.{Union, Minus as Difference}
+use Rattle.gtd_core.specs.declared.domain.Op.TheVariants.{Union, Minus as OpMinus}
 use Rattle.gtd_core.specs.Trees.{Tree, Single, Joined}
-use Rattle.gtd_core.specs.StartRanges.{no_parts}
+use Rattle.gtd_core.specs.Ranges.{no_parts}
 use Rattle.gtd_text.specs.declared.token.TokenKind.{TokenKind}
-use Rattle.gtd_text.specs.declared.token.TokenKind.TheVariants.{CloseBracket, CloseParenthesis, OpenBrace, CloseBrace, Plus, Star}
-use Rattle.gtd_text.specs.declared.token.TokenKind.TheVariants.{Minus}
-use Rattle.gtd_text.specs.Fields.{fits_start, fits_duration, all_fit_start, all_fit_duration, with_start_field, with_start_fields}
-use Rattle.gtd_text.specs.Fields.{with_duration_field, with_duration_fields, zero_parts}
+use Rattle.gtd_text.specs.declared.token.TokenKind.TheVariants.{CloseBracket, CloseParenthesis, OpenBrace, CloseBrace, Plus}
+use Rattle.gtd_text.specs.declared.token.TokenKind.TheVariants.{Star, Minus}
+use Rattle.gtd_text.specs.Fields.{fits_start, fits_duration, all_fit_start, all_fit_duration, with_start_field}
+use Rattle.gtd_text.specs.Fields.{with_start_fields, with_duration_field, with_duration_fields, zero_parts}
 use Rattle.gtd_text.specs.Grammar.{Level, Sum, Product, Item, Stands, basic, bracketed, item, meet, product, union, minus}
 use Rattle.gtd_text.specs.Grammar.{basic_tokens}
 use Rattle.gtd_text.specs.Building.{Sums, Pending, Expecting, InStart, AfterStart, InDuration, AfterItem, total, times, step}
@@ -137,7 +137,7 @@ builds level tokens e (meet left right a b d k) = λ outer sum rest.
 builds level tokens e (product inner f d) = λ outer. (None, f, refl, λ rest. builds Product inner f d outer None rest)
 builds level tokens e (union left right a b d k) = builds_sign Union Plus left right a b (λ outer sum term. refl)
     (builds Sum left a d) (builds Product right b k)
-builds level tokens e (minus left right a b d k) = builds_sign Difference Minus left right a b (λ outer sum term. refl)
+builds level tokens e (minus left right a b d k) = builds_sign OpMinus Minus left right a b (λ outer sum term. refl)
     (builds Sum left a d) (builds Product right b k)
 
 pub builds_whole : (tokens : List TokenKind) (e : Tree) → Stands Sum tokens e → build at_front tokens ≡ Some e

@@ -1,20 +1,21 @@
 -- What is built of tokens is what they stand for.
-use Rattle.std.proofs.Common.{◌≡◌, ◌≢◌, Bool, true, false, cond, List, [], ◌∷◌, ◌++◌, Option, Some, None, refl, sym, ap, subst}
-use Rattle.std.proofs.Common.{◌∙◌, append_assoc}
+use Rattle.std.proofs.Common.{◌≡◌, ◌≢◌, Bool, true, false, cond, List, [], ◌∷◌, ◌++◌, Option, Some, None, refl, sym, ap}
+use Rattle.std.proofs.Common.{subst, ◌∙◌, append_assoc}
 use Rattle.std.proofs.lemmas.List.{append-nil}
 use Rattle.std.proofs.lemmas.Option.{option_and_then_some}
 use Rattle.std.specs.Prelude.{◌&&◌}
 use Rattle.gtd_core.specs.declared.start.StartParts.{StartParts}
 use Rattle.gtd_core.specs.declared.duration.DurationParts.{DurationParts}
-use Rattle.gtd_core.specs.declared.domain.Op.TheVariants.{Union, Meet, Minus as Difference}
+use Rattle.gtd_core.specs.declared.domain.Op.TheVariants.{Union, Meet, Minus as OpMinus}
 use Rattle.gtd_core.specs.Trees.{Tree, Single, Joined}
-use Rattle.gtd_core.specs.StartRanges.{no_parts}
+use Rattle.gtd_core.specs.Ranges.{no_parts}
 use Rattle.gtd_text.specs.declared.token.TokenKind.{TokenKind}
 use Rattle.gtd_text.specs.declared.token.TokenKind.TheVariants.{OpenBracket, CloseBracket, OpenParenthesis, CloseParenthesis}
 use Rattle.gtd_text.specs.declared.token.TokenKind.TheVariants.{OpenBrace, CloseBrace, Plus, Star, Minus}
-use Rattle.gtd_text.specs.Fields.{fits_start, fits_duration, all_fit_start, all_fit_duration, with_start_field, with_start_fields}
-use Rattle.gtd_text.specs.Fields.{with_duration_field, with_duration_fields, zero_parts}
-use Rattle.gtd_text.specs.Grammar.{Sum, Product, Item, Stands, basic, bracketed, item, meet, product, union, minus, basic_tokens}
+use Rattle.gtd_text.specs.Fields.{fits_start, fits_duration, all_fit_start, all_fit_duration, with_start_field}
+use Rattle.gtd_text.specs.Fields.{with_start_fields, with_duration_field, with_duration_fields, zero_parts}
+use Rattle.gtd_text.specs.Grammar.{Sum, Product, Item, Stands, basic, bracketed, item, meet, product, union, minus}
+use Rattle.gtd_text.specs.Grammar.{basic_tokens}
 use Rattle.gtd_text.specs.Building.{Sums, Pending, State, Expecting, InStart, AfterStart, InDuration, AfterItem, total, times}
 use Rattle.gtd_text.specs.Building.{close_start, close_duration, close_bracket, step, finish, build, at_front}
 use Rattle.gtd_text.specs.facts.Builds.{turned, and_left, and_right}
@@ -23,7 +24,7 @@ use Rattle.gtd_text.specs.facts.Builds.{turned, and_left, and_right}
 data BeforeTerm : Sums → List TokenKind → Type 0 where
   no_sum : BeforeTerm None []
   plus : (tokens : List TokenKind) (e : Tree) → Stands Sum tokens e → BeforeTerm (Some (Union, e)) (tokens ++ Plus ∷ [])
-  less : (tokens : List TokenKind) (e : Tree) → Stands Sum tokens e → BeforeTerm (Some (Difference, e)) (tokens ++ Minus ∷ [])
+  less : (tokens : List TokenKind) (e : Tree) → Stands Sum tokens e → BeforeTerm (Some (OpMinus, e)) (tokens ++ Minus ∷ [])
 
 data BeforeItem : Option Tree → List TokenKind → Type 0 where
   no_product : BeforeItem None []
@@ -77,7 +78,7 @@ whole_sum : (sum : Sums) (left own : List TokenKind) (term : Tree) → BeforeTer
 whole_sum sum left own term no_sum d = product own term d
 whole_sum sum left own term (plus tokens e k) d = subst (λ (l : List TokenKind). Stands Sum l (Joined Union e term))
     (sym (append_assoc tokens (Plus ∷ []) own)) (union tokens own e term k d)
-whole_sum sum left own term (less tokens e k) d = subst (λ (l : List TokenKind). Stands Sum l (Joined Difference e term))
+whole_sum sum left own term (less tokens e k) d = subst (λ (l : List TokenKind). Stands Sum l (Joined OpMinus e term))
     (sym (append_assoc tokens (Minus ∷ []) own)) (minus tokens own e term k d)
 
 whole_product : (prod : Option Tree) (left own : List TokenKind) (e : Tree) → BeforeItem prod left → Stands Item own e
@@ -330,7 +331,7 @@ steps (InDuration outer sum prod start before parts) token tokens h =
 steps (AfterItem outer sum term) Star tokens h = next_item outer sum term tokens h
 steps (AfterItem outer sum term) Plus tokens h = next_term outer sum term tokens Plus (Some (Union, total sum term))
     (λ own d. plus own (total sum term) d) h
-steps (AfterItem outer sum term) Minus tokens h = next_term outer sum term tokens Minus (Some (Difference, total sum term))
+steps (AfterItem outer sum term) Minus tokens h = next_term outer sum term tokens Minus (Some (OpMinus, total sum term))
     (λ own d. less own (total sum term) d) h
 steps (AfterItem outer sum term) CloseBracket tokens h = close_brackets outer sum term tokens h
 steps (AfterItem outer sum term) token tokens h = tt

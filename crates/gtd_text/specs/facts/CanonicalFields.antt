@@ -1,6 +1,6 @@
 -- The fields of the canonical text.
-use Rattle.std.proofs.Common.{◌≡◌, ◌≢◌, ℕ, zero, suc, ◌+◌, ◌-◌, ◌*◌, ◌/◌, ◌%◌, ◌^◌, ◌<◌, ◌≤◌, Bool, true, false, cond, List, []}
-use Rattle.std.proofs.Common.{◌∷◌, ◌++◌, length, Option, Some, None, refl, sym, ap, ◌∙◌, arith, inl, inr, append_assoc}
+use Rattle.std.proofs.Common.{◌≡◌, ◌≢◌, ℕ, zero, suc, ◌+◌, ◌-◌, ◌*◌, ◌/◌, ◌%◌, ◌^◌, ◌<◌, ◌≤◌, Bool, true, false, cond, List}
+use Rattle.std.proofs.Common.{[], ◌∷◌, ◌++◌, length, Option, Some, None, refl, sym, ap, ◌∙◌, arith, inl, inr, append_assoc}
 use Rattle.std.specs.Prelude.{◌==◌, ◌&&◌, bit_or, decimal}
 use Rattle.std.specs.Char.{is_ascii_digit}
 use Rattle.std.proofs.lemmas.Bool.{eqb-true, cases_eq, le-leb}
@@ -8,20 +8,18 @@ use Rattle.std.proofs.lemmas.List.{append-nil}
 use Rattle.std.proofs.lemmas.Fmt.{digits_decimal, digits_value-decimal, decimal_nonempty, length-decimal-le}
 use Rattle.gtd_core.specs.declared.start.StartParts.{StartParts}
 use Rattle.gtd_core.specs.declared.duration.DurationParts.{DurationParts}
-use Rattle.gtd_core.specs.StartRanges.{IsStart, IsWithin, IsPlace, no_parts}
-use Rattle.gtd_core.specs.DurationBound.{HasSixDigits}
-use Rattle.gtd_text.specs.Canonical.{field_text, year_text, place_text, weekday_text, weekdays_text, month_fields, place_fields}
-use Rattle.gtd_text.specs.Canonical.{day_fields, clock_fields, start_text, number_text, numbers_text, or_zero, duration_text}
+use Rattle.gtd_core.specs.Ranges.{IsStart, IsWithin, IsPlace, no_parts, HasSixDigits}
+use Rattle.gtd_text.specs.Canonical.{field_text, year_text, place_text, weekday_text, weekdays_text, month_fields}
+use Rattle.gtd_text.specs.Canonical.{place_fields, day_fields, clock_fields, start_text, number_text, numbers_text, or_zero}
+use Rattle.gtd_text.specs.Canonical.{duration_text}
 use Rattle.gtd_text.specs.Fields.{is_from_to, is_start_value, all_fit_start, with_start_fields, zero_parts}
 use Rattle.gtd_text.specs.facts.Builds.{and_left, and_right}
 use Rattle.gtd_text.specs.facts.TokenForms.{own}
 use Rattle.gtd_text.specs.facts.TokenWords.{Word, text_of, kinds_of, AreWords, AreDigits}
-use Rattle.gtd_text.specs.facts.OptionalFields.{Given, Slot, slot, slots_words, slot_text, slots_text, text_of-slots, AreGiven}
-use Rattle.gtd_text.specs.facts.OptionalFields.{AreSlots}
-use Rattle.gtd_text.specs.facts.OptionalFields.{are_words, IsInRange, AreInRange, slots_fit_start, with_slot, Gives, done, more}
-use Rattle.gtd_text.specs.facts.OptionalFields.{gives}
-use Rattle.gtd_text.specs.facts.OptionalFields.{with_number, Makes, made, further, or_zero_words, or_zero_text, AreNumbers}
-use Rattle.gtd_text.specs.facts.OptionalFields.{are_numbers}
+use Rattle.gtd_text.specs.facts.OptionalFields.{Given, Slot, slot, slots_words, slot_text, slots_text, text_of-slots}
+use Rattle.gtd_text.specs.facts.OptionalFields.{AreGiven, AreSlots, are_words, IsInRange, AreInRange, slots_fit_start}
+use Rattle.gtd_text.specs.facts.OptionalFields.{with_slot, Gives, done, more, gives, with_number, Makes, made, further}
+use Rattle.gtd_text.specs.facts.OptionalFields.{or_zero_words, or_zero_text, AreNumbers, are_numbers}
 
 -- ---- digits
 

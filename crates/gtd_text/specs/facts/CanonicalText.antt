@@ -3,9 +3,8 @@ use Rattle.std.proofs.Common.{◌≡◌, ℕ, List, [], ◌∷◌, ◌++◌, ref
 use Rattle.gtd_core.specs.declared.start.StartParts.{StartParts}
 use Rattle.gtd_core.specs.declared.duration.DurationParts.{DurationParts}
 use Rattle.gtd_core.specs.declared.domain.Op.{Op}
-use Rattle.gtd_core.specs.declared.domain.Op.TheVariants.{Union, Meet, Minus as Difference}
-use Rattle.gtd_core.specs.StartRanges.{IsStart, no_parts}
-use Rattle.gtd_core.specs.DurationBound.{IsDuration}
+use Rattle.gtd_core.specs.declared.domain.Op.TheVariants.{Union, Meet, Minus as OpMinus}
+use Rattle.gtd_core.specs.Ranges.{IsStart, no_parts, IsDuration}
 use Rattle.gtd_core.specs.Trees.{Tree, Single, Joined, AreValid}
 use Rattle.gtd_text.specs.declared.token.Token.{Token}
 use Rattle.gtd_text.specs.declared.token.TokenKind.{TokenKind}
@@ -14,18 +13,18 @@ use Rattle.gtd_text.specs.declared.token.TokenKind.TheVariants.{OpenBrace, Close
 use Rattle.gtd_text.specs.Canonical.{canonical, start_text, sign_text}
 use Rattle.gtd_text.specs.Fields.{with_start_fields}
 use Rattle.gtd_text.specs.Grammar.{Sum, Item, Stands, basic, bracketed, item, meet, product, union, minus, basic_tokens}
-use Rattle.gtd_text.specs.Lexing.{AreTokens}
-use Rattle.gtd_text.specs.TokenKinds.{kinds}
+use Rattle.gtd_text.specs.Lexing.{AreTokens, kinds}
 use Rattle.gtd_text.specs.Reading.{StandsFor}
 use Rattle.gtd_text.specs.facts.TokenWords.{Word, text_of, kinds_of, text_of-append, kinds_of-append, IsWord, AreWords}
 use Rattle.gtd_text.specs.facts.TokenWords.{AreWords-append, placed, kinds-placed, are_tokens}
 use Rattle.gtd_text.specs.facts.OptionalFields.{slots_words, or_zero_some}
-use Rattle.gtd_text.specs.facts.CanonicalFields.{start_slots, number_slots, number_words, number_words_text, start_words, numbers}
+use Rattle.gtd_text.specs.facts.CanonicalFields.{start_slots, number_slots, number_words, number_words_text, start_words}
+use Rattle.gtd_text.specs.facts.CanonicalFields.{numbers}
 
 abbrev pub op_word : Op → Word
 op_word Union = (Plus, 43 ∷ [])
 op_word Meet = (Star, 42 ∷ [])
-op_word Difference = (Minus, 45 ∷ [])
+op_word OpMinus = (Minus, 45 ∷ [])
 
 abbrev open_bracket : Word
 open_bracket = (OpenBracket, 91 ∷ [])
@@ -57,7 +56,7 @@ canonical_words (Joined op left right) =
 op_text : (op : Op) (rest : List ℕ) → (op_word op).1 ++ rest ≡ sign_text op ++ rest
 op_text Union rest = refl
 op_text Meet rest = refl
-op_text Difference rest = refl
+op_text OpMinus rest = refl
 
 words_text : (e : Tree) → AreValid e → text_of (canonical_words e) ≡ canonical e
 words_text (Single start duration) h =
@@ -86,7 +85,7 @@ words_text (Joined op left right) h =
 op_is_word : (op : Op) → IsWord (op_word op)
 op_is_word Union = record { reads = λ rest none. refl; long = refl; no_digit = λ rest. refl }
 op_is_word Meet = record { reads = λ rest none. refl; long = refl; no_digit = λ rest. refl }
-op_is_word Difference = record { reads = λ rest none. refl; long = refl; no_digit = λ rest. refl }
+op_is_word OpMinus = record { reads = λ rest none. refl; long = refl; no_digit = λ rest. refl }
 
 is_open_bracket : IsWord open_bracket
 is_open_bracket = record { reads = λ rest none. refl; long = refl; no_digit = λ rest. refl }
@@ -147,7 +146,7 @@ op_stands : (op : Op) (left right : List TokenKind) (a b : Tree) → Stands Item
     → Stands Sum (left ++ (op_word op).0 ∷ right) (Joined op a b)
 op_stands Union left right a b d k = union left right a b (product left a (item left a d)) (item right b k)
 op_stands Meet left right a b d k = product (left ++ Star ∷ right) (Joined Meet a b) (meet left right a b (item left a d) k)
-op_stands Difference left right a b d k = minus left right a b (product left a (item left a d)) (item right b k)
+op_stands OpMinus left right a b d k = minus left right a b (product left a (item left a d)) (item right b k)
 
 pub kinds_single : (start : StartParts) (duration : DurationParts) → kinds_of (canonical_words (Single start duration))
     ≡ OpenBracket ∷ (basic_tokens (kinds_of (slots_words (start_slots start))) (kinds_of (number_words duration)) ++ CloseBracket

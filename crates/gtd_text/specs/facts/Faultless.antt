@@ -5,26 +5,26 @@ use Rattle.std.specs.Prelude.{nat_lt, is_some}
 use Rattle.std.proofs.lemmas.Bool.{le-ltb}
 use Rattle.gtd_core.specs.declared.fault.TextFault.{TextFault}
 use Rattle.gtd_core.specs.declared.domain.Op.{Op}
-use Rattle.gtd_core.specs.declared.domain.Op.TheVariants.{Union, Meet, Minus as Difference}
-use Rattle.gtd_core.specs.DurationBound.{bound_of}
+use Rattle.gtd_core.specs.declared.domain.Op.TheVariants.{Union, Meet, Minus as OpMinus}
+use Rattle.gtd_core.specs.Ranges.{bound_of}
 use Rattle.gtd_core.specs.Trees.{Tree, Single, Joined, AreValid, leaf_count}
 use Rattle.gtd_text.specs.declared.token.Token.{Token}
 use Rattle.gtd_text.specs.declared.token.TokenKind.{TokenKind}
 use Rattle.gtd_text.specs.declared.token.TokenKind.TheVariants.{OpenBracket, CloseBracket, OpenParenthesis, CloseParenthesis}
 use Rattle.gtd_text.specs.declared.token.TokenKind.TheVariants.{OpenBrace, CloseBrace, Plus, Star, Minus, Field}
 use Rattle.gtd_text.specs.Canonical.{canonical}
-use Rattle.gtd_text.specs.Fields.{fits_start, fits_duration, all_fit_start, all_fit_duration, with_duration_fields, zero_parts}
+use Rattle.gtd_text.specs.Fields.{fits_start, fits_duration, all_fit_start, all_fit_duration, with_duration_fields}
+use Rattle.gtd_text.specs.Fields.{zero_parts}
 use Rattle.gtd_text.specs.Fitting.{fits, may_end}
-use Rattle.gtd_text.specs.Found.{fault_after}
-use Rattle.gtd_text.specs.facts.Linked.{all_fit}
+use Rattle.gtd_text.specs.Found.{fault_after, depth_after, too_deep_after, count_after, too_many_after, too_long, or_else}
+use Rattle.gtd_text.specs.Found.{fault_of_tokens}
+use Rattle.gtd_text.specs.facts.Linked.{all_fit, all_fit_builds}
 use Rattle.gtd_text.specs.Grammar.{Level, Sum, Product, Item, Stands, basic, bracketed, item, meet, product, union, minus}
 use Rattle.gtd_text.specs.Grammar.{basic_tokens}
-use Rattle.gtd_text.specs.Found.{depth_after, too_deep_after, count_after, too_many_after, too_long, or_else, fault_of_tokens}
-use Rattle.gtd_text.specs.LongDurations.{is_too_long, opens_too_long}
-use Rattle.gtd_text.specs.TokenKinds.{kinds}
+use Rattle.gtd_text.specs.FirstFault.{is_too_long, opens_too_long}
+use Rattle.gtd_text.specs.Lexing.{kinds}
 use Rattle.gtd_text.specs.Reading.{HasNoFault}
 use Rattle.gtd_text.specs.facts.Builds.{and_left, and_right, builds_whole}
-use Rattle.gtd_text.specs.facts.Linked.{all_fit_builds}
 use Rattle.gtd_text.specs.facts.ReadingLaws.{no_fault}
 use Rattle.gtd_text.specs.facts.Valid.{IsNoField, opens_before, front_fields, opens_from, leaves}
 use Rattle.gtd_text.specs.facts.TokenWords.{kinds_of, kinds-placed}
@@ -212,7 +212,7 @@ one_leaf (Joined op left right) = omega (arith, one_leaf left)
 op_stays : (op : Op) (depth : ℕ) → depth_after depth (op_word op).0 ≡ depth
 op_stays Union depth = refl
 op_stays Meet depth = refl
-op_stays Difference depth = refl
+op_stays OpMinus depth = refl
 
 item_stays : (e : Tree) → AreValid e → (depth : ℕ) → depth + leaf_count e ≤ 128 → Stays depth (kinds_of (canonical_words e))
 item_stays (Single start duration) h depth small =

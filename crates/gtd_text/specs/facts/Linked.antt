@@ -1,21 +1,22 @@
 -- Tokens build an expression exactly if each fits after those before it.
-use Rattle.std.proofs.Common.{◌≡◌, ℕ, suc, ◌-◌, Bool, true, false, cond, List, [], ◌∷◌, ◌++◌, length, Option, Some, None, refl}
-use Rattle.std.proofs.Common.{sym, ap, ◌∙◌, arith}
+use Rattle.std.proofs.Common.{◌≡◌, ℕ, suc, ◌-◌, Bool, true, false, cond, List, [], ◌∷◌, ◌++◌, length, Option, Some, None}
+use Rattle.std.proofs.Common.{refl, sym, ap, ◌∙◌, arith}
 use Rattle.std.specs.Prelude.{◌&&◌, ◌||◌, ◌==◌, not, is_some}
 use Rattle.std.proofs.lemmas.Bool.{lt-ltb}
 use Rattle.std.proofs.Math.Dec.{eqb-suc-zero}
 use Rattle.std.specs.Option.{option_and_then}
 use Rattle.gtd_core.specs.declared.start.StartParts.{StartParts}
 use Rattle.gtd_core.specs.declared.duration.DurationParts.{DurationParts}
-use Rattle.gtd_core.specs.StartRanges.{no_parts}
+use Rattle.gtd_core.specs.Ranges.{no_parts}
 use Rattle.gtd_core.specs.Trees.{Tree, Single}
 use Rattle.gtd_text.specs.declared.token.TokenKind.{TokenKind}
 use Rattle.gtd_text.specs.declared.token.TokenKind.TheVariants.{OpenBracket, CloseBracket, OpenParenthesis, CloseParenthesis}
 use Rattle.gtd_text.specs.declared.token.TokenKind.TheVariants.{OpenBrace, CloseBrace, Plus, Star, Minus, Field}
 use Rattle.gtd_text.specs.Fields.{has_letter, is_start_letter, is_duration_letter, is_start_value, fits_start, fits_duration}
 use Rattle.gtd_text.specs.Fields.{with_start_field, with_duration_field, zero_parts}
-use Rattle.gtd_text.specs.Fitting.{begins_item, follows_item, is_open_brace, is_close_parenthesis, is_close_brace, fits, may_end}
-use Rattle.gtd_text.specs.Misfits.{depth, last_sign}
+use Rattle.gtd_text.specs.Fitting.{begins_item, follows_item, is_open_brace, is_close_parenthesis, is_close_brace, fits}
+use Rattle.gtd_text.specs.Fitting.{may_end}
+use Rattle.gtd_text.specs.FirstFault.{depth, last_sign}
 use Rattle.gtd_text.specs.Building.{Sums, Pending, State, Expecting, InStart, AfterStart, InDuration, AfterItem, total, times}
 use Rattle.gtd_text.specs.Building.{close_start, close_duration, close_bracket, step, finish, build, at_front}
 use Rattle.gtd_text.specs.facts.Builds.{and_left, and_right}

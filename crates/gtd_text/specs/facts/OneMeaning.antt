@@ -2,7 +2,7 @@
 use Rattle.std.proofs.Common.{◌≡◌, ℕ, List, length, Some, sym, ap, ◌∙◌}
 use Rattle.gtd_core.specs.Trees.{Tree}
 use Rattle.gtd_text.specs.Building.{build, at_front}
-use Rattle.gtd_text.specs.TokenKinds.{kinds}
+use Rattle.gtd_text.specs.Lexing.{kinds}
 use Rattle.gtd_text.specs.Reading.{StandsFor}
 use Rattle.gtd_text.specs.facts.Builds.{builds_whole}
 use Rattle.gtd_text.specs.facts.Unique.{one_list}

@@ -1,19 +1,18 @@
 -- Fields that fit make a start and a duration that are in their ranges.
-use Rattle.std.proofs.Common.{◌≡◌, ◌≢◌, ℕ, ◌-◌, ◌/◌, ◌%◌, ◌^◌, ◌<◌, ◌≤◌, Bool, true, false, cond, List, [], ◌∷◌, Some, None, refl}
-use Rattle.std.proofs.Common.{ap, arith}
+use Rattle.std.proofs.Common.{◌≡◌, ◌≢◌, ℕ, ◌-◌, ◌/◌, ◌%◌, ◌^◌, ◌<◌, ◌≤◌, Bool, true, false, cond, List, [], ◌∷◌, Some, None}
+use Rattle.std.proofs.Common.{refl, ap, arith}
 use Rattle.std.specs.Prelude.{◌==◌, ◌&&◌, nat_le, bit_or, not}
 use Rattle.std.proofs.lemmas.Bool.{leb-true}
 use Rattle.std.proofs.lemmas.Nat.{or_lt, le_or_r, pow_pos}
 use Rattle.std.proofs.Math.Pow.{pow-lt}
 use Rattle.gtd_core.specs.declared.start.StartParts.{StartParts}
 use Rattle.gtd_core.specs.declared.duration.DurationParts.{DurationParts}
-use Rattle.gtd_core.specs.StartRanges.{IsStart, IsWithin, IsPlace, no_parts}
-use Rattle.gtd_core.specs.DurationBound.{HasSixDigits}
+use Rattle.gtd_core.specs.Ranges.{IsStart, IsWithin, IsPlace, no_parts, HasSixDigits}
 use Rattle.gtd_text.specs.declared.token.TokenKind.{TokenKind}
 use Rattle.gtd_text.specs.declared.token.TokenKind.TheVariants.{Field}
-use Rattle.gtd_text.specs.Fields.{is_from_to, is_place_value, is_start_letter, is_start_value, is_repeated_in_start, fits_start}
-use Rattle.gtd_text.specs.Fields.{all_fit_start, with_start_field, with_start_fields, with_duration_field, with_duration_fields}
-use Rattle.gtd_text.specs.Fields.{zero_parts}
+use Rattle.gtd_text.specs.Fields.{is_from_to, is_place_value, is_start_letter, is_start_value, is_repeated_in_start}
+use Rattle.gtd_text.specs.Fields.{fits_start, all_fit_start, with_start_field, with_start_fields, with_duration_field}
+use Rattle.gtd_text.specs.Fields.{with_duration_fields, zero_parts}
 use Rattle.gtd_text.specs.facts.Builds.{and_left, and_right}
 
 pub from_to : (low high n : ℕ) → is_from_to low high n ≡ true → (low ≤ n) × (n ≤ high)

@@ -8,18 +8,15 @@ use Rattle.gtd_core.specs.Trees.{Tree, AreValid, leaf_count}
 use Rattle.gtd_text.specs.declared.token.Token.{Token}
 use Rattle.gtd_text.specs.declared.token.TokenKind.{TokenKind}
 use Rattle.gtd_text.specs.Fitting.{fits, may_end}
-use Rattle.gtd_text.specs.Found.{fault_after}
-use Rattle.gtd_text.specs.facts.Linked.{all_fit}
-use Rattle.gtd_text.specs.Lexing.{AreTokens, IsFaultAt, IsTokenFault}
+use Rattle.gtd_text.specs.Found.{fault_after, or_else, fault_of_tokens, too_deep_after, too_many_after, too_long}
+use Rattle.gtd_text.specs.facts.Linked.{all_fit, all_fit_builds}
+use Rattle.gtd_text.specs.Lexing.{AreTokens, IsFaultAt, IsTokenFault, kinds}
 use Rattle.gtd_text.specs.Grammar.{Stands, Sum}
 use Rattle.gtd_text.specs.Building.{build, at_front}
-use Rattle.gtd_text.specs.TokenKinds.{kinds}
-use Rattle.gtd_text.specs.Found.{or_else, fault_of_tokens, too_deep_after, too_many_after, too_long}
 use Rattle.gtd_text.specs.Reading.{StandsFor, IsFault, HasNoFault}
 use Rattle.gtd_text.specs.Faults.{no_memory}
 use Rattle.gtd_text.specs.facts.Scanned.{first_found}
 use Rattle.gtd_text.specs.facts.BuiltIsMeant.{stood_whole}
-use Rattle.gtd_text.specs.facts.Linked.{all_fit_builds}
 use Rattle.gtd_text.specs.facts.ShortNumbers.{are_short}
 use Rattle.gtd_text.specs.facts.Valid.{valid, leaves, few_open, fine}
 use Rattle.gtd_text.specs.facts.Unique.{one_list, stuck, one_stop}

@@ -1,6 +1,6 @@
 -- What the check finds, token by token, is the first fault.
-use Rattle.std.proofs.Common.{◌≡◌, ℕ, ◌+◌, ◌-◌, ◌≤◌, Bool, true, false, cond, List, [], ◌∷◌, ◌++◌, reverse, Option, Some, None}
-use Rattle.std.proofs.Common.{refl, sym, subst, ap, ◌∙◌, arith, inl, inr, append_assoc, eq-eqb}
+use Rattle.std.proofs.Common.{◌≡◌, ℕ, ◌+◌, ◌-◌, ◌≤◌, Bool, true, false, cond, List, [], ◌∷◌, ◌++◌, reverse, Option, Some}
+use Rattle.std.proofs.Common.{None, refl, sym, subst, ap, ◌∙◌, arith, inl, inr, append_assoc, eq-eqb}
 use Rattle.std.specs.Prelude.{nat_lt, ◌==◌, ◌&&◌, is_some}
 use Rattle.std.proofs.lemmas.Bool.{cases_eq, ne_eqb, le-ltb, lt-ltb}
 use Rattle.std.proofs.lemmas.List.{reverse-append, append-nil}
@@ -10,17 +10,13 @@ use Rattle.gtd_core.specs.declared.fault.TextFault.{TextFault}
 use Rattle.gtd_text.specs.declared.token.Token.{Token}
 use Rattle.gtd_text.specs.declared.token.TokenKind.{TokenKind}
 use Rattle.gtd_text.specs.declared.token.TokenKind.TheVariants.{OpenBracket, CloseBracket, OpenParenthesis}
-use Rattle.gtd_text.specs.FirstFault.{Phase, bracket_fault, parenthesis_count, parenthesis_fault, brace_fault, IsClean, IsFirst}
-use Rattle.gtd_text.specs.FirstFault.{IsMisfit, IsFirstFault, too_deep, too_many, misfit, incomplete, too_long}
-use Rattle.gtd_text.specs.Fitting.{grammar_fault}
-use Rattle.gtd_text.specs.Fitting.{fits, may_end}
-use Rattle.gtd_text.specs.Misfits.{depth, fault_of}
-use Rattle.gtd_text.specs.Found.{fault_after}
-use Rattle.gtd_text.specs.Found.{depth_after, count_after, too_deep_after, too_many_after, too_long as long_of, or_else}
-use Rattle.gtd_text.specs.Found.{fault_of_tokens}
-use Rattle.gtd_text.specs.LongDurations.{opens_too_long}
-use Rattle.gtd_text.specs.TokenKinds.{kinds, newest_first}
-use Rattle.gtd_text.specs.GoingOn.{GoesOn}
+use Rattle.gtd_text.specs.FirstFault.{Phase, bracket_fault, parenthesis_count, parenthesis_fault, brace_fault, IsClean}
+use Rattle.gtd_text.specs.FirstFault.{IsFirst, IsMisfit, IsFirstFault, too_deep, too_many, misfit, incomplete, too_long}
+use Rattle.gtd_text.specs.FirstFault.{depth, fault_of, opens_too_long, GoesOn}
+use Rattle.gtd_text.specs.Fitting.{grammar_fault, fits, may_end}
+use Rattle.gtd_text.specs.Found.{fault_after, depth_after, count_after, too_deep_after, too_many_after, too_long as long_of}
+use Rattle.gtd_text.specs.Found.{or_else, fault_of_tokens}
+use Rattle.gtd_text.specs.Lexing.{kinds, newest_first}
 use Rattle.gtd_text.specs.facts.Builds.{turned, and_left, and_right, builds_whole}
 use Rattle.gtd_text.specs.Grammar.{Stands, Sum}
 use Rattle.gtd_text.specs.Building.{build, at_front}

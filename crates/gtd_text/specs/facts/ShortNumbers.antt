@@ -12,9 +12,8 @@ use Rattle.gtd_text.specs.declared.token.TokenKind.{TokenKind}
 use Rattle.gtd_text.specs.declared.token.TokenKind.TheVariants.{OpenBracket, CloseBracket, OpenParenthesis, CloseParenthesis}
 use Rattle.gtd_text.specs.declared.token.TokenKind.TheVariants.{OpenBrace, CloseBrace, Plus, Star, Minus, Field}
 use Rattle.gtd_text.specs.Fields.{is_start_letter, is_from_to}
-use Rattle.gtd_text.specs.Lexing.{Reads, AreTokens}
+use Rattle.gtd_text.specs.Lexing.{Reads, AreTokens, kinds}
 use Rattle.gtd_text.specs.TokenAt.{number_of, sign_of, field_of, kind_at_front, length_of, token_from}
-use Rattle.gtd_text.specs.TokenKinds.{kinds}
 use Rattle.gtd_text.specs.facts.Builds.{and_right}
 use Rattle.gtd_text.specs.facts.TokenForms.{own, front_digits, computed}
 use Rattle.gtd_text.specs.facts.Ranges.{IsShort, AreShort}

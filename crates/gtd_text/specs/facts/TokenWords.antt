@@ -1,6 +1,6 @@
 -- A text that is made of words, each of which is a token.
-use Rattle.std.proofs.Common.{◌≡◌, ℕ, ◌+◌, ◌≤◌, Bool, true, false, cond, List, [], ◌∷◌, ◌++◌, length, drop, Some, None, refl, sym}
-use Rattle.std.proofs.Common.{ap, ◌∙◌, arith, append_assoc, length-append}
+use Rattle.std.proofs.Common.{◌≡◌, ℕ, ◌+◌, ◌≤◌, Bool, true, false, cond, List, [], ◌∷◌, ◌++◌, length, drop, Some, None, refl}
+use Rattle.std.proofs.Common.{sym, ap, ◌∙◌, arith, append_assoc, length-append}
 use Rattle.std.specs.List.{take_while}
 use Rattle.std.specs.Char.{is_ascii_digit}
 use Rattle.std.specs.Str.{all_ascii_digits}
@@ -9,9 +9,8 @@ use Rattle.gtd_text.specs.declared.token.Token.{Token}
 use Rattle.gtd_text.specs.declared.token.TokenKind.{TokenKind}
 use Rattle.gtd_text.specs.declared.token.TokenKind.TheVariants.{Field}
 use Rattle.gtd_text.specs.Fields.{is_start_letter}
-use Rattle.gtd_text.specs.Lexing.{BeginsNoDigit, Reads, AreTokens}
+use Rattle.gtd_text.specs.Lexing.{BeginsNoDigit, Reads, AreTokens, kinds}
 use Rattle.gtd_text.specs.TokenAt.{number_of, sign_of, field_of, kind_at_front, length_of}
-use Rattle.gtd_text.specs.TokenKinds.{kinds}
 use Rattle.gtd_text.specs.facts.TokenForms.{digits_front, few_digits, stands_by_kind}
 
 -- a token and its text

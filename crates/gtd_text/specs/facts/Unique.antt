@@ -20,7 +20,7 @@ none_front text place token e h =
     let same : token_at text place ≡ None = ap (token_from place) e in cc
 
 -- a token begins inside the text, and not at a space
-inside_at : (text : List ℕ) (place : ℕ) (token : Token) → token_at text place ≡ Some token → place < length text
+pub inside_at : (text : List ℕ) (place : ℕ) (token : Token) → token_at text place ≡ Some token → place < length text
 inside_at text place token h = elim (cases_lt place (length text)) [
   | inl lt ↦ lt
   | inr le ↦ absurd (none_front text place token (ap kind_at_front (drop_all place text le)) h)
@@ -32,11 +32,11 @@ no_space_at text place token h space =
     let front : drop place text ≡ slice_index text place ∷ drop (place + 1) text = rw add-one (drop-cons text place 0 lt) in
     none_front text place token (ap kind_at_front front ∙ ap (λ b. kind_at_front (b ∷ drop (place + 1) text)) space) h
 
-begins_at_no_space : (text : List ℕ) (token : Token) → IsToken text token → slice_index text token.from ≡ 32 → ⊥
+pub begins_at_no_space : (text : List ℕ) (token : Token) → IsToken text token → slice_index text token.from ≡ 32 → ⊥
 begins_at_no_space text token h space = no_space_at text token.from token (computed text token h) space
 
 -- a token ends after it begins
-goes_on : (text : List ℕ) (token : Token) → IsToken text token → token.from < token.to
+pub goes_on : (text : List ℕ) (token : Token) → IsToken text token → token.from < token.to
 goes_on text token h = let here = found text token.from token (inside_at text token.from token (computed text token h))
     (computed text token h) in here.past
 
@@ -46,7 +46,7 @@ one_token : (text : List ℕ) (token other : Token) → IsToken text token → I
 one_token text token other h k same =
     let both : Some token ≡ Some other = sym (computed text token h) ∙ ap (token_at text) same ∙ computed text other k in cc
 
-ends_after : (text : List ℕ) (from : ℕ) (tokens : List Token) (to : ℕ) → Reads text from tokens to → from ≤ to
+pub ends_after : (text : List ℕ) (from : ℕ) (tokens : List Token) (to : ℕ) → Reads text from tokens to → from ≤ to
 ends_after text from [] to h = h.0
 ends_after text from (token ∷ tokens) to h =
     omega (arith, h.0.0, goes_on text token h.1, ends_after text token.to tokens to h.2)

@@ -1,23 +1,22 @@
 -- Tokens without a fault stand for a valid expression.
-use Rattle.std.proofs.Common.{◌≡◌, ◌≢◌, ℕ, ◌+◌, ◌≤◌, Bool, true, false, cond, List, [], ◌∷◌, ◌++◌, Option, Some, None, refl, sym}
-use Rattle.std.proofs.Common.{ap, ◌∙◌, arith}
+use Rattle.std.proofs.Common.{◌≡◌, ◌≢◌, ℕ, ◌+◌, ◌≤◌, Bool, true, false, cond, List, [], ◌∷◌, ◌++◌, Option, Some, None, refl}
+use Rattle.std.proofs.Common.{sym, ap, ◌∙◌, arith}
 use Rattle.std.specs.Prelude.{nat_lt}
 use Rattle.std.proofs.lemmas.Bool.{ltb-false}
 use Rattle.gtd_core.specs.declared.fault.TextFault.{TextFault}
-use Rattle.gtd_core.specs.StartRanges.{no_parts}
-use Rattle.gtd_core.specs.DurationBound.{bound_of}
+use Rattle.gtd_core.specs.Ranges.{no_parts, bound_of}
 use Rattle.gtd_core.specs.Trees.{Tree, Single, AreValid, leaf_count}
 use Rattle.gtd_text.specs.declared.token.Token.{Token}
 use Rattle.gtd_text.specs.declared.token.TokenKind.{TokenKind}
-use Rattle.gtd_text.specs.declared.token.TokenKind.TheVariants.{CloseBracket, CloseParenthesis, OpenBrace, CloseBrace, Plus, Star}
-use Rattle.gtd_text.specs.declared.token.TokenKind.TheVariants.{Minus, Field}
+use Rattle.gtd_text.specs.declared.token.TokenKind.TheVariants.{CloseBracket, CloseParenthesis, OpenBrace, CloseBrace, Plus}
+use Rattle.gtd_text.specs.declared.token.TokenKind.TheVariants.{Star, Minus, Field}
 use Rattle.gtd_text.specs.Fields.{fits_start, fits_duration, all_fit_start, all_fit_duration, with_start_fields}
 use Rattle.gtd_text.specs.Fields.{with_duration_fields, zero_parts}
 use Rattle.gtd_text.specs.Grammar.{Level, Sum, Product, Item, Stands, basic, bracketed, item, meet, product, union, minus}
 use Rattle.gtd_text.specs.Grammar.{basic_tokens}
 use Rattle.gtd_text.specs.Found.{too_long, count_after, too_many_after}
-use Rattle.gtd_text.specs.LongDurations.{fields_at_front, is_too_long, opens_too_long}
-use Rattle.gtd_text.specs.TokenKinds.{kinds}
+use Rattle.gtd_text.specs.FirstFault.{fields_at_front, is_too_long, opens_too_long}
+use Rattle.gtd_text.specs.Lexing.{kinds}
 use Rattle.gtd_text.specs.facts.Builds.{and_right}
 use Rattle.gtd_text.specs.facts.Ranges.{IsShort, AreShort, valid_start, valid_numbers}
 

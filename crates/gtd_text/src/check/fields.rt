@@ -1,18 +1,18 @@
 //! The fields of starts and durations: where they fit, and what they give.
 
-ghost use Rattle.std.specs.Prelude.{◌≡◌, ◌≢◌, ◌≤◌, ℕ, List};
+ghost use Rattle.std.specs.Prelude.{◌≡◌, ◌≢◌, ◌≤◌, ℕ};
 ghost use Rattle.gtd_text.specs.declared.token.TokenKind.{TokenKind};
-ghost use Rattle.gtd_text.specs.Fields.{has_letter, is_start_letter, is_duration_letter};
-ghost use Rattle.gtd_text.specs.Fields.{is_place_value, is_start_value, is_repeated_in_start};
-ghost use Rattle.gtd_text.specs.Fields.{fits_start, fits_duration, with_start_field, with_duration_field};
-ghost use Rattle.gtd_text.specs.TokenKinds.{newest_first};
+ghost use Rattle.gtd_text.specs.Fields.{is_start_letter, is_duration_letter, is_place_value, is_start_value};
+ghost use Rattle.gtd_text.specs.Fields.{with_start_field, with_duration_field};
+ghost use Rattle.gtd_text.specs.Summary.{start_takes, duration_takes, is_found_in_start};
 
-use crate::token::{Token, TokenKind};
+use crate::check::letters::Letters;
+use crate::token::TokenKind;
 use gtd_core::{DurationParts, StartParts};
 
-/// Whether a field of a start may stand after these tokens.
-pub fn fits_start(before: &[Token], kind: TokenKind) -> bool
-    ensures { result ≡ fits_start (newest_first before.now) kind }
+/// Whether a field of a start may stand where fields with these letters stand before it.
+pub fn fits_start(letters: Letters, kind: TokenKind) -> bool
+    ensures { result ≡ start_takes letters kind }
 {
     match kind {
         TokenKind::Field {
@@ -21,49 +21,28 @@ pub fn fits_start(before: &[Token], kind: TokenKind) -> bool
             digits,
         } => {
             is_start_letter(letter)
-                && !is_repeated_in_start(before, letter)
+                && !is_repeated_in_start(letters, letter)
                 && is_start_value(letter, value, digits)
         }
         _ => false,
     }
 }
 
-/// Whether a field of a duration may stand after these tokens.
-pub fn fits_duration(before: &[Token], kind: TokenKind) -> bool
-    ensures { result ≡ fits_duration (newest_first before.now) kind }
+/// Whether a field of a duration may stand where fields with these letters stand before it.
+pub fn fits_duration(letters: Letters, kind: TokenKind) -> bool
+    ensures { result ≡ duration_takes letters kind }
 {
     match kind {
-        TokenKind::Field { letter, .. } => {
-            is_duration_letter(letter) && !has_letter(before, letter)
-        }
+        TokenKind::Field { letter, .. } => is_duration_letter(letter) && !letters.has(letter),
         _ => false,
     }
 }
 
 /// Whether the letter may not stand again in the same parentheses.
-pub fn is_repeated_in_start(before: &[Token], letter: u8) -> bool
-    ensures { result ≡ is_repeated_in_start (newest_first before.now) letter }
+pub fn is_repeated_in_start(letters: Letters, letter: u8) -> bool
+    ensures { result ≡ is_found_in_start letters letter }
 {
-    letter != b't' && has_letter(before, letter)
-}
-
-/// Whether the letter is that of a field since the last sign.
-pub fn has_letter(before: &[Token], letter: u8) -> bool
-    ensures { result ≡ has_letter letter (newest_first before.now) }
-{
-    let mut rest = before;
-    while let Some((last, front)) = rest.split_last() {
-        match last.kind {
-            TokenKind::Field { letter: other, .. } => {
-                if other == letter {
-                    return true;
-                }
-            }
-            _ => return false,
-        }
-        rest = front;
-    }
-    false
+    letter != b't' && letters.has(letter)
 }
 
 /// Whether a field of a start has this letter.

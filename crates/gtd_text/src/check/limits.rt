@@ -1,23 +1,25 @@
 //! The limits on a text: how deep its brackets are, how many its basic domains, how long their durations.
 
-ghost use Rattle.std.specs.Prelude.{◌≡◌, ◌≤◌};
+ghost use Rattle.std.specs.Prelude.{◌≡◌, ◌≤◌, List, length};
 ghost use Rattle.gtd_text.specs.Fields.{with_duration_fields, zero_parts};
-ghost use Rattle.gtd_text.specs.Found.{depth_after, count_after, too_deep_after, too_many_after};
-ghost use Rattle.gtd_text.specs.Found.{too_long};
-ghost use Rattle.gtd_text.specs.LongDurations.{fields_at_front, opens_too_long};
-ghost use Rattle.gtd_text.specs.TokenKinds.{kinds};
+ghost use Rattle.gtd_text.specs.Found.{depth_after, count_after, too_deep_after, too_many_after, too_long};
+ghost use Rattle.gtd_text.specs.Lexing.{AreTokens, Reads, kinds};
+ghost use Rattle.gtd_text.specs.FirstFault.{fields_at_front, opens_too_long};
+ghost use Rattle.gtd_text.specs.declared.token.Token.{Token};
 
 use crate::check::fields::duration_with;
-use crate::token::{Token, TokenKind};
+use crate::lexer::next_token;
+use crate::token::TokenKind;
 use gtd_core::limits::{MOST_BASIC_DOMAINS, MOST_BOUND, MOST_DEPTH};
 use gtd_core::{DurationParts, Fault, TextFault};
 
 /// The first bracket that opens too deep.
-pub fn too_deep(tokens: &[Token]) -> Option<TextFault>
-    ensures { result ≡ too_deep_after 0 tokens.now }
+pub fn too_deep(text: &[u8]) -> Option<TextFault>
+    ensures { (tokens : List Token) → AreTokens text.now tokens → result ≡ too_deep_after 0 tokens }
 {
     let mut depth = 0;
-    for token in tokens {
+    let mut place = 0;
+    while let Some(token) = next_token(text, place) {
         depth = depth_after(depth, token.kind);
         if u32::from(MOST_DEPTH) < depth {
             return Some(TextFault {
@@ -25,16 +27,18 @@ pub fn too_deep(tokens: &[Token]) -> Option<TextFault>
                 place: token.from,
             });
         }
+        place = token.to;
     }
     None
 }
 
 /// The first parenthesis that opens one start too many.
-pub fn too_many(tokens: &[Token]) -> Option<TextFault>
-    ensures { result ≡ too_many_after 0 tokens.now }
+pub fn too_many(text: &[u8]) -> Option<TextFault>
+    ensures { (tokens : List Token) → AreTokens text.now tokens → result ≡ too_many_after 0 tokens }
 {
     let mut count = 0;
-    for token in tokens {
+    let mut place = 0;
+    while let Some(token) = next_token(text, place) {
         count = count_after(count, token.kind);
         if u32::from(MOST_BASIC_DOMAINS) < count {
             return Some(TextFault {
@@ -42,6 +46,7 @@ pub fn too_many(tokens: &[Token]) -> Option<TextFault>
                 place: token.from,
             });
         }
+        place = token.to;
     }
     None
 }
@@ -68,39 +73,48 @@ fn count_after(count: u32, kind: TokenKind) -> u32
 }
 
 /// The first duration that is too long, at its brace.
-pub fn too_long(tokens: &[Token]) -> Option<TextFault>
-    ensures { result ≡ too_long tokens.now }
+pub fn too_long(text: &[u8]) -> Option<TextFault>
+    ensures { (tokens : List Token) → AreTokens text.now tokens → result ≡ too_long tokens }
 {
-    for (i, token) in tokens.iter().enumerate() {
-        if opens_too_long(token.kind, &tokens[i + 1..]) {
+    let mut place = 0;
+    while let Some(token) = next_token(text, place) {
+        if opens_too_long(text, token.kind, token.to) {
             return Some(TextFault {
                 kind: Fault::TooLongDuration,
                 place: token.from,
             });
         }
+        place = token.to;
     }
     None
 }
 
-fn opens_too_long(kind: TokenKind, after: &[Token]) -> bool
-    ensures { result ≡ opens_too_long kind (kinds after.now) }
+// Whether a token of this kind, before the tokens from this place on, opens a duration that is too long.
+fn opens_too_long(text: &[u8], kind: TokenKind, place: usize) -> bool
+    requires { place ≤ length text.now }
+    ensures { (after : List Token) → Reads text.now place after (length text.now)
+        → result ≡ opens_too_long kind (kinds after) }
 {
     match kind {
-        TokenKind::OpenBrace => MOST_BOUND < duration_at_front(after).bound(),
+        TokenKind::OpenBrace => MOST_BOUND < duration_at(text, place).bound(),
         _ => false,
     }
 }
 
-// The numbers of the fields that the tokens begin with.
-fn duration_at_front(tokens: &[Token]) -> DurationParts
-    ensures { result ≡ with_duration_fields zero_parts (fields_at_front (kinds tokens.now)) }
+// The numbers of the fields that the tokens from this place on begin with.
+fn duration_at(text: &[u8], from: usize) -> DurationParts
+    requires { from ≤ length text.now }
+    ensures { (tokens : List Token) → Reads text.now from tokens (length text.now)
+        → result ≡ with_duration_fields zero_parts (fields_at_front (kinds tokens)) }
 {
     let mut parts = DurationParts::default();
-    for token in tokens {
+    let mut place = from;
+    while let Some(token) = next_token(text, place) {
         match token.kind {
             TokenKind::Field { letter, value, .. } => parts = duration_with(parts, letter, value),
             _ => return parts,
         }
+        place = token.to;
     }
     parts
 }

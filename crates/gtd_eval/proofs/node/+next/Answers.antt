@@ -1,20 +1,27 @@
-use Rattle.std.proofs.Common.{◌∙◌, []}
+use Rattle.std.proofs.Common.{◌∙◌, ap}
+use Rattle.gtd_spans.specs.Gaps.{gaps_left}
 use Rattle.gtd_eval.specs.Nodes.{node_list}
+use Rattle.gtd_eval.specs.facts.NodeFacts.{node_list-normal}
 use Rattle.gtd_eval.proofs.node.+next.Goals as goal
 
-pub next_of_one-loop-inner-preserved : goal.next_of_one-loop-inner-preserved
-next_of_one-loop-inner-preserved t c =
-    let old = c.loop-inner.invariant in
-    let step = c.in-Left.ensures.steps in
-    let kept = step.1 (node_list c.loop-inner.inner) [] old.fits in
-    let told = c.tell.ensures.left step.0 (node_list c.loop-inner.inner) (node_list c.next-told.new.self) []
-    c.next-told.ensures.takes kept.0 in
+pub next_gap-returns-in-Some-before-clause-takes : goal.next_gap-returns-in-Some-before-clause-takes
+next_gap-returns-in-Some-before-clause-takes t c =
+    let loop = c.loop-span in
+    let taken = c.in-Some.ensures.takes in
+    let normal = rw taken at (node_list-normal loop.inner loop.invariant.sound) in
+    loop.invariant.same ∙ ap (gaps_left loop.gaps) taken
+    ∙ c.in-Some-before.ensures.passes (node_list c.next.new.self) normal
+
+pub next_gap-loop-span-preserved : goal.next_gap-loop-span-preserved
+next_gap-loop-span-preserved t c =
+    let loop = c.loop-span in
+    let taken = c.in-Some.ensures.takes in
+    let normal = rw taken at (node_list-normal loop.inner loop.invariant.sound) in
     record {
-      one_side = c.tell.ensures.sides.1 (c.in-Left.ensures.sides.1 old.one_side);
-      fits = told.0;
-      sound = c.next-told.ensures.sound;
-      same = old.same ∙ kept.1 ∙ told.1;
-      shape = c.next-told.ensures.shape ∙ old.shape;
+      sound = c.next.ensures.sound;
+      same = loop.invariant.same ∙ ap (gaps_left loop.gaps) taken
+          ∙ c.in_default-before.ensures.passes (node_list c.next.new.self) normal;
+      shape = c.next.ensures.shape ∙ loop.invariant.shape;
     }
 
 pub next_of_two-loop-left-preserved-in-Left : goal.next_of_two-loop-left-preserved-in-Left

@@ -1,7 +1,6 @@
 use Rattle.std.proofs.Common.{◌≡◌, ap, sym, subst, List}
 use Rattle.std.specs.Prelude.{◌↔◌}
-use Rattle.gtd_records.specs.Closing.{AreElements, IsClosed, IsOpen}
-use Rattle.gtd_records.specs.Restriction.{Restriction}
+use Rattle.gtd_records.specs.Closing.{AreElements, IsClosed, IsOpen, Restriction}
 use Rattle.gtd_migrate.specs.Migrated.{migrated}
 use Rattle.gtd_migrate.proofs.MigrateFacts.{same_restrictions}
 use Rattle.gtd_migrate.proofs.laws.migration_changes_nothing.Goals as goal

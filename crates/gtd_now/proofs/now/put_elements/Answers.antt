@@ -1,10 +1,9 @@
 use Rattle.std.proofs.Common.{◌≡◌, ◌∙◌, sym, ap, refl, subst, arith, ◌<◌, ◌+◌, ℕ, List, ◌∷◌, [], drop, get_or, length, Option}
 use Rattle.std.proofs.Common.{add-one}
-use Rattle.std.specs.Prelude.{Ok, Err}
+use Rattle.std.specs.Prelude.{Ok, Err, ℤ}
 use Rattle.std.proofs.Math.Seq.{drop-cons, drop-length}
 use Rattle.std.proofs.lemmas.Result.{err_from_is_err_and}
-use Rattle.std.specs.Prelude.{ℤ}
-use Rattle.gtd_records.specs.Restriction.{Restriction}
+use Rattle.gtd_records.specs.Closing.{Restriction}
 use Rattle.gtd_runs.specs.facts.PutFacts.{puts_none}
 use Rattle.gtd_runs.specs.Putting.{PutsText}
 use Rattle.gtd_runs.specs.declared.putting.Progress.{Progress}

@@ -1,5 +1,6 @@
 use Rattle.std.proofs.Common.{List, ℕ, Bor, Some}
-use Rattle.gtd_records.specs.Table.{Fields, HasLeft}
+use Rattle.gtd_records.specs.Table.{HasLeft}
+use Rattle.gtd_records.specs.Columns.{Fields}
 use Rattle.gtd_records.proofs.FaultFacts.{FaultsSoFar}
 use Rattle.gtd_records.proofs.faults.faults_of_rows.Given as goal
 

@@ -1,5 +1,6 @@
 use Rattle.std.proofs.Common.{List, ℕ, Bor, Some}
-use Rattle.gtd_records.specs.Table.{Fields, HasLeft}
+use Rattle.gtd_records.specs.Table.{HasLeft}
+use Rattle.gtd_records.specs.Columns.{Fields}
 use Rattle.gtd_records.specs.facts.FileFacts.{SoFar}
 use Rattle.gtd_records.proofs.file.read_rows.Given as goal
 

@@ -1,7 +1,7 @@
 use Rattle.std.proofs.Common.{◌≡◌, ◌<◌, ℕ, length}
 use Rattle.std.specs.Prelude.{slice_index_or}
 use Rattle.gtd_records.specs.declared.index.Place.{Place}
-use Rattle.gtd_records.specs.Restriction.{Restriction}
+use Rattle.gtd_records.specs.Closing.{Restriction}
 use Rattle.gtd_records.proofs.index.places_of.Given as goal
 
 -- the places of the rows so far

@@ -2,7 +2,7 @@ use Rattle.std.proofs.Common.{rules, tests, ◌∙◌, ◌==◌, sym, refl, leng
 use Rattle.std.proofs.lemmas.List.{length_push}
 use Rattle.std.proofs.lemmas.Iterator.Consumers.{YieldsList-turn, YieldsList-end}
 use Rattle.std.proofs.lemmas.Iterator.Splits.{YieldsList-from_slice_split}
-use Rattle.gtd_records.specs.Vehicles.{items_of}
+use Rattle.gtd_records.specs.Columns.{items_of}
 use Rattle.gtd_records.proofs.ListFacts.{all_codes, no_code, one_more}
 use Rattle.gtd_records.proofs.vehicles.read_codes.Goals as goal
 

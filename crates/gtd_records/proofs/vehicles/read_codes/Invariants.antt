@@ -1,6 +1,6 @@
 use Rattle.std.proofs.Common.{◌≡◌, length, drop}
 use Rattle.gtd_records.proofs.ListFacts.{and_codes}
-use Rattle.gtd_records.specs.Vehicles.{codes_of, items_of}
+use Rattle.gtd_records.specs.Columns.{codes_of, items_of}
 use Rattle.gtd_records.proofs.vehicles.read_codes.Given as goal
 
 -- the codes of the items so far

@@ -5,6 +5,7 @@ use Rattle.gtd_core.specs.declared.start.StartParts.{StartParts}
 use Rattle.gtd_calendar.specs.declared.day.DayFields.{DayFields}
 use Rattle.gtd_recur.specs.Begins.{agrees, agrees_or_least, begins_on, gives_clock, gives_day, is_weekday, least_day}
 use Rattle.gtd_recur.specs.Begins.{place_agrees, weekday_agrees, year_agrees}
+use Rattle.gtd_recur.specs.facts.WeekLemmas.{date-free}
 use Rattle.gtd_recur.proofs.begin.begins_on_day.Goals as goal
 
 -- a conjunction whose last part but one is false
@@ -38,4 +39,5 @@ returns-then-asks_no_date c =
     let weekday : c.weekday.result ≡ weekday_of c.args.day = rw plain at c.weekday.ensures.value in
     let fits : is_weekday c.args.start.now (weekday_of c.args.day) ≡ true =
     rw weekday at (sym c.is_weekday.ensures ∙ c.if-not-is_weekday.false) in
-    c.if-asks_no_date.true ∙ sym (c.asks_no_date.ensures c.if-asks_no_date.true (day_fields c.args.day) ∙ fits)
+    let asks = c.asks_no_date.ensures.0 c.if-asks_no_date.true in
+    c.if-asks_no_date.true ∙ sym (date-free c.args.start.now (day_fields c.args.day) asks ∙ fits)

@@ -1,16 +1,15 @@
 use Rattle.std.proofs.Common.{◌≡◌, ◌-ℤ◌, to_z, of_z, w64, ◌∙◌, ap, sym, arith, ◌≤ℤ◌, ◌<ℤ◌, refl, pos, ◌+ℤ◌, ℤ, List, length}
 use Rattle.gtd_calendar.specs.facts.Signed.{signed_arith}
 use Rattle.gtd_core.specs.Parts.{duration_parts}
-use Rattle.gtd_recur.proofs.AscendingLemmas.{after-weaken, before-weaken}
+use Rattle.gtd_recur.proofs.AscendingLemmas.{after-weaken, before-weaken, ascending-after}
 use Rattle.gtd_recur.proofs.GivenLemmas.{before-append, at_most-some, at_most-none, given-up_to, same-all}
 use Rattle.gtd_recur.proofs.StretchLemmas.{run-begun, gt-is, le-is}
 use Rattle.std.proofs.lemmas.List.{length-append}
 use Rattle.gtd_calendar.specs.ComputedEnds.{stop}
-use Rattle.gtd_recur.specs.StartsToCome.{starts_to_come, starts_given}
-use Rattle.gtd_recur.proofs.AscendingLemmas.{ascending-after}
-use Rattle.gtd_recur.proofs.PassLemmas.{run-day, after-rest, given-many, stepped-before, stepped-low, one-length}
-use Rattle.gtd_recur.proofs.PassLemmas.{are-near, near-epoch, plain-z}
-use Rattle.gtd_core.specs.DurationBound.{bound_of}
+use Rattle.gtd_recur.specs.Walking.{walk_to_come, walk_given}
+use Rattle.gtd_recur.proofs.PassLemmas.{run-day, after-rest, given-many, stepped-before, stepped-low, one-length, are-near}
+use Rattle.gtd_recur.proofs.PassLemmas.{near-epoch, plain-z}
+use Rattle.gtd_core.specs.Ranges.{bound_of}
 use Rattle.gtd_recur.proofs.runs.run_end.Goals as goal
 
 pub returns-then-gt-clause-after : goal.returns-then-gt-clause-after
@@ -60,20 +59,20 @@ loop-start-preserved c =
     let later2 = rw end_is at later in
     let far = rw (pb, pr, pd) at passed.near in
     record {
-      run = run-day q _ (starts_to_come t) c.args.first.0 c.loop-start.end.0 b last c.later-end.result.0 passed.step passed.list
+      run = run-day q _ (walk_to_come t) c.args.first.0 c.loop-start.end.0 b last c.later-end.result.0 passed.step passed.list
           (rw passed.split at run) (let z = asc.0.0 in omega (arith, signed_arith, z)) reached
           (rw stop_is at far) passed.stepped passed.day later2;
       ascending = (
-        after-rest c.args.first.0 passed.list (starts_to_come t) all.0.1,
-        ascending-after passed.list (starts_to_come t) all.1.1,
+        after-rest c.args.first.0 passed.list (walk_to_come t) all.0.1,
+        ascending-after passed.list (walk_to_come t) all.1.1,
       );
       fewer = (let long = ap (λ (l : List ℤ). length l) c.in-Some.ensures.takes in
-          let many = ap (λ (l : List ℤ). length l) passed.split in let both = length-append passed.list (starts_to_come t) in
+          let many = ap (λ (l : List ℤ). length l) passed.split in let both = length-append passed.list (walk_to_come t) in
           let most = c.loop-start.invariant.fewer in omega (arith, long, many, both, most));
       given = (let whole = given-many c.next.new.self t passed.list passed.same passed.split in
           let l0 = later2.0 in let l1 = later2.1 in
-          rw whole (before-append _ (starts_given c.next.new.self) passed.list
-          (given-up_to c.loop-start.starts c.next.new.self c.loop-start.end.0 b next c.in-Some.ensures.takes
+          rw whole (before-append _ (walk_given c.next.new.self) passed.list
+          (given-up_to c.loop-start.walk c.next.new.self c.loop-start.end.0 b next c.in-Some.ensures.takes
           c.loop-start.invariant.given c.later-end.result.0 l0 (omega (arith, signed_arith, reached, l0)))
           (before-weaken (last +ℤ pos 1) _ passed.list (omega (arith, signed_arith, l1, one, stop_is, a3))
           (stepped-before passed.step b passed.list last passed.stepped))));
@@ -81,8 +80,9 @@ loop-start-preserved c =
           omega (arith, a, b, d));
       same = record {
         basic = passed.same.basic ∙ next.basic ∙ same.basic;
-        horizon =
-            passed.same.horizon ∙ next.horizon ∙ same.horizon;
+        horizon = passed.same.horizon ∙ next.horizon ∙ same.horizon;
+        first = passed.same.first ∙ next.first ∙ same.first;
+        seen = passed.same.seen ∙ next.seen ∙ same.seen;
       };
     }
 
@@ -169,31 +169,31 @@ loop-start-init c =
       given = before-weaken (c.args.first.0 +ℤ pos 1) (c.end_of-end.result.0 +ℤ pos 1) _
           (let later = c.end_of-end.ensures.later in omega (arith, signed_arith, later)) c.requires.counted;
       grows = omega arith;
-      same = record { basic = refl; horizon = refl };
+      same = record { basic = refl; horizon = refl; first = refl; seen = refl };
     }
 
 pub returns-in_default-clause-at_most : goal.returns-in_default-clause-at_most
 returns-in_default-clause-at_most c =
-    let s = c.loop-start.starts in
-    let all = same-all c.args.starts.now s c.loop-start.invariant.same in
-    λ b has late. absurd (at_most-none s c.loop-start.end.0 c.in_default.ensures.takes.0 c.loop-start.invariant.given b
+    let s = c.loop-start.walk in
+    let all = same-all c.args.walk.now s c.loop-start.invariant.same in
+    λ b has late seen. absurd (at_most-none s c.loop-start.end.0 c.in_default.ensures.takes.0 c.loop-start.invariant.given b
     (rw all at has) late)
 
 pub returns-then-gt-clause-counted_ahead : goal.returns-then-gt-clause-counted_ahead
 returns-then-gt-clause-counted_ahead c =
-    let s = c.loop-start.starts in
+    let s = c.loop-start.walk in
     let next = c.in-Some.ensures.same in
     let late : c.loop-start.end.0 <ℤ c.in-Some.start.0 = gt-is _ _ (sym c.gt.ensures ∙ c.if-gt.true) in
     let least = c.in-Some.ensures.at_least in (
       given-up_to s c.next.new.self c.loop-start.end.0 c.in-Some.start.0 next c.in-Some.ensures.takes c.loop-start.invariant.given
           c.in-Some.start.0 (omega (arith, signed_arith, late)) (omega (arith, signed_arith)),
-      rw (next.basic, next.horizon) (omega (arith, least)),
+      rw (next.basic, next.horizon, next.first) (omega (arith, least)),
     )
 
 pub returns-then-gt-clause-at_most : goal.returns-then-gt-clause-at_most
 returns-then-gt-clause-at_most c =
-    let s = c.loop-start.starts in
+    let s = c.loop-start.walk in
     let same = c.loop-start.invariant.same in
     let next = c.in-Some.ensures.same in
-    rw (same.basic, same.horizon) at (at_most-some s c.next.new.self c.loop-start.end.0 c.in-Some.start.0 next
-    c.in-Some.ensures.takes c.loop-start.invariant.given c.in-Some.ensures.at_most)
+    rw (same.basic, same.horizon, same.first, same.seen) at (at_most-some s c.next.new.self c.loop-start.end.0
+    c.in-Some.start.0 next c.in-Some.ensures.takes c.loop-start.invariant.given c.in-Some.ensures.at_most)

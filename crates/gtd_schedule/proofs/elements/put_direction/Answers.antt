@@ -2,7 +2,7 @@ use Rattle.std.proofs.Common.{ap, refl, arith, ◌<◌, ◌≤◌, ◌+◌, ◌^
 use Rattle.std.specs.Prelude.{Ok, Err, OnOk, Result}
 use Rattle.std.proofs.lemmas.List.{length-map}
 use Rattle.gtd_eval.specs.Cursors.{cursor_list}
-use Rattle.gtd_core.specs.Interval.{Interval}
+use Rattle.gtd_core.specs.Seconds.{Interval}
 use Rattle.gtd_records.specs.Closing.{IsOpen}
 use Rattle.gtd_records.specs.declared.direction.Direction.{Direction}
 use Rattle.gtd_runs.specs.Putting.{Puts}

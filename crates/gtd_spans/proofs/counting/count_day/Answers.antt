@@ -1,12 +1,11 @@
 use Rattle.std.proofs.Common.{◌≡◌, sym, subst, arith, ◌+◌, ◌↔◌, ℕ, List}
 use Rattle.std.specs.Prelude.{ℤ}
 use Rattle.std.proofs.lemmas.Int.{ints}
-use Rattle.gtd_core.specs.Interval.{Interval}
+use Rattle.gtd_core.specs.Seconds.{Interval}
 use Rattle.gtd_spans.specs.Normal.{Holds, IsNormal}
-use Rattle.gtd_spans.specs.Counting.{IsCount}
-use Rattle.gtd_spans.specs.Counting.{to_come}
-use Rattle.gtd_spans.specs.facts.CountFacts.{count-few, count-held, day-behind, day-only, day-first, day-rest-normal, day-later}
-use Rattle.gtd_spans.specs.facts.CountFacts.{day-none, takes-is}
+use Rattle.gtd_spans.specs.Counting.{IsCount, to_come}
+use Rattle.gtd_spans.specs.facts.CountFacts.{count-few, count-held, day-behind, day-only, day-first, day-rest-normal}
+use Rattle.gtd_spans.specs.facts.CountFacts.{day-later, day-none, takes-is}
 use Rattle.gtd_spans.proofs.counting.count_day.Goals as goal
 
 -- nothing is left to be counted

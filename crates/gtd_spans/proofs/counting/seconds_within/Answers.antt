@@ -1,6 +1,6 @@
 use Rattle.std.proofs.Common.{ap, arith}
 use Rattle.std.proofs.lemmas.Int.{ints}
-use Rattle.gtd_core.specs.Interval.{Interval, Within}
+use Rattle.gtd_core.specs.Seconds.{Interval, Within}
 use Rattle.gtd_spans.specs.facts.CountFacts.{count-cut, count-none}
 use Rattle.gtd_spans.proofs.counting.seconds_within.Goals as goal
 

@@ -2,7 +2,7 @@ use Rattle.std.proofs.Common.{◌≡◌, List, sym, ◌∙◌, ap, subst}
 use Rattle.std.specs.Bool.{Decides}
 use Rattle.std.proofs.lemmas.Bool.Decides.{Decides-int_eq}
 use Rattle.std.proofs.lemmas.Slice.Eq.{slice_eq-Decides}
-use Rattle.gtd_core.specs.Interval.{Interval}
+use Rattle.gtd_core.specs.Seconds.{Interval}
 use Rattle.gtd_core.specs.contracts.second.SpanPartialEq.TheImpl.{eq-value}
 use Rattle.gtd_core.specs.declared.domain.Op.TheVariants.{Meet}
 use Rattle.gtd_spans.specs.Normal.{Holds}

@@ -1,9 +1,14 @@
-use Rattle.std.proofs.Common.{drop}
-use Rattle.gtd_text.specs.TokenKinds.{kinds}
+use Rattle.std.proofs.Common.{◌≤◌, ◌-◌, length}
 use Rattle.gtd_text.specs.BuilderStates.{opened}
-use Rattle.gtd_text.proofs.BuildLemmas.{Goes}
+use Rattle.gtd_text.proofs.BuildLemmas.{GoesFrom}
 use Rattle.gtd_text.proofs.builder.build_expr.Given as goal
 
--- what all the tokens build is what the rest of them build from here
+-- what all the tokens build is what those from this place on build from here
 abbrev pub invariant-loop-token : goal.invariant-loop-token
-invariant-loop-token l = Goes (kinds l.tokens) (kinds (drop l.token-index l.tokens)) (opened l.outer.items) l.state
+invariant-loop-token l = record {
+  inside : l.place ≤ length l.text;
+  goes : GoesFrom l.text l.place (opened l.outer.items) l.state;
+}
+
+abbrev pub decreases-loop-token : goal.decreases-loop-token
+decreases-loop-token l = length l.text - l.place

@@ -1,6 +1,6 @@
 use Rattle.std.proofs.Common.{◌≡◌, sym, subst, List}
 use Rattle.std.specs.Prelude.{◌↔◌}
-use Rattle.gtd_roads.specs.Restriction.{Restriction}
+use Rattle.gtd_roads.specs.Closing.{Restriction}
 use Rattle.gtd_roads.specs.Schedule.{IsSchedule}
 use Rattle.gtd_roads.specs.YearTable.{IsYearTable}
 use Rattle.gtd_tool.proofs.laws.migrated_files_mean_the_same.Goals as goal

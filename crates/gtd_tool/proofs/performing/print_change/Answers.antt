@@ -2,7 +2,7 @@ use Rattle.std.proofs.Common.{Option, subst}
 use Rattle.std.specs.Prelude.{IfSome}
 use Rattle.gtd_core.specs.Parts.{domain_tree}
 use Rattle.gtd_core.specs.declared.second.Sec.{Sec}
-use Rattle.gtd_core.specs.Days.{IsHorizonSecond}
+use Rattle.gtd_core.specs.Seconds.{IsHorizonSecond}
 use Rattle.gtd_tool.proofs.AnswerLemmas.{calendar_day, change_line, change_part, on_ok, on_err}
 use Rattle.gtd_tool.proofs.performing.print_change.Goals as goal
 

@@ -1,8 +1,7 @@
-use Rattle.std.proofs.Common.{◌≡◌, ◌∙◌, refl, subst, rules, to_z-of_z, w64}
-use Rattle.std.proofs.Common.{FitsSigned}
+use Rattle.std.proofs.Common.{◌≡◌, ◌∙◌, refl, subst, rules, to_z-of_z, w64, FitsSigned}
 use Rattle.std.specs.Prelude.{ℤ}
 use Rattle.gtd_core.specs.Horizons.{IsHorizon, IsHorizonFault}
-use Rattle.gtd_core.specs.Days.{day_of_second}
+use Rattle.gtd_core.specs.Seconds.{day_of_second}
 use Rattle.gtd_tool.proofs.planning.in_horizon.Goals as goal
 
 pub returns-in-Ok-clause-read : goal.returns-in-Ok-clause-read

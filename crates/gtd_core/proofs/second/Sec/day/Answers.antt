@@ -2,7 +2,7 @@ use Rattle.std.proofs.Common.{◌≡◌, ◌∙◌, ap, arith, rules, to_z, of_z
 use Rattle.std.specs.Prelude.{ℤ, pos, negsuc}
 use Rattle.std.specs.Int.{int_div_euclid}
 use Rattle.std.proofs.lemmas.Int.{ints}
-use Rattle.gtd_core.specs.Days.{IsOnDay, day_of_second}
+use Rattle.gtd_core.specs.Seconds.{IsOnDay, day_of_second}
 use Rattle.gtd_core.proofs.second.Sec.day.Goals as goal
 
 day-of : (z : ℤ) → IsOnDay z (int_div_euclid z (pos 86400))

@@ -1,6 +1,8 @@
 use Rattle.std.proofs.Common.{◌≡◌, ◌≤◌, ◌^◌, ◌+◌, ℕ, List, length, subst, arith}
 use Rattle.std.specs.Prelude.{vec_len}
-use Rattle.gtd_eval.specs.Cursors.{IsUnionOf, NoneHigher}
+use Rattle.gtd_core.specs.declared.domain.Op.TheVariants.{Union}
+use Rattle.gtd_eval.specs.Chains.{IsChainOf}
+use Rattle.gtd_eval.specs.Cursors.{NoneHigher}
 use Rattle.gtd_eval.specs.Nodes.{node_height}
 use Rattle.gtd_eval.specs.facts.NodeFacts.{node_list-normal}
 use Rattle.gtd_eval.specs.declared.cursor.Cursor.{Cursor}
@@ -8,19 +10,19 @@ use Rattle.gtd_eval.specs.declared.node.Node.{Node}
 use Rattle.gtd_eval.proofs.Unions.{all-taken}
 use Rattle.gtd_eval.proofs.cursor.Cursor.any.Goals as goal
 
-height-of : (cs : List Cursor) (n : Node) (count : ℕ) → count ≡ length cs → IsUnionOf cs n
+height-of : (cs : List Cursor) (n : Node) (count : ℕ) → count ≡ length cs → IsChainOf Union cs n
     → (h k : ℕ) → NoneHigher h cs → count ≤ 2 ^ k → node_height n ≤ h + k
 height-of cs n count e u h k none le = u.height h k none (omega (arith, e, le))
 
 pub returns-clause-height : goal.returns-clause-height
 returns-clause-height c =
     let count : vec_len c.args.cursors ≡ length c.args.cursors.items = omega arith in
-    let e = c.in_ok-node.ensures.union in
+    let e = c.in_ok-node.ensures.chain in
     let many : length e.taken ≡ length c.args.cursors.items = omega (arith, e.many, c.len-count.ensures) in
     let all : e.taken ≡ c.args.cursors.items = all-taken _ _ _ e.split many in
-    let u : IsUnionOf c.args.cursors.items c.in_ok-node.node =
-    subst (λ (cs : List Cursor). IsUnionOf cs c.in_ok-node.node) all e.union in
+    let u : IsChainOf Union c.args.cursors.items c.in_ok-node.node =
+    subst (λ (cs : List Cursor). IsChainOf Union cs c.in_ok-node.node) all e.chain in
     λ h k some none le. height-of c.args.cursors.items c.in_ok-node.node (vec_len c.args.cursors) count u h k none le
 
 pub returns-clause-normal : goal.returns-clause-normal
-returns-clause-normal c = node_list-normal _ c.in_ok-node.ensures.union.union.sound
+returns-clause-normal c = node_list-normal _ c.in_ok-node.ensures.chain.chain.sound

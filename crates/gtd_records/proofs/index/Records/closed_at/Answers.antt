@@ -1,9 +1,8 @@
 use Rattle.std.proofs.Common.{◌≡◌, ◌∙◌, ◌<◌, ◌+◌, ◌-◌, sym, ap, subst, refl, arith, rules, ℕ, List, length, take, drop}
 use Rattle.std.specs.Prelude.{slice_index_or, Any}
 use Rattle.gtd_records.specs.Index.{ArePlaces, IsPlace}
-use Rattle.gtd_records.specs.Closing.{Closes}
+use Rattle.gtd_records.specs.Closing.{Closes, Restriction}
 use Rattle.gtd_records.specs.declared.index.Place.{Place}
-use Rattle.gtd_records.specs.Restriction.{Restriction}
 use Rattle.gtd_records.specs.facts.IndexFacts.{any_default, by_le, none_closes, one_record, part_at, part_past, part_within}
 use Rattle.gtd_records.specs.facts.IndexFacts.{place_element}
 use Rattle.gtd_records.proofs.index.Records.closed_at.Goals as goal

@@ -1,8 +1,7 @@
 use Rattle.std.proofs.Common.{◌≡◌, ◌<◌, ℕ}
 use Rattle.std.specs.Prelude.{slice_index_or}
-use Rattle.gtd_records.specs.Closing.{Closes}
+use Rattle.gtd_records.specs.Closing.{Closes, Restriction}
 use Rattle.gtd_records.specs.declared.index.Place.{Place}
-use Rattle.gtd_records.specs.Restriction.{Restriction}
 use Rattle.gtd_records.proofs.index.Records.closed_at.Given as goal
 
 -- no record at the places so far closes the element

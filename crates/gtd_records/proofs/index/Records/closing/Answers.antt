@@ -1,7 +1,7 @@
 use Rattle.std.proofs.Common.{◌∙◌, ◌-◌, sym, ap, subst, arith, rules, length-append, List, [], ◌∷◌, length, take, drop}
 use Rattle.gtd_eval.specs.facts.CursorFacts.{nodes-append}
 use Rattle.gtd_records.specs.Index.{AreClosing, ArePlaces}
-use Rattle.gtd_records.specs.Restriction.{Restriction}
+use Rattle.gtd_records.specs.Closing.{Restriction}
 use Rattle.gtd_records.specs.declared.index.Place.{Place}
 use Rattle.gtd_records.specs.facts.IndexFacts.{any_default, few_nodes, fewer, none_closes, part_at, part_past, part_sound}
 use Rattle.gtd_records.specs.facts.IndexFacts.{place_element}

@@ -1,8 +1,7 @@
 use Rattle.std.proofs.Common.{◌∙◌, ◌-◌, sym, ap, subst, arith, rules, ℕ, List, length, take, drop}
-use Rattle.gtd_records.specs.Closing.{Closes}
+use Rattle.gtd_records.specs.Closing.{Closes, Restriction}
 use Rattle.gtd_records.specs.ClosingRows.{AreClosingRows}
 use Rattle.gtd_records.specs.Index.{ArePlaces}
-use Rattle.gtd_records.specs.Restriction.{Restriction}
 use Rattle.gtd_records.specs.declared.index.Place.{Place}
 use Rattle.gtd_records.proofs.ClosingRowFacts.{all_rows, none_yet, skipped, taken}
 use Rattle.gtd_records.specs.facts.IndexFacts.{any_default, part_at, part_past, part_sound, place_element, row_placed}

@@ -1,8 +1,8 @@
-use Rattle.std.proofs.Common.{◌≡◌, ◌∙◌, arith, [], Some, refl}
+use Rattle.std.proofs.Common.{◌≡◌, ◌∙◌, arith, [], Some}
 use Rattle.gtd_core.specs.Parts.{duration_parts}
 use Rattle.gtd_core.specs.Whole.{whole}
 use Rattle.gtd_recur.specs.RunsToCome.{runs_to_come}
-use Rattle.gtd_recur.specs.StartsToCome.{IsCountedTo}
+use Rattle.gtd_recur.specs.Walking.{IsCountedTo}
 use Rattle.gtd_recur.proofs.GivenLemmas.{run-at_most, run-at_least, whole-order}
 use Rattle.gtd_calendar.specs.facts.Signed.{signed_arith}
 use Rattle.gtd_recur.proofs.LookLemmas.{run-widen}
@@ -14,13 +14,13 @@ returns-in-Some-cut-clause-takes c =
     let s = c.loop-self.self in
     let same = c.loop-self.invariant.same in
     let next = c.run_end-ahead.ensures.same in
-    let run = c.run_end-ahead.ensures.run in
-    let from : c.from-from.result.0 ≡ (whole s.starts.horizon).from = rw same.horizon c.from-from.ensures.value in
-    let until : c.until-until.result.0 ≡ (whole s.starts.horizon).until = rw same.horizon c.until-until.ensures.value in
+    let run = rw (← same.basic) at c.run_end-ahead.ensures.run in
+    let from : c.from-from.result.0 ≡ (whole s.walk.horizon).from = rw same.horizon c.from-from.ensures.value in
+    let until : c.until-until.result.0 ≡ (whole s.walk.horizon).until = rw same.horizon c.until-until.ensures.value in
     let cut = rw (from, until) at c.in-Some-cut.ensures in
-    let first = run-first (duration_parts s.duration) _ _ (whole s.starts.horizon).from
-    (whole s.starts.horizon).until c.in-Some.first.0 c.run_end-ahead.result.0.0 c.in-Some-cut.span
-    (whole-order s.starts.horizon) run c.run_end-ahead.ensures.after cut in
+    let first = run-first (duration_parts s.walk.basic.duration) _ _ (whole s.walk.horizon).from
+    (whole s.walk.horizon).until c.in-Some.first.0 c.run_end-ahead.result.0.0 c.in-Some-cut.span
+    (whole-order s.walk.horizon) run c.run_end-ahead.ensures.after cut in
     c.loop-self.invariant.left ∙ rw (c.in-Some.is, next.basic, next.horizon) (rw (next.basic, next.horizon) at first)
 
 pub returns-in-Some-cut-clause-at_most : goal.returns-in-Some-cut-clause-at_most
@@ -28,30 +28,26 @@ returns-in-Some-cut-clause-at_most c =
     let s = c.loop-self.self in
     let same = c.loop-self.invariant.same in
     let next = c.run_end-ahead.ensures.same in
-    let run = c.run_end-ahead.ensures.run in
-    let from : c.from-from.result.0 ≡ (whole s.starts.horizon).from = rw same.horizon c.from-from.ensures.value in
-    let until : c.until-until.result.0 ≡ (whole s.starts.horizon).until = rw same.horizon c.until-until.ensures.value in
+    let from : c.from-from.result.0 ≡ (whole s.walk.horizon).from = rw same.horizon c.from-from.ensures.value in
+    let until : c.until-until.result.0 ≡ (whole s.walk.horizon).until = rw same.horizon c.until-until.ensures.value in
     let cut = rw (from, until) at c.in-Some-cut.ensures in
-    let end = run-at_most s.starts c.run_end-ahead.new.starts c.run_end-ahead.result.0.0 c.in-Some-cut.span.until
+    let end = run-at_most s.walk c.run_end-ahead.new.walk c.run_end-ahead.result.0.0 c.in-Some-cut.span.until
     c.run_end-ahead.ensures.at_most cut.3 in
     let w = (cut.1 c.in-Some-cut.span.from).0 (omega (arith, signed_arith), cut.0) in
     let begun = cut.0 in
     let late = w.2 in
-    rw (← same.basic, ← same.horizon, ← c.loop-self.invariant.duration)
-    (run-widen s.starts.basic s.duration s.starts.horizon c.in-Some-cut.span.until _ s.narrow
-    (omega (arith, signed_arith, begun, late)) end)
+    rw (← same.basic, ← same.horizon) (run-widen s.walk c.in-Some-cut.span.until _ (omega (arith, signed_arith, begun, late)) end)
 
 pub returns-in-Some-cut-clause-at_least : goal.returns-in-Some-cut-clause-at_least
 returns-in-Some-cut-clause-at_least c =
     let s = c.loop-self.self in
     let same = c.loop-self.invariant.same in
     let next = c.run_end-ahead.ensures.same in
-    let run = c.run_end-ahead.ensures.run in
-    let from : c.from-from.result.0 ≡ (whole s.starts.horizon).from = rw same.horizon c.from-from.ensures.value in
-    let until : c.until-until.result.0 ≡ (whole s.starts.horizon).until = rw same.horizon c.until-until.ensures.value in
+    let from : c.from-from.result.0 ≡ (whole s.walk.horizon).from = rw same.horizon c.from-from.ensures.value in
+    let until : c.until-until.result.0 ≡ (whole s.walk.horizon).until = rw same.horizon c.until-until.ensures.value in
     let cut = rw (from, until) at c.in-Some-cut.ensures in
-    let counted : IsCountedTo s.starts (Some c.in-Some.first) = rw c.in-Some.is at s.counted in
-    rw (← same.basic, ← same.horizon) (run-at_least s.starts c.run_end-ahead.new.starts c.in-Some.first.0 c.in-Some-cut.span.from
+    let counted : IsCountedTo s.walk (Some c.in-Some.first) = rw c.in-Some.is at s.counted in
+    rw (← same.basic, ← same.horizon) (run-at_least s.walk c.run_end-ahead.new.walk c.in-Some.first.0 c.in-Some-cut.span.from
     counted.1 c.run_end-ahead.ensures.grows cut.4)
 
 pub loop-self-preserved : goal.loop-self-preserved
@@ -59,31 +55,35 @@ loop-self-preserved c =
     let s = c.loop-self.self in
     let same = c.loop-self.invariant.same in
     let next = c.run_end-ahead.ensures.same in
-    let run = c.run_end-ahead.ensures.run in
-    let from : c.from-from.result.0 ≡ (whole s.starts.horizon).from = rw same.horizon c.from-from.ensures.value in
-    let until : c.until-until.result.0 ≡ (whole s.starts.horizon).until = rw same.horizon c.until-until.ensures.value in
+    let run = rw (← same.basic) at c.run_end-ahead.ensures.run in
+    let from : c.from-from.result.0 ≡ (whole s.walk.horizon).from = rw same.horizon c.from-from.ensures.value in
+    let until : c.until-until.result.0 ≡ (whole s.walk.horizon).until = rw same.horizon c.until-until.ensures.value in
     let cut = rw (from, until) at c.in_default-cut.ensures in
-    let none = run-none (duration_parts s.duration) _ _ (whole s.starts.horizon).from
-    (whole s.starts.horizon).until c.in-Some.first.0 c.run_end-ahead.result.0.0 (whole-order s.starts.horizon) run cut in
+    let none = run-none (duration_parts s.walk.basic.duration) _ _ (whole s.walk.horizon).from
+    (whole s.walk.horizon).until c.in-Some.first.0 c.run_end-ahead.result.0.0 (whole-order s.walk.horizon) run cut in
     record {
       left = c.loop-self.invariant.left ∙ rw (c.in-Some.is, next.basic, next.horizon) (rw (next.basic, next.horizon) at none);
-      same = record { basic = next.basic ∙ same.basic; horizon = next.horizon ∙ same.horizon };
-      duration = c.loop-self.invariant.duration;
+      same = record {
+        basic = next.basic ∙ same.basic;
+        horizon = next.horizon ∙ same.horizon;
+        first = next.first ∙ same.first;
+        seen = next.seen ∙ same.seen;
+      };
       grows = (let a = c.loop-self.invariant.grows in let b = c.run_end-ahead.ensures.grows in omega (arith, a, b));
     }
 
 pub returns-clause-takes : goal.returns-clause-takes
 returns-clause-takes c =
     let s = c.loop-self.self in
-    let nil : runs_to_come s ≡ [] = rw c.in_default.is (runs-nil (duration_parts s.duration) (whole s.starts.horizon).from
-    (whole s.starts.horizon).until (whole-order s.starts.horizon)) in
+    let nil : runs_to_come s ≡ [] = rw c.in_default.is (runs-nil (duration_parts s.walk.basic.duration)
+    (whole s.walk.horizon).from (whole s.walk.horizon).until (whole-order s.walk.horizon)) in
     (c.loop-self.invariant.left ∙ nil, nil)
 
 pub returns-in-Some-cut-clause-basic : goal.returns-in-Some-cut-clause-basic
 returns-in-Some-cut-clause-basic c =
     let same = c.loop-self.invariant.same in
     let next = c.run_end-ahead.ensures.same in
-    rw (next.basic, same.basic, c.loop-self.invariant.duration) refl
+    next.basic ∙ same.basic
 
 pub returns-clause-basic : goal.returns-clause-basic
-returns-clause-basic c = rw (c.loop-self.invariant.same.basic, c.loop-self.invariant.duration) refl
+returns-clause-basic c = c.loop-self.invariant.same.basic

@@ -1,17 +1,16 @@
 use Rattle.std.proofs.Common.{◌≡◌, ◌≤◌, length}
 use Rattle.gtd_recur.specs.RunsToCome.{runs_to_come}
 use Rattle.gtd_recur.specs.Stretches.{to_come}
-use Rattle.gtd_recur.specs.StartsToCome.{IsSameWalk, starts_to_come, starts_ticks}
+use Rattle.gtd_recur.specs.Walking.{IsSameWindow, walk_to_come, walk_ticks}
 use Rattle.gtd_recur.proofs.runs.Runs.next_run.Given as goal
 
 -- no run was handed out
 abbrev pub invariant-loop-self : goal.invariant-loop-self
 invariant-loop-self l = record {
   left : runs_to_come l.fn.self ≡ runs_to_come l.self;
-  same : IsSameWalk l.fn.self.starts l.self.starts;
-  duration : l.self.duration ≡ l.fn.self.duration;
-  grows : starts_ticks l.fn.self.starts ≤ starts_ticks l.self.starts;
+  same : IsSameWindow l.fn.self.walk l.self.walk;
+  grows : walk_ticks l.fn.self.walk ≤ walk_ticks l.self.walk;
 }
 
 abbrev pub decreases-loop-self : goal.decreases-loop-self
-decreases-loop-self l = length (to_come l.self.ahead (starts_to_come l.self.starts))
+decreases-loop-self l = length (to_come l.self.ahead (walk_to_come l.self.walk))

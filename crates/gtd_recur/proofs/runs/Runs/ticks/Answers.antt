@@ -6,5 +6,5 @@ pub returns-clause-at_most : goal.returns-clause-at_most
 returns-clause-at_most c =
     let s = c.args.self.now in
     let most = c.ticks.ensures.at_most in
-    let less = work-widen s.starts.basic s.duration s.starts.horizon s.narrow in
+    let less = work-widen s.walk in
     omega (arith, most, less)

@@ -1,53 +1,17 @@
-use Rattle.std.proofs.Common.{◌≡◌, ◌≤ℤ◌, arith, ◌∙◌, sym, refl}
+use Rattle.std.proofs.Common.{arith}
 use Rattle.gtd_calendar.specs.facts.Signed.{signed_arith}
-use Rattle.gtd_core.specs.Parts.{start_parts}
-use Rattle.gtd_core.specs.Whole.{to_day}
-use Rattle.gtd_recur.specs.Work.{counted_work, window_begin}
-use Rattle.gtd_recur.proofs.ExactLemmas.{exact-end}
-use Rattle.gtd_recur.specs.facts.StartsLemmas.{ended-left}
+use Rattle.gtd_recur.specs.Work.{counted_work}
+use Rattle.gtd_recur.proofs.OpenLemmas.{if-both, if-none}
 use Rattle.gtd_recur.proofs.starts.Starts.next.Goals as goal
 
-pub returns-then-self-to_day-clause-takes : goal.returns-then-self-to_day-clause-takes
-returns-then-self-to_day-clause-takes c =
-    let s = c.next_of_day.new.self in
-    let none = c.in_default.ensures.none refl in
-    let past : to_day s.horizon ≤ℤ s.next_day = omega (
-      arith,
-      signed_arith,
-      c.if-self-to_day.true,
-      c.to_day.ensures.value,
-      s.in_window.first_in,
-      s.in_window.day_in,
-      s.in_window.next_in,
-      s.in_window.end_in,
-      s.in_window.last_in,
-    ) in
-    let ended = ended-left (start_parts s.basic.start) s.day s.next_day
-    (to_day s.horizon) s.clock past s.in_window.end_in none.1 in
-    (c.loop-start.invariant.left ∙ sym none.0 ∙ ended, ended)
+pub returns-clause-at_most : goal.returns-clause-at_most
+returns-clause-at_most c =
+    let s = c.args.self.now in
+    if-both c.next.result _ _ _ (λ b most begun. rw (← s.whole) (most b.0 (omega (arith, signed_arith)) (rw s.ahead begun)))
+    c.next.ensures.at_most c.next.ensures.begun
 
-pub returns-then-self-to_day-clause-ended : goal.returns-then-self-to_day-clause-ended
+pub returns-clause-ended : goal.returns-clause-ended
 unfolding counted_work
-returns-then-self-to_day-clause-ended c =
-    let s = c.next_of_day.new.self in
-    let none = c.in_default.ensures.none refl in
-    let past : to_day s.horizon ≤ℤ s.next_day = omega (
-      arith,
-      signed_arith,
-      c.if-self-to_day.true,
-      c.to_day.ensures.value,
-      s.in_window.first_in,
-      s.in_window.day_in,
-      s.in_window.next_in,
-      s.in_window.end_in,
-      s.in_window.last_in,
-    ) in
-    let within = s.in_window.end_in in
-    let last : s.next_day ≡ to_day s.horizon = omega (arith, signed_arith, past, within) in
-    let ended = ended-left (start_parts s.basic.start) s.day s.next_day
-    (to_day s.horizon) s.clock past s.in_window.end_in none.1 in
-    let same = c.in_default.ensures.same in
-    let before = c.loop-start.invariant.same in
-    rw (← before.basic, ← before.horizon, ← same.basic, ← same.horizon)
-    (exact-end (start_parts s.basic.start) (window_begin s.basic s.horizon) s.day s.next_day
-    (to_day s.horizon) s.looked s.handed last s.in_window s.counted (rw ended at s.left))
+returns-clause-ended c =
+    let s = c.args.self.now in
+    if-none c.next.result _ _ (λ all. rw (← s.whole) all) c.next.ensures.ended

@@ -1,21 +1,4 @@
-use Rattle.std.proofs.Common.{arith}
-use Rattle.gtd_core.specs.Parts.{start_parts}
-use Rattle.gtd_core.specs.Whole.{to_day}
-use Rattle.gtd_recur.specs.Work.{whole_work, window_begin}
-use Rattle.gtd_recur.specs.facts.StartsLemmas.{small-counts}
 use Rattle.gtd_recur.proofs.starts.Starts.ticks.Goals as goal
 
-pub overflow_add-result : goal.overflow_add-result
-overflow_add-result c =
-    let s = c.args.self.now in
-    let small = small-counts (start_parts s.basic.start) (window_begin s.basic s.horizon) s.day s.next_day
-    (to_day s.horizon) s.looked s.handed _ s.in_window s.counted s.left in
-    omega (arith, small.2, small.3)
-
 pub returns-clause-at_most : goal.returns-clause-at_most
-unfolding whole_work
-returns-clause-at_most c =
-    let s = c.args.self.now in
-    let small = small-counts (start_parts s.basic.start) (window_begin s.basic s.horizon) s.day s.next_day
-    (to_day s.horizon) s.looked s.handed _ s.in_window s.counted s.left in
-    omega (arith, small.0, small.1)
+returns-clause-at_most c = rw (← c.args.self.now.whole) c.ticks.ensures.at_most

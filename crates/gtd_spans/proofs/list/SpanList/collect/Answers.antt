@@ -1,5 +1,5 @@
 use Rattle.std.proofs.Common.{◌≡◌, List, ◌++◌, ◌∷◌, ap, subst, ◌∙◌}
-use Rattle.gtd_core.specs.Interval.{Interval}
+use Rattle.gtd_core.specs.Seconds.{Interval}
 use Rattle.gtd_spans.specs.Normal.{IsNormal}
 use Rattle.gtd_spans.proofs.Pushed.{normal-before}
 use Rattle.gtd_spans.proofs.list.SpanList.collect.Goals as goal

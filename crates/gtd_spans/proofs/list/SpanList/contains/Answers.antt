@@ -1,5 +1,5 @@
 use Rattle.std.proofs.Common.{◌≡◌, List, true, false, refl, subst, take, ◌+◌, ◌∙◌, inl, inr}
-use Rattle.gtd_core.specs.Interval.{Interval}
+use Rattle.gtd_core.specs.Seconds.{Interval}
 use Rattle.gtd_spans.specs.Normal.{Holds}
 use Rattle.gtd_spans.proofs.Pushed.{holds-more, holds-take}
 use Rattle.gtd_spans.proofs.list.SpanList.contains.Goals as goal

@@ -2,7 +2,7 @@ use Rattle.std.proofs.Common.{◌≡◌, ◌<◌, ◌+◌, ◌-◌, List, length
 use Rattle.std.specs.Prelude.{◌≤ℤ◌}
 use Rattle.std.proofs.lemmas.Int.{ints}
 use Rattle.std.proofs.lemmas.Grind.{common_steps}
-use Rattle.gtd_core.specs.Interval.{Interval}
+use Rattle.gtd_core.specs.Seconds.{Interval}
 use Rattle.gtd_spans.specs.Pushing.{NoneBeginsAfter, SomeReaches}
 use Rattle.gtd_spans.proofs.Pushed.{Leaves, leaves-set, leaves-same, reaches-some, reaches-last}
 use Rattle.gtd_spans.proofs.list.SpanList.join.Goals as goal

@@ -1,6 +1,6 @@
 use Rattle.std.proofs.Common.{◌≡◌, ◌↔◌, List, Option, refl, IfSome}
 use Rattle.std.specs.Prelude.{ℤ, ◌≤ℤ◌, ◌<ℤ◌}
-use Rattle.gtd_core.specs.Interval.{Interval, Within}
+use Rattle.gtd_core.specs.Seconds.{Interval, Within}
 use Rattle.gtd_core.specs.declared.domain.Op.TheVariants.{Meet}
 use Rattle.gtd_spans.specs.declared.merge.Side.TheVariants.{Open, Held}
 use Rattle.gtd_spans.specs.declared.merge.Merge.{Merge}

@@ -1,25 +1,33 @@
-use Rattle.std.proofs.Common.{ap, sym, ◌∙◌, take, arith}
-use Rattle.gtd_text.specs.TokenKinds.{newest_first}
-use Rattle.gtd_text.specs.Summary.{seen}
+use Rattle.std.proofs.Common.{◌∷◌, [], ◌∙◌, sym, ap, arith, length}
 use Rattle.gtd_text.specs.Found.{fault_after}
-use Rattle.gtd_text.proofs.SeenLemmas.{newest_first-nil, no_token, newest_first-more, fault_after-more}
+use Rattle.gtd_text.specs.Summary.{seen_with}
+use Rattle.gtd_text.proofs.SeenLemmas.{fits_more, misfit_here, seen_more}
+use Rattle.gtd_text.proofs.ToComeLemmas.{found_here, found_more}
 use Rattle.gtd_text.proofs.check.grammar.first_misfit.Goals as goal
 
-pub loop-i-init : goal.loop-i-init
-loop-i-init c = record {
-  known = ap seen (sym newest_first-nil);
-  so_far = ap (λ before. fault_after c.args.len before c.args.tokens.now) newest_first-nil;
-  few = omega arith;
-}
+pub returns-then-not-fits : goal.returns-then-not-fits
+returns-then-not-fits c =
+    let text = c.args.text.now in
+    let k = c.loop-token.invariant.follows in
+    found_here text 0 c.loop-token.place (fault_after (length text) k.before) (fault_after (length text) []) c.in-Some.token _
+    k.found c.in-Some.ensures.next
+    (λ others. misfit_here (length text) k.before c.loop-token.seen c.in-Some.token others c.fault_of.result k.known
+    (sym c.if-not-fits.ensures) c.fault_of.ensures)
 
-pub loop-i-preserved : goal.loop-i-preserved
-loop-i-preserved c =
-    let tokens = c.args.tokens.now in
-    let before = newest_first (take c.loop-i.i tokens) in
+pub loop-token-preserved : goal.loop-token-preserved
+loop-token-preserved c =
+    let text = c.args.text.now in
+    let token = c.in-Some.token in
+    let k = c.loop-token.invariant.follows in
     record {
-      known = c.with-seen.ensures.seen before c.loop-i.invariant.known
-          ∙ ap seen (sym (newest_first-more tokens c.loop-i.i no_token c.loop-i-test.true));
-      so_far = fault_after-more c.args.len tokens c.loop-i.i no_token _ c.loop-i-test.true
-          (sym c.if-not-fits.ensures) c.loop-i.invariant.so_far;
-      few = omega arith;
+      inside = c.in-Some.ensures.inside;
+      few = omega (arith, c.with-seen.ensures.depth, c.loop-token.invariant.few, c.in-Some.ensures.past);
+      follows = record {
+        before = token.kind ∷ k.before;
+        known = c.with-seen.ensures.seen ∙ ap (λ s. seen_with s token.kind) k.known ∙ seen_more k.before token.kind;
+        found = found_more text 0 c.loop-token.place (fault_after (length text) k.before)
+            (fault_after (length text) (token.kind ∷ k.before)) (fault_after (length text) []) token k.found
+            c.in-Some.ensures.next
+            (λ others. fits_more (length text) k.before c.loop-token.seen token others k.known (sym c.if-not-fits.ensures));
+      };
     }

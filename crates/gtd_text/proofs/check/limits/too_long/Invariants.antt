@@ -1,6 +1,13 @@
-use Rattle.std.proofs.Common.{◌≡◌, drop}
+use Rattle.std.proofs.Common.{◌≤◌, ◌-◌, length}
 use Rattle.gtd_text.specs.Found.{too_long}
+use Rattle.gtd_text.proofs.ToComeLemmas.{FoundFrom}
 use Rattle.gtd_text.proofs.check.limits.too_long.Given as goal
 
-abbrev pub invariant-loop-i : goal.invariant-loop-i
-invariant-loop-i l = too_long (drop l.i l.tokens) ≡ too_long l.tokens
+abbrev pub invariant-loop-token : goal.invariant-loop-token
+invariant-loop-token l = record {
+  inside : l.place ≤ length l.text;
+  found : FoundFrom l.text 0 l.place too_long too_long;
+}
+
+abbrev pub decreases-loop-token : goal.decreases-loop-token
+decreases-loop-token l = length l.text - l.place

@@ -1,0 +1,36 @@
+use Rattle.std.proofs.Common.{◌<◌, List, ◌++◌, ap, ◌∙◌, arith, length, length-append, append_assoc}
+use Rattle.gtd_core.specs.declared.domain.Op.{Op}
+use Rattle.gtd_eval.specs.facts.NodeFacts.{node_list-normal}
+use Rattle.gtd_eval.specs.Chains.{right_of, IsChainOf}
+use Rattle.gtd_eval.specs.declared.cursor.Cursor.{Cursor}
+use Rattle.gtd_eval.specs.declared.node.Node.{Node}
+use Rattle.gtd_eval.proofs.Unions.{two-seconds, two-nodes, two-work, two-height}
+use Rattle.gtd_eval.proofs.cursor.Cursor.+join_last.Goals as goal
+
+pub returns : goal.returns
+returns t c =
+    let a = c.in_ok-left.ensures.chain in
+    let b = c.in_ok-right.ensures.chain in
+    let ls : List Cursor = a.taken in
+    let rs : List Cursor = b.taken in
+    let op : Op = c.args.op in
+    let to : Op = right_of op in
+    let r : Node = c.in_ok-right-2.right.value in
+    let u : IsChainOf op ls c.in_ok-left-2.left.value = rw c.in_ok-left-2.ensures.ok a.chain in
+    let v : IsChainOf to rs r = rw (c.in_ok-right-2.ensures.ok, ← c.right_of.ensures) b.chain in
+    let gt : 1 < c.args.count = omega (arith, c.if-count-eq1.false, c.requires.some) in
+    let some : 0 < length ls = omega (arith, a.many, gt) in
+    record {
+      chain = record {
+        taken = ls ++ rs;
+        split = b.split ∙ ap (λ (xs : List Cursor). xs ++ rs) a.split ∙ append_assoc _ ls rs;
+        many = omega (arith, length-append ls rs, a.many, b.many);
+        chain = record {
+          sound = (c.new-3.ensures.fits _ _ (node_list-normal _ u.sound) (node_list-normal _ v.sound), u.sound, v.sound);
+          seconds = two-seconds op ls rs _ _ _ (c.new-3.ensures.meaning _ _) some u v;
+          nodes = two-nodes op to ls rs _ _ u v;
+          work = two-work op to ls rs _ _ u v;
+          height = two-height op to c.args.count ls rs _ _ gt b.many a.many u v;
+        };
+      };
+    }

@@ -1,0 +1,56 @@
+use Rattle.std.proofs.Common.{◌≡◌, ◌≤ℤ◌, arith, ◌∙◌, sym, refl}
+use Rattle.gtd_calendar.specs.facts.Signed.{signed_arith}
+use Rattle.gtd_core.specs.Parts.{start_parts}
+use Rattle.gtd_core.specs.Whole.{to_day}
+use Rattle.gtd_recur.proofs.ExactLemmas.{exact-end}
+use Rattle.gtd_recur.specs.facts.StartsLemmas.{ended-left}
+use Rattle.gtd_recur.proofs.walk.Walk.next.Goals as goal
+
+pub returns-then-self-to_day-clause-takes : goal.returns-then-self-to_day-clause-takes
+returns-then-self-to_day-clause-takes c =
+    let s = c.next_of_day.new.self in
+    let none = c.in_default.ensures.none refl in
+    let past : to_day s.horizon ≤ℤ s.next_day = omega (
+      arith,
+      signed_arith,
+      c.if-self-to_day.true,
+      c.to_day.ensures.value,
+      s.in_window.first_in,
+      s.in_window.day_in,
+      s.in_window.next_in,
+      s.in_window.end_in,
+      s.in_window.last_in,
+    ) in
+    let ended = ended-left (start_parts s.basic.start) s.day s.next_day
+    (to_day s.horizon) s.clock past s.in_window.end_in none.1 in
+    (c.loop-start.invariant.left ∙ sym none.0 ∙ ended, ended)
+
+pub returns-then-self-to_day-clause-ended : goal.returns-then-self-to_day-clause-ended
+returns-then-self-to_day-clause-ended c =
+    let s = c.next_of_day.new.self in
+    let none = c.in_default.ensures.none refl in
+    let past : to_day s.horizon ≤ℤ s.next_day = omega (
+      arith,
+      signed_arith,
+      c.if-self-to_day.true,
+      c.to_day.ensures.value,
+      s.in_window.first_in,
+      s.in_window.day_in,
+      s.in_window.next_in,
+      s.in_window.end_in,
+      s.in_window.last_in,
+    ) in
+    let within = s.in_window.end_in in
+    let last : s.next_day ≡ to_day s.horizon = omega (arith, signed_arith, past, within) in
+    let ended = ended-left (start_parts s.basic.start) s.day s.next_day
+    (to_day s.horizon) s.clock past s.in_window.end_in none.1 in
+    let same = c.in_default.ensures.same in
+    let before = c.loop-start.invariant.same in
+    rw (← before.basic, ← before.horizon, ← before.first, ← same.basic, ← same.horizon, ← same.first)
+    (exact-end (start_parts s.basic.start) s.first s.seen s.day s.next_day
+    (to_day s.horizon) s.looked s.handed last s.counted (rw ended at s.left))
+
+pub returns-in-Some-clause-at_most : goal.returns-in-Some-clause-at_most
+returns-in-Some-clause-at_most c = λ t le last.
+    let same = c.loop-start.invariant.same in
+    rw (← same.basic, ← same.horizon, ← same.first) (c.in-Some.ensures.at_most t le (rw same.seen last))

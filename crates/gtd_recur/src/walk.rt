@@ -1,0 +1,243 @@
+//! A walk over the starts of the days from a first one on to the end of a horizon.
+
+ghost use Rattle.std.specs.Prelude.{◌≤◌, ◌≤ℤ◌};
+ghost use Rattle.gtd_core.specs.Parts.{start_parts};
+ghost use Rattle.gtd_core.specs.Whole.{from_day, to_day};
+ghost use Rattle.gtd_recur.specs.Starts.{AreLeft, IsInWindow, IsLookedCount, AreFitting, starts_left};
+ghost use Rattle.gtd_recur.specs.facts.WindowProps.{AreLeft-prop, IsInWindow-prop, IsLookedCount-prop, AreFitting-prop};
+ghost use Rattle.gtd_recur.specs.Work.{days_between, starts_of, window_begin};
+ghost use Rattle.gtd_core.specs.Limits.{day_seconds};
+
+use crate::begin::{begins_on_day, day_step, latest_begin, next_begin};
+use crate::cover::first_look;
+use crate::jump::{Days, next_days};
+use gtd_core::limits::DAY_SECONDS;
+use gtd_core::{Basic, Horizon, Sec};
+
+/// A walk over the starts of a basic domain on the days from one on to the last of a horizon.
+#[derive(Debug, Drop)]
+pub(crate) struct Walk {
+    pub(crate) basic: Basic,
+    pub(crate) horizon: Horizon,
+    /// The first day whose starts are walked over.
+    pub(crate) first: i64,
+    /// The days before this one were looked at before the walk began.
+    pub(crate) seen: i64,
+    /// The day that was opened last.
+    day: i64,
+    /// The second of that day from which its starts are left.
+    clock: u32,
+    /// The next day to look at.
+    next_day: i64,
+    /// Up to this one, the days from the next on are not excluded.
+    fits_until: i64,
+    /// How many days were looked at, and how many starts were handed out.
+    looked: u64,
+    handed: u64,
+    ghost first_in: { window_begin basic horizon ≤ℤ first },
+    ghost seen_in: { seen ≤ℤ from_day horizon },
+    ghost clock_in: { clock ≤ day_seconds },
+    ghost in_window: { IsInWindow first day next_day (to_day horizon) } by { IsInWindow-prop _ _ _ _ },
+    ghost fitting: { AreFitting (start_parts basic.start) next_day fits_until
+        (to_day horizon) } by { AreFitting-prop _ _ _ _ },
+    ghost left: { AreLeft handed (starts_of (start_parts basic.start) (days_between first (to_day horizon)))
+        (starts_left (start_parts basic.start) day clock next_day (to_day horizon)) } by { AreLeft-prop _ _ _ },
+    ghost counted: { IsLookedCount (start_parts basic.start) first
+        seen day next_day looked } by { IsLookedCount-prop _ _ _ _ _ _ },
+}
+
+impl Walk {
+    ghost use Rattle.std.specs.Prelude.{◌≡◌, ◌+◌, ◌<ℤ◌, ◌+ℤ◌, ℤ, pos, [], ◌∷◌, IfSome, IfNone, IsTrue, length, ◌≤ℤ◌};
+    ghost use Rattle.std.specs.Prelude.{count_by};
+    ghost use Rattle.gtd_core.specs.Parts.{start_parts};
+    ghost use Rattle.gtd_core.specs.Whole.{from_day, to_day};
+    ghost use Rattle.gtd_calendar.specs.Calendar.{IsCalendarDay};
+    ghost use Rattle.gtd_core.specs.Seconds.{day_of_second};
+    ghost use Rattle.gtd_recur.specs.Begins.{month_and_year_fit};
+    ghost use Rattle.gtd_recur.specs.Jumps.{IsNextRun};
+    ghost use Rattle.gtd_recur.specs.Look.{IsFirstDay};
+    ghost use Rattle.gtd_recur.specs.Starts.{TakesSecond, clock_starts};
+    ghost use Rattle.gtd_recur.specs.Work.{work, least_work, whole_work, window_begin};
+    ghost use Rattle.gtd_recur.specs.Walking.{walk_days, walk_all, walk_to_come, walk_ticks, walk_given, IsSameWindow};
+    ghost use Rattle.gtd_recur.specs.Walking.{IsOpenBehind, IsPassed};
+
+    /// The walk over all starts from the horizon's first day less the lookback on.
+    pub(crate) fn new(basic: Basic, horizon: Horizon) -> Walk
+        ensures basic { result.basic ≡ basic }
+        ensures horizon { result.horizon ≡ horizon }
+        ensures first { result.first ≡ window_begin basic horizon }
+        ensures seen { result.seen ≡ result.first }
+        ensures to_come { walk_to_come result ≡ walk_all result }
+        ensures ticks { walk_ticks result ≡ 0 }
+        ensures none_handed { result.handed ≡ 0 }
+    {
+        let first = horizon.from_day() - i64::from(basic.duration.lookback());
+        let days = next_days(&basic.start.parts(), first, horizon.to_day());
+        Walk {
+            basic,
+            horizon,
+            first,
+            seen: first,
+            day: first - 1,
+            clock: DAY_SECONDS as u32,
+            next_day: days.from,
+            fits_until: days.until,
+            looked: 0,
+            handed: 0,
+        }
+    }
+
+    /// The walk that begins on the last day before the horizon on which the start begins, which it finds by looking
+    /// backwards, and goes on with the days of the horizon.
+    pub(crate) fn from_last(basic: Basic, horizon: Horizon) -> Walk
+        ensures basic { result.basic ≡ basic }
+        ensures horizon { result.horizon ≡ horizon }
+        ensures first { IsFirstDay (start_parts basic.start) (window_begin basic horizon) (from_day horizon) result.first
+            (walk_ticks result) }
+        ensures to_come { walk_to_come result ≡ walk_all result }
+        ensures none_handed { result.handed ≡ 0 }
+    {
+        let seen = horizon.from_day();
+        let low = seen - i64::from(basic.duration.lookback());
+        let look = first_look(&basic.start.parts(), low, seen);
+        let days = next_days(&basic.start.parts(), seen, horizon.to_day());
+        Walk {
+            basic,
+            horizon,
+            first: look.first,
+            seen,
+            day: look.day,
+            clock: look.clock,
+            next_day: days.from,
+            fits_until: days.until,
+            looked: look.looked,
+            handed: 0,
+        }
+    }
+
+    /// One for each day that was looked at, and one for each start that was handed out.
+    pub(crate) fn ticks(&self) -> u64
+        ensures value { result ≡ walk_ticks self.now }
+        ensures at_most { result ≤ whole_work (start_parts self.now.basic.start) (walk_days self.now) }
+    {
+        self.looked + self.handed
+    }
+
+    /// The next start; `None` where there is none, and then for ever.
+    pub(crate) fn next(&mut self) -> Option<Sec>
+        ensures takes { TakesSecond (walk_to_come self.old) result (walk_to_come self.new) }
+        ensures same { IsSameWindow self.old self.new }
+        ensures at_most { IfSome result (λ b. (t : ℤ) → b.0 ≤ℤ t → self.old.seen ≤ℤ (day_of_second t +ℤ pos 1)
+            → walk_ticks self.new ≤ work (start_parts self.old.basic.start) (walk_days self.old) t) }
+        ensures at_least { IfSome result (λ b.
+            least_work (start_parts self.old.basic.start) (walk_days self.old) b.0 + 1 ≤ walk_ticks self.new) }
+        ensures exact { IfSome result (λ b. self.old.seen ≡ self.old.first → walk_ticks self.new
+            ≡ least_work (start_parts self.old.basic.start) (walk_days self.old) b.0 + 2) }
+        ensures begun { IfSome result (λ b. self.old.first ≤ℤ (day_of_second b.0 +ℤ pos 1)) }
+        ensures ended { IfNone result (walk_ticks self.new
+            ≡ count_by (month_and_year_fit (start_parts self.old.basic.start)) (walk_days self.old)
+            + length (walk_all self.old)) }
+        ensures rises { IfSome result (λ b. walk_ticks self.old + 1 ≤ walk_ticks self.new) }
+        ensures grows { walk_ticks self.old ≤ walk_ticks self.new }
+        ensures calendar { IfSome result (λ b. IsCalendarDay (day_of_second b.0)) }
+        ensures open { IfSome result (λ b. IsOpenBehind self.new b.0) }
+    {
+        loop {
+            if let Some(start) = self.next_of_day() {
+                return Some(start);
+            }
+            if self.next_day >= self.horizon.to_day() {
+                return None;
+            }
+            self.look();
+        }
+    }
+
+    // The next start of the open day.
+    fn next_of_day(&mut self) -> Option<Sec>
+        ensures takes { IfSome result (λ b. walk_to_come self.old ≡ b.0 ∷ walk_to_come self.new) }
+        ensures none { result ≡ None → (walk_to_come self.new ≡ walk_to_come self.old)
+            × (clock_starts (start_parts self.new.basic.start) self.new.day self.new.clock ≡ []) }
+        ensures same { IsSameWindow self.old self.new }
+        ensures at_most { IfSome result (λ b. (t : ℤ) → b.0 ≤ℤ t → self.old.seen ≤ℤ (day_of_second t +ℤ pos 1)
+            → walk_ticks self.new ≤ work (start_parts self.old.basic.start) (walk_days self.old) t) }
+        ensures at_least { IfSome result (λ b.
+            least_work (start_parts self.old.basic.start) (walk_days self.old) b.0 + 1 ≤ walk_ticks self.new) }
+        ensures exact { IfSome result (λ b. self.old.seen ≡ self.old.first → walk_ticks self.new
+            ≡ least_work (start_parts self.old.basic.start) (walk_days self.old) b.0 + 2) }
+        ensures begun { IfSome result (λ b. self.old.first ≤ℤ (day_of_second b.0 +ℤ pos 1)) }
+        ensures rises { IfSome result (λ b. walk_ticks self.old + 1 ≤ walk_ticks self.new) }
+        ensures grows { walk_ticks self.old ≤ walk_ticks self.new }
+        ensures calendar { IfSome result (λ b. IsCalendarDay (day_of_second b.0)) }
+        ensures next_day { self.new.next_day ≡ self.old.next_day }
+        ensures open { IfSome result (λ b. IsOpenBehind self.new b.0) }
+    {
+        match next_begin(&self.basic.start.parts(), self.clock) {
+            Some(clock) => {
+                self.clock = clock + 1;
+                self.handed += 1;
+                Some(Sec(DAY_SECONDS * self.day + i64::from(clock)))
+            }
+            None => {
+                self.clock = DAY_SECONDS as u32;
+                None
+            }
+        }
+    }
+
+    // Passes over the starts behind one up to the last of its day, where they lie no further apart than a length.
+    pub(crate) fn pass_day(&mut self, start: Sec, length: i64) -> Sec
+        requires open { IsOpenBehind self.old start.0 }
+        requires length_in { pos 0 ≤ℤ length }
+        ensures passed { IsPassed self.old self.new start.0 length result.0 }
+    {
+        let step = day_step(self.basic.start.as_parts());
+        if length < i64::from(step) {
+            return start;
+        }
+        let Some(last) = latest_begin(self.basic.start.as_parts(), 86_399) else {
+            return start;
+        };
+        self.handed += u64::from((last + 1 - self.clock) / step);
+        self.clock = DAY_SECONDS as u32;
+        Sec(DAY_SECONDS * self.day + i64::from(last))
+    }
+
+    // Looks at the next day, which opens it. Only here are a day's fields read, and each such day is counted.
+    fn look(&mut self)
+        requires done { clock_starts (start_parts self.old.basic.start) self.old.day self.old.clock ≡ [] }
+        requires more { self.old.next_day <ℤ to_day self.old.horizon }
+        ensures left { walk_to_come self.new ≡ walk_to_come self.old }
+        ensures same { IsSameWindow self.old self.new }
+        ensures later { self.old.next_day <ℤ self.new.next_day }
+        ensures grows { walk_ticks self.old ≤ walk_ticks self.new }
+    {
+        let after = self.days_after();
+        let clock = if begins_on_day(self.basic.start.as_parts(), self.next_day) {
+            0
+        } else {
+            DAY_SECONDS as u32
+        };
+        self.day = self.next_day;
+        self.clock = clock;
+        self.next_day = after.from;
+        self.fits_until = after.until;
+        self.looked += 1;
+    }
+
+    // The days to look at behind the next one.
+    fn days_after(&self) -> Days
+        requires more { self.now.next_day <ℤ to_day self.now.horizon }
+        ensures run { IsNextRun (λ n. IsTrue (month_and_year_fit (start_parts self.now.basic.start) n))
+            (self.now.next_day +ℤ pos 1) (to_day self.now.horizon) result.from result.until }
+    {
+        let day = self.next_day + 1;
+        if day < self.fits_until {
+            return Days {
+                from: day,
+                until: self.fits_until,
+            };
+        }
+        next_days(&self.basic.start.parts(), day, self.horizon.to_day())
+    }
+}

@@ -1,0 +1,12 @@
+use Rattle.gtd_spans.proofs.GapLemmas.{passes-first}
+use Rattle.gtd_spans.proofs.gaps.Gaps.before.Goals as goal
+
+pub returns : goal.returns
+returns c = record {
+  passes = λ xs n.
+      let from = c.from-from.ensures.value in
+      let until = c.until-until.ensures.value in
+      passes-first c.args.self.now.from.0 c.args.self.now.until.0 c.args.span xs c.new-gap.result c.earlier.result.0
+      c.later-self.result.0 n (rw from at c.earlier.ensures.not_later) (rw from at c.earlier.ensures.either)
+      (rw until at c.later-self.ensures.not_earlier) (rw until at c.later-self.ensures.either) c.new-gap.ensures.span;
+}

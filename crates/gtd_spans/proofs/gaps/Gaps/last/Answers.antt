@@ -1,0 +1,7 @@
+use Rattle.gtd_spans.proofs.GapLemmas.{takes-last}
+use Rattle.gtd_spans.proofs.gaps.Gaps.last.Goals as goal
+
+pub returns : goal.returns
+returns c = record {
+  takes = takes-last c.args.self.now.from.0 c.args.self.now.until.0 c.new-gap.result c.new-gap.ensures.span;
+}

@@ -1,0 +1,68 @@
+//! What is left of a range of seconds between spans.
+
+ghost use Rattle.std.specs.Prelude.{◌≡◌, [], ◌∷◌, ℤ, List, ◌↔◌, ◌⊎◌, ◌≤ℤ◌};
+ghost use Rattle.gtd_core.specs.Seconds.{Interval, Within};
+ghost use Rattle.gtd_core.specs.Whole.{whole};
+ghost use Rattle.gtd_spans.specs.Gaps.{Passes, gaps_left};
+ghost use Rattle.gtd_spans.specs.Normal.{Holds, IsNormal};
+ghost use Rattle.gtd_spans.specs.Sweeping.{Takes};
+
+use gtd_core::{Horizon, Sec, Span};
+
+/// What spans leave of a range of seconds. The spans are told one by one, in order, and each gap is handed out before the
+/// span that ends it.
+#[derive(Debug, Drop)]
+pub struct Gaps {
+    /// The first second behind all spans that were told, or of the range.
+    from: Sec,
+    /// The first second behind the range.
+    until: Sec,
+}
+
+// The earlier of two seconds.
+fn earlier(a: Sec, b: Sec) -> Sec
+    ensures not_later { (result.0 ≤ℤ a.0) × (result.0 ≤ℤ b.0) }
+    ensures either { (result.0 ≡ a.0) ⊎ (result.0 ≡ b.0) }
+{
+    if a < b { a } else { b }
+}
+
+// The later of two seconds.
+fn later(a: Sec, b: Sec) -> Sec
+    ensures not_earlier { (a.0 ≤ℤ result.0) × (b.0 ≤ℤ result.0) }
+    ensures either { (result.0 ≡ a.0) ⊎ (result.0 ≡ b.0) }
+{
+    if a < b { b } else { a }
+}
+
+impl Gaps {
+    /// All seconds of a horizon, before any span is told.
+    pub fn new(horizon: Horizon) -> Gaps
+        ensures seconds { (xs : List Interval) (t : ℤ)
+            → Holds (gaps_left result xs) t ↔ (Within (whole horizon) t × (Holds xs t → ⊥)) }
+    {
+        Gaps {
+            from: horizon.from(),
+            until: horizon.until(),
+        }
+    }
+
+    /// The gap before the next span, if there is one. The caller tells the spans of a normal list, from its first on.
+    pub fn before(&mut self, span: Span) -> Option<Span>
+        ensures passes { (xs : List Interval) → IsNormal (span ∷ xs) → Passes self.old span xs result self.new }
+    {
+        let (from, until) = (span.from(), span.until());
+        let gap = Span::new(self.from, earlier(from, self.until));
+        self.from = later(self.from, until);
+        gap
+    }
+
+    /// The gap behind the last span, if there is one, and none from then on.
+    pub fn last(&mut self) -> Option<Span>
+        ensures takes { Takes (gaps_left self.old []) result (gaps_left self.new []) }
+    {
+        let gap = Span::new(self.from, self.until);
+        self.from = self.until;
+        gap
+    }
+}

@@ -1,0 +1,26 @@
+-- What is still to come of the tokens of a text.
+use Rattle.std.specs.Prelude.{◌≡◌, ℕ, List, [], ◌∷◌, length, Option, Some, None}
+use Rattle.gtd_text.specs.declared.token.Token.{Token}
+use Rattle.gtd_text.specs.Building.{AreBuildable}
+use Rattle.gtd_text.specs.Lexing.{AreTokens, Reads, kinds}
+
+-- The text is spaces and tokens.
+pub record IsLexed (text : List ℕ) : Type 0 where
+  pub tokens : List Token
+  pub read : AreTokens text tokens
+
+-- The text is tokens, and they build an expression in its ranges.
+pub record IsBuildable (text : List ℕ) : Type 0 where
+  pub tokens : List Token
+  pub read : AreTokens text tokens
+  pub builds : AreBuildable (kinds tokens)
+
+-- The first of the tokens that a text ends with, and the others from its end on.
+abbrev pub IsNext : List ℕ → List Token → Option Token → Type 0
+IsNext text tokens None = tokens ≡ []
+IsNext text tokens (Some token) =
+    (others : List Token) × (tokens ≡ token ∷ others) × Reads text token.to others (length text)
+
+-- If the text is spaces and tokens from this place on, then this is the first of them.
+abbrev pub IsNextFrom : List ℕ → ℕ → Option Token → Type 0
+IsNextFrom text place next = (tokens : List Token) → Reads text place tokens (length text) → IsNext text tokens next
