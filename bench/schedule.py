@@ -1,67 +1,137 @@
 #!/usr/bin/env python3
-"""The main job beside a native program that is not proved: the schedule of two record files, in one run.
+"""The main job beside two native programs that are not proved: `schedule.py [PROGRAM]`. All outputs must be the same bytes.
 
-Run it after `rt ci`, which builds the program; it needs rustc. Both programs' outputs must be the same bytes. Prints, for
-each file, the best of seven times of each, their ratio, and the most memory that `gtd` used; then the memory over a horizon
-four times as long."""
+`native.rs` is a plain program; `best.rs` is the fastest one that we know, which reads equal texts once, and each text
+again with the word `plain`. It needs a built `gtd` (`rt ci` builds it), rustc, and what `measuring.py` says; without
+valgrind it shows nanoseconds in place of instructions. Prints tables of Markdown: for two files, the best of seven times
+of each program, taken in turns, and its peak memory; then how the cost of a line goes with the rows, the horizon, the
+records of one element and the basic domains of one text. Instructions are those of the whole run, counted by callgrind,
+so other work on the machine changes times alone."""
 import filecmp
 import os
-import subprocess
 import sys
 import tempfile
-import time
 
-top = os.path.dirname(os.path.dirname(os.path.abspath(__file__)))
-gtd = os.path.join(top, "crates", "gtd", "out", "gtd")
-rounds = 7
+import measuring
+from worst_inputs import Folder, clock_starts, joined
 
-
-def measure(command):
-    """The seconds and the mebibytes of one run, whose output goes nowhere."""
-    begun = time.perf_counter()
-    process = subprocess.Popen(command, stdout=subprocess.DEVNULL)
-    _, status, used = os.wait4(process.pid, 0)
-    if status != 0:
-        sys.exit(f"{command[0]} failed")
-    return time.perf_counter() - begun, used.ru_maxrss / 1024
+VEHICLE = "11"
+ROUNDS = 7
+FIRST = "2024-01-01"
 
 
-def written(command, path):
-    with open(path, "wb") as file:
-        subprocess.run(command, stdout=file, check=True)
-    return path
+class Bench:
+    """The programs beside one another, and a folder for what they read and print."""
+
+    def __init__(self, gtd, work):
+        best = measuring.build_native("best", work)
+        native = measuring.build_native("native", work)
+        self.work = work
+        self.report = os.path.join(work, "report")
+        self.calls = {
+            "`gtd`": lambda job: [gtd, "schedule", *job],
+            "best": lambda job: [best, *job],
+            "best, plain": lambda job: [best, *job, "plain"],
+            "native": lambda job: [native, *job],
+        }
+
+    def commands(self, records, last):
+        """Each program's command for a file and the days from `FIRST` on."""
+        return {name: call([records, FIRST, last, VEHICLE]) for name, call in self.calls.items()}
+
+    def lines(self, commands):
+        """The number of lines that all of them print; ends the script if they print different bytes."""
+        paths = [measuring.written(command, os.path.join(self.work, f"out{place}"))
+                 for place, command in enumerate(commands.values())]
+        for name, path in zip(commands, paths):
+            if not filecmp.cmp(paths[0], path, shallow=False):
+                sys.exit(f"{name}: another output than that of gtd")
+        with open(paths[0], "rb") as file:
+            return sum(1 for _ in file)
+
+    def memory(self, command):
+        return measuring.run(command, 600, self.report).mebibytes
+
+    def made(self, rows):
+        """A file of so many rows as a map has them."""
+        maker = [sys.executable, os.path.join(measuring.BENCH, "make_records.py"), str(rows), "1"]
+        return measuring.written(maker, os.path.join(self.work, "made"))
 
 
-def compare(work, name, rows, first, last):
-    records = os.path.join(work, f"{name}.csv")
-    maker = [sys.executable, os.path.join(top, "bench", "make_records.py"), str(rows), "1"]
-    written(maker, records)
-    proved = [gtd, "schedule", records, first, last, "11"]
-    native = [os.path.join(work, "native"), records, first, last, "11"]
-    ours, theirs = written(proved, os.path.join(work, "a")), written(native, os.path.join(work, "b"))
-    if not filecmp.cmp(ours, theirs, shallow=False):
-        sys.exit(f"{name}: the outputs differ")
-    with open(ours, "rb") as file:
-        lines = sum(1 for _ in file)
-    runs = [(measure(proved), measure(native)) for _ in range(rounds)]
-    time_of = [min(run[side][0] for run in runs) for side in (0, 1)]
-    memory = max(run[0][1] for run in runs)
-    print(f"{rows:,} rows, {first} to {last}, {lines:,} lines: gtd {time_of[0]:.3f} s, native {time_of[1]:.3f} s, "
-          f"ratio {time_of[0] / time_of[1]:.2f}; gtd used {memory:.1f} MiB")
-    return records
+def cost(command, lines):
+    """The instructions of a line; or its nanoseconds, where there is no callgrind."""
+    if measuring.has_callgrind():
+        return f"{measuring.instructions(command) / lines:,.0f}"
+    return f"{min(measuring.seconds(command) for _ in range(3)) / lines * 1e9:,.0f}"
+
+
+def unit():
+    return "Instructions a line" if measuring.has_callgrind() else "Nanoseconds a line"
+
+
+def best_times(commands):
+    """The least of the times of each, which run in turns so that all meet the same machine."""
+    rounds = [{name: measuring.seconds(command) for name, command in commands.items()} for _ in range(ROUNDS)]
+    return {name: min(times[name] for times in rounds) for name in commands}
+
+
+def beside_one_another(bench, rows, last):
+    """A row of the table for each program."""
+    commands = bench.commands(bench.made(rows), last)
+    lines = bench.lines(commands)
+    times = best_times(commands)
+    for name, command in commands.items():
+        ratio = times["`gtd`"] / times[name]
+        cells = [f"{times[name]:.3f} s", f"{ratio:.2f}", f"{bench.memory(command):.1f} MiB", cost(command, lines)]
+        measuring.row([f"{rows:,}", f"{FIRST} to {last}", f"{lines:,}", name, *cells])
+
+
+def scaled(bench, what, points):
+    """A table of the cost of a line, whose points are a number, a file and a last day each."""
+    print(f"\n{unit()}, by {what}:\n")
+    measuring.head([what.capitalize(), "Lines", *bench.calls, "Memory of `gtd`"])
+    for number, records, last in points:
+        commands = bench.commands(records, last)
+        lines = bench.lines(commands)
+        costs = [cost(command, lines) for command in commands.values()]
+        memory = f"{bench.memory(commands['`gtd`']):.1f} MiB"
+        measuring.row([f"{number:,}", f"{lines:,}", *costs, memory])
+
+
+def by_rows(bench):
+    for rows in (1_024, 4_096, 16_384, 65_536):
+        yield rows, bench.made(rows), "2024-01-15"
+
+
+def by_years(bench):
+    records = bench.made(64)
+    for years in (1, 4, 20, 100, 400):
+        yield years, records, f"{2024 + years}-01-01"
+
+
+def by_records(folder):
+    for records in (64, 256, 1_024, 4_096):
+        yield records, folder.rows("records", clock_starts(records, 20)), "2024-01-09"
+
+
+def by_basic_domains(folder):
+    for count in (1, 4, 16, 64, 128):
+        yield count, folder.rows("domains", [joined(clock_starts(count, 600))]), "2026-01-01"
 
 
 def main():
-    if not os.path.exists(gtd):
-        sys.exit(f"no program at {gtd}: run rt ci first")
+    gtd = measuring.program(sys.argv[1:])
     with tempfile.TemporaryDirectory() as work:
-        source = os.path.join(top, "bench", "native.rs")
-        subprocess.run(["rustc", "-O", "--edition", "2021", source, "-o", os.path.join(work, "native")], check=True)
-        compare(work, "quarter", 65536, "2024-01-01", "2024-04-01")
-        records = compare(work, "decade", 2000, "2024-01-01", "2034-01-01")
-        for last in ("2034-01-01", "2064-01-01"):
-            _, memory = measure([gtd, "schedule", records, "2024-01-01", last, "11"])
-            print(f"2024-01-01 to {last}: {memory:.1f} MiB")
+        bench, folder = Bench(gtd, work), Folder(work)
+        measuring.check_memory(bench.report)
+        measuring.head(["Rows", "Horizon", "Lines", "Program", "Time", "`gtd` to it", "Memory", unit()])
+        beside_one_another(bench, 65_536, "2024-04-01")
+        beside_one_another(bench, 2_000, "2034-01-01")
+        scaled(bench, "rows", by_rows(bench))
+        scaled(bench, "years", by_years(bench))
+        scaled(bench, "records of one element", by_records(folder))
+        scaled(bench, "basic domains of one text", by_basic_domains(folder))
 
 
-main()
+if __name__ == "__main__":
+    main()

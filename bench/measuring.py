@@ -1,0 +1,101 @@
+"""What the benchmarks share: the program that is measured, its time, its memory and its instructions, and tables.
+
+It needs /usr/bin/time (the package `time`), and `timeout` of the GNU core utilities; `instructions` needs valgrind, and
+`build_native` needs rustc."""
+import os
+import re
+import shutil
+import subprocess
+import sys
+import time
+from typing import NamedTuple
+
+TOP = os.path.dirname(os.path.dirname(os.path.abspath(__file__)))
+BENCH = os.path.join(TOP, "bench")
+STOPPED = 124  # the status by which `timeout` says that it ended the program
+KIBIBYTES = 1024  # of a mebibyte
+
+
+class Run(NamedTuple):
+    elapsed: float
+    processor: float
+    mebibytes: float
+    status: int
+
+
+def program(words):
+    """The path of `gtd`: the first of the words, or where `rt run` and `rt ci` put it."""
+    path = words[0] if words else os.path.join(TOP, "crates", "gtd", "out", "gtd")
+    if not os.access(path, os.X_OK):
+        sys.exit(f"no program at {path}: run rt ci first, or give the program's path")
+    return os.path.abspath(path)
+
+
+def run(command, limit, report):
+    """One run whose output goes nowhere: its seconds by the clock and of the processor, its peak memory, its status.
+
+    The kernel charges a new process with the pages of the one that started it until it becomes another program, and
+    Python has 14 MiB of them. So the peak is asked of /usr/bin/time, which has 2 MiB. It writes it to the file `report`."""
+    timed = ["/usr/bin/time", "-q", "-f", "%U %S %M", "-o", report, "timeout", str(limit), *command]
+    begun = time.perf_counter()
+    status = subprocess.run(timed, stdout=subprocess.DEVNULL, stderr=subprocess.DEVNULL, check=False).returncode
+    elapsed = time.perf_counter() - begun
+    with open(report, encoding="ascii") as file:
+        user, system, kibibytes = file.read().split()
+    return Run(elapsed, float(user) + float(system), int(kibibytes) / KIBIBYTES, status)
+
+
+def check_memory(report):
+    """Ends the script if the peak memory is not measured well: `dd` fills a buffer of a known size."""
+    if not os.path.exists("/usr/bin/time"):
+        sys.exit("no /usr/bin/time: install the package time")
+    for mebibytes in (1, 64):
+        dd = ["dd", "if=/dev/zero", "of=/dev/null", f"bs={mebibytes}M", "count=1"]
+        measured = run(dd, 60, report).mebibytes
+        if not mebibytes <= measured <= mebibytes + 4:
+            sys.exit(f"memory is measured wrongly: {measured:.1f} MiB of a program that uses {mebibytes} MiB")
+
+
+def seconds(command):
+    """The seconds of one run whose output goes nowhere, with nothing between it and this script."""
+    begun = time.perf_counter()
+    subprocess.run(command, stdout=subprocess.DEVNULL, check=True)
+    return time.perf_counter() - begun
+
+
+def written(command, path):
+    """The path, once the command's output was written there."""
+    with open(path, "wb") as file:
+        subprocess.run(command, stdout=file, check=True)
+    return path
+
+
+def has_callgrind():
+    return shutil.which("valgrind") is not None
+
+
+def instructions(command):
+    """The instructions of one run, which other work on the machine does not change."""
+    traced = ["valgrind", "--tool=callgrind", "--callgrind-out-file=/dev/null", *command]
+    done = subprocess.run(traced, stdout=subprocess.DEVNULL, stderr=subprocess.PIPE, text=True, check=True)
+    return int(re.search(r"Collected : (\d+)", done.stderr).group(1))
+
+
+def build_native(name, work):
+    """Builds bench/NAME.rs as fast as rustc makes it, and returns the program's path."""
+    path = os.path.join(work, name)
+    best = ["-C", "opt-level=3", "-C", "codegen-units=1", "-C", "panic=abort"]
+    source = os.path.join(BENCH, f"{name}.rs")
+    subprocess.run(["rustc", "--edition", "2021", *best, source, "-o", path], check=True)
+    return path
+
+
+def row(cells):
+    """Prints one row of a table of Markdown, at once."""
+    print("| " + " | ".join(str(cell) for cell in cells) + " |", flush=True)
+
+
+def head(names):
+    """Prints the head of a table of Markdown."""
+    row(names)
+    print("|" + "---|" * len(names), flush=True)

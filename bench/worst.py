@@ -1,0 +1,56 @@
+#!/usr/bin/env python3
+"""The inputs that cost most, each run once: `worst.py [PROGRAM [WORD]]`; with a word, those alone whose name has it.
+
+It needs a built `gtd` (`rt ci` builds it) and what `measuring.py` says; the files are made in a temporary folder. Each
+run has 60 seconds, or its goal where that is more. The goal is two seconds of the processor, which other work on the
+machine blurs less than the clock; but where an input has more than 20 million lines, spans or days that are gone over
+one by one, two seconds for each 20 million. Prints both times and the peak memory of each. Ends with status 1 if one
+misses its goal, or ends in a way that is no answer."""
+import sys
+import tempfile
+
+import measuring
+from worst_inputs import cases
+
+GOAL = 2.0
+GOAL_COUNT = 20_000_000
+LIMIT = 60
+ANSWERS = (0, 1, 2)  # done, refused, usage
+
+
+def goal(case):
+    return GOAL * max(1.0, case.counted / GOAL_COUNT)
+
+
+def ending(case, run):
+    """How the run ended, in a word: empty if it is within its goal."""
+    if run.status == measuring.STOPPED:
+        return "stopped"
+    if run.status not in ANSWERS:
+        return f"status {run.status}"
+    return "slow" if run.processor > goal(case) else ""
+
+
+def measured(case, gtd, report):
+    """Runs a case, prints its row, and tells whether it missed its goal."""
+    run = measuring.run([gtd, *case.words], max(LIMIT, goal(case)), report)
+    ended = ending(case, run)
+    times = [f"{run.processor:.2f} s", f"{run.elapsed:.2f} s", f"{goal(case):.0f} s"]
+    counted = f"{case.counted / 1e6:,.0f} million {case.what}" if case.counted > GOAL_COUNT else ""
+    measuring.row([case.name, *times, f"{run.mebibytes:,.0f} MiB", counted, ended])
+    return ended != ""
+
+
+def main():
+    gtd = measuring.program(sys.argv[1:2])
+    word = sys.argv[2] if len(sys.argv) > 2 else ""
+    with tempfile.TemporaryDirectory() as work, tempfile.NamedTemporaryFile() as report:
+        measuring.check_memory(report.name)
+        measuring.head(["Input", "Processor", "Elapsed", "Goal", "Memory", "Linear in", "Missed"])
+        missed = [measured(case, gtd, report.name) for case in cases(work) if word in case.name]
+    print(f"{len(missed)} inputs, {sum(missed)} missed")
+    return 1 if any(missed) else 0
+
+
+if __name__ == "__main__":
+    sys.exit(main())

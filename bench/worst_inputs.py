@@ -1,0 +1,277 @@
+"""The inputs that cost `gtd` most, each for a loop of the program: commands, and files made in a temporary folder."""
+import os
+from typing import NamedTuple
+
+MOST_BYTES = 16_777_216
+MOST_ROWS = 65_536
+MOST_BASIC = 128
+MOST_BRACKETS = 128
+MOST_WORD = 131_071  # bytes of one word of a command line, in Linux
+HEADER = "element,direction,vehicle,domain\n"
+LISTS = "element,direction,vehicles,domain\n"
+MOMENT = "2024-01-01T00:00:30"
+DAY = ("2024-01-01", "2024-01-02")
+YEAR = ("2024-01-01", "2025-01-01")
+DECADE = ("2024-01-01", "2034-01-01")
+LONGEST = ("2024-01-01", "2424-01-02")
+DAYS = {DAY: 1, YEAR: 366, DECADE: 3_653, LONGEST: 146_098}
+LOOKBACK = 36_600  # the days of the longest duration
+FULL = "(s0){y100}"
+NEVER = "(f11d8){y100}"  # the first Sunday of a month is never its eighth day
+
+
+class Case(NamedTuple):
+    """A command; and how many of what it counts one by one, where these are so many that they decide its time."""
+    name: str
+    words: list
+    counted: int = 0
+    what: str = ""
+
+
+class Folder:
+    """Where the files are made."""
+
+    def __init__(self, path):
+        self.path = path
+
+    def file(self, name, text):
+        path = os.path.join(self.path, name)
+        with open(path, "w", encoding="ascii", newline="") as file:
+            file.write(text)
+        return path
+
+    def rows(self, name, domains):
+        """Version 1: one row for each domain, all of one element."""
+        return self.file(name, HEADER + "".join(f"1,both,0,{domain}\n" for domain in domains))
+
+    def elements(self, name, domains):
+        """Version 1: one element for each domain."""
+        return self.file(name, HEADER + "".join(f"{n},both,0,{domain}\n" for n, domain in enumerate(domains)))
+
+    def field(self, name, front, unit, head=HEADER):
+        """A file of the greatest size: a head, the front, and as many units as fit."""
+        count = (MOST_BYTES - len(head) - len(front)) // len(unit)
+        return self.file(name, head + front + unit * count)
+
+
+def joined(parts, signs="+"):
+    """The parts with the signs between them in turn, taken from left to right."""
+    text = parts[0]
+    for place, part in enumerate(parts[1:]):
+        text += signs[place % len(signs)] + part
+    return text
+
+
+def nested(parts, signs="+"):
+    """The same with each right side in brackets."""
+    text = parts[-1]
+    for place, part in enumerate(reversed(parts[:-1])):
+        text = f"{part}{signs[place % len(signs)]}[{text}]"
+    return text
+
+
+def clock_starts(count, step):
+    """Basic domains of one second each, the given seconds apart, by clock time."""
+    clocks = [step * n for n in range(count)]
+    return [f"(h{c // 3600}m{c // 60 % 60}s{c % 60}){{s1}}" for c in clocks]
+
+
+def hour_starts(count):
+    """Basic domains of one second of each hour, none touching another."""
+    return [f"(m{2 * n // 60}s{2 * n % 60}){{s1}}" for n in range(count)]
+
+
+def minute_starts(count):
+    """Basic domains of one second of each minute: thirty that do not touch, and these again."""
+    return [f"(s{2 * n % 60}){{s1}}" for n in range(count)]
+
+
+def schedule(file, days):
+    return ["schedule", file, *days, "11"]
+
+
+def year(file):
+    return ["year", file, "1", "positive", "11", "2024"]
+
+
+def asked(text, name, counted=0, what=""):
+    """The commands that look for a change, and the one that looks at a moment."""
+    yield Case(f"next, {name}", ["next", text, MOMENT, LONGEST[1]], counted, what)
+    yield Case(f"ever, {name}", ["ever", text, MOMENT], counted, what)
+    yield Case(f"at, {name}", ["at", text, MOMENT])
+
+
+def domains():
+    """Commands whose work is that of one domain."""
+    yield from asked(f"[{FULL}]", "each minute begins a century")
+    yield from asked(joined([FULL] * MOST_BASIC, "+*-"), "128 of these joined by + * - in turn")
+    yield from asked(nested([FULL] * MOST_BASIC, "+*-"), "128 of these nested by + * - in turn")
+    looked = MOST_BASIC * (DAYS[LONGEST] + LOOKBACK)
+    yield from asked(joined([NEVER] * MOST_BASIC), "128 that begin on no day", looked, "days")
+    yield from asked(joined(["(M2d30){y100}"] * MOST_BASIC), "128 on 30 February")
+    yield from asked(joined(["(M2d29t1){d1}"] * MOST_BASIC), "128 on a Sunday that is 29 February")
+    always = DAYS[LONGEST] * MOST_BASIC
+    for start in ("(h0){h24}", "(m0){h1}", "(s0){m1}"):
+        yield Case(f"next, 128 of {start}", ["next", joined([start] * MOST_BASIC), MOMENT, LONGEST[1]], always, "days")
+    yield from taken_away()
+
+
+def taken_away():
+    """Domains of which nothing is left, so that each span is looked at."""
+    yield Case("ever, each minute's first second less itself", ["ever", "[(s0){s1}]-[(s0){s1}]", MOMENT])
+    yield from taken_on_few_days()
+    seconds = [f"(s{n % 60}){{s1}}" for n in range(MOST_BASIC - 1)]
+    for name, text in (
+        ("their union", f"(s0){{m1}}-[{joined(seconds)}]"),
+        ("each in turn", joined(["(s0){m1}", *seconds], "-")),
+    ):
+        yield Case(f"ever, a minute less 127 seconds, {name}", ["ever", text, MOMENT])
+        spans = (MOST_BASIC - 1) * 1440 * DAYS[YEAR]
+        yield Case(f"next, a minute less 127 seconds, {name}, a year", ["next", text, MOMENT, YEAR[1]], spans, "spans")
+
+
+def taken_on_few_days():
+    """The same where a part gives a date, so that 400 years are looked at and not a week."""
+    spans = 2 * 1440 * DAYS[LONGEST]
+    for name, text in (
+        ("less itself", "[(s0){s1}]-[(s0){s1}]-[(M2d29){d1}]"),
+        ("and its second one", "[(s0){s1}]*[(s1){s1}]*[(M2d29){d1}]"),
+    ):
+        yield Case(f"ever, each minute's first second {name}, on 29 February", ["ever", text, MOMENT], spans, "spans")
+
+
+def words():
+    """Long words, and many."""
+    for sign in "+[( 9":
+        yield Case(f"check, {MOST_WORD:,} bytes of '{sign}'", ["check", sign * MOST_WORD])
+    weekdays = "(" + "t1" * (MOST_WORD // 2 - 4) + "){h1}"
+    yield Case("canon, a weekday given 65,531 times", ["canon", weekdays])
+    for name, form in (("joined", joined), ("nested", nested)):
+        yield Case(f"canon, 128 {name}", ["canon", form([FULL] * MOST_BASIC, "+*-")])
+    yield Case("100,000 words", ["check", *["a"] * 100_000])
+    yield Case("a file that never ends", schedule("/dev/zero", DAY))
+
+
+def one_row(folder):
+    """Files of one row or few, whose domains have many starts."""
+    few = folder.rows("few", [FULL] * 20)
+    yield Case("20 rows that each minute begin a century, a day", schedule(few, DAY))
+    many = folder.rows("many", [joined([FULL] * MOST_BASIC)])
+    yield Case("128 of these in one row, a day", schedule(many, DAY))
+    yield Case("128 of these in one row, the year's table", year(many))
+    yield from seconds_apart(folder)
+
+
+def seconds_apart(folder):
+    """Files of one row with 128 basic domains of one second each. Each direction has a line for each second."""
+    for name, starts, daily in (
+        ("day", clock_starts(MOST_BASIC, 600), 1),
+        ("hour", hour_starts(MOST_BASIC), 24),
+        ("minute", minute_starts(MOST_BASIC), 1440),
+    ):
+        file = folder.rows(name, [joined(starts)])
+        spans = MOST_BASIC * daily
+        yield Case(f"128 seconds of each {name}, the year's table", year(file), spans * DAYS[YEAR], "spans")
+        for span, days in (("ten years", DECADE), ("400 years", LONGEST)):
+            if name != "minute" or days == DECADE:
+                counted = 2 * spans * DAYS[days]
+                yield Case(f"128 seconds of each {name}, {span}", schedule(file, days), counted, "spans")
+
+
+def one_element(folder):
+    """Files with all rows of one element."""
+    apart = folder.rows("apart", clock_starts(43_200, 2))
+    yield Case("one element, 43,200 rows, each a second, a day", schedule(apart, DAY))
+    yield Case("one element, 43,200 rows, each a second, the year's table", year(apart), 43_200 * DAYS[YEAR], "spans")
+    yield Case("one element, 65,536 rows without a domain, a day", schedule(folder.rows("always", [""] * MOST_ROWS), DAY))
+    yield Case("one element, 65,536 rows of one domain, a day", schedule(folder.rows("same", ["(h7){h2}"] * MOST_ROWS), DAY))
+    leap = folder.rows("leap_rows", ["(M2d29){y8}"] * MOST_ROWS)
+    yield Case("one element, 65,536 rows from 29 February on, a day", schedule(leap, DAY))
+    yield Case("one element, 65,536 rows from 29 February on, the year's table", year(leap))
+
+
+def many_elements(folder):
+    """Files with one row of each element, whose starts are rare.
+
+    Where the days looked at decide, there are fewer rows than a file can have, since the time is linear in them."""
+    leap = folder.elements("leap", ["(M2d29){y8}"] * MOST_ROWS)
+    yield Case("65,536 elements from 29 February on, a day", schedule(leap, DAY))
+    full = folder.elements("full", [FULL] * MOST_ROWS)
+    yield Case("65,536 elements that each minute begin a century, a day", schedule(full, DAY))
+    never = folder.elements("never", [NEVER] * 4096)
+    yield Case("4,096 elements that begin on no day, a day", schedule(never, DAY), 2 * 4096 * LOOKBACK, "days")
+    weeks = folder.elements("weeks", [f"(y{2024 + n % 100}w{1 + n % 52}){{d1}}" for n in range(MOST_ROWS)])
+    yield Case("65,536 elements with a week of a year, 400 years", schedule(weeks, LONGEST))
+    dates = folder.elements("dates", [f"(y{2024 + n % 400}M5d1){{d1}}" for n in range(MOST_ROWS)])
+    yield Case("65,536 elements with a date, 400 years", schedule(dates, LONGEST))
+    always = folder.elements("always_day", ["(h0){h24}"] * 512)
+    joins = 2 * 512 * DAYS[LONGEST]
+    yield Case("512 elements that are always closed, day by day, 400 years", schedule(always, LONGEST), joins, "days")
+    packed = folder.elements("packed", [joined(["(f11d8){y9}"] * 20)] * 4096)
+    looked = 2 * 20 * 4096 * 9 * 366
+    yield Case("4,096 elements, each with 20 of these, a day", schedule(packed, DAY), looked, "days")
+    yearly = folder.elements("yearly", [joined(["(M5d1){y1}"] * 20)] * 4096)
+    looked = 2 * 20 * 4096 * 245
+    yield Case("4,096 elements, each with 20 stretches of a year, a day", schedule(yearly, DAY), looked, "days")
+    hours = folder.elements("hours", [joined(["(h7){h2}"] * 26)] * MOST_ROWS)
+    yield Case("65,536 elements, 26 basic domains in each row, a day", schedule(hours, DAY))
+    yield Case("65,536 elements, 26 basic domains in each row, migrated", ["migrate", hours])
+    deep = folder.elements("deep", ["[" * 110 + "(h7){h2}" + "]" * 110] * MOST_ROWS)
+    yield Case("65,536 elements, 110 brackets in each row, migrated", ["migrate", deep])
+
+
+def rows_in_order(folder):
+    """Rows whose elements come in an order that is hard to sort."""
+    half = MOST_ROWS // 2
+    orders = {
+        "downwards": range(MOST_ROWS, 0, -1),
+        "up and down": [*range(half), *range(half, 0, -1)],
+        "as saw teeth": [n % 256 for n in range(MOST_ROWS)],
+        "by turns": [n if n % 2 else MOST_ROWS - n for n in range(MOST_ROWS)],
+    }
+    for name, elements in orders.items():
+        text = HEADER + "".join(f"{n},both,0,\n" for n in elements)
+        yield Case(f"65,536 rows, elements {name}, a day", schedule(folder.file(name.replace(" ", "_"), text), DAY))
+
+
+def one_field(folder):
+    """Files of the greatest size that are almost one field."""
+    front = "1,both,0,"
+    units = {
+        "plus": "+", "brackets": "[", "spaces": " ", "digits": "1", "parentheses": "(", "closed": "]", "quotes": '""',
+        "basic": "(h1){h1}+", "hours": "(h1", "letters": "h", "high": "z1",
+    }
+    for name, unit in units.items():
+        yield Case(f"16 MiB of '{unit}'", schedule(folder.field(name, front, unit), DAY))
+    yield Case("16 MiB of '(t1t1..'", schedule(folder.field("weekdays", front + "(", "t1"), DAY))
+    closing = "){h1}\n"
+    text = folder.field("weekdays", front + "(", "t1")
+    with open(text, "r+b") as file:
+        file.seek(-len(closing), os.SEEK_END)
+        file.write(closing.encode("ascii"))
+    yield Case("16 MiB of '(t1t1..', accepted", schedule(text, DAY))
+    yield Case("16 MiB of ','", schedule(folder.field("commas", "", ","), DAY))
+    yield Case("16 MiB of empty lines", schedule(folder.field("lines", "", "\n"), DAY))
+    yield Case("16 MiB of quoted spaces", schedule(folder.field("quoted", front + '"', " "), DAY))
+    yield Case("16 MiB of an element's digits", schedule(folder.field("element", "", "1"), DAY))
+
+
+def vehicle_lists(folder):
+    """Files of the greatest size whose lists of vehicle types are long."""
+    mixed = ";".join(str(1 + 37 * n % 99) for n in range(99)) + ";"
+    for name, front, unit in (("equal", "1,both,", "1;"), ("mixed", "1,both,!", mixed)):
+        path = folder.field(f"types_{name}", front, unit, LISTS)
+        yield Case(f"16 MiB of {name} vehicle types, refused", schedule(path, DAY))
+        with open(path, "r+b") as file:
+            file.seek(-4, os.SEEK_END)
+            file.write(b";1,\n")
+        yield Case(f"16 MiB of {name} vehicle types", schedule(path, DAY))
+
+
+def cases(path):
+    """Every case. A file is made when its case is asked for."""
+    folder = Folder(path)
+    yield from domains()
+    yield from words()
+    for group in (one_row, one_element, many_elements, rows_in_order, one_field, vehicle_lists):
+        yield from group(folder)
