@@ -33,7 +33,7 @@ must_show() {
     echo "FAILED $1: it shows no command"
 }
 
-# document FILE: in fenced blocks, each line `$ gtd ..` or `$ cat ..`, and the lines up to the next `$ ` or the block's end.
+# document FILE: in fenced blocks, each line `$ COMMAND`, and the lines up to the next `$ ` or the block's end.
 document() {
     local line command='' fenced=0 number=0 at=0 shown=0
     while IFS= read -r line || [ -n "$line" ]; do
@@ -47,20 +47,41 @@ document() {
         esac
         case $fenced$line in
             ?'```'*) fenced=$((1 - fenced)) ;;
-            1'$ gtd '* | 1'$ cat '*)
+            1'$ '*)
                 command=${line#'$ '} shown=$((shown + 1))
                 : > "$room/expected"
                 ;;
         esac
     done < "$top/$1"
     [ -n "$command" ] && compare "$1:$at" "$command" "$room/expected"
-    case $1 in README.md | docs/LANGUAGE.md) must_show "$1" $shown ;; esac
+    case $1 in README.md | docs/LANGUAGE.md | docs/RESTRICTIONS.md) must_show "$1" $shown ;; esac
 }
 
 document README.md
-for path in "$top"/docs/*.md; do
-    document "docs/${path##*/}"
+for path in "$top"/CONTRIBUTING.md "$top"/docs/*.md "$top"/crates/*/README.md; do
+    document "${path#"$top/"}"
 done
+
+# shown PAGE: each of the domains that were found on a page stands in a command of that page.
+shown() {
+    local domain
+    while IFS= read -r domain; do
+        grep -qF "'$domain'" "$top/$1" && continue
+        failed=$((failed + 1))
+        echo "FAILED $1: no command shows $domain"
+    done < "$room/domains"
+    must_show "$1" "$(wc -l < "$room/domains")"
+}
+
+# The domains of the recipe and those that are easily mistaken, and those of restrictions in words.
+page=$top/docs/LANGUAGE.md
+{
+    sed -n '/^## From A until B/,/^## Easily/s/^|.* | `\([^`]*\)` |$/\1/p' "$page"
+    sed -n '/^## Easily mistaken/,/^## /s/^| [^|]* | `\([^`]*\)` |.*/\1/p' "$page"
+} > "$room/domains"
+shown docs/LANGUAGE.md
+sed -n 's/^|.* | `\([^`]*\)` |$/\1/p' "$top/docs/RESTRICTIONS.md" > "$room/domains"
+shown docs/RESTRICTIONS.md
 
 # The table: a row holds a command and the file that it makes. A file that no row names fails.
 sed -n 's/^| `\(gtd [^`]*\)` | `\([^`]*\)` |$/\1\t\2/p' README.md > "$room/table"

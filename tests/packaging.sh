@@ -1,0 +1,193 @@
+#!/usr/bin/env bash
+# The Debian package: builds it twice and compares the bytes, installs it in a scratch root, lints the man pages that lie there,
+# presses Tab in real shells over the completions that lie there, runs the main job from it on examples/, and removes it.
+# Run it after `rt ci`, which builds the program. It needs Debian's dpkg, and calls tests/setup.sh where a tool is missing.
+#
+# It installs by `dpkg --root` and not by `dpkg -x`, which only unpacks: so dpkg's own list of files decides what a removal takes
+# away, and the test sees what is left.
+set -u
+top=$(cd "$(dirname "$0")/.." && pwd)
+[ -x "$top/crates/gtd/out/gtd" ] || { echo "no program in crates/gtd/out: run rt ci first" >&2; exit 1; }
+PATH=$PATH:/usr/sbin:/sbin
+for tool in dpkg dpkg-deb mandoc zsh python3 fakeroot; do
+    command -v "$tool" > /dev/null && continue
+    "$top/tests/setup.sh" > /dev/null || { echo "no $tool, and tests/setup.sh failed" >&2; exit 1; }
+done
+room=$(mktemp -d)
+trap 'rm -rf "$room"' EXIT
+chmod 755 "$room"
+root=$room/root
+passed=0 failed=0
+
+pass() {
+    passed=$((passed + 1))
+}
+
+# fail NAME [FILE]: counts a failure, and shows the first lines of the file.
+fail() {
+    failed=$((failed + 1))
+    echo "FAILED $1"
+    [ $# = 1 ] || head -n 10 "$2"
+}
+
+# succeeds NAME COMMAND..: the command ends with status 0.
+succeeds() {
+    local name=$1
+    shift
+    if "$@" > "$room/said" 2>&1; then pass; else fail "$name" "$room/said"; fi
+}
+
+# gives NAME EXPECTED COMMAND..: the command's output, its errors among it, is exactly the text.
+gives() {
+    local name=$1 expected=$2
+    shift 2
+    "$@" > "$room/said" 2>&1
+    if [ "$(cat "$room/said")" = "$expected" ]; then pass; else fail "$name" "$room/said"; fi
+}
+
+# The package: the same bytes from another folder, under another umask, at another time.
+build_twice() {
+    mkdir "$room/first" "$room/second"
+    succeeds 'the package is built' "$top/packaging/deb.sh" "$room/first"
+    [ "$failed" = 0 ] || exit 1
+    (cd "$room/second" && umask 077 && TMPDIR=$room "$top/packaging/deb.sh") > "$room/said" 2>&1
+    deb=$(echo "$room"/first/gtd_*_amd64.deb)
+    succeeds 'the package is built again, byte for byte' cmp "$deb" "$room/second/${deb##*/}"
+    gives 'its fields' 'gtd amd64' dpkg-deb --show --showformat '${Package} ${Architecture}' "$deb"
+    gives 'its name has its version' "gtd_$(dpkg-deb --field "$deb" Version)_amd64.deb" echo "${deb##*/}"
+    succeeds 'the change log has its version' grep -q "^## \[$(dpkg-deb --field "$deb" Version)\] - " "$top/CHANGELOG.md"
+    dpkg-deb --contents "$deb" > "$room/contents"
+    gives 'all files belong to root' 'root/root' awk '!seen[$2]++ { print $2 }' "$room/contents"
+    gives 'all files may be read' '' grep -v '^[-d]r[-w][-x]r-[-x]r-[-x] ' "$room/contents"
+}
+
+# dpkg_in ARGUMENTS..: dpkg over the scratch root. The root has no C library of its own, so dependencies only warn; and it takes
+# the documents also where this machine's dpkg leaves them out.
+dpkg_in() {
+    local as_root=
+    [ "$(id -u)" = 0 ] || as_root=fakeroot
+    $as_root dpkg --root="$root" --force-depends --log="$room/log" --path-include='/usr/share/*' "$@"
+}
+
+make_root() {
+    mkdir -p "$root/var/lib/dpkg/info" "$root/var/lib/dpkg/updates" "$root/var/lib/dpkg/triggers"
+    : > "$root/var/lib/dpkg/status"
+}
+
+# files_in_root: the files and links outside dpkg's own folder.
+files_in_root() {
+    (cd "$root" && find . -path ./var/lib/dpkg -prune -o ! -type d -print | LC_ALL=C sort)
+}
+
+install_it() {
+    make_root
+    succeeds 'the package is installed' dpkg_in --install "$deb"
+    gives 'dpkg knows it' 'install ok installed' dpkg-query --admindir="$root/var/lib/dpkg" -W -f '${Status}' gtd
+    succeeds 'the program is the proved one' cmp "$root/usr/bin/gtd" "$top/crates/gtd/out/gtd"
+    succeeds 'the sums agree' bash -c "cd '$root' && md5sum --quiet -c var/lib/dpkg/info/gtd.md5sums"
+    for file in README.md docs/LANGUAGE.md docs/FILES.md examples/restrictions.csv changelog.gz copyright; do
+        succeeds "documents: $file" test -s "$root/usr/share/doc/gtd/$file"
+    done
+    succeeds 'the licence says which' grep -q 'MIT OR Apache-2.0' "$root/usr/share/doc/gtd/copyright"
+    for licence in MIT APACHE; do
+        succeeds "the text of LICENSE-$licence" python3 -c 'import sys
+assert open(sys.argv[1]).read() in open(sys.argv[2]).read()' "$top/LICENSE-$licence" "$root/usr/share/doc/gtd/copyright"
+    done
+}
+
+# lint PAGE: mandoc finds nothing. It looks for the pages that one refers to in /usr/share/man alone, so whether these are there is
+# asked of the scratch root here.
+lint() {
+    local page=$root/usr/share/man/man${1##*.}/$1 name section
+    zcat "$page.gz" > "$room/$1" || fail "$1 is there"
+    mandoc -T lint "$room/$1" > "$room/lint" 2>&1
+    gives "$1: mandoc finds nothing" '' grep -v 'STYLE: referenced manual not found' "$room/lint"
+    while read -r name section; do
+        succeeds "$1 refers to $name($section)" test -s "$root/usr/share/man/man$section/$name.$section.gz"
+    done < <(sed -n 's/^\.Xr \([^ ]*\) \([0-9]\).*/\1 \2/p' "$room/$1" | sort -u)
+}
+
+lint_pages() {
+    lint gtd.1
+    lint gtd-files.5
+    lint gtd-domain.7
+    local command
+    for command in $commands; do
+        succeeds "gtd(1) has $command" grep -q "^\.It Cm $command " "$room/gtd.1"
+    done
+}
+
+# tab SHELL TEXT WORDS: after Tab, the line that begins with the text has these words.
+tab() {
+    gives "$1: $2<Tab>" "$3" "$top/tests/press_tab.py" "$1" "${setup[$1]}" "$2"
+}
+
+complete_in() {
+    tab "$1" 'gtd sch' '<schedule>'
+    tab "$1" 'gtd ca' '<canon>'
+    tab "$1" 'gtd schedule town.sch' '<schedule><town.schedule.csv>'
+    tab "$1" 'gtd migrate restr' '<migrate><restrictions.csv>'
+    tab "$1" 'gtd year town.csv 103 p' '<year><town.csv><103><positive>'
+    tab "$1" 'gtd year town.csv 103 n' '<year><town.csv><103><negative>'
+    tab "$1" 'gtd check restr' '<check><restr>'
+    tab "$1" 'gtd schedule town.csv restr' '<schedule><town.csv><restr>'
+}
+
+# The program lists no commands itself, so they are taken from where it names them.
+know_commands() {
+    gives "the program's commands" "$(tr ' ' '\n' <<< "$commands" | sort)" \
+        bash -c "sed -n 's/.*add_command(alloc, program, \"\([a-z]*\)\").*/\1/p' '$top/crates/gtd_tool/src/arguments.rt' | sort"
+}
+
+complete_words() {
+    local bash_file=$root/usr/share/bash-completion/completions/gtd zsh_folder=$root/usr/share/zsh/vendor-completions
+    declare -A setup=(
+        [bash]=". $bash_file"
+        [zsh]="fpath=($zsh_folder \$fpath); autoload -Uz compinit; compinit -u -D"
+    )
+    gives 'bash: complete -p gtd' 'complete -F _gtd gtd' bash --norc -c ". '$bash_file'; complete -p gtd"
+    gives 'zsh: the function of gtd' '_gtd' zsh -fc "${setup[zsh]}; echo \$_comps[gtd]"
+    gives 'bash: all commands' "$commands" \
+        bash --norc -c ". '$bash_file'; COMP_WORDS=(gtd '') COMP_CWORD=1; _gtd; echo \"\${COMPREPLY[*]}\""
+    gives 'zsh: all commands' "$commands" \
+        bash -c "sed -n \"s/^        '\\([a-z]*\\):.*/\\1/p\" '$zsh_folder/_gtd' | paste -sd ' '"
+    complete_in bash
+    complete_in zsh
+}
+
+# makes FILE WORDS..: what the installed program prints is exactly the file of examples/.
+makes() {
+    local file=$1
+    shift
+    "$root/usr/bin/gtd" "$@" > "$room/out" 2>&1
+    succeeds "gtd $*" cmp "$room/out" "$top/examples/$file"
+}
+
+run_it() {
+    cd "$root/usr/share/doc/gtd/examples" || exit 1
+    makes town.schedule.csv schedule town.csv 2024-03-15 2024-03-18 11
+    makes pass.schedule.csv schedule pass.csv 2025-04-15 2025-04-21 12
+    makes works.schedule.csv schedule works.csv 2024-06-01 2024-10-01 1
+    makes town.year.txt year town.csv 103 positive 11 2024
+    makes works.migrated.csv migrate works.csv
+    cd "$top/examples" || exit 1
+}
+
+remove_it() {
+    succeeds 'the package is removed' dpkg_in --purge gtd
+    gives 'nothing is left' '' files_in_root
+}
+
+# The commands, in the order of the completions.
+commands='schedule year migrate check canon at next ever'
+cd "$top/examples" || exit 1
+build_twice
+install_it
+know_commands
+lint_pages
+complete_words
+run_it
+remove_it
+
+echo "packaging: $passed passed, $failed failed"
+[ "$failed" = 0 ]
