@@ -12,5 +12,5 @@ command -v apt-get > /dev/null || { echo "no apt-get here: install ${packages[*]
 as_root=
 [ "$(id -u)" = 0 ] || as_root=sudo
 export DEBIAN_FRONTEND=noninteractive
-$as_root apt-get -qq update
-$as_root apt-get -qq install -y --no-install-recommends "${packages[@]}"
+$as_root apt-get -qq -o Acquire::Retries=3 update
+$as_root apt-get -qq -o Acquire::Retries=3 install -y --no-install-recommends "${packages[@]}"
