@@ -10,9 +10,10 @@ room=$(mktemp -d)
 trap 'rm -rf "$room"' EXIT
 passed=0 failed=0
 
-# The program stands first on the path, alone in its folder.
+# The programs stand first on the path, alone in their folder.
 mkdir "$room/bin"
 ln -s "$program" "$room/bin/gtd"
+ln -s "$top/crates/gtdesk/out/gtdesk" "$room/bin/gtdesk"
 
 # compare WHERE COMMAND FILE: what the command writes, its faults among it, is exactly the file.
 compare() {
@@ -54,7 +55,7 @@ document() {
         esac
     done < "$top/$1"
     [ -n "$command" ] && compare "$1:$at" "$command" "$room/expected"
-    case $1 in README.md | docs/LANGUAGE.md | docs/RESTRICTIONS.md) must_show "$1" $shown ;; esac
+    case $1 in README.md | docs/DESK.md | docs/LANGUAGE.md | docs/RESTRICTIONS.md) must_show "$1" $shown ;; esac
 }
 
 document README.md

@@ -5,9 +5,16 @@
 #   mandoc           tests/packaging.sh lints the man pages
 #   zsh              tests/packaging.sh tries the completions; bash is there
 #   fakeroot         tests/packaging.sh installs the package, where it is not run as root
+#   python3-pandas, python3-geopandas, python3-dask, python3-distributed
+#                    what the Python package stands on; tests/python.sh, bench/country.py
+#   python3-pytest, mypy, python3-build, python3-setuptools, python3-wheel, python3-venv
+#                    tests/python.sh tests the package, its types, and its wheel in a fresh environment
+#   openssl, mount   tests/python.sh makes certificates, and a small disk
 # Run it as root, or as a user who may call sudo.
 set -eu
-packages=(gcc libc6-dev python3 mandoc zsh fakeroot)
+packages=(gcc libc6-dev python3 mandoc zsh fakeroot
+    python3-pandas python3-geopandas python3-dask python3-distributed
+    python3-pytest mypy python3-build python3-setuptools python3-wheel python3-venv openssl mount)
 command -v apt-get > /dev/null || { echo "no apt-get here: install ${packages[*]} by hand" >&2; exit 1; }
 as_root=
 [ "$(id -u)" = 0 ] || as_root=sudo

@@ -11,7 +11,7 @@ ghost use Rattle.gtd_calendar.specs.Clock as spec;
 ghost use Rattle.gtd_calendar.specs.ComputedEnds as computed;
 ghost use Rattle.gtd_core.specs.Limits.{day_seconds};
 
-use crate::day::{date_of, number_of};
+use crate::day::{date_of, day_number_of};
 use gtd_core::limits::DAY_SECONDS;
 use gtd_core::{Duration, Sec};
 use jiff::civil;
@@ -32,7 +32,7 @@ fn day_in_month(count: u32, day: u8) -> i64
     ensures value { result ≡ computed.day_in_month (pos count) day }
 {
     let first = civil::date((count / 12) as i16, (count % 12) as i8 + 1, 1);
-    number_of(first) + i64::from(day.min(first.days_in_month() as u8)) - 1
+    day_number_of(first) + i64::from(day.min(first.days_in_month() as u8)) - 1
 }
 
 // The day that many months later, the day of the month cut to the last one of the month reached.

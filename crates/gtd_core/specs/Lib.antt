@@ -1,4 +1,5 @@
 pub mod Equality
+pub mod FieldTable
 pub mod Horizons
 pub mod Limits
 pub mod Names

@@ -27,6 +27,9 @@ pub enum Op {
 }
 
 /// Basic domains, joined by operators. In contracts it is a `Tree`, which says nothing of where its parts lie.
+///
+/// Calls and its drop go down the tree on the stack, one join after the other. Up to 1,000 joins, one below the other,
+/// are safe. A `Domain` has at most 127.
 #[derive(Debug, Drop)]
 pub enum Expr {
     /// A basic domain alone.

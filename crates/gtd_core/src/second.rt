@@ -1,6 +1,6 @@
 //! Seconds of the local civil clock, and spans of them.
 
-ghost use Rattle.std.specs.Prelude.{◌≡◌, ◌<ℤ◌, ◌≤ℤ◌, ◌↔◌, ℤ, IsTrue, MatchOption};
+ghost use Rattle.std.specs.Prelude.{◌≡◌, ◌⊎◌, ◌<ℤ◌, ◌≤ℤ◌, ◌↔◌, ℤ, IsTrue, MatchOption};
 ghost use Rattle.gtd_core.specs.Seconds.{IsOnDay, day_of_second, Interval, Within};
 
 use crate::limits::DAY_SECONDS;
@@ -18,6 +18,22 @@ impl Sec {
         ensures value { result ≡ day_of_second self.0 }
     {
         self.0.div_euclid(DAY_SECONDS)
+    }
+
+    /// The earlier of two seconds.
+    pub fn earlier(self, other: Sec) -> Sec
+        ensures not_later { (result.0 ≤ℤ self.0) × (result.0 ≤ℤ other.0) }
+        ensures either { (result.0 ≡ self.0) ⊎ (result.0 ≡ other.0) }
+    {
+        if self < other { self } else { other }
+    }
+
+    /// The later of two seconds.
+    pub fn later(self, other: Sec) -> Sec
+        ensures not_earlier { (self.0 ≤ℤ result.0) × (other.0 ≤ℤ result.0) }
+        ensures either { (result.0 ≡ self.0) ⊎ (result.0 ≡ other.0) }
+    {
+        if self < other { other } else { self }
     }
 }
 

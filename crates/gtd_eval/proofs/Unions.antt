@@ -9,8 +9,7 @@ use Rattle.gtd_core.specs.Whole.{whole}
 use Rattle.gtd_core.specs.declared.domain.Op.{Op}
 use Rattle.gtd_core.specs.declared.domain.Op.TheVariants.{Union, Meet, Minus}
 use Rattle.gtd_core.specs.declared.horizon.Horizon.{Horizon}
-use Rattle.gtd_spans.specs.Normal.{Holds, IsIn}
-use Rattle.gtd_spans.specs.Combine.{Combined, combine}
+use Rattle.gtd_spans.specs.Normal.{Holds, IsIn, Combined, combine}
 use Rattle.gtd_spans.specs.facts.Combining.{combine-holds}
 use Rattle.gtd_spans.specs.facts.NormalFor.{combined-both, combined-in}
 use Rattle.gtd_eval.specs.Chains.{right_of, AllHold, ChainHolds, IsChainOf, IsBasicChain, IsChainOfLast, AreTerms}

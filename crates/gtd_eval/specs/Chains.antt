@@ -7,7 +7,7 @@ use Rattle.gtd_core.specs.declared.domain.Op.TheVariants.{Union, Meet, Minus}
 use Rattle.gtd_core.specs.declared.horizon.Horizon.{Horizon}
 use Rattle.gtd_spans.specs.Normal.{Holds, IsIn}
 use Rattle.gtd_eval.specs.Membership.{InTree}
-use Rattle.gtd_eval.specs.Nodes.{node_list, node_count, node_height, node_work, IsSound}
+use Rattle.gtd_eval.specs.Nodes.{node_list, node_count, node_height, node_work, IsSoundNode}
 use Rattle.gtd_eval.specs.Cursors.{cursor_list, SomeHolds, total_nodes, total_work, NoneHigher}
 use Rattle.gtd_eval.specs.declared.node.Node.{Node}
 use Rattle.gtd_eval.specs.declared.cursor.Cursor.{Cursor}
@@ -39,7 +39,7 @@ ChainHolds Minus (c ∷ cs) t = Holds (cursor_list c) t × (SomeHolds cs t → �
 
 -- the tree is the chain of the cursors by the operator
 pub record IsChainOf (op : Op) (cs : List Cursor) (n : Node) : Type 0 where
-  pub sound : IsSound n
+  pub sound : IsSoundNode n
   pub seconds : (t : ℤ) → Holds (node_list n) t ↔ ChainHolds op cs t
   pub nodes : node_count n + 1 ≡ total_nodes cs + length cs
   pub work : node_work n ≡ total_work cs

@@ -3,12 +3,11 @@ use Rattle.std.specs.Prelude.{ℤ, ◌⊎◌, IsSome, List}
 use Rattle.gtd_core.specs.Trees.{Tree, Single, Joined}
 use Rattle.gtd_core.specs.Parts.{domain_tree}
 use Rattle.gtd_core.specs.declared.domain.Domain.{Domain}
-use Rattle.gtd_spans.specs.Combine.{Combined}
+use Rattle.gtd_spans.specs.Normal.{Combined, IsNormalFor}
 use Rattle.gtd_recur.specs.Membership.{InStretches}
 use Rattle.gtd_core.specs.Seconds.{Interval}
 use Rattle.gtd_core.specs.Whole.{whole}
 use Rattle.gtd_core.specs.declared.horizon.Horizon.{Horizon}
-use Rattle.gtd_spans.specs.Normal.{IsNormalFor}
 
 -- The expression contains the second: a basic domain where one of its stretches holds it, and two joined ones by the
 -- operators of GDF time domains (ISO 14825:2004): either, both, or the left and not the right.

@@ -1,4 +1,4 @@
--- What a tree of sweeps has still to hand out, when its parts fit together, and how large it is.
+-- What a tree of operators has still to hand out, when its parts fit together, and how large it is.
 use Rattle.std.specs.Prelude.{ℕ, ◌+◌, List}
 use Rattle.gtd_core.specs.Seconds.{Interval}
 use Rattle.gtd_core.specs.declared.domain.Expr.{Expr}
@@ -6,7 +6,8 @@ use Rattle.gtd_core.specs.declared.domain.Expr.TheVariants.{Leaf as LeafExpr, Jo
 use Rattle.gtd_core.specs.declared.horizon.Horizon.{Horizon}
 use Rattle.gtd_spans.specs.Merging.{listed}
 use Rattle.gtd_spans.specs.Gaps.{gaps_left}
-use Rattle.gtd_spans.specs.Sweeping.{still, Fits}
+use Rattle.gtd_spans.specs.Normal.{IsNormal, combine}
+use Rattle.gtd_spans.specs.Sides.{side_list}
 use Rattle.gtd_recur.specs.RunsToCome.{runs_to_come, runs_basic, runs_horizon, runs_ticks}
 use Rattle.gtd_eval.specs.Shape.{Shape, fixed, runs, between, two, shape_nodes, shape_height, shape_work}
 use Rattle.gtd_eval.specs.Single.{IsSingle}
@@ -18,22 +19,22 @@ abbrev pub node_list : Node → List Interval
 node_list (Fixed span) = listed span
 node_list (Leaf leaf) = runs_to_come leaf
 node_list (Between' gaps p inner) = gaps_left gaps (node_list inner)
-node_list (Two' sweep p left q right) = still sweep (node_list left) (node_list right)
+node_list (Two' op x p left y q right) = combine op (side_list x (node_list left)) (side_list y (node_list right))
 
--- each sweep of the tree fits what its sides have still to hand out
-abbrev pub IsSound : Node → Type 0
-IsSound (Fixed span) = IsSingle span
-IsSound (Leaf leaf) = Unit {0}
-IsSound (Between' gaps p inner) = IsSound inner
-IsSound (Two' sweep p left q right) =
-    Fits sweep (node_list left) (node_list right) × IsSound left × IsSound right
+-- what each side of an operator of the tree has still to hand out is normal
+abbrev pub IsSoundNode : Node → Type 0
+IsSoundNode (Fixed span) = IsSingle span
+IsSoundNode (Leaf leaf) = Unit {0}
+IsSoundNode (Between' gaps p inner) = IsSoundNode inner
+IsSoundNode (Two' op x p left y q right) =
+    IsNormal (side_list x (node_list left)) × IsNormal (side_list y (node_list right)) × IsSoundNode left × IsSoundNode right
 
 -- the shape of the tree
 abbrev pub node_shape : Node → Shape
 node_shape (Fixed span) = fixed
 node_shape (Leaf leaf) = runs (runs_basic leaf) (runs_horizon leaf)
 node_shape (Between' gaps p inner) = between (node_shape inner)
-node_shape (Two' sweep p left q right) = two (node_shape left) (node_shape right)
+node_shape (Two' op x p left y q right) = two (node_shape left) (node_shape right)
 
 -- how many nodes the tree has; how many the longest way down has; the sum of the work of its runs
 abbrev pub node_count : Node → ℕ
@@ -50,7 +51,7 @@ abbrev pub node_ticks : Node → ℕ
 node_ticks (Fixed span) = 0
 node_ticks (Leaf leaf) = runs_ticks leaf
 node_ticks (Between' gaps p inner) = node_ticks inner
-node_ticks (Two' sweep p left q right) = node_ticks left + node_ticks right
+node_ticks (Two' op x p left y q right) = node_ticks left + node_ticks right
 
 -- the sum of the work of the basic domains of an expression in a horizon
 abbrev pub expr_work : Expr → Horizon → ℕ

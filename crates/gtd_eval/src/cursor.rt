@@ -2,13 +2,13 @@
 
 ghost use Rattle.std.specs.Prelude.{◌≡◌, ◌≤◌};
 ghost use Rattle.gtd_core.specs.Limits.{most_nodes};
-ghost use Rattle.gtd_eval.specs.Nodes.{node_list, node_count, IsSound};
-ghost use Rattle.gtd_eval.specs.facts.NodeFacts.{node_list-normal, IsSound-prop};
+ghost use Rattle.gtd_eval.specs.Nodes.{node_list, node_count, IsSoundNode};
+ghost use Rattle.gtd_eval.specs.facts.NodeFacts.{node_list-normal, IsSoundNode-prop};
 
 use crate::node::Node;
 use gtd_core::{Domain, Expr, Horizon, Op, Span};
 use gtd_recur::Runs;
-use gtd_spans::{Gaps, SpanSource, Sweep};
+use gtd_spans::{Gaps, Side, SpanSource};
 use std::alloc::{AllocError, Global};
 
 /// A source of the seconds of a domain in a horizon, of those of any of several cursors, or of those that a cursor leaves
@@ -16,7 +16,7 @@ use std::alloc::{AllocError, Global};
 #[derive(Debug, Drop)]
 pub struct Cursor {
     node: Node,
-    ghost sound: { IsSound node } by { IsSound-prop node },
+    ghost sound: { IsSoundNode node } by { IsSoundNode-prop node },
     ghost small: { node_count node ≤ most_nodes },
 }
 
@@ -56,6 +56,15 @@ impl Cursor {
 
     /// The cursor of the seconds of a domain in a horizon. For k basic domains it has 2k - 1 nodes. Its tree is balanced
     /// over each chain of one operator: one chain of 2^k basic domains makes a tree of at most k + 1 levels.
+    ///
+    /// ```
+    /// let domain = read_domain(alloc, b"[(h10){h4}]")?;
+    /// // From 2024-01-01 up to the next day.
+    /// let horizon = Horizon::new(19_723, 19_724).expect(&rt, "a horizon");
+    /// let mut cursor = Cursor::open(alloc, &domain, horizon)?;
+    /// let span = Span::new(Sec(1_704_103_200), Sec(1_704_117_600));
+    /// assert_eq!(rt; cursor.next(), span);
+    /// ```
     pub fn open(alloc: Global, domain: &Domain, horizon: Horizon) -> Result<Cursor, AllocError>
         ensures normal { IfOk result
             (λ c. IsNormalOver (InDomain domain.now) horizon (cursor_list c)) }
@@ -183,7 +192,7 @@ impl Cursor {
         let left = Cursor::join_last(alloc, op, cursors, count - half)?;
         let left = Box::new(alloc, left)?;
         let right = Box::new(alloc, right)?;
-        Ok(Node::Two(Sweep::new(op), left, right))
+        Ok(Node::Two(op, Side::Open, left, Side::Open, right))
     }
 
     /// The cursor of the seconds of a horizon that another cursor over it does not have. It has one node more, and the

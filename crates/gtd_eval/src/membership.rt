@@ -12,6 +12,13 @@ use gtd_core::{Domain, Expr, Op, Sec};
 use gtd_recur::{covers, is_weekly as is_basic_weekly};
 
 /// Whether the domain contains the second, which is on a day that a horizon may have. Takes no memory.
+///
+/// ```
+/// let domain = read_domain(alloc, b"[(M5h10){h1}]")?;
+/// // 2024-05-17T10:59:59, and the next second.
+/// assert!(rt; holds(&domain, Sec(1_715_943_599)));
+/// assert!(rt; !holds(&domain, Sec(1_715_943_600)));
+/// ```
 pub fn holds(domain: &Domain, second: Sec) -> bool
     requires in_range { IsHorizonSecond second.0 }
     ensures member { IsTrue result ↔ InDomain domain.now second.0 }

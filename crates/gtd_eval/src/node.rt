@@ -1,16 +1,18 @@
-//! Trees of sweeps, which hand out spans one after another.
+//! Trees of operators, which hand out spans one after another.
 
 ghost use Rattle.std.specs.Prelude.{◌≡◌};
 ghost use Rattle.gtd_core.specs.Limits.{most_nodes};
 ghost use Rattle.gtd_spans.specs.Gaps.{gaps_left};
-ghost use Rattle.gtd_spans.specs.Sweeping.{still, Fits, Takes};
-ghost use Rattle.gtd_eval.specs.Nodes.{node_list, node_shape, IsSound};
+ghost use Rattle.gtd_core.specs.declared.domain.Op.TheVariants.{Union, Meet, Minus};
+ghost use Rattle.gtd_spans.specs.Normal.{IsNormal, combine};
+ghost use Rattle.gtd_spans.specs.Sides.{side_list, told_list, ComesFirst, Takes};
+ghost use Rattle.gtd_eval.specs.Nodes.{node_list, node_shape, IsSoundNode};
 
-use gtd_core::Span;
+use gtd_core::{Op, Span};
 use gtd_recur::Runs;
-use gtd_spans::{Ask, Gaps, SpanSource, Sweep};
+use gtd_spans::{Gaps, Side, SpanSource, cut, first_of, longer, share};
 
-/// A tree of sweeps over fixed spans and the runs of basic domains. A node is of a fixed size and holds no collection.
+/// A tree of operators over fixed spans and the runs of basic domains. A node is of a fixed size and holds no collection.
 #[derive(Debug, Drop)]
 pub enum Node {
     /// One span, or none.
@@ -19,20 +21,20 @@ pub enum Node {
     Leaf(Runs),
     /// What the spans of a tree leave of a range of seconds.
     Between(Gaps, Box<Node>),
-    /// A sweep over a left and a right side.
-    Two(Sweep, Box<Node>, Box<Node>),
+    /// An operator over a left and a right side: what is known of each, and its tree.
+    Two(Op, Side, Box<Node>, Side, Box<Node>),
 }
 
 impl Node {
     ghost use Rattle.std.specs.Prelude.{◌≡◌, ◌≤◌};
-    ghost use Rattle.gtd_spans.specs.Sweeping.{Takes};
-    ghost use Rattle.gtd_eval.specs.Nodes.{node_list, node_shape, node_count, node_work, IsSound, node_ticks};
+    ghost use Rattle.gtd_spans.specs.Sides.{Takes};
+    ghost use Rattle.gtd_eval.specs.Nodes.{node_list, node_shape, node_count, node_work, IsSoundNode, node_ticks};
 
     /// Takes the first span off the list that is still to come.
     #[cycle(next)]
     pub(crate) fn next(&mut self) -> Option<Span>
-        requires sound { IsSound self.old }
-        ensures sound { IsSound self.new }
+        requires sound { IsSoundNode self.old }
+        ensures sound { IsSoundNode self.new }
         ensures takes { Takes (node_list self.old) result (node_list self.new) }
         ensures shape { node_shape self.new ≡ node_shape self.old }
     {
@@ -40,7 +42,11 @@ impl Node {
             Node::Fixed(span) => span.take(),
             Node::Leaf(runs) => runs.next(),
             Node::Between(gaps, inner) => next_gap(gaps, inner),
-            Node::Two(sweep, left, right) => next_of_two(sweep, left, right),
+            Node::Two(op, x, left, y, right) => match *op {
+                Op::Union => next_of_either(x, left, y, right),
+                Op::Meet => next_of_both(x, left, y, right),
+                Op::Minus => next_of_left(x, left, y, right),
+            },
         }
     }
 
@@ -52,7 +58,7 @@ impl Node {
         match self {
             Node::Fixed(_) | Node::Leaf(_) => 1,
             Node::Between(_, inner) => 1 + inner.count(),
-            Node::Two(_, left, right) => 1 + left.count() + right.count(),
+            Node::Two(_, _, left, _, right) => 1 + left.count() + right.count(),
         }
     }
 
@@ -66,7 +72,7 @@ impl Node {
             Node::Fixed(_) => 0,
             Node::Leaf(runs) => runs.ticks(),
             Node::Between(_, inner) => inner.ticks(),
-            Node::Two(_, left, right) => left.ticks() + right.ticks(),
+            Node::Two(_, _, left, _, right) => left.ticks() + right.ticks(),
         }
     }
 }
@@ -74,8 +80,8 @@ impl Node {
 // The next gap between the spans of a tree.
 #[cycle(next)]
 fn next_gap(gaps: &mut Gaps, inner: &mut Node) -> Option<Span>
-    requires sound { IsSound inner.old }
-    ensures sound { IsSound inner.new }
+    requires sound { IsSoundNode inner.old }
+    ensures sound { IsSoundNode inner.new }
     ensures takes { Takes (gaps_left gaps.old (node_list inner.old)) result (gaps_left gaps.new (node_list inner.new)) }
     ensures shape { node_shape inner.new ≡ node_shape inner.old }
 {
@@ -87,32 +93,106 @@ fn next_gap(gaps: &mut Gaps, inner: &mut Node) -> Option<Span>
     gaps.last()
 }
 
-// The next span of a sweep over two sides.
+// The span that comes next on a side, which is asked for where it is not known.
 #[cycle(next)]
-fn next_of_two(sweep: &mut Sweep, left: &mut Node, right: &mut Node) -> Option<Span>
-    requires fits { Fits sweep.old (node_list left.old) (node_list right.old) }
-    requires left_sound { IsSound left.old }
-    requires right_sound { IsSound right.old }
-    ensures fits { Fits sweep.new (node_list left.new) (node_list right.new) }
-    ensures left_sound { IsSound left.new }
-    ensures right_sound { IsSound right.new }
-    ensures takes { Takes (still sweep.old (node_list left.old) (node_list right.old)) result
-        (still sweep.new (node_list left.new) (node_list right.new)) }
+fn ahead(side: &mut Side, node: &mut Node) -> Option<Span>
+    requires sound { IsSoundNode node.old }
+    ensures sound { IsSoundNode node.new }
+    ensures shape { node_shape node.new ≡ node_shape node.old }
+    ensures comes { ComesFirst result side.new }
+    ensures list { told_list result (node_list node.new) ≡ side_list side.old (node_list node.old) }
+{
+    if side.is_open() {
+        let told = node.next();
+        *side = Side::told(told);
+        return side.held();
+    }
+    side.held()
+}
+
+// The next span of what is on either side.
+#[cycle(next)]
+fn next_of_either(x: &mut Side, left: &mut Node, y: &mut Side, right: &mut Node) -> Option<Span>
+    requires left_sound { IsSoundNode left.old }
+    requires right_sound { IsSoundNode right.old }
+    requires left_normal { IsNormal (side_list x.old (node_list left.old)) }
+    requires right_normal { IsNormal (side_list y.old (node_list right.old)) }
+    ensures left_sound { IsSoundNode left.new }
+    ensures right_sound { IsSoundNode right.new }
+    ensures left_normal { IsNormal (side_list x.new (node_list left.new)) }
+    ensures right_normal { IsNormal (side_list y.new (node_list right.new)) }
+    ensures takes { Takes (combine Union (side_list x.old (node_list left.old)) (side_list y.old (node_list right.old))) result
+        (combine Union (side_list x.new (node_list left.new)) (side_list y.new (node_list right.new))) }
+    ensures left_shape { node_shape left.new ≡ node_shape left.old }
+    ensures right_shape { node_shape right.new ≡ node_shape right.old }
+{
+    let on_left = ahead(x, left);
+    let on_right = ahead(y, right);
+    let mut joined = first_of(on_left, on_right)?;
+    loop {
+        if let Some(span) = longer(joined, x.held()) {
+            joined = span;
+            let told = left.next();
+            *x = Side::told(told);
+        } else if let Some(span) = longer(joined, y.held()) {
+            joined = span;
+            let told = right.next();
+            *y = Side::told(told);
+        } else {
+            return Some(joined);
+        }
+    }
+}
+
+// The next span of what is on both sides.
+#[cycle(next)]
+fn next_of_both(x: &mut Side, left: &mut Node, y: &mut Side, right: &mut Node) -> Option<Span>
+    requires left_sound { IsSoundNode left.old }
+    requires right_sound { IsSoundNode right.old }
+    requires left_normal { IsNormal (side_list x.old (node_list left.old)) }
+    requires right_normal { IsNormal (side_list y.old (node_list right.old)) }
+    ensures left_sound { IsSoundNode left.new }
+    ensures right_sound { IsSoundNode right.new }
+    ensures left_normal { IsNormal (side_list x.new (node_list left.new)) }
+    ensures right_normal { IsNormal (side_list y.new (node_list right.new)) }
+    ensures takes { Takes (combine Meet (side_list x.old (node_list left.old)) (side_list y.old (node_list right.old))) result
+        (combine Meet (side_list x.new (node_list left.new)) (side_list y.new (node_list right.new))) }
     ensures left_shape { node_shape left.new ≡ node_shape left.old }
     ensures right_shape { node_shape right.new ≡ node_shape right.old }
 {
     loop {
-        match sweep.step() {
-            Ask::Left => {
-                let told = left.next();
-                sweep.tell(told);
-            }
-            Ask::Right => {
-                let told = right.next();
-                sweep.tell(told);
-            }
-            Ask::Give(span) => return Some(span),
-            Ask::End => return None,
+        let on_left = ahead(x, left)?;
+        let on_right = ahead(y, right)?;
+        if let Some(both) = share(x, y, on_left, on_right) {
+            return Some(both);
+        }
+    }
+}
+
+// The next span of what is on the left side and not on the right one.
+#[cycle(next)]
+fn next_of_left(x: &mut Side, left: &mut Node, y: &mut Side, right: &mut Node) -> Option<Span>
+    requires left_sound { IsSoundNode left.old }
+    requires right_sound { IsSoundNode right.old }
+    requires left_normal { IsNormal (side_list x.old (node_list left.old)) }
+    requires right_normal { IsNormal (side_list y.old (node_list right.old)) }
+    ensures left_sound { IsSoundNode left.new }
+    ensures right_sound { IsSoundNode right.new }
+    ensures left_normal { IsNormal (side_list x.new (node_list left.new)) }
+    ensures right_normal { IsNormal (side_list y.new (node_list right.new)) }
+    ensures takes { Takes (combine Minus (side_list x.old (node_list left.old)) (side_list y.old (node_list right.old))) result
+        (combine Minus (side_list x.new (node_list left.new)) (side_list y.new (node_list right.new))) }
+    ensures left_shape { node_shape left.new ≡ node_shape left.old }
+    ensures right_shape { node_shape right.new ≡ node_shape right.old }
+{
+    loop {
+        let on_left = ahead(x, left)?;
+        let Some(on_right) = ahead(y, right) else {
+            *x = Side::Open;
+            return Some(on_left);
+        };
+        if let Some(part) = cut(x, y, on_left, on_right) {
+            return Some(part);
         }
     }
 }

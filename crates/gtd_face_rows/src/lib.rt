@@ -4,7 +4,7 @@
 ghost use Rattle.std.specs.Prelude.{◌≡◌, ◌<◌, ◌≤◌, ◌↔◌, IsTrue, OnOk};
 ghost use Rattle.gtd_roads.specs.Closing.{IsClosed};
 ghost use Rattle.gtd_roads.specs.Seconds.{IsHorizonSecond};
-ghost use Rattle.gtd_roads.specs.Subjects.{IsVehicleType};
+ghost use Rattle.gtd_roads.specs.Run.{IsVehicleType};
 ghost use Rattle.gtd_roads.specs.Theorem.{Headline, MigrationClaim};
 
 use gtd_roads::{

@@ -288,9 +288,10 @@ fn a_text_whose_reads_are_interrupted(rt: HostRuntime) {
     assert_eq!(rt; input.failures(), 0);
 }
 
-// A reader that fails once.
+// A reader that fails once, by an error of this kind.
 #[derive(Drop)]
 struct Torn {
+    kind: ErrorKind,
     failed: bool,
 }
 
@@ -300,17 +301,79 @@ impl Read for Torn {
             return Ok(0);
         }
         self.failed = true;
-        Err(Error::from(ErrorKind::Other))
+        Err(Error::from(self.kind))
     }
 }
+
+// Every error but an interruption is a failure.
+const FAILURES: [ErrorKind; 6] = [
+    ErrorKind::Other,
+    ErrorKind::TimedOut,
+    ErrorKind::WouldBlock,
+    ErrorKind::UnexpectedEof,
+    ErrorKind::InvalidData,
+    ErrorKind::BrokenPipe,
+];
 
 #[test]
 fn a_read_that_fails(rt: HostRuntime) {
     let mut buffer = [0u8; 100];
-    let mut input = Host::new(Torn { failed: false });
-    assert_eq!(rt; input.pull(&mut buffer), Pull::Failed);
-    assert_eq!(rt; input.pull(&mut buffer), Pull::Done);
-    assert_eq!(rt; input.failures(), 1);
+    for kind in FAILURES {
+        let mut input = Host::new(Torn {
+            kind,
+            failed: false,
+        });
+        assert_eq!(rt; input.pull(&mut buffer), Pull::Failed);
+        assert_eq!(rt; input.pull(&mut buffer), Pull::Done);
+        assert_eq!(rt; input.failures(), 1);
+    }
+}
+
+// An input that is at its end, and keeps how many bytes were asked for.
+#[derive(Drop)]
+struct Asked {
+    asked: usize,
+}
+
+impl Input for Asked {
+    ghost failure_count = { λ _. 0 };
+
+    fn pull(&mut self, into: &mut [u8]) -> Pull {
+        self.asked = into.len();
+        Pull::Done
+    }
+
+    fn failures(&self) -> u64 {
+        0
+    }
+}
+
+#[test]
+fn bytes_that_are_asked_for(rt: HostRuntime) -> Result<(), Fail> {
+    let mut input = Asked { asked: 0 };
+    assert!(rt; read_whole(rt.alloc(), &mut input, 88)?.is_empty());
+    assert_eq!(rt; input.asked, 4096);
+    Ok(())
+}
+
+// The first pull of an input in memory gives the least of the piece, the buffer and all bytes.
+#[test]
+fn pieces_of_an_input(rt: HostRuntime) -> Result<(), Fail> {
+    let mut buffer = [0u8; 100];
+    for (piece, length) in [
+        (1usize, 1usize),
+        (7, 7),
+        (87, 87),
+        (88, 88),
+        (89, 88),
+        (usize::MAX, 88),
+    ] {
+        let bytes = Vec::from_slice(rt.alloc(), R.as_bytes())?;
+        let mut input = MemoryIn::new(bytes, piece, None, None);
+        assert_eq!(rt; input.pull(&mut buffer), Pull::Got(length));
+        assert_eq!(rt; &buffer[..length.min(100)], &R.as_bytes()[..length.min(88)]);
+    }
+    Ok(())
 }
 
 #[test]

@@ -8,6 +8,8 @@ mod devices;
 #[cfg(test)]
 mod eval;
 #[cfg(test)]
+mod large;
+#[cfg(test)]
 mod lists;
 #[cfg(test)]
 mod recur;
@@ -19,3 +21,5 @@ mod roads;
 mod spans;
 #[cfg(test)]
 mod text;
+#[cfg(test)]
+mod values;

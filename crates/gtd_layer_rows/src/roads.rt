@@ -151,6 +151,40 @@ fn vehicles_of_version_2(rt: HostRuntime) {
     }
 }
 
+// A list of all but two closes for each other type.
+#[test]
+fn all_but_two_vehicles(rt: HostRuntime) {
+    let records = accepted(&rt, rt.alloc(), &for_vehicles("!12;11"));
+    for vehicle in 1u8..100 {
+        for direction in [Direction::Positive, Direction::Negative] {
+            let closed = records.closed_at(17, direction, vehicle, Sec(APRIL));
+            assert_eq!(rt; closed, vehicle != 11 && vehicle != 12, "{vehicle}");
+        }
+    }
+}
+
+#[test]
+fn a_file_byte_by_byte(rt: HostRuntime) -> Result<(), Fail> {
+    let alloc = rt.alloc();
+    let bytes = Vec::from_slice(alloc, R.as_bytes())?;
+    let records = read_records(alloc, &mut MemoryIn::new(bytes, 1, None, None))?;
+    assert_eq!(rt; records.elements(), [17u64].as_slice());
+    assert_eq!(rt; records.rows().len(), 2);
+    Ok(())
+}
+
+#[test]
+fn great_elements(rt: HostRuntime) {
+    let rows = b"9999999999,both,0,\n7000000001,both,0,\n4294967296,both,0,\n".as_slice();
+    let records = accepted(&rt, rt.alloc(), &[HEADER.as_bytes(), rows]);
+    let elements = [4_294_967_296u64, 7_000_000_001, 9_999_999_999];
+    assert_eq!(rt; records.elements(), elements.as_slice());
+    for element in elements {
+        let closed = records.closed_at(element, Direction::Negative, 1, Sec(APRIL));
+        assert!(rt; closed, "{element}");
+    }
+}
+
 #[test]
 fn what_closes(rt: HostRuntime) {
     let records = accepted(&rt, rt.alloc(), &[R.as_bytes()]);

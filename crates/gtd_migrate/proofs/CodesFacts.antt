@@ -12,7 +12,7 @@ use Rattle.std.proofs.lemmas.Fmt.{decimal_is_IsNumeral, decimal_nonempty, length
 use Rattle.std.proofs.lemmas.List.{append-nil}
 use Rattle.std.proofs.lemmas.List.Splits.{length-slice_split, slice_split_at, slice_split_none}
 use Rattle.gtd_records.specs.facts.NumberFacts.{number_below}
-use Rattle.gtd_records.specs.Columns.{code_of, number_of, IsAscending, IsOrdered, and_code, codes_of, is_zero, items_of}
+use Rattle.gtd_records.specs.Columns.{code_of, number_of, IsSortedSet, IsOrdered, and_code, codes_of, is_zero, items_of}
 use Rattle.gtd_records.specs.Columns.{types_listed, named, single, type_of, vehicles_of}
 use Rattle.gtd_records.specs.declared.vehicles.Vehicles.{Vehicles}
 use Rattle.gtd_records.specs.declared.vehicles.Vehicles.TheVariants.{Every, Only, AllBut}
@@ -90,7 +90,7 @@ some_member : (all types : List ℕ) → 0 < length all → ((n : ℕ) → Conta
 some_member [] types h into = absurd (omega arith)
 some_member (x ∷ xs) types h into = let c = into x (0, omega arith, refl) in let l = c.1 in omega arith
 
-is_list : (all types : List ℕ) → AreTypes all → 0 < length all → IsAscending all types → IsList types
+is_list : (all types : List ℕ) → AreTypes all → 0 < length all → IsSortedSet all types → IsList types
 is_list all types are some is = record {
   order = is.order;
   some = some_member all types some (λ n. (is.same n).1);
@@ -259,7 +259,7 @@ vehicles_read (AllBut []) is = absurd (let s = is.some in omega arith)
 vehicles_read (AllBut (x ∷ rest)) is =
     rw (mark_not_zero (codes_text (x ∷ rest))) (ap (option_map AllBut) (list_read x rest is.each))
 
-itself : (types : List ℕ) → IsStrictlyIncreasing types → IsAscending types types
+itself : (types : List ℕ) → IsStrictlyIncreasing types → IsSortedSet types types
 itself types order = record { order = order; same = λ code. (λ c. c, λ c. c) }
 
 pub ordered_itself : (v : Vehicles) → IsNamed v → IsOrdered v v

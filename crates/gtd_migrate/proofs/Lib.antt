@@ -4,3 +4,4 @@ pub mod TextFacts
 pub mod CodesFacts
 pub mod MigrateFacts
 pub mod ClaimFacts
+pub mod CutFacts

@@ -14,7 +14,7 @@ use Rattle.gtd_core.specs.declared.domain.Op.{Op}
 use Rattle.gtd_core.specs.declared.domain.Op.TheVariants.{Union, Meet, Minus}
 use Rattle.gtd_core.specs.Ranges.{HasSixDigits, IsStart, IsWithin}
 use Rattle.gtd_core.specs.Trees.{Tree, Single, Joined, AreValid, leaf_count}
-use Rattle.gtd_text.specs.Canonical.{canonical, clock_fields, day_fields, duration_text, field_text, month_fields}
+use Rattle.gtd_text.specs.Canonical.{canonical, clock_fields, day_and_weekday_fields, duration_text, field_text, month_fields}
 use Rattle.gtd_text.specs.Canonical.{number_text, numbers_text, or_zero, place_fields, place_text, sign_text, start_text}
 use Rattle.gtd_text.specs.Canonical.{weekday_text, weekdays_text, year_text}
 
@@ -63,10 +63,10 @@ three_short a b c k l m p q r = joined_short (a ++ b) c (k + l) m (joined_short 
 
 -- the fields of a start have at most 43 bytes
 start_short : (start : StartParts) → IsStart start → length (start_text start) ≤ 43
-unfolding start_text month_fields place_fields day_fields clock_fields
+unfolding start_text month_fields place_fields day_and_weekday_fields clock_fields
 start_short s h =
-    joined_short (month_fields s ++ place_fields s ++ day_fields s) (clock_fields s) 34 9
-    (three_short (month_fields s) (place_fields s) (day_fields s) 11 6 17
+    joined_short (month_fields s ++ place_fields s ++ day_and_weekday_fields s) (clock_fields s) 34 9
+    (three_short (month_fields s) (place_fields s) (day_and_weekday_fields s) 11 6 17
     (three_short (year_text s.year) (field_text (codes "M") s.month) (field_text (codes "w") s.week) 5 3 3 (year_short s.year)
     (field_short (codes "M") 1 12 s.month (omega arith) (omega arith) h.month)
     (field_short (codes "w") 1 53 s.week (omega arith) (omega arith) h.week))

@@ -22,9 +22,8 @@ use Rattle.gtd_records.specs.facts.OneAnswer.{one_file}
 use Rattle.gtd_records.specs.facts.RowFacts.{full_row}
 use Rattle.gtd_records.specs.Columns.{closed_of, number_of, Fields, IsOrdered, AreTypesRead, vehicles_of}
 use Rattle.gtd_core.specs.Limits.{most_file_bytes, most_rows}
-use Rattle.gtd_records.specs.File.{AreRecords, IsFile, IsTable, header}
+use Rattle.gtd_records.specs.File.{AreRecords, IsFile, IsTable, header, IsDomainColumn, IsFullRow, IsRow, with_domain}
 use Rattle.gtd_records.specs.Closing.{Restriction}
-use Rattle.gtd_records.specs.Row.{IsDomainColumn, IsFullRow, IsRow, with_domain}
 use Rattle.gtd_records.specs.declared.direction.Closed.{Closed}
 use Rattle.gtd_records.specs.declared.direction.Closed.TheVariants.{One, Both}
 use Rattle.gtd_records.specs.declared.direction.Direction.TheVariants.{Positive, Negative}
@@ -128,13 +127,13 @@ table_few text found (inl t) =
     omega arith
 table_few text found (inr t) = absurd (cc (t.1))
 
-file_few : (bytes : List ℕ) (found : List Restriction) → IsFile bytes (Ok found) → length found ≤ most_rows
+pub file_few : (bytes : List ℕ) (found : List Restriction) → IsFile bytes (Ok found) → length found ≤ most_rows
 file_few bytes found (inl f) = table_few _ found f.1
 file_few bytes found (inr f) = absurd (cc (f.1))
 
 -- ---- a row is read as its restriction
 
-closed_plain : (closed : Closed) → IsPlain (closed_word closed)
+pub closed_plain : (closed : Closed) → IsPlain (closed_word closed)
 closed_plain (One Positive) = refl
 closed_plain (One Negative) = refl
 closed_plain Both = refl
@@ -144,7 +143,7 @@ closed_read (One Positive) = refl
 closed_read (One Negative) = refl
 closed_read Both = refl
 
-domain_plain : (domain : Option Tree) → IfSome domain IsPrintableTree → IsPlain (domain_text domain)
+pub domain_plain : (domain : Option Tree) → IfSome domain IsPrintableTree → IsPlain (domain_text domain)
 domain_plain None is = refl
 domain_plain (Some tree) is = canonical_unquoted tree is.valid
 
@@ -231,10 +230,10 @@ no_mark : (lines : List ℕ) → strip_bom (header_line ++ lines) ≡ header_lin
 unfolding strip_bom
 no_mark lines = refl
 
-written : (found : List Restriction) → text_of (migrated found) ≡ header_line ++ flat_map row_line found
+pub written : (found : List Restriction) → text_of (migrated found) ≡ header_line ++ flat_map row_line found
 written found = ap (λ (l : List ℕ). header_line ++ l) (flat_map-map (λ (line : List ℕ). line) row_line found)
 
-written_is_file : (found : List Restriction) → length found ≤ most_rows → ArePrintable found
+pub written_is_file : (found : List Restriction) → length found ≤ most_rows → ArePrintable found
     → length (header_line ++ flat_map row_line found) ≤ most_file_bytes
     → IsFile (header_line ++ flat_map row_line found) (Ok found)
 written_is_file found few p fits =

@@ -1,6 +1,8 @@
 -- The record file of version 2 that stands for given restrictions, one row for each in their order. A line has its end:
 -- the LF is its last byte.
-use Rattle.std.specs.Prelude.{◌++◌, ℕ, List, [], ◌∷◌, map, flat_map, codes, decimal, Option, Some, None}
+use Rattle.std.specs.Prelude.{◌≡◌, ◌==◌, ◌||◌, ◌++◌, ℕ, Bool, false, List, [], ◌∷◌, map, flat_map, codes, decimal, Option}
+use Rattle.std.specs.Prelude.{Some, None}
+use Rattle.std.specs.List.{list_any}
 use Rattle.gtd_core.specs.Trees.{Tree}
 use Rattle.gtd_text.specs.Canonical.{canonical}
 use Rattle.gtd_records.specs.Closing.{Restriction}
@@ -44,3 +46,23 @@ row_line r =
 -- the header, and one line for each restriction in their order
 abbrev pub migrated : List Restriction → List (List ℕ)
 migrated found = header_line ∷ map row_line found
+
+-- a byte that ends a field, a quoted text or a line: a comma, a quotation mark, a CR or an LF
+abbrev pub is_mark : ℕ → Bool
+is_mark byte = (byte == 44) || (byte == 34) || (byte == 13) || (byte == 10)
+
+-- no byte of the field is such a mark
+abbrev pub IsPlainField : List ℕ → Type 0
+IsPlainField field = list_any is_mark field ≡ false
+
+-- four fields without marks, the commas between them, and an LF
+pub record IsPlainRow (line : List ℕ) : Type 0 where
+  pub element : List ℕ
+  pub direction : List ℕ
+  pub vehicles : List ℕ
+  pub domain : List ℕ
+  pub element_plain : IsPlainField element
+  pub direction_plain : IsPlainField direction
+  pub vehicles_plain : IsPlainField vehicles
+  pub domain_plain : IsPlainField domain
+  pub whole : line ≡ element ++ codes "," ++ direction ++ codes "," ++ vehicles ++ codes "," ++ domain ++ codes "\n"

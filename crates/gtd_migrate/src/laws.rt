@@ -1,13 +1,13 @@
 //! Laws of the definitions: calls that do nothing, and whose contracts are what is proved.
 
-ghost use Rattle.std.specs.Prelude.{◌≡◌, ◌≤◌, ◌==◌, ◌↔◌, ℕ, ℤ, false, List, length, Ok};
+ghost use Rattle.std.specs.Prelude.{◌≡◌, ◌≤◌, ◌==◌, ◌↔◌, ◌++◌, ◌∷◌, map, ℕ, ℤ, false, List, length, Ok};
 ghost use Rattle.std.specs.List.{list_any};
 ghost use Rattle.gtd_core.specs.Limits.{most_file_bytes};
 ghost use Rattle.gtd_records.specs.Closing.{AreElements, IsClosed, IsOpen, Restriction};
 ghost use Rattle.gtd_records.specs.File.{IsFile};
 ghost use Rattle.gtd_records.specs.declared.direction.Direction.{Direction};
 ghost use Rattle.gtd_runs.specs.Putting.{text_of};
-ghost use Rattle.gtd_migrate.specs.Migrated.{migrated};
+ghost use Rattle.gtd_migrate.specs.Migrated.{IsPlainRow, migrated, row_line};
 
 /// The migrated file of a record file is a record file of just the same restrictions, where it has no more bytes than a
 /// record file may have. No field of it needs quotes: it has no quotation mark.
@@ -38,4 +38,18 @@ pub fn migration_changes_nothing()
         IsOpen again element direction vehicle second ↔ IsOpen found element direction vehicle second }
     ensures itself { (bytes : List ℕ) (found again : List Restriction) → IsFile bytes (Ok found)
         → IsFile (text_of (migrated found)) (Ok again) → migrated again ≡ migrated found }
+{}
+
+/// A migrated file can be cut at the end of any line. Each row is one line: its four fields have no comma, quotation mark,
+/// CR or LF of their own. The lines up to a cut, and the header with the lines behind it, are the migrated files of the
+/// restrictions before and behind the cut, and stand for just these; so a row under the header stands for its restriction
+/// alone.
+pub fn migrated_in_parts()
+    ensures lines { (bytes : List ℕ) (one two : List Restriction) (r : Restriction) → IsFile bytes (Ok (one ++ r ∷ two))
+        → IsPlainRow (row_line r) }
+    ensures text { (one two : List Restriction) →
+        text_of (migrated (one ++ two)) ≡ text_of (migrated one) ++ text_of (map row_line two) }
+    ensures parts { (bytes : List ℕ) (one two : List Restriction) → IsFile bytes (Ok (one ++ two))
+        → length (text_of (migrated (one ++ two))) ≤ most_file_bytes
+        → IsFile (text_of (migrated one)) (Ok one) × IsFile (text_of (migrated two)) (Ok two) }
 {}

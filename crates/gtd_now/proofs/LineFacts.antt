@@ -21,7 +21,7 @@ use Rattle.gtd_records.specs.declared.direction.Direction.{Direction}
 use Rattle.gtd_schedule.specs.facts.LineFacts.{length-head}
 use Rattle.gtd_spans.specs.Change.{IsNextChange, NeverChanges}
 use Rattle.gtd_now.proofs.DayFacts.{change_shown}
-use Rattle.gtd_now.specs.Lines.{line_head, none_closes, second_of}
+use Rattle.gtd_now.specs.Lines.{state_head, none_closes, second_of}
 use Rattle.gtd_now.specs.Now.{IsLine, IsLookEnd, change_text, state_line, state_word}
 
 pub on_ok : {T E : Type 0} (r : Result T E) (A B : Type 0) → (A → B) → OnOk r A → OnOk r B
@@ -49,7 +49,7 @@ length-change (Some t) = let l = length-stamp t in omega arith
 -- a line, made part by part
 pub short_line : (element : ℕ) (direction : Direction) (vehicle n : ℕ) (b : Bool) (o : Option ℤ)
     (one two three four five : List ℕ)
-    → element < 2 ^ 64 → vehicle < 256 → one ≡ line_head element direction vehicle → two ≡ one ++ (state_word b ++ (44 ∷ []))
+    → element < 2 ^ 64 → vehicle < 256 → one ≡ state_head element direction vehicle → two ≡ one ++ (state_word b ++ (44 ∷ []))
     → three ≡ two ++ (change_text o ++ (44 ∷ [])) → length four ≤ length three + 21 * n → five ≡ four ++ (10 ∷ [])
     → length five ≤ 100 + 21 * n
 short_line element direction vehicle n b o one two three four five small type e f g rows h =

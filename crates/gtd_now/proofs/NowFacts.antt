@@ -1,17 +1,16 @@
--- What is said of a moment is one text, in parts.
-use Rattle.std.proofs.Common.{◌≡◌, ◌∙◌, sym, ap, refl, subst, arith, inl, inr, ◌↔◌, ℕ, Bool, true, false, List, [], ◌∷◌, ◌++◌}
+-- What is said of a moment is one text.
+use Rattle.std.proofs.Common.{◌≡◌, ◌∙◌, sym, ap, refl, subst, arith, inl, inr, ◌↔◌, ℕ, Bool, true, false, List, [], ◌∷◌}
 use Rattle.std.proofs.Common.{Option, Some, None}
 use Rattle.std.specs.Prelude.{ℤ, pos, ◌*ℤ◌, IsTrue, MatchOption}
 use Rattle.std.proofs.lemmas.Int.{ints, by_lt_z}
 use Rattle.gtd_core.specs.Seconds.{day_of_second}
 use Rattle.gtd_records.specs.facts.Rising.{one_list}
-use Rattle.gtd_records.specs.Closing.{AreElements, IsOpen, Restriction}
+use Rattle.gtd_records.specs.Closing.{IsOpen, Restriction}
 use Rattle.gtd_records.specs.ClosingRows.{AreClosingRows}
 use Rattle.gtd_records.specs.declared.direction.Direction.{Direction}
-use Rattle.gtd_records.specs.declared.direction.Direction.TheVariants.{Positive, Negative}
-use Rattle.gtd_schedule.specs.facts.ScheduleFacts.{one_elements}
-use Rattle.gtd_schedule.specs.facts.TextFacts.{Then, IsOne}
-use Rattle.gtd_now.specs.Now.{AreElementLines, AreLines, AreLinesOf, IsLine, IsLookEnd, IsNow, header_line, state_line}
+use Rattle.gtd_runs.specs.facts.ElementFacts.{one_by_element}
+use Rattle.gtd_runs.specs.Putting.{IsOne}
+use Rattle.gtd_now.specs.Now.{AreLines, IsLine, IsLookEnd, IsNow, header_line, state_line}
 use Rattle.gtd_spans.specs.Change.{IsNextChange, NeverChanges}
 
 -- ---- one line
@@ -68,60 +67,6 @@ module _ (found : List Restriction) (vehicle : ℕ) (second : ℤ) where
   one_lines element direction a b p q =
       p.each ∙ ap (λ (l : List ℕ). l ∷ []) (one_line element direction p.line q.line p.is_line q.is_line) ∙ sym q.each
 
-  -- an element has one list of lines
-  pub one_element_lines : (element : ℕ) → IsOne (AreElementLines found vehicle second element)
-  one_element_lines element a b p q =
-      let x = one_lines element Positive p.positive q.positive p.are_positive q.are_positive in
-      let y = one_lines element Negative p.negative q.negative p.are_negative q.are_negative in
-      p.both ∙ rw (x, y) refl ∙ sym q.both
-
-  -- so have elements
-  pub one_lines_of : (elements : List ℕ) → IsOne (AreLinesOf found vehicle second elements)
-  one_lines_of [] a b p q = p ∙ sym q
-  one_lines_of (e ∷ elements) a b p q =
-      let x = one_element_lines e p.0 q.0 p.2 q.2 in
-      let y = one_lines_of elements p.1 q.1 p.3 q.3 in
-      p.4 ∙ rw (x, y) refl ∙ sym q.4
-
   -- restrictions have one text
   pub one_now : IsOne (IsNow found vehicle second)
-  one_now a b p q =
-      let e = one_elements found p.elements q.elements p.named q.named in
-      let r = one_lines_of q.elements p.rest q.rest (subst (λ (l : List ℕ). AreLinesOf found vehicle second l p.rest) e p.each)
-      q.each in
-      p.whole ∙ ap (λ (l : List (List ℕ)). header_line ∷ l) r ∙ sym q.whole
-
-  -- the lines of an element are those of one direction and then of the other
-  pub element_lines : (element : ℕ) (lines : List (List ℕ))
-      → Then (AreLines found vehicle second element Positive) (AreLines found vehicle second element Negative) lines
-      → AreElementLines found vehicle second element lines
-  element_lines element lines parts =
-      record { positive = parts.0; negative = parts.1; are_positive = parts.2; are_negative = parts.3; both = parts.4 }
-
-  pub element_parts : (element : ℕ) (lines : List (List ℕ)) → AreElementLines found vehicle second element lines
-      → Then (AreLines found vehicle second element Positive) (AreLines found vehicle second element Negative) lines
-  element_parts element lines are = (are.positive, are.negative, are.are_positive, are.are_negative, are.both)
-
-  -- the header alone
-  abbrev pub IsHeader : List (List ℕ) → Type 0
-  IsHeader lines = lines ≡ header_line ∷ []
-
-  pub one_header : IsOne IsHeader
-  one_header a b p q = p ∙ sym q
-
-  -- what is said is the header and then the lines of the elements
-  pub now_lines : (elements : List ℕ) → AreElements found elements → (lines : List (List ℕ))
-      → Then IsHeader (AreLinesOf found vehicle second elements) lines → IsNow found vehicle second lines
-  now_lines elements named lines parts = record {
-    elements = elements;
-    named = named;
-    rest = parts.1;
-    each = parts.3;
-    whole = parts.4 ∙ ap (λ (l : List (List ℕ)). l ++ parts.1) parts.2;
-  }
-
-  pub now_parts : (elements : List ℕ) → AreElements found elements → (lines : List (List ℕ))
-      → IsNow found vehicle second lines → Then IsHeader (AreLinesOf found vehicle second elements) lines
-  now_parts elements named lines is =
-      let e = one_elements found is.elements elements is.named named in
-      (header_line ∷ [], is.rest, refl, subst (λ (l : List ℕ). AreLinesOf found vehicle second l is.rest) e is.each, is.whole)
+  one_now = one_by_element (AreLines found vehicle second) one_lines found header_line

@@ -1,5 +1,5 @@
 -- Restrictions have a text of each moment.
-use Rattle.std.proofs.Common.{◌≡◌, sym, refl, subst, arith, ◌<◌, ◌+◌, ◌⊎◌, inl, inr, ◌↔◌, ℕ, zero, suc, List, [], ◌∷◌, ◌++◌}
+use Rattle.std.proofs.Common.{◌≡◌, sym, refl, subst, arith, ◌<◌, ◌+◌, ◌⊎◌, inl, inr, ◌↔◌, ℕ, zero, suc, List, [], ◌∷◌}
 use Rattle.std.proofs.Common.{length, Option, Some, None}
 use Rattle.std.specs.Prelude.{ℤ, pos, ◌+ℤ◌, ◌-ℤ◌, ◌*ℤ◌, negsuc, ◌≤ℤ◌, ◌<ℤ◌, MatchOption, slice_index_or}
 use Rattle.std.proofs.lemmas.Int.{ints, by_lt_z}
@@ -13,12 +13,11 @@ use Rattle.gtd_core.specs.facts.Deciding.{Decided}
 use Rattle.gtd_records.specs.Closing.{Closes, IsOpen, Restriction}
 use Rattle.gtd_records.specs.ClosingRows.{AreClosingRows}
 use Rattle.gtd_records.specs.declared.direction.Direction.{Direction}
-use Rattle.gtd_records.specs.declared.direction.Direction.TheVariants.{Positive, Negative}
-use Rattle.gtd_schedule.specs.facts.SomeSchedule.{some_elements, sorted}
+use Rattle.gtd_runs.specs.facts.SomeElements.{some_by_element, sorted}
 use Rattle.gtd_spans.specs.Change.{IsNextChange, NeverChanges, SameAt}
 use Rattle.gtd_now.proofs.LineFacts.{open_by_rows}
 use Rattle.gtd_now.specs.Lines.{none_closes}
-use Rattle.gtd_now.specs.Now.{AreElementLines, AreLines, AreLinesOf, IsLookEnd, IsNow, header_line, state_line}
+use Rattle.gtd_now.specs.Now.{AreLines, IsLookEnd, IsNow, header_line, state_line}
 
 -- ---- the end
 
@@ -225,20 +224,6 @@ module _ (found : List Restriction) (vehicle : ℕ) (second : ℤ) (range : IsHo
         },
       )
 
-  some_lines_of : (elements : List ℕ) → (lines : List (List ℕ)) × AreLinesOf found vehicle second elements lines
-  some_lines_of [] = ([], refl)
-  some_lines_of (e ∷ elements) =
-      let p = some_line e Positive in
-      let n = some_line e Negative in
-      let more = some_lines_of elements in
-      let one : AreElementLines found vehicle second e (p.0 ++ n.0) =
-      record { positive = p.0; negative = n.0; are_positive = p.1; are_negative = n.1; both = refl } in
-      ((p.0 ++ n.0) ++ more.0, (p.0 ++ n.0, more.0, one, more.1, refl))
-
--- there is a text
-pub some_now : (found : List Restriction) (vehicle : ℕ) (second : ℤ) → IsHorizonSecond second → (lines : List (List ℕ))
-    × IsNow found vehicle second lines
-some_now found vehicle second range =
-    let e = some_elements found in
-    let l = some_lines_of found vehicle second range e.0 in
-    (header_line ∷ l.0, record { elements = e.0; named = e.1; rest = l.0; each = l.1; whole = refl })
+  -- there is a text
+  pub some_now : (lines : List (List ℕ)) × IsNow found vehicle second lines
+  some_now = some_by_element (AreLines found vehicle second) some_line found header_line

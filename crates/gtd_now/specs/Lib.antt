@@ -3,4 +3,3 @@ pub mod Now
 pub use Rattle.gtd_core.specs.Seconds
 pub use Rattle.gtd_records.specs.Closing
 pub use Rattle.gtd_runs.specs.Run
-pub use Rattle.gtd_runs.specs.Subjects

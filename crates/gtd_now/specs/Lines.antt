@@ -5,8 +5,8 @@ use Rattle.gtd_records.specs.declared.direction.Direction.{Direction}
 use Rattle.gtd_runs.specs.Putting.{direction_word}
 
 -- the element, the direction and the vehicle type, each with its comma
-abbrev pub line_head : ℕ → Direction → ℕ → List ℕ
-line_head element direction vehicle =
+abbrev pub state_head : ℕ → Direction → ℕ → List ℕ
+state_head element direction vehicle =
     decimal element ++ codes "," ++ direction_word direction ++ codes "," ++ decimal vehicle ++ codes ","
 
 -- whether no row closes

@@ -5,11 +5,10 @@ use Rattle.std.specs.Prelude.{◌∷◌, Option, Some, None, MatchOption, flat_m
 use Rattle.gtd_core.specs.Limits.{day_seconds, horizons_end, most_horizon_days}
 use Rattle.gtd_calendar.specs.Stamp.{stamp_text}
 use Rattle.gtd_core.specs.Seconds.{day_of_second}
-use Rattle.gtd_records.specs.Closing.{AreElements, IsOpen, Restriction}
+use Rattle.gtd_records.specs.Closing.{IsOpen, Restriction}
 use Rattle.gtd_records.specs.ClosingRows.{AreClosingRows}
 use Rattle.gtd_records.specs.declared.direction.Direction.{Direction}
-use Rattle.gtd_records.specs.declared.direction.Direction.TheVariants.{Positive, Negative}
-use Rattle.gtd_runs.specs.Putting.{direction_word}
+use Rattle.gtd_runs.specs.Putting.{IsByElement, direction_word}
 use Rattle.gtd_spans.specs.Change.{IsNextChange, NeverChanges}
 
 -- the header line
@@ -65,25 +64,6 @@ module _ (found : List Restriction) (vehicle : ℕ) (second : ℤ) where
     pub is_line : IsLine element direction line
     pub each : lines ≡ line ∷ []
 
-  -- The lines of an element, positive before negative.
-  pub record AreElementLines (element : ℕ) (lines : List (List ℕ)) : Type 0 where
-    pub positive : List (List ℕ)
-    pub negative : List (List ℕ)
-    pub are_positive : AreLines element Positive positive
-    pub are_negative : AreLines element Negative negative
-    pub both : lines ≡ positive ++ negative
-
-  -- the lines of the elements, in their order
-  abbrev pub AreLinesOf : List ℕ → List (List ℕ) → Type 0
-  AreLinesOf [] lines = lines ≡ []
-  AreLinesOf (element ∷ elements) lines =
-      (first : List (List ℕ)) × (rest : List (List ℕ))
-      × AreElementLines element first × AreLinesOf elements rest × (lines ≡ first ++ rest)
-
-  -- The header, and the lines of each element that the restrictions name, in ascending order.
-  pub record IsNow (lines : List (List ℕ)) : Type 0 where
-    pub elements : List ℕ
-    pub named : AreElements found elements
-    pub rest : List (List ℕ)
-    pub each : AreLinesOf elements rest
-    pub whole : lines ≡ header_line ∷ rest
+  -- The header, and the line of each element that the restrictions name, in ascending order and positive before negative.
+  abbrev pub IsNow : List (List ℕ) → Type 0
+  IsNow = IsByElement found header_line AreLines

@@ -4,7 +4,7 @@ ghost use Rattle.std.specs.Prelude.{[], ◌∷◌, ◌≡◌, ◌+◌, ◌*◌, 
 ghost use Rattle.gtd_core.specs.Limits.{most_rows};
 ghost use Rattle.gtd_calendar.specs.Calendar.{IsCalendarDay};
 ghost use Rattle.gtd_core.specs.Seconds.{day_of_second, IsHorizonSecond};
-ghost use Rattle.gtd_now.specs.Lines.{line_head, most_state_bytes, none_closes, second_of};
+ghost use Rattle.gtd_now.specs.Lines.{state_head, most_state_bytes, none_closes, second_of};
 ghost use Rattle.gtd_now.specs.Now.{IsLine, change_text, rows_text, state_line, state_word};
 
 use crate::change::change_of;
@@ -21,7 +21,7 @@ fn write_head(
     direction: Direction,
     vehicle: u8,
 ) -> Result<(), AllocError>
-    ensures head { OnOk result (line.new.items ≡ line_head element direction vehicle) }
+    ensures head { OnOk result (line.new.items ≡ state_head element direction vehicle) }
 {
     line.clear();
     line.extend_from_slice(Buffer::new().format(element).as_bytes())?;

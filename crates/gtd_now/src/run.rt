@@ -4,15 +4,16 @@ ghost use Rattle.std.specs.Prelude.{◌≡◌, ◌<◌, ◌↔◌, ⊤, None, So
 ghost use Rattle.gtd_core.specs.Seconds.{IsHorizonSecond};
 ghost use Rattle.gtd_records.specs.Closing.{Restriction};
 ghost use Rattle.gtd_runs.specs.Run.{AcceptedFilesArePut, HasRun, RefusedFilesPutNothing, failures_after_read};
-ghost use Rattle.gtd_runs.specs.Run.{failures_after_write};
-ghost use Rattle.gtd_runs.specs.Subjects.{IsVehicleType};
-ghost use Rattle.gtd_now.specs.Now.{IsNow};
+ghost use Rattle.gtd_runs.specs.Run.{failures_after_write, IsVehicleType};
+ghost use Rattle.gtd_now.specs.Now.{AreLines, IsNow};
 
-use crate::now::put_now;
+use crate::now::put_state;
 use gtd_core::Sec;
 use gtd_devices::{Input, Output};
-use gtd_records::{RecordFault, Records};
-use gtd_runs::{Progress, Report, RunFault, Stop, Subject, run_report};
+use gtd_records::{Direction, RecordFault, Records};
+use gtd_runs::{
+    ElementLines, Progress, Report, RunFault, Stop, Subject, put_by_element, run_report,
+};
 use std::alloc::Global;
 
 /// The state of each element and direction at a second of the days of horizons, for a vehicle type.
@@ -21,6 +22,33 @@ struct State {
     vehicle: u8,
     second: Sec,
     ghost in_range: { IsHorizonSecond second.0 },
+}
+
+impl ElementLines for State {
+    ghost are_lines = { λ report found. AreLines found report.vehicle report.second.0 };
+
+    fn put_direction<O: Output>(
+        &self,
+        alloc: Global,
+        output: &mut O,
+        progress: &mut Progress,
+        line: &mut Vec<u8>,
+        found: &Records,
+        element: u64,
+        direction: Direction,
+    ) -> Result<(), Stop> {
+        put_state(
+            alloc,
+            output,
+            progress,
+            line,
+            found,
+            element,
+            direction,
+            self.vehicle,
+            self.second,
+        )
+    }
 }
 
 impl Report for State {
@@ -43,7 +71,8 @@ impl Report for State {
         progress: &mut Progress,
         found: &Records,
     ) -> Result<(), Stop> {
-        put_now(alloc, output, progress, found, self.vehicle, self.second)
+        let header = b"element,direction,vehicle,state,until,rows\n";
+        put_by_element(alloc, output, progress, found, header, self)
     }
 }
 

@@ -6,7 +6,7 @@ use Rattle.std.proofs.lemmas.List.Elements.{Contains-append_left, Contains-push,
 use Rattle.gtd_records.specs.facts.IndexFacts.{any_default, by_le, one_record}
 use Rattle.gtd_records.specs.Closing.{Closes, Restriction}
 use Rattle.gtd_records.specs.ClosingRows.{AreClosingRows, IsClosingRow}
-use Rattle.gtd_records.specs.Columns.{IsAscending}
+use Rattle.gtd_records.specs.Columns.{IsSortedSet}
 use Rattle.gtd_records.specs.declared.direction.Direction.{Direction}
 use Rattle.gtd_records.specs.declared.index.Place.{Place}
 
@@ -71,7 +71,7 @@ module _ (rows : List Restriction) (part : List Place) (element : ℕ) (directio
     }
 
   -- all of them
-  pub all_rows : (i : ℕ) (numbers ordered : List ℕ) → AreSoFar i numbers → IsAscending numbers ordered
+  pub all_rows : (i : ℕ) (numbers ordered : List ℕ) → AreSoFar i numbers → IsSortedSet numbers ordered
       → ((row : ℕ) (r : Restriction) → row < length rows → slice_index_or rows row r ≡ r → r.element ≡ element
       → (j : ℕ) × (j < i) × (slice_index_or part j (record { element = r.element; row = row })
       ≡ record { element = r.element; row = row }))

@@ -7,9 +7,8 @@ use Rattle.gtd_core.specs.declared.fault.TextFault.{TextFault}
 use Rattle.gtd_records.specs.facts.OneAnswer.{one_version}
 use Rattle.gtd_records.specs.Columns.{closed_of, number_of, Fields, IsOrdered, vehicles_of}
 use Rattle.gtd_core.specs.Limits.{most_rows}
-use Rattle.gtd_records.specs.File.{AreRecords, IsSound, IsTable, header}
+use Rattle.gtd_records.specs.File.{AreRecords, AreSoundRows, IsTable, header, IsDomainColumn, IsRow, with_domain}
 use Rattle.gtd_records.specs.Closing.{Restriction}
-use Rattle.gtd_records.specs.Row.{IsDomainColumn, IsRow, with_domain}
 use Rattle.gtd_records.specs.declared.direction.Closed.{Closed}
 use Rattle.gtd_records.specs.declared.fault.RecordFault.{RecordFault}
 use Rattle.gtd_records.specs.declared.fault.RecordFault.TheVariants as fault
@@ -96,7 +95,7 @@ parts v n (row ∷ one) two found are =
     }
 
 -- the same the other way
-whole : (v : Version) (n : ℕ) (one two : List Fields) (first second : List Restriction) → AreRecords v n one first
+pub whole : (v : Version) (n : ℕ) (one two : List Fields) (first second : List Restriction) → AreRecords v n one first
     → AreRecords v 1 two second
     → AreRecords v n (one ++ two) (first ++ second)
 whole v n [] two first second p q = rw p (rows_anywhere v 1 n two second q)
@@ -104,22 +103,22 @@ whole v n (row ∷ one) two first second p q =
     (p.0, p.1 ++ second, p.2, whole v (n + 1) one two p.1 second p.3 q, ap (λ (l : List Restriction). l ++ second) p.4)
 
 -- the rows under a header
-same_rows : (v w : Version) (a b : List Fields) → header v ∷ a ≡ header w ∷ b → a ≡ b
+pub same_rows : (v w : Version) (a b : List Fields) → header v ∷ a ≡ header w ∷ b → a ≡ b
 same_rows v w a b e = ap rest e
   where
     rest : List Fields → List Fields
     rest [] = []
     rest (x ∷ xs) = xs
 
-same_header : (v w : Version) (a b : List Fields) → header v ∷ a ≡ header w ∷ b → header v ≡ header w
+pub same_header : (v w : Version) (a b : List Fields) → header v ∷ a ≡ header w ∷ b → header v ≡ header w
 same_header v w a b e = ap top e
   where
     top : List Fields → Fields
     top [] = []
     top (x ∷ xs) = x
 
-sound_of : (v : Version) (rows : List Fields) (found : List Restriction) → IsTable (header v ∷ rows) (Ok found)
-    → IsSound v rows found
+pub sound_of : (v : Version) (rows : List Fields) (found : List Restriction) → IsTable (header v ∷ rows) (Ok found)
+    → AreSoundRows v rows found
 sound_of v rows found (inl t) =
     let one = one_version v t.0 (same_header v t.0 rows t.1 t.2) in
     let same = same_rows v t.0 rows t.1 t.2 in

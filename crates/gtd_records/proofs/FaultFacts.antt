@@ -7,9 +7,8 @@ use Rattle.csv.specs.Reading.{default_config, records, strip_bom}
 use Rattle.csv.specs.declared.reader.Reader.{Reader}
 use Rattle.gtd_records.specs.Faults.{AreFaults, AreFileFaults, AreRowFaults, AreTableFaults, with_fault}
 use Rattle.gtd_core.specs.Limits.{most_file_bytes, most_rows}
-use Rattle.gtd_records.specs.File.{AreRecords, FirstFault, IsFile, IsSound, IsTable, header}
+use Rattle.gtd_records.specs.File.{AreRecords, FirstFault, IsFile, AreSoundRows, IsTable, header, IsRow}
 use Rattle.gtd_records.specs.Closing.{Restriction}
-use Rattle.gtd_records.specs.Row.{IsRow}
 use Rattle.gtd_records.specs.Table.{HasLeft, TakesFirst}
 use Rattle.gtd_records.specs.Columns.{Fields}
 use Rattle.gtd_records.specs.declared.fault.RecordFault.{RecordFault}
@@ -113,7 +112,7 @@ listed_first (x ∷ xs) rest why e = inr (
     head : (a b : RecordFault) (xs ys : List RecordFault) → a ∷ xs ≡ b ∷ ys → a ≡ b
     head a b xs ys h = cc
 
-none_of_rows : (v : Version) (rows : List Fields) → AreFaults v rows [] → (found : List Restriction) × IsSound v rows found
+none_of_rows : (v : Version) (rows : List Fields) → AreFaults v rows [] → (found : List Restriction) × AreSoundRows v rows found
 none_of_rows v rows (inl p) = let n = none_is v 1 rows [] refl p.1 in (n.0, (p.0, n.1))
 none_of_rows v rows (inr p) = let l = ap length p.whole ∙ length-append p.listed (fault.TooManyRows ∷ []) in
     absurd (omega (arith, l))

@@ -8,3 +8,7 @@ pub mod FaultFacts
 pub mod ListedFacts
 pub mod CutBytes
 pub mod CutFile
+pub mod CutFaults
+pub mod DomainTexts
+pub mod SortedCodes
+pub mod EachFile

@@ -97,20 +97,20 @@ vehicles_of version.One text = if is_zero (code_of text) then Some Every else si
 vehicles_of version.Two text = if is_zero (code_of text) then Some Every else types_listed text
 
 -- the same codes, ascending and each once
-pub record IsAscending (codes types : List ℕ) : Type 0 where
+pub record IsSortedSet (codes types : List ℕ) : Type 0 where
   pub order : IsStrictlyIncreasing types
   pub same : (code : ℕ) → Contains types code ↔ Contains codes code
 
 -- the same types, the codes ascending and each once
 abbrev pub IsOrdered : Vehicles → Vehicles → Type 0
 IsOrdered Every vehicles = vehicles ≡ Every
-IsOrdered (Only codes) vehicles = (types : List ℕ) × IsAscending codes types × (vehicles ≡ Only types)
-IsOrdered (AllBut codes) vehicles = (types : List ℕ) × IsAscending codes types × (vehicles ≡ AllBut types)
+IsOrdered (Only codes) vehicles = (types : List ℕ) × IsSortedSet codes types × (vehicles ≡ Only types)
+IsOrdered (AllBut codes) vehicles = (types : List ℕ) × IsSortedSet codes types × (vehicles ≡ AllBut types)
 
 -- a list was read as these codes, ascending and each once
 abbrev pub IsCodes : Option (List ℕ) → Option (List ℕ) → Type 0
 IsCodes None read = read ≡ None
-IsCodes (Some codes) read = (types : List ℕ) × IsAscending codes types × (read ≡ Some types)
+IsCodes (Some codes) read = (types : List ℕ) × IsSortedSet codes types × (read ≡ Some types)
 
 -- what a column names was read so
 abbrev pub AreTypesRead : Option Vehicles → Option Vehicles → Type 0

@@ -13,13 +13,13 @@ use Rattle.gtd_records.specs.declared.direction.Direction.{Direction}
 use Rattle.gtd_records.specs.declared.index.Place.{Place}
 
 -- the place's row is a restriction of its element
-abbrev pub IsPlace : List Restriction → Place → Type 0
-IsPlace rows p = (r : Restriction) × (p.row < length rows) × (slice_index_or rows p.row r ≡ r) × (r.element ≡ p.element)
+abbrev pub IsPlaceOfRow : List Restriction → Place → Type 0
+IsPlaceOfRow rows p = (r : Restriction) × (p.row < length rows) × (slice_index_or rows p.row r ≡ r) × (r.element ≡ p.element)
 
 -- the places of all rows, by element
 pub record ArePlaces (rows : List Restriction) (places : List Place) : Type 0 where
   pub sorted : IsNonDecreasingBy (λ (p : Place). p.element) places
-  pub sound : All (IsPlace rows) places
+  pub sound : All (IsPlaceOfRow rows) places
   pub each : (k : ℕ) (r : Restriction) → k < length rows → slice_index_or rows k r ≡ r
       → Contains places (record { element = r.element; row = k })
   pub many : length places ≡ length rows

@@ -7,7 +7,6 @@ pub mod File
 pub mod Index
 pub mod Reading
 pub mod RecordFaultNames
-pub mod Row
 pub mod Table
 pub mod facts
 pub use Rattle.gtd_core.specs.Seconds

@@ -7,12 +7,13 @@ ghost use Rattle.csv.specs.Records.{fields_of};
 ghost use Rattle.gtd_records.specs.Faults.{AreFaults, AreFileFaults, AreTableFaults};
 ghost use Rattle.gtd_devices.specs.WholeInput.{failures_after_whole};
 ghost use Rattle.gtd_records.specs.Closing.{Restriction};
-ghost use Rattle.gtd_records.specs.Row.{IsRow};
+ghost use Rattle.gtd_records.specs.File.{IsRow};
 ghost use Rattle.gtd_records.specs.Table.{HasLeft};
 ghost use Rattle.gtd_records.specs.Columns.{Fields};
 
 use crate::fault::RecordFault;
 use crate::file::version_of;
+use crate::known::KnownTexts;
 use crate::row::read_row;
 use crate::table::{next_row, table};
 use crate::vehicles::Version;
@@ -24,6 +25,7 @@ use std::alloc::{AllocError, Global};
 // The fault of the row with this number, or `None` where it stands for a restriction.
 fn fault_of(
     alloc: Global,
+    known: &mut KnownTexts,
     version: Version,
     number: u32,
     row: &ByteRecord,
@@ -32,7 +34,7 @@ fn fault_of(
         ((r : Restriction) × IsRow version number (fields_of row.now) (Ok r))
         (λ why. IsRow version number (fields_of row.now) (Err why))) }
 {
-    match read_row(alloc, version, number, row) {
+    match read_row(alloc, known, version, number, row) {
         Ok(_) => Ok(None),
         Err(RecordFault::NoMemory) => Err(AllocError),
         Err(why) => Ok(Some(why)),
@@ -49,12 +51,13 @@ fn faults_of_rows(
     ensures { (rows : List Fields) → HasLeft (λ source. Some source.now) reader.old rows
         → IfOk result (λ faults. AreFaults version rows faults.items) }
 {
+    let mut known = KnownTexts::new(alloc);
     let mut faults = Vec::new(alloc);
     for number in 1..MOST_ROWS + 1 {
         if !next_row(reader, row)? {
             return Ok(faults);
         }
-        match fault_of(alloc, version, number, row)? {
+        match fault_of(alloc, &mut known, version, number, row)? {
             Some(why) => faults.push(why)?,
             None => {}
         }

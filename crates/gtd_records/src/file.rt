@@ -10,6 +10,7 @@ ghost use Rattle.gtd_records.specs.Columns.{Fields};
 ghost use Rattle.gtd_records.specs.declared.vehicles.Version.{Version};
 
 use crate::fault::RecordFault;
+use crate::known::KnownTexts;
 use crate::record::Record;
 use crate::row::{four_columns, read_row};
 use crate::table::{next_row, table};
@@ -54,12 +55,13 @@ fn read_rows(
         (λ found. AreRows version rows (Ok found.items))
         (λ why. why ≢ RecordFault.NoMemory → AreRows version rows (Err why)) }
 {
+    let mut known = KnownTexts::new(alloc);
     let mut found = Vec::new(alloc);
     for number in 1..MOST_ROWS + 1 {
         if !next_row(reader, row)? {
             return Ok(found);
         }
-        let record = read_row(alloc, version, number, row)?;
+        let record = read_row(alloc, &mut known, version, number, row)?;
         found.push(record)?;
     }
     if next_row(reader, row)? {

@@ -8,7 +8,7 @@ ghost use Rattle.gtd_core.specs.Seconds.{IsHorizonSecond};
 ghost use Rattle.gtd_records.specs.Closing.{AreElements, IsClosed};
 ghost use Rattle.gtd_records.specs.ClosingRows.{AreClosingRows};
 ghost use Rattle.gtd_records.specs.Index.{AreClosing, ArePlaces};
-ghost use Rattle.gtd_records.specs.Columns.{IsAscending};
+ghost use Rattle.gtd_records.specs.Columns.{IsSortedSet};
 
 use crate::direction::Direction;
 use crate::record::Record;
@@ -75,7 +75,7 @@ fn numbers_of(alloc: Global, places: &[Place]) -> Result<Vec<u64>, AllocError>
 // The elements of places that stand by element, each once.
 fn elements_of(alloc: Global, places: &[Place]) -> Result<Vec<u64>, AllocError>
     requires { IsNonDecreasingBy (λ (p : Place). p.element) places.now }
-    ensures { IfOk result (λ elements. IsAscending (map (λ (p : Place). p.element) places.now) elements.items) }
+    ensures { IfOk result (λ elements. IsSortedSet (map (λ (p : Place). p.element) places.now) elements.items) }
 {
     let mut elements = numbers_of(alloc, places)?;
     elements.dedup();
@@ -94,7 +94,7 @@ pub(crate) fn places_below(places: &[Place], element: u64) -> usize
 
 // The same numbers, ascending and each once.
 fn in_order(mut numbers: Vec<usize>) -> Vec<usize>
-    ensures { IsAscending numbers.items result.items }
+    ensures { IsSortedSet numbers.items result.items }
 {
     numbers.sort_unstable();
     numbers.dedup();

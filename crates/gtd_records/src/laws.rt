@@ -4,15 +4,17 @@ ghost use Rattle.std.specs.Prelude.{◌≡◌, ◌≤◌, ◌++◌, ◌∷◌, �
 ghost use Rattle.std.specs.List.{Contains};
 ghost use Rattle.csv.specs.Reading.{default_config, records, strip_bom};
 ghost use Rattle.csv.specs.declared.parser.State.TheVariants.{StartRecord};
-ghost use Rattle.gtd_records.specs.Cut.{state_after};
+ghost use Rattle.gtd_records.specs.Cut.{counted_on, state_after};
 ghost use Rattle.gtd_records.specs.Faults.{AreFileFaults, AreRowFaults, IsFaultyRow, row_number};
-ghost use Rattle.gtd_core.specs.Limits.{most_rows};
+ghost use Rattle.gtd_core.specs.Limits.{most_file_bytes, most_rows};
 ghost use Rattle.gtd_records.specs.File.{IsFile, IsTable, header};
 ghost use Rattle.gtd_records.specs.Closing.{Restriction};
 ghost use Rattle.gtd_records.specs.Table.{IsBetween};
 ghost use Rattle.gtd_records.specs.Columns.{Fields};
 ghost use Rattle.gtd_records.specs.declared.fault.RecordFault.{RecordFault};
 ghost use Rattle.gtd_records.specs.declared.vehicles.Version.{Version};
+
+use gtd_text::laws::each_text;
 
 /// The bytes of a file have one answer: its restrictions, or its first fault.
 pub fn one_answer()
@@ -59,3 +61,41 @@ pub fn parts_of_a_text()
         → (first : List Restriction) × (second : List Restriction) × IsFile (head ++ one) (Ok first)
         × IsFile (head ++ two) (Ok second) × (found ≡ first ++ second) }
 {}
+
+/// Files that are cut from one, between two of its records and under the same header, say together what the one says, as
+/// long as that is within the limits of bytes and rows: accepted parts are accepted as one, with the restrictions of the
+/// first and then of the other; and the first fault of the one is that of the first part at fault, its row counted on by the
+/// rows before the part.
+pub fn parts_make_a_file()
+    ensures rows_first { (v : Version) (one two : List Fields) (why : RecordFault) →
+        IsTable (header v ∷ one) (Err why) → IsTable (header v ∷ (one ++ two)) (Err why) }
+    ensures rows_later { (v : Version) (one two : List Fields) (found : List Restriction) (why : RecordFault) →
+        length (one ++ two) ≤ most_rows → IsTable (header v ∷ one) (Ok found) → IsTable (header v ∷ two) (Err why)
+        → IsTable (header v ∷ (one ++ two)) (Err (counted_on (length one) why)) }
+    ensures joined { (v : Version) (head one two : List ℕ) (first second : List Restriction) → 3 ≤ length head
+        → records default_config (strip_bom head) ≡ header v ∷ []
+        → IsBetween (state_after StartRecord (strip_bom head)) → IsBetween (state_after StartRecord one)
+        → length (head ++ (one ++ two)) ≤ most_file_bytes
+        → length (records default_config one ++ records default_config two) ≤ most_rows
+        → IsFile (head ++ one) (Ok first) → IsFile (head ++ two) (Ok second)
+        → IsFile (head ++ (one ++ two)) (Ok (first ++ second)) }
+    ensures first { (v : Version) (head one two : List ℕ) (why : RecordFault) → 3 ≤ length head
+        → records default_config (strip_bom head) ≡ header v ∷ []
+        → IsBetween (state_after StartRecord (strip_bom head)) → IsBetween (state_after StartRecord one)
+        → length (head ++ (one ++ two)) ≤ most_file_bytes
+        → IsFile (head ++ one) (Err why) → IsFile (head ++ (one ++ two)) (Err why) }
+    ensures later { (v : Version) (head one two : List ℕ) (found : List Restriction) (why : RecordFault) → 3 ≤ length head
+        → records default_config (strip_bom head) ≡ header v ∷ []
+        → IsBetween (state_after StartRecord (strip_bom head)) → IsBetween (state_after StartRecord one)
+        → length (head ++ (one ++ two)) ≤ most_file_bytes
+        → length (records default_config one ++ records default_config two) ≤ most_rows
+        → IsFile (head ++ one) (Ok found) → IsFile (head ++ two) (Err why)
+        → IsFile (head ++ (one ++ two)) (Err (counted_on (length (records default_config one)) why)) }
+{}
+
+/// Each file has an answer: its restrictions, or a fault.
+pub fn each_file()
+    ensures some { (bytes : List ℕ) → (answer : Result (List Restriction) RecordFault) × IsFile bytes answer }
+{
+    each_text();
+}

@@ -22,6 +22,7 @@ mod fault;
 mod faults;
 mod file;
 mod index;
+mod known;
 pub mod laws;
 mod reading;
 mod record;

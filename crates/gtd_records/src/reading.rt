@@ -34,6 +34,14 @@ fn read_index(alloc: Global, bytes: &[u8]) -> Result<Records, RecordFault>
 /// `Endless` where 1,000 pulls in a row gave no byte, whichever happens first. Then come `Header`, and row by row
 /// `TooManyRows`, `FieldCount`, `Element`, `Direction`, `Vehicle`, `Domain`. `NoMemory` is answered only where memory
 /// was refused. The caller keeps the input's failures under `u64::MAX` before the call.
+///
+/// ```
+/// let file = b"element,direction,vehicle,domain\n17,negative,11,\n";
+/// let mut input = MemoryIn::new(Vec::from_slice(alloc, file)?, 4096, None, None);
+/// let records = read_records(alloc, &mut input)?;
+/// assert_eq!(rt; records.elements(), [17u64].as_slice());
+/// assert!(rt; records.closed_at(17, Direction::Negative, 11, Sec(0)));
+/// ```
 pub fn read_records<I: Input>(alloc: Global, input: &mut I) -> Result<Records, RecordFault>
     requires countable { I.failure_count input.old < u64.MAX }
     // Where the input tells its bytes, they are a file of these records, or have this first fault.

@@ -2,15 +2,15 @@
 
 ghost use Rattle.std.specs.Prelude.{◌≡◌, ◌≢◌, [], ◌∷◌, length, IfSome, IfNone, Err};
 ghost use Rattle.csv.specs.Records.{fields_of};
-ghost use Rattle.gtd_records.specs.Row.{IsRow, IsDomainRead};
+ghost use Rattle.gtd_records.specs.File.{IsRow, IsDomainRead};
 
 use crate::column::{read_closed, read_number};
 use crate::fault::RecordFault;
+use crate::known::KnownTexts;
 use crate::record::Record;
 use crate::vehicles::{Version, read_vehicles};
 use csv::ByteRecord;
 use gtd_core::{Domain, Fault};
-use gtd_text::read_domain;
 use std::alloc::Global;
 
 // The columns of a row that has four.
@@ -52,13 +52,18 @@ pub(crate) fn four_columns(row: &ByteRecord) -> Option<Columns<'_>>
 }
 
 // The domain of a row's last column, which may be empty, or its fault in the row with this number.
-fn read_last(alloc: Global, number: u32, text: &[u8]) -> Result<Option<Domain>, RecordFault>
+fn read_last(
+    alloc: Global,
+    known: &mut KnownTexts,
+    number: u32,
+    text: &[u8],
+) -> Result<Option<Domain>, RecordFault>
     ensures { result ≢ Err RecordFault.NoMemory → IsDomainRead number text.now result }
 {
     if text.is_empty() {
         return Ok(None);
     }
-    match read_domain(alloc, text) {
+    match known.read(alloc, text) {
         Ok(domain) => Ok(Some(domain)),
         Err(fault) => match fault.kind {
             Fault::NoMemory => Err(RecordFault::NoMemory),
@@ -70,6 +75,7 @@ fn read_last(alloc: Global, number: u32, text: &[u8]) -> Result<Option<Domain>, 
 // The record that a row of a file stands for, or its first fault from the left.
 pub(crate) fn read_row(
     alloc: Global,
+    known: &mut KnownTexts,
     version: Version,
     number: u32,
     row: &ByteRecord,
@@ -88,7 +94,7 @@ pub(crate) fn read_row(
     let Some(vehicles) = read_vehicles(alloc, version, columns.vehicles)? else {
         return Err(RecordFault::Vehicle { row: number });
     };
-    let domain = read_last(alloc, number, columns.domain)?;
+    let domain = read_last(alloc, known, number, columns.domain)?;
     Ok(Record {
         element,
         closed,

@@ -3,7 +3,7 @@
 ghost use Rattle.std.specs.Prelude.{◌≡◌, ◌↔◌, IsTrue, IfOk, option_map};
 ghost use Rattle.std.specs.List.{Contains};
 ghost use Rattle.std.specs.List.Sorted.{IsStrictlyIncreasing};
-ghost use Rattle.gtd_records.specs.Columns.{code_of, IsAscending, IsCodes, AreTypesRead, Serves, codes_of, is_zero, items_of};
+ghost use Rattle.gtd_records.specs.Columns.{code_of, IsSortedSet, IsCodes, AreTypesRead, Serves, codes_of, is_zero, items_of};
 ghost use Rattle.gtd_records.specs.Columns.{types_listed, single, type_of, vehicles_of};
 
 use crate::column::read_code;
@@ -50,7 +50,7 @@ pub enum Vehicles {
 impl Codes {
     // The same codes, ascending and each once.
     fn ascending(mut codes: Vec<u8>) -> Codes
-        ensures { IsAscending codes.items result }
+        ensures { IsSortedSet codes.items result }
     {
         codes.sort_unstable();
         codes.dedup();

@@ -22,7 +22,7 @@ use Rattle.std.specs.Prelude.{Option, Some, None, IfSome}
 use Rattle.gtd_core.specs.declared.second.Sec.{Sec}
 use Rattle.gtd_calendar.specs.Calendar.{IsCalendarDay}
 use Rattle.gtd_recur.specs.Ascending.{Has}
-use Rattle.gtd_recur.specs.Stretches.{HeldBy, runs_between, to_come, IsAheadIn}
+use Rattle.gtd_recur.specs.Stretches.{HeldBy, runs_between, starts_ahead, IsAheadIn}
 use Rattle.gtd_recur.specs.facts.StretchFacts.{runs_between-normal}
 use Rattle.gtd_recur.proofs.CoverLemmas.{begins-parts, begins-from, held_in_lookback}
 use Rattle.gtd_recur.specs.facts.StartsLemmas.{starts_on-yes, starts_on-no, starts_of-cons, starts_of-nil}
@@ -156,9 +156,9 @@ window-runs p q first from to back le =
     late to t n m i k a b c f = omega (arith, signed_arith)
 
 -- the start that is taken ahead and those that are left are all
-pub to_come-is : (all left : List ℤ) (o : Option Sec) → TakesSecond all o left → to_come o left ≡ all
-to_come-is all left None h = sym h.0
-to_come-is all left (Some b) h = sym h
+pub starts_ahead-is : (all left : List ℤ) (o : Option Sec) → TakesSecond all o left → starts_ahead o left ≡ all
+starts_ahead-is all left None h = sym h.0
+starts_ahead-is all left (Some b) h = sym h
 
 pub ahead-in : (o : Option Sec) → IfSome o (λ b. IsCalendarDay (day_of_second b.0)) → IsAheadIn o
 ahead-in None h = tt

@@ -33,7 +33,7 @@ starts_of-none p n (suc k) none =
     omega (arith, signed_arith) in rw next (none (i + 1) (omega arith))) in
     starts_of-cons p n (days_from (n +ℤ pos 1) k) ∙ rw (starts_on-no p n here, rest) refl
 
-no-starts : (p : StartParts) (a b : ℤ) → a ≤ℤ b → ((n : ℤ) → a ≤ℤ n → n <ℤ b → begins_on p (day_fields n) ≡ false)
+pub no-starts : (p : StartParts) (a b : ℤ) → a ≤ℤ b → ((n : ℤ) → a ≤ℤ n → n <ℤ b → begins_on p (day_fields n) ≡ false)
     → starts_of p (days_between a b) ≡ []
 no-starts p a b le none =
     let e = later_by a b le in

@@ -6,7 +6,7 @@ use Rattle.gtd_core.specs.declared.horizon.Horizon.{Horizon}
 use Rattle.gtd_core.specs.Parts.{duration_parts}
 use Rattle.gtd_core.specs.Whole.{whole}
 use Rattle.gtd_recur.specs.declared.runs.Runs.{Runs}
-use Rattle.gtd_recur.specs.Stretches.{runs_between, to_come}
+use Rattle.gtd_recur.specs.Stretches.{runs_between, starts_ahead}
 use Rattle.gtd_recur.specs.Walking.{walk_to_come, walk_ticks}
 
 abbrev pub runs_basic : Runs → Basic
@@ -18,7 +18,7 @@ runs_horizon r = r.walk.horizon
 -- the spans that are still to be handed out, as a normal list
 abbrev pub runs_to_come : Runs → List Interval
 runs_to_come r =
-    runs_between (duration_parts r.walk.basic.duration) (to_come r.ahead (walk_to_come r.walk))
+    runs_between (duration_parts r.walk.basic.duration) (starts_ahead r.ahead (walk_to_come r.walk))
     (whole r.walk.horizon).from (whole r.walk.horizon).until
 
 -- the days that were looked at, and the starts that were taken

@@ -1,10 +1,12 @@
 -- The starts of a window of days, from the front of which one is taken time and again.
-use Rattle.std.specs.Prelude.{◌≡◌, ℕ, ◌+◌, ◌-◌, ◌++◌, List, [], ◌∷◌, map, filter, count_by, length, drop, Option, Some, None, ℤ}
+use Rattle.std.specs.Prelude.{◌≡◌, ◌⊎◌, true, false, ℕ, ◌+◌, ◌-◌, ◌++◌, List, [], ◌∷◌, map, filter, count_by, length}
+use Rattle.std.specs.Prelude.{drop, Option, Some, None, ℤ}
 use Rattle.std.specs.Prelude.{pos, ◌+ℤ◌, ◌*ℤ◌, ◌≤ℤ◌, ◌<ℤ◌, IsTrue}
 use Rattle.gtd_core.specs.Limits.{day_seconds, horizons_end, first_window_day}
 use Rattle.gtd_core.specs.declared.start.StartParts.{StartParts}
 use Rattle.gtd_core.specs.declared.second.Sec.{Sec}
-use Rattle.gtd_recur.specs.Begins.{begins_at, month_and_year_fit}
+use Rattle.gtd_calendar.specs.ComputedFields.{day_fields}
+use Rattle.gtd_recur.specs.Begins.{begins_at, begins_on, month_and_year_fit}
 use Rattle.gtd_recur.specs.Work.{days_between, numbers_from, starts_of}
 
 -- the seconds of day n, from one of them on, at which the clock of a start fits
@@ -14,6 +16,11 @@ clock_starts p n from = map (λ k. pos day_seconds *ℤ n +ℤ pos k) (filter (b
 -- the starts that are left of an open day, and those of the days from `next` up to `end`
 unfoldable pub starts_left : StartParts → ℤ → ℕ → ℤ → ℤ → List ℤ
 starts_left p day clock next end = clock_starts p day clock ++ starts_of p (days_between next end)
+
+-- an open day's starts are left from its first second on where the start begins on it, and else none are
+abbrev pub IsOpened : StartParts → ℤ → ℕ → Type 0
+IsOpened p n clock = ((begins_on p (day_fields n) ≡ true) × (clock ≡ 0))
+    ⊎ ((begins_on p (day_fields n) ≡ false) × (clock ≡ day_seconds))
 
 -- the first second of a list is taken off, if there is one
 abbrev pub TakesSecond : List ℤ → Option Sec → List ℤ → Type 0

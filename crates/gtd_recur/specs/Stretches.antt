@@ -23,9 +23,9 @@ unfoldable pub runs_between : DurationParts → List ℤ → ℤ → ℤ → Lis
 runs_between p bs from until = normal_list (held_by p bs) from (unsigned_abs (until -ℤ from))
 
 -- the start that was taken ahead, if there is one, and those that are left
-abbrev pub to_come : Option Sec → List ℤ → List ℤ
-to_come None left = []
-to_come (Some b) left = b.0 ∷ left
+abbrev pub starts_ahead : Option Sec → List ℤ → List ℤ
+starts_ahead None left = []
+starts_ahead (Some b) left = b.0 ∷ left
 
 -- it is on a day of the calendar
 abbrev pub IsAheadIn : Option Sec → Type 0

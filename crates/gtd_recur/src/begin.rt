@@ -31,15 +31,15 @@ fn agrees_or_least(given: Option<u8>, finer: bool, least: u8, value: u8) -> bool
     }
 }
 
-// Whether a field of the day's level is given.
-fn gives_day(start: &StartParts) -> bool
+/// Whether a field of the day's level is given.
+pub(crate) fn gives_day(start: &StartParts) -> bool
     ensures { result ≡ spec.gives_day start.now }
 {
     start.day.is_some() || start.nth.is_some() || start.nth_back.is_some() || start.weekdays != 0
 }
 
-// Whether a field of the clock is given.
-fn gives_clock(start: &StartParts) -> bool
+/// Whether a field of the clock is given.
+pub(crate) fn gives_clock(start: &StartParts) -> bool
     ensures { result ≡ spec.gives_clock start.now }
 {
     start.hour.is_some() || start.minute.is_some() || start.second.is_some()
@@ -70,8 +70,8 @@ fn place_agrees(given: Option<(u8, u8)>, nth: u8, weekday: u8) -> bool
     }
 }
 
-// Whether the weekday is one of those that are given.
-fn is_weekday(start: &StartParts, weekday: u8) -> bool
+/// Whether the weekday is one of those that are given.
+pub(crate) fn is_weekday(start: &StartParts, weekday: u8) -> bool
     requires { IsInRange 1 7 weekday }
     ensures { result ≡ spec.is_weekday start.now weekday }
 {
@@ -92,8 +92,8 @@ fn least_day(start: &StartParts, day: &DayFields) -> bool
     }
 }
 
-// Whether the fields of a day fit the start.
-fn begins_on(start: &StartParts, day: &DayFields) -> bool
+/// Whether the fields of a day fit the start.
+pub(crate) fn begins_on(start: &StartParts, day: &DayFields) -> bool
     requires { IsInRange 1 7 day.now.weekday }
     ensures { result ≡ spec.begins_on start.now day.now }
 {

@@ -2,8 +2,6 @@
 
 ghost use Rattle.std.specs.Prelude.{◌≡◌, ◌↔◌, ℤ, ◌≤ℤ◌, ◌<ℤ◌, IsTrue};
 ghost use Rattle.gtd_core.specs.Limits.{horizons_end, first_window_day};
-ghost use Rattle.gtd_recur.specs.Begins.{month_and_year_fit};
-ghost use Rattle.gtd_recur.specs.Jumps.{IsLastRun};
 ghost use Rattle.gtd_recur.specs.Look.{IsLookBack};
 ghost use Rattle.gtd_recur.specs.Weekly.{IsWeekly};
 ghost use Rattle.gtd_core.specs.Parts.{start_parts, duration_parts};
@@ -14,7 +12,8 @@ ghost use Rattle.gtd_recur.specs.ComputedStretches.{IsHeldFromDay, IsLatestNotAf
 ghost use Rattle.gtd_core.specs.Seconds.{IsHorizonSecond};
 
 use crate::begin::{asks_no_date, begins_on_day, latest_begin};
-use crate::jump::{Days, last_days};
+use crate::find::last_begun;
+use crate::jump::last_days;
 use gtd_calendar::{end_of, second_of_day};
 use gtd_core::limits::DAY_SECONDS;
 use gtd_core::{Basic, Duration, Sec, StartParts};
@@ -83,7 +82,7 @@ pub(crate) struct LookBack {
 }
 
 /// Looks backwards from a horizon's first day, and not beyond a lowest day, for a day on which the start begins: no stretch
-/// from an earlier day ends later than the last from that day. Days that a given month or year excludes are passed over.
+/// from an earlier day ends later than the last from that day. Days that a given month or year excludes are not counted.
 pub(crate) fn first_look(start: &StartParts, low: i64, seen: i64) -> LookBack
     requires valid { IsStart start.now }
     requires low_in { first_window_day ≤ℤ low }
@@ -95,17 +94,17 @@ pub(crate) fn first_look(start: &StartParts, low: i64, seen: i64) -> LookBack
     let mut days = last_days(start, low, seen);
     let mut looked = 0;
     while low < days.until {
-        let day = days.until - 1;
-        looked += 1;
-        if begins_on_day(start, day) {
+        let day = last_begun(start, days.from, days.until);
+        if day >= days.from {
             return LookBack {
                 first: day,
                 day,
                 clock: 0,
-                looked,
+                looked: looked + (days.until - day) as u64,
             };
         }
-        days = days_before(start, low, days.from, day);
+        looked += (days.until - days.from) as u64;
+        days = last_days(start, low, days.from);
     }
     LookBack {
         first: low,
@@ -113,22 +112,6 @@ pub(crate) fn first_look(start: &StartParts, low: i64, seen: i64) -> LookBack
         clock: DAY_SECONDS as u32,
         looked,
     }
-}
-
-// The days to look at before one: the rest of its run, or else the run before that.
-fn days_before(start: &StartParts, low: i64, from: i64, day: i64) -> Days
-    requires valid { IsStart start.now }
-    requires low_in { first_window_day ≤ℤ low }
-    requires from_in { low ≤ℤ from }
-    requires order { from ≤ℤ day }
-    requires day_in { day ≤ℤ horizons_end }
-    requires fit { (n : ℤ) → from ≤ℤ n → n <ℤ day → IsTrue (month_and_year_fit start.now n) }
-    ensures run { IsLastRun (λ n. IsTrue (month_and_year_fit start.now n)) low day result.from result.until }
-{
-    if from < day {
-        return Days { from, until: day };
-    }
-    last_days(start, low, day)
 }
 
 /// Whether the basic domain repeats after 7 days, since of a day its start asks for nothing but the weekday, and its

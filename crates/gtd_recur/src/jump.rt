@@ -257,15 +257,15 @@ fn clip_back(days: Days, low: i64, end: i64) -> Days
     }
 }
 
-// The later of two days.
-fn later(a: i64, b: i64) -> i64
+/// The later of two days.
+pub(crate) fn later(a: i64, b: i64) -> i64
     ensures { IsLater a b result }
 {
     if a < b { b } else { a }
 }
 
-// The earlier of two days.
-fn earlier(a: i64, b: i64) -> i64
+/// The earlier of two days.
+pub(crate) fn earlier(a: i64, b: i64) -> i64
     ensures { IsEarlier a b result }
 {
     if a < b { a } else { b }

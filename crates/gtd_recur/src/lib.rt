@@ -10,6 +10,7 @@ pub use starts::Starts;
 
 mod begin;
 mod cover;
+mod find;
 mod jump;
 pub mod laws;
 mod runs;

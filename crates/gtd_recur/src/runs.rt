@@ -7,7 +7,7 @@ ghost use Rattle.gtd_calendar.specs.Calendar.{IsCalendarDay};
 ghost use Rattle.gtd_core.specs.Seconds.{day_of_second};
 ghost use Rattle.gtd_recur.specs.Ascending.{IsAscending, AllAfter, AllBefore, Has};
 ghost use Rattle.gtd_recur.specs.facts.AscendingProps.{IsAscending-prop};
-ghost use Rattle.gtd_recur.specs.Stretches.{IsAheadIn, IsCut, IsEarlier, IsLater, IsRun, to_come};
+ghost use Rattle.gtd_recur.specs.Stretches.{IsAheadIn, IsCut, IsEarlier, IsLater, IsRun, starts_ahead};
 ghost use Rattle.gtd_recur.specs.facts.StretchFacts.{IsAheadIn-prop};
 ghost use Rattle.gtd_recur.specs.Walking.{walk_days, walk_all, walk_to_come, walk_ticks, walk_given, IsSameWindow};
 ghost use Rattle.gtd_recur.specs.Walking.{IsCountedTo};
@@ -27,7 +27,7 @@ pub struct Runs {
     ahead: Option<Sec>,
     /// It walks over the starts that follow, and looked no further back than it must.
     pub(crate) walk: Walk,
-    ghost ascending: { IsAscending (to_come ahead (walk_to_come walk)) } by { IsAscending-prop _ },
+    ghost ascending: { IsAscending (starts_ahead ahead (walk_to_come walk)) } by { IsAscending-prop _ },
     ghost ahead_in: { IsAheadIn ahead } by { IsAheadIn-prop _ },
     ghost counted: { IsCountedTo walk ahead } by { IsCountedTo-prop walk ahead },
 }
@@ -38,11 +38,11 @@ fn run_end(walk: &mut Walk, duration: &Duration, first: Sec) -> (Sec, Option<Sec
     requires ascending { IsAscending (first.0 ∷ walk_to_come walk.old) }
     requires counted { AllBefore (first.0 +ℤ pos 1) (walk_given walk.old) }
     ensures run { IsRun (duration_parts duration.now) (first.0 ∷ walk_to_come walk.old)
-        (to_come result.1 (walk_to_come walk.new)) first.0 result.0.0 }
-    ensures after { AllAfter result.0.0 (to_come result.1 (walk_to_come walk.new)) }
-    ensures ascending { IsAscending (to_come result.1 (walk_to_come walk.new)) }
+        (starts_ahead result.1 (walk_to_come walk.new)) first.0 result.0.0 }
+    ensures after { AllAfter result.0.0 (starts_ahead result.1 (walk_to_come walk.new)) }
+    ensures ascending { IsAscending (starts_ahead result.1 (walk_to_come walk.new)) }
     ensures ahead_in { IsAheadIn result.1 }
-    ensures fewer { length (to_come result.1 (walk_to_come walk.new)) ≤ length (walk_to_come walk.old) }
+    ensures fewer { length (starts_ahead result.1 (walk_to_come walk.new)) ≤ length (walk_to_come walk.old) }
     ensures same { IsSameWindow walk.old walk.new }
     ensures counted_ahead { IsCountedTo walk.new result.1 }
     ensures at_most { (b : ℤ)
@@ -68,14 +68,14 @@ fn run_end(walk: &mut Walk, duration: &Duration, first: Sec) -> (Sec, Option<Sec
 fn later(a: Sec, b: Sec) -> Sec
     ensures { IsLater a.0 b.0 result.0 }
 {
-    if a < b { b } else { a }
+    a.later(b)
 }
 
 // The earlier of two seconds.
 fn earlier(a: Sec, b: Sec) -> Sec
     ensures { IsEarlier a.0 b.0 result.0 }
 {
-    if a < b { a } else { b }
+    a.earlier(b)
 }
 
 // The part of a run that is in a horizon.
@@ -146,7 +146,7 @@ impl SpanSource for Runs {
     ghost use Rattle.gtd_core.specs.Whole.{whole};
     ghost use Rattle.gtd_spans.specs.Sweeping.{Takes};
     ghost use Rattle.gtd_recur.specs.Ascending.{Has};
-    ghost use Rattle.gtd_recur.specs.Stretches.{runs_between, to_come};
+    ghost use Rattle.gtd_recur.specs.Stretches.{runs_between, starts_ahead};
     ghost use Rattle.gtd_recur.specs.facts.StretchFacts.{runs_between-normal};
     ghost use Rattle.gtd_recur.specs.StartsToCome.{starts_to_come};
     ghost use Rattle.gtd_recur.specs.RunsToCome.{runs_basic, runs_horizon, runs_to_come, runs_ticks};

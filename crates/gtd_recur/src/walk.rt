@@ -8,8 +8,9 @@ ghost use Rattle.gtd_recur.specs.facts.WindowProps.{AreLeft-prop, IsInWindow-pro
 ghost use Rattle.gtd_recur.specs.Work.{days_between, starts_of, window_begin};
 ghost use Rattle.gtd_core.specs.Limits.{day_seconds};
 
-use crate::begin::{begins_on_day, day_step, latest_begin, next_begin};
+use crate::begin::{day_step, latest_begin, next_begin};
 use crate::cover::first_look;
+use crate::find::next_begun;
 use crate::jump::{Days, next_days};
 use gtd_core::limits::DAY_SECONDS;
 use gtd_core::{Basic, Horizon, Sec};
@@ -47,16 +48,17 @@ pub(crate) struct Walk {
 }
 
 impl Walk {
-    ghost use Rattle.std.specs.Prelude.{◌≡◌, ◌+◌, ◌<ℤ◌, ◌+ℤ◌, ℤ, pos, [], ◌∷◌, IfSome, IfNone, IsTrue, length, ◌≤ℤ◌};
+    ghost use Rattle.std.specs.Prelude.{◌≡◌, ◌+◌, ◌<ℤ◌, ◌+ℤ◌, ℤ, pos, [], ◌∷◌, IfSome, IfNone, IsTrue, length, ◌≤ℤ◌, false};
     ghost use Rattle.std.specs.Prelude.{count_by};
     ghost use Rattle.gtd_core.specs.Parts.{start_parts};
     ghost use Rattle.gtd_core.specs.Whole.{from_day, to_day};
     ghost use Rattle.gtd_calendar.specs.Calendar.{IsCalendarDay};
     ghost use Rattle.gtd_core.specs.Seconds.{day_of_second};
-    ghost use Rattle.gtd_recur.specs.Begins.{month_and_year_fit};
+    ghost use Rattle.gtd_calendar.specs.ComputedFields.{day_fields};
+    ghost use Rattle.gtd_recur.specs.Begins.{begins_on, month_and_year_fit};
     ghost use Rattle.gtd_recur.specs.Jumps.{IsNextRun};
     ghost use Rattle.gtd_recur.specs.Look.{IsFirstDay};
-    ghost use Rattle.gtd_recur.specs.Starts.{TakesSecond, clock_starts};
+    ghost use Rattle.gtd_recur.specs.Starts.{TakesSecond, clock_starts, IsOpened};
     ghost use Rattle.gtd_recur.specs.Work.{work, least_work, whole_work, window_begin};
     ghost use Rattle.gtd_recur.specs.Walking.{walk_days, walk_all, walk_to_come, walk_ticks, walk_given, IsSameWindow};
     ghost use Rattle.gtd_recur.specs.Walking.{IsOpenBehind, IsPassed};
@@ -172,7 +174,7 @@ impl Walk {
         ensures next_day { self.new.next_day ≡ self.old.next_day }
         ensures open { IfSome result (λ b. IsOpenBehind self.new b.0) }
     {
-        match next_begin(&self.basic.start.parts(), self.clock) {
+        match next_begin(self.basic.start.as_parts(), self.clock) {
             Some(clock) => {
                 self.clock = clock + 1;
                 self.handed += 1;
@@ -203,7 +205,8 @@ impl Walk {
         Sec(DAY_SECONDS * self.day + i64::from(last))
     }
 
-    // Looks at the next day, which opens it. Only here are a day's fields read, and each such day is counted.
+    // Opens the next day on which the start begins, or the last of those that are not excluded where it begins on none of
+    // them. Only here days are looked at, and each of those passed over is counted.
     fn look(&mut self)
         requires done { clock_starts (start_parts self.old.basic.start) self.old.day self.old.clock ≡ [] }
         requires more { self.old.next_day <ℤ to_day self.old.horizon }
@@ -212,32 +215,49 @@ impl Walk {
         ensures later { self.old.next_day <ℤ self.new.next_day }
         ensures grows { walk_ticks self.old ≤ walk_ticks self.new }
     {
-        let after = self.days_after();
-        let clock = if begins_on_day(self.basic.start.as_parts(), self.next_day) {
-            0
+        let found = next_begun(self.basic.start.as_parts(), self.next_day, self.fits_until);
+        if found < self.fits_until {
+            self.open(found, 0);
         } else {
-            DAY_SECONDS as u32
-        };
-        self.day = self.next_day;
+            self.open(found - 1, DAY_SECONDS as u32);
+        }
+    }
+
+    // Opens a day of those that are not excluded, from a second on. The start begins on none before it.
+    fn open(&mut self, day: i64, clock: u32)
+        requires done { clock_starts (start_parts self.old.basic.start) self.old.day self.old.clock ≡ [] }
+        requires low { self.old.next_day ≤ℤ day }
+        requires high { day <ℤ self.old.fits_until }
+        requires none { (n : ℤ) → self.old.next_day ≤ℤ n → n <ℤ day
+            → begins_on (start_parts self.old.basic.start) (day_fields n) ≡ false }
+        requires opened { IsOpened (start_parts self.old.basic.start) day clock }
+        ensures left { walk_to_come self.new ≡ walk_to_come self.old }
+        ensures same { IsSameWindow self.old self.new }
+        ensures later { self.old.next_day <ℤ self.new.next_day }
+        ensures grows { walk_ticks self.old ≤ walk_ticks self.new }
+    {
+        let after = self.days_after(day);
+        self.looked += (day + 1 - self.next_day) as u64;
+        self.day = day;
         self.clock = clock;
         self.next_day = after.from;
         self.fits_until = after.until;
-        self.looked += 1;
     }
 
-    // The days to look at behind the next one.
-    fn days_after(&self) -> Days
-        requires more { self.now.next_day <ℤ to_day self.now.horizon }
+    // The days to look at behind one.
+    fn days_after(&self, day: i64) -> Days
+        requires low { self.now.next_day ≤ℤ day }
+        requires high { day <ℤ self.now.fits_until }
         ensures run { IsNextRun (λ n. IsTrue (month_and_year_fit (start_parts self.now.basic.start) n))
-            (self.now.next_day +ℤ pos 1) (to_day self.now.horizon) result.from result.until }
+            (day +ℤ pos 1) (to_day self.now.horizon) result.from result.until }
     {
-        let day = self.next_day + 1;
-        if day < self.fits_until {
+        let next = day + 1;
+        if next < self.fits_until {
             return Days {
-                from: day,
+                from: next,
                 until: self.fits_until,
             };
         }
-        next_days(&self.basic.start.parts(), day, self.horizon.to_day())
+        next_days(self.basic.start.as_parts(), next, self.horizon.to_day())
     }
 }

@@ -33,7 +33,6 @@ pub use Rattle.gtd_records.specs.declared.vehicles.Version
 pub use Rattle.gtd_runs.specs.Putting
 pub use Rattle.gtd_runs.specs.Run
 pub use Rattle.gtd_runs.specs.RunFaultNames
-pub use Rattle.gtd_runs.specs.Subjects
 pub use Rattle.gtd_runs.specs.declared.fault.RunFault
 pub use Rattle.gtd_runs.specs.declared.putting.Stop
 pub use Rattle.gtd_runs.specs.declared.subject.Subject

@@ -1,5 +1,6 @@
--- What an output took of lines, and how it is counted. A line has its end: the LF is its last byte.
-use Rattle.std.specs.Prelude.{◌≡◌, ◌≤◌, ◌+◌, ℕ, List, length, take, flat_map, Option, Result, Ok, Err, codes}
+-- Texts by their lines: what a text by elements is, what an output took of lines, and how it is counted. A line has its end:
+-- the LF is its last byte.
+use Rattle.std.specs.Prelude.{◌≡◌, ◌≤◌, ◌+◌, ◌++◌, ℕ, List, [], ◌∷◌, length, take, flat_map, Option, Result, Ok, Err, codes}
 use Rattle.std.specs.Io.KnownBytes.{Appends}
 use Rattle.gtd_runs.specs.declared.fault.RunFault.{RunFault}
 use Rattle.gtd_runs.specs.declared.fault.RunFault.TheVariants as fault
@@ -7,6 +8,7 @@ use Rattle.gtd_runs.specs.declared.putting.Progress.{Progress}
 use Rattle.gtd_runs.specs.declared.putting.ShortPut.{ShortPut}
 use Rattle.gtd_runs.specs.declared.putting.Stop.{Stop}
 use Rattle.gtd_runs.specs.declared.putting.Stop.TheVariants.{Output, Memory}
+use Rattle.gtd_records.specs.Closing.{AreElements, Restriction}
 use Rattle.gtd_records.specs.declared.direction.Direction.{Direction}
 use Rattle.gtd_records.specs.declared.direction.Direction.TheVariants.{Positive, Negative}
 
@@ -18,6 +20,46 @@ direction_word Negative = codes "negative"
 -- the text of lines, one after the other
 abbrev pub text_of : List (List ℕ) → List ℕ
 text_of lines = flat_map (λ line. line) lines
+
+-- The lines of an element: those that it has in the positive direction, and then those in the negative one.
+pub record AreElementLines (AreLines : Direction → List (List ℕ) → Type 0) (lines : List (List ℕ)) : Type 0 where
+  pub positive : List (List ℕ)
+  pub negative : List (List ℕ)
+  pub are_positive : AreLines Positive positive
+  pub are_negative : AreLines Negative negative
+  pub both : lines ≡ positive ++ negative
+
+-- the lines of the elements, in their order
+abbrev pub AreLinesOf : (ℕ → Direction → List (List ℕ) → Type 0) → List ℕ → List (List ℕ) → Type 0
+AreLinesOf AreLines [] lines = lines ≡ []
+AreLinesOf AreLines (element ∷ elements) lines =
+    (first : List (List ℕ)) × (rest : List (List ℕ))
+    × AreElementLines (AreLines element) first × AreLinesOf AreLines elements rest × (lines ≡ first ++ rest)
+
+-- A text by elements: a header, and the lines of each element that the restrictions name, in ascending order.
+pub record IsByElement (found : List Restriction) (header : List ℕ) (AreLines : ℕ → Direction → List (List ℕ) → Type 0)
+    (lines : List (List ℕ)) : Type 0 where
+  pub elements : List ℕ
+  pub named : AreElements found elements
+  pub rest : List (List ℕ)
+  pub each : AreLinesOf AreLines elements rest
+  pub whole : lines ≡ header ∷ rest
+
+-- there is one text of this kind at most
+abbrev pub IsOne : (List (List ℕ) → Type 0) → Type 0
+IsOne IsText = (a b : List (List ℕ)) → IsText a → IsText b → a ≡ b
+
+-- of each element there is one text at most in each direction
+abbrev pub IsOneEach : (ℕ → Direction → List (List ℕ) → Type 0) → Type 0
+IsOneEach AreLines = (element : ℕ) (direction : Direction) → IsOne (AreLines element direction)
+
+-- as many lines as the longest horizon has seconds: no element has more in a direction
+abbrev pub most_direction_lines : ℕ
+most_direction_lines = 12_622_867_200
+
+-- and no more bytes
+abbrev pub most_direction_bytes : ℕ
+most_direction_bytes = 1_009_829_376_000
 
 -- no line and no byte
 abbrev pub nothing_put : Progress

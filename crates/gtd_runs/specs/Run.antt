@@ -1,6 +1,6 @@
 -- What a run over a record file did, by its answer, and the claims that are made of it. A run is for a kind of
 -- texts: of which restrictions a text is put, and which text that is. A text is given by its lines.
-use Rattle.std.specs.Prelude.{◌≡◌, ◌≤◌, ℕ, ◌+◌, List, length, take, ⊤, Option, IfSome, Result, Ok, Err}
+use Rattle.std.specs.Prelude.{◌≡◌, ◌≤◌, ℕ, ◌+◌, List, length, take, ⊤, Option, IfSome, Result, Ok, Err, ◌<◌, Any}
 use Rattle.std.specs.Io.KnownBytes.{Appends, Keeps}
 use Rattle.gtd_records.specs.File.{IsFile, IsOfFile}
 use Rattle.gtd_records.specs.Closing.{Restriction}
@@ -9,6 +9,27 @@ use Rattle.gtd_records.specs.declared.fault.RecordFault.TheVariants as records
 use Rattle.gtd_runs.specs.Putting.{text_of}
 use Rattle.gtd_runs.specs.declared.fault.RunFault.{RunFault}
 use Rattle.gtd_runs.specs.declared.fault.RunFault.TheVariants as fault
+use Rattle.gtd_runs.specs.declared.subject.Subject.{Subject}
+
+-- a vehicle type: from 1 to 99
+abbrev pub IsVehicleType : ℕ → Type 0
+IsVehicleType vehicle = (0 < vehicle) × (vehicle ≤ 99)
+
+-- a year that a table may be of
+abbrev pub IsTableYear : ℕ → Type 0
+IsTableYear year = (1901 ≤ year) × (year ≤ 2199)
+
+-- If a vehicle type is asked for, it is one.
+abbrev pub IsVehicleInRange : Subject → Type 0
+IsVehicleInRange subject = IfSome subject.vehicle IsVehicleType
+
+-- If a year is asked for, a table may be of it.
+abbrev pub IsYearInRange : Subject → Type 0
+IsYearInRange subject = IfSome subject.year IsTableYear
+
+-- If an element is asked for, some restriction names it.
+abbrev pub IsAccepted : Subject → List Restriction → Type 0
+IsAccepted subject found = IfSome subject.element (λ element. Any (λ (r : Restriction). r.element ≡ element) found)
 
 -- Nothing hindered the run: neither device failed, no memory was refused, and the input was not silent for 1,000 pulls in
 -- a row.

@@ -1,2 +1,5 @@
+pub mod ElementFacts
 pub mod PutFacts
 pub mod RunFacts
+pub mod SomeElements
+pub mod TextFacts

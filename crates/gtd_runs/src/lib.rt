@@ -4,11 +4,13 @@
 //! Each line is offered whole, then what is left of it until it is taken.
 #![tactic(auto)]
 
+pub use by_element::{ElementLines, put_by_element};
 pub use fault::RunFault;
 pub use putting::{Progress, ShortPut, Stop, finish, put_line};
 pub use report::{Report, run_report};
 pub use subject::Subject;
 
+mod by_element;
 mod fault;
 mod putting;
 mod report;

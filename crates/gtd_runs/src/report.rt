@@ -5,9 +5,8 @@ ghost use Rattle.gtd_core.specs.Limits.{most_rows};
 ghost use Rattle.gtd_records.specs.Closing.{Restriction};
 ghost use Rattle.gtd_runs.specs.declared.subject.Subject.{Subject};
 ghost use Rattle.gtd_runs.specs.Putting.{PutsText, failures_after_stop, nothing_put};
-ghost use Rattle.gtd_runs.specs.Run.{AcceptedFilesArePut, HasRun, IsLineCount, RefusedFilesPutNothing};
-ghost use Rattle.gtd_runs.specs.Run.{UnacceptedFilesPutNothing, failures_after_read, failures_after_write};
-ghost use Rattle.gtd_runs.specs.Subjects.{IsAccepted, IsVehicleInRange, IsYearInRange};
+ghost use Rattle.gtd_runs.specs.Run.{AcceptedFilesArePut, HasRun, IsLineCount, RefusedFilesPutNothing, UnacceptedFilesPutNothing};
+ghost use Rattle.gtd_runs.specs.Run.{failures_after_read, failures_after_write, IsAccepted, IsVehicleInRange, IsYearInRange};
 
 use crate::fault::RunFault;
 use crate::putting::{Progress, Stop};

@@ -2,7 +2,7 @@
 
 ghost use Rattle.std.specs.Prelude.{◌≡◌, ◌↔◌, Any, IsTrue, List};
 ghost use Rattle.gtd_records.specs.Closing.{Restriction};
-ghost use Rattle.gtd_runs.specs.Subjects.{IsAccepted, IsVehicleInRange, IsYearInRange};
+ghost use Rattle.gtd_runs.specs.Run.{IsAccepted, IsVehicleInRange, IsYearInRange};
 
 use gtd_records::Records;
 

@@ -15,8 +15,7 @@ use Rattle.gtd_records.specs.facts.IndexFacts.{any_default}
 use Rattle.gtd_records.specs.facts.NumberFacts.{number_below}
 use Rattle.gtd_records.specs.Closing.{AreElements, Restriction}
 use Rattle.gtd_records.specs.Columns.{closed_of, number_of, Fields, IsOrdered, vehicles_of}
-use Rattle.gtd_records.specs.File.{AreRecords, IsFile, IsTable}
-use Rattle.gtd_records.specs.Row.{IsDomainColumn, IsRow, with_domain}
+use Rattle.gtd_records.specs.File.{AreRecords, IsFile, IsTable, IsDomainColumn, IsRow, with_domain}
 use Rattle.gtd_records.specs.declared.direction.Closed.{Closed}
 use Rattle.gtd_records.specs.declared.direction.Direction.{Direction}
 use Rattle.gtd_records.specs.declared.direction.Direction.TheVariants.{Positive, Negative}
@@ -24,9 +23,10 @@ use Rattle.gtd_records.specs.declared.fault.RecordFault.{RecordFault}
 use Rattle.gtd_records.specs.declared.fault.RecordFault.TheVariants as fault
 use Rattle.gtd_records.specs.declared.vehicles.Vehicles.{Vehicles}
 use Rattle.gtd_records.specs.declared.vehicles.Version.{Version}
-use Rattle.gtd_runs.specs.Subjects.{IsVehicleType}
+use Rattle.gtd_runs.specs.Run.{IsVehicleType}
 use Rattle.gtd_schedule.specs.facts.LineFacts.{length-line}
-use Rattle.gtd_schedule.specs.Schedule.{AreLines, AreLinesOf, IsSchedule, header_line, span_line}
+use Rattle.gtd_runs.specs.Putting.{AreLinesOf}
+use Rattle.gtd_schedule.specs.Schedule.{AreLines, IsSchedule, header_line, span_line}
 
 -- the number of a column is of ten digits at most
 few_digits : (text : List ℕ) (n : ℕ) → number_of text ≡ Some n → n < 10 ^ 10
@@ -136,7 +136,7 @@ module _ (found : List Restriction) (vehicle : ℕ) (type : vehicle < 100) (hori
   direction_short element direction lines small are = rw are.each (spans_short element direction are.spans small)
 
   elements_short : (elements : List ℕ) (lines : List (List ℕ)) → All IsSmall elements
-      → AreLinesOf found vehicle horizon elements lines
+      → AreLinesOf (AreLines found vehicle horizon) elements lines
       → All IsShort lines
   elements_short [] lines small are = rw are (λ k d h. absurd (omega arith))
   elements_short (e ∷ elements) lines small are =

@@ -13,7 +13,8 @@ use Rattle.gtd_runs.specs.facts.PutFacts.{puts_cut, puts_none, puts_then}
 use Rattle.gtd_runs.specs.Putting.{Puts}
 use Rattle.gtd_runs.specs.declared.putting.Progress.{Progress}
 use Rattle.gtd_runs.specs.declared.putting.Stop.{Stop}
-use Rattle.gtd_schedule.specs.Lines.{AreShown, most_lines}
+use Rattle.gtd_runs.specs.Putting.{most_direction_lines}
+use Rattle.gtd_schedule.specs.Lines.{AreShown}
 use Rattle.gtd_spans.specs.Normal.{AllBeginFrom, AreInOrder, Holds}
 
 -- What is put of the lines that are left makes what is put of all.
@@ -93,7 +94,7 @@ module _ (set : ℤ → Type 0) (horizon : Horizon) (spans : List Interval) (nor
       (omega (arith, ints, horizon.not_early)) (omega (arith, ints, horizon.not_late)) normal_fit
 
   -- and there are no more of them than seconds in the longest horizon
-  pub normal_few : length spans ≤ most_lines
+  pub normal_few : length spans ≤ most_direction_lines
   normal_few =
       let few = fit_few (whole horizon).from (whole horizon).until spans normal_fit in
       omega (arith, ints, few, horizon.not_long)

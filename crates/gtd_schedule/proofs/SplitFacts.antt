@@ -11,12 +11,13 @@ use Rattle.std.proofs.lemmas.List.Elements.{filter_passes}
 use Rattle.std.proofs.lemmas.Map.Keys.{IsStrictlyIncreasing-from_sorted, sorted_from_strictly_increasing}
 use Rattle.gtd_core.specs.declared.horizon.Horizon.{Horizon}
 use Rattle.gtd_records.specs.facts.IndexFacts.{by_le}
-use Rattle.gtd_records.specs.facts.Rising.{AllAbove, In, Rises}
+use Rattle.gtd_records.specs.facts.Rising.{AllAbove, In, Rises, from_in, to_in}
 use Rattle.gtd_records.specs.Closing.{AreElements, Closes, IsOpen, Restriction}
 use Rattle.gtd_records.specs.declared.direction.Direction.{Direction}
 use Rattle.gtd_records.specs.declared.direction.Direction.TheVariants.{Positive, Negative}
-use Rattle.gtd_schedule.specs.facts.SomeSchedule.{any_first, any_later, any_split, sorted, to_in, from_in}
-use Rattle.gtd_schedule.specs.Schedule.{AreElementLines, AreLines, AreLinesOf, IsSchedule, header_line}
+use Rattle.gtd_runs.specs.facts.SomeElements.{any_first, any_later, any_split, sorted}
+use Rattle.gtd_runs.specs.Putting.{AreElementLines, AreLinesOf}
+use Rattle.gtd_schedule.specs.Schedule.{AreLines, IsSchedule, header_line}
 use Rattle.gtd_schedule.specs.Split.{below, not_below}
 use Rattle.gtd_core.specs.Seconds.{Interval}
 use Rattle.gtd_core.specs.Whole.{whole}
@@ -142,7 +143,8 @@ module _ (found : List Restriction) (vehicle : ℕ) (horizon : Horizon) where
     }
 
     kept_element : (element : ℕ) → ((r : Restriction) → r.element ≡ element → test r ≡ true) → (lines : List (List ℕ))
-        → AreElementLines (filter test found) vehicle horizon element lines → AreElementLines found vehicle horizon element lines
+        → AreElementLines (AreLines (filter test found) vehicle horizon element) lines
+        → AreElementLines (AreLines found vehicle horizon element) lines
     kept_element element pass lines are = record {
       positive = are.positive;
       negative = are.negative;
@@ -153,7 +155,8 @@ module _ (found : List Restriction) (vehicle : ℕ) (horizon : Horizon) where
 
     kept_lines_of : (elements : List ℕ) → ((n : ℕ) → In n elements → (r : Restriction) → r.element ≡ n → test r ≡ true)
         → (lines : List (List ℕ))
-        → AreLinesOf (filter test found) vehicle horizon elements lines → AreLinesOf found vehicle horizon elements lines
+        → AreLinesOf (AreLines (filter test found) vehicle horizon) elements lines
+        → AreLinesOf (AreLines found vehicle horizon) elements lines
     kept_lines_of [] pass lines are = are
     kept_lines_of (e ∷ elements) pass lines are = (
       are.0,
@@ -164,9 +167,9 @@ module _ (found : List Restriction) (vehicle : ℕ) (horizon : Horizon) where
     )
 
   -- the lines of elements, and of those after them
-  lines_both : (xs ys : List ℕ) (a b : List (List ℕ)) → AreLinesOf found vehicle horizon xs a
-      → AreLinesOf found vehicle horizon ys b
-      → AreLinesOf found vehicle horizon (xs ++ ys) (a ++ b)
+  lines_both : (xs ys : List ℕ) (a b : List (List ℕ)) → AreLinesOf (AreLines found vehicle horizon) xs a
+      → AreLinesOf (AreLines found vehicle horizon) ys b
+      → AreLinesOf (AreLines found vehicle horizon) (xs ++ ys) (a ++ b)
   lines_both [] ys a b p q = rw p q
   lines_both (x ∷ xs) ys a b p q =
       (p.0, p.1 ++ b, p.2, lines_both xs ys p.1 b p.3 q, ap (λ (l : List (List ℕ)). l ++ b) p.4 ∙ append_assoc p.0 p.1 b)

@@ -7,4 +7,3 @@ pub use Rattle.gtd_core.specs.declared.horizon.Horizon
 pub use Rattle.gtd_records.specs.File
 pub use Rattle.gtd_records.specs.Closing
 pub use Rattle.gtd_runs.specs.Run
-pub use Rattle.gtd_runs.specs.Subjects

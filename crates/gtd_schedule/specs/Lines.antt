@@ -1,8 +1,8 @@
 -- The lines of a schedule, as they are written: what all lines of an element in a direction begin with, and the rest.
-use Rattle.std.specs.Prelude.{ℕ, List, [], ◌∷◌, ◌++◌, codes, decimal}
+use Rattle.std.specs.Prelude.{ℕ, ◌/◌, ◌%◌, List, [], ◌∷◌, ◌++◌, codes, decimal}
 use Rattle.gtd_core.specs.Seconds.{Interval, day_of_second}
 use Rattle.gtd_calendar.specs.Calendar.{IsCalendarDay}
-use Rattle.gtd_calendar.specs.Stamp.{stamp_text}
+use Rattle.gtd_calendar.specs.Stamp.{hms_text, stamp_text}
 use Rattle.gtd_records.specs.declared.direction.Direction.{Direction}
 use Rattle.gtd_runs.specs.Putting.{direction_word}
 
@@ -10,6 +10,10 @@ use Rattle.gtd_runs.specs.Putting.{direction_word}
 abbrev pub line_head : ℕ → Direction → ℕ → List ℕ
 line_head element direction vehicle =
     decimal element ++ codes "," ++ direction_word direction ++ codes "," ++ decimal vehicle ++ codes ","
+
+-- the text of the clock at a place in the day: T, hours, minutes and seconds
+abbrev pub clock_bytes : ℕ → List ℕ
+clock_bytes clock = 84 ∷ hms_text (clock / 3600) (clock / 60 % 60) (clock % 60)
 
 -- the two moments of a span, and the LF
 abbrev pub span_text : Interval → List ℕ
@@ -20,11 +24,3 @@ abbrev pub AreShown : List Interval → Type 0
 AreShown [] = Unit {0}
 AreShown (span ∷ spans) =
     IsCalendarDay (day_of_second span.from) × IsCalendarDay (day_of_second span.until) × AreShown spans
-
--- as many lines as the longest horizon has seconds: an element has no more in a direction
-abbrev pub most_lines : ℕ
-most_lines = 12_622_867_200
-
--- more bytes than so many lines have
-abbrev pub most_schedule_bytes : ℕ
-most_schedule_bytes = 1_009_829_376_000

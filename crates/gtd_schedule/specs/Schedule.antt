@@ -1,14 +1,13 @@
 -- The schedule of a record file: when each of its road elements is open, over the days of a horizon and for a vehicle
 -- type. A line has its end: the LF is its last byte.
-use Rattle.std.specs.Prelude.{◌≡◌, ◌++◌, ℕ, List, [], ◌∷◌, map, codes, decimal}
+use Rattle.std.specs.Prelude.{◌≡◌, ◌++◌, ℕ, List, map, codes, decimal}
 use Rattle.gtd_core.specs.Seconds.{Interval}
 use Rattle.gtd_core.specs.declared.horizon.Horizon.{Horizon}
 use Rattle.gtd_calendar.specs.Stamp.{stamp_text}
 use Rattle.gtd_eval.specs.Membership.{IsNormalOver}
-use Rattle.gtd_records.specs.Closing.{AreElements, IsOpen, Restriction}
+use Rattle.gtd_records.specs.Closing.{IsOpen, Restriction}
 use Rattle.gtd_records.specs.declared.direction.Direction.{Direction}
-use Rattle.gtd_records.specs.declared.direction.Direction.TheVariants.{Positive, Negative}
-use Rattle.gtd_runs.specs.Putting.{direction_word}
+use Rattle.gtd_runs.specs.Putting.{IsByElement, direction_word}
 
 -- the header line
 abbrev pub header_line : List ℕ
@@ -28,25 +27,7 @@ module _ (found : List Restriction) (vehicle : ℕ) (horizon : Horizon) where
     pub normal : IsNormalOver (IsOpen found element direction vehicle) horizon spans
     pub each : lines ≡ map (span_line element direction vehicle) spans
 
-  -- The lines of an element, positive before negative.
-  pub record AreElementLines (element : ℕ) (lines : List (List ℕ)) : Type 0 where
-    pub positive : List (List ℕ)
-    pub negative : List (List ℕ)
-    pub are_positive : AreLines element Positive positive
-    pub are_negative : AreLines element Negative negative
-    pub both : lines ≡ positive ++ negative
-
-  -- the lines of the elements, in their order
-  abbrev pub AreLinesOf : List ℕ → List (List ℕ) → Type 0
-  AreLinesOf [] lines = lines ≡ []
-  AreLinesOf (element ∷ elements) lines =
-      (first : List (List ℕ)) × (rest : List (List ℕ))
-      × AreElementLines element first × AreLinesOf elements rest × (lines ≡ first ++ rest)
-
-  -- The header, and the lines of each element that the restrictions name, in ascending order.
-  pub record IsSchedule (lines : List (List ℕ)) : Type 0 where
-    pub elements : List ℕ
-    pub named : AreElements found elements
-    pub rest : List (List ℕ)
-    pub each : AreLinesOf elements rest
-    pub whole : lines ≡ header_line ∷ rest
+  -- The header, and the lines of each element that the restrictions name, in ascending order and positive before
+  -- negative.
+  abbrev pub IsSchedule : List (List ℕ) → Type 0
+  IsSchedule = IsByElement found header_line AreLines

@@ -1,4 +1,3 @@
 pub mod LineFacts
 pub mod ScheduleFacts
 pub mod SomeSchedule
-pub mod TextFacts

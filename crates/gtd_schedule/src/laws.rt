@@ -5,7 +5,7 @@ ghost use Rattle.std.specs.List.{All};
 ghost use Rattle.gtd_core.specs.declared.horizon.Horizon.{Horizon};
 ghost use Rattle.gtd_records.specs.File.{IsFile};
 ghost use Rattle.gtd_records.specs.Closing.{Restriction};
-ghost use Rattle.gtd_runs.specs.Subjects.{IsVehicleType};
+ghost use Rattle.gtd_runs.specs.Run.{IsVehicleType};
 ghost use Rattle.gtd_schedule.specs.Schedule.{IsSchedule, header_line};
 ghost use Rattle.gtd_schedule.specs.Split.{below, not_below};
 

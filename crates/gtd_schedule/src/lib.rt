@@ -3,6 +3,7 @@
 
 pub use run::{Schedule, run_schedule};
 
+mod clock_text;
 mod day_text;
 mod elements;
 pub mod laws;

@@ -6,8 +6,8 @@ ghost use Rattle.gtd_core.specs.Seconds.{day_of_second};
 ghost use Rattle.gtd_calendar.specs.Stamp.{stamp_text};
 ghost use Rattle.gtd_schedule.specs.Lines.{line_head, span_text};
 
+use crate::clock_text::ClockText;
 use crate::day_text::DayText;
-use gtd_calendar::write_clock;
 use gtd_core::{Sec, Span};
 use gtd_records::Direction;
 use itoa::Buffer;
@@ -32,26 +32,42 @@ pub(crate) fn write_head(
     line.extend_from_slice(b",")
 }
 
-// Writes a moment behind what the buffer has, and the byte that ends it.
-fn write_moment(
-    line: &mut Vec<u8>,
-    days: &mut DayText,
-    second: Sec,
-    end: u8,
-) -> Result<(), AllocError>
+/// What lines keep for those after them: the text of a day, and those of the clocks at which spans begin and end.
+#[derive(Clone, Copy)]
+pub(crate) struct KeptTexts {
+    days: DayText,
+    from: ClockText,
+    until: ClockText,
+}
+
+impl KeptTexts {
+    /// Those of the first second of all.
+    pub(crate) fn new() -> KeptTexts {
+        let clock = ClockText::new(Sec(0));
+        KeptTexts {
+            days: DayText::new(0),
+            from: clock,
+            until: clock,
+        }
+    }
+}
+
+// The text of a moment, and the byte that ends it.
+fn moment_text(days: &mut DayText, clocks: &mut ClockText, second: Sec, end: u8) -> [u8; 20]
     requires day { IsCalendarDay (day_of_second second.0) }
-    ensures moment { OnOk result (line.new.items ≡ line.old.items ++ (stamp_text second.0 ++ (end ∷ []))) }
+    ensures { result ≡ stamp_text second.0 ++ (end ∷ []) }
 {
-    let date = days.text_of(second.day());
-    line.extend_from_slice(&date)?;
-    line.extend_from_slice(&write_clock(second))?;
-    line.extend_from_slice(&[end])
+    let [y1, y2, y3, y4, h1, m1, m2, h2, d1, d2] = days.text_of(second.day());
+    let [t, hour1, hour2, c1, min1, min2, c2, s1, s2] = clocks.text_of(second);
+    [
+        y1, y2, y3, y4, h1, m1, m2, h2, d1, d2, t, hour1, hour2, c1, min1, min2, c2, s1, s2, end,
+    ]
 }
 
 // Writes the line of a span behind the head of its line, which has so many bytes.
 pub(crate) fn write_span(
     line: &mut Vec<u8>,
-    days: &mut DayText,
+    kept: &mut KeptTexts,
     head: usize,
     span: Span,
 ) -> Result<(), AllocError>
@@ -60,7 +76,9 @@ pub(crate) fn write_span(
     requires until { IsCalendarDay (day_of_second span.until) }
     ensures line { OnOk result (line.new.items ≡ take head line.old.items ++ span_text span) }
 {
+    let from = moment_text(&mut kept.days, &mut kept.from, span.from(), b',');
+    let until = moment_text(&mut kept.days, &mut kept.until, span.until(), b'\n');
     line.truncate(head);
-    write_moment(line, days, span.from(), b',')?;
-    write_moment(line, days, span.until(), b'\n')
+    line.extend_from_slice(&from)?;
+    line.extend_from_slice(&until)
 }

@@ -2,16 +2,17 @@
 
 ghost use Rattle.std.specs.Prelude.{◌≡◌, ◌<◌, ◌↔◌, ⊤, None, Some, IsErrOf, IsTrue, List, OnOk};
 ghost use Rattle.gtd_records.specs.Closing.{Restriction};
-ghost use Rattle.gtd_runs.specs.Run.{HasRun, failures_after_read, failures_after_write};
-ghost use Rattle.gtd_runs.specs.Subjects.{IsVehicleType};
-ghost use Rattle.gtd_schedule.specs.Schedule.{IsSchedule};
+ghost use Rattle.gtd_runs.specs.Run.{HasRun, failures_after_read, failures_after_write, IsVehicleType};
+ghost use Rattle.gtd_schedule.specs.Schedule.{AreLines, IsSchedule};
 ghost use Rattle.gtd_schedule.specs.Theorem.{Headline};
 
-use crate::elements::put_elements;
+use crate::elements::put_open_spans;
 use gtd_core::Horizon;
 use gtd_devices::{Input, Output};
-use gtd_records::{RecordFault, Records};
-use gtd_runs::{Progress, Report, RunFault, Stop, Subject, finish, put_line, run_report};
+use gtd_records::{Direction, RecordFault, Records};
+use gtd_runs::{
+    ElementLines, Progress, Report, RunFault, Stop, Subject, put_by_element, run_report,
+};
 use std::alloc::Global;
 
 /// The schedule over the days of a horizon, for a vehicle type.
@@ -21,6 +22,33 @@ pub struct Schedule {
     pub horizon: Horizon,
     /// The vehicle type.
     pub vehicle: u8,
+}
+
+impl ElementLines for Schedule {
+    ghost are_lines = { λ report found. AreLines found report.vehicle report.horizon };
+
+    fn put_direction<O: Output>(
+        &self,
+        alloc: Global,
+        output: &mut O,
+        progress: &mut Progress,
+        line: &mut Vec<u8>,
+        found: &Records,
+        element: u64,
+        direction: Direction,
+    ) -> Result<(), Stop> {
+        put_open_spans(
+            alloc,
+            output,
+            progress,
+            line,
+            found,
+            element,
+            direction,
+            self.vehicle,
+            self.horizon,
+        )
+    }
 }
 
 impl Report for Schedule {
@@ -43,17 +71,8 @@ impl Report for Schedule {
         progress: &mut Progress,
         found: &Records,
     ) -> Result<(), Stop> {
-        put_line(output, progress, b"element,direction,vehicle,from,until\n")?;
-        put_elements(
-            alloc,
-            output,
-            progress,
-            found,
-            found.elements(),
-            self.vehicle,
-            self.horizon,
-        )?;
-        finish(output)
+        let header = b"element,direction,vehicle,from,until\n";
+        put_by_element(alloc, output, progress, found, header, self)
     }
 }
 
@@ -63,6 +82,16 @@ impl Report for Schedule {
 /// In order: `VehicleRange`; then the first fault of reading the file (`Records`); then `WriteFault` or `NoMemory`,
 /// whichever happens first. Nothing is put before the whole file was read and accepted. Each span is put as it is found:
 /// no list of them is kept. The caller keeps the failures of both devices under `u64::MAX` before the call.
+///
+/// ```
+/// let file = b"element,direction,vehicle,domain\n17,negative,11,\n";
+/// let mut input = MemoryIn::new(Vec::from_slice(alloc, file)?, 4096, None, None);
+/// let mut output = MemoryOut::new(alloc, 1_000, 1_000, None)?;
+/// let horizon = Horizon::new(19_723, 19_724).expect(&rt, "a horizon");
+/// let lines = run_schedule(alloc, &mut input, &mut output, horizon, 11);
+/// // The header, and the day on which 17 is open in its positive direction.
+/// assert_eq!(rt; lines, Ok(2));
+/// ```
 pub fn run_schedule<I: Input, O: Output>(
     alloc: Global,
     input: &mut I,

@@ -4,22 +4,27 @@ use Rattle.std.specs.Prelude.{ℤ, ◌≤ℤ◌, ◌<ℤ◌, Option, Some, None,
 use Rattle.std.proofs.lemmas.Int.{ints, by_lt_z}
 use Rattle.gtd_core.specs.Seconds.{Interval}
 use Rattle.gtd_core.specs.declared.domain.Op.TheVariants.{Minus}
-use Rattle.gtd_spans.specs.Normal.{Holds, AllBeginAfter, IsNormal}
-use Rattle.gtd_spans.specs.Combine.{combine}
+use Rattle.gtd_spans.specs.Normal.{Holds, IsNormal, combine}
 use Rattle.gtd_spans.specs.Merging.{Takes}
 use Rattle.gtd_spans.specs.facts.Combining.{combine-normal}
 use Rattle.gtd_spans.specs.facts.OneList.{after-holds, one-list}
+use Rattle.gtd_spans.specs.facts.Orders.{after-from-holds}
 use Rattle.gtd_spans.specs.facts.Whole.{minus-whole}
+
+-- a second that is the earlier of two, which no second behind it is at or before both of; the later of two
+pub one-of-lower : (a b s : ℤ) → (s ≤ℤ a) × (s ≤ℤ b) → ((c : ℤ) → c ≤ℤ a → c ≤ℤ b → c ≤ℤ s) → (s ≡ a) ⊎ (s ≡ b)
+one-of-lower a b s low high = by_lt_z a b
+    (λ lt. inl (let q = high a (omega (arith, ints)) (omega (arith, ints, lt)) in omega (arith, ints, q, low.0)))
+    (λ le. inr (let q = high b (omega (arith, ints, le)) (omega (arith, ints)) in omega (arith, ints, q, low.1)))
+
+pub one-of-upper : (a b s : ℤ) → (a ≤ℤ s) × (b ≤ℤ s) → ((c : ℤ) → a ≤ℤ c → b ≤ℤ c → s ≤ℤ c) → (s ≡ a) ⊎ (s ≡ b)
+one-of-upper a b s high low = by_lt_z a b
+    (λ lt. inr (let q = low b (omega (arith, ints, lt)) (omega (arith, ints)) in omega (arith, ints, q, high.1)))
+    (λ le. inl (let q = low a (omega (arith, ints)) (omega (arith, ints, le)) in omega (arith, ints, q, high.0)))
 
 -- what intervals leave of the seconds from one up to and without another
 abbrev pub left : ℤ → ℤ → List Interval → List Interval
 left from until xs = combine Minus (record { from = from; until = until } ∷ []) xs
-
--- each interval of a normal list begins after a second, where each of its seconds is after it
-all-after : (b : ℤ) (xs : List Interval) → IsNormal xs → ((t : ℤ) → Holds xs t → b <ℤ t) → AllBeginAfter b xs
-all-after b [] n h = tt
-all-after b (x ∷ xs) n h =
-    (h x.from (inl (omega (arith, ints), n.0)), all-after b xs n.2 (λ t k. h t (inr k)))
 
 -- nothing is left of a range without seconds
 pub none-left : (from until : ℤ) (xs : List Interval) → until ≤ℤ from → left from until xs ≡ []
@@ -80,7 +85,7 @@ module _ (from until : ℤ) (x : Interval) (xs : List Interval) (n : IsNormal (x
   gap-first lt = one-list (left from until (x ∷ xs)) (record { from = from; until = stop } ∷ left next until xs)
       (combine-normal Minus _ _) (
         lt,
-        all-after stop (left next until xs) (combine-normal Minus _ _)
+        after-from-holds stop (left next until xs) (combine-normal Minus _ _)
             (λ t h. let w = (minus-whole _ xs t).0 h in omega (arith, ints, w.0.0, next_high.1, n.0, stop_low.0)),
         combine-normal Minus _ _,
       )
@@ -112,12 +117,14 @@ takes-last from until (Some x) made =
 
 -- what is left before the first interval of a normal list, and behind it
 pub passes-first : (from until : ℤ) (x : Interval) (xs : List Interval) (gap : Option Interval) (stop next : ℤ)
-    → IsNormal (x ∷ xs) → (stop ≤ℤ x.from) × (stop ≤ℤ until) → (stop ≡ x.from) ⊎ (stop ≡ until)
-    → (from ≤ℤ next) × (x.until ≤ℤ next) → (next ≡ from) ⊎ (next ≡ x.until) → Made from stop gap
+    → IsNormal (x ∷ xs) → (stop ≤ℤ x.from) × (stop ≤ℤ until) → ((c : ℤ) → c ≤ℤ x.from → c ≤ℤ until → c ≤ℤ stop)
+    → (from ≤ℤ next) × (x.until ≤ℤ next) → ((c : ℤ) → from ≤ℤ c → x.until ≤ℤ c → next ≤ℤ c) → Made from stop gap
     → MatchOption gap (left from until (x ∷ xs) ≡ left next until xs)
     (λ (y : Interval). left from until (x ∷ xs) ≡ y ∷ left next until xs)
-passes-first from until x xs None stop next n low is high are made =
-    no-gap from until x xs n stop next low is high are made
-passes-first from until x xs (Some y) stop next n low is high are made =
-    gap-first from until x xs n stop next low is high are made.0
+passes-first from until x xs None stop next n low least high most made =
+    no-gap from until x xs n stop next low (one-of-lower x.from until stop low least) high
+    (one-of-upper from x.until next high most) made
+passes-first from until x xs (Some y) stop next n low least high most made =
+    gap-first from until x xs n stop next low (one-of-lower x.from until stop low least) high
+    (one-of-upper from x.until next high most) made.0
     ∙ ap (λ (z : Interval). z ∷ left next until xs) (sym made.1)

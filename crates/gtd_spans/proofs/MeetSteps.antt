@@ -1,5 +1,5 @@
 -- The steps of an intersection, and what they share with those of a difference.
-use Rattle.std.proofs.Common.{◌≡◌, ◌⊎◌, ◌↔◌, List, [], ◌∷◌, refl, inl, inr, arith, Option, Some, None, IfSome, MatchOption}
+use Rattle.std.proofs.Common.{◌≡◌, ◌⊎◌, ◌↔◌, List, ◌∷◌, refl, inl, inr, arith, Option, Some, None, IfSome, MatchOption}
 use Rattle.std.proofs.Common.{Bool, true, false, is_le, int_cmp}
 use Rattle.std.specs.Prelude.{ℤ, ◌≤ℤ◌, ◌<ℤ◌}
 use Rattle.std.proofs.lemmas.Int.{ints}
@@ -10,11 +10,11 @@ use Rattle.gtd_core.specs.declared.domain.Op.TheVariants.{Meet, Minus}
 use Rattle.gtd_spans.specs.declared.merge.Side.{Side}
 use Rattle.gtd_spans.specs.declared.merge.Side.TheVariants.{Held}
 use Rattle.gtd_spans.specs.declared.merge.Merge.{Merge}
-use Rattle.gtd_spans.specs.Normal.{Holds, IsNormal}
-use Rattle.gtd_spans.specs.Combine.{combine}
+use Rattle.gtd_spans.specs.Normal.{Holds, IsNormal, combine}
 use Rattle.gtd_spans.specs.Merging.{listed, side_list, still, OnlyUnionKeeps, Fits}
 use Rattle.gtd_spans.specs.facts.OneList.{after-holds, one-list}
 use Rattle.gtd_spans.specs.facts.Combining.{combine-normal, combine-holds}
+pub use Rattle.gtd_spans.specs.facts.Ended.{nothing-meet, meet-nothing, nothing-minus}
 use Rattle.gtd_spans.proofs.UnionSteps.{first-off, union-nil, Handed}
 
 -- a list before and after an interval of it was handed out, if one was
@@ -54,19 +54,6 @@ moved-on op s a b g l r e none f n m h = (
     union-nil _ (combine-normal op (side_list a l) (side_list b r)),
   ) h,
 )
-
--- nothing is left where a side of an intersection, or the left side of a difference, has ended
-pub nothing-meet : (ys : List Interval) → combine Meet [] ys ≡ []
-nothing-meet ys = one-list _ [] (combine-normal Meet [] ys) tt
-    (λ t. ((λ h. ((combine-holds Meet [] ys t).0 h).0), (λ h. absurd h)))
-
-pub meet-nothing : (xs : List Interval) → combine Meet xs [] ≡ []
-meet-nothing xs = one-list _ [] (combine-normal Meet xs []) tt
-    (λ t. ((λ h. ((combine-holds Meet xs [] t).0 h).1), (λ h. absurd h)))
-
-pub nothing-minus : (ys : List Interval) → combine Minus [] ys ≡ []
-nothing-minus ys = one-list _ [] (combine-normal Minus [] ys) tt
-    (λ t. ((λ h. ((combine-holds Minus [] ys t).0 h).0), (λ h. absurd h)))
 
 beyond-left : (x : Interval) (l ys : List Interval) (g : Option Interval) → IsNormal (x ∷ l)
     → IfSome g (λ m. (m.from <ℤ m.until) × (m.until ≤ℤ x.until))

@@ -4,8 +4,7 @@ use Rattle.std.specs.Prelude.{ℤ, ◌≤ℤ◌, ◌<ℤ◌}
 use Rattle.std.proofs.lemmas.Int.{ints, by_lt_z}
 use Rattle.gtd_core.specs.Seconds.{Interval}
 use Rattle.gtd_core.specs.declared.domain.Op.TheVariants.{Minus}
-use Rattle.gtd_spans.specs.Normal.{Holds, IsNormal}
-use Rattle.gtd_spans.specs.Combine.{combine}
+use Rattle.gtd_spans.specs.Normal.{Holds, IsNormal, combine}
 use Rattle.gtd_spans.specs.Merging.{listed, AllBeginFrom}
 use Rattle.gtd_spans.specs.facts.OneList.{after-holds, first-holds}
 use Rattle.gtd_spans.specs.facts.Combining.{combine-normal, combine-holds}

@@ -7,39 +7,18 @@ use Rattle.gtd_core.specs.declared.domain.Op.TheVariants.{Union}
 use Rattle.gtd_spans.specs.declared.merge.Side.{Side}
 use Rattle.gtd_spans.specs.declared.merge.Side.TheVariants.{Open, Held, Ended}
 use Rattle.gtd_spans.specs.declared.merge.Merge.{Merge}
-use Rattle.gtd_spans.specs.Normal.{Holds, AllBeginAfter, IsNormal}
-use Rattle.gtd_spans.specs.Combine.{combine}
+use Rattle.gtd_spans.specs.Normal.{Holds, IsNormal, combine}
 use Rattle.gtd_spans.specs.Merging.{listed, side_list, still, AllBeginFrom, KeptFits, Fits}
 use Rattle.gtd_spans.specs.facts.OneList.{one-list}
+pub use Rattle.gtd_spans.specs.Sides.{Handed}
+pub use Rattle.gtd_spans.specs.facts.Orders.{after-from-holds, from-after, from-weaken, from-holds, normal-begins}
 use Rattle.gtd_spans.specs.facts.Combining.{combine-normal, combine-holds}
-
--- a normal list that holds no second up to b begins after b
-pub after-from-holds : (b : ℤ) (xs : List Interval) → IsNormal xs → ((t : ℤ) → Holds xs t → b <ℤ t) → AllBeginAfter b xs
-after-from-holds b [] n h = tt
-after-from-holds b (x ∷ xs) n h =
-    (h x.from (inl (omega (arith, ints), n.0)), after-from-holds b xs n.2 (λ t k. h t (inr k)))
 
 -- an interval, and a normal list that lies beyond it, are together a normal list
 pub first-off : (x : Interval) (xs ys : List Interval) → IsNormal xs → IsNormal ys → x.from <ℤ x.until
     → ((t : ℤ) → Holds ys t → x.until <ℤ t)
     → ((t : ℤ) → Holds xs t ↔ (Within x t ⊎ Holds ys t)) → xs ≡ x ∷ ys
 first-off x xs ys n m lt beyond same = one-list xs (x ∷ ys) n (lt, after-from-holds x.until ys m beyond, m) same
-
-pub from-after : (b u : ℤ) (xs : List Interval) → b ≤ℤ u → AllBeginAfter u xs → AllBeginFrom b xs
-from-after b u [] le a = tt
-from-after b u (x ∷ xs) le a = (omega (arith, ints, a.0), from-after b u xs le a.1)
-
-pub from-weaken : (b c : ℤ) (xs : List Interval) → c ≤ℤ b → AllBeginFrom b xs → AllBeginFrom c xs
-from-weaken b c [] le a = tt
-from-weaken b c (x ∷ xs) le a = (omega (arith, ints, a.0), from-weaken b c xs le a.1)
-
-pub from-holds : (b t : ℤ) (xs : List Interval) → AllBeginFrom b xs → Holds xs t → b ≤ℤ t
-from-holds b t [] a h = absurd h
-from-holds b t (x ∷ xs) a h = elim h [ inl w ↦ omega (arith, ints, a.0, w.0) | inr r ↦ from-holds b t xs a.1 r ]
-
--- a normal list begins from the first second of its first interval
-pub normal-begins : (x : Interval) (xs : List Interval) → IsNormal (x ∷ xs) → AllBeginFrom x.from (x ∷ xs)
-normal-begins x xs n = (omega (arith, ints), from-after x.from x.until xs (omega (arith, ints, n.0)) n.1)
 
 union3-holds : (xs ys zs : List Interval) (t : ℤ)
     → Holds (combine Union xs (combine Union ys zs)) t ↔ (Holds xs t ⊎ (Holds ys t ⊎ Holds zs t))
@@ -98,11 +77,6 @@ old-right o x ls rs t = let u = union3-holds (listed o) ls (x ∷ rs) t in (
     | inr b ↦ elim b [ inl z ↦ inr (inl z) | inr z ↦ inr (inr (inr z)) ]
   ])),
 )
-
--- the answer of a union's step: what is handed out, and the list before and after it
-abbrev pub Handed : Option Interval → List Interval → List Interval → Type 0
-Handed None old new = old ≡ new
-Handed (Some x) old new = old ≡ x ∷ new
 
 handed : (g : Option Interval) (kept : Interval) (ls rs old : List Interval) → IsNormal old
     → IfSome g (λ a. (a.from <ℤ a.until) × (a.until <ℤ kept.from)) → AllBeginFrom kept.from ls → AllBeginFrom kept.from rs

@@ -9,6 +9,6 @@ IsCount set t (suc n) count =
     (rest : ℕ) × IsCount set (t +ℤ pos 1) n rest × ((set t × (count ≡ rest + 1)) ⊎ ((set t → ⊥) × (count ≡ rest)))
 
 -- the span at hand and those behind it, or none
-abbrev pub to_come : Option Interval → List Interval → List Interval
-to_come None rest = []
-to_come (Some x) rest = x ∷ rest
+abbrev pub spans_to_come : Option Interval → List Interval → List Interval
+spans_to_come None rest = []
+spans_to_come (Some x) rest = x ∷ rest

@@ -8,9 +8,8 @@ use Rattle.gtd_spans.specs.declared.merge.Side.TheVariants.{Open, Held, Ended}
 use Rattle.gtd_spans.specs.declared.merge.Ask.{Ask}
 use Rattle.gtd_spans.specs.declared.merge.Ask.TheVariants.{Left, Right, Give, End}
 use Rattle.gtd_spans.specs.declared.merge.Merge.{Merge}
-use Rattle.gtd_spans.specs.Normal.{IsNormal}
+use Rattle.gtd_spans.specs.Normal.{IsNormal, combine}
 pub use Rattle.gtd_spans.specs.Normal.{AllBeginFrom}
-use Rattle.gtd_spans.specs.Combine.{combine}
 
 -- the interval, if there is one, as a list
 abbrev pub listed : Option Interval → List Interval

@@ -3,7 +3,7 @@
 ghost use Rattle.std.specs.Prelude.{◌≡◌, ◌↔◌, ◌+ℤ◌, ◌≤ℤ◌, ◌<ℤ◌, ◌≤◌, ◌^◌, ℤ, pos};
 ghost use Rattle.gtd_core.specs.Seconds.{Within};
 ghost use Rattle.gtd_spans.specs.Normal.{Holds, IsNormal};
-ghost use Rattle.gtd_spans.specs.Counting.{IsCount, to_come};
+ghost use Rattle.gtd_spans.specs.Counting.{IsCount, spans_to_come};
 ghost use Rattle.gtd_core.specs.Limits.{day_seconds};
 
 use crate::source::SpanSource;
@@ -27,11 +27,11 @@ fn seconds_within(span: Span, midnight: Sec) -> u32
 /// How many seconds of the spans to come are on the day. Spans that end on the day are taken off.
 fn count_day<S: SpanSource>(source: &mut S, held: &mut Option<Span>, midnight: Sec) -> u32
     requires fits { (midnight.0 +ℤ pos day_seconds) <ℤ pos (2 ^ 63) }
-    requires normal { IsNormal (to_come held.old (S.rest source.old)) }
-    ensures count { IsCount (Holds (to_come held.old (S.rest source.old))) midnight.0 day_seconds result }
+    requires normal { IsNormal (spans_to_come held.old (S.rest source.old)) }
+    ensures count { IsCount (Holds (spans_to_come held.old (S.rest source.old))) midnight.0 day_seconds result }
     ensures later { (t : ℤ) → (midnight.0 +ℤ pos day_seconds) ≤ℤ t
-        → Holds (to_come held.old (S.rest source.old)) t ↔ Holds (to_come held.new (S.rest source.new)) t }
-    ensures normal { IsNormal (to_come held.new (S.rest source.new)) }
+        → Holds (spans_to_come held.old (S.rest source.old)) t ↔ Holds (spans_to_come held.new (S.rest source.new)) t }
+    ensures normal { IsNormal (spans_to_come held.new (S.rest source.new)) }
     ensures few { result ≤ day_seconds }
 {
     let end = midnight.0 + DAY_SECONDS;
@@ -60,13 +60,13 @@ impl<S: SpanSource> Model for ByDay<S> {
     ghost use Rattle.std.specs.Prelude.{List};
     ghost use Rattle.gtd_core.specs.Seconds.{Interval};
     ghost use Rattle.gtd_spans.specs.Normal.{IsNormal};
-    ghost use Rattle.gtd_spans.specs.Counting.{to_come};
+    ghost use Rattle.gtd_spans.specs.Counting.{spans_to_come};
 
     ghost Value = { List Interval };
 
-    ghost view = { λ a. to_come a.held (S.rest a.source) };
+    ghost view = { λ a. spans_to_come a.held (S.rest a.source) };
 
-    ghost invariant = { λ a. IsNormal (to_come a.held (S.rest a.source)) };
+    ghost invariant = { λ a. IsNormal (spans_to_come a.held (S.rest a.source)) };
 }
 
 impl<S: SpanSource> ByDay<S> {

@@ -1,6 +1,6 @@
 //! What is left of a range of seconds between spans.
 
-ghost use Rattle.std.specs.Prelude.{◌≡◌, [], ◌∷◌, ℤ, List, ◌↔◌, ◌⊎◌, ◌≤ℤ◌};
+ghost use Rattle.std.specs.Prelude.{◌≡◌, [], ◌∷◌, ℤ, List, ◌↔◌};
 ghost use Rattle.gtd_core.specs.Seconds.{Interval, Within};
 ghost use Rattle.gtd_core.specs.Whole.{whole};
 ghost use Rattle.gtd_spans.specs.Gaps.{Passes, gaps_left};
@@ -17,22 +17,6 @@ pub struct Gaps {
     from: Sec,
     /// The first second behind the range.
     until: Sec,
-}
-
-// The earlier of two seconds.
-fn earlier(a: Sec, b: Sec) -> Sec
-    ensures not_later { (result.0 ≤ℤ a.0) × (result.0 ≤ℤ b.0) }
-    ensures either { (result.0 ≡ a.0) ⊎ (result.0 ≡ b.0) }
-{
-    if a < b { a } else { b }
-}
-
-// The later of two seconds.
-fn later(a: Sec, b: Sec) -> Sec
-    ensures not_earlier { (a.0 ≤ℤ result.0) × (b.0 ≤ℤ result.0) }
-    ensures either { (result.0 ≡ a.0) ⊎ (result.0 ≡ b.0) }
-{
-    if a < b { b } else { a }
 }
 
 impl Gaps {
@@ -52,8 +36,8 @@ impl Gaps {
         ensures passes { (xs : List Interval) → IsNormal (span ∷ xs) → Passes self.old span xs result self.new }
     {
         let (from, until) = (span.from(), span.until());
-        let gap = Span::new(self.from, earlier(from, self.until));
-        self.from = later(self.from, until);
+        let gap = Span::new(self.from, from.earlier(self.until));
+        self.from = self.from.later(until);
         gap
     }
 

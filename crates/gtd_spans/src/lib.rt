@@ -5,15 +5,16 @@
 //!
 //! A [`Sweep`] is a set operator without its sides. It asks for their spans one at a time, and hands out those of the
 //! result. [`Unite`], [`Both`], [`Without`] and [`Outside`] drive one over sources, and the list operations collect
-//! these over lists. Only [`SpanList::push_start`] on a new span, [`SpanList::collect`] and the five list operations
-//! take memory.
+//! these over lists. [`first_of`], [`longer`], [`share`] and [`cut`] take the spans that come first on two sides. Only
+//! [`SpanList::push_start`] on a new span, [`SpanList::collect`] and the five list operations take memory.
 #![tactic(auto)]
 
 pub use counting::ByDay;
 pub use gaps::Gaps;
 pub use list::SpanList;
-pub use merge::Ask;
+pub use merge::{Ask, Side};
 pub use operations::{complement, meet, minus, same, union, within};
+pub use sides::{cut, first_of, longer, share};
 pub use source::{Both, Outside, SpanSource, Unite, Without, next_change};
 pub use sweep::Sweep;
 
@@ -23,5 +24,6 @@ pub mod laws;
 mod list;
 mod merge;
 mod operations;
+mod sides;
 mod source;
 mod sweep;

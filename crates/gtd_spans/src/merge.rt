@@ -3,22 +3,60 @@
 ghost use Rattle.std.specs.Prelude.{◌≡◌, ◌≢◌, ◌⊎◌, ◌↔◌, ◌<ℤ◌, ◌≤ℤ◌, ℤ, ◌+◌, List, IfSome};
 ghost use Rattle.gtd_core.specs.Seconds.{Interval, Within};
 ghost use Rattle.gtd_core.specs.declared.domain.Op.TheVariants.{Union, Meet, Minus};
-ghost use Rattle.gtd_spans.specs.Normal.{Holds, IsNormal};
-ghost use Rattle.gtd_spans.specs.Combine.{combine};
+ghost use Rattle.gtd_spans.specs.Normal.{Holds, IsNormal, combine};
 ghost use Rattle.gtd_spans.specs.Merging.{listed, side_list, AllBeginFrom, Fits, still, AwaitsLeft, AwaitsRight, Steps};
 ghost use Rattle.gtd_spans.specs.Merging.{SameEnded, TellsLeft, TellsRight, unended_sides, told_count};
 
 use gtd_core::{Op, Span};
 
-/// What is known of one side of a merge.
+/// What is known of one side of an operator.
 #[derive(Clone, Copy, Debug)]
-pub(crate) enum Side {
+pub enum Side {
     /// Its next span is not known.
     Open,
     /// Its next span.
     Held(Span),
     /// It has no more spans.
     Ended,
+}
+
+impl Side {
+    ghost use Rattle.std.specs.Prelude.{◌≡◌, ◌≢◌, IsTrue, IsFalse};
+    ghost use Rattle.gtd_spans.specs.Sides.{ComesFirst};
+    ghost use Rattle.gtd_spans.specs.declared.merge.Side.TheVariants.{Open};
+
+    /// A side that was told its next span, or that it has none.
+    pub fn told(told: Option<Span>) -> Side
+        ensures comes { ComesFirst told result }
+    {
+        match told {
+            Some(x) => Side::Held(x),
+            None => Side::Ended,
+        }
+    }
+
+    /// Whether its next span is not known.
+    pub fn is_open(&self) -> bool
+        ensures yes { IsTrue result → self.now ≡ Open }
+        ensures no { IsFalse result → self.now ≢ Open }
+    {
+        match self {
+            Side::Open => true,
+            Side::Held(_) => false,
+            Side::Ended => false,
+        }
+    }
+
+    /// Its next span, if that is known.
+    pub fn held(&self) -> Option<Span>
+        ensures comes { self.now ≢ Open → ComesFirst result self.now }
+    {
+        match self {
+            Side::Held(x) => Some(*x),
+            Side::Open => None,
+            Side::Ended => None,
+        }
+    }
 }
 
 /// What a sweep asks for, or has to give.
@@ -108,10 +146,7 @@ impl Merge {
         ensures right_count { AwaitsRight self.old
             → unended_sides self.new + 1 ≡ unended_sides self.old + told_count told }
     {
-        let told = match told {
-            Some(x) => Side::Held(x),
-            None => Side::Ended,
-        };
+        let told = Side::told(told);
         let left = self.left;
         match left {
             Side::Open => self.left = told,

@@ -3,8 +3,7 @@
 ghost use Rattle.std.specs.Prelude.{◌⊎◌, ◌↔◌, ℤ, IfOk, IsTrue};
 ghost use Rattle.gtd_core.specs.Seconds.{Within};
 ghost use Rattle.gtd_core.specs.Whole.{whole};
-ghost use Rattle.gtd_spans.specs.Normal.{Holds, IsNormal, HoldSame};
-ghost use Rattle.gtd_spans.specs.Combine.{Combined};
+ghost use Rattle.gtd_spans.specs.Normal.{Holds, IsNormal, HoldSame, Combined};
 
 use crate::list::{Listed, SpanList};
 use crate::source::{Outside, Pair};

@@ -5,8 +5,7 @@ ghost use Rattle.gtd_spans.specs.Change.{NeverChanges, IsNextChange};
 ghost use Rattle.gtd_core.specs.Seconds.{Interval, Within};
 ghost use Rattle.gtd_core.specs.Whole.{whole};
 ghost use Rattle.gtd_core.specs.declared.domain.Op.TheVariants.{Union, Meet, Minus};
-ghost use Rattle.gtd_spans.specs.Normal.{Holds, IsNormal};
-ghost use Rattle.gtd_spans.specs.Combine.{combine};
+ghost use Rattle.gtd_spans.specs.Normal.{Holds, IsNormal, combine};
 ghost use Rattle.gtd_spans.specs.facts.SweepFacts.{Fits-prop, HasOneSide-prop, still-normal};
 ghost use Rattle.gtd_spans.specs.Sweeping.{Takes, Fits, HasOneSide, still};
 

@@ -4,10 +4,9 @@ ghost use Rattle.std.specs.Prelude.{◌≡◌, ◌≢◌, ◌≤◌, ◌+◌, �
 ghost use Rattle.gtd_core.specs.Seconds.{Interval, Within};
 ghost use Rattle.gtd_core.specs.Whole.{whole};
 ghost use Rattle.gtd_core.specs.declared.domain.Op.TheVariants.{Minus};
-ghost use Rattle.gtd_spans.specs.Normal.{Holds, IsNormal};
+ghost use Rattle.gtd_spans.specs.Normal.{Holds, IsNormal, Combined, combine};
 ghost use Rattle.gtd_spans.specs.Alone.{TakesAway};
 ghost use Rattle.gtd_spans.specs.facts.AloneProps.{TakesAway-prop};
-ghost use Rattle.gtd_spans.specs.Combine.{Combined, combine};
 
 use crate::merge::{Ask, Merge};
 use gtd_core::{Horizon, Op, Span};

@@ -1,14 +1,16 @@
 -- The next token from a place on.
-use Rattle.std.proofs.Common.{◌≡◌, ◌≢◌, ℕ, ◌≤◌, ◌<◌, List, [], ◌∷◌, length, Option, Some, None, refl, sym, ap, subst, ◌∙◌, arith}
+use Rattle.std.proofs.Common.{◌≡◌, ◌≢◌, ℕ, ◌≤◌, ◌<◌, List, [], ◌∷◌, length, drop, Option, Some, None, refl, sym}
+use Rattle.std.proofs.Common.{ap, subst, ◌∙◌, arith}
 use Rattle.std.proofs.Common.{inl, inr}
 use Rattle.std.specs.Prelude.{slice_index, IfSome}
 use Rattle.std.proofs.lemmas.Bool.{cases_order}
 use Rattle.gtd_text.specs.declared.token.Token.{Token}
-use Rattle.gtd_text.specs.Lexing.{AreSpaces, Reads}
-use Rattle.gtd_text.specs.TokenAt.{token_at}
+use Rattle.gtd_core.specs.declared.fault.TextFault.{TextFault}
+use Rattle.gtd_text.specs.Lexing.{AreSpaces, BeginsNoToken, IsFaultAt, IsTokenFault, Reads}
+use Rattle.gtd_text.specs.TokenAt.{token_at, fault_at_front}
 use Rattle.gtd_text.specs.ToCome.{IsNextFrom}
 use Rattle.gtd_text.specs.facts.Lexed.{found}
-use Rattle.gtd_text.specs.facts.TokenForms.{computed}
+use Rattle.gtd_text.specs.facts.TokenForms.{computed, fault_agrees, no_token}
 use Rattle.gtd_text.specs.facts.Unique.{inside_at, begins_at_no_space, goes_on, ends_after}
 
 -- the first of the tokens begins where the spaces end
@@ -54,3 +56,18 @@ pub next_inside : (text : List ℕ) (from : ℕ) (next : Option Token) → token
 next_inside text from None is = tt
 next_inside text from (Some token) is =
     let here = found text from token (inside_at text from token is) is in here.inside
+
+-- after these tokens none begins
+pub none_begins : (text : List ℕ) (before : List Token) (place : ℕ) (fault : TextFault) → Reads text 0 before place
+    → place < length text → slice_index text place ≢ 32 → token_at text place ≡ None
+    → fault.kind ≡ fault_at_front (drop place text) → fault.place ≡ place → IsTokenFault text fault
+none_begins text before place fault reads inside no_space none kind at =
+    let same = sym at in
+    record {
+      before = before;
+      reads = subst (λ n. Reads text 0 before n) same reads;
+      inside = subst (λ n. n < length text) same inside;
+      no_space = subst (λ n. slice_index text n ≢ 32) same no_space;
+      no_token = subst (BeginsNoToken text) same (no_token text place none);
+      kind = subst (λ n. IsFaultAt text n fault.kind) same ((fault_agrees text place fault.kind).1 kind);
+    }

@@ -1,17 +1,17 @@
 -- Which fault the tokens of a text have: the first phase that has one decides, and in it the first token at fault.
 -- The phases are the depth of brackets, the count of parentheses, the grammar, and the durations. The limits and the
 -- order of the phases are this project's own.
-use Rattle.std.specs.Prelude.{List, ◌++◌, [], ◌∷◌, Bool, false, nat_lt, ℕ, ◌+◌, ◌-◌, Option, Some, None, if◌then◌else◌, ◌≡◌}
-use Rattle.std.specs.Prelude.{◌==◌}
+use Rattle.std.specs.Prelude.{List, ◌++◌, [], ◌∷◌, Bool, true, false, nat_lt, ℕ, ◌+◌, ◌-◌, Option, Some, None}
+use Rattle.std.specs.Prelude.{if◌then◌else◌, ◌≡◌, ◌==◌, fold}
+use Rattle.std.specs.List.{take_while}
 use Rattle.gtd_core.specs.Trees.{Tree}
 use Rattle.gtd_text.specs.declared.token.TokenKind.{TokenKind}
-use Rattle.gtd_text.specs.Grammar.{Stands, Sum}
+use Rattle.gtd_text.specs.Grammar.{Stands, Sum, with_duration_field, zero_parts, has_letter, is_start_letter, is_duration_letter}
+use Rattle.gtd_text.specs.Grammar.{is_repeated_in_start}
 use Rattle.gtd_core.specs.Limits.{most_bound, most_basic_domains, most_depth}
 use Rattle.gtd_core.specs.Ranges.{bound_of}
 use Rattle.gtd_text.specs.declared.token.TokenKind.TheVariants.{OpenBrace, Field, OpenBracket, CloseBracket, OpenParenthesis}
 use Rattle.gtd_text.specs.declared.token.TokenKind.TheVariants.{Minus}
-use Rattle.gtd_text.specs.Fields.{with_duration_fields, zero_parts, has_letter, is_start_letter, is_duration_letter}
-use Rattle.gtd_text.specs.Fields.{is_repeated_in_start}
 use Rattle.gtd_core.specs.declared.fault.Fault.{Fault}
 use Rattle.gtd_core.specs.declared.fault.Fault.TheVariants as faults
 use Rattle.gtd_core.specs.declared.fault.TextFault.{TextFault}
@@ -24,15 +24,17 @@ pub record GoesOn (tokens : List TokenKind) : Type 0 where
   pub tree : Tree
   pub stand : Stands Sum (tokens ++ after) tree
 
+abbrev pub is_field : TokenKind → Bool
+is_field (Field letter value digits) = true
+is_field sign = false
+
 -- The fields that tokens begin with.
 abbrev pub fields_at_front : List TokenKind → List TokenKind
-fields_at_front [] = []
-fields_at_front (Field letter value digits ∷ tokens) = Field letter value digits ∷ fields_at_front tokens
-fields_at_front (sign ∷ tokens) = []
+fields_at_front tokens = take_while is_field tokens
 
 -- The bound of the duration of these fields is over 3,162,240,000 seconds, which is 36,600 days.
 abbrev pub is_too_long : List TokenKind → Bool
-is_too_long fields = nat_lt most_bound (bound_of (with_duration_fields zero_parts fields))
+is_too_long fields = nat_lt most_bound (bound_of (fold with_duration_field zero_parts fields))
 
 -- A brace opens before these tokens, and the duration of the fields that follow it is too long.
 abbrev pub opens_too_long : TokenKind → List TokenKind → Bool
@@ -62,13 +64,12 @@ last_token (token ∷ before) = Some token
 -- Which fault it is that a field does not fit. A field belongs here by its letter if the last sign is `(` and a start
 -- has the letter, or `{` and a duration has it. Then the fault is that it is repeated, or else that it is out of
 -- range.
+abbrev pub misfit_of : Bool → Bool → Fault
+misfit_of belongs repeated = if belongs then (if repeated then faults.Repeated else faults.FieldRange) else faults.Unexpected
+
 abbrev pub field_fault : Option TokenKind → List TokenKind → ℕ → Fault
-field_fault (Some OpenParenthesis) before letter =
-    if is_start_letter letter then (if is_repeated_in_start before letter then faults.Repeated else faults.FieldRange)
-    else faults.Unexpected
-field_fault (Some OpenBrace) before letter =
-    if is_duration_letter letter then (if has_letter letter before then faults.Repeated else faults.FieldRange)
-    else faults.Unexpected
+field_fault (Some OpenParenthesis) before letter = misfit_of (is_start_letter letter) (is_repeated_in_start before letter)
+field_fault (Some OpenBrace) before letter = misfit_of (is_duration_letter letter) (has_letter letter before)
 field_fault sign before letter = faults.Unexpected
 
 -- A minus directly after `{` would make a duration negative.

@@ -9,11 +9,12 @@ use Rattle.gtd_text.specs.declared.token.Token.{Token}
 use Rattle.gtd_text.specs.declared.token.TokenKind.{TokenKind}
 use Rattle.gtd_text.specs.declared.token.TokenKind.TheVariants.{OpenBracket, CloseBracket, OpenParenthesis, CloseParenthesis}
 use Rattle.gtd_text.specs.declared.token.TokenKind.TheVariants.{OpenBrace, CloseBrace, Plus, Star, Minus, Field}
-use Rattle.gtd_text.specs.Fields.{is_start_letter, is_from_to}
+use Rattle.gtd_core.specs.FieldTable.{is_from_to}
+use Rattle.gtd_text.specs.Grammar.{is_start_letter}
 
 -- The number that decimal digits write.
-abbrev pub number_of : List ℕ → ℕ
-number_of digits = fold (λ n digit. n * 10 + (digit - 48)) 0 digits
+abbrev pub field_number : List ℕ → ℕ
+field_number digits = fold (λ n digit. n * 10 + (digit - 48)) 0 digits
 
 -- The sign that a byte is: [ 91, ] 93, ( 40, ) 41, { 123, } 125, + 43, * 42, - 45.
 abbrev pub sign_of : ℕ → Option TokenKind
@@ -32,7 +33,7 @@ sign_of byte =
 -- A field of this letter and these digits, of which there are one to six.
 abbrev pub field_of : ℕ → List ℕ → Option TokenKind
 field_of letter digits =
-    if is_from_to 1 6 (length digits) then Some (Field letter (number_of digits) (length digits)) else None
+    if is_from_to 1 6 (length digits) then Some (Field letter (field_number digits) (length digits)) else None
 
 -- The token that bytes begin with: a sign, or a letter with all the digits that directly follow it. Each letter of a
 -- duration is also one of a start.

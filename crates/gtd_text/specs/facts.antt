@@ -1,4 +1,5 @@
 pub mod Builds
+pub mod ByTable
 pub mod CanonicalFields
 pub mod CanonicalText
 pub mod Faultless

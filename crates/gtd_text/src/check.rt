@@ -1,34 +1,37 @@
-//! The fault of a text's tokens, if there is one. Each call goes over the text once more, reading its tokens one by one;
-//! none keeps them or takes memory.
+//! The fault of a text, if it has one: found in one pass, which keeps no token and takes no memory.
 
-ghost use Rattle.std.specs.Prelude.{◌≡◌, List, length};
-ghost use Rattle.gtd_text.specs.Found.{fault_of_tokens, or_else};
-ghost use Rattle.gtd_text.specs.Lexing.{AreTokens};
-ghost use Rattle.gtd_text.specs.declared.token.Token.{Token};
+ghost use Rattle.std.specs.Prelude.{MatchOption};
+ghost use Rattle.gtd_text.specs.Found.{IsReadable};
+ghost use Rattle.gtd_text.specs.Reading.{IsFault};
 
-use crate::check::grammar::first_misfit;
-use crate::check::limits::{too_deep, too_long, too_many};
+use crate::check::findings::Findings;
+use crate::lexer::{token_at, token_fault_at};
 use gtd_core::TextFault;
 
-pub mod fields;
+pub mod findings;
 pub mod grammar;
 pub mod letters;
 pub mod limits;
 
-/// The first fault of the tokens of a text: of the limits, then of the grammar, then of the durations.
+/// The first fault of a text: that of the first byte that is no space and begins no token, or else that of its tokens. So
+/// the whole text is read, whatever its tokens are.
 pub fn first_fault(text: &[u8]) -> Option<TextFault>
-    ensures { (tokens : List Token) → AreTokens text.now tokens
-        → result ≡ fault_of_tokens (length text.now) tokens }
+    ensures { MatchOption result (IsReadable text.now) (λ fault. IsFault text.now fault) }
 {
-    let limits = or_else(too_deep(text), too_many(text));
-    or_else(or_else(limits, first_misfit(text)), too_long(text))
-}
-
-fn or_else(fault: Option<TextFault>, later: Option<TextFault>) -> Option<TextFault>
-    ensures { result ≡ or_else fault later }
-{
-    match fault {
-        Some(fault) => Some(fault),
-        None => later,
+    let mut findings = Findings::none();
+    let mut place = 0;
+    while place < text.len() {
+        if text[place] == b' ' {
+            place += 1;
+        } else {
+            match token_at(text, place) {
+                Some(token) => {
+                    findings.note(token);
+                    place = token.to;
+                }
+                None => return Some(token_fault_at(text, place)),
+            }
+        }
     }
+    findings.first(text.len())
 }

@@ -1,6 +1,6 @@
 //! Laws of the definitions: calls that do nothing, and whose contracts are what is proved.
 
-ghost use Rattle.std.specs.Prelude.{◌≡◌, ◌≤◌, ◌↔◌, ℕ, List, Some, None, drop, true};
+ghost use Rattle.std.specs.Prelude.{◌≡◌, ◌≤◌, ◌↔◌, ◌⊎◌, ℕ, List, Some, None, drop, true};
 ghost use Rattle.gtd_core.specs.Limits.{most_basic_domains};
 ghost use Rattle.gtd_core.specs.Equality.{same_tree};
 ghost use Rattle.gtd_core.specs.Parts.{domain_tree};
@@ -72,4 +72,10 @@ pub fn tokens_as_computed()
         BeginsNoToken text place ↔ (token_at text place ≡ None) }
     ensures fault { (text : List ℕ) (place : ℕ) (fault : Fault) →
         IsFaultAt text place fault ↔ (fault ≡ fault_at_front (drop place text)) }
+{}
+
+/// Each text stands for an expression and has no fault, or it has a fault.
+pub fn each_text()
+    ensures some { (text : List ℕ) → ((e : Tree) × StandsFor text e × HasNoFault text)
+        ⊎ ((fault : TextFault) × IsFault text fault) }
 {}

@@ -5,7 +5,7 @@ ghost use Rattle.std.specs.Prelude.{IfOk, OnOk, IfSome};
 ghost use Rattle.gtd_core.specs.Trees.{tree_of};
 ghost use Rattle.gtd_core.specs.Parts.{domain_tree, start_parts, duration_parts};
 ghost use Rattle.gtd_text.specs.Canonical.{canonical, sign_text, start_text, duration_text};
-ghost use Rattle.gtd_text.specs.Canonical.{month_fields, place_fields, day_fields, clock_fields};
+ghost use Rattle.gtd_text.specs.Canonical.{month_fields, place_fields, day_and_weekday_fields, clock_fields};
 ghost use Rattle.gtd_text.specs.Canonical.{field_text, year_text, place_text, weekday_text, weekdays_text};
 ghost use Rattle.gtd_text.specs.Canonical.{number_text, numbers_text};
 
@@ -17,6 +17,12 @@ use std::alloc::{AllocError, Global};
 ///
 /// There are no spaces, a basic domain and each combination have brackets of their own, and fields come in one order
 /// with no leading zeros, so that two domains have one text exactly if they are equal.
+///
+/// ```
+/// let domain = read_domain(alloc, b"(m30h07){m30h1}")?;
+/// let text = print_domain(alloc, &domain)?;
+/// assert_eq!(rt; text.as_str(), "[(h7m30){h1m30}]");
+/// ```
 pub fn print_domain(alloc: Global, domain: &Domain) -> Result<String, AllocError>
     ensures exact { IfOk result (λ text. string_bytes text ≡ canonical (domain_tree domain.now)) }
 {
@@ -95,9 +101,9 @@ fn push_place_fields(out: &mut String, start: &StartParts) -> Result<(), AllocEr
     push_place(out, "l", start.nth_back)
 }
 
-#[tactic(auto, unfolding(crate::specs::Canonical::day_fields))]
+#[tactic(auto, unfolding(crate::specs::Canonical::day_and_weekday_fields))]
 fn push_day_fields(out: &mut String, start: &StartParts) -> Result<(), AllocError>
-    ensures { OnOk result (string_bytes out.new ≡ string_bytes out.old ++ day_fields start.now) }
+    ensures { OnOk result (string_bytes out.new ≡ string_bytes out.old ++ day_and_weekday_fields start.now) }
 {
     push_field(out, "d", start.day)?;
     push_weekdays(out, start.weekdays)

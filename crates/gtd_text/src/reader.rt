@@ -7,11 +7,10 @@ ghost use Rattle.gtd_core.specs.declared.fault.TextFault.{TextFault};
 ghost use Rattle.gtd_text.specs.Faults.{no_memory};
 ghost use Rattle.gtd_text.specs.Reading.{StandsFor, IsFault, HasNoFault};
 ghost use Rattle.gtd_text.specs.Found.{IsReadable};
-ghost use Rattle.gtd_text.specs.ToCome.{IsLexed};
 
 use crate::builder::build_expr;
 use crate::check::first_fault;
-use crate::lexer::{NO_MEMORY, token_fault};
+use crate::lexer::NO_MEMORY;
 use gtd_core::{Domain, TextFault};
 use std::alloc::{AllocError, Global};
 
@@ -22,6 +21,12 @@ use std::alloc::{AllocError, Global};
 /// `Negative` or `Unexpected` at the first token that does not fit, or `Incomplete` at the text's length;
 /// `TooLongDuration` at the `{` of the first duration of more than 36,600 days. `NoMemory`, at 0, is answered only
 /// where memory was refused.
+///
+/// ```
+/// let domain = read_domain(alloc, b"(m30h07){m30h1}")?;
+/// let text = print_domain(alloc, &domain)?;
+/// assert_eq!(rt; text.as_str(), "[(h7m30){h1m30}]");
+/// ```
 pub fn read_domain(alloc: Global, text: &[u8]) -> Result<Domain, TextFault>
     // The text stands for the domain,
     ensures found { IfOk result (λ domain. StandsFor text.now (domain_tree domain)) }
@@ -40,19 +45,6 @@ pub fn read_domain(alloc: Global, text: &[u8]) -> Result<Domain, TextFault>
 }
 
 fn read(alloc: Global, text: &[u8]) -> Result<Domain, TextFault>
-    ensures found { IfOk result (λ domain. StandsFor text.now (domain_tree domain)) }
-    ensures faultless { IfOk result (λ domain. HasNoFault text.now) }
-    ensures fault { IfErr result (λ fault. (fault ≡ no_memory) ⊎ IsFault text.now fault) }
-{
-    match token_fault(text) {
-        Some(fault) => Err(fault),
-        None => read_tokens(alloc, text),
-    }
-}
-
-// The same of a text that is tokens.
-fn read_tokens(alloc: Global, text: &[u8]) -> Result<Domain, TextFault>
-    requires { IsLexed text.now }
     ensures found { IfOk result (λ domain. StandsFor text.now (domain_tree domain)) }
     ensures faultless { IfOk result (λ domain. HasNoFault text.now) }
     ensures fault { IfErr result (λ fault. (fault ≡ no_memory) ⊎ IsFault text.now fault) }

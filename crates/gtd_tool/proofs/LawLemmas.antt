@@ -22,7 +22,7 @@ use Rattle.gtd_tool.specs.CommandLines as command
 use Rattle.gtd_tool.specs.Plans.{Asked, AsksFor, Check, Canon, At, Next, Ever, Schedule, Year, IsDomain, IsRead}
 use Rattle.gtd_tool.specs.Plans.{AreDomainAndMoment, IsHorizonOf, IsNumberUpTo, at_most}
 use Rattle.gtd_tool.specs.Refusals.{Part, NumberPart, DirectionPart, DomainPart, MomentPart, DatePart, HorizonPart, DaysPart}
-use Rattle.gtd_tool.specs.Refusals.{parts_of, IsFaultOf, IsFaultless, IsFirstFault, IsRefusalOf}
+use Rattle.gtd_tool.specs.Refusals.{parts_of, IsFaultOf, IsFaultless, IsFirstRefusal, IsRefusalOf}
 use Rattle.gtd_tool.specs.declared.refusal.Refusal.{Refusal}
 use Rattle.gtd_tool.specs.declared.refusal.Refusal.TheVariants as refusal
 use Rattle.gtd_tool.proofs.HorizonLemmas.{same_horizon}
@@ -108,7 +108,7 @@ one_fault_of (DaysPart first second) r s (from, to, fi, ti, (f, has, is)) (other
     let same : IsHorizonFault g from to = rw (ef, et) has2 in
     is ∙ ap refusal.Horizon (one_horizon_fault f g from to has same) ∙ sym is2
 
-pub one_first_fault : (ps : List Part) (r s : Refusal) → IsFirstFault ps r → IsFirstFault ps s → r ≡ s
+pub one_first_fault : (ps : List Part) (r s : Refusal) → IsFirstRefusal ps r → IsFirstRefusal ps s → r ≡ s
 one_first_fault [] r s a b = absurd a
 one_first_fault (p ∷ ps) r s (inl a) (inl b) = one_fault_of p r s a b
 one_first_fault (p ∷ ps) r s (inl a) (inr b) = absurd (b.0 r a)
@@ -151,7 +151,7 @@ days_faultless first second h d r (from, to, fi, ti, (f, has, is)) =
     subst (λ (n : ℤ). IsHorizonFault f n (to_day h)) (sym ef) (subst (λ (n : ℤ). IsHorizonFault f from n) (sym et) has) in
     faultless_horizon f (from_day h) (to_day h) (horizon_is h) other
 
-past : (p : Part) (ps : List Part) (r : Refusal) → IsFaultless p → IsFirstFault (p ∷ ps) r → IsFirstFault ps r
+past : (p : Part) (ps : List Part) (r : Refusal) → IsFaultless p → IsFirstRefusal (p ∷ ps) r → IsFirstRefusal ps r
 past p ps r none (inl h) = absurd (none r h)
 past p ps r none (inr h) = h.1
 
@@ -190,12 +190,12 @@ one_reading (command.Year file first second third fourth) a b (e, d, v, y, p, is
 one_reading (command.Migrate file) a b is is2 = is ∙ sym is2
 
 read_moment : (first second : Text) (x : Tree) (m : Sec) (ps : List Part) (r : Refusal) → AreDomainAndMoment first second x m
-    → IsFirstFault (DomainPart first ∷ MomentPart second ∷ ps) r → IsFirstFault ps r
+    → IsFirstRefusal (DomainPart first ∷ MomentPart second ∷ ps) r → IsFirstRefusal ps r
 read_moment first second x m ps r p h =
     past (MomentPart second) ps r (moment_faultless second m p.moment_read)
     (past (DomainPart first) (MomentPart second ∷ ps) r (domain_faultless first x p.domain_read) h)
 
-read_or_fault : (c : Command) (a : Asked) (r : Refusal) → IsRead c a → IsFirstFault (parts_of c) r → ⊥
+read_or_fault : (c : Command) (a : Asked) (r : Refusal) → IsRead c a → IsFirstRefusal (parts_of c) r → ⊥
 read_or_fault (command.Check text) a r (x, p, is) h = past (DomainPart text) [] r (domain_faultless text x p) h
 read_or_fault (command.Canon text) a r (x, p, is) h = past (DomainPart text) [] r (domain_faultless text x p) h
 read_or_fault (command.At first second) a r (x, m, p, is) h = read_moment first second x m [] r p h
@@ -230,7 +230,7 @@ one_refusal words r s (inl p) (inl q) = p.1 ∙ sym q.1
 one_refusal words r s (inl p) (inr q) = absurd (none_some words q.command p.0 q.named)
 one_refusal words r s (inr p) (inl q) = absurd (none_some words p.command q.0 p.named)
 one_refusal words r s (inr p) (inr q) =
-    one_first_fault (parts_of q.command) r s (subst (λ (c : Command). IsFirstFault (parts_of c) r)
+    one_first_fault (parts_of q.command) r s (subst (λ (c : Command). IsFirstRefusal (parts_of c) r)
     (same_command words p.command q.command p.named q.named) p.has) q.has
 
 pub asked_apart : (words : List Text) (a : Asked) (r : Refusal) → AsksFor words a → IsRefusalOf words r → ⊥

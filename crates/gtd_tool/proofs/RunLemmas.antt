@@ -13,10 +13,10 @@ use Rattle.gtd_roads.specs.RecordFault.TheVariants as records
 use Rattle.gtd_roads.specs.facts.RunFacts.{accepted_are_put, refused_put_nothing}
 use Rattle.gtd_roads.specs.Putting.{text_of}
 use Rattle.gtd_roads.specs.Run.{HasRun, TookFirst, IsUnhindered as IsRunUnhindered, failures_after_read}
+use Rattle.gtd_roads.specs.Run.{IsAccepted as IsAcceptedFor}
 use Rattle.gtd_roads.specs.RunFault.{RunFault}
 use Rattle.gtd_roads.specs.RunFault.TheVariants as run
 use Rattle.gtd_roads.specs.Subject.{Subject}
-use Rattle.gtd_roads.specs.Subjects.{IsAccepted as IsAcceptedFor}
 use Rattle.gtd_roads.specs.facts.OneAnswer.{one_file}
 use Rattle.gtd_roads.specs.facts.RunFacts.{accepted_are_put, refused_put_nothing}
 use Rattle.gtd_tool.specs.Plans.{Asked}

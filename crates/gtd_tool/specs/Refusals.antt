@@ -69,15 +69,15 @@ abbrev pub IsFaultless : Part → Type 0
 IsFaultless part = (r : Refusal) → IsFaultOf part r → ⊥
 
 -- The refusal for the first fault of the parts.
-abbrev pub IsFirstFault : List Part → Refusal → Type 0
-IsFirstFault [] r = ⊥
-IsFirstFault (part ∷ rest) r = IsFaultOf part r ⊎ (IsFaultless part × IsFirstFault rest r)
+abbrev pub IsFirstRefusal : List Part → Refusal → Type 0
+IsFirstRefusal [] r = ⊥
+IsFirstRefusal (part ∷ rest) r = IsFaultOf part r ⊎ (IsFaultless part × IsFirstRefusal rest r)
 
 -- The words give a command, and this refusal is for the first fault of what is read of it.
 pub record HasFault (words : List Text) (r : Refusal) : Type 0 where
   pub command : Command
   pub named : command_in words ≡ Some command
-  pub has : IsFirstFault (parts_of command) r
+  pub has : IsFirstRefusal (parts_of command) r
 
 -- The first refusal of a command line, but for want of memory: whether the words give a command comes before what its
 -- words say.
@@ -90,7 +90,7 @@ IsNoWant r = (fault : TextFault) → r ≡ refusal.Text fault → fault.kind ≢
 
 -- Memory was refused, or this is the refusal for the first fault of the parts.
 abbrev pub IsStopped : List Part → Refusal → Type 0
-IsStopped parts r = (r ≡ refusal.Memory) ⊎ (IsFirstFault parts r × IsNoWant r)
+IsStopped parts r = (r ≡ refusal.Memory) ⊎ (IsFirstRefusal parts r × IsNoWant r)
 
 -- Memory was refused, or this is the first refusal of the command line.
 abbrev pub IsStoppedLine : List Text → Refusal → Type 0

@@ -8,12 +8,11 @@ use Rattle.gtd_roads.specs.Closing.{Restriction}
 use Rattle.gtd_roads.specs.RecordFault.{RecordFault}
 use Rattle.gtd_roads.specs.RecordFault.TheVariants as records
 use Rattle.gtd_roads.specs.Putting.{text_of}
-use Rattle.gtd_roads.specs.Run.{HasRun}
-use Rattle.gtd_roads.specs.Run.{failures_after_read}
+use Rattle.gtd_roads.specs.Run.{HasRun, failures_after_read}
+use Rattle.gtd_roads.specs.Run as subjects
 use Rattle.gtd_roads.specs.RunFault.{RunFault}
 use Rattle.gtd_roads.specs.RunFault.TheVariants as run
 use Rattle.gtd_roads.specs.Subject.{Subject}
-use Rattle.gtd_roads.specs.Subjects as subjects
 use Rattle.gtd_roads.specs.Schedule.{IsSchedule}
 use Rattle.gtd_roads.specs.YearTable.{IsYearTable}
 use Rattle.gtd_roads.specs.Migrated.{migrated}

@@ -14,7 +14,7 @@ ghost use Rattle.gtd_tool.specs.Plans.{asked_by};
 ghost use Rattle.gtd_tool.specs.Plans as asked;
 ghost use Rattle.gtd_tool.specs.CommandLines as command;
 ghost use Rattle.gtd_tool.specs.Refusals.{AreNoHorizon, DatePart, DaysPart, DirectionPart, DomainPart, IsNoHorizon};
-ghost use Rattle.gtd_tool.specs.Refusals.{IsRefusalOf, IsStopped, IsStoppedLine, MomentPart, NumberPart, parts_of};
+ghost use Rattle.gtd_tool.specs.Refusals.{IsFaultOf, IsRefusalOf, IsStopped, IsStoppedLine, MomentPart, NumberPart, parts_of};
 
 use crate::arguments::{CommandLine, read_line};
 use crate::plans::{Moment, MomentInHorizon, Plan};
@@ -47,10 +47,11 @@ fn text_refusal(fault: TextFault) -> Refusal
     }
 }
 
-// The moment that a word stands for.
+// The moment that a word stands for. No memory is taken, so that each error is a fault of the word.
 fn moment_of(text: &str) -> Result<Moment, Refusal>
     ensures read { IfOk result (λ moment. stamp_in text.now ≡ Ok moment.second) }
     ensures stopped { IfErr result (IsStopped (MomentPart text.now ∷ [])) }
+    ensures fault { IfErr result (IsFaultOf (MomentPart text.now)) }
 {
     match read_stamp(text.as_bytes()) {
         Ok(second) => Ok(Moment { second }),
@@ -62,6 +63,7 @@ fn moment_of(text: &str) -> Result<Moment, Refusal>
 fn date_of(text: &str) -> Result<i64, Refusal>
     ensures read { IfOk result (λ day. date_in text.now ≡ Ok day) }
     ensures stopped { IfErr result (IsStopped (DatePart text.now ∷ [])) }
+    ensures fault { IfErr result (IsFaultOf (DatePart text.now)) }
 {
     match read_date(text.as_bytes()) {
         Ok(day) => Ok(day),
@@ -130,6 +132,7 @@ fn plan_ever(alloc: Global, domain: &str, moment: &str) -> Result<Plan, Refusal>
 fn number_in(text: &str) -> Result<u64, Refusal>
     ensures read { IfOk result (λ n. number_of text.now ≡ Some n) }
     ensures stopped { IfErr result (IsStopped (NumberPart text.now ∷ [])) }
+    ensures fault { IfErr result (IsFaultOf (NumberPart text.now)) }
 {
     match read_number(text.as_bytes()) {
         Some(number) => Ok(number),
@@ -141,6 +144,7 @@ fn number_in(text: &str) -> Result<u64, Refusal>
 fn direction_in(text: &str) -> Result<Direction, Refusal>
     ensures read { IfOk result (λ direction. direction_of text.now ≡ Some direction) }
     ensures stopped { IfErr result (IsStopped (DirectionPart text.now ∷ [])) }
+    ensures fault { IfErr result (IsFaultOf (DirectionPart text.now)) }
 {
     match read_direction(text.as_bytes()) {
         Some(direction) => Ok(direction),

@@ -13,7 +13,7 @@ use Rattle.gtd_core.specs.declared.horizon.HorizonFault.{HorizonFault}
 use Rattle.gtd_core.specs.declared.horizon.HorizonFault.TheVariants.{Empty, TooEarly, TooLate, TooLong}
 use Rattle.gtd_eval.specs.Membership.{IsNormalOver}
 use Rattle.gtd_spans.specs.Normal.{Holds}
-use Rattle.gtd_runs.specs.Subjects.{IsTableYear}
+use Rattle.gtd_runs.specs.Run.{IsTableYear}
 use Rattle.gtd_year.specs.YearTable.{AreDayLines}
 use Rattle.gtd_year.proofs.DayFacts.{same_days}
 

@@ -3,8 +3,7 @@
 ghost use Rattle.std.specs.Prelude.{◌≡◌, ◌<◌, ◌↔◌, Any, Some, OnOk, IfOk, IsErrOf, IsTrue, List, pos};
 ghost use Rattle.gtd_calendar.specs.Calendar.{year_length};
 ghost use Rattle.gtd_records.specs.Closing.{Restriction};
-ghost use Rattle.gtd_runs.specs.Run.{HasRun, failures_after_read, failures_after_write};
-ghost use Rattle.gtd_runs.specs.Subjects.{IsTableYear, IsVehicleType};
+ghost use Rattle.gtd_runs.specs.Run.{HasRun, failures_after_read, failures_after_write, IsTableYear, IsVehicleType};
 ghost use Rattle.gtd_year.specs.Theorem.{YearClaim};
 ghost use Rattle.gtd_year.specs.YearTable.{IsYearTable};
 

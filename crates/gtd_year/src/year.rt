@@ -3,7 +3,7 @@
 ghost use Rattle.std.specs.Prelude.{◌≡◌, ◌≤◌, ◌+ℤ◌, pos};
 ghost use Rattle.gtd_calendar.specs.Calendar.{first_day, year_length};
 ghost use Rattle.gtd_core.specs.Whole.{from_day, to_day};
-ghost use Rattle.gtd_runs.specs.Subjects.{IsTableYear};
+ghost use Rattle.gtd_runs.specs.Run.{IsTableYear};
 
 use gtd_calendar::day_of;
 use gtd_core::Horizon;

@@ -1,23 +1,30 @@
--- Facts about trees of sweeps.
+-- Facts about trees of operators.
 use Rattle.std.proofs.Props.{props}
 use Rattle.gtd_spans.specs.Normal.{IsNormal}
 use Rattle.gtd_core.specs.declared.domain.Op.TheVariants.{Minus}
 use Rattle.gtd_spans.specs.facts.Combining.{combine-normal}
-use Rattle.gtd_spans.specs.facts.SweepFacts.{still-normal, Fits-prop}
-use Rattle.gtd_eval.specs.Nodes.{node_list, IsSound}
+use Rattle.gtd_spans.specs.facts.FitsProp.{IsNormal-prop}
+use Rattle.gtd_spans.specs.Sides.{side_list}
+use Rattle.gtd_eval.specs.Nodes.{node_list, IsSoundNode}
 use Rattle.gtd_recur.specs.facts.StretchFacts.{runs_between-normal}
 use Rattle.gtd_eval.specs.facts.SingleFacts.{IsSingle-prop, listed-normal}
 use Rattle.gtd_eval.specs.declared.node.Node.{Node, Fixed, Leaf, Between', Two'}
 
-pub node_list-normal : (n : Node) → IsSound n → IsNormal (node_list n)
+pub node_list-normal : (n : Node) → IsSoundNode n → IsNormal (node_list n)
 node_list-normal (Fixed span) h = listed-normal span h
 node_list-normal (Leaf runs) h = runs_between-normal _ _ _ _
 node_list-normal (Between' gaps p inner) h = combine-normal Minus _ _
-node_list-normal (Two' sweep p left q right) h = still-normal sweep _ _
+node_list-normal (Two' op x p left y q right) h = combine-normal op _ _
 
-pub IsSound-prop : (n : Node) → IsProp (IsSound n)
-IsSound-prop (Fixed span) = IsSingle-prop span
-IsSound-prop (Leaf runs) = hlevel props
-IsSound-prop (Between' gaps p inner) = IsSound-prop inner
-IsSound-prop (Two' sweep p left q right) =
-    hlevel (props, Fits-prop sweep (node_list left) (node_list right), IsSound-prop left, IsSound-prop right)
+pub IsSoundNode-prop : (n : Node) → IsProp (IsSoundNode n)
+IsSoundNode-prop (Fixed span) = IsSingle-prop span
+IsSoundNode-prop (Leaf runs) = hlevel props
+IsSoundNode-prop (Between' gaps p inner) = IsSoundNode-prop inner
+IsSoundNode-prop (Two' op x p left y q right) =
+    hlevel (
+      props,
+      IsNormal-prop (side_list x (node_list left)),
+      IsNormal-prop (side_list y (node_list right)),
+      IsSoundNode-prop left,
+      IsSoundNode-prop right,
+    )

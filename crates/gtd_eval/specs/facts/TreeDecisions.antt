@@ -6,7 +6,7 @@ use Rattle.gtd_core.specs.declared.domain.Op.TheVariants.{Union, Meet, Minus}
 use Rattle.gtd_eval.specs.Membership.{InTree}
 use Rattle.gtd_core.specs.facts.Deciding.{Decided, both, either, not}
 use Rattle.gtd_recur.specs.facts.StretchDecisions.{in_stretches}
-use Rattle.gtd_spans.specs.Combine.{Combined}
+use Rattle.gtd_spans.specs.Normal.{Combined}
 
 combined : (op : Op) (P Q : Type 0) → Decided P → Decided Q → Decided (Combined op P Q)
 combined Union P Q p q = either P Q p q

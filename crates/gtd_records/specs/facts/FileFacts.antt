@@ -5,8 +5,7 @@ use Rattle.std.specs.Prelude.{Result, Ok, Err, MatchResult, IfOk}
 use Rattle.std.proofs.lemmas.List.{append-nil}
 use Rattle.csv.specs.declared.reader.Reader.{Reader}
 use Rattle.gtd_core.specs.Limits.{most_rows}
-use Rattle.gtd_records.specs.File.{AreRecords, FirstFault, IsSound, IsTable}
-use Rattle.gtd_records.specs.Row.{IsRow}
+use Rattle.gtd_records.specs.File.{AreRecords, FirstFault, AreSoundRows, IsTable, IsRow}
 use Rattle.gtd_records.specs.Table.{HasLeft, TakesFirst}
 use Rattle.gtd_records.specs.Columns.{Fields}
 use Rattle.gtd_records.specs.Closing.{Restriction}
@@ -60,7 +59,8 @@ module _ (v : Version) {R : Type 0} (rem : R → Option (List ℕ)) (old : Reade
       }
 
   pub at_end : (new : Reader R) (found : List Restriction) (number : ℕ) (fields : Fields)
-      → SoFar v rem old rows found number → number ≤ most_rows + 1 → TakesFirst rem old new false fields → IsSound v rows found
+      → SoFar v rem old rows found number → number ≤ most_rows + 1 → TakesFirst rem old new false fields
+      → AreSoundRows v rows found
   at_end new found number fields far few takes =
       let nil = takes far.left far.has in
       let all : rows ≡ far.before = far.split ∙ ap (λ l. far.before ++ l) nil ∙ append-nil far.before in

@@ -7,9 +7,9 @@ use Rattle.std.specs.List.Sorted.{IsNonDecreasingBy, IsSorted}
 use Rattle.std.specs.Ordering.{nat_cmp}
 use Rattle.std.proofs.lemmas.List.{length-map, get_or-take, get_or-drop}
 use Rattle.std.proofs.lemmas.Bool.Decides.{nat_tests}
-use Rattle.gtd_records.specs.Index.{ArePlaces, IsPlace}
+use Rattle.gtd_records.specs.Index.{ArePlaces, IsPlaceOfRow}
 use Rattle.gtd_records.specs.Closing.{AreElements, Closes, Restriction}
-use Rattle.gtd_records.specs.Columns.{IsAscending}
+use Rattle.gtd_records.specs.Columns.{IsSortedSet}
 use Rattle.gtd_records.specs.declared.direction.Direction.{Direction}
 use Rattle.gtd_records.specs.declared.index.Place.{Place}
 
@@ -129,7 +129,8 @@ pub part_past : (all : List Place) (from k : ℕ) → length (take (length all -
 part_past all from k h = let l = simp (length-take, length-drop) at h in omega (arith, l)
 
 -- the record at a place is of its element
-pub place_element : (rows : List Restriction) (p : Place) (r : Restriction) → IsPlace rows p → r ≡ slice_index_or rows p.row r
+pub place_element : (rows : List Restriction) (p : Place) (r : Restriction) → IsPlaceOfRow rows p
+    → r ≡ slice_index_or rows p.row r
     → r.element ≡ p.element
 place_element rows p r h is =
     let e : r ≡ h.0 = is ∙ any_default rows p.row r h.0 h.1 ∙ h.2 in
@@ -143,11 +144,11 @@ one_record rows n r s h a b = sym a ∙ any_default rows n r s h ∙ sym b
 -- what stands from there on are places
 pub part_sound : (rows : List Restriction) (places all : List Place) (same : all ≡ places) → ArePlaces rows places
     → (from k : ℕ) (d : Place) → k < length (take (length all - from) (drop from all))
-    → IsPlace rows (slice_index_or (take (length all - from) (drop from all)) k d)
+    → IsPlaceOfRow rows (slice_index_or (take (length all - from) (drop from all)) k d)
 part_sound rows places all same placed from k d h =
     let within = part_within all from k h in
     let l = ap length same in
-    subst (IsPlace rows) (sym (part_at places all same from k d (omega (arith, within, l))))
+    subst (IsPlaceOfRow rows) (sym (part_at places all same from k d (omega (arith, within, l))))
     (placed.sound (from + k) d (omega (arith, within, l)))
 
 not_less : (a b : ℕ) → b ≤ a → is_lt (nat_cmp a b) ≡ false
@@ -173,7 +174,7 @@ module _ (rows : List Restriction) (places : List Place) (placed : ArePlaces row
   place_named : (x : ℕ) → Contains (map (λ (p : Place). p.element) places) x → Any (λ (r : Restriction). r.element ≡ x) rows
   place_named x h =
       let a = any_from_map (λ (p : Place). p.element) places h.0 x h.1 h.2 in
-      let q = subst (IsPlace rows) a.3 (placed.sound a.0 a.1 a.2) in
+      let q = subst (IsPlaceOfRow rows) a.3 (placed.sound a.0 a.1 a.2) in
       (a.1.row, q.0, q.1, q.2, q.3 ∙ a.4)
 
   named_place : (x : ℕ) → Any (λ (r : Restriction). r.element ≡ x) rows → Contains (map (λ (p : Place). p.element) places) x
@@ -181,7 +182,7 @@ module _ (rows : List Restriction) (places : List Place) (placed : ArePlaces row
       let c = placed.each a.0 a.1 a.2 a.3 in
       map_from_any (λ (p : Place). p.element) places c.0 x (record { element = a.1.element; row = a.0 }) c.1 c.2 a.4
 
-  pub are_elements : (elements : List ℕ) → IsAscending (map (λ (p : Place). p.element) places) elements
+  pub are_elements : (elements : List ℕ) → IsSortedSet (map (λ (p : Place). p.element) places) elements
       → AreElements rows elements
   are_elements elements is = record {
     ascending = is.order;

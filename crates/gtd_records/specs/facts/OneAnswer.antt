@@ -9,11 +9,11 @@ use Rattle.gtd_text.specs.facts.OneMeaning.{one_meaning}
 use Rattle.gtd_text.specs.facts.ReadingLaws.{one_fault}
 use Rattle.gtd_text.specs.Reading.{StandsFor, IsFault}
 use Rattle.gtd_records.specs.facts.Rising.{one_list}
-use Rattle.gtd_records.specs.Columns.{number_of, closed_of, Fields, IsAscending, IsOrdered, vehicles_of}
+use Rattle.gtd_records.specs.Columns.{number_of, closed_of, Fields, IsSortedSet, IsOrdered, vehicles_of}
 use Rattle.gtd_core.specs.Limits.{most_rows}
-use Rattle.gtd_records.specs.File.{AreRecords, AreRows, FirstFault, IsFile, IsSound, IsTable, header}
+use Rattle.gtd_records.specs.File.{AreRecords, AreRows, FirstFault, IsFile, AreSoundRows, IsTable, header, IsDomainColumn}
+use Rattle.gtd_records.specs.File.{IsFullRow, IsRow, with_domain}
 use Rattle.gtd_records.specs.Closing.{Restriction}
-use Rattle.gtd_records.specs.Row.{IsDomainColumn, IsFullRow, IsRow, with_domain}
 use Rattle.gtd_records.specs.declared.fault.RecordFault.{RecordFault}
 use Rattle.gtd_records.specs.declared.fault.RecordFault.TheVariants as fault
 use Rattle.gtd_records.specs.declared.vehicles.Vehicles.{Vehicles}
@@ -21,7 +21,7 @@ use Rattle.gtd_records.specs.declared.vehicles.Vehicles.TheVariants.{Every, Only
 use Rattle.gtd_records.specs.declared.vehicles.Version.{Version}
 use Rattle.gtd_records.specs.declared.vehicles.Version.TheVariants as version
 
-one_ascending : (codes xs ys : List ℕ) → IsAscending codes xs → IsAscending codes ys → xs ≡ ys
+one_ascending : (codes xs ys : List ℕ) → IsSortedSet codes xs → IsSortedSet codes ys → xs ≡ ys
 one_ascending codes xs ys p q =
     one_list xs ys p.order q.order (λ n h. (q.same n).1 ((p.same n).0 h)) (λ n h. (p.same n).1 ((q.same n).0 h))
 
@@ -176,7 +176,7 @@ module _ (one_tree : (text : List ℕ) (e f : Tree) → StandsFor text e → Sta
       let r = row_at v (k + 1) xs x more p.1 p.3 in
       (r.0, subst (λ (i : ℕ). IsRow v i x (Ok r.0)) n r.1)
 
-  not_both : (v : Version) (rows : List Fields) (f : List Restriction) (why : RecordFault) → IsSound v rows f
+  not_both : (v : Version) (rows : List Fields) (f : List Restriction) (why : RecordFault) → AreSoundRows v rows f
       → FirstFault v rows why → ⊥
   not_both v rows f why p q =
       let l = length-append q.before (q.row ∷ q.after) in

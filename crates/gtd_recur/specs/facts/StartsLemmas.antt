@@ -1,7 +1,7 @@
 -- Days, the starts on them, and what is left of them.
 use Rattle.std.proofs.Common.{◌≡◌, ℕ, zero, suc, ◌+◌, ◌-◌, ◌*◌, ◌<◌, ◌≤◌, Bool, true, false, Some, None, inl, inr, List, []}
 use Rattle.std.proofs.Common.{◌∷◌, ◌++◌, filter, length, drop, cond, refl, sym, ap, ◌∙◌, arith, ℤ, pos, neg_ℤ, ◌+ℤ◌, ◌-ℤ◌}
-use Rattle.std.proofs.Common.{◌*ℤ◌, ◌<ℤ◌, ◌≤ℤ◌, unsigned_abs, ◌⊎◌, to_z, of_z, w64}
+use Rattle.std.proofs.Common.{◌*ℤ◌, ◌<ℤ◌, ◌≤ℤ◌, unsigned_abs, to_z, of_z, w64}
 use Rattle.std.specs.Prelude.{count_by}
 use Rattle.std.proofs.lemmas.List.{drop-drop, length-append, length-map}
 use Rattle.std.proofs.lemmas.List.Sums.{sum_by-append, length-filter, count_by-le-length}
@@ -21,7 +21,7 @@ use Rattle.gtd_recur.specs.Begins.{begins_on, begins_at, month_and_year_fit}
 use Rattle.gtd_recur.specs.ClockSearch.{IsNextPassing}
 use Rattle.gtd_recur.specs.Jumps.{IsNextRun}
 use Rattle.gtd_recur.specs.Work.{window_begin, days_from, days_between, numbers_from, starts_on, starts_of}
-use Rattle.gtd_recur.specs.Starts.{clock_starts, starts_left, AreLeft, IsInWindow, IsLookedCount}
+use Rattle.gtd_recur.specs.Starts.{clock_starts, starts_left, AreLeft, IsInWindow, IsLookedCount, IsOpened}
 use Rattle.gtd_recur.specs.facts.WorkLemmas.{starts_of-skip}
 
 -- a day at or after another is some days later
@@ -248,11 +248,6 @@ pub begun-are : (p : StartParts) (n first next end : ℤ) → first ≤ℤ next 
 begun-are p n first next end le high none =
     let is = begun-left p n first next end le high none in
     record { count = rw is (omega arith); rest = is }
-
--- the starts of a day that is opened are all or none
-abbrev pub IsOpened : StartParts → ℤ → ℕ → Type 0
-IsOpened p n clock = ((begins_on p (day_fields n) ≡ true) × (clock ≡ 0))
-    ⊎ ((begins_on p (day_fields n) ≡ false) × (clock ≡ 86400))
 
 opened : (p : StartParts) (n : ℤ) (clock : ℕ) → IsOpened p n clock → clock_starts p n clock ≡ starts_on p n
 opened p n clock h = elim h [

@@ -1,43 +1,13 @@
--- A schedule is one text, in parts.
-use Rattle.std.proofs.Common.{◌≡◌, ◌∙◌, ◌≤◌, sym, ap, refl, subst, arith, map, ℕ, List, [], ◌∷◌, ◌++◌, length}
-use Rattle.std.specs.Bool.{Decides}
-use Rattle.std.specs.Ordering.{eq_by_cmp, nat_cmp}
-use Rattle.std.proofs.lemmas.Bool.Decides.{nat_tests}
-use Rattle.std.proofs.lemmas.Cmp.{eq_by_cmp_equiv, nat_cmp_total}
-use Rattle.std.proofs.lemmas.List.{length-map}
-use Rattle.std.proofs.lemmas.Map.Keys.{IsDistinct-from_sorted, sorted_from_strictly_increasing}
-use Rattle.std.proofs.lemmas.Map.Made.{is_member-Decides, length-le_from_is_member}
+-- A schedule is one text.
+use Rattle.std.proofs.Common.{◌∙◌, sym, ap, map, ℕ, List}
 use Rattle.gtd_core.specs.Whole.{whole}
 use Rattle.gtd_core.specs.declared.horizon.Horizon.{Horizon}
-use Rattle.gtd_records.specs.facts.IndexFacts.{map_from_any}
-use Rattle.gtd_records.specs.facts.Rising.{one_list}
-use Rattle.gtd_records.specs.Closing.{AreElements, IsOpen, Restriction}
+use Rattle.gtd_records.specs.Closing.{IsOpen, Restriction}
 use Rattle.gtd_records.specs.declared.direction.Direction.{Direction}
-use Rattle.gtd_records.specs.declared.direction.Direction.TheVariants.{Positive, Negative}
-use Rattle.gtd_schedule.specs.facts.TextFacts.{Then, IsOne}
-use Rattle.gtd_schedule.specs.Schedule.{AreElementLines, AreLines, AreLinesOf, IsSchedule, header_line, span_line}
+use Rattle.gtd_runs.specs.facts.ElementFacts.{one_by_element}
+use Rattle.gtd_runs.specs.Putting.{IsOne}
+use Rattle.gtd_schedule.specs.Schedule.{AreLines, IsSchedule, header_line, span_line}
 use Rattle.gtd_spans.specs.facts.NormalFor.{one-normal-list}
-
--- restrictions name one list of elements
-pub one_elements : (found : List Restriction) (a b : List ℕ) → AreElements found a → AreElements found b → a ≡ b
-one_elements found a b p q =
-    one_list a b p.ascending q.ascending
-    (λ n h. (q.named n).1 ((p.named n).0 h))
-    (λ n h. (p.named n).1 ((q.named n).0 h))
-
-pub same_decides : (a b : ℕ) → Decides (eq_by_cmp nat_cmp a b) (a ≡ b)
-same_decides a b = grind (arith, nat_tests)
-
--- and no more elements than there are restrictions
-pub few_elements : (found : List Restriction) (elements : List ℕ) → AreElements found elements → length elements ≤ length found
-few_elements found elements are =
-    let numbers = map (λ (r : Restriction). r.element) found in
-    let distinct = IsDistinct-from_sorted nat_cmp elements (sorted_from_strictly_increasing elements are.ascending) in
-    let few : length elements ≤ length numbers =
-    length-le_from_is_member (eq_by_cmp_equiv nat_cmp_total) elements numbers distinct
-    (λ n is. let a = (are.named n).0 ((is_member-Decides same_decides elements n).0 is) in
-    (is_member-Decides same_decides numbers n).1 (map_from_any (λ (r : Restriction). r.element) found a.0 n a.1 a.2 a.3 a.4)) in
-    rw (length-map found (λ (r : Restriction). r.element)) at few
 
 module _ (found : List Restriction) (vehicle : ℕ) (horizon : Horizon) where
   -- an element has one list of lines in a direction
@@ -47,60 +17,6 @@ module _ (found : List Restriction) (vehicle : ℕ) (horizon : Horizon) where
       (whole horizon).until p.spans q.spans p.normal q.normal in
       p.each ∙ ap (map (span_line element direction vehicle)) same ∙ sym q.each
 
-  -- an element has one list of lines
-  pub one_element_lines : (element : ℕ) → IsOne (AreElementLines found vehicle horizon element)
-  one_element_lines element a b p q =
-      let x = one_lines element Positive p.positive q.positive p.are_positive q.are_positive in
-      let y = one_lines element Negative p.negative q.negative p.are_negative q.are_negative in
-      p.both ∙ rw (x, y) refl ∙ sym q.both
-
-  -- so have elements
-  pub one_lines_of : (elements : List ℕ) → IsOne (AreLinesOf found vehicle horizon elements)
-  one_lines_of [] a b p q = p ∙ sym q
-  one_lines_of (e ∷ elements) a b p q =
-      let x = one_element_lines e p.0 q.0 p.2 q.2 in
-      let y = one_lines_of elements p.1 q.1 p.3 q.3 in
-      p.4 ∙ rw (x, y) refl ∙ sym q.4
-
   -- restrictions have one schedule
   pub one_schedule : IsOne (IsSchedule found vehicle horizon)
-  one_schedule a b p q =
-      let e = one_elements found p.elements q.elements p.named q.named in
-      let r = one_lines_of q.elements p.rest q.rest (subst (λ (l : List ℕ). AreLinesOf found vehicle horizon l p.rest) e p.each)
-      q.each in
-      p.whole ∙ ap (λ (l : List (List ℕ)). header_line ∷ l) r ∙ sym q.whole
-
-  -- the lines of an element are those of one direction and then of the other
-  pub element_lines : (element : ℕ) (lines : List (List ℕ))
-      → Then (AreLines found vehicle horizon element Positive) (AreLines found vehicle horizon element Negative) lines
-      → AreElementLines found vehicle horizon element lines
-  element_lines element lines parts =
-      record { positive = parts.0; negative = parts.1; are_positive = parts.2; are_negative = parts.3; both = parts.4 }
-
-  pub element_parts : (element : ℕ) (lines : List (List ℕ)) → AreElementLines found vehicle horizon element lines
-      → Then (AreLines found vehicle horizon element Positive) (AreLines found vehicle horizon element Negative) lines
-  element_parts element lines are = (are.positive, are.negative, are.are_positive, are.are_negative, are.both)
-
-  -- the header alone
-  abbrev pub IsHeader : List (List ℕ) → Type 0
-  IsHeader lines = lines ≡ header_line ∷ []
-
-  pub one_header : IsOne IsHeader
-  one_header a b p q = p ∙ sym q
-
-  -- a schedule is the header and then the lines of the elements
-  pub schedule_lines : (elements : List ℕ) → AreElements found elements → (lines : List (List ℕ))
-      → Then IsHeader (AreLinesOf found vehicle horizon elements) lines → IsSchedule found vehicle horizon lines
-  schedule_lines elements named lines parts = record {
-    elements = elements;
-    named = named;
-    rest = parts.1;
-    each = parts.3;
-    whole = parts.4 ∙ ap (λ (l : List (List ℕ)). l ++ parts.1) parts.2;
-  }
-
-  pub schedule_parts : (elements : List ℕ) → AreElements found elements → (lines : List (List ℕ))
-      → IsSchedule found vehicle horizon lines → Then IsHeader (AreLinesOf found vehicle horizon elements) lines
-  schedule_parts elements named lines is =
-      let e = one_elements found is.elements elements is.named named in
-      (header_line ∷ [], is.rest, refl, subst (λ (l : List ℕ). AreLinesOf found vehicle horizon l is.rest) e is.each, is.whole)
+  one_schedule = one_by_element (AreLines found vehicle horizon) one_lines found header_line

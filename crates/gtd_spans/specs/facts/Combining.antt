@@ -6,8 +6,7 @@ use Rattle.std.proofs.lemmas.Int.{ints}
 use Rattle.gtd_core.specs.Seconds.{Interval, Within}
 use Rattle.gtd_core.specs.declared.domain.Op.{Op}
 use Rattle.gtd_core.specs.declared.domain.Op.TheVariants.{Union, Meet, Minus}
-use Rattle.gtd_spans.specs.Normal.{Holds, IsNormal}
-use Rattle.gtd_spans.specs.Combine.{Combined, combined, is_held, reach, combine}
+use Rattle.gtd_spans.specs.Normal.{Holds, IsNormal, Combined, combined, is_held, reach, combine}
 use Rattle.gtd_spans.specs.facts.Exists.{normal_list-normal, normal_list-holds}
 
 within-decides : (x : Interval) (t : ℤ) → Decides (int_le x.from t && int_lt t x.until) (Within x t)

@@ -8,7 +8,7 @@ use Rattle.gtd_spans.specs.Normal.{Holds, IsNormal}
 use Rattle.gtd_spans.specs.facts.OneList.{after-holds, first-holds}
 use Rattle.std.specs.Prelude.{Option, Some, None}
 use Rattle.gtd_spans.specs.Sweeping.{Takes}
-use Rattle.gtd_spans.specs.Counting.{to_come, IsCount}
+use Rattle.gtd_spans.specs.Counting.{spans_to_come, IsCount}
 
 -- the n seconds from t on
 abbrev pub Among : ℤ → ℕ → ℤ → Type 0
@@ -172,43 +172,44 @@ later-same x xs s h = ((λ k. elim k [ inl w ↦ absurd (omega (arith, ints, w.1
 
 -- what a source takes off its list comes to hand
 pub takes-is : (before : List Interval) (r : Option Interval) (after : List Interval) → Takes before r after → before
-    ≡ to_come r after
+    ≡ spans_to_come r after
 takes-is before None after h = h.0
 takes-is before (Some x) after h = h
 
 module _ (held : Option Interval) (x : Interval) (rest : List Interval) (is : held ≡ Some x)
-    (normal : IsNormal (to_come held rest)) (t : ℤ) (n : ℕ) where
-  at_hand : to_come held rest ≡ x ∷ rest
-  at_hand = ap (λ (o : Option Interval). to_come o rest) is
+    (normal : IsNormal (spans_to_come held rest)) (t : ℤ) (n : ℕ) where
+  at_hand : spans_to_come held rest ≡ x ∷ rest
+  at_hand = ap (λ (o : Option Interval). spans_to_come o rest) is
 
   normal_there : IsNormal (x ∷ rest)
   normal_there = subst IsNormal at_hand normal
 
-  back : (i : ℕ) → IsCount (Holds (x ∷ rest)) t n i → IsCount (Holds (to_come held rest)) t n i
+  back : (i : ℕ) → IsCount (Holds (x ∷ rest)) t n i → IsCount (Holds (spans_to_come held rest)) t n i
   back i p = subst (λ (xs : List Interval). IsCount (Holds xs) t n i) (sym at_hand) p
 
   -- the span at hand begins behind the day
-  pub day-behind : (t +ℤ pos n) ≤ℤ x.from → IsCount (Holds (to_come held rest)) t n 0
+  pub day-behind : (t +ℤ pos n) ≤ℤ x.from → IsCount (Holds (spans_to_come held rest)) t n 0
   day-behind h = back 0 (count-behind x rest t n normal_there h)
 
   -- the span at hand ends behind the day
-  pub day-only : (i : ℕ) → (t +ℤ pos n) ≤ℤ x.until → IsCount (Within x) t n i → IsCount (Holds (to_come held rest)) t n i
+  pub day-only : (i : ℕ) → (t +ℤ pos n) ≤ℤ x.until → IsCount (Within x) t n i → IsCount (Holds (spans_to_come held rest)) t n i
   day-only i h p = back i (count-only x rest t n i normal_there h p)
 
   -- the span at hand and those behind it
   pub day-first : (i j : ℕ) → IsCount (Within x) t n i → IsCount (Holds rest) t n j
-      → IsCount (Holds (to_come held rest)) t n (i + j)
+      → IsCount (Holds (spans_to_come held rest)) t n (i + j)
   day-first i j p q = back (i + j) (count-first x rest t n i j normal_there p q)
 
   pub day-rest-normal : IsNormal rest
   day-rest-normal = normal_there.2
 
   -- from its end on the span at hand is done
-  pub day-later : (s : ℤ) → x.until ≤ℤ s → Holds (to_come held rest) s ↔ Holds rest s
+  pub day-later : (s : ℤ) → x.until ≤ℤ s → Holds (spans_to_come held rest) s ↔ Holds rest s
   day-later s h = subst (λ (xs : List Interval). Holds xs s ↔ Holds rest s) (sym at_hand) (later-same x rest s h)
 
 -- nothing is to come
 pub day-none : (held : Option Interval) (rest : List Interval) → held ≡ None → (t : ℤ) (n : ℕ)
-    → IsCount (Holds (to_come held rest)) t n 0
+    → IsCount (Holds (spans_to_come held rest)) t n 0
 day-none held rest is t n =
-    subst (λ (o : Option Interval). IsCount (Holds (to_come o rest)) t n 0) (sym is) (count-none (Holds []) t n (λ s a h. h))
+    subst (λ (o : Option Interval). IsCount (Holds (spans_to_come o rest)) t n 0) (sym is) (count-none (Holds []) t n
+    (λ s a h. h))

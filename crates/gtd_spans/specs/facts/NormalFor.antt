@@ -4,9 +4,9 @@ use Rattle.std.proofs.Common.{arith, inl, inr}
 use Rattle.std.proofs.lemmas.Int.{ints, by_lt_z}
 use Rattle.gtd_core.specs.Seconds.{Interval}
 use Rattle.gtd_spans.specs.Normal.{Holds, AllBeginFrom, AllBeginAfter, IsNormal, IsIn, AreInOrder, AreMaximal, IsNormalFor}
+use Rattle.gtd_spans.specs.Normal.{Combined, combine}
 use Rattle.gtd_core.specs.declared.domain.Op.{Op}
 use Rattle.gtd_core.specs.declared.domain.Op.TheVariants.{Union, Meet, Minus}
-use Rattle.gtd_spans.specs.Combine.{Combined, combine}
 use Rattle.gtd_spans.specs.facts.Combining.{combine-normal, combine-holds}
 use Rattle.gtd_spans.specs.facts.OneList.{after-holds, one-list}
 use Rattle.gtd_spans.specs.facts.Exists.{after-weaken}

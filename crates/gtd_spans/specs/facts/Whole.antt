@@ -3,8 +3,7 @@ use Rattle.std.proofs.Common.{◌↔◌, List, [], ◌∷◌, inl, inr}
 use Rattle.std.specs.Prelude.{ℤ}
 use Rattle.gtd_core.specs.Seconds.{Interval, Within}
 use Rattle.gtd_core.specs.declared.domain.Op.TheVariants.{Meet, Minus}
-use Rattle.gtd_spans.specs.Normal.{Holds}
-use Rattle.gtd_spans.specs.Combine.{combine}
+use Rattle.gtd_spans.specs.Normal.{Holds, combine}
 use Rattle.gtd_spans.specs.facts.Combining.{combine-holds}
 
 one-holds : (x : Interval) (t : ℤ) → Holds (x ∷ []) t → Within x t

@@ -12,10 +12,9 @@ use Rattle.gtd_core.specs.Ranges.{no_parts}
 use Rattle.gtd_text.specs.declared.token.TokenKind.{TokenKind}
 use Rattle.gtd_text.specs.declared.token.TokenKind.TheVariants.{CloseBracket, CloseParenthesis, OpenBrace, CloseBrace, Plus}
 use Rattle.gtd_text.specs.declared.token.TokenKind.TheVariants.{Star, Minus}
-use Rattle.gtd_text.specs.Fields.{fits_start, fits_duration, all_fit_start, all_fit_duration, with_start_field}
-use Rattle.gtd_text.specs.Fields.{with_start_fields, with_duration_field, with_duration_fields, zero_parts}
-use Rattle.gtd_text.specs.Grammar.{Level, Sum, Product, Item, Stands, basic, bracketed, item, meet, product, union, minus}
-use Rattle.gtd_text.specs.Grammar.{basic_tokens}
+use Rattle.gtd_text.specs.Grammar.{fits_start, fits_duration, all_fit_start, all_fit_duration, with_start_field}
+use Rattle.gtd_text.specs.Grammar.{with_start_fields, with_duration_field, with_duration_fields, zero_parts, Level, Sum, Product}
+use Rattle.gtd_text.specs.Grammar.{Item, Stands, basic, bracketed, item, meet, product, union, minus, basic_tokens}
 use Rattle.gtd_text.specs.Building.{Sums, Pending, Expecting, InStart, AfterStart, InDuration, AfterItem, total, times, step}
 use Rattle.gtd_text.specs.Building.{build, at_front}
 

@@ -12,10 +12,9 @@ use Rattle.gtd_core.specs.Ranges.{no_parts}
 use Rattle.gtd_text.specs.declared.token.TokenKind.{TokenKind}
 use Rattle.gtd_text.specs.declared.token.TokenKind.TheVariants.{OpenBracket, CloseBracket, OpenParenthesis, CloseParenthesis}
 use Rattle.gtd_text.specs.declared.token.TokenKind.TheVariants.{OpenBrace, CloseBrace, Plus, Star, Minus}
-use Rattle.gtd_text.specs.Fields.{fits_start, fits_duration, all_fit_start, all_fit_duration, with_start_field}
-use Rattle.gtd_text.specs.Fields.{with_start_fields, with_duration_field, with_duration_fields, zero_parts}
-use Rattle.gtd_text.specs.Grammar.{Sum, Product, Item, Stands, basic, bracketed, item, meet, product, union, minus}
-use Rattle.gtd_text.specs.Grammar.{basic_tokens}
+use Rattle.gtd_text.specs.Grammar.{fits_start, fits_duration, all_fit_start, all_fit_duration, with_start_field}
+use Rattle.gtd_text.specs.Grammar.{with_start_fields, with_duration_field, with_duration_fields, zero_parts, Sum, Product, Item}
+use Rattle.gtd_text.specs.Grammar.{Stands, basic, bracketed, item, meet, product, union, minus, basic_tokens}
 use Rattle.gtd_text.specs.Building.{Sums, Pending, State, Expecting, InStart, AfterStart, InDuration, AfterItem, total, times}
 use Rattle.gtd_text.specs.Building.{close_start, close_duration, close_bracket, step, finish, build, at_front}
 use Rattle.gtd_text.specs.facts.Builds.{turned, and_left, and_right}

@@ -10,9 +10,11 @@ use Rattle.gtd_core.specs.declared.start.StartParts.{StartParts}
 use Rattle.gtd_core.specs.declared.duration.DurationParts.{DurationParts}
 use Rattle.gtd_core.specs.Ranges.{IsStart, IsWithin, IsPlace, no_parts, HasSixDigits}
 use Rattle.gtd_text.specs.Canonical.{field_text, year_text, place_text, weekday_text, weekdays_text, month_fields}
-use Rattle.gtd_text.specs.Canonical.{place_fields, day_fields, clock_fields, start_text, number_text, numbers_text, or_zero}
+use Rattle.gtd_text.specs.Canonical.{place_fields, day_and_weekday_fields, clock_fields, start_text, number_text, numbers_text}
+use Rattle.gtd_text.specs.Canonical.{or_zero}
 use Rattle.gtd_text.specs.Canonical.{duration_text}
-use Rattle.gtd_text.specs.Fields.{is_from_to, is_start_value, all_fit_start, with_start_fields, zero_parts}
+use Rattle.gtd_core.specs.FieldTable.{is_from_to}
+use Rattle.gtd_text.specs.Grammar.{is_start_value, all_fit_start, with_start_fields, zero_parts}
 use Rattle.gtd_text.specs.facts.Builds.{and_left, and_right}
 use Rattle.gtd_text.specs.facts.TokenForms.{own}
 use Rattle.gtd_text.specs.facts.TokenWords.{Word, text_of, kinds_of, AreWords, AreDigits}
@@ -121,7 +123,7 @@ weekday_is : (w k : ℕ) → slot_text 116 (weekday_given w k) ≡ weekday_text 
 weekday_is w k = weekday_text_is (w / 2 ^ (k - 1) % 2 == 1) k
 
 start_slots_text : (start : StartParts) → slots_text (start_slots start) ≡ start_text start
-unfolding start_text month_fields place_fields day_fields clock_fields weekdays_text
+unfolding start_text month_fields place_fields day_and_weekday_fields clock_fields weekdays_text
 start_slots_text start =
     join _ _ _ _ (year_is start.year)
     (join _ _ _ _ (number_is 77 start.month)

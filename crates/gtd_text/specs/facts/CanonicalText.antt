@@ -11,8 +11,8 @@ use Rattle.gtd_text.specs.declared.token.TokenKind.{TokenKind}
 use Rattle.gtd_text.specs.declared.token.TokenKind.TheVariants.{OpenBracket, CloseBracket, OpenParenthesis, CloseParenthesis}
 use Rattle.gtd_text.specs.declared.token.TokenKind.TheVariants.{OpenBrace, CloseBrace, Plus, Star, Minus}
 use Rattle.gtd_text.specs.Canonical.{canonical, start_text, sign_text}
-use Rattle.gtd_text.specs.Fields.{with_start_fields}
-use Rattle.gtd_text.specs.Grammar.{Sum, Item, Stands, basic, bracketed, item, meet, product, union, minus, basic_tokens}
+use Rattle.gtd_text.specs.Grammar.{with_start_fields, Sum, Item, Stands, basic, bracketed, item, meet, product, union, minus}
+use Rattle.gtd_text.specs.Grammar.{basic_tokens}
 use Rattle.gtd_text.specs.Lexing.{AreTokens, kinds}
 use Rattle.gtd_text.specs.Reading.{StandsFor}
 use Rattle.gtd_text.specs.facts.TokenWords.{Word, text_of, kinds_of, text_of-append, kinds_of-append, IsWord, AreWords}

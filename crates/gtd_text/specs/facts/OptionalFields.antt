@@ -8,9 +8,9 @@ use Rattle.gtd_core.specs.declared.duration.DurationParts.{DurationParts}
 use Rattle.gtd_text.specs.declared.token.TokenKind.{TokenKind}
 use Rattle.gtd_text.specs.declared.token.TokenKind.TheVariants.{Field}
 use Rattle.gtd_text.specs.Canonical.{or_zero}
-use Rattle.gtd_text.specs.Fields.{is_start_letter, is_start_value, is_duration_letter, has_letter, is_repeated_in_start}
-use Rattle.gtd_text.specs.Fields.{all_fit_start, all_fit_duration, with_start_field, with_start_fields, with_duration_field}
-use Rattle.gtd_text.specs.Fields.{with_duration_fields, zero_parts}
+use Rattle.gtd_text.specs.Grammar.{is_start_letter, is_start_value, is_duration_letter, has_letter, is_repeated_in_start}
+use Rattle.gtd_text.specs.Grammar.{all_fit_start, all_fit_duration, with_start_field, with_start_fields, with_duration_field}
+use Rattle.gtd_text.specs.Grammar.{with_duration_fields, zero_parts}
 use Rattle.gtd_text.specs.facts.Builds.{and_left, and_right}
 use Rattle.gtd_text.specs.facts.TokenWords.{Word, text_of, kinds_of, AreWords, AreDigits, field_word, is_field_word}
 

@@ -1,5 +1,5 @@
 -- Fields that fit make a start and a duration that are in their ranges.
-use Rattle.std.proofs.Common.{◌≡◌, ◌≢◌, ℕ, ◌-◌, ◌/◌, ◌%◌, ◌^◌, ◌<◌, ◌≤◌, Bool, true, false, cond, List, [], ◌∷◌, Some, None}
+use Rattle.std.proofs.Common.{◌≡◌, ◌≢◌, ℕ, ◌-◌, ◌/◌, ◌%◌, ◌^◌, ◌<◌, ◌≤◌, Bool, true, false, List, [], ◌∷◌, Some, None}
 use Rattle.std.proofs.Common.{refl, ap, arith}
 use Rattle.std.specs.Prelude.{◌==◌, ◌&&◌, nat_le, bit_or, not}
 use Rattle.std.proofs.lemmas.Bool.{leb-true}
@@ -10,10 +10,11 @@ use Rattle.gtd_core.specs.declared.duration.DurationParts.{DurationParts}
 use Rattle.gtd_core.specs.Ranges.{IsStart, IsWithin, IsPlace, no_parts, HasSixDigits}
 use Rattle.gtd_text.specs.declared.token.TokenKind.{TokenKind}
 use Rattle.gtd_text.specs.declared.token.TokenKind.TheVariants.{Field}
-use Rattle.gtd_text.specs.Fields.{is_from_to, is_place_value, is_start_letter, is_start_value, is_repeated_in_start}
-use Rattle.gtd_text.specs.Fields.{fits_start, all_fit_start, with_start_field, with_start_fields, with_duration_field}
-use Rattle.gtd_text.specs.Fields.{with_duration_fields, zero_parts}
+use Rattle.gtd_core.specs.FieldTable.{is_from_to, is_place_value, start_fields, duration_fields}
+use Rattle.gtd_text.specs.Grammar.{is_start_letter, is_start_value, is_repeated_in_start, fits_start, all_fit_start}
+use Rattle.gtd_text.specs.Grammar.{with_start_field, with_start_fields, with_duration_field, with_duration_fields, zero_parts}
 use Rattle.gtd_text.specs.facts.Builds.{and_left, and_right}
+use Rattle.gtd_text.specs.facts.ByTable.{AreAll, also, taken, given}
 
 pub from_to : (low high n : ℕ) → is_from_to low high n ≡ true → (low ≤ n) × (n ≤ high)
 from_to low high n h = (leb-true low n (and_left _ (nat_le n high) h), leb-true n high (and_right (nat_le low n) _ h))
@@ -55,154 +56,57 @@ weekday_small w v small low high =
     let day : 2 ^ (v - 1) < 2 ^ 7 = pow-lt {i = v - 1} {j = 7} (omega arith) in
     or_lt 7 w (2 ^ (v - 1)) small day
 
-one_field : (y M w f l d t h m : Bool) (parts : StartParts) (value digits : ℕ) → AreInRange parts
-    → cond y (digits == 4 && nat_le value 9999) (cond M (is_from_to 1 12 value)
-    (cond w (is_from_to 1 53 value) (cond f (is_place_value value digits)
-    (cond l (is_place_value value digits) (cond d (is_from_to 1 31 value)
-    (cond t (is_from_to 1 7 value) (cond h (nat_le value 23) (nat_le value 59)))))))) ≡ true
-    → IsStart (cond y (record parts { year = Some value }) (cond M (record parts { month = Some value })
-    (cond w (record parts { week = Some value }) (cond f (record parts { nth = Some (value / 10, value % 10) })
-    (cond l (record parts { nth_back = Some (value / 10, value % 10) })
-    (cond d (record parts { day = Some value }) (cond t (record parts { weekdays = bit_or parts.weekdays (2 ^ (value - 1)) })
-    (cond h (record parts { hour = Some value }) (cond m (record parts { minute = Some value })
-    (record parts { second = Some value }))))))))))
-one_field true M w f l d t h m parts value digits r e = record {
-  given = λ same. given_now value (ap (λ (p : StartParts). p.year) same);
-  year = (omega arith, leb-true value 9999 (and_right (digits == 4) _ e));
-  month = r.month;
-  week = r.week;
-  day = r.day;
-  hour = r.hour;
-  minute = r.minute;
-  second = r.second;
-  nth = r.nth;
-  nth_back = r.nth_back;
-  weekdays = r.weekdays;
+start_of : (parts : StartParts) → parts ≢ no_parts → IsWithin 0 9999 parts.year → IsWithin 1 12 parts.month
+    → IsWithin 1 53 parts.week → IsPlace parts.nth → IsPlace parts.nth_back → IsWithin 1 31 parts.day → parts.weekdays < 128
+    → IsWithin 0 23 parts.hour → IsWithin 0 59 parts.minute → IsWithin 0 59 parts.second → IsStart parts
+start_of parts some year month week nth nth_back day weekdays hour minute second = record {
+  given = some;
+  year = year;
+  month = month;
+  week = week;
+  nth = nth;
+  nth_back = nth_back;
+  day = day;
+  weekdays = weekdays;
+  hour = hour;
+  minute = minute;
+  second = second;
 }
-one_field false true w f l d t h m parts value digits r e = record {
-  given = λ same. given_now value (ap (λ (p : StartParts). p.month) same);
-  month = from_to 1 12 value e;
-  year = r.year;
-  week = r.week;
-  day = r.day;
-  hour = r.hour;
-  minute = r.minute;
-  second = r.second;
-  nth = r.nth;
-  nth_back = r.nth_back;
-  weekdays = r.weekdays;
-}
-one_field false false true f l d t h m parts value digits r e = record {
-  given = λ same. given_now value (ap (λ (p : StartParts). p.week) same);
-  week = from_to 1 53 value e;
-  year = r.year;
-  month = r.month;
-  day = r.day;
-  hour = r.hour;
-  minute = r.minute;
-  second = r.second;
-  nth = r.nth;
-  nth_back = r.nth_back;
-  weekdays = r.weekdays;
-}
-one_field false false false true l d t h m parts value digits r e = record {
-  given = λ same. given_now (value / 10, value % 10) (ap (λ (p : StartParts). p.nth) same);
-  nth = place value digits e;
-  year = r.year;
-  month = r.month;
-  week = r.week;
-  day = r.day;
-  hour = r.hour;
-  minute = r.minute;
-  second = r.second;
-  nth_back = r.nth_back;
-  weekdays = r.weekdays;
-}
-one_field false false false false true d t h m parts value digits r e = record {
-  given = λ same. given_now (value / 10, value % 10) (ap (λ (p : StartParts). p.nth_back) same);
-  nth_back = place value digits e;
-  year = r.year;
-  month = r.month;
-  week = r.week;
-  day = r.day;
-  hour = r.hour;
-  minute = r.minute;
-  second = r.second;
-  nth = r.nth;
-  weekdays = r.weekdays;
-}
-one_field false false false false false true t h m parts value digits r e = record {
-  given = λ same. given_now value (ap (λ (p : StartParts). p.day) same);
-  day = from_to 1 31 value e;
-  year = r.year;
-  month = r.month;
-  week = r.week;
-  hour = r.hour;
-  minute = r.minute;
-  second = r.second;
-  nth = r.nth;
-  nth_back = r.nth_back;
-  weekdays = r.weekdays;
-}
-one_field false false false false false false true h m parts value digits r e =
-    let range = from_to 1 7 value e in record {
-      given = λ same. weekday_given parts.weekdays (value - 1) (ap (λ (p : StartParts). p.weekdays) same);
-      weekdays = weekday_small parts.weekdays value r.weekdays range.0 range.1;
-      year = r.year;
-      month = r.month;
-      week = r.week;
-      day = r.day;
-      hour = r.hour;
-      minute = r.minute;
-      second = r.second;
-      nth = r.nth;
-      nth_back = r.nth_back;
-    }
-one_field false false false false false false false true m parts value digits r e = record {
-  given = λ same. given_now value (ap (λ (p : StartParts). p.hour) same);
-  hour = (omega arith, leb-true value 23 e);
-  year = r.year;
-  month = r.month;
-  week = r.week;
-  day = r.day;
-  minute = r.minute;
-  second = r.second;
-  nth = r.nth;
-  nth_back = r.nth_back;
-  weekdays = r.weekdays;
-}
-one_field false false false false false false false false true parts value digits r e = record {
-  given = λ same. given_now value (ap (λ (p : StartParts). p.minute) same);
-  minute = (omega arith, leb-true value 59 e);
-  year = r.year;
-  month = r.month;
-  week = r.week;
-  day = r.day;
-  hour = r.hour;
-  second = r.second;
-  nth = r.nth;
-  nth_back = r.nth_back;
-  weekdays = r.weekdays;
-}
-one_field false false false false false false false false false parts value digits r e = record {
-  given = λ same. given_now value (ap (λ (p : StartParts). p.second) same);
-  second = (omega arith, leb-true value 59 e);
-  year = r.year;
-  month = r.month;
-  week = r.week;
-  day = r.day;
-  hour = r.hour;
-  minute = r.minute;
-  nth = r.nth;
-  nth_back = r.nth_back;
-  weekdays = r.weekdays;
-}
+
+-- each row of the table gives what is in its range, where it takes the number
+each_field : (parts : StartParts) (v d : ℕ) → AreInRange parts
+    → AreAll (λ row. row.takes v d ≡ true → IsStart (row.gives parts v)) start_fields
+each_field parts v d r =
+    also (λ e. start_of (record parts { year = Some v }) (λ same. given_now v (ap (λ (p : StartParts). p.year) same))
+    (omega arith, leb-true v 9999 (and_right (d == 4) _ e)) r.month r.week r.nth r.nth_back r.day r.weekdays
+    r.hour r.minute r.second)
+    (also (λ e. start_of (record parts { month = Some v }) (λ same. given_now v (ap (λ (p : StartParts). p.month) same))
+    r.year (from_to 1 12 v e) r.week r.nth r.nth_back r.day r.weekdays r.hour r.minute r.second)
+    (also (λ e. start_of (record parts { week = Some v }) (λ same. given_now v (ap (λ (p : StartParts). p.week) same))
+    r.year r.month (from_to 1 53 v e) r.nth r.nth_back r.day r.weekdays r.hour r.minute r.second)
+    (also (λ e. start_of (record parts { nth = Some (v / 10, v % 10) })
+    (λ same. given_now (v / 10, v % 10) (ap (λ (p : StartParts). p.nth) same))
+    r.year r.month r.week (place v d e) r.nth_back r.day r.weekdays r.hour r.minute r.second)
+    (also (λ e. start_of (record parts { nth_back = Some (v / 10, v % 10) })
+    (λ same. given_now (v / 10, v % 10) (ap (λ (p : StartParts). p.nth_back) same))
+    r.year r.month r.week r.nth (place v d e) r.day r.weekdays r.hour r.minute r.second)
+    (also (λ e. start_of (record parts { day = Some v }) (λ same. given_now v (ap (λ (p : StartParts). p.day) same))
+    r.year r.month r.week r.nth r.nth_back (from_to 1 31 v e) r.weekdays r.hour r.minute r.second)
+    (also (λ e. start_of (record parts { weekdays = bit_or parts.weekdays (2 ^ (v - 1)) })
+    (λ same. weekday_given parts.weekdays (v - 1) (ap (λ (p : StartParts). p.weekdays) same))
+    r.year r.month r.week r.nth r.nth_back r.day
+    (weekday_small parts.weekdays v r.weekdays (from_to 1 7 v e).0 (from_to 1 7 v e).1) r.hour r.minute r.second)
+    (also (λ e. start_of (record parts { hour = Some v }) (λ same. given_now v (ap (λ (p : StartParts). p.hour) same))
+    r.year r.month r.week r.nth r.nth_back r.day r.weekdays (omega arith, leb-true v 23 e) r.minute r.second)
+    (also (λ e. start_of (record parts { minute = Some v }) (λ same. given_now v (ap (λ (p : StartParts). p.minute) same))
+    r.year r.month r.week r.nth r.nth_back r.day r.weekdays r.hour (omega arith, leb-true v 59 e) r.second)
+    (also (λ e. start_of (record parts { second = Some v }) (λ same. given_now v (ap (λ (p : StartParts). p.second) same))
+    r.year r.month r.week r.nth r.nth_back r.day r.weekdays r.hour r.minute (omega arith, leb-true v 59 e)) tt)))))))))
 
 more_field : (before : List TokenKind) (token : TokenKind) (parts : StartParts) → fits_start before token ≡ true
     → AreInRange parts → IsStart (with_start_field parts token)
 more_field before (Field letter value digits) parts fit r =
-    one_field (letter == 121) (letter == 77) (letter == 119) (letter == 102) (letter == 108) (letter == 100) (letter == 116)
-    (letter == 104) (letter == 109) parts value digits r
+    taken IsStart start_fields parts letter value digits (each_field parts value digits r)
     (last_hold (is_start_letter letter) (not (is_repeated_in_start before letter)) (is_start_value letter value digits) fit).1
 more_field before token parts fit r = absurd cc
 
@@ -214,8 +118,7 @@ in_range parts h = record {
   day = h.day;
   hour = h.hour;
   minute = h.minute;
-  second =
-      h.second;
+  second = h.second;
   nth = h.nth;
   nth_back = h.nth_back;
   weekdays = h.weekdays;
@@ -259,88 +162,33 @@ abbrev pub AreShort : List TokenKind → Type 0
 AreShort [] = Unit {0}
 AreShort (token ∷ tokens) = IsShort token × AreShort tokens
 
-one_number : (y M w d h m : Bool) (parts : DurationParts) (value : ℕ) → HasSixDigits parts → value ≤ 999999
-    → HasSixDigits (cond y (record parts { years = value }) (cond M (record parts { months = value })
-    (cond w (record parts { weeks = value }) (cond d (record parts { days = value })
-    (cond h (record parts { hours = value }) (cond m (record parts { minutes = value })
-    (record parts { seconds = value })))))))
-one_number true M w d h m parts value r small = record {
-  years = small;
-  months = r.months;
-  weeks = r.weeks;
-  days = r.days;
-  hours =
-      r.hours;
-  minutes = r.minutes;
-  seconds = r.seconds;
+duration_of : (parts : DurationParts) → parts.years ≤ 999999 → parts.months ≤ 999999 → parts.weeks ≤ 999999
+    → parts.days ≤ 999999 → parts.hours ≤ 999999 → parts.minutes ≤ 999999 → parts.seconds ≤ 999999 → HasSixDigits parts
+duration_of parts years months weeks days hours minutes seconds = record {
+  years = years;
+  months = months;
+  weeks = weeks;
+  days = days;
+  hours = hours;
+  minutes = minutes;
+  seconds = seconds;
 }
-one_number false true w d h m parts value r small = record {
-  years = r.years;
-  months = small;
-  weeks = r.weeks;
-  days = r.days;
-  hours = r.hours;
-  minutes = r.minutes;
-  seconds = r.seconds;
-}
-one_number false false true d h m parts value r small = record {
-  years = r.years;
-  months = r.months;
-  weeks = small;
-  days = r.days;
-  hours = r.hours;
-  minutes = r.minutes;
-  seconds =
-      r.seconds;
-}
-one_number false false false true h m parts value r small = record {
-  years = r.years;
-  months = r.months;
-  weeks = r.weeks;
-  days = small;
-  hours = r.hours;
-  minutes = r.minutes;
-  seconds =
-      r.seconds;
-}
-one_number false false false false true m parts value r small =
-    record {
-      years = r.years;
-      months = r.months;
-      weeks = r.weeks;
-      days = r.days;
-      hours = small;
-      minutes = r.minutes;
-      seconds =
-          r.seconds;
-    }
-one_number false false false false false true parts value r small =
-    record {
-      years = r.years;
-      months = r.months;
-      weeks = r.weeks;
-      days = r.days;
-      hours = r.hours;
-      minutes = small;
-      seconds =
-          r.seconds;
-    }
-one_number false false false false false false parts value r small =
-    record {
-      years = r.years;
-      months = r.months;
-      weeks = r.weeks;
-      days = r.days;
-      hours = r.hours;
-      minutes = r.minutes;
-      seconds =
-          small;
-    }
+
+each_number : (parts : DurationParts) (v : ℕ) → v ≤ 999999 → HasSixDigits parts
+    → AreAll (λ row. HasSixDigits (row.gives parts v)) duration_fields
+each_number parts v small r =
+    also (duration_of (record parts { years = v }) small r.months r.weeks r.days r.hours r.minutes r.seconds)
+    (also (duration_of (record parts { months = v }) r.years small r.weeks r.days r.hours r.minutes r.seconds)
+    (also (duration_of (record parts { weeks = v }) r.years r.months small r.days r.hours r.minutes r.seconds)
+    (also (duration_of (record parts { days = v }) r.years r.months r.weeks small r.hours r.minutes r.seconds)
+    (also (duration_of (record parts { hours = v }) r.years r.months r.weeks r.days small r.minutes r.seconds)
+    (also (duration_of (record parts { minutes = v }) r.years r.months r.weeks r.days r.hours small r.seconds)
+    (also (duration_of (record parts { seconds = v }) r.years r.months r.weeks r.days r.hours r.minutes small) tt))))))
 
 more_number : (token : TokenKind) (parts : DurationParts) → IsShort token → HasSixDigits parts
     → HasSixDigits (with_duration_field parts token)
-more_number (Field letter value digits) parts small r = one_number (letter == 121) (letter == 77) (letter == 119) (letter == 100)
-    (letter == 104) (letter == 109) parts value r small
+more_number (Field letter value digits) parts small r =
+    given HasSixDigits duration_fields parts letter value (each_number parts value small r) r
 more_number token parts small r = r
 
 more_numbers : (tokens : List TokenKind) (parts : DurationParts) → AreShort tokens → HasSixDigits parts

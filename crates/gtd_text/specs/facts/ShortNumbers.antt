@@ -11,23 +11,24 @@ use Rattle.gtd_text.specs.declared.token.Token.{Token}
 use Rattle.gtd_text.specs.declared.token.TokenKind.{TokenKind}
 use Rattle.gtd_text.specs.declared.token.TokenKind.TheVariants.{OpenBracket, CloseBracket, OpenParenthesis, CloseParenthesis}
 use Rattle.gtd_text.specs.declared.token.TokenKind.TheVariants.{OpenBrace, CloseBrace, Plus, Star, Minus, Field}
-use Rattle.gtd_text.specs.Fields.{is_start_letter, is_from_to}
+use Rattle.gtd_core.specs.FieldTable.{is_from_to}
+use Rattle.gtd_text.specs.Grammar.{is_start_letter}
 use Rattle.gtd_text.specs.Lexing.{Reads, AreTokens, kinds}
-use Rattle.gtd_text.specs.TokenAt.{number_of, sign_of, field_of, kind_at_front, length_of, token_from}
+use Rattle.gtd_text.specs.TokenAt.{field_number, sign_of, field_of, kind_at_front, length_of, token_from}
 use Rattle.gtd_text.specs.facts.Builds.{and_right}
 use Rattle.gtd_text.specs.facts.TokenForms.{own, front_digits, computed}
 use Rattle.gtd_text.specs.facts.Ranges.{IsShort, AreShort}
 
-small_number : (digits : List ℕ) → all_ascii_digits digits ≡ true → length digits ≤ 6 → number_of digits ≤ 999999
+small_number : (digits : List ℕ) → all_ascii_digits digits ≡ true → length digits ≤ 6 → field_number digits ≤ 999999
 small_number digits all few =
-    let small : number_of digits < 10 ^ 6 = digits_value_short own digits 6 all few in omega arith
+    let small : field_number digits < 10 ^ 6 = digits_value_short own digits 6 all few in omega arith
 
 short_field : (b : Bool) (letter : ℕ) (digits : List ℕ) (kind : TokenKind) → is_from_to 1 6 (length digits) ≡ b
-    → all_ascii_digits digits ≡ true → cond b (Some (Field letter (number_of digits) (length digits))) None ≡ Some kind
+    → all_ascii_digits digits ≡ true → cond b (Some (Field letter (field_number digits) (length digits))) None ≡ Some kind
     → IsShort kind
 short_field false letter digits kind e all h = absurd cc
 short_field true letter digits kind e all h =
-    let same : Field letter (number_of digits) (length digits) ≡ kind = cc in
+    let same : Field letter (field_number digits) (length digits) ≡ kind = cc in
     rw (← same) (small_number digits all (leb-true (length digits) 6 (and_right (nat_le 1 (length digits)) _ e)))
 
 pick : (b : Bool) (x : TokenKind) (o : Option TokenKind) (k : TokenKind) → IsShort x → (o ≡ Some k → IsShort k)

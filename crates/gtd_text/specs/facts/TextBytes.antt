@@ -14,7 +14,7 @@ use Rattle.gtd_core.specs.declared.domain.Op.{Op}
 use Rattle.gtd_core.specs.declared.domain.Op.TheVariants.{Union, Meet, Minus}
 use Rattle.gtd_core.specs.Ranges.{HasSixDigits, IsStart, IsWithin}
 use Rattle.gtd_core.specs.Trees.{Tree, Single, Joined, AreValid}
-use Rattle.gtd_text.specs.Canonical.{canonical, clock_fields, day_fields, duration_text, field_text, month_fields}
+use Rattle.gtd_text.specs.Canonical.{canonical, clock_fields, day_and_weekday_fields, duration_text, field_text, month_fields}
 use Rattle.gtd_text.specs.Canonical.{number_text, numbers_text, or_zero, place_fields, place_text, sign_text, start_text}
 use Rattle.gtd_text.specs.Canonical.{weekday_text, weekdays_text, year_text}
 
@@ -77,10 +77,10 @@ three_plain : (a b c : List ℕ) → IsPlain a → IsPlain b → IsPlain c → I
 three_plain a b c p q r = plain_joined (a ++ b) c (plain_joined a b p q) r
 
 start_plain : (start : StartParts) → IsStart start → IsPlain (start_text start)
-unfolding start_text month_fields place_fields day_fields clock_fields
+unfolding start_text month_fields place_fields day_and_weekday_fields clock_fields
 start_plain s h =
-    plain_joined (month_fields s ++ place_fields s ++ day_fields s) (clock_fields s)
-    (three_plain (month_fields s) (place_fields s) (day_fields s)
+    plain_joined (month_fields s ++ place_fields s ++ day_and_weekday_fields s) (clock_fields s)
+    (three_plain (month_fields s) (place_fields s) (day_and_weekday_fields s)
     (three_plain (year_text s.year) (field_text (codes "M") s.month) (field_text (codes "w") s.week) (year_plain s.year)
     (field_plain (codes "M") 1 12 s.month refl (omega arith) h.month)
     (field_plain (codes "w") 1 53 s.week refl (omega arith) h.week))

@@ -16,18 +16,20 @@ use Rattle.gtd_text.specs.declared.token.Token.{Token}
 use Rattle.gtd_text.specs.declared.token.TokenKind.{TokenKind}
 use Rattle.gtd_text.specs.declared.token.TokenKind.TheVariants.{OpenBracket, CloseBracket, OpenParenthesis, CloseParenthesis}
 use Rattle.gtd_text.specs.declared.token.TokenKind.TheVariants.{OpenBrace, CloseBrace, Plus, Star, Minus, Field}
-use Rattle.gtd_text.specs.Fields.{is_start_letter, is_from_to}
+use Rattle.gtd_core.specs.FieldTable.{is_from_to}
+use Rattle.gtd_text.specs.Grammar.{is_start_letter}
 use Rattle.gtd_text.specs.Lexing.{IsSign, BeginsNoDigit, HasDigits, IsToken, sign, field, BeginsNoToken, IsFaultAt, fuzzy, bad}
-use Rattle.gtd_text.specs.TokenAt.{number_of, sign_of, field_of, kind_at_front, length_of, token_from, token_at, fault_at_front}
+use Rattle.gtd_text.specs.TokenAt.{field_number, sign_of, field_of, kind_at_front, length_of, token_from, token_at}
+use Rattle.gtd_text.specs.TokenAt.{fault_at_front}
 use Rattle.gtd_text.specs.facts.Builds.{and_left, and_right}
 
 -- ---- the digits in front
 
-pub own : IsNumeralModel (λ ds. all_ascii_digits ds ≡ true) number_of
+pub own : IsNumeralModel (λ ds. all_ascii_digits ds ≡ true) field_number
 own = numerals_by_fold (λ ds. all_ascii_digits ds ≡ true) tells_all_ascii_digits
     (λ n digits. fold (λ n digit. n * 10 + (digit - 48)) n digits) (record { empty = λ n. refl; more = λ n c cs h. refl })
 
-value_is : (digits : List ℕ) → all_ascii_digits digits ≡ true → number_of digits ≡ digits_value 10 digits
+value_is : (digits : List ℕ) → all_ascii_digits digits ≡ true → field_number digits ≡ digits_value 10 digits
 value_is digits all = own.same digits (own.to digits all)
 
 by_first : (b : Bool) (x : ℕ) (xs : List ℕ) → is_ascii_digit x ≡ b → all_ascii_digits (take_while is_ascii_digit xs) ≡ true
@@ -137,7 +139,7 @@ field_front text place letter digits known h =
     ap kind_at_front h.stand
     ∙ ap (λ (b : Bool). cond b (field_of letter (take_while is_ascii_digit (digits ++ h.rest))) (sign_of letter)) known
     ∙ ap (field_of letter) (front_of text place letter digits h)
-    ∙ ap (λ (b : Bool). cond b (Some (Field letter (number_of digits) (length digits))) None) (few_digits digits h.some h.few)
+    ∙ ap (λ (b : Bool). cond b (Some (Field letter (field_number digits) (length digits))) None) (few_digits digits h.some h.few)
     ∙ ap (λ (n : ℕ). Some (Field letter n (length digits))) (value_is digits h.all)
 
 -- a token that stands in the text is the one that is computed
@@ -182,11 +184,12 @@ sign_stands text place byte bytes kind e is =
 
 field_stands : (text : List ℕ) (place byte : ℕ) (bytes : List ℕ) (kind : TokenKind) (b : Bool) → drop place text ≡ byte ∷ bytes
     → is_start_letter byte ≡ true → is_from_to 1 6 (length (take_while is_ascii_digit bytes)) ≡ b
-    → cond b (Some (Field byte (number_of (take_while is_ascii_digit bytes)) (length (take_while is_ascii_digit bytes)))) None
+    → cond b (Some (Field byte (field_number (take_while is_ascii_digit bytes)) (length (take_while is_ascii_digit bytes)))) None
     ≡ Some kind → StandsAt text place kind
 field_stands text place byte bytes kind false e known few is = absurd cc
 field_stands text place byte bytes kind true e known few is =
-    let same : Field byte (number_of (take_while is_ascii_digit bytes)) (length (take_while is_ascii_digit bytes)) ≡ kind = cc in
+    let same : Field byte (field_number (take_while is_ascii_digit bytes)) (length
+    (take_while is_ascii_digit bytes)) ≡ kind = cc in
     let named : kind ≡ Field byte (digits_value 10 (take_while is_ascii_digit bytes)) (length (take_while is_ascii_digit bytes)) =
     sym same ∙ ap (λ (n : ℕ). Field byte n (length (take_while is_ascii_digit bytes)))
     (value_is (take_while is_ascii_digit bytes) (front_digits bytes)) in

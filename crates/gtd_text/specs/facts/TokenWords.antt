@@ -8,9 +8,9 @@ use Rattle.std.proofs.lemmas.List.{append-nil}
 use Rattle.gtd_text.specs.declared.token.Token.{Token}
 use Rattle.gtd_text.specs.declared.token.TokenKind.{TokenKind}
 use Rattle.gtd_text.specs.declared.token.TokenKind.TheVariants.{Field}
-use Rattle.gtd_text.specs.Fields.{is_start_letter}
+use Rattle.gtd_text.specs.Grammar.{is_start_letter}
 use Rattle.gtd_text.specs.Lexing.{BeginsNoDigit, Reads, AreTokens, kinds}
-use Rattle.gtd_text.specs.TokenAt.{number_of, sign_of, field_of, kind_at_front, length_of}
+use Rattle.gtd_text.specs.TokenAt.{field_number, sign_of, field_of, kind_at_front, length_of}
 use Rattle.gtd_text.specs.facts.TokenForms.{digits_front, few_digits, stands_by_kind}
 
 -- a token and its text
@@ -92,7 +92,7 @@ pub record AreDigits (value : ℕ) (digits : List ℕ) : Type 0 where
   pub all : all_ascii_digits digits ≡ true
   pub some : 1 ≤ length digits
   pub few : length digits ≤ 6
-  pub means : number_of digits ≡ value
+  pub means : field_number digits ≡ value
 
 abbrev pub field_word : ℕ → ℕ → List ℕ → Word
 field_word letter value digits = (Field letter value (length digits), letter ∷ digits)
@@ -100,7 +100,7 @@ field_word letter value digits = (Field letter value (length digits), letter ∷
 field_kind : (letter value : ℕ) (digits : List ℕ) → AreDigits value digits → field_of letter digits
     ≡ Some (Field letter value (length digits))
 field_kind letter value digits h =
-    ap (λ (b : Bool). cond b (Some (Field letter (number_of digits) (length digits))) None) (few_digits digits h.some h.few)
+    ap (λ (b : Bool). cond b (Some (Field letter (field_number digits) (length digits))) None) (few_digits digits h.some h.few)
     ∙ ap (λ (n : ℕ). Some (Field letter n (length digits))) h.means
 
 pub is_field_word : (letter value : ℕ) (digits : List ℕ) → is_start_letter letter ≡ true → is_ascii_digit letter ≡ false

@@ -10,12 +10,12 @@ use Rattle.gtd_text.specs.declared.token.Token.{Token}
 use Rattle.gtd_text.specs.declared.token.TokenKind.{TokenKind}
 use Rattle.gtd_text.specs.declared.token.TokenKind.TheVariants.{CloseBracket, CloseParenthesis, OpenBrace, CloseBrace, Plus}
 use Rattle.gtd_text.specs.declared.token.TokenKind.TheVariants.{Star, Minus, Field}
-use Rattle.gtd_text.specs.Fields.{fits_start, fits_duration, all_fit_start, all_fit_duration, with_start_fields}
-use Rattle.gtd_text.specs.Fields.{with_duration_fields, zero_parts}
-use Rattle.gtd_text.specs.Grammar.{Level, Sum, Product, Item, Stands, basic, bracketed, item, meet, product, union, minus}
-use Rattle.gtd_text.specs.Grammar.{basic_tokens}
+use Rattle.gtd_text.specs.Grammar.{fits_start, fits_duration, all_fit_start, all_fit_duration, with_start_fields}
+use Rattle.gtd_text.specs.Grammar.{with_duration_fields, zero_parts, Level, Sum, Product, Item, Stands, basic, bracketed, item}
+use Rattle.gtd_text.specs.Grammar.{meet, product, union, minus, basic_tokens}
 use Rattle.gtd_text.specs.Found.{too_long, count_after, too_many_after}
-use Rattle.gtd_text.specs.FirstFault.{fields_at_front, is_too_long, opens_too_long}
+use Rattle.gtd_text.specs.FirstFault.{fields_at_front, is_too_long, opens_too_long, is_field}
+use Rattle.std.proofs.lemmas.List.Sums.{take_while-cons}
 use Rattle.gtd_text.specs.Lexing.{kinds}
 use Rattle.gtd_text.specs.facts.Builds.{and_right}
 use Rattle.gtd_text.specs.facts.Ranges.{IsShort, AreShort, valid_start, valid_numbers}
@@ -29,12 +29,19 @@ abbrev pub IsNoField : TokenKind → Type 0
 IsNoField (Field letter value digits) = ⊥
 IsNoField sign = Unit {0}
 
+-- the fields that tokens begin with go on after one
+pub fields_more : (letter value digits : ℕ) (tokens : List TokenKind) → fields_at_front (Field letter value digits ∷ tokens)
+    ≡ Field letter value digits ∷ fields_at_front tokens
+fields_more letter value digits tokens = take_while-cons is_field (Field letter value digits) tokens
+
 front_before : (tokens : List TokenKind) (sign : TokenKind) (rest : List TokenKind) → IsNoField sign
     → fields_at_front (tokens ++ sign ∷ rest) ≡ fields_at_front tokens
 front_before [] (Field letter value digits) rest s = absurd s
 front_before [] sign rest s = refl
 front_before (Field letter value digits ∷ tokens) sign rest s =
-    ap (λ (l : List TokenKind). Field letter value digits ∷ l) (front_before tokens sign rest s)
+    fields_more letter value digits (tokens ++ sign ∷ rest)
+    ∙ ap (λ (l : List TokenKind). Field letter value digits ∷ l) (front_before tokens sign rest s)
+    ∙ sym (fields_more letter value digits tokens)
 front_before (other ∷ tokens) sign rest s = refl
 
 pub opens_before : (token : TokenKind) (tokens : List TokenKind) (sign : TokenKind) (rest : List TokenKind) → IsNoField sign
@@ -57,7 +64,8 @@ pub front_fields : (before tokens rest : List TokenKind) → all_fit_duration be
     → fields_at_front (tokens ++ CloseBrace ∷ rest) ≡ tokens
 front_fields before [] rest fit = refl
 front_fields before (Field letter value digits ∷ tokens) rest fit =
-    ap (λ (l : List TokenKind). Field letter value digits ∷ l)
+    fields_more letter value digits (tokens ++ CloseBrace ∷ rest)
+    ∙ ap (λ (l : List TokenKind). Field letter value digits ∷ l)
     (front_fields (Field letter value digits ∷ before) tokens rest
     (and_right (fits_duration before (Field letter value digits)) _ fit))
 front_fields before (sign ∷ tokens) rest fit = absurd cc

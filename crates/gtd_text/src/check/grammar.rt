@@ -1,19 +1,15 @@
 //! Which tokens make an expression.
 
-ghost use Rattle.std.specs.Prelude.{◌≡◌, ◌<◌, ◌≤◌, ◌+◌, ◌^◌, List, [], length};
-ghost use Rattle.gtd_text.specs.declared.token.Token.{Token};
+ghost use Rattle.std.specs.Prelude.{◌≡◌, ◌<◌, ◌+◌, ◌^◌, []};
 ghost use Rattle.gtd_text.specs.Fitting.{begins_item, follows_item};
-ghost use Rattle.gtd_text.specs.Found.{fault_after};
-ghost use Rattle.gtd_text.specs.Lexing.{AreTokens};
 ghost use Rattle.gtd_text.specs.Summary.{field_takes, field_misfit};
+ghost use Rattle.gtd_text.specs.Summary.{start_takes, duration_takes, is_found_in_start};
 
-use crate::check::fields::{
-    fits_duration, fits_start, is_duration_letter, is_repeated_in_start, is_start_letter,
-};
 use crate::check::letters::Letters;
-use crate::lexer::next_token;
+use crate::check::limits::depth_after;
+use crate::fields::{is_duration_letter, is_start_letter, is_start_value};
 use crate::token::TokenKind;
-use gtd_core::{Fault, TextFault};
+use gtd_core::Fault;
 
 /// What the tokens before a place say of the next: the last token, the last sign, how many brackets are open, and the
 /// letters of the fields since that sign.
@@ -28,7 +24,8 @@ pub struct Seen {
 impl Seen {
     ghost use Rattle.gtd_text.specs.Summary.{seen, seen_with, takes, misfit, ends};
 
-    fn none() -> Seen
+    /// No token stands before.
+    pub fn none() -> Seen
         ensures { result ≡ seen [] }
     {
         Seen {
@@ -39,16 +36,12 @@ impl Seen {
         }
     }
 
-    fn with(self, kind: TokenKind) -> Seen
+    /// With one more token.
+    pub fn with(self, kind: TokenKind) -> Seen
         requires { self.depth + 1 < 2 ^ 64 }
-        ensures depth { result.depth ≤ self.depth + 1 }
-        ensures seen { result ≡ seen_with self kind }
+        ensures { result ≡ seen_with self kind }
     {
-        let depth = match kind {
-            TokenKind::OpenBracket => self.depth + 1,
-            TokenKind::CloseBracket => self.depth.saturating_sub(1),
-            _ => self.depth,
-        };
+        let depth = depth_after(self.depth, kind);
         match kind {
             TokenKind::Field { letter, .. } => Seen {
                 last: Some(kind),
@@ -65,8 +58,15 @@ impl Seen {
         }
     }
 
-    // Whether the token may come next after those before it.
-    fn fits(self, kind: TokenKind) -> bool
+    /// How many brackets are open.
+    pub fn depth(self) -> usize
+        ensures { result ≡ self.depth }
+    {
+        self.depth
+    }
+
+    /// Whether the token may come next after those before it.
+    pub fn fits(self, kind: TokenKind) -> bool
         ensures { result ≡ takes self kind }
     {
         match self.last {
@@ -83,8 +83,8 @@ impl Seen {
         }
     }
 
-    // Which fault it is that the token does not fit.
-    fn fault_of(self, kind: TokenKind) -> Fault
+    /// Which fault it is that the token does not fit.
+    pub fn fault_of(self, kind: TokenKind) -> Fault
         ensures { result ≡ misfit self kind }
     {
         match kind {
@@ -97,8 +97,8 @@ impl Seen {
         }
     }
 
-    // Whether the tokens may end here.
-    fn may_end(self) -> bool
+    /// Whether the tokens may end here.
+    pub fn may_end(self) -> bool
         ensures { result ≡ ends self }
     {
         match self.last {
@@ -138,6 +138,41 @@ fn fits_after_field(sign: Option<TokenKind>, letters: Letters, kind: TokenKind) 
     }
 }
 
+// Whether a field of a start may stand where fields with these letters stand before it.
+fn fits_start(letters: Letters, kind: TokenKind) -> bool
+    ensures { result ≡ start_takes letters kind }
+{
+    match kind {
+        TokenKind::Field {
+            letter,
+            value,
+            digits,
+        } => {
+            is_start_letter(letter)
+                && !is_repeated_in_start(letters, letter)
+                && is_start_value(letter, value, digits)
+        }
+        _ => false,
+    }
+}
+
+// Whether a field of a duration may stand where fields with these letters stand before it.
+fn fits_duration(letters: Letters, kind: TokenKind) -> bool
+    ensures { result ≡ duration_takes letters kind }
+{
+    match kind {
+        TokenKind::Field { letter, .. } => is_duration_letter(letter) && !letters.has(letter),
+        _ => false,
+    }
+}
+
+// Whether the letter may not stand again in the same parentheses.
+fn is_repeated_in_start(letters: Letters, letter: u8) -> bool
+    ensures { result ≡ is_found_in_start letters letter }
+{
+    letter != b't' && letters.has(letter)
+}
+
 fn field_fault(sign: Option<TokenKind>, letters: Letters, letter: u8) -> Fault
     ensures { result ≡ field_misfit sign letters letter }
 {
@@ -157,32 +192,5 @@ fn field_fault(sign: Option<TokenKind>, letters: Letters, letter: u8) -> Fault
             }
         }
         _ => Fault::Unexpected,
-    }
-}
-
-/// The first token that does not fit after those before it, or that the text ends too early.
-pub fn first_misfit(text: &[u8]) -> Option<TextFault>
-    ensures { (tokens : List Token) → AreTokens text.now tokens
-        → result ≡ fault_after (length text.now) [] tokens }
-{
-    let mut seen = Seen::none();
-    let mut place = 0;
-    while let Some(token) = next_token(text, place) {
-        if !seen.fits(token.kind) {
-            return Some(TextFault {
-                kind: seen.fault_of(token.kind),
-                place: token.from,
-            });
-        }
-        seen = seen.with(token.kind);
-        place = token.to;
-    }
-    if seen.may_end() {
-        None
-    } else {
-        Some(TextFault {
-            kind: Fault::Incomplete,
-            place: text.len(),
-        })
     }
 }

@@ -1,58 +1,25 @@
 //! The limits on a text: how deep its brackets are, how many its basic domains, how long their durations.
 
-ghost use Rattle.std.specs.Prelude.{◌≡◌, ◌≤◌, List, length};
-ghost use Rattle.gtd_text.specs.Fields.{with_duration_fields, zero_parts};
-ghost use Rattle.gtd_text.specs.Found.{depth_after, count_after, too_deep_after, too_many_after, too_long};
-ghost use Rattle.gtd_text.specs.Lexing.{AreTokens, Reads, kinds};
-ghost use Rattle.gtd_text.specs.FirstFault.{fields_at_front, opens_too_long};
-ghost use Rattle.gtd_text.specs.declared.token.Token.{Token};
+ghost use Rattle.std.specs.Prelude.{◌≡◌, ◌<◌, ◌+◌, ◌^◌, ℕ};
+ghost use Rattle.gtd_text.specs.Findings.{opened_after, with_field, fault_of_opened, too_deep_at, too_many_at};
+ghost use Rattle.gtd_text.specs.Found.{depth_after, count_after};
+ghost use Rattle.gtd_text.specs.declared.token.TokenKind.TheVariants.{Field};
 
-use crate::check::fields::duration_with;
-use crate::lexer::next_token;
-use crate::token::TokenKind;
+use crate::fields::duration_with;
+use crate::token::{Token, TokenKind};
 use gtd_core::limits::{MOST_BASIC_DOMAINS, MOST_BOUND, MOST_DEPTH};
 use gtd_core::{DurationParts, Fault, TextFault};
 
-/// The first bracket that opens too deep.
-pub fn too_deep(text: &[u8]) -> Option<TextFault>
-    ensures { (tokens : List Token) → AreTokens text.now tokens → result ≡ too_deep_after 0 tokens }
-{
-    let mut depth = 0;
-    let mut place = 0;
-    while let Some(token) = next_token(text, place) {
-        depth = depth_after(depth, token.kind);
-        if u32::from(MOST_DEPTH) < depth {
-            return Some(TextFault {
-                kind: Fault::TooDeep,
-                place: token.from,
-            });
-        }
-        place = token.to;
-    }
-    None
+/// A duration whose brace is open: where the brace stands, and the fields so far.
+#[derive(Clone, Copy)]
+pub struct OpenDuration {
+    pub place: usize,
+    pub parts: DurationParts,
 }
 
-/// The first parenthesis that opens one start too many.
-pub fn too_many(text: &[u8]) -> Option<TextFault>
-    ensures { (tokens : List Token) → AreTokens text.now tokens → result ≡ too_many_after 0 tokens }
-{
-    let mut count = 0;
-    let mut place = 0;
-    while let Some(token) = next_token(text, place) {
-        count = count_after(count, token.kind);
-        if u32::from(MOST_BASIC_DOMAINS) < count {
-            return Some(TextFault {
-                kind: Fault::TooMany,
-                place: token.from,
-            });
-        }
-        place = token.to;
-    }
-    None
-}
-
-fn depth_after(depth: u32, kind: TokenKind) -> u32
-    requires { depth ≤ 128 }
+/// How many brackets are open after one more token.
+pub fn depth_after(depth: usize, kind: TokenKind) -> usize
+    requires { depth + 1 < 2 ^ 64 }
     ensures { result ≡ depth_after depth kind }
 {
     match kind {
@@ -62,8 +29,9 @@ fn depth_after(depth: u32, kind: TokenKind) -> u32
     }
 }
 
-fn count_after(count: u32, kind: TokenKind) -> u32
-    requires { count ≤ 128 }
+/// How many parentheses have opened after one more token.
+pub fn count_after(count: usize, kind: TokenKind) -> usize
+    requires { count + 1 < 2 ^ 64 }
     ensures { result ≡ count_after count kind }
 {
     match kind {
@@ -72,49 +40,53 @@ fn count_after(count: u32, kind: TokenKind) -> u32
     }
 }
 
-/// The first duration that is too long, at its brace.
-pub fn too_long(text: &[u8]) -> Option<TextFault>
-    ensures { (tokens : List Token) → AreTokens text.now tokens → result ≡ too_long tokens }
+/// The fault of a token after which so many brackets are open.
+pub fn too_deep_at(depth: usize, place: usize) -> Option<TextFault>
+    ensures { result ≡ too_deep_at depth place }
 {
-    let mut place = 0;
-    while let Some(token) = next_token(text, place) {
-        if opens_too_long(text, token.kind, token.to) {
-            return Some(TextFault {
-                kind: Fault::TooLongDuration,
-                place: token.from,
-            });
-        }
-        place = token.to;
-    }
-    None
+    let kind = Fault::TooDeep;
+    (usize::from(MOST_DEPTH) < depth).then_some(TextFault { kind, place })
 }
 
-// Whether a token of this kind, before the tokens from this place on, opens a duration that is too long.
-fn opens_too_long(text: &[u8], kind: TokenKind, place: usize) -> bool
-    requires { place ≤ length text.now }
-    ensures { (after : List Token) → Reads text.now place after (length text.now)
-        → result ≡ opens_too_long kind (kinds after) }
+/// The fault of a token after which so many parentheses have opened.
+pub fn too_many_at(count: usize, place: usize) -> Option<TextFault>
+    ensures { result ≡ too_many_at count place }
 {
-    match kind {
-        TokenKind::OpenBrace => MOST_BOUND < duration_at(text, place).bound(),
-        _ => false,
+    let kind = Fault::TooMany;
+    (usize::from(MOST_BASIC_DOMAINS) < count).then_some(TextFault { kind, place })
+}
+
+/// The duration that is open after one more token.
+pub fn opened_after(opened: Option<OpenDuration>, token: Token) -> Option<OpenDuration>
+    ensures { result ≡ opened_after opened token.kind token.from }
+{
+    match token.kind {
+        TokenKind::OpenBrace => Some(OpenDuration {
+            place: token.from,
+            parts: DurationParts::default(),
+        }),
+        TokenKind::Field { letter, value, .. } => with_field(opened, letter, value),
+        _ => None,
     }
 }
 
-// The numbers of the fields that the tokens from this place on begin with.
-fn duration_at(text: &[u8], from: usize) -> DurationParts
-    requires { from ≤ length text.now }
-    ensures { (tokens : List Token) → Reads text.now from tokens (length text.now)
-        → result ≡ with_duration_fields zero_parts (fields_at_front (kinds tokens)) }
+fn with_field(opened: Option<OpenDuration>, letter: u8, value: u32) -> Option<OpenDuration>
+    ensures { (digits : ℕ) → result ≡ with_field opened (Field letter value digits) }
 {
-    let mut parts = DurationParts::default();
-    let mut place = from;
-    while let Some(token) = next_token(text, place) {
-        match token.kind {
-            TokenKind::Field { letter, value, .. } => parts = duration_with(parts, letter, value),
-            _ => return parts,
-        }
-        place = token.to;
+    match opened {
+        None => None,
+        Some(OpenDuration { place, parts }) => Some(OpenDuration {
+            place,
+            parts: duration_with(parts, letter, value),
+        }),
     }
-    parts
+}
+
+/// The fault of a duration that ends with the fields so far: that it is too long, at its brace.
+pub fn fault_of_opened(opened: Option<OpenDuration>) -> Option<TextFault>
+    ensures { result ≡ fault_of_opened opened }
+{
+    let OpenDuration { place, parts } = opened?;
+    let kind = Fault::TooLongDuration;
+    (MOST_BOUND < parts.bound()).then_some(TextFault { kind, place })
 }

@@ -33,9 +33,9 @@ returns c =
     let long_fits : FitsSigned w8 c.days_in_month.result = search rules in
     let cut : c.min.result ≡ min c.args.day (days_in_month first.year first.month) =
     rw (to_z-of_z long_fits, c.days_in_month.ensures) at c.min.ensures in
-    let sum = day_in_month-theirs c.args.count c.args.day first c.number_of.result c.requires.day_in is.0 month day
-    c.number_of.ensures.value in
-    record { value = fitting _ _ _ _ c.number_of.ensures.bound (omega arith) c.from.ensures cut ∙ sum }
+    let sum = day_in_month-theirs c.args.count c.args.day first c.day_number_of.result c.requires.day_in is.0 month day
+    c.day_number_of.ensures.value in
+    record { value = fitting _ _ _ _ c.day_number_of.ensures.bound (omega arith) c.from.ensures cut ∙ sum }
   where
     fitting : (n r : ℤ) (m k : ℕ) → IsEpochDay n → m < 256 → r ≡ pos m → m ≡ k
         → to_z w64 (of_z w64 (to_z w64 (of_z w64 (to_z w64 (of_z w64 n) +ℤ to_z w64 (of_z w64 r))) -ℤ pos 1))

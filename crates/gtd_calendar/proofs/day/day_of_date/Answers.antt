@@ -16,11 +16,11 @@ returns-in-Ok-clause-exists c =
 pub returns-in-Ok-clause-value : goal.returns-in-Ok-clause-value
 returns-in-Ok-clause-value c =
     let year : to_z w16 (of_z w16 c.args.year) ≡ c.args.year = to_z-of_z c.ranges.year in
-    let long : to_z w64 (of_z w64 c.number_of.result) ≡ c.number_of.result = omega (arith, signed_arith) in
+    let long : to_z w64 (of_z w64 c.day_number_of.result) ≡ c.day_number_of.result = omega (arith, signed_arith) in
     let is = rw (c.in-Ok.is, year) at c.new.ensures.value in
     let month : c.in-Ok.date.month ≡ c.args.month = omega (arith, signed_casts, is.1) in
     let day : c.in-Ok.date.day ≡ c.args.day = omega (arith, signed_casts, is.2) in
-    long ∙ rw (is.0, month, day) at c.number_of.ensures.value
+    long ∙ rw (is.0, month, day) at c.day_number_of.ensures.value
 
 pub returns-in-Err-clause-exists : goal.returns-in-Err-clause-exists
 returns-in-Err-clause-exists c =

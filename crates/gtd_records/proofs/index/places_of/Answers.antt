@@ -1,6 +1,6 @@
 use Rattle.std.proofs.Common.{◌≡◌, sym, subst, refl, arith, rules, length}
 use Rattle.std.proofs.lemmas.List.Sorted.{All-permutation, Contains-permutation, IsNonDecreasingBy-from_sort_by_key}
-use Rattle.gtd_records.specs.Index.{IsPlace}
+use Rattle.gtd_records.specs.Index.{IsPlaceOfRow}
 use Rattle.gtd_records.specs.declared.index.Place.{Place}
 use Rattle.gtd_records.specs.facts.IndexFacts.{at_index}
 use Rattle.gtd_records.proofs.index.places_of.Goals as goal
@@ -14,9 +14,9 @@ returns c =
     record {
       sorted = IsNonDecreasingBy-from_sort_by_key (λ (p : Place). p.element) _ c.sort_unstable_by_key.ensures.sorted
           (λ a r q k. search rules);
-      sound = All-permutation (IsPlace rows) _ _ moved
+      sound = All-permutation (IsPlaceOfRow rows) _ _ moved
           (λ k d h. let a = at_index rows k (omega arith) in
-          subst (IsPlace rows) (sym (i.each k d a.0 (omega arith) a.1)) (a.0, omega arith, a.1, refl));
+          subst (IsPlaceOfRow rows) (sym (i.each k d a.0 (omega arith) a.1)) (a.0, omega arith, a.1, refl));
       each = λ k r h e. Contains-permutation _ _ _ moved (k, omega arith, i.each k _ r (omega arith) e);
       many = search rules;
     }

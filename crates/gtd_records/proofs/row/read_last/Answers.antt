@@ -6,7 +6,7 @@ use Rattle.gtd_records.proofs.row.read_last.Goals as goal
 
 pub returns-in-Ok : goal.returns-in-Ok
 returns-in-Ok c = λ _. a_column c.args.text.now (domain_tree c.in-Ok.domain) (grind (arith, nat_tests))
-    (c.in-Ok.ensures.found, c.in-Ok.ensures.faultless)
+    c.in-Ok.ensures.found
 
 pub returns-in_default : goal.returns-in_default
 returns-in_default c = λ _. (

@@ -1,6 +1,6 @@
 use Rattle.std.proofs.Common.{rules}
 use Rattle.gtd_runs.specs.facts.RunFacts.{answer_ended, answer_lines, has_run}
-use Rattle.gtd_runs.specs.Subjects.{IsAccepted}
+use Rattle.gtd_runs.specs.Run.{IsAccepted}
 use Rattle.gtd_runs.proofs.report.run.Goals as goal
 
 pub returns-clause-stands : goal.returns-clause-stands

@@ -1,6 +1,6 @@
 use Rattle.std.proofs.Common.{◌≡◌, ◌∙◌}
 use Rattle.std.proofs.lemmas.Result.{IfOk-weaker}
-use Rattle.gtd_spans.specs.Combine.{combine}
+use Rattle.gtd_spans.specs.Normal.{combine}
 use Rattle.gtd_spans.specs.facts.Combining.{combine-holds}
 use Rattle.gtd_spans.proofs.operations.combined.Goals as goal
 

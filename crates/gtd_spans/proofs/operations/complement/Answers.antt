@@ -2,7 +2,7 @@ use Rattle.std.proofs.Common.{◌≡◌, [], ◌∷◌, ◌∙◌}
 use Rattle.std.proofs.lemmas.Result.{IfOk-weaker}
 use Rattle.gtd_core.specs.Whole.{whole}
 use Rattle.gtd_core.specs.declared.domain.Op.TheVariants.{Minus}
-use Rattle.gtd_spans.specs.Combine.{combine}
+use Rattle.gtd_spans.specs.Normal.{combine}
 use Rattle.gtd_spans.specs.facts.Whole.{minus-whole}
 use Rattle.gtd_spans.proofs.operations.complement.Goals as goal
 

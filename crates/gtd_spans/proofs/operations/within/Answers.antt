@@ -2,7 +2,7 @@ use Rattle.std.proofs.Common.{◌≡◌, [], ◌∷◌, ◌∙◌}
 use Rattle.std.proofs.lemmas.Result.{IfOk-weaker}
 use Rattle.gtd_core.specs.Whole.{whole}
 use Rattle.gtd_core.specs.declared.domain.Op.TheVariants.{Meet}
-use Rattle.gtd_spans.specs.Combine.{combine}
+use Rattle.gtd_spans.specs.Normal.{combine}
 use Rattle.gtd_spans.specs.facts.Whole.{meet-whole}
 use Rattle.gtd_spans.proofs.operations.within.Goals as goal
 

@@ -1,4 +1,4 @@
-use Rattle.std.proofs.Common.{◌<◌, List, ◌++◌, ap, ◌∙◌, arith, length, length-append, append_assoc}
+use Rattle.std.proofs.Common.{◌<◌, List, ◌++◌, refl, ap, ◌∙◌, arith, length, length-append, append_assoc}
 use Rattle.gtd_core.specs.declared.domain.Op.{Op}
 use Rattle.gtd_eval.specs.facts.NodeFacts.{node_list-normal}
 use Rattle.gtd_eval.specs.Chains.{right_of, IsChainOf}
@@ -26,8 +26,8 @@ returns t c =
         split = b.split ∙ ap (λ (xs : List Cursor). xs ++ rs) a.split ∙ append_assoc _ ls rs;
         many = omega (arith, length-append ls rs, a.many, b.many);
         chain = record {
-          sound = (c.new-3.ensures.fits _ _ (node_list-normal _ u.sound) (node_list-normal _ v.sound), u.sound, v.sound);
-          seconds = two-seconds op ls rs _ _ _ (c.new-3.ensures.meaning _ _) some u v;
+          sound = (node_list-normal _ u.sound, node_list-normal _ v.sound, u.sound, v.sound);
+          seconds = two-seconds op ls rs _ _ _ refl some u v;
           nodes = two-nodes op to ls rs _ _ u v;
           work = two-work op to ls rs _ _ u v;
           height = two-height op to c.args.count ls rs _ _ gt b.many a.many u v;

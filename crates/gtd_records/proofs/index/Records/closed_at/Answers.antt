@@ -1,6 +1,6 @@
 use Rattle.std.proofs.Common.{◌≡◌, ◌∙◌, ◌<◌, ◌+◌, ◌-◌, sym, ap, subst, refl, arith, rules, ℕ, List, length, take, drop}
 use Rattle.std.specs.Prelude.{slice_index_or, Any}
-use Rattle.gtd_records.specs.Index.{ArePlaces, IsPlace}
+use Rattle.gtd_records.specs.Index.{ArePlaces, IsPlaceOfRow}
 use Rattle.gtd_records.specs.Closing.{Closes, Restriction}
 use Rattle.gtd_records.specs.declared.index.Place.{Place}
 use Rattle.gtd_records.specs.facts.IndexFacts.{any_default, by_le, none_closes, one_record, part_at, part_past, part_within}
@@ -10,11 +10,11 @@ use Rattle.gtd_records.proofs.index.Records.closed_at.Goals as goal
 -- what the loop goes over are places
 sound : (rows : List Restriction) (places all : List Place) (same : all ≡ places) → ArePlaces rows places
     → (from k : ℕ) (d : Place) → k < length (take (length all - from) (drop from all))
-    → IsPlace rows (slice_index_or (take (length all - from) (drop from all)) k d)
+    → IsPlaceOfRow rows (slice_index_or (take (length all - from) (drop from all)) k d)
 sound rows places all same placed from k d h =
     let within = part_within all from k h in
     let l = ap length same in
-    subst (IsPlace rows) (sym (part_at places all same from k d (omega (arith, within, l))))
+    subst (IsPlaceOfRow rows) (sym (part_at places all same from k d (omega (arith, within, l))))
     (placed.sound (from + k) d (omega (arith, within, l)))
 
 -- what stands past the end

@@ -5,10 +5,10 @@ use Rattle.gtd_core.specs.Whole.{from_day, to_day}
 use Rattle.gtd_core.specs.Ranges.{lookback_of}
 use Rattle.gtd_recur.specs.Work.{window_begin}
 use Rattle.gtd_recur.specs.Walking.{walk_all, walk_given, walk_to_come, walk_ticks}
-use Rattle.gtd_recur.specs.Stretches.{to_come}
+use Rattle.gtd_recur.specs.Stretches.{starts_ahead}
 use Rattle.gtd_recur.proofs.AscendingLemmas.{window-ascending}
 use Rattle.gtd_recur.proofs.GivenLemmas.{counted-first, horizon-order, same-all}
-use Rattle.gtd_recur.proofs.HorizonLemmas.{to_come-is, ahead-in}
+use Rattle.gtd_recur.proofs.HorizonLemmas.{starts_ahead-is, ahead-in}
 use Rattle.gtd_recur.proofs.LookLemmas.{look-runs, first-look}
 use Rattle.gtd_recur.specs.facts.StartsLemmas.{window_begin-is}
 use Rattle.gtd_recur.proofs.runs.Runs.new.Goals as goal
@@ -17,8 +17,9 @@ pub invariant_of-result : goal.invariant_of-result
 invariant_of-result c =
     let v = c.from_last-walk.result in
     let s = c.next-ahead.new.self in
-    let all : to_come c.next-ahead.result (walk_to_come s) ≡ walk_all s =
-    to_come-is _ _ _ c.next-ahead.ensures.takes ∙ c.from_last-walk.ensures.to_come ∙ same-all v s c.next-ahead.ensures.same in
+    let all : starts_ahead c.next-ahead.result (walk_to_come s) ≡ walk_all s =
+    starts_ahead-is _ _ _ c.next-ahead.ensures.takes ∙ c.from_last-walk.ensures.to_come
+    ∙ same-all v s c.next-ahead.ensures.same in
     let nothing : walk_given v ≡ [] = ap (λ (k : ℕ). take k (walk_all v)) c.from_last-walk.ensures.none_handed in
     record {
       ascending = rw all (window-ascending (start_parts s.basic.start) s.first (to_day s.horizon));
@@ -34,8 +35,8 @@ returns-clause-normal c =
     let v = c.from_last-walk.result in
     let s = c.next-ahead.new.self in
     let same = c.next-ahead.ensures.same in
-    let all : to_come c.next-ahead.result (walk_to_come s) ≡ walk_all v =
-    to_come-is _ _ _ c.next-ahead.ensures.takes ∙ c.from_last-walk.ensures.to_come in
+    let all : starts_ahead c.next-ahead.result (walk_to_come s) ≡ walk_all v =
+    starts_ahead-is _ _ _ c.next-ahead.ensures.takes ∙ c.from_last-walk.ensures.to_come in
     let basic : s.basic ≡ d = same.basic ∙ c.from_last-walk.ensures.basic in
     let horizon : s.horizon ≡ h = same.horizon ∙ c.from_last-walk.ensures.horizon in
     let look = first-look (start_parts d.start) (window_begin d h) (from_day h) v.first

@@ -1,6 +1,6 @@
 use Rattle.std.proofs.Common.{◌≡◌, ◌≤◌, length}
 use Rattle.gtd_recur.specs.RunsToCome.{runs_to_come}
-use Rattle.gtd_recur.specs.Stretches.{to_come}
+use Rattle.gtd_recur.specs.Stretches.{starts_ahead}
 use Rattle.gtd_recur.specs.Walking.{IsSameWindow, walk_to_come, walk_ticks}
 use Rattle.gtd_recur.proofs.runs.Runs.next_run.Given as goal
 
@@ -13,4 +13,4 @@ invariant-loop-self l = record {
 }
 
 abbrev pub decreases-loop-self : goal.decreases-loop-self
-decreases-loop-self l = length (to_come l.self.ahead (walk_to_come l.self.walk))
+decreases-loop-self l = length (starts_ahead l.self.ahead (walk_to_come l.self.walk))

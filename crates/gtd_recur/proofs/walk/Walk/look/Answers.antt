@@ -1,96 +1,136 @@
-use Rattle.std.proofs.Common.{◌≡◌, arith, ℤ, pos, false, ◌+ℤ◌, ◌≤ℤ◌, ◌<ℤ◌, to_z, of_z, w64, ◌∙◌, sym, inl, inr}
-use Rattle.std.proofs.lemmas.Bool.{false_from_ne_true}
+use Rattle.std.proofs.Common.{◌≡◌, inl, inr, refl, arith, pos, ◌-ℤ◌, ◌≤ℤ◌, to_z, of_z, w64}
 use Rattle.gtd_calendar.specs.facts.Signed.{signed_arith}
-use Rattle.gtd_core.specs.Parts.{start_parts}
-use Rattle.gtd_core.specs.Whole.{to_day}
-use Rattle.gtd_recur.specs.Begins.{month_and_year_fit}
-use Rattle.gtd_recur.specs.facts.StartsLemmas.{IsOpened, looked-left, looked-count, looked-window, opened-low, window-calendar}
-use Rattle.gtd_recur.specs.facts.StartsLemmas.{small-z, small-counts, run-small}
-use Rattle.gtd_recur.proofs.walk.Walk.look.Goals.{then-begins_on_day, else-begins_on_day}
+use Rattle.gtd_recur.specs.facts.StartsLemmas.{small-z}
 use Rattle.gtd_recur.proofs.walk.Walk.look.Goals as goal
 
-pub overflow_add-self : goal.overflow_add-self
-overflow_add-self c =
+pub open-requires-clause-low : goal.open-requires-clause-low
+open-requires-clause-low c =
     let s = c.args.self.now in
-    let small = small-counts (start_parts s.basic.start) s.first s.seen s.day s.next_day
-    (to_day s.horizon) s.looked s.handed _ s.in_window s.counted s.left in
-    omega (arith, small.2)
+    let w = s.in_window in
+    let a0 = w.first_in in let a1 = w.day_in in let a2 = w.next_in in let a4 = w.last_in in
+    let more = s.fitting.some c.requires.more in let until = s.fitting.within in
+    let next : to_z w64 (of_z w64 s.next_day) ≡ s.next_day =
+    small-z s.next_day (omega (arith, signed_arith, a0, a1, a2)) (omega (arith, signed_arith, more, until, a4)) in
+    let last : to_z w64 (of_z w64 s.fits_until) ≡ s.fits_until =
+    small-z s.fits_until (omega (arith, signed_arith, a0, a1, a2, more)) (omega (arith, signed_arith, until, a4)) in
+    let first = rw (c.as_parts.ensures.value, next, last) at c.next_begun-found.ensures.first in
+    let f0 = first.low in let f1 = first.high in
+    let found : to_z w64 (of_z w64 c.next_begun-found.result) ≡ c.next_begun-found.result =
+    small-z _ (omega (arith, signed_arith, a0, a1, a2, f0)) (omega (arith, signed_arith, f1, until, a4)) in
+    rw found f0
 
-pub invariant_of-self : goal.invariant_of-self
-invariant_of-self c =
+pub open-requires-clause-none : goal.open-requires-clause-none
+open-requires-clause-none c =
     let s = c.args.self.now in
-    let day = window-calendar s.first s.day s.next_day (to_day s.horizon) s.in_window c.requires.more in
-    let plain : to_z w64 (of_z w64 s.next_day) ≡ s.next_day =
-    small-z s.next_day (omega (arith, signed_arith, day.0)) (omega (arith, signed_arith, day.1)) in
-    let run = c.days_after-after.ensures.run in
-    let small = run-small _ (s.next_day +ℤ pos 1) (to_day s.horizon) c.days_after-after.result.from
-    c.days_after-after.result.until (omega (arith, signed_arith, day.0)) s.in_window.last_in run in
-    let later : s.next_day <ℤ c.days_after-after.result.from = (let low = run.low in omega (arith, signed_arith, low)) in
-    let within : c.days_after-after.result.from ≤ℤ to_day s.horizon =
-    (let a = run.order in let b = run.within in omega (arith, signed_arith, a, b)) in
-    let skipped : (i : ℤ) → s.next_day <ℤ i → i <ℤ c.days_after-after.result.from
-    → month_and_year_fit (start_parts s.basic.start) i ≡ false
-    = λ i low high. false_from_ne_true _ (run.skipped i (omega (arith, signed_arith, low)) high) in
-    let on = rw (c.as_parts.ensures.value, plain) at c.begins_on_day.ensures in
-    let opened : IsOpened (start_parts s.basic.start) s.next_day c.if-begins_on_day.clock = elim c.if-begins_on_day.branch [
-      | then-begins_on_day w ↦ inl (sym on ∙ w.if-begins_on_day.true, w.clock-is)
-      | else-begins_on_day w ↦ inr (sym on ∙ w.if-begins_on_day.false, w.clock-is)
-    ] in
-    let fit = s.fitting.fit s.next_day (omega (arith, signed_arith)) (s.fitting.some c.requires.more) in
-    record {
-      first_in = s.first_in;
-      seen_in = s.seen_in;
-      clock_in = opened-low (start_parts s.basic.start) s.next_day c.if-begins_on_day.clock opened;
-      in_window = rw (plain, small.0) (looked-window s.first s.day s.next_day
-          c.days_after-after.result.from (to_day s.horizon) s.in_window later within);
-      fitting = rw (small.0, small.1) (record { within = run.within; some = run.some; fit = run.run });
-      left = rw (
-        plain,
-        small.0,
-        looked-left (start_parts s.basic.start) s.day s.next_day c.days_after-after.result.from
-            (to_day s.horizon) s.clock c.if-begins_on_day.clock c.requires.done opened later within skipped,
-      ) s.left;
-      counted = rw (plain, small.0) (looked-count (start_parts s.basic.start)
-          s.first s.seen s.day s.next_day c.days_after-after.result.from
-          (to_day s.horizon) s.looked s.in_window later fit skipped s.counted);
-    }
+    let w = s.in_window in
+    let a0 = w.first_in in let a1 = w.day_in in let a2 = w.next_in in let a4 = w.last_in in
+    let more = s.fitting.some c.requires.more in let until = s.fitting.within in
+    let next : to_z w64 (of_z w64 s.next_day) ≡ s.next_day =
+    small-z s.next_day (omega (arith, signed_arith, a0, a1, a2)) (omega (arith, signed_arith, more, until, a4)) in
+    let last : to_z w64 (of_z w64 s.fits_until) ≡ s.fits_until =
+    small-z s.fits_until (omega (arith, signed_arith, a0, a1, a2, more)) (omega (arith, signed_arith, until, a4)) in
+    let first = rw (c.as_parts.ensures.value, next, last) at c.next_begun-found.ensures.first in
+    let f0 = first.low in let f1 = first.high in
+    let found : to_z w64 (of_z w64 c.next_begun-found.result) ≡ c.next_begun-found.result =
+    small-z _ (omega (arith, signed_arith, a0, a1, a2, f0)) (omega (arith, signed_arith, f1, until, a4)) in
+    rw found first.none
 
-pub returns-clause-left : goal.returns-clause-left
-returns-clause-left c =
+pub open-requires-clause-opened : goal.open-requires-clause-opened
+open-requires-clause-opened c =
     let s = c.args.self.now in
-    let day = window-calendar s.first s.day s.next_day (to_day s.horizon) s.in_window c.requires.more in
-    let plain : to_z w64 (of_z w64 s.next_day) ≡ s.next_day =
-    small-z s.next_day (omega (arith, signed_arith, day.0)) (omega (arith, signed_arith, day.1)) in
-    let run = c.days_after-after.ensures.run in
-    let small = run-small _ (s.next_day +ℤ pos 1) (to_day s.horizon) c.days_after-after.result.from
-    c.days_after-after.result.until (omega (arith, signed_arith, day.0)) s.in_window.last_in run in
-    let later : s.next_day <ℤ c.days_after-after.result.from = (let low = run.low in omega (arith, signed_arith, low)) in
-    let within : c.days_after-after.result.from ≤ℤ to_day s.horizon =
-    (let a = run.order in let b = run.within in omega (arith, signed_arith, a, b)) in
-    let skipped : (i : ℤ) → s.next_day <ℤ i → i <ℤ c.days_after-after.result.from
-    → month_and_year_fit (start_parts s.basic.start) i ≡ false
-    = λ i low high. false_from_ne_true _ (run.skipped i (omega (arith, signed_arith, low)) high) in
-    let on = rw (c.as_parts.ensures.value, plain) at c.begins_on_day.ensures in
-    let opened : IsOpened (start_parts s.basic.start) s.next_day c.if-begins_on_day.clock = elim c.if-begins_on_day.branch [
-      | then-begins_on_day w ↦ inl (sym on ∙ w.if-begins_on_day.true, w.clock-is)
-      | else-begins_on_day w ↦ inr (sym on ∙ w.if-begins_on_day.false, w.clock-is)
-    ] in
-    rw (plain, small.0) (looked-left (start_parts s.basic.start) s.day s.next_day c.days_after-after.result.from
-    (to_day s.horizon) s.clock c.if-begins_on_day.clock c.requires.done opened later within skipped)
+    let w = s.in_window in
+    let a0 = w.first_in in let a1 = w.day_in in let a2 = w.next_in in let a4 = w.last_in in
+    let more = s.fitting.some c.requires.more in let until = s.fitting.within in
+    let next : to_z w64 (of_z w64 s.next_day) ≡ s.next_day =
+    small-z s.next_day (omega (arith, signed_arith, a0, a1, a2)) (omega (arith, signed_arith, more, until, a4)) in
+    let last : to_z w64 (of_z w64 s.fits_until) ≡ s.fits_until =
+    small-z s.fits_until (omega (arith, signed_arith, a0, a1, a2, more)) (omega (arith, signed_arith, until, a4)) in
+    let first = rw (c.as_parts.ensures.value, next, last) at c.next_begun-found.ensures.first in
+    let f0 = first.low in let f1 = first.high in
+    let found : to_z w64 (of_z w64 c.next_begun-found.result) ≡ c.next_begun-found.result =
+    small-z _ (omega (arith, signed_arith, a0, a1, a2, f0)) (omega (arith, signed_arith, f1, until, a4)) in
+    rw found (inl (first.some (omega (arith, signed_arith, c.if-found-self.true, found, last)), refl))
 
-pub returns-clause-later : goal.returns-clause-later
-returns-clause-later c =
+pub open-requires-else-found-self-clause-low : goal.open-requires-else-found-self-clause-low
+open-requires-else-found-self-clause-low c =
     let s = c.args.self.now in
-    let day = window-calendar s.first s.day s.next_day (to_day s.horizon) s.in_window c.requires.more in
-    let plain : to_z w64 (of_z w64 s.next_day) ≡ s.next_day =
-    small-z s.next_day (omega (arith, signed_arith, day.0)) (omega (arith, signed_arith, day.1)) in
-    let run = c.days_after-after.ensures.run in
-    let small = run-small _ (s.next_day +ℤ pos 1) (to_day s.horizon) c.days_after-after.result.from
-    c.days_after-after.result.until (omega (arith, signed_arith, day.0)) s.in_window.last_in run in
-    let later : s.next_day <ℤ c.days_after-after.result.from = (let low = run.low in omega (arith, signed_arith, low)) in
-    let within : c.days_after-after.result.from ≤ℤ to_day s.horizon =
-    (let a = run.order in let b = run.within in omega (arith, signed_arith, a, b)) in
-    let skipped : (i : ℤ) → s.next_day <ℤ i → i <ℤ c.days_after-after.result.from
-    → month_and_year_fit (start_parts s.basic.start) i ≡ false
-    = λ i low high. false_from_ne_true _ (run.skipped i (omega (arith, signed_arith, low)) high) in
-    rw small.0 later
+    let w = s.in_window in
+    let a0 = w.first_in in let a1 = w.day_in in let a2 = w.next_in in let a4 = w.last_in in
+    let more = s.fitting.some c.requires.more in let until = s.fitting.within in
+    let next : to_z w64 (of_z w64 s.next_day) ≡ s.next_day =
+    small-z s.next_day (omega (arith, signed_arith, a0, a1, a2)) (omega (arith, signed_arith, more, until, a4)) in
+    let last : to_z w64 (of_z w64 s.fits_until) ≡ s.fits_until =
+    small-z s.fits_until (omega (arith, signed_arith, a0, a1, a2, more)) (omega (arith, signed_arith, until, a4)) in
+    let first = rw (c.as_parts.ensures.value, next, last) at c.next_begun-found.ensures.first in
+    let f0 = first.low in let f1 = first.high in
+    let found : to_z w64 (of_z w64 c.next_begun-found.result) ≡ c.next_begun-found.result =
+    small-z _ (omega (arith, signed_arith, a0, a1, a2, f0)) (omega (arith, signed_arith, f1, until, a4)) in
+    let past : s.fits_until ≤ℤ c.next_begun-found.result = omega (arith, signed_arith, c.if-found-self.false, found, last) in
+    let before : to_z w64 (of_z w64 (to_z w64
+    (of_z w64 c.next_begun-found.result) -ℤ pos 1)) ≡ c.next_begun-found.result -ℤ pos 1 =
+    omega (arith, signed_arith, found, f0, f1, a0, a1, a2, until, a4) in
+    rw before (omega (arith, signed_arith, past, more))
+
+pub open-requires-else-found-self-clause-high : goal.open-requires-else-found-self-clause-high
+open-requires-else-found-self-clause-high c =
+    let s = c.args.self.now in
+    let w = s.in_window in
+    let a0 = w.first_in in let a1 = w.day_in in let a2 = w.next_in in let a4 = w.last_in in
+    let more = s.fitting.some c.requires.more in let until = s.fitting.within in
+    let next : to_z w64 (of_z w64 s.next_day) ≡ s.next_day =
+    small-z s.next_day (omega (arith, signed_arith, a0, a1, a2)) (omega (arith, signed_arith, more, until, a4)) in
+    let last : to_z w64 (of_z w64 s.fits_until) ≡ s.fits_until =
+    small-z s.fits_until (omega (arith, signed_arith, a0, a1, a2, more)) (omega (arith, signed_arith, until, a4)) in
+    let first = rw (c.as_parts.ensures.value, next, last) at c.next_begun-found.ensures.first in
+    let f0 = first.low in let f1 = first.high in
+    let found : to_z w64 (of_z w64 c.next_begun-found.result) ≡ c.next_begun-found.result =
+    small-z _ (omega (arith, signed_arith, a0, a1, a2, f0)) (omega (arith, signed_arith, f1, until, a4)) in
+    let past : s.fits_until ≤ℤ c.next_begun-found.result = omega (arith, signed_arith, c.if-found-self.false, found, last) in
+    let before : to_z w64 (of_z w64 (to_z w64
+    (of_z w64 c.next_begun-found.result) -ℤ pos 1)) ≡ c.next_begun-found.result -ℤ pos 1 =
+    omega (arith, signed_arith, found, f0, f1, a0, a1, a2, until, a4) in
+    rw before (omega (arith, signed_arith, f1))
+
+pub open-requires-else-found-self-clause-none : goal.open-requires-else-found-self-clause-none
+open-requires-else-found-self-clause-none c =
+    let s = c.args.self.now in
+    let w = s.in_window in
+    let a0 = w.first_in in let a1 = w.day_in in let a2 = w.next_in in let a4 = w.last_in in
+    let more = s.fitting.some c.requires.more in let until = s.fitting.within in
+    let next : to_z w64 (of_z w64 s.next_day) ≡ s.next_day =
+    small-z s.next_day (omega (arith, signed_arith, a0, a1, a2)) (omega (arith, signed_arith, more, until, a4)) in
+    let last : to_z w64 (of_z w64 s.fits_until) ≡ s.fits_until =
+    small-z s.fits_until (omega (arith, signed_arith, a0, a1, a2, more)) (omega (arith, signed_arith, until, a4)) in
+    let first = rw (c.as_parts.ensures.value, next, last) at c.next_begun-found.ensures.first in
+    let f0 = first.low in let f1 = first.high in
+    let found : to_z w64 (of_z w64 c.next_begun-found.result) ≡ c.next_begun-found.result =
+    small-z _ (omega (arith, signed_arith, a0, a1, a2, f0)) (omega (arith, signed_arith, f1, until, a4)) in
+    let past : s.fits_until ≤ℤ c.next_begun-found.result = omega (arith, signed_arith, c.if-found-self.false, found, last) in
+    let before : to_z w64 (of_z w64 (to_z w64
+    (of_z w64 c.next_begun-found.result) -ℤ pos 1)) ≡ c.next_begun-found.result -ℤ pos 1 =
+    omega (arith, signed_arith, found, f0, f1, a0, a1, a2, until, a4) in
+    rw before (λ n ge lt. first.none n ge (omega (arith, signed_arith, lt)))
+
+pub open-requires-else-found-self-clause-opened : goal.open-requires-else-found-self-clause-opened
+open-requires-else-found-self-clause-opened c =
+    let s = c.args.self.now in
+    let w = s.in_window in
+    let a0 = w.first_in in let a1 = w.day_in in let a2 = w.next_in in let a4 = w.last_in in
+    let more = s.fitting.some c.requires.more in let until = s.fitting.within in
+    let next : to_z w64 (of_z w64 s.next_day) ≡ s.next_day =
+    small-z s.next_day (omega (arith, signed_arith, a0, a1, a2)) (omega (arith, signed_arith, more, until, a4)) in
+    let last : to_z w64 (of_z w64 s.fits_until) ≡ s.fits_until =
+    small-z s.fits_until (omega (arith, signed_arith, a0, a1, a2, more)) (omega (arith, signed_arith, until, a4)) in
+    let first = rw (c.as_parts.ensures.value, next, last) at c.next_begun-found.ensures.first in
+    let f0 = first.low in let f1 = first.high in
+    let found : to_z w64 (of_z w64 c.next_begun-found.result) ≡ c.next_begun-found.result =
+    small-z _ (omega (arith, signed_arith, a0, a1, a2, f0)) (omega (arith, signed_arith, f1, until, a4)) in
+    let past : s.fits_until ≤ℤ c.next_begun-found.result = omega (arith, signed_arith, c.if-found-self.false, found, last) in
+    let before : to_z w64 (of_z w64 (to_z w64
+    (of_z w64 c.next_begun-found.result) -ℤ pos 1)) ≡ c.next_begun-found.result -ℤ pos 1 =
+    omega (arith, signed_arith, found, f0, f1, a0, a1, a2, until, a4) in
+    rw before (inr (
+      first.none (c.next_begun-found.result -ℤ pos 1) (omega (arith, signed_arith, past, more))
+          (omega (arith, signed_arith)),
+      refl,
+    ))

@@ -19,7 +19,7 @@ pub invariant_of-self : goal.invariant_of-self
 invariant_of-self c =
     let s = c.args.self.now in
     let next : c.next_begin.result ≡ Some c.in-Some.clock = c.in-Some.is in
-    let found = rw (c.parts.ensures.value, next) at c.next_begin.ensures in
+    let found = rw (c.as_parts.ensures.value, next) at c.next_begin.ensures in
     record {
       first_in = s.first_in;
       seen_in = s.seen_in;
@@ -34,7 +34,7 @@ invariant_of-self c =
 pub invariant_of-self-in-None : goal.invariant_of-self-in-None
 invariant_of-self-in-None c =
     let s = c.args.self.now in
-    let found = rw (c.parts.ensures.value, c.in-None.is) at c.next_begin.ensures in
+    let found = rw (c.as_parts.ensures.value, c.in-None.is) at c.next_begin.ensures in
     record {
       first_in = s.first_in;
       seen_in = s.seen_in;
@@ -48,7 +48,7 @@ invariant_of-self-in-None c =
 pub returns-in-Some-clause-takes : goal.returns-in-Some-clause-takes
 returns-in-Some-clause-takes c =
     let s = c.args.self.now in
-    let found = rw (c.parts.ensures.value, c.in-Some.is) at c.next_begin.ensures in
+    let found = rw (c.as_parts.ensures.value, c.in-Some.is) at c.next_begin.ensures in
     let plain : to_z w64 (of_z w64 (to_z w64 (of_z w64 (pos 86400 *ℤ to_z w64 (of_z w64 s.day)))
     +ℤ to_z w64 (of_z w64 c.from.result))) ≡ pos 86400 *ℤ s.day +ℤ pos c.in-Some.clock = omega (arith, signed_arith) in
     rw plain (taken-left (start_parts s.basic.start) s.day s.next_day (to_day s.horizon) s.clock c.in-Some.clock found)
@@ -56,7 +56,7 @@ returns-in-Some-clause-takes c =
 pub returns-in-None-clause-none : goal.returns-in-None-clause-none
 returns-in-None-clause-none c =
     let s = c.args.self.now in
-    let found = rw (c.parts.ensures.value, c.in-None.is) at c.next_begin.ensures in
+    let found = rw (c.as_parts.ensures.value, c.in-None.is) at c.next_begin.ensures in
     λ none. (
       closed-left (start_parts s.basic.start) s.day s.next_day (to_day s.horizon) s.clock s.clock_in found,
       clock_starts-nil (start_parts s.basic.start) s.day,
@@ -65,7 +65,7 @@ returns-in-None-clause-none c =
 pub returns-in-Some-clause-at_most : goal.returns-in-Some-clause-at_most
 returns-in-Some-clause-at_most c =
     let s = c.args.self.now in
-    let found = rw (c.parts.ensures.value, c.in-Some.is) at c.next_begin.ensures in
+    let found = rw (c.as_parts.ensures.value, c.in-Some.is) at c.next_begin.ensures in
     let plain : to_z w64 (of_z w64 (to_z w64 (of_z w64 (pos 86400 *ℤ to_z w64 (of_z w64 s.day)))
     +ℤ to_z w64 (of_z w64 c.from.result))) ≡ pos 86400 *ℤ s.day +ℤ pos c.in-Some.clock = omega (arith, signed_arith) in
     let on = (second-only _ s.day c.in-Some.clock found.1 refl).0 in
@@ -77,7 +77,7 @@ returns-in-Some-clause-at_most c =
 pub returns-in-Some-clause-at_least : goal.returns-in-Some-clause-at_least
 returns-in-Some-clause-at_least c =
     let s = c.args.self.now in
-    let found = rw (c.parts.ensures.value, c.in-Some.is) at c.next_begin.ensures in
+    let found = rw (c.as_parts.ensures.value, c.in-Some.is) at c.next_begin.ensures in
     let plain : to_z w64 (of_z w64 (to_z w64 (of_z w64 (pos 86400 *ℤ to_z w64 (of_z w64 s.day)))
     +ℤ to_z w64 (of_z w64 c.from.result))) ≡ pos 86400 *ℤ s.day +ℤ pos c.in-Some.clock = omega (arith, signed_arith) in
     let on = (second-only _ s.day c.in-Some.clock found.1 refl).0 in
@@ -88,7 +88,7 @@ returns-in-Some-clause-at_least c =
 pub returns-in-Some-clause-exact : goal.returns-in-Some-clause-exact
 returns-in-Some-clause-exact c =
     let s = c.args.self.now in
-    let found = rw (c.parts.ensures.value, c.in-Some.is) at c.next_begin.ensures in
+    let found = rw (c.as_parts.ensures.value, c.in-Some.is) at c.next_begin.ensures in
     let plain : to_z w64 (of_z w64 (to_z w64 (of_z w64 (pos 86400 *ℤ to_z w64 (of_z w64 s.day)))
     +ℤ to_z w64 (of_z w64 c.from.result))) ≡ pos 86400 *ℤ s.day +ℤ pos c.in-Some.clock = omega (arith, signed_arith) in
     let on = (second-only _ s.day c.in-Some.clock found.1 refl).0 in
@@ -99,7 +99,7 @@ returns-in-Some-clause-exact c =
 pub returns-in-Some-clause-begun : goal.returns-in-Some-clause-begun
 returns-in-Some-clause-begun c =
     let s = c.args.self.now in
-    let found = rw (c.parts.ensures.value, c.in-Some.is) at c.next_begin.ensures in
+    let found = rw (c.as_parts.ensures.value, c.in-Some.is) at c.next_begin.ensures in
     let plain : to_z w64 (of_z w64 (to_z w64 (of_z w64 (pos 86400 *ℤ to_z w64 (of_z w64 s.day)))
     +ℤ to_z w64 (of_z w64 c.from.result))) ≡ pos 86400 *ℤ s.day +ℤ pos c.in-Some.clock = omega (arith, signed_arith) in
     let on = (second-only _ s.day c.in-Some.clock found.1 refl).0 in
@@ -108,7 +108,7 @@ returns-in-Some-clause-begun c =
 pub returns-in-Some-clause-calendar : goal.returns-in-Some-clause-calendar
 returns-in-Some-clause-calendar c =
     let s = c.args.self.now in
-    let found = rw (c.parts.ensures.value, c.in-Some.is) at c.next_begin.ensures in
+    let found = rw (c.as_parts.ensures.value, c.in-Some.is) at c.next_begin.ensures in
     let plain : to_z w64 (of_z w64 (to_z w64 (of_z w64 (pos 86400 *ℤ to_z w64 (of_z w64 s.day)))
     +ℤ to_z w64 (of_z w64 c.from.result))) ≡ pos 86400 *ℤ s.day +ℤ pos c.in-Some.clock = omega (arith, signed_arith) in
     let on = (second-only _ s.day c.in-Some.clock found.1 refl).0 in
@@ -120,7 +120,7 @@ returns-in-Some-clause-calendar c =
 pub returns-in-Some-clause-open : goal.returns-in-Some-clause-open
 returns-in-Some-clause-open c =
     let s = c.args.self.now in
-    let found = rw (c.parts.ensures.value, c.in-Some.is) at c.next_begin.ensures in
+    let found = rw (c.as_parts.ensures.value, c.in-Some.is) at c.next_begin.ensures in
     let plain : to_z w64 (of_z w64 (to_z w64 (of_z w64 (pos 86400 *ℤ to_z w64 (of_z w64 s.day)))
     +ℤ to_z w64 (of_z w64 c.from.result))) ≡ pos 86400 *ℤ s.day +ℤ pos c.in-Some.clock = omega (arith, signed_arith) in
     record { clock = c.in-Some.clock; next = refl; low = found.1; is = plain; begins = found.2 }

@@ -1,0 +1,59 @@
+-- The fields of a start and of a duration, each once, in the order of canonical texts: its letter, the numbers that it may
+-- have, and what it gives. The ranges are this project's own; weeks are those of ISO 8601, and weekdays run from 1, Sunday, to
+-- 7, Saturday.
+use Rattle.std.specs.Prelude.{ℕ, ◌-◌, ◌/◌, ◌%◌, ◌^◌, Bool, true, ◌&&◌, ◌==◌, nat_le, List, [], ◌∷◌, Some, bit_or, if◌then◌else◌}
+use Rattle.gtd_core.specs.declared.start.StartParts.{StartParts}
+use Rattle.gtd_core.specs.declared.duration.DurationParts.{DurationParts}
+
+-- A field: its letter, by its number in ASCII; whether it may have this number, written in so many digits; and the parts with
+-- that number.
+pub record FieldRow (Parts : Type 0) : Type 0 where
+  pub letter : ℕ
+  pub takes : ℕ → ℕ → Bool
+  pub gives : Parts → ℕ → Parts
+
+abbrev pub field : {Parts : Type 0} → ℕ → (ℕ → ℕ → Bool) → (Parts → ℕ → Parts) → FieldRow Parts
+field letter takes gives = record { letter = letter; takes = takes; gives = gives }
+
+-- The number is from one to another, both included.
+abbrev pub is_from_to : ℕ → ℕ → ℕ → Bool
+is_from_to low high n = nat_le low n && nat_le n high
+
+-- Two digits: a number n from 1 to 5, and a weekday.
+abbrev pub is_place_value : ℕ → ℕ → Bool
+is_place_value value digits = digits == 2 && is_from_to 1 5 (value / 10) && is_from_to 1 7 (value % 10)
+
+-- y 121 year, in four digits; M 77 month; w 119 week; f 102 and l 108 n-th weekday of the month, from its front and back from
+-- its end; d 100 day of the month; t 116 weekday, of which k sets bit k - 1; h 104 hour; m 109 minute; s 115 second. But for
+-- y, f and l leading zeros are free.
+abbrev pub start_fields : List (FieldRow StartParts)
+start_fields =
+    field 121 (λ value digits. digits == 4 && nat_le value 9999) (λ parts n. record parts { year = Some n })
+    ∷ field 77 (λ value digits. is_from_to 1 12 value) (λ parts n. record parts { month = Some n })
+    ∷ field 119 (λ value digits. is_from_to 1 53 value) (λ parts n. record parts { week = Some n })
+    ∷ field 102 is_place_value (λ parts n. record parts { nth = Some (n / 10, n % 10) })
+    ∷ field 108 is_place_value (λ parts n. record parts { nth_back = Some (n / 10, n % 10) })
+    ∷ field 100 (λ value digits. is_from_to 1 31 value) (λ parts n. record parts { day = Some n })
+    ∷ field 116 (λ value digits. is_from_to 1 7 value)
+    (λ parts n. record parts { weekdays = bit_or parts.weekdays (2 ^ (n - 1)) })
+    ∷ field 104 (λ value digits. nat_le value 23) (λ parts n. record parts { hour = Some n })
+    ∷ field 109 (λ value digits. nat_le value 59) (λ parts n. record parts { minute = Some n })
+    ∷ field 115 (λ value digits. nat_le value 59) (λ parts n. record parts { second = Some n })
+    ∷ []
+
+-- The numbers of a duration, none of which has a range of its own.
+abbrev pub duration_fields : List (FieldRow DurationParts)
+duration_fields =
+    field 121 (λ value digits. true) (λ parts n. record parts { years = n })
+    ∷ field 77 (λ value digits. true) (λ parts n. record parts { months = n })
+    ∷ field 119 (λ value digits. true) (λ parts n. record parts { weeks = n })
+    ∷ field 100 (λ value digits. true) (λ parts n. record parts { days = n })
+    ∷ field 104 (λ value digits. true) (λ parts n. record parts { hours = n })
+    ∷ field 109 (λ value digits. true) (λ parts n. record parts { minutes = n })
+    ∷ field 115 (λ value digits. true) (λ parts n. record parts { seconds = n })
+    ∷ []
+
+-- What the table says of a letter, or the other value where no field has it.
+abbrev pub at_letter : {Parts A : Type 0} → List (FieldRow Parts) → (FieldRow Parts → A) → A → ℕ → A
+at_letter [] value other letter = other
+at_letter (row ∷ rows) value other letter = if letter == row.letter then value row else at_letter rows value other letter

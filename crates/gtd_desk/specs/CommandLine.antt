@@ -1,0 +1,95 @@
+-- The command line as it is described to `clap`. Which of the words that are given is which word of a command is said by the
+-- specification of that library.
+use Rattle.std.specs.Prelude.{◌≡◌, ◌⊎◌, ℕ, Bool, true, false, List, [], Option, Some, None, codes, option_and_then}
+use Rattle.std.specs.Prelude.{if◌then◌else◌}
+use Rattle.std.specs.Str.{bytes_eq}
+use Rattle.clap.specs.Walk.{Row, Rule, first_of}
+use Rattle.clap.specs.Simple.{App, new_app, new_rule, new_shape, subcommand_of, subcommand_rows_of, with_rule, with_subcommand}
+use Rattle.clap.specs.Kinds.{IsAmong}
+use Rattle.clap.specs.Faults.{fault_of}
+use Rattle.clap.specs.declared.builder.action.ArgAction.TheVariants.{Set}
+use Rattle.clap.specs.declared.builder.command.Command.{Command}
+use Rattle.clap.specs.declared.builder.command.Command.TheViews.{out-Command}
+use Rattle.clap.specs.declared.error.kind.ErrorKind.{ErrorKind}
+use Rattle.clap.specs.declared.parser.matches.ArgMatches.{ArgMatches}
+use Rattle.clap.specs.declared.error.kind.ErrorKind.TheVariants.{DisplayHelp, DisplayVersion, OutOfMemory}
+
+-- A word, by its bytes.
+abbrev pub Text : Type 0
+Text = List ℕ
+
+-- A word of a command, by the name that help gives it. It must be given.
+abbrev pub word_rule : Text → Rule
+word_rule name = record (new_rule name) { action = Some Set; required = true }
+
+-- The command has no argument that its subcommands share.
+abbrev pub IsLocal : Command → Type 0
+IsLocal command = (out-Command command).has_globals ≡ false
+
+-- The command `now` with no word yet.
+abbrev pub bare_now : App
+bare_now = new_app (codes "now")
+
+-- The command `now FILE MOMENT VEHICLE`.
+abbrev pub now_app : App
+now_app =
+    with_rule (with_rule (with_rule bare_now (word_rule (codes "FILE"))) (word_rule (codes "MOMENT")))
+    (word_rule (codes "VEHICLE"))
+
+-- The program with no command yet: a command has to follow, and there is a version to show.
+abbrev pub none_given : App
+none_given = record {
+  top = record (new_shape (codes "gtdesk")) { no_binary_name = true; has_version = true; subcommand_required = true };
+  subs = [];
+}
+
+-- The program with all its commands.
+abbrev pub desk_app : App
+desk_app = with_subcommand none_given now_app.top
+
+-- Three values, where all are given.
+abbrev pub all_three : Option Text → Option Text → Option Text → Option (Text × Text × Text)
+all_three (Some first) (Some second) (Some third) = Some (first, second, third)
+all_three first second third = None
+
+-- The words of the command `now`, of a command's name and of what was found for it.
+abbrev pub now_given : Text × List Row → Option (Text × Text × Text)
+now_given found =
+    if bytes_eq found.0 (codes "now")
+    then all_three (first_of (codes "FILE") found.1) (first_of (codes "MOMENT") found.1) (first_of (codes "VEHICLE") found.1)
+    else None
+
+-- The words of the command `now` among these words.
+abbrev pub now_words_of : List Text → Option (Text × Text × Text)
+now_words_of words = option_and_then now_given (subcommand_of desk_app words)
+
+-- The words give the command `now`, with these.
+pub record AreNowWords (words : List Text) (file moment vehicle : Text) : Type 0 where
+  pub faultless : fault_of desk_app words ≡ []
+  pub given : now_words_of words ≡ Some (file, moment, vehicle)
+
+-- The matches are those of the words, which have no fault.
+pub record HasWords (words : List Text) (m : ArgMatches) : Type 0 where
+  pub faultless : fault_of desk_app words ≡ []
+  pub entered : subcommand_rows_of m ≡ subcommand_of desk_app words
+
+-- The error is want of memory.
+abbrev pub is_memory : ErrorKind → Bool
+is_memory OutOfMemory = true
+is_memory _ = false
+
+-- The error is a request for help or for the version.
+abbrev pub is_request : ErrorKind → Bool
+is_request DisplayHelp = true
+is_request DisplayVersion = true
+is_request _ = false
+
+-- The words ask for help or for the version.
+abbrev pub AskForText : List Text → Type 0
+AskForText words = (kind : ErrorKind) × IsAmong kind (fault_of desk_app words) × (is_request kind ≡ true)
+
+-- The words have a fault that is no request for help; or they give no command, with each of its words.
+abbrev pub AreMistaken : List Text → Type 0
+AreMistaken words =
+    ((kind : ErrorKind) × IsAmong kind (fault_of desk_app words) × (is_request kind ≡ false))
+    ⊎ (now_words_of words ≡ None)

@@ -1,0 +1,9 @@
+pub mod CommandLine
+pub mod Plans
+pub mod Given
+pub mod Running
+pub use Rattle.gtd_core.specs.Seconds
+pub use Rattle.gtd_records.specs.Closing
+pub use Rattle.gtd_runs.specs.Putting
+pub use Rattle.gtd_runs.specs.Run
+pub use Rattle.gtd_now.specs.Now

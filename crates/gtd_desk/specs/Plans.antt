@@ -1,0 +1,56 @@
+-- What a command line asks for.
+use Rattle.std.specs.Prelude.{◌≡◌, ℕ, List, Some, Ok, Err, string_bytes}
+use Rattle.gtd_core.specs.declared.second.Sec.{Sec}
+use Rattle.gtd_calendar.specs.Read.{stamp_in}
+use Rattle.gtd_calendar.specs.declared.stamp.StampFault.{StampFault}
+use Rattle.gtd_records.specs.Columns.{number_of}
+use Rattle.gtd_runs.specs.Run.{IsVehicleType}
+use Rattle.gtd_desk.specs.CommandLine.{AreMistaken, AreNowWords, AskForText, Text}
+use Rattle.gtd_desk.specs.declared.plans.Plan.{Plan}
+use Rattle.gtd_desk.specs.declared.plans.Plan.TheVariants as plan
+use Rattle.gtd_desk.specs.declared.refusal.Refusal.{Refusal}
+use Rattle.gtd_desk.specs.declared.refusal.Refusal.TheVariants as refusal
+
+-- The words ask for the state of a file at a moment, for a vehicle type.
+pub record AskForNow (words : List Text) (file : Text) (moment : Sec) (vehicle : ℕ) : Type 0 where
+  pub second : Text
+  pub vehicle_word : Text
+  pub given : AreNowWords words file second vehicle_word
+  pub moment_read : stamp_in second ≡ Ok moment
+  pub vehicle_read : number_of vehicle_word ≡ Some vehicle
+  pub in_range : IsVehicleType vehicle
+
+-- The words ask for what the plan carries out.
+abbrev pub AskFor : List Text → Plan → Type 0
+AskFor words (plan.Now file moment vehicle) = AskForNow words (string_bytes file) moment.second vehicle
+AskFor words (plan.Show text) = AskForText words
+
+-- The word stands for no vehicle type.
+abbrev pub IsNoVehicle : Text → Type 0
+IsNoVehicle text = (vehicle : ℕ) → number_of text ≡ Some vehicle → IsVehicleType vehicle → ⊥
+
+-- The words give the command `now` with a moment that is none.
+pub record HaveMomentFault (words : List Text) (fault : StampFault) : Type 0 where
+  pub file : Text
+  pub moment : Text
+  pub vehicle : Text
+  pub given : AreNowWords words file moment vehicle
+  pub has : stamp_in moment ≡ Err fault
+
+-- The words give the command `now` with a moment, and with a vehicle type that is none.
+pub record HaveNoVehicle (words : List Text) : Type 0 where
+  pub file : Text
+  pub moment : Text
+  pub vehicle : Text
+  pub second : Sec
+  pub given : AreNowWords words file moment vehicle
+  pub moment_read : stamp_in moment ≡ Ok second
+  pub none : IsNoVehicle vehicle
+
+-- Why words are refused. Want of memory is no fault of theirs.
+abbrev pub IsRefusalOf : List Text → Refusal → Type 0
+IsRefusalOf words (refusal.Usage why) = AreMistaken words
+IsRefusalOf words (refusal.Moment fault) = HaveMomentFault words fault
+IsRefusalOf words refusal.Vehicle = HaveNoVehicle words
+IsRefusalOf words refusal.Memory = Unit {0}
+IsRefusalOf words r = ⊥

@@ -1,0 +1,67 @@
+-- What a plan prints, and why it is refused.
+use Rattle.std.specs.Prelude.{◌≡◌, ◌↔◌, ⊤, ℕ, ℤ, Bool, List, Option, Result, Ok, Err, IsErrOf, IsTrue, OnOk, IfErr, string_bytes}
+use Rattle.std.specs.Io.KnownBytes.{Appends}
+use Rattle.gtd_records.specs.declared.fault.RecordFault.{RecordFault}
+use Rattle.gtd_records.specs.declared.fault.RecordFault.TheVariants as records
+use Rattle.gtd_runs.specs.Run.{AcceptedFilesArePut, HasRun, RefusedFilesPutNothing, IsVehicleType}
+use Rattle.gtd_runs.specs.declared.fault.RunFault.{RunFault}
+use Rattle.gtd_runs.specs.declared.fault.RunFault.TheVariants as run
+use Rattle.gtd_now.specs.Now.{IsNow}
+use Rattle.gtd_desk.specs.declared.plans.Plan.{Plan}
+use Rattle.gtd_desk.specs.declared.plans.Plan.TheVariants as plan
+use Rattle.gtd_desk.specs.declared.refusal.Refusal.{Refusal}
+use Rattle.gtd_desk.specs.declared.refusal.Refusal.TheVariants as refusal
+
+-- The refusal for a fault of a run.
+abbrev pub refusal_for : RunFault → Refusal
+refusal_for (run.Records records.NoMemory) = refusal.Memory
+refusal_for (run.Records why) = refusal.Records why
+refusal_for (run.WriteFault written) = refusal.Write
+refusal_for (run.NoMemory written) = refusal.Memory
+refusal_for run.VehicleRange = refusal.Vehicle
+refusal_for run.YearRange = refusal.Vehicle
+refusal_for run.NoElement = refusal.Vehicle
+
+-- The answer of a command, for that of its run.
+abbrev pub outcome_of : Result ℕ RunFault → Result (Unit {0}) Refusal
+outcome_of (Ok count) = Ok tt
+outcome_of (Err fault) = Err (refusal_for fault)
+
+-- The run of `now` had an answer, by which all that the run promises is so.
+pub record RanNow (vehicle : ℕ) (second : ℤ) (file old new : Option (List ℕ)) (silent ended : Bool)
+    (result : Result (Unit {0}) Refusal) : Type 0 where
+  pub answer : Result ℕ RunFault
+  pub outcome : result ≡ outcome_of answer
+  pub accepted : IsVehicleType vehicle
+      → AcceptedFilesArePut (λ found. ⊤) (λ found lines. IsNow found vehicle second lines) file old new answer
+  pub refused : IsVehicleType vehicle → RefusedFilesPutNothing file old new answer
+  pub stands : HasRun (λ found. ⊤) (λ found lines. IsNow found vehicle second lines) file old new answer
+  pub whole : OnOk answer (IsTrue ended)
+  pub vehicle_range : IsErrOf answer run.VehicleRange ↔ (IsVehicleType vehicle → ⊥)
+  pub year : IsErrOf answer run.YearRange → ⊥
+  pub element : IsErrOf answer run.NoElement → ⊥
+  pub endless : IsErrOf answer (run.Records records.Endless) → IsTrue silent
+
+-- What a plan did to the output, by its answer: a text that is asked for is taken whole.
+abbrev pub HasRunPlan : Plan → Option (List ℕ) → Option (List ℕ) → Option (List ℕ) → Bool → Bool
+    → Result (Unit {0}) Refusal → Type 0
+HasRunPlan (plan.Now path moment vehicle) file old new silent ended result =
+    RanNow vehicle moment.second.0 file old new silent ended result
+HasRunPlan (plan.Show text) file old new silent ended result =
+    OnOk result (Appends old new (string_bytes text)) × IfErr result (λ r. r ≡ refusal.Write)
+
+-- The exit status: 1 where the input is refused, 2 for usage, 3 where opening, reading, writing or memory failed.
+abbrev pub records_status : RecordFault → ℕ
+records_status records.ReadFault = 3
+records_status records.Endless = 3
+records_status records.NoMemory = 3
+records_status fault = 1
+
+abbrev pub status_of : Refusal → ℕ
+status_of (refusal.Usage why) = 2
+status_of (refusal.Moment fault) = 1
+status_of refusal.Vehicle = 1
+status_of (refusal.Records fault) = records_status fault
+status_of refusal.Open = 3
+status_of refusal.Write = 3
+status_of refusal.Memory = 3

@@ -1,0 +1,166 @@
+//! The command line, as `clap` reads it.
+
+ghost use Rattle.std.specs.Prelude.{◌≡◌, IfErr, IfOk, map, option_and_then, option_map, string_bytes};
+ghost use Rattle.clap.specs.Faults.{fault_of};
+ghost use Rattle.clap.specs.Kinds.{HasKind};
+ghost use Rattle.clap.specs.Matches.{found_of};
+ghost use Rattle.clap.specs.Simple.{app_of, subcommand_rows_of, with_rule, with_subcommand};
+ghost use Rattle.clap.specs.Walk.{first_of, rows_of};
+ghost use Rattle.gtd_desk.specs.CommandLine.{HasWords, IsLocal, all_three, bare_now, desk_app, none_given, now_app, now_given};
+ghost use Rattle.gtd_desk.specs.CommandLine.{word_rule};
+ghost use Rattle.gtd_desk.specs.Given.{texts_of};
+
+use clap::{Arg, ArgAction, ArgMatches, Command};
+use std::alloc::{AllocError, Global};
+
+/// The words of `now FILE MOMENT VEHICLE`, as they were given.
+#[derive(Clone, Copy)]
+pub(crate) struct NowWords<'a> {
+    pub(crate) file: &'a str,
+    pub(crate) moment: &'a str,
+    pub(crate) vehicle: &'a str,
+}
+
+// Adds a word that must be given, by the name that help gives it.
+fn add_word<'a>(
+    alloc: Global,
+    command: Command<'a>,
+    name: &'a str,
+    help: &'a str,
+) -> Result<Command<'a>, AllocError>
+    requires local { IsLocal command }
+    ensures app { IfOk result (λ c. app_of c ≡ with_rule (app_of command.entry) (word_rule name.entry.now)) }
+    ensures local { IfOk result IsLocal }
+{
+    let word = Arg::new(alloc, name)
+        .required(true)
+        .action(ArgAction::Set)
+        .help(help);
+    command.arg(word)
+}
+
+// The command `now` with no word yet.
+fn bare_now<'a>(alloc: Global) -> Command<'a>
+    ensures app { app_of result ≡ bare_now }
+    ensures local { IsLocal result }
+{
+    Command::new(alloc, "now").about(
+        "Print whether each element of a record file is open at a moment, until when, and by which rows it is closed",
+    )
+}
+
+// The command `now`.
+fn now_command<'a>(alloc: Global) -> Result<Command<'a>, AllocError>
+    ensures app { IfOk result (λ c. app_of c ≡ now_app) }
+    ensures local { IfOk result IsLocal }
+{
+    let command = bare_now(alloc);
+    let command = add_word(
+        alloc,
+        command,
+        "FILE",
+        "The record file, or - for standard input",
+    )?;
+    let command = add_word(
+        alloc,
+        command,
+        "MOMENT",
+        "The second, YYYY-MM-DDThh:mm:ss, of the local clock",
+    )?;
+    add_word(alloc, command, "VEHICLE", "The vehicle type, from 1 to 99")
+}
+
+// The program with no command yet.
+fn without_commands<'a>(alloc: Global) -> Command<'a>
+    ensures { app_of result ≡ none_given }
+{
+    Command::new(alloc, "gtdesk")
+        .no_binary_name(true)
+        .version("0.1.0")
+        .about("Time domains and road restrictions, for people")
+        .subcommand_required(true)
+}
+
+// Adds a command.
+fn add_command<'a>(program: Command<'a>, command: Command<'a>) -> Result<Command<'a>, AllocError>
+    requires local { IsLocal command }
+    ensures { IfOk result (λ c.
+        app_of c ≡ with_subcommand (app_of program.entry) (app_of command.entry).top) }
+{
+    program.subcommand(command)
+}
+
+// The program with all its commands.
+fn gtdesk<'a>(alloc: Global) -> Result<Command<'a>, AllocError>
+    ensures { IfOk result (λ c. app_of c ≡ desk_app) }
+{
+    let now = now_command(alloc)?;
+    let program = without_commands(alloc);
+    add_command(program, now)
+}
+
+/// The words as `clap` finds them, or why it finds none.
+pub(crate) fn parse<'a>(alloc: Global, words: &'a [String]) -> Result<ArgMatches<'a>, clap::Error>
+    ensures found { IfOk result (HasWords (map string_bytes words.entry.now)) }
+    ensures refused { IfErr result (HasKind (fault_of desk_app (map string_bytes words.entry.now))) }
+{
+    let program = gtdesk(alloc)?;
+    program.try_get_matches_from(words)
+}
+
+// The word that was found for this name.
+fn value<'a>(given: &ArgMatches<'a>, name: &str) -> Option<&'a str>
+    ensures { option_map (λ s. s.now) result ≡ first_of name.now (rows_of (found_of given.now)) }
+{
+    given.get_str(name)
+}
+
+// The words of `now`, where all are given.
+fn gather<'a>(
+    file: Option<&'a str>,
+    moment: Option<&'a str>,
+    vehicle: Option<&'a str>,
+) -> Option<NowWords<'a>>
+    ensures { option_map texts_of result ≡ all_three (option_map (λ s. s.now) file.entry)
+        (option_map (λ s. s.now) moment.entry) (option_map (λ s. s.now) vehicle.entry) }
+{
+    match file {
+        Some(file) => match moment {
+            Some(moment) => match vehicle {
+                Some(vehicle) => Some(NowWords {
+                    file,
+                    moment,
+                    vehicle,
+                }),
+                None => None,
+            },
+            None => None,
+        },
+        None => None,
+    }
+}
+
+// The words of a command of this name.
+fn words_of<'a>(name: &str, given: &ArgMatches<'a>) -> Option<NowWords<'a>>
+    ensures { option_map texts_of result ≡ now_given (name.now, rows_of (found_of given.now)) }
+{
+    match name {
+        "now" => {
+            let file = value(given, "FILE");
+            let moment = value(given, "MOMENT");
+            let vehicle = value(given, "VEHICLE");
+            gather(file, moment, vehicle)
+        }
+        _ => None,
+    }
+}
+
+/// The words of `now` that the matches hold.
+pub(crate) fn now_words<'a>(matches: &ArgMatches<'a>) -> Option<NowWords<'a>>
+    ensures { option_map texts_of result ≡ option_and_then now_given (subcommand_rows_of matches.now) }
+{
+    match matches.subcommand() {
+        Some((name, given)) => words_of(name, given),
+        None => None,
+    }
+}

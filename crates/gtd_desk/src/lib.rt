@@ -1,0 +1,14 @@
+#![tactic(auto)]
+
+mod arguments;
+mod line;
+mod performing;
+mod planning;
+mod plans;
+mod refusal;
+
+pub use line::RefusalLine;
+pub use performing::perform;
+pub use planning::plan;
+pub use plans::{Moment, Plan};
+pub use refusal::Refusal;

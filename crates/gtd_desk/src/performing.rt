@@ -1,0 +1,107 @@
+//! Carrying a plan out.
+
+ghost use Rattle.std.specs.Prelude.{◌≡◌, ◌<◌, IfErr, OnOk};
+ghost use Rattle.std.specs.Io.KnownBytes.{Appends, Keeps};
+ghost use Rattle.gtd_desk.specs.Running.{HasRunPlan, RanNow, outcome_of, refusal_for};
+
+use crate::plans::{Moment, Plan};
+use crate::refusal::Refusal;
+use gtd_devices::{Input, Output};
+use gtd_now::run_now;
+use gtd_records::RecordFault;
+use gtd_runs::{Progress, RunFault, finish, put_line};
+use std::alloc::Global;
+
+// The refusal for a fault of a run.
+fn run_refusal(fault: RunFault) -> Refusal
+    ensures value { result ≡ refusal_for fault }
+{
+    match fault {
+        RunFault::Records(why) => match why {
+            RecordFault::NoMemory => Refusal::Memory,
+            _ => Refusal::Records(why),
+        },
+        RunFault::WriteFault { .. } => Refusal::Write,
+        RunFault::NoMemory { .. } => Refusal::Memory,
+        RunFault::VehicleRange => Refusal::Vehicle,
+        RunFault::YearRange => Refusal::Vehicle,
+        RunFault::NoElement => Refusal::Vehicle,
+    }
+}
+
+// The answer of a command, for that of its run.
+fn outcome(answer: Result<u64, RunFault>) -> Result<(), Refusal>
+    ensures value { result ≡ outcome_of answer }
+{
+    match answer {
+        Ok(_) => Ok(()),
+        Err(fault) => Err(run_refusal(fault)),
+    }
+}
+
+// Prints the state of the record file that the input brings.
+fn print_now<I: Input, O: Output>(
+    alloc: Global,
+    input: &mut I,
+    output: &mut O,
+    moment: Moment,
+    vehicle: u8,
+) -> Result<(), Refusal>
+    requires readable { I.failure_count input.old < u64.MAX }
+    requires writable { O.failure_count output.old < u64.MAX }
+    ensures ran { RanNow vehicle moment.second.0 (I.to_come input.old) (O.taken output.old) (O.taken output.new)
+        (I.may_fall_silent input.old) (O.is_ended output.new) result }
+{
+    outcome(run_now(alloc, input, output, vehicle, moment.second))
+}
+
+// Puts a text, and ends the output.
+fn print_text<O: Output>(output: &mut O, text: &str) -> Result<(), Refusal>
+    requires writable { O.failure_count output.old < u64.MAX }
+    ensures whole { OnOk result (Appends (O.taken output.old) (O.taken output.new) text.now) }
+    ensures cause { IfErr result (λ r. r ≡ Refusal.Write) }
+{
+    let mut progress = Progress::new();
+    match put_line(output, &mut progress, text.as_bytes()) {
+        Ok(()) => end(output),
+        Err(_) => Err(Refusal::Write),
+    }
+}
+
+// Ends the output.
+fn end<O: Output>(output: &mut O) -> Result<(), Refusal>
+    requires writable { O.failure_count output.old < u64.MAX }
+    ensures whole { Keeps (O.taken output.old) (O.taken output.new) }
+    ensures cause { IfErr result (λ r. r ≡ Refusal.Write) }
+{
+    match finish(output) {
+        Ok(()) => Ok(()),
+        Err(_) => Err(Refusal::Write),
+    }
+}
+
+/// Carries a plan out: puts what it asks for, and ends the output. The input brings the bytes of the plan's record file;
+/// where the plan reads none, nothing is pulled.
+///
+/// `Records` is the file's first fault, or why the input failed; `Write` and `Memory` are answered where the output failed
+/// and where memory was refused. The caller keeps the failures of both devices under `u64::MAX` before the call.
+pub fn perform<I: Input, O: Output>(
+    alloc: Global,
+    plan: &Plan,
+    input: &mut I,
+    output: &mut O,
+) -> Result<(), Refusal>
+    requires readable { I.failure_count input.old < u64.MAX }
+    requires writable { O.failure_count output.old < u64.MAX }
+    ensures ran { HasRunPlan plan.now (I.to_come input.old) (O.taken output.old) (O.taken output.new)
+        (I.may_fall_silent input.old) (O.is_ended output.new) result }
+{
+    match plan {
+        Plan::Now {
+            moment,
+            vehicle,
+            ..
+        } => print_now(alloc, input, output, *moment, *vehicle),
+        Plan::Show { text } => print_text(output, text.as_str()),
+    }
+}

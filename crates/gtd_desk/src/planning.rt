@@ -1,0 +1,143 @@
+//! From the words of a command line to a plan.
+
+ghost use Rattle.std.specs.Prelude.{◌≡◌, Err, IfErr, IfOk, IfSome, List, MatchResult, None, Ok, Some, map, string_bytes};
+ghost use Rattle.clap.specs.Faults.{fault_of};
+ghost use Rattle.clap.specs.Kinds.{HasKind};
+ghost use Rattle.clap.specs.Values.{kind_of};
+ghost use Rattle.gtd_calendar.specs.Read.{stamp_in};
+ghost use Rattle.gtd_records.specs.Columns.{number_of};
+ghost use Rattle.gtd_runs.specs.Run.{IsVehicleType};
+ghost use Rattle.gtd_desk.specs.CommandLine.{AreNowWords, AskForText, Text, desk_app};
+ghost use Rattle.gtd_desk.specs.CommandLine as spec;
+ghost use Rattle.gtd_desk.specs.Plans.{AskFor, IsNoVehicle, IsRefusalOf};
+
+use crate::arguments::{NowWords, now_words, parse};
+use crate::plans::{Moment, Plan};
+use crate::refusal::Refusal;
+use clap::error::ErrorKind;
+use gtd_calendar::{StampFault, read_stamp};
+use gtd_records::read_number;
+use std::alloc::Global;
+
+// Whether help or the version is asked for.
+fn is_request(kind: ErrorKind) -> bool
+    ensures { result ≡ spec.is_request kind }
+{
+    match kind {
+        ErrorKind::DisplayHelp => true,
+        ErrorKind::DisplayVersion => true,
+        _ => false,
+    }
+}
+
+// Whether memory was refused.
+fn is_memory(kind: ErrorKind) -> bool
+    ensures { result ≡ spec.is_memory kind }
+{
+    match kind {
+        ErrorKind::OutOfMemory => true,
+        _ => false,
+    }
+}
+
+// The plan to show the text of a request.
+fn show(alloc: Global, error: &clap::Error) -> Result<Plan, Refusal>
+    ensures { MatchResult result (λ plan. (words : List Text) → AskForText words → AskFor words plan)
+        (λ r. r ≡ Refusal.Memory) }
+{
+    match format!(in alloc; "{error}") {
+        Ok(text) => Ok(Plan::Show { text }),
+        Err(_) => Err(Refusal::Memory),
+    }
+}
+
+// What the words come to where `clap` finds nothing: a text that they ask for, or a refusal.
+fn plan_error(alloc: Global, error: &clap::Error) -> Result<Plan, Refusal>
+    ensures { (words : List Text) → HasKind (fault_of desk_app words) error.now
+        → MatchResult result (AskFor words) (IsRefusalOf words) }
+{
+    let kind = error.kind();
+    if is_memory(kind) {
+        return Err(Refusal::Memory);
+    }
+    if is_request(kind) {
+        return show(alloc, error);
+    }
+    Err(Refusal::Usage(kind.as_str().unwrap_or("the words are not understood")))
+}
+
+// The moment that a word stands for.
+fn moment_of(text: &str) -> Result<Moment, StampFault>
+    ensures { MatchResult result (λ moment. stamp_in text.now ≡ Ok moment.second)
+        (λ fault. stamp_in text.now ≡ Err fault) }
+{
+    match read_stamp(text.as_bytes()) {
+        Ok(second) => Ok(Moment { second }),
+        Err(fault) => Err(fault),
+    }
+}
+
+// The vehicle type that a word stands for, if it stands for one.
+fn vehicle_of(text: &str) -> Option<u8>
+    ensures found { IfSome result (λ vehicle. (number_of text.now ≡ Some vehicle) × IsVehicleType vehicle) }
+    ensures none { result ≡ None → IsNoVehicle text.now }
+{
+    match read_number(text.as_bytes()) {
+        Some(number) => {
+            if number >= 1 && number <= 99 {
+                Some(number as u8)
+            } else {
+                None
+            }
+        }
+        None => None,
+    }
+}
+
+// The plan of `now`.
+fn plan_now(alloc: Global, given: NowWords<'_>) -> Result<Plan, Refusal>
+    ensures { (words : List Text)
+        → AreNowWords words given.entry.file.now given.entry.moment.now given.entry.vehicle.now
+        → MatchResult result (AskFor words) (IsRefusalOf words) }
+{
+    let moment = match moment_of(given.moment) {
+        Ok(moment) => moment,
+        Err(fault) => return Err(Refusal::Moment(fault)),
+    };
+    let vehicle = match vehicle_of(given.vehicle) {
+        Some(vehicle) => vehicle,
+        None => return Err(Refusal::Vehicle),
+    };
+    match String::from_str(alloc, given.file) {
+        Ok(file) => Ok(Plan::Now {
+            file,
+            moment,
+            vehicle,
+        }),
+        Err(_) => Err(Refusal::Memory),
+    }
+}
+
+// The plan of the words after the program's name.
+fn plan_words(alloc: Global, words: &[String]) -> Result<Plan, Refusal>
+    ensures { MatchResult result (AskFor (map string_bytes words.now)) (IsRefusalOf (map string_bytes words.now)) }
+{
+    match parse(alloc, words) {
+        Ok(matches) => match now_words(&matches) {
+            Some(given) => plan_now(alloc, given),
+            None => Err(Refusal::Usage("the words are not understood")),
+        },
+        Err(error) => plan_error(alloc, &error),
+    }
+}
+
+/// What the words after the program's name ask for, or why they are refused.
+///
+/// In order: `Usage` where they give no command with its words, and ask for no help; `Moment`, where the word for the
+/// moment stands for none; `Vehicle`. Where memory was refused, `Memory` is the answer in place of these.
+pub fn plan(alloc: Global, words: Vec<String>) -> Result<Plan, Refusal>
+    ensures asked { IfOk result (AskFor (map string_bytes words.items)) }
+    ensures refused { IfErr result (IsRefusalOf (map string_bytes words.items)) }
+{
+    plan_words(alloc, words.as_slice())
+}

@@ -1,0 +1,50 @@
+//! Why a command line is not carried out.
+
+ghost use Rattle.std.specs.Prelude.{◌≡◌};
+ghost use Rattle.gtd_desk.specs.Running.{records_status, status_of};
+
+use gtd_calendar::StampFault;
+use gtd_records::RecordFault;
+
+/// Why a command line is not carried out.
+#[derive(Clone, Copy)]
+pub enum Refusal {
+    /// The words give no command, or are not the words that it takes. This says what is wrong with them.
+    Usage(&'static str),
+    /// The word for a moment stands for none. This is its first fault.
+    Moment(StampFault),
+    /// The word for a vehicle type is no number from 1 to 99.
+    Vehicle,
+    /// The record file is not read. This is its first fault, or why the input failed, and never `NoMemory`.
+    Records(RecordFault),
+    /// The record file is not opened.
+    Open,
+    /// A write to standard output failed.
+    Write,
+    /// Memory was refused.
+    Memory,
+}
+
+impl Refusal {
+    /// The exit status: 1 where the input is refused, 2 for usage, 3 where opening, reading, writing or memory failed.
+    pub fn status(&self) -> u8
+        ensures value { result ≡ status_of self.now }
+    {
+        match self {
+            Refusal::Moment(_) | Refusal::Vehicle => 1,
+            Refusal::Records(fault) => records_status(*fault),
+            Refusal::Usage(_) => 2,
+            Refusal::Open | Refusal::Write | Refusal::Memory => 3,
+        }
+    }
+}
+
+// The status for a record file that is not read.
+fn records_status(fault: RecordFault) -> u8
+    ensures value { result ≡ records_status fault }
+{
+    match fault {
+        RecordFault::ReadFault | RecordFault::Endless | RecordFault::NoMemory => 3,
+        _ => 1,
+    }
+}

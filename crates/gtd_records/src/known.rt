@@ -1,0 +1,158 @@
+//! The texts of domains that were read, so that what a file repeats is read once.
+
+ghost use Rattle.std.specs.Prelude.{◌≡◌, ◌<◌, ◌⊎◌, IfOk, IfErr, IfSome, length};
+ghost use Rattle.gtd_core.specs.Parts.{domain_tree};
+ghost use Rattle.gtd_core.specs.Trees.{tree_of};
+ghost use Rattle.gtd_text.specs.Faults.{no_memory};
+ghost use Rattle.gtd_text.specs.Reading.{HasNoFault, IsFault, StandsFor};
+
+use gtd_core::{Domain, Expr, Fault, TextFault};
+use gtd_text::read_domain;
+use std::alloc::{AllocError, Global};
+use std::marker::Model;
+
+/// How many texts are kept.
+const PLACES: usize = 1024;
+
+/// The bytes of the longest text that is kept.
+const LONGEST: usize = 128;
+
+/// Memory was refused.
+const NO_MEMORY: TextFault = TextFault {
+    kind: Fault::NoMemory,
+    place: 0,
+};
+
+// A copy of an expression.
+fn copy_expr(alloc: Global, expr: &Expr) -> Result<Expr, AllocError>
+    ensures { IfOk result (λ copy. tree_of copy ≡ tree_of expr.now) }
+{
+    match expr {
+        Expr::Leaf(basic) => Ok(Expr::Leaf(*basic)),
+        Expr::Join(op, left, right) => {
+            let left = copy_expr(alloc, left)?;
+            let right = copy_expr(alloc, right)?;
+            Ok(Expr::Join(*op, Box::new(alloc, left)?, Box::new(alloc, right)?))
+        }
+    }
+}
+
+// A copy of a domain.
+fn copy_domain(alloc: Global, domain: &Domain) -> Result<Domain, AllocError>
+    ensures { IfOk result (λ copy. domain_tree copy ≡ domain_tree domain.now) }
+{
+    match Domain::new(copy_expr(alloc, domain.expr())?) {
+        Ok(copy) => Ok(copy),
+        // A copy has as many basic domains as the domain.
+        Err(_) => Err(AllocError),
+    }
+}
+
+/// A text and the domain that it stands for. In contracts it is the text.
+#[derive(Drop)]
+struct KnownText {
+    text: Vec<u8>,
+    domain: Domain,
+}
+
+impl Model for KnownText {
+    ghost use Rattle.std.specs.Prelude.{List, ℕ};
+    ghost use Rattle.gtd_core.specs.Parts.{domain_tree};
+    ghost use Rattle.gtd_text.specs.Reading.{HasNoFault, StandsFor};
+
+    ghost Value = { List ℕ };
+
+    ghost view = { λ a. a.text.items };
+
+    ghost invariant = { λ a. StandsFor a.text.items (domain_tree a.domain) × HasNoFault a.text.items };
+}
+
+// The place of a text, which any other text may have, too.
+fn place_of(text: &[u8]) -> usize
+    ensures { result < 1024 }
+{
+    let mut mixed = 0u32;
+    for byte in text {
+        mixed = (mixed ^ u32::from(*byte)).wrapping_mul(16_777_619);
+    }
+    (mixed >> 22) as usize
+}
+
+// A copy of a text, with a copy of its domain.
+fn known_text(alloc: Global, text: &[u8], domain: &Domain) -> Result<KnownText, AllocError>
+    requires found { StandsFor text.now (domain_tree domain.now) }
+    requires faultless { HasNoFault text.now }
+{
+    let domain = copy_domain(alloc, domain)?;
+    let mut bytes = Vec::new(alloc);
+    bytes.extend_from_slice(text)?;
+    Ok(KnownText {
+        text: bytes,
+        domain,
+    })
+}
+
+/// The texts that were read last, each at its place, with their domains.
+#[derive(Drop)]
+pub(crate) struct KnownTexts {
+    places: Vec<Option<KnownText>>,
+}
+
+impl KnownTexts {
+    /// No text yet. Takes no memory.
+    pub(crate) fn new(alloc: Global) -> KnownTexts {
+        KnownTexts {
+            places: Vec::new(alloc),
+        }
+    }
+
+    // A copy of the domain of a text, where the text is known.
+    fn find(&self, alloc: Global, text: &[u8]) -> Result<Option<Domain>, AllocError>
+        ensures { IfOk result (λ found. IfSome found
+            (λ domain. StandsFor text.now (domain_tree domain) × HasNoFault text.now)) }
+    {
+        let Some(Some(known)) = self.places.get(place_of(text)) else {
+            return Ok(None);
+        };
+        if known.text.as_slice() != text {
+            return Ok(None);
+        }
+        let domain = copy_domain(alloc, &known.domain)?;
+        Ok(Some(domain))
+    }
+
+    // Keeps a text at its place.
+    fn keep(&mut self, alloc: Global, text: &[u8], domain: &Domain) -> Result<(), AllocError>
+        requires found { StandsFor text.now (domain_tree domain.now) }
+        requires faultless { HasNoFault text.now }
+    {
+        for _ in self.places.len()..PLACES {
+            self.places.push(None)?;
+        }
+        let known = known_text(alloc, text, domain)?;
+        if let Some(place) = self.places.get_mut(place_of(text)) {
+            *place = Some(known);
+        }
+        Ok(())
+    }
+
+    /// The domain that a text stands for, or its first fault: as `read_domain` answers.
+    pub(crate) fn read(&mut self, alloc: Global, text: &[u8]) -> Result<Domain, TextFault>
+        ensures found { IfOk result (λ domain. StandsFor text.now (domain_tree domain) × HasNoFault text.now) }
+        ensures fault { IfErr result (λ fault. (fault ≡ no_memory) ⊎ IsFault text.now fault) }
+    {
+        if text.len() > LONGEST {
+            return read_domain(alloc, text);
+        }
+        match self.find(alloc, text) {
+            Ok(Some(domain)) => return Ok(domain),
+            Ok(None) => {}
+            Err(_) => return Err(NO_MEMORY),
+        }
+        let domain = read_domain(alloc, text)?;
+        match self.keep(alloc, text, &domain) {
+            Ok(()) => Ok(domain),
+            Err(_) => Err(NO_MEMORY),
+        }
+    }
+}

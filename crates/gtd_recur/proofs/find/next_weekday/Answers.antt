@@ -1,0 +1,44 @@
+use Rattle.std.proofs.Common.{◌≡◌, ◌∙◌, sym, false, ◌<ℤ◌, arith, pos, ◌+ℤ◌, to_z, of_z, w64, to_z-of_z}
+use Rattle.std.proofs.lemmas.Int.{by_lt_z}
+use Rattle.gtd_calendar.specs.facts.Signed.{signed_arith}
+use Rattle.gtd_calendar.specs.ComputedFields.{day_fields}
+use Rattle.gtd_recur.specs.Begins.{begins_on}
+use Rattle.gtd_recur.specs.facts.WeekLemmas.{date-free}
+use Rattle.gtd_recur.proofs.find.next_weekday.Goals as goal
+
+pub returns-then-is_weekday : goal.returns-then-is_weekday
+returns-then-is_weekday c =
+    let day : to_z w64 (of_z w64 c.args.day) ≡ c.args.day = to_z-of_z c.ranges.day in
+    let end : to_z w64 (of_z w64 c.args.end) ≡ c.args.end = to_z-of_z c.ranges.end in
+    let inv = rw (day, end) at c.loop-found.invariant in
+    let value = c.weekday.ensures.value in
+    let on = rw value at (sym c.is_weekday.ensures ∙ c.if-is_weekday.true) in
+    record {
+      first = record {
+        low = inv.low;
+        high = inv.high;
+        none = inv.none;
+        some = λ lt. date-free c.args.start.now (day_fields (to_z w64 c.loop-found.found-bits)) c.requires.asks ∙ on;
+      };
+    }
+
+pub loop-found-preserved : goal.loop-found-preserved
+loop-found-preserved c =
+    let d0 = c.requires.day_in in let d1 = c.requires.order in let d2 = c.requires.end_in in
+    let day : to_z w64 (of_z w64 c.args.day) ≡ c.args.day = to_z-of_z c.ranges.day in
+    let end : to_z w64 (of_z w64 c.args.end) ≡ c.args.end = to_z-of_z c.ranges.end in
+    let inv = rw (day, end) at c.loop-found.invariant in
+    let low = inv.low in let high = inv.high in
+    let less : to_z w64 c.loop-found.found-bits <ℤ c.args.end = omega (arith, signed_arith, c.loop-found-test.true, end) in
+    let next : to_z w64 (of_z w64 (to_z w64 c.loop-found.found-bits +ℤ pos 1)) ≡ to_z w64 c.loop-found.found-bits +ℤ pos 1 =
+    omega (arith, signed_arith, low, less, d0, d2) in
+    let value = c.weekday.ensures.value in
+    let off = rw value at (sym c.is_weekday.ensures ∙ c.if-is_weekday.false) in
+    let here : begins_on c.args.start.now (day_fields (to_z w64 c.loop-found.found-bits)) ≡ false =
+    date-free c.args.start.now (day_fields (to_z w64 c.loop-found.found-bits)) c.requires.asks ∙ off in
+    rw (day, end, next) (record {
+      low = omega (arith, signed_arith, low);
+      high = omega (arith, signed_arith, less);
+      none = λ n ge lt. by_lt_z n (to_z w64 c.loop-found.found-bits) (λ before. inv.none n ge before)
+          (λ more. let same : n ≡ to_z w64 c.loop-found.found-bits = omega (arith, signed_arith, more, lt) in rw same here);
+    })

@@ -1,0 +1,71 @@
+use Rattle.std.proofs.Common.{ap, refl, arith, ◌<◌, ◌≤◌, ◌+◌, ◌^◌, ℕ, List, length, map, Option}
+use Rattle.std.specs.Prelude.{Ok, Err, OnOk, Result}
+use Rattle.std.proofs.lemmas.List.{length-map}
+use Rattle.gtd_eval.specs.Cursors.{cursor_list}
+use Rattle.gtd_core.specs.Seconds.{Interval}
+use Rattle.gtd_records.specs.Closing.{IsOpen}
+use Rattle.gtd_records.specs.declared.direction.Direction.{Direction}
+use Rattle.gtd_runs.specs.Putting.{Puts}
+use Rattle.gtd_runs.specs.declared.putting.Progress.{Progress}
+use Rattle.gtd_runs.specs.declared.putting.Stop.{Stop}
+use Rattle.gtd_runs.specs.Putting.{most_direction_bytes, most_direction_lines}
+use Rattle.gtd_schedule.specs.Schedule.{span_line, AreLines}
+use Rattle.gtd_schedule.specs.facts.LineFacts.{length-lines}
+use Rattle.gtd_schedule.proofs.SpanFacts.{normal_few, normal_shown}
+use Rattle.gtd_schedule.specs.facts.ScheduleFacts.{one_lines}
+use Rattle.gtd_runs.specs.facts.TextFacts.{texts_of}
+use Rattle.gtd_schedule.proofs.elements.put_open_spans.Goals as goal
+
+-- what was put of so few spans
+near : (e : ℕ) (d : Direction) (v : ℕ) (r : Result (Unit {0}) Stop) (a b : Option (List ℕ)) (p q : Progress)
+    (spans : List Interval)
+    → e < 2 ^ 64 → v < 256 → length spans ≤ most_direction_lines → Puts r a b p q (map (span_line e d v) spans)
+    → OnOk r ((q.written ≤ p.written + most_direction_bytes) × (q.lines ≤ p.lines + most_direction_lines))
+near e d v (Ok x) a b p q spans small type few puts =
+    let w = ap (λ (t : Progress). t.written) puts.1 in
+    let l = ap (λ (t : Progress). t.lines) puts.1 in
+    let long = length-lines e d v spans small type in
+    let same = length-map spans (span_line e d v) in
+    (omega arith, omega arith)
+near e d v (Err x) a b p q spans small type few puts = tt
+
+pub put_spans-requires-clause-shown : goal.put_spans-requires-clause-shown
+put_spans-requires-clause-shown g c =
+    normal_shown (IsOpen c.args.found.now c.args.element c.args.direction c.args.vehicle) c.args.horizon
+    (cursor_list c.in_ok-spans.spans) c.in_ok-spans.ensures.seconds
+
+pub put_spans-requires-clause-written : goal.put_spans-requires-clause-written
+put_spans-requires-clause-written g c =
+    let few = normal_few (IsOpen c.args.found.now c.args.element c.args.direction c.args.vehicle) c.args.horizon
+    (cursor_list c.in_ok-spans.spans) c.in_ok-spans.ensures.seconds in
+    let room = c.requires.written in
+    omega arith
+
+pub put_spans-requires-clause-lines : goal.put_spans-requires-clause-lines
+put_spans-requires-clause-lines g c =
+    let few = normal_few (IsOpen c.args.found.now c.args.element c.args.direction c.args.vehicle) c.args.horizon
+    (cursor_list c.in_ok-spans.spans) c.in_ok-spans.ensures.seconds in
+    let room = c.requires.lines in
+    omega arith
+
+pub returns-clause-puts : goal.returns-clause-puts
+returns-clause-puts g c =
+    let taken = g.O.Output.taken in
+    let spans = cursor_list c.in_ok-spans.spans in
+    texts_of (AreLines c.args.found.now c.args.vehicle c.args.horizon c.args.element c.args.direction) c.put_spans.result
+    (taken c.args.output.now) (taken c.put_spans.new.output) c.args.progress.now c.put_spans.new.progress
+    (map (span_line c.args.element c.args.direction c.args.vehicle) spans)
+    (one_lines c.args.found.now c.args.vehicle c.args.horizon c.args.element c.args.direction)
+    (record { spans = spans; normal = c.in_ok-spans.ensures.seconds; each = refl })
+    c.put_spans.ensures.puts
+
+pub returns-clause-near : goal.returns-clause-near
+returns-clause-near g c =
+    let taken = g.O.Output.taken in
+    let spans = cursor_list c.in_ok-spans.spans in
+    near c.args.element c.args.direction c.args.vehicle c.put_spans.result
+    (taken c.args.output.now) (taken c.put_spans.new.output) c.args.progress.now c.put_spans.new.progress spans (omega arith)
+    (omega arith)
+    (normal_few (IsOpen c.args.found.now c.args.element c.args.direction c.args.vehicle) c.args.horizon spans
+    c.in_ok-spans.ensures.seconds)
+    c.put_spans.ensures.puts

@@ -1,0 +1,5 @@
+use Rattle.gtd_text.proofs.EachText.{each_text}
+use Rattle.gtd_text.proofs.laws.each_text.Goals as goal
+
+pub returns : goal.returns
+returns c = record { some = each_text }

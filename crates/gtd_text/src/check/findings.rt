@@ -1,0 +1,105 @@
+//! What the check finds in one pass over the tokens.
+
+ghost use Rattle.std.specs.Prelude.{◌≡◌, ◌≤◌, ◌<◌, ◌+◌, ◌^◌};
+ghost use Rattle.gtd_text.specs.Found.{or_else};
+ghost use Rattle.gtd_text.specs.Findings.{no_findings, findings_with, misfit_at, incomplete_at, first_of};
+
+use crate::check::grammar::Seen;
+use crate::check::limits::{
+    OpenDuration, count_after, fault_of_opened, opened_after, too_deep_at, too_many_at,
+};
+use crate::token::{Token, TokenKind};
+use gtd_core::{Fault, TextFault};
+
+/// The first fault of each kind among the tokens so far, and what is kept of them to find those that come.
+#[derive(Clone, Copy)]
+pub struct Findings {
+    seen: Seen,
+    count: usize,
+    opened: Option<OpenDuration>,
+    too_deep: Option<TextFault>,
+    too_many: Option<TextFault>,
+    misfit: Option<TextFault>,
+    too_long: Option<TextFault>,
+}
+
+impl Findings {
+    /// No token is read.
+    pub fn none() -> Findings
+        ensures { result ≡ no_findings }
+    {
+        Findings {
+            seen: Seen::none(),
+            count: 0,
+            opened: None,
+            too_deep: None,
+            too_many: None,
+            misfit: None,
+            too_long: None,
+        }
+    }
+
+    /// One more token is read.
+    pub fn note(&mut self, token: Token)
+        requires depth { self.old.seen.depth + 1 < 2 ^ 64 }
+        requires count { self.old.count + 1 < 2 ^ 64 }
+        ensures { self.new ≡ findings_with self.old token }
+    {
+        self.misfit = or_else(self.misfit, misfit_at(self.seen, token));
+        self.seen = self.seen.with(token.kind);
+        self.count = count_after(self.count, token.kind);
+        self.too_deep = or_else(self.too_deep, too_deep_at(self.seen.depth(), token.from));
+        self.too_many = or_else(self.too_many, too_many_at(self.count, token.from));
+        if !matches!(token.kind, TokenKind::Field { .. }) {
+            self.too_long = or_else(self.too_long, fault_of_opened(self.opened));
+        }
+        self.opened = opened_after(self.opened, token);
+    }
+
+    /// The first fault, where the text ends at this place: the limits come first, then the grammar, then the durations.
+    pub fn first(&self, end: usize) -> Option<TextFault>
+        ensures { result ≡ first_of end self.now }
+    {
+        let limits = or_else(self.too_deep, self.too_many);
+        let grammar = or_else(self.misfit, incomplete_at(self.seen, end));
+        let durations = or_else(self.too_long, fault_of_opened(self.opened));
+        or_else(or_else(limits, grammar), durations)
+    }
+}
+
+// The fault of a token that does not fit after those before it.
+fn misfit_at(seen: Seen, token: Token) -> Option<TextFault>
+    ensures { result ≡ misfit_at seen token }
+{
+    if seen.fits(token.kind) {
+        None
+    } else {
+        Some(TextFault {
+            kind: seen.fault_of(token.kind),
+            place: token.from,
+        })
+    }
+}
+
+// The fault of tokens that end too early.
+fn incomplete_at(seen: Seen, end: usize) -> Option<TextFault>
+    ensures { result ≡ incomplete_at seen end }
+{
+    if seen.may_end() {
+        None
+    } else {
+        Some(TextFault {
+            kind: Fault::Incomplete,
+            place: end,
+        })
+    }
+}
+
+fn or_else(fault: Option<TextFault>, later: Option<TextFault>) -> Option<TextFault>
+    ensures { result ≡ or_else fault later }
+{
+    match fault {
+        Some(fault) => Some(fault),
+        None => later,
+    }
+}

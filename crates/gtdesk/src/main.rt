@@ -1,0 +1,72 @@
+//! `gtdesk` prints, for people, what is closed now and by which rows of a file of road restrictions.
+//!
+//! It writes its answer to standard output and ends with status 0, or writes one line to standard error and ends with
+//! the status of its refusal: 1 where the input is refused, 2 for usage, 3 where opening, reading, writing or memory
+//! failed.
+#![tactic(auto)]
+
+use gtd_desk::{Plan, Refusal, RefusalLine, perform, plan};
+use gtd_devices::{Host, HostOut};
+use std::fs::File;
+use std::io::{BufWriter, ErrorKind, Read};
+use std::process::ExitCode;
+use std::{env, io};
+
+// The bytes that are gathered before standard output is written to: as many as a pipe holds.
+const OUTPUT_BUFFER: usize = 65_536;
+
+// The words after the program's name. A word that is no text is a fault of usage.
+fn words_of(rt: &HostRuntime) -> Result<Vec<String>, Refusal> {
+    let words = env::args(rt).map_err(|error| match error.kind() {
+        ErrorKind::OutOfMemory => Refusal::Memory,
+        _ => Refusal::Usage("a word is no text"),
+    })?;
+    words
+        .skip(1)
+        .collect(rt.alloc())
+        .map_err(|_| Refusal::Memory)
+}
+
+// The record file at the path.
+fn open(rt: &HostRuntime, path: &str) -> Result<File, Refusal> {
+    File::open(rt, path).map_err(|error| match error.kind() {
+        ErrorKind::OutOfMemory => Refusal::Memory,
+        _ => Refusal::Open,
+    })
+}
+
+// Carries the plan out, from a reader to standard output.
+fn print<R: Read + Drop>(rt: &HostRuntime, plan: &Plan, reader: R) -> Result<(), Refusal> {
+    let mut input = Host::new(reader);
+    let made = BufWriter::with_capacity(rt.alloc(), OUTPUT_BUFFER, io::writer(rt));
+    let mut output = HostOut::new(made.map_err(|_| Refusal::Memory)?);
+    perform(rt.alloc(), plan, &mut input, &mut output)
+}
+
+fn run(rt: &HostRuntime, plan: &Plan) -> Result<(), Refusal> {
+    match plan.file() {
+        Some("-") => print(rt, plan, rt.stdin()),
+        Some(path) => print(rt, plan, open(rt, path)?),
+        None => print(rt, plan, io::empty()),
+    }
+}
+
+// Writes the line of a refusal. Where standard error fails, the status stays the same.
+fn refuse(rt: &HostRuntime, refusal: Refusal, file: &str) -> ExitCode {
+    let _ = rt.eprintln(&RefusalLine { refusal, file });
+    ExitCode::from(refusal.status())
+}
+
+fn main(rt: HostRuntime) -> ExitCode {
+    let planned = match words_of(&rt) {
+        Ok(words) => plan(rt.alloc(), words),
+        Err(refusal) => Err(refusal),
+    };
+    match planned {
+        Ok(plan) => match run(&rt, &plan) {
+            Ok(()) => ExitCode::SUCCESS,
+            Err(refusal) => refuse(&rt, refusal, plan.file().unwrap_or("")),
+        },
+        Err(refusal) => refuse(&rt, refusal, ""),
+    }
+}

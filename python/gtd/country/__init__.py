@@ -1,0 +1,142 @@
+"""Schedules of record sets too large for one file, on Dask.
+
+A record file has at most 65,536 rows and 16 MiB. A set of records is one or many CSV files of any size, each with a header of
+either version. Its rows are made into parts, each a range of element numbers within these limits, and the program is run on
+each part, by the workers of a Dask cluster.
+
+What an element's schedule is, its own records alone decide. So the schedule of all rows is the header, and then the parts'
+schedules without their headers, in ascending order of elements.
+
+::
+
+    from distributed import Client
+    from gtd import country
+
+    with Client("tcp://10.0.0.1:8786") as client:
+        country.schedule(["north.csv", "south.csv.gz"], "2024-01-01", "2024-04-01", 11, "out", client=client)
+"""
+
+from __future__ import annotations
+
+import contextlib
+import os
+from pathlib import Path
+from typing import Any, Dict, List, Optional, Sequence, Tuple, Union
+
+from distributed import Client
+
+from gtd._domain import Day, day
+from gtd._program import MOST_ROWS
+from gtd._records import number
+from gtd.country import _parts
+from gtd.country._claims import LeftBehind
+from gtd.country._cluster import connect, local
+from gtd.country._files import sources
+from gtd.country._run import Asked, Done, Run, told_plainly
+from gtd.country._staging import Staging
+
+__all__ = ["Done", "LeftBehind", "connect", "local", "schedule"]
+
+_Path = Union[str, "os.PathLike[str]"]
+
+
+def schedule(
+    paths: Union[_Path, Sequence[_Path]],
+    first: Day,
+    until: Day,
+    vehicle: Union[int, Sequence[int]],
+    out: _Path,
+    *,
+    client: Optional[Client] = None,
+    joined: bool = False,
+    block_size: int = 4 << 20,
+    rows_per_part: int = MOST_ROWS,
+    show_progress: bool = False,
+    storage_options: Optional[Dict[str, Any]] = None,
+) -> Done:
+    """Write when each road element of a set of records is open.
+
+    Parameters
+    ----------
+    paths : str, os.PathLike or a list of them
+        Record files of any size, or patterns (``'data/*.csv'``), or addresses that ``fsspec`` knows. All workers and the
+        client reach them by the same name. A file whose name ends in ``.gz`` is unpacked first, beside the output.
+    first, until
+        As in :func:`gtd.schedule`.
+    vehicle : int or sequence of int
+        The vehicle type, 1 to 99; or many, for which the rows are read only once.
+    out : str or os.PathLike
+        The folder of the parts ``part-00000.csv``..., each a schedule with its header; of many vehicle types, with a folder
+        ``vehicle-11`` of parts for each. If ``joined``, the file; of many types, the folder of the files
+        ``vehicle-11.csv``... It is not there yet, or is an empty folder. All workers and the client reach it by the same
+        name.
+    client : distributed.Client, optional
+        The cluster. Without it, one is started on this machine, with a worker for each core.
+    joined : bool
+        One file with one header for each vehicle type.
+    block_size : int
+        Bytes that a worker reads at once; it needs about eight times as much memory.
+    rows_per_part : int
+        1 to 65,536; an element with more rows is a part of its own. The parts depend on the rows and this number alone.
+    show_progress : bool
+        Draw Dask's progress bars on standard error.
+    storage_options : dict, optional
+        What ``fsspec`` needs to reach the files.
+
+    Returns
+    -------
+    Done
+
+    Raises
+    ------
+    Fault
+        The first fault of the days or the vehicle types; then the first of all rows, by files in the order given and lines,
+        with its ``file``, ``line`` and ``row``; then of the first element with more than 65,536 rows, or too many bytes
+        (``'TooManyRows'``, ``'TooLarge'``), by the row with which it becomes too large. Nothing is kept.
+    OSError
+        A file is not opened, read or unpacked; or the output is there already, is being written by another run, or is not
+        written; or the scheduler has gone away (ConnectionError). Nothing is kept.
+    RuntimeError
+        A file was changed while it was read, or workers have different programs. Nothing is kept.
+
+    Warns
+    -----
+    LeftBehind
+        A run of the same output was killed earlier. What it left is removed.
+    """
+    if not 1 <= rows_per_part <= MOST_ROWS:
+        raise ValueError(f"rows_per_part is 1 to {MOST_ROWS}, not {rows_per_part}")
+    if block_size < 1:
+        raise ValueError(f"block_size is at least 1, not {block_size}")
+    asked = Asked(day(first), day(until), _vehicles(vehicle), joined, block_size, rows_per_part)
+    many: List[_Path] = [paths] if isinstance(paths, (str, os.PathLike)) else list(paths)
+    with contextlib.ExitStack() as stack:
+        if client is None:
+            client = stack.enter_context(local())
+        stack.enter_context(told_plainly(client))
+        done = _write(client, asked, [os.fspath(path) for path in many], Path(out), show_progress, storage_options)
+    return done
+
+
+def _write(
+    client: Client, asked: Asked, paths: List[str], out: Path, show: bool, storage_options: Optional[Dict[str, Any]]
+) -> Done:
+    # The days and the vehicle types are looked at before any file is.
+    refused = client.submit(_parts.refusal, asked.first, asked.until, asked.vehicles, pure=False).result()
+    if refused is not None:
+        raise refused
+    files = sources(paths, storage_options)
+    with Staging(out.absolute(), asked.joined and len(asked.vehicles) == 1) as staging:
+        done = Run(client, asked, staging, show).whole(files)
+    return done
+
+
+def _vehicles(vehicle: Union[int, Sequence[int]]) -> Tuple[str, ...]:
+    """The words for the vehicle types, in ascending order."""
+    if not isinstance(vehicle, Sequence):
+        return (number(vehicle, "VehicleRange"),)
+    if not vehicle:
+        raise ValueError("no vehicle type is given")
+    if len(set(vehicle)) < len(vehicle):
+        raise ValueError("a vehicle type is given twice")
+    return tuple(number(one, "VehicleRange") for one in sorted(vehicle))

@@ -1,0 +1,111 @@
+"""The command: ``python3 -m gtd.country IN.csv.. --from D --to D --vehicle N --out DIR [--scheduler ADDRESS]``."""
+
+from __future__ import annotations
+
+import argparse
+import logging
+import signal
+import sys
+import warnings
+from typing import Any, List, NoReturn, Optional
+
+from distributed import KilledWorker
+
+from gtd import Fault, country
+from gtd.country._claims import LeftBehind
+
+
+def main(words: Optional[List[str]] = None) -> int:
+    """Run the command; its status is that of the program: 0 done, 1 refused, 2 usage, 3 the machine."""
+    parser = _parser()
+    given = parser.parse_args(words)
+    if not given.scheduler and (given.tls_ca_file or given.tls_cert or given.tls_key):
+        parser.error("the files of TLS are for a cluster that --scheduler names")
+    if given.scheduler and given.workers is not None:
+        parser.error("--workers is for the cluster that is started here, and --scheduler names another")
+    logging.getLogger("distributed").setLevel(logging.CRITICAL)
+    warnings.simplefilter("ignore")
+    warnings.simplefilter("always", LeftBehind)
+    warnings.showwarning = _tell  # type: ignore[assignment]
+    signal.signal(signal.SIGTERM, _end)
+    try:
+        done = _run(given)
+    except Fault as fault:
+        return _fail(1, fault)
+    except ValueError as usage:
+        return _fail(2, usage)
+    except (OSError, MemoryError, RuntimeError, ImportError, KilledWorker) as failure:
+        return _fail(3, failure)
+    except KeyboardInterrupt:
+        return _fail(130, "interrupted: nothing is kept")
+    if not given.quiet:
+        print(f"{done.rows:,} rows, {len(done.parts):,} files, {done.size:,} bytes", file=sys.stderr)
+    return 0
+
+
+def _run(given: argparse.Namespace) -> country.Done:
+    if given.scheduler:
+        cluster = country.connect(given.scheduler, given.tls_ca_file, given.tls_cert, given.tls_key)
+    else:
+        cluster = country.local(given.workers)
+    with cluster as client:
+        return country.schedule(
+            given.files,
+            given.first,
+            given.until,
+            given.vehicle,
+            given.out,
+            client=client,
+            joined=given.join,
+            show_progress=not given.quiet and sys.stderr.isatty(),
+        )
+
+
+def _parser() -> argparse.ArgumentParser:
+    parser = argparse.ArgumentParser(
+        prog="python3 -m gtd.country", description="Schedules of any number of restrictions, on Dask."
+    )
+    parser.add_argument("files", nargs="+", metavar="IN.csv", help="record files, also .csv.gz, or patterns of names")
+    parser.add_argument("--from", required=True, dest="first", metavar="DAY", help="the first day, YYYY-MM-DD")
+    parser.add_argument("--to", required=True, dest="until", metavar="DAY", help="the day after the last")
+    parser.add_argument("--vehicle", required=True, type=_types, metavar="TYPE", help="1 to 99, or many: 1,11,12")
+    parser.add_argument("--out", required=True, metavar="DIR", help="a new folder for part-00000.csv...")
+    parser.add_argument("--join", action="store_true", help="one file for each type, in place of parts")
+    parser.add_argument("--workers", type=_at_least_one, metavar="N", help="of the cluster started here; else one for each core")
+    parser.add_argument("--scheduler", metavar="ADDRESS", help="of a Dask cluster: tcp://HOST:8786 or tls://HOST:8786")
+    parser.add_argument("--tls-ca-file", metavar="FILE", help="the certificates that are trusted")
+    parser.add_argument("--tls-cert", metavar="FILE", help="this client's certificate")
+    parser.add_argument("--tls-key", metavar="FILE", help="its key")
+    parser.add_argument("--quiet", action="store_true", help="no progress bar, and nothing said of success")
+    return parser
+
+
+def _types(word: str) -> Any:
+    """One vehicle type, or many."""
+    types = [int(part) for part in word.split(",")]
+    return types[0] if len(types) == 1 else types
+
+
+def _at_least_one(word: str) -> int:
+    number = int(word)
+    if number < 1:
+        raise argparse.ArgumentTypeError("at least 1")
+    return number
+
+
+def _end(number: int, _: Any) -> NoReturn:
+    """End as if it were interrupted: nothing is kept, and nothing is left."""
+    sys.exit(128 + number)
+
+
+def _tell(message: Any, *_: Any) -> None:
+    print(message, file=sys.stderr)
+
+
+def _fail(status: int, said: object) -> int:
+    print(str(said) or type(said).__name__, file=sys.stderr)
+    return status
+
+
+if __name__ == "__main__":
+    sys.exit(main())

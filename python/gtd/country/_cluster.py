@@ -1,0 +1,147 @@
+"""Clusters: one of this machine, or one that is there."""
+
+from __future__ import annotations
+
+import contextlib
+import logging
+import os
+import socket
+import ssl
+import tempfile
+from pathlib import Path
+from typing import Iterator, Optional
+
+from distributed import Client, LocalCluster
+from distributed.security import Security
+
+from gtd.country._claims import remove, take
+
+_SCRATCH = "gtd-workers-"
+
+
+@contextlib.contextmanager
+def local(workers: Optional[int] = None) -> Iterator[Client]:
+    """A cluster of this machine for as long as the context lasts.
+
+    Parameters
+    ----------
+    workers : int, optional
+        How many worker processes; without it, one for each core.
+    """
+    with _scratch() as folder, LocalCluster(
+        n_workers=workers,
+        threads_per_worker=1,
+        dashboard_address="127.0.0.1:0",
+        local_directory=str(folder),
+        silence_logs=logging.CRITICAL,  # what a worker meets is raised here
+    ) as cluster, Client(cluster) as client:
+        yield client
+
+
+@contextlib.contextmanager
+def _scratch() -> Iterator[Path]:
+    """A folder for what the workers put on the disk. Those of processes that were killed are removed on the way."""
+    top = Path(tempfile.gettempdir())
+    for lock in top.glob(f"{_SCRATCH}*.lock"):
+        with contextlib.suppress(OSError):  # gone meanwhile
+            if lock.lstat().st_uid != os.getuid():
+                continue
+            left = take(lock)
+            if left is not None and left.is_certain:
+                remove(lock.with_suffix(""))
+                left.release()
+    folder = Path(tempfile.mkdtemp(prefix=_SCRATCH))
+    claim = take(Path(f"{folder}.lock"))
+    try:
+        yield folder
+    finally:
+        remove(folder)
+        if claim is not None:
+            claim.release()
+
+
+@contextlib.contextmanager
+def connect(
+    address: str, ca_file: Optional[str] = None, certificate: Optional[str] = None, key: Optional[str] = None
+) -> Iterator[Client]:
+    """A client of the cluster whose scheduler has this address, for as long as the context lasts.
+
+    Parameters
+    ----------
+    address : str
+        As ``tcp://10.0.0.1:8786``, or ``tls://10.0.0.1:8786`` for a scheduler that asks for TLS.
+    ca_file, certificate, key : str, optional
+        For TLS, the paths of files in the form PEM: the certificates of who is trusted, this client's own, and its key.
+        What is left out is taken from ``distributed.comm.tls`` in Dask's configuration.
+
+    Raises
+    ------
+    ConnectionError
+        The scheduler does not answer; or it asks for TLS and the address does not, or the other way round; or one of the
+        two refuses the other's certificate.
+    FileNotFoundError
+        A file of TLS is not there.
+    ValueError
+        The address is none, or the certificates that it needs are not named.
+    """
+    given = {"tls_ca_file": ca_file, "tls_client_cert": certificate, "tls_client_key": key}
+    for path in filter(None, given.values()):
+        os.stat(path)
+    security = Security(**{name: path for name, path in given.items() if path})
+    if address.startswith("tls://"):
+        if not all((security.tls_ca_file, security.tls_client_cert, security.tls_client_key)):
+            raise ValueError(
+                f"{address} needs TLS: name its certificates by --tls-ca-file, --tls-cert and --tls-key, "
+                "or in distributed.comm.tls of Dask's configuration"
+            )
+        security.require_encryption = True
+    try:
+        client = Client(address, security=security)
+    except (OSError, RuntimeError, ValueError) as failure:
+        # A scheduler without TLS may greet so early that its greeting is a ValueError.
+        if isinstance(failure, ValueError) and _speaks_tls(address) is None:
+            raise
+        raise ConnectionError(f"no scheduler at {address}: {_why(address, failure)}") from None
+    with client:
+        yield client
+
+
+def _why(address: str, failure: Exception) -> str:
+    """Why there is no connection, in words that say what to do."""
+    scheme, _, place = address.rpartition("://")
+    speaks_tls = _speaks_tls(address)
+    if speaks_tls and scheme != "tls":
+        return f"it asks for TLS. Name it as tls://{place}, with --tls-ca-file, --tls-cert and --tls-key"
+    if speaks_tls is False and scheme == "tls":
+        return f"it does not speak TLS. Name it as tcp://{place}, or start it with certificates"
+    if speaks_tls:
+        return f"it speaks TLS, but one side refuses the other's certificate: {_root(failure)}"
+    return str(_root(failure))
+
+
+def _root(failure: BaseException) -> BaseException:
+    while failure.__cause__ is not None:
+        failure = failure.__cause__
+    return failure
+
+
+def _speaks_tls(address: str) -> Optional[bool]:
+    """Whether who listens there answers a greeting of TLS; None where nobody listens."""
+    host, _, port = address.rpartition("://")[2].rpartition(":")
+    context = ssl.SSLContext(ssl.PROTOCOL_TLS_CLIENT)
+    context.check_hostname, context.verify_mode = False, ssl.CERT_NONE
+    try:
+        with socket.create_connection((host.strip("[]"), int(port)), timeout=20) as plain:
+            return _greets(context, plain)
+    except (OSError, ValueError):
+        return None
+
+
+def _greets(context: ssl.SSLContext, plain: socket.socket) -> bool:
+    try:
+        with context.wrap_socket(plain):
+            return True
+    except ssl.SSLError as refused:
+        return refused.reason not in ("WRONG_VERSION_NUMBER", "UNKNOWN_PROTOCOL", "HTTP_REQUEST")
+    except OSError:  # it waits for another greeting, or hangs up
+        return False

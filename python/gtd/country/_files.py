@@ -1,0 +1,171 @@
+"""The files of a set of records: where each begins, and how it is read from any place on."""
+
+from __future__ import annotations
+
+import gzip
+import re
+import shutil
+import zlib
+from dataclasses import dataclass
+from pathlib import Path
+from typing import Any, Callable, Dict, List, Optional, Tuple
+
+from fsspec.core import get_fs_token_paths
+from fsspec.implementations.local import LocalFileSystem
+from fsspec.utils import read_block
+
+from gtd._program import LARGEST_FILE
+
+_MARK = b"\xef\xbb\xbf"
+_HEAD = re.compile(rb"(?P<empty>[\r\n]*)(?P<head>[^\r\n]+(?:\r\n|\r(?!\Z)|\n))")
+
+
+@dataclass(frozen=True)
+class Source:
+    """An input file as it was named."""
+
+    fs: Any
+    path: str
+    key: str
+    """What changes when the file does."""
+
+    @property
+    def is_packed(self) -> bool:
+        """Whether its name says that gzip has packed it."""
+        return self.path.endswith(".gz")
+
+    def is_changed(self) -> bool:
+        """Whether the file is another than when it was looked at first."""
+        return bool(self.fs.ukey(self.path) != self.key)
+
+
+@dataclass(frozen=True)
+class File:
+    """A record file that can be read from any place on: an input file, or what was packed in one."""
+
+    fs: Any
+    path: str
+    name: str
+    """What faults call it."""
+    size: int
+    """Bytes."""
+    head: bytes
+    """The header, with the end of its line."""
+    empty: int
+    """How many empty lines stand before the header."""
+    begin: int
+    """The first byte after the header."""
+
+    @property
+    def end_of_line(self) -> bytes:
+        """What the file is cut at."""
+        return b"\r" if self.head.endswith(b"\r") else b"\n"
+
+    @property
+    def lines_before(self) -> int:
+        """Lines before the first row's."""
+        return self.empty + 1
+
+
+@dataclass(frozen=True)
+class Block:
+    """Some lines of a file: those that begin after the ends of lines from ``begin`` on, up to ``length`` bytes later."""
+
+    file: File
+    begin: int
+    length: int
+
+    def read(self, further: int = 0) -> bytes:
+        """The bytes of the lines, and of the lines in so many bytes more."""
+        if self.file.begin >= self.file.size:
+            return b""
+        with self.file.fs.open(self.file.path, "rb") as opened:
+            text = bytes(read_block(opened, self.begin, self.length + further, self.file.end_of_line))
+        # A file that is cut at CR may hold CR LF too.
+        return text[1:] if self.file.end_of_line == b"\r" and text.startswith(b"\n") else text
+
+
+def sources(paths: List[str], storage_options: Optional[Dict[str, Any]] = None) -> List[Source]:
+    """The input files, in the order given; a pattern stands for its files in the order of their names.
+
+    Raises
+    ------
+    FileNotFoundError
+        There is none, or one of them is not there.
+    """
+    found: List[Source] = []
+    for path in paths:
+        fs, _, names = get_fs_token_paths([path], mode="rb", storage_options=storage_options)
+        if not names:
+            raise FileNotFoundError(f"no file: {path}")
+        found += [Source(fs, name, fs.ukey(name)) for name in names]
+    return found
+
+
+def unpack(source: Source, into: Path) -> None:
+    """Write what is packed in a file; a second attempt writes the same bytes in its place.
+
+    Raises
+    ------
+    OSError
+        The file is not one of gzip, or is cut short; or it is not read, or the other is not written.
+    """
+    try:
+        with source.fs.open(source.path, "rb") as packed, open(into, "wb") as file, gzip.GzipFile(fileobj=packed) as opened:
+            shutil.copyfileobj(opened, file, 1 << 20)
+    except (EOFError, gzip.BadGzipFile, zlib.error) as broken:
+        raise OSError(f"{source.path} is no whole gzip file: {broken}") from None
+    except OSError as failure:
+        raise named(failure, into) from None
+
+
+def named(failure: OSError, path: Path) -> OSError:
+    """The same failure with the file's name, if it has none: the system tells none where a write fails."""
+    if failure.filename is not None or failure.errno is None:
+        return failure
+    return OSError(failure.errno, failure.strerror, str(path))
+
+
+def open_file(source: Source, unpacked: Optional[Path] = None) -> File:
+    """The record file of an input file, which lies at ``unpacked`` if it was packed.
+
+    Raises
+    ------
+    OSError
+        The file is not read.
+    """
+    fs = source.fs if unpacked is None else LocalFileSystem()
+    path = source.path if unpacked is None else str(unpacked)
+    size = int(fs.info(path)["size"])
+    with fs.open(path, "rb") as opened:
+        front, found = _front(opened.read)
+    if found is None:  # a header and nothing else, or nothing at all, or no header
+        return File(fs, path, source.path, size, front[:LARGEST_FILE], 0, size)
+    return File(fs, path, source.path, size, found["head"], _count_lines(found["empty"]), found.end())
+
+
+def _front(read: Callable[[int], bytes]) -> Tuple[bytes, Optional[re.Match[bytes]]]:
+    """The first bytes of a file, and its first line that is not empty.
+
+    That line's end is known once a byte after it is, or the file's end.
+    """
+    front = read(4096)
+    mark = len(_MARK) if front.startswith(_MARK) else 0
+    found = _HEAD.match(front, mark)
+    while found is None and len(front) < LARGEST_FILE:
+        more = read(len(front))
+        if not more:
+            break
+        front += more
+        found = _HEAD.match(front, mark)
+    return front, found
+
+
+def _count_lines(text: bytes) -> int:
+    return text.count(b"\n") + text.count(b"\r") - text.count(b"\r\n")
+
+
+def blocks(file: File, size: int) -> List[Block]:
+    """The blocks of a file, of so many bytes; at least one, so that its header is looked at."""
+    begin = max(file.begin - 1, 0)  # the end of the header's line, after which the first row begins
+    return [Block(file, at, size) for at in range(begin, max(file.size, begin + 1), size)]

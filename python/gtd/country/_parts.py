@@ -1,0 +1,183 @@
+"""Rows of all blocks, made into parts: ascending ranges of elements, each within the limits of a file."""
+
+from __future__ import annotations
+
+import os
+import uuid
+from dataclasses import dataclass
+from pathlib import Path
+from typing import List, Optional, Sequence, Tuple, Union
+
+import numpy
+import pandas
+
+from gtd._cutting import HEADER, Beyond, Cuts, Numbers, Refused, count, cut, stretches, texts_of
+from gtd._fault import Fault
+from gtd._program import fingerprint, program, run
+from gtd.country._blocks import BlockRows
+from gtd.country._files import named
+
+PRINTED = b"element,direction,vehicle,from,until\n"  # the header of a schedule
+
+BINS = pandas.DataFrame({"bin": [], "rows": []}, dtype="int64")
+COUNTS = pandas.DataFrame({"range": [], "element": [], "rows": [], "size": []}, dtype="int64")
+PIECES = pandas.DataFrame({"bundle": [], "part": [], "rows": []}).astype(
+    {"bundle": "int64", "part": "int64", "rows": "object"}
+)
+_BIN = 14  # bits of an element's number
+
+
+@dataclass(frozen=True)
+class Plan:
+    """What is written of each part, and where."""
+
+    first: str
+    until: str
+    vehicles: Tuple[str, ...]
+    attempts: Path
+    """The folder of what is being written."""
+    parts: Path
+    """The folder of what is whole."""
+    count: int
+    """How many parts there are."""
+
+    def name(self, vehicle: str, part: int) -> str:
+        """The name of a part in its folder. So many digits that the parts are in order by their names."""
+        name = f"part-{part:0{max(5, len(str(self.count - 1)))}d}.csv"
+        return name if len(self.vehicles) == 1 else f"{vehicle_name(vehicle)}/{name}"
+
+
+@dataclass(frozen=True)
+class Written:
+    """A part that was written, for one vehicle type."""
+
+    name: str
+    size: int
+    """Bytes, its header among them."""
+    program: str
+    """The fingerprint of the program that has written it."""
+
+
+def vehicle_name(vehicle: str) -> str:
+    """The name of what is written for a vehicle type, where there are many."""
+    return f"vehicle-{int(vehicle):02d}"
+
+
+def bins(read: Union[BlockRows, Refused]) -> pandas.DataFrame:
+    """How many rows of a block have elements of each bin: 16,384 numbers that follow one another."""
+    if isinstance(read, Refused):
+        return BINS
+    numbers, rows = numpy.unique(read.rows.elements >> _BIN, return_counts=True)
+    return pandas.DataFrame({"bin": numbers, "rows": rows}, dtype="int64")
+
+
+def ranges(total: pandas.DataFrame, most: int) -> Numbers:
+    """The first elements of ranges that have at most so many rows, or one bin.
+
+    The elements of each range are counted by one task, so that no worker must hold the counts of all.
+
+    Parameters
+    ----------
+    total : pandas.DataFrame
+        The rows of all blocks by bin.
+    """
+    total = total.sort_index()
+    rows = total["rows"].to_numpy()
+    begins = stretches(rows, numpy.zeros(len(rows), "int64"), 0, most)
+    firsts: Numbers = total.index.to_numpy()[begins] << _BIN
+    return firsts if len(begins) else numpy.zeros(1, "int64")
+
+
+def counts(reads: Sequence[BlockRows], firsts: Numbers) -> pandas.DataFrame:
+    """How many rows and bytes of some blocks each of their elements has, with the range that it lies in."""
+    frame = pandas.concat([COUNTS, *(count(read.rows) for read in reads)], ignore_index=True)
+    frame["range"] = numpy.searchsorted(firsts, frame["element"].to_numpy(), side="right") - 1
+    return frame.astype("int64")
+
+
+def cut_range(frame: pandas.DataFrame, most: int) -> Union[Cuts, Beyond]:
+    """The parts of the elements of a range."""
+    return cut(frame.groupby("element")[["rows", "size"]].sum(), most)
+
+
+def join_cuts(cuts: Sequence[Union[Cuts, Beyond]]) -> Union[Cuts, Beyond]:
+    """The parts of all ranges; or the first element that no file can hold."""
+    made: List[Cuts] = []
+    for one in cuts:
+        if isinstance(one, Beyond):
+            return one
+        made.append(one)
+    return Cuts(numpy.concatenate([one.firsts for one in made]), numpy.concatenate([one.rows for one in made]))
+
+
+def pieces(reads: Sequence[BlockRows], cuts: Cuts, bundle_size: int) -> pandas.DataFrame:
+    """The rows of some blocks by part: a row of the frame for each block and part with any of them, with their text.
+
+    Parameters
+    ----------
+    bundle_size : int
+        How many parts that follow one another are written by one task.
+    """
+    frames = [_piece(read, cuts, bundle_size) for read in reads]
+    return pandas.concat(frames, ignore_index=True)
+
+
+def _piece(read: BlockRows, cuts: Cuts, bundle_size: int) -> pandas.DataFrame:
+    texts = texts_of(read.rows, cuts.firsts)
+    filled = [part for part, text in enumerate(texts) if text]
+    parts = numpy.array(filled, dtype="int64")
+    rows = pandas.Series([texts[part] for part in filled], dtype="object")
+    return pandas.DataFrame({"bundle": parts // bundle_size, "part": parts, "rows": rows})
+
+
+def refusal(first: str, until: str, vehicles: Sequence[str]) -> Optional[Fault]:
+    """The fault of the days or of a vehicle type, if they have one."""
+    for vehicle in vehicles:
+        try:
+            run("schedule", "/dev/stdin", first, until, vehicle, given=HEADER)
+        except Fault as fault:
+            return fault if len(vehicles) == 1 else Fault(fault.kind, note=f"vehicle type {vehicle}")
+    return None
+
+
+def write_bundle(frame: pandas.DataFrame, first_part: int, rows: Sequence[int], plan: Plan) -> List[Written]:
+    """Write the schedules of some parts that follow one another, each whole or not at all.
+
+    A second attempt writes the same bytes in their places.
+
+    Parameters
+    ----------
+    rows : sequence of int
+        How many rows each of the parts has.
+    """
+    texts: List[List[bytes]] = [[] for _ in rows]
+    for part, text in zip(frame["part"], frame["rows"]):
+        texts[part - first_part].append(text)
+    written: List[Written] = []
+    for at, number in enumerate(rows):
+        part = first_part + at
+        given = b"".join([HEADER, *texts[at]])
+        if given.count(b"\n") != number + 1:
+            raise RuntimeError(f"part {part} has other rows than were counted: was a file changed while it was read?")
+        written += [_write(given, vehicle, plan.name(vehicle, part), plan) for vehicle in plan.vehicles]
+    return written
+
+
+def _write(given: bytes, vehicle: str, name: str, plan: Plan) -> Written:
+    attempt = plan.attempts / uuid.uuid4().hex
+    try:
+        with open(attempt, "xb") as file:
+            try:
+                run("schedule", "/dev/stdin", plan.first, plan.until, vehicle, given=given, into=file)
+            except OSError:
+                # The program does not say why it could not write. The system says it again.
+                os.lseek(file.fileno(), 0, os.SEEK_END)
+                for _ in range(2):
+                    os.write(file.fileno(), bytes(1 << 16))
+                raise
+            size = file.seek(0, os.SEEK_END)
+        os.replace(attempt, plan.parts / name)
+    except OSError as failure:
+        attempt.unlink(missing_ok=True)
+        raise named(failure, plan.parts / name) from None
+    return Written(name, size, fingerprint(program()))

@@ -1,0 +1,214 @@
+"""A whole run on a cluster: blocks are read, parts are cut, their schedules are written."""
+
+from __future__ import annotations
+
+import contextlib
+import sys
+from concurrent.futures import CancelledError
+from functools import partial
+from typing import Any, Callable, Dict, Iterable, Iterator, List, NamedTuple, Sequence, Tuple, Union
+
+import dask
+import dask.dataframe
+from distributed import Client, Future, progress
+from distributed.comm.core import CommClosedError
+
+from gtd._cutting import Beyond, Cuts, Refused
+from gtd._fault import Fault
+from gtd.country import _blocks, _parts
+from gtd.country._blocks import Accepted
+from gtd.country._files import Block, File, Source, blocks, open_file, unpack
+from gtd.country._staging import Staging
+
+_RETRIES = 3  # of a task that raised: want of memory, a file system that falters. Dask itself runs a lost worker's tasks again
+
+
+# What goes into the shuffle and comes out of it: so many that two stages are enough, of 32 each.
+_MOST_PIECES = 1024
+_ROWS_PER_RANGE = 1 << 20  # whose elements one task counts; it needs 150 bytes for each
+# Dask's shuffle by tasks, in stages where there are many parts; under the names that its versions have for it.
+_SHUFFLE: Dict[str, Any] = {
+    "shuffle": "tasks",
+    "dataframe.shuffle.algorithm": "tasks",
+    "dataframe.shuffle.method": "tasks",
+    "dataframe.convert-string": False,
+}
+
+
+class Done(NamedTuple):
+    """What was written."""
+
+    rows: int
+    """Rows of all files."""
+    parts: List[str]
+    """The names of the files, in order, as they stand in the output; of one that is a file itself, its own."""
+    size: int
+    """Bytes of the output."""
+
+
+class Asked(NamedTuple):
+    """What is asked for."""
+
+    first: str
+    until: str
+    vehicles: Tuple[str, ...]
+    joined: bool
+    block_size: int
+    rows_per_part: int
+
+
+class Run:
+    """One run."""
+
+    def __init__(self, client: Client, asked: Asked, staging: Staging, show: bool) -> None:
+        self.client, self.asked, self.staging, self.show = client, asked, staging, show
+
+    def whole(self, sources: List[Source]) -> Done:
+        """Write the output. See :func:`gtd.country.schedule`."""
+        files = self._files(sources)
+        every = [block for file in files for block in blocks(file, self.asked.block_size)]
+        read = self._map(_blocks.read_rows, every)
+        accepted = self._accepted(every, self._gathered("reading", self._map(_blocks.report, read)))
+        cuts = self._cuts(read)
+        if isinstance(cuts, Beyond):
+            raise self._fault_beyond(cuts, every, read, accepted)
+        plan = self._plan(cuts)
+        bundles = self._bundles(read, cuts, plan)
+        del read  # from here on the scheduler keeps what the parts need
+        written = [part for bundle in self._gathered("scheduling", bundles) for part in bundle]
+        if len({report.program for report in accepted} | {part.program for part in written}) > 1:
+            raise RuntimeError("the workers have different programs gtd")
+        changed = [source.path for source in sources if source.is_changed()]
+        if changed:
+            raise RuntimeError(f"changed while they were read: {', '.join(changed)}")
+        return self._kept(plan, written, sum(report.rows for report in accepted))
+
+    def _files(self, sources: List[Source]) -> List[File]:
+        """The record files of the input, those that were packed lying in the staging folder."""
+        places = [
+            self.staging.unpacked / f"{number}.csv" if source.is_packed else None for number, source in enumerate(sources)
+        ]
+        packed = [(source, place) for source, place in zip(sources, places) if place is not None]
+        if packed:
+            made = self.client.map(unpack, *zip(*packed), retries=_RETRIES, pure=False)
+            self._gathered("unpacking", made)
+        return [open_file(source, place) for source, place in zip(sources, places)]
+
+    def _accepted(self, every: List[Block], reports: Sequence[Union[Accepted, Refused]]) -> List[Accepted]:
+        """The reports, if all rows are accepted; else the first fault is raised."""
+        accepted: List[Accepted] = []
+        for (block, lines, rows), report in zip(_counted(every, accepted), reports):
+            if isinstance(report, Refused):
+                raise self.client.submit(_blocks.fault_at, block, report, lines, rows, pure=False).result()
+            accepted.append(report)
+        return accepted
+
+    def _cuts(self, read: List[Future]) -> Union[Cuts, Beyond]:
+        """The parts of all rows: their elements are counted range by range."""
+        total = dask.dataframe.from_delayed(self._map(_parts.bins, read), meta=_parts.BINS, verify_meta=False)
+        total = total.groupby("bin").sum(split_every=8).to_delayed()[0]
+        firsts = self.client.compute(dask.delayed(_parts.ranges)(total, _ROWS_PER_RANGE)).result()
+        counts = self.client.map(_parts.counts, _grouped(read), firsts=firsts, retries=_RETRIES, pure=False)
+        ranges = _shuffled(counts, _parts.COUNTS, "range", len(firsts))
+        cut = dask.delayed(_parts.cut_range)
+        cuts = self.client.compute([cut(one, self.asked.rows_per_part) for one in ranges], retries=_RETRIES)
+        return _parts.join_cuts(self._gathered("counting", cuts))
+
+    def _fault_beyond(self, beyond: Beyond, every: List[Block], read: List[Future], accepted: List[Accepted]) -> Exception:
+        """The fault of the row with which an element has become too large for a file."""
+        held = self._gathered("looking", self._map(partial(_blocks.size_of, element=beyond.element), read))
+        rows, size = 0, 0
+        for (block, lines, before), (more_rows, more_size) in zip(_counted(every, accepted), held):
+            if beyond.is_passed(rows + more_rows, size + more_size):
+                place = (block, beyond, (rows, size), lines, before)
+                fault = self.client.submit(_blocks.fault_beyond, *place, pure=False).result()
+                return fault or RuntimeError(f"{block.file.name} was changed while it was read")
+            rows, size = rows + more_rows, size + more_size
+        return Fault(beyond.kind, note=beyond.note)
+
+    def _plan(self, cuts: Cuts) -> _parts.Plan:
+        vehicles = self.asked.vehicles
+        if len(vehicles) > 1:
+            for vehicle in vehicles:
+                (self.staging.parts / _parts.vehicle_name(vehicle)).mkdir()
+        folders = self.staging.attempts, self.staging.parts
+        return _parts.Plan(self.asked.first, self.asked.until, vehicles, *folders, len(cuts.rows))
+
+    def _bundles(self, read: List[Future], cuts: Cuts, plan: _parts.Plan) -> List[Future]:
+        """The tasks that write the parts, each some that follow one another."""
+        size = -(-plan.count // _MOST_PIECES)
+        begins = range(0, plan.count, size)
+        pieces = self.client.map(
+            _parts.pieces, _grouped(read), cuts=cuts, bundle_size=size, retries=_RETRIES, pure=False
+        )
+        bundles = _shuffled(pieces, _parts.PIECES, "bundle", len(begins))
+        write = dask.delayed(partial(_parts.write_bundle, plan=plan))
+        rows = [[int(number) for number in cuts.rows[begin : begin + size]] for begin in begins]
+        tasks = [write(bundle, begin, many) for bundle, begin, many in zip(bundles, begins, rows)]
+        futures: List[Future] = self.client.compute(tasks, retries=_RETRIES)
+        return futures
+
+    def _kept(self, plan: _parts.Plan, written: List[_parts.Written], rows: int) -> Done:
+        """Give the output its name."""
+        groups = [[plan.name(vehicle, part) for part in range(plan.count)] for vehicle in plan.vehicles]
+        size = sum(part.size for part in written)
+        names = [name for group in groups for name in group]
+        if self.asked.joined:
+            size -= len(_parts.PRINTED) * (len(names) - len(groups))
+            names = [f"{_parts.vehicle_name(vehicle)}.csv" for vehicle in plan.vehicles]
+        if self.staging.is_file:
+            names = [self.staging.out.name]
+        self.staging.keep(groups, names, self.asked.joined)
+        return Done(rows, names, size)
+
+    def _map(self, function: Callable[..., Any], many: Iterable[Any]) -> List[Future]:
+        futures: List[Future] = self.client.map(function, many, retries=_RETRIES, pure=False)
+        return futures
+
+    def _gathered(self, what: str, futures: List[Future]) -> List[Any]:
+        """The results of tasks, with a bar on standard error that tells how many are done."""
+        try:
+            if self.show:
+                with contextlib.redirect_stdout(sys.stderr):
+                    print(what)
+                    progress(futures, notebook=False)
+                    print()
+            return list(self.client.gather(futures))
+        except BaseException:
+            with contextlib.suppress(Exception):
+                if self.client.status == "running":
+                    self.client.cancel(futures)
+            raise
+
+
+def _grouped(read: List[Future]) -> List[List[Future]]:
+    """Blocks that go into the shuffle together."""
+    step = -(-len(read) // _MOST_PIECES)
+    return [read[at : at + step] for at in range(0, len(read), step)]
+
+
+def _shuffled(frames: List[Future], meta: Any, column: str, count: int) -> List[Any]:
+    """The rows of frames by a column that has the values from 0 up to a count: a lazy frame for each value."""
+    with dask.config.set(_SHUFFLE):
+        frame = dask.dataframe.from_delayed(frames, meta=meta, verify_meta=False)
+        return list(frame.set_index(column, divisions=list(range(count + 1))).to_delayed())
+
+
+def _counted(every: List[Block], accepted: List[Accepted]) -> Iterator[Tuple[Block, int, int]]:
+    """Each block, with the lines and the rows of its file before it; ``accepted`` has the reports of the blocks before it."""
+    file, lines, rows = None, 0, 0
+    for number, block in enumerate(every):
+        if block.file is not file:
+            file, lines, rows = block.file, block.file.lines_before, 0
+        yield block, lines, rows
+        lines, rows = lines + accepted[number].lines, rows + accepted[number].rows
+
+
+@contextlib.contextmanager
+def told_plainly(client: Client) -> Iterator[None]:
+    """A lost scheduler is one error, whatever call has met it."""
+    try:
+        yield
+    except (CancelledError, CommClosedError) as lost:
+        address = client.scheduler.address if client.scheduler is not None else "its address"
+        raise ConnectionError(f"the scheduler at {address} has gone away, or has dropped the run's tasks") from lost

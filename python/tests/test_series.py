@@ -1,0 +1,112 @@
+"""Columns of domains: the accessor against the functions for one domain."""
+
+import random
+
+import numpy
+import pandas
+import pytest
+
+import gtd
+from gtd import _series
+from tests.make_records import rows
+
+SHAPES = sorted({line.rstrip("\n").split(",", 3)[3] for line in rows(300, 5)} - {"", "domain"})
+MOMENTS = ["2024-01-06T00:00:00", "2024-03-31T23:59:59", "2024-06-03T08:15:59", "2199-12-31T12:00:00", "1901-01-01T00:00:01"]
+
+
+def test_each_text_as_by_itself():
+    column = pandas.Series(SHAPES, index=[f"road {at}" for at in range(len(SHAPES))], name="domain")
+    assert column.gtd.check() is None
+    expected = pandas.Series([gtd.canon(text) for text in SHAPES], column.index, name="domain", dtype=object)
+    pandas.testing.assert_series_equal(column.gtd.canon(), expected)
+    for moment in MOMENTS:
+        expected = pandas.Series([gtd.contains(text, moment) for text in SHAPES], column.index, name="domain")
+        pandas.testing.assert_series_equal(column.gtd.contains(moment), expected)
+
+
+@pytest.mark.parametrize("second", [0, 1, 59, 60, 3599, 3600, 43200, 86398, 86399])
+def test_a_second_of_the_day(second):
+    text = f"(h{second // 3600}m{second // 60 % 60}s{second % 60}){{s1}}"
+    day = pandas.Timestamp("2024-02-29")
+    column = pandas.Series([text, "[(h0){h24}]", f"[(h0){{h24}}]-{text}"])
+    assert column.gtd.contains(day + pandas.Timedelta(seconds=second)).tolist() == [True, True, False]
+    assert column.gtd.contains(day + pandas.Timedelta(seconds=(second + 1) % 86400)).tolist() == [False, True, True]
+
+
+def test_empty_and_missing_texts_always_hold():
+    for column in [
+        pandas.Series(["(h1){h1}", "", None, numpy.nan, "(h1){h1}"]),
+        pandas.Series(["(h1){h1}", "", None, pandas.NA, "(h1){h1}"], dtype="string"),
+        pandas.Series(["(h1){h1}", "", None, None, "(h1){h1}"], dtype="category"),
+    ]:
+        canonical = column.gtd.canon()
+        assert canonical[0] == canonical[4] == "[(h1){h1}]" and canonical[1] == ""
+        assert canonical.isna().tolist() == [False, False, True, True, False]
+        assert column.gtd.contains("2024-01-01T05:00:00").tolist() == [False, True, True, True, False]
+    for column in (pandas.Series([], dtype=object), pandas.Series([None, None], dtype=object)):
+        assert column.gtd.contains("2024-01-01T05:00:00").tolist() == [True] * len(column)
+        assert len(column.gtd.canon()) == len(column)
+
+
+def test_the_program_is_asked_once(monkeypatch):
+    asked = []
+
+    def run(*words, **more):
+        asked.append(words[0])
+        return real(*words, **more)
+
+    real = _series.run
+    monkeypatch.setattr(_series, "run", run)
+    column = pandas.Series([f"(h{at % 24}){{s{at % 3000 + 1}}}" for at in range(50_000)])
+    assert column.gtd.canon()[49_999] == gtd.canon(column[49_999])
+    assert asked == ["migrate"]
+    held = column.gtd.contains("2024-01-01T05:10:00")
+    assert asked[1:] == ["at", "schedule"]  # 24,000 texts differ
+    sample = random.Random(2).sample(range(50_000), 20)
+    assert [held[at] for at in sample] == [gtd.contains(column[at], "2024-01-01T05:10:00") for at in sample]
+
+
+def test_texts_that_one_file_cannot_hold():
+    column = pandas.Series([f"(h{at % 24}){{h{at // 24 % 24}m{at // 576 % 60}s{at // 34560 + 1}}}" for at in range(70_000)])
+    assert column.nunique() == 70_000
+    canonical = column.gtd.canon()
+    held = column.gtd.contains("2024-01-01T05:10:00")
+    for at in (0, 32_767, 32_768, 65_535, 65_536, 69_999):
+        assert canonical[at] == gtd.canon(column[at]) and held[at] == gtd.contains(column[at], "2024-01-01T05:10:00")
+
+
+@pytest.mark.parametrize(
+    "text, kind, place", [("(h25){h1}", "FieldRange", 1), ('(h1)"', "BadToken", 4), ("(h1)\n{h1}", "BadToken", 4)]
+)
+def test_the_first_fault(text, kind, place):
+    column = pandas.Series(["(h1){h1}", None, "(h1){h1}", text, "(h1){h1}", text, "x"], index=list("abcdefg"))
+    for ask in (column.gtd.check, column.gtd.canon, lambda: column.gtd.contains("2024-01-01T00:00:00")):
+        with pytest.raises(gtd.Fault) as caught:
+            ask()
+        fault = caught.value
+        assert (fault.kind, fault.place, fault.row, fault.text, fault.caret) == (kind, place, 4, text, place)
+        assert str(fault).startswith(f"row 4: {kind} at {place} (label 'd')\n")
+
+
+def test_a_text_beside_others_changes_none():
+    column = pandas.Series(['(h1){h1}"\n2,both,0,"', "(h2){h2}"])
+    with pytest.raises(gtd.Fault) as caught:
+        column.gtd.contains("2024-01-01T00:00:00")
+    assert (caught.value.kind, caught.value.row) == ("BadToken", 1)
+
+
+def test_the_moment_is_looked_at_first():
+    column = pandas.Series(["(h25){h1}"])
+    moments = [("2200-01-01T00:00:00", "moment Range"), ("2024-02-30T00:00:00", "moment NoSuchDate"), ("x", "moment Shape")]
+    for moment, kind in moments:
+        with pytest.raises(gtd.Fault) as caught:
+            column.gtd.contains(moment)
+        assert caught.value.kind == kind
+    with pytest.raises(ValueError, match="NaT"):
+        column.gtd.contains(pandas.NaT)
+
+
+def test_columns_of_something_else():
+    for column in (pandas.Series([1, 2]), pandas.Series(["(h1){h1}", 3]), pandas.Series([b"(h1){h1}"])):
+        with pytest.raises(AttributeError, match="texts"):
+            column.gtd

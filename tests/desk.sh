@@ -1,0 +1,120 @@
+#!/usr/bin/env bash
+# What the built program `gtdesk` does with its words, files and outputs: what it prints, its line and its status. The texts of
+# help are compared with those in tests/desk/. Run it after `rt ci`, which builds the program.
+set -u
+top=$(cd "$(dirname "$0")/.." && pwd)
+program=$top/crates/gtdesk/out/gtdesk
+[ -x "$program" ] || { echo "no program at $program: run rt ci first" >&2; exit 1; }
+room=$(mktemp -d)
+trap 'rm -rf "$room"' EXIT
+cd "$room" || exit 1
+passed=0 failed=0
+
+# expect NAME STATUS OUT ERR: the last run's status and what it wrote.
+expect() {
+    if [ "$status" = "$2" ] && [ "$(cat out)" = "$3" ] && [ "$(cat err)" = "$4" ]; then
+        passed=$((passed + 1))
+    else
+        failed=$((failed + 1))
+        echo "FAILED $1: status $status, wrote '$(cat out)' and '$(cat err)'"
+    fi
+}
+
+run() {
+    "$program" "$@" > out 2> err
+    status=$?
+}
+
+header='element,direction,vehicle,state,until,rows'
+printf '%s\n' element,direction,vehicle,domain '17,positive,0,[(M4d1){M3}]*[(h10){h4}]' '17,both,11,(h10){h1}' '18,negative,0,' \
+    > a.csv
+
+# Texts.
+run --help
+expect 'help' 0 "$(cat "$top/tests/desk/help.txt")" ''
+run help
+expect 'the command help' 0 "$(cat "$top/tests/desk/help.txt")" ''
+run now --help
+expect 'help of a command' 0 "$(cat "$top/tests/desk/now.txt")" ''
+run help now
+expect 'the command help with a command' 0 "$(cat "$top/tests/desk/now.txt")" ''
+run --version
+expect 'version' 0 'gtdesk 0.1.0' ''
+
+# Words that are refused.
+see='(see gtdesk --help)'
+run
+expect 'no words' 2 '' "gtdesk: command line: a subcommand is required but one was not provided $see"
+run yesterday
+expect 'no command' 2 '' "gtdesk: command line: unrecognized subcommand $see"
+run now a.csv
+expect 'words left out' 2 '' "gtdesk: command line: one or more required arguments were not provided $see"
+run now a.csv 2024-04-01T10:00:00 11 12
+expect 'a word too many' 2 '' "gtdesk: command line: unexpected argument found $see"
+run now a.csv 2024-04-01T10:00:00 $'\xff'
+expect 'a word that is no text' 2 '' "gtdesk: command line: a word is no text $see"
+run now a.csv 2024-04-01 11
+expect 'the form of a moment' 1 '' 'gtdesk: MOMENT: not of the form YYYY-MM-DDThh:mm:ss'
+run now a.csv 2023-02-29T00:00:00 11
+expect 'no such date' 1 '' 'gtdesk: MOMENT: no such date or clock time'
+run now a.csv 1900-12-31T23:59:59 11
+expect 'a moment out of range' 1 '' 'gtdesk: MOMENT: not from 1901-01-01T00:00:00 to 2199-12-31T23:59:59'
+for vehicle in 0 100 eleven 4294967297 ''; do
+    run now a.csv 2024-04-01T10:00:00 "$vehicle"
+    expect "the vehicle type '$vehicle'" 1 '' 'gtdesk: VEHICLE: not a number from 1 to 99'
+done
+
+# The state at a moment: the rows of both directions, of one vehicle type, before and at the second of a change.
+always=$'18,positive,11,open,,\n18,negative,11,closed,,3'
+at_ten=$'17,positive,11,closed,2024-04-01T14:00:00,1;2\n17,negative,11,closed,2024-04-01T11:00:00,2'
+before=$'17,positive,11,open,2024-04-01T10:00:00,\n17,negative,11,open,2024-04-01T10:00:00,'
+run now a.csv 2024-04-01T10:00:00 11
+expect 'at the second' 0 "$header"$'\n'"$at_ten"$'\n'"$always" ''
+run now a.csv 2024-04-01T09:59:59 11
+expect 'the second before' 0 "$header"$'\n'"$before"$'\n'"$always" ''
+run now a.csv 2024-04-01T10:00:00 12
+twelve=$'17,positive,12,closed,2024-04-01T14:00:00,1\n17,negative,12,open,,'
+expect 'another vehicle type' 0 "$header"$'\n'"$twelve"$'\n'"${always//,11,/,12,}" ''
+"$program" now - 2024-04-01T10:00:00 11 < a.csv > out 2> err
+status=$?
+expect 'standard input' 0 "$header"$'\n'"$at_ten"$'\n'"$always" ''
+head -n 1 a.csv > none.csv
+run now none.csv 2024-04-01T10:00:00 11
+expect 'no rows' 0 "$header" ''
+
+# Files that are refused.
+run now gone.csv 2024-04-01T10:00:00 11
+expect 'no file' 3 '' 'gtdesk: gone.csv: cannot be opened'
+run now $'a\nb\\\xc3\xa9' 2024-04-01T10:00:00 11
+expect 'a name that is shown escaped' 3 '' 'gtdesk: a\x0ab\x5c\xc3\xa9: cannot be opened'
+run now . 2024-04-01T10:00:00 11
+expect 'a folder' 3 '' 'gtdesk: .: ReadFault'
+refused() {
+    printf '%s' "$2" > bad.csv
+    run now bad.csv 2024-04-01T10:00:00 11
+    expect "$1" 1 '' "gtdesk: bad.csv: $3"
+}
+top_line=$'element,direction,vehicle,domain\n'
+refused 'nothing' '' 'Header'
+refused 'a header' $'element;direction;vehicle;domain\n' 'Header'
+refused 'fields' "$top_line"$'1,both,0\n' 'row 1: FieldCount'
+refused 'an element' "$top_line"$'x,both,0,\n' 'row 1: Element'
+refused 'a direction' "$top_line"$'1,both,0,\n1,up,0,\n' 'row 2: Direction'
+refused 'a vehicle' "$top_line"$'1,both,100,\n' 'row 1: Vehicle'
+refused 'a domain' "$top_line"$'1,both,0,[(h25){h1}]\n' 'row 1: Domain FieldRange at 2'
+
+# Outputs that fail.
+: > out
+"$program" now a.csv 2024-04-01T10:00:00 11 > /dev/full 2> err
+status=$?
+expect 'a full output' 3 '' 'gtdesk: standard output: cannot be written'
+"$program" --help > /dev/full 2> err
+status=$?
+expect 'a full output for help' 3 '' 'gtdesk: standard output: cannot be written'
+: > err
+"$program" now gone.csv 2024-04-01T10:00:00 11 2> /dev/full
+status=$?
+expect 'a full error output' 3 '' ''
+
+echo "desk: $passed passed, $failed failed"
+[ "$failed" = 0 ]
