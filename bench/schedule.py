@@ -54,7 +54,7 @@ class Bench:
 
     def made(self, rows):
         """A file of so many rows as a map has them."""
-        maker = [sys.executable, os.path.join(measuring.BENCH, "make_records.py"), str(rows), "1"]
+        maker = [sys.executable, os.path.join(measuring.TOP, "python", "tests", "make_records.py"), str(rows), "1"]
         return measuring.written(maker, os.path.join(self.work, "made"))
 
 

@@ -16,7 +16,7 @@ from tests.conftest import environment
 from tests.make_records import rows
 
 TOP = Path(gtd.__file__).parents[2]
-PAGES = [TOP / "docs" / "PYTHON.md", TOP / "docs" / "COUNTRY.md", TOP / "python" / "README.md"]
+PAGES = [TOP / "docs" / "PYTHON.md", TOP / "docs" / "COUNTRY.md", TOP / "README.md", TOP / "python" / "README.md"]
 
 
 @pytest.fixture
@@ -32,7 +32,7 @@ def folder(tmp_path, monkeypatch):
     return tmp_path
 
 
-@pytest.mark.parametrize("page", PAGES, ids=lambda page: page.name)
+@pytest.mark.parametrize("page", PAGES, ids=lambda page: f"{page.parent.name}-{page.name}")
 def test_python_of_a_page(folder, page):
     blocks = re.findall(r"^```python\n(.*?)^```", page.read_text(), re.DOTALL | re.MULTILINE)
     assert blocks or page.name == "COUNTRY.md"
@@ -43,7 +43,7 @@ def test_python_of_a_page(folder, page):
     assert runner.tries > 0 or ">>>" not in source
 
 
-@pytest.mark.parametrize("page", PAGES, ids=lambda page: page.name)
+@pytest.mark.parametrize("page", PAGES, ids=lambda page: f"{page.parent.name}-{page.name}")
 def test_commands_of_a_page(folder, page):
     """The commands of a cluster that is there are run by test_failures.py; these start their own."""
     shown = re.findall(r"^python3 -m gtd\.country [^\n]*", page.read_text(), re.MULTILINE)
