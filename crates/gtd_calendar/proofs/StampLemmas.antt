@@ -1,10 +1,10 @@
 -- The texts of days and seconds, and what reading them answers.
 use Rattle.std.proofs.Common.{◌≡◌, ℕ, ◌+◌, ◌*◌, ◌/◌, ◌%◌, ◌<◌, ◌≤◌, true, false, ◌&&◌, ◌||◌, nat_le, int_lt, List, ◌∷◌}
-use Rattle.std.proofs.Common.{Option, Some, None, Result, Ok, Err, refl, sym, ◌∙◌, arith, ℤ, pos, unsigned_abs}
+use Rattle.std.proofs.Common.{Option, Some, None, Result, Ok, Err, refl, sym, ◌∙◌, arith, ℤ, pos}
 use Rattle.std.proofs.lemmas.Bool.Decides.{nat_tests}
 use Rattle.std.proofs.lemmas.Bool.{false_from_ne_true, true_from_ne_false, cond_both, true≢false}
 use Rattle.gtd_core.specs.Limits.{first_horizon_day, horizons_end}
-use Rattle.jiff_core.proofs.SignedLemmas.{signed_arith, one_part}
+use Rattle.jiff_core.proofs.SignedLemmas.{signed_arith}
 use Rattle.gtd_calendar.specs.declared.stamp.StampFault.{StampFault}
 use Rattle.gtd_calendar.specs.declared.stamp.StampFault.TheVariants.{Shape, NoSuchDate, Range}
 use Rattle.gtd_calendar.specs.Calendar.{IsDate, IsCalendarDay, month_length, day_number}
@@ -14,29 +14,11 @@ use Rattle.gtd_calendar.specs.Clock.{second_of_day}
 use Rattle.gtd_calendar.specs.Stamp.{date_text, stamp_text, hms_text, IsYmdText, IsDateText, IsStampText}
 use Rattle.gtd_calendar.specs.Read.{IsReadableDay, IsReadDate, is_date, day_in_range, day_if_any, ymd_in, date_in}
 use Rattle.gtd_calendar.specs.ReadParts.{IsYmd}
-use Rattle.gtd_calendar.specs.facts.DateLemmas.{date_of-is, date_of-only, month_length_bounds}
-use Rattle.gtd_calendar.specs.facts.OrderLemmas.{year_of-calendar}
 use Rattle.gtd_calendar.specs.facts.ClockLemmas.{second-parts, second-only}
+use Rattle.gtd_calendar.specs.facts.DateTexts.{date_text-is, date_text-only}
 use Rattle.gtd_calendar.proofs.ShapeLemmas.{ymd_in-is, ymd_in-shape, ymd-only}
 
--- the text that is computed of a day is the text of its date
-pub date_text-is : (n : ℤ) → IsCalendarDay n → IsDateText n (date_text n)
-date_text-is n h =
-    let date = date_of-is n in
-    let near = year_of-calendar n h in
-    let part = one_part (year_of n) in
-    let same : pos (unsigned_abs (year_of n)) ≡ year_of n = omega (arith, signed_arith) in
-    let long = month_length_bounds (year_of n) (month_of n) in
-    let year_in : unsigned_abs (year_of n) < 10000 = omega (arith, signed_arith) in
-    record {
-      year = unsigned_abs (year_of n);
-      month = month_of n;
-      day = day_of_month n;
-      date = rw same date;
-      shown = record { year_in = year_in; month_in = omega arith; day_in = omega arith; is = refl };
-    }
-
--- and that of a second is the text of its date and clock
+-- the text that is computed of a second is the text of its date and clock
 pub stamp_text-is : (s : ℤ) → IsCalendarDay (day_of_second s) → IsStampText s (stamp_text s)
 stamp_text-is s h =
     let text = date_text-is (day_of_second s) h in
@@ -143,13 +125,7 @@ pub date_in-again : (n : ℤ) → IsReadableDay n → date_in (date_text n) ≡ 
 date_in-again n h = sym (date_in-only (date_text n) (Ok n)
     (date_text-is n (omega (arith, signed_arith), omega (arith, signed_arith)), h))
 
--- a day has one text
-pub date_text-only : (n : ℤ) (text : List ℕ) → IsDateText n text → text ≡ date_text n
-date_text-only n text h =
-    let only = date_of-only n (pos h.year) h.month h.day h.date in
-    rw (← only.0, ← only.1, ← only.2) h.shown.is
-
--- and a second has one
+-- a second has one text
 pub stamp_text-only : (s : ℤ) (text : List ℕ) → IsStampText s text → text ≡ stamp_text s
 stamp_text-only s text h =
     let k = 3600 * h.hour + 60 * h.minute + h.second in

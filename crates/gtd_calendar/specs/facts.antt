@@ -1,6 +1,7 @@
 pub mod ClockLemmas
 pub mod CycleLemmas
 pub mod DateLemmas
+pub mod DateTexts
 pub mod JiffLemmas
 pub mod MonthLemmas
 pub mod OrderLemmas

@@ -26,7 +26,9 @@ use Rattle.gtd_records.specs.declared.vehicles.Version.{Version}
 use Rattle.gtd_runs.specs.Run.{IsVehicleType}
 use Rattle.gtd_schedule.specs.facts.LineFacts.{length-line}
 use Rattle.gtd_runs.specs.Putting.{AreLinesOf}
-use Rattle.gtd_schedule.specs.Schedule.{AreLines, IsSchedule, header_line, span_line}
+use Rattle.gtd_schedule.specs.Lines.{span_line}
+use Rattle.gtd_schedule.specs.Schedule.{AreLines, IsSchedule, header_line}
+use Rattle.gtd_schedule.specs.facts.SpanLines.{lines_only}
 
 -- the number of a column is of ten digits at most
 few_digits : (text : List ℕ) (n : ℕ) → number_of text ≡ Some n → n < 10 ^ 10
@@ -133,7 +135,8 @@ module _ (found : List Restriction) (vehicle : ℕ) (type : vehicle < 100) (hori
 
   direction_short : (element : ℕ) (direction : Direction) (lines : List (List ℕ)) → IsSmall element
       → AreLines found vehicle horizon element direction lines → All IsShort lines
-  direction_short element direction lines small are = rw are.each (spans_short element direction are.spans small)
+  direction_short element direction lines small are =
+      rw (lines_only element direction vehicle are.spans lines are.each) (spans_short element direction are.spans small)
 
   elements_short : (elements : List ℕ) (lines : List (List ℕ)) → All IsSmall elements
       → AreLinesOf (AreLines found vehicle horizon) elements lines

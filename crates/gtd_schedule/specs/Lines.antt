@@ -19,6 +19,12 @@ clock_bytes clock = 84 ∷ hms_text (clock / 3600) (clock / 60 % 60) (clock % 60
 abbrev pub span_text : Interval → List ℕ
 span_text span = stamp_text span.from ++ codes "," ++ stamp_text span.until ++ codes "\n"
 
+-- the line of a span, computed
+abbrev pub span_line : ℕ → Direction → ℕ → Interval → List ℕ
+span_line element direction vehicle span =
+    decimal element ++ codes "," ++ direction_word direction ++ codes "," ++ decimal vehicle ++ codes ","
+    ++ stamp_text span.from ++ codes "," ++ stamp_text span.until ++ codes "\n"
+
 -- each span begins and ends on a day that has a text
 abbrev pub AreShown : List Interval → Type 0
 AreShown [] = Unit {0}

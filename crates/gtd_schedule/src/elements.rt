@@ -2,8 +2,8 @@
 
 ghost use Rattle.std.specs.Prelude.{◌≡◌, ◌+◌, ◌*◌, ◌<◌, ◌≤◌, ◌^◌, length, map, OnOk};
 ghost use Rattle.gtd_runs.specs.Putting.{Puts, PutsText, failures_after_stop, most_direction_bytes, most_direction_lines};
-ghost use Rattle.gtd_schedule.specs.Lines.{AreShown};
-ghost use Rattle.gtd_schedule.specs.Schedule.{AreLines, span_line};
+ghost use Rattle.gtd_schedule.specs.Lines.{AreShown, span_line};
+ghost use Rattle.gtd_schedule.specs.Schedule.{AreLines};
 
 use crate::line::{KeptTexts, write_head, write_span};
 use gtd_core::Horizon;

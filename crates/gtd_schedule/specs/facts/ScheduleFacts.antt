@@ -1,12 +1,14 @@
 -- A schedule is one text.
-use Rattle.std.proofs.Common.{◌∙◌, sym, ap, map, ℕ, List}
+use Rattle.std.proofs.Common.{◌∙◌, sym, subst, ℕ, List}
+use Rattle.gtd_core.specs.Seconds.{Interval}
 use Rattle.gtd_core.specs.Whole.{whole}
 use Rattle.gtd_core.specs.declared.horizon.Horizon.{Horizon}
 use Rattle.gtd_records.specs.Closing.{IsOpen, Restriction}
 use Rattle.gtd_records.specs.declared.direction.Direction.{Direction}
 use Rattle.gtd_runs.specs.facts.ElementFacts.{one_by_element}
 use Rattle.gtd_runs.specs.Putting.{IsOne}
-use Rattle.gtd_schedule.specs.Schedule.{AreLines, IsSchedule, header_line, span_line}
+use Rattle.gtd_schedule.specs.Schedule.{AreLines, AreSpanLines, IsSchedule, header_line}
+use Rattle.gtd_schedule.specs.facts.SpanLines.{lines_only}
 use Rattle.gtd_spans.specs.facts.NormalFor.{one-normal-list}
 
 module _ (found : List Restriction) (vehicle : ℕ) (horizon : Horizon) where
@@ -15,7 +17,9 @@ module _ (found : List Restriction) (vehicle : ℕ) (horizon : Horizon) where
   one_lines element direction a b p q =
       let same = one-normal-list (IsOpen found element direction vehicle) (whole horizon).from
       (whole horizon).until p.spans q.spans p.normal q.normal in
-      p.each ∙ ap (map (span_line element direction vehicle)) same ∙ sym q.each
+      let other : AreSpanLines element direction vehicle p.spans b =
+      subst (λ (spans : List Interval). AreSpanLines element direction vehicle spans b) (sym same) q.each in
+      lines_only element direction vehicle p.spans a p.each ∙ sym (lines_only element direction vehicle p.spans b other)
 
   -- restrictions have one schedule
   pub one_schedule : IsOne (IsSchedule found vehicle horizon)

@@ -1,4 +1,5 @@
-use Rattle.gtd_calendar.proofs.StampLemmas.{date_text-is, date_text-only, stamp_text-is, stamp_text-only}
+use Rattle.gtd_calendar.specs.facts.DateTexts.{date_text-is, date_text-only}
+use Rattle.gtd_calendar.proofs.StampLemmas.{stamp_text-is, stamp_text-only}
 use Rattle.gtd_calendar.proofs.laws.one_text.Goals as goal
 
 pub returns-clause-date : goal.returns-clause-date

@@ -1,5 +1,5 @@
 use Rattle.std.proofs.Common.{rules}
-use Rattle.gtd_calendar.proofs.StampLemmas.{date_text-is}
+use Rattle.gtd_calendar.specs.facts.DateTexts.{date_text-is}
 use Rattle.gtd_calendar.proofs.stamp.write_date.Goals as goal
 
 pub returns-clause-value : goal.returns-clause-value

@@ -1,4 +1,4 @@
-use Rattle.std.proofs.Common.{ap, refl, arith, ◌<◌, ◌≤◌, ◌+◌, ◌^◌, ℕ, List, length, map, Option}
+use Rattle.std.proofs.Common.{ap, arith, ◌<◌, ◌≤◌, ◌+◌, ◌^◌, ℕ, List, length, map, Option}
 use Rattle.std.specs.Prelude.{Ok, Err, OnOk, Result}
 use Rattle.std.proofs.lemmas.List.{length-map}
 use Rattle.gtd_eval.specs.Cursors.{cursor_list}
@@ -9,9 +9,11 @@ use Rattle.gtd_runs.specs.Putting.{Puts}
 use Rattle.gtd_runs.specs.declared.putting.Progress.{Progress}
 use Rattle.gtd_runs.specs.declared.putting.Stop.{Stop}
 use Rattle.gtd_runs.specs.Putting.{most_direction_bytes, most_direction_lines}
-use Rattle.gtd_schedule.specs.Schedule.{span_line, AreLines}
+use Rattle.gtd_schedule.specs.Lines.{span_line}
+use Rattle.gtd_schedule.specs.Schedule.{AreLines}
+use Rattle.gtd_schedule.specs.facts.SpanLines.{lines_are}
 use Rattle.gtd_schedule.specs.facts.LineFacts.{length-lines}
-use Rattle.gtd_schedule.proofs.SpanFacts.{normal_few, normal_shown}
+use Rattle.gtd_schedule.specs.facts.SpansShown.{normal_few, normal_shown}
 use Rattle.gtd_schedule.specs.facts.ScheduleFacts.{one_lines}
 use Rattle.gtd_runs.specs.facts.TextFacts.{texts_of}
 use Rattle.gtd_schedule.proofs.elements.put_open_spans.Goals as goal
@@ -56,7 +58,14 @@ returns-clause-puts g c =
     (taken c.args.output.now) (taken c.put_spans.new.output) c.args.progress.now c.put_spans.new.progress
     (map (span_line c.args.element c.args.direction c.args.vehicle) spans)
     (one_lines c.args.found.now c.args.vehicle c.args.horizon c.args.element c.args.direction)
-    (record { spans = spans; normal = c.in_ok-spans.ensures.seconds; each = refl })
+    (record {
+      spans = spans;
+      normal = c.in_ok-spans.ensures.seconds;
+      each = lines_are c.args.element c.args.direction c.args.vehicle spans (
+          normal_shown (IsOpen c.args.found.now c.args.element c.args.direction c.args.vehicle) c.args.horizon
+          spans c.in_ok-spans.ensures.seconds
+          );
+    })
     c.put_spans.ensures.puts
 
 pub returns-clause-near : goal.returns-clause-near

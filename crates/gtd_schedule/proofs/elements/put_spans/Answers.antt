@@ -9,7 +9,7 @@ use Rattle.gtd_records.specs.declared.direction.Direction.{Direction}
 use Rattle.gtd_runs.specs.facts.PutFacts.{one_put, one_short, puts_nothing}
 use Rattle.gtd_runs.specs.Putting.{Puts}
 use Rattle.gtd_schedule.specs.Lines.{AreShown, line_head, span_text}
-use Rattle.gtd_schedule.specs.Schedule.{span_line}
+use Rattle.gtd_schedule.specs.Lines.{span_line}
 use Rattle.gtd_schedule.specs.facts.LineFacts.{length-put_line, line_parts}
 use Rattle.gtd_schedule.proofs.SpanFacts.{carries_none, carries_one, carries_short}
 use Rattle.gtd_schedule.proofs.elements.put_spans.Goals as goal

@@ -1,7 +1,7 @@
 use Rattle.std.proofs.Common.{◌≡◌, ◌≤◌, ◌+◌, ◌*◌, length, map, take}
 use Rattle.gtd_schedule.proofs.SpanFacts.{Carries}
 use Rattle.gtd_schedule.specs.Lines.{AreShown, line_head}
-use Rattle.gtd_schedule.specs.Schedule.{span_line}
+use Rattle.gtd_schedule.specs.Lines.{span_line}
 use Rattle.gtd_schedule.proofs.elements.put_spans.Given as goal
 
 -- the buffer begins with the head, and where the rest is put, all is
