@@ -1,7 +1,7 @@
 #!/usr/bin/env bash
 # Makes gtd_VERSION_amd64.deb from the proved program, in the folder given (by default the current one). Run it after `rt ci`, or
 # `rt run` in crates/gtd, which proves and builds the program. Version and date are those of the newest release in CHANGELOG.md,
-# and the same program and files give the same bytes.
+# and the same program and files give the same bytes. Packagers set the maintainer in the environment variable GTD_MAINTAINER.
 # Usage: packaging/deb.sh [FOLDER]
 set -eu
 into=$(cd "${1:-.}" && pwd)
@@ -67,7 +67,7 @@ put_control() {
 Package: gtd
 Version: $version
 Architecture: amd64
-Maintainer: the gtd authors <gtd@example.invalid>
+Maintainer: ${GTD_MAINTAINER:-Julepwadi <maintainers@julepwadi.example>}
 Installed-Size: $(find "$root/usr" -type f -printf '%s\n' | awk '{ kib += int(($1 + 1023) / 1024) } END { print kib }')
 Depends: libc6 (>= $(libc_version))
 Section: utils
@@ -81,7 +81,7 @@ Description: check and evaluate timed road restrictions
 END
 }
 
-# All times in the package are one: that of the release, unless the caller names another.
+# Every file in the package has the time of the release, unless the caller names another.
 set_times() {
     export SOURCE_DATE_EPOCH=${SOURCE_DATE_EPOCH:-$(date -u -d "$released" +%s)}
     find "$root" -exec touch -h -d "@$SOURCE_DATE_EPOCH" {} +

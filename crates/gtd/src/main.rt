@@ -1,8 +1,7 @@
 //! `gtd` reads, checks and prints time domains and files of road restrictions.
 //!
 //! It writes its answer to standard output and ends with status 0, or writes one line to standard error and ends with
-//! the status of its refusal: 1 where the input is refused, 2 for usage, 3 where opening, reading, writing or memory
-//! failed.
+//! the status of its refusal: 1 if the input is refused, 2 for usage, 3 if opening, reading, writing or memory failed.
 #![tactic(auto)]
 
 use gtd_roads::Host;
@@ -12,10 +11,10 @@ use std::io::{BufWriter, ErrorKind, Read};
 use std::process::ExitCode;
 use std::{env, io};
 
-// The bytes that are gathered before standard output is written to: as many as a pipe holds.
+// How many bytes are gathered before they are written to standard output: as many as a pipe holds.
 const OUTPUT_BUFFER: usize = 65_536;
 
-// The words after the program's name. A word that is no text is a fault of usage.
+// The words after the program's name. A word that is not UTF-8 is a fault of usage.
 fn words_of(rt: &HostRuntime) -> Result<Vec<String>, Refusal> {
     let words = env::args(rt).map_err(|error| match error.kind() {
         ErrorKind::OutOfMemory => Refusal::Memory,
@@ -55,7 +54,7 @@ fn main(rt: HostRuntime) -> ExitCode {
     match run(&rt) {
         Ok(()) => ExitCode::SUCCESS,
         Err(refusal) => {
-            // Where standard error fails, the status stays the same.
+            // If standard error fails, the status stays the same.
             let _ = refusal.put_line(&mut rt.stderr());
             ExitCode::from(refusal.status())
         }

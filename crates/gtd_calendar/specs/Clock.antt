@@ -15,12 +15,12 @@ second_of_day s = unsigned_abs (int_rem_euclid s (pos day_seconds))
 abbrev pub IsClock : ℕ → ℕ → ℕ → Type 0
 IsClock h m s = (h < 24) × (m < 60) × (s < 60)
 
--- Second s is at this hour, minute and second of day n. It is a law of this crate that each second is at exactly one.
+-- Second s is at this hour, minute and second of day n. A law of this crate says that each second is at exactly one.
 pub record IsTimeOf (s n : ℤ) (hour minute second : ℕ) : Type 0 where
   pub clock : IsClock hour minute second
   pub is : s ≡ pos day_seconds *ℤ n +ℤ pos (3600 * hour + 60 * minute + second)
 
--- Day r is day n moved by k months: the day of the month stays, or is cut to the last one of the month reached.
+-- Day r is day n moved by k months: the day of the month stays, or is cut to the last one of the month that is reached.
 pub record IsMonthsLater (n : ℤ) (k : ℕ) (r : ℤ) : Type 0 where
   pub year : ℤ
   pub month : ℕ
@@ -32,7 +32,7 @@ pub record IsMonthsLater (n : ℤ) (k : ℕ) (r : ℤ) : Type 0 where
   pub reached : IsDateOf r later_year later_month (min day (month_length later_year later_month))
 
 -- The stretch of duration p that begins at second b ends at second e: the day of b is moved by the years and months in
--- one step, then by the weeks and days, the clock is kept, and hours, minutes and seconds are added.
+-- one step, and then by the weeks and days; the clock is kept, and hours, minutes and seconds are added.
 pub record IsStop (p : DurationParts) (b e : ℤ) : Type 0 where
   pub reached : ℤ
   pub months : IsMonthsLater (day_of_second b) (12 * p.years + p.months) reached

@@ -1,11 +1,11 @@
--- The date and the week of a day, computed. It is a law of this crate that these are the day's, and that there are no
+-- The date and the week of a day, computed. A law of this crate says that these are the day's, and that there are no
 -- others.
 use Rattle.std.specs.Prelude.{ℕ, zero, suc, ◌+◌, ◌-◌, ◌/◌, nat_le, if◌then◌else◌, ℤ, pos, ◌+ℤ◌, ◌-ℤ◌, ◌*ℤ◌}
 use Rattle.std.specs.Prelude.{unsigned_abs, int_lt}
 use Rattle.std.specs.Int.{int_div_euclid}
 use Rattle.gtd_calendar.specs.Calendar.{days_of_months, first_day, thursday_of}
 
--- the year, guessed by the mean length of a year, which is at most one off
+-- the year, guessed by the mean length of a year; it is wrong by at most one
 abbrev pub guessed_year : ℤ → ℤ
 guessed_year n = pos 1970 +ℤ int_div_euclid (pos 400 *ℤ n) (pos 146_097)
 

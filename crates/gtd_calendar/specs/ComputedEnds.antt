@@ -1,4 +1,4 @@
--- The end of a stretch, computed. It is a law of this crate that it is the stretch's end, and that there is no other.
+-- The end of a stretch, computed. A law of this crate says that it is the stretch's end, and that there is no other.
 use Rattle.std.specs.Prelude.{ℕ, ◌+◌, ◌-◌, ◌*◌, min, ℤ, pos, ◌+ℤ◌, ◌*ℤ◌, unsigned_abs}
 use Rattle.std.specs.Int.{int_div_euclid, int_rem_euclid}
 use Rattle.gtd_core.specs.Limits.{day_seconds}
@@ -13,19 +13,19 @@ use Rattle.gtd_calendar.specs.ComputedDates.{year_of, month_of, day_of_month}
 abbrev pub month_count : ℤ → ℕ → ℤ
 month_count y m = pos 12 *ℤ y +ℤ pos (m - 1)
 
--- the year and the month that stand at a count
+-- the year and the month at a count
 abbrev pub counted_year : ℤ → ℤ
 counted_year t = int_div_euclid t (pos 12)
 
 abbrev pub counted_month : ℤ → ℕ
 counted_month t = unsigned_abs (int_rem_euclid t (pos 12)) + 1
 
--- the day that stands in the month of a count, or the month's last where it has no such day
+-- this day of the month at a count, or the month's last if it has no such day
 unfoldable pub day_in_month : ℤ → ℕ → ℤ
 day_in_month t d =
     day_number (counted_year t) (counted_month t) (min d (month_length (counted_year t) (counted_month t)))
 
--- a day moved by months, its day of the month cut to the last of the month reached
+-- a day moved by months; its day of the month is cut to the last one of the month that is reached
 unfoldable pub months_later : ℤ → ℕ → ℤ
 months_later n k = day_in_month (month_count (year_of n) (month_of n) +ℤ pos k) (day_of_month n)
 

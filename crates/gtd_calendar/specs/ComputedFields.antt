@@ -1,4 +1,4 @@
--- What the calendar says of a day, computed. It is a law of this crate that these are the fields of the day, and that
+-- What the calendar says of a day, computed. A law of this crate says that these are the fields of the day, and that
 -- there are no others.
 use Rattle.std.specs.Prelude.{ℤ}
 use Rattle.gtd_calendar.specs.declared.day.DayFields.{DayFields}

@@ -15,16 +15,16 @@ use Rattle.gtd_calendar.specs.Stamp.{ymd_text, hms_text, IsYmdText, IsMomentText
 abbrev pub IsReadableDay : ℤ → Type 0
 IsReadableDay n = (first_horizon_day ≤ℤ n) × (n ≤ℤ horizons_end)
 
--- A day is read from its own text. Else the first of three faults is answered: the text has not the shape of a date;
--- there is no such date; its day is out of range.
+-- A day is read from its own text. Otherwise the first of three faults is answered: the text does not have the shape of
+-- a date; there is no such date; its day is out of range.
 abbrev pub IsReadDate : List ℕ → Result ℤ StampFault → Type 0
 IsReadDate text (Ok n) = IsDateText n text × IsReadableDay n
 IsReadDate text (Err Shape) = (y m d : ℕ) → IsYmdText text y m d → ⊥
 IsReadDate text (Err NoSuchDate) = (y : ℕ) × (m : ℕ) × (d : ℕ) × IsYmdText text y m d × (IsDate (pos y) m d → ⊥)
 IsReadDate text (Err Range) = (n : ℤ) × IsDateText n text × (IsReadableDay n → ⊥)
 
--- A second is read from its own text. Else the first of three faults is answered: the text has not the shape of a
--- moment; there is no such date or no such clock; the second is out of range.
+-- A second is read from its own text. Otherwise the first of three faults is answered: the text does not have the shape
+-- of a moment; there is no such date or no such clock time; the second is out of range.
 abbrev pub IsReadStamp : List ℕ → Result Sec StampFault → Type 0
 IsReadStamp text (Ok x) = IsStampText x.0 text × IsMomentSecond x.0
 IsReadStamp text (Err Shape) = (y m d h min s : ℕ) → IsMomentText text y m d h min s → ⊥
@@ -33,19 +33,19 @@ IsReadStamp text (Err NoSuchDate) =
     × IsMomentText text y m d h min s × (IsDate (pos y) m d → IsClock h min s → ⊥)
 IsReadStamp text (Err Range) = (s : ℤ) × IsStampText s text × (IsMomentSecond s → ⊥)
 
--- What follows computes the answers; that there are no others is a law of this crate. First, the digit that stands at a
--- place of a text, and the number of two digits.
+-- What follows computes the answers. A law of this crate says that there are no others. First, the digit at a place of
+-- a text, and the number of two digits.
 abbrev pub digit_at : List ℕ → ℕ → ℕ
 digit_at text i = slice_index text i - 48
 
 abbrev pub two_at : List ℕ → ℕ → ℕ
 two_at text i = 10 * digit_at text i + digit_at text (i + 1)
 
--- these numbers, where the text is a date made of them
+-- these numbers, if the text is a date made of them
 abbrev pub ymd_if : List ℕ → ℕ → ℕ → ℕ → Option (ℕ × ℕ × ℕ)
 ymd_if text y m d = if bytes_eq text (ymd_text y m d) then Some (y, m, d) else None
 
--- these numbers, where the text is a clock made of them
+-- these numbers, if the text is a clock made of them
 abbrev pub hms_if : List ℕ → ℕ → ℕ → ℕ → Option (ℕ × ℕ × ℕ)
 hms_if text h m s = if bytes_eq text (84 ∷ hms_text h m s) then Some (h, m, s) else None
 

@@ -16,7 +16,7 @@ use gtd_core::limits::DAY_SECONDS;
 use gtd_core::{Duration, Sec};
 use jiff::civil;
 
-/// How many seconds of its day come before a second: 0 to 86,399.
+/// The number of seconds of its day before a second: 0 to 86,399.
 pub fn second_of_day(second: Sec) -> u32
     ensures value { result ≡ spec.second_of_day second.0 }
     ensures bound { result < day_seconds }
@@ -24,8 +24,7 @@ pub fn second_of_day(second: Sec) -> u32
     second.0.rem_euclid(DAY_SECONDS) as u32
 }
 
-// The day that stands in the month of a count of months, from January of the year 0, or that month's last where it has no
-// such day.
+// This day of the month at a count of months from January of the year 0, or the month's last day if it has no such day.
 fn day_in_month(count: u32, day: u8) -> i64
     requires count_in { count ≤ 40_000 }
     requires day_in { 1 ≤ day }
@@ -35,7 +34,7 @@ fn day_in_month(count: u32, day: u8) -> i64
     day_number_of(first) + i64::from(day.min(first.days_in_month() as u8)) - 1
 }
 
-// The day that many months later, the day of the month cut to the last one of the month reached.
+// The day so many months later. The day of the month is cut to the last one of the month that is reached.
 fn months_later(day: i64, months: u32) -> i64
     requires day_in { IsCalendarDay day }
     requires months_in { months ≤ 1200 }
@@ -50,11 +49,11 @@ fn months_later(day: i64, months: u32) -> i64
     day_in_month(count, date.day() as u8)
 }
 
-/// The second after the last one of the stretch that begins at a second, whose day the caller keeps from 1800-01-01 to
+/// The first second after the stretch that begins at a second. The day of that second must be from 1800-01-01 to
 /// 2799-12-31.
 ///
-/// The date is moved by the years and months in one step, its day cut to the last one of the month reached; then by the
-/// weeks and days; the clock is kept, and the hours, minutes and seconds are added.
+/// The date is moved by the years and months in one step, and its day is cut to the last one of the month that is
+/// reached; then it is moved by the weeks and days. The clock is kept, and the hours, minutes and seconds are added.
 pub fn end_of(start: Sec, duration: &Duration) -> Sec
     requires { IsCalendarDay (day_of_second start.0) }
     ensures stop { IsStop (duration_parts duration.now) start.0 result.0 }

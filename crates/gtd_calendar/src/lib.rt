@@ -1,8 +1,8 @@
 //! The Gregorian calendar: the dates, weekdays and ISO weeks of days, the ends of stretches, and the texts of dates and
 //! moments.
 //!
-//! Days are given by their numbers, 1970-01-01 being 0, and seconds by theirs, of the local civil clock. It is the one
-//! crate that calls `jiff`. No call of this crate takes memory.
+//! Days are given by their numbers, where 1970-01-01 is 0, and seconds of the local civil clock by theirs. This is the
+//! only crate that calls `jiff`. No call of this crate takes memory.
 #![tactic(auto)]
 
 pub use clock::{end_of, second_of_day};

@@ -18,10 +18,10 @@ use gtd_core::Sec;
 use gtd_core::limits::{DAY_SECONDS, FIRST_HORIZON_DAY, FIRST_MOMENT, HORIZONS_END, LAST_MOMENT};
 use thiserror::Error;
 
-/// Why a text is no date or no moment.
+/// Why a text is not a date, or not a moment.
 #[derive(Clone, Copy, Debug, PartialEq, Eq, Error)]
 pub enum StampFault {
-    /// The text has not exactly the form of a date, or of a moment, in ASCII digits.
+    /// The text does not have exactly the form of a date, or of a moment, in ASCII digits.
     #[error("Shape")]
     Shape,
     /// There is no such date, or the hour, the minute or the second is too large.
@@ -54,7 +54,7 @@ fn two_digits(value: u32) -> [u8; 2]
     [b'0' + tens as u8, b'0' + (value - 10 * tens) as u8]
 }
 
-/// The text of a day, `YYYY-MM-DD`. The caller keeps it from 1800-01-01 to 2799-12-31.
+/// The text of a day, `YYYY-MM-DD`. The day must be from 1800-01-01 to 2799-12-31.
 pub fn write_date(day: i64) -> [u8; 10]
     requires { IsCalendarDay day }
     ensures text { IsDateText day result }
@@ -83,7 +83,7 @@ pub fn write_clock(second: Sec) -> [u8; 9]
     [b'T', h1, h2, b':', m1, m2, b':', s1, s2]
 }
 
-/// The text of a second, `YYYY-MM-DDThh:mm:ss`. The caller keeps its day from 1800-01-01 to 2799-12-31.
+/// The text of a second, `YYYY-MM-DDThh:mm:ss`. Its day must be from 1800-01-01 to 2799-12-31.
 pub fn write_stamp(second: Sec) -> [u8; 19]
     requires { IsCalendarDay (day_of_second second.0) }
     ensures text { IsStampText second.0 result }
@@ -152,7 +152,7 @@ fn moment(text: &[u8]) -> Option<(u16, u8, u8, u8, u8, u8)>
     Some((year, month, day, hour, minute, second))
 }
 
-// The second of a day at a clock, or `None` where there is no such clock.
+// The second of a day at a clock time, or `None` if there is no such time.
 fn second_on_day(day: i64, hour: u8, minute: u8, second: u8) -> Option<i64>
     requires day_in { IsEpochDay day }
     ensures exists { IsSome result ↔ IsClock hour minute second }
@@ -168,8 +168,8 @@ fn second_on_day(day: i64, hour: u8, minute: u8, second: u8) -> Option<i64>
 
 /// The day of a text `YYYY-MM-DD`.
 ///
-/// The faults, in their order: `Shape`, where it has not exactly this form in ASCII digits; `NoSuchDate`, where the
-/// calendar has no such date; `Range`, where the date is before 1901-01-01 or after 2700-01-01.
+/// The faults, in their order: `Shape` if the text does not have exactly this form in ASCII digits; `NoSuchDate` if the
+/// calendar has no such date; `Range` if the date is before 1901-01-01 or after 2700-01-01.
 pub fn read_date(text: &[u8]) -> Result<i64, StampFault>
     ensures day { IsReadDate text.now result }
     ensures value { result ≡ date_in text.now }
@@ -184,8 +184,8 @@ pub fn read_date(text: &[u8]) -> Result<i64, StampFault>
 
 /// The second of a text `YYYY-MM-DDThh:mm:ss`.
 ///
-/// The faults, in their order: `Shape`, where it has not exactly this form in ASCII digits; `NoSuchDate`, where the
-/// calendar has no such date, or the hour is over 23, or the minute or the second over 59; `Range`, where the moment is
+/// The faults, in their order: `Shape` if the text does not have exactly this form in ASCII digits; `NoSuchDate` if the
+/// calendar has no such date, or the hour is over 23, or the minute or the second over 59; `Range` if the moment is
 /// before 1901-01-01T00:00:00 or after 2199-12-31T23:59:59.
 pub fn read_stamp(text: &[u8]) -> Result<Sec, StampFault>
     ensures second { IsReadStamp text.now result }

@@ -5,8 +5,8 @@ use Rattle.std.specs.Prelude.{ℕ, ◌-◌, ◌/◌, ◌%◌, ◌^◌, Bool, tru
 use Rattle.gtd_core.specs.declared.start.StartParts.{StartParts}
 use Rattle.gtd_core.specs.declared.duration.DurationParts.{DurationParts}
 
--- A field: its letter, by its number in ASCII; whether it may have this number, written in so many digits; and the parts with
--- that number.
+-- A field: its letter, by its number in ASCII; whether it may have this number, written in this many digits; and the parts
+-- with that number.
 pub record FieldRow (Parts : Type 0) : Type 0 where
   pub letter : ℕ
   pub takes : ℕ → ℕ → Bool
@@ -23,9 +23,9 @@ is_from_to low high n = nat_le low n && nat_le n high
 abbrev pub is_place_value : ℕ → ℕ → Bool
 is_place_value value digits = digits == 2 && is_from_to 1 5 (value / 10) && is_from_to 1 7 (value % 10)
 
--- y 121 year, in four digits; M 77 month; w 119 week; f 102 and l 108 n-th weekday of the month, from its front and back from
--- its end; d 100 day of the month; t 116 weekday, of which k sets bit k - 1; h 104 hour; m 109 minute; s 115 second. But for
--- y, f and l leading zeros are free.
+-- y 121 year, in four digits; M 77 month; w 119 week; f 102 and l 108 n-th weekday of the month, from its beginning and back
+-- from its end; d 100 day of the month; t 116 weekday, of which k sets bit k - 1; h 104 hour; m 109 minute; s 115 second.
+-- Leading zeros are free except for y, f and l.
 abbrev pub start_fields : List (FieldRow StartParts)
 start_fields =
     field 121 (λ value digits. digits == 4 && nat_le value 9999) (λ parts n. record parts { year = Some n })
@@ -53,7 +53,7 @@ duration_fields =
     ∷ field 115 (λ value digits. true) (λ parts n. record parts { seconds = n })
     ∷ []
 
--- What the table says of a letter, or the other value where no field has it.
+-- What the table says of a letter, or the other value if no field has it.
 abbrev pub at_letter : {Parts A : Type 0} → List (FieldRow Parts) → (FieldRow Parts → A) → A → ℕ → A
 at_letter [] value other letter = other
 at_letter (row ∷ rows) value other letter = if letter == row.letter then value row else at_letter rows value other letter

@@ -1,4 +1,4 @@
--- The limits of the profile, each by its one name. A day is given by its number, and 1970-01-01 is day 0.
+-- The limits of the profile, each under its one name. A day is given by its number; 1970-01-01 is day 0.
 use Rattle.std.specs.Prelude.{ℕ, ℤ, pos, neg_ℤ}
 
 -- the seconds of a day
@@ -9,7 +9,7 @@ day_seconds = 86_400
 abbrev pub first_horizon_day : ℤ
 first_horizon_day = neg_ℤ (pos 25_202)
 
--- the day before which horizons end, or at it, and the last date that is read: 2700-01-01
+-- the latest end of a horizon, and the last date that is read: 2700-01-01
 abbrev pub horizons_end : ℤ
 horizons_end = pos 266_627
 
@@ -17,7 +17,7 @@ horizons_end = pos 266_627
 abbrev pub most_horizon_days : ℕ
 most_horizon_days = 146_098
 
--- the day before which moments lie: 2200-01-01
+-- the day before which all moments are: 2200-01-01
 abbrev pub moments_end : ℤ
 moments_end = pos 84_006
 
@@ -28,11 +28,11 @@ first_calendar_day = neg_ℤ (pos 62_091)
 abbrev pub last_calendar_day : ℤ
 last_calendar_day = pos 303_150
 
--- the most seconds by which a stretch may be bound: 36,600 days
+-- the greatest bound of a stretch, in seconds: 36,600 days
 abbrev pub most_bound : ℕ
 most_bound = 3_162_240_000
 
--- the first day on which a stretch can begin that reaches a horizon: 36,600 days before the first of horizons
+-- the first day on which a stretch that reaches a horizon can begin: 36,600 days before the first day of horizons
 abbrev pub first_window_day : ℤ
 first_window_day = neg_ℤ (pos 61_802)
 
@@ -48,10 +48,10 @@ most_depth = 128
 abbrev pub most_file_bytes : ℕ
 most_file_bytes = 16_777_216
 
--- the most rows of a record file, its header aside
+-- the most rows of a record file, not counting its header
 abbrev pub most_rows : ℕ
 most_rows = 65_536
 
--- the most nodes of a cursor: as many as that many rows of that many basic domains make, united and complemented
+-- the most nodes of a cursor: as many as the most rows with the most basic domains make, united and complemented
 abbrev pub most_nodes : ℕ
 most_nodes = 16_777_216

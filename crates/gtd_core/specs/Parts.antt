@@ -1,4 +1,4 @@
--- What starts, durations and domains are made of.
+-- What starts, durations and domains are made from.
 use Rattle.gtd_core.specs.declared.start.Start.{Start}
 use Rattle.gtd_core.specs.declared.start.StartParts.{StartParts}
 use Rattle.gtd_core.specs.declared.duration.Duration.{Duration}

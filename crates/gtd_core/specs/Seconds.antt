@@ -3,7 +3,7 @@ use Rattle.std.specs.Prelude.{ℤ, ◌≤ℤ◌, ◌<ℤ◌, pos, ◌+ℤ◌, �
 use Rattle.std.specs.Int.{int_div_euclid}
 use Rattle.gtd_core.specs.Limits.{day_seconds, first_horizon_day, horizons_end, moments_end}
 
--- the seconds from `from` on, up to and without `until`
+-- the seconds from `from` up to but not including `until`
 pub record Interval : Type 0 where
   pub from : ℤ
   pub until : ℤ

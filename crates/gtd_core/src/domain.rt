@@ -22,17 +22,17 @@ pub enum Op {
     Union,
     /// `*`: the seconds of both.
     Meet,
-    /// `-`: the seconds of the left that the right has not.
+    /// `-`: the seconds of the left that are not in the right.
     Minus,
 }
 
-/// Basic domains, joined by operators. In contracts it is a `Tree`, which says nothing of where its parts lie.
+/// Basic domains, joined by operators. In contracts it is a `Tree`, which does not say where its parts lie in memory.
 ///
-/// Calls and its drop go down the tree on the stack, one join after the other. Up to 1,000 joins, one below the other,
-/// are safe. A `Domain` has at most 127.
+/// Calls and its drop recurse down the tree on the stack. A depth of up to 1,000 joins is safe; a `Domain` has at most
+/// 127 joins.
 #[derive(Debug, Drop)]
 pub enum Expr {
-    /// A basic domain alone.
+    /// A single basic domain.
     Leaf(Basic),
     /// The left expression, joined to the right one.
     Join(Op, Box<Expr>, Box<Expr>),
@@ -48,7 +48,7 @@ pub struct Domain {
 impl Domain {
     ghost use Rattle.gtd_core.specs.Parts.{domain_expr};
 
-    /// The domain of an expression, or the expression back exactly where it has more than 128 basic domains.
+    /// The domain of an expression; or the expression itself, exactly if it has more than 128 basic domains.
     pub fn new(expr: Expr) -> Result<Domain, Expr>
         ensures kept { IfOk result (λ domain. domain_expr domain ≡ expr) }
         ensures given_back { IfErr result (λ back. back ≡ expr) }
@@ -61,7 +61,7 @@ impl Domain {
         }
     }
 
-    /// The expression that it was made of.
+    /// The expression that the domain was made from.
     pub fn expr(&self) -> &Expr
         ensures value { result.now ≡ domain_expr self.now }
     {
@@ -69,7 +69,7 @@ impl Domain {
     }
 }
 
-// What is left of a number after one is taken for each leaf, if there is enough.
+// The number less one for each leaf, or `None` if it is smaller than the number of leaves.
 fn leaves_within(expr: &Expr, most: u8) -> Option<u8>
     ensures left { IfSome result (λ left. left + leaf_count (tree_of expr.now) ≡ most) }
     ensures enough { IsSome result ↔ (leaf_count (tree_of expr.now) ≤ most) }

@@ -38,7 +38,7 @@ pub struct Duration {
 impl Duration {
     ghost use Rattle.gtd_core.specs.Parts.{duration_parts};
 
-    /// The duration of these numbers, or `None` exactly where one is over 999,999 or the bound is over 3,162,240,000
+    /// The duration of these numbers, or `None` exactly if one is over 999,999 or the bound is over 3,162,240,000
     /// seconds.
     pub fn new(parts: DurationParts) -> Option<Duration>
         ensures kept { IfSome result (λ duration. duration_parts duration ≡ parts) }
@@ -59,7 +59,7 @@ impl Duration {
         }
     }
 
-    /// The numbers that it was made of.
+    /// The numbers that the duration was made from.
     pub fn parts(&self) -> DurationParts
         ensures value { result ≡ duration_parts self.now }
     {
@@ -97,7 +97,7 @@ impl Duration {
         3600 * self.parts.hours + 60 * self.parts.minutes + self.parts.seconds
     }
 
-    /// How many days a stretch that is still running can have begun before: the bound in days, rounded up.
+    /// The most days ago that a stretch that is still running can have begun: the bound in days, rounded up.
     pub fn lookback(&self) -> u32
         ensures value { result ≡ lookback_of (duration_parts self.now) }
         ensures bound { result ≤ 36_600 }

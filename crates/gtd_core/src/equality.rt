@@ -1,4 +1,4 @@
-//! When two expressions are equal: written by hand, since it goes by trees.
+//! When two expressions are equal. It is written by hand, since two are equal if their trees are.
 
 ghost use Rattle.std.specs.Prelude.{◌≡◌};
 ghost use Rattle.gtd_core.specs.Parts.{domain_tree};

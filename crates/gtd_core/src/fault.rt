@@ -1,4 +1,4 @@
-//! Why a text is no time domain.
+//! Why a text is not a time domain.
 
 ghost use Rattle.std.specs.Prelude.{◌≡◌, codes};
 ghost use Rattle.gtd_core.specs.Names.{fault_name};
@@ -8,7 +8,7 @@ use thiserror::Error;
 /// What is wrong with a text.
 #[derive(Clone, Copy, Debug, PartialEq, Eq, Error)]
 pub enum Fault {
-    /// No token begins at a byte that is no space.
+    /// No token begins at a byte that is not a space.
     #[error("BadToken")]
     BadToken,
     /// A fuzzy time, the letter `z`, which is not read.
@@ -20,16 +20,16 @@ pub enum Fault {
     /// There are more than 128 basic domains.
     #[error("TooMany")]
     TooMany,
-    /// A field was given before in the same parentheses or braces.
+    /// A field is given twice in the same parentheses or braces.
     #[error("Repeated")]
     Repeated,
-    /// A field is out of its range, or has not its number of digits.
+    /// A field is out of its range, or has the wrong number of digits.
     #[error("FieldRange")]
     FieldRange,
     /// A duration begins with a minus sign.
     #[error("Negative")]
     Negative,
-    /// A token may not stand where it does.
+    /// A token does not fit where it is.
     #[error("Unexpected")]
     Unexpected,
     /// The text ends too early.

@@ -9,10 +9,10 @@ use crate::limits::{DAY_SECONDS, FIRST_HORIZON_DAY, HORIZONS_END, MOST_HORIZON_D
 use crate::second::{Sec, Span};
 use thiserror::Error;
 
-/// The days from one on, up to and without a later one. A day is given by its number, 1970-01-01 being 0.
+/// The days from one up to but not including a later one. A day is given by its number; 1970-01-01 is day 0.
 ///
-/// There is at least one day, none before 1901-01-01, none from 2700-01-01 on, and there are at most 146,098, one more
-/// than 400 years have.
+/// There is at least one day and there are at most 146,098, one more than 400 years have. None is before 1901-01-01 or
+/// after 2699-12-31.
 #[derive(Clone, Copy, Debug, PartialEq, Eq)]
 pub struct Horizon {
     from_day: i64,
@@ -23,7 +23,7 @@ pub struct Horizon {
     pub ghost not_long: { (to_day -ℤ from_day) ≤ℤ pos most_horizon_days },
 }
 
-/// Why two days are no horizon.
+/// Why two days do not make a horizon.
 #[derive(Clone, Copy, Debug, PartialEq, Eq, Error)]
 pub enum HorizonFault {
     /// No day lies between them.
@@ -58,8 +58,8 @@ impl Horizon {
     ghost use Rattle.gtd_core.specs.Whole.{whole, from_day, to_day};
     ghost use Rattle.gtd_core.specs.Whole as days;
 
-    /// The horizon from one day up to and without another, or the first of its faults: `Empty`, `TooEarly`, `TooLate`,
-    /// `TooLong`.
+    /// The horizon from one day up to but not including another, or the first of its faults: `Empty`, `TooEarly`,
+    /// `TooLate`, `TooLong`.
     pub fn new(from_day: i64, to_day: i64) -> Result<Horizon, HorizonFault>
         ensures horizon { MatchResult result
             (λ h. (days.from_day h ≡ from_day) × (days.to_day h ≡ to_day) × IsHorizon from_day to_day)

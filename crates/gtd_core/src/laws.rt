@@ -8,7 +8,7 @@ ghost use Rattle.gtd_core.specs.Limits.{most_basic_domains};
 ghost use Rattle.gtd_core.specs.Parts.{domain_tree};
 ghost use Rattle.gtd_core.specs.Trees.{Tree, tree_of, AreValid, leaf_count};
 
-/// Each basic domain of an expression has a start and a duration that are in their ranges.
+/// Each basic domain of an expression has a start and a duration in their ranges.
 pub fn leaves_are_valid()
     ensures valid { (expr : Expr) → AreValid (tree_of expr) }
 {}

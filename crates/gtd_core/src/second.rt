@@ -7,7 +7,7 @@ use crate::limits::DAY_SECONDS;
 use std::marker::Model;
 
 /// A second of the local civil clock, by its number: 86,400 times the day number (1970-01-01 is day 0) plus the second
-/// of the day. Time zones and daylight saving do not enter.
+/// of the day. Time zones and daylight saving play no part.
 #[derive(Clone, Copy, Debug, PartialEq, Eq, PartialOrd, Ord)]
 pub struct Sec(pub i64);
 
@@ -37,7 +37,7 @@ impl Sec {
     }
 }
 
-/// The seconds from one on, up to and without a later one: at least one second. In contracts it is an `Interval`.
+/// The seconds from one up to but not including a later one: at least one second. In contracts it is an `Interval`.
 #[derive(Clone, Copy, Debug, PartialEq, Eq)]
 pub struct Span {
     from: Sec,
@@ -58,7 +58,7 @@ impl Model for Span {
 }
 
 impl Span {
-    /// The span from one second up to and without another, or `None` exactly where that holds no second.
+    /// The span from one second up to but not including another, or `None` exactly if that holds no second.
     pub fn new(from: Sec, until: Sec) -> Option<Span>
         ensures span { MatchOption result (until.0 ≤ℤ from.0)
             (λ x. (from.0 <ℤ until.0) × (x ≡ record { from = from.0; until = until.0 })) }
@@ -93,7 +93,7 @@ impl Span {
         self.from <= second && second < self.until
     }
 
-    /// The span of those seconds, of which the caller keeps that there is one.
+    /// The span of these seconds. There must be at least one.
     pub fn between(from: Sec, until: Sec) -> Span
         requires not_empty { from.0 <ℤ until.0 }
         ensures value { result ≡ record { from = from.0; until = until.0 } }
@@ -125,7 +125,7 @@ impl Span {
         }
     }
 
-    /// The span with a later end, which the caller keeps not before its own.
+    /// The span with another end, which must not be before its own.
     pub fn until_later(self, until: Sec) -> Span
         requires later { self.until ≤ℤ until.0 }
         ensures value { result ≡ record { from = self.from; until = until.0 } }

@@ -4,10 +4,10 @@ ghost use Rattle.std.specs.Prelude.{◌≡◌, ◌≢◌, ◌↔◌, IfSome, IsS
 ghost use Rattle.gtd_core.specs.Ranges.{IsStart, IsWithin, IsPlace};
 ghost use Rattle.std.proofs.Props.{props};
 
-/// The fields of a start, each where it is given. Letters are those of the texts.
+/// The fields of a start, each if it is given. Letters are those of the texts.
 ///
-/// A weekday is 1 for Sunday to 7 for Saturday. A place is a number n and a weekday: the n-th one of the month, counted
-/// from its front or back from its end.
+/// A weekday is 1 for Sunday to 7 for Saturday. A place is a number n and a weekday: the n-th such weekday of the
+/// month, counted from its beginning or back from its end.
 #[derive(Clone, Copy, Debug, PartialEq, Eq, Default)]
 pub struct StartParts {
     /// `y`: the year of the date, or of the ISO 8601 week where `week` is given, 0 to 9999.
@@ -24,11 +24,12 @@ pub struct StartParts {
     pub minute: Option<u8>,
     /// `s`: 0 to 59.
     pub second: Option<u8>,
-    /// `f`: a place from the month's front, of a number 1 to 5 and a weekday.
+    /// `f`: a place from the month's beginning: a number 1 to 5 and a weekday.
     pub nth: Option<(u8, u8)>,
-    /// `l`: a place back from the month's end, of a number 1 to 5 and a weekday.
+    /// `l`: a place back from the month's end: a number 1 to 5 and a weekday.
     pub nth_back: Option<(u8, u8)>,
-    /// `t`: the weekdays as alternatives; bit k - 1 stands for weekday k, and 0 says nothing. Bit 7 is out of range.
+    /// `t`: the weekdays as alternatives; bit k - 1 stands for weekday k, and 0 means that none is given. Bit 7 is out
+    /// of range.
     pub weekdays: u8,
 }
 
@@ -42,7 +43,7 @@ pub struct Start {
 impl Start {
     ghost use Rattle.gtd_core.specs.Parts.{start_parts};
 
-    /// The start with these fields, or `None` exactly where none is given or one is out of its range.
+    /// The start with these fields, or `None` exactly if none is given or one is out of its range.
     pub fn new(parts: StartParts) -> Option<Start>
         ensures kept { IfSome result (λ start. start_parts start ≡ parts) }
         ensures accepted { IsSome result ↔ IsStart parts }
@@ -65,14 +66,14 @@ impl Start {
         }
     }
 
-    /// The fields that it was made of.
+    /// The fields that the start was made from.
     pub fn parts(&self) -> StartParts
         ensures value { result ≡ start_parts self.now }
     {
         self.parts
     }
 
-    /// The same, without a copy of them.
+    /// The same fields, without a copy.
     pub fn as_parts(&self) -> &StartParts
         ensures value { result.now ≡ start_parts self.now }
     {

@@ -16,7 +16,8 @@ IsWithinRoom (Got n) room = n ≤ room
 IsWithinRoom Done room = ⊤
 IsWithinRoom Failed room = ⊤
 
--- the bytes that came are the first of those still to come; the end comes only where none is, and a failure takes none
+-- the bytes that came are the first of those still to come; the end comes only if there are none, and a failure takes
+-- none
 abbrev pub TakesOff : Option (List ℕ) → Option (List ℕ) → Pull → List ℕ → Type 0
 TakesOff old new (Got n) buffer = Consumes old new (take n buffer)
 TakesOff old new Done buffer = IsAtEnd old × Keeps old new
@@ -33,7 +34,7 @@ abbrev pub IsWithinOffer : Put → ℕ → Type 0
 IsWithinOffer (put.Took n) offered = (0 < n) × (n ≤ offered)
 IsWithinOffer put.Failed offered = ⊤
 
--- a front of the bytes offered is added to those taken, and none at a failure
+-- a first part of the bytes offered is added to those taken, and none at a failure
 abbrev pub AddsFront : Option (List ℕ) → Option (List ℕ) → Put → List ℕ → Type 0
 AddsFront old new (put.Took n) bytes = Appends old new (take n bytes)
 AddsFront old new put.Failed bytes = Keeps old new

@@ -3,7 +3,7 @@ use Rattle.std.specs.Prelude.{ℕ, ◌+◌, Result, Ok, Err}
 use Rattle.gtd_devices.specs.declared.whole.InputFault.{InputFault}
 use Rattle.gtd_devices.specs.declared.whole.InputFault.TheVariants.{ReadFault, TooLarge, Endless, NoMemory}
 
--- one failure more exactly where the answer is that the input failed
+-- one more failure exactly if the answer is that the input failed
 abbrev pub failures_after_whole : {T : Type 0} → Result T InputFault → ℕ → ℕ
 failures_after_whole (Ok bytes) count = count
 failures_after_whole (Err ReadFault) count = count + 1

@@ -7,7 +7,7 @@ ghost use Rattle.gtd_devices.specs.Device.{IsWithinOffer, AddsFront, Finishes, h
 /// What one pull of an input did.
 #[derive(Clone, Copy, Debug, PartialEq, Eq)]
 pub enum Pull {
-    /// So many bytes came: none just now where it is 0.
+    /// So many bytes came. 0 means none just now.
     Got(usize),
     /// The input is at its end.
     Done,
@@ -17,7 +17,7 @@ pub enum Pull {
 
 /// A device that gives bytes.
 pub trait Input {
-    /// The bytes still to come, where the input tells them.
+    /// The bytes still to come, if the input tells them.
     ghost to_come: { Self → Option (List ℕ) } = { λ _. None };
 
     /// Whether a pull may give no byte before the end.
@@ -26,8 +26,8 @@ pub trait Input {
     /// How often the device has failed.
     ghost failure_count: { Self → ℕ };
 
-    /// Asks for bytes, which come to the front of a buffer that is not empty. `Done` comes only at the end. A failure
-    /// takes no byte, and is counted. The caller keeps the count under `u64::MAX` before the call.
+    /// Asks for bytes, which come to the front of a buffer that must not be empty. `Done` comes only at the end. A
+    /// failure takes no byte, and is counted. Before the call, the count must be below `u64::MAX`.
     fn pull(&mut self, into: &mut [u8]) -> Pull
         requires room { 0 < length into.old }
         requires countable { failure_count self.old < u64.MAX }
@@ -43,7 +43,7 @@ pub trait Input {
         ensures value { result ≡ failure_count self.now };
 }
 
-/// What one put to an output did.
+/// What one `put` to an output did.
 #[derive(Clone, Copy, Debug, PartialEq, Eq)]
 pub enum Put {
     /// So many bytes were taken.
@@ -54,17 +54,17 @@ pub enum Put {
 
 /// A device that takes bytes.
 pub trait Output {
-    /// The bytes that were taken, where the output tells them.
+    /// The bytes that were taken, if the output tells them.
     ghost taken: { Self → Option (List ℕ) } = { λ _. None };
 
-    /// Whether the output was ended, and nothing was offered since.
+    /// Whether the output was ended and has been offered nothing since.
     ghost is_ended: { Self → Bool };
 
     /// How often the device has failed.
     ghost failure_count: { Self → ℕ };
 
-    /// Offers bytes, at least one, of which a front is taken, at least one. A failure takes none, and is counted. The
-    /// caller keeps the count under `u64::MAX` before the call.
+    /// Offers at least one byte. The output takes a first part, at least one byte, or fails: a failure takes none, and
+    /// is counted. Before the call, the count must be below `u64::MAX`.
     fn put(&mut self, bytes: &[u8]) -> Put
         requires offered { 0 < length bytes.now }
         requires countable { failure_count self.old < u64.MAX }
@@ -74,8 +74,7 @@ pub trait Output {
         ensures failures { failure_count self.new
             ≡ failures_after_put result (failure_count self.old) };
 
-    /// Ends the output: `Took(0)`, or a failure, which is counted. The caller keeps the count under `u64::MAX` before
-    /// the call.
+    /// Ends the output: `Took(0)`, or a failure, which is counted. Before the call, the count must be below `u64::MAX`.
     fn finish(&mut self) -> Put
         requires countable { failure_count self.old < u64.MAX }
         ensures bytes { Finishes (taken self.old) (taken self.new) result }

@@ -5,11 +5,11 @@ ghost use Rattle.std.specs.Prelude.{◌≡◌, false};
 use crate::device::{Output, Put};
 use std::io::{ErrorKind, Write};
 
-/// How often a write is tried while it is interrupted.
+/// How often an interrupted write is tried.
 const TRIES: u32 = 1000;
 
-/// The output over a writer. An interrupted write is tried again. The 1,000th in a row, a write of no byte and every
-/// other error are failures. `finish` flushes once, and any error of that is a failure.
+/// The output over a writer. An interrupted write is tried again. The 1,000th interruption in a row, a write of no byte
+/// and every other error are failures. `finish` flushes once, and any error of the flush is a failure.
 #[derive(Drop)]
 pub struct HostOut<W> {
     writer: W,

@@ -1,8 +1,9 @@
 //! Devices: what gives bytes and what takes them.
 //!
-//! An [`Input`] gives its bytes in pieces, may have none just now, ends and may fail; an [`Output`] takes a front of
-//! what it is offered, or fails. Both count their failures. [`Host`] and [`HostOut`] make one of any reader and any writer,
-//! [`MemoryIn`] and [`MemoryOut`] of memory; those can be told to fail. [`read_whole`] pulls an input to its end.
+//! An [`Input`] gives its bytes in pieces, may have none just now, may end and may fail. An [`Output`] takes a first part
+//! of what it is offered, or fails. Both count their failures. [`Host`] and [`HostOut`] work over any reader and any
+//! writer, [`MemoryIn`] and [`MemoryOut`] over memory; those over memory can be told to fail. [`read_whole`] pulls an input
+//! to its end.
 #![tactic(auto)]
 
 pub use device::{Input, Output, Pull, Put};

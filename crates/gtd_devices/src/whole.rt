@@ -11,7 +11,7 @@ use thiserror::Error;
 /// How many bytes are asked for at once.
 const PIECE: usize = 4096;
 
-/// So many pulls in a row that give no byte end the reading.
+/// After so many pulls in a row that give no byte, reading ends.
 const SILENT_PULLS: u32 = 1000;
 
 /// Why an input is not read whole.
@@ -20,7 +20,7 @@ pub enum InputFault {
     /// The input failed.
     #[error("ReadFault")]
     ReadFault,
-    /// More bytes came than are wanted.
+    /// More bytes came than the limit.
     #[error("TooLarge")]
     TooLarge,
     /// No byte came for 1,000 pulls in a row.
@@ -55,11 +55,10 @@ impl From<AllocError> for InputFault {
     }
 }
 
-/// All bytes that are still to come of an input, at most `most` of them.
+/// All bytes that an input still has to give, at most `most` of them.
 ///
-/// The input is pulled 4,096 bytes at a time, until it is at its end or a fault is met, whichever happens first.
-/// `NoMemory` is answered only where memory was refused. The caller keeps the input's failures under `u64::MAX` before
-/// the call.
+/// The input is pulled 4,096 bytes at a time, until it ends or a fault occurs, whichever happens first. `NoMemory` is
+/// answered only if memory was refused. Before the call, the input's failures must be below `u64::MAX`.
 pub fn read_whole<I: Input>(
     alloc: Global,
     input: &mut I,
@@ -67,12 +66,12 @@ pub fn read_whole<I: Input>(
 ) -> Result<Vec<u8>, InputFault>
     requires countable { I.failure_count input.old < u64.MAX }
     ensures few { IfOk result (λ bytes. length bytes.items ≤ most) }
-    // Where the input tells its bytes, these are they, or they are too many.
+    // If the input tells its bytes, the answer is exactly these, or they are too many.
     ensures whole { IfOk result (λ bytes. IfSome (I.to_come input.old) (λ all. bytes.items ≡ all)) }
     ensures large { IsErrOf result InputFault.TooLarge
         → IfSome (I.to_come input.old) (λ all. most < length all) }
     ensures endless { IsErrOf result InputFault.Endless → IsTrue (I.may_fall_silent input.old) }
-    // `ReadFault` exactly where the input failed in this call.
+    // `ReadFault` exactly if the input failed in this call.
     ensures failures { I.failure_count input.new
         ≡ failures_after_whole result (I.failure_count input.old) }
 {

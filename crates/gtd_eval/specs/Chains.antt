@@ -1,4 +1,4 @@
--- Chains of one operator, joined in any order of brackets that leaves their seconds.
+-- Chains of one operator, bracketed in any way that keeps their seconds.
 use Rattle.std.specs.Prelude.{◌≡◌, ℕ, ◌+◌, ◌*◌, ◌^◌, ◌<◌, ◌≤◌, ◌↔◌, ℤ, List, [], ◌∷◌, ◌++◌, length}
 use Rattle.gtd_core.specs.Trees.{Tree, Single, Joined, leaf_count}
 use Rattle.gtd_core.specs.Whole.{whole}
@@ -12,20 +12,19 @@ use Rattle.gtd_eval.specs.Cursors.{cursor_list, SomeHolds, total_nodes, total_wo
 use Rattle.gtd_eval.specs.declared.node.Node.{Node}
 use Rattle.gtd_eval.specs.declared.cursor.Cursor.{Cursor}
 
--- The operator that joins what stands on the right in a chain: what is taken away one after another is taken away
--- together.
+-- The operator that joins what is on the right in a chain: what is subtracted one after another is subtracted together.
 abbrev pub right_of : Op → Op
 right_of Union = Union
 right_of Meet = Meet
 right_of Minus = Union
 
--- the expression is one chain of basic domains by the operator: it joins all of them, and what stands on the right in
--- brackets is a chain of the operator that joins there
+-- the expression is one chain of basic domains by the operator: it joins all of them, and a bracketed right side is a
+-- chain of the operator that joins there
 abbrev pub IsBasicChain : Op → Tree → Type 0
 IsBasicChain op (Single start duration) = Unit {0}
 IsBasicChain op (Joined inner left right) = (inner ≡ op) × IsBasicChain op left × IsBasicChain (right_of op) right
 
--- each cursor has the second still to hand out
+-- each cursor still has the second to hand out
 abbrev pub AllHold : List Cursor → ℤ → Type 0
 AllHold [] t = Unit {0}
 AllHold (c ∷ cs) t = Holds (cursor_list c) t × AllHold cs t
@@ -45,15 +44,15 @@ pub record IsChainOf (op : Op) (cs : List Cursor) (n : Node) : Type 0 where
   pub work : node_work n ≡ total_work cs
   pub height : (h k : ℕ) → NoneHigher h cs → length cs ≤ 2 ^ k → node_height n ≤ h + k
 
--- the tree is the chain of the last cursors of a list, so many of them, which were taken off it
+-- the tree is the chain of so many cursors at the end of a list, which were taken off it
 pub record IsChainOfLast (op : Op) (count : ℕ) (before : List Cursor) (n : Node) (after : List Cursor) : Type 0 where
   pub taken : List Cursor
   pub split : before ≡ after ++ taken
   pub many : length taken ≡ count
   pub chain : IsChainOf op taken n
 
--- Cursors were put behind a list, whose chain by the operator has the seconds of the expression in the horizon. They have
--- that work together, and with a node for each join of two the nodes of its tree. A chain of basic domains by that
+-- Cursors were appended to a list. Their chain by the operator has the seconds of the expression in the horizon. Together
+-- they have that work and, with one node for each join of two, the nodes of its tree. A chain of basic domains by that
 -- operator gives one low cursor for each, and one by another operator a single cursor of a balanced tree.
 pub record AreTerms (op : Op) (e : Tree) (h : Horizon) (work : ℕ) (before after : List Cursor) : Type 0 where
   pub terms : List Cursor

@@ -1,4 +1,4 @@
--- What a cursor has still to hand out, and how large its tree is.
+-- What a cursor still has to hand out, and how large its tree is.
 use Rattle.std.specs.Prelude.{ℕ, ◌+◌, ◌≤◌, ◌⊎◌, ℤ, List, [], ◌∷◌}
 use Rattle.gtd_core.specs.Seconds.{Interval}
 use Rattle.gtd_core.specs.Parts.{domain_expr}
@@ -8,7 +8,7 @@ use Rattle.gtd_spans.specs.Normal.{Holds}
 use Rattle.gtd_eval.specs.Nodes.{node_list, node_count, node_ticks, node_height, node_work, expr_work}
 use Rattle.gtd_eval.specs.declared.cursor.Cursor.{Cursor}
 
--- the normal list that the cursor has still to hand out
+-- the normal list that the cursor still has to hand out
 abbrev pub cursor_list : Cursor → List Interval
 cursor_list cursor = node_list cursor.node
 
@@ -32,7 +32,7 @@ cursor_work cursor = node_work cursor.node
 abbrev pub domain_work : Domain → Horizon → ℕ
 domain_work domain = expr_work (domain_expr domain)
 
--- some cursor has the second still to hand out
+-- some cursor still has the second to hand out
 abbrev pub SomeHolds : List Cursor → ℤ → Type 0
 SomeHolds [] t = ⊥
 SomeHolds (c ∷ cs) t = Holds (cursor_list c) t ⊎ SomeHolds cs t

@@ -9,7 +9,7 @@ use Rattle.gtd_core.specs.Seconds.{Interval}
 use Rattle.gtd_core.specs.Whole.{whole}
 use Rattle.gtd_core.specs.declared.horizon.Horizon.{Horizon}
 
--- The expression contains the second: a basic domain where one of its stretches holds it, and two joined ones by the
+-- The expression contains the second: a basic domain if one of its stretches holds it; two joined expressions by the
 -- operators of GDF time domains (ISO 14825:2004): either, both, or the left and not the right.
 abbrev pub InTree : Tree → ℤ → Type 0
 InTree (Single start duration) t = InStretches start duration t
@@ -24,7 +24,7 @@ abbrev pub SomeGivesYear : Tree → Type 0
 SomeGivesYear (Single start duration) = IsSome start.year
 SomeGivesYear (Joined op left right) = SomeGivesYear left ⊎ SomeGivesYear right
 
--- The intervals are in order, disjoint and as long as can be, and hold just the seconds of the set that are on the
+-- The intervals are in order, disjoint and as long as possible, and hold exactly the seconds of the set that are on the
 -- horizon's days.
 abbrev pub IsNormalOver : (ℤ → Type 0) → Horizon → List Interval → Type 0
 IsNormalOver set horizon xs = IsNormalFor set (whole horizon).from (whole horizon).until xs

@@ -1,4 +1,4 @@
--- What a tree of operators has still to hand out, when its parts fit together, and how large it is.
+-- What a tree of operators still has to hand out, when its parts fit together, and how large it is.
 use Rattle.std.specs.Prelude.{ℕ, ◌+◌, List}
 use Rattle.gtd_core.specs.Seconds.{Interval}
 use Rattle.gtd_core.specs.declared.domain.Expr.{Expr}
@@ -14,14 +14,14 @@ use Rattle.gtd_eval.specs.Single.{IsSingle}
 use Rattle.gtd_recur.specs.Work.{work_of}
 use Rattle.gtd_eval.specs.declared.node.Node.{Node, Fixed, Leaf, Between', Two'}
 
--- the normal list that the tree has still to hand out
+-- the normal list that the tree still has to hand out
 abbrev pub node_list : Node → List Interval
 node_list (Fixed span) = listed span
 node_list (Leaf leaf) = runs_to_come leaf
 node_list (Between' gaps p inner) = gaps_left gaps (node_list inner)
 node_list (Two' op x p left y q right) = combine op (side_list x (node_list left)) (side_list y (node_list right))
 
--- what each side of an operator of the tree has still to hand out is normal
+-- what each side of an operator of the tree still has to hand out is normal
 abbrev pub IsSoundNode : Node → Type 0
 IsSoundNode (Fixed span) = IsSingle span
 IsSoundNode (Leaf leaf) = Unit {0}
@@ -36,7 +36,7 @@ node_shape (Leaf leaf) = runs (runs_basic leaf) (runs_horizon leaf)
 node_shape (Between' gaps p inner) = between (node_shape inner)
 node_shape (Two' op x p left y q right) = two (node_shape left) (node_shape right)
 
--- how many nodes the tree has; how many the longest way down has; the sum of the work of its runs
+-- how many nodes the tree has; how many the longest path down has; the sum of the work of its runs
 abbrev pub node_count : Node → ℕ
 node_count node = shape_nodes (node_shape node)
 

@@ -1,10 +1,11 @@
--- The shape of a tree of sweeps, which handing out spans leaves as it is.
+-- The shape of a tree of operators. Handing out spans does not change it.
 use Rattle.std.specs.Prelude.{ℕ, ◌+◌, max}
 use Rattle.gtd_core.specs.declared.domain.Basic.{Basic}
 use Rattle.gtd_core.specs.declared.horizon.Horizon.{Horizon}
 use Rattle.gtd_recur.specs.Work.{work_of}
 
--- a fixed span or none; the runs of a basic domain in a horizon; what the spans of a tree leave; a sweep over two sides
+-- a fixed span or none; the runs of a basic domain in a horizon; what the spans of a tree leave; an operator over two
+-- sides
 pub data Shape : Type 0 where
   fixed : Shape
   runs : (basic : Basic) → (horizon : Horizon) → Shape
@@ -18,7 +19,7 @@ shape_nodes (runs basic horizon) = 1
 shape_nodes (between inner) = 1 + shape_nodes inner
 shape_nodes (two left right) = 1 + shape_nodes left + shape_nodes right
 
--- how many nodes the longest way down has
+-- how many nodes the longest path down has
 abbrev pub shape_height : Shape → ℕ
 shape_height fixed = 1
 shape_height (runs basic horizon) = 1

@@ -12,7 +12,7 @@ use gtd_spans::{Gaps, Side, SpanSource};
 use std::alloc::{AllocError, Global};
 
 /// A source of the seconds of a domain in a horizon, of those of any of several cursors, or of those that a cursor leaves
-/// out. Its tree has at most 16,777,216 nodes. Once it is made, it takes no memory.
+/// out. Its tree has at most 16,777,216 nodes. Once made, it takes no memory.
 #[derive(Debug, Drop)]
 pub struct Cursor {
     node: Node,
@@ -55,7 +55,7 @@ impl Cursor {
     ghost use Rattle.gtd_eval.specs.Nodes.{expr_work};
 
     /// The cursor of the seconds of a domain in a horizon. For k basic domains it has 2k - 1 nodes. Its tree is balanced
-    /// over each chain of one operator: one chain of 2^k basic domains makes a tree of at most k + 1 levels.
+    /// over each chain of one operator: a chain of 2^k basic domains makes a tree of at most k + 1 levels.
     ///
     /// ```
     /// let domain = read_domain(alloc, b"[(h10){h4}]")?;
@@ -81,8 +81,8 @@ impl Cursor {
         Ok(Cursor { node })
     }
 
-    // Puts cursors for an expression behind a list: one for each term of a chain of the operator, and one alone for an
-    // expression of another operator.
+    // Appends cursors for an expression to a list: one for each term of a chain of the operator, and a single one for
+    // an expression of another operator.
     fn push_terms(
         alloc: Global,
         op: Op,
@@ -127,10 +127,10 @@ impl Cursor {
         }
     }
 
-    /// The cursor of the seconds of any of the cursors, which were made over the same horizon; of none if there are
-    /// none. It has the nodes of them all and, for n cursors, n - 1 more (1 for none). Its tree is balanced: 2^k
-    /// cursors add at most k to the height. The caller keeps the result within 16,777,216 nodes. After a refusal the
-    /// cursors are gone.
+    /// The cursor of the seconds of any of the cursors, which were made over the same horizon; with no cursors, of no
+    /// second. It has the nodes of them all and, for n cursors, n - 1 more (1 for none). Its tree is balanced: 2^k
+    /// cursors add at most k to the height. The result must have at most 16,777,216 nodes. After a refusal of memory
+    /// the cursors are gone.
     pub fn any(
         alloc: Global,
         mut cursors: Vec<Cursor>,
@@ -157,7 +157,7 @@ impl Cursor {
         Ok(Cursor { node })
     }
 
-    // The operator that joins what stands on the right in a chain: what is taken away one after another is taken away
+    // The operator that joins what is on the right in a chain: what is subtracted one after another is subtracted
     // together.
     fn right_of(op: Op) -> Op
         ensures { result ≡ spec.right_of op }
@@ -169,7 +169,8 @@ impl Cursor {
         }
     }
 
-    // The chain by the operator of the last cursors, so many of them, which are taken off the list. Its tree is balanced.
+    // The chain, by the operator, of so many cursors at the end of the list, which are taken off it. Its tree is
+    // balanced.
     fn join_last(
         alloc: Global,
         op: Op,
@@ -195,8 +196,8 @@ impl Cursor {
         Ok(Node::Two(op, Side::Open, left, Side::Open, right))
     }
 
-    /// The cursor of the seconds of a horizon that another cursor over it does not have. It has one node more, and the
-    /// caller keeps it within 16,777,216 nodes. After a refusal that cursor is gone.
+    /// The cursor of the seconds of a horizon that are not in another cursor over it. It has one node more, and must
+    /// have at most 16,777,216 nodes. After a refusal of memory that cursor is gone.
     pub fn outside(alloc: Global, cursor: Cursor, horizon: Horizon) -> Result<Cursor, AllocError>
         requires few { cursor_nodes cursor < most_nodes }
         ensures seconds { IfOk result (λ c. (t : ℤ) → Holds (cursor_list c) t
@@ -212,7 +213,7 @@ impl Cursor {
         })
     }
 
-    /// The number of nodes of its tree. `next` leaves it.
+    /// The number of nodes of its tree. `next` does not change it.
     pub fn nodes(&self) -> u64
         ensures value { result ≡ cursor_nodes self.now }
     {

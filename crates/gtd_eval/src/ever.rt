@@ -12,7 +12,7 @@ use gtd_core::{Domain, Horizon, Sec};
 use std::alloc::Global;
 use thiserror::Error;
 
-/// Why there is no answer on the changes of a domain for ever.
+/// Why there is no answer about the changes of a domain for ever.
 #[derive(Clone, Copy, Debug, PartialEq, Eq, Error)]
 pub enum EverFault {
     /// Some start of the domain gives a year, so that the domain need not repeat.
@@ -38,8 +38,8 @@ impl EverFault {
 }
 
 /// The least later second, however late, at which membership in the domain differs from that at the given one, which is
-/// a moment. `None` exactly where there is no such second. Faults, in order: `HasYear` exactly where some start of the
-/// domain gives a year, `NoMemory`.
+/// a moment. `None` exactly if there is no such second. Faults, in order: `HasYear` exactly if some start of the domain
+/// gives a year, `NoMemory`.
 pub fn next_change_ever(
     alloc: Global,
     domain: &Domain,

@@ -6,15 +6,15 @@ ghost use Rattle.gtd_eval.specs.Ever.{cycle, week};
 ghost use Rattle.gtd_eval.specs.Membership.{InTree, SomeGivesYear};
 ghost use Rattle.gtd_eval.specs.Weekly.{AllWeekly};
 
-/// An expression none of whose starts gives a year contains a second exactly if it contains the one 146,097 days later,
-/// for every whole number, before 1970 too.
+/// An expression whose starts give no year contains a second exactly if it contains the one 146,097 days later. This
+/// holds for every whole number, before 1970 too.
 pub fn expressions_repeat()
     ensures repeats { (tree : Tree) (t : ℤ) → (SomeGivesYear tree → ⊥)
         → InTree tree t ↔ InTree tree (t +ℤ cycle) }
 {}
 
-/// An expression whose starts ask of a day for nothing but its weekday, and whose durations have no months and no years,
-/// contains a second exactly if it contains the one 7 days later.
+/// An expression whose starts ask for nothing of a day except its weekday, and whose durations have no months and no
+/// years, contains a second exactly if it contains the one 7 days later.
 pub fn weekly_expressions_repeat()
     ensures repeats { (tree : Tree) (t : ℤ) → AllWeekly tree → InTree tree t ↔ InTree tree (t +ℤ week) }
 {}

@@ -1,8 +1,8 @@
 //! Which seconds a time domain contains: at one moment, over a horizon as a source of spans, and for ever.
 //!
-//! A `Cursor` hands out the seconds of a domain span by span and keeps no list of them: it is a tree of sweeps over the
-//! runs of the basic domains, which is made once. `spans` and `next_change` ask a cursor. What takes memory answers
-//! `AllocError` (or `NoMemory`) only where the allocator refused it.
+//! A `Cursor` hands out the seconds of a domain span by span and keeps no list of them: it is a tree of operators over
+//! the runs of the basic domains, which is made once. `spans` and `next_change` ask a cursor. Calls that take memory
+//! answer `AllocError` (or `NoMemory`) only if the allocator refused it.
 #![tactic(auto)]
 
 pub use cursor::Cursor;

@@ -60,8 +60,8 @@ fn is_weekly(expr: &Expr) -> bool
     }
 }
 
-/// The 7 days or the 146,097 days of 400 years after which an expression repeats none of whose starts gives a year, and
-/// one more: the rest of a moment's own day.
+/// The days after which an expression without a year repeats, 7 or the 146,097 of 400 years, and one more: the rest of
+/// a moment's own day.
 pub(crate) fn days_to_repeat(expr: &Expr) -> i64
     ensures days { (result ≡ pos most_horizon_days) ⊎ ((result ≡ pos 8) × AllWeekly (tree_of expr.now)) }
     ensures short { AllWeekly (tree_of expr.now) → result ≡ pos 8 }

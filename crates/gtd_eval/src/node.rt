@@ -19,7 +19,7 @@ pub enum Node {
     Fixed(Option<Span>),
     /// The runs of a basic domain.
     Leaf(Runs),
-    /// What the spans of a tree leave of a range of seconds.
+    /// The gaps that the spans of a tree leave in a range of seconds.
     Between(Gaps, Box<Node>),
     /// An operator over a left and a right side: what is known of each, and its tree.
     Two(Op, Side, Box<Node>, Side, Box<Node>),
@@ -93,7 +93,7 @@ fn next_gap(gaps: &mut Gaps, inner: &mut Node) -> Option<Span>
     gaps.last()
 }
 
-// The span that comes next on a side, which is asked for where it is not known.
+// The next span of a side, which is asked for if it is not known.
 #[cycle(next)]
 fn ahead(side: &mut Side, node: &mut Node) -> Option<Span>
     requires sound { IsSoundNode node.old }
@@ -110,7 +110,7 @@ fn ahead(side: &mut Side, node: &mut Node) -> Option<Span>
     side.held()
 }
 
-// The next span of what is on either side.
+// The next span of the seconds on either side.
 #[cycle(next)]
 fn next_of_either(x: &mut Side, left: &mut Node, y: &mut Side, right: &mut Node) -> Option<Span>
     requires left_sound { IsSoundNode left.old }
@@ -144,7 +144,7 @@ fn next_of_either(x: &mut Side, left: &mut Node, y: &mut Side, right: &mut Node)
     }
 }
 
-// The next span of what is on both sides.
+// The next span of the seconds on both sides.
 #[cycle(next)]
 fn next_of_both(x: &mut Side, left: &mut Node, y: &mut Side, right: &mut Node) -> Option<Span>
     requires left_sound { IsSoundNode left.old }
@@ -169,7 +169,7 @@ fn next_of_both(x: &mut Side, left: &mut Node, y: &mut Side, right: &mut Node) -
     }
 }
 
-// The next span of what is on the left side and not on the right one.
+// The next span of the seconds on the left side and not on the right one.
 #[cycle(next)]
 fn next_of_left(x: &mut Side, left: &mut Node, y: &mut Side, right: &mut Node) -> Option<Span>
     requires left_sound { IsSoundNode left.old }

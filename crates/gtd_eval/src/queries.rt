@@ -19,8 +19,8 @@ pub fn spans(alloc: Global, domain: &Domain, horizon: Horizon) -> Result<SpanLis
     SpanList::collect(alloc, &mut cursor)
 }
 
-/// The least later second of the horizon at which membership in the domain differs from that at the given one, which is
-/// in the horizon. `None` exactly where there is no such second.
+/// The least later second of the horizon at which membership in the domain differs from that at the given one, which
+/// must be in the horizon. `None` exactly if there is no such second.
 pub fn next_change(
     alloc: Global,
     domain: &Domain,

@@ -1,4 +1,4 @@
-//! A caller that knows `gtd_roads` alone: what it proves with the clauses of a run, and tests of every item at that root.
+//! A caller that knows only `gtd_roads`: what it proves with the clauses of a run, and tests of every item at that root.
 #![tactic(auto)]
 
 ghost use Rattle.std.specs.Prelude.{◌≡◌, ◌<◌, ◌≤◌, ◌↔◌, IsTrue, OnOk};
@@ -15,7 +15,7 @@ use std::alloc::Global;
 #[cfg(test)]
 mod tests;
 
-/// Puts the schedule of a record file for the vehicle type 11, to an output that was not ended.
+/// Puts the schedule of a record file for vehicle type 11 to an output that was not ended.
 pub fn schedule_of_eleven<I: Input, O: Output>(
     alloc: Global,
     input: &mut I,
@@ -44,8 +44,8 @@ pub fn migrate<I: Input, O: Output>(
     run_migrate(alloc, input, output)
 }
 
-/// Whether some record closes the element in both directions for the vehicle type 11 at the second, which is on a day of
-/// horizons.
+/// Whether some record closes the element in both directions for vehicle type 11 at the second, which must be on a day
+/// that a horizon may have.
 pub fn is_closed_for_eleven(found: &Records, element: u64, second: Sec) -> bool
     requires day { IsHorizonSecond second.0 }
     ensures both { IsTrue result ↔ (IsClosed found.now element Direction.Positive 11 second.0

@@ -17,7 +17,7 @@ use std::test::Fail;
 const R: &str =
     "element,direction,vehicle,domain\n17,positive,0,[(M4d1){M3}]*[(h10){h4}]\n17,negative,11,\n";
 
-/// The lines of its schedule on 2024-04-01 for the vehicle type 11.
+/// The lines of its schedule on 2024-04-01 for vehicle type 11.
 const SCHEDULE: [&str; 3] = [
     "element,direction,vehicle,from,until\n",
     "17,positive,11,2024-04-01T00:00:00,2024-04-01T10:00:00\n",

@@ -5,7 +5,7 @@ use gtd_calendar::{
 };
 use gtd_core::{Duration, DurationParts, Sec};
 
-// A day, and the calendar of it that is carried forward day by day.
+// A day and its calendar fields, carried forward day by day.
 #[derive(Clone, Copy)]
 struct Count {
     number: i64,
@@ -34,7 +34,7 @@ fn next_date(date: &DayFields) -> (i64, u8, u8) {
     }
 }
 
-// The week after a Sunday, by the date of its Monday: the first of a year is that with 4 January.
+// The week after a Sunday, by the date of its Monday: the first week of a year is the one with 4 January.
 fn next_week(old: &DayFields, year: i64, month: u8, day: u8) -> (i64, u8) {
     if month == 12 && day >= 29 {
         (year.wrapping_add(1), 1)

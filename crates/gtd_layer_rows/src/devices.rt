@@ -76,7 +76,7 @@ fn pieces_failures_and_silence(rt: HostRuntime) {
         InputFault::TooLarge,
         0,
     );
-    // The call that fails is no silent one.
+    // The call that fails is not a silent one.
     refused(
         &rt,
         alloc,
@@ -87,7 +87,7 @@ fn pieces_failures_and_silence(rt: HostRuntime) {
     );
 }
 
-// Silent for so many pulls before each that gives bytes or the end.
+// Silent for so many pulls before each pull that gives bytes or the end.
 #[derive(Drop)]
 struct Slow {
     inner: MemoryIn,
@@ -162,7 +162,7 @@ fn silence_ends_at_its_thousandth_pull(rt: HostRuntime) {
     assert_eq!(rt; mute.pulls, 1000);
 }
 
-// A writer that is interrupted so often before each write, and at its flush where it is told to.
+// A writer that is interrupted so often before each write, and at its flush if told to.
 #[derive(Drop)]
 struct Busy {
     interruptions: u32,
@@ -305,7 +305,7 @@ impl Read for Torn {
     }
 }
 
-// Every error but an interruption is a failure.
+// Every error except an interruption is a failure.
 const FAILURES: [ErrorKind; 6] = [
     ErrorKind::Other,
     ErrorKind::TimedOut,

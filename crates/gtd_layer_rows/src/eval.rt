@@ -25,7 +25,7 @@ fn hour(hour: u8) -> StartParts {
     }
 }
 
-/// The weekdays as a bit each, from Sunday on.
+/// The weekdays, one bit each, from Sunday on.
 fn weekdays(weekdays: u8) -> StartParts {
     StartParts {
         weekdays,
@@ -109,7 +109,7 @@ fn horizon(rt: &impl Abort, from_day: i64, to_day: i64) -> Horizon {
     Horizon::new(from_day, to_day).expect(rt, "a horizon")
 }
 
-/// Whether the domain holds a second of the days of horizons.
+/// Whether the domain holds a second on a day that a horizon may have.
 fn known(domain: &Domain, second: Sec) -> Option<bool> {
     if second.0 < -25_202 * DAY || second.0 >= 266_627 * DAY {
         return None;
@@ -117,7 +117,7 @@ fn known(domain: &Domain, second: Sec) -> Option<bool> {
     Some(holds(domain, second))
 }
 
-/// The domain and its list agree at each edge, and one second either side.
+/// The domain and its list agree at each edge, and one second on either side of it.
 fn check_edges(rt: &impl Abort, domain: &Domain, horizon: Horizon, list: &SpanList) {
     for span in list.spans() {
         for edge in [span.from(), span.until()] {
@@ -132,7 +132,7 @@ fn check_edges(rt: &impl Abort, domain: &Domain, horizon: Horizon, list: &SpanLi
     }
 }
 
-/// The list and the cursor of the expression have those spans.
+/// The list and the cursor of the expression have these spans.
 fn check(
     rt: &impl Abort,
     alloc: Global,
@@ -294,7 +294,7 @@ fn places_in_the_month(rt: HostRuntime) -> Result<(), Fail> {
     Ok(())
 }
 
-/// The hours of a day that begin so, and last so long.
+/// The hours of a day from this hour on, so many of them.
 fn clock(rt: &impl Abort, from: u8, count: u32) -> Expr {
     leaf(rt, hour(from), hours(count))
 }
@@ -351,7 +351,7 @@ fn moments(rt: HostRuntime) -> Result<(), Fail> {
     Ok(())
 }
 
-/// The next change over the horizon from the second's day on, where the second is in it.
+/// The next change over the horizon from the second's day on, if the second is in it.
 fn change(
     rt: &impl Abort,
     alloc: Global,
@@ -379,7 +379,7 @@ fn changes_in_horizons(rt: HostRuntime) -> Result<(), Fail> {
     Ok(())
 }
 
-/// What is asked of a moment.
+/// The next change, however late, after a second that is a moment.
 fn change_ever(
     alloc: Global,
     domain: &Domain,
@@ -471,7 +471,7 @@ fn neither(
     Cursor::outside(alloc, inner, horizon)
 }
 
-/// The cursor hands out those hours of the first Monday of 2024, and nothing more.
+/// The cursor hands out these hours of the first Monday of 2024, and nothing more.
 fn check_hours(rt: &impl Abort, cursor: &mut Cursor, wanted: &[(i64, i64)]) {
     for (from, until) in wanted {
         let from = Sec((MONDAY * DAY).wrapping_add(from.wrapping_mul(HOUR)));
@@ -548,7 +548,7 @@ fn nodes_of_the_largest_domain(rt: HostRuntime) -> Result<(), Fail> {
     Ok(())
 }
 
-/// As many cursors of whole horizons.
+/// So many cursors of whole horizons.
 fn wholes(alloc: Global, count: u32, horizon: Horizon) -> Result<Vec<Cursor>, AllocError>
     ensures count { IfOk result (λ cursors. vec_len cursors ≡ count) }
     ensures nodes { IfOk result (λ cursors. total_nodes cursors.items ≡ count) }

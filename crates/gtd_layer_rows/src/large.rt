@@ -20,7 +20,7 @@ const NEW_YEAR: i64 = 19_723;
 /// How many basic domains there are.
 const COUNT: u8 = 128;
 
-// The basic domain of this number: five minutes of each day, from so many times ten minutes on.
+// The basic domain with this number: five minutes of each day, from this number times ten minutes on.
 fn basic(rt: &impl Abort, number: u8) -> Basic {
     let start = StartParts {
         hour: Some(number / 6),

@@ -1,4 +1,4 @@
-//! Tests of the layers below the commands, by worked examples, and of each call that takes memory, where that is refused.
+//! Tests of the layers below the commands: worked examples, and each call that takes memory when memory is refused.
 #![tactic(auto)]
 
 #[cfg(test)]

@@ -15,8 +15,8 @@ struct Row {
     duration: Fields,
     days: (i64, i64),
     spans: &'static [(i64, i64)],
-    /// At most: one for each day of the window that no month or year excludes, and one for each start on it. Runs that
-    /// begin later in the window, or pass starts of a day in one step, count no more.
+    /// The most ticks: one for each day of the window that no month or year excludes, and one for each start on it.
+    /// Runs that begin later in the window, or pass starts of a day in one step, count no more.
     ticks: u64,
 }
 
@@ -65,7 +65,7 @@ fn basic_of(rt: &impl Abort, start: Fields, duration: Fields) -> Basic {
     }
 }
 
-/// Whether the domain contains the second, which is one of those that horizons have.
+/// Whether the domain contains the second, which must be on a day that a horizon may have.
 fn contains(rt: &impl Abort, basic: &Basic, second: i64) -> bool {
     assert!(rt; -2_177_452_800 <= second);
     assert!(rt; second < 23_036_572_800);
@@ -278,7 +278,8 @@ fn rows(rt: HostRuntime) -> Result<(), Fail> {
     Ok(())
 }
 
-// On Friday, 13 September 2024, 256 days of the horizon are behind, each looked at; the year has no other before October.
+// On Friday, 13 September 2024, 256 days of the horizon have been looked at; the year has no other such Friday before
+// October.
 #[test]
 fn days_are_counted(rt: HostRuntime) {
     let basic = basic_of(&rt, &[(b'd', 13), (b't', 32)], &[(b'd', 1)]);

@@ -1,8 +1,8 @@
-//! Each call of a layer that takes memory, where one of its growths is refused. `tests/refusals.sh` refuses the growths of
-//! each test one after the other, one in a run.
+//! Each call of a layer that takes memory, when one of its growths is refused. `tests/refusals.sh` refuses the growths of
+//! each test one after the other, one in each run.
 //!
-//! A call that is refused is made once more, and then has to succeed. So with ample memory it succeeds, and a refusal leaves
-//! nothing behind. Where a test is refused what it needs for itself, it ends.
+//! A refused call is made once more, and must then succeed. So with ample memory it succeeds, and a refusal leaves nothing
+//! behind. A test that is refused the memory that it needs for itself ends.
 
 ghost use Rattle.std.specs.Prelude.{◌≡◌, ◌≤◌, vec_len, IfOk};
 ghost use Rattle.gtd_eval.specs.Cursors.{cursor_nodes, total_nodes};
@@ -124,7 +124,7 @@ static PUSHES: [((i64, i64), &[(i64, i64)]); 8] = [
     ),
 ];
 
-// Pushes the span, once more where memory is refused; the list is then as before.
+// Pushes the span, and again if memory is refused; after the refusal the list is as before.
 fn push(rt: &impl Abort, list: &mut SpanList, x: Span, before: &[(i64, i64)])
     requires order { NoneBeginsAfter x.from list.old }
     ensures order { NoneBeginsAfter x.from list.new }

@@ -129,7 +129,7 @@ fn no_vehicles_of_version_2(rt: HostRuntime) {
     }
 }
 
-// The codes from 1 to 13, as far as the field closes for them.
+// Those of the codes from 1 to 13 that the field closes for.
 #[test]
 fn vehicles_of_version_2(rt: HostRuntime) {
     let table: [(&str, &str); 5] = [
@@ -151,7 +151,7 @@ fn vehicles_of_version_2(rt: HostRuntime) {
     }
 }
 
-// A list of all but two closes for each other type.
+// A list of all except two closes for each other type.
 #[test]
 fn all_but_two_vehicles(rt: HostRuntime) {
     let records = accepted(&rt, rt.alloc(), &for_vehicles("!12;11"));
@@ -212,7 +212,7 @@ fn what_closes(rt: HostRuntime) {
     }
 }
 
-// What reading the first bytes of R gives, by their number.
+// What reading so many first bytes of R gives.
 fn of_prefix(rt: &impl Abort, length: usize, read: Result<Records, RecordFault>) {
     let expected = match length {
         0..=31 => "Header",

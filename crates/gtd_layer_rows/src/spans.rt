@@ -161,7 +161,7 @@ fn days(rt: HostRuntime) -> Result<(), Fail> {
     Ok(())
 }
 
-/// Whether the second, of those from -2 to 3, has its bit set.
+/// Whether the second, from -2 to 3, has its bit set.
 fn is_in(mask: u8, second: i64) -> bool {
     -2 <= second && second < 4 && mask >> ((second + 2) as u8) & 1 == 1
 }
@@ -177,7 +177,7 @@ fn seconds_of(rt: &impl Abort, alloc: Global, mask: u8) -> Result<SpanList, Allo
     list_of(rt, alloc, ends.as_slice())
 }
 
-/// Whether no span begins before the end of the one before it, or at it.
+/// Whether each span begins after the end of the one before it.
 fn are_apart(list: &SpanList) -> bool {
     let mut last: Option<Sec> = None;
     for span in list.spans() {

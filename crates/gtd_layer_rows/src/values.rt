@@ -21,7 +21,7 @@ const NO_FIELDS: StartParts = StartParts {
     weekdays: 0,
 };
 
-// The field of this letter alone. A place is two digits, weekdays are bits.
+// Only the field with this letter. A place is two digits; weekdays are bits.
 fn field(letter: u8, value: u16) -> StartParts {
     let mut parts = NO_FIELDS;
     let small = value.min(255) as u8;
@@ -51,7 +51,7 @@ static RANGES: [(u8, u16, u16); 7] = [
     (b's', 0, 59),
 ];
 
-// Each field alone, at its ends and past them.
+// Each field alone, at its limits and past them.
 #[test]
 fn starts_of_one_number(rt: HostRuntime) {
     for (letter, least, most) in RANGES {
@@ -67,7 +67,7 @@ fn starts_of_one_number(rt: HostRuntime) {
     }
 }
 
-// Places are of a number 1 to 5 and a weekday 1 to 7; of weekdays, 0 says nothing, and there is no eighth one.
+// Places have a number 1 to 5 and a weekday 1 to 7. For weekdays, 0 means that none is given, and there is no eighth.
 #[test]
 fn starts_of_places_and_weekdays(rt: HostRuntime) {
     let table: [(u16, bool); 8] = [
@@ -104,7 +104,7 @@ fn starts_of_places_and_weekdays(rt: HostRuntime) {
     assert_eq!(rt; Start::new(parts), None);
 }
 
-// The number of this letter alone.
+// Only the number with this letter.
 fn number(letter: u8, value: u32) -> DurationParts {
     let mut parts = DurationParts::default();
     match letter {
@@ -119,7 +119,7 @@ fn number(letter: u8, value: u32) -> DurationParts {
     parts
 }
 
-// A letter, a number that makes a duration, its bound in seconds, and the next greater number, which makes none.
+// A letter, the greatest number that makes a duration, its bound in seconds, and the next number, which makes none.
 static BOUNDS: [(u8, u32, i64, u32); 7] = [
     (b'y', 100, 3_162_240_000, 101),
     (b'M', 1_180, 3_160_512_000, 1_181),
@@ -190,7 +190,7 @@ fn horizons(rt: HostRuntime) {
     }
 }
 
-// As many basic domains, the first of which begins at this hour, joined from the left or from the right.
+// So many basic domains, the first of which begins at this hour, joined from the left or from the right.
 fn chain(rt: &impl Abort, alloc: Global, count: u32, is_left: bool) -> Result<Expr, AllocError> {
     let duration = Duration::new(number(b'h', 1)).expect(rt, "a duration");
     let start = Start::new(field(b'h', 1)).expect(rt, "a start");

@@ -26,13 +26,13 @@ abbrev pub codes_text : List ℕ → List ℕ
 codes_text [] = []
 codes_text (code ∷ rest) = decimal code ++ flat_map (λ other. codes ";" ++ decimal other) rest
 
--- the vehicle types: all, a list, or after a `!` all but a list
+-- the vehicle types: all, a list, or after a `!` all except a list
 abbrev pub vehicles_text : Vehicles → List ℕ
 vehicles_text Every = codes "0"
 vehicles_text (Only types) = codes_text types
 vehicles_text (AllBut types) = codes "!" ++ codes_text types
 
--- the canonical text of an expression, and nothing where there is none
+-- the canonical text of an expression, or nothing if there is none
 abbrev pub domain_text : Option Tree → List ℕ
 domain_text None = []
 domain_text (Some tree) = canonical tree

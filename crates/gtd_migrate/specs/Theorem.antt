@@ -1,8 +1,8 @@
 -- The claim of a run that migrates a file: for every restriction file of the profile, the file of version 2 that stands for
 -- the same restrictions is printed, row by row; any other file prints nothing and is refused by its first fault.
 --
--- `file` are the bytes that the input had still to give, `before` and `after` those that the output had taken, where the
--- devices tell them, and `answer` is that of the run.
+-- `file` holds the bytes that the input still had to give, `before` and `after` those that the output had taken, if the
+-- devices tell them; `answer` is that of the run.
 use Rattle.std.specs.Prelude.{◌≡◌, ℕ, List, Option, IfSome, Result, Ok, Err}
 use Rattle.std.specs.Io.KnownBytes.{Keeps}
 use Rattle.gtd_migrate.specs.Migrated.{migrated}
@@ -13,7 +13,7 @@ use Rattle.gtd_runs.specs.Run.{IsUnhindered, PutsWhole}
 use Rattle.gtd_runs.specs.declared.fault.RunFault.{RunFault}
 use Rattle.gtd_runs.specs.declared.fault.RunFault.TheVariants as fault
 
--- Where neither device failed, no memory was refused and the input did not fall silent.
+-- If neither device failed, no memory was refused and the input did not fall silent.
 pub record MigrationClaim (file before after : Option (List ℕ)) (answer : Result ℕ RunFault) : Type 0 where
   pub accepted : IsUnhindered answer → IfSome file (λ bytes. (found : List Restriction) → IsFile bytes (Ok found)
       → PutsWhole (λ lines. lines ≡ migrated found) before after answer)

@@ -1,4 +1,4 @@
-//! Laws of the definitions: calls that do nothing, and whose contracts are what is proved.
+//! Laws of the definitions: calls that do nothing, whose contracts are what is proved.
 
 ghost use Rattle.std.specs.Prelude.{◌≡◌, ◌≤◌, ◌==◌, ◌↔◌, ◌++◌, ◌∷◌, map, ℕ, ℤ, false, List, length, Ok};
 ghost use Rattle.std.specs.List.{list_any};
@@ -9,8 +9,8 @@ ghost use Rattle.gtd_records.specs.declared.direction.Direction.{Direction};
 ghost use Rattle.gtd_runs.specs.Putting.{text_of};
 ghost use Rattle.gtd_migrate.specs.Migrated.{IsPlainRow, migrated, row_line};
 
-/// The migrated file of a record file is a record file of just the same restrictions, where it has no more bytes than a
-/// record file may have. No field of it needs quotes: it has no quotation mark.
+/// The migrated file of a record file is a record file of exactly the same restrictions, if it has no more bytes than a
+/// record file may have. None of its fields needs quotes: it has no quotation mark.
 pub fn migrated_is_accepted()
     ensures accepted { (bytes : List ℕ) (found : List Restriction) → IsFile bytes (Ok found)
         → length (text_of (migrated found)) ≤ most_file_bytes
@@ -19,9 +19,9 @@ pub fn migrated_is_accepted()
         → list_any (λ b. b == 34) (text_of (migrated found)) ≡ false }
 {}
 
-/// A record file and its migrated file have the same schedule, for each vehicle type and horizon: both stand for
-/// the same restrictions, and so name the same elements, and close and open them at the same seconds. Migrating twice
-/// gives what migrating once gives.
+/// A record file and its migrated file have the same schedule for each vehicle type and horizon: both stand for the
+/// same restrictions, so they name the same elements, and these are closed and open at the same seconds. Migrating
+/// twice gives what migrating once gives.
 pub fn migration_changes_nothing()
     ensures restrictions { (bytes : List ℕ) (found again : List Restriction) → IsFile bytes (Ok found)
         → IsFile (text_of (migrated found)) (Ok again) → again ≡ found }
@@ -41,9 +41,9 @@ pub fn migration_changes_nothing()
 {}
 
 /// A migrated file can be cut at the end of any line. Each row is one line: its four fields have no comma, quotation mark,
-/// CR or LF of their own. The lines up to a cut, and the header with the lines behind it, are the migrated files of the
-/// restrictions before and behind the cut, and stand for just these; so a row under the header stands for its restriction
-/// alone.
+/// CR or LF of their own. The lines up to a cut, and the header with the lines after it, are the migrated files of the
+/// restrictions before and after the cut, and stand for exactly these. So a row under the header stands for its
+/// restriction alone.
 pub fn migrated_in_parts()
     ensures lines { (bytes : List ℕ) (one two : List Restriction) (r : Restriction) → IsFile bytes (Ok (one ++ r ∷ two))
         → IsPlainRow (row_line r) }

@@ -22,7 +22,7 @@ fn word_of(closed: Closed) -> &'static [u8]
     }
 }
 
-// Writes codes in their order, with semicolons between them, behind what the buffer has.
+// Appends codes to the buffer, in their order, with semicolons between them.
 fn push_codes(line: &mut Vec<u8>, types: &[u8]) -> Result<(), AllocError>
     requires { IsStrictlyIncreasing types.now }
     ensures text { OnOk result (line.new.items ≡ line.old.items ++ codes_text types.now) }
@@ -39,7 +39,7 @@ fn push_codes(line: &mut Vec<u8>, types: &[u8]) -> Result<(), AllocError>
     Ok(())
 }
 
-// Writes the vehicle types behind what the buffer has.
+// Appends the vehicle types to the buffer.
 fn push_vehicles(line: &mut Vec<u8>, vehicles: &Vehicles) -> Result<(), AllocError>
     ensures text { OnOk result (line.new.items ≡ line.old.items ++ vehicles_text vehicles.now) }
     ensures short { OnOk result (length line.new.items ≤ length line.old.items + 1101) }
@@ -54,7 +54,7 @@ fn push_vehicles(line: &mut Vec<u8>, vehicles: &Vehicles) -> Result<(), AllocErr
     }
 }
 
-// Writes the canonical text of a domain, if there is one, behind what the buffer has.
+// Appends the canonical text of a domain, if there is one, to the buffer.
 fn push_domain(alloc: Global, line: &mut Vec<u8>, domain: &Option<Domain>) -> Result<(), AllocError>
     ensures text { OnOk result (line.new.items
         ≡ line.old.items ++ domain_text (option_map domain_tree domain.now)) }
@@ -66,8 +66,8 @@ fn push_domain(alloc: Global, line: &mut Vec<u8>, domain: &Option<Domain>) -> Re
     }
 }
 
-// Writes the line of a record, in place of what the buffer had. A line is short enough that the lines of a whole file
-// are counted without overflow.
+// Writes the line of a record, in place of what the buffer held. A line is short enough that the lines of a whole file
+// can be counted without overflow.
 pub(crate) fn write_line(
     alloc: Global,
     line: &mut Vec<u8>,

@@ -38,7 +38,7 @@ fn put_rows<O: Output>(
     Ok(())
 }
 
-/// The file of version 2.
+/// The report that puts a file of version 2.
 #[derive(Clone, Copy, Debug, PartialEq, Eq)]
 pub struct Migration;
 
@@ -72,9 +72,9 @@ impl Report for Migration {
 /// Puts the record file that an input brings as a file of version 2: its rows in their order, with their repeats, each
 /// in its canonical form. Answers the number of lines, the header included.
 ///
-/// The first fault of reading the file comes first (`Records`); then `WriteFault` or `NoMemory`, whichever happens
-/// first. Nothing is put before the whole file was read and accepted. The caller keeps the failures of both devices under
-/// `u64::MAX` before the call.
+/// The first fault of reading the file comes first (`Records`); then `WriteFault` or `NoMemory`, whichever happens first.
+/// Nothing is put until the whole file has been read and accepted. Before the call, the failures of both devices must be
+/// below `u64::MAX`.
 pub fn run_migrate<I: Input, O: Output>(
     alloc: Global,
     input: &mut I,
@@ -82,13 +82,13 @@ pub fn run_migrate<I: Input, O: Output>(
 ) -> Result<u64, RunFault>
     requires readable { I.failure_count input.old < u64.MAX }
     requires writable { O.failure_count output.old < u64.MAX }
-    // Where nothing hindered the run: of a restriction file the output took the migrated file, and the answer is the number
-    // of its lines; of any other file it took nothing, and the answer is the file's first fault.
+    // If nothing hindered the run: of a restriction file the output took the migrated file, and the answer is the number of
+    // its lines; of any other file it took nothing, and the answer is the file's first fault.
     ensures claim { MigrationClaim (I.to_come input.old) (O.taken output.old) (O.taken output.new) result }
-    // What stands by each answer: after a failure or a refusal of memory, the first bytes of the migrated file.
+    // What each answer means: after a failure or a refusal of memory, the first bytes of the migrated file.
     ensures stands { HasRun (λ found. ⊤) (λ found lines. lines ≡ migrated found)
         (I.to_come input.old) (O.taken output.old) (O.taken output.new) result }
-    // The end comes last: an output that took the whole text was then ended.
+    // An output that took the whole text was then ended, last of all.
     ensures ended { OnOk result (IsTrue (O.is_ended output.new)) }
     ensures vehicle { IsErrOf result RunFault.VehicleRange → ⊥ }
     ensures year { IsErrOf result RunFault.YearRange → ⊥ }

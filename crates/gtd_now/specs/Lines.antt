@@ -9,7 +9,7 @@ abbrev pub state_head : ℕ → Direction → ℕ → List ℕ
 state_head element direction vehicle =
     decimal element ++ codes "," ++ direction_word direction ++ codes "," ++ decimal vehicle ++ codes ","
 
--- whether no row closes
+-- whether no row closes the element
 abbrev pub none_closes : List ℕ → Bool
 none_closes [] = true
 none_closes (row ∷ rows) = false

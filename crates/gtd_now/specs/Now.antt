@@ -20,7 +20,7 @@ abbrev pub state_word : Bool → List ℕ
 state_word true = codes "open"
 state_word false = codes "closed"
 
--- the moment of a change, and nothing where there is none
+-- the moment of a change, or nothing if there is none
 abbrev pub change_text : Option ℤ → List ℕ
 change_text None = []
 change_text (Some second) = stamp_text second
@@ -37,15 +37,15 @@ state_line element direction vehicle is_open change rows =
     ++ state_word is_open ++ codes "," ++ change_text change ++ codes "," ++ rows_text rows ++ codes "\n"
 
 -- The day before which a change is looked for: 146,098 days after the moment's, one more than 400 years have, or
--- 2700-01-01 (day 266,627) where that is earlier.
+-- 2700-01-01 (day 266,627) if that is earlier.
 abbrev pub IsLookEnd : ℤ → ℤ → Type 0
 IsLookEnd day last =
     ((last ≡ day +ℤ pos most_horizon_days) × (last ≤ℤ horizons_end))
     ⊎ ((last ≡ horizons_end) × (horizons_end <ℤ (day +ℤ pos most_horizon_days)))
 
 module _ (found : List Restriction) (vehicle : ℕ) (second : ℤ) where
-  -- What is to be said of an element in a direction: it is open exactly if no restriction closes it; it changes at the
-  -- first later second at which it differs, of those that are looked at; and just these rows close it.
+  -- What the line says of an element in a direction: it is open exactly if no restriction closes it; it changes at the
+  -- first later second, of those that are looked at, at which its state differs; and exactly these rows close it.
   pub record IsLine (element : ℕ) (direction : Direction) (line : List ℕ) : Type 0 where
     pub is_open : Bool
     pub state : IsTrue is_open ↔ IsOpen found element direction vehicle second

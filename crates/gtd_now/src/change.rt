@@ -13,7 +13,7 @@ use gtd_core::{Horizon, Sec};
 use gtd_records::{Direction, Records, open_seconds};
 use std::alloc::{AllocError, Global};
 
-// The day before which a change is looked for, from a day on.
+// The day before which a change is looked for, when the search begins on a day.
 fn look_end(day: i64) -> i64
     requires { IsHorizonSecond (day *ℤ pos day_seconds) }
     ensures { IsLookEnd day result }
@@ -26,7 +26,7 @@ fn look_end(day: i64) -> i64
     }
 }
 
-// The days in which a change is looked for, from that of a second on.
+// The days in which a change is looked for, from the day of a second on.
 fn days_from(second: Sec) -> Horizon
     requires in_range { IsHorizonSecond second.0 }
     ensures first { from_day result ≡ day_of_second second.0 }
@@ -39,7 +39,7 @@ fn days_from(second: Sec) -> Horizon
     }
 }
 
-// The least later second of the days at which the element is open or closed, other than at the given one.
+// The least later second of the days at which the element's state differs from that at the given one.
 fn change_in(
     alloc: Global,
     found: &Records,
@@ -58,7 +58,7 @@ fn change_in(
     Ok(gtd_spans::next_change(&mut open, second, days.until()))
 }
 
-// The least later second that is looked at, at which the element is open or closed, other than at the given one.
+// The least later second within the search at which the element's state differs from that at the given one.
 pub(crate) fn change_of(
     alloc: Global,
     found: &Records,

@@ -14,7 +14,7 @@ use gtd_records::{Direction, Records};
 use itoa::Buffer;
 use std::alloc::{AllocError, Global};
 
-// Writes what the line of an element in a direction begins with, in place of what the buffer had.
+// Writes what the line of an element in a direction begins with, in place of what the buffer held.
 fn write_head(
     line: &mut Vec<u8>,
     element: u64,
@@ -33,7 +33,7 @@ fn write_head(
     line.extend_from_slice(b",")
 }
 
-// Writes the state and its comma behind what the buffer has: open where no row closes.
+// Appends the state and a comma to the buffer: open if no row closes the element.
 fn push_state(line: &mut Vec<u8>, rows: &[usize]) -> Result<(), AllocError>
     ensures state { OnOk result (line.new.items
         ≡ line.old.items ++ (state_word (none_closes rows.now) ++ (44 ∷ []))) }
@@ -45,7 +45,7 @@ fn push_state(line: &mut Vec<u8>, rows: &[usize]) -> Result<(), AllocError>
     }
 }
 
-// Writes the moment of a change, if there is one, and a comma behind what the buffer has.
+// Appends the moment of a change, if there is one, and a comma to the buffer.
 fn push_change(line: &mut Vec<u8>, change: Option<Sec>) -> Result<(), AllocError>
     requires day { MatchOption change ⊤ (λ c. IsCalendarDay (day_of_second c.0)) }
     ensures change { OnOk result (line.new.items
@@ -57,7 +57,7 @@ fn push_change(line: &mut Vec<u8>, change: Option<Sec>) -> Result<(), AllocError
     line.extend_from_slice(b",")
 }
 
-// Writes numbers in their order, with semicolons between them, behind what the buffer has.
+// Appends numbers to the buffer, in their order, with semicolons between them.
 fn push_rows(line: &mut Vec<u8>, rows: &[usize]) -> Result<(), AllocError>
     ensures text { OnOk result (line.new.items ≡ line.old.items ++ rows_text rows.now) }
     ensures short { OnOk result (length line.new.items ≤ length line.old.items + 21 * length rows.now) }
@@ -73,7 +73,7 @@ fn push_rows(line: &mut Vec<u8>, rows: &[usize]) -> Result<(), AllocError>
     Ok(())
 }
 
-// Writes a line, in place of what the buffer had.
+// Writes a line, in place of what the buffer held.
 fn write_state(
     line: &mut Vec<u8>,
     element: u64,
@@ -94,7 +94,7 @@ fn write_state(
     line.extend_from_slice(b"\n")
 }
 
-// Writes the line of an element in a direction at a second, in place of what the buffer had.
+// Writes the line of an element in a direction at a second, in place of what the buffer held.
 pub(crate) fn write_line(
     alloc: Global,
     line: &mut Vec<u8>,

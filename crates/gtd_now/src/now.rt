@@ -1,4 +1,4 @@
-//! The line of an element in a direction, put.
+//! Putting the line of an element in a direction.
 
 ghost use Rattle.std.specs.Prelude.{◌≡◌, ◌+◌, ◌<◌, ◌≤◌, ◌^◌, length, OnOk};
 ghost use Rattle.gtd_core.specs.Limits.{most_rows};

@@ -16,7 +16,8 @@ use gtd_runs::{
 };
 use std::alloc::Global;
 
-/// The state of each element and direction at a second of the days of horizons, for a vehicle type.
+/// The state of each element and direction at a second, for a vehicle type. The second is on a day that a horizon may
+/// have.
 #[derive(Clone, Copy)]
 struct State {
     vehicle: u8,
@@ -77,12 +78,12 @@ impl Report for State {
 }
 
 /// Puts the state, at a second, of the road elements of the record file that an input brings, for a vehicle type from 1
-/// to 99: whether each is open in each direction, until when, and which rows close it. Answers the number of lines, the
-/// header included. The caller keeps the second on a day that a horizon may have.
+/// to 99: whether each is open in each direction, until when, and which rows close it. The second must be on a day that
+/// a horizon may have. Answers the number of lines, the header included.
 ///
 /// In order: `VehicleRange`; then the first fault of reading the file (`Records`); then `WriteFault` or `NoMemory`,
-/// whichever happens first. Nothing is put before the whole file was read and accepted. The caller keeps the failures of
-/// both devices under `u64::MAX` before the call.
+/// whichever happens first. Nothing is put until the whole file has been read and accepted. Before the call, the
+/// failures of both devices must be below `u64::MAX`.
 pub fn run_now<I: Input, O: Output>(
     alloc: Global,
     input: &mut I,
@@ -93,19 +94,19 @@ pub fn run_now<I: Input, O: Output>(
     requires in_range { IsHorizonSecond second.0 }
     requires readable { I.failure_count input.old < u64.MAX }
     requires writable { O.failure_count output.old < u64.MAX }
-    // Accepted files are shown: where nothing hinders it, the output took the state of the file's elements, and the answer
-    // is the number of its lines.
+    // Accepted files are shown: if nothing hinders it, the output took the state of the file's elements, and the answer is
+    // the number of its lines.
     ensures accepted { IsVehicleType vehicle → AcceptedFilesArePut
         (λ found. ⊤) (λ found lines. IsNow found vehicle second.0 lines)
         (I.to_come input.old) (O.taken output.old) (O.taken output.new) result }
-    // Refused files print nothing: where nothing hinders it, the answer is the first fault of the file.
+    // Refused files print nothing: if nothing hinders it, the answer is the first fault of the file.
     ensures refused { IsVehicleType vehicle → RefusedFilesPutNothing
         (I.to_come input.old) (O.taken output.old) (O.taken output.new) result }
-    // What stands by each answer: after a failure or a refusal of memory, the first bytes of the same text.
+    // What each answer means: after a failure or a refusal of memory, the first bytes of the same text.
     ensures stands { HasRun
         (λ found. ⊤) (λ found lines. IsNow found vehicle second.0 lines)
         (I.to_come input.old) (O.taken output.old) (O.taken output.new) result }
-    // The end comes last: an output that took the whole text was then ended.
+    // An output that took the whole text was then ended, last of all.
     ensures ended { OnOk result (IsTrue (O.is_ended output.new)) }
     ensures vehicle { IsErrOf result RunFault.VehicleRange ↔ (IsVehicleType vehicle → ⊥) }
     ensures year { IsErrOf result RunFault.YearRange → ⊥ }

@@ -11,7 +11,7 @@ use Rattle.gtd_records.specs.declared.direction.Closed.TheVariants.{One, Both}
 use Rattle.gtd_records.specs.declared.direction.Direction.{Direction}
 
 -- The element, in which direction it is closed, for which vehicle types, and at the seconds of which expression: at all
--- seconds where none is given.
+-- seconds if none is given.
 pub record Restriction : Type 0 where
   pub element : ℕ
   pub closed : Closed
@@ -23,12 +23,12 @@ abbrev pub ClosesDirection : Closed → Direction → Type 0
 ClosesDirection (One closed) direction = closed ≡ direction
 ClosesDirection Both direction = ⊤
 
--- the expression contains the second, and where there is none every second is meant
+-- the expression contains the second; no expression stands for every second
 abbrev pub HoldsAt : Option Tree → ℤ → Type 0
 HoldsAt None second = ⊤
 HoldsAt (Some tree) second = InTree tree second
 
--- the restriction closes its element in the direction for the vehicle type, at whatever seconds
+-- the restriction closes its element in the direction for the vehicle type, whatever the second
 abbrev pub Concerns : Direction → ℕ → Restriction → Type 0
 Concerns direction vehicle r = ClosesDirection r.closed direction × Serves r.vehicles vehicle
 
@@ -46,7 +46,7 @@ IsClosed found element direction vehicle second = Any (Closes element direction 
 abbrev pub IsOpen : List Restriction → ℕ → Direction → ℕ → ℤ → Type 0
 IsOpen found element direction vehicle second = IsClosed found element direction vehicle second → ⊥
 
--- the elements that the restrictions name, ascending and each once
+-- the elements that the restrictions name, in ascending order, each once
 pub record AreElements (found : List Restriction) (elements : List ℕ) : Type 0 where
   pub ascending : IsStrictlyIncreasing elements
   pub named : (element : ℕ) → Contains elements element ↔ Any (λ (r : Restriction). r.element ≡ element) found

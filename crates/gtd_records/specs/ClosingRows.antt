@@ -15,7 +15,7 @@ module _ (found : List Restriction) (element : ℕ) (direction : Direction) (veh
     pub stands : slice_index_or found before row ≡ row
     pub closes : Closes element direction vehicle second row
 
-  -- just the numbers of the rows that do, ascending
+  -- exactly the numbers of the rows that close it, in ascending order
   pub record AreClosingRows (numbers : List ℕ) : Type 0 where
     pub ascending : IsStrictlyIncreasing numbers
     pub each : (number : ℕ) → Contains numbers number ↔ IsClosingRow number

@@ -12,7 +12,7 @@ unfoldable pub state_after : State → List ℕ → State
 state_after s [] = s
 state_after s (c ∷ rest) = state_after (step default_config s c).0 rest
 
--- the fault of a row, where so many rows stand before the part
+-- the fault of a row, if so many rows come before the part
 abbrev pub counted_on : ℕ → RecordFault → RecordFault
 counted_on before (fault.FieldCount row) = fault.FieldCount (before + row)
 counted_on before (fault.Element row) = fault.Element (before + row)

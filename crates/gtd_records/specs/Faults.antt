@@ -9,19 +9,19 @@ use Rattle.gtd_records.specs.declared.fault.RecordFault.{RecordFault}
 use Rattle.gtd_records.specs.declared.fault.RecordFault.TheVariants as fault
 use Rattle.gtd_records.specs.declared.vehicles.Version.{Version}
 
--- the fault of a row, where it has one, and those after it
+-- the fault of a row, if it has one, and those after it
 abbrev pub with_fault : Result Restriction RecordFault → List RecordFault → List RecordFault
 with_fault (Ok found) rest = rest
 with_fault (Err why) rest = why ∷ rest
 
--- the faults of the rows that are at fault, in their order, where the first row has this number
+-- the faults of the rows that are at fault, in their order, if the first row has this number
 abbrev pub AreRowFaults : Version → ℕ → List Fields → List RecordFault → Type 0
 AreRowFaults v number [] faults = faults ≡ []
 AreRowFaults v number (row ∷ rows) faults =
     (answer : Result Restriction RecordFault) × (rest : List RecordFault)
     × IsRow v number row answer × AreRowFaults v (number + 1) rows rest × (faults ≡ with_fault answer rest)
 
--- there is a row too many: the faults of those before it, and then that
+-- there is a row too many: the faults of the rows before it, and then `TooManyRows`
 pub record AreTooMany (v : Version) (rows : List Fields) (faults : List RecordFault) : Type 0 where
   pub before : List Fields
   pub row : Fields

@@ -22,7 +22,7 @@ abbrev pub IsReading : List ℕ → Result Tree TextFault → Type 0
 IsReading text (Ok tree) = StandsFor text tree × HasNoFault text
 IsReading text (Err why) = IsFault text why
 
--- The last column of a row: no domain where it is empty, and otherwise the expression that its bytes stand for, or their
+-- The last column of a row: no domain if it is empty, and otherwise the expression that its bytes stand for, or their
 -- fault.
 abbrev pub IsDomainColumn : List ℕ → Result (Option Tree) TextFault → Type 0
 IsDomainColumn [] (Ok domain) = domain ≡ None
@@ -72,7 +72,7 @@ IsOfFile (fault.Vehicle row) = ⊤
 IsOfFile (fault.Domain row why) = ⊤
 IsOfFile fault.TooManyRows = ⊤
 
--- the word over the third column
+-- the header of the third column
 abbrev pub vehicles_word : Version → List ℕ
 vehicles_word version.One = codes "vehicle"
 vehicles_word version.Two = codes "vehicles"
@@ -81,14 +81,14 @@ vehicles_word version.Two = codes "vehicles"
 abbrev pub header : Version → Fields
 header v = codes "element" ∷ codes "direction" ∷ vehicles_word v ∷ codes "domain" ∷ []
 
--- these rows stand for these restrictions, one for one, where the first row has this number
+-- these rows stand for these restrictions, one for one, if the first row has this number
 abbrev pub AreRecords : Version → ℕ → List Fields → List Restriction → Type 0
 AreRecords v number [] found = found ≡ []
 AreRecords v number (row ∷ rows) found =
     (first : Restriction) × (rest : List Restriction)
     × IsRow v number row (Ok first) × AreRecords v (number + 1) rows rest × (found ≡ first ∷ rest)
 
--- the rows are within their number, and each stands for its restriction
+-- the rows are not too many, and each stands for its restriction
 abbrev pub AreSoundRows : Version → List Fields → List Restriction → Type 0
 AreSoundRows v rows found = (length rows ≤ most_rows) × AreRecords v 1 rows found
 
@@ -114,7 +114,7 @@ IsTable text answer =
     ((v : Version) × (rows : List Fields) × (text ≡ header v ∷ rows) × AreRows v rows answer)
     ⊎ (((v : Version) (rows : List Fields) → text ≡ header v ∷ rows → ⊥) × (answer ≡ Err fault.Header))
 
--- The bytes are a file of these restrictions, or have this first fault. A byte order mark at their front is no part of
+-- The bytes are a file of these restrictions, or have this first fault. A byte order mark at the front is not part of
 -- the text.
 abbrev pub IsFile : List ℕ → Result (List Restriction) RecordFault → Type 0
 IsFile bytes answer =

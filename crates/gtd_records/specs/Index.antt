@@ -24,7 +24,7 @@ pub record ArePlaces (rows : List Restriction) (places : List Place) : Type 0 wh
       → Contains places (record { element = r.element; row = k })
   pub many : length places ≡ length rows
 
--- the places and the elements of all rows, which are as many as a file may have
+-- the places and the elements of all rows, of which there are no more than a file may have
 pub record IsIndexed (rows : List Restriction) (places : List Place) (elements : List ℕ) : Type 0 where
   pub placed : ArePlaces rows places
   pub named : AreElements rows elements

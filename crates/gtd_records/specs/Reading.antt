@@ -12,7 +12,7 @@ as_record_fault input.TooLarge = fault.TooLarge
 as_record_fault input.Endless = fault.Endless
 as_record_fault input.NoMemory = fault.NoMemory
 
--- one failure more exactly where the answer is that the input failed
+-- one more failure exactly if the answer is that the input failed
 abbrev pub failures_after_records : {T : Type 0} → Result T RecordFault → ℕ → ℕ
 failures_after_records (Ok found) count = count
 failures_after_records (Err fault.ReadFault) count = count + 1

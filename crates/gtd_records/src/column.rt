@@ -35,7 +35,7 @@ pub fn read_direction(text: &[u8]) -> Option<Direction>
     }
 }
 
-// What a column closes: `both`, or a direction.
+// What a column closes: both directions, or one.
 pub(crate) fn read_closed(text: &[u8]) -> Option<Closed>
     ensures value { result ≡ closed_of text.now }
 {

@@ -8,7 +8,7 @@ use gtd_devices::InputFault;
 use std::alloc::{AllocError, AllocFailed};
 use thiserror::Error;
 
-/// Why a record file is not read. The variants stand in the order of their numbers, which begin at 1. Rows are numbered
+/// Why a record file is not read. The variants are in the order of their numbers, which begin at 1. Rows are numbered
 /// from 1, after the header.
 #[derive(Clone, Copy, Debug, PartialEq, Eq, Error)]
 pub enum RecordFault {
@@ -21,7 +21,7 @@ pub enum RecordFault {
     /// The first record is not the header of version 1 or of version 2, or there is none.
     #[error("Header")]
     Header,
-    /// A row has not four fields.
+    /// A row does not have four fields.
     #[error("FieldCount")]
     FieldCount { row: u32 },
     /// A row's first field is not a number of 1 to 10 digits.

@@ -22,7 +22,7 @@ use gtd_core::limits::{MOST_FILE_BYTES, MOST_ROWS};
 use gtd_devices::{Input, InputFault, read_whole};
 use std::alloc::{AllocError, Global};
 
-// The fault of the row with this number, or `None` where it stands for a restriction.
+// The fault of the row with this number, or `None` if it stands for a restriction.
 fn fault_of(
     alloc: Global,
     known: &mut KnownTexts,
@@ -41,7 +41,7 @@ fn fault_of(
     }
 }
 
-// The faults of the rows that a reader has left.
+// The faults of the rows that a reader still has to give.
 fn faults_of_rows(
     alloc: Global,
     version: Version,
@@ -68,7 +68,7 @@ fn faults_of_rows(
     Ok(faults)
 }
 
-// One fault alone.
+// A list of one fault.
 fn alone(alloc: Global, why: RecordFault) -> Result<Vec<RecordFault>, AllocError>
     ensures { IfOk result (λ faults. faults.items ≡ why ∷ []) }
 {
@@ -77,7 +77,7 @@ fn alone(alloc: Global, why: RecordFault) -> Result<Vec<RecordFault>, AllocError
     Ok(faults)
 }
 
-// The faults of a file's bytes, of which there are not too many.
+// The faults of a file's bytes, if there are not too many bytes.
 fn faults_of_table(alloc: Global, bytes: &[u8]) -> Result<Vec<RecordFault>, AllocError>
     ensures { IfOk result
         (λ faults. AreTableFaults (records default_config (strip_bom bytes.now)) faults.items) }
@@ -93,10 +93,11 @@ fn faults_of_table(alloc: Global, bytes: &[u8]) -> Result<Vec<RecordFault>, Allo
     }
 }
 
-/// All faults of the file that an input brings: each row that stands for no restriction, by its first fault, and
-/// `TooManyRows` behind those of the first 65,536 rows; `TooLarge` or `Header` alone. None exactly where the file is
-/// accepted. The whole input is pulled first: `ReadFault`, `Endless` and `NoMemory` are answered as by
-/// [`crate::read_records`]. The caller keeps the input's failures under `u64::MAX` before the call.
+/// All faults of the file that an input brings. Each row that stands for no restriction has its first fault in the
+/// list, and `TooManyRows` comes after the faults of the first 65,536 rows. `TooLarge` or `Header` is the only fault of
+/// its file. The list is empty exactly if the file is accepted. The whole input is pulled first: `ReadFault`, `Endless`
+/// and `NoMemory` are answered as by [`crate::read_records`]. Before the call, the input's failures must be below
+/// `u64::MAX`.
 pub fn read_faults<I: Input>(alloc: Global, input: &mut I) -> Result<Vec<RecordFault>, InputFault>
     requires countable { I.failure_count input.old < u64.MAX }
     ensures file { IfSome (I.to_come input.old)

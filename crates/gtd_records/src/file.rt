@@ -19,7 +19,7 @@ use csv::{ByteRecord, Reader};
 use gtd_core::limits::MOST_ROWS;
 use std::alloc::Global;
 
-// The version whose header a row is.
+// The version that a row is the header of.
 pub(crate) fn version_of(row: &ByteRecord) -> Option<Version>
     ensures { MatchOption result ((v : Version) → fields_of row.now ≢ header v) (λ v. fields_of row.now ≡ header v) }
 {
@@ -44,7 +44,7 @@ pub(crate) fn version_of(row: &ByteRecord) -> Option<Version>
     }
 }
 
-// The records of the rows that a reader has left, or their first fault.
+// The records of the rows that a reader still has to give, or their first fault.
 fn read_rows(
     alloc: Global,
     version: Version,

@@ -17,7 +17,7 @@ use gtd_eval::Cursor;
 use std::alloc::{AllocError, Global};
 use std::marker::Model;
 
-/// Where a record of an element stands in the file.
+/// The place of an element's record in the file.
 #[derive(Clone, Copy, Debug)]
 pub struct Place {
     /// The record's element.
@@ -72,7 +72,7 @@ fn numbers_of(alloc: Global, places: &[Place]) -> Result<Vec<u64>, AllocError>
     places.iter().map(|place| place.element).collect(alloc)
 }
 
-// The elements of places that stand by element, each once.
+// The elements of places that are ordered by element, each once.
 fn elements_of(alloc: Global, places: &[Place]) -> Result<Vec<u64>, AllocError>
     requires { IsNonDecreasingBy (λ (p : Place). p.element) places.now }
     ensures { IfOk result (λ elements. IsSortedSet (map (λ (p : Place). p.element) places.now) elements.items) }
@@ -82,7 +82,7 @@ fn elements_of(alloc: Global, places: &[Place]) -> Result<Vec<u64>, AllocError>
     Ok(elements)
 }
 
-// The number of places of elements below one.
+// The number of places of elements below a given one.
 pub(crate) fn places_below(places: &[Place], element: u64) -> usize
     requires { IsNonDecreasingBy (λ (p : Place). p.element) places.now }
     ensures within { result ≤ length places.now }
@@ -92,7 +92,7 @@ pub(crate) fn places_below(places: &[Place], element: u64) -> usize
     places.partition_point(|place| place.element < element)
 }
 
-// The same numbers, ascending and each once.
+// The same numbers, in ascending order, each once.
 fn in_order(mut numbers: Vec<usize>) -> Vec<usize>
     ensures { IsSortedSet numbers.items result.items }
 {
@@ -123,15 +123,15 @@ impl Records {
         self.rows.as_slice()
     }
 
-    /// The elements that the records name, ascending and each once. Takes no memory.
+    /// The elements that the records name, in ascending order, each once. Takes no memory.
     pub fn elements(&self) -> &[u64]
         ensures named { AreElements self.now result.now }
     {
         self.elements.as_slice()
     }
 
-    /// Whether some record closes the element in the direction for the vehicle type, which is from 1 to 99, at the
-    /// second, which is on a day that a horizon may have. Takes no memory.
+    /// Whether some record closes the element in the direction for the vehicle type at the second. The vehicle type
+    /// must be from 1 to 99, and the second on a day that a horizon may have. Takes no memory.
     pub fn closed_at(&self, element: u64, direction: Direction, vehicle: u8, second: Sec) -> bool
         requires in_range { IsHorizonSecond second.0 }
         ensures closed { IsTrue result ↔ IsClosed self.now element direction vehicle second.0 }
@@ -148,9 +148,9 @@ impl Records {
         false
     }
 
-    /// The numbers of the rows, from 1, that close the element in the direction for the vehicle type, which is from 1 to
-    /// 99, at the second, which is on a day that a horizon may have: ascending. `AllocError` is answered only where
-    /// memory was refused.
+    /// The numbers of the rows that close the element in the direction for the vehicle type at the second, counted from
+    /// 1 and in ascending order. The vehicle type must be from 1 to 99, and the second on a day that a horizon may have.
+    /// `AllocError` is answered only if memory was refused.
     pub fn closing_rows(
         &self,
         alloc: Global,

@@ -1,4 +1,4 @@
-//! The texts of domains that were read, so that what a file repeats is read once.
+//! The texts of domains that were read, so that a text that a file repeats is read once.
 
 ghost use Rattle.std.specs.Prelude.{◌≡◌, ◌<◌, ◌⊎◌, IfOk, IfErr, IfSome, length};
 ghost use Rattle.gtd_core.specs.Parts.{domain_tree};
@@ -67,7 +67,7 @@ impl Model for KnownText {
     ghost invariant = { λ a. StandsFor a.text.items (domain_tree a.domain) × HasNoFault a.text.items };
 }
 
-// The place of a text, which any other text may have, too.
+// The place of a text. Other texts may have the same place.
 fn place_of(text: &[u8]) -> usize
     ensures { result < 1024 }
 {
@@ -92,21 +92,21 @@ fn known_text(alloc: Global, text: &[u8], domain: &Domain) -> Result<KnownText, 
     })
 }
 
-/// The texts that were read last, each at its place, with their domains.
+/// The latest texts that were read, each at its place, with their domains.
 #[derive(Drop)]
 pub(crate) struct KnownTexts {
     places: Vec<Option<KnownText>>,
 }
 
 impl KnownTexts {
-    /// No text yet. Takes no memory.
+    /// Holds no text yet. Takes no memory.
     pub(crate) fn new(alloc: Global) -> KnownTexts {
         KnownTexts {
             places: Vec::new(alloc),
         }
     }
 
-    // A copy of the domain of a text, where the text is known.
+    // A copy of the domain of a text, if the text is known.
     fn find(&self, alloc: Global, text: &[u8]) -> Result<Option<Domain>, AllocError>
         ensures { IfOk result (λ found. IfSome found
             (λ domain. StandsFor text.now (domain_tree domain) × HasNoFault text.now)) }

@@ -1,4 +1,4 @@
-//! Laws of the definitions: calls that do nothing, and whose contracts are what is proved.
+//! Laws of the definitions: calls that do nothing, whose contracts are what is proved.
 
 ghost use Rattle.std.specs.Prelude.{◌≡◌, ◌≤◌, ◌++◌, ◌∷◌, ◌↔◌, [], ℕ, List, Result, Ok, Err, length, map};
 ghost use Rattle.std.specs.List.{Contains};
@@ -16,15 +16,15 @@ ghost use Rattle.gtd_records.specs.declared.vehicles.Version.{Version};
 
 use gtd_text::laws::each_text;
 
-/// The bytes of a file have one answer: its restrictions, or its first fault.
+/// The bytes of a file have at most one answer: its restrictions, or its first fault.
 pub fn one_answer()
     ensures one { (bytes : List ℕ) (a b : Result (List Restriction) RecordFault) →
         IsFile bytes a → IsFile bytes b → a ≡ b }
 {}
 
 /// An accepted table of records can be cut between any two of its rows: each part, under the header, is accepted, and
-/// the restrictions of the one and then of the other are those of the whole. Parts that are accepted, and have not too
-/// many rows together, are accepted as one.
+/// the restrictions of the first and then of the second are those of the whole. Parts that are accepted and together do
+/// not have too many rows are accepted as one.
 pub fn parts_of_a_table()
     ensures cut { (v : Version) (one two : List Fields) (found : List Restriction) →
         IsTable (header v ∷ (one ++ two)) (Ok found)
@@ -35,8 +35,8 @@ pub fn parts_of_a_table()
         → IsTable (header v ∷ two) (Ok second) → IsTable (header v ∷ (one ++ two)) (Ok (first ++ second)) }
 {}
 
-/// A row is listed exactly if it stands for no restriction, and rows have one list of faults.
-/// No fault of a file is listed exactly if the file is accepted, and the first that is listed is the file's first fault.
+/// A row is listed exactly if it stands for no restriction, and rows have one list of faults. The list of a file's
+/// faults is empty exactly if the file is accepted, and the first that is listed is the file's first fault.
 pub fn listed_faults()
     ensures accepted { (bytes : List ℕ) →
         AreFileFaults bytes [] ↔ ((found : List Restriction) × IsFile bytes (Ok found)) }
@@ -48,9 +48,9 @@ pub fn listed_faults()
         AreRowFaults v 1 rows a → AreRowFaults v 1 rows b → a ≡ b }
 {}
 
-/// A text that is cut between two of its records, where no quote is open, has the records of the one part and then of the
-/// other. So an accepted file can be cut between any two rows: each part, under the header, is accepted, and the
-/// restrictions of the one and then of the other are those of the whole.
+/// A text that is cut between two of its records, where no quote is open, has the records of the first part and then of
+/// the second. So an accepted file can be cut between any two rows: each part, under the header, is accepted, and the
+/// restrictions of the first and then of the second are those of the whole.
 pub fn parts_of_a_text()
     ensures cut { (one two : List ℕ) → IsBetween (state_after StartRecord one)
         → records default_config (one ++ two) ≡ records default_config one ++ records default_config two }
@@ -62,10 +62,10 @@ pub fn parts_of_a_text()
         × IsFile (head ++ two) (Ok second) × (found ≡ first ++ second) }
 {}
 
-/// Files that are cut from one, between two of its records and under the same header, say together what the one says, as
-/// long as that is within the limits of bytes and rows: accepted parts are accepted as one, with the restrictions of the
-/// first and then of the other; and the first fault of the one is that of the first part at fault, its row counted on by the
-/// rows before the part.
+/// Cut a text between two of its records and put each part under the same header. Within the limits of bytes and rows, the
+/// parts together say what the whole says. If both parts are accepted, so is the whole, with the restrictions of the first
+/// and then of the second. Otherwise the first fault of the whole is that of the first part at fault, with its row counted
+/// on by the rows before the part.
 pub fn parts_make_a_file()
     ensures rows_first { (v : Version) (one two : List Fields) (why : RecordFault) →
         IsTable (header v ∷ one) (Err why) → IsTable (header v ∷ (one ++ two)) (Err why) }

@@ -1,9 +1,9 @@
 //! Restriction records of road elements: files of them, and the seconds in which an element is open.
 //!
 //! A record closes a road element in one direction or both, for some vehicle types, at the seconds of a time domain.
-//! [`read_records`] reads a record file of either version from a device, and answers its [`Records`] or its first
-//! fault. [`Records::closed_at`] says whether some record closes an element at a second, [`schedule_of`] when it is open, and
-//! [`open_seconds`] the same, span by span.
+//! [`read_records`] reads a record file of either version from a device, and answers its [`Records`] or its first fault.
+//! [`Records::closed_at`] says whether some record closes an element at a second, [`schedule_of`] says when it is open, and
+//! [`open_seconds`] says the same span by span.
 #![tactic(auto)]
 
 pub use column::{read_direction, read_number};

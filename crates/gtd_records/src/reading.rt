@@ -30,10 +30,10 @@ fn read_index(alloc: Global, bytes: &[u8]) -> Result<Records, RecordFault>
 
 /// The records of the file that an input brings, or its first fault.
 ///
-/// The whole input is pulled first: `ReadFault` where it failed, `TooLarge` where more than 16,777,216 bytes came,
-/// `Endless` where 1,000 pulls in a row gave no byte, whichever happens first. Then come `Header`, and row by row
-/// `TooManyRows`, `FieldCount`, `Element`, `Direction`, `Vehicle`, `Domain`. `NoMemory` is answered only where memory
-/// was refused. The caller keeps the input's failures under `u64::MAX` before the call.
+/// The whole input is pulled first: `ReadFault` if it failed, `TooLarge` if more than 16,777,216 bytes came, `Endless`
+/// if 1,000 pulls in a row gave no byte, whichever happens first. Then come `Header`, and row by row `TooManyRows`,
+/// `FieldCount`, `Element`, `Direction`, `Vehicle`, `Domain`. `NoMemory` is answered only if memory was refused. Before
+/// the call, the input's failures must be below `u64::MAX`.
 ///
 /// ```
 /// let file = b"element,direction,vehicle,domain\n17,negative,11,\n";
@@ -44,13 +44,13 @@ fn read_index(alloc: Global, bytes: &[u8]) -> Result<Records, RecordFault>
 /// ```
 pub fn read_records<I: Input>(alloc: Global, input: &mut I) -> Result<Records, RecordFault>
     requires countable { I.failure_count input.old < u64.MAX }
-    // Where the input tells its bytes, they are a file of these records, or have this first fault.
+    // If the input tells its bytes, they are a file of these records, or have this first fault.
     ensures file { IfSome (I.to_come input.old) (λ bytes. MatchResult result
         (λ found. IsFile bytes (Ok found))
         (λ why. IsOfFile why → IsFile bytes (Err why))) }
     ensures few { IfOk result (λ found. length found ≤ most_rows) }
     ensures endless { IsErrOf result RecordFault.Endless → IsTrue (I.may_fall_silent input.old) }
-    // `ReadFault` exactly where the input failed in this call.
+    // `ReadFault` exactly if the input failed in this call.
     ensures failures { I.failure_count input.new
         ≡ failures_after_records result (I.failure_count input.old) }
 {

@@ -21,7 +21,7 @@ pub struct Record {
     pub element: u64,
     /// The directions that it closes.
     pub closed: Closed,
-    /// The vehicle types that it closes them for.
+    /// The vehicle types for which it closes them.
     pub vehicles: Vehicles,
     /// When it closes them: at the seconds of a domain, or always.
     pub domain: Option<Domain>,
@@ -46,7 +46,7 @@ impl Model for Record {
 }
 
 impl Record {
-    // Whether the record closes its element in a direction for a vehicle type, at whatever seconds.
+    // Whether the record closes its element in a direction for a vehicle type, whatever the second.
     pub(crate) fn concerns(&self, direction: Direction, vehicle: u8) -> bool
         ensures { IsTrue result ↔ Concerns direction vehicle self.now }
     {

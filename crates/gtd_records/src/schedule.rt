@@ -13,9 +13,9 @@ use gtd_eval::Cursor;
 use gtd_spans::SpanList;
 use std::alloc::{AllocError, Global};
 
-/// The seconds of the horizon in which no record closes the element in the direction for the vehicle type, which is
-/// from 1 to 99, span by span. An element that no record names is open throughout. `AllocError` is answered only where
-/// memory was refused.
+/// The seconds of the horizon in which no record closes the element in the direction for the vehicle type, span by
+/// span. The vehicle type must be from 1 to 99. An element that no record names is open throughout. `AllocError` is
+/// answered only if memory was refused.
 pub fn open_seconds(
     alloc: Global,
     records: &Records,
@@ -32,8 +32,8 @@ pub fn open_seconds(
     Cursor::outside(alloc, closed, horizon)
 }
 
-/// The seconds of the horizon in which no record closes the element in the direction for the vehicle type, which is
-/// from 1 to 99. An element that no record names is open throughout. `AllocError` is answered only where memory was
+/// The seconds of the horizon in which no record closes the element in the direction for the vehicle type, which must
+/// be from 1 to 99. An element that no record names is open throughout. `AllocError` is answered only if memory was
 /// refused.
 pub fn schedule_of(
     alloc: Global,

@@ -8,7 +8,7 @@ ghost use Rattle.gtd_records.specs.Table.{HasLeft, TakesFirst};
 use csv::{ByteRecord, Reader, ReaderBuilder};
 use std::alloc::{AllocError, Global};
 
-/// The records of a text that has no header row, of any lengths, each with its fields as they stand.
+/// A reader of the records of a text without a header row, of any lengths, with their fields unchanged.
 pub fn table<'a>(alloc: Global, text: &'a [u8]) -> Reader<&'a [u8]>
     ensures { HasLeft (λ source. Some source.now) result (records default_config (strip_bom text.now)) }
 {
@@ -18,8 +18,8 @@ pub fn table<'a>(alloc: Global, text: &'a [u8]) -> Reader<&'a [u8]>
         .from_reader(alloc, text)
 }
 
-/// Takes the next record, and says whether there was one. The reader's own errors over bytes in
-/// memory are of memory.
+/// Takes the next record, and says whether there was one. Over bytes in memory, the reader's only errors are refusals
+/// of memory.
 pub fn next_row(reader: &mut Reader<&[u8]>, row: &mut ByteRecord) -> Result<bool, AllocError>
     ensures { IfOk result
         (λ found. TakesFirst (λ source. Some source.now) reader.old reader.new found (fields_of row.new)) }

@@ -15,11 +15,11 @@ use std::marker::Model;
 pub enum Version {
     /// The column `vehicle`: one code.
     One,
-    /// The column `vehicles`: a list of codes, or all but a list.
+    /// The column `vehicles`: a list of codes, or all except a list.
     Two,
 }
 
-/// Codes of vehicle types, ascending and each once.
+/// Codes of vehicle types, in ascending order, each once.
 #[derive(Drop)]
 pub struct Codes {
     codes: Vec<u8>,
@@ -43,12 +43,12 @@ pub enum Vehicles {
     Every,
     /// These types.
     Only(Codes),
-    /// Every type but these.
+    /// Every type except these.
     AllBut(Codes),
 }
 
 impl Codes {
-    // The same codes, ascending and each once.
+    // The same codes, in ascending order, each once.
     fn ascending(mut codes: Vec<u8>) -> Codes
         ensures { IsSortedSet codes.items result }
     {
@@ -57,7 +57,7 @@ impl Codes {
         Codes { codes }
     }
 
-    /// The codes, ascending and each once.
+    /// The codes, in ascending order, each once.
     pub fn as_slice(&self) -> &[u8]
         ensures codes { result.now ≡ self.now }
         ensures ascending { IsStrictlyIncreasing result.now }
@@ -106,7 +106,7 @@ fn read_type(text: &[u8]) -> Option<u8>
     }
 }
 
-// The codes of a list, in its order, if each item is one.
+// The codes of a list, in its order, if each item is a code.
 fn read_codes(alloc: Global, text: &[u8]) -> Result<Option<Vec<u8>>, AllocError>
     ensures { IfOk result (λ read. option_map (λ v. v.items) read ≡ codes_of (items_of text.now)) }
 {
@@ -120,7 +120,7 @@ fn read_codes(alloc: Global, text: &[u8]) -> Result<Option<Vec<u8>>, AllocError>
     Ok(Some(codes))
 }
 
-// The codes of a list, ascending and each once, if each item is a code.
+// The codes of a list, in ascending order, each once, if each item is a code.
 fn read_list(alloc: Global, text: &[u8]) -> Result<Option<Codes>, AllocError>
     ensures { IfOk result (λ read. IsCodes (codes_of (items_of text.now)) read) }
 {
@@ -130,7 +130,7 @@ fn read_list(alloc: Global, text: &[u8]) -> Result<Option<Codes>, AllocError>
     }
 }
 
-// The types that a list names, or after a `!` all but them.
+// The types that a list names, or all except them after a `!`.
 fn read_listed(alloc: Global, text: &[u8]) -> Result<Option<Vehicles>, AllocError>
     ensures { IfOk result (λ read. AreTypesRead (types_listed text.now) read) }
 {

@@ -1,5 +1,5 @@
--- When a start begins, computed: its fields against the date, the week and the clock of a second, level by level. It is a
--- law of this crate that it begins just at the seconds that it matches.
+-- When a start begins, computed: its fields against the date, the week and the clock of a second, level by level. A law
+-- of this crate says that it begins exactly at the seconds that it matches.
 use Rattle.std.specs.Prelude.{ℕ, ◌-◌, ◌/◌, ◌%◌, ◌^◌, Bool, true, false, ◌&&◌, ◌||◌, ◌==◌, if◌then◌else◌, Option, Some, None}
 use Rattle.std.specs.Prelude.{is_some, ℤ, pos}
 use Rattle.std.specs.Ordering.{int_eq}
@@ -16,7 +16,7 @@ abbrev pub agrees : Option ℕ → ℕ → Bool
 agrees (Some x) v = x == v
 agrees None v = true
 
--- a level of one field: without it the level is free where a finer one is given, and else at its least value
+-- a level of one field: without it the level is free if a finer one is given, and otherwise at its least value
 abbrev pub agrees_or_least : Option ℕ → Bool → ℕ → ℕ → Bool
 agrees_or_least (Some x) finer least v = x == v
 agrees_or_least None finer least v = finer || (least == v)
@@ -30,11 +30,11 @@ abbrev pub year_agrees_with : Option ℕ → ℤ → Bool
 year_agrees_with (Some y) v = int_eq (pos y) v
 year_agrees_with None v = true
 
--- the year: that of the week where a week is given, and else that of the date
+-- the year: that of the week if a week is given, and otherwise that of the date
 abbrev pub year_agrees : StartParts → DayFields → Bool
 year_agrees p f = year_agrees_with p.year (if is_some p.week then f.week_year else f.year)
 
--- a place in the month that is given, as a number and a weekday, is this one
+-- a place in the month, if it is given as a number and a weekday, is this one
 abbrev pub place_agrees : Option (ℕ × ℕ) → ℕ → ℕ → Bool
 place_agrees (Some x) n weekday = (x.0 == n) && (x.1 == weekday)
 place_agrees None n weekday = true
@@ -46,8 +46,8 @@ is_weekday p weekday = (p.weekdays == 0) || (p.weekdays / 2 ^ (weekday - 1) % 2 
 abbrev pub weekday_agrees : StartParts → DayFields → Bool
 weekday_agrees p f = is_weekday p f.weekday
 
--- the day's level without a field: free where the clock is given, and else the Monday of a given week, or the first of
--- the month
+-- the day's level without a field: free if the clock is given, and otherwise the Monday of a given week, or the first
+-- of the month
 abbrev pub least_day : StartParts → DayFields → Bool
 least_day p f = gives_day p || (gives_clock p || (if is_some p.week then f.weekday == 2 else f.day == 1))
 
@@ -73,6 +73,6 @@ begins_at p k =
 unfoldable pub begins : StartParts → ℤ → Bool
 begins p s = begins_on p (day_fields (day_of_second s)) && begins_at p (second_of_day s)
 
--- the month that is given, and the year that is given where no week is, do not exclude the day
+-- the day is not excluded by a given month, nor by a year that is given without a week
 abbrev pub month_and_year_fit : StartParts → ℤ → Bool
 month_and_year_fit p n = agrees p.month (month_of n) && (is_some p.week || year_agrees_with p.year (year_of n))

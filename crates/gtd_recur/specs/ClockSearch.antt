@@ -14,7 +14,7 @@ IsLastPassing test limit None = (j : ℕ) → j ≤ limit → test j ≡ false
 abbrev pub IsLatestBegin : StartParts → ℕ → Option ℕ → Type 0
 IsLatestBegin p limit o = IsLastPassing (begins_at p) limit o
 
--- the greatest number of sixties that stays, with an offset, within a limit
+-- the greatest number of sixties that, with an offset, stays within a limit
 abbrev pub IsSixtiesWithin : ℕ → ℕ → Option ℕ → Type 0
 IsSixtiesWithin limit offset (Some i) = (60 * i + offset ≤ limit) × (limit < 60 * (i + 1) + offset)
 IsSixtiesWithin limit offset None = limit < offset
@@ -29,7 +29,7 @@ IsNextPassing test from (Some k) =
     (from ≤ k) × (k < day_seconds) × (test k ≡ true) × ((j : ℕ) → from ≤ j → j < k → test j ≡ false)
 IsNextPassing test from None = (j : ℕ) → from ≤ j → j < day_seconds → test j ≡ false
 
--- the value that a level of the clock is held at, where it is not free
+-- the value that a level of the clock must have, unless it is free
 abbrev pub held : Option ℕ → Bool → Option ℕ
 held (Some x) finer = Some x
 held None finer = if finer then None else Some 0

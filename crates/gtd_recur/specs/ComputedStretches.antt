@@ -1,4 +1,4 @@
--- The seconds of a basic domain, computed. It is a law of this crate that they are the seconds of the basic domain.
+-- The seconds of a basic domain, computed. A law of this crate says that they are the seconds of the basic domain.
 use Rattle.std.specs.Prelude.{◌≡◌, ℕ, ◌<◌, true, false, Option, Some, None, ℤ, pos, ◌+ℤ◌, ◌*ℤ◌, ◌≤ℤ◌, ◌<ℤ◌, IsTrue}
 use Rattle.gtd_core.specs.Limits.{day_seconds}
 use Rattle.gtd_core.specs.declared.start.StartParts.{StartParts}

@@ -8,7 +8,7 @@ use Rattle.gtd_calendar.specs.ComputedDates.{year_of, month_of}
 use Rattle.gtd_calendar.specs.ComputedFields.{day_fields}
 use Rattle.gtd_recur.specs.Begins.{begins_on, gives_clock, gives_day, is_weekday}
 
--- the next run of days, from a day on and before an end, that have a property: those before it have it not
+-- the next run of days, from a day on and before an end, that have a property: the days before the run do not have it
 pub record IsNextRun (has : ℤ → Type 0) (day end from until : ℤ) : Type 0 where
   pub low : day ≤ℤ from
   pub order : from ≤ℤ until
@@ -17,7 +17,7 @@ pub record IsNextRun (has : ℤ → Type 0) (day end from until : ℤ) : Type 0 
   pub skipped : (n : ℤ) → day ≤ℤ n → n <ℤ from → has n → ⊥
   pub run : (n : ℤ) → from ≤ℤ n → n <ℤ until → has n
 
--- the last run of days, before an end and not before a day, that have a property: those behind it have it not
+-- the last run of days, before an end and not before a day, that have a property: the days after the run do not have it
 pub record IsLastRun (has : ℤ → Type 0) (low end from until : ℤ) : Type 0 where
   pub begin : low ≤ℤ from
   pub order : from ≤ℤ until
@@ -26,18 +26,18 @@ pub record IsLastRun (has : ℤ → Type 0) (low end from until : ℤ) : Type 0 
   pub skipped : (n : ℤ) → until ≤ℤ n → n <ℤ end → has n → ⊥
   pub run : (n : ℤ) → from ≤ℤ n → n <ℤ until → has n
 
--- a month of one year comes before a month of another, or of the same
+-- a month of one year comes before a month of another year or of the same
 abbrev pub IsBefore : ℤ → ℕ → ℤ → ℕ → Type 0
 IsBefore y m z k = (y <ℤ z) ⊎ ((y ≡ z) × (m < k))
 
--- the days from `from` up to and without `until` are those of the months `low` to `high` of the year
+-- the days from `from` up to but not including `until` are those of the months `low` to `high` of the year
 pub record AreMonths (year : ℤ) (low high : ℕ) (from until : ℤ) : Type 0 where
   pub order : from <ℤ until
   pub before : (n : ℤ) → n <ℤ from → IsBefore (year_of n) (month_of n) year low
   pub on : (n : ℤ) → from ≤ℤ n → n <ℤ until → (year_of n ≡ year) × (low ≤ month_of n) × (month_of n ≤ high)
   pub after : (n : ℤ) → until ≤ℤ n → IsBefore year high (year_of n) (month_of n)
 
--- of the days from `first` up to and without `last`, those from a day on and before an end
+-- of the days from `first` up to but not including `last`, those from a day on and before an end
 pub record IsClipped (first last day end from until : ℤ) : Type 0 where
   pub low : day ≤ℤ from
   pub order : from ≤ℤ until
@@ -46,7 +46,7 @@ pub record IsClipped (first last day end from until : ℤ) : Type 0 where
   pub early : (n : ℤ) → day ≤ℤ n → n <ℤ from → n <ℤ first
   pub inside : (n : ℤ) → from ≤ℤ n → n <ℤ until → (first ≤ℤ n) × (n <ℤ last)
 
--- of the days from `first` up to and without `last`, those before an end and not before a day
+-- of the days from `first` up to but not including `last`, those before an end and not before a day
 pub record IsClippedBack (first last low end from until : ℤ) : Type 0 where
   pub begin : low ≤ℤ from
   pub order : from ≤ℤ until
@@ -55,11 +55,11 @@ pub record IsClippedBack (first last low end from until : ℤ) : Type 0 where
   pub late : (n : ℤ) → until ≤ℤ n → low ≤ℤ n → n <ℤ end → last ≤ℤ n
   pub inside : (n : ℤ) → from ≤ℤ n → n <ℤ until → (first ≤ℤ n) × (n <ℤ last)
 
--- the day is of the year, and of the month where one is given
+-- the day is in the year, and in the month if one is given
 abbrev pub IsOf : ℤ → Option ℕ → ℤ → Type 0
 IsOf year month n = (year_of n ≡ year) × IfSome month (λ m. month_of n ≡ m)
 
--- the day is of the month
+-- the day is in the month
 abbrev pub IsOfMonth : ℕ → ℤ → Type 0
 IsOfMonth month n = month_of n ≡ month
 
@@ -70,14 +70,14 @@ pub record IsFirstBegun (p : StartParts) (day end found : ℤ) : Type 0 where
   pub none : (n : ℤ) → day ≤ℤ n → n <ℤ found → begins_on p (day_fields n) ≡ false
   pub some : found <ℤ end → begins_on p (day_fields found) ≡ true
 
--- the last day, before an end and from a day on, on which a start begins; or the day before that
+-- the last day before an end and not before a day on which a start begins; or the day before that day
 pub record IsLastBegun (p : StartParts) (low end found : ℤ) : Type 0 where
   pub begin : low ≤ℤ (found +ℤ pos 1)
   pub before : found <ℤ end
   pub none : (n : ℤ) → found <ℤ n → n <ℤ end → begins_on p (day_fields n) ≡ false
   pub some : low ≤ℤ found → begins_on p (day_fields found) ≡ true
 
--- a start begins on the day; or not, nor on those from it up to a later one and before an end
+-- a start begins on the day; or it begins neither on that day nor on those up to a later one and before an end
 abbrev pub IsMissed : StartParts → ℤ → ℤ → Option ℤ → Type 0
 IsMissed p day end None = begins_on p (day_fields day) ≡ true
 IsMissed p day end (Some next) =
@@ -89,7 +89,7 @@ IsMissedBack p low day None = begins_on p (day_fields day) ≡ true
 IsMissedBack p low day (Some before) =
     (before <ℤ day) × ((n : ℤ) → low ≤ℤ n → before <ℤ n → n ≤ℤ day → begins_on p (day_fields n) ≡ false)
 
--- a place in the month that is given is of this weekday
+-- a place in the month, if it is given, is of this weekday
 abbrev pub place_on : Option (ℕ × ℕ) → ℕ → Bool
 place_on (Some x) weekday = x.1 == weekday
 place_on None weekday = true
@@ -107,13 +107,13 @@ weekday_fits p weekday =
 abbrev pub monday_of : ℤ → ℕ → ℤ
 monday_of y w = (pos 7 *ℤ (int_div_euclid (first_day y +ℤ pos 6) (pos 7) +ℤ pos w -ℤ pos 1)) -ℤ pos 3
 
--- that Monday, where the calendar has the year
+-- that Monday, if the calendar has the year
 abbrev pub IsMonday : ℤ → ℕ → Option ℤ → Type 0
 IsMonday y w None = IsCalendarYear y → ⊥
 IsMonday y w (Some monday) = IsCalendarYear y × (monday ≡ monday_of y w)
 
--- a day behind another, which no day of week w of year y comes between, nor the week's Monday; or none, where the week is
--- over or the calendar has no such year
+-- a later day such that no day of week w of year y comes between, nor the week's Monday; or none, if the week is over or
+-- the calendar has no such year
 abbrev pub IsNextOfWeek : ℤ → ℕ → ℤ → Option ℤ → Type 0
 IsNextOfWeek y w day None = (IsCalendarYear y → ⊥) ⊎ ((monday_of y w +ℤ pos 6) ≤ℤ day)
 IsNextOfWeek y w day (Some next) = (day <ℤ next) × ((next ≡ day +ℤ pos 1) ⊎ (next ≡ monday_of y w))

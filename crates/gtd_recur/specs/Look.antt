@@ -1,4 +1,4 @@
--- The day from which the starts before a horizon have to be walked.
+-- The day from which the walk over the starts before a horizon must begin.
 use Rattle.std.specs.Prelude.{◌≡◌, ◌⊎◌, ℕ, ◌<◌, ◌≤◌, true, false, count_by, ℤ, pos, ◌-ℤ◌, ◌≤ℤ◌, ◌<ℤ◌}
 use Rattle.gtd_core.specs.Limits.{day_seconds}
 use Rattle.gtd_core.specs.declared.start.StartParts.{StartParts}
@@ -6,13 +6,13 @@ use Rattle.gtd_calendar.specs.ComputedFields.{day_fields}
 use Rattle.gtd_recur.specs.Begins.{begins_on, month_and_year_fit}
 use Rattle.gtd_recur.specs.Work.{days_between}
 
--- so many days before day n is a day on which the start begins, or no earlier day of the lookback is one
+-- so many days before day n is a day on which the start begins, or the start begins on no earlier day of the lookback
 pub record IsFirstLook (p : StartParts) (n : ℤ) (lookback back : ℕ) : Type 0 where
   pub within : back ≤ lookback
   pub reason : ((0 < back) × (begins_on p (day_fields (n -ℤ pos back)) ≡ true))
       ⊎ ((k : ℕ) → back < k → k ≤ lookback → begins_on p (day_fields (n -ℤ pos k)) ≡ false)
 
--- The day `first` is the last before day n, and not before day `low`, on which the start begins, or `low` where there is
+-- The day `first` is the last before day n, and not before day `low`, on which the start begins, or `low` if there is
 -- none. The days from it up to n that no given month or year excludes were looked at.
 pub record IsFirstDay (p : StartParts) (low n first : ℤ) (looked : ℕ) : Type 0 where
   pub begin : low ≤ℤ first
@@ -21,8 +21,8 @@ pub record IsFirstDay (p : StartParts) (low n first : ℤ) (looked : ℕ) : Type
   pub none : (m : ℤ) → first <ℤ m → m <ℤ n → begins_on p (day_fields m) ≡ false
   pub reason : ((first <ℤ n) × (begins_on p (day_fields first) ≡ true)) ⊎ (first ≡ low)
 
--- a look backwards that ended at such a day: it is open from its first second on where the start begins on it, and else
--- the day before it is, and closed
+-- a look backwards that ended at such a day: if the start begins on it, it is open from its first second on; otherwise
+-- the day is the one before it, and closed
 pub record IsLookBack (p : StartParts) (low n first day : ℤ) (clock looked : ℕ) : Type 0 where
   pub at : IsFirstDay p low n first looked
   pub opened : ((first <ℤ n) × (begins_on p (day_fields first) ≡ true) × (day ≡ first) × (clock ≡ 0))

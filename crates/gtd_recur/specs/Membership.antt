@@ -1,7 +1,6 @@
--- Which seconds a start matches, in the words of its levels, and which a basic domain contains. Letters and levels are
--- those of GDF time domains (ISO 14825:2004), weeks those of ISO 8601; what an omitted field means is this project's own.
--- The levels are numbered from the coarsest on: 0 the year, 1 the month and the week, 2 the day, 3 the hour, 4 the minute,
--- 5 the second.
+-- Which seconds a start matches, level by level, and which a basic domain contains. Letters and levels are those of GDF
+-- time domains (ISO 14825:2004), weeks those of ISO 8601; what a missing field means is this project's own. The levels are
+-- numbered from the coarsest on: 0 the year, 1 the month and the week, 2 the day, 3 the hour, 4 the minute, 5 the second.
 use Rattle.std.specs.Prelude.{◌≡◌, ◌⊎◌, ℕ, ◌-◌, ◌/◌, ◌%◌, ◌^◌, ◌<◌, Bool, true, false, not, ◌||◌, ◌==◌, if◌then◌else◌}
 use Rattle.std.specs.Prelude.{is_some, ℤ, pos, IfSome, ◌≤ℤ◌, ◌<ℤ◌}
 use Rattle.gtd_core.specs.declared.start.StartParts.{StartParts}
@@ -31,8 +30,8 @@ finest_level p =
 abbrev pub IsGivenWeekday : ℕ → ℕ → Type 0
 IsGivenWeekday weekdays weekday = weekdays / 2 ^ (weekday - 1) % 2 ≡ 1
 
--- Each field that is given, of the levels down to the day, holds on a day with the fields f. A year is that of the week
--- where a week is given; a place in the month is a number and a weekday; several weekdays are alternatives.
+-- Each given field of the levels down to the day holds on a day with the fields f. A year is that of the week if a week
+-- is given; a place in the month is a number and a weekday; several weekdays are alternatives.
 pub record HoldsOnDay (p : StartParts) (f : DayFields) : Type 0 where
   pub year : IfSome p.year (λ y. pos y ≡ (if is_some p.week then f.week_year else f.year))
   pub month : IfSome p.month (λ m. m ≡ f.month)
@@ -42,14 +41,14 @@ pub record HoldsOnDay (p : StartParts) (f : DayFields) : Type 0 where
   pub nth_back : IfSome p.nth_back (λ x. (x.0 ≡ f.nth_back) × (x.1 ≡ f.weekday))
   pub weekdays : (p.weekdays ≡ 0) ⊎ IsGivenWeekday p.weekdays f.weekday
 
--- each field of the clock that is given holds at hour h, minute m and second s
+-- each given field of the clock holds at hour h, minute m and second s
 pub record HoldsOnClock (p : StartParts) (h m s : ℕ) : Type 0 where
   pub hour : IfSome p.hour (λ x. x ≡ h)
   pub minute : IfSome p.minute (λ x. x ≡ m)
   pub second : IfSome p.second (λ x. x ≡ s)
 
--- Each level finer than one is at its least, on a day with the fields f, at hour h, minute m and second s. The day's least
--- is the Monday, weekday 2, where a week is given, and else the first of the month; the month's is January.
+-- Each level finer than a given one is at its least, on a day with the fields f, at hour h, minute m and second s. The
+-- day's least is the Monday, weekday 2, if a week is given, and otherwise the first of the month; the month's is January.
 pub record IsLeastBelow (level : ℕ) (week : Bool) (f : DayFields) (h m s : ℕ) : Type 0 where
   pub second : level < 5 → s ≡ 0
   pub minute : level < 4 → m ≡ 0
@@ -59,7 +58,7 @@ pub record IsLeastBelow (level : ℕ) (week : Bool) (f : DayFields) (h m s : ℕ
   pub january : level < 1 → f.month ≡ 1
 
 -- The start matches the second, which is at some hour, minute and second of some day: each given field holds, and each
--- level finer than all that are given is at its least. A coarser level without a field says nothing.
+-- level finer than all given ones is at its least. A coarser level without a field is free.
 pub record Matches (p : StartParts) (s : ℤ) : Type 0 where
   pub day : ℤ
   pub hour : ℕ

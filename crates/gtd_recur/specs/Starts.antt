@@ -1,4 +1,4 @@
--- The starts of a window of days, from the front of which one is taken time and again.
+-- The starts of a window of days, which are taken one by one from its beginning.
 use Rattle.std.specs.Prelude.{◌≡◌, ◌⊎◌, true, false, ℕ, ◌+◌, ◌-◌, ◌++◌, List, [], ◌∷◌, map, filter, count_by, length}
 use Rattle.std.specs.Prelude.{drop, Option, Some, None, ℤ}
 use Rattle.std.specs.Prelude.{pos, ◌+ℤ◌, ◌*ℤ◌, ◌≤ℤ◌, ◌<ℤ◌, IsTrue}
@@ -17,7 +17,7 @@ clock_starts p n from = map (λ k. pos day_seconds *ℤ n +ℤ pos k) (filter (b
 unfoldable pub starts_left : StartParts → ℤ → ℕ → ℤ → ℤ → List ℤ
 starts_left p day clock next end = clock_starts p day clock ++ starts_of p (days_between next end)
 
--- an open day's starts are left from its first second on where the start begins on it, and else none are
+-- an open day's starts are left from its first second on if the start begins on it, and otherwise none are
 abbrev pub IsOpened : StartParts → ℤ → ℕ → Type 0
 IsOpened p n clock = ((begins_on p (day_fields n) ≡ true) × (clock ≡ 0))
     ⊎ ((begins_on p (day_fields n) ≡ false) × (clock ≡ day_seconds))
@@ -27,7 +27,7 @@ abbrev pub TakesSecond : List ℤ → Option Sec → List ℤ → Type 0
 TakesSecond before None after = (before ≡ []) × (after ≡ [])
 TakesSecond before (Some b) after = before ≡ b.0 ∷ after
 
--- all but so many of a list are left
+-- all except so many of a list are left
 pub record AreLeft (handed : ℕ) (all left : List ℤ) : Type 0 where
   pub count : handed + length left ≡ length all
   pub rest : left ≡ drop handed all
@@ -40,8 +40,9 @@ pub record IsInWindow (first day next end : ℤ) : Type 0 where
   pub end_in : next ≤ℤ end
   pub last_in : end ≤ℤ horizons_end
 
--- Of the days before the next one just those were looked at that no given month or year excludes. Those before the day
--- `seen` were looked at first; between the open day, or `seen` if that is later, and the next one none is left out.
+-- Of the days before the next one, exactly those that no given month or year excludes were looked at. Those before the
+-- day `seen` were looked at first. No day is left out between the next one and the open day, or `seen` if that is
+-- later.
 pub record IsLookedCount (p : StartParts) (first seen day next : ℤ) (looked : ℕ) : Type 0 where
   pub low : first ≤ℤ seen
   pub high : seen ≤ℤ next

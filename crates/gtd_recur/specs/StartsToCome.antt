@@ -29,6 +29,6 @@ pub record IsSameWalk (s t : Starts) : Type 0 where
 abbrev pub starts_given : Starts → List ℤ
 starts_given s = take s.walk.handed (starts_in s.walk.basic s.walk.horizon)
 
--- the start is on the open day, of which the starts behind it are left
+-- the start is on the open day, and the later starts of that day are left
 abbrev pub IsOpenAfter : Starts → ℤ → Type 0
 IsOpenAfter s b = IsOpenBehind s.walk b

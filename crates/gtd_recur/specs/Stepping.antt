@@ -1,8 +1,8 @@
--- The starts of a day lie one step apart.
+-- The starts of a day are one step apart.
 use Rattle.std.specs.Prelude.{◌≡◌, ◌⊎◌, ℕ, ◌+◌, ◌<◌, Bool, true, false, List, [], ◌∷◌, ℤ, pos, ◌+ℤ◌}
 use Rattle.gtd_core.specs.Limits.{day_seconds}
 
--- the seconds that pass a test lie this step apart, up to the last of a day
+-- the seconds that pass a test are this step apart, up to the last of a day
 pub record IsStep (test : ℕ → Bool) (step : ℕ) : Type 0 where
   pub known : (step ≡ 60) ⊎ (step ≡ 3600)
   pub next : (k last : ℕ) → test k ≡ true → test last ≡ true → k < last → last < day_seconds → test (k + step) ≡ true

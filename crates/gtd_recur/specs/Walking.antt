@@ -45,7 +45,7 @@ IsCountedTo w None = Unit {0}
 IsCountedTo w (Some b) =
     AllBefore (b.0 +ℤ pos 1) (walk_given w) × (least_work (start_parts w.basic.start) (walk_days w) b.0 ≤ walk_ticks w)
 
--- the start is on the open day, of which the starts behind it are left
+-- the start is on the open day, and the later starts of that day are left
 pub record IsOpenBehind (w : Walk) (b : ℤ) : Type 0 where
   pub clock : ℕ
   pub next : w.clock ≡ clock + 1
@@ -53,8 +53,8 @@ pub record IsOpenBehind (w : Walk) (b : ℤ) : Type 0 where
   pub is : b ≡ pos day_seconds *ℤ w.day +ℤ pos clock
   pub begins : begins_at (start_parts w.basic.start) clock ≡ true
 
--- the starts behind b up to the last of its day were passed over, each a step after the one before it, where a length is
--- at least that step; or none was
+-- the starts after b up to the last of its day were passed over, each a step after the one before it, if a length is at
+-- least that step; or none was
 pub record IsPassed (v w : Walk) (b length last : ℤ) : Type 0 where
   pub step : ℕ
   pub list : List ℤ

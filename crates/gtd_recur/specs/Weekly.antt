@@ -4,7 +4,8 @@ use Rattle.gtd_core.specs.declared.start.StartParts.{StartParts}
 use Rattle.gtd_core.specs.declared.duration.DurationParts.{DurationParts}
 use Rattle.gtd_recur.specs.Begins.{gives_clock}
 
--- of a day the start asks for nothing but its weekday: weekdays or a field of the clock are given, and no other field is
+-- the start asks for nothing of a day except its weekday: weekdays or a field of the clock are given, and no other field
+-- is
 pub record AsksNoDate (p : StartParts) : Type 0 where
   pub year : p.year ≡ None
   pub month : p.month ≡ None

@@ -18,7 +18,7 @@ unfoldable pub days_from : ℤ → ℕ → List ℤ
 days_from n zero = []
 days_from n (suc k) = n ∷ days_from (n +ℤ pos 1) k
 
--- the days from a up to and without b
+-- the days from a up to but not including b
 unfoldable pub days_between : ℤ → ℤ → List ℤ
 days_between a b = days_from a (unsigned_abs (b -ℤ a))
 
@@ -53,11 +53,11 @@ least_work p days t =
     count_by (λ n. int_lt n (day_of_second t) && month_and_year_fit p n) days
     + count_by (λ b. int_lt b t) (starts_of p days)
 
--- the first day on which a stretch can begin that reaches the horizon
+-- the first day on which a stretch that reaches the horizon can begin
 unfoldable pub window_begin : Basic → Horizon → ℤ
 window_begin d h = from_day h -ℤ pos (lookback_of (duration_parts d.duration))
 
--- the days of the window: from the horizon's first less the lookback to its last
+-- the days of the window: those of the horizon and of the lookback before it
 abbrev pub window : Basic → Horizon → List ℤ
 window d h = days_between (window_begin d h) (to_day h)
 

@@ -1,4 +1,4 @@
-//! When a start begins: whether a day fits it, and the seconds of a day at which the clock does.
+//! When a start begins: which days fit it, and at which seconds of a day its clock fits.
 
 ghost use Rattle.std.specs.Prelude.{◌≡◌, ◌+◌, ◌*◌, ◌%◌, ◌<◌, ◌≤◌, ◌↔◌, ℕ, true, IsTrue};
 ghost use Rattle.gtd_calendar.specs.Calendar.{IsCalendarDay};
@@ -21,7 +21,7 @@ fn agrees(given: Option<u8>, value: u8) -> bool
     given.is_none_or(|x| x == value)
 }
 
-// The same; a field that is not given is free where a finer one is given, and else at its least.
+// The same; a field that is not given is free if a finer one is given, and otherwise at its least.
 fn agrees_or_least(given: Option<u8>, finer: bool, least: u8, value: u8) -> bool
     ensures { result ≡ spec.agrees_or_least given finer least value }
 {
@@ -45,7 +45,7 @@ pub(crate) fn gives_clock(start: &StartParts) -> bool
     start.hour.is_some() || start.minute.is_some() || start.second.is_some()
 }
 
-// The year of the week where a week is given, and else of the date.
+// The year of the week if a week is given, and otherwise that of the date.
 fn year_agrees(start: &StartParts, day: &DayFields) -> bool
     ensures { result ≡ spec.year_agrees start.now day.now }
 {
@@ -60,7 +60,7 @@ fn year_agrees(start: &StartParts, day: &DayFields) -> bool
     }
 }
 
-// A place in the month that is given is this one.
+// A place in the month, if it is given, is this one.
 fn place_agrees(given: Option<(u8, u8)>, nth: u8, weekday: u8) -> bool
     ensures { result ≡ spec.place_agrees given nth weekday }
 {
@@ -78,7 +78,8 @@ pub(crate) fn is_weekday(start: &StartParts, weekday: u8) -> bool
     start.weekdays == 0 || (start.weekdays >> (weekday - 1)) % 2 == 1
 }
 
-// Where no field of the day or the clock is given, the Monday of a week and else the first of a month.
+// If no field of the day or the clock is given, the day must be the Monday if a week is given, and otherwise the first
+// of a month.
 fn least_day(start: &StartParts, day: &DayFields) -> bool
     ensures { result ≡ spec.least_day start.now day.now }
 {
@@ -108,7 +109,7 @@ pub(crate) fn begins_on(start: &StartParts, day: &DayFields) -> bool
         && least_day(start, day)
 }
 
-/// Whether only the weekday of a day says whether it fits the start.
+/// Whether the weekday of a day alone decides whether it fits the start.
 pub(crate) fn asks_no_date(start: &StartParts) -> bool
     ensures { IsTrue result ↔ AsksNoDate start.now }
 {
@@ -121,7 +122,7 @@ pub(crate) fn asks_no_date(start: &StartParts) -> bool
         && (start.weekdays != 0 || gives_clock(start))
 }
 
-/// Whether a day fits the start. Its date is computed only where its weekday does not settle that.
+/// Whether a day fits the start. Its date is computed only if its weekday does not decide that.
 pub(crate) fn begins_on_day(start: &StartParts, day: i64) -> bool
     requires { IsCalendarDay day }
     ensures { result ≡ spec.begins_on start.now (day_fields day) }
@@ -132,7 +133,7 @@ pub(crate) fn begins_on_day(start: &StartParts, day: i64) -> bool
     asks_no_date(start) || begins_on(start, &fields(day))
 }
 
-// The least number of sixties with which an offset reaches a number.
+// The least number of sixties by which an offset reaches a number.
 fn sixties(from: u32, offset: u32) -> u32
     requires from_in { from ≤ day_seconds }
     requires offset_in { offset < 60 }
@@ -143,7 +144,7 @@ fn sixties(from: u32, offset: u32) -> u32
     (from + 59 - offset) / 60
 }
 
-// The value that a level of the clock is held at, where it is not free.
+// The value that a level of the clock must have, unless it is free.
 fn held(given: Option<u8>, finer: bool) -> Option<u32>
     ensures { result ≡ clock.held given finer }
 {
@@ -154,7 +155,7 @@ fn held(given: Option<u8>, finer: bool) -> Option<u32>
     }
 }
 
-// The first minute, counted from midnight, from one on, whose place in its hour fits.
+// The first minute from a given one on whose place in its hour fits. Minutes are counted from midnight.
 fn next_minute(minute: Option<u32>, from: u32) -> u32
     requires minute_in { IsWithin 0 59 minute }
     requires from_in { from ≤ 1440 }
@@ -187,7 +188,7 @@ fn next_clock(hour: Option<u32>, minute: Option<u32>, second: u32, from: u32) ->
     }
 }
 
-// The greatest number of sixties that stays, with an offset, within a limit.
+// The greatest number of sixties that, with an offset, stays within a limit.
 fn sixties_within(limit: u32, offset: u32) -> Option<u32>
     ensures { clock.IsSixtiesWithin limit offset result }
 {
@@ -198,7 +199,7 @@ fn sixties_within(limit: u32, offset: u32) -> Option<u32>
     }
 }
 
-// The last minute, counted from midnight, up to one, whose place in its hour fits.
+// The last minute up to a given one whose place in its hour fits. Minutes are counted from midnight.
 fn latest_minute(minute: Option<u32>, limit: u32) -> Option<u32>
     requires minute_in { IsWithin 0 59 minute }
     requires limit_in { limit < 1440 }
@@ -262,7 +263,7 @@ pub(crate) fn latest_begin(start: &StartParts, limit: u32) -> Option<u32>
     latest_clock(hour, minute, second, limit)
 }
 
-/// How far apart the starts of a day lie, where it has several.
+/// How far apart the starts of a day are, if it has several.
 pub(crate) fn day_step(start: &StartParts) -> u32
     requires valid { IsStart start.now }
     ensures step { IsStep (spec.begins_at start.now) result }

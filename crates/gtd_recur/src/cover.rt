@@ -18,7 +18,8 @@ use gtd_calendar::{end_of, second_of_day};
 use gtd_core::limits::DAY_SECONDS;
 use gtd_core::{Basic, Duration, Sec, StartParts};
 
-// Whether a stretch that begins on that day holds the second. On one day the latest start ends last.
+// Whether a stretch that begins on that day holds the second. Of the stretches of one day, the one that begins last
+// ends last.
 fn held_from_day(
     start: &StartParts,
     duration: &Duration,
@@ -40,8 +41,8 @@ fn held_from_day(
     second.0 < end_of(begin, duration).0
 }
 
-/// Whether the basic domain contains the second: the stretch of some matching start holds it, however far back the
-/// start is. The second is one from 1901-01-01 to the end of 2699-12-31.
+/// Whether the basic domain contains the second: the stretch of some matching start holds it, however long ago that
+/// start was. The second must be from 1901-01-01 to the end of 2699-12-31.
 pub fn covers(basic: &Basic, second: Sec) -> bool
     requires horizon { IsHorizonSecond second.0 }
     ensures member { IsTrue result ↔ InBasic basic.now second.0 }
@@ -72,17 +73,17 @@ pub fn covers(basic: &Basic, second: Sec) -> bool
 /// Where a look backwards ended.
 #[derive(Clone, Copy, Debug)]
 pub(crate) struct LookBack {
-    /// The last day on which the start begins, if there is one, and else the first that it was to look at.
+    /// The last day on which the start begins, if there is one, and otherwise the lowest day that could be looked at.
     pub(crate) first: i64,
-    /// That day, open from its first second on; or, where the start begins on none, the day before it, which is closed.
+    /// That day, open from its first second on; or, if the start begins on none, the day before it, which is closed.
     pub(crate) day: i64,
     pub(crate) clock: u32,
     /// How many days were looked at.
     pub(crate) looked: u64,
 }
 
-/// Looks backwards from a horizon's first day, and not beyond a lowest day, for a day on which the start begins: no stretch
-/// from an earlier day ends later than the last from that day. Days that a given month or year excludes are not counted.
+/// Looks backwards from a horizon's first day to a lowest day for a day on which the start begins: no stretch from an
+/// earlier day ends later than the last from that day. Days that a given month or year excludes are not counted.
 pub(crate) fn first_look(start: &StartParts, low: i64, seen: i64) -> LookBack
     requires valid { IsStart start.now }
     requires low_in { first_window_day ≤ℤ low }
@@ -114,7 +115,7 @@ pub(crate) fn first_look(start: &StartParts, low: i64, seen: i64) -> LookBack
     }
 }
 
-/// Whether the basic domain repeats after 7 days, since of a day its start asks for nothing but the weekday, and its
+/// Whether the basic domain repeats after 7 days: its start asks for nothing of a day except the weekday, and its
 /// duration has no months and no years.
 pub fn is_weekly(basic: &Basic) -> bool
     ensures weekly { IsTrue result ↔ IsWeekly (start_parts basic.now.start) (duration_parts basic.now.duration) }

@@ -16,8 +16,8 @@ use crate::jump::{earlier, later};
 use gtd_calendar::{DayFields, day_of, fields, weekday};
 use gtd_core::StartParts;
 
-/// The first day, from one on and before an end, on which the start begins; or the end. The dates of days that a weekday, a
-/// week, a place in the month or a day of the month excludes are not looked at.
+/// The first day from a given one on and before an end on which the start begins; or the end. For days that a weekday, a
+/// week, a place in the month or a day of the month excludes, no date is computed.
 pub(crate) fn next_begun(start: &StartParts, day: i64, end: i64) -> i64
     requires valid { IsStart start.now }
     requires day_in { first_window_day ≤ℤ day }
@@ -38,7 +38,7 @@ pub(crate) fn next_begun(start: &StartParts, day: i64, end: i64) -> i64
     found
 }
 
-// The same for a start that asks for no date: whether it begins on a day, the weekday alone says.
+// The same for a start that asks for no date: the weekday alone decides whether it begins on a day.
 fn next_weekday(start: &StartParts, day: i64, end: i64) -> i64
     requires asks { AsksNoDate start.now }
     requires day_in { first_window_day ≤ℤ day }
@@ -56,7 +56,7 @@ fn next_weekday(start: &StartParts, day: i64, end: i64) -> i64
     found
 }
 
-/// The last day, before an end and from a lowest one on, on which the start begins; or the day before the lowest.
+/// The last day before an end and not below a lowest one on which the start begins; or the day before the lowest.
 pub(crate) fn last_begun(start: &StartParts, low: i64, end: i64) -> i64
     requires valid { IsStart start.now }
     requires low_in { first_window_day ≤ℤ low }
@@ -74,9 +74,10 @@ pub(crate) fn last_begun(start: &StartParts, low: i64, end: i64) -> i64
     found
 }
 
-// The next day behind one that the start does not exclude as soon; or `None` where it begins on that day.
+// The next day after a given one that the start does not exclude at once; or `None` if the start begins on the given
+// day.
 //
-// It is kept apart, so that starts that ask for no date do not pay for it.
+// A function of its own, so that starts that ask for no date do not pay for it.
 #[inline(never)]
 fn next_left(start: &StartParts, day: i64, end: i64) -> Option<i64>
     requires valid { IsStart start.now }
@@ -98,7 +99,8 @@ fn next_left(start: &StartParts, day: i64, end: i64) -> Option<i64>
     }
 }
 
-// The last day before one that the start does not exclude as soon; or `None` where it begins on that day.
+// The last day before a given one that the start does not exclude at once; or `None` if the start begins on the given
+// day.
 fn last_left(start: &StartParts, low: i64, day: i64) -> Option<i64>
     requires valid { IsStart start.now }
     requires low_in { first_window_day ≤ℤ low }
@@ -122,7 +124,7 @@ fn last_left(start: &StartParts, low: i64, day: i64) -> Option<i64>
     }
 }
 
-// A place in the month that is given is of this weekday.
+// A place in the month, if it is given, is of this weekday.
 fn place_on(given: Option<(u8, u8)>, weekday: u8) -> bool
     ensures { result ≡ jumps.place_on given weekday }
 {
@@ -143,8 +145,8 @@ fn weekday_fits(start: &StartParts, weekday: u8) -> bool
         && (start.week.is_none() || gives_day(start) || gives_clock(start) || weekday == 2)
 }
 
-// The Monday of a week by ISO 8601, or `None` where its year is none of 1800 to 2799. Day 0 was a Thursday, and each
-// seventh from it is one; the first of them in a year is of week 1.
+// The Monday of a week of ISO 8601, or `None` if its year is not from 1800 to 2799. Day 0 was a Thursday, so each
+// seventh day from it is one. The first Thursday of a year is in week 1.
 fn monday_of(year: i64, week: u8) -> Option<i64>
     requires week_in { IsInRange 1 53 week }
     ensures monday { jumps.IsMonday year week result }
@@ -154,7 +156,7 @@ fn monday_of(year: i64, week: u8) -> Option<i64>
     Some(7 * ((first + 6).div_euclid(7) + i64::from(week) - 1) - 3)
 }
 
-// The next day behind one that is of a week of a year, if there is one.
+// The next day after a given one that is in a week of a year, if there is one.
 fn next_of_week(year: i64, week: u8, day: i64) -> Option<i64>
     requires week_in { IsInRange 1 53 week }
     requires low { first_window_day ≤ℤ day }
@@ -170,7 +172,7 @@ fn next_of_week(year: i64, week: u8, day: i64) -> Option<i64>
     Some(later(monday, day + 1))
 }
 
-// The last day before one that is of a week of a year, if there is one.
+// The last day before a given one that is in a week of a year, if there is one.
 fn last_of_week(year: i64, week: u8, day: i64) -> Option<i64>
     requires week_in { IsInRange 1 53 week }
     requires low { first_window_day ≤ℤ day }
@@ -186,8 +188,8 @@ fn last_of_week(year: i64, week: u8, day: i64) -> Option<i64>
     Some(earlier(monday + 6, day - 1))
 }
 
-// The next day behind one that a given week, and its year if that is given, does not exclude; or the end. The day is in a
-// week of the year `of`.
+// The next day after a given one that the start's week, and its year if that is given, does not exclude; or the end. The
+// given day is in a week of the year `of`.
 fn next_in_week(start: &StartParts, week: u8, of: i64, day: i64, end: i64) -> i64
     requires week { start.now.week ≡ Some week }
     requires week_in { IsInRange 1 53 week }
@@ -207,8 +209,8 @@ fn next_in_week(start: &StartParts, week: u8, of: i64, day: i64, end: i64) -> i6
     }
 }
 
-// The last day before one that a given week, and its year if that is given, does not exclude; or the day before the lowest.
-// The day is in a week of the year `of`.
+// The last day before a given one that the start's week, and its year if that is given, does not exclude; or the day before
+// the lowest. The given day is in a week of the year `of`.
 fn last_in_week(start: &StartParts, week: u8, of: i64, low: i64, day: i64) -> i64
     requires week { start.now.week ≡ Some week }
     requires week_in { IsInRange 1 53 week }
@@ -251,8 +253,8 @@ fn month_days(start: &StartParts) -> (u8, u8)
     (1, 1)
 }
 
-// The next day behind one that the days of the month on which the start can begin do not exclude. No month has fewer days
-// than 28.
+// The next day after a given one that is not excluded by the days of the month on which the start can begin. No month has
+// fewer than 28 days.
 fn next_in_month(start: &StartParts, of_month: u8, day: i64) -> i64
     requires valid { IsStart start.now }
     requires no_week { start.now.week ≡ None }
@@ -272,7 +274,7 @@ fn next_in_month(start: &StartParts, of_month: u8, day: i64) -> i64
     later(day + 28 + i64::from(first) - i64::from(of_month), day + 1)
 }
 
-// The last day before one that the days of the month on which the start can begin do not exclude.
+// The last day before a given one that is not excluded by the days of the month on which the start can begin.
 fn last_in_month(start: &StartParts, of_month: u8, day: i64) -> i64
     requires valid { IsStart start.now }
     requires no_week { start.now.week ≡ None }

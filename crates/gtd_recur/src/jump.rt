@@ -1,4 +1,4 @@
-//! The days that a given year or month does not exclude. The others are jumped over.
+//! The days that a given year or month does not exclude. The others are skipped.
 
 ghost use Rattle.std.specs.Prelude.{◌≡◌, ◌≤ℤ◌, ◌<ℤ◌, ◌≤◌, ℤ, pos, IsTrue, IfSome};
 ghost use Rattle.std.specs.Int.{IsInRange};
@@ -14,14 +14,14 @@ ghost use Rattle.gtd_recur.specs.Stretches.{IsLater, IsEarlier};
 use gtd_calendar::day_of;
 use gtd_core::StartParts;
 
-/// The days from one on, up to and without another.
+/// The days from one up to but not including another.
 #[derive(Clone, Copy, Debug)]
 pub(crate) struct Days {
     pub(crate) from: i64,
     pub(crate) until: i64,
 }
 
-/// The next run of days, from a day on and before an end, that the month and the year of a start do not exclude. Where
+/// The next run of days, from a day on and before an end, that the month and the year of a start do not exclude. If
 /// there is none, it is empty and at the end.
 pub(crate) fn next_days(start: &StartParts, day: i64, end: i64) -> Days
     requires valid { IsStart start.now }
@@ -86,7 +86,7 @@ fn days_of_month(month: u8, day: i64, end: i64) -> Days
     }
 }
 
-/// The last run of days, before an end and not before a day, that the month and the year of a start do not exclude. Where
+/// The last run of days, before an end and not before a day, that the month and the year of a start do not exclude. If
 /// there is none, it is empty and at that day.
 pub(crate) fn last_days(start: &StartParts, low: i64, end: i64) -> Days
     requires valid { IsStart start.now }
@@ -160,7 +160,7 @@ fn last_of_month(month: u8, low: i64, end: i64) -> Days
     clip_back(months(year - 1, month, month), low, end)
 }
 
-// The days of some months of a year that follow one another.
+// The days of some consecutive months of a year.
 fn months(year: i64, low: u8, high: u8) -> Days
     requires year_in { (pos 1800 ≤ℤ year) × (year ≤ℤ pos 2798) }
     requires low_in { IsInRange 1 12 low }
@@ -207,7 +207,7 @@ fn year_of_day(day: i64) -> i64
     guess + 1
 }
 
-// The year of a day by the mean length of a year, which is at most one off.
+// The year of a day by the mean length of a year. It is wrong by at most one.
 fn guessed_year(day: i64) -> i64
     requires low { first_window_day ≤ℤ day }
     requires high { day ≤ℤ horizons_end }
@@ -217,7 +217,7 @@ fn guessed_year(day: i64) -> i64
     1970 + (400 * day).div_euclid(146_097)
 }
 
-// Those of the days that are from one on and before an end.
+// The days that are not before a given one and before an end.
 fn clip(days: Days, day: i64, end: i64) -> Days
     requires some { days.from <ℤ days.until }
     requires open { day <ℤ days.until }
@@ -237,7 +237,7 @@ fn clip(days: Days, day: i64, end: i64) -> Days
     }
 }
 
-// Those of the days that are before an end and not before a day.
+// The days that are before an end and not before a given one.
 fn clip_back(days: Days, low: i64, end: i64) -> Days
     requires some { days.from <ℤ days.until }
     requires open { days.from <ℤ end }

@@ -26,8 +26,8 @@ pub fn domains_repeat()
         → InStretches p q s ↔ InStretches p q (s +ℤ pos 12_622_780_800) }
 {}
 
-/// The starts of a basic domain over a horizon come in order, and are just the seconds that its start matches on the
-/// days from the horizon's first less the lookback to its last.
+/// The starts of a basic domain over a horizon come in order. They are exactly the seconds that its start matches on
+/// the days of the horizon and of the lookback before it.
 pub fn starts_of_a_window()
     ensures order { (d : Basic) (h : Horizon) → IsAscending (starts_in d h) }
     ensures members { (d : Basic) (h : Horizon) (b : ℤ) → Has (starts_in d h) b
@@ -40,14 +40,14 @@ pub fn work_is_bounded()
     ensures most { (d : Basic) (h : Horizon) → work_of d h ≤ 20_000_000_000 }
 {}
 
-/// A start matches a second exactly if each given field holds at it, and each level finer than all that are given is at
-/// its least.
+/// A start matches a second exactly if each given field holds at it, and each level finer than all given ones is at its
+/// least.
 pub fn matching()
     ensures matches { (p : StartParts) (s : ℤ) → IsTrue (begins p s) ↔ Matches p s }
 {}
 
-/// A second is in a basic domain exactly if it is held from some second at which the start begins to the end of the
-/// stretch, as both are computed.
+/// A second is in a basic domain exactly if the start begins at that second or an earlier one from which the stretch
+/// ends after it, as both are computed.
 pub fn membership()
     ensures computed { (p : StartParts) (q : DurationParts) (s : ℤ) → InStretches p q s ↔ InComputedStretches p q s }
 {}

@@ -1,6 +1,6 @@
 //! One recurrence: the seconds of a basic domain, its starts one after another, and the spans that its stretches make.
 //!
-//! Seconds are those of the local civil clock, days are numbered from 1970-01-01. No call takes memory but `spans_of`.
+//! Seconds are those of the local civil clock; days are numbered from 1970-01-01. Only `spans_of` takes memory.
 #![tactic(auto)]
 
 pub use cover::{covers, is_weekly};

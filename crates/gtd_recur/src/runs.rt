@@ -23,9 +23,9 @@ use gtd_spans::SpanSource;
 /// domain's seconds in the horizon.
 #[derive(Debug, Drop)]
 pub struct Runs {
-    /// The start that was taken ahead: the first of those that are still to come.
+    /// The start that was taken ahead: the first that is still to come.
     ahead: Option<Sec>,
-    /// It walks over the starts that follow, and looked no further back than it must.
+    /// The walk over the starts that follow. It looked back no further than it had to.
     pub(crate) walk: Walk,
     ghost ascending: { IsAscending (starts_ahead ahead (walk_to_come walk)) } by { IsAscending-prop _ },
     ghost ahead_in: { IsAheadIn ahead } by { IsAheadIn-prop _ },
@@ -106,7 +106,7 @@ impl Runs {
         Runs { ahead, walk }
     }
 
-    /// One for each day that was looked at, those before the horizon too, and one for each start that was taken. No day is
+    /// One for each day that was looked at, also before the horizon, and one for each start that was taken. No day is
     /// looked at twice.
     pub fn ticks(&self) -> u64
         ensures value { result ≡ runs_ticks self.now }

@@ -10,7 +10,7 @@ use gtd_core::{Basic, Horizon};
 use gtd_spans::SpanList;
 use std::alloc::{AllocError, Global};
 
-/// The normal list of a basic domain's seconds in a horizon, or want of memory.
+/// The normal list of a basic domain's seconds in a horizon, or an error if memory was refused.
 pub fn spans_of(alloc: Global, basic: &Basic, horizon: Horizon) -> Result<SpanList, AllocError>
     ensures normal { IfOk result (λ spans.
         IsNormalFor (InBasic basic.now) (whole horizon).from (whole horizon).until spans) }

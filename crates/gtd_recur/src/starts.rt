@@ -6,7 +6,7 @@ ghost use Rattle.gtd_recur.specs.Work.{window_begin};
 use crate::walk::Walk;
 use gtd_core::{Basic, Horizon, Sec};
 
-/// A walk over the starts of a basic domain on the days from a horizon's first less the lookback to its last.
+/// A walk over the starts of a basic domain on the days of a horizon and of the lookback before it.
 #[derive(Debug, Drop)]
 pub struct Starts {
     pub(crate) walk: Walk,
@@ -23,7 +23,7 @@ impl Starts {
     ghost use Rattle.gtd_recur.specs.StartsToCome.{starts_basic, starts_horizon, starts_to_come, starts_ticks, IsSameWalk};
     ghost use Rattle.gtd_recur.specs.StartsToCome.{IsOpenAfter, starts_given};
 
-    /// The walk over all starts of the basic domain on the days from the horizon's first less the lookback to its last.
+    /// The walk over all starts of the basic domain on the days of the horizon and of the lookback before it.
     pub fn new(basic: Basic, horizon: Horizon) -> Starts
         ensures basic { starts_basic result ≡ basic }
         ensures horizon { starts_horizon result ≡ horizon }
@@ -45,7 +45,7 @@ impl Starts {
         self.walk.ticks()
     }
 
-    /// The next start; `None` where there is none, and then for ever.
+    /// The next start, or `None` if there is none; after that, always `None`.
     pub fn next(&mut self) -> Option<Sec>
         ensures takes { TakesSecond (starts_to_come self.old) result (starts_to_come self.new) }
         ensures same { IsSameWalk self.old self.new }

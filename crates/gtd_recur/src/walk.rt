@@ -1,4 +1,4 @@
-//! A walk over the starts of the days from a first one on to the end of a horizon.
+//! A walk over the starts on the days from a first one to the end of a horizon.
 
 ghost use Rattle.std.specs.Prelude.{◌≤◌, ◌≤ℤ◌};
 ghost use Rattle.gtd_core.specs.Parts.{start_parts};
@@ -15,22 +15,22 @@ use crate::jump::{Days, next_days};
 use gtd_core::limits::DAY_SECONDS;
 use gtd_core::{Basic, Horizon, Sec};
 
-/// A walk over the starts of a basic domain on the days from one on to the last of a horizon.
+/// A walk over the starts of a basic domain on the days from a first one to the last of a horizon.
 #[derive(Debug, Drop)]
 pub(crate) struct Walk {
     pub(crate) basic: Basic,
     pub(crate) horizon: Horizon,
     /// The first day whose starts are walked over.
     pub(crate) first: i64,
-    /// The days before this one were looked at before the walk began.
+    /// Days before this one were looked at before the walk began.
     pub(crate) seen: i64,
-    /// The day that was opened last.
+    /// The day that is open: the last one that was opened.
     day: i64,
-    /// The second of that day from which its starts are left.
+    /// The second of that day from which its starts are still to come.
     clock: u32,
     /// The next day to look at.
     next_day: i64,
-    /// Up to this one, the days from the next on are not excluded.
+    /// The days from the next one up to this one are not excluded.
     fits_until: i64,
     /// How many days were looked at, and how many starts were handed out.
     looked: u64,
@@ -63,7 +63,7 @@ impl Walk {
     ghost use Rattle.gtd_recur.specs.Walking.{walk_days, walk_all, walk_to_come, walk_ticks, walk_given, IsSameWindow};
     ghost use Rattle.gtd_recur.specs.Walking.{IsOpenBehind, IsPassed};
 
-    /// The walk over all starts from the horizon's first day less the lookback on.
+    /// The walk over all starts, from the first day of the lookback on.
     pub(crate) fn new(basic: Basic, horizon: Horizon) -> Walk
         ensures basic { result.basic ≡ basic }
         ensures horizon { result.horizon ≡ horizon }
@@ -89,8 +89,8 @@ impl Walk {
         }
     }
 
-    /// The walk that begins on the last day before the horizon on which the start begins, which it finds by looking
-    /// backwards, and goes on with the days of the horizon.
+    /// The walk that looks backwards for the last day before the horizon on which the start begins, begins there, and
+    /// goes on with the days of the horizon.
     pub(crate) fn from_last(basic: Basic, horizon: Horizon) -> Walk
         ensures basic { result.basic ≡ basic }
         ensures horizon { result.horizon ≡ horizon }
@@ -125,7 +125,7 @@ impl Walk {
         self.looked + self.handed
     }
 
-    /// The next start; `None` where there is none, and then for ever.
+    /// The next start, or `None` if there is none; after that, always `None`.
     pub(crate) fn next(&mut self) -> Option<Sec>
         ensures takes { TakesSecond (walk_to_come self.old) result (walk_to_come self.new) }
         ensures same { IsSameWindow self.old self.new }
@@ -187,7 +187,7 @@ impl Walk {
         }
     }
 
-    // Passes over the starts behind one up to the last of its day, where they lie no further apart than a length.
+    // Passes over the starts after a given one up to the last of its day, if they are no further apart than a length.
     pub(crate) fn pass_day(&mut self, start: Sec, length: i64) -> Sec
         requires open { IsOpenBehind self.old start.0 }
         requires length_in { pos 0 ≤ℤ length }
@@ -205,8 +205,8 @@ impl Walk {
         Sec(DAY_SECONDS * self.day + i64::from(last))
     }
 
-    // Opens the next day on which the start begins, or the last of those that are not excluded where it begins on none of
-    // them. Only here days are looked at, and each of those passed over is counted.
+    // Opens the next day on which the start begins, or the last of those that are not excluded if it begins on none of
+    // them. Days are looked at only here, and each day that is passed over is counted.
     fn look(&mut self)
         requires done { clock_starts (start_parts self.old.basic.start) self.old.day self.old.clock ≡ [] }
         requires more { self.old.next_day <ℤ to_day self.old.horizon }
@@ -223,7 +223,7 @@ impl Walk {
         }
     }
 
-    // Opens a day of those that are not excluded, from a second on. The start begins on none before it.
+    // Opens a day that is not excluded, from a second on. The start begins on no day before it.
     fn open(&mut self, day: i64, clock: u32)
         requires done { clock_starts (start_parts self.old.basic.start) self.old.day self.old.clock ≡ [] }
         requires low { self.old.next_day ≤ℤ day }
@@ -244,7 +244,7 @@ impl Walk {
         self.fits_until = after.until;
     }
 
-    // The days to look at behind one.
+    // The days to look at after a given one.
     fn days_after(&self, day: i64) -> Days
         requires low { self.now.next_day ≤ℤ day }
         requires high { day <ℤ self.now.fits_until }

@@ -1,8 +1,8 @@
 //! Record files: devices, records, and the runs over them, at one root.
 //!
-//! This crate has no function of its own. It hands on the crates that a caller of a run would otherwise list one by one:
+//! This crate has no function of its own. It hands on what a caller of a run would otherwise take from several crates:
 //! devices that give bytes and take them, the records of a file, the seconds and horizons that they are asked about, and the
-//! runs. [`run_schedule`] is the call that the headline is proved of; `specs/Theorem.antt` is that statement.
+//! runs. The headline is proved of the call [`run_schedule`]; `specs/Theorem.antt` states it.
 #![tactic(auto)]
 
 pub use gtd_core::{Fault, Horizon, HorizonFault, Sec, Span, TextFault};

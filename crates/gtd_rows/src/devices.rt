@@ -30,8 +30,8 @@ fn run_over<I: Input>(
     (answer, output)
 }
 
-// What a run over a sound file answers, and the output, which has so much room, takes so many bytes at once, and fails at
-// its call of this number.
+// What a run over a sound file answers, and the output. The output has so much room, takes so many bytes at once, and
+// fails at the call with this number.
 fn run_into(
     rt: &impl Abort,
     alloc: Global,
@@ -105,7 +105,7 @@ fn inputs_that_would_fail_after_their_end(rt: HostRuntime) {
     }
 }
 
-// How many bytes were taken before the call of this number, where calls take 5 bytes of a line at most; with no such call
+// How many bytes were taken before the call with this number, if calls take at most 5 bytes of a line; with no such call
 // before the end, how many there are.
 fn taken_before(text: &[u8], call: u64) -> (usize, u64) {
     let mut taken = 0usize;
@@ -147,7 +147,7 @@ fn outputs_that_fail_at_a_call(rt: HostRuntime) {
     }
 }
 
-// The same for each run, by the rule: a line is offered whole, then what is left of it, and the end comes last.
+// The same for each run, by the rule: a line is offered whole, and then the rest of it; the end comes last.
 #[test]
 fn each_run_stops_at_the_first_failure(rt: HostRuntime) {
     let alloc = rt.alloc();
@@ -189,7 +189,7 @@ fn outputs_with_too_little_room(rt: HostRuntime) {
     }
 }
 
-// Silent for so many pulls before each that gives bytes or the end.
+// Silent for so many pulls before each pull that gives bytes or the end.
 #[derive(Drop)]
 struct Slow {
     inner: MemoryIn,
@@ -261,7 +261,7 @@ fn silence_for_ever_ends_at_its_thousandth_pull(rt: HostRuntime) {
     }
 }
 
-// A writer that is interrupted so often before each write, and at its flush where it is told to.
+// A writer that is interrupted so often before each write, and at its flush if told to.
 #[derive(Drop)]
 struct Busy {
     interruptions: u32,
@@ -315,7 +315,7 @@ static FILE_COMMANDS: [&[&str]; 3] = [
     &["migrate", "r.csv"],
 ];
 
-// A command fails where its writer takes all bytes and fails at its flush.
+// A command fails if its writer takes all bytes but fails at its flush.
 #[test]
 fn flushes_of_file_commands(rt: HostRuntime) -> Result<(), Fail> {
     let alloc = rt.alloc();

@@ -1,4 +1,4 @@
-//! Faults as they are shown: each by its name, and each refusal by its line.
+//! How faults are shown: each by its name, and each refusal by its line.
 
 use gtd_calendar::StampFault;
 use gtd_core::{Fault, HorizonFault, TextFault};

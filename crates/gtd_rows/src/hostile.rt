@@ -1,4 +1,4 @@
-//! Texts and files that were cut short or made to break things, and how they are refused.
+//! Texts and files that were cut short or made to break the program, and how they are refused.
 
 use crate::job::{APRIL, Job, LEAP_YEAR, R, run};
 use crate::tests::{expect_refused, repeated};
@@ -27,10 +27,10 @@ static JOBS: [Job; 3] = [APRIL, LEAP_YEAR, Job::Migrate];
 
 static HEADERS: [&str; 2] = [HEADER, HEADER_2];
 
-// Rows behind the header of either version, and the first fault of such a file.
+// Rows after the header of either version, and the first fault of such a file.
 static ROWS: [(&str, &str); 108] = [
-    // A quote that never closes has all that is left in its field, line ends and commas with it: the rows so far stand,
-    // and the last one has too few fields, or a last field that is no domain.
+    // A quote that never closes takes all that follows into its field, with line ends and commas: the rows before it
+    // are unchanged, and the last one has too few fields, or a last field that is not a domain.
     ("\"17,both,0,\n18,both,0,\n", "row 1 FieldCount"),
     ("17,\"both,0,\n18,both,0,\n", "row 1 FieldCount"),
     ("17,both,\"0,\n18,both,0,\n", "row 1 FieldCount"),
@@ -64,7 +64,7 @@ static ROWS: [(&str, &str); 108] = [
     ("\"\"", "row 1 FieldCount"),
     ("\"\"\n17,both,0,\n", "row 1 FieldCount"),
     ("\"\",\"\",\"\",\"\"", "row 1 Element"),
-    // Commas alone, and too few or too many of them.
+    // Only commas, and too few or too many of them.
     (",", "row 1 FieldCount"),
     (",,", "row 1 FieldCount"),
     (",,,", "row 1 Element"),
@@ -83,7 +83,7 @@ static ROWS: [(&str, &str); 108] = [
     ("17,both,0,\"[(h1){h1}],\"", "row 1 Domain BadToken at 10"),
     ("17,both,0,\",\"", "row 1 Domain BadToken at 0"),
     ("\"17,both,0,\"", "row 1 FieldCount"),
-    // Empty lines are no rows; lines of spaces are.
+    // Empty lines are not rows; lines of spaces are.
     ("\n\r\n\r\r17,both,0,\n\r\n\nx\n", "row 2 FieldCount"),
     (" ", "row 1 FieldCount"),
     ("\n \n17,both,0,\n", "row 1 FieldCount"),
@@ -99,7 +99,7 @@ static ROWS: [(&str, &str); 108] = [
     ("17,both,\"\r\n0\",", "row 1 Vehicle"),
     ("17,both,0,\"\r\n\"", "row 1 Domain BadToken at 0"),
     ("17,both,0,\"[(h1)\r\n{h1}]\"", "row 1 Domain BadToken at 5"),
-    // Nothing is trimmed; a domain has spaces of its own.
+    // Nothing is trimmed; only a domain may have spaces.
     (" 17,both,0,", "row 1 Element"),
     ("17 ,both,0,", "row 1 Element"),
     ("1 7,both,0,", "row 1 Element"),
@@ -123,7 +123,7 @@ static ROWS: [(&str, &str); 108] = [
     ("\u{661},both,0,", "row 1 Element"),
     ("\u{ff11},both,0,", "row 1 Element"),
     ("\u{feff}17,both,0,", "row 1 Element"),
-    // The header stands once.
+    // The header occurs once.
     ("element,direction,vehicle,domain\n", "row 1 Element"),
     ("element,direction,vehicles,domain\n", "row 1 Element"),
     // No direction.
@@ -143,7 +143,7 @@ static ROWS: [(&str, &str); 108] = [
     ("17,both,;,", "row 1 Vehicle"),
     ("17,both,!,", "row 1 Vehicle"),
     ("17,both,\u{661},", "row 1 Vehicle"),
-    // No domain, by its first fault in the field: quotes of the file are no part of it.
+    // No domain, by its first fault in the field: quotes of the file are not part of the field.
     ("17,both,0,17", "row 1 Domain BadToken at 0"),
     ("17,both,0,[(h25){h1}]", "row 1 Domain FieldRange at 2"),
     ("17,both,0,\"[(h25){h1}]\"", "row 1 Domain FieldRange at 2"),
@@ -162,7 +162,7 @@ static ROWS: [(&str, &str); 108] = [
     ("17,both,0,\n18,up,0,\nx", "row 2 Direction"),
 ];
 
-// Files whose first record is no header.
+// Files whose first record is not a header.
 static NO_HEADERS: [&str; 42] = [
     "",
     "\n",
@@ -174,7 +174,7 @@ static NO_HEADERS: [&str; 42] = [
     "\"",
     "\"\"",
     "x",
-    // A byte order mark alone, twice, and anywhere but at the front.
+    // A byte order mark alone, twice, and anywhere except at the front.
     "\u{feff}",
     "\u{feff}\u{feff}",
     "\u{feff}\r\n",
@@ -192,7 +192,7 @@ static NO_HEADERS: [&str; 42] = [
     "element, direction, vehicle, domain\n",
     "element,direction,vehicle,domain \n",
     " \nelement,direction,vehicle,domain\n",
-    // Fields that lack, are too many, or change places.
+    // Fields that are missing, too many, or in another order.
     "element,direction,vehicle\n",
     "element,direction,vehicle,domain,\n",
     "element,direction,vehicle,domain,domain\n",
@@ -202,7 +202,7 @@ static NO_HEADERS: [&str; 42] = [
     "elements,direction,vehicle,domain\n",
     "element;direction;vehicle;domain\n",
     "element\tdirection\tvehicle\tdomain\n",
-    // Quotes that never close, or stand inside.
+    // Quotes that never close, or are inside a field.
     "\"element,direction,vehicle,domain\n17,both,0,\n",
     "element,direction,vehicle,\"domain\n17,both,0,\n",
     "\"element,direction,vehicle,domain\"\n",
@@ -213,7 +213,7 @@ static NO_HEADERS: [&str; 42] = [
     "17,both,0,\nelement,direction,vehicle,domain\n",
 ];
 
-// Files that are accepted with no row.
+// Files without rows that are accepted.
 static EMPTY_FILES: [&str; 9] = [
     "element,direction,vehicle,domain",
     "\"element\",\"direction\",\"vehicle\",\"domain\"\n",
@@ -221,14 +221,14 @@ static EMPTY_FILES: [&str; 9] = [
     "\u{feff}\"element\",direction,vehicle,domain\n",
     "\r\n\n\relement,direction,vehicles,domain\r\r\n\n",
     "\u{feff}\n\r\nelement,direction,vehicle,domain\r",
-    // The quote has the rest of the file in its field, and that is nothing.
+    // The quote takes the rest of the file into its field, and that is nothing.
     "element,direction,vehicle,\"domain",
     "element,direction,vehicle,domain\n\r\n\n\r",
     // What follows a closing quote joins the field.
     "\"ele\"ment,direction,vehicle,\"\"domain\n",
 ];
 
-// Rows behind the header of either version that are accepted, and as they are migrated.
+// Rows after the header of either version that are accepted, and the rows that they migrate to.
 static ACCEPTED_ROWS: [(&str, &str); 14] = [
     // A quote that never closes, around nothing and around a domain, at the very end.
     ("17,both,0,\"", "17,both,0,\n"),
@@ -329,7 +329,7 @@ fn domains_cut_short(rt: HostRuntime) -> Result<(), Fail> {
         for words in commands {
             expect_refused(&rt, alloc, words, 1, line.as_str())?;
         }
-        // The same in a row, where no text at all is no fault.
+        // The same in a row, where an empty text is not a fault.
         if length > 0 {
             let parts = [HEADER.as_bytes(), b"17,both,0,".as_slice(), text.as_bytes()];
             let fault = format!(in alloc; "row 1 Domain {fault}")?;
@@ -339,7 +339,7 @@ fn domains_cut_short(rt: HostRuntime) -> Result<(), Fail> {
     Ok(())
 }
 
-// What a run answers of the first bytes of a file of 88, by their number.
+// What a run answers for so many first bytes of a file of 88.
 fn of_prefix(length: usize, job: Job) -> Result<u64, RunFault> {
     let kind = match length {
         50 | 52 | 56 | 63 | 68 => Fault::BadToken,
@@ -386,7 +386,7 @@ fn files_cut_short(rt: HostRuntime) {
     }
 }
 
-// A mark that was cut is none.
+// A mark that was cut is not a mark.
 #[test]
 fn marks_cut_short(rt: HostRuntime) {
     let alloc = rt.alloc();
@@ -432,7 +432,7 @@ fn hostile_rows(rt: HostRuntime) -> Result<(), Fail> {
             expect_migrated(&rt, alloc, &parts, &[migrated.as_bytes()]);
         }
     }
-    // Lists are of version 2.
+    // Lists belong to version 2.
     for list in ["11;17", "11;11", "!11", "0;11"] {
         let parts = [
             HEADER.as_bytes(),
@@ -445,7 +445,7 @@ fn hostile_rows(rt: HostRuntime) -> Result<(), Fail> {
     Ok(())
 }
 
-// Any run of carriage returns and line feeds ends a row, and empty lines are no rows.
+// Any run of carriage returns and line feeds ends a row, and empty lines are not rows.
 #[test]
 fn line_ends(rt: HostRuntime) {
     let alloc = rt.alloc();
@@ -471,7 +471,7 @@ fn line_ends(rt: HostRuntime) {
     }
 }
 
-// The fields, with commas between them, and a byte in front of one of them or behind it.
+// The fields, with commas between them, and a byte before or after one of them.
 fn spoiled(
     rt: &impl Abort,
     alloc: Global,
@@ -532,7 +532,7 @@ fn bytes_of_no_field(rt: HostRuntime) -> Result<(), Fail> {
     Ok(())
 }
 
-// A piece a million times, with a front and an end, is rows that have this fault, and no header.
+// A piece repeated a million times, with a beginning and an end: as rows it has this fault, and it is not a header.
 fn expect_long_fault(
     rt: &impl Abort,
     alloc: Global,
@@ -598,7 +598,7 @@ fn spaces_before_a_domain(rt: HostRuntime) -> Result<(), Fail> {
     Ok(())
 }
 
-// 128 basic domains in a field are accepted; of one more the place is that in the field.
+// 128 basic domains in a field are accepted; with one more, the place is that in the field.
 #[test]
 fn many_basic_domains_in_a_field(rt: HostRuntime) -> Result<(), Fail> {
     let alloc = rt.alloc();
@@ -636,7 +636,7 @@ fn many_basic_domains_in_a_field(rt: HostRuntime) -> Result<(), Fail> {
     Ok(())
 }
 
-// A list of 200 codes names each of 99 types twice and more, in no order, with leading zeros or without.
+// A list of 200 codes that names each of 99 types at least twice, in no order, with leading zeros or without.
 fn two_hundred_codes(alloc: Global) -> Result<String, Fail> {
     let mut list = String::new(alloc);
     for number in 0..200u32 {
@@ -655,7 +655,7 @@ fn two_hundred_codes(alloc: Global) -> Result<String, Fail> {
     Ok(list)
 }
 
-// A list is read, alone or as all types but these, and printed in ascending order with each code once.
+// A list is read, alone or as all types except these, and printed in ascending order with each code once.
 fn expect_list(rt: &impl Abort, alloc: Global, list: &str, ascending: &str) -> Result<(), Fail> {
     for sign in ["", "!"] {
         let file = format!(in alloc; "{HEADER_2}17,both,{sign}{list},\n")?;
@@ -711,7 +711,7 @@ fn long_lists_that_are_none(rt: HostRuntime) -> Result<(), Fail> {
 // Rows that close elements of ten digits in one direction.
 const GREAT_ROWS: &str = "9999999999,negative,0,\n4294967296,negative,0,\n0000000009,negative,0,\n";
 
-// An element of ten digits is printed whole, in the longest line that a schedule may have, and in its order as a number.
+// An element of ten digits is printed whole, in the longest line that a schedule may have, and in its place by number.
 #[test]
 fn great_elements_in_schedules(rt: HostRuntime) {
     let alloc = rt.alloc();
@@ -740,7 +740,7 @@ fn great_elements_in_tables(rt: HostRuntime) {
     for (element, answer) in [
         (9_999_999_999, Ok(366)),
         (4_294_967_296, Ok(366)),
-        // What is left of them in 32 bits.
+        // What remains of them in 32 bits.
         (1_410_065_407, Err(RunFault::NoElement)),
         (0, Err(RunFault::NoElement)),
     ] {

@@ -1,4 +1,4 @@
-//! Runs over record files, called by what they are asked for.
+//! Runs over record files, called by what is asked for.
 
 ghost use Rattle.std.specs.Prelude.{◌≡◌, ◌<◌};
 
@@ -16,10 +16,10 @@ use std::process::Abort;
 pub(crate) const R: &str =
     "element,direction,vehicle,domain\n17,positive,0,[(M4d1){M3}]*[(h10){h4}]\n17,negative,11,\n";
 
-/// A run, and what is asked of it.
+/// A run, and what it is asked for.
 #[derive(Clone, Copy)]
 pub(crate) enum Job {
-    /// A schedule over the days from one up to and without another, for a vehicle type.
+    /// A schedule over the days from one up to but not including another, for a vehicle type.
     Schedule(i64, i64, u8),
     /// The table of a year.
     Year(u64, Direction, u8, u16),
@@ -55,7 +55,7 @@ pub(crate) fn run<I: Input, O: Output>(
     }
 }
 
-/// The bytes of a file, in pieces of 7 at most.
+/// The bytes of a file, in pieces of at most 7.
 pub(crate) fn input(
     rt: &impl Abort,
     alloc: Global,

@@ -1,5 +1,5 @@
-//! Tests that cross crates: what each command line prints, or how it is refused; what the runs put of record files, of
-//! hostile ones too, and what stands where a device fails or memory is refused.
+//! Tests that cross crates: what each command line prints, or how it is refused; what the runs put for record files,
+//! hostile ones too; and what holds when a device fails or memory is refused.
 #![tactic(auto)]
 
 #[cfg(test)]

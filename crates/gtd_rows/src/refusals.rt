@@ -1,8 +1,8 @@
-//! Each run and each command, where one of its growths is refused. `tests/refusals.sh` refuses the growths of each test one
-//! after the other, one in a run.
+//! Each run and each command, when one of its growths is refused. `tests/refusals.sh` refuses the growths of each test one
+//! after the other, one in each run.
 //!
-//! A call that is refused is made once more, and then has to succeed. So with ample memory it succeeds, and a refusal leaves
-//! nothing behind. Where a test is refused what it needs for itself, it ends.
+//! A refused call is made once more, and must then succeed. So with ample memory it succeeds, and a refusal leaves nothing
+//! behind. A test that is refused the memory that it needs for itself ends.
 
 use crate::job::{APRIL, Job, LEAP_YEAR, R, run};
 use crate::tests::owned;
@@ -23,8 +23,8 @@ const SCHEDULE: &str = "element,direction,vehicle,from,until\n\
 const MIGRATED: &str =
     "element,direction,vehicles,domain\n17,positive,0,[[(M4d1){M3}]*[(h10){h4}]]\n17,negative,11,\n";
 
-// The run puts this text, where no memory is refused; else the first part that it tells, and nothing before the file is
-// accepted.
+// The run puts this text if no memory is refused; otherwise the first part that it tells, and nothing before the file
+// is accepted.
 fn expect_put(rt: &impl Abort, alloc: Global, job: Job, text: &[u8], lines: u64) {
     for _ in 0..2 {
         let Ok(file) = Vec::from_slice(alloc, R.as_bytes()) else {
@@ -150,7 +150,7 @@ fn a_plan_for_a_file(rt: HostRuntime) {
     panic!(rt; "refused twice");
 }
 
-// What the words ask for is printed, where no memory is refused; else a first part of it.
+// What the words ask for is printed if no memory is refused; otherwise a first part of it.
 fn expect_printed(rt: &impl Abort, alloc: Global, words: &[&str], text: &[u8]) {
     let Ok(words) = owned(alloc, words) else {
         return;

@@ -1,4 +1,4 @@
-//! What the runs put of record files, and why they put nothing.
+//! What the runs put for record files, and why they put nothing.
 
 use crate::job::{APRIL, Job, LEAP_YEAR, R, input, run};
 use gtd_core::{Fault, TextFault};
@@ -110,7 +110,7 @@ fn last_schedule(rt: HostRuntime) {
     );
 }
 
-// All vehicle types but two.
+// All vehicle types except two.
 #[test]
 fn schedules_of_version_2(rt: HostRuntime) {
     let alloc = rt.alloc();
@@ -174,7 +174,7 @@ fn migrated_files(rt: HostRuntime) {
     }
 }
 
-// How many of the lines end so.
+// How many of the lines end in this.
 fn lines_that_end_in(text: &[u8], end: &[u8]) -> usize {
     text.split(|byte| *byte == b'\n')
         .filter(|line| line.ends_with(end))
@@ -263,7 +263,7 @@ fn faults_in_their_order(rt: HostRuntime) {
     }
 }
 
-// The names of the vehicle types of a file of version 2, by whether the file is accepted.
+// Vehicle types of a file of version 2, and whether the file is accepted.
 #[test]
 fn lists_of_vehicles(rt: HostRuntime) -> Result<(), Fail> {
     let alloc = rt.alloc();

@@ -37,7 +37,7 @@ static CANONICAL: [(&str, &str); 15] = [
     ),
 ];
 
-// Texts that are no domains, and their first faults.
+// Texts that are not domains, and their first faults.
 static FAULTS: [(&str, &str); 52] = [
     ("", "Incomplete at 0"),
     ("[(h10){h4}", "Incomplete at 10"),
@@ -98,7 +98,7 @@ static FAULTS: [(&str, &str); 52] = [
     ("(h1){h1}+", "Incomplete at 9"),
 ];
 
-// Questions on a domain, and what is printed.
+// Questions about a domain, and what is printed.
 static ANSWERS: [(&[&str], &str); 21] = [
     (&["at", "[(M5h10){h1}]", "2024-05-17T10:59:59"], "in"),
     (&["at", "[(M5h10){h1}]", "2024-05-17T11:00:00"], "out"),
@@ -247,7 +247,7 @@ static REFUSED: [(&[&str], &str); 18] = [
         &["next", "[(h1){h1}]", "2024-01-01T00:00:00", "2424-01-03"],
         "fault horizon TooLong",
     ),
-    // The first word at fault from the left, the horizon after the words, and a year in the run.
+    // The first word at fault from the left; then the horizon; then a year, in the run.
     (&["at", "[(h25){h1}]", "now"], "fault FieldRange at 2"),
     (
         &["next", "[(h25){h1}]", "now", "then"],
@@ -262,7 +262,7 @@ static REFUSED: [(&[&str], &str); 18] = [
     (&["ever", "[(y2024){d1}]", "now"], "fault moment Shape"),
 ];
 
-// Command lines that are none.
+// Words that are not a command line.
 static NO_COMMANDS: [&[&str]; 46] = [
     &[],
     &[""],
@@ -293,7 +293,7 @@ static NO_COMMANDS: [&[&str]; 46] = [
     &["canon", "--", "--", "[(h1){h1}]"],
     &["--", "canon", "[(h1){h1}]"],
     &["-", "canon", "[(h1){h1}]"],
-    // Help and the version are no commands.
+    // Help and the version are not commands.
     &["help"],
     &["help", "canon"],
     &["--help"],
@@ -332,7 +332,7 @@ fn carry_out<W: Write>(alloc: Global, words: &[&str], out: &mut W) -> Result<(),
     perform(alloc, &plan, &mut input, out)
 }
 
-// The command line prints this text and the end of its line.
+// The command line prints this text and a line end.
 fn expect_printed(rt: &impl Abort, alloc: Global, words: &[&str], text: &str) -> Result<(), Fail> {
     let mut out = Vec::new(alloc);
     assert_eq!(rt; carry_out(alloc, words, &mut out), Ok(()), "{words:?}");
@@ -359,7 +359,7 @@ pub(crate) fn expect_refused(
     let mut err = Vec::new(alloc);
     refusal.put_line(&mut err)?;
     assert_eq!(rt; err.as_slice(), line.as_bytes(), "{words:?}");
-    // As text it is its line.
+    // As text, a refusal is its line.
     let text = format!(in alloc; "{refusal}\n")?;
     assert_eq!(rt; text.as_str(), line, "{words:?}");
     Ok(())
@@ -433,7 +433,7 @@ fn other_command_lines_are_faults_of_usage(rt: HostRuntime) -> Result<(), Fail> 
     Ok(())
 }
 
-// A text as often as this, one after the other.
+// A text repeated so often.
 pub(crate) fn repeated(alloc: Global, text: &str, count: usize) -> Result<String, AllocError> {
     let mut repeated = String::new(alloc);
     for _ in 0..count {
@@ -572,7 +572,7 @@ fn writes_that_fail_are_told(rt: HostRuntime) -> Result<(), Fail> {
     Ok(())
 }
 
-// Where memory is refused, the answer is that and nothing was written. The test says the same whether it is or not.
+// If memory is refused, the answer says so and nothing was written. The test passes whether memory is refused or not.
 #[test]
 fn want_of_memory_is_told(rt: HostRuntime) -> Result<(), Fail> {
     let alloc = rt.alloc();

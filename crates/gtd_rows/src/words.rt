@@ -1,4 +1,4 @@
-//! Words of days, numbers and directions that stand for none, or for more than their range.
+//! Words for days, numbers and directions that stand for none, or for one out of range.
 
 use crate::tests::{expect_refused, owned};
 use gtd_tool::{Plan, plan};
@@ -8,7 +8,7 @@ use std::test::Fail;
 
 const USAGE: &str = "usage: gtd COMMAND ARGUMENTS\n";
 
-// Days that are no horizon or no days, as words of a schedule, and the words that come before them.
+// Days that are not a horizon or not days, as words of a schedule, and their refusal.
 static NO_DAYS: [(&str, &str, &str); 42] = [
     ("2024-04-01", "2024-04-01", "horizon Empty"),
     ("2024-04-02", "2024-04-01", "horizon Empty"),
@@ -27,7 +27,7 @@ static NO_DAYS: [(&str, &str, &str); 42] = [
     ("0000-01-01", "2024-04-01", "date Range"),
     ("2024-04-01", "9999-12-31", "date Range"),
     ("2024-04-01", "1800-01-01", "date Range"),
-    // No dates, in whatever year.
+    // No dates, in any year.
     ("2023-02-29", "2024-04-01", "date NoSuchDate"),
     ("2100-02-29", "2100-03-01", "date NoSuchDate"),
     ("2024-04-31", "2024-05-02", "date NoSuchDate"),
@@ -52,7 +52,7 @@ static NO_DAYS: [(&str, &str, &str); 42] = [
     ("2024-04-01T00:00:00", "2024-04-02", "date Shape"),
     ("02024-04-01", "2024-04-02", "date Shape"),
     ("2024-04-0\u{661}", "2024-04-02", "date Shape"),
-    // From the left, and the words before the horizon.
+    // From the left, and the words come before the horizon.
     ("2024-02-30", "then", "date NoSuchDate"),
     ("1900-01-01", "2024-02-30", "date Range"),
     ("now", "2700-01-02", "date Shape"),
@@ -70,7 +70,7 @@ static DAYS: [(&str, &str, i64, i64); 6] = [
     ("1969-12-31", "1970-01-01", -1, 0),
 ];
 
-// Words for a vehicle type, and the type of their plan: 255 for every number that is greater.
+// Words for a vehicle type, and the type of their plan: 255 for every greater number.
 static VEHICLES: [(&str, u8); 10] = [
     ("0", 0),
     ("1", 1),
@@ -118,7 +118,7 @@ fn days_that_are_none(rt: HostRuntime) -> Result<(), Fail> {
         let line = format!(in alloc; "fault {fault}\n")?;
         let words = ["schedule", "roads.csv", from, to, "11"];
         expect_refused(&rt, alloc, &words, 1, line.as_str())?;
-        // A number's shape comes before any date, its range after all of them.
+        // A number's shape is checked before any date, its range after all dates.
         let words = ["schedule", "roads.csv", from, to, "100"];
         expect_refused(&rt, alloc, &words, 1, line.as_str())?;
         let words = ["schedule", "roads.csv", from, to, "x"];
@@ -157,7 +157,7 @@ fn numbers_of_vehicles(rt: HostRuntime) -> Result<(), Fail> {
             Plan::Year { vehicle, .. } => assert_eq!(rt; vehicle, *code, "{word}"),
             _ => panic!(rt; "another plan"),
         }
-        // The range is looked at before the file is read, which is empty here.
+        // The range is checked before the file is read, which is empty here.
         let line = if *code == 0 || *code > 99 {
             "fault VehicleRange\n"
         } else {
@@ -196,7 +196,7 @@ fn words_for_no_number(rt: HostRuntime) -> Result<(), Fail> {
         let words = ["year", "roads.csv", "17", word, "11", "2024"];
         expect_refused(&rt, alloc, &words, 2, USAGE)?;
     }
-    // Years, which are looked at after the vehicle type and before the file.
+    // Years, which are checked after the vehicle type and before the file.
     for word in ["0", "1900", "2200", "65535", "65536", "67560", "9999999999"] {
         let words = ["year", "roads.csv", "17", "positive", "11", word];
         expect_refused(&rt, alloc, &words, 1, "fault YearRange\n")?;

@@ -1,5 +1,5 @@
--- Texts by their lines: what a text by elements is, what an output took of lines, and how it is counted. A line has its end:
--- the LF is its last byte.
+-- Texts by their lines: what a text by elements is, what an output took of lines, and how that is counted. A line has its
+-- end: the LF is its last byte.
 use Rattle.std.specs.Prelude.{◌≡◌, ◌≤◌, ◌+◌, ◌++◌, ℕ, List, [], ◌∷◌, length, take, flat_map, Option, Result, Ok, Err, codes}
 use Rattle.std.specs.Io.KnownBytes.{Appends}
 use Rattle.gtd_runs.specs.declared.fault.RunFault.{RunFault}
@@ -45,11 +45,11 @@ pub record IsByElement (found : List Restriction) (header : List ℕ) (AreLines 
   pub each : AreLinesOf AreLines elements rest
   pub whole : lines ≡ header ∷ rest
 
--- there is one text of this kind at most
+-- there is at most one text of this kind
 abbrev pub IsOne : (List (List ℕ) → Type 0) → Type 0
 IsOne IsText = (a b : List (List ℕ)) → IsText a → IsText b → a ≡ b
 
--- of each element there is one text at most in each direction
+-- for each element there is at most one text in each direction
 abbrev pub IsOneEach : (ℕ → Direction → List (List ℕ) → Type 0) → Type 0
 IsOneEach AreLines = (element : ℕ) (direction : Direction) → IsOne (AreLines element direction)
 
@@ -65,17 +65,17 @@ most_direction_bytes = 1_009_829_376_000
 abbrev pub nothing_put : Progress
 nothing_put = record { lines = 0; written = 0 }
 
--- one line more, or the bytes that were taken of it
+-- one more line, or the bytes that were taken of it
 abbrev pub after_line : {T : Type 0} → Result T ShortPut → Progress → List ℕ → Progress
 after_line (Ok done) old line = record { lines = old.lines + 1; written = old.written + length line }
 after_line (Err short) old line = record { lines = old.lines; written = old.written + short.taken }
 
--- one failure more exactly where not all of a line was taken
+-- one more failure exactly if not all of a line was taken
 abbrev pub failures_after_line : {T : Type 0} → Result T ShortPut → ℕ → ℕ
 failures_after_line (Ok done) count = count
 failures_after_line (Err short) count = count + 1
 
--- one failure more exactly where the output stopped the putting
+-- one more failure exactly if the output stopped the putting
 abbrev pub failures_after_stop : {T : Type 0} → Result T Stop → ℕ → ℕ
 failures_after_stop (Ok done) count = count
 failures_after_stop (Err Output) count = count + 1

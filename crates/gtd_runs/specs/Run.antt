@@ -1,5 +1,5 @@
--- What a run over a record file did, by its answer, and the claims that are made of it. A run is for a kind of
--- texts: of which restrictions a text is put, and which text that is. A text is given by its lines.
+-- What a run over a record file did, by its answer, and the claims about it. A run is for a kind of texts: which
+-- restrictions have a text, and which text that is. A text is given by its lines.
 use Rattle.std.specs.Prelude.{◌≡◌, ◌≤◌, ℕ, ◌+◌, List, length, take, ⊤, Option, IfSome, Result, Ok, Err, ◌<◌, Any}
 use Rattle.std.specs.Io.KnownBytes.{Appends, Keeps}
 use Rattle.gtd_records.specs.File.{IsFile, IsOfFile}
@@ -15,7 +15,7 @@ use Rattle.gtd_runs.specs.declared.subject.Subject.{Subject}
 abbrev pub IsVehicleType : ℕ → Type 0
 IsVehicleType vehicle = (0 < vehicle) × (vehicle ≤ 99)
 
--- a year that a table may be of
+-- a year that a table may have
 abbrev pub IsTableYear : ℕ → Type 0
 IsTableYear year = (1901 ≤ year) × (year ≤ 2199)
 
@@ -23,7 +23,7 @@ IsTableYear year = (1901 ≤ year) × (year ≤ 2199)
 abbrev pub IsVehicleInRange : Subject → Type 0
 IsVehicleInRange subject = IfSome subject.vehicle IsVehicleType
 
--- If a year is asked for, a table may be of it.
+-- If a year is asked for, a table may have it.
 abbrev pub IsYearInRange : Subject → Type 0
 IsYearInRange subject = IfSome subject.year IsTableYear
 
@@ -50,7 +50,7 @@ pub record PutsWhole (IsText : List (List ℕ) → Type 0) (old new : Option (Li
 abbrev pub IsLineCount : (List Restriction → List (List ℕ) → Type 0) → ℕ → Type 0
 IsLineCount IsText count = (found : List Restriction) × (lines : List (List ℕ)) × IsText found lines × (count ≡ length lines)
 
--- The output took just the first n bytes of the text.
+-- The output took exactly the first n bytes of the text.
 abbrev pub TookFirst : Option (List ℕ) → Option (List ℕ) → ℕ → List ℕ → Type 0
 TookFirst old new n text = (n ≤ length text) × Appends old new (take n text)
 
@@ -69,7 +69,7 @@ module _ (IsAccepted : List Restriction → Type 0) (IsText : List Restriction �
     pub accepted : IsAccepted found
     pub puts : PutsWhole (IsText found) old new answer
 
-  -- What the output took, by the answer; and, where the input tells its bytes, what they are.
+  -- What the output took, by the answer; and, if the input tells its bytes, what they are.
   abbrev pub HasRun : Option (List ℕ) → Option (List ℕ) → Option (List ℕ) → Result ℕ RunFault → Type 0
   HasRun file old new (Ok count) = IfSome file (λ bytes. PutsTextOf bytes old new (Ok count))
   HasRun file old new (Err fault.VehicleRange) = Keeps old new
@@ -81,33 +81,33 @@ module _ (IsAccepted : List Restriction → Type 0) (IsText : List Restriction �
   HasRun file old new (Err (fault.WriteFault n)) = IfSome file (λ bytes. TookFirstOf bytes old new n)
   HasRun file old new (Err (fault.NoMemory n)) = IfSome file (λ bytes. TookFirstOf bytes old new n)
 
-  -- The first claim: where the bytes are an accepted file, and nothing hinders the run, its text is put whole.
+  -- The first claim: if the bytes are an accepted file and nothing hinders the run, its text is put whole.
   abbrev pub AcceptedFilesArePut : Option (List ℕ) → Option (List ℕ) → Option (List ℕ) → Result ℕ RunFault → Type 0
   AcceptedFilesArePut file old new answer = IsUnhindered answer
       → IfSome file (λ bytes. (found : List Restriction) → IsFile bytes (Ok found) → IsAccepted found
       → PutsWhole (IsText found) old new answer)
 
--- The second claim: where the bytes are no record file, and nothing hinders the run, its answer is their first fault, and
+-- The second claim: if the bytes are not a record file and nothing hinders the run, its answer is their first fault, and
 -- the output took nothing.
 abbrev pub RefusedFilesPutNothing : Option (List ℕ) → Option (List ℕ) → Option (List ℕ) → Result ℕ RunFault → Type 0
 RefusedFilesPutNothing file old new answer = IsUnhindered answer
     → IfSome file (λ bytes. (why : RecordFault) → IsFile bytes (Err why)
     → (answer ≡ Err (fault.Records why)) × Keeps old new)
 
--- The third claim: where the bytes are a record file of no accepted restrictions, and nothing hinders the run, its answer
--- is that no record names the element, and the output took nothing.
+-- The third claim: if the bytes are a record file whose restrictions are not accepted and nothing hinders the run, its
+-- answer is that no record names the element, and the output took nothing.
 abbrev pub UnacceptedFilesPutNothing : (List Restriction → Type 0) → Option (List ℕ) → Option (List ℕ) → Option (List ℕ)
     → Result ℕ RunFault → Type 0
 UnacceptedFilesPutNothing IsAccepted file old new answer = IsUnhindered answer
     → IfSome file (λ bytes. (found : List Restriction) → IsFile bytes (Ok found) → (IsAccepted found → ⊥)
     → (answer ≡ Err fault.NoElement) × Keeps old new)
 
--- one failure of the input more exactly where the answer is that it failed
+-- one more failure of the input exactly if the answer is that it failed
 abbrev pub failures_after_read : {T : Type 0} → Result T RunFault → ℕ → ℕ
 failures_after_read (Err (fault.Records records.ReadFault)) count = count + 1
 failures_after_read _ count = count
 
--- one failure of the output more exactly where the answer is that it failed
+-- one more failure of the output exactly if the answer is that it failed
 abbrev pub failures_after_write : {T : Type 0} → Result T RunFault → ℕ → ℕ
 failures_after_write (Err (fault.WriteFault n)) count = count + 1
 failures_after_write _ count = count

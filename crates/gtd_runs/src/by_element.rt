@@ -12,13 +12,13 @@ use gtd_devices::Output;
 use gtd_records::{Direction, Records};
 use std::alloc::Global;
 
-/// What a text by elements says of an element in a direction.
+/// The lines that a text by elements has for an element in a direction.
 pub trait ElementLines {
     /// Which lines an element has in a direction.
     ghost are_lines: { Self → List Restriction → ℕ → Direction → List (List ℕ) → Type 0 };
 
-    /// Puts the lines of an element in a direction. `line` is room for a line: what it holds does not matter. The caller
-    /// keeps both counts within a `u64`, and the output's failures under `u64::MAX` before the call.
+    /// Puts the lines of an element in a direction. `line` is room for a line: what it holds does not matter. Both
+    /// counts must stay within a `u64`. Before the call, the output's failures must be below `u64::MAX`.
     fn put_direction<O: Output>(
         &self,
         alloc: Global,
@@ -97,8 +97,8 @@ fn put_elements<O: Output, L: ElementLines>(
 }
 
 /// Puts a text by elements: a header of at most 1,000 bytes, and the lines of each element of the records, in ascending
-/// order and positive before negative; then ends the output. The caller keeps the output's failures under `u64::MAX`
-/// before the call. An element has one list of lines in a direction.
+/// order and positive before negative; then ends the output. Before the call, the output's failures must be below
+/// `u64::MAX`. An element must have at most one list of lines in a direction.
 pub fn put_by_element<O: Output, L: ElementLines>(
     alloc: Global,
     output: &mut O,

@@ -6,8 +6,8 @@ ghost use Rattle.gtd_runs.specs.RunFaultNames.{run_fault_name};
 use gtd_records::RecordFault;
 use thiserror::Error;
 
-/// Why a run does not put its whole text. The variants stand in the order of their numbers, which begin at 1; of the
-/// last two that comes which happens first.
+/// Why a run does not put its whole text. The variants are in the order of their numbers, which begin at 1; of the last
+/// two, the one that happens first is answered.
 #[derive(Clone, Copy, Debug, PartialEq, Eq, Error)]
 pub enum RunFault {
     /// The vehicle type is not from 1 to 99.

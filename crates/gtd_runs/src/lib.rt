@@ -1,7 +1,7 @@
 //! The run over a record file: [`run_report`] reads a file whole, and then puts a [`Report`] of its records line by line.
-//! Why a run stops, and what stands then, is said once for every report.
+//! Why a run stops, and what it has then put, is said once for every report.
 //!
-//! Each line is offered whole, then what is left of it until it is taken.
+//! Each line is offered whole, and then the rest of it until all is taken.
 #![tactic(auto)]
 
 pub use by_element::{ElementLines, put_by_element};

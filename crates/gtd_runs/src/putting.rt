@@ -15,7 +15,7 @@ pub struct ShortPut {
     pub taken: usize,
 }
 
-/// Why a text is not put to its end.
+/// Why a text is not put completely.
 #[derive(Clone, Copy, Debug, PartialEq, Eq)]
 pub enum Stop {
     /// The output failed.
@@ -66,7 +66,8 @@ impl Progress {
         }
     }
 
-    /// The answer of a run that put its text, or that stopped: the number of lines, or why and after how many bytes.
+    /// The answer of a run that put its text, or that stopped: the number of lines, or why and after how many bytes it
+    /// stopped.
     pub fn answer(self, put: Result<(), Stop>) -> Result<u64, RunFault>
         ensures value { result ≡ answer_of put self }
     {
@@ -82,7 +83,7 @@ impl Progress {
     }
 }
 
-// Offers the bytes, then what is left of them, until all are taken.
+// Offers the bytes, and then the rest of them until all are taken.
 fn put_all<O: Output>(output: &mut O, bytes: &[u8]) -> Result<(), ShortPut>
     requires countable { O.failure_count output.old < u64.MAX }
     ensures all { OnOk result (Appends (O.taken output.old) (O.taken output.new) bytes.now) }
@@ -101,9 +102,9 @@ fn put_all<O: Output>(output: &mut O, bytes: &[u8]) -> Result<(), ShortPut>
     Ok(())
 }
 
-/// Puts a line, its end included: offers it whole, then what is left of it until it is taken. Counts the bytes that were
-/// taken, and the line where all of them were. The caller keeps both counts within a `u64`, and the output's failures
-/// under `u64::MAX` before the call.
+/// Puts a line, its end included: offers it whole, and then the rest of it until all is taken. Counts the bytes that
+/// were taken, and the line if all of them were. Both counts must stay within a `u64`. Before the call, the output's
+/// failures must be below `u64::MAX`.
 pub fn put_line<O: Output>(
     output: &mut O,
     progress: &mut Progress,
@@ -132,7 +133,7 @@ pub fn put_line<O: Output>(
     }
 }
 
-/// Ends the output, after the last line. The caller keeps its failures under `u64::MAX` before the call.
+/// Ends the output, after the last line. Before the call, its failures must be below `u64::MAX`.
 pub fn finish<O: Output>(output: &mut O) -> Result<(), Stop>
     requires countable { O.failure_count output.old < u64.MAX }
     ensures bytes { Keeps (O.taken output.old) (O.taken output.new) }

@@ -1,4 +1,4 @@
-//! A text of the records of a file, and the one run that puts it.
+//! A text made from the records of a file, and the one run that puts it.
 
 ghost use Rattle.std.specs.Prelude.{◌≡◌, ◌<◌, ◌≤◌, ◌↔◌, ℕ, List, length, IfOk, IsErrOf, IsTrue, OnOk};
 ghost use Rattle.gtd_core.specs.Limits.{most_rows};
@@ -15,20 +15,20 @@ use gtd_devices::{Input, Output};
 use gtd_records::{RecordFault, Records, read_records};
 use std::alloc::Global;
 
-/// A text of the records of a file.
+/// A text made from the records of a file.
 pub trait Report {
-    /// What it is asked of.
+    /// What the report is asked about.
     ghost subject: { Self → Subject };
 
-    /// Which text it is, by its lines.
+    /// Which lines are its text.
     ghost is_text: { Self → List Restriction → List (List ℕ) → Type 0 };
 
-    /// What it is asked of.
+    /// What the report is asked about.
     fn subject(&self) -> Subject
         ensures value { result ≡ subject self.now };
 
-    /// Puts the text line by line, from its first line on, and ends the output. The caller keeps the output's failures
-    /// under `u64::MAX` before the call.
+    /// Puts the text line by line, from its first line on, and ends the output. Before the call, the output's failures
+    /// must be below `u64::MAX`.
     fn put<O: Output>(
         &self,
         alloc: Global,
@@ -48,7 +48,7 @@ pub trait Report {
             ≡ failures_after_stop result (O.failure_count output.old) };
 }
 
-// The run, by what stands at its end.
+// The run, with the claims that hold at its end.
 fn run<I: Input, O: Output, R: Report>(
     alloc: Global,
     input: &mut I,
@@ -93,10 +93,10 @@ fn run<I: Input, O: Output, R: Report>(
 
 /// Puts a report of the record file that an input brings. Answers the number of its lines.
 ///
-/// In order: `VehicleRange` where the vehicle type that it is asked of is not from 1 to 99; `YearRange` where the year is
-/// not from 1901 to 2199; the first fault of reading the file (`Records`); `NoElement` where no record names the element;
-/// then `WriteFault` or `NoMemory`, whichever happens first. Nothing is put before the whole file was read and accepted.
-/// The caller keeps the failures of both devices under `u64::MAX` before the call.
+/// In order: `VehicleRange` if the vehicle type that it is asked about is not from 1 to 99; `YearRange` if the year is
+/// not from 1901 to 2199; the first fault of reading the file (`Records`); `NoElement` if no record names the element;
+/// then `WriteFault` or `NoMemory`, whichever happens first. Nothing is put until the whole file has been read and
+/// accepted. Before the call, the failures of both devices must be below `u64::MAX`.
 pub fn run_report<I: Input, O: Output, R: Report>(
     alloc: Global,
     input: &mut I,
@@ -105,24 +105,24 @@ pub fn run_report<I: Input, O: Output, R: Report>(
 ) -> Result<u64, RunFault>
     requires readable { I.failure_count input.old < u64.MAX }
     requires writable { O.failure_count output.old < u64.MAX }
-    // Accepted files are put: where nothing hinders it, the output took the text of the file, and the answer is the
-    // number of its lines.
+    // Accepted files are put: if nothing hinders it, the output took the text of the file, and the answer is the number
+    // of its lines.
     ensures accepted { IsVehicleInRange (R.subject report.now) → IsYearInRange (R.subject report.now)
         → AcceptedFilesArePut (IsAccepted (R.subject report.now)) (R.is_text report.now)
         (I.to_come input.old) (O.taken output.old) (O.taken output.new) result }
-    // Refused files put nothing: where nothing hinders it, the answer is the first fault of the file.
+    // Refused files put nothing: if nothing hinders it, the answer is the first fault of the file.
     ensures refused { IsVehicleInRange (R.subject report.now) → IsYearInRange (R.subject report.now)
         → RefusedFilesPutNothing (I.to_come input.old) (O.taken output.old) (O.taken output.new) result }
-    // Files that do not name the element put nothing: where nothing hinders it, the answer says so.
+    // Files that do not name the element put nothing: if nothing hinders it, the answer says so.
     ensures unnamed { IsVehicleInRange (R.subject report.now) → IsYearInRange (R.subject report.now)
         → UnacceptedFilesPutNothing (IsAccepted (R.subject report.now))
         (I.to_come input.old) (O.taken output.old) (O.taken output.new) result }
-    // What stands by each answer: after a failure or a refusal of memory, the first bytes of the same text.
+    // What each answer means: after a failure or a refusal of memory, the first bytes of the same text.
     ensures stands { HasRun (IsAccepted (R.subject report.now)) (R.is_text report.now)
         (I.to_come input.old) (O.taken output.old) (O.taken output.new) result }
-    // The answer is the number of lines of a text, also where the bytes of the file are not told.
+    // The answer is the number of lines of a text, even if the input does not tell its bytes.
     ensures lines { IfOk result (IsLineCount (R.is_text report.now)) }
-    // The end comes last: an output that took the whole text was then ended.
+    // An output that took the whole text was then ended, last of all.
     ensures ended { OnOk result (IsTrue (O.is_ended output.new)) }
     ensures vehicle { IsErrOf result RunFault.VehicleRange ↔ (IsVehicleInRange (R.subject report.now) → ⊥) }
     ensures year { IsErrOf result RunFault.YearRange

@@ -1,4 +1,4 @@
-//! What a report is asked of.
+//! What a report is asked about.
 
 ghost use Rattle.std.specs.Prelude.{◌≡◌, ◌↔◌, Any, IsTrue, List};
 ghost use Rattle.gtd_records.specs.Closing.{Restriction};
@@ -6,7 +6,7 @@ ghost use Rattle.gtd_runs.specs.Run.{IsAccepted, IsVehicleInRange, IsYearInRange
 
 use gtd_records::Records;
 
-/// What a report is asked of: a vehicle type, a year and an element, each where it is asked of one.
+/// What a report is asked about: a vehicle type, a year and an element, each if there is one.
 #[derive(Clone, Copy, Debug, PartialEq, Eq)]
 pub struct Subject {
     /// The vehicle type.

@@ -8,8 +8,8 @@ ghost use Rattle.gtd_schedule.specs.Lines.{clock_bytes};
 use gtd_calendar::{second_of_day, write_clock};
 use gtd_core::Sec;
 
-/// The place of a second in its day, and the text of the clock there. Spans that follow one another often begin at one
-/// clock, and end at one: such a text is not made again.
+/// The place of a second in its day, and the text of the clock there. Consecutive spans often begin at the same clock
+/// time and end at the same clock time. Such a text is not made again.
 #[derive(Clone, Copy)]
 pub(crate) struct ClockText {
     clock: u32,
@@ -26,7 +26,7 @@ impl ClockText {
         }
     }
 
-    /// The text of the clock at a second, made anew where it is another one than the last.
+    /// The text of the clock at a second, made anew if it differs from the last one.
     pub(crate) fn text_of(&mut self, second: Sec) -> [u8; 9]
         ensures text { result ≡ clock_text second.0 }
     {

@@ -7,7 +7,7 @@ ghost use Rattle.gtd_calendar.specs.Stamp.{date_text};
 
 use gtd_calendar::write_date;
 
-// The text of the day after that of a text, where the last digit alone is another one. So it is up to the 28th, but for
+// The text of the day after that of a text, if only the last digit differs. It is made for days up to the 28th, except
 // the 9th, the 10th, the 19th and the 20th.
 fn next_text(text: [u8; 10]) -> Option<[u8; 10]>
     ensures next { (n : ℤ) → text ≡ date_text n → IfSome result (λ next. next ≡ date_text (n +ℤ pos 1)) }
@@ -19,7 +19,7 @@ fn next_text(text: [u8; 10]) -> Option<[u8; 10]>
     Some([y1, y2, y3, y4, h1, m1, m2, h2, tens, ones + 1])
 }
 
-/// A day and its text. Moments that follow one another are often on one day, whose text is then not made again.
+/// A day and its text. Consecutive moments are often on one day, whose text is then not made again.
 #[derive(Clone, Copy)]
 pub(crate) struct DayText {
     day: i64,
@@ -28,7 +28,7 @@ pub(crate) struct DayText {
 }
 
 impl DayText {
-    /// A day and its text. The caller keeps it from 1800-01-01 to 2799-12-31.
+    /// A day and its text. The day must be from 1800-01-01 to 2799-12-31.
     pub(crate) fn new(day: i64) -> DayText
         requires { IsCalendarDay day }
     {
@@ -38,7 +38,7 @@ impl DayText {
         }
     }
 
-    // The text of another day: from that of the day before it where this is possible.
+    // The text of another day, made from that of the day before it if this is possible.
     fn other_text(&self, day: i64) -> [u8; 10]
         requires { IsCalendarDay day }
         ensures text { result ≡ date_text day }
@@ -51,8 +51,7 @@ impl DayText {
         write_date(day)
     }
 
-    /// The text of a day, made anew where it is another one than the last. The caller keeps it from 1800-01-01 to
-    /// 2799-12-31.
+    /// The text of a day, made anew if it differs from the last one. The day must be from 1800-01-01 to 2799-12-31.
     pub(crate) fn text_of(&mut self, day: i64) -> [u8; 10]
         requires { IsCalendarDay day }
         ensures text { result ≡ date_text day }

@@ -1,4 +1,4 @@
-//! Laws of the definitions: calls that do nothing, and whose contracts are what is proved.
+//! Laws of the definitions: calls that do nothing, whose contracts are what is proved.
 
 ghost use Rattle.std.specs.Prelude.{◌≡◌, ◌≤◌, ◌++◌, ◌∷◌, ℕ, List, Ok, length};
 ghost use Rattle.std.specs.List.{All};
@@ -9,13 +9,13 @@ ghost use Rattle.gtd_runs.specs.Run.{IsVehicleType};
 ghost use Rattle.gtd_schedule.specs.Schedule.{IsSchedule, header_line};
 ghost use Rattle.gtd_schedule.specs.Split.{below, not_below};
 
-/// Restrictions have one schedule at most, for a vehicle type and over a horizon.
+/// Restrictions have at most one schedule for a vehicle type and a horizon.
 pub fn one_schedule()
     ensures one { (found : List Restriction) (vehicle : ℕ) (horizon : Horizon) (a b : List (List ℕ)) →
         IsSchedule found vehicle horizon a → IsSchedule found vehicle horizon b → a ≡ b }
 {}
 
-/// Restrictions have a schedule, for each vehicle type and over each horizon.
+/// Restrictions have a schedule for each vehicle type and each horizon.
 pub fn some_schedule()
     ensures some { (found : List Restriction) (vehicle : ℕ) (horizon : Horizon) →
         (lines : List (List ℕ)) × IsSchedule found vehicle horizon lines }
@@ -28,8 +28,8 @@ pub fn short_lines()
         → IsSchedule found vehicle horizon lines → All (λ line. length line ≤ 63) lines }
 {}
 
-/// Schedules of ascending ranges of elements, one after the other, are one schedule: that of the restrictions of elements
-/// below a number, and the lines of that of the others, are the schedule of all.
+/// Schedules of ascending ranges of elements, one after the other, are one schedule: the schedule of the elements below a
+/// number, followed by the lines of the schedule of the others, is the schedule of all.
 pub fn schedule_in_parts()
     ensures parts { (found : List Restriction) (vehicle : ℕ) (horizon : Horizon) (k : ℕ) (a b : List (List ℕ)) →
         IsSchedule (below k found) vehicle horizon (header_line ∷ a)

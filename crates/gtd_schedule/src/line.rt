@@ -13,7 +13,7 @@ use gtd_records::Direction;
 use itoa::Buffer;
 use std::alloc::AllocError;
 
-// Writes what the lines of an element in a direction begin with, in place of what the buffer had.
+// Writes what the lines of an element in a direction begin with, in place of what the buffer held.
 pub(crate) fn write_head(
     line: &mut Vec<u8>,
     element: u64,
@@ -32,7 +32,8 @@ pub(crate) fn write_head(
     line.extend_from_slice(b",")
 }
 
-/// What lines keep for those after them: the text of a day, and those of the clocks at which spans begin and end.
+/// What a line keeps for the lines after it: the text of a day, and those of the clock times at which spans begin and
+/// end.
 #[derive(Clone, Copy)]
 pub(crate) struct KeptTexts {
     days: DayText,
@@ -41,7 +42,7 @@ pub(crate) struct KeptTexts {
 }
 
 impl KeptTexts {
-    /// Those of the first second of all.
+    /// The texts of second 0.
     pub(crate) fn new() -> KeptTexts {
         let clock = ClockText::new(Sec(0));
         KeptTexts {
@@ -64,7 +65,7 @@ fn moment_text(days: &mut DayText, clocks: &mut ClockText, second: Sec, end: u8)
     ]
 }
 
-// Writes the line of a span behind the head of its line, which has so many bytes.
+// Writes the line of a span after the head of its line, which has so many bytes.
 pub(crate) fn write_span(
     line: &mut Vec<u8>,
     kept: &mut KeptTexts,

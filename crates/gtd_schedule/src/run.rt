@@ -80,8 +80,8 @@ impl Report for Schedule {
 /// 99. Answers the number of its lines, the header included.
 ///
 /// In order: `VehicleRange`; then the first fault of reading the file (`Records`); then `WriteFault` or `NoMemory`,
-/// whichever happens first. Nothing is put before the whole file was read and accepted. Each span is put as it is found:
-/// no list of them is kept. The caller keeps the failures of both devices under `u64::MAX` before the call.
+/// whichever happens first. Nothing is put until the whole file has been read and accepted. Each span is put as it is
+/// found: no list of spans is kept. Before the call, the failures of both devices must be below `u64::MAX`.
 ///
 /// ```
 /// let file = b"element,direction,vehicle,domain\n17,negative,11,\n";
@@ -101,15 +101,15 @@ pub fn run_schedule<I: Input, O: Output>(
 ) -> Result<u64, RunFault>
     requires readable { I.failure_count input.old < u64.MAX }
     requires writable { O.failure_count output.old < u64.MAX }
-    // The headline: where nothing hindered the run, the output took the schedule of a restriction file, and the answer is
+    // The headline. If nothing hindered the run: of a restriction file the output took the schedule, and the answer is
     // the number of its lines; of any other file it took nothing, and the answer is the file's first fault.
     ensures headline { IsVehicleType vehicle → Headline vehicle horizon
         (I.to_come input.old) (O.taken output.old) (O.taken output.new) result }
-    // What stands by each answer: after a failure or a refusal of memory, the first bytes of the same schedule.
+    // What each answer means: after a failure or a refusal of memory, the first bytes of the same schedule.
     ensures stands { HasRun
         (λ found. ⊤) (λ found lines. IsSchedule found vehicle horizon lines)
         (I.to_come input.old) (O.taken output.old) (O.taken output.new) result }
-    // The end comes last: an output that took the whole text was then ended.
+    // An output that took the whole text was then ended, last of all.
     ensures ended { OnOk result (IsTrue (O.is_ended output.new)) }
     ensures vehicle { IsErrOf result RunFault.VehicleRange ↔ (IsVehicleType vehicle → ⊥) }
     ensures year { IsErrOf result RunFault.YearRange → ⊥ }

@@ -4,7 +4,7 @@ use Rattle.gtd_core.specs.declared.domain.Op.TheVariants.{Union, Meet, Minus}
 use Rattle.gtd_spans.specs.declared.sweep.Sides.{Sides}
 use Rattle.gtd_spans.specs.declared.sweep.Sides.TheVariants.{Both, Left}
 
--- one side alone is taken away
+-- only one side is subtracted
 abbrev pub TakesAway : Sides → Op → Type 0
 TakesAway Both op = Unit {0}
 TakesAway Left Union = ⊥

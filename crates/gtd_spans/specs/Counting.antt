@@ -2,13 +2,13 @@
 use Rattle.std.specs.Prelude.{◌≡◌, ℕ, zero, suc, ◌+◌, ℤ, pos, ◌+ℤ◌, ◌⊎◌, List, [], ◌∷◌, Option, Some, None}
 use Rattle.gtd_core.specs.Seconds.{Interval}
 
--- of the n seconds from a second on, so many are in the set
+-- of the n seconds from a second on, this many are in the set
 unfoldable pub IsCount : (ℤ → Type 0) → ℤ → ℕ → ℕ → Type 0
 IsCount set t zero count = count ≡ 0
 IsCount set t (suc n) count =
     (rest : ℕ) × IsCount set (t +ℤ pos 1) n rest × ((set t × (count ≡ rest + 1)) ⊎ ((set t → ⊥) × (count ≡ rest)))
 
--- the span at hand and those behind it, or none
+-- the span at hand and those after it, or none
 abbrev pub spans_to_come : Option Interval → List Interval → List Interval
 spans_to_come None rest = []
 spans_to_come (Some x) rest = x ∷ rest

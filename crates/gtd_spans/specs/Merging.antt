@@ -1,4 +1,4 @@
--- What a merge, together with what its sides still give, has still to hand out.
+-- What a merge still has to hand out, given what its sides still give.
 use Rattle.std.specs.Prelude.{ℕ, ◌+◌, ◌≡◌, ◌≢◌, ◌<ℤ◌, List, [], ◌∷◌, Option, Some, None}
 use Rattle.gtd_core.specs.Seconds.{Interval}
 use Rattle.gtd_core.specs.declared.domain.Op.{Op}
@@ -16,13 +16,13 @@ abbrev pub listed : Option Interval → List Interval
 listed None = []
 listed (Some x) = x ∷ []
 
--- what a side has still to come: what it was told and has not used, and then what its source gives
+-- what is still to come of a side: what it was told and has not used, and then what its source gives
 abbrev pub side_list : Side → List Interval → List Interval
 side_list Open l = l
 side_list (Held x) l = x ∷ l
 side_list Ended l = []
 
--- the normal list that a merge has still to hand out, where its sides still give l and r
+-- the normal list that a merge still has to hand out, if its sides still give l and r
 abbrev pub still : Merge → List Interval → List Interval → List Interval
 still s l r = combine Union (listed s.kept) (combine s.op (side_list s.left l) (side_list s.right r))
 
@@ -39,7 +39,7 @@ OnlyUnionKeeps Meet (Some x) = ⊥
 OnlyUnionKeeps Minus None = Unit {0}
 OnlyUnionKeeps Minus (Some x) = ⊥
 
--- the merge may be in this state where its sides still give l and r
+-- the merge may be in this state if its sides still give l and r
 pub record Fits (s : Merge) (l r : List Interval) : Type 0 where
   pub left : IsNormal (side_list s.left l)
   pub right : IsNormal (side_list s.right r)
@@ -54,7 +54,7 @@ Keeps s t = (l r : List Interval) → Fits s l r → Fits t l r × (still s l r 
 abbrev pub Gives : Interval → Merge → Merge → Type 0
 Gives x s t = (l r : List Interval) → Fits s l r → Fits t l r × (still s l r ≡ x ∷ still t l r)
 
--- the next thing that the merge is told is of the left side, or of the right one
+-- what the merge is told next is of the left side, or of the right one
 abbrev pub AwaitsLeft : Merge → Type 0
 AwaitsLeft s = s.left ≡ Open
 
@@ -73,7 +73,7 @@ abbrev pub Takes : List Interval → Option Interval → List Interval → Type 
 Takes before None after = (before ≡ []) × (after ≡ [])
 Takes before (Some x) after = before ≡ x ∷ after
 
--- 0 where the side has ended, else 1
+-- 0 if the side has ended, otherwise 1
 abbrev pub unended : Side → ℕ
 unended Open = 1
 unended (Held x) = 1
@@ -83,7 +83,7 @@ unended Ended = 0
 abbrev pub SameEnded : Merge → Merge → Type 0
 SameEnded s t = (unended s.left ≡ unended t.left) × (unended s.right ≡ unended t.right)
 
--- the state after the left side was told what comes first in it; the right side
+-- the state after the left side was told its first interval; the same for the right side
 abbrev pub TellsLeft : Merge → Option Interval → Merge → Type 0
 TellsLeft s told t = (before after r : List Interval) → Takes before told after → Fits s before r
     → Fits t after r × (still s before r ≡ still t after r)
@@ -96,7 +96,7 @@ TellsRight s told t = (l before after : List Interval) → Takes before told aft
 abbrev pub unended_sides : Merge → ℕ
 unended_sides s = unended s.left + unended s.right
 
--- 1 where a side was told a span, and 0 where it was told that there is none
+-- 1 if a side was told a span, and 0 if it was told that there is none
 abbrev pub told_count : Option Interval → ℕ
 told_count None = 0
 told_count (Some x) = 1

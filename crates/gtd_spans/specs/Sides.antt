@@ -1,4 +1,4 @@
--- The two sides of an operator, and what is taken of the spans that come first on them.
+-- The two sides of an operator, and what is taken of their first spans.
 use Rattle.std.specs.Prelude.{◌+◌, ℤ, ◌≡◌, ◌⊎◌, ◌↔◌, ◌≤ℤ◌, ◌<ℤ◌, List, [], ◌∷◌, length, Option, Some, None, IfSome}
 use Rattle.gtd_core.specs.Seconds.{Interval, Within}
 use Rattle.gtd_core.specs.declared.domain.Op.{Op}
@@ -7,7 +7,8 @@ use Rattle.gtd_spans.specs.declared.merge.Side.TheVariants.{Held, Ended}
 use Rattle.gtd_spans.specs.Normal.{Holds, AllBeginFrom, IsNormal, combine}
 pub use Rattle.gtd_spans.specs.Merging.{side_list, Takes}
 
--- what is still to come of a side that was told its first interval, or that it has none: the interval, and then these
+-- what is still to come of a side that was told its first interval, or that it has none: the interval, and then the
+-- rest
 abbrev pub told_list : Option Interval → List Interval → List Interval
 told_list None l = []
 told_list (Some x) l = x ∷ l
@@ -52,7 +53,8 @@ abbrev pub Hands : Op → Interval → Interval → Side → Side → Option Int
 Hands op x y left right g new_left new_right = left ≡ Held x → right ≡ Held y → (l r : List Interval)
     → IsNormal (x ∷ l) → IsNormal (y ∷ r) → UsesUp op left right g new_left new_right l r
 
--- An interval has been joined of what a union had first, and lies before what its sides still have, or reaches into it.
+-- An interval has been joined from the first intervals of a union, and lies before what its sides still have, or
+-- reaches into it.
 pub record Joining (old : List Interval) (x : Interval) (l r : List Interval) : Type 0 where
   pub some : x.from <ℤ x.until
   pub left_normal : IsNormal l

@@ -24,7 +24,7 @@ fn seconds_within(span: Span, midnight: Sec) -> u32
     }
 }
 
-/// How many seconds of the spans to come are on the day. Spans that end on the day are taken off.
+/// How many seconds of the spans to come are on the day. Spans that end on the day are used up.
 fn count_day<S: SpanSource>(source: &mut S, held: &mut Option<Span>, midnight: Sec) -> u32
     requires fits { (midnight.0 +ℤ pos day_seconds) <ℤ pos (2 ^ 63) }
     requires normal { IsNormal (spans_to_come held.old (S.rest source.old)) }
@@ -49,7 +49,7 @@ fn count_day<S: SpanSource>(source: &mut S, held: &mut Option<Span>, midnight: S
     count
 }
 
-/// The spans of a source that are still to be counted, day by day. In contracts it is the normal list of them.
+/// The spans of a source that are still to be counted, day by day. In contracts it is the normal list of these spans.
 #[derive(Drop)]
 pub struct ByDay<S: SpanSource> {
     source: S,
@@ -78,8 +78,8 @@ impl<S: SpanSource> ByDay<S> {
         ByDay { source, held }
     }
 
-    /// How many of the seconds are on the day that begins at midnight. Those before its end are then done. The caller keeps
-    /// the number of the day's end within an `i64`.
+    /// How many of the seconds are on the day that begins at midnight. Those before its end are then used up. The number of
+    /// the day's end must fit into an `i64`.
     pub fn count(&mut self, midnight: Sec) -> u32
         requires fits { (midnight.0 +ℤ pos day_seconds) <ℤ pos (2 ^ 63) }
         ensures count { IsCount (Holds self.old) midnight.0 day_seconds result }

@@ -1,4 +1,4 @@
-//! What is left of a range of seconds between spans.
+//! The gaps that spans leave in a range of seconds.
 
 ghost use Rattle.std.specs.Prelude.{◌≡◌, [], ◌∷◌, ℤ, List, ◌↔◌};
 ghost use Rattle.gtd_core.specs.Seconds.{Interval, Within};
@@ -9,18 +9,18 @@ ghost use Rattle.gtd_spans.specs.Sweeping.{Takes};
 
 use gtd_core::{Horizon, Sec, Span};
 
-/// What spans leave of a range of seconds. The spans are told one by one, in order, and each gap is handed out before the
-/// span that ends it.
+/// The gaps that spans leave in a range of seconds. The spans are given one by one, in order, and each gap is handed out
+/// before the span that ends it.
 #[derive(Debug, Drop)]
 pub struct Gaps {
-    /// The first second behind all spans that were told, or of the range.
+    /// The first second after all spans so far, or the first of the range.
     from: Sec,
-    /// The first second behind the range.
+    /// The first second after the range.
     until: Sec,
 }
 
 impl Gaps {
-    /// All seconds of a horizon, before any span is told.
+    /// All seconds of a horizon, before any span is given.
     pub fn new(horizon: Horizon) -> Gaps
         ensures seconds { (xs : List Interval) (t : ℤ)
             → Holds (gaps_left result xs) t ↔ (Within (whole horizon) t × (Holds xs t → ⊥)) }
@@ -31,7 +31,7 @@ impl Gaps {
         }
     }
 
-    /// The gap before the next span, if there is one. The caller tells the spans of a normal list, from its first on.
+    /// The gap before the next span, if there is one. The caller gives the spans of a normal list, from its first on.
     pub fn before(&mut self, span: Span) -> Option<Span>
         ensures passes { (xs : List Interval) → IsNormal (span ∷ xs) → Passes self.old span xs result self.new }
     {
@@ -41,7 +41,7 @@ impl Gaps {
         gap
     }
 
-    /// The gap behind the last span, if there is one, and none from then on.
+    /// The gap after the last span, if there is one; after that, none.
     pub fn last(&mut self) -> Option<Span>
         ensures takes { Takes (gaps_left self.old []) result (gaps_left self.new []) }
     {

@@ -1,4 +1,4 @@
-//! What holds of all sets of seconds, whatever reads or makes them.
+//! Laws of all sets of seconds, whatever reads or makes them.
 
 ghost use Rattle.std.specs.Prelude.{◌≡◌, ◌⊎◌, ℕ, ℤ, List};
 ghost use Rattle.gtd_core.specs.Seconds.{Interval};
@@ -16,13 +16,13 @@ pub fn one_normal_list<S: SecondSet>()
         → IsNormalFor S.contains from until xs → IsNormalFor S.contains from until ys → xs ≡ ys }
 {}
 
-/// A set of which each second is or is not has a normal list between any two whole numbers.
+/// A set has a normal list between any two whole numbers if each second is in it or not in it.
 pub fn some_normal_list<S: SecondSet>()
     ensures some { ((t : ℤ) → S.contains t ⊎ (S.contains t → ⊥)) → (from until : ℤ)
         → (xs : List Interval) × IsNormalFor S.contains from until xs }
 {}
 
-/// There is one count of a set's seconds among those of a stretch.
+/// There is at most one count of a set's seconds in a stretch.
 pub fn one_count<S: SecondSet>()
     ensures one { (t : ℤ) (n i j : ℕ)
         → IsCount S.contains t n i → IsCount S.contains t n j → i ≡ j }

@@ -1,11 +1,11 @@
 //! Sets of seconds as normal lists of spans: lists, sources that hand one out span by span, and the sweeps under both.
 //!
-//! A list is normal where its spans are in order, none is empty, and between two of them lies a second that neither
-//! holds. A set of seconds has exactly one such list between two whole numbers, so equal lists are equal sets.
+//! A list is normal if its spans are in order, none is empty, and between any two of them there is a second that
+//! neither holds. A set of seconds has exactly one such list between two whole numbers, so equal lists are equal sets.
 //!
-//! A [`Sweep`] is a set operator without its sides. It asks for their spans one at a time, and hands out those of the
-//! result. [`Unite`], [`Both`], [`Without`] and [`Outside`] drive one over sources, and the list operations collect
-//! these over lists. [`first_of`], [`longer`], [`share`] and [`cut`] take the spans that come first on two sides. Only
+//! A [`Sweep`] is a set operator without its sides. It asks for their spans one at a time, and hands out the spans of
+//! the result. [`Unite`], [`Both`], [`Without`] and [`Outside`] drive one over sources, and the list operations collect
+//! these over lists. [`first_of`], [`longer`], [`share`] and [`cut`] take the first spans of two sides. Only
 //! [`SpanList::push_start`] on a new span, [`SpanList::collect`] and the five list operations take memory.
 #![tactic(auto)]
 

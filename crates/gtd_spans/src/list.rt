@@ -49,10 +49,9 @@ impl SpanList {
         self.spans.as_slice()
     }
 
-    /// Adds the seconds of a span, of which the caller keeps that it begins no earlier than the last one of the list.
-    /// Where it ends does not matter.
+    /// Adds the seconds of a span, which must not begin before the last one of the list. Where it ends does not matter.
     ///
-    /// A span that begins at or before the end of the last one is joined to it, which takes no memory and succeeds.
+    /// A span that begins at or before the end of the last one is joined to it; this takes no memory and succeeds.
     /// After a refusal of memory the list is as it was.
     pub fn push_start(&mut self, x: Span) -> Result<(), AllocError>
         requires order { NoneBeginsAfter x.from self.old }
@@ -111,7 +110,7 @@ impl SpanList {
     }
 
     /// The least later second of the horizon at which membership differs from that at the given one, or `None` exactly
-    /// where there is none. The caller keeps the second and the list in the horizon.
+    /// if there is none. The second and the list must be in the horizon.
     pub fn next_change(&self, second: Sec, horizon: Horizon) -> Option<Sec>
         requires second { Within (whole horizon) second.0 }
         requires spans { (t : ℤ) → Holds self.now t → Within (whole horizon) t }
@@ -123,7 +122,7 @@ impl SpanList {
     }
 }
 
-/// The spans of a list that are still to come, without a copy of them.
+/// The spans of a list that are still to come, without a copy.
 #[derive(Drop)]
 pub(crate) struct Listed<'a> {
     pub(crate) spans: &'a [Span],
@@ -162,7 +161,7 @@ impl SpanList {
         Ok(())
     }
 
-    /// The list of the spans that a source still has to come, which are then used up.
+    /// The list of the spans that a source still has to give, which are then used up.
     pub fn collect<S: SpanSource>(alloc: Global, source: &mut S) -> Result<SpanList, AllocError>
         ensures list { IfOk result (λ r. r ≡ S.rest source.old) }
     {

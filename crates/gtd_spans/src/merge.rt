@@ -72,7 +72,8 @@ pub enum Ask {
     End,
 }
 
-/// A set operator over two sides. A union keeps its latest span back until it is known that neither side reaches it.
+/// A set operator over two sides. A union keeps its latest span back until it is known that neither side still reaches
+/// it.
 #[derive(Clone, Copy, Debug)]
 pub(crate) struct Merge {
     op: Op,
@@ -81,7 +82,7 @@ pub(crate) struct Merge {
     kept: Option<Span>,
 }
 
-/// What is handed out, and what is kept back, once `next` comes after `kept`.
+/// What is handed out and what is kept back when `next` comes after `kept`.
 fn joined(kept: Option<Span>, next: Span) -> (Option<Span>, Span)
     ensures seconds { IfSome kept (λ k. k.from ≤ℤ next.from) → (t : ℤ) →
         (Holds (listed kept) t ⊎ Within next t) ↔ (Holds (listed result.0) t ⊎ Within result.1 t) }
@@ -132,7 +133,7 @@ impl Merge {
         }
     }
 
-    /// Tells the side that the last step asked for its first span, or that it has none.
+    /// Gives the side that the last step asked for its first span, or `None` if it has none.
     pub fn tell(&mut self, told: Option<Span>)
         ensures op { self.new.op ≡ self.old.op }
         ensures left { AwaitsLeft self.old → TellsLeft self.old told self.new }
@@ -183,7 +184,7 @@ impl Merge {
         }
     }
 
-    /// What is kept back, where both sides have ended.
+    /// What is kept back, once both sides have ended.
     fn take_kept(&mut self) -> Ask
         requires op { self.old.op ≡ Union }
         requires left { self.old.left ≡ Ended }
@@ -361,8 +362,8 @@ impl Merge {
         }
     }
 
-    /// What a difference asks for, or has to give, where its left side gives nothing more. `Left` then asks for the right
-    /// one.
+    /// What a difference asks for, or has to give, if its left side gives nothing more. `Left` then asks for the right
+    /// side.
     pub fn step_beside(&mut self) -> Ask
         requires op { self.old.op ≡ Minus }
         ensures op { self.new.op ≡ self.old.op }

@@ -1,4 +1,4 @@
-//! What set operators make of lists. Each collects a source over the two lists, and answers want of memory alone.
+//! Set operators on lists. Each collects a source over the two lists, and fails only if memory is refused.
 
 ghost use Rattle.std.specs.Prelude.{◌⊎◌, ◌↔◌, ℤ, IfOk, IsTrue};
 ghost use Rattle.gtd_core.specs.Seconds.{Within};

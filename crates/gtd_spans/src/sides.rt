@@ -1,4 +1,4 @@
-//! What is taken of the spans that come first on the two sides of an operator.
+//! What is taken of the first spans of the two sides of an operator.
 
 ghost use Rattle.gtd_core.specs.declared.domain.Op.TheVariants.{Meet, Minus};
 ghost use Rattle.gtd_spans.specs.Sides.{Hands, IsFirstOf, IsLonger};
@@ -19,8 +19,8 @@ pub fn first_of(x: Option<Span>, y: Option<Span>) -> Option<Span>
     }
 }
 
-/// The span up to the later of its end and that of a next one, if there is one and it begins no later than that end. A
-/// span that touches another is joined to it.
+/// The span joined to a next one that overlaps or touches it: up to the later of their ends. `None` if there is no such
+/// next span.
 pub fn longer(x: Span, next: Option<Span>) -> Option<Span>
     ensures longer { IsLonger x next result }
 {
@@ -31,7 +31,7 @@ pub fn longer(x: Span, next: Option<Span>) -> Option<Span>
     Some(x.until_later(x.until().later(next.until())))
 }
 
-/// What the spans that come first on two sides share. The one that ends first is used up.
+/// What the first spans of two sides share. The one that ends first is used up.
 pub fn share(left: &mut Side, right: &mut Side, x: Span, y: Span) -> Option<Span>
     ensures hands { Hands Meet x y left.old right.old result left.new right.new }
 {
@@ -44,8 +44,8 @@ pub fn share(left: &mut Side, right: &mut Side, x: Span, y: Span) -> Option<Span
     both
 }
 
-/// What the span that comes first on the right side leaves of that on the left one before its own end. The one that ends
-/// first is used up, and the other keeps what lies behind it.
+/// The part of the left side's first span before the right side's first span. The span that ends first is used up; the
+/// left one keeps what comes after the right one.
 pub fn cut(left: &mut Side, right: &mut Side, x: Span, y: Span) -> Option<Span>
     ensures hands { Hands Minus x y left.old right.old result left.new right.new }
 {

@@ -13,13 +13,13 @@ use crate::merge::Ask;
 use crate::sweep::Sweep;
 use gtd_core::{Horizon, Op, Sec, Span};
 
-/// What hands out spans one after the other. Its meaning is the normal list of those that are still to come: `rest`
+/// A source hands out spans one after the other. Its meaning is the normal list of those that are still to come: `rest`
 /// in contracts.
 pub trait SpanSource {
     // The spans that are still to come.
     ghost rest: { Self → List Interval };
 
-    /// Takes the first span off the list. `None` means that it is empty, and it then stays so.
+    /// Takes the first span off the list. `None` means that the list is empty, and it stays empty.
     fn next(&mut self) -> Option<Span>
         ensures takes { Takes (rest self.old) result (rest self.new) };
 
@@ -91,7 +91,7 @@ impl<A: SpanSource, B: SpanSource> SpanSource for Pair<A, B> {
 pub struct Unite<A: SpanSource, B: SpanSource>(Pair<A, B>);
 
 impl<A: SpanSource, B: SpanSource> Unite<A, B> {
-    /// The union of two sources, before any span of theirs is asked for.
+    /// The union of two sources, before any of their spans is asked for.
     pub fn new(a: A, b: B) -> Unite<A, B>
         ensures list { ⟦<Unite<A, B> as SpanSource>⟧.rest result
             ≡ combine Union (A.rest a) (B.rest b) }
@@ -117,7 +117,7 @@ impl<A: SpanSource, B: SpanSource> SpanSource for Unite<A, B> {
 pub struct Both<A: SpanSource, B: SpanSource>(Pair<A, B>);
 
 impl<A: SpanSource, B: SpanSource> Both<A, B> {
-    /// The intersection of two sources, before any span of theirs is asked for.
+    /// The intersection of two sources, before any of their spans is asked for.
     pub fn new(a: A, b: B) -> Both<A, B>
         ensures list { ⟦<Both<A, B> as SpanSource>⟧.rest result
             ≡ combine Meet (A.rest a) (B.rest b) }
@@ -138,12 +138,12 @@ impl<A: SpanSource, B: SpanSource> SpanSource for Both<A, B> {
     ghost is_normal = { λ s. still-normal s.0.sweep _ _ };
 }
 
-/// The seconds of the first of two sources that the second has not, as a source.
+/// The seconds of the first of two sources that are not in the second, as a source.
 #[derive(Drop)]
 pub struct Without<A: SpanSource, B: SpanSource>(Pair<A, B>);
 
 impl<A: SpanSource, B: SpanSource> Without<A, B> {
-    /// The difference of two sources, before any span of theirs is asked for.
+    /// The difference of two sources, before any of their spans is asked for.
     pub fn new(a: A, b: B) -> Without<A, B>
         ensures list { ⟦<Without<A, B> as SpanSource>⟧.rest result
             ≡ combine Minus (A.rest a) (B.rest b) }
@@ -164,7 +164,7 @@ impl<A: SpanSource, B: SpanSource> SpanSource for Without<A, B> {
     ghost is_normal = { λ s. still-normal s.0.sweep _ _ };
 }
 
-/// The seconds of a horizon that a source has not, as a source.
+/// The seconds of a horizon that are not in a source, as a source.
 #[derive(Drop)]
 pub struct Outside<A: SpanSource> {
     inner: A,
@@ -220,9 +220,8 @@ fn next_outside<A: SpanSource>(inner: &mut A, sweep: &mut Sweep) -> Option<Span>
     }
 }
 
-/// The least second after the given one, and before `until`, at which membership in what the source has to come differs
-/// from that at the given one, or `None` exactly where there is none. The caller keeps the spans of the source before
-/// `until`.
+/// The least second after the given one, and before `until`, at which membership in what the source still gives differs
+/// from that at the given one, or `None` exactly if there is none. The spans of the source must be before `until`.
 pub fn next_change<S: SpanSource>(source: &mut S, second: Sec, until: Sec) -> Option<Sec>
     requires early { (t : ℤ) → Holds (S.rest source.old) t → t <ℤ until.0 }
     ensures change { MatchOption result (NeverChanges (Holds (S.rest source.old)) second.0 until.0)

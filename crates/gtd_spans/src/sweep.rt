@@ -15,16 +15,16 @@ use gtd_core::{Horizon, Op, Span};
 #[derive(Clone, Copy, Debug)]
 pub(crate) enum Sides {
     Both,
-    /// The left one alone, which is the right side of its merge.
+    /// Only the left one, which is the right side of its merge.
     Left,
 }
 
 /// A set operator without its sides. It is told their spans one at a time, and holds at most three of them.
 ///
 /// The caller keeps an order: after each [`Ask::Left`] or [`Ask::Right`], and before the next `step`, comes one `tell`
-/// with the first span still to come of that side's normal list, or with `None` where that is empty. What `step` then
-/// gives is, span by span, the normal list of what the operator makes of the two sides. In contracts `still` is what is
-/// to come of it, by what the sides still give. A side that was told `None` is asked no more.
+/// with the first span still to come of that side's normal list, or with `None` if that list is empty. Then `step`
+/// gives, span by span, the normal list of what the operator makes of the two sides. In contracts `still` is the rest
+/// of that list, by what the sides still give. A side that was told `None` is not asked again.
 #[derive(Clone, Copy, Debug)]
 pub struct Sweep {
     sides: Sides,
@@ -52,7 +52,7 @@ impl Sweep {
         }
     }
 
-    /// The sweep of the seconds of a horizon that its one side has not, before any step. That side is the left: the
+    /// The sweep of the seconds of a horizon that are not in its one side, before any step. That side is the left: the
     /// right is never asked.
     pub fn outside(horizon: Horizon) -> Sweep
         ensures one_side { HasOneSide result }
@@ -69,8 +69,8 @@ impl Sweep {
         }
     }
 
-    /// What the sweep asks for, or has to give: `Give` takes the first span off what is still to come, `End` comes only
-    /// where nothing is, and `Left` and `Right` leave it as it is.
+    /// What the sweep asks for, or has to give. `Give` takes the first span off what is still to come, `End` comes only
+    /// if nothing is, and `Left` and `Right` change nothing.
     pub fn step(&mut self) -> Ask
         ensures steps { Steps self.old result self.new }
         ensures sides { HasOneSide self.new ↔ HasOneSide self.old }
@@ -87,8 +87,8 @@ impl Sweep {
         }
     }
 
-    /// Hands in the first span still to come of the side that the last step asked for, or that it has none. What is
-    /// still to come stays.
+    /// Hands in the first span still to come of the side that the last step asked for, or `None` if it has none. What
+    /// is still to come does not change.
     pub fn tell(&mut self, told: Option<Span>)
         ensures left { AwaitsLeft self.old → TellsLeft self.old told self.new }
         ensures right { AwaitsRight self.old → TellsRight self.old told self.new }

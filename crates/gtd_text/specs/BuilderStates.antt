@@ -15,15 +15,15 @@ abbrev pub fields_with : TokenKind → List TokenKind → List TokenKind
 fields_with (Field letter value digits) fields = Field letter value digits ∷ fields
 fields_with sign fields = []
 
--- What is kept of what stands before an item.
+-- What is kept of what comes before an item.
 abbrev pub pending_of : Pending → building.Pending
 pending_of pending = (sum_of pending.sum, product_of pending.product)
 
--- What stands before the open brackets, the innermost first.
+-- What comes before the open brackets, the innermost first.
 unfoldable pub opened : List Pending → List building.Pending
 opened outer = reverse (map pending_of outer)
 
--- What is kept of a state, given what stands before the open brackets and the fields since the last sign.
+-- What is kept of a state, given what comes before the open brackets and the fields since the last sign.
 abbrev pub stage_of : List building.Pending → List TokenKind → State → building.State
 stage_of outer fields (state.Expecting p) =
     building.Expecting outer (sum_of p.sum) (product_of p.product)
@@ -36,7 +36,7 @@ stage_of outer fields (state.InDuration p start parts) =
 stage_of outer fields (state.AfterItem sum term) =
     building.AfterItem outer (sum_of sum) (tree_of term)
 
--- The state takes a token of this kind, and what has ended then is in its ranges.
+-- The state takes a token of this kind, and what then has ended is in its ranges.
 pub record TakesToken (outer : List building.Pending) (state : State) (kind : TokenKind) : Type 0 where
   pub fields : List TokenKind
   pub next : building.State

@@ -1,5 +1,5 @@
--- What the check keeps in one pass over the tokens: the first fault of each kind so far, and what finds those to come. It
--- defines no fault: that is done by `FirstFault`, and it is proved that both say the same.
+-- What the check keeps in one pass over the tokens: the first fault of each kind so far, and what finds later ones. It
+-- defines no fault: `FirstFault` does, and it is proved that both say the same.
 use Rattle.std.specs.Prelude.{ℕ, [], Option, Some, None, nat_lt, if◌then◌else◌}
 use Rattle.gtd_core.specs.Limits.{most_bound, most_basic_domains, most_depth}
 use Rattle.gtd_core.specs.Ranges.{bound_of}
@@ -15,7 +15,7 @@ use Rattle.gtd_text.specs.Grammar.{with_duration_field, zero_parts}
 use Rattle.gtd_text.specs.Found.{count_after, depth_after, or_else}
 use Rattle.gtd_text.specs.Summary.{seen, seen_with, takes, misfit, ends}
 
--- The fault of a token after which so many brackets are open, or so many parentheses have opened.
+-- The fault of a token after which this many brackets are open, or this many parentheses have opened.
 abbrev pub too_deep_at : ℕ → ℕ → Option TextFault
 too_deep_at depth place = if nat_lt most_depth depth then Some (record { kind = faults.TooDeep; place = place }) else None
 
@@ -40,7 +40,7 @@ fault_of_opened (Some duration) =
     then Some (record { kind = faults.TooLongDuration; place = duration.place })
     else None
 
--- The duration that is open after one more token, which stands at this place.
+-- The duration that is open after one more token, which is at this place.
 abbrev pub with_field : Option OpenDuration → TokenKind → Option OpenDuration
 with_field None field = None
 with_field (Some duration) field =
@@ -56,7 +56,7 @@ abbrev pub too_long_with : Option TextFault → Option OpenDuration → TokenKin
 too_long_with found opened (Field letter value digits) = found
 too_long_with found opened sign = or_else found (fault_of_opened opened)
 
--- No token is read.
+-- Before any token is read.
 abbrev pub no_findings : Findings
 no_findings = record {
   seen = seen [];
@@ -80,7 +80,7 @@ findings_with before token = record {
   too_long = too_long_with before.too_long before.opened token.kind;
 }
 
--- The first fault, where the text ends here.
+-- The first fault, if the text ends here.
 abbrev pub first_of : ℕ → Findings → Option TextFault
 first_of end findings =
     or_else (or_else (or_else findings.too_deep findings.too_many) (or_else findings.misfit (incomplete_at findings.seen end)))

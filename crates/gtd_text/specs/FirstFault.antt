@@ -41,16 +41,16 @@ abbrev pub opens_too_long : TokenKind → List TokenKind → Bool
 opens_too_long OpenBrace after = is_too_long (fields_at_front after)
 opens_too_long token after = false
 
--- Tokens that stand before a place are listed the newest first.
+-- Tokens before a place are listed the newest first.
 
--- How many brackets are open. A bracket that closes where none is open leaves it 0.
+-- How many brackets are open. A bracket that closes when none is open leaves it 0.
 abbrev pub depth : List TokenKind → ℕ
 depth [] = 0
 depth (OpenBracket ∷ before) = depth before + 1
 depth (CloseBracket ∷ before) = depth before - 1
 depth (token ∷ before) = depth before
 
--- The last token that is no field.
+-- The last token that is not a field.
 abbrev pub last_sign : List TokenKind → Option TokenKind
 last_sign [] = None
 last_sign (Field letter value digits ∷ before) = last_sign before
@@ -61,8 +61,8 @@ abbrev pub last_token : List TokenKind → Option TokenKind
 last_token [] = None
 last_token (token ∷ before) = Some token
 
--- Which fault it is that a field does not fit. A field belongs here by its letter if the last sign is `(` and a start
--- has the letter, or `{` and a duration has it. Then the fault is that it is repeated, or else that it is out of
+-- The fault of a field that does not fit. By its letter, a field belongs here if the last sign is `(` and a start has
+-- the letter, or `{` and a duration has it. Then the fault is that it is repeated, or otherwise that it is out of
 -- range.
 abbrev pub misfit_of : Bool → Bool → Fault
 misfit_of belongs repeated = if belongs then (if repeated then faults.Repeated else faults.FieldRange) else faults.Unexpected
@@ -77,7 +77,7 @@ abbrev pub minus_fault : Option TokenKind → Fault
 minus_fault (Some OpenBrace) = faults.Negative
 minus_fault last = faults.Unexpected
 
--- Which fault it is that a token does not fit after these.
+-- The fault of a token that does not fit after these.
 abbrev pub fault_of : List TokenKind → TokenKind → Fault
 fault_of before (Field letter value digits) = field_fault (last_sign before) before letter
 fault_of before Minus = minus_fault (last_token before)
@@ -88,7 +88,7 @@ fault_of before token = faults.Unexpected
 abbrev pub Phase : Type 0
 Phase = List TokenKind → TokenKind → List TokenKind → Option Fault
 
--- A bracket opens where 128 are open, and makes the depth 129.
+-- A bracket opens when 128 are open, and makes the depth 129.
 abbrev pub bracket_fault : Phase
 bracket_fault before OpenBracket after = if depth before == most_depth then Some faults.TooDeep else None
 bracket_fault before token after = None
@@ -125,8 +125,8 @@ pub record IsFirst (phase : Phase) (tokens : List Token) (fault : TextFault) : T
   pub first : (earlier : List Token) (other : Token) (later : List Token) → before ≡ earlier ++ other ∷ later
       → phase (newest_first earlier) other.kind (kinds (later ++ token ∷ after)) ≡ None
 
--- The fault is that of the first token with which no expression goes on: those before it begin one, and with it they
--- begin none.
+-- The fault is that of the first token with which no expression goes on: the tokens before it begin an expression, and
+-- with it they begin none.
 pub record IsMisfit (tokens : List Token) (fault : TextFault) : Type 0 where
   pub before : List Token
   pub token : Token
@@ -137,8 +137,8 @@ pub record IsMisfit (tokens : List Token) (fault : TextFault) : Type 0 where
   pub kind : fault.kind ≡ fault_of (newest_first before) token.kind
   pub place : fault.place ≡ token.from
 
--- The first phase with a fault decides, for the tokens of a text of this length. Tokens that begin an expression and
--- stand for none end too early, and are at fault at the end of the text.
+-- The first phase with a fault decides, for the tokens of a text of this length. Tokens that begin an expression but
+-- stand for none end too early; their fault is at the end of the text.
 pub data IsFirstFault (length : ℕ) (tokens : List Token) (fault : TextFault) : Type 0 where
   too_deep : IsFirst bracket_fault tokens fault → IsFirstFault length tokens fault
   too_many : IsClean bracket_fault tokens → IsFirst parenthesis_fault tokens fault → IsFirstFault length tokens fault

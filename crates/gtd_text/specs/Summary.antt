@@ -1,5 +1,5 @@
--- What the check keeps of the tokens before a place, and what it says of the next by that. It is no part of what texts
--- mean: it is proved that this is what all the tokens before say.
+-- What the check keeps of the tokens before a place, and what this says of the next. It is not part of what texts mean:
+-- it is proved that this says the same as all the tokens before.
 use Rattle.std.specs.Prelude.{ℕ, Bool, false, ◌&&◌, ◌||◌, ◌==◌, not, List, [], Option, Some, None, if◌then◌else◌}
 use Rattle.gtd_core.specs.declared.fault.Fault.{Fault}
 use Rattle.gtd_core.specs.declared.fault.Fault.TheVariants as faults
@@ -14,7 +14,7 @@ use Rattle.gtd_text.specs.Fitting.{may_end_after}
 use Rattle.gtd_text.specs.Found.{depth_after}
 use Rattle.gtd_text.specs.FirstFault.{last_token, last_sign, depth, minus_fault}
 
--- For each letter of a start whether a field since the last sign has it.
+-- For each letter of a start, whether a field since the last sign has it.
 abbrev pub letters : List TokenKind → Letters
 letters before = record {
   year = has_letter 121 before;
@@ -121,7 +121,7 @@ takes_after (Some (Field letter value digits)) before token = field_takes before
 abbrev pub takes : Seen → TokenKind → Bool
 takes before token = takes_after before.last before token
 
--- Which fault it is that a token may not come next.
+-- The fault of a token that may not come next.
 abbrev pub field_misfit : Option TokenKind → Letters → ℕ → Fault
 field_misfit (Some OpenParenthesis) found letter =
     if is_start_letter letter then (if is_found_in_start found letter then faults.Repeated else faults.FieldRange)

@@ -4,7 +4,7 @@ use Rattle.gtd_text.specs.declared.token.Token.{Token}
 use Rattle.gtd_text.specs.Building.{AreBuildable}
 use Rattle.gtd_text.specs.Lexing.{AreTokens, Reads, kinds}
 
--- The text is tokens, and they build an expression in its ranges.
+-- The text is made of tokens, and they build an expression in its ranges.
 pub record IsBuildable (text : List ℕ) : Type 0 where
   pub tokens : List Token
   pub read : AreTokens text tokens

@@ -1,5 +1,5 @@
--- The token that begins at a place of a text, computed from the bytes there. What a token is, is said in `Lexing`, and a
--- law says that both agree.
+-- The token that begins at a place of a text, computed from the bytes there. `Lexing` says what a token is, and a law
+-- says that the two agree.
 use Rattle.std.specs.Prelude.{ℕ, ◌+◌, ◌-◌, ◌*◌, ◌&&◌, ◌==◌, List, [], ◌∷◌, length, drop, Option, Some, None, if◌then◌else◌, fold}
 use Rattle.std.specs.List.{take_while}
 use Rattle.std.specs.Char.{is_ascii_digit}
@@ -12,7 +12,7 @@ use Rattle.gtd_text.specs.declared.token.TokenKind.TheVariants.{OpenBrace, Close
 use Rattle.gtd_core.specs.FieldTable.{is_from_to}
 use Rattle.gtd_text.specs.Grammar.{is_start_letter}
 
--- The number that decimal digits write.
+-- The number that decimal digits stand for.
 abbrev pub field_number : List ℕ → ℕ
 field_number digits = fold (λ n digit. n * 10 + (digit - 48)) 0 digits
 
@@ -30,7 +30,7 @@ sign_of byte =
     else if byte == 45 then Some Minus
     else None
 
--- A field of this letter and these digits, of which there are one to six.
+-- A field of this letter and these one to six digits.
 abbrev pub field_of : ℕ → List ℕ → Option TokenKind
 field_of letter digits =
     if is_from_to 1 6 (length digits) then Some (Field letter (field_number digits) (length digits)) else None
@@ -56,7 +56,7 @@ token_from place (Some kind) = Some (record { kind = kind; from = place; to = pl
 abbrev pub token_at : List ℕ → ℕ → Option Token
 token_at text place = token_from place (kind_at_front (drop place text))
 
--- Which fault it is that no token begins here: `Fuzzy` for a `z` (122) with one to six digits and no more after it.
+-- The fault if no token begins here: `Fuzzy` for a `z` (122) that is followed by one to six digits and no more.
 abbrev pub fault_at_front : List ℕ → Fault
 fault_at_front [] = faults.BadToken
 fault_at_front (byte ∷ bytes) =

@@ -1,4 +1,4 @@
-//! The fault of a text, if it has one: found in one pass, which keeps no token and takes no memory.
+//! The fault of a text, if it has one, found in one pass that keeps no token and takes no memory.
 
 ghost use Rattle.std.specs.Prelude.{MatchOption};
 ghost use Rattle.gtd_text.specs.Found.{IsReadable};
@@ -13,8 +13,8 @@ pub mod grammar;
 pub mod letters;
 pub mod limits;
 
-/// The first fault of a text: that of the first byte that is no space and begins no token, or else that of its tokens. So
-/// the whole text is read, whatever its tokens are.
+/// The first fault of a text: that of the first byte that is not a space and begins no token, or else that of its tokens.
+/// A byte that begins no token comes first, so the whole text is read even if a token is at fault.
 pub fn first_fault(text: &[u8]) -> Option<TextFault>
     ensures { MatchOption result (IsReadable text.now) (λ fault. IsFault text.now fault) }
 {

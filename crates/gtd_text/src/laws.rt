@@ -1,4 +1,4 @@
-//! Laws of the definitions: calls that do nothing, and whose contracts are what is proved.
+//! Laws of the definitions: calls that do nothing, whose contracts are what is proved.
 
 ghost use Rattle.std.specs.Prelude.{◌≡◌, ◌≤◌, ◌↔◌, ◌⊎◌, ℕ, List, Some, None, drop, true};
 ghost use Rattle.gtd_core.specs.Limits.{most_basic_domains};
@@ -19,7 +19,7 @@ ghost use Rattle.gtd_text.specs.declared.token.Token.{Token};
 
 use gtd_core::laws::{equality_of_trees, leaves_are_valid};
 
-/// A text stands for one expression at most, and has one fault at most.
+/// A text stands for at most one expression, and has at most one fault.
 pub fn one_meaning()
     ensures expression { (text : List ℕ) (e f : Tree) →
         StandsFor text e → StandsFor text f → e ≡ f }
@@ -34,7 +34,7 @@ pub fn canonical_text()
     ensures faultless { (e : Tree) → AreValid e → leaf_count e ≤ most_basic_domains → HasNoFault (canonical e) }
 {}
 
-/// The same of each domain, without a premise; and two domains are equal (`==`) exactly if their canonical texts are.
+/// The same for each domain, without a premise. Two domains are equal (`==`) exactly if their canonical texts are.
 pub fn canonical_text_of_domain()
     ensures stands { (domain : Domain) →
         StandsFor (canonical (domain_tree domain)) (domain_tree domain) }
@@ -48,23 +48,23 @@ pub fn canonical_text_of_domain()
     equality_of_trees();
 }
 
-/// Tokens stand for an expression exactly if none of them is at fault by the table of what may come next, and they do not
-/// end too early by it.
+/// By the table of what may come next, tokens stand for an expression exactly if none of them is at fault and they do not
+/// end too early.
 pub fn grammar_and_faults()
     ensures agree { (tokens : List Token) →
         (IsClean grammar_fault tokens × (may_end (newest_first tokens) ≡ true))
         ↔ ((e : Tree) × Stands Sum (kinds tokens) e) }
 {}
 
-/// None of some tokens is at fault by that table exactly if more can follow them, so that all together stand for an
+/// None of some tokens is at fault by that table exactly if more tokens can follow so that all together stand for an
 /// expression. So the first token at fault is the first with which no expression goes on.
 pub fn tokens_go_on()
     ensures agree { (tokens : List Token) →
         IsClean grammar_fault tokens ↔ GoesOn (kinds tokens) }
 {}
 
-/// A token stands in a text exactly if it is the one that is computed from the bytes at its place; none begins exactly
-/// where none is computed; and so with the fault there.
+/// A token is in a text exactly if it is the one that is computed from the bytes at its place. None begins exactly
+/// where none is computed. The same holds for the fault at a place.
 pub fn tokens_as_computed()
     ensures token { (text : List ℕ) (token : Token) →
         IsToken text token ↔ (token_at text token.from ≡ Some token) }

@@ -13,10 +13,10 @@ use gtd_core::{Basic, Domain, DurationParts, Expr, Op, Start, StartParts};
 use itoa::Buffer;
 use std::alloc::{AllocError, Global};
 
-/// The canonical text of a domain, or an error where memory was refused.
+/// The canonical text of a domain, or an error if memory was refused.
 ///
-/// There are no spaces, a basic domain and each combination have brackets of their own, and fields come in one order
-/// with no leading zeros, so that two domains have one text exactly if they are equal.
+/// There are no spaces, each basic domain and each combination has brackets of its own, and fields come in one order
+/// without leading zeros. So two domains have the same text exactly if they are equal.
 ///
 /// ```
 /// let domain = read_domain(alloc, b"(m30h07){m30h1}")?;

@@ -16,11 +16,11 @@ use std::alloc::{AllocError, Global};
 
 /// The domain that a text stands for, or its first fault.
 ///
-/// The faults, in their order: `BadToken` and `Fuzzy` at the first byte that is no space and begins no token;
+/// The faults, in their order: `BadToken` and `Fuzzy` at the first byte that is not a space and begins no token;
 /// `TooDeep` at the first `[` that makes the depth 129, else `TooMany` at the 129th `(`; `Repeated`, `FieldRange`,
 /// `Negative` or `Unexpected` at the first token that does not fit, or `Incomplete` at the text's length;
-/// `TooLongDuration` at the `{` of the first duration of more than 36,600 days. `NoMemory`, at 0, is answered only
-/// where memory was refused.
+/// `TooLongDuration` at the `{` of the first duration of more than 36,600 days. `NoMemory`, at 0, is answered only if
+/// memory was refused.
 ///
 /// ```
 /// let domain = read_domain(alloc, b"(m30h07){m30h1}")?;
@@ -32,12 +32,12 @@ pub fn read_domain(alloc: Global, text: &[u8]) -> Result<Domain, TextFault>
     ensures found { IfOk result (λ domain. StandsFor text.now (domain_tree domain)) }
     // and has no fault.
     ensures faultless { IfOk result (λ domain. HasNoFault text.now) }
-    // Where it stands for an expression and has no fault, the domain is that, unless memory runs out.
+    // If it stands for an expression and has no fault, the domain is that expression, unless memory runs out.
     ensures only { (e : Tree) → StandsFor text.now e → HasNoFault text.now
         → MatchResult result (λ domain. domain_tree domain ≡ e) (λ fault. fault ≡ no_memory) }
-    // What is refused has the fault, unless memory ran out.
+    // A refused text has the fault, unless memory ran out.
     ensures fault { IfErr result (λ fault. (fault ≡ no_memory) ⊎ IsFault text.now fault) }
-    // What has a fault is refused by it, unless memory runs out.
+    // A text with a fault is refused with it, unless memory runs out.
     ensures first { (first : TextFault) → IsFault text.now first
         → MatchResult result (λ domain. ⊥) (λ fault. (fault ≡ no_memory) ⊎ (fault ≡ first)) }
 {

@@ -12,7 +12,7 @@ use Rattle.gtd_tool.specs.CommandLines.{Text, command_names, named_in}
 abbrev pub id : Text
 id = codes "WORDS"
 
--- It takes any number of words, which are counted once the command is known.
+-- It takes any number of words. They are counted once the command is known.
 abbrev pub word_rule : Rule
 word_rule = record (new_rule id) { action = Some Append }
 
@@ -20,7 +20,7 @@ word_rule = record (new_rule id) { action = Some Append }
 abbrev pub leaf_given : Text → Shape
 leaf_given name = (with_rule (new_app name) word_rule).top
 
--- The program: a command has to follow, and help is not among them.
+-- The program: a command must follow, and help is not one.
 abbrev pub top_given : Shape
 top_given = record (new_shape (codes "gtd")) {
   no_binary_name = true;
@@ -29,7 +29,7 @@ top_given = record (new_shape (codes "gtd")) {
   subcommand_required = true;
 }
 
--- The program with no command yet.
+-- The program without its commands.
 abbrev pub none_given : App
 none_given = record { top = top_given; subs = [] }
 
@@ -37,7 +37,7 @@ none_given = record { top = top_given; subs = [] }
 abbrev pub gtd_app : App
 gtd_app = fold (λ app name. with_subcommand app (leaf_given name)) none_given command_names
 
--- What is found of these words: nothing where there are none.
+-- What is found of these words: nothing if there are none.
 abbrev pub found_words : List Text → Option (List Text)
 found_words [] = None
 found_words (v ∷ vs) = Some (v ∷ vs)
@@ -47,7 +47,7 @@ abbrev pub HasGiven : List Text → ArgMatches → Type 0
 HasGiven words m = (p : Text × List Text) × (rows : List Row) × (named_in words ≡ Some p)
     × (subcommand_rows_of m ≡ Some (p.0, rows)) × (all_of id rows ≡ found_words p.1)
 
--- The error is want of memory.
+-- The error is a refusal of memory.
 abbrev pub is_memory : ErrorKind → Bool
 is_memory OutOfMemory = true
 is_memory _ = false

@@ -1,4 +1,4 @@
--- The command lines of `gtd`: the name of a command, and words that stand for themselves.
+-- The command lines of `gtd`: the name of a command, and positional words.
 use Rattle.std.specs.Prelude.{◌==◌, ℕ, Bool, false, List, [], ◌∷◌, map, find}
 use Rattle.std.specs.Prelude.{Option, Some, None, option_map, option_and_then, codes}
 use Rattle.std.specs.Prelude.{if◌then◌else◌}
@@ -20,7 +20,7 @@ pub data Command : Type 0 where
   Year : (file element direction vehicle year : Text) → Command
   Migrate : (file : Text) → Command
 
--- The command that these words make, where it takes one, two, three, four or five.
+-- The command that these words make, if it takes one, two, three, four or five.
 abbrev pub of_one : (Text → Command) → List Text → Option Command
 of_one command (word ∷ []) = Some (command word)
 of_one command words = None
@@ -71,12 +71,12 @@ command_names = map (λ command. command.0) commands
 abbrev pub is_command : Text → Bool
 is_command word = list_any (λ name. bytes_eq name word) command_names
 
--- The command of this name in a table, if it takes as many words as these.
+-- The command with this name in a table, if it takes this many words.
 abbrev pub named_among : Table → Text → List Text → Option Command
 named_among table name words =
     option_and_then (λ command. command.1 words) (find (λ command. bytes_eq name command.0) table)
 
--- The command of this name, if it takes as many words as these.
+-- The command with this name, if it takes this many words.
 abbrev pub command_named : Text → List Text → Option Command
 command_named = named_among commands
 
@@ -85,8 +85,8 @@ abbrev pub is_option : Text → Bool
 is_option (first ∷ second ∷ rest) = first == 45
 is_option word = false
 
--- The words that stand for themselves, by the conventions of POSIX for utilities: those before the first `--`, none of
--- which may be an option, and all after it.
+-- The positional words, by the conventions of POSIX for utilities: those before the first `--`, none of which may be an
+-- option, and all after it.
 abbrev pub plain_words : List Text → Option (List Text)
 plain_words [] = Some []
 plain_words (word ∷ rest) =
@@ -94,7 +94,7 @@ plain_words (word ∷ rest) =
     else if is_option word then None
     else option_map (λ words. word ∷ words) (plain_words rest)
 
--- The name of a command, which comes first, and the words that stand for themselves.
+-- The name of a command, which comes first, and the other positional words.
 abbrev pub named_in : List Text → Option (Text × List Text)
 named_in [] = None
 named_in (name ∷ rest) = if is_command name then option_map (λ words. (name, words)) (plain_words rest) else None

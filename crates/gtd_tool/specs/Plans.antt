@@ -17,7 +17,7 @@ use Rattle.gtd_tool.specs.declared.plans.Plan.{Plan}
 use Rattle.gtd_tool.specs.declared.plans.Plan.TheVariants as plan
 
 -- A command with each of its words read. A domain is the tree of its expression, and the day `to` is given by its
--- number: the horizon goes from the moment's day up to and without it. A file is named by its path.
+-- number: the horizon goes from the moment's day up to but not including it. A file is named by its path.
 pub data Asked : Type 0 where
   Check : (domain : Tree) → Asked
   Canon : (domain : Tree) → Asked
@@ -39,7 +39,7 @@ asked_by (plan.Schedule file horizon vehicle) = Schedule (string_bytes file) hor
 asked_by (plan.Year file element direction vehicle year) = Year (string_bytes file) element direction vehicle year
 asked_by (plan.Migrate file) = Migrate (string_bytes file)
 
--- The file that is read, where one is.
+-- The file that is read, if there is one.
 abbrev pub file_of : Asked → Option Text
 file_of (Schedule file horizon vehicle) = Some file
 file_of (Year file element direction vehicle year) = Some file
@@ -66,11 +66,11 @@ pub record IsHorizonOf (first second : Text) (horizon : Horizon) : Type 0 where
   pub from_read : date_in first ≡ Ok (from_day horizon)
   pub to_read : date_in second ≡ Ok (to_day horizon)
 
--- The number, or the limit where it is above that.
+-- The number, or the limit if the number is above it.
 abbrev pub at_most : ℕ → ℕ → ℕ
 at_most limit n = if nat_le n limit then n else limit
 
--- The word is a number, which is handed on as this one: a number above the limit as the limit.
+-- The word is a number, which is handed on as this number: the limit, if it is above the limit.
 abbrev pub IsNumberUpTo : ℕ → Text → ℕ → Type 0
 IsNumberUpTo limit text n = option_map (at_most limit) (number_of text) ≡ Some n
 
@@ -81,7 +81,7 @@ pub record AreYearWords (first second third fourth : Text) (element : ℕ) (dire
   pub vehicle_read : IsNumberUpTo 255 third vehicle
   pub year_read : IsNumberUpTo 65535 fourth year
 
--- The words of the command are read so.
+-- The words of the command ask for this.
 abbrev pub IsRead : Command → Asked → Type 0
 IsRead (command.Check text) asked = (domain : Tree) × IsDomain text domain × (asked ≡ Check domain)
 IsRead (command.Canon text) asked = (domain : Tree) × IsDomain text domain × (asked ≡ Canon domain)

@@ -12,7 +12,7 @@ use Rattle.gtd_eval.specs.Membership.{InTree, SomeGivesYear}
 use Rattle.gtd_tool.specs.Plans.{Asked, Check, Canon, At, Next, Ever, Schedule, Year, Migrate}
 use Rattle.gtd_tool.specs.Writing.{AppendsPart}
 
--- The answer is the state of the domain at the second: `in` where the domain contains it, and else `out`.
+-- The answer is the state of the domain at the second: `in` if the domain contains it, and otherwise `out`.
 abbrev pub IsState : Tree → ℤ → List ℕ → Type 0
 IsState domain t answer =
     (InTree domain t × (answer ≡ codes "in")) ⊎ ((InTree domain t → ⊥) × (answer ≡ codes "out"))
@@ -27,8 +27,8 @@ abbrev pub IsChangeOr : List ℕ → Tree → Option Sec → List ℕ → Type 0
 IsChangeOr none domain None answer = answer ≡ none
 IsChangeOr none domain (Some t) answer = IsChange domain t.0 answer
 
--- The answer, without the end of its line. `next` is asked for the seconds of the days before `to`, and `ever` for all
--- later ones. A command that reads a file has no such answer.
+-- The answer, without its line end. `next` asks about the seconds of the days before `to`, and `ever` about all later
+-- ones. A command that reads a file has no such answer.
 abbrev pub IsAnswer : Asked → List ℕ → Type 0
 IsAnswer (Check domain) answer = answer ≡ codes "ok"
 IsAnswer (Canon domain) answer = answer ≡ canonical domain
@@ -62,7 +62,7 @@ TakesMemory (Schedule path horizon vehicle) = ⊤
 TakesMemory (Year path element direction vehicle year) = ⊤
 TakesMemory (Migrate path) = ⊤
 
--- It is asked for all later changes of a domain that gives a year, which need not repeat.
+-- All later changes of a domain that gives a year are asked for; such a domain need not repeat.
 abbrev pub AsksPastYears : Asked → Type 0
 AsksPastYears (Check domain) = ⊥
 AsksPastYears (Canon domain) = ⊥

@@ -31,7 +31,7 @@ pub data Part : Type 0 where
   DaysPart : (from to : Text) → Part
 
 -- What is read of a command, in order: its words for numbers and directions, then its other words, each from left to
--- right, and then the horizon. The word for a file is what it is.
+-- right, and then the horizon. The word for a file is not checked.
 abbrev pub parts_of : Command → List Part
 parts_of (Check domain) = DomainPart domain ∷ []
 parts_of (Canon domain) = DomainPart domain ∷ []
@@ -44,11 +44,11 @@ parts_of (Year file element direction vehicle year) =
     NumberPart element ∷ DirectionPart direction ∷ NumberPart vehicle ∷ NumberPart year ∷ []
 parts_of (Migrate file) = []
 
--- The days from one up to another are no horizon, and this is why.
+-- The days from one up to another are not a horizon, and this is why.
 abbrev pub AreNoHorizon : ℤ → ℤ → Refusal → Type 0
 AreNoHorizon from to r = (fault : HorizonFault) × IsHorizonFault fault from to × (r ≡ refusal.Horizon fault)
 
--- The days from that of the moment up to this one are no horizon, and this is why.
+-- The days from that of the moment up to this one are not a horizon, and this is why.
 abbrev pub IsNoHorizon : Sec → ℤ → Refusal → Type 0
 IsNoHorizon moment to r = AreNoHorizon (day_of_second moment.0) to r
 
@@ -79,12 +79,12 @@ pub record HasFault (words : List Text) (r : Refusal) : Type 0 where
   pub named : command_in words ≡ Some command
   pub has : IsFirstRefusal (parts_of command) r
 
--- The first refusal of a command line, but for want of memory: whether the words give a command comes before what its
--- words say.
+-- The first refusal of a command line, other than for refused memory: whether the words give a command comes before
+-- what its words say.
 abbrev pub IsRefusalOf : List Text → Refusal → Type 0
 IsRefusalOf words r = ((command_in words ≡ None) × (r ≡ refusal.Usage)) ⊎ HasFault words r
 
--- The refusal is not for a text whose fault would be want of memory.
+-- The refusal is not for a text whose fault would be refused memory.
 abbrev pub IsNoWant : Refusal → Type 0
 IsNoWant r = (fault : TextFault) → r ≡ refusal.Text fault → fault.kind ≢ NoMemory
 
@@ -96,14 +96,14 @@ IsStopped parts r = (r ≡ refusal.Memory) ⊎ (IsFirstRefusal parts r × IsNoWa
 abbrev pub IsStoppedLine : List Text → Refusal → Type 0
 IsStoppedLine words r = (r ≡ refusal.Memory) ⊎ (IsRefusalOf words r × IsNoWant r)
 
--- The status for a record file that is not read: 1 for a fault of the file, 3 where the input or memory failed.
+-- The status for a record file that is not read: 1 for a fault of the file, 3 if the input or memory failed.
 abbrev pub records_status : RecordFault → ℕ
 records_status records.ReadFault = 3
 records_status records.Endless = 3
 records_status records.NoMemory = 3
 records_status fault = 1
 
--- The exit status: 1 where the input is refused, 2 for usage, 3 where opening, reading, writing or memory failed.
+-- The exit status: 1 if the input is refused, 2 for usage, 3 if opening, reading, writing or memory failed.
 abbrev pub status_of : Refusal → ℕ
 status_of refusal.Usage = 2
 status_of (refusal.Text fault) = 1
@@ -119,8 +119,8 @@ status_of refusal.Open = 3
 status_of refusal.Write = 3
 status_of refusal.Memory = 3
 
--- The fault of a record file as its line names it: a fault of a row by the number of the row and its name. The row after
--- the most that a file may have is the one numbered 65,537.
+-- The fault of a record file as its line names it: a fault of a row by the number of the row and its name. The first row
+-- too many has the number 65,537.
 abbrev pub records_words : RecordFault → List ℕ
 records_words (records.FieldCount row) = codes "row " ++ decimal row ++ codes " FieldCount"
 records_words (records.Element row) = codes "row " ++ decimal row ++ codes " Element"

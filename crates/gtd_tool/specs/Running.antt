@@ -35,7 +35,7 @@ IfFile asked P = MatchOption (file_of asked) ⊤ (λ path. P)
 abbrev pub IfAlone : Asked → Type 0 → Type 0
 IfAlone asked P = MatchOption (file_of asked) P (λ path. ⊤)
 
--- What a report of the file is asked of.
+-- What a report of the file is asked about.
 abbrev pub subject_of : Asked → Subject
 subject_of (Schedule path horizon vehicle) = record { vehicle = Some vehicle; year = None; element = None }
 subject_of (Year path element direction vehicle year) =
@@ -54,11 +54,11 @@ AsksOfElement asked = MatchOption (subject_of asked).element ⊥ (λ element. �
 abbrev pub IsYearInRange : Asked → Type 0
 IsYearInRange asked = subjects.IsYearInRange (subject_of asked)
 
--- A text is printed of these restrictions: the table of a year needs one that names the element.
+-- A text is printed for these restrictions: the table of a year needs one that names the element.
 abbrev pub IsAccepted : Asked → List Restriction → Type 0
 IsAccepted asked found = subjects.IsAccepted (subject_of asked) found
 
--- The lines of the text that is printed of these restrictions: their schedule, the table of a year, or their file of
+-- The lines of the text that is printed for these restrictions: their schedule, the table of a year, or their file of
 -- version 2.
 abbrev pub IsText : Asked → List Restriction → List (List ℕ) → Type 0
 IsText (Schedule path horizon vehicle) found lines = IsSchedule found vehicle horizon lines
@@ -99,7 +99,7 @@ IsPartOfText asked bytes old new =
     (found : List Restriction) → IsFile bytes (Ok found) → (lines : List (List ℕ)) → IsText asked found lines
     → AppendsPart old new (text_of lines)
 
--- What was printed is a first part of what is to be, which may be none or all of it.
+-- What was printed is a first part, maybe none or all, of what is to be printed.
 abbrev pub IsPartPrinted : Asked → Option (List ℕ) → Option (List ℕ) → Option (List ℕ) → Type 0
 IsPartPrinted asked file old new =
     MatchOption (file_of asked) (IsPartOfLine asked old new)
@@ -115,15 +115,15 @@ IsUnread file silent records.ReadFault = ⊤
 IsUnread file silent records.Endless = IsTrue silent
 IsUnread file silent why = IfSome file (λ bytes. IsFile bytes (Err why))
 
--- The bytes are a record file of which no text is printed.
+-- The bytes are a record file for which no text is printed.
 abbrev pub IsLacking : Asked → List ℕ → Type 0
 IsLacking asked bytes = (found : List Restriction) × IsFile bytes (Ok found) × (IsAccepted asked found → ⊥)
 
--- The bytes are no record file, or one of which no text is printed.
+-- The bytes are not a record file, or are one for which no text is printed.
 abbrev pub IsRefusedFile : Asked → List ℕ → Type 0
 IsRefusedFile asked bytes = ((why : RecordFault) × IsFile bytes (Err why)) ⊎ IsLacking asked bytes
 
--- The bytes are a record file of which a text is printed.
+-- The bytes are a record file for which a text is printed.
 abbrev pub IsAcceptedFile : Asked → List ℕ → Type 0
 IsAcceptedFile asked bytes = (found : List Restriction) × IsFile bytes (Ok found) × IsAccepted asked found
 
@@ -151,7 +151,7 @@ abbrev pub IfRead : Asked → Option (List ℕ) → Result (Unit {0}) Refusal �
 IfRead asked file result P =
     ReadsFile asked → IsVehicleInRange asked → IsYearInRange asked → IsUnhindered result → IfSome file P
 
--- one failure of the input more exactly where the refusal is that it failed
+-- one more failure of the input exactly if the refusal is that it failed
 abbrev pub failures_after : Result (Unit {0}) Refusal → ℕ → ℕ
 failures_after (Err (refusal.Records records.ReadFault)) count = count + 1
 failures_after result count = count
@@ -168,12 +168,12 @@ refusal_for run.NoElement = refusal.NoElement
 refusal_for (run.WriteFault written) = refusal.Write
 refusal_for (run.NoMemory written) = refusal.Memory
 
--- The answer of a command, for that of its run.
+-- The answer of a command, from that of its run.
 abbrev pub outcome_of : Result ℕ RunFault → Result (Unit {0}) Refusal
 outcome_of (Ok count) = Ok tt
 outcome_of (Err fault) = Err (refusal_for fault)
 
--- The run of a report had an answer, by which all that the run promises is so.
+-- The run of a report had an answer, and all that the run promises for this answer holds.
 pub record RanReport (subject : Subject) (Text : List Restriction → List (List ℕ) → Type 0) (file old new : Option (List ℕ))
     (silent : Bool) (before after : ℕ) (result : Result (Unit {0}) Refusal) : Type 0 where
   pub answer : Result ℕ RunFault
@@ -185,7 +185,7 @@ pub record RanReport (subject : Subject) (Text : List Restriction → List (List
   pub endless : IsErrOf answer (run.Records records.Endless) → IsTrue silent
   pub failures : after ≡ failures_after_read answer before
 
--- That of the report that is asked for.
+-- The same for the report that is asked for.
 abbrev pub Ran : Asked → Option (List ℕ) → Option (List ℕ) → Option (List ℕ) → Bool → ℕ → ℕ → Result (Unit {0}) Refusal → Type 0
 Ran asked file old new silent before after result =
     RanReport (subject_of asked) (IsText asked) file old new silent before after result

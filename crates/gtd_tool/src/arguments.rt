@@ -1,4 +1,4 @@
-//! The command line: the name of a command, and words that stand for themselves, as `clap` reads them.
+//! The command line, as `clap` reads it: the name of a command, and positional words.
 
 ghost use Rattle.std.specs.Prelude.{List, ◌≡◌, ◌⊎◌, if◌then◌else◌, [], None, Some, false, IfErr, IfOk, map, option_map};
 ghost use Rattle.std.specs.Prelude.{string_bytes};
@@ -61,7 +61,7 @@ pub enum CommandLine<'a> {
     },
 }
 
-// The program with no command yet. A request for help is refused, as is any other option.
+// The program without its commands. A request for help is refused, as is any other option.
 fn without_commands<'a>(alloc: Global) -> Command<'a>
     ensures { app_of result ≡ none_given }
 {
@@ -72,7 +72,7 @@ fn without_commands<'a>(alloc: Global) -> Command<'a>
         .subcommand_required(true)
 }
 
-// Adds a command of positional words alone. They are counted once they are known.
+// Adds a command that has only positional words. They are counted after they are read.
 fn add_command<'a>(
     alloc: Global,
     program: Command<'a>,
@@ -101,7 +101,7 @@ fn gtd<'a>(alloc: Global) -> Result<Command<'a>, AllocError>
     add_command(alloc, program, "migrate")
 }
 
-// The command of a name that reads a record file, if it takes as many words as these.
+// The command with this name that reads a record file, if it takes this many words.
 fn file_line_of<'a>(name: &str, words: &[&'a str]) -> Option<CommandLine<'a>>
     ensures { option_map command_of result
         ≡ named_among file_commands name.now (map (λ w. w.now) words.now) }
@@ -134,7 +134,7 @@ fn file_line_of<'a>(name: &str, words: &[&'a str]) -> Option<CommandLine<'a>>
     }
 }
 
-// The command of a name, if it takes as many words as these.
+// The command with this name, if it takes this many words.
 fn line_of<'a>(name: &str, words: &[&'a str]) -> Option<CommandLine<'a>>
     ensures { option_map command_of result ≡ command_named name.now (map (λ w. w.now) words.now) }
 {
@@ -163,7 +163,7 @@ fn line_of<'a>(name: &str, words: &[&'a str]) -> Option<CommandLine<'a>>
     }
 }
 
-// An error of `clap` is want of memory, or a fault of usage.
+// An error of `clap` is a refusal of memory or a fault of usage.
 fn usage_refusal(error: &clap::Error) -> Refusal
     ensures { result ≡ (if is_memory (kind_of error.now) then Refusal.Memory else Refusal.Usage) }
 {
@@ -195,7 +195,7 @@ fn line_in<'a>(matches: &ArgMatches<'a>) -> Option<CommandLine<'a>>
     line_of(name, given.get_strs("WORDS").unwrap_or(&[]))
 }
 
-/// The command that the words after the program's name give. Where they give none, they are a fault of usage.
+/// The command that the words after the program's name give. If they give none, they are a fault of usage.
 pub fn read_line<'a>(alloc: Global, words: &'a [String]) -> Result<CommandLine<'a>, Refusal>
     ensures found { IfOk result (λ line.
         command_in (map string_bytes words.entry.now) ≡ Some (command_of line)) }

@@ -21,7 +21,7 @@ ghost use Rattle.gtd_tool.specs.declared.refusal.Refusal.{Refusal};
 use gtd_roads::laws::migration_changes_nothing;
 use gtd_text::laws::canonical_text_of_domain;
 
-/// A command line asks for one thing at most, or has one first refusal at most, and never both.
+/// A command line asks for at most one thing, or has at most one first refusal, and never both.
 pub fn one_answer()
     ensures asked { (words : List Text) (a b : Asked)
         → AsksFor words a → AsksFor words b → a ≡ b }
@@ -31,12 +31,12 @@ pub fn one_answer()
         → AsksFor words a → IsRefusalOf words r → ⊥ }
 {}
 
-/// What is asked for without a record file has one answer at most.
+/// What is asked for without a record file has at most one answer.
 pub fn one_line()
     ensures answer { (asked : Asked) (a b : List ℕ) → IsAnswer asked a → IsAnswer asked b → a ≡ b }
 {}
 
-/// What `canon` prints of a domain, without the end of its line, is a word that asks for that domain again.
+/// What `canon` prints for a domain, without the line end, is a word that stands for the same domain.
 pub fn canonical_word()
     ensures check { (domain : Domain) →
         AsksFor (codes "check" ∷ canonical (domain_tree domain) ∷ []) (Check (domain_tree domain)) }
@@ -46,8 +46,8 @@ pub fn canonical_word()
     canonical_text_of_domain();
 }
 
-/// A record file and its migrated file have the same schedule for each vehicle type and over each horizon, and the same
-/// table of each year.
+/// A record file and its migrated file have the same schedule for each vehicle type and horizon, and the same table for
+/// each year.
 pub fn migrated_files_mean_the_same()
     ensures schedule { (bytes : List ℕ) (found again : List Restriction) → IsFile bytes (Ok found)
         → IsFile (text_of (migrated found)) (Ok again)

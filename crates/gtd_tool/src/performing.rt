@@ -33,13 +33,13 @@ use std::io;
 use std::io::Write;
 
 /// Carries the plan out: writes what it prints, and flushes. The input brings the bytes of the plan's
-/// [`file`](Plan::file), and is left alone where it has none.
+/// [`file`](Plan::file), and is left alone if the plan has none.
 ///
-/// In order: `VehicleRange` where the vehicle type is not from 1 to 99; `YearRange` where the year is not from 1901 to
-/// 2199; the first fault of reading the record file (`Records`); `NoElement` where no record names the element. `HasYear`
-/// is the answer where all later changes are asked of a domain that gives a year. Nothing is written before these, nor
-/// before the record file was read and accepted. `Write` and `Memory` come as they happen, and the writer has then taken
-/// a first part of what is printed. The caller keeps the input's failures under `u64::MAX` before the call.
+/// In order: `VehicleRange` if the vehicle type is not from 1 to 99; `YearRange` if the year is not from 1901 to 2199;
+/// the first fault of reading the record file (`Records`); `NoElement` if no record names the element. `HasYear` is the
+/// answer if all later changes of a domain that gives a year are asked for. Nothing is written before these checks, nor
+/// before the record file has been read and accepted. `Write` and `Memory` come as they happen, and the writer has then
+/// taken a first part of what is printed. Before the call, the input's failures must be below `u64::MAX`.
 pub fn perform<I: Input, W: Write>(
     alloc: Global,
     plan: &Plan,
@@ -47,25 +47,25 @@ pub fn perform<I: Input, W: Write>(
     out: &mut W,
 ) -> Result<(), Refusal>
     requires readable { I.failure_count input.old < u64.MAX }
-    // What is printed: an answer, or a text of the record file that the input brings.
+    // What is printed: an answer, or a report of the record file that the input brings.
     ensures printed { OnOk result (IsPrinted (asked_by plan.now)
         (I.to_come input.old) (W.contents out.old) (W.contents out.new)) }
     // Otherwise a first part of that.
     ensures part { OnErr result (IsPartPrinted (asked_by plan.now)
         (I.to_come input.old) (W.contents out.old) (W.contents out.new)) }
-    // Accepted files are printed, where nothing hinders it.
+    // Accepted files are printed, if nothing hinders it.
     ensures accepted { IfRead (asked_by plan.now) (I.to_come input.old) result (λ bytes.
         (found : List Restriction) → IsFile bytes (Ok found) → IsAccepted (asked_by plan.now) found
         → IsOk result × AppendsTextOf (asked_by plan.now) found
         (W.contents out.old) (W.contents out.new)) }
-    // The first fault of a file is the refusal, where nothing hinders it.
+    // The first fault of a file is the refusal, if nothing hinders it.
     ensures refused { IfRead (asked_by plan.now) (I.to_come input.old) result (λ bytes.
         (why : RecordFault) → IsFile bytes (Err why) → result ≡ Err (Refusal.Records why)) }
-    // Of a refused file nothing is printed, whatever happens.
+    // Nothing is ever printed for a refused file.
     ensures nothing { IfFile (asked_by plan.now) (IfSome (I.to_come input.old) (λ bytes.
         IsRefusedFile (asked_by plan.now) bytes
         → Keeps (W.contents out.old) (W.contents out.new))) }
-    // Files that do not name the element of a year's table are refused for that, where nothing hinders it.
+    // Files that do not name the element of a year's table are refused for that, if nothing hinders it.
     ensures lacking { IfRead (asked_by plan.now) (I.to_come input.old) result (λ bytes.
         IsLacking (asked_by plan.now) bytes → result ≡ Err Refusal.NoElement) }
     // Each refusal has its cause: `Memory` comes only where a command takes memory, `Write` only once a file is accepted.
@@ -75,10 +75,11 @@ pub fn perform<I: Input, W: Write>(
     ensures table_year { (result ≡ Err Refusal.YearRange)
         ↔ (IsVehicleInRange (asked_by plan.now) × (IsYearInRange (asked_by plan.now) → ⊥)) }
     ensures year { (result ≡ Err Refusal.HasYear) ↔ AsksPastYears (asked_by plan.now) }
-    // Any other refusal than for a failed write or for want of memory comes before anything is written.
+    // Any refusal other than for a failed write or refused memory comes before anything is written.
     ensures unwritten { IfErr result (λ r. r ≢ Refusal.Write → r ≢ Refusal.Memory
         → Keeps (W.contents out.old) (W.contents out.new)) }
-    // A command without a file leaves the writer as it was unless a write fails, and the input in any case.
+    // A command without a file leaves the input as it was. If it is refused for anything but a failed write, it leaves
+    // the writer as it was too.
     ensures untouched { file_of (asked_by plan.now) ≡ None
         → (input.new ≡ input.old) × IfErr result (λ r. r ≢ Refusal.Write → out.new ≡ out.old) }
     ensures read_faults { I.failure_count input.new
@@ -241,7 +242,7 @@ fn state_of(domain: &Domain, second: Sec) -> &'static str
     if holds(domain, second) { "in" } else { "out" }
 }
 
-// Writes the texts, and makes sure that they have left.
+// Writes the texts and flushes.
 fn print<W: Write>(texts: &[&str], out: &mut W) -> Result<(), Refusal>
     ensures printed { OnOk result (Appends (W.contents out.old) (W.contents out.new) (joined texts.now)) }
     ensures part { OnErr result (AppendsPart (W.contents out.old) (W.contents out.new) (joined texts.now)) }
@@ -258,7 +259,7 @@ fn put_and_flush<W: Write>(texts: &[&str], out: &mut W) -> io::Result<()>
     out.flush()
 }
 
-// Writes the line of a stamp and a state, and makes sure that it has left.
+// Writes the line of a stamp and a state, and flushes.
 fn print_stamped<W: Write>(stamp: &[u8], state: &str, out: &mut W) -> Result<(), Refusal>
     ensures printed { OnOk result (Appends (W.contents out.old) (W.contents out.new)
         (stamp.now ++ (codes " " ++ (state.now ++ codes "\n")))) }

@@ -36,7 +36,7 @@ fn domain_of(alloc: Global, text: &str) -> Result<Domain, Refusal>
     }
 }
 
-// Want of memory is no fault of the text.
+// A refusal of memory is not a fault of the text.
 fn text_refusal(fault: TextFault) -> Refusal
     ensures { ((fault.kind ≡ Fault.NoMemory) × (result ≡ Refusal.Memory))
         ⊎ ((fault.kind ≢ Fault.NoMemory) × (result ≡ Refusal.Text fault)) }
@@ -47,7 +47,7 @@ fn text_refusal(fault: TextFault) -> Refusal
     }
 }
 
-// The moment that a word stands for. No memory is taken, so that each error is a fault of the word.
+// The moment that a word stands for. No memory is taken, so each error is a fault of the word.
 fn moment_of(text: &str) -> Result<Moment, Refusal>
     ensures read { IfOk result (λ moment. stamp_in text.now ≡ Ok moment.second) }
     ensures stopped { IfErr result (IsStopped (MomentPart text.now ∷ [])) }
@@ -71,7 +71,7 @@ fn date_of(text: &str) -> Result<i64, Refusal>
     }
 }
 
-// The moment, in the horizon from its own day up to and without another.
+// The moment, in the horizon from its own day up to but not including another.
 fn in_horizon(moment: Moment, to: i64) -> Result<MomentInHorizon, Refusal>
     ensures read { IfOk result (λ x. (x.second ≡ moment.second) × (to_day x.horizon ≡ to)
         × IsHorizon (day_of_second moment.second.0) to) }
@@ -152,7 +152,8 @@ fn direction_in(text: &str) -> Result<Direction, Refusal>
     }
 }
 
-// The vehicle type that a word stands for; 255 for every greater number, which the run refuses as it would the number.
+// The vehicle type that a word stands for; 255 for every greater number. The run refuses 255 as it would refuse the
+// number.
 fn vehicle_in(text: &str) -> Result<u8, Refusal>
     ensures read { IfOk result (IsNumberUpTo 255 text.now) }
     ensures stopped { IfErr result (IsStopped (NumberPart text.now ∷ [])) }
@@ -161,7 +162,8 @@ fn vehicle_in(text: &str) -> Result<u8, Refusal>
     Ok(if number <= 255 { number as u8 } else { 255 })
 }
 
-// The year that a word stands for; 65,535 for every greater number, which the run refuses as it would the number.
+// The year that a word stands for; 65,535 for every greater number. The run refuses 65,535 as it would refuse the
+// number.
 fn year_in(text: &str) -> Result<u16, Refusal>
     ensures read { IfOk result (IsNumberUpTo 65535 text.now) }
     ensures stopped { IfErr result (IsStopped (NumberPart text.now ∷ [])) }
@@ -174,7 +176,7 @@ fn year_in(text: &str) -> Result<u16, Refusal>
     })
 }
 
-// The horizon from one day up to and without another.
+// The horizon from one day up to but not including another.
 fn horizon_between(from: i64, to: i64) -> Result<Horizon, Refusal>
     ensures read { IfOk result (λ h. (from_day h ≡ from) × (to_day h ≡ to)) }
     ensures fault { IfErr result (AreNoHorizon from to) }
@@ -267,7 +269,7 @@ fn plan_migrate(alloc: Global, file: &str) -> Result<Plan, Refusal>
     Ok(Plan::Migrate { file })
 }
 
-// The plan of a command line whose words are as many as the command takes.
+// The plan of a command line with as many words as the command takes.
 fn plan_line(alloc: Global, line: CommandLine<'_>) -> Result<Plan, Refusal>
     ensures read { IfOk result (λ plan. IsRead (command_of line.entry) (asked_by plan)) }
     ensures stopped { IfErr result (IsStopped (parts_of (command_of line.entry))) }
@@ -306,24 +308,24 @@ fn plan_words(alloc: Global, words: &[String]) -> Result<Plan, Refusal>
 
 /// What the words after the program's name ask for, or their first refusal.
 ///
-/// In order: `Usage` where they are not a command and as many words as it takes, or where a word for a number or a
-/// direction stands for none; then the first fault of the words for a domain (`Text`), a moment (`Moment`) and a date
-/// (`Date`), from left to right; then `Horizon` where the days that are asked for are none. Where memory was refused,
-/// `Memory` is the answer in place of these. A vehicle type above 255 is taken as 255 and a year above 65,535 as 65,535,
-/// and the file is not opened: whether these are in their ranges is for [`perform`](crate::perform) to say.
+/// In order: `Usage` if they are not a command and as many words as it takes, or if a word for a number or a direction
+/// stands for none; then the first fault of the words for a domain (`Text`), a moment (`Moment`) and a date (`Date`),
+/// from left to right; then `Horizon` if the days that are asked for are not a horizon. If memory was refused, `Memory`
+/// is the answer in place of these. A vehicle type above 255 is taken as 255 and a year above 65,535 as 65,535, and
+/// [`perform`](crate::perform) checks their ranges. The file is not opened.
 pub fn plan(alloc: Global, words: Vec<String>) -> Result<Plan, Refusal>
     // The plan is what the words ask for.
     ensures asked { IfOk result (λ plan. AsksFor (map string_bytes words.items) (asked_by plan)) }
     // What the words ask for is planned, unless memory is refused.
     ensures only { (asked : Asked) → AsksFor (map string_bytes words.items) asked
         → MatchResult result (λ plan. asked_by plan ≡ asked) (λ r. r ≡ Refusal.Memory) }
-    // The refusal is the first of the words, unless memory was refused.
+    // The refusal is the first refusal of the words, unless memory was refused.
     ensures refused { IfErr result (λ r.
         (r ≡ Refusal.Memory) ⊎ IsRefusalOf (map string_bytes words.items) r) }
-    // Words that have a refusal are refused by it, unless memory is refused.
+    // Words that have a refusal are refused with it, unless memory is refused.
     ensures first { (refusal : Refusal) → IsRefusalOf (map string_bytes words.items) refusal
         → MatchResult result (λ plan. ⊥) (λ r. (r ≡ Refusal.Memory) ⊎ (r ≡ refusal)) }
-    // Want of memory in reading a domain is no fault of its text.
+    // A refusal of memory while a domain is read is not a fault of its text.
     ensures memory { IfErr result (λ r. (fault : TextFault)
         → r ≡ Refusal.Text fault → fault.kind ≢ Fault.NoMemory) }
 {

@@ -58,7 +58,7 @@ pub enum Plan {
         file: String,
         /// The days of the schedule.
         horizon: Horizon,
-        /// The vehicle type, or 255 where a greater number was given.
+        /// The vehicle type, or 255 if a greater number was given.
         vehicle: u8,
     },
     /// To print the table of a year for an element of a record file.
@@ -69,9 +69,9 @@ pub enum Plan {
         element: u64,
         /// The direction.
         direction: Direction,
-        /// The vehicle type, or 255 where a greater number was given.
+        /// The vehicle type, or 255 if a greater number was given.
         vehicle: u8,
-        /// The year, or 65,535 where a greater number was given.
+        /// The year, or 65,535 if a greater number was given.
         year: u16,
     },
     /// To print a record file as one of version 2.

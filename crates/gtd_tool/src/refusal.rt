@@ -15,7 +15,7 @@ use std::io::Write;
 use std::{fmt, io};
 use thiserror::Error;
 
-// The fault of a record file, as its line names it.
+// The fault of a record file, as the line for standard error shows it.
 #[derive(Drop)]
 struct RecordsText(RecordFault);
 
@@ -49,7 +49,7 @@ pub enum Refusal {
     /// A word for a date stands for none. This is its first fault.
     #[error("fault date {0}")]
     Date(StampFault),
-    /// The days are no horizon. This is their first fault.
+    /// The days are not a horizon. This is their first fault.
     #[error("fault horizon {0}")]
     Horizon(HorizonFault),
     /// Some start of the domain gives a year, so that its changes for ever are not known.
@@ -79,7 +79,7 @@ pub enum Refusal {
 }
 
 impl Refusal {
-    /// The exit status: 1 where the input is refused, 2 for usage, 3 where opening, reading, writing or memory failed.
+    /// The exit status: 1 if the input is refused, 2 for usage, 3 if opening, reading, writing or memory failed.
     pub fn status(&self) -> u8
         ensures value { result ≡ status_of self.now }
     {
@@ -98,7 +98,8 @@ impl Refusal {
         }
     }
 
-    /// Writes the line for standard error, with its end. Where the writer fails, it has taken a first part of that.
+    /// Writes the line for standard error, with its line end. If the writer fails, it has taken a first part of the
+    /// line.
     pub fn put_line<W: Write>(&self, err: &mut W) -> io::Result<()>
         ensures line { OnOk result
             (Appends (W.contents err.old) (W.contents err.new) (refusal_line self.now)) }
@@ -163,7 +164,7 @@ fn put_records_fault<W: Write>(fault: RecordFault, err: &mut W) -> io::Result<()
     }
 }
 
-// The line of a row's fault, by the rest of it after the row's number.
+// The line of a row's fault, given what follows the row's number.
 fn put_row_fault<W: Write>(row: u32, rest: &str, err: &mut W) -> io::Result<()>
     ensures line { OnOk result (Appends (W.contents err.old) (W.contents err.new)
         (codes "fault row " ++ (decimal row ++ rest.now))) }

@@ -26,7 +26,7 @@ fn run_refusal(fault: RunFault) -> Refusal
     }
 }
 
-// The answer of a command, for that of its run.
+// The answer of a command, from that of its run.
 fn outcome(answer: Result<u64, RunFault>) -> Result<(), Refusal>
     ensures value { result ≡ outcome_of answer }
 {

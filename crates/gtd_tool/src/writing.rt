@@ -1,4 +1,4 @@
-//! Bytes handed to a writer, with what it has taken where it fails.
+//! Bytes handed to a writer, and what it has taken if it fails.
 
 ghost use Rattle.std.specs.Prelude.{◌≡◌, List, OnErr, OnOk};
 ghost use Rattle.std.specs.Io.KnownBytes.{Appends};
@@ -6,7 +6,7 @@ ghost use Rattle.gtd_tool.specs.Writing.{AppendsPart, TakesBefore, joined};
 
 use std::io::{Error, ErrorKind, Result, Write};
 
-/// Hands the bytes over until all are taken. Where the writer fails, it has taken a first part of them.
+/// Hands the bytes over until all are taken. If the writer fails, it has taken a first part of them.
 ///
 /// A write that was interrupted is tried again; one that takes nothing is a failure.
 pub fn put<W: Write>(bytes: &[u8], out: &mut W) -> Result<()>

@@ -1,10 +1,10 @@
 -- The claim of a run that prints the table of a year: for every restriction file of the profile that names the element, the
--- table shows for each day of the year in how many of its seconds no record closes the element in the direction. A file that
--- does not name the element prints nothing and is answered so; any other file prints nothing and is refused by its first
--- fault.
+-- table shows, for each day of the year, the number of its seconds in which no record closes the element in the direction. A
+-- file that does not name the element prints nothing, and the answer says so; any other file prints nothing and is refused
+-- by its first fault.
 --
--- `file` are the bytes that the input had still to give, `before` and `after` those that the output had taken, where the
--- devices tell them, and `answer` is that of the run.
+-- `file` holds the bytes that the input still had to give, `before` and `after` those that the output had taken, if the
+-- devices tell them; `answer` is that of the run.
 use Rattle.std.specs.Prelude.{◌≡◌, ℕ, List, Any, Option, IfSome, Result, Ok, Err}
 use Rattle.std.specs.Io.KnownBytes.{Keeps}
 use Rattle.gtd_records.specs.File.{IsFile}
@@ -20,7 +20,7 @@ use Rattle.gtd_year.specs.YearTable.{IsYearTable}
 abbrev pub IsNamed : ℕ → List Restriction → Type 0
 IsNamed element found = Any (λ (r : Restriction). r.element ≡ element) found
 
--- Where neither device failed, no memory was refused and the input did not fall silent.
+-- If neither device failed, no memory was refused and the input did not fall silent.
 pub record YearClaim (element : ℕ) (direction : Direction) (vehicle year : ℕ)
     (file before after : Option (List ℕ)) (answer : Result ℕ RunFault) : Type 0 where
   pub accepted : IsUnhindered answer → IfSome file (λ bytes. (found : List Restriction) → IsFile bytes (Ok found)

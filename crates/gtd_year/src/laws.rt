@@ -1,4 +1,4 @@
-//! Laws of the definitions: calls that do nothing, and whose contracts are what is proved.
+//! Laws of the definitions: calls that do nothing, whose contracts are what is proved.
 
 ghost use Rattle.std.specs.Prelude.{◌≡◌, All, ℕ, List, length, pos};
 ghost use Rattle.gtd_calendar.specs.Calendar.{year_length};
@@ -6,7 +6,7 @@ ghost use Rattle.gtd_records.specs.Closing.{Restriction};
 ghost use Rattle.gtd_records.specs.declared.direction.Direction.{Direction};
 ghost use Rattle.gtd_year.specs.YearTable.{IsYearTable};
 
-/// Given restrictions have exactly one table of an element, a direction, a vehicle type and a year.
+/// Restrictions have exactly one table for each element, direction, vehicle type and year.
 pub fn one_table()
     ensures some { (found : List Restriction) (element : ℕ) (direction : Direction) (vehicle year : ℕ)
         → (lines : List (List ℕ)) × IsYearTable found element direction vehicle year lines }

@@ -1,4 +1,4 @@
-//! The table of a year: in how many seconds of each day a road element is open.
+//! The table of a year: the number of seconds of each day in which a road element is open.
 #![tactic(auto)]
 
 pub use run::{YearTable, run_year};

@@ -15,7 +15,7 @@ use gtd_runs::{Progress, Report, RunFault, Stop, Subject, finish, run_report};
 use gtd_spans::ByDay;
 use std::alloc::Global;
 
-/// The table of a year of an element in a direction, for a vehicle type.
+/// The table of a year, for an element in a direction and a vehicle type.
 #[derive(Clone, Copy, Debug, PartialEq, Eq)]
 pub struct YearTable {
     /// The element.
@@ -76,11 +76,11 @@ impl Report for YearTable {
 
 /// Puts the year's table of an element of the record file that an input brings: for each day of a year from 1901 to 2199,
 /// the number of its seconds in which the element is open in the direction for a vehicle type from 1 to 99. Answers the
-/// number of its lines, which is that of the days.
+/// number of its lines, which is the number of days.
 ///
-/// In order: `VehicleRange`; `YearRange`; the first fault of reading the file (`Records`); `NoElement` where no record
-/// names the element; then `WriteFault` or `NoMemory`, whichever happens first. Nothing is put before the whole file was
-/// read and accepted. The caller keeps the failures of both devices under `u64::MAX` before the call.
+/// In order: `VehicleRange`; `YearRange`; the first fault of reading the file (`Records`); `NoElement` if no record
+/// names the element; then `WriteFault` or `NoMemory`, whichever happens first. Nothing is put until the whole file has
+/// been read and accepted. Before the call, the failures of both devices must be below `u64::MAX`.
 pub fn run_year<I: Input, O: Output>(
     alloc: Global,
     input: &mut I,
@@ -92,17 +92,17 @@ pub fn run_year<I: Input, O: Output>(
 ) -> Result<u64, RunFault>
     requires readable { I.failure_count input.old < u64.MAX }
     requires writable { O.failure_count output.old < u64.MAX }
-    // Where nothing hindered the run: of a file that names the element the output took its table, and the answer is the
-    // number of its lines; of any other file it took nothing, and the answer says which.
+    // If nothing hindered the run: of a file that names the element the output took the table, and the answer is the
+    // number of its lines; of any other file it took nothing, and the answer says why.
     ensures claim { IsVehicleType vehicle → IsTableYear year → YearClaim element direction vehicle year
         (I.to_come input.old) (O.taken output.old) (O.taken output.new) result }
-    // What stands by each answer: after a failure or a refusal of memory, the first bytes of the same table.
+    // What each answer means: after a failure or a refusal of memory, the first bytes of the same table.
     ensures stands { HasRun
         (λ found. Any (λ (r : Restriction). r.element ≡ element) found)
         (λ found lines. IsYearTable found element direction vehicle year lines)
         (I.to_come input.old) (O.taken output.old) (O.taken output.new) result }
     ensures days { IfOk result (λ count. count ≡ year_length (pos year)) }
-    // The end comes last: an output that took the whole text was then ended.
+    // An output that took the whole text was then ended, last of all.
     ensures ended { OnOk result (IsTrue (O.is_ended output.new)) }
     ensures vehicle { IsErrOf result RunFault.VehicleRange ↔ (IsVehicleType vehicle → ⊥) }
     ensures year { IsErrOf result RunFault.YearRange ↔ (IsVehicleType vehicle × (IsTableYear year → ⊥)) }

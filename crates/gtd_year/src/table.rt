@@ -20,7 +20,7 @@ use std::alloc::AllocError;
 /// The bytes of a line before its LF: a date, a space, and five places.
 const WIDTH: usize = 16;
 
-// Writes a day's line, in place of what the buffer had.
+// Writes a day's line, in place of what the buffer held.
 fn write_day_line(line: &mut Vec<u8>, day: i64, count: u32) -> Result<(), AllocError>
     requires day { IsCalendarDay day }
     requires few { count ≤ day_seconds }
@@ -37,7 +37,7 @@ fn write_day_line(line: &mut Vec<u8>, day: i64, count: u32) -> Result<(), AllocE
     Ok(())
 }
 
-// Counts the seconds of a day, and writes its line in place of what the buffer had.
+// Counts the seconds of a day, and writes its line in place of what the buffer held.
 fn count_day<S: SpanSource>(
     seconds: &mut ByDay<S>,
     line: &mut Vec<u8>,
@@ -53,7 +53,8 @@ fn count_day<S: SpanSource>(
     write_day_line(line, day, count)
 }
 
-/// Puts the lines of so many days from a first one on, each with the number of its seconds that are still to be counted.
+/// Puts the lines of so many days from a first one on, each with the number of the day's seconds that are still to be
+/// counted.
 pub(crate) fn put_days<O: Output, S: SpanSource>(
     output: &mut O,
     progress: &mut Progress,

@@ -1,4 +1,4 @@
--- Days and seconds, and how long a stretch is at most.
+-- Days and seconds, and how long a stretch can be.
 use Rattle.std.proofs.Common.{◌≡◌, ℕ, ◌+◌, ◌*◌, ◌<◌, arith, ℤ, pos, ◌+ℤ◌, ◌*ℤ◌, ◌≤ℤ◌, ◌≤◌}
 use Rattle.std.specs.Int.{int_rem_euclid}
 use Rattle.jiff_core.proofs.SignedLemmas.{signed_arith, one_part}
@@ -27,7 +27,7 @@ second-only s n k low e =
         → (m ≡ n) × (l ≡ k)
     only s n m k l low e f high = (omega (arith, signed_arith), omega (arith, signed_arith))
 
--- a stretch ends at or after its begin, and is never longer than its bound
+-- a stretch ends at or after its first second, and is never longer than its bound
 pub stop-bound : (p : DurationParts) (b : ℤ) → (b ≤ℤ stop p b) × (stop p b ≤ℤ (b +ℤ pos (bound_of p)))
 unfolding stop
 stop-bound p b =
@@ -43,7 +43,7 @@ stop-bound p b =
         × ((pos 86400 *ℤ (m +ℤ pos days) +ℤ pos (second + clock)) ≤ℤ (b +ℤ pos bound))
     ends b n m second reach days clock bound e low high is = (omega (arith, signed_arith), omega (arith, signed_arith))
 
--- without years and months a stretch ends a fixed count of seconds behind its begin
+-- without years and months a stretch ends a fixed number of seconds after its first second
 pub stop-without_months : (p : DurationParts) (b : ℤ) → 12 * p.years + p.months ≡ 0
     → stop p b ≡ b +ℤ pos (86400 * (7 * p.weeks + p.days) + clock_seconds p)
 unfolding stop
@@ -56,7 +56,7 @@ stop-without_months p b none =
         → pos 86400 *ℤ (n +ℤ pos days) +ℤ pos (second + clock) ≡ b +ℤ pos (86400 * days + clock)
     moved b n second days clock e = omega (arith, signed_arith)
 
--- on one day stretches end in the order and at the distance in which they begin
+-- stretches that begin on one day end in the same order and at the same distance
 pub stop-same_day : (p : DurationParts) (b c : ℤ) → day_of_second b ≡ day_of_second c
     → stop p b +ℤ pos (second_of_day c) ≡ stop p c +ℤ pos (second_of_day b)
 unfolding stop

@@ -44,7 +44,7 @@ date-cycle n y m d h = (
       ∙ sym (day_number-cycle y m d),
 )
 
--- the same date, four hundred years on
+-- the same date, four hundred years later
 pub date_of-cycle : (n : ℤ) → (year_of (n +ℤ pos 146_097) ≡ year_of n +ℤ pos 400)
     × (month_of (n +ℤ pos 146_097) ≡ month_of n) × (day_of_month (n +ℤ pos 146_097) ≡ day_of_month n)
 date_of-cycle n =
@@ -82,7 +82,7 @@ week_of-cycle n = (
 year_length-cycle : (y : ℤ) → year_length (y +ℤ pos 400) ≡ year_length y
 year_length-cycle y = rw (is_leap_year-cycle y) refl
 
--- the same week, four hundred years on
+-- the same week, four hundred years later
 pub week-cycle : (n y : ℤ) (w : ℕ) → IsWeekOf n y w → IsWeekOf (n +ℤ pos 146_097) (y +ℤ pos 400) w
 week-cycle n y w h =
     record {

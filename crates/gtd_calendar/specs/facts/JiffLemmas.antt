@@ -99,7 +99,7 @@ day_number-theirs r y z m d long e year low high first last same is =
     let year' = rw (← e) at year in
     rw (is, ← e) (days_from_civil-theirs z m d (year', (low, high), (first, rw same at last)))
 
--- from the first day of the month at a count of months to the day that stands in it, or to its last
+-- from the first day of the month at a count of months to this day of it, or to its last
 pub day_in_month-theirs : (count d : ℕ) (first : Date) (n : ℤ) → 1 ≤ d → first.year ≡ pos (count / 12)
     → first.month ≡ count % 12 + 1 → first.day ≡ 1 → n ≡ day_number first.year first.month first.day
     → n +ℤ pos (min d (theirs.days_in_month first.year first.month)) -ℤ pos 1 ≡ day_in_month (pos count) d
@@ -114,7 +114,7 @@ day_in_month-theirs count d first n low year month day e =
         → a +ℤ pos (k + (1 - 1)) +ℤ pos (min d long) -ℤ pos 1 ≡ a +ℤ pos (k + (min d long - 1))
     moved a k long d low some = omega (arith, signed_arith)
 
--- the same of a date that the library made
+-- the same for a date that the library made
 pub days_from_civil-civil : (d : Date) → epoch_day d ≡ day_number d.year d.month d.day
 days_from_civil-civil d = days_from_civil-theirs d.year d.month d.day (civil d)
 
@@ -135,7 +135,7 @@ amount-theirs a b s start h =
     let same : amount Day s ≡ epoch_day b = omega (arith, signed_arith, is) in
     same ∙ days_from_civil-theirs b.year b.month b.day (civil b)
 
--- the library has a date exactly where this calendar has it
+-- the library has a date exactly if this calendar has it
 pub is_date-theirs : (y : ℤ) (m d : ℕ) (z k : ℤ) → (neg_ℤ (pos 9999) ≤ℤ y) × (y ≤ℤ pos 9999) → z ≡ pos m → k ≡ pos d
     → theirs.IsDate y z k ↔ IsDate y m d
 is_date-theirs y m d z k year month day =
@@ -210,7 +210,7 @@ ordinal-bound d =
     let long = days_in_year_bounds d.year in
     omega arith
 
--- where the Thursday of a date's week is in the date's year, its place there says the week
+-- if the Thursday of a date's week is in the date's year, its place there gives the week
 pub week-in_year : (d : Date) (weekday place : ℕ) → weekday ≡ weekday_of (epoch_day d)
     → pos place ≡ pos (ordinal d) +ℤ pos 2 -ℤ pos ((weekday + 5) % 7) → place < 365
     → (d.year ≡ week_year_of (epoch_day d)) × (place / 7 + 1 ≡ week_of (epoch_day d))

@@ -93,7 +93,7 @@ month_first-later t (suc k) =
         → (a ≤ℤ c) × (c ≤ℤ (a +ℤ pos (31 * suc k)))
     reached a b c k p q r s = (omega (arith, signed_arith), omega (arith, signed_arith))
 
--- of two years' first months, those after January differ by the leap days
+-- the days of the first n months of two years differ by the leap days alone, if n is more than 1
 days_of_months-leap : (y z : ℤ) (n : ℕ) → n < 12 → days_of_months y n + cond (nat_lt 1 n) (leap_day z) 0
     ≡ days_of_months z n + cond (nat_lt 1 n) (leap_day y) 0
 days_of_months-leap y z n h =
@@ -145,7 +145,7 @@ month_first-years t (suc k) =
         × (c ≤ℤ (a +ℤ pos (366 * suc k)))
     reached a b c k p q r s = (omega (arith, signed_arith), omega (arith, signed_arith))
 
--- a day stands in the month of its count
+-- a day is in the month of its count
 day-month_first : (n : ℤ) → n ≡ month_first (month_count (year_of n) (month_of n)) +ℤ pos (day_of_month n - 1)
 unfolding day_number
 day-month_first n =
@@ -230,7 +230,7 @@ months_later-bound n years months =
 pub months_later-none : (n : ℤ) → months_later n 0 ≡ n
 months_later-none n = let bound = months_later-bound n 0 0 in omega (arith, signed_arith, bound.0, bound.1)
 
--- the first of a later month is behind the whole month
+-- the first of a later month is after the whole month
 month_first-order : (t u : ℤ) → t <ℤ u → (month_first t +ℤ pos (month_length (counted_year t) (counted_month t))) ≤ℤ month_first u
 month_first-order t u lt =
     let j = unsigned_abs (u -ℤ (t +ℤ pos 1)) in

@@ -13,7 +13,7 @@ pub first_day-1970 : first_day (pos 1970) ≡ pos 0
 unfolding first_day
 first_day-1970 = refl
 
--- 1 for a leap year, and else 0
+-- 1 for a leap year, and otherwise 0
 abbrev pub leap_day : ℤ → ℕ
 leap_day y = cond (is_leap_year y) 1 0
 
@@ -62,7 +62,7 @@ first_day-later y later h =
     (by_lt_z (y +ℤ pos 1) later (λ lt. first_day-more (y +ℤ pos 1) later lt)
     (λ le. let e : later ≡ y +ℤ pos 1 = omega (arith, signed_arith) in rw e (omega (arith, signed_arith))))
 
--- a day of the year that its number of days since 1970 suggests, or of one beside it
+-- a day is in the year that its number of days since 1970 suggests, or in one beside it
 pub guessed_year-near : (n : ℤ) (g : ℤ) → g ≡ pos 1970 +ℤ int_div_euclid (pos 400 *ℤ n) (pos 146_097)
     → (first_day (g -ℤ pos 1) ≤ℤ n) × (n <ℤ first_day (g +ℤ pos 2))
 unfolding first_day
@@ -84,7 +84,7 @@ year_of-is n =
         (first_day y ≤ℤ n) × (n <ℤ first_day (y +ℤ pos 1))
     chosen n g low high back two = grind (arith, signed_arith)
 
--- years that follow one another so, from the same day on, have the same first days
+-- years that follow one another in this way, from the same day on, have the same first days
 pub first_day-only : (first : ℤ → ℤ) → first (pos 1970) ≡ pos 0
     → ((y : ℤ) → first (y +ℤ pos 1) ≡ first y +ℤ pos (year_length y)) → (y : ℤ) → first y ≡ first_day y
 first_day-only first epoch next y =

@@ -1,4 +1,4 @@
--- The same tree is an equal tree: proofs, which stand here since what `==` keeps cites them. There is nothing to believe.
+-- The same tree is an equal tree. These proofs are here since what `==` keeps cites them. There is nothing to believe.
 use Rattle.std.proofs.Common.{◌≡◌, ℕ, Bool, true, false, Option, Some, None, refl, sym, ap, ◌∙◌, eq-eqb}
 use Rattle.std.specs.Prelude.{◌&&◌, ◌==◌, ◌↔◌, IsTrue}
 use Rattle.std.specs.Cmp.{IsEquivalence, IsPartialEquivalence, both_ways, partial_equiv_from_equiv}
@@ -220,7 +220,7 @@ tree_equivalence = record {
 pub tree_partial_equivalence : IsPartialEquivalence same_tree
 tree_partial_equivalence = partial_equiv_from_equiv tree_equivalence
 
--- a test that holds exactly where two values are equal
+-- a test that holds exactly if two values are equal
 decided : (r t : Bool) (P : Type 0) → (IsTrue r ↔ P) → (t ≡ true → P) → (P → t ≡ true) → r ≡ t
 decided r t P h f g = both_ways r t (λ e. g (h.0 e)) (λ e. h.1 (f e))
 

@@ -20,7 +20,7 @@ abbrev parts : Tree → List Part
 parts (Single s d) = inl (s, d) ∷ []
 parts (Joined o left right) = parts left ++ (parts right ++ (inr o ∷ []))
 
--- the trees that stand, after one part more
+-- the trees on the stack after one more part
 abbrev join : Op → List Tree → List Tree
 join o [] = []
 join o (right ∷ []) = []
@@ -34,7 +34,7 @@ abbrev build : List Part → List Tree → List Tree
 build [] trees = trees
 build (part ∷ more) trees = build more (step part trees)
 
--- the tree that stands last
+-- the tree on top of the stack
 abbrev last : List Tree → Tree
 last [] = Single no_parts (record { years = 0; months = 0; weeks = 0; days = 0; hours = 0; minutes = 0; seconds = 0 })
 last (tree ∷ trees) = tree

@@ -41,7 +41,7 @@ repeats-many set r (suc k) t =
     let e = once-more t k in
     ((λ h. subst set e (j.0 (i.0 h))), (λ h. i.1 (j.1 (subst set (sym e) h))))
 
--- how far behind s the second is
+-- how far after s the second is
 pub behind : (s t : ℤ) → s <ℤ t → (n : ℕ) × (t ≡ s +ℤ pos (1 + n))
 behind s t lt = let n : ℕ = unsigned_abs ((t -ℤ s) -ℤ pos 1) in (n, grind (arith, ints))
 

@@ -98,7 +98,7 @@ module _ (v : Version) {R : Type 0} (rem : R → Option (List ℕ)) (old : Reade
         fault = inl (omega arith, refl);
       }
 
--- a file has no more records than rows may be
+-- a file has no more records than it may have rows
 pub record_count : (v : Version) (number : ℕ) (rows : List Fields) (found : List Restriction) → AreRecords v number rows found
     → length found ≡ length rows
 record_count v number [] found are = ap length are

@@ -18,13 +18,13 @@ by_le zero b f g = f (omega arith)
 by_le (suc a) zero f g = g (omega arith)
 by_le (suc a) (suc b) f g = by_le a b (λ h. f (omega arith)) (λ h. g (omega arith))
 
--- what stands at an index
+-- what is at an index
 pub at_index : {X : Type 0} (xs : List X) (k : ℕ) → k < length xs → (x : X) × (slice_index_or xs k x ≡ x)
 at_index [] k h = absurd (omega arith)
 at_index (x ∷ xs) zero h = (x, refl)
 at_index (x ∷ xs) (suc k) h = at_index xs k (omega arith)
 
--- an index within a list has one value, whatever stands past its end
+-- an index within a list has one value, whatever comes past its end
 pub any_default : {X : Type 0} (xs : List X) (k : ℕ) (d e : X) → k < length xs → slice_index_or xs k d ≡ slice_index_or xs k e
 any_default [] k d e h = absurd (omega arith)
 any_default (x ∷ xs) zero d e h = refl
@@ -141,7 +141,7 @@ pub one_record : (rows : List Restriction) (n : ℕ) (r s : Restriction) → n <
     ≡ slice_index_or rows n s → r ≡ s
 one_record rows n r s h a b = sym a ∙ any_default rows n r s h ∙ sym b
 
--- what stands from there on are places
+-- what comes from there on are places
 pub part_sound : (rows : List Restriction) (places all : List Place) (same : all ≡ places) → ArePlaces rows places
     → (from k : ℕ) (d : Place) → k < length (take (length all - from) (drop from all))
     → IsPlaceOfRow rows (slice_index_or (take (length all - from) (drop from all)) k d)
@@ -154,7 +154,7 @@ part_sound rows places all same placed from k d h =
 not_less : (a b : ℕ) → b ≤ a → is_lt (nat_cmp a b) ≡ false
 not_less a b h = grind (arith, nat_tests)
 
--- places that stand by element have elements in order
+-- places that are ordered by element have elements in order
 number_at : (places : List Place) (k d : ℕ) (p : Place) → k < length places → get_or (map (λ (q : Place). q.element) places) k d
     ≡ (slice_index_or places k p).element
 number_at [] k d p h = absurd (omega arith)

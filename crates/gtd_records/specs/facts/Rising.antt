@@ -1,4 +1,4 @@
--- Lists of numbers that rise are one where they have the same members.
+-- Two lists of ascending numbers are the same list if they have the same members.
 use Rattle.std.proofs.Common.{◌≡◌, ◌∙◌, sym, ap, refl, ◌<◌, ◌⊎◌, inl, inr, ℕ, zero, suc, List, [], ◌∷◌, length, arith}
 use Rattle.std.specs.Prelude.{slice_index_or}
 use Rattle.std.specs.List.{Contains}

@@ -34,12 +34,12 @@ four (p ∷ q ∷ r ∷ []) a b c d n e f g h = cc
 four (p ∷ q ∷ r ∷ s ∷ []) a b c d n e f g h = cc
 four (p ∷ q ∷ r ∷ s ∷ t ∷ more) a b c d n e f g h = absurd (omega arith)
 
--- the last column, where it is not empty
+-- the last column, if it is not empty
 pub a_column : (text : List ℕ) (tree : Tree) → 0 < length text → IsReading text (Ok tree) → IsDomainColumn text (Ok (Some tree))
 a_column [] tree some h = absurd (omega arith)
 a_column (b ∷ text) tree some h = h
 
--- and its fault, where memory was there
+-- and its fault, if memory was not refused
 pub a_fault : (text : List ℕ) (why : TextFault) → 0 < length text → (why ≡ no_memory) ⊎ IsFault text why → why.kind ≢ NoMemory
     → IsDomainColumn text (Err why)
 a_fault [] why some h other = absurd (omega arith)

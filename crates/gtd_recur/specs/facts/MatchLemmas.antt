@@ -1,4 +1,4 @@
--- A start matches just the seconds at which it begins.
+-- A start matches exactly the seconds at which it begins.
 use Rattle.std.proofs.Common.{◌≡◌, ◌↔◌, ◌⊎◌, ℕ, ◌-◌, ◌/◌, ◌%◌, ◌^◌, ◌<◌, inl, inr, Bool, true, false, ◌||◌, ◌==◌, cond}
 use Rattle.std.proofs.Common.{Option, Some, None, is_some, refl, sym, subst, arith, ℤ, pos, IfSome}
 use Rattle.std.proofs.lemmas.Bool.{and_parts, and_from, eqb-true, eq-eqb}
@@ -47,7 +47,7 @@ or-from : (a b : Bool) → (a ≡ true) ⊎ (b ≡ true) → (a || b) ≡ true
 or-from true b h = refl
 or-from false b h = elim h [ inl e ↦ cc | inr e ↦ e ]
 
--- a level of one field: the field holds, or it is at its least where no finer one is given
+-- a level of one field: the field holds, or it is at its least if no finer one is given
 level-to : (o : Option ℕ) (finer : Bool) (least v : ℕ) → agrees_or_least o finer least v ≡ true
     → IfSome o (λ x. x ≡ v) × (is_some o ≡ false → finer ≡ false → v ≡ least)
 level-to (Some x) finer least v e = (eqb-true x v e, λ none f. cc)
@@ -60,7 +60,7 @@ level-from (Some x) finer least v e h = eq-eqb x v e
 level-from None true least v e h = refl
 level-from None false least v e h = eq-eqb least v (sym (h refl refl))
 
--- which levels are finer than all that are given
+-- which levels are finer than all given ones
 below-5 : (s m h d w : Bool) → finest_of s m h d w < 5 → s ≡ false
 below-5 true m h d w lt = absurd (omega arith)
 below-5 false m h d w lt = refl

@@ -272,13 +272,13 @@ pub taken-left : (p : StartParts) (n next end : ℤ) (from k : ℕ) → IsNextPa
 unfolding starts_left
 taken-left p n next end from k h = rw (clock_starts-some p n from k h) refl
 
--- where the open day has no more, it is closed
+-- if the open day has no more, it is closed
 pub closed-left : (p : StartParts) (n next end : ℤ) (from : ℕ) → from ≤ 86400 → IsNextPassing (begins_at p) from None
     → starts_left p n 86400 next end ≡ starts_left p n from next end
 unfolding starts_left
 closed-left p n next end from low h = rw (clock_starts-none p n from low h, clock_starts-nil p n) refl
 
--- behind the last day none are left
+-- after the last day none are left
 pub none-left : (p : StartParts) (n end : ℤ) (from : ℕ) → clock_starts p n from ≡ [] → starts_left p n from end end ≡ []
 unfolding starts_left
 none-left p n end from done = rw (done, days_between-nil end) (starts_of-nil p)

@@ -39,7 +39,7 @@ day-week s =
     later : (s n : ℤ) (k : ℕ) → s ≡ pos 86400 *ℤ n +ℤ pos k → s +ℤ pos 604_800 ≡ pos 86400 *ℤ (n +ℤ pos 7) +ℤ pos k
     later s n k e = omega (arith, signed_arith)
 
--- a day's level is free where weekdays or the clock are given
+-- a day's level is free if weekdays or the clock are given
 free : (days clock month day weekday : Bool) → (days ≡ true) ⊎ (clock ≡ true)
     → ((days || clock) || month) && (weekday && (days || (clock || day))) ≡ weekday
 free true clock month day true h = refl
@@ -55,7 +55,7 @@ some-given : (k : ℕ) (clock : Bool) → (k ≢ 0) ⊎ (clock ≡ true) → (no
 some-given k clock (inl days) = inl (given-days k days)
 some-given k clock (inr given) = inr given
 
--- a start that asks for no date begins on a day just where the weekday agrees
+-- a start that asks for no date begins on a day exactly if the weekday agrees
 pub date-free : (p : StartParts) (f : DayFields) → AsksNoDate p → begins_on p f ≡ weekday_agrees p f
 date-free p f a = rw (a.year, a.month, a.week, a.day, a.nth, a.nth_back)
     (free (not (p.weekdays == 0)) (gives_clock p) (1 == f.month) (f.day == 1) (weekday_agrees p f)

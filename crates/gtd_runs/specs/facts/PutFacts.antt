@@ -62,7 +62,7 @@ pub one_put : (line : List ℕ) (a b : Option (List ℕ)) (p q : Progress) → A
     → q ≡ record { lines = p.lines + 1; written = p.written + length line } → Puts (Ok tt) a b p q (line ∷ [])
 one_put line a b p q taken is = rw (append-nil line) (taken, is)
 
--- a front of one line was put
+-- a first part of one line was put
 pub one_short : (x : Stop) (line : List ℕ) (n : ℕ) (a b : Option (List ℕ)) (p q : Progress) → n < length line
     → Appends a b (take n line) → q ≡ record { lines = p.lines; written = p.written + n } → Puts (Err x) a b p q (line ∷ [])
 one_short x line n a b p q short taken is =
@@ -84,7 +84,7 @@ pub puts_ended : (r : Result (Unit {0}) Stop) (a b c : Option (List ℕ)) (p q :
 puts_ended (Ok x) a b c p q lines puts kept = (Appends-kept a b c (text_of lines) puts.0 kept, puts.1)
 puts_ended (Err x) a b c p q lines puts kept = put_whole x a b c p q lines puts kept
 
--- where there is one text of a kind, what was put of it was put of each
+-- if there is one text of a kind, what was put of it was put of each
 pub puts_text : (IsText : List (List ℕ) → Type 0) (r : Result (Unit {0}) Stop) (a b : Option (List ℕ)) (p q : Progress)
     (lines : List (List ℕ))
     → IsText lines → ((other : List (List ℕ)) → IsText other → other ≡ lines) → Puts r a b p q lines → PutsText IsText r a b p q

@@ -1,4 +1,4 @@
--- What stands where a run ended, and the claims that follow.
+-- What holds when a run has ended, and the claims that follow.
 use Rattle.std.proofs.Common.{◌≡◌, ◌∙◌, ◌+◌, ap, refl, arith, subst, length, Bool, ℕ, List, Option, Some, None}
 use Rattle.std.specs.Prelude.{◌≢◌, IsTrue, OnOk, Result, Ok, Err, IfOk, IfSome}
 use Rattle.std.proofs.KnownBytes.{Keeps-refl}
@@ -39,7 +39,7 @@ module _ (IsAccepted : List Restriction → Type 0) (IsText : List Restriction �
     first = λ lines text. took_first x old new q lines (puts lines text);
   }
 
-  -- what a run of an accepted file did, by its answer
+  -- what a run did with an accepted file, by its answer
   pub has_run : (r : Result (Unit {0}) Stop) (file old new : Option (List ℕ)) (found : List Restriction) (q : Progress)
       → IfSome file (λ bytes. IsFile bytes (Ok found)) → IsAccepted found → PutsText (IsText found) r old new nothing_put q
       → HasRun IsAccepted IsText file old new (answer_of r q)
@@ -58,13 +58,13 @@ module _ (IsAccepted : List Restriction → Type 0) (IsText : List Restriction �
   has_run (Err Output) file old new found q of_file accepted puts = stopped Output file old new found q of_file accepted puts
   has_run (Err Memory) file old new found q of_file accepted puts = stopped Memory file old new found q of_file accepted puts
 
-  -- what a run did of a file that is not read
+  -- what a run did with a file that is not read
   pub not_read : (why : RecordFault) (file taken : Option (List ℕ)) → IfSome file (λ bytes. IsOfFile why → IsFile bytes (Err why))
       → HasRun IsAccepted IsText file taken taken (Err (fault.Records why))
   not_read why None taken h = (Keeps-refl taken, λ free. tt)
   not_read why (Some bytes) taken h = (Keeps-refl taken, h)
 
-  -- what a run did of a file that does not name the element
+  -- what a run did with a file that does not name the element
   pub not_named : (file taken : Option (List ℕ)) (found : List Restriction) → IfSome file (λ bytes. IsFile bytes (Ok found))
       → (IsAccepted found → ⊥) → HasRun IsAccepted IsText file taken taken (Err fault.NoElement)
   not_named None taken found h never = (Keeps-refl taken, tt)
@@ -79,7 +79,7 @@ answer_lines IsText (Ok x) old new found q puts =
 answer_lines IsText (Err Output) old new found q puts = tt
 answer_lines IsText (Err Memory) old new found q puts = tt
 
--- a run that put its text, or that stopped, does not speak of its arguments
+-- the answer of a run that put its text, or that stopped, is not about its arguments
 pub not_vehicle : (put : Result (Unit {0}) Stop) (progress : Progress) → answer_of put progress ≢ Err fault.VehicleRange
 not_vehicle (Ok done) progress e = cc
 not_vehicle (Err Output) progress e = cc

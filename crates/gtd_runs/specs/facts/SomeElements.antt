@@ -1,4 +1,4 @@
--- Restrictions name a list of elements, and have a text by elements where each element has some lines.
+-- Restrictions name a list of elements, and have a text by elements if each element has lines.
 use Rattle.std.proofs.Common.{◌≡◌, ◌∙◌, sym, refl, subst, arith, ◌<◌, ◌⊎◌, inl, inr, ◌↔◌, ℕ, zero, suc, List, [], ◌∷◌}
 use Rattle.std.proofs.Common.{◌++◌, length}
 use Rattle.std.specs.Prelude.{Any, slice_index_or}
@@ -36,7 +36,7 @@ any_none P a = let l = a.2 in omega arith
 
 -- ---- the elements
 
--- a list with one number more, at its place
+-- a list with one more number, at its place
 record IsInserted (n : ℕ) (xs ys : List ℕ) : Type 0 where
   rises : Rises ys
   above : (l : ℕ) → l < n → AllAbove l xs → AllAbove l ys

@@ -7,7 +7,7 @@ use Rattle.gtd_runs.specs.Putting.{IsOne, Puts, PutsText}
 use Rattle.gtd_runs.specs.declared.putting.Progress.{Progress}
 use Rattle.gtd_runs.specs.declared.putting.Stop.{Stop}
 
--- a text of one kind, and behind it one of another
+-- a text of one kind, followed by one of another
 abbrev pub Then : (List (List ℕ) → Type 0) → (List (List ℕ) → Type 0) → List (List ℕ) → Type 0
 Then A B lines = (first : List (List ℕ)) × (more : List (List ℕ)) × A first × B more × (lines ≡ first ++ more)
 

@@ -13,7 +13,7 @@ use Rattle.gtd_runs.specs.Putting.{most_direction_lines}
 use Rattle.gtd_schedule.specs.Lines.{AreShown}
 use Rattle.gtd_spans.specs.Normal.{AllBeginFrom, AreInOrder, Holds}
 
--- Spans one behind the other, from one second on and before another.
+-- Spans one after the other, from one second on and before another.
 abbrev pub Fit : ℤ → ℤ → List Interval → Type 0
 Fit from until [] = from ≤ℤ until
 Fit from until (x ∷ xs) = (from ≤ℤ x.from) × (x.from <ℤ x.until) × Fit x.until until xs

@@ -41,7 +41,7 @@ reach-holds (x ∷ xs) t h =
       | inr r ↦ let k = reach-holds xs t r in (omega (arith, ints, k.0), omega (arith, ints, k.1))
     ]
 
--- what the operator makes of two lists, one of them holds
+-- what the operator makes of two lists is held by one of them
 combined-either : (op : Op) (P Q : Type 0) → Combined op P Q → P ⊎ Q
 combined-either Union P Q h = h
 combined-either Meet P Q h = inl h.0

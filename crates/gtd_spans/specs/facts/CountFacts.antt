@@ -99,7 +99,7 @@ count-few set t (suc n) i p =
     let r = count-few set (t +ℤ pos 1) n p.0 p.1 in
     elim p.2 [ inl y ↦ omega (arith, y.1, r) | inr y ↦ omega (arith, y.1, r) ]
 
--- the seconds of an interval among those, where they run from f on and before u
+-- the seconds of an interval among those, if they run from f on and before u
 pub count-cut : (x : Interval) (t f u : ℤ) (n m : ℕ) → t ≤ℤ f → u ≤ℤ (t +ℤ pos n) → f +ℤ pos m ≡ u
     → ((s : ℤ) → Among t n s → Within x s ↔ ((f ≤ℤ s) × (s <ℤ u))) → IsCount (Within x) t n m
 count-cut x t f u n m a b e h =
@@ -152,7 +152,7 @@ pub count-behind : (x : Interval) (xs : List Interval) (t : ℤ) (n : ℕ) → I
 count-behind x xs t n normal h =
     count-none (Holds (x ∷ xs)) t n (λ s a k. let f = first-holds x xs s normal k in omega (arith, ints, f, a.1, h))
 
--- where the first interval reaches the end, no later one counts
+-- if the first interval reaches the end, no later one counts
 pub count-only : (x : Interval) (xs : List Interval) (t : ℤ) (n i : ℕ) → IsNormal (x ∷ xs) → (t +ℤ pos n) ≤ℤ x.until
     → IsCount (Within x) t n i → IsCount (Holds (x ∷ xs)) t n i
 count-only x xs t n i normal h p =
@@ -187,15 +187,15 @@ module _ (held : Option Interval) (x : Interval) (rest : List Interval) (is : he
   back : (i : ℕ) → IsCount (Holds (x ∷ rest)) t n i → IsCount (Holds (spans_to_come held rest)) t n i
   back i p = subst (λ (xs : List Interval). IsCount (Holds xs) t n i) (sym at_hand) p
 
-  -- the span at hand begins behind the day
+  -- the span at hand begins after the day
   pub day-behind : (t +ℤ pos n) ≤ℤ x.from → IsCount (Holds (spans_to_come held rest)) t n 0
   day-behind h = back 0 (count-behind x rest t n normal_there h)
 
-  -- the span at hand ends behind the day
+  -- the span at hand ends after the day
   pub day-only : (i : ℕ) → (t +ℤ pos n) ≤ℤ x.until → IsCount (Within x) t n i → IsCount (Holds (spans_to_come held rest)) t n i
   day-only i h p = back i (count-only x rest t n i normal_there h p)
 
-  -- the span at hand and those behind it
+  -- the span at hand and those after it
   pub day-first : (i j : ℕ) → IsCount (Within x) t n i → IsCount (Holds rest) t n j
       → IsCount (Holds (spans_to_come held rest)) t n (i + j)
   day-first i j p q = back (i + j) (count-first x rest t n i j normal_there p q)
@@ -203,7 +203,7 @@ module _ (held : Option Interval) (x : Interval) (rest : List Interval) (is : he
   pub day-rest-normal : IsNormal rest
   day-rest-normal = normal_there.2
 
-  -- from its end on the span at hand is done
+  -- from its end on, the span at hand is used up
   pub day-later : (s : ℤ) → x.until ≤ℤ s → Holds (spans_to_come held rest) s ↔ Holds rest s
   day-later s h = subst (λ (xs : List Interval). Holds xs s ↔ Holds rest s) (sym at_hand) (later-same x rest s h)
 

@@ -27,7 +27,7 @@ pub nothing-minus : (ys : List Interval) → combine Minus [] ys ≡ []
 nothing-minus ys = one-list _ [] (combine-normal Minus [] ys) tt
     (λ t. ((λ h. ((combine-holds Minus [] ys t).0 h).0), (λ h. absurd h)))
 
--- all of the left side is left where the right one has ended
+-- all of the left side remains if the right one has ended
 pub minus-nothing : (x : Interval) (l : List Interval) → IsNormal (x ∷ l)
     → combine Minus (x ∷ l) [] ≡ x ∷ combine Minus l []
 minus-nothing x l n = one-list _ (x ∷ combine Minus l []) (combine-normal Minus (x ∷ l) []) (
@@ -41,7 +41,8 @@ minus-nothing x l n = one-list _ (x ∷ combine Minus l []) (combine-normal Minu
       (λ h. old.1 (elim h [ inl w ↦ (inl w, (λ e. e)) | inr k ↦ (inr (new.0 k).0, (λ e. e)) ])),
     ))
 
--- nothing comes of an operator that gives nothing where its left side has ended; of an intersection whose right side has
+-- nothing comes of an operator that gives nothing once its left side has ended; nor of an intersection whose right side
+-- has ended
 pub ended-left : (op : Op) (old xs ys : List Interval) (side : Side) (l : List Interval)
     → ((zs : List Interval) → combine op [] zs ≡ []) → old ≡ combine op xs ys → [] ≡ xs → side ≡ Ended
     → Takes old None (combine op (side_list side l) ys)
@@ -53,7 +54,7 @@ pub ended-right : (old xs ys zs : List Interval) (side : Side) (r : List Interva
 ended-right old xs ys zs side r same none ended =
     (same ∙ ap (λ (ws : List Interval). combine Meet xs ws) (sym none) ∙ meet-nothing xs, rw ended (meet-nothing zs))
 
--- nothing comes of a union where both sides have ended
+-- nothing comes of a union once both sides have ended
 pub ended-both : (xs ys : List Interval) (o p : Option Interval) (x y : Side) (l r : List Interval)
     → told_list o l ≡ xs → told_list p r ≡ ys → ComesFirst o x → ComesFirst p y → IsFirstOf o p None
     → Takes (combine Union xs ys) None (combine Union (side_list x l) (side_list y r))
@@ -61,7 +62,7 @@ ended-both xs ys None None x y l r e f h k none = (rw (← e, ← f) nothing-uni
 ended-both xs ys None (Some b) x y l r e f h k none = absurd (let z : Some b ≡ None = none.1 in cc)
 ended-both xs ys (Some a) p x y l r e f h k none = absurd (let z : Some a ≡ None = none.0 in cc)
 
--- the first interval of the left side of a difference, where the right one has ended
+-- the first interval of the left side of a difference, if the right one has ended
 pub all-of-left : (old xs ys : List Interval) (x : Interval) (l : List Interval) (side : Side) (r : List Interval)
     → old ≡ combine Minus xs ys → IsNormal xs → x ∷ l ≡ xs → [] ≡ ys → side ≡ Ended
     → old ≡ x ∷ combine Minus l (side_list side r)

@@ -1,4 +1,4 @@
--- That a merge fits its sides has one proof at most, so that a struct may hold it.
+-- That a merge fits its sides has at most one proof, so that a struct may hold it.
 use Rattle.std.specs.Prelude.{ℤ, List, [], ◌∷◌, Option, Some, None}
 use Rattle.std.proofs.Props.{props}
 use Rattle.gtd_core.specs.Seconds.{Interval}

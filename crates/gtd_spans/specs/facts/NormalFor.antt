@@ -35,11 +35,11 @@ order-of : (xs : List Interval) → IsNormal xs → AreInOrder xs
 order-of [] n = tt
 order-of (x ∷ xs) n = (n.0, weaken x.until xs n.1, order-of xs n.2)
 
--- a second that is not held before b nor behind it, of a normal list that begins after b
+-- a second that a normal list that begins after b does not hold, before b or after it
 not-before : (b : ℤ) (xs : List Interval) → AllBeginAfter b xs → Holds xs b → ⊥
 not-before b xs a h = let q = after-holds b b xs a h in omega (arith, ints, q)
 
--- the ends of each interval are not held, where what comes before the list ends before it
+-- the ends of each interval are not held, if what comes before the list ends before it
 maximal-of : (set : ℤ → Type 0) (b : ℤ) (xs : List Interval) → IsNormal xs → AllBeginAfter b xs
     → ((t : ℤ) → b ≤ℤ t → set t → Holds xs t) → AreMaximal set xs
 maximal-of set b [] n a c = tt
@@ -61,7 +61,7 @@ maximal-of set b (x ∷ xs) n a c = (
 begins : (x : Interval) (xs : List Interval) → IsNormal (x ∷ xs) → AllBeginAfter (x.from -ℤ pos 1) (x ∷ xs)
 begins x xs n = (omega (arith, ints), after-weaken x.until (x.from -ℤ pos 1) xs (omega (arith, ints, n.0)) n.1)
 
--- a normal list that holds just those seconds is their normal list
+-- a normal list that holds exactly those seconds is their normal list
 pub normal-for : (set : ℤ → Type 0) (from until : ℤ) (xs : List Interval) → IsNormal xs
     → ((t : ℤ) → Holds xs t ↔ IsIn set from until t) → IsNormalFor set from until xs
 normal-for set from until [] n is = record {
@@ -84,7 +84,7 @@ one-normal-list set from until xs ys n m =
     one-list xs ys (normal-of set from until xs n) (normal-of set from until ys m)
     (λ t. ((λ h. m.complete t (n.inside t h)), (λ h. n.complete t (m.inside t h))))
 
--- the operator is in a range where its sides are
+-- what the operator makes is in a range if its sides are
 pub combined-in : (op : Op) (from until t : ℤ) (P Q : ℤ → Type 0)
     → Combined op (IsIn P from until t) (IsIn Q from until t) ↔ IsIn (λ u. Combined op (P u) (Q u)) from until t
 combined-in Union from until t P Q = (

@@ -1,4 +1,4 @@
--- From where and after what lists begin.
+-- Where lists begin.
 use Rattle.std.proofs.Common.{List, [], ◌∷◌, inl, inr, arith}
 use Rattle.std.specs.Prelude.{ℤ, ◌≤ℤ◌, ◌<ℤ◌}
 use Rattle.std.proofs.lemmas.Int.{ints}

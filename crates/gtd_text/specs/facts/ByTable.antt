@@ -1,4 +1,4 @@
--- What holds of each row of a table of fields holds of what a letter finds in it.
+-- What holds for each row of a table of fields holds for what a letter finds in it.
 use Rattle.std.proofs.Common.{◌≡◌, ℕ, Bool, true, false, cond, List, [], ◌∷◌}
 use Rattle.std.specs.Prelude.{◌==◌}
 use Rattle.gtd_core.specs.FieldTable.{FieldRow, at_letter}

@@ -95,7 +95,7 @@ link_bracket (p ∷ outer) before e h =
       fields = tt;
     }
 
--- what fits goes by the letters alone
+-- what fits depends on the letters alone
 same_start : (before fields : List TokenKind) → ((letter : ℕ) → has_letter letter before ≡ has_letter letter fields)
     → (token : TokenKind) → fits_start before token ≡ fits_start fields token
 same_start before fields h (Field letter value digits) = ap (λ b.
@@ -379,7 +379,7 @@ pub fit_goes_on : (tokens : List TokenKind) → all_fit_so_far [] tokens ≡ tru
 fit_goes_on tokens fit =
     so_far_ends at_front [] tokens (record { next = λ token. refl; open_brackets = refl; end = refl; fields = tt }) fit
 
--- Of tokens that all fit the first ones do.
+-- If all of some tokens fit, so do the first of them.
 pub fit_first : (before tokens after : List TokenKind) → all_fit before (tokens ++ after) ≡ true → all_fit_so_far before tokens
     ≡ true
 fit_first before [] after h = refl

@@ -1,4 +1,4 @@
--- A text stands for one expression at most.
+-- A text stands for at most one expression.
 use Rattle.std.proofs.Common.{◌≡◌, ℕ, List, length, Some, sym, ap, ◌∙◌}
 use Rattle.gtd_core.specs.Trees.{Tree}
 use Rattle.gtd_text.specs.Building.{build, at_front}

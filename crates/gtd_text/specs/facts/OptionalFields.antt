@@ -64,7 +64,7 @@ abbrev pub AreInRange : List Slot → Type 0
 AreInRange [] = Unit {0}
 AreInRange (slot letter given ∷ slots) = IsInRange letter given × AreInRange slots
 
--- no slot has this letter, but for t
+-- no slot has this letter, except t
 abbrev pub differs : ℕ → List Slot → Bool
 differs letter [] = true
 differs letter (slot other given ∷ slots) = (other == 116 || not (letter == other)) && differs letter slots
@@ -209,7 +209,7 @@ makes : (parts : DurationParts) (slots : List Slot) (last : DurationParts) → M
 makes parts slots last (made p) = refl
 makes parts slots last (further p next q letter given rest e h) = makes_slot p next letter given rest e ∙ makes next rest q h
 
--- `s0` where no number is given
+-- `s0` if no number is given
 abbrev pub or_zero_words : List Word → List Word
 or_zero_words [] = field_word 115 0 (48 ∷ []) ∷ []
 or_zero_words (word ∷ words) = word ∷ words

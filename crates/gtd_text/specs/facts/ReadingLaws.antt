@@ -86,12 +86,12 @@ no_fault text tokens are none fault (inr bad) =
     ∙ ap (fault_of_tokens (length text)) same ∙ none in
     absurd cc
 
--- what holds anyhow holds of a value that is there
+-- what always holds, holds for a value that is there
 pub ok_always : {A E : Type 0} (r : Result A E) (P : Type 0) → P → IfOk r (λ x. P)
 ok_always (Ok x) P h = h
 ok_always (Err e) P h = tt
 
--- ---- a text has one fault at most
+-- ---- a text has at most one fault
 
 same_fault : (f g : TextFault) → f.kind ≡ g.kind → f.place ≡ g.place → f ≡ g
 same_fault f g kind place =

@@ -547,7 +547,7 @@ pub first_found : (len : ℕ) (tokens : List Token) (fault : TextFault) → IsFi
     ≡ Some fault
 first_found len tokens fault h = phases len tokens ∙ chosen _ _ _ _ _ fault (deciding_of len tokens fault h)
 
--- no token is at fault by the grammar, and the tokens may end, exactly where the grammar's check finds nothing
+-- no token is at fault by the grammar, and the tokens may end, exactly if the grammar's check finds nothing
 pub no_misfit : (len : ℕ) (tokens : List Token) → IsClean grammar_fault tokens → may_end (newest_first tokens) ≡ true
     → fault_after len [] tokens ≡ None
 no_misfit len tokens h e =

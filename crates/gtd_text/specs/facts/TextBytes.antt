@@ -18,7 +18,7 @@ use Rattle.gtd_text.specs.Canonical.{canonical, clock_fields, day_and_weekday_fi
 use Rattle.gtd_text.specs.Canonical.{number_text, numbers_text, or_zero, place_fields, place_text, sign_text, start_text}
 use Rattle.gtd_text.specs.Canonical.{weekday_text, weekdays_text, year_text}
 
--- a comma, and each byte below the open parenthesis, as a space, a quote and the end of a line
+-- a comma, and each byte below the open parenthesis, such as a space, a quote and the end of a line
 abbrev pub is_apart : ℕ → Bool
 is_apart byte = nat_lt byte 40 || byte == 44
 

@@ -142,7 +142,7 @@ field_front text place letter digits known h =
     ∙ ap (λ (b : Bool). cond b (Some (Field letter (field_number digits) (length digits))) None) (few_digits digits h.some h.few)
     ∙ ap (λ (n : ℕ). Some (Field letter n (length digits))) (value_is digits h.all)
 
--- a token that stands in the text is the one that is computed
+-- a token of the text is the one that is computed
 pub computed : (text : List ℕ) (token : Token) → IsToken text token → token_at text token.from ≡ Some token
 computed text token (sign byte rest e is to) =
     ap (λ (l : List ℕ). token_from token.from (kind_at_front l)) e
@@ -172,7 +172,7 @@ is_sign byte kind =
     (made_sign (byte == 42) byte kind Star _ (eqb-true byte 42)
     (made_sign (byte == 45) byte kind Minus None (eqb-true byte 45) (λ e. absurd cc)))))))))
 
--- the kind of a token and what stands at its place
+-- the kind of a token and what is at its place
 pub record StandsAt (text : List ℕ) (place : ℕ) (kind : TokenKind) : Type 0 where
   pub token : IsToken text (record { kind = kind; from = place; to = place + length_of kind })
 
@@ -211,7 +211,7 @@ kind_stands : (text : List ℕ) (place : ℕ) (bytes : List ℕ) (kind : TokenKi
 kind_stands text place [] kind e is = absurd cc
 kind_stands text place (byte ∷ bytes) kind e is = front_stands text place byte bytes kind (is_start_letter byte) e refl is
 
--- what is computed stands in the text
+-- what is computed is in the text
 pub stands_by_kind : (text : List ℕ) (place : ℕ) (kind : TokenKind) → kind_at_front (drop place text) ≡ Some kind
     → IsToken text (record { kind = kind; from = place; to = place + length_of kind })
 stands_by_kind text place kind e = (kind_stands text place (drop place text) kind refl e).token
@@ -230,7 +230,7 @@ stands text place token e = by_kind text place (kind_at_front (drop place text))
 pub token_agrees : (text : List ℕ) (token : Token) → IsToken text token ↔ (token_at text token.from ≡ Some token)
 token_agrees text token = (computed text token, λ e. (stands text token.from token e).1)
 
--- ---- no token, and which fault that is
+-- ---- no token, and the fault
 
 none_by : (text : List ℕ) (place : ℕ) (o : Option Token) → token_at text place ≡ o → BeginsNoToken text place → o ≡ None
 none_by text place None e none = refl

@@ -34,7 +34,7 @@ pub kinds_of-append : (a b : List Word) → kinds_of (a ++ b) ≡ kinds_of a ++ 
 kinds_of-append [] b = refl
 kinds_of-append (word ∷ a) b = ap (λ (l : List TokenKind). word.0 ∷ l) (kinds_of-append a b)
 
--- the text is the token, whatever follows but a digit
+-- the text is the token, whatever follows except a digit
 pub record IsWord (word : Word) : Type 0 where
   pub reads : (rest : List ℕ) → BeginsNoDigit rest → kind_at_front (word.1 ++ rest) ≡ Some word.0
   pub long : length word.1 ≡ length_of word.0

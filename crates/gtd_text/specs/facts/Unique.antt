@@ -40,7 +40,7 @@ pub goes_on : (text : List ℕ) (token : Token) → IsToken text token → token
 goes_on text token h = let here = found text token.from token (inside_at text token.from token (computed text token h))
     (computed text token h) in here.past
 
--- one token at most begins at a place
+-- at most one token begins at a place
 one_token : (text : List ℕ) (token other : Token) → IsToken text token → IsToken text other → token.from ≡ other.from → token
     ≡ other
 one_token text token other h k same =
@@ -71,7 +71,7 @@ one_list text from (token ∷ tokens) (other ∷ others) to h k = elim (cases_or
   | inr (inr more) ↦ absurd (begins_at_no_space text other k.1 (h.0.1 other.from k.0.0 more))
 ]
 
--- where no token begins, no list goes on to the end
+-- if no token begins at a place, no list goes on to the end
 pub stuck : (text : List ℕ) (from : ℕ) (before : List Token) (place : ℕ) (tokens : List Token) → Reads text from before place
     → place < length text → slice_index text place ≢ 32 → BeginsNoToken text place → Reads text from tokens (length text) → ⊥
 stuck text from [] place [] h lt no_space no_token k = no_space (k.1 place h.0 lt)
@@ -100,7 +100,7 @@ stops_before text from place token spaces no_space no_token before is = elim (ca
   | inr (inr more) ↦ no_space (before.1 place spaces.0 more)
 ]
 
--- there is one place at most where no token begins
+-- there is at most one place where no token begins
 pub one_stop : (text : List ℕ) (from : ℕ) (before others : List Token) (place other : ℕ) → Reads text from before place
     → Reads text from others other → place < length text → other < length text → slice_index text place ≢ 32
     → slice_index text other ≢ 32 → BeginsNoToken text place → BeginsNoToken text other → place ≡ other

@@ -2,7 +2,7 @@
 
 use gtd_core::{DurationParts, Expr, Op, Start, StartParts};
 
-/// What stands before an item in the same brackets: the left side of a sum, and that of a product.
+/// What comes before an item in the same brackets: the left side of a sum, and that of a product.
 #[derive(Drop)]
 pub struct Pending {
     pub sum: Option<(Op, Expr)>,

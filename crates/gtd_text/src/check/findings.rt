@@ -11,7 +11,7 @@ use crate::check::limits::{
 use crate::token::{Token, TokenKind};
 use gtd_core::{Fault, TextFault};
 
-/// The first fault of each kind among the tokens so far, and what is kept of them to find those that come.
+/// The first fault of each kind among the tokens so far, and what is remembered of them to find later faults.
 #[derive(Clone, Copy)]
 pub struct Findings {
     seen: Seen,
@@ -24,7 +24,7 @@ pub struct Findings {
 }
 
 impl Findings {
-    /// No token is read.
+    /// Before any token is read.
     pub fn none() -> Findings
         ensures { result ≡ no_findings }
     {
@@ -39,7 +39,7 @@ impl Findings {
         }
     }
 
-    /// One more token is read.
+    /// Reads one more token.
     pub fn note(&mut self, token: Token)
         requires depth { self.old.seen.depth + 1 < 2 ^ 64 }
         requires count { self.old.count + 1 < 2 ^ 64 }
@@ -56,7 +56,7 @@ impl Findings {
         self.opened = opened_after(self.opened, token);
     }
 
-    /// The first fault, where the text ends at this place: the limits come first, then the grammar, then the durations.
+    /// The first fault of a text that ends at this place: the limits come first, then the grammar, then the durations.
     pub fn first(&self, end: usize) -> Option<TextFault>
         ensures { result ≡ first_of end self.now }
     {

@@ -11,8 +11,8 @@ use crate::fields::{is_duration_letter, is_start_letter, is_start_value};
 use crate::token::TokenKind;
 use gtd_core::Fault;
 
-/// What the tokens before a place say of the next: the last token, the last sign, how many brackets are open, and the
-/// letters of the fields since that sign.
+/// What decides whether the next token fits: the last token, the last sign, how many brackets are open, and the letters
+/// of the fields since that sign.
 #[derive(Clone, Copy)]
 pub struct Seen {
     last: Option<TokenKind>,
@@ -24,7 +24,7 @@ pub struct Seen {
 impl Seen {
     ghost use Rattle.gtd_text.specs.Summary.{seen, seen_with, takes, misfit, ends};
 
-    /// No token stands before.
+    /// No token comes before.
     pub fn none() -> Seen
         ensures { result ≡ seen [] }
     {
@@ -83,7 +83,7 @@ impl Seen {
         }
     }
 
-    /// Which fault it is that the token does not fit.
+    /// The fault of a token that does not fit.
     pub fn fault_of(self, kind: TokenKind) -> Fault
         ensures { result ≡ misfit self kind }
     {
@@ -138,7 +138,7 @@ fn fits_after_field(sign: Option<TokenKind>, letters: Letters, kind: TokenKind) 
     }
 }
 
-// Whether a field of a start may stand where fields with these letters stand before it.
+// Whether a field of a start may follow fields with these letters.
 fn fits_start(letters: Letters, kind: TokenKind) -> bool
     ensures { result ≡ start_takes letters kind }
 {
@@ -156,7 +156,7 @@ fn fits_start(letters: Letters, kind: TokenKind) -> bool
     }
 }
 
-// Whether a field of a duration may stand where fields with these letters stand before it.
+// Whether a field of a duration may follow fields with these letters.
 fn fits_duration(letters: Letters, kind: TokenKind) -> bool
     ensures { result ≡ duration_takes letters kind }
 {
@@ -166,7 +166,7 @@ fn fits_duration(letters: Letters, kind: TokenKind) -> bool
     }
 }
 
-// Whether the letter may not stand again in the same parentheses.
+// Whether a field with this letter would be `Repeated` in the same parentheses.
 fn is_repeated_in_start(letters: Letters, letter: u8) -> bool
     ensures { result ≡ is_found_in_start letters letter }
 {

@@ -1,6 +1,6 @@
-//! Which letters stand among the fields since the last sign.
+//! Which letters the fields since the last sign have.
 
-/// For each letter of a start whether a field since the last sign has it. Each letter of a duration is also one of a
+/// For each letter of a start, whether a field since the last sign has it. Each letter of a duration is also one of a
 /// start.
 #[derive(Clone, Copy)]
 pub struct Letters {
@@ -20,7 +20,7 @@ impl Letters {
     ghost use Rattle.std.specs.Prelude.{◌≡◌, []};
     ghost use Rattle.gtd_text.specs.Summary.{letters, has_found, with_letter};
 
-    /// No field stands since the last sign.
+    /// No field since the last sign.
     pub fn none() -> Letters
         ensures { result ≡ letters [] }
     {

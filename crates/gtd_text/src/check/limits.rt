@@ -1,4 +1,4 @@
-//! The limits on a text: how deep its brackets are, how many its basic domains, how long their durations.
+//! The limits on a text: how deep its brackets are, how many basic domains it has, how long their durations are.
 
 ghost use Rattle.std.specs.Prelude.{◌≡◌, ◌<◌, ◌+◌, ◌^◌, ℕ};
 ghost use Rattle.gtd_text.specs.Findings.{opened_after, with_field, fault_of_opened, too_deep_at, too_many_at};
@@ -10,7 +10,7 @@ use crate::token::{Token, TokenKind};
 use gtd_core::limits::{MOST_BASIC_DOMAINS, MOST_BOUND, MOST_DEPTH};
 use gtd_core::{DurationParts, Fault, TextFault};
 
-/// A duration whose brace is open: where the brace stands, and the fields so far.
+/// A duration whose brace is open: the place of the brace, and the fields so far.
 #[derive(Clone, Copy)]
 pub struct OpenDuration {
     pub place: usize,
@@ -40,7 +40,7 @@ pub fn count_after(count: usize, kind: TokenKind) -> usize
     }
 }
 
-/// The fault of a token after which so many brackets are open.
+/// The fault of a token after which this many brackets are open.
 pub fn too_deep_at(depth: usize, place: usize) -> Option<TextFault>
     ensures { result ≡ too_deep_at depth place }
 {
@@ -48,7 +48,7 @@ pub fn too_deep_at(depth: usize, place: usize) -> Option<TextFault>
     (usize::from(MOST_DEPTH) < depth).then_some(TextFault { kind, place })
 }
 
-/// The fault of a token after which so many parentheses have opened.
+/// The fault of a token after which this many parentheses have opened.
 pub fn too_many_at(count: usize, place: usize) -> Option<TextFault>
     ensures { result ≡ too_many_at count place }
 {
@@ -82,7 +82,7 @@ fn with_field(opened: Option<OpenDuration>, letter: u8, value: u32) -> Option<Op
     }
 }
 
-/// The fault of a duration that ends with the fields so far: that it is too long, at its brace.
+/// The fault of a duration that ends with the fields so far: `TooLongDuration`, at its brace.
 pub fn fault_of_opened(opened: Option<OpenDuration>) -> Option<TextFault>
     ensures { result ≡ fault_of_opened opened }
 {
