@@ -38,6 +38,8 @@ run now --help
 expect 'help of a command' 0 "$(cat "$top/tests/desk/now.txt")" ''
 run help now
 expect 'the command help with a command' 0 "$(cat "$top/tests/desk/now.txt")" ''
+run faults --help
+expect 'help of the command faults' 0 "$(cat "$top/tests/desk/faults.txt")" ''
 run --version
 expect 'version' 0 'gtdesk 0.1.0' ''
 
@@ -102,6 +104,49 @@ refused 'an element' "$top_line"$'x,both,0,\n' 'row 1: Element'
 refused 'a direction' "$top_line"$'1,both,0,\n1,up,0,\n' 'row 2: Direction'
 refused 'a vehicle' "$top_line"$'1,both,100,\n' 'row 1: Vehicle'
 refused 'a domain' "$top_line"$'1,both,0,[(h25){h1}]\n' 'row 1: Domain FieldRange at 2'
+
+# All faults of a file: each row at fault in order, with its line, its field and a caret; nothing for an accepted file.
+run faults a.csv
+expect 'no faults' 0 '' ''
+run faults none.csv
+expect 'no faults of no rows' 0 '' ''
+run faults
+expect 'faults of no file' 2 '' "gtdesk: command line: one or more required arguments were not provided $see"
+run faults gone.csv
+expect 'faults of a file that is not there' 3 '' 'gtdesk: gone.csv: cannot be opened'
+run faults .
+expect 'faults of a folder' 3 '' 'gtdesk: .: ReadFault'
+printf '%s' "$top_line" > bad.csv
+printf '%s\n' '1,both,0,' 'x,both,0,' '1,both,0,"(h10)' '{h1}"' '1,up,0,' '1,both,100,' '1,both,0' '1,both,0,[(h25){h1}]' \
+    '1,up,100,x' '1,both,0,(h10){h1}' >> bad.csv
+run faults bad.csv
+expect 'faults of rows' 1 "$(cat "$top/tests/desk/faults_of_rows.txt")" ''
+"$program" faults - < bad.csv > out 2> err
+status=$?
+expect 'faults of standard input' 1 "$(sed 's/^bad.csv:/-:/' "$top/tests/desk/faults_of_rows.txt")" ''
+run now bad.csv 2024-04-01T10:00:00 11
+expect 'the first of them refuses the file' 1 '' 'gtdesk: bad.csv: row 2: Element'
+cp bad.csv $'b\n.csv'
+run faults $'b\n.csv'
+expect 'a name that is listed escaped' 1 "$(sed 's/^bad.csv:/b\\x0a.csv:/' "$top/tests/desk/faults_of_rows.txt")" ''
+listed() {
+    printf '%s' "$2" > bad.csv
+    run faults bad.csv
+    expect "$1" 1 "$3" ''
+}
+expected='    expected: element,direction,vehicle,domain (or vehicles)'
+listed 'an empty file' '' $'bad.csv:1: Header\n    found:    \n'"$expected"
+listed 'a wrong header' $'element;direction\r\n1,both,0,\n' $'bad.csv:1: Header\n    found:    element;direction\n'"$expected"
+listed 'lines that end with two bytes, and an empty line' $'element,direction,vehicle,domain\r\n1,both,0,\r\n1,up,0,\r\n\r\n1,x,0,\r\n' \
+    $'bad.csv:3: row 2: Direction\n    up\n    ^\nbad.csv:5: row 3: Direction\n    x\n    ^'
+listed 'bytes that are shown escaped' "$top_line"$'1,both,0,\\\xc3\xa9(h25)\n' \
+    $'bad.csv:2: row 1: Domain BadToken at 0\n    \\x5c\\xc3\\xa9(h25)\n    ^'
+{ printf '%s' "$top_line"; yes 1,both,0, | head -n 65536; printf '1,both\n1,both\n'; } > bad.csv
+run faults bad.csv
+expect 'too many rows' 1 'bad.csv:65538: row 65537: TooManyRows' ''
+head -c 16777217 /dev/zero > bad.csv
+run faults bad.csv
+expect 'a file too large' 1 'bad.csv:1: TooLarge' ''
 
 # Outputs that fail.
 : > out

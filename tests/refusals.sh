@@ -1,6 +1,7 @@
 #!/usr/bin/env bash
 # Runs each test of memory refused with its first growth refused, then with its second, and so on to its last; and so
-# each command of the program. Run it after `rt ci`, which proves and builds what it runs. It needs a C compiler.
+# each command of the program. Runs each test of calls that take no memory with all growths refused in those calls. Run it
+# after `rt ci`, which proves and builds what it runs. It needs a C compiler.
 set -u
 ulimit -c 0
 here=$(cd "$(dirname "$0")" && pwd)
@@ -42,6 +43,31 @@ tests_refused() {
 
 tests_refused "$layer_tests"
 tests_refused "$command_tests"
+
+# The number of bytes that a test asks for before the calls that are to take no memory, and after them.
+switch=7654321
+
+# tests_without TESTS: the tests of calls that take no memory in this program. The request before the calls is refused, and
+# is to be the only growth up to the next such request.
+tests_without() {
+    local names name
+    names=$("$1" --list | sed -n 's/^\(without_memory::.*\): test$/\1/p')
+    [ -n "$names" ] || { echo "no tests without memory in $1" >&2; exit 1; }
+    for name in $names; do
+        LD_PRELOAD=$room/refuse.so REFUSE_BETWEEN=$switch "$1" "$name" > "$room/out" 2> "$room/err"
+        status=$?
+        said=$(< "$room/out") told=$(< "$room/err")
+        if [ "$status" != 0 ] || [[ $said != *'test result: ok'* ]] || [ "$told" != 'growth refused' ]; then
+            failed=$((failed + 1))
+            echo "FAILED $name, without memory: status $status, said '$said$told'"
+        fi
+        refused=$((refused + 1))
+    done
+    echo "without memory: $(wc -w <<< "$names") tests"
+}
+
+tests_without "$layer_tests"
+tests_without "$command_tests"
 
 # as_before: the last run of the program ended as it does with all its memory, though it may tell of a growth refused.
 as_before() {

@@ -1,5 +1,7 @@
-// Refuses one growth of memory of a process that it is loaded into by LD_PRELOAD: the one whose number, from 1, the
-// variable REFUSE_GROWTH gives. Tells so on standard error. Growths are the calls of malloc, calloc and realloc.
+// Refuses growths of memory of a process that it is loaded into by LD_PRELOAD: the one whose number, from 1, the variable
+// REFUSE_GROWTH gives; or, where REFUSE_BETWEEN gives a number of bytes, each request for exactly so many and all growths
+// after it, up to the next such request, which is granted again. Tells of each on standard error. Growths are the calls of
+// malloc, calloc and realloc.
 #include <errno.h>
 #include <stddef.h>
 #include <stdlib.h>
@@ -10,14 +12,22 @@ void *__libc_malloc(size_t size);
 void *__libc_calloc(size_t count, size_t size);
 void *__libc_realloc(void *block, size_t size);
 
-static int is_refused(void) {
+// The number that a variable gives, or 0.
+static long given(const char *variable) {
+    const char *text = getenv(variable);
+    return text ? atol(text) : 0;
+}
+
+static int is_refused(size_t size) {
     static const char told[] = "growth refused\n";
-    static long count = 0, refused = -1;
+    static long count = 0, refused = -1, between = 0, is_between = 0;
     if (refused < 0) {
-        const char *given = getenv("REFUSE_GROWTH");
-        refused = given ? atol(given) : 0;
+        refused = given("REFUSE_GROWTH");
+        between = given("REFUSE_BETWEEN");
     }
-    if (++count != refused)
+    if (between && size == (size_t)between)
+        is_between = !is_between;
+    if (++count != refused && !is_between)
         return 0;
     if (write(2, told, sizeof told - 1) < 0)
         _exit(99);
@@ -25,8 +35,12 @@ static int is_refused(void) {
     return 1;
 }
 
-void *malloc(size_t size) { return is_refused() ? NULL : __libc_malloc(size); }
+void *malloc(size_t size) { return is_refused(size) ? NULL : __libc_malloc(size); }
 
-void *calloc(size_t count, size_t size) { return is_refused() ? NULL : __libc_calloc(count, size); }
+void *calloc(size_t count, size_t size) {
+    return is_refused(count * size) ? NULL : __libc_calloc(count, size);
+}
 
-void *realloc(void *block, size_t size) { return is_refused() ? NULL : __libc_realloc(block, size); }
+void *realloc(void *block, size_t size) {
+    return is_refused(size) ? NULL : __libc_realloc(block, size);
+}

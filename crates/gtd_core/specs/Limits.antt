@@ -5,6 +5,10 @@ use Rattle.std.specs.Prelude.{ℕ, ℤ, pos, neg_ℤ}
 abbrev pub day_seconds : ℕ
 day_seconds = 86_400
 
+-- the last second of a day, of which the first is 0
+abbrev pub last_second_of_day : ℕ
+last_second_of_day = 86_399
+
 -- the first day of horizons, of moments and of dates that are read: 1901-01-01
 abbrev pub first_horizon_day : ℤ
 first_horizon_day = neg_ℤ (pos 25_202)

@@ -1,6 +1,6 @@
 -- Which fields make a start, which numbers a duration, and how long a stretch of a duration can be at most. The letters
 -- and fields are those of GDF time domains (ISO 14825:2004); their ranges are this project's own.
-use Rattle.std.specs.Prelude.{◌≢◌, ℕ, ◌<◌, ◌≤◌, Option, None, IfSome, ◌+◌, ◌*◌, ◌/◌}
+use Rattle.std.specs.Prelude.{◌≢◌, ℕ, ◌<◌, ◌≤◌, Option, None, IfSome, ◌+◌, ◌-◌, ◌*◌, ◌/◌}
 use Rattle.gtd_core.specs.declared.start.StartParts.{StartParts}
 use Rattle.gtd_core.specs.Limits.{day_seconds, most_bound}
 use Rattle.gtd_core.specs.declared.duration.DurationParts.{DurationParts}
@@ -56,7 +56,7 @@ bound_of parts = day_seconds * day_bound parts + clock_seconds parts
 
 -- the lookback: the bound in days, rounded up
 abbrev pub lookback_of : DurationParts → ℕ
-lookback_of parts = (bound_of parts + 86399) / day_seconds
+lookback_of parts = (bound_of parts + (day_seconds - 1)) / day_seconds
 
 -- each number has at most six digits
 pub record HasSixDigits (parts : DurationParts) : Type 0 where

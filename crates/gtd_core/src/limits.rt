@@ -3,6 +3,9 @@
 /// The seconds of a day.
 pub const DAY_SECONDS: i64 = 86_400;
 
+/// The last second of a day, of which the first is 0.
+pub const LAST_SECOND_OF_DAY: u32 = 86_399;
+
 /// The first day of horizons, of moments and of dates that are read: 1901-01-01.
 pub const FIRST_HORIZON_DAY: i64 = -25_202;
 

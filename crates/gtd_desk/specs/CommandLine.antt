@@ -36,6 +36,14 @@ now_app =
     with_rule (with_rule (with_rule bare_now (word_rule (codes "FILE"))) (word_rule (codes "MOMENT")))
     (word_rule (codes "VEHICLE"))
 
+-- The command `faults` with no word yet.
+abbrev pub bare_faults : App
+bare_faults = new_app (codes "faults")
+
+-- The command `faults FILE`.
+abbrev pub faults_app : App
+faults_app = with_rule bare_faults (word_rule (codes "FILE"))
+
 -- The program with no command yet: a command has to follow, and there is a version to show.
 abbrev pub none_given : App
 none_given = record {
@@ -45,7 +53,7 @@ none_given = record {
 
 -- The program with all its commands.
 abbrev pub desk_app : App
-desk_app = with_subcommand none_given now_app.top
+desk_app = with_subcommand (with_subcommand none_given now_app.top) faults_app.top
 
 -- Three values, where all are given.
 abbrev pub all_three : Option Text → Option Text → Option Text → Option (Text × Text × Text)
@@ -62,6 +70,19 @@ now_given found =
 -- The words of the command `now` among these words.
 abbrev pub now_words_of : List Text → Option (Text × Text × Text)
 now_words_of words = option_and_then now_given (subcommand_of desk_app words)
+
+-- The word of the command `faults`, of a command's name and of what was found for it.
+abbrev pub faults_given : Text × List Row → Option Text
+faults_given found = if bytes_eq found.0 (codes "faults") then first_of (codes "FILE") found.1 else None
+
+-- The word of the command `faults` among these words.
+abbrev pub faults_word_of : List Text → Option Text
+faults_word_of words = option_and_then faults_given (subcommand_of desk_app words)
+
+-- The words give the command `faults`, with this one.
+pub record AreFaultsWords (words : List Text) (file : Text) : Type 0 where
+  pub faultless : fault_of desk_app words ≡ []
+  pub given : faults_word_of words ≡ Some file
 
 -- The words give the command `now`, with these.
 pub record AreNowWords (words : List Text) (file moment vehicle : Text) : Type 0 where
@@ -92,4 +113,4 @@ AskForText words = (kind : ErrorKind) × IsAmong kind (fault_of desk_app words) 
 abbrev pub AreMistaken : List Text → Type 0
 AreMistaken words =
     ((kind : ErrorKind) × IsAmong kind (fault_of desk_app words) × (is_request kind ≡ false))
-    ⊎ (now_words_of words ≡ None)
+    ⊎ ((now_words_of words ≡ None) × (faults_word_of words ≡ None))

@@ -7,3 +7,4 @@ pub use Rattle.gtd_records.specs.Closing
 pub use Rattle.gtd_runs.specs.Putting
 pub use Rattle.gtd_runs.specs.Run
 pub use Rattle.gtd_now.specs.Now
+pub use Rattle.gtd_faults.specs.Run as FaultRun

@@ -1,11 +1,11 @@
 -- What a command line asks for.
-use Rattle.std.specs.Prelude.{◌≡◌, ℕ, List, Some, Ok, Err, string_bytes}
+use Rattle.std.specs.Prelude.{◌≡◌, ℕ, List, Option, Some, None, Ok, Err, string_bytes}
 use Rattle.gtd_core.specs.declared.second.Sec.{Sec}
 use Rattle.gtd_calendar.specs.Read.{stamp_in}
 use Rattle.gtd_calendar.specs.declared.stamp.StampFault.{StampFault}
 use Rattle.gtd_records.specs.Columns.{number_of}
 use Rattle.gtd_runs.specs.Run.{IsVehicleType}
-use Rattle.gtd_desk.specs.CommandLine.{AreMistaken, AreNowWords, AskForText, Text}
+use Rattle.gtd_desk.specs.CommandLine.{AreFaultsWords, AreMistaken, AreNowWords, AskForText, Text}
 use Rattle.gtd_desk.specs.declared.plans.Plan.{Plan}
 use Rattle.gtd_desk.specs.declared.plans.Plan.TheVariants as plan
 use Rattle.gtd_desk.specs.declared.refusal.Refusal.{Refusal}
@@ -23,7 +23,14 @@ pub record AskForNow (words : List Text) (file : Text) (moment : Sec) (vehicle :
 -- The words ask for what the plan carries out.
 abbrev pub AskFor : List Text → Plan → Type 0
 AskFor words (plan.Now file moment vehicle) = AskForNow words (string_bytes file) moment.second vehicle
+AskFor words (plan.Faults file) = AreFaultsWords words (string_bytes file)
 AskFor words (plan.Show text) = AskForText words
+
+-- The path of the record file that the plan reads, if it reads one.
+abbrev pub file_of : Plan → Option Text
+file_of (plan.Now file moment vehicle) = Some (string_bytes file)
+file_of (plan.Faults file) = Some (string_bytes file)
+file_of (plan.Show text) = None
 
 -- The word stands for no vehicle type.
 abbrev pub IsNoVehicle : Text → Type 0
@@ -46,6 +53,24 @@ pub record HaveNoVehicle (words : List Text) : Type 0 where
   pub given : AreNowWords words file moment vehicle
   pub moment_read : stamp_in moment ≡ Ok second
   pub none : IsNoVehicle vehicle
+
+-- The plan is of `now`, with this file, moment and vehicle type.
+abbrev pub IsNowPlan : Text → Sec → ℕ → Plan → Type 0
+IsNowPlan file moment vehicle (plan.Now f m v) = (string_bytes f ≡ file) × (m.second ≡ moment) × (v ≡ vehicle)
+IsNowPlan file moment vehicle (plan.Faults f) = ⊥
+IsNowPlan file moment vehicle (plan.Show text) = ⊥
+
+-- The plan is of `faults`, with this file.
+abbrev pub IsFaultsPlan : Text → Plan → Type 0
+IsFaultsPlan file (plan.Now f m v) = ⊥
+IsFaultsPlan file (plan.Faults f) = string_bytes f ≡ file
+IsFaultsPlan file (plan.Show text) = ⊥
+
+-- The words give the command `now`, and the first of its words that stands for nothing is refused so.
+abbrev pub IsWordFault : List Text → Refusal → Type 0
+IsWordFault words (refusal.Moment fault) = HaveMomentFault words fault
+IsWordFault words refusal.Vehicle = HaveNoVehicle words
+IsWordFault words r = ⊥
 
 -- Why words are refused. Want of memory is no fault of theirs.
 abbrev pub IsRefusalOf : List Text → Refusal → Type 0

@@ -1,12 +1,18 @@
--- What a plan prints, and why it is refused.
-use Rattle.std.specs.Prelude.{◌≡◌, ◌↔◌, ⊤, ℕ, ℤ, Bool, List, Option, Result, Ok, Err, IsErrOf, IsTrue, OnOk, IfErr, string_bytes}
-use Rattle.std.specs.Io.KnownBytes.{Appends}
+-- What a plan prints, how it ends, and why it is refused.
+use Rattle.std.specs.Prelude.{◌≡◌, ◌≢◌, ◌↔◌, ⊤, ℕ, zero, suc, ℤ, Bool, List, Option, Result, Ok, Err, IsErrOf, IsTrue, OnOk}
+use Rattle.std.specs.Prelude.{IfErr, IfOk, IfSome, string_bytes}
+use Rattle.std.specs.Io.KnownBytes.{Appends, Keeps}
 use Rattle.gtd_records.specs.declared.fault.RecordFault.{RecordFault}
 use Rattle.gtd_records.specs.declared.fault.RecordFault.TheVariants as records
 use Rattle.gtd_runs.specs.Run.{AcceptedFilesArePut, HasRun, RefusedFilesPutNothing, IsVehicleType}
 use Rattle.gtd_runs.specs.declared.fault.RunFault.{RunFault}
 use Rattle.gtd_runs.specs.declared.fault.RunFault.TheVariants as run
+use Rattle.gtd_faults.specs.Run.{HasListed}
+use Rattle.gtd_faults.specs.declared.list_fault.ListFault.{ListFault}
+use Rattle.gtd_faults.specs.declared.list_fault.ListFault.TheVariants as list
 use Rattle.gtd_now.specs.Now.{IsNow}
+use Rattle.gtd_desk.specs.declared.ending.Ending.{Ending}
+use Rattle.gtd_desk.specs.declared.ending.Ending.TheVariants as ending
 use Rattle.gtd_desk.specs.declared.plans.Plan.{Plan}
 use Rattle.gtd_desk.specs.declared.plans.Plan.TheVariants as plan
 use Rattle.gtd_desk.specs.declared.refusal.Refusal.{Refusal}
@@ -23,13 +29,13 @@ refusal_for run.YearRange = refusal.Vehicle
 refusal_for run.NoElement = refusal.Vehicle
 
 -- The answer of a command, for that of its run.
-abbrev pub outcome_of : Result ℕ RunFault → Result (Unit {0}) Refusal
-outcome_of (Ok count) = Ok tt
+abbrev pub outcome_of : Result ℕ RunFault → Result Ending Refusal
+outcome_of (Ok count) = Ok ending.Done
 outcome_of (Err fault) = Err (refusal_for fault)
 
 -- The run of `now` had an answer, by which all that the run promises is so.
 pub record RanNow (vehicle : ℕ) (second : ℤ) (file old new : Option (List ℕ)) (silent ended : Bool)
-    (result : Result (Unit {0}) Refusal) : Type 0 where
+    (result : Result Ending Refusal) : Type 0 where
   pub answer : Result ℕ RunFault
   pub outcome : result ≡ outcome_of answer
   pub accepted : IsVehicleType vehicle
@@ -42,15 +48,41 @@ pub record RanNow (vehicle : ℕ) (second : ℤ) (file old new : Option (List �
   pub element : IsErrOf answer run.NoElement → ⊥
   pub endless : IsErrOf answer (run.Records records.Endless) → IsTrue silent
 
--- What a plan did to the output, by its answer: a text that is asked for is taken whole.
+-- The answer of a command, for that of its list of faults.
+abbrev pub listing_outcome : Result ℕ ListFault → Result Ending Refusal
+listing_outcome (Ok zero) = Ok ending.Done
+listing_outcome (Ok (suc count)) = Ok ending.FaultsListed
+listing_outcome (Err list.ReadFault) = Err (refusal.Records records.ReadFault)
+listing_outcome (Err list.Endless) = Err (refusal.Records records.Endless)
+listing_outcome (Err list.WriteFault) = Err refusal.Write
+listing_outcome (Err list.NoMemory) = Err refusal.Memory
+
+-- The run of `faults` had an answer, by which all that the run promises is so.
+pub record RanFaults (path : List ℕ) (file old new : Option (List ℕ)) (silent ended : Bool)
+    (result : Result Ending Refusal) : Type 0 where
+  pub answer : Result ℕ ListFault
+  pub outcome : result ≡ listing_outcome answer
+  pub listed : IfSome file (λ bytes. HasListed path bytes old new answer)
+  pub kept : IfErr answer (λ why. why ≢ list.WriteFault → Keeps old new)
+  pub whole : OnOk answer (IsTrue ended)
+  pub endless : IsErrOf answer list.Endless → IsTrue silent
+
+-- What a plan did to the output, by its answer: a text that is asked for is taken whole, and the output is then ended.
 abbrev pub HasRunPlan : Plan → Option (List ℕ) → Option (List ℕ) → Option (List ℕ) → Bool → Bool
-    → Result (Unit {0}) Refusal → Type 0
+    → Result Ending Refusal → Type 0
 HasRunPlan (plan.Now path moment vehicle) file old new silent ended result =
     RanNow vehicle moment.second.0 file old new silent ended result
+HasRunPlan (plan.Faults path) file old new silent ended result = RanFaults (string_bytes path) file old new silent ended result
 HasRunPlan (plan.Show text) file old new silent ended result =
-    OnOk result (Appends old new (string_bytes text)) × IfErr result (λ r. r ≡ refusal.Write)
+    IfOk result (λ e. (e ≡ ending.Done) × Appends old new (string_bytes text) × IsTrue ended)
+    × IfErr result (λ r. r ≡ refusal.Write)
 
--- The exit status: 1 where the input is refused, 2 for usage, 3 where opening, reading, writing or memory failed.
+-- The exit status of a plan that was carried out: 1 where faults were listed.
+abbrev pub ending_status : Ending → ℕ
+ending_status ending.Done = 0
+ending_status ending.FaultsListed = 1
+
+-- The exit status of a refusal: 1 where the input is refused, 2 for usage, 3 where opening, reading, writing or memory failed.
 abbrev pub records_status : RecordFault → ℕ
 records_status records.ReadFault = 3
 records_status records.Endless = 3

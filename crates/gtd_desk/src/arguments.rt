@@ -6,8 +6,8 @@ ghost use Rattle.clap.specs.Kinds.{HasKind};
 ghost use Rattle.clap.specs.Matches.{found_of};
 ghost use Rattle.clap.specs.Simple.{app_of, subcommand_rows_of, with_rule, with_subcommand};
 ghost use Rattle.clap.specs.Walk.{first_of, rows_of};
-ghost use Rattle.gtd_desk.specs.CommandLine.{HasWords, IsLocal, all_three, bare_now, desk_app, none_given, now_app, now_given};
-ghost use Rattle.gtd_desk.specs.CommandLine.{word_rule};
+ghost use Rattle.gtd_desk.specs.CommandLine.{HasWords, IsLocal, all_three, bare_faults, bare_now, desk_app};
+ghost use Rattle.gtd_desk.specs.CommandLine.{faults_app, faults_given, none_given, now_app, now_given, word_rule};
 ghost use Rattle.gtd_desk.specs.Given.{texts_of};
 
 use clap::{Arg, ArgAction, ArgMatches, Command};
@@ -70,15 +70,40 @@ fn now_command<'a>(alloc: Global) -> Result<Command<'a>, AllocError>
     add_word(alloc, command, "VEHICLE", "The vehicle type, from 1 to 99")
 }
 
-// The program with no command yet.
-fn without_commands<'a>(alloc: Global) -> Command<'a>
-    ensures { app_of result ≡ none_given }
+// The command `faults` with no word yet.
+fn bare_faults<'a>(alloc: Global) -> Command<'a>
+    ensures app { app_of result ≡ bare_faults }
+    ensures local { IsLocal result }
+{
+    Command::new(alloc, "faults").about(
+        "List each row of a record file that is at fault, with its first fault, or why the file is refused whole",
+    )
+}
+
+// The command `faults`.
+fn faults_command<'a>(alloc: Global) -> Result<Command<'a>, AllocError>
+    ensures app { IfOk result (λ c. app_of c ≡ faults_app) }
+    ensures local { IfOk result IsLocal }
+{
+    let command = bare_faults(alloc);
+    add_word(
+        alloc,
+        command,
+        "FILE",
+        "The record file, or - for standard input",
+    )
+}
+
+// The program with no command yet. Usage has its name before that of a command, though its words have not.
+fn without_commands<'a>(alloc: Global) -> Result<Command<'a>, AllocError>
+    ensures { IfOk result (λ c. app_of c ≡ none_given) }
 {
     Command::new(alloc, "gtdesk")
         .no_binary_name(true)
         .version("0.1.0")
         .about("Time domains and road restrictions, for people")
         .subcommand_required(true)
+        .bin_name("gtdesk")
 }
 
 // Adds a command.
@@ -95,8 +120,10 @@ fn gtdesk<'a>(alloc: Global) -> Result<Command<'a>, AllocError>
     ensures { IfOk result (λ c. app_of c ≡ desk_app) }
 {
     let now = now_command(alloc)?;
-    let program = without_commands(alloc);
-    add_command(program, now)
+    let faults = faults_command(alloc)?;
+    let program = without_commands(alloc)?;
+    let program = add_command(program, now)?;
+    add_command(program, faults)
 }
 
 /// The words as `clap` finds them, or why it finds none.
@@ -124,20 +151,11 @@ fn gather<'a>(
     ensures { option_map texts_of result ≡ all_three (option_map (λ s. s.now) file.entry)
         (option_map (λ s. s.now) moment.entry) (option_map (λ s. s.now) vehicle.entry) }
 {
-    match file {
-        Some(file) => match moment {
-            Some(moment) => match vehicle {
-                Some(vehicle) => Some(NowWords {
-                    file,
-                    moment,
-                    vehicle,
-                }),
-                None => None,
-            },
-            None => None,
-        },
-        None => None,
-    }
+    Some(NowWords {
+        file: file?,
+        moment: moment?,
+        vehicle: vehicle?,
+    })
 }
 
 // The words of a command of this name.
@@ -161,6 +179,26 @@ pub(crate) fn now_words<'a>(matches: &ArgMatches<'a>) -> Option<NowWords<'a>>
 {
     match matches.subcommand() {
         Some((name, given)) => words_of(name, given),
+        None => None,
+    }
+}
+
+// The word of a command of this name.
+fn word_of<'a>(name: &str, given: &ArgMatches<'a>) -> Option<&'a str>
+    ensures { option_map (λ s. s.now) result ≡ faults_given (name.now, rows_of (found_of given.now)) }
+{
+    match name {
+        "faults" => value(given, "FILE"),
+        _ => None,
+    }
+}
+
+/// The word of `faults` that the matches hold.
+pub(crate) fn faults_word<'a>(matches: &ArgMatches<'a>) -> Option<&'a str>
+    ensures { option_map (λ s. s.now) result ≡ option_and_then faults_given (subcommand_rows_of matches.now) }
+{
+    match matches.subcommand() {
+        Some((name, given)) => word_of(name, given),
         None => None,
     }
 }

@@ -1,12 +1,14 @@
 #![tactic(auto)]
 
 mod arguments;
+mod ending;
 mod line;
 mod performing;
 mod planning;
 mod plans;
 mod refusal;
 
+pub use ending::Ending;
 pub use line::RefusalLine;
 pub use performing::perform;
 pub use planning::plan;

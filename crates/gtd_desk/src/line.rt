@@ -2,45 +2,9 @@
 
 use crate::refusal::Refusal;
 use gtd_calendar::StampFault;
-use gtd_records::RecordFault;
+use gtd_faults::{FaultText, Printable};
 use std::fmt;
 use std::fmt::{Display, Formatter};
-
-// A text, with an escape in place of each byte that is no printable ASCII, and of the backslash.
-#[derive(Drop)]
-struct Printable<'a>(&'a str);
-
-impl Display for Printable<'_> {
-    fn fmt<W: fmt::Write>(&self, f: &mut Formatter<W>) -> fmt::Result {
-        for byte in self.0.as_bytes() {
-            if *byte >= 32 && *byte <= 126 && *byte != 92 {
-                f.write_char(*byte as char)?;
-            } else {
-                write!(f, "\\x{byte:02x}")?;
-            }
-        }
-        Ok(())
-    }
-}
-
-// Why a file is not read, in words.
-#[derive(Drop)]
-struct Reason(RecordFault);
-
-impl Display for Reason {
-    fn fmt<W: fmt::Write>(&self, f: &mut Formatter<W>) -> fmt::Result {
-        let fault = self.0;
-        match fault {
-            RecordFault::FieldCount { row }
-            | RecordFault::Element { row }
-            | RecordFault::Direction { row }
-            | RecordFault::Vehicle { row } => write!(f, "row {row}: {fault}"),
-            RecordFault::Domain { row, fault: why } => write!(f, "row {row}: {fault} {why}"),
-            RecordFault::TooManyRows => write!(f, "row 65537: {fault}"),
-            _ => write!(f, "{fault}"),
-        }
-    }
-}
 
 // Why a text is no moment, in words.
 fn moment_reason(fault: StampFault) -> &'static str {
@@ -62,12 +26,12 @@ pub struct RefusalLine<'a> {
 
 impl Display for RefusalLine<'_> {
     fn fmt<W: fmt::Write>(&self, f: &mut Formatter<W>) -> fmt::Result {
-        let file = Printable(self.file);
+        let file = Printable(self.file.as_bytes());
         match self.refusal {
             Refusal::Usage(why) => write!(f, "gtdesk: command line: {why} (see gtdesk --help)"),
             Refusal::Moment(fault) => write!(f, "gtdesk: MOMENT: {}", moment_reason(fault)),
             Refusal::Vehicle => write!(f, "gtdesk: VEHICLE: not a number from 1 to 99"),
-            Refusal::Records(fault) => write!(f, "gtdesk: {file}: {}", Reason(fault)),
+            Refusal::Records(fault) => write!(f, "gtdesk: {file}: {}", FaultText(fault)),
             Refusal::Open => write!(f, "gtdesk: {file}: cannot be opened"),
             Refusal::Write => write!(f, "gtdesk: standard output: cannot be written"),
             Refusal::Memory => write!(f, "gtdesk: memory: refused by the system"),

@@ -1,12 +1,14 @@
 //! Carrying a plan out.
 
-ghost use Rattle.std.specs.Prelude.{◌≡◌, ◌<◌, IfErr, OnOk};
+ghost use Rattle.std.specs.Prelude.{◌≡◌, ◌<◌, IfErr, IfOk, IsTrue, OnOk};
 ghost use Rattle.std.specs.Io.KnownBytes.{Appends, Keeps};
-ghost use Rattle.gtd_desk.specs.Running.{HasRunPlan, RanNow, outcome_of, refusal_for};
+ghost use Rattle.gtd_desk.specs.Running.{HasRunPlan, RanFaults, RanNow, listing_outcome, outcome_of, refusal_for};
 
+use crate::ending::Ending;
 use crate::plans::{Moment, Plan};
 use crate::refusal::Refusal;
 use gtd_devices::{Input, Output};
+use gtd_faults::{ListFault, run_faults};
 use gtd_now::run_now;
 use gtd_records::RecordFault;
 use gtd_runs::{Progress, RunFault, finish, put_line};
@@ -30,11 +32,11 @@ fn run_refusal(fault: RunFault) -> Refusal
 }
 
 // The answer of a command, for that of its run.
-fn outcome(answer: Result<u64, RunFault>) -> Result<(), Refusal>
+fn outcome(answer: Result<u64, RunFault>) -> Result<Ending, Refusal>
     ensures value { result ≡ outcome_of answer }
 {
     match answer {
-        Ok(_) => Ok(()),
+        Ok(_) => Ok(Ending::Done),
         Err(fault) => Err(run_refusal(fault)),
     }
 }
@@ -46,7 +48,7 @@ fn print_now<I: Input, O: Output>(
     output: &mut O,
     moment: Moment,
     vehicle: u8,
-) -> Result<(), Refusal>
+) -> Result<Ending, Refusal>
     requires readable { I.failure_count input.old < u64.MAX }
     requires writable { O.failure_count output.old < u64.MAX }
     ensures ran { RanNow vehicle moment.second.0 (I.to_come input.old) (O.taken output.old) (O.taken output.new)
@@ -55,10 +57,41 @@ fn print_now<I: Input, O: Output>(
     outcome(run_now(alloc, input, output, vehicle, moment.second))
 }
 
+// The answer of `faults`, for that of its list.
+fn listing_outcome(answer: Result<usize, ListFault>) -> Result<Ending, Refusal>
+    ensures value { result ≡ listing_outcome answer }
+{
+    match answer {
+        Ok(0) => Ok(Ending::Done),
+        Ok(_) => Ok(Ending::FaultsListed),
+        Err(ListFault::ReadFault) => Err(Refusal::Records(RecordFault::ReadFault)),
+        Err(ListFault::Endless) => Err(Refusal::Records(RecordFault::Endless)),
+        Err(ListFault::WriteFault) => Err(Refusal::Write),
+        Err(ListFault::NoMemory) => Err(Refusal::Memory),
+    }
+}
+
+// Lists the faults of the record file that the input brings, which has this path.
+fn list_faults<I: Input, O: Output>(
+    alloc: Global,
+    input: &mut I,
+    output: &mut O,
+    path: &str,
+) -> Result<Ending, Refusal>
+    requires readable { I.failure_count input.old < u64.MAX }
+    requires writable { O.failure_count output.old < u64.MAX }
+    ensures ran { RanFaults path.now (I.to_come input.old) (O.taken output.old) (O.taken output.new)
+        (I.may_fall_silent input.old) (O.is_ended output.new) result }
+{
+    listing_outcome(run_faults(alloc, input, output, path))
+}
+
 // Puts a text, and ends the output.
-fn print_text<O: Output>(output: &mut O, text: &str) -> Result<(), Refusal>
+fn print_text<O: Output>(output: &mut O, text: &str) -> Result<Ending, Refusal>
     requires writable { O.failure_count output.old < u64.MAX }
     ensures whole { OnOk result (Appends (O.taken output.old) (O.taken output.new) text.now) }
+    ensures ended { OnOk result (IsTrue (O.is_ended output.new)) }
+    ensures done { IfOk result (λ ending. ending ≡ Ending.Done) }
     ensures cause { IfErr result (λ r. r ≡ Refusal.Write) }
 {
     let mut progress = Progress::new();
@@ -69,13 +102,15 @@ fn print_text<O: Output>(output: &mut O, text: &str) -> Result<(), Refusal>
 }
 
 // Ends the output.
-fn end<O: Output>(output: &mut O) -> Result<(), Refusal>
+fn end<O: Output>(output: &mut O) -> Result<Ending, Refusal>
     requires writable { O.failure_count output.old < u64.MAX }
     ensures whole { Keeps (O.taken output.old) (O.taken output.new) }
+    ensures ended { OnOk result (IsTrue (O.is_ended output.new)) }
+    ensures done { IfOk result (λ ending. ending ≡ Ending.Done) }
     ensures cause { IfErr result (λ r. r ≡ Refusal.Write) }
 {
     match finish(output) {
-        Ok(()) => Ok(()),
+        Ok(()) => Ok(Ending::Done),
         Err(_) => Err(Refusal::Write),
     }
 }
@@ -90,7 +125,7 @@ pub fn perform<I: Input, O: Output>(
     plan: &Plan,
     input: &mut I,
     output: &mut O,
-) -> Result<(), Refusal>
+) -> Result<Ending, Refusal>
     requires readable { I.failure_count input.old < u64.MAX }
     requires writable { O.failure_count output.old < u64.MAX }
     ensures ran { HasRunPlan plan.now (I.to_come input.old) (O.taken output.old) (O.taken output.new)
@@ -102,6 +137,7 @@ pub fn perform<I: Input, O: Output>(
             vehicle,
             ..
         } => print_now(alloc, input, output, *moment, *vehicle),
+        Plan::Faults { file } => list_faults(alloc, input, output, file.as_str()),
         Plan::Show { text } => print_text(output, text.as_str()),
     }
 }

@@ -1,17 +1,20 @@
 //! From the words of a command line to a plan.
 
-ghost use Rattle.std.specs.Prelude.{◌≡◌, Err, IfErr, IfOk, IfSome, List, MatchResult, None, Ok, Some, map, string_bytes};
+ghost use Rattle.std.specs.Prelude.{◌≡◌, ◌⊎◌, ℕ, Err, IfErr, IfOk, IfSome, List, MatchResult, None, Ok, Some, map};
+ghost use Rattle.std.specs.Prelude.{string_bytes};
 ghost use Rattle.clap.specs.Faults.{fault_of};
 ghost use Rattle.clap.specs.Kinds.{HasKind};
 ghost use Rattle.clap.specs.Values.{kind_of};
 ghost use Rattle.gtd_calendar.specs.Read.{stamp_in};
+ghost use Rattle.gtd_core.specs.declared.second.Sec.{Sec};
 ghost use Rattle.gtd_records.specs.Columns.{number_of};
 ghost use Rattle.gtd_runs.specs.Run.{IsVehicleType};
-ghost use Rattle.gtd_desk.specs.CommandLine.{AreNowWords, AskForText, Text, desk_app};
+ghost use Rattle.gtd_desk.specs.CommandLine.{AreFaultsWords, AreNowWords, AskForText, Text, desk_app};
 ghost use Rattle.gtd_desk.specs.CommandLine as spec;
-ghost use Rattle.gtd_desk.specs.Plans.{AskFor, IsNoVehicle, IsRefusalOf};
+ghost use Rattle.gtd_desk.specs.Plans.{AskFor, AskForNow, IsFaultsPlan, IsNoVehicle, IsNowPlan, IsRefusalOf, IsWordFault};
+ghost use Rattle.gtd_desk.specs.declared.refusal.Refusal.{Refusal};
 
-use crate::arguments::{NowWords, now_words, parse};
+use crate::arguments::{NowWords, faults_word, now_words, parse};
 use crate::plans::{Moment, Plan};
 use crate::refusal::Refusal;
 use clap::error::ErrorKind;
@@ -118,6 +121,17 @@ fn plan_now(alloc: Global, given: NowWords<'_>) -> Result<Plan, Refusal>
     }
 }
 
+// The plan of `faults`.
+fn plan_faults(alloc: Global, file: &str) -> Result<Plan, Refusal>
+    ensures { (words : List Text) → AreFaultsWords words file.now
+        → MatchResult result (AskFor words) (IsRefusalOf words) }
+{
+    match String::from_str(alloc, file) {
+        Ok(file) => Ok(Plan::Faults { file }),
+        Err(_) => Err(Refusal::Memory),
+    }
+}
+
 // The plan of the words after the program's name.
 fn plan_words(alloc: Global, words: &[String]) -> Result<Plan, Refusal>
     ensures { MatchResult result (AskFor (map string_bytes words.now)) (IsRefusalOf (map string_bytes words.now)) }
@@ -125,7 +139,10 @@ fn plan_words(alloc: Global, words: &[String]) -> Result<Plan, Refusal>
     match parse(alloc, words) {
         Ok(matches) => match now_words(&matches) {
             Some(given) => plan_now(alloc, given),
-            None => Err(Refusal::Usage("the words are not understood")),
+            None => match faults_word(&matches) {
+                Some(file) => plan_faults(alloc, file),
+                None => Err(Refusal::Usage("the words are not understood")),
+            },
         },
         Err(error) => plan_error(alloc, &error),
     }
@@ -136,8 +153,18 @@ fn plan_words(alloc: Global, words: &[String]) -> Result<Plan, Refusal>
 /// In order: `Usage` where they give no command with its words, and ask for no help; `Moment`, where the word for the
 /// moment stands for none; `Vehicle`. Where memory was refused, `Memory` is the answer in place of these.
 pub fn plan(alloc: Global, words: Vec<String>) -> Result<Plan, Refusal>
+    // The plan is what the words ask for.
     ensures asked { IfOk result (AskFor (map string_bytes words.items)) }
+    // What the words ask for is planned, unless memory is refused.
+    ensures only { (file : Text) (moment : Sec) (vehicle : ℕ) → AskForNow (map string_bytes words.items) file moment vehicle
+        → MatchResult result (IsNowPlan file moment vehicle) (λ r. r ≡ Refusal.Memory) }
+    ensures only_faults { (file : Text) → AreFaultsWords (map string_bytes words.items) file
+        → MatchResult result (IsFaultsPlan file) (λ r. r ≡ Refusal.Memory) }
+    // The refusal is one of the words, unless memory was refused.
     ensures refused { IfErr result (IsRefusalOf (map string_bytes words.items)) }
+    // Words of `now` of which one stands for nothing are refused by the first such, unless memory is refused.
+    ensures first { (refusal : Refusal) → IsWordFault (map string_bytes words.items) refusal
+        → MatchResult result (λ plan. ⊥) (λ r. (r ≡ Refusal.Memory) ⊎ (r ≡ refusal)) }
 {
     plan_words(alloc, words.as_slice())
 }

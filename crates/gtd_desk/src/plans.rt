@@ -24,6 +24,11 @@ pub enum Plan {
         /// The vehicle type.
         vehicle: u8,
     },
+    /// To list the faults of a record file.
+    Faults {
+        /// The file's path, or `-` for standard input.
+        file: String,
+    },
     /// To print a text: help, or the version.
     Show {
         /// The text.
@@ -32,10 +37,16 @@ pub enum Plan {
 }
 
 impl Plan {
+    ghost use Rattle.std.specs.Prelude.{◌≡◌, option_map};
+    ghost use Rattle.gtd_desk.specs.Plans.{file_of};
+
     /// The path of the record file that is to be read, if the plan reads one.
-    pub fn file(&self) -> Option<&str> {
+    pub fn file(&self) -> Option<&str>
+        ensures value { option_map (λ path. path.now) result ≡ file_of self.now }
+    {
         match self {
             Plan::Now { file, .. } => Some(file.as_str()),
+            Plan::Faults { file } => Some(file.as_str()),
             Plan::Show { .. } => None,
         }
     }

@@ -177,7 +177,7 @@ fn known_fields_of_days(rt: HostRuntime) {
 }
 
 // The text of a second of the calendar.
-fn known_stamp(second: Sec) -> Option<[u8; 19]> {
+pub(crate) fn known_stamp(second: Sec) -> Option<[u8; 19]> {
     let day = second.day();
     if day < -62_091 || day > 303_150 {
         return None;
@@ -186,7 +186,7 @@ fn known_stamp(second: Sec) -> Option<[u8; 19]> {
 }
 
 // The text of the end of a stretch.
-fn end_text(start: &str, parts: DurationParts) -> Option<[u8; 19]> {
+pub(crate) fn end_text(start: &str, parts: DurationParts) -> Option<[u8; 19]> {
     let start = read_stamp(start.as_bytes()).ok()?;
     let duration = Duration::new(parts)?;
     let day = start.day();

@@ -244,6 +244,75 @@ fn a_write_of_no_byte(rt: HostRuntime) {
     assert_eq!(rt; output.failures(), 1);
 }
 
+// A writer whose second write and second flush fail by an error of this kind, and all others succeed.
+#[derive(Drop)]
+struct Faltering {
+    kind: ErrorKind,
+    writes: u32,
+    flushes: u32,
+}
+
+impl Write for Faltering {
+    fn write(&mut self, buf: &[u8]) -> IoResult<usize> {
+        self.writes = self.writes.saturating_add(1);
+        if self.writes == 2 {
+            return Err(Error::from(self.kind));
+        }
+        Ok(buf.len())
+    }
+
+    fn flush(&mut self) -> IoResult<()> {
+        self.flushes = self.flushes.saturating_add(1);
+        if self.flushes == 2 {
+            return Err(Error::from(self.kind));
+        }
+        Ok(())
+    }
+}
+
+// The first end of an output succeeds, the second fails and the third succeeds. So each of them flushes once: an end that
+// flushed twice, or once more after a failure, would meet another number.
+fn expect_three_ends(rt: &impl Abort, kind: ErrorKind) {
+    let mut output = HostOut::new(Faltering {
+        kind,
+        writes: 0,
+        flushes: 0,
+    });
+    assert_eq!(rt; output.finish(), Put::Took(0));
+    assert_eq!(rt; output.finish(), Put::Failed);
+    assert_eq!(rt; output.finish(), Put::Took(0));
+    assert_eq!(rt; output.failures(), 1);
+}
+
+#[test]
+fn flushes_that_fail_once(rt: HostRuntime) {
+    expect_three_ends(&rt, ErrorKind::Interrupted);
+    expect_three_ends(&rt, ErrorKind::WouldBlock);
+    expect_three_ends(&rt, ErrorKind::TimedOut);
+    expect_three_ends(&rt, ErrorKind::Other);
+}
+
+/// The second of three writes fails by this error, and is not tried again.
+pub(crate) fn expect_one_failure(rt: &impl Abort, kind: ErrorKind) {
+    let mut output = HostOut::new(Faltering {
+        kind,
+        writes: 0,
+        flushes: 0,
+    });
+    assert_eq!(rt; output.put(b"17".as_slice()), Put::Took(2));
+    assert_eq!(rt; output.put(b"18".as_slice()), Put::Failed);
+    assert_eq!(rt; output.put(b"18".as_slice()), Put::Took(2));
+    assert_eq!(rt; output.failures(), 1);
+}
+
+#[test]
+fn writes_that_fail_once(rt: HostRuntime) {
+    expect_one_failure(&rt, ErrorKind::WouldBlock);
+    expect_one_failure(&rt, ErrorKind::TimedOut);
+    expect_one_failure(&rt, ErrorKind::BrokenPipe);
+    expect_one_failure(&rt, ErrorKind::Other);
+}
+
 // A reader of bytes that is interrupted before each read.
 #[derive(Drop)]
 struct Halting<'a> {

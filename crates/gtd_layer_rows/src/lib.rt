@@ -1,4 +1,5 @@
-//! Tests of the layers below the commands: worked examples, and each call that takes memory when memory is refused.
+//! Tests of the layers below the commands: worked examples; each call that takes memory, when memory is refused; and each call
+//! that takes none, when every growth is refused.
 #![tactic(auto)]
 
 #[cfg(test)]
@@ -23,3 +24,5 @@ mod spans;
 mod text;
 #[cfg(test)]
 mod values;
+#[cfg(test)]
+mod without_memory;

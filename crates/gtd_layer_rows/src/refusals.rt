@@ -41,7 +41,7 @@ const NO_MEMORY: TextFault = TextFault {
 };
 
 // The cursor hands out spans with these ends, in seconds after a midnight, and nothing more.
-fn gives(rt: &impl Abort, cursor: &mut Cursor, midnight: i64, ends: &[(i64, i64)]) {
+pub(crate) fn gives(rt: &impl Abort, cursor: &mut Cursor, midnight: i64, ends: &[(i64, i64)]) {
     for (from, until) in ends {
         let from = Sec(midnight.wrapping_add(*from));
         let until = Sec(midnight.wrapping_add(*until));
@@ -50,7 +50,7 @@ fn gives(rt: &impl Abort, cursor: &mut Cursor, midnight: i64, ends: &[(i64, i64)
     assert_eq!(rt; cursor.next(), None);
 }
 
-fn days(rt: &impl Abort, from_day: i64, to_day: i64) -> Horizon {
+pub(crate) fn days(rt: &impl Abort, from_day: i64, to_day: i64) -> Horizon {
     Horizon::new(from_day, to_day).expect(rt, "a horizon")
 }
 
@@ -251,7 +251,7 @@ fn complements_in_a_day(rt: HostRuntime) {
     expect_list(&rt, alloc, complement, &HOURS, &[], &gaps);
 }
 
-fn leaf(rt: &impl Abort, domain: &Domain) -> Basic {
+pub(crate) fn leaf(rt: &impl Abort, domain: &Domain) -> Basic {
     match domain.expr() {
         Expr::Leaf(basic) => *basic,
         Expr::Join(..) => panic!(rt; "not basic"),
@@ -396,7 +396,7 @@ fn a_cursor(rt: HostRuntime) {
 }
 
 // The cursors of the two domains.
-fn two_cursors(
+pub(crate) fn two_cursors(
     alloc: Global,
     left: &Domain,
     right: &Domain,

@@ -11,7 +11,7 @@ use std::process::Abort;
 use std::test::Fail;
 
 /// Asserts that the source gives spans with these ends, and then none, again and again.
-fn gives<S: SpanSource>(rt: &impl Abort, source: &mut S, ends: &[(i64, i64)]) {
+pub(crate) fn gives<S: SpanSource>(rt: &impl Abort, source: &mut S, ends: &[(i64, i64)]) {
     for &(from, until) in ends {
         assert_eq!(rt;
             source.next(),
@@ -80,39 +80,40 @@ fn changes_of_a_list(rt: HostRuntime) -> Result<(), Fail> {
     Ok(())
 }
 
+/// The sources over these three lists, of 0 to 10 and 20 to 30, of 10 to 20, and of 5 to 25, give their spans.
+pub(crate) fn expect_sources(rt: &impl Abort, a: &SpanList, b: &SpanList, c: &SpanList) {
+    let day = Horizon::new(0, 1).expect(rt, "a horizon");
+    gives(rt, &mut Unite::new(source_of(a), source_of(b)), &[(0, 30)]);
+    gives(
+        rt,
+        &mut Both::new(source_of(a), source_of(c)),
+        &[(5, 10), (20, 25)],
+    );
+    gives(
+        rt,
+        &mut Without::new(source_of(a), source_of(c)),
+        &[(0, 5), (25, 30)],
+    );
+    gives(
+        rt,
+        &mut Outside::new(source_of(a), day),
+        &[(10, 20), (30, 86_400)],
+    );
+}
+
 #[test]
 fn sources(rt: HostRuntime) -> Result<(), Fail> {
     let alloc = rt.alloc();
     let a = list_of(&rt, alloc, &[(0, 10), (20, 30)])?;
     let b = list_of(&rt, alloc, &[(10, 20)])?;
     let c = list_of(&rt, alloc, &[(5, 25)])?;
-    let day = Horizon::new(0, 1).expect(&rt, "a horizon");
-    gives(
-        &rt,
-        &mut Unite::new(source_of(&a), source_of(&b)),
-        &[(0, 30)],
-    );
-    gives(
-        &rt,
-        &mut Both::new(source_of(&a), source_of(&c)),
-        &[(5, 10), (20, 25)],
-    );
-    gives(
-        &rt,
-        &mut Without::new(source_of(&a), source_of(&c)),
-        &[(0, 5), (25, 30)],
-    );
-    gives(
-        &rt,
-        &mut Outside::new(source_of(&a), day),
-        &[(10, 20), (30, 86_400)],
-    );
+    expect_sources(&rt, &a, &b, &c);
     Ok(())
 }
 
-#[test]
-fn a_sweep_outside(rt: HostRuntime) {
-    let day = Horizon::new(0, 1).expect(&rt, "a horizon");
+/// A sweep over a day with the one side 10 to 20 gives what is outside.
+pub(crate) fn expect_sweep_outside(rt: &impl Abort) {
+    let day = Horizon::new(0, 1).expect(rt, "a horizon");
     let mut sweep = Sweep::outside(day);
     assert_eq!(rt; sweep.step(), Ask::Left);
     sweep.tell(Some(Span::between(Sec(10), Sec(20))));
@@ -128,7 +129,12 @@ fn a_sweep_outside(rt: HostRuntime) {
 }
 
 #[test]
-fn a_sweep_of_two_sides(rt: HostRuntime) {
+fn a_sweep_outside(rt: HostRuntime) {
+    expect_sweep_outside(&rt);
+}
+
+/// A sweep of no span and of 1 to 2 gives the latter.
+pub(crate) fn expect_sweep_of_two_sides(rt: &impl Abort) {
     let mut sweep = Sweep::new(Op::Union);
     assert_eq!(rt; sweep.step(), Ask::Left);
     sweep.tell(None);
@@ -138,6 +144,11 @@ fn a_sweep_of_two_sides(rt: HostRuntime) {
     sweep.tell(None);
     assert_eq!(rt; sweep.step(), Ask::Give(Span::between(Sec(1), Sec(2))));
     assert_eq!(rt; sweep.step(), Ask::End);
+}
+
+#[test]
+fn a_sweep_of_two_sides(rt: HostRuntime) {
+    expect_sweep_of_two_sides(&rt);
 }
 
 #[test]

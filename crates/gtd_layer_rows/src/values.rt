@@ -22,7 +22,7 @@ const NO_FIELDS: StartParts = StartParts {
 };
 
 // Only the field with this letter. A place is two digits; weekdays are bits.
-fn field(letter: u8, value: u16) -> StartParts {
+pub(crate) fn field(letter: u8, value: u16) -> StartParts {
     let mut parts = NO_FIELDS;
     let small = value.min(255) as u8;
     match letter {
@@ -105,7 +105,7 @@ fn starts_of_places_and_weekdays(rt: HostRuntime) {
 }
 
 // Only the number with this letter.
-fn number(letter: u8, value: u32) -> DurationParts {
+pub(crate) fn number(letter: u8, value: u32) -> DurationParts {
     let mut parts = DurationParts::default();
     match letter {
         b'y' => parts.years = value,
@@ -191,7 +191,12 @@ fn horizons(rt: HostRuntime) {
 }
 
 // So many basic domains, the first of which begins at this hour, joined from the left or from the right.
-fn chain(rt: &impl Abort, alloc: Global, count: u32, is_left: bool) -> Result<Expr, AllocError> {
+pub(crate) fn chain(
+    rt: &impl Abort,
+    alloc: Global,
+    count: u32,
+    is_left: bool,
+) -> Result<Expr, AllocError> {
     let duration = Duration::new(number(b'h', 1)).expect(rt, "a duration");
     let start = Start::new(field(b'h', 1)).expect(rt, "a start");
     let mut expr = Expr::Leaf(Basic { start, duration });

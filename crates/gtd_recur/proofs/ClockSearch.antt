@@ -1,9 +1,10 @@
 -- What a clock shows, and the first time from a second on that it shows it.
 use Rattle.std.proofs.Common.{◌≡◌, ℕ, ◌+◌, ◌*◌, ◌/◌, ◌%◌, ◌<◌, ◌≤◌, Bool, true, false, Option, Some, None, refl, sym, ◌∙◌}
-use Rattle.std.proofs.Common.{arith, is_some, ◌||◌, ◌==◌, ◌⊎◌, inl, inr}
+use Rattle.std.proofs.Common.{arith, rules, is_some, ◌||◌, ◌==◌, ◌⊎◌, inl, inr}
 use Rattle.std.proofs.lemmas.Bool.{and_parts, and_from, both_ways, false_from_ne_true, eqb-true, eq-eqb, cases_lt}
-use Rattle.std.specs.Option.{unwrap_or}
-use Rattle.gtd_core.specs.Ranges.{IsWithin}
+use Rattle.std.specs.Option.{IsSome, unwrap_or}
+use Rattle.gtd_core.specs.Limits.{last_second_of_day}
+use Rattle.gtd_core.specs.Ranges.{IsStart, IsWithin}
 use Rattle.gtd_core.specs.declared.start.StartParts.{StartParts}
 use Rattle.gtd_recur.specs.Begins.{agrees, agrees_or_least, begins_at}
 use Rattle.gtd_recur.specs.ClockSearch.{held, shows, minute_fits as fits_minute, IsNextPassing, IsLastPassing}
@@ -22,21 +23,6 @@ pub shows-from : (h m : Option ℕ) (s k : ℕ) → agrees h (k / 3600) ≡ true
 unfolding shows
 shows-from h m s k p q e = and_from _ _ p (and_from _ _ q (eq-eqb _ _ e))
 
--- the minutes, counted from midnight, of the seconds from one on that are shown
-pub record IsFirstMinute (m : Option ℕ) (s from r : ℕ) : Type 0 where
-  pub reached : from ≤ 60 * r + s
-  pub fits : agrees m (r % 60) ≡ true
-  pub least : (j : ℕ) → from ≤ j → agrees m (j / 60 % 60) ≡ true → s ≡ j % 60 → r ≤ j / 60
-
-pub first_minute : (m : Option ℕ) (s from i r : ℕ) → s < 60 → from ≤ 60 * i + s → ((j : ℕ) → from ≤ 60 * j + s → i ≤ j) → i ≤ r
-    → agrees m (r % 60) ≡ true
-    → ((j : ℕ) → i ≤ j → agrees m (j % 60) ≡ true → r ≤ j) → IsFirstMinute m s from r
-first_minute m s from i r low reach first later fits least = record {
-  reached = omega arith;
-  fits = fits;
-  least = λ j le on e. least (j / 60) (first (j / 60) (omega arith)) on;
-}
-
 pub agrees-is : (h v : ℕ) → agrees (Some h) v ≡ true → h ≡ v
 agrees-is h v e = eqb-true h v e
 
@@ -44,79 +30,14 @@ agrees-is h v e = eqb-true h v e
 abbrev pub or_zero : Option ℕ → ℕ
 or_zero o = unwrap_or o 0
 
-minute_fits : (m : Option ℕ) (x : ℕ) → x ≡ or_zero m → agrees m x ≡ true
-minute_fits None x e = refl
-minute_fits (Some y) x e = eq-eqb _ _ (sym e)
-
-minute_least : (m : Option ℕ) (x : ℕ) → agrees m x ≡ true → or_zero m ≤ x
-minute_least None x e = omega arith
-minute_least (Some y) x e = let is = agrees-is y x e in omega arith
-
 minute_small : (m : Option ℕ) → IsWithin 0 59 m → or_zero m < 60
 minute_small None v = omega arith
 minute_small (Some y) v = omega arith
-
--- an hour before the one wanted
-pub early_hour : (h : ℕ) (m : Option ℕ) (s from r least : ℕ) → s < 60 → h < 24 → IsWithin 0 59 m → IsFirstMinute m s from r
-    → r / 60 < h → least ≡ or_zero m
-    → IsNextPassing (shows (Some h) m s) from (Some (3600 * h + 60 * least + s))
-early_hour h m s from r least low small valid is before e =
-    let fits = minute_small m valid in
-    let reached = is.reached in
-    let is_hour : (3600 * h + 60 * least + s) / 3600 ≡ h = omega arith in
-    let is_minute : (3600 * h + 60 * least + s) / 60 % 60 ≡ least = omega arith in (
-      omega arith,
-      omega arith,
-      shows-from (Some h) m s (3600 * h + 60 * least + s) (eq-eqb _ _ (sym is_hour)) (rw is_minute (minute_fits m least e))
-          (omega arith),
-      λ j le lt. false_from_ne_true _ (λ on.
-          let parts = shows-parts (Some h) m s j on in
-          let hour = agrees-is h (j / 3600) parts.0 in
-          let minute = minute_least m (j / 60 % 60) parts.1 in
-          let second = parts.2 in
-          omega arith),
-    )
-
--- after it
-pub late_hour : (h : ℕ) (m : Option ℕ) (s from r : ℕ) → IsFirstMinute m s from r → h < r / 60
-    → IsNextPassing (shows (Some h) m s) from None
-late_hour h m s from r is after j le low = false_from_ne_true _ (λ on.
-    let parts = shows-parts (Some h) m s j on in
-    let hour = agrees-is h (j / 3600) parts.0 in
-    let later = is.least j le parts.1 parts.2 in
-    omega arith)
-
--- or after midnight
-pub next_day : (h m : Option ℕ) (s from r : ℕ) → IsFirstMinute m s from r → 23 < r / 60 → IsNextPassing (shows h m s) from None
-next_day h m s from r is after j le low = false_from_ne_true _ (λ on.
-    let parts = shows-parts h m s j on in
-    let later = is.least j le parts.1 parts.2 in
-    omega arith)
-
--- in it
-pub same_hour : (h m : Option ℕ) (s from r : ℕ) → s < 60 → IsFirstMinute m s from r → r / 60 < 24 → agrees h (r / 60) ≡ true
-    → IsNextPassing (shows h m s) from (Some (60 * r + s))
-same_hour h m s from r low is small hour =
-    let is_hour : (60 * r + s) / 3600 ≡ r / 60 = omega arith in
-    let is_minute : (60 * r + s) / 60 % 60 ≡ r % 60 = omega arith in (
-      is.reached,
-      omega arith,
-      shows-from h m s (60 * r + s) (rw is_hour hour) (rw is_minute is.fits) (omega arith),
-      λ j le lt. false_from_ne_true _ (λ on.
-          let parts = shows-parts h m s j on in
-          let later = is.least j le parts.1 parts.2 in
-          omega arith),
-    )
 
 level : (given : Option ℕ) (finer : Bool) (v : ℕ) → agrees_or_least given finer 0 v ≡ agrees (held given finer) v
 level (Some x) finer v = refl
 level None true v = refl
 level None false v = refl
-
-same_passing : (f g : ℕ → Bool) (from : ℕ) (o : Option ℕ) → ((k : ℕ) → f k ≡ g k) → IsNextPassing f from o
-    → IsNextPassing g from o
-same_passing f g from None same h = λ j le lt. sym (same j) ∙ h j le lt
-same_passing f g from (Some k) same h = (h.0, h.1, sym (same k) ∙ h.2, λ j le lt. sym (same j) ∙ h.3 j le lt)
 
 -- the seconds at which a start begins are those at which the clock shows the values that its levels are held at
 pub held_shows : (p : StartParts) (finer : Bool) (s : ℕ) → finer ≡ (is_some p.minute || is_some p.second) → s ≡ or_zero p.second
@@ -134,11 +55,6 @@ held_shows p finer s is second k =
     second_level : (given : Option ℕ) (v : ℕ) → agrees_or_least given false 0 v ≡ (or_zero given == v)
     second_level (Some x) v = refl
     second_level None v = refl
-
-pub held_clock : (p : StartParts) (finer : Bool) (from s : ℕ) (o : Option ℕ) → finer ≡ (is_some p.minute || is_some p.second) → s
-    ≡ or_zero p.second
-    → IsNextPassing (shows (held p.hour finer) (held p.minute (is_some p.second)) s) from o → IsNextPassing (begins_at p) from o
-held_clock p finer from s o is second h = same_passing _ _ from o (held_shows p finer s is second) h
 
 -- an hour that is neither before nor after the one wanted fits
 pub in_hour : (given : Option ℕ) (h k v : ℕ) → given ≡ Some h → given ≡ Some k → h ≤ v → v ≤ k → agrees given v ≡ true
@@ -240,3 +156,60 @@ pub held_last : (p : StartParts) (finer : Bool) (limit s : ℕ) (o : Option ℕ)
     ≡ or_zero p.second
     → IsLastPassing (shows (held p.hour finer) (held p.minute (is_some p.second)) s) limit o → IsLastPassing (begins_at p) limit o
 held_last p finer limit s o is second h = same_last _ _ limit o (held_shows p finer s is second) h
+
+-- the first second of a day at which a start begins: what is left out of its clock is at 0
+level_least : (given : Option ℕ) (finer : Bool) (v : ℕ) → v ≡ or_zero given → agrees_or_least given finer 0 v ≡ true
+level_least (Some x) finer v e = eq-eqb _ _ (sym e)
+level_least None true v e = refl
+level_least None false v e = eq-eqb _ _ (sym e)
+
+level_low : (given : Option ℕ) (finer : Bool) (v : ℕ) → agrees_or_least given finer 0 v ≡ true → or_zero given ≤ v
+level_low (Some x) finer v on = let is = eqb-true x v on in omega (arith, is)
+level_low None finer v on = omega arith
+
+hour_small : (h : Option ℕ) → IsWithin 0 23 h → or_zero h < 24
+hour_small None v = omega arith
+hour_small (Some y) v = omega arith
+
+-- the values of its clock, with 0 for those that are left out
+pub record AreLeast (p : StartParts) (h m s : ℕ) : Type 0 where
+  pub hour : h ≡ or_zero p.hour
+  pub minute : m ≡ or_zero p.minute
+  pub second : s ≡ or_zero p.second
+
+pub least_small : (p : StartParts) (h m s : ℕ) → IsStart p → AreLeast p h m s → (h < 24) × (m < 60) × (s < 60)
+least_small p h m s v l = (
+  rw (l.hour) (hour_small p.hour v.hour),
+  rw (l.minute) (minute_small p.minute v.minute),
+  rw (l.second) (minute_small p.second v.second),
+)
+
+pub first_clock : (p : StartParts) (h m s : ℕ) → IsStart p → AreLeast p h m s
+    → IsNextPassing (begins_at p) 0 (Some (3600 * h + 60 * m + s))
+first_clock p h m s v l =
+    let k = 3600 * h + 60 * m + s in
+    let small = least_small p h m s v l in
+    let is_hour : k / 3600 ≡ h = omega (arith, small.1, small.2) in
+    let is_minute : k / 60 % 60 ≡ m = omega (arith, small.1, small.2) in
+    let is_second : k % 60 ≡ s = omega (arith, small.2) in (
+      omega arith,
+      omega (arith, small.0, small.1, small.2),
+      and_from _ _ (level_least p.hour _ (k / 3600) (is_hour ∙ l.hour)) (and_from _ _
+          (level_least p.minute _ (k / 60 % 60) (is_minute ∙ l.minute))
+          (level_least p.second false (k % 60) (is_second ∙ l.second))),
+      λ j ge lt. false_from_ne_true _ (λ on.
+          let outer = and_parts _ _ on in
+          let inner = and_parts _ _ outer.1 in
+          let low = level_low p.hour _ (j / 3600) outer.0 in
+          let mid = level_low p.minute _ (j / 60 % 60) inner.0 in
+          let end = level_low p.second false (j % 60) inner.1 in
+          let hour = l.hour in let minute = l.minute in let second = l.second in
+          omega (arith, low, mid, end, hour, minute, second, lt)),
+    )
+
+-- it has a last one too
+pub last_is_some : (p : StartParts) → IsStart p → (o : Option ℕ) → IsLastPassing (begins_at p) last_second_of_day o → IsSome o
+last_is_some p v (Some k) h = search rules
+last_is_some p v None h =
+    let first = first_clock p _ _ _ v (record { hour = refl; minute = refl; second = refl }) in
+    absurd (both_ways _ (h _ (omega (arith, first.1))) first.2)

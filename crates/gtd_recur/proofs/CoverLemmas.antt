@@ -6,6 +6,7 @@ use Rattle.gtd_core.specs.Limits.{first_horizon_day, horizons_end}
 use Rattle.gtd_calendar.specs.facts.Signed.{signed_arith}
 use Rattle.gtd_core.specs.declared.start.StartParts.{StartParts}
 use Rattle.gtd_core.specs.declared.duration.DurationParts.{DurationParts}
+use Rattle.gtd_core.specs.Limits.{last_second_of_day}
 use Rattle.gtd_core.specs.Ranges.{bound_of, lookback_of}
 use Rattle.gtd_calendar.specs.facts.ClockLemmas.{second-parts, second-only, stop-same_day, stop-bound}
 use Rattle.gtd_calendar.specs.ComputedFields.{day_fields}
@@ -110,7 +111,7 @@ latest_today p s (Some k) h =
     after s n i k e le = omega (arith, signed_arith)
 
 -- on an earlier day it is the latest of the whole day
-pub latest_before : (p : StartParts) (n s : ℤ) (o : Option ℕ) → n <ℤ day_of_second s → IsLatestBegin p 86399 o
+pub latest_before : (p : StartParts) (n s : ℤ) (o : Option ℕ) → n <ℤ day_of_second s → IsLatestBegin p last_second_of_day o
     → IsLatestNotAfter p n s o
 latest_before p n s None lt h = λ j low le. h j (omega arith)
 latest_before p n s (Some k) lt h =

@@ -1,6 +1,6 @@
 -- A walk that begins at a day from which the stretches reach as far as all before.
-use Rattle.std.proofs.Common.{◌≡◌, ℕ, ◌<◌, ◌≤◌, true, refl, inl, inr, arith, ℤ, pos, ◌+ℤ◌, ◌-ℤ◌, ◌*ℤ◌, ◌<ℤ◌, ◌≤ℤ◌, int_lt}
-use Rattle.std.proofs.Common.{not, unsigned_abs}
+use Rattle.std.proofs.Common.{◌≡◌, ◌⊎◌, ℕ, ◌<◌, ◌≤◌, true, false, refl, inl, inr, arith, ℤ, pos, ◌+ℤ◌, ◌-ℤ◌, ◌*ℤ◌, ◌<ℤ◌, ◌≤ℤ◌}
+use Rattle.std.proofs.Common.{int_lt, not, unsigned_abs}
 use Rattle.std.proofs.lemmas.Bool.{both_ways}
 use Rattle.std.proofs.lemmas.Int.{by_lt_z, ints}
 use Rattle.gtd_calendar.specs.facts.Signed.{signed_arith}
@@ -16,7 +16,7 @@ use Rattle.gtd_calendar.specs.Clock.{second_of_day}
 use Rattle.gtd_calendar.specs.ComputedEnds.{stop}
 use Rattle.gtd_recur.specs.Ascending.{Has}
 use Rattle.gtd_recur.specs.Begins.{begins, begins_on}
-use Rattle.gtd_recur.specs.Look.{IsFirstDay, IsFirstLook}
+use Rattle.gtd_recur.specs.Look.{IsFirstDay}
 use Rattle.gtd_recur.specs.Membership.{InStretches}
 use Rattle.gtd_recur.specs.Stretches.{runs_between}
 use Rattle.gtd_recur.specs.facts.StretchFacts.{runs_between-normal}
@@ -32,6 +32,12 @@ use Rattle.gtd_recur.proofs.HorizonLemmas.{has-either, held-from, held-to, start
 use Rattle.gtd_recur.specs.facts.StartsLemmas.{count-append, days_between-append, later_by}
 use Rattle.std.proofs.lemmas.List.{length-append}
 use Rattle.gtd_recur.proofs.StretchLemmas.{runs_between-holds}
+
+-- so many days before day n is a day on which the start begins, or no earlier day of the lookback is one
+pub record IsFirstLook (p : StartParts) (n : ℤ) (lookback back : ℕ) : Type 0 where
+  pub within : back ≤ lookback
+  pub reason : ((0 < back) × (begins_on p (day_fields (n -ℤ pos back)) ≡ true))
+      ⊎ ((k : ℕ) → back < k → k ≤ lookback → begins_on p (day_fields (n -ℤ pos k)) ≡ false)
 
 -- a second before a day that some stretch holds from is held from that day too: by the start with the same clock
 pub held-nearer : (p : StartParts) (q : DurationParts) (b t n : ℤ) → begins p b ≡ true → t <ℤ stop q b → day_of_second b ≤ℤ n

@@ -1,20 +1,22 @@
 -- The starts of a day lie one step apart.
-use Rattle.std.proofs.Common.{◌≡◌, ℕ, zero, suc, ◌+◌, ◌-◌, ◌*◌, ◌/◌, ◌<◌, ◌≤◌, true, Some, List}
+use Rattle.std.proofs.Common.{◌≡◌, ℕ, zero, suc, ◌+◌, ◌-◌, ◌*◌, ◌/◌, ◌<◌, ◌≤◌, Bool, true, Some, None, List}
 use Rattle.std.proofs.Common.{[], ◌∷◌, ◌++◌, length, drop, refl, sym, ap, ◌∙◌, arith, ◌⊎◌, inl, inr, ℤ, pos}
 use Rattle.std.proofs.Common.{◌+ℤ◌, ◌*ℤ◌}
 use Rattle.std.proofs.lemmas.Bool.{both_ways, cases_lt}
 use Rattle.std.proofs.lemmas.List.{drop-drop, drop_at, length-append}
 use Rattle.gtd_calendar.specs.facts.Signed.{signed_arith}
+use Rattle.gtd_core.specs.Limits.{last_second_of_day}
 use Rattle.gtd_core.specs.declared.start.StartParts.{StartParts}
 use Rattle.gtd_recur.specs.Begins.{begins_at}
-use Rattle.gtd_recur.specs.ClockSearch.{IsLastPassing}
-use Rattle.gtd_recur.specs.Stepping.{IsStep, Stepped}
-use Rattle.gtd_recur.specs.Starts.{clock_starts, starts_left, AreLeft}
+use Rattle.gtd_recur.specs.ClockSearch.{IsLastPassing, IsNextPassing}
+use Rattle.gtd_recur.specs.Stepping.{AreClocks, IsBehindOne, IsStep, Stepped}
+use Rattle.gtd_recur.specs.Look.{IsLookBack}
+use Rattle.gtd_recur.specs.Starts.{clock_starts, starts_left, AreLeft, IsOpened}
 use Rattle.gtd_recur.specs.facts.StartsLemmas.{clock_starts-some, clock_starts-none, clock_starts-nil}
 
 -- the starts of a day behind one of them
 pub stepping : (p : StartParts) (n : ℤ) (step last : ℕ) → IsStep (begins_at p) step
-    → IsLastPassing (begins_at p) 86399 (Some last) → (f k : ℕ) → begins_at p k ≡ true → k ≤ last → last ≤ k + f
+    → IsLastPassing (begins_at p) last_second_of_day (Some last) → (f k : ℕ) → begins_at p k ≡ true → k ≤ last → last ≤ k + f
     → Stepped step (pos 86400 *ℤ n +ℤ pos k) (clock_starts p n (k + 1)) (pos 86400 *ℤ n +ℤ pos last)
 stepping p n step last is end zero k on low high =
     let same : last ≡ k = omega arith in
@@ -101,9 +103,64 @@ unfolding starts_left
 left-passed p n next end from = rw (clock_starts-nil p n) refl
 
 -- a start is not behind the last of its day
-pub last-behind : (p : StartParts) (k last : ℕ) → IsLastPassing (begins_at p) 86399 (Some last) → k < 86400 → begins_at p k ≡ true
-    → k ≤ last
+pub last-behind : (p : StartParts) (k last : ℕ) → IsLastPassing (begins_at p) last_second_of_day (Some last) → k < 86400
+    → begins_at p k ≡ true → k ≤ last
 last-behind p k last end low on = elim (cases_lt last k) [
   | inl lt ↦ absurd (both_ways _ (end.2 k lt (omega (arith, low))) on)
   | inr ge ↦ omega (arith, ge)
+]
+
+-- the starts of a day: the first of them, one behind another, or none
+pub next-first : (test : ℕ → Bool) (first last step clock : ℕ) → AreClocks test first last step → clock ≤ first
+    → IsNextPassing test clock (Some first)
+next-first test first last step clock c low =
+    let b = c.begin in (low, b.1, b.2, λ j ge lt. b.3 j (omega arith) lt)
+
+pub next-step : (test : ℕ → Bool) (first last step clock : ℕ) → AreClocks test first last step → IsBehindOne test first last clock
+    → first < clock → clock ≤ last → IsNextPassing test clock (Some (clock - 1 + step))
+next-step test first last step clock c behind low high =
+    let k = clock - 1 in
+    let is : clock ≡ k + 1 = omega arith in
+    let on = behind k is (omega arith) (omega arith) in
+    let some = c.apart.next k last on (c.end.1) (omega arith) (omega (arith, c.end.0)) in
+    let within : k + step ≤ last = elim (cases_lt last (k + step)) [
+      | inl less ↦ absurd (both_ways _ (c.apart.between k last on (omega arith) less) (c.end.1))
+      | inr ge ↦ omega (arith, ge)
+    ] in (
+      more clock step low c.apart.known,
+      omega (arith, within, c.end.0),
+      some,
+      λ j ge less. c.apart.between k j on (omega arith) less,
+    )
+  where
+    more : (clock step : ℕ) → first < clock → (step ≡ 60) ⊎ (step ≡ 3600) → clock ≤ clock - 1 + step
+    more clock step lt e = elim e [ inl x ↦ omega arith | inr x ↦ omega arith ]
+
+pub next-none : (test : ℕ → Bool) (first last step clock : ℕ) → AreClocks test first last step → last < clock
+    → IsNextPassing test clock None
+next-none test first last step clock c past j ge lt = c.end.2 j (omega arith) (omega arith)
+
+-- behind a start, at the first second and at the end of a day
+pub behind-start : (test : ℕ → Bool) (first last k : ℕ) → test k ≡ true → IsBehindOne test first last (k + 1)
+behind-start test first last k on j e low high = let same : j ≡ k = omega arith in rw same on
+
+pub behind-none : (test : ℕ → Bool) (first last : ℕ) → IsBehindOne test first last 0
+behind-none test first last k e = absurd (omega arith)
+
+pub behind-all : (test : ℕ → Bool) (first last step : ℕ) → AreClocks test first last step → IsBehindOne test first last 86400
+behind-all test first last step c k e low high = absurd (let most = c.end.0 in omega (arith, most))
+
+pub behind-opened : (p : StartParts) (n : ℤ) (first last step clock : ℕ) → AreClocks (begins_at p) first last step
+    → IsOpened p n clock → IsBehindOne (begins_at p) first last clock
+behind-opened p n first last step clock c o = elim o [
+  | inl on ↦ rw (on.1) (behind-none (begins_at p) first last)
+  | inr off ↦ rw (off.1) (behind-all (begins_at p) first last step c)
+]
+
+pub behind-look : (p : StartParts) (low n first day : ℤ) (from last step clock looked : ℕ)
+    → AreClocks (begins_at p) from last step → IsLookBack p low n first day clock looked
+    → IsBehindOne (begins_at p) from last clock
+behind-look p low n first day from last step clock looked c look = elim (look.opened) [
+  | inl on ↦ rw (on.3) (behind-none (begins_at p) from last)
+  | inr off ↦ rw (off.1) (behind-all (begins_at p) from last step c)
 ]

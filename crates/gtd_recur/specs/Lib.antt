@@ -1,4 +1,5 @@
 pub mod Ascending
+pub mod Asked
 pub mod Begins
 pub mod ClockSearch
 pub mod ComputedStretches

@@ -1,16 +1,10 @@
 -- The day from which the walk over the starts before a horizon must begin.
-use Rattle.std.specs.Prelude.{◌≡◌, ◌⊎◌, ℕ, ◌<◌, ◌≤◌, true, false, count_by, ℤ, pos, ◌-ℤ◌, ◌≤ℤ◌, ◌<ℤ◌}
+use Rattle.std.specs.Prelude.{◌≡◌, ◌⊎◌, ℕ, true, false, count_by, ℤ, pos, ◌-ℤ◌, ◌≤ℤ◌, ◌<ℤ◌}
 use Rattle.gtd_core.specs.Limits.{day_seconds}
 use Rattle.gtd_core.specs.declared.start.StartParts.{StartParts}
 use Rattle.gtd_calendar.specs.ComputedFields.{day_fields}
 use Rattle.gtd_recur.specs.Begins.{begins_on, month_and_year_fit}
 use Rattle.gtd_recur.specs.Work.{days_between}
-
--- so many days before day n is a day on which the start begins, or the start begins on no earlier day of the lookback
-pub record IsFirstLook (p : StartParts) (n : ℤ) (lookback back : ℕ) : Type 0 where
-  pub within : back ≤ lookback
-  pub reason : ((0 < back) × (begins_on p (day_fields (n -ℤ pos back)) ≡ true))
-      ⊎ ((k : ℕ) → back < k → k ≤ lookback → begins_on p (day_fields (n -ℤ pos k)) ≡ false)
 
 -- The day `first` is the last before day n, and not before day `low`, on which the start begins, or `low` if there is
 -- none. The days from it up to n that no given month or year excludes were looked at.

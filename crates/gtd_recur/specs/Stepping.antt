@@ -1,6 +1,7 @@
 -- The starts of a day are one step apart.
-use Rattle.std.specs.Prelude.{◌≡◌, ◌⊎◌, ℕ, ◌+◌, ◌<◌, Bool, true, false, List, [], ◌∷◌, ℤ, pos, ◌+ℤ◌}
-use Rattle.gtd_core.specs.Limits.{day_seconds}
+use Rattle.std.specs.Prelude.{◌≡◌, ◌⊎◌, ℕ, ◌+◌, ◌<◌, ◌≤◌, Bool, true, false, List, [], ◌∷◌, Some, ℤ, pos, ◌+ℤ◌}
+use Rattle.gtd_core.specs.Limits.{day_seconds, last_second_of_day}
+use Rattle.gtd_recur.specs.ClockSearch.{IsLastPassing, IsNextPassing}
 
 -- the seconds that pass a test are this step apart, up to the last of a day
 pub record IsStep (test : ℕ → Bool) (step : ℕ) : Type 0 where
@@ -12,3 +13,13 @@ pub record IsStep (test : ℕ → Bool) (step : ℕ) : Type 0 where
 abbrev pub Stepped : ℕ → ℤ → List ℤ → ℤ → Type 0
 Stepped step b [] last = last ≡ b
 Stepped step b (x ∷ xs) last = (x ≡ b +ℤ pos step) × Stepped step x xs last
+
+-- the first and the last second of a day that pass a test, and the step between those that do
+pub record AreClocks (test : ℕ → Bool) (first last step : ℕ) : Type 0 where
+  pub begin : IsNextPassing test 0 (Some first)
+  pub end : IsLastPassing test last_second_of_day (Some last)
+  pub apart : IsStep test step
+
+-- between the first and the last that pass a test, a second is the next behind one that does
+abbrev pub IsBehindOne : (ℕ → Bool) → ℕ → ℕ → ℕ → Type 0
+IsBehindOne test first last clock = (k : ℕ) → clock ≡ k + 1 → first ≤ k → k < last → test k ≡ true

@@ -1,5 +1,6 @@
 pub mod AscendingProps
 pub mod BoundLemmas
+pub mod ClockProps
 pub mod CycleLemmas
 pub mod StretchDecisions
 pub mod StartsLemmas

@@ -1,13 +1,12 @@
 //! When a start begins: which days fit it, and at which seconds of a day its clock fits.
 
-ghost use Rattle.std.specs.Prelude.{◌≡◌, ◌+◌, ◌*◌, ◌%◌, ◌<◌, ◌≤◌, ◌↔◌, ℕ, true, IsTrue};
+ghost use Rattle.std.specs.Prelude.{◌≡◌, ◌<◌, ◌↔◌, IsTrue};
 ghost use Rattle.gtd_calendar.specs.Calendar.{IsCalendarDay};
 ghost use Rattle.gtd_calendar.specs.ComputedFields.{day_fields};
 ghost use Rattle.std.specs.Int.{IsInRange};
 ghost use Rattle.gtd_core.specs.Ranges.{IsStart, IsWithin};
 ghost use Rattle.gtd_recur.specs.Begins as spec;
 ghost use Rattle.gtd_recur.specs.ClockSearch as clock;
-ghost use Rattle.gtd_recur.specs.Stepping.{IsStep};
 ghost use Rattle.gtd_recur.specs.Weekly.{AsksNoDate};
 ghost use Rattle.gtd_core.specs.Limits.{day_seconds};
 
@@ -133,17 +132,6 @@ pub(crate) fn begins_on_day(start: &StartParts, day: i64) -> bool
     asks_no_date(start) || begins_on(start, &fields(day))
 }
 
-// The least number of sixties by which an offset reaches a number.
-fn sixties(from: u32, offset: u32) -> u32
-    requires from_in { from ≤ day_seconds }
-    requires offset_in { offset < 60 }
-    ensures reaches { from ≤ 60 * result + offset }
-    ensures least { (i : ℕ) → from ≤ 60 * i + offset → result ≤ i }
-    ensures bound { 60 * result ≤ from + 59 }
-{
-    (from + 59 - offset) / 60
-}
-
 // The value that a level of the clock must have, unless it is free.
 fn held(given: Option<u8>, finer: bool) -> Option<u32>
     ensures { result ≡ clock.held given finer }
@@ -152,39 +140,6 @@ fn held(given: Option<u8>, finer: bool) -> Option<u32>
         Some(x) => Some(u32::from(x)),
         None if finer => None,
         None => Some(0),
-    }
-}
-
-// The first minute from a given one on whose place in its hour fits. Minutes are counted from midnight.
-fn next_minute(minute: Option<u32>, from: u32) -> u32
-    requires minute_in { IsWithin 0 59 minute }
-    requires from_in { from ≤ 1440 }
-    ensures later { from ≤ result }
-    ensures fits { spec.agrees minute (result % 60) ≡ true }
-    ensures least { (i : ℕ) → from ≤ i → spec.agrees minute (i % 60) ≡ true → result ≤ i }
-    ensures bound { result < 1500 }
-{
-    match minute {
-        Some(minute) => 60 * sixties(from, minute) + minute,
-        None => from,
-    }
-}
-
-// The first second of a day, from one of its seconds on, with these values of the clock.
-fn next_clock(hour: Option<u32>, minute: Option<u32>, second: u32, from: u32) -> Option<u32>
-    requires hour_in { IsWithin 0 23 hour }
-    requires minute_in { IsWithin 0 59 minute }
-    requires second_in { second < 60 }
-    requires from_in { from ≤ day_seconds }
-    ensures { clock.IsNextPassing (clock.shows hour minute second) from result }
-{
-    let minutes = next_minute(minute, sixties(from, second));
-    let hours = minutes / 60;
-    match hour {
-        Some(hour) if hours < hour => Some(3600 * hour + 60 * minute.unwrap_or(0) + second),
-        Some(hour) if hours > hour => None,
-        _ if hours > 23 => None,
-        _ => Some(60 * minutes + second),
     }
 }
 
@@ -232,23 +187,6 @@ fn latest_clock(hour: Option<u32>, minute: Option<u32>, second: u32, limit: u32)
     }
 }
 
-/// The first second of a day, from one of its seconds on, at which the start begins.
-pub(crate) fn next_begin(start: &StartParts, from: u32) -> Option<u32>
-    requires valid { IsStart start.now }
-    requires from_in { from ≤ day_seconds }
-    ensures { clock.IsNextPassing (spec.begins_at start.now) from result }
-{
-    let finer_than_minute = start.second.is_some();
-    let finer_than_hour = start.minute.is_some() || finer_than_minute;
-    let hour = held(start.hour, finer_than_hour);
-    let minute = held(start.minute, finer_than_minute);
-    let second = u32::from(start.second.unwrap_or(0));
-    if from > 3600 * hour.unwrap_or(23) + 60 * minute.unwrap_or(59) + second {
-        return None;
-    }
-    next_clock(hour, minute, second, from)
-}
-
 /// The latest second of a day, up to a limit, at which the start begins.
 pub(crate) fn latest_begin(start: &StartParts, limit: u32) -> Option<u32>
     requires valid { IsStart start.now }
@@ -261,16 +199,4 @@ pub(crate) fn latest_begin(start: &StartParts, limit: u32) -> Option<u32>
     let minute = held(start.minute, finer_than_minute);
     let second = u32::from(start.second.unwrap_or(0));
     latest_clock(hour, minute, second, limit)
-}
-
-/// How far apart the starts of a day are, if it has several.
-pub(crate) fn day_step(start: &StartParts) -> u32
-    requires valid { IsStart start.now }
-    ensures step { IsStep (spec.begins_at start.now) result }
-{
-    if start.minute.is_none() && start.second.is_some() {
-        60
-    } else {
-        3600
-    }
 }

@@ -15,7 +15,7 @@ use crate::begin::{asks_no_date, begins_on_day, latest_begin};
 use crate::find::last_begun;
 use crate::jump::last_days;
 use gtd_calendar::{end_of, second_of_day};
-use gtd_core::limits::DAY_SECONDS;
+use gtd_core::limits::{DAY_SECONDS, LAST_SECOND_OF_DAY};
 use gtd_core::{Basic, Duration, Sec, StartParts};
 
 // Whether a stretch that begins on that day holds the second. Of the stretches of one day, the one that begins last
@@ -50,7 +50,7 @@ pub fn covers(basic: &Basic, second: Sec) -> bool
     let start = basic.start.parts();
     let today = second.day();
     let latest_today = latest_begin(&start, second_of_day(second));
-    let latest_before = latest_begin(&start, 86_399);
+    let latest_before = latest_begin(&start, LAST_SECOND_OF_DAY);
     for back in 0..basic.duration.lookback() + 1 {
         let latest = if back == 0 {
             latest_today

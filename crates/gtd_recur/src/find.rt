@@ -6,8 +6,8 @@ ghost use Rattle.gtd_core.specs.Limits.{horizons_end, first_window_day};
 ghost use Rattle.gtd_core.specs.Ranges.{IsStart};
 ghost use Rattle.gtd_calendar.specs.ComputedDates.{day_of_month, week_year_of};
 ghost use Rattle.gtd_calendar.specs.ComputedFields.{day_fields};
+ghost use Rattle.gtd_recur.specs.Asked.{IsByWeekday};
 ghost use Rattle.gtd_recur.specs.Begins as spec;
-ghost use Rattle.gtd_recur.specs.Weekly.{AsksNoDate};
 ghost use Rattle.gtd_recur.specs.Jumps as jumps;
 ghost use Rattle.gtd_recur.specs.Jumps.{IsFirstBegun, IsLastBegun, IsLastOfWeek, IsMissed, IsMissedBack, IsNextOfWeek};
 
@@ -18,6 +18,9 @@ use gtd_core::StartParts;
 
 /// The first day from a given one on and before an end on which the start begins; or the end. For days that a weekday, a
 /// week, a place in the month or a day of the month excludes, no date is computed.
+///
+/// A function of its own, so that starts that ask for no date do not pay for it.
+#[inline(never)]
 pub(crate) fn next_begun(start: &StartParts, day: i64, end: i64) -> i64
     requires valid { IsStart start.now }
     requires day_in { first_window_day ≤ℤ day }
@@ -25,9 +28,6 @@ pub(crate) fn next_begun(start: &StartParts, day: i64, end: i64) -> i64
     requires end_in { end ≤ℤ horizons_end }
     ensures first { IsFirstBegun start.now day end result }
 {
-    if asks_no_date(start) {
-        return next_weekday(start, day, end);
-    }
     let mut found = day;
     while found < end {
         let Some(next) = next_left(start, found, end) else {
@@ -38,9 +38,9 @@ pub(crate) fn next_begun(start: &StartParts, day: i64, end: i64) -> i64
     found
 }
 
-// The same for a start that asks for no date: the weekday alone decides whether it begins on a day.
-fn next_weekday(start: &StartParts, day: i64, end: i64) -> i64
-    requires asks { AsksNoDate start.now }
+/// The same for a start that asks for no date: the weekday alone decides whether it begins on a day.
+pub(crate) fn next_weekday(start: &StartParts, day: i64, end: i64) -> i64
+    requires asks { IsByWeekday start.now }
     requires day_in { first_window_day ≤ℤ day }
     requires order { day ≤ℤ end }
     requires end_in { end ≤ℤ horizons_end }
@@ -76,9 +76,6 @@ pub(crate) fn last_begun(start: &StartParts, low: i64, end: i64) -> i64
 
 // The next day after a given one that the start does not exclude at once; or `None` if the start begins on the given
 // day.
-//
-// A function of its own, so that starts that ask for no date do not pay for it.
-#[inline(never)]
 fn next_left(start: &StartParts, day: i64, end: i64) -> Option<i64>
     requires valid { IsStart start.now }
     requires day_in { first_window_day ≤ℤ day }

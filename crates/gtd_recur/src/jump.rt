@@ -23,6 +23,9 @@ pub(crate) struct Days {
 
 /// The next run of days, from a day on and before an end, that the month and the year of a start do not exclude. If
 /// there is none, it is empty and at the end.
+///
+/// It is kept apart, so that the days within such a run do not pay for it.
+#[inline(never)]
 pub(crate) fn next_days(start: &StartParts, day: i64, end: i64) -> Days
     requires valid { IsStart start.now }
     requires day_in { first_window_day ≤ℤ day }

@@ -8,7 +8,9 @@ pub use runs::Runs;
 pub use spans::spans_of;
 pub use starts::Starts;
 
+mod asks;
 mod begin;
+mod clocks;
 mod cover;
 mod find;
 mod jump;

@@ -6,11 +6,16 @@ ghost use Rattle.gtd_core.specs.Whole.{from_day, to_day};
 ghost use Rattle.gtd_recur.specs.Starts.{AreLeft, IsInWindow, IsLookedCount, AreFitting, starts_left};
 ghost use Rattle.gtd_recur.specs.facts.WindowProps.{AreLeft-prop, IsInWindow-prop, IsLookedCount-prop, AreFitting-prop};
 ghost use Rattle.gtd_recur.specs.Work.{days_between, starts_of, window_begin};
+ghost use Rattle.gtd_recur.specs.Asked.{IsAsked};
+ghost use Rattle.gtd_recur.specs.Begins.{begins_at};
+ghost use Rattle.gtd_recur.specs.Stepping.{AreClocks, IsBehindOne};
+ghost use Rattle.gtd_recur.specs.facts.ClockProps.{AreClocks-prop, IsAsked-prop, IsBehindOne-prop};
 ghost use Rattle.gtd_core.specs.Limits.{day_seconds};
 
-use crate::begin::{day_step, latest_begin, next_begin};
+use crate::asks::{Asks, asked};
+use crate::clocks::{Clocks, day_clocks};
 use crate::cover::first_look;
-use crate::find::next_begun;
+use crate::find::{next_begun, next_weekday};
 use crate::jump::{Days, next_days};
 use gtd_core::limits::DAY_SECONDS;
 use gtd_core::{Basic, Horizon, Sec};
@@ -24,6 +29,9 @@ pub(crate) struct Walk {
     pub(crate) first: i64,
     /// Days before this one were looked at before the walk began.
     pub(crate) seen: i64,
+    /// What of a day decides whether the start begins on it, and the starts of a day on which it does.
+    asks: Asks,
+    clocks: Clocks,
     /// The day that is open: the last one that was opened.
     day: i64,
     /// The second of that day from which its starts are still to come.
@@ -38,6 +46,11 @@ pub(crate) struct Walk {
     ghost first_in: { window_begin basic horizon ≤ℤ first },
     ghost seen_in: { seen ≤ℤ from_day horizon },
     ghost clock_in: { clock ≤ day_seconds },
+    ghost asked: { IsAsked (start_parts basic.start) asks } by { IsAsked-prop (start_parts basic.start) asks },
+    ghost clocked: { AreClocks (begins_at (start_parts basic.start)) clocks.first clocks.last
+        clocks.step } by { AreClocks-prop _ _ _ _ },
+    ghost behind: { IsBehindOne (begins_at (start_parts basic.start)) clocks.first clocks.last
+        clock } by { IsBehindOne-prop _ _ _ _ },
     ghost in_window: { IsInWindow first day next_day (to_day horizon) } by { IsInWindow-prop _ _ _ _ },
     ghost fitting: { AreFitting (start_parts basic.start) next_day fits_until
         (to_day horizon) } by { AreFitting-prop _ _ _ _ },
@@ -55,8 +68,9 @@ impl Walk {
     ghost use Rattle.gtd_calendar.specs.Calendar.{IsCalendarDay};
     ghost use Rattle.gtd_core.specs.Seconds.{day_of_second};
     ghost use Rattle.gtd_calendar.specs.ComputedFields.{day_fields};
-    ghost use Rattle.gtd_recur.specs.Begins.{begins_on, month_and_year_fit};
-    ghost use Rattle.gtd_recur.specs.Jumps.{IsNextRun};
+    ghost use Rattle.gtd_recur.specs.Begins.{begins_at, begins_on, month_and_year_fit};
+    ghost use Rattle.gtd_recur.specs.ClockSearch.{IsNextPassing};
+    ghost use Rattle.gtd_recur.specs.Jumps.{IsFirstBegun, IsNextRun};
     ghost use Rattle.gtd_recur.specs.Look.{IsFirstDay};
     ghost use Rattle.gtd_recur.specs.Starts.{TakesSecond, clock_starts, IsOpened};
     ghost use Rattle.gtd_recur.specs.Work.{work, least_work, whole_work, window_begin};
@@ -73,13 +87,16 @@ impl Walk {
         ensures ticks { walk_ticks result ≡ 0 }
         ensures none_handed { result.handed ≡ 0 }
     {
+        let start = basic.start.parts();
         let first = horizon.from_day() - i64::from(basic.duration.lookback());
-        let days = next_days(&basic.start.parts(), first, horizon.to_day());
+        let days = next_days(&start, first, horizon.to_day());
         Walk {
             basic,
             horizon,
             first,
             seen: first,
+            asks: asked(&start),
+            clocks: day_clocks(&start),
             day: first - 1,
             clock: DAY_SECONDS as u32,
             next_day: days.from,
@@ -99,15 +116,18 @@ impl Walk {
         ensures to_come { walk_to_come result ≡ walk_all result }
         ensures none_handed { result.handed ≡ 0 }
     {
+        let start = basic.start.parts();
         let seen = horizon.from_day();
         let low = seen - i64::from(basic.duration.lookback());
-        let look = first_look(&basic.start.parts(), low, seen);
-        let days = next_days(&basic.start.parts(), seen, horizon.to_day());
+        let look = first_look(&start, low, seen);
+        let days = next_days(&start, seen, horizon.to_day());
         Walk {
             basic,
             horizon,
             first: look.first,
             seen,
+            asks: asked(&start),
+            clocks: day_clocks(&start),
             day: look.day,
             clock: look.clock,
             next_day: days.from,
@@ -174,17 +194,27 @@ impl Walk {
         ensures next_day { self.new.next_day ≡ self.old.next_day }
         ensures open { IfSome result (λ b. IsOpenBehind self.new b.0) }
     {
-        match next_begin(self.basic.start.as_parts(), self.clock) {
+        match self.next_clock() {
             Some(clock) => {
                 self.clock = clock + 1;
                 self.handed += 1;
                 Some(Sec(DAY_SECONDS * self.day + i64::from(clock)))
             }
-            None => {
-                self.clock = DAY_SECONDS as u32;
-                None
-            }
+            None => None,
         }
+    }
+
+    // The second of the next start of the open day.
+    fn next_clock(&self) -> Option<u32>
+        ensures next { IsNextPassing (begins_at (start_parts self.now.basic.start)) self.now.clock result }
+    {
+        if self.clock <= self.clocks.first {
+            return Some(self.clocks.first);
+        }
+        if self.clock <= self.clocks.last {
+            return Some(self.clock - 1 + self.clocks.step);
+        }
+        None
     }
 
     // Passes over the starts after a given one up to the last of its day, if they are no further apart than a length.
@@ -193,16 +223,13 @@ impl Walk {
         requires length_in { pos 0 ≤ℤ length }
         ensures passed { IsPassed self.old self.new start.0 length result.0 }
     {
-        let step = day_step(self.basic.start.as_parts());
-        if length < i64::from(step) {
+        let clocks = self.clocks;
+        if length < i64::from(clocks.step) {
             return start;
         }
-        let Some(last) = latest_begin(self.basic.start.as_parts(), 86_399) else {
-            return start;
-        };
-        self.handed += u64::from((last + 1 - self.clock) / step);
+        self.handed += u64::from((clocks.last + 1 - self.clock) / clocks.step);
         self.clock = DAY_SECONDS as u32;
-        Sec(DAY_SECONDS * self.day + i64::from(last))
+        Sec(DAY_SECONDS * self.day + i64::from(clocks.last))
     }
 
     // Opens the next day on which the start begins, or the last of those that are not excluded if it begins on none of
@@ -215,11 +242,24 @@ impl Walk {
         ensures later { self.old.next_day <ℤ self.new.next_day }
         ensures grows { walk_ticks self.old ≤ walk_ticks self.new }
     {
-        let found = next_begun(self.basic.start.as_parts(), self.next_day, self.fits_until);
+        let found = self.next_found();
         if found < self.fits_until {
             self.open(found, 0);
         } else {
             self.open(found - 1, DAY_SECONDS as u32);
+        }
+    }
+
+    // The first day that is not excluded and on which the start begins, from the next day to look at on; or the end of such days.
+    fn next_found(&self) -> i64
+        requires more { self.now.next_day <ℤ to_day self.now.horizon }
+        ensures found { IsFirstBegun (start_parts self.now.basic.start) self.now.next_day self.now.fits_until result }
+    {
+        let start = self.basic.start.as_parts();
+        match self.asks {
+            Asks::Nothing => self.next_day,
+            Asks::Weekday => next_weekday(start, self.next_day, self.fits_until),
+            Asks::Date => next_begun(start, self.next_day, self.fits_until),
         }
     }
 

@@ -4,7 +4,7 @@ ghost use Rattle.std.specs.Prelude.{◌≡◌, ◌<◌};
 
 use crate::job::{APRIL, Job, LEAP_YEAR, R, input, run};
 use crate::tests::owned;
-use gtd_devices::{HostOut, Input, MemoryIn, MemoryOut, Pull};
+use gtd_devices::{HostOut, Input, MemoryIn, MemoryOut, Output, Pull, Put};
 use gtd_records::RecordFault;
 use gtd_runs::RunFault;
 use gtd_tool::{Refusal, perform, plan};
@@ -306,6 +306,53 @@ fn writers_that_are_interrupted(rt: HostRuntime) -> Result<(), Fail> {
         assert_eq!(rt; run(&rt, alloc, APRIL, &mut input, &mut output), expected);
     }
     Ok(())
+}
+
+// An output that takes all that it is offered, and counts how often it is offered something and how often it is ended.
+#[derive(Drop)]
+struct Counting {
+    puts: u64,
+    ends: u64,
+    is_ended: bool,
+}
+
+impl Output for Counting {
+    ghost is_ended = { λ counting. counting.is_ended };
+
+    ghost failure_count = { λ _. 0 };
+
+    fn put(&mut self, bytes: &[u8]) -> Put {
+        self.puts = self.puts.saturating_add(1);
+        self.is_ended = false;
+        Put::Took(bytes.len())
+    }
+
+    fn finish(&mut self) -> Put {
+        self.ends = self.ends.saturating_add(1);
+        self.is_ended = true;
+        Put::Took(0)
+    }
+
+    fn failures(&self) -> u64 {
+        0
+    }
+}
+
+// An output is offered each line once, where it takes all of it, and is ended once.
+#[test]
+fn lines_and_ends_of_outputs(rt: HostRuntime) {
+    let alloc = rt.alloc();
+    for (job, lines) in [(APRIL, 3u64), (LEAP_YEAR, 366), (Job::Migrate, 3)] {
+        let mut input = input(&rt, alloc, R.as_bytes(), None, None);
+        let mut output = Counting {
+            puts: 0,
+            ends: 0,
+            is_ended: false,
+        };
+        assert_eq!(rt; run(&rt, alloc, job, &mut input, &mut output), Ok(lines));
+        assert_eq!(rt; (output.puts, output.ends), (lines, 1));
+        assert!(rt; output.is_ended);
+    }
 }
 
 // Commands over a record file.

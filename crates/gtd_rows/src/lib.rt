@@ -1,11 +1,13 @@
 //! Tests that cross crates: what each command line prints, or how it is refused; what the runs put for record files,
-//! hostile ones too; and what holds when a device fails or memory is refused.
+//! hostile ones too; what holds when a device fails or memory is refused; and which calls take no memory.
 #![tactic(auto)]
 
 #[cfg(test)]
 mod devices;
 #[cfg(test)]
 mod faults;
+#[cfg(test)]
+mod files;
 #[cfg(test)]
 mod hostile;
 #[cfg(test)]
@@ -16,5 +18,7 @@ mod refusals;
 mod runs;
 #[cfg(test)]
 mod tests;
+#[cfg(test)]
+mod without_memory;
 #[cfg(test)]
 mod words;

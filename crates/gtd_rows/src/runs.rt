@@ -175,13 +175,13 @@ fn migrated_files(rt: HostRuntime) {
 }
 
 // How many of the lines end in this.
-fn lines_that_end_in(text: &[u8], end: &[u8]) -> usize {
+pub(crate) fn lines_that_end_in(text: &[u8], end: &[u8]) -> usize {
     text.split(|byte| *byte == b'\n')
         .filter(|line| line.ends_with(end))
         .count()
 }
 
-fn has_line(text: &[u8], wanted: &[u8]) -> bool {
+pub(crate) fn has_line(text: &[u8], wanted: &[u8]) -> bool {
     text.split(|byte| *byte == b'\n').any(|line| line == wanted)
 }
 

@@ -1,8 +1,8 @@
 -- What the first interval of a normal list leaves of a range of seconds.
-use Rattle.std.proofs.Common.{◌≡◌, ◌⊎◌, ◌∙◌, List, [], ◌∷◌, ap, sym, inl, inr, arith}
+use Rattle.std.proofs.Common.{◌≡◌, ◌⊎◌, ◌↔◌, ◌∙◌, List, [], ◌∷◌, ap, sym, inl, inr, arith}
 use Rattle.std.specs.Prelude.{ℤ, ◌≤ℤ◌, ◌<ℤ◌, Option, Some, None, MatchOption}
 use Rattle.std.proofs.lemmas.Int.{ints, by_lt_z}
-use Rattle.gtd_core.specs.Seconds.{Interval}
+use Rattle.gtd_core.specs.Seconds.{Interval, Within}
 use Rattle.gtd_core.specs.declared.domain.Op.TheVariants.{Minus}
 use Rattle.gtd_spans.specs.Normal.{Holds, IsNormal, combine}
 use Rattle.gtd_spans.specs.Merging.{Takes}
@@ -106,14 +106,18 @@ abbrev pub Made : ℤ → ℤ → Option Interval → Type 0
 Made from until gap = MatchOption gap (until ≤ℤ from)
     (λ (x : Interval). (from <ℤ until) × (x ≡ record { from = from; until = until }))
 
+-- of the seconds of a range that no interval is named behind, those of the range are left
+pub range-holds : (x : Interval) (from until : ℤ) → from ≡ x.from → until ≡ x.until → (xs : List Interval) (t : ℤ)
+    → Holds (left from until xs) t ↔ (Within x t × (Holds xs t → ⊥))
+range-holds x from until e f xs t = rw (e, f) (minus-whole x xs t)
+
 -- what is left with no span behind it is the whole range, and nothing of an empty one
-pub takes-last : (from until : ℤ) (gap : Option Interval) → Made from until gap
-    → Takes (left from until []) gap (left until until [])
-takes-last from until None made =
-    (none-left from until [] made, none-left until until [] (omega (arith, ints)))
-takes-last from until (Some x) made =
+pub takes-last : (from until begin end : ℤ) (gap : Option Interval) → Made from until gap → end ≤ℤ begin
+    → Takes (left from until []) gap (left begin end [])
+takes-last from until begin end None made le = (none-left from until [] made, none-left begin end [] le)
+takes-last from until begin end (Some x) made le =
     all-left from until made.0 ∙ ap (λ (y : Interval). y ∷ []) (sym made.1)
-    ∙ ap (λ (ys : List Interval). x ∷ ys) (sym (none-left until until [] (omega (arith, ints))))
+    ∙ ap (λ (ys : List Interval). x ∷ ys) (sym (none-left begin end [] le))
 
 -- what is left before the first interval of a normal list, and behind it
 pub passes-first : (from until : ℤ) (x : Interval) (xs : List Interval) (gap : Option Interval) (stop next : ℤ)

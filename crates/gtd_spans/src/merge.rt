@@ -21,7 +21,7 @@ pub enum Side {
 }
 
 impl Side {
-    ghost use Rattle.std.specs.Prelude.{◌≡◌, ◌≢◌, IsTrue, IsFalse};
+    ghost use Rattle.std.specs.Prelude.{◌≡◌, ◌≢◌, IsTrue, IsFalse, None};
     ghost use Rattle.gtd_spans.specs.Sides.{ComesFirst};
     ghost use Rattle.gtd_spans.specs.declared.merge.Side.TheVariants.{Open};
 
@@ -50,6 +50,7 @@ impl Side {
     /// Its next span, if that is known.
     pub fn held(&self) -> Option<Span>
         ensures comes { self.now ≢ Open → ComesFirst result self.now }
+        ensures open { self.now ≡ Open → result ≡ None }
     {
         match self {
             Side::Held(x) => Some(*x),

@@ -16,8 +16,9 @@ use Rattle.gtd_spans.specs.Change.{NeverChanges, IsNextChange, SameAt}
 use Rattle.gtd_eval.specs.Ever.{NeverChangesAfter, IsFirstChange, cycle}
 use Rattle.gtd_eval.specs.Membership.{InTree, SomeGivesYear}
 use Rattle.gtd_eval.specs.facts.Repeats.{tree-repeats, first-of-next}
-use Rattle.gtd_tool.specs.Plans.{Asked, Check, Canon, At, Next, Ever, Schedule, Year, Migrate}
-use Rattle.gtd_tool.specs.Printed.{AppendsLine, AppendsPartOfLine, IsAnswer, IsChange, IsChangeOr, IsState}
+use Rattle.gtd_tool.specs.Asked.{Asked, Check, Canon, At, Next, Ever, Schedule, Year, Migrate}
+use Rattle.gtd_tool.specs.Answers.{IsChange, IsChangeOr, IsState}
+use Rattle.gtd_tool.specs.Printed.{AppendsLine, AppendsPartOfLine, IsAnswer}
 use Rattle.gtd_tool.specs.CutShort.{IsCutShort}
 use Rattle.gtd_tool.specs.Writing.{AppendsPart}
 use Rattle.gtd_tool.proofs.WritingLemmas.{part_none}

@@ -19,7 +19,9 @@ use Rattle.clap.proofs.WalkLemmas.{walk_stopped}
 use Rattle.std.proofs.lemmas.Str.{chars_past_char, encode_ascii, encodes-chars}
 use Rattle.std.specs.Cmp.Lexicographic.{same_text}
 use Rattle.gtd_tool.specs.ClapCommand.{found_words, gtd_app, id, leaf_given, top_given, word_rule}
-use Rattle.gtd_tool.specs.CommandLines.{command_names, is_command, Text, is_option, plain_words, named_in}
+use Rattle.gtd_tool.specs.CommandLines.{is_command, is_option, plain_words, named_in}
+use Rattle.gtd_tool.specs.Commands.{command_names}
+use Rattle.gtd_tool.specs.Asked.{Text}
 
 -- ---- the command
 

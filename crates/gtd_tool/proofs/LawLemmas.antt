@@ -1,5 +1,5 @@
 -- A command line has one answer.
-use Rattle.std.proofs.Common.{◌≡◌, ◌∙◌, inl, inr, List, [], ◌∷◌, codes, Option, Some, None, is_some, refl, sym, ap, ap₂}
+use Rattle.std.proofs.Common.{◌≡◌, ◌∙◌, inl, inr, List, [], ◌∷◌, codes, Option, Some, None, is_some, refl, sym, ap}
 use Rattle.std.proofs.Common.{subst, true≢false, arith, ℕ}
 use Rattle.std.specs.Prelude.{unwrap_or, option_map, Result, Ok, Err, ℤ, is_ok}
 use Rattle.std.proofs.lemmas.Int.{ints}
@@ -17,12 +17,16 @@ use Rattle.gtd_core.specs.Seconds.{day_of_second}
 use Rattle.gtd_calendar.specs.Read.{date_in, stamp_in}
 use Rattle.gtd_roads.specs.Columns.{direction_of, number_of}
 use Rattle.gtd_roads.specs.Direction.{Direction}
-use Rattle.gtd_tool.specs.CommandLines.{Text, Command, command_in}
-use Rattle.gtd_tool.specs.CommandLines as command
-use Rattle.gtd_tool.specs.Plans.{Asked, AsksFor, Check, Canon, At, Next, Ever, Schedule, Year, IsDomain, IsRead}
-use Rattle.gtd_tool.specs.Plans.{AreDomainAndMoment, IsHorizonOf, IsNumberUpTo, at_most}
-use Rattle.gtd_tool.specs.Refusals.{Part, NumberPart, DirectionPart, DomainPart, MomentPart, DatePart, HorizonPart, DaysPart}
-use Rattle.gtd_tool.specs.Refusals.{parts_of, IsFaultOf, IsFaultless, IsFirstRefusal, IsRefusalOf}
+use Rattle.gtd_tool.specs.Asked.{Asked, Text}
+use Rattle.gtd_tool.specs.CommandLines.{reading_in}
+use Rattle.gtd_tool.specs.Commands.Check as check
+use Rattle.gtd_tool.specs.Commands.Canon as canon
+use Rattle.gtd_tool.specs.Plans.{AsksFor}
+use Rattle.gtd_tool.specs.Readings.{Asks, Gives, IsDomain, IsHorizonOf, IsHorizonTo, IsNumberUpTo, IsRead, IsValue}
+use Rattle.gtd_tool.specs.Readings.{Reading, ValueOf}
+use Rattle.gtd_tool.specs.Readings.{Part, NumberPart, NumberUpToPart, DirectionPart, DomainPart, MomentPart, DatePart}
+use Rattle.gtd_tool.specs.Readings.{HorizonPart, DaysPart, at_most}
+use Rattle.gtd_tool.specs.Refusals.{IsFaultOf, IsFaultless, IsFirstRefusal, IsRefusalOf, IsRefused}
 use Rattle.gtd_tool.specs.declared.refusal.Refusal.{Refusal}
 use Rattle.gtd_tool.specs.declared.refusal.Refusal.TheVariants as refusal
 use Rattle.gtd_tool.proofs.HorizonLemmas.{same_horizon}
@@ -51,14 +55,6 @@ one_some o x y p q = ap (λ (o : Option _). unwrap_or o x) (sym p ∙ q)
 
 some_or_none : {A : Type 0} (o : Option A) (x : A) → o ≡ Some x → o ≡ None → ⊥
 some_or_none o x p q = true≢false (ap is_some (sym p ∙ q))
-
--- ---- commands
-
-same_command : (words : List Text) (a b : Command) → command_in words ≡ Some a → command_in words ≡ Some b → a ≡ b
-same_command words a b p q = ap (λ (o : Option Command). unwrap_or o a) (sym p ∙ q)
-
-none_some : (words : List Text) (c : Command) → command_in words ≡ None → command_in words ≡ Some c → ⊥
-none_some words c p q = true≢false (sym (ap is_some (sym p ∙ q)))
 
 -- ---- horizons
 
@@ -93,6 +89,7 @@ horizon_is h = (h.not_empty, h.not_early, h.not_late, h.not_long)
 
 one_fault_of : (p : Part) (r s : Refusal) → IsFaultOf p r → IsFaultOf p s → r ≡ s
 one_fault_of (NumberPart text) r s a b = a.1 ∙ sym b.1
+one_fault_of (NumberUpToPart limit text) r s a b = a.1 ∙ sym b.1
 one_fault_of (DirectionPart text) r s a b = a.1 ∙ sym b.1
 one_fault_of (DomainPart text) r s a b = a.2 ∙ ap refusal.Text (one_fault text a.0 b.0 a.1 b.1) ∙ sym b.2
 one_fault_of (MomentPart text) r s a b = a.2 ∙ ap refusal.Moment (one_error (stamp_in text) a.0 b.0 a.1 b.1) ∙ sym b.2
@@ -124,14 +121,12 @@ moment_faultless text m e r h = ok_or_err (stamp_in text) m h.0 e h.1
 pub date_faultless : (text : Text) (to : ℤ) → date_in text ≡ Ok to → IsFaultless (DatePart text)
 date_faultless text to e r h = ok_or_err (date_in text) to h.0 e h.1
 
-horizon_faultless : (first second : Text) (m : Sec) (to : ℤ) → stamp_in first ≡ Ok m → date_in second ≡ Ok to
-    → IsHorizon (day_of_second m.0) to
-    → IsFaultless (HorizonPart first second)
-horizon_faultless first second m to e d h r (n, so, ni, si, (f, has, is)) =
-    let em : m ≡ n = one_value (stamp_in first) m n e ni in
-    let et : to ≡ so = one_value (date_in second) to so d si in
-    let other : IsHorizonFault f (day_of_second m.0) to = rw (em, et) has in
-    faultless_horizon f (day_of_second m.0) to h other
+horizon_faultless : (first second : Text) (to : ℤ) → IsHorizonTo first second to → IsFaultless (HorizonPart first second)
+horizon_faultless first second to h r (n, so, ni, si, (f, has, is)) =
+    let em : h.moment ≡ n = one_value (stamp_in first) h.moment n h.moment_read ni in
+    let et : to ≡ so = one_value (date_in second) to so h.date_read si in
+    let other : IsHorizonFault f (day_of_second h.moment.0) to = rw (em, et) has in
+    faultless_horizon f (day_of_second h.moment.0) to h.horizon other
 
 pub number_faultless : (text : Text) (n : ℕ) → number_of text ≡ Some n → IsFaultless (NumberPart text)
 number_faultless text n e r h = some_or_none (number_of text) n e h.0
@@ -151,107 +146,76 @@ days_faultless first second h d r (from, to, fi, ti, (f, has, is)) =
     subst (λ (n : ℤ). IsHorizonFault f n (to_day h)) (sym ef) (subst (λ (n : ℤ). IsHorizonFault f from n) (sym et) has) in
     faultless_horizon f (from_day h) (to_day h) (horizon_is h) other
 
-past : (p : Part) (ps : List Part) (r : Refusal) → IsFaultless p → IsFirstRefusal (p ∷ ps) r → IsFirstRefusal ps r
-past p ps r none (inl h) = absurd (none r h)
-past p ps r none (inr h) = h.1
+faultless : (p : Part) (v : ValueOf p) → IsValue p v → IsFaultless p
+faultless (NumberPart text) n h = number_faultless text n h
+faultless (NumberUpToPart limit text) n h = number_up_to_faultless limit text n h
+faultless (DirectionPart text) d h = direction_faultless text d h
+faultless (DomainPart text) tree h = domain_faultless text tree h
+faultless (MomentPart text) m h = moment_faultless text m h
+faultless (DatePart text) day h = date_faultless text day h
+faultless (HorizonPart first second) to h = horizon_faultless first second to h
+faultless (DaysPart first second) days h = days_faultless first second days h
 
 -- ---- what is read
 
-one_domain : (text : Text) (a b : Tree) → IsDomain text a → IsDomain text b → a ≡ b
-one_domain text a b p q = one_meaning text a b p.stands q.stands
+one_meaning_of : (p : Part) (v w : ValueOf p) → IsValue p v → IsValue p w → v ≡ w
+one_meaning_of (NumberPart text) v w p q = one_some (number_of text) v w p q
+one_meaning_of (NumberUpToPart limit text) v w p q = one_some (option_map (at_most limit) (number_of text)) v w p q
+one_meaning_of (DirectionPart text) v w p q = one_some (direction_of text) v w p q
+one_meaning_of (DomainPart text) v w p q = one_meaning text v w p.stands q.stands
+one_meaning_of (MomentPart text) v w p q = one_value (stamp_in text) v w p q
+one_meaning_of (DatePart text) v w p q = one_value (date_in text) v w p q
+one_meaning_of (HorizonPart first second) v w p q = one_value (date_in second) v w p.date_read q.date_read
+one_meaning_of (DaysPart first second) v w p q =
+    same_horizon v w (one_value (date_in first) (from_day v) (from_day w) p.from_read q.from_read)
+    (one_value (date_in second) (to_day v) (to_day w) p.to_read q.to_read)
 
-one_number : (limit : ℕ) (text : Text) (n m : ℕ) → IsNumberUpTo limit text n → IsNumberUpTo limit text m → n ≡ m
-one_number limit text n m p q = one_some (option_map (at_most limit) (number_of text)) n m p q
+one_reading : (ps : List Part) (f : Asks ps) (a b : Asked) → IsRead ps f a → IsRead ps f b → a ≡ b
+one_reading [] f a b p q = p ∙ sym q
+one_reading (part ∷ ps) f a b (v, p, more) (w, q, rest) =
+    one_reading ps (f w) a b (subst (λ (u : ValueOf part). IsRead ps (f u) a) (one_meaning_of part v w p q) more) rest
 
-one_reading : (c : Command) (a b : Asked) → IsRead c a → IsRead c b → a ≡ b
-one_reading (command.Check text) a b (x, p, is) (y, q, is2) = is ∙ ap Check (one_domain text x y p q) ∙ sym is2
-one_reading (command.Canon text) a b (x, p, is) (y, q, is2) = is ∙ ap Canon (one_domain text x y p q) ∙ sym is2
-one_reading (command.At first second) a b (x, m, p, is) (y, n, q, is2) =
-    is ∙ ap₂ At (one_domain first x y p.domain_read q.domain_read) (one_value (stamp_in second) m n p.moment_read q.moment_read)
-    ∙ sym is2
-one_reading (command.Next first second third) a b (x, m, t, p, h, is) (y, n, u, q, k, is2) =
-    let trees = one_domain first x y p.domain_read q.domain_read in
-    let moments = one_value (stamp_in second) m n p.moment_read q.moment_read in
-    let days = one_value (date_in third) t u h.date_read k.date_read in
-    is ∙ (ap₂ (λ (d : Tree) (s : Sec). Next d s t) trees moments ∙ ap (Next y n) days) ∙ sym is2
-one_reading (command.Ever first second) a b (x, m, p, is) (y, n, q, is2) =
-    is ∙ ap₂ Ever (one_domain first x y p.domain_read q.domain_read) (one_value (stamp_in second) m n p.moment_read q.moment_read)
-    ∙ sym is2
-one_reading (command.Schedule file first second third) a b (h, v, p, n, is) (k, w, q, m, is2) =
-    let horizons = same_horizon h k (one_value (date_in first) (from_day h) (from_day k) p.from_read q.from_read)
-    (one_value (date_in second) (to_day h) (to_day k) p.to_read q.to_read) in
-    is ∙ ap₂ (Schedule file) horizons (one_number 255 third v w n m) ∙ sym is2
-one_reading (command.Year file first second third fourth) a b (e, d, v, y, p, is) (f, g, w, z, q, is2) =
-    let elements = one_some (number_of first) e f p.element_read q.element_read in
-    let directions = one_some (direction_of second) d g p.direction_read q.direction_read in
-    let vehicles = one_number 255 third v w p.vehicle_read q.vehicle_read in
-    let years = one_number 65535 fourth y z p.year_read q.year_read in
-    is ∙ (ap₂ (λ (n : ℕ) (x : Direction). Year file n x v y) elements directions ∙ ap₂ (Year file f g) vehicles years) ∙ sym is2
-one_reading (command.Migrate file) a b is is2 = is ∙ sym is2
-
-read_moment : (first second : Text) (x : Tree) (m : Sec) (ps : List Part) (r : Refusal) → AreDomainAndMoment first second x m
-    → IsFirstRefusal (DomainPart first ∷ MomentPart second ∷ ps) r → IsFirstRefusal ps r
-read_moment first second x m ps r p h =
-    past (MomentPart second) ps r (moment_faultless second m p.moment_read)
-    (past (DomainPart first) (MomentPart second ∷ ps) r (domain_faultless first x p.domain_read) h)
-
-read_or_fault : (c : Command) (a : Asked) (r : Refusal) → IsRead c a → IsFirstRefusal (parts_of c) r → ⊥
-read_or_fault (command.Check text) a r (x, p, is) h = past (DomainPart text) [] r (domain_faultless text x p) h
-read_or_fault (command.Canon text) a r (x, p, is) h = past (DomainPart text) [] r (domain_faultless text x p) h
-read_or_fault (command.At first second) a r (x, m, p, is) h = read_moment first second x m [] r p h
-read_or_fault (command.Next first second third) a r (x, m, t, p, k, is) h =
-    past (HorizonPart second third) [] r (horizon_faultless second third m t p.moment_read k.date_read k.horizon)
-    (past (DatePart third) (HorizonPart second third ∷ []) r (date_faultless third t k.date_read)
-    (read_moment first second x m (DatePart third ∷ HorizonPart second third ∷ []) r p h))
-read_or_fault (command.Ever first second) a r (x, m, p, is) h = read_moment first second x m [] r p h
-read_or_fault (command.Schedule file first second third) a r (k, v, p, n, is) h =
-    past (DaysPart first second) [] r (days_faultless first second k p)
-    (past (DatePart second) (DaysPart first second ∷ []) r (date_faultless second (to_day k) p.to_read)
-    (past (DatePart first) (DatePart second ∷ DaysPart first second ∷ []) r (date_faultless first (from_day k) p.from_read)
-    (past (NumberPart third) (DatePart first ∷ DatePart second ∷ DaysPart first second ∷ []) r
-    (number_up_to_faultless 255 third v n) h)))
-read_or_fault (command.Year file first second third fourth) a r (e, d, v, y, p, is) h =
-    past (NumberPart fourth) [] r (number_up_to_faultless 65535 fourth y p.year_read)
-    (past (NumberPart third) (NumberPart fourth ∷ []) r (number_up_to_faultless 255 third v p.vehicle_read)
-    (past (DirectionPart second) (NumberPart third ∷ NumberPart fourth ∷ []) r (direction_faultless second d p.direction_read)
-    (past (NumberPart first) (DirectionPart second ∷ NumberPart third ∷ NumberPart fourth ∷ []) r
-    (number_faultless first e p.element_read) h)))
-read_or_fault (command.Migrate file) a r is h = h
+read_or_fault : (ps : List Part) (f : Asks ps) (a : Asked) (r : Refusal) → IsRead ps f a → IsFirstRefusal ps r → ⊥
+read_or_fault [] f a r read h = h
+read_or_fault (part ∷ ps) f a r (v, p, more) (inl h) = faultless part v p r h
+read_or_fault (part ∷ ps) f a r (v, p, more) (inr h) = read_or_fault ps (f v) a r more h.1
 
 -- ---- command lines
 
+one_given : (reading : Option Reading) (a b : Asked) → Gives reading a → Gives reading b → a ≡ b
+one_given None a b p q = absurd p
+one_given (Some reading) a b p q = one_reading reading.parts reading.asks a b p q
+
+one_refused : (reading : Option Reading) (r s : Refusal) → IsRefused reading r → IsRefused reading s → r ≡ s
+one_refused None r s p q = p ∙ sym q
+one_refused (Some reading) r s p q = one_first_fault reading.parts r s p q
+
+given_or_refused : (reading : Option Reading) (a : Asked) (r : Refusal) → Gives reading a → IsRefused reading r → ⊥
+given_or_refused None a r p q = p
+given_or_refused (Some reading) a r p q = read_or_fault reading.parts reading.asks a r p q
+
 pub one_asked : (words : List Text) (a b : Asked) → AsksFor words a → AsksFor words b → a ≡ b
-one_asked words a b p q =
-    one_reading q.command a b (subst (λ (c : Command). IsRead c a)
-    (same_command words p.command q.command p.named q.named) p.read) q.read
+one_asked words a b p q = one_given (reading_in words) a b p q
 
 pub one_refusal : (words : List Text) (r s : Refusal) → IsRefusalOf words r → IsRefusalOf words s → r ≡ s
-one_refusal words r s (inl p) (inl q) = p.1 ∙ sym q.1
-one_refusal words r s (inl p) (inr q) = absurd (none_some words q.command p.0 q.named)
-one_refusal words r s (inr p) (inl q) = absurd (none_some words p.command q.0 p.named)
-one_refusal words r s (inr p) (inr q) =
-    one_first_fault (parts_of q.command) r s (subst (λ (c : Command). IsFirstRefusal (parts_of c) r)
-    (same_command words p.command q.command p.named q.named) p.has) q.has
+one_refusal words r s p q = one_refused (reading_in words) r s p q
 
 pub asked_apart : (words : List Text) (a : Asked) (r : Refusal) → AsksFor words a → IsRefusalOf words r → ⊥
-asked_apart words a r p (inl q) = none_some words p.command q.0 p.named
-asked_apart words a r p (inr q) =
-    read_or_fault q.command a r (subst (λ (c : Command). IsRead c a)
-    (same_command words p.command q.command p.named q.named) p.read) q.has
+asked_apart words a r p q = given_or_refused (reading_in words) a r p q
 
 -- a word that begins with a bracket stands for itself
-check_bracket : (rest : Text) → command_in (codes "check" ∷ (91 ∷ rest) ∷ []) ≡ Some (command.Check (91 ∷ rest))
+check_bracket : (rest : Text) → reading_in (codes "check" ∷ (91 ∷ rest) ∷ []) ≡ check.reading ((91 ∷ rest) ∷ [])
 check_bracket [] = refl
 check_bracket (byte ∷ bytes) = refl
 
-canon_bracket : (rest : Text) → command_in (codes "canon" ∷ (91 ∷ rest) ∷ []) ≡ Some (command.Canon (91 ∷ rest))
+canon_bracket : (rest : Text) → reading_in (codes "canon" ∷ (91 ∷ rest) ∷ []) ≡ canon.reading ((91 ∷ rest) ∷ [])
 canon_bracket [] = refl
 canon_bracket (byte ∷ bytes) = refl
 
-pub check_canonical : (tree : Tree) → command_in (codes "check" ∷ canonical tree ∷ []) ≡ Some (command.Check (canonical tree))
+pub check_canonical : (tree : Tree) → reading_in (codes "check" ∷ canonical tree ∷ []) ≡ check.reading (canonical tree ∷ [])
 check_canonical (Single start duration) = check_bracket _
 check_canonical (Joined op left right) = check_bracket _
 
-pub canon_canonical : (tree : Tree) → command_in (codes "canon" ∷ canonical tree ∷ []) ≡ Some (command.Canon (canonical tree))
+pub canon_canonical : (tree : Tree) → reading_in (codes "canon" ∷ canonical tree ∷ []) ≡ canon.reading (canonical tree ∷ [])
 canon_canonical (Single start duration) = canon_bracket _
 canon_canonical (Joined op left right) = canon_bracket _

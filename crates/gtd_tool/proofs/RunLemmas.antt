@@ -19,7 +19,7 @@ use Rattle.gtd_roads.specs.RunFault.TheVariants as run
 use Rattle.gtd_roads.specs.Subject.{Subject}
 use Rattle.gtd_roads.specs.facts.OneAnswer.{one_file}
 use Rattle.gtd_roads.specs.facts.RunFacts.{accepted_are_put, refused_put_nothing}
-use Rattle.gtd_tool.specs.Plans.{Asked}
+use Rattle.gtd_tool.specs.Asked.{Asked}
 use Rattle.gtd_tool.specs.Running.{AppendsTextOf, IsAccepted, IsLacking, IsPartOfText, IsRefusedFile, IsText, IsUnhindered}
 use Rattle.gtd_tool.specs.Running.{IsVehicleInRange, IsYearInRange, Ran, failures_after, outcome_of, refusal_for}
 use Rattle.gtd_tool.specs.CutShort.{IsCutShort}

@@ -6,7 +6,9 @@ use Rattle.clap.specs.declared.builder.action.ArgAction.TheVariants.{Append}
 use Rattle.clap.specs.declared.error.kind.ErrorKind.{ErrorKind}
 use Rattle.clap.specs.declared.error.kind.ErrorKind.TheVariants.{OutOfMemory}
 use Rattle.clap.specs.declared.parser.matches.ArgMatches.{ArgMatches}
-use Rattle.gtd_tool.specs.CommandLines.{Text, command_names, named_in}
+use Rattle.gtd_tool.specs.CommandLines.{named_in}
+use Rattle.gtd_tool.specs.Commands.{command_names}
+use Rattle.gtd_tool.specs.Asked.{Text}
 
 -- The one argument of each command: its words.
 abbrev pub id : Text

@@ -1,6 +1,6 @@
 -- Why a run stops, and what was written by then.
 use Rattle.std.specs.Prelude.{ℕ, List, Option}
-use Rattle.gtd_tool.specs.Plans.{Asked}
+use Rattle.gtd_tool.specs.Asked.{Asked}
 use Rattle.gtd_tool.specs.Printed.{AppendsPartOfLine, AsksPastYears, IsAnswer, TakesMemory}
 use Rattle.gtd_tool.specs.declared.refusal.Refusal.{Refusal}
 use Rattle.gtd_tool.specs.declared.refusal.Refusal.TheVariants as refusal

@@ -1,6 +1,10 @@
 pub mod ClapCommand
 pub mod CommandLines
-pub mod LineCommands
+pub mod Asked
+pub mod Readings
+pub mod Task
+pub mod Answers
+pub mod Commands
 pub mod Writing
 pub mod Plans
 pub mod Refusals

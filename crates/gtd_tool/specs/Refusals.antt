@@ -1,5 +1,5 @@
 -- Why a command line is refused, the status of each refusal and its line.
-use Rattle.std.specs.Prelude.{◌≡◌, ◌≢◌, ◌⊎◌, ◌++◌, ℕ, ℤ, List, [], ◌∷◌, Some, None, Ok, Err, codes, decimal}
+use Rattle.std.specs.Prelude.{◌≡◌, ◌≢◌, ◌⊎◌, ◌++◌, ℕ, ℤ, List, [], ◌∷◌, Option, Some, None, Ok, Err, codes, decimal}
 use Rattle.gtd_core.specs.Names.{fault_name, horizon_fault_name}
 use Rattle.gtd_core.specs.Horizons.{IsHorizonFault}
 use Rattle.gtd_core.specs.declared.fault.Fault.TheVariants.{NoMemory}
@@ -15,36 +15,14 @@ use Rattle.gtd_roads.specs.Columns.{direction_of, number_of}
 use Rattle.gtd_roads.specs.RecordFaultNames.{record_fault_name}
 use Rattle.gtd_roads.specs.RecordFault.{RecordFault}
 use Rattle.gtd_roads.specs.RecordFault.TheVariants as records
-use Rattle.gtd_tool.specs.CommandLines.{Text, Command, command_in, Check, Canon, At, Next, Ever, Schedule, Year, Migrate}
+use Rattle.gtd_tool.specs.CommandLines.{reading_in}
+use Rattle.gtd_tool.specs.Readings.{Part, NumberPart, NumberUpToPart, DirectionPart, DomainPart, MomentPart, DatePart}
+use Rattle.gtd_tool.specs.Readings.{HorizonPart, DaysPart, Reading}
+use Rattle.gtd_tool.specs.Asked.{Text}
 use Rattle.gtd_tool.specs.declared.refusal.Refusal.{Refusal}
 use Rattle.gtd_tool.specs.declared.refusal.Refusal.TheVariants as refusal
 
--- What is read of a command's words: a word for a number, a direction, a domain, a moment or a date, and, by their
--- words, the horizon up to a date from the day of a moment or from another date.
-pub data Part : Type 0 where
-  NumberPart : (text : Text) → Part
-  DirectionPart : (text : Text) → Part
-  DomainPart : (text : Text) → Part
-  MomentPart : (text : Text) → Part
-  DatePart : (text : Text) → Part
-  HorizonPart : (moment to : Text) → Part
-  DaysPart : (from to : Text) → Part
-
--- What is read of a command, in order: its words for numbers and directions, then its other words, each from left to
--- right, and then the horizon. The word for a file is not checked.
-abbrev pub parts_of : Command → List Part
-parts_of (Check domain) = DomainPart domain ∷ []
-parts_of (Canon domain) = DomainPart domain ∷ []
-parts_of (At domain moment) = DomainPart domain ∷ MomentPart moment ∷ []
-parts_of (Next domain moment to) =
-    DomainPart domain ∷ MomentPart moment ∷ DatePart to ∷ HorizonPart moment to ∷ []
-parts_of (Ever domain moment) = DomainPart domain ∷ MomentPart moment ∷ []
-parts_of (Schedule file from to vehicle) = NumberPart vehicle ∷ DatePart from ∷ DatePart to ∷ DaysPart from to ∷ []
-parts_of (Year file element direction vehicle year) =
-    NumberPart element ∷ DirectionPart direction ∷ NumberPart vehicle ∷ NumberPart year ∷ []
-parts_of (Migrate file) = []
-
--- The days from one up to another are not a horizon, and this is why.
+-- The days from one up to another are no horizon, and this is why.
 abbrev pub AreNoHorizon : ℤ → ℤ → Refusal → Type 0
 AreNoHorizon from to r = (fault : HorizonFault) × IsHorizonFault fault from to × (r ≡ refusal.Horizon fault)
 
@@ -55,6 +33,7 @@ IsNoHorizon moment to r = AreNoHorizon (day_of_second moment.0) to r
 -- The refusal for the fault of a part.
 abbrev pub IsFaultOf : Part → Refusal → Type 0
 IsFaultOf (NumberPart text) r = (number_of text ≡ None) × (r ≡ refusal.Usage)
+IsFaultOf (NumberUpToPart limit text) r = (number_of text ≡ None) × (r ≡ refusal.Usage)
 IsFaultOf (DirectionPart text) r = (direction_of text ≡ None) × (r ≡ refusal.Usage)
 IsFaultOf (DomainPart text) r = (fault : TextFault) × IsFault text fault × (r ≡ refusal.Text fault)
 IsFaultOf (MomentPart text) r = (fault : StampFault) × (stamp_in text ≡ Err fault) × (r ≡ refusal.Moment fault)
@@ -73,16 +52,15 @@ abbrev pub IsFirstRefusal : List Part → Refusal → Type 0
 IsFirstRefusal [] r = ⊥
 IsFirstRefusal (part ∷ rest) r = IsFaultOf part r ⊎ (IsFaultless part × IsFirstRefusal rest r)
 
--- The words give a command, and this refusal is for the first fault of what is read of it.
-pub record HasFault (words : List Text) (r : Refusal) : Type 0 where
-  pub command : Command
-  pub named : command_in words ≡ Some command
-  pub has : IsFirstRefusal (parts_of command) r
+-- The first refusal of a command by its reading: usage where there is none.
+abbrev pub IsRefused : Option Reading → Refusal → Type 0
+IsRefused None r = r ≡ refusal.Usage
+IsRefused (Some reading) r = IsFirstRefusal reading.parts r
 
 -- The first refusal of a command line, other than for refused memory: whether the words give a command comes before
 -- what its words say.
 abbrev pub IsRefusalOf : List Text → Refusal → Type 0
-IsRefusalOf words r = ((command_in words ≡ None) × (r ≡ refusal.Usage)) ⊎ HasFault words r
+IsRefusalOf words r = IsRefused (reading_in words) r
 
 -- The refusal is not for a text whose fault would be refused memory.
 abbrev pub IsNoWant : Refusal → Type 0
@@ -92,9 +70,9 @@ IsNoWant r = (fault : TextFault) → r ≡ refusal.Text fault → fault.kind ≢
 abbrev pub IsStopped : List Part → Refusal → Type 0
 IsStopped parts r = (r ≡ refusal.Memory) ⊎ (IsFirstRefusal parts r × IsNoWant r)
 
--- Memory was refused, or this is the first refusal of the command line.
-abbrev pub IsStoppedLine : List Text → Refusal → Type 0
-IsStoppedLine words r = (r ≡ refusal.Memory) ⊎ (IsRefusalOf words r × IsNoWant r)
+-- Memory was refused, or this is the first refusal of a command by its reading.
+abbrev pub IsStoppedBy : Option Reading → Refusal → Type 0
+IsStoppedBy reading r = (r ≡ refusal.Memory) ⊎ (IsRefused reading r × IsNoWant r)
 
 -- The status for a record file that is not read: 1 for a fault of the file, 3 if the input or memory failed.
 abbrev pub records_status : RecordFault → ℕ

@@ -1,5 +1,5 @@
 -- What a command that reads a record file prints, and why it is refused.
-use Rattle.std.specs.Prelude.{◌≡◌, ◌↔◌, ◌⊎◌, ⊤, ℕ, ◌+◌, Bool, List, Option, Some, None, IfSome, MatchOption, IsTrue, IsErrOf}
+use Rattle.std.specs.Prelude.{◌≡◌, ◌↔◌, ◌⊎◌, ⊤, ℕ, ◌+◌, Bool, List, Option, IfSome, MatchOption, IsTrue, IsErrOf}
 use Rattle.std.specs.Prelude.{Result, Ok, Err, codes, ◌++◌}
 use Rattle.std.specs.Io.KnownBytes.{Appends}
 use Rattle.gtd_roads.specs.File.{IsFile}
@@ -13,10 +13,8 @@ use Rattle.gtd_roads.specs.Run as subjects
 use Rattle.gtd_roads.specs.RunFault.{RunFault}
 use Rattle.gtd_roads.specs.RunFault.TheVariants as run
 use Rattle.gtd_roads.specs.Subject.{Subject}
-use Rattle.gtd_roads.specs.Schedule.{IsSchedule}
-use Rattle.gtd_roads.specs.YearTable.{IsYearTable}
-use Rattle.gtd_roads.specs.Migrated.{migrated}
-use Rattle.gtd_tool.specs.Plans.{Asked, Schedule, Year, Migrate, file_of}
+use Rattle.gtd_tool.specs.Asked.{Asked}
+use Rattle.gtd_tool.specs.Commands.{file_of, task_of}
 use Rattle.gtd_tool.specs.Printed.{AppendsLine, AsksPastYears, IsAnswer, TakesMemory}
 use Rattle.gtd_tool.specs.Writing.{AppendsPart}
 use Rattle.gtd_tool.specs.declared.refusal.Refusal.{Refusal}
@@ -37,10 +35,7 @@ IfAlone asked P = MatchOption (file_of asked) P (λ path. ⊤)
 
 -- What a report of the file is asked about.
 abbrev pub subject_of : Asked → Subject
-subject_of (Schedule path horizon vehicle) = record { vehicle = Some vehicle; year = None; element = None }
-subject_of (Year path element direction vehicle year) =
-    record { vehicle = Some vehicle; year = Some year; element = Some element }
-subject_of asked = record { vehicle = None; year = None; element = None }
+subject_of asked = (task_of asked).subject
 
 -- If a vehicle type is asked for, it is from 1 to 99.
 abbrev pub IsVehicleInRange : Asked → Type 0
@@ -58,13 +53,9 @@ IsYearInRange asked = subjects.IsYearInRange (subject_of asked)
 abbrev pub IsAccepted : Asked → List Restriction → Type 0
 IsAccepted asked found = subjects.IsAccepted (subject_of asked) found
 
--- The lines of the text that is printed for these restrictions: their schedule, the table of a year, or their file of
--- version 2.
+-- The lines of the text that is printed of these restrictions.
 abbrev pub IsText : Asked → List Restriction → List (List ℕ) → Type 0
-IsText (Schedule path horizon vehicle) found lines = IsSchedule found vehicle horizon lines
-IsText (Year path element direction vehicle year) found lines = IsYearTable found element direction vehicle year lines
-IsText (Migrate path) found lines = lines ≡ migrated found
-IsText asked found lines = ⊥
+IsText asked found lines = (task_of asked).is_text found lines
 
 -- ---- what is printed
 

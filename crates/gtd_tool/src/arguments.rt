@@ -1,65 +1,20 @@
 //! The command line, as `clap` reads it: the name of a command, and positional words.
 
-ghost use Rattle.std.specs.Prelude.{List, ◌≡◌, ◌⊎◌, if◌then◌else◌, [], None, Some, false, IfErr, IfOk, map, option_map};
-ghost use Rattle.std.specs.Prelude.{string_bytes};
+ghost use Rattle.std.specs.Prelude.{List, ◌≡◌, ◌⊎◌, if◌then◌else◌, [], None, false, IfErr, IfOk, MatchOption, map, string_bytes};
 ghost use Rattle.clap.specs.Simple.{app_of, with_subcommand};
 ghost use Rattle.clap.specs.Values.{kind_of};
+ghost use Rattle.gtd_tool.specs.Asked.{Text};
 ghost use Rattle.gtd_tool.specs.ClapCommand.{HasGiven, gtd_app, is_memory, leaf_given, none_given};
-ghost use Rattle.gtd_tool.specs.CommandLines.{Text, command_in, command_named, file_commands, named_among, named_in};
-ghost use Rattle.gtd_tool.specs.LineCommands.{command_of};
+ghost use Rattle.gtd_tool.specs.CommandLines.{named_in, reading_in};
+ghost use Rattle.gtd_tool.specs.Plans.{AsksFor, IsReadTo, asked_by};
+ghost use Rattle.gtd_tool.specs.Refusals.{IsStoppedBy};
 
+use crate::commands::read_command;
+use crate::plans::Plan;
 use crate::refusal::Refusal;
 use clap::error::ErrorKind;
 use clap::{Arg, ArgAction, ArgMatches, Command};
 use std::alloc::{AllocError, Global};
-
-/// A command, with its words as they were given.
-#[derive(Clone, Copy)]
-pub enum CommandLine<'a> {
-    /// `check DOMAIN`
-    Check {
-        domain: &'a str,
-    },
-    /// `canon DOMAIN`
-    Canon {
-        domain: &'a str,
-    },
-    /// `at DOMAIN MOMENT`
-    At {
-        domain: &'a str,
-        moment: &'a str,
-    },
-    /// `next DOMAIN MOMENT TO`
-    Next {
-        domain: &'a str,
-        moment: &'a str,
-        to: &'a str,
-    },
-    /// `ever DOMAIN MOMENT`
-    Ever {
-        domain: &'a str,
-        moment: &'a str,
-    },
-    /// `schedule FILE FROM TO VEHICLE`
-    Schedule {
-        file: &'a str,
-        from: &'a str,
-        to: &'a str,
-        vehicle: &'a str,
-    },
-    /// `year FILE ELEMENT DIRECTION VEHICLE YEAR`
-    Year {
-        file: &'a str,
-        element: &'a str,
-        direction: &'a str,
-        vehicle: &'a str,
-        year: &'a str,
-    },
-    /// `migrate FILE`
-    Migrate {
-        file: &'a str,
-    },
-}
 
 // The program without its commands. A request for help is refused, as is any other option.
 fn without_commands<'a>(alloc: Global) -> Command<'a>
@@ -101,68 +56,6 @@ fn gtd<'a>(alloc: Global) -> Result<Command<'a>, AllocError>
     add_command(alloc, program, "migrate")
 }
 
-// The command with this name that reads a record file, if it takes this many words.
-fn file_line_of<'a>(name: &str, words: &[&'a str]) -> Option<CommandLine<'a>>
-    ensures { option_map command_of result
-        ≡ named_among file_commands name.now (map (λ w. w.now) words.now) }
-{
-    match name {
-        "schedule" => match words {
-            [file, from, to, vehicle] => Some(CommandLine::Schedule {
-                file,
-                from,
-                to,
-                vehicle,
-            }),
-            _ => None,
-        },
-        "year" => match words {
-            [file, element, direction, vehicle, year] => Some(CommandLine::Year {
-                file,
-                element,
-                direction,
-                vehicle,
-                year,
-            }),
-            _ => None,
-        },
-        "migrate" => match words {
-            [file] => Some(CommandLine::Migrate { file }),
-            _ => None,
-        },
-        _ => None,
-    }
-}
-
-// The command with this name, if it takes this many words.
-fn line_of<'a>(name: &str, words: &[&'a str]) -> Option<CommandLine<'a>>
-    ensures { option_map command_of result ≡ command_named name.now (map (λ w. w.now) words.now) }
-{
-    match name {
-        "check" => match words {
-            [domain] => Some(CommandLine::Check { domain }),
-            _ => None,
-        },
-        "canon" => match words {
-            [domain] => Some(CommandLine::Canon { domain }),
-            _ => None,
-        },
-        "at" => match words {
-            [domain, moment] => Some(CommandLine::At { domain, moment }),
-            _ => None,
-        },
-        "next" => match words {
-            [domain, moment, to] => Some(CommandLine::Next { domain, moment, to }),
-            _ => None,
-        },
-        "ever" => match words {
-            [domain, moment] => Some(CommandLine::Ever { domain, moment }),
-            _ => None,
-        },
-        _ => file_line_of(name, words),
-    }
-}
-
 // An error of `clap` is a refusal of memory or a fault of usage.
 fn usage_refusal(error: &clap::Error) -> Refusal
     ensures { result ≡ (if is_memory (kind_of error.now) then Refusal.Memory else Refusal.Usage) }
@@ -186,25 +79,24 @@ fn parse<'a>(alloc: Global, words: &'a [String]) -> Result<ArgMatches<'a>, Refus
     }
 }
 
-// The command line that the matches hold.
-fn line_in<'a>(matches: &ArgMatches<'a>) -> Option<CommandLine<'a>>
+// The plan of the command and the words that the matches hold.
+fn read_given(alloc: Global, matches: &ArgMatches<'_>) -> Option<Result<Plan, Refusal>>
     ensures { (words : List Text) → HasGiven words matches.now
-        → option_map command_of result ≡ command_in words }
+        → MatchOption result ⊥ (IsReadTo (reading_in words)) }
 {
     let (name, given) = matches.subcommand()?;
-    line_of(name, given.get_strs("WORDS").unwrap_or(&[]))
+    let words = given.get_strs("WORDS").unwrap_or(&[]);
+    Some(read_command(alloc, name, words))
 }
 
-/// The command that the words after the program's name give. If they give none, they are a fault of usage.
-pub fn read_line<'a>(alloc: Global, words: &'a [String]) -> Result<CommandLine<'a>, Refusal>
-    ensures found { IfOk result (λ line.
-        command_in (map string_bytes words.entry.now) ≡ Some (command_of line)) }
-    ensures refused { IfErr result (λ r. (r ≡ Refusal.Memory)
-        ⊎ ((r ≡ Refusal.Usage) × (command_in (map string_bytes words.entry.now) ≡ None))) }
+/// The plan of the words after the program's name.
+pub fn plan_words(alloc: Global, words: &[String]) -> Result<Plan, Refusal>
+    ensures asked { IfOk result (λ plan. AsksFor (map string_bytes words.now) (asked_by plan)) }
+    ensures stopped { IfErr result (IsStoppedBy (reading_in (map string_bytes words.now))) }
 {
     let matches = parse(alloc, words)?;
-    match line_in(&matches) {
-        Some(line) => Ok(line),
+    match read_given(alloc, &matches) {
+        Some(result) => result,
         None => Err(Refusal::Usage),
     }
 }

@@ -4,13 +4,16 @@
 #![tactic(auto)]
 
 mod arguments;
+mod commands;
 pub mod laws;
 mod lending;
 mod performing;
 mod planning;
 mod plans;
+mod printing;
 mod refusal;
 mod running;
+mod words;
 mod writing;
 
 pub use performing::perform;

@@ -83,7 +83,8 @@ pub enum Plan {
 
 impl Plan {
     ghost use Rattle.std.specs.Prelude.{◌≡◌, option_map};
-    ghost use Rattle.gtd_tool.specs.Plans.{asked_by, file_of};
+    ghost use Rattle.gtd_tool.specs.Commands.{file_of};
+    ghost use Rattle.gtd_tool.specs.Plans.{asked_by};
 
     /// The path of the record file that is to be opened, if the plan reads one.
     pub fn file(&self) -> Option<&str>

@@ -1,11 +1,12 @@
-//! `gtdesk` prints, for people, what is closed now and by which rows of a file of road restrictions.
+//! `gtdesk` prints, for people, what is closed now and by which rows of a file of road restrictions, and lists the rows of a
+//! file that are at fault.
 //!
-//! It writes its answer to standard output and ends with status 0, or writes one line to standard error and ends with
-//! the status of its refusal: 1 where the input is refused, 2 for usage, 3 where opening, reading, writing or memory
-//! failed.
+//! It writes its answer to standard output and ends with status 0, or 1 where it listed faults; or it writes one line to
+//! standard error and ends with the status of its refusal: 1 where the input is refused, 2 for usage, 3 where opening,
+//! reading, writing or memory failed.
 #![tactic(auto)]
 
-use gtd_desk::{Plan, Refusal, RefusalLine, perform, plan};
+use gtd_desk::{Ending, Plan, Refusal, RefusalLine, perform, plan};
 use gtd_devices::{Host, HostOut};
 use std::fs::File;
 use std::io::{BufWriter, ErrorKind, Read};
@@ -36,14 +37,14 @@ fn open(rt: &HostRuntime, path: &str) -> Result<File, Refusal> {
 }
 
 // Carries the plan out, from a reader to standard output.
-fn print<R: Read + Drop>(rt: &HostRuntime, plan: &Plan, reader: R) -> Result<(), Refusal> {
+fn print<R: Read + Drop>(rt: &HostRuntime, plan: &Plan, reader: R) -> Result<Ending, Refusal> {
     let mut input = Host::new(reader);
     let made = BufWriter::with_capacity(rt.alloc(), OUTPUT_BUFFER, io::writer(rt));
     let mut output = HostOut::new(made.map_err(|_| Refusal::Memory)?);
     perform(rt.alloc(), plan, &mut input, &mut output)
 }
 
-fn run(rt: &HostRuntime, plan: &Plan) -> Result<(), Refusal> {
+fn run(rt: &HostRuntime, plan: &Plan) -> Result<Ending, Refusal> {
     match plan.file() {
         Some("-") => print(rt, plan, rt.stdin()),
         Some(path) => print(rt, plan, open(rt, path)?),
@@ -64,7 +65,7 @@ fn main(rt: HostRuntime) -> ExitCode {
     };
     match planned {
         Ok(plan) => match run(&rt, &plan) {
-            Ok(()) => ExitCode::SUCCESS,
+            Ok(ending) => ExitCode::from(ending.status()),
             Err(refusal) => refuse(&rt, refusal, plan.file().unwrap_or("")),
         },
         Err(refusal) => refuse(&rt, refusal, ""),

@@ -3,7 +3,6 @@ use Rattle.std.proofs.lemmas.Int.{by_lt_z}
 use Rattle.gtd_calendar.specs.facts.Signed.{signed_arith}
 use Rattle.gtd_calendar.specs.ComputedFields.{day_fields}
 use Rattle.gtd_recur.specs.Begins.{begins_on}
-use Rattle.gtd_recur.specs.facts.WeekLemmas.{date-free}
 use Rattle.gtd_recur.proofs.find.next_weekday.Goals as goal
 
 pub returns-then-is_weekday : goal.returns-then-is_weekday
@@ -18,7 +17,7 @@ returns-then-is_weekday c =
         low = inv.low;
         high = inv.high;
         none = inv.none;
-        some = λ lt. date-free c.args.start.now (day_fields (to_z w64 c.loop-found.found-bits)) c.requires.asks ∙ on;
+        some = λ lt. c.requires.asks (to_z w64 c.loop-found.found-bits) ∙ on;
       };
     }
 
@@ -35,7 +34,7 @@ loop-found-preserved c =
     let value = c.weekday.ensures.value in
     let off = rw value at (sym c.is_weekday.ensures ∙ c.if-is_weekday.false) in
     let here : begins_on c.args.start.now (day_fields (to_z w64 c.loop-found.found-bits)) ≡ false =
-    date-free c.args.start.now (day_fields (to_z w64 c.loop-found.found-bits)) c.requires.asks ∙ off in
+    c.requires.asks (to_z w64 c.loop-found.found-bits) ∙ off in
     rw (day, end, next) (record {
       low = omega (arith, signed_arith, low);
       high = omega (arith, signed_arith, less);

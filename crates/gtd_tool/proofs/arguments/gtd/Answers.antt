@@ -1,7 +1,7 @@
 use Rattle.std.proofs.Common.{◌≡◌, ◌∙◌, ap, codes}
 use Rattle.std.proofs.lemmas.Result.{IfOk-weaker}
 use Rattle.clap.specs.Simple.{App, with_subcommand}
-use Rattle.gtd_tool.specs.CommandLines.{Text}
+use Rattle.gtd_tool.specs.Asked.{Text}
 use Rattle.gtd_tool.specs.ClapCommand.{leaf_given}
 use Rattle.gtd_tool.proofs.arguments.gtd.Goals as goal
 

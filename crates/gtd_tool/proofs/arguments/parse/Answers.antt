@@ -7,7 +7,8 @@ use Rattle.clap.specs.Faults.{fault_of, is_simple_and_free}
 use Rattle.clap.specs.declared.error.kind.ErrorKind.{ErrorKind}
 use Rattle.clap.specs.declared.error.kind.ErrorKind.TheVariants.{OutOfMemory}
 use Rattle.clap.specs.declared.parser.matches.ArgMatches.{ArgMatches}
-use Rattle.gtd_tool.specs.CommandLines.{Text, named_in}
+use Rattle.gtd_tool.specs.CommandLines.{named_in}
+use Rattle.gtd_tool.specs.Asked.{Text}
 use Rattle.gtd_tool.specs.ClapCommand.{HasGiven, gtd_app, is_memory}
 use Rattle.gtd_tool.specs.declared.refusal.Refusal.{Refusal}
 use Rattle.gtd_tool.specs.declared.refusal.Refusal.TheVariants.{Memory, Usage}

@@ -1,4 +1,5 @@
-use Rattle.gtd_tool.specs.Plans.{asked_by, file_of}
+use Rattle.gtd_tool.specs.Commands.{file_of}
+use Rattle.gtd_tool.specs.Plans.{asked_by}
 use Rattle.gtd_tool.proofs.AnswerLemmas.{part_of_any}
 use Rattle.gtd_tool.proofs.RunLemmas.{alone, if_file, input_failures, on_err_either, ran_accepted, ran_failures, ran_lacking}
 use Rattle.gtd_tool.proofs.RunLemmas.{ran_nothing, ran_part, ran_refused, with_file}

@@ -9,6 +9,7 @@ use Rattle.gtd_recur.specs.Look.{IsLookBack}
 use Rattle.gtd_recur.specs.Work.{window_begin}
 use Rattle.gtd_recur.specs.facts.StartsLemmas.{window_begin-is, small-z, run-small}
 use Rattle.gtd_recur.proofs.OpenLemmas.{found-left, found-are, found-count, found-open, found-window}
+use Rattle.gtd_recur.proofs.StepLemmas.{behind-look}
 use Rattle.gtd_recur.proofs.walk.Walk.from_last.Goals as goal
 
 pub invariant_of-result : goal.invariant_of-result
@@ -40,7 +41,7 @@ invariant_of-result c =
     rw (c.lookback.ensures.value) (sym (window_begin-is c.args.basic h)) in
     let look : IsLookBack p (window_begin c.args.basic h) (from_day h) first day c.first_look-look.result.clock
     c.first_look-look.result.looked =
-    rw (c.parts.ensures.value, low, begins, seen) at c.first_look-look.ensures.look in
+    rw (c.parts-start.ensures.value, low, begins, seen) at c.first_look-look.ensures.look in
     let under : first_window_day ≤ℤ window_begin c.args.basic h =
     rw (← begins) (omega (arith, signed_arith, h.not_early, c.lookback.ensures.bound)) in
     let a1 = look.at.begin in let a2 = look.at.within in
@@ -53,17 +54,22 @@ invariant_of-result c =
     (omega (arith, signed_arith, a2, o2, h.not_late, h.not_empty)) in
     let last : to_z w64 (of_z w64 (to_day h)) ≡ to_day h = small-z (to_day h)
     (omega (arith, signed_arith, h.not_early, h.not_empty)) (omega (arith, signed_arith, h.not_late)) in
-    let run = rw (c.parts-2.ensures.value, c.to_day.ensures.value, seen, last) at c.next_days-days.ensures.run in
+    let run = rw (c.parts-start.ensures.value, c.to_day.ensures.value, seen, last) at c.next_days-days.ensures.run in
     let within : c.next_days-days.result.from ≤ℤ to_day h = (let a = run.order in let b = run.within in
     omega (arith, signed_arith, a, b)) in
     let small = run-small _ (from_day h) (to_day h) c.next_days-days.result.from c.next_days-days.result.until
     (omega (arith, signed_arith, h.not_early)) h.not_late run in
     let skipped : (i : ℤ) → from_day h ≤ℤ i → i <ℤ c.next_days-days.result.from → month_and_year_fit p i ≡ false
     = λ i ge lt. false_from_ne_true _ (run.skipped i ge lt) in
+    let clocked = rw (c.parts-start.ensures.value) at c.day_clocks.ensures.clocks in
     record {
       first_in = rw firstz look.at.begin;
       seen_in = rw seen (omega (arith, signed_arith));
       clock_in = o.3;
+      asked = rw (c.parts-start.ensures.value) at c.asked.ensures.asked;
+      clocked = clocked;
+      behind = behind-look p (window_begin c.args.basic h) (from_day h) first day _ _ _ c.first_look-look.result.clock
+          c.first_look-look.result.looked clocked look;
       in_window = rw (firstz, dayz, small.0) (found-window p (window_begin c.args.basic h) (from_day h) first day
           c.next_days-days.result.from (to_day h) c.first_look-look.result.clock c.first_look-look.result.looked look under
           run.low within h.not_late);
@@ -104,7 +110,7 @@ returns-clause-first c =
     rw (c.lookback.ensures.value) (sym (window_begin-is c.args.basic h)) in
     let look : IsLookBack p (window_begin c.args.basic h) (from_day h) first day c.first_look-look.result.clock
     c.first_look-look.result.looked =
-    rw (c.parts.ensures.value, low, begins, seen) at c.first_look-look.ensures.look in
+    rw (c.parts-start.ensures.value, low, begins, seen) at c.first_look-look.ensures.look in
     let under : first_window_day ≤ℤ window_begin c.args.basic h =
     rw (← begins) (omega (arith, signed_arith, h.not_early, c.lookback.ensures.bound)) in
     let a1 = look.at.begin in let a2 = look.at.within in
@@ -117,7 +123,7 @@ returns-clause-first c =
     (omega (arith, signed_arith, a2, o2, h.not_late, h.not_empty)) in
     let last : to_z w64 (of_z w64 (to_day h)) ≡ to_day h = small-z (to_day h)
     (omega (arith, signed_arith, h.not_early, h.not_empty)) (omega (arith, signed_arith, h.not_late)) in
-    let run = rw (c.parts-2.ensures.value, c.to_day.ensures.value, seen, last) at c.next_days-days.ensures.run in
+    let run = rw (c.parts-start.ensures.value, c.to_day.ensures.value, seen, last) at c.next_days-days.ensures.run in
     let within : c.next_days-days.result.from ≤ℤ to_day h = (let a = run.order in let b = run.within in
     omega (arith, signed_arith, a, b)) in
     let small = run-small _ (from_day h) (to_day h) c.next_days-days.result.from c.next_days-days.result.until
@@ -156,7 +162,7 @@ returns-clause-to_come c =
     rw (c.lookback.ensures.value) (sym (window_begin-is c.args.basic h)) in
     let look : IsLookBack p (window_begin c.args.basic h) (from_day h) first day c.first_look-look.result.clock
     c.first_look-look.result.looked =
-    rw (c.parts.ensures.value, low, begins, seen) at c.first_look-look.ensures.look in
+    rw (c.parts-start.ensures.value, low, begins, seen) at c.first_look-look.ensures.look in
     let under : first_window_day ≤ℤ window_begin c.args.basic h =
     rw (← begins) (omega (arith, signed_arith, h.not_early, c.lookback.ensures.bound)) in
     let a1 = look.at.begin in let a2 = look.at.within in
@@ -169,7 +175,7 @@ returns-clause-to_come c =
     (omega (arith, signed_arith, a2, o2, h.not_late, h.not_empty)) in
     let last : to_z w64 (of_z w64 (to_day h)) ≡ to_day h = small-z (to_day h)
     (omega (arith, signed_arith, h.not_early, h.not_empty)) (omega (arith, signed_arith, h.not_late)) in
-    let run = rw (c.parts-2.ensures.value, c.to_day.ensures.value, seen, last) at c.next_days-days.ensures.run in
+    let run = rw (c.parts-start.ensures.value, c.to_day.ensures.value, seen, last) at c.next_days-days.ensures.run in
     let within : c.next_days-days.result.from ≤ℤ to_day h = (let a = run.order in let b = run.within in
     omega (arith, signed_arith, a, b)) in
     let small = run-small _ (from_day h) (to_day h) c.next_days-days.result.from c.next_days-days.result.until

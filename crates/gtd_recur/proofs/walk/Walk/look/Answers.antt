@@ -13,9 +13,9 @@ open-requires-clause-low c =
     small-z s.next_day (omega (arith, signed_arith, a0, a1, a2)) (omega (arith, signed_arith, more, until, a4)) in
     let last : to_z w64 (of_z w64 s.fits_until) ≡ s.fits_until =
     small-z s.fits_until (omega (arith, signed_arith, a0, a1, a2, more)) (omega (arith, signed_arith, until, a4)) in
-    let first = rw (c.as_parts.ensures.value, next, last) at c.next_begun-found.ensures.first in
+    let first = c.next_found-found.ensures.found in
     let f0 = first.low in let f1 = first.high in
-    let found : to_z w64 (of_z w64 c.next_begun-found.result) ≡ c.next_begun-found.result =
+    let found : to_z w64 (of_z w64 c.next_found-found.result) ≡ c.next_found-found.result =
     small-z _ (omega (arith, signed_arith, a0, a1, a2, f0)) (omega (arith, signed_arith, f1, until, a4)) in
     rw found f0
 
@@ -29,9 +29,9 @@ open-requires-clause-none c =
     small-z s.next_day (omega (arith, signed_arith, a0, a1, a2)) (omega (arith, signed_arith, more, until, a4)) in
     let last : to_z w64 (of_z w64 s.fits_until) ≡ s.fits_until =
     small-z s.fits_until (omega (arith, signed_arith, a0, a1, a2, more)) (omega (arith, signed_arith, until, a4)) in
-    let first = rw (c.as_parts.ensures.value, next, last) at c.next_begun-found.ensures.first in
+    let first = c.next_found-found.ensures.found in
     let f0 = first.low in let f1 = first.high in
-    let found : to_z w64 (of_z w64 c.next_begun-found.result) ≡ c.next_begun-found.result =
+    let found : to_z w64 (of_z w64 c.next_found-found.result) ≡ c.next_found-found.result =
     small-z _ (omega (arith, signed_arith, a0, a1, a2, f0)) (omega (arith, signed_arith, f1, until, a4)) in
     rw found first.none
 
@@ -45,9 +45,9 @@ open-requires-clause-opened c =
     small-z s.next_day (omega (arith, signed_arith, a0, a1, a2)) (omega (arith, signed_arith, more, until, a4)) in
     let last : to_z w64 (of_z w64 s.fits_until) ≡ s.fits_until =
     small-z s.fits_until (omega (arith, signed_arith, a0, a1, a2, more)) (omega (arith, signed_arith, until, a4)) in
-    let first = rw (c.as_parts.ensures.value, next, last) at c.next_begun-found.ensures.first in
+    let first = c.next_found-found.ensures.found in
     let f0 = first.low in let f1 = first.high in
-    let found : to_z w64 (of_z w64 c.next_begun-found.result) ≡ c.next_begun-found.result =
+    let found : to_z w64 (of_z w64 c.next_found-found.result) ≡ c.next_found-found.result =
     small-z _ (omega (arith, signed_arith, a0, a1, a2, f0)) (omega (arith, signed_arith, f1, until, a4)) in
     rw found (inl (first.some (omega (arith, signed_arith, c.if-found-self.true, found, last)), refl))
 
@@ -61,13 +61,13 @@ open-requires-else-found-self-clause-low c =
     small-z s.next_day (omega (arith, signed_arith, a0, a1, a2)) (omega (arith, signed_arith, more, until, a4)) in
     let last : to_z w64 (of_z w64 s.fits_until) ≡ s.fits_until =
     small-z s.fits_until (omega (arith, signed_arith, a0, a1, a2, more)) (omega (arith, signed_arith, until, a4)) in
-    let first = rw (c.as_parts.ensures.value, next, last) at c.next_begun-found.ensures.first in
+    let first = c.next_found-found.ensures.found in
     let f0 = first.low in let f1 = first.high in
-    let found : to_z w64 (of_z w64 c.next_begun-found.result) ≡ c.next_begun-found.result =
+    let found : to_z w64 (of_z w64 c.next_found-found.result) ≡ c.next_found-found.result =
     small-z _ (omega (arith, signed_arith, a0, a1, a2, f0)) (omega (arith, signed_arith, f1, until, a4)) in
-    let past : s.fits_until ≤ℤ c.next_begun-found.result = omega (arith, signed_arith, c.if-found-self.false, found, last) in
+    let past : s.fits_until ≤ℤ c.next_found-found.result = omega (arith, signed_arith, c.if-found-self.false, found, last) in
     let before : to_z w64 (of_z w64 (to_z w64
-    (of_z w64 c.next_begun-found.result) -ℤ pos 1)) ≡ c.next_begun-found.result -ℤ pos 1 =
+    (of_z w64 c.next_found-found.result) -ℤ pos 1)) ≡ c.next_found-found.result -ℤ pos 1 =
     omega (arith, signed_arith, found, f0, f1, a0, a1, a2, until, a4) in
     rw before (omega (arith, signed_arith, past, more))
 
@@ -81,13 +81,13 @@ open-requires-else-found-self-clause-high c =
     small-z s.next_day (omega (arith, signed_arith, a0, a1, a2)) (omega (arith, signed_arith, more, until, a4)) in
     let last : to_z w64 (of_z w64 s.fits_until) ≡ s.fits_until =
     small-z s.fits_until (omega (arith, signed_arith, a0, a1, a2, more)) (omega (arith, signed_arith, until, a4)) in
-    let first = rw (c.as_parts.ensures.value, next, last) at c.next_begun-found.ensures.first in
+    let first = c.next_found-found.ensures.found in
     let f0 = first.low in let f1 = first.high in
-    let found : to_z w64 (of_z w64 c.next_begun-found.result) ≡ c.next_begun-found.result =
+    let found : to_z w64 (of_z w64 c.next_found-found.result) ≡ c.next_found-found.result =
     small-z _ (omega (arith, signed_arith, a0, a1, a2, f0)) (omega (arith, signed_arith, f1, until, a4)) in
-    let past : s.fits_until ≤ℤ c.next_begun-found.result = omega (arith, signed_arith, c.if-found-self.false, found, last) in
+    let past : s.fits_until ≤ℤ c.next_found-found.result = omega (arith, signed_arith, c.if-found-self.false, found, last) in
     let before : to_z w64 (of_z w64 (to_z w64
-    (of_z w64 c.next_begun-found.result) -ℤ pos 1)) ≡ c.next_begun-found.result -ℤ pos 1 =
+    (of_z w64 c.next_found-found.result) -ℤ pos 1)) ≡ c.next_found-found.result -ℤ pos 1 =
     omega (arith, signed_arith, found, f0, f1, a0, a1, a2, until, a4) in
     rw before (omega (arith, signed_arith, f1))
 
@@ -101,13 +101,13 @@ open-requires-else-found-self-clause-none c =
     small-z s.next_day (omega (arith, signed_arith, a0, a1, a2)) (omega (arith, signed_arith, more, until, a4)) in
     let last : to_z w64 (of_z w64 s.fits_until) ≡ s.fits_until =
     small-z s.fits_until (omega (arith, signed_arith, a0, a1, a2, more)) (omega (arith, signed_arith, until, a4)) in
-    let first = rw (c.as_parts.ensures.value, next, last) at c.next_begun-found.ensures.first in
+    let first = c.next_found-found.ensures.found in
     let f0 = first.low in let f1 = first.high in
-    let found : to_z w64 (of_z w64 c.next_begun-found.result) ≡ c.next_begun-found.result =
+    let found : to_z w64 (of_z w64 c.next_found-found.result) ≡ c.next_found-found.result =
     small-z _ (omega (arith, signed_arith, a0, a1, a2, f0)) (omega (arith, signed_arith, f1, until, a4)) in
-    let past : s.fits_until ≤ℤ c.next_begun-found.result = omega (arith, signed_arith, c.if-found-self.false, found, last) in
+    let past : s.fits_until ≤ℤ c.next_found-found.result = omega (arith, signed_arith, c.if-found-self.false, found, last) in
     let before : to_z w64 (of_z w64 (to_z w64
-    (of_z w64 c.next_begun-found.result) -ℤ pos 1)) ≡ c.next_begun-found.result -ℤ pos 1 =
+    (of_z w64 c.next_found-found.result) -ℤ pos 1)) ≡ c.next_found-found.result -ℤ pos 1 =
     omega (arith, signed_arith, found, f0, f1, a0, a1, a2, until, a4) in
     rw before (λ n ge lt. first.none n ge (omega (arith, signed_arith, lt)))
 
@@ -121,16 +121,16 @@ open-requires-else-found-self-clause-opened c =
     small-z s.next_day (omega (arith, signed_arith, a0, a1, a2)) (omega (arith, signed_arith, more, until, a4)) in
     let last : to_z w64 (of_z w64 s.fits_until) ≡ s.fits_until =
     small-z s.fits_until (omega (arith, signed_arith, a0, a1, a2, more)) (omega (arith, signed_arith, until, a4)) in
-    let first = rw (c.as_parts.ensures.value, next, last) at c.next_begun-found.ensures.first in
+    let first = c.next_found-found.ensures.found in
     let f0 = first.low in let f1 = first.high in
-    let found : to_z w64 (of_z w64 c.next_begun-found.result) ≡ c.next_begun-found.result =
+    let found : to_z w64 (of_z w64 c.next_found-found.result) ≡ c.next_found-found.result =
     small-z _ (omega (arith, signed_arith, a0, a1, a2, f0)) (omega (arith, signed_arith, f1, until, a4)) in
-    let past : s.fits_until ≤ℤ c.next_begun-found.result = omega (arith, signed_arith, c.if-found-self.false, found, last) in
+    let past : s.fits_until ≤ℤ c.next_found-found.result = omega (arith, signed_arith, c.if-found-self.false, found, last) in
     let before : to_z w64 (of_z w64 (to_z w64
-    (of_z w64 c.next_begun-found.result) -ℤ pos 1)) ≡ c.next_begun-found.result -ℤ pos 1 =
+    (of_z w64 c.next_found-found.result) -ℤ pos 1)) ≡ c.next_found-found.result -ℤ pos 1 =
     omega (arith, signed_arith, found, f0, f1, a0, a1, a2, until, a4) in
     rw before (inr (
-      first.none (c.next_begun-found.result -ℤ pos 1) (omega (arith, signed_arith, past, more))
+      first.none (c.next_found-found.result -ℤ pos 1) (omega (arith, signed_arith, past, more))
           (omega (arith, signed_arith)),
       refl,
     ))

@@ -8,6 +8,7 @@ use Rattle.gtd_recur.specs.Work.{window_begin}
 use Rattle.gtd_recur.specs.facts.StartsLemmas.{begun-left, begun-are, begun-window, window_begin-is, small-z}
 use Rattle.gtd_recur.specs.facts.StartsLemmas.{run-small, days_between-nil}
 use Rattle.gtd_recur.proofs.OpenLemmas.{found-count}
+use Rattle.gtd_recur.proofs.StepLemmas.{behind-all}
 use Rattle.gtd_recur.proofs.walk.Walk.new.Goals as goal
 
 pub overflow_sub-result : goal.overflow_sub-result
@@ -28,7 +29,7 @@ invariant_of-result c =
     rw (c.lookback.ensures.value) (sym (window_begin-is c.args.basic h)) in
     let last : to_z w64 (of_z w64 (to_day h)) ≡ to_day h = small-z (to_day h)
     (omega (arith, signed_arith, h.not_early, h.not_empty)) (omega (arith, signed_arith, h.not_late)) in
-    let run = rw (c.parts.ensures.value, c.to_day.ensures.value, first, begins, last) at c.next_days-days.ensures.run in
+    let run = rw (c.parts-start.ensures.value, c.to_day.ensures.value, first, begins, last) at c.next_days-days.ensures.run in
     let within : c.next_days-days.result.from ≤ℤ to_day h = (let a = run.order in let b = run.within in
     omega (arith, signed_arith, a, b)) in
     let low : neg_ℤ (pos 62000) ≤ℤ window_begin c.args.basic h =
@@ -40,10 +41,14 @@ invariant_of-result c =
     let skipped : (i : ℤ) → window_begin c.args.basic h ≤ℤ i → i <ℤ c.next_days-days.result.from
     → month_and_year_fit (start_parts c.args.basic.start) i ≡ false
     = λ i ge lt. false_from_ne_true _ (run.skipped i ge lt) in
+    let clocked = rw (c.parts-start.ensures.value) at c.day_clocks.ensures.clocks in
     record {
       first_in = rw (first, begins) (omega (arith, signed_arith));
       seen_in = rw (first, begins) (omega (arith, signed_arith, begins));
       clock_in = omega arith;
+      asked = rw (c.parts-start.ensures.value) at c.asked.ensures.asked;
+      clocked = clocked;
+      behind = behind-all _ _ _ _ clocked;
       in_window = rw (first, begins, before, small.0) (begun-window (window_begin c.args.basic h) (from_day h)
           (to_day h) c.next_days-days.result.from c.lookback.result
           (sym begins) c.lookback.ensures.bound h.not_early h.not_late run.low within);
@@ -67,7 +72,7 @@ returns-clause-to_come c =
     rw (c.lookback.ensures.value) (sym (window_begin-is c.args.basic h)) in
     let last : to_z w64 (of_z w64 (to_day h)) ≡ to_day h = small-z (to_day h)
     (omega (arith, signed_arith, h.not_early, h.not_empty)) (omega (arith, signed_arith, h.not_late)) in
-    let run = rw (c.parts.ensures.value, c.to_day.ensures.value, first, begins, last) at c.next_days-days.ensures.run in
+    let run = rw (c.parts-start.ensures.value, c.to_day.ensures.value, first, begins, last) at c.next_days-days.ensures.run in
     let within : c.next_days-days.result.from ≤ℤ to_day h = (let a = run.order in let b = run.within in
     omega (arith, signed_arith, a, b)) in
     let low : neg_ℤ (pos 62000) ≤ℤ window_begin c.args.basic h =

@@ -1,4 +1,5 @@
-use Rattle.std.proofs.Common.{◌≡◌, ◌≤ℤ◌, arith, ◌∙◌, sym, refl}
+use Rattle.std.proofs.Common.{◌≡◌, ◌<◌, ◌<ℤ◌, ◌≤ℤ◌, ◌-ℤ◌, ℤ, arith, ◌∙◌, sym, refl, unsigned_abs}
+use Rattle.std.proofs.lemmas.Int.{ints}
 use Rattle.gtd_calendar.specs.facts.Signed.{signed_arith}
 use Rattle.gtd_core.specs.Parts.{start_parts}
 use Rattle.gtd_core.specs.Whole.{to_day}
@@ -54,3 +55,18 @@ pub returns-in-Some-clause-at_most : goal.returns-in-Some-clause-at_most
 returns-in-Some-clause-at_most c = λ t le last.
     let same = c.loop-start.invariant.same in
     rw (← same.basic, ← same.horizon, ← same.first) (c.in-Some.ensures.at_most t le (rw same.seen last))
+
+pub loop-start-smaller : goal.loop-start-smaller
+loop-start-smaller c =
+    let l = c.loop-start.self in
+    let t = c.look.new.self in
+    let horizon : t.horizon ≡ l.horizon = c.look.ensures.same.horizon ∙ c.in_default.ensures.same.horizon in
+    let before = c.in_default.ensures.next_day in
+    let later = c.look.ensures.later in
+    let within : t.next_day ≤ℤ to_day l.horizon = rw horizon at t.in_window.end_in in
+    let less : unsigned_abs (to_day t.horizon -ℤ t.next_day) < unsigned_abs (to_day l.horizon -ℤ l.next_day) =
+    rw horizon (closer l.next_day t.next_day (to_day l.horizon) (omega (arith, signed_arith, before, later)) within) in
+    less
+  where
+    closer : (a b e : ℤ) → a <ℤ b → b ≤ℤ e → unsigned_abs (e -ℤ b) < unsigned_abs (e -ℤ a)
+    closer a b e lt le = grind (arith, ints)

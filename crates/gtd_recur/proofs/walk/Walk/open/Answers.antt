@@ -7,6 +7,7 @@ use Rattle.gtd_core.specs.Whole.{to_day}
 use Rattle.gtd_recur.specs.Begins.{month_and_year_fit}
 use Rattle.gtd_recur.specs.Starts.{IsInWindow}
 use Rattle.gtd_recur.specs.facts.StartsLemmas.{looked-window, opened-low, small-counts, run-small, later_by}
+use Rattle.gtd_recur.proofs.StepLemmas.{behind-opened}
 use Rattle.gtd_recur.proofs.WalkLemmas.{opened-left, opened-count}
 use Rattle.gtd_recur.proofs.walk.Walk.open.Goals as goal
 
@@ -65,6 +66,9 @@ invariant_of-self c =
       first_in = s.first_in;
       seen_in = s.seen_in;
       clock_in = opened-low p c.args.day c.args.clock c.requires.opened;
+      asked = s.asked;
+      clocked = s.clocked;
+      behind = behind-opened p c.args.day s.clocks.first s.clocks.last s.clocks.step c.args.clock s.clocked c.requires.opened;
       in_window = rw (n, small.0) (looked-window s.first s.day c.args.day c.days_after-after.result.from (to_day s.horizon) window
           later within);
       fitting = rw (small.0, small.1) (record { within = run.within; some = run.some; fit = run.run });

@@ -4,21 +4,19 @@ use Rattle.gtd_calendar.specs.facts.Signed.{signed_arith}
 use Rattle.gtd_calendar.specs.facts.ClockLemmas.{second-only}
 use Rattle.gtd_core.specs.Parts.{start_parts}
 use Rattle.gtd_core.specs.Whole.{to_day}
-use Rattle.gtd_recur.specs.ClockSearch.{IsLastPassing}
 use Rattle.gtd_recur.specs.Begins.{begins_at}
-use Rattle.gtd_recur.specs.Stepping.{IsStep, Stepped}
+use Rattle.gtd_recur.specs.Stepping.{Stepped}
 use Rattle.gtd_recur.specs.Starts.{clock_starts, starts_left}
 use Rattle.gtd_recur.specs.facts.StartsLemmas.{small-counts, length-clock}
-use Rattle.gtd_recur.proofs.StepLemmas.{stepping, passed-count, handed-many, left-passed, last-behind}
+use Rattle.gtd_recur.proofs.StepLemmas.{behind-all, stepping, passed-count, handed-many, left-passed, last-behind}
 use Rattle.gtd_recur.proofs.walk.Walk.pass_day.Goals as goal
 
-pub overflow_sub-last : goal.overflow_sub-last
-overflow_sub-last c =
+pub overflow_sub-clocks : goal.overflow_sub-clocks
+overflow_sub-clocks c =
     let s = c.args.self.now in
     let o = c.requires.open in
-    let end : IsLastPassing (begins_at (start_parts s.basic.start)) 86399 (Some c.in-Some.last) =
-    rw (c.as_parts-2.ensures.value, c.in-Some.is) at c.latest_begin.ensures in
-    let low = last-behind (start_parts s.basic.start) o.clock c.in-Some.last end o.low o.begins in
+    let end = s.clocked.end in
+    let low = last-behind (start_parts s.basic.start) o.clock s.clocks.last end o.low o.begins in
     let next = o.next in
     omega (arith, low, next)
 
@@ -29,11 +27,10 @@ overflow_add-self c =
     let p = start_parts s.basic.start in
     let n = s.day in
     let k = o.clock in
-    let last = c.in-Some.last in
-    let step = c.day_step-step.result in
-    let is : IsStep (begins_at p) step = rw (c.as_parts.ensures.value) at c.day_step-step.ensures.step in
-    let end : IsLastPassing (begins_at p) 86399 (Some last) =
-    rw (c.as_parts-2.ensures.value, c.in-Some.is) at c.latest_begin.ensures in
+    let last = s.clocks.last in
+    let step = s.clocks.step in
+    let is = s.clocked.apart in
+    let end = s.clocked.end in
     let low : k ≤ last = last-behind p k last end o.low o.begins in
     let list = clock_starts p n (k + 1) in
     let stepped : Stepped step (pos 86400 *ℤ n +ℤ pos k) list (pos 86400 *ℤ n +ℤ pos last) =
@@ -55,11 +52,10 @@ invariant_of-self c =
     let p = start_parts s.basic.start in
     let n = s.day in
     let k = o.clock in
-    let last = c.in-Some.last in
-    let step = c.day_step-step.result in
-    let is : IsStep (begins_at p) step = rw (c.as_parts.ensures.value) at c.day_step-step.ensures.step in
-    let end : IsLastPassing (begins_at p) 86399 (Some last) =
-    rw (c.as_parts-2.ensures.value, c.in-Some.is) at c.latest_begin.ensures in
+    let last = s.clocks.last in
+    let step = s.clocks.step in
+    let is = s.clocked.apart in
+    let end = s.clocked.end in
     let low : k ≤ last = last-behind p k last end o.low o.begins in
     let list = clock_starts p n (k + 1) in
     let stepped : Stepped step (pos 86400 *ℤ n +ℤ pos k) list (pos 86400 *ℤ n +ℤ pos last) =
@@ -73,6 +69,9 @@ invariant_of-self c =
       first_in = s.first_in;
       seen_in = s.seen_in;
       clock_in = omega arith;
+      asked = s.asked;
+      clocked = s.clocked;
+      behind = behind-all (begins_at p) s.clocks.first s.clocks.last s.clocks.step s.clocked;
       in_window = s.in_window;
       fitting = s.fitting;
       left = rw count (handed-many s.handed _ _ _ list s.left split);
@@ -84,8 +83,7 @@ overflow_add-result c =
     let s = c.args.self.now in
     let w = s.in_window in
     let e = c.from-3.ensures in
-    let end : IsLastPassing (begins_at (start_parts s.basic.start)) 86399 (Some c.in-Some.last) =
-    rw (c.as_parts-2.ensures.value, c.in-Some.is) at c.latest_begin.ensures in
+    let end = s.clocked.end in
     let most = end.0 in
     omega (arith, signed_arith, w.first_in, w.day_in, w.next_in, w.end_in, w.last_in, e, most)
 
@@ -96,11 +94,10 @@ returns c =
     let p = start_parts s.basic.start in
     let n = s.day in
     let k = o.clock in
-    let last = c.in-Some.last in
-    let step = c.day_step-step.result in
-    let is : IsStep (begins_at p) step = rw (c.as_parts.ensures.value) at c.day_step-step.ensures.step in
-    let end : IsLastPassing (begins_at p) 86399 (Some last) =
-    rw (c.as_parts-2.ensures.value, c.in-Some.is) at c.latest_begin.ensures in
+    let last = s.clocks.last in
+    let step = s.clocks.step in
+    let is = s.clocked.apart in
+    let end = s.clocked.end in
     let low : k ≤ last = last-behind p k last end o.low o.begins in
     let list = clock_starts p n (k + 1) in
     let stepped : Stepped step (pos 86400 *ℤ n +ℤ pos k) list (pos 86400 *ℤ n +ℤ pos last) =

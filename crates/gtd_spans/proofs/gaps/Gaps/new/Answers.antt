@@ -1,7 +1,7 @@
+use Rattle.std.proofs.Common.{rules}
 use Rattle.gtd_core.specs.Whole.{whole}
-use Rattle.gtd_spans.specs.facts.Whole.{minus-whole}
+use Rattle.gtd_spans.proofs.GapLemmas.{range-holds}
 use Rattle.gtd_spans.proofs.gaps.Gaps.new.Goals as goal
 
 pub returns : goal.returns
-returns c =
-    record { seconds = λ xs t. rw (c.from.ensures.value, c.until.ensures.value) (minus-whole (whole c.args.horizon) xs t) }
+returns c = record { seconds = λ xs t. range-holds (whole c.args.horizon) _ _ (search rules) (search rules) xs t }

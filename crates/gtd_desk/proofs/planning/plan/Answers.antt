@@ -1,0 +1,19 @@
+use Rattle.std.proofs.Common.{map}
+use Rattle.std.specs.Prelude.{string_bytes}
+use Rattle.gtd_desk.proofs.PlanFacts.{plan_only, plan_only_faults, plan_first}
+use Rattle.gtd_desk.proofs.planning.plan.Goals as goal
+
+pub returns-clause-only : goal.returns-clause-only
+returns-clause-only c = λ file moment vehicle asks.
+    plan_only (map string_bytes c.as_slice.result.now) c.plan_words.result c.plan_words.ensures file moment vehicle
+    (rw (c.as_slice.ensures.value) asks)
+
+pub returns-clause-first : goal.returns-clause-first
+returns-clause-first c = λ refusal is.
+    plan_first (map string_bytes c.as_slice.result.now) c.plan_words.result c.plan_words.ensures refusal
+    (rw (c.as_slice.ensures.value) is)
+
+pub returns-clause-only_faults : goal.returns-clause-only_faults
+returns-clause-only_faults c = λ file asks.
+    plan_only_faults (map string_bytes c.as_slice.result.now) c.plan_words.result c.plan_words.ensures file
+    (rw (c.as_slice.ensures.value) asks)

@@ -1,0 +1,106 @@
+-- What the list of a file's faults says.
+use Rattle.std.proofs.Common.{◌≡◌, ◌∙◌, ◌≤◌, ◌↔◌, sym, ap, refl, arith, inl, inr, ℕ, List, [], ◌∷◌, ◌++◌, length}
+use Rattle.std.proofs.Common.{append-nil, append_assoc, decimal, length-append, map}
+use Rattle.std.specs.Prelude.{Result, Ok, Err, codes}
+use Rattle.std.specs.List.{Contains}
+use Rattle.csv.specs.Reading.{default_config, records, strip_bom}
+use Rattle.gtd_core.specs.Limits.{most_file_bytes, most_rows}
+use Rattle.gtd_records.specs.Closing.{Restriction}
+use Rattle.gtd_records.specs.Columns.{Fields}
+use Rattle.gtd_records.specs.Faults.{AreFaults, AreFileFaults, AreRowFaults, AreTableFaults, IsFaultyRow, row_number}
+use Rattle.gtd_records.specs.File.{IsFile, header}
+use Rattle.gtd_records.specs.facts.OneAnswer.{one_version}
+use Rattle.gtd_records.specs.declared.fault.RecordFault.{RecordFault}
+use Rattle.gtd_records.specs.declared.vehicles.Version.{Version}
+use Rattle.gtd_faults.specs.Below.{below_text}
+use Rattle.gtd_faults.specs.Listing.{AreLines, fault_line, fault_text}
+use Rattle.gtd_faults.specs.Printable.{printable}
+use Rattle.gtd_faults.specs.declared.below.Below.{Below}
+
+-- a line is never empty
+some_line : (path : List ℕ) (line : ℕ) (why : RecordFault) (below after : List ℕ)
+    → fault_line path line why ++ below ++ after ≡ [] → ⊥
+some_line path line why below after e =
+    let all = length-append (fault_line path line why ++ below) after in
+    let both = length-append (fault_line path line why) below in
+    let end = length-append (printable path ++ codes ":" ++ decimal line ++ codes ": " ++ fault_text why) (10 ∷ []) in
+    let none : length (fault_line path line why ++ below ++ after) ≡ 0 = ap length e in
+    absurd (omega (arith, all, both, end, none))
+
+-- the line of one fault more
+pub lines_more : (path : List ℕ) (faults : List RecordFault) (why : RecordFault) (text : List ℕ) (line : ℕ) (below : Below)
+    → AreLines path faults text
+    → AreLines path (faults ++ why ∷ []) (text ++ (fault_line path line why ++ below_text below))
+lines_more path [] why text line below is =
+    (line, below, [], refl, rw is (sym (append-nil (fault_line path line why ++ below_text below))))
+lines_more path (x ∷ faults) why text line below is =
+    let more = fault_line path line why ++ below_text below in (
+      is.0,
+      is.1,
+      is.2 ++ more,
+      lines_more path faults why is.2 line below is.3,
+      rw (is.4) (append_assoc (fault_line path is.0 x ++ below_text is.1) is.2 more),
+    )
+
+abbrev Accepted : List ℕ → Type 0
+Accepted bytes = (found : List Restriction) × IsFile bytes (Ok found)
+
+apart : (found : List Restriction) (why : RecordFault) → ◌≡◌ {A = Result (List Restriction) RecordFault} (Ok found) (Err why) → ⊥
+apart found why e = cc
+
+module _ (accepted : (bytes : List ℕ) → AreFileFaults bytes [] ↔ Accepted bytes)
+    (first : (bytes : List ℕ) (why : RecordFault) (rest : List RecordFault) → AreFileFaults bytes (why ∷ rest)
+    → IsFile bytes (Err why))
+    (one : (bytes : List ℕ) (a b : Result (List Restriction) RecordFault) → IsFile bytes a → IsFile bytes b → a ≡ b) where
+  pub nothing_listed : (path bytes : List ℕ) (faults : List RecordFault) (text : List ℕ) → AreFileFaults bytes faults
+      → AreLines path faults text → (text ≡ []) ↔ Accepted bytes
+  nothing_listed path bytes [] text are lines = (λ e. (accepted bytes).0 are, λ is. lines)
+  nothing_listed path bytes (why ∷ rest) text are lines = (
+    (λ e. absurd (some_line path lines.0 why (below_text lines.1) lines.2 (sym (lines.4) ∙ e))),
+    (λ is. absurd (apart is.0 why (one bytes (Ok is.0) (Err why) is.1 (first bytes why rest are)))),
+  )
+
+  same_fault : (a b : RecordFault) → ◌≡◌ {A = Result (List Restriction) RecordFault} (Err a) (Err b) → a ≡ b
+  same_fault a b e = cc
+
+  pub first_line : (path bytes : List ℕ) (faults : List RecordFault) (text : List ℕ) (why : RecordFault)
+      → AreFileFaults bytes faults → AreLines path faults text → IsFile bytes (Err why)
+      → (line : ℕ) × (after : List ℕ) × (text ≡ fault_line path line why ++ after)
+  first_line path bytes [] text why are lines is =
+      let file = (accepted bytes).0 are in
+      absurd (apart file.0 why (one bytes (Ok file.0) (Err why) file.1 is))
+  first_line path bytes (x ∷ rest) text why are lines is =
+      let same = same_fault x why (one bytes (Err x) (Err why) (first bytes x rest are) is) in
+      let below = below_text lines.1 in (
+        lines.0,
+        below ++ lines.2,
+        lines.4 ∙ append_assoc (fault_line path lines.0 x) below lines.2
+            ∙ ap (λ w. fault_line path lines.0 w ++ (below ++ lines.2)) same,
+      )
+
+module _ (each : (v : Version) (rows : List Fields) (faults : List RecordFault) → AreRowFaults v 1 rows faults
+    → (n : ℕ) → Contains (map row_number faults) n ↔ IsFaultyRow v rows n) where
+  of_rows : (v : Version) (rows : List Fields) (faults : List RecordFault) → length rows ≤ most_rows → AreFaults v rows faults
+      → (n : ℕ) → Contains (map row_number faults) n ↔ IsFaultyRow v rows n
+  of_rows v rows faults few (inl are) = each v rows faults are.1
+  of_rows v rows faults few (inr many) =
+      let all = ap length many.split ∙ length-append many.before (many.row ∷ many.after) in
+      let before = many.many in
+      absurd (omega (arith, all, before, few))
+
+  of_table : (v : Version) (rows text : List Fields) (faults : List RecordFault) → text ≡ header v ∷ rows
+      → length rows ≤ most_rows → AreTableFaults text faults
+      → (n : ℕ) → Contains (map row_number faults) n ↔ IsFaultyRow v rows n
+  of_table v rows text faults is few (inl t) =
+      let both : header v ∷ rows ≡ header t.0 ∷ t.1 = sym is ∙ t.2 in
+      let version : v ≡ t.0 = one_version v t.0 cc in
+      let same : rows ≡ t.1 = cc in
+      of_rows v rows faults few (rw (version, same) t.3)
+  of_table v rows text faults is few (inr t) = absurd (t.0 v rows is)
+
+  pub rows_listed : (bytes : List ℕ) (faults : List RecordFault) (v : Version) (rows : List Fields) → AreFileFaults bytes faults
+      → length bytes ≤ most_file_bytes → records default_config (strip_bom bytes) ≡ header v ∷ rows
+      → length rows ≤ most_rows
+      → (n : ℕ) → Contains (map row_number faults) n ↔ IsFaultyRow v rows n
+  rows_listed bytes faults v rows (inl t) small is few = of_table v rows _ faults is few t.1
+  rows_listed bytes faults v rows (inr large) small is few = absurd (let l = large.0 in omega (arith, l, small))

@@ -1,0 +1,11 @@
+use Rattle.std.proofs.Common.{take}
+use Rattle.std.specs.Prelude.{flat_map}
+use Rattle.std.specs.Fmt.{HasWritten, IsPlainFormatter}
+use Rattle.gtd_faults.specs.Printable.{shown_byte}
+use Rattle.gtd_faults.proofs.printable.PrintableDisplay.fmt.Given as goal
+
+-- the bytes so far were shown
+abbrev pub invariant-loop-byte : goal.invariant-loop-byte
+invariant-loop-byte g l =
+    IsPlainFormatter l.initial.f
+    → HasWritten g.W.Write.write_str_gives l.initial.f (flat_map shown_byte (take l.byte-index l.byte-items)) l.f

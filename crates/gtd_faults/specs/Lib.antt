@@ -1,0 +1,5 @@
+pub mod Below
+pub mod Listing
+pub mod Printable
+pub mod Run
+pub use Rattle.gtd_records.specs.Faults

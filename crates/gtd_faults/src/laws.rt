@@ -1,0 +1,33 @@
+//! Laws of the definitions: calls that do nothing, and whose contracts are what is proved.
+
+ghost use Rattle.std.specs.Prelude.{◌≡◌, ◌≤◌, ◌++◌, ◌∷◌, ◌↔◌, [], ℕ, List, Ok, Err, length, map};
+ghost use Rattle.std.specs.List.{Contains};
+ghost use Rattle.csv.specs.Reading.{default_config, records, strip_bom};
+ghost use Rattle.gtd_core.specs.Limits.{most_file_bytes, most_rows};
+ghost use Rattle.gtd_records.specs.Closing.{Restriction};
+ghost use Rattle.gtd_records.specs.Columns.{Fields};
+ghost use Rattle.gtd_records.specs.Faults.{AreFileFaults, IsFaultyRow, row_number};
+ghost use Rattle.gtd_records.specs.File.{IsFile, header};
+ghost use Rattle.gtd_records.specs.declared.fault.RecordFault.{RecordFault};
+ghost use Rattle.gtd_records.specs.declared.vehicles.Version.{Version};
+ghost use Rattle.gtd_faults.specs.Listing.{AreLines, fault_line};
+
+use gtd_records::laws::{listed_faults, one_answer};
+
+/// What the list of a file's faults says. Nothing is listed exactly if the file is accepted. The first line tells the fault
+/// by which the file is refused. Of a file with a header and within the limits of bytes and rows, a row is listed exactly
+/// if its record of text stands for no restriction.
+pub fn listed_lines()
+    ensures nothing { (path bytes : List ℕ) (faults : List RecordFault) (text : List ℕ) → AreFileFaults bytes faults
+        → AreLines path faults text → (text ≡ []) ↔ ((found : List Restriction) × IsFile bytes (Ok found)) }
+    ensures first { (path bytes : List ℕ) (faults : List RecordFault) (text : List ℕ) (why : RecordFault)
+        → AreFileFaults bytes faults → AreLines path faults text → IsFile bytes (Err why)
+        → (line : ℕ) × (after : List ℕ) × (text ≡ fault_line path line why ++ after) }
+    ensures rows { (bytes : List ℕ) (faults : List RecordFault) (v : Version) (rows : List Fields) → AreFileFaults bytes faults
+        → length bytes ≤ most_file_bytes → records default_config (strip_bom bytes) ≡ header v ∷ rows
+        → length rows ≤ most_rows
+        → (n : ℕ) → Contains (map row_number faults) n ↔ IsFaultyRow v rows n }
+{
+    listed_faults();
+    one_answer();
+}

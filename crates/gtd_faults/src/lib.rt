@@ -1,0 +1,16 @@
+//! The list of all faults of a record file, in words: a line for each, in the order of the rows.
+#![tactic(auto)]
+
+pub use list_fault::ListFault;
+pub use printable::Printable;
+pub use run::run_faults;
+pub use words::FaultText;
+
+mod below;
+pub mod laws;
+mod lines;
+mod list_fault;
+mod places;
+mod printable;
+mod run;
+mod words;

@@ -1,0 +1,139 @@
+//! Where the rows of a file stand, and what is shown of them.
+
+use crate::below::Below;
+use crate::printable::is_printable;
+use csv::{ByteRecord, Reader, ReaderBuilder};
+use gtd_records::RecordFault;
+use std::alloc::{AllocError, Global};
+
+/// The rows of a file's bytes, gone through in their order. The header is row 0.
+#[derive(Drop)]
+pub(crate) struct Rows<'a> {
+    bytes: &'a [u8],
+    reader: Reader<&'a [u8]>,
+    row: ByteRecord,
+    passed: u32,
+    counted: usize,
+    line: u64,
+}
+
+impl<'a> Rows<'a> {
+    /// The rows of these bytes.
+    pub(crate) fn new(alloc: Global, bytes: &'a [u8]) -> Rows<'a> {
+        let reader = ReaderBuilder::new()
+            .has_headers(false)
+            .flexible(true)
+            .from_reader(alloc, bytes);
+        Rows {
+            bytes,
+            reader,
+            row: ByteRecord::new(alloc),
+            passed: 0,
+            counted: 0,
+            line: 1,
+        }
+    }
+
+    /// Goes on to the row of a fault, which is none of a row before.
+    pub(crate) fn go_to(&mut self, fault: RecordFault) -> Result<(), AllocError> {
+        let end = row_of(fault).saturating_add(1);
+        for _row in self.passed..end {
+            if self.reader.read_byte_record(&mut self.row).is_err() {
+                return Err(AllocError);
+            }
+        }
+        self.passed = self.passed.max(end);
+        self.count_lines();
+        Ok(())
+    }
+
+    // Counts the lines before the row.
+    fn count_lines(&mut self) {
+        let start = match self.row.position() {
+            Some(position) => position.byte() as usize,
+            None => 0,
+        };
+        let Some(before) = self.bytes.get(self.counted..start) else {
+            return;
+        };
+        for byte in before {
+            if *byte == 10 {
+                self.line = self.line.saturating_add(1);
+            }
+        }
+        self.counted = start;
+    }
+
+    /// The line on which the row begins, from 1.
+    pub(crate) fn line(&self) -> u64 {
+        let mut line = self.line;
+        let Some(rest) = self.bytes.get(self.counted..) else {
+            return line;
+        };
+        // A row's place may be before the line feed that ends the row before it, and before empty lines.
+        for byte in rest {
+            match *byte {
+                10 => line = line.saturating_add(1),
+                13 => {}
+                _ => break,
+            }
+        }
+        line
+    }
+
+    /// What is shown of the row, below the line of its fault.
+    pub(crate) fn below(&self, fault: RecordFault) -> Below<'_> {
+        match fault {
+            RecordFault::Header => Below::Header {
+                found: first_line(self.bytes),
+            },
+            RecordFault::Element { .. } => self.field(0, 0),
+            RecordFault::Direction { .. } => self.field(1, 0),
+            RecordFault::Vehicle { .. } => self.field(2, 0),
+            RecordFault::Domain { fault, .. } => self.field(3, fault.place),
+            _ => Below::Nothing,
+        }
+    }
+
+    // A field of the row, with a caret below this byte of it.
+    fn field(&self, index: usize, place: usize) -> Below<'_> {
+        match self.row.get(index) {
+            Some(field) => Below::Field {
+                field,
+                columns: columns_before(field, place),
+            },
+            None => Below::Nothing,
+        }
+    }
+}
+
+// The row of a fault, and 0 where it is of none.
+fn row_of(fault: RecordFault) -> u32 {
+    match fault {
+        RecordFault::FieldCount { row } => row,
+        RecordFault::Element { row } => row,
+        RecordFault::Direction { row } => row,
+        RecordFault::Vehicle { row } => row,
+        RecordFault::Domain { row, .. } => row,
+        RecordFault::TooManyRows => 65_537,
+        _ => 0,
+    }
+}
+
+// The columns that the bytes before this place are shown in.
+fn columns_before(field: &[u8], place: usize) -> usize {
+    let mut columns = 0usize;
+    for byte in &field[..place.min(field.len())] {
+        columns = columns.saturating_add(if is_printable(*byte) { 1 } else { 4 });
+    }
+    columns
+}
+
+// The bytes before the first end of a line.
+fn first_line(bytes: &[u8]) -> &[u8] {
+    let end = bytes.iter().position(|byte| *byte == 10 || *byte == 13);
+    match end {
+        Some(end) => &bytes[..end],
+        None => bytes,
+    }
+}

@@ -1,0 +1,130 @@
+//! The faults of the record file that an input brings, listed to an output.
+
+ghost use Rattle.std.specs.Prelude.{◌≡◌, ◌≢◌, ◌⊎◌, ◌<◌, IfErr, IfOk, IfSome, IsErrOf, IsTrue, OnErr, OnOk};
+ghost use Rattle.std.specs.Io.KnownBytes.{Appends, Keeps};
+ghost use Rattle.gtd_records.specs.Faults.{AreFileFaults};
+ghost use Rattle.gtd_faults.specs.Run.{HasListed, HasPut, TookSome, failures_after_listing, failures_after_reading};
+
+use crate::lines::lines_of;
+use crate::list_fault::{ListFault, fault_of_input};
+use gtd_core::limits::MOST_FILE_BYTES;
+use gtd_devices::{Input, InputFault, MemoryIn, Output, read_whole};
+use gtd_records::{RecordFault, read_faults};
+use gtd_runs::{Progress, finish, put_line};
+use std::alloc::{AllocError, Global};
+
+// Puts a text, and ends the output.
+fn put_text<O: Output>(output: &mut O, text: &str) -> Result<(), ListFault>
+    requires writable { O.failure_count output.old < u64.MAX }
+    ensures whole { OnOk result (Appends (O.taken output.old) (O.taken output.new) text.now) }
+    ensures part { OnErr result (TookSome (O.taken output.old) (O.taken output.new) text.now) }
+    ensures ended { OnOk result (IsTrue (O.is_ended output.new)) }
+    ensures cause { IfErr result (λ why. why ≡ ListFault.WriteFault) }
+    ensures failures { O.failure_count output.new
+        ≡ failures_after_listing result (O.failure_count output.old) }
+{
+    let mut progress = Progress::new();
+    match put_line(output, &mut progress, text.as_bytes()) {
+        Ok(()) => match finish(output) {
+            Ok(()) => Ok(()),
+            Err(_) => Err(ListFault::WriteFault),
+        },
+        Err(_) => Err(ListFault::WriteFault),
+    }
+}
+
+// The list of these faults of the file with this path and these bytes, put: their number.
+fn put_faults<O: Output>(
+    alloc: Global,
+    output: &mut O,
+    path: &str,
+    bytes: &[u8],
+    faults: &[RecordFault],
+) -> Result<usize, ListFault>
+    requires writable { O.failure_count output.old < u64.MAX }
+    ensures put { HasPut path.now faults.now (O.taken output.old) (O.taken output.new) result }
+    ensures cause { IfErr result (λ why. (why ≡ ListFault.WriteFault) ⊎ ((why ≡ ListFault.NoMemory)
+        × Keeps (O.taken output.old) (O.taken output.new))) }
+    ensures ended { OnOk result (IsTrue (O.is_ended output.new)) }
+    ensures failures { O.failure_count output.new
+        ≡ failures_after_listing result (O.failure_count output.old) }
+{
+    let Ok(text) = lines_of(alloc, path, bytes, faults) else {
+        return Err(ListFault::NoMemory);
+    };
+    match put_text(output, text.as_str()) {
+        Ok(()) => Ok(faults.len()),
+        Err(why) => Err(why),
+    }
+}
+
+// All faults of a file with these bytes. An input of bytes in memory does not fail, so that only memory may be refused.
+fn faults_of(alloc: Global, bytes: &[u8]) -> Result<Vec<RecordFault>, AllocError>
+    ensures { IfOk result (λ faults. AreFileFaults bytes.now faults.items) }
+{
+    let copy = Vec::from_slice(alloc, bytes)?;
+    let mut input = MemoryIn::new(copy, 4_096, None, None);
+    match read_faults(alloc, &mut input) {
+        Ok(faults) => Ok(faults),
+        Err(_) => Err(AllocError),
+    }
+}
+
+// The list of all faults of the file with this path and these bytes, put.
+fn put_list<O: Output>(
+    alloc: Global,
+    output: &mut O,
+    path: &str,
+    bytes: &[u8],
+) -> Result<usize, ListFault>
+    requires writable { O.failure_count output.old < u64.MAX }
+    ensures listed { HasListed path.now bytes.now (O.taken output.old) (O.taken output.new) result }
+    ensures cause { IfErr result (λ why. (why ≡ ListFault.WriteFault) ⊎ ((why ≡ ListFault.NoMemory)
+        × Keeps (O.taken output.old) (O.taken output.new))) }
+    ensures ended { OnOk result (IsTrue (O.is_ended output.new)) }
+    ensures failures { O.failure_count output.new
+        ≡ failures_after_listing result (O.failure_count output.old) }
+{
+    let Ok(faults) = faults_of(alloc, bytes) else {
+        return Err(ListFault::NoMemory);
+    };
+    put_faults(alloc, output, path, bytes, faults.as_slice())
+}
+
+/// Puts the list of all faults of the record file that an input brings, and answers their number. Each fault has a line: the
+/// file's path, as [`crate::Printable`] shows it, the line of the file on which its row begins, the row, and its kind. Below
+/// it stands the field at fault with a caret at the place, or the first line of a file that has no header.
+///
+/// Each row that stands for no restriction is listed, in order, and `TooManyRows` behind those of the first 65,536 rows;
+/// `TooLarge` or `Header` alone. Nothing is listed exactly where the file is accepted, and the first line tells the fault
+/// by which [`gtd_records::read_records`] refuses it. Nothing is put before the whole file was read. The caller keeps the
+/// failures of both devices under `u64::MAX` before the call.
+pub fn run_faults<I: Input, O: Output>(
+    alloc: Global,
+    input: &mut I,
+    output: &mut O,
+    path: &str,
+) -> Result<usize, ListFault>
+    requires readable { I.failure_count input.old < u64.MAX }
+    requires writable { O.failure_count output.old < u64.MAX }
+    // What the output took, by the answer: all lines of the file's faults, or, after a failure, the first bytes of them.
+    ensures listed { IfSome (I.to_come input.old)
+        (λ bytes. HasListed path.now bytes (O.taken output.old) (O.taken output.new) result) }
+    // Where the input failed or memory was refused, nothing was put.
+    ensures kept { IfErr result (λ why. why ≢ ListFault.WriteFault → Keeps (O.taken output.old) (O.taken output.new)) }
+    // The end comes last: an output that took the whole list was then ended.
+    ensures ended { OnOk result (IsTrue (O.is_ended output.new)) }
+    ensures endless { IsErrOf result ListFault.Endless → IsTrue (I.may_fall_silent input.old) }
+    ensures read_faults { I.failure_count input.new
+        ≡ failures_after_reading result (I.failure_count input.old) }
+    ensures write_faults { O.failure_count output.new
+        ≡ failures_after_listing result (O.failure_count output.old) }
+{
+    match read_whole(alloc, input, MOST_FILE_BYTES) {
+        Ok(bytes) => put_list(alloc, output, path, bytes.as_slice()),
+        Err(InputFault::TooLarge) => {
+            put_faults(alloc, output, path, &[], &[RecordFault::TooLarge])
+        }
+        Err(why) => Err(fault_of_input(why)),
+    }
+}

@@ -1,0 +1,36 @@
+//! The words of a fault.
+
+ghost use Rattle.std.specs.Prelude.{Some};
+ghost use Rattle.gtd_faults.specs.Listing.{fault_text};
+
+use gtd_records::RecordFault;
+use std::fmt;
+use std::fmt::{Display, Formatter};
+
+/// A fault in words: its row, where it is one of a row, and its kind, with the place where it is one of a domain.
+#[derive(Clone, Copy)]
+pub struct FaultText(pub RecordFault);
+
+impl Display for FaultText {
+    ghost output = { λ shown. Some (fault_text shown.0) };
+
+    fn fmt<W: fmt::Write>(&self, f: &mut Formatter<W>) -> fmt::Result {
+        match self.0 {
+            RecordFault::ReadFault => write!(f, "ReadFault"),
+            RecordFault::TooLarge => write!(f, "TooLarge"),
+            RecordFault::Header => write!(f, "Header"),
+            RecordFault::FieldCount { row } => write!(f, "row {row}: FieldCount"),
+            RecordFault::Element { row } => write!(f, "row {row}: Element"),
+            RecordFault::Direction { row } => write!(f, "row {row}: Direction"),
+            RecordFault::Vehicle { row } => write!(f, "row {row}: Vehicle"),
+            RecordFault::Domain { row, fault } => {
+                let kind = fault.kind.name();
+                let place = fault.place;
+                write!(f, "row {row}: Domain {kind} at {place}")
+            }
+            RecordFault::TooManyRows => write!(f, "row 65537: TooManyRows"),
+            RecordFault::NoMemory => write!(f, "NoMemory"),
+            RecordFault::Endless => write!(f, "Endless"),
+        }
+    }
+}

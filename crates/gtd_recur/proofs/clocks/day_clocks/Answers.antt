@@ -1,0 +1,5 @@
+use Rattle.gtd_recur.proofs.ClockSearch.{last_is_some}
+use Rattle.gtd_recur.proofs.clocks.day_clocks.Goals as goal
+
+pub unwrap-requires : goal.unwrap-requires
+unwrap-requires c = last_is_some c.args.start.now c.requires.valid c.latest_begin.result c.latest_begin.ensures
