@@ -1,5 +1,5 @@
--- The command line as it is described to `clap`. Which of the words that are given is which word of a command is said by the
--- specification of that library.
+-- The command line as it is described to `clap`. The specification of that library says which of the given words is which
+-- word of a command.
 use Rattle.std.specs.Prelude.{◌≡◌, ◌⊎◌, ℕ, Bool, true, false, List, [], Option, Some, None, codes, option_and_then}
 use Rattle.std.specs.Prelude.{if◌then◌else◌}
 use Rattle.std.specs.Str.{bytes_eq}
@@ -18,7 +18,7 @@ use Rattle.clap.specs.declared.error.kind.ErrorKind.TheVariants.{DisplayHelp, Di
 abbrev pub Text : Type 0
 Text = List ℕ
 
--- A word of a command, by the name that help gives it. It must be given.
+-- A word of a command, under the name that help shows. It must be given.
 abbrev pub word_rule : Text → Rule
 word_rule name = record (new_rule name) { action = Some Set; required = true }
 
@@ -26,7 +26,7 @@ word_rule name = record (new_rule name) { action = Some Set; required = true }
 abbrev pub IsLocal : Command → Type 0
 IsLocal command = (out-Command command).has_globals ≡ false
 
--- The command `now` with no word yet.
+-- The command `now` without its words.
 abbrev pub bare_now : App
 bare_now = new_app (codes "now")
 
@@ -36,7 +36,7 @@ now_app =
     with_rule (with_rule (with_rule bare_now (word_rule (codes "FILE"))) (word_rule (codes "MOMENT")))
     (word_rule (codes "VEHICLE"))
 
--- The command `faults` with no word yet.
+-- The command `faults` without its word.
 abbrev pub bare_faults : App
 bare_faults = new_app (codes "faults")
 
@@ -44,7 +44,7 @@ bare_faults = new_app (codes "faults")
 abbrev pub faults_app : App
 faults_app = with_rule bare_faults (word_rule (codes "FILE"))
 
--- The program with no command yet: a command has to follow, and there is a version to show.
+-- The program without its commands: one must be given, and there is a version to show.
 abbrev pub none_given : App
 none_given = record {
   top = record (new_shape (codes "gtdesk")) { no_binary_name = true; has_version = true; subcommand_required = true };
@@ -55,12 +55,12 @@ none_given = record {
 abbrev pub desk_app : App
 desk_app = with_subcommand (with_subcommand none_given now_app.top) faults_app.top
 
--- Three values, where all are given.
+-- Three values, if all are given.
 abbrev pub all_three : Option Text → Option Text → Option Text → Option (Text × Text × Text)
 all_three (Some first) (Some second) (Some third) = Some (first, second, third)
 all_three first second third = None
 
--- The words of the command `now`, of a command's name and of what was found for it.
+-- The words of the command `now`, from a command's name and what was found for it.
 abbrev pub now_given : Text × List Row → Option (Text × Text × Text)
 now_given found =
     if bytes_eq found.0 (codes "now")
@@ -71,7 +71,7 @@ now_given found =
 abbrev pub now_words_of : List Text → Option (Text × Text × Text)
 now_words_of words = option_and_then now_given (subcommand_of desk_app words)
 
--- The word of the command `faults`, of a command's name and of what was found for it.
+-- The word of the command `faults`, from a command's name and what was found for it.
 abbrev pub faults_given : Text × List Row → Option Text
 faults_given found = if bytes_eq found.0 (codes "faults") then first_of (codes "FILE") found.1 else None
 
@@ -79,22 +79,22 @@ faults_given found = if bytes_eq found.0 (codes "faults") then first_of (codes "
 abbrev pub faults_word_of : List Text → Option Text
 faults_word_of words = option_and_then faults_given (subcommand_of desk_app words)
 
--- The words give the command `faults`, with this one.
+-- The words give the command `faults` with this word.
 pub record AreFaultsWords (words : List Text) (file : Text) : Type 0 where
   pub faultless : fault_of desk_app words ≡ []
   pub given : faults_word_of words ≡ Some file
 
--- The words give the command `now`, with these.
+-- The words give the command `now` with these words.
 pub record AreNowWords (words : List Text) (file moment vehicle : Text) : Type 0 where
   pub faultless : fault_of desk_app words ≡ []
   pub given : now_words_of words ≡ Some (file, moment, vehicle)
 
--- The matches are those of the words, which have no fault.
+-- The words have no fault, and the matches are theirs.
 pub record HasWords (words : List Text) (m : ArgMatches) : Type 0 where
   pub faultless : fault_of desk_app words ≡ []
   pub entered : subcommand_rows_of m ≡ subcommand_of desk_app words
 
--- The error is want of memory.
+-- The error is a refusal of memory.
 abbrev pub is_memory : ErrorKind → Bool
 is_memory OutOfMemory = true
 is_memory _ = false
@@ -109,7 +109,7 @@ is_request _ = false
 abbrev pub AskForText : List Text → Type 0
 AskForText words = (kind : ErrorKind) × IsAmong kind (fault_of desk_app words) × (is_request kind ≡ true)
 
--- The words have a fault that is no request for help; or they give no command, with each of its words.
+-- The words have a fault that is not a request for help; or they do not give a command with all of its words.
 abbrev pub AreMistaken : List Text → Type 0
 AreMistaken words =
     ((kind : ErrorKind) × IsAmong kind (fault_of desk_app words) × (is_request kind ≡ false))

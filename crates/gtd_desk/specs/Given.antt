@@ -1,4 +1,4 @@
--- The words of a command that were read.
+-- The words of a command, as they were read.
 use Rattle.gtd_desk.specs.CommandLine.{Text}
 use Rattle.gtd_desk.specs.declared.arguments.NowWords.{NowWords}
 

@@ -32,11 +32,11 @@ file_of (plan.Now file moment vehicle) = Some (string_bytes file)
 file_of (plan.Faults file) = Some (string_bytes file)
 file_of (plan.Show text) = None
 
--- The word stands for no vehicle type.
+-- The word does not stand for a vehicle type.
 abbrev pub IsNoVehicle : Text → Type 0
 IsNoVehicle text = (vehicle : ℕ) → number_of text ≡ Some vehicle → IsVehicleType vehicle → ⊥
 
--- The words give the command `now` with a moment that is none.
+-- The words give the command `now`, and the word for the moment does not stand for one.
 pub record HaveMomentFault (words : List Text) (fault : StampFault) : Type 0 where
   pub file : Text
   pub moment : Text
@@ -44,7 +44,7 @@ pub record HaveMomentFault (words : List Text) (fault : StampFault) : Type 0 whe
   pub given : AreNowWords words file moment vehicle
   pub has : stamp_in moment ≡ Err fault
 
--- The words give the command `now` with a moment, and with a vehicle type that is none.
+-- The words give the command `now` with a moment, and the word for the vehicle type does not stand for one.
 pub record HaveNoVehicle (words : List Text) : Type 0 where
   pub file : Text
   pub moment : Text
@@ -54,25 +54,25 @@ pub record HaveNoVehicle (words : List Text) : Type 0 where
   pub moment_read : stamp_in moment ≡ Ok second
   pub none : IsNoVehicle vehicle
 
--- The plan is of `now`, with this file, moment and vehicle type.
+-- The plan is for `now`, with this file, moment and vehicle type.
 abbrev pub IsNowPlan : Text → Sec → ℕ → Plan → Type 0
 IsNowPlan file moment vehicle (plan.Now f m v) = (string_bytes f ≡ file) × (m.second ≡ moment) × (v ≡ vehicle)
 IsNowPlan file moment vehicle (plan.Faults f) = ⊥
 IsNowPlan file moment vehicle (plan.Show text) = ⊥
 
--- The plan is of `faults`, with this file.
+-- The plan is for `faults`, with this file.
 abbrev pub IsFaultsPlan : Text → Plan → Type 0
 IsFaultsPlan file (plan.Now f m v) = ⊥
 IsFaultsPlan file (plan.Faults f) = string_bytes f ≡ file
 IsFaultsPlan file (plan.Show text) = ⊥
 
--- The words give the command `now`, and the first of its words that stands for nothing is refused so.
+-- The words give the command `now`, and this is the refusal for the first of its words that stands for nothing.
 abbrev pub IsWordFault : List Text → Refusal → Type 0
 IsWordFault words (refusal.Moment fault) = HaveMomentFault words fault
 IsWordFault words refusal.Vehicle = HaveNoVehicle words
 IsWordFault words r = ⊥
 
--- Why words are refused. Want of memory is no fault of theirs.
+-- Why words are refused. Refused memory is not a fault of theirs.
 abbrev pub IsRefusalOf : List Text → Refusal → Type 0
 IsRefusalOf words (refusal.Usage why) = AreMistaken words
 IsRefusalOf words (refusal.Moment fault) = HaveMomentFault words fault

@@ -28,12 +28,12 @@ refusal_for run.VehicleRange = refusal.Vehicle
 refusal_for run.YearRange = refusal.Vehicle
 refusal_for run.NoElement = refusal.Vehicle
 
--- The answer of a command, for that of its run.
+-- The answer of a command, from that of its run.
 abbrev pub outcome_of : Result ℕ RunFault → Result Ending Refusal
 outcome_of (Ok count) = Ok ending.Done
 outcome_of (Err fault) = Err (refusal_for fault)
 
--- The run of `now` had an answer, by which all that the run promises is so.
+-- The run of `now` had an answer, and all that the run promises for this answer holds.
 pub record RanNow (vehicle : ℕ) (second : ℤ) (file old new : Option (List ℕ)) (silent ended : Bool)
     (result : Result Ending Refusal) : Type 0 where
   pub answer : Result ℕ RunFault
@@ -48,7 +48,7 @@ pub record RanNow (vehicle : ℕ) (second : ℤ) (file old new : Option (List �
   pub element : IsErrOf answer run.NoElement → ⊥
   pub endless : IsErrOf answer (run.Records records.Endless) → IsTrue silent
 
--- The answer of a command, for that of its list of faults.
+-- The answer of a command, from that of its list of faults.
 abbrev pub listing_outcome : Result ℕ ListFault → Result Ending Refusal
 listing_outcome (Ok zero) = Ok ending.Done
 listing_outcome (Ok (suc count)) = Ok ending.FaultsListed
@@ -57,7 +57,7 @@ listing_outcome (Err list.Endless) = Err (refusal.Records records.Endless)
 listing_outcome (Err list.WriteFault) = Err refusal.Write
 listing_outcome (Err list.NoMemory) = Err refusal.Memory
 
--- The run of `faults` had an answer, by which all that the run promises is so.
+-- The run of `faults` had an answer, and all that the run promises for this answer holds.
 pub record RanFaults (path : List ℕ) (file old new : Option (List ℕ)) (silent ended : Bool)
     (result : Result Ending Refusal) : Type 0 where
   pub answer : Result ℕ ListFault
@@ -67,7 +67,7 @@ pub record RanFaults (path : List ℕ) (file old new : Option (List ℕ)) (silen
   pub whole : OnOk answer (IsTrue ended)
   pub endless : IsErrOf answer list.Endless → IsTrue silent
 
--- What a plan did to the output, by its answer: a text that is asked for is taken whole, and the output is then ended.
+-- What a plan did to the output, by its answer. A text that was asked for is taken whole, and then the output is ended.
 abbrev pub HasRunPlan : Plan → Option (List ℕ) → Option (List ℕ) → Option (List ℕ) → Bool → Bool
     → Result Ending Refusal → Type 0
 HasRunPlan (plan.Now path moment vehicle) file old new silent ended result =
@@ -77,12 +77,12 @@ HasRunPlan (plan.Show text) file old new silent ended result =
     IfOk result (λ e. (e ≡ ending.Done) × Appends old new (string_bytes text) × IsTrue ended)
     × IfErr result (λ r. r ≡ refusal.Write)
 
--- The exit status of a plan that was carried out: 1 where faults were listed.
+-- The exit status of a plan that was carried out: 1 if faults were listed.
 abbrev pub ending_status : Ending → ℕ
 ending_status ending.Done = 0
 ending_status ending.FaultsListed = 1
 
--- The exit status of a refusal: 1 where the input is refused, 2 for usage, 3 where opening, reading, writing or memory failed.
+-- The exit status of a refusal: 1 if the input is refused, 2 for usage, 3 if opening, reading, writing or memory failed.
 abbrev pub records_status : RecordFault → ℕ
 records_status records.ReadFault = 3
 records_status records.Endless = 3

@@ -21,7 +21,7 @@ pub(crate) struct NowWords<'a> {
     pub(crate) vehicle: &'a str,
 }
 
-// Adds a word that must be given, by the name that help gives it.
+// Adds a word that must be given, under the name that help shows.
 fn add_word<'a>(
     alloc: Global,
     command: Command<'a>,
@@ -39,7 +39,7 @@ fn add_word<'a>(
     command.arg(word)
 }
 
-// The command `now` with no word yet.
+// The command `now` without its words.
 fn bare_now<'a>(alloc: Global) -> Command<'a>
     ensures app { app_of result ≡ bare_now }
     ensures local { IsLocal result }
@@ -70,7 +70,7 @@ fn now_command<'a>(alloc: Global) -> Result<Command<'a>, AllocError>
     add_word(alloc, command, "VEHICLE", "The vehicle type, from 1 to 99")
 }
 
-// The command `faults` with no word yet.
+// The command `faults` without its word.
 fn bare_faults<'a>(alloc: Global) -> Command<'a>
     ensures app { app_of result ≡ bare_faults }
     ensures local { IsLocal result }
@@ -94,7 +94,7 @@ fn faults_command<'a>(alloc: Global) -> Result<Command<'a>, AllocError>
     )
 }
 
-// The program with no command yet. Usage has its name before that of a command, though its words have not.
+// The program without its commands. A usage line begins with the program's name; the words that are read do not.
 fn without_commands<'a>(alloc: Global) -> Result<Command<'a>, AllocError>
     ensures { IfOk result (λ c. app_of c ≡ none_given) }
 {
@@ -106,7 +106,6 @@ fn without_commands<'a>(alloc: Global) -> Result<Command<'a>, AllocError>
         .bin_name("gtdesk")
 }
 
-// Adds a command.
 fn add_command<'a>(program: Command<'a>, command: Command<'a>) -> Result<Command<'a>, AllocError>
     requires local { IsLocal command }
     ensures { IfOk result (λ c.
@@ -126,7 +125,7 @@ fn gtdesk<'a>(alloc: Global) -> Result<Command<'a>, AllocError>
     add_command(program, faults)
 }
 
-/// The words as `clap` finds them, or why it finds none.
+/// What `clap` finds in the words, or its error.
 pub(crate) fn parse<'a>(alloc: Global, words: &'a [String]) -> Result<ArgMatches<'a>, clap::Error>
     ensures found { IfOk result (HasWords (map string_bytes words.entry.now)) }
     ensures refused { IfErr result (HasKind (fault_of desk_app (map string_bytes words.entry.now))) }
@@ -135,14 +134,14 @@ pub(crate) fn parse<'a>(alloc: Global, words: &'a [String]) -> Result<ArgMatches
     program.try_get_matches_from(words)
 }
 
-// The word that was found for this name.
+// The word found under this name.
 fn value<'a>(given: &ArgMatches<'a>, name: &str) -> Option<&'a str>
     ensures { option_map (λ s. s.now) result ≡ first_of name.now (rows_of (found_of given.now)) }
 {
     given.get_str(name)
 }
 
-// The words of `now`, where all are given.
+// The words of `now`, if all are given.
 fn gather<'a>(
     file: Option<&'a str>,
     moment: Option<&'a str>,
@@ -158,7 +157,7 @@ fn gather<'a>(
     })
 }
 
-// The words of a command of this name.
+// The words of `now`, if this is the command's name.
 fn words_of<'a>(name: &str, given: &ArgMatches<'a>) -> Option<NowWords<'a>>
     ensures { option_map texts_of result ≡ now_given (name.now, rows_of (found_of given.now)) }
 {
@@ -173,7 +172,7 @@ fn words_of<'a>(name: &str, given: &ArgMatches<'a>) -> Option<NowWords<'a>>
     }
 }
 
-/// The words of `now` that the matches hold.
+/// The words of `now`, if the matches hold them.
 pub(crate) fn now_words<'a>(matches: &ArgMatches<'a>) -> Option<NowWords<'a>>
     ensures { option_map texts_of result ≡ option_and_then now_given (subcommand_rows_of matches.now) }
 {
@@ -183,7 +182,7 @@ pub(crate) fn now_words<'a>(matches: &ArgMatches<'a>) -> Option<NowWords<'a>>
     }
 }
 
-// The word of a command of this name.
+// The word of `faults`, if this is the command's name.
 fn word_of<'a>(name: &str, given: &ArgMatches<'a>) -> Option<&'a str>
     ensures { option_map (λ s. s.now) result ≡ faults_given (name.now, rows_of (found_of given.now)) }
 {
@@ -193,7 +192,7 @@ fn word_of<'a>(name: &str, given: &ArgMatches<'a>) -> Option<&'a str>
     }
 }
 
-/// The word of `faults` that the matches hold.
+/// The word of `faults`, if the matches hold it.
 pub(crate) fn faults_word<'a>(matches: &ArgMatches<'a>) -> Option<&'a str>
     ensures { option_map (λ s. s.now) result ≡ option_and_then faults_given (subcommand_rows_of matches.now) }
 {

@@ -1,19 +1,19 @@
-//! How a plan that was carried out ends.
+//! How a plan ended that was carried out.
 
 ghost use Rattle.std.specs.Prelude.{◌≡◌};
 ghost use Rattle.gtd_desk.specs.Running.{ending_status};
 
-/// How a plan that was carried out ends.
+/// How a plan ended that was carried out.
 #[derive(Clone, Copy)]
 pub enum Ending {
     /// What was asked for was put.
     Done,
-    /// What was put are faults of a file.
+    /// A file's faults were put.
     FaultsListed,
 }
 
 impl Ending {
-    /// The exit status: 1 where faults were listed, and else 0.
+    /// The exit status: 1 if faults were listed, otherwise 0.
     pub fn status(&self) -> u8
         ensures value { result ≡ ending_status self.now }
     {

@@ -1,4 +1,4 @@
-//! The line for standard error that tells a refusal.
+//! The line for standard error that reports a refusal.
 
 use crate::refusal::Refusal;
 use gtd_calendar::StampFault;
@@ -6,7 +6,7 @@ use gtd_faults::{FaultText, Printable};
 use std::fmt;
 use std::fmt::{Display, Formatter};
 
-// Why a text is no moment, in words.
+// Why a text is not a moment, in words.
 fn moment_reason(fault: StampFault) -> &'static str {
     match fault {
         StampFault::Shape => "not of the form YYYY-MM-DDThh:mm:ss",
@@ -15,12 +15,12 @@ fn moment_reason(fault: StampFault) -> &'static str {
     }
 }
 
-/// The line for standard error that tells a refusal, without its end: `gtdesk: WHERE: WHAT`.
+/// The line for standard error that reports a refusal, without its line end: `gtdesk: WHERE: WHAT`.
 #[derive(Drop)]
 pub struct RefusalLine<'a> {
     /// The refusal.
     pub refusal: Refusal,
-    /// The name of the record file, where one is read.
+    /// The name of the record file, if one is read.
     pub file: &'a str,
 }
 

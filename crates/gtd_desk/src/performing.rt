@@ -31,7 +31,7 @@ fn run_refusal(fault: RunFault) -> Refusal
     }
 }
 
-// The answer of a command, for that of its run.
+// The answer of a command, from that of its run.
 fn outcome(answer: Result<u64, RunFault>) -> Result<Ending, Refusal>
     ensures value { result ≡ outcome_of answer }
 {
@@ -57,7 +57,7 @@ fn print_now<I: Input, O: Output>(
     outcome(run_now(alloc, input, output, vehicle, moment.second))
 }
 
-// The answer of `faults`, for that of its list.
+// The answer of `faults`, from that of its list.
 fn listing_outcome(answer: Result<usize, ListFault>) -> Result<Ending, Refusal>
     ensures value { result ≡ listing_outcome answer }
 {
@@ -71,7 +71,7 @@ fn listing_outcome(answer: Result<usize, ListFault>) -> Result<Ending, Refusal>
     }
 }
 
-// Lists the faults of the record file that the input brings, which has this path.
+// Lists the faults of the record file with this path, whose bytes the input brings.
 fn list_faults<I: Input, O: Output>(
     alloc: Global,
     input: &mut I,
@@ -101,7 +101,6 @@ fn print_text<O: Output>(output: &mut O, text: &str) -> Result<Ending, Refusal>
     }
 }
 
-// Ends the output.
 fn end<O: Output>(output: &mut O) -> Result<Ending, Refusal>
     requires writable { O.failure_count output.old < u64.MAX }
     ensures whole { Keeps (O.taken output.old) (O.taken output.new) }
@@ -116,10 +115,10 @@ fn end<O: Output>(output: &mut O) -> Result<Ending, Refusal>
 }
 
 /// Carries a plan out: puts what it asks for, and ends the output. The input brings the bytes of the plan's record file;
-/// where the plan reads none, nothing is pulled.
+/// if the plan reads none, nothing is pulled.
 ///
-/// `Records` is the file's first fault, or why the input failed; `Write` and `Memory` are answered where the output failed
-/// and where memory was refused. The caller keeps the failures of both devices under `u64::MAX` before the call.
+/// `Records` is the file's first fault, or why the input failed; `Write` and `Memory` are answered if the output failed and
+/// if memory was refused. Before the call, the failures of both devices must be below `u64::MAX`.
 pub fn perform<I: Input, O: Output>(
     alloc: Global,
     plan: &Plan,

@@ -22,7 +22,7 @@ use gtd_calendar::{StampFault, read_stamp};
 use gtd_records::read_number;
 use std::alloc::Global;
 
-// Whether help or the version is asked for.
+// Whether the words ask for help or the version.
 fn is_request(kind: ErrorKind) -> bool
     ensures { result ≡ spec.is_request kind }
 {
@@ -43,7 +43,7 @@ fn is_memory(kind: ErrorKind) -> bool
     }
 }
 
-// The plan to show the text of a request.
+// The plan that shows the text asked for.
 fn show(alloc: Global, error: &clap::Error) -> Result<Plan, Refusal>
     ensures { MatchResult result (λ plan. (words : List Text) → AskForText words → AskFor words plan)
         (λ r. r ≡ Refusal.Memory) }
@@ -54,7 +54,7 @@ fn show(alloc: Global, error: &clap::Error) -> Result<Plan, Refusal>
     }
 }
 
-// What the words come to where `clap` finds nothing: a text that they ask for, or a refusal.
+// The plan for words in which `clap` finds no command: to show the text that they ask for. Otherwise their refusal.
 fn plan_error(alloc: Global, error: &clap::Error) -> Result<Plan, Refusal>
     ensures { (words : List Text) → HasKind (fault_of desk_app words) error.now
         → MatchResult result (AskFor words) (IsRefusalOf words) }
@@ -80,7 +80,7 @@ fn moment_of(text: &str) -> Result<Moment, StampFault>
     }
 }
 
-// The vehicle type that a word stands for, if it stands for one.
+// The vehicle type that a word stands for, if any.
 fn vehicle_of(text: &str) -> Option<u8>
     ensures found { IfSome result (λ vehicle. (number_of text.now ≡ Some vehicle) × IsVehicleType vehicle) }
     ensures none { result ≡ None → IsNoVehicle text.now }
@@ -150,8 +150,8 @@ fn plan_words(alloc: Global, words: &[String]) -> Result<Plan, Refusal>
 
 /// What the words after the program's name ask for, or why they are refused.
 ///
-/// In order: `Usage` where they give no command with its words, and ask for no help; `Moment`, where the word for the
-/// moment stands for none; `Vehicle`. Where memory was refused, `Memory` is the answer in place of these.
+/// In order: `Usage` if they neither give a command with its words nor ask for help; `Moment` if the word for the moment
+/// does not stand for one; then `Vehicle`. If memory was refused, `Memory` is the answer in place of these.
 pub fn plan(alloc: Global, words: Vec<String>) -> Result<Plan, Refusal>
     // The plan is what the words ask for.
     ensures asked { IfOk result (AskFor (map string_bytes words.items)) }
@@ -160,9 +160,9 @@ pub fn plan(alloc: Global, words: Vec<String>) -> Result<Plan, Refusal>
         → MatchResult result (IsNowPlan file moment vehicle) (λ r. r ≡ Refusal.Memory) }
     ensures only_faults { (file : Text) → AreFaultsWords (map string_bytes words.items) file
         → MatchResult result (IsFaultsPlan file) (λ r. r ≡ Refusal.Memory) }
-    // The refusal is one of the words, unless memory was refused.
+    // The refusal is one that the words have, unless memory was refused.
     ensures refused { IfErr result (IsRefusalOf (map string_bytes words.items)) }
-    // Words of `now` of which one stands for nothing are refused by the first such, unless memory is refused.
+    // If a word of `now` stands for nothing, the first such word gives the refusal, unless memory is refused.
     ensures first { (refusal : Refusal) → IsWordFault (map string_bytes words.items) refusal
         → MatchResult result (λ plan. ⊥) (λ r. (r ≡ Refusal.Memory) ⊎ (r ≡ refusal)) }
 {

@@ -9,11 +9,11 @@ use gtd_records::RecordFault;
 /// Why a command line is not carried out.
 #[derive(Clone, Copy)]
 pub enum Refusal {
-    /// The words give no command, or are not the words that it takes. This says what is wrong with them.
+    /// The words name no command, or are not the words that it takes. This says what is wrong with them.
     Usage(&'static str),
-    /// The word for a moment stands for none. This is its first fault.
+    /// The word for a moment does not stand for one. This is its first fault.
     Moment(StampFault),
-    /// The word for a vehicle type is no number from 1 to 99.
+    /// The word for a vehicle type is not a number from 1 to 99.
     Vehicle,
     /// The record file is not read. This is its first fault, or why the input failed, and never `NoMemory`.
     Records(RecordFault),
@@ -26,7 +26,7 @@ pub enum Refusal {
 }
 
 impl Refusal {
-    /// The exit status: 1 where the input is refused, 2 for usage, 3 where opening, reading, writing or memory failed.
+    /// The exit status: 1 if the input is refused, 2 for usage, 3 if opening, reading, writing or memory failed.
     pub fn status(&self) -> u8
         ensures value { result ≡ status_of self.now }
     {

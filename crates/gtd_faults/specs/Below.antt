@@ -1,4 +1,4 @@
--- What stands below the line of a fault: each line of it is indented.
+-- What is shown below the line of a fault: indented lines.
 use Rattle.std.specs.Prelude.{◌++◌, ℕ, List, [], codes, replicate}
 use Rattle.gtd_faults.specs.Printable.{printable}
 use Rattle.gtd_faults.specs.declared.below.Below.{Below}
@@ -8,7 +8,7 @@ use Rattle.gtd_faults.specs.declared.below.Below.TheVariants as below
 abbrev pub expected_text : List ℕ
 expected_text = codes "\n    expected: element,direction,vehicle,domain (or vehicles)\n"
 
--- nothing; a field with a caret in the column behind as many; or the first line of a file with no header
+-- nothing; a field, with a caret after this many columns; or the first line of a file without a header
 abbrev pub below_text : Below → List ℕ
 below_text below.Nothing = []
 below_text (below.Field field columns) =

@@ -7,7 +7,7 @@ use Rattle.gtd_faults.specs.Below.{below_text}
 use Rattle.gtd_faults.specs.Printable.{printable}
 use Rattle.gtd_faults.specs.declared.below.Below.{Below}
 
--- the words of a fault: its row, where it is one of a row, and its kind, with the place where it is one of a domain
+-- the words of a fault: its row, if it has one; its kind; and for a fault of a domain, the place
 abbrev pub fault_text : RecordFault → List ℕ
 fault_text fault.ReadFault = codes "ReadFault"
 fault_text fault.TooLarge = codes "TooLarge"
@@ -22,11 +22,11 @@ fault_text fault.TooManyRows = codes "row 65537: TooManyRows"
 fault_text fault.NoMemory = codes "NoMemory"
 fault_text fault.Endless = codes "Endless"
 
--- the line of a fault of the file with this path, with the line of the file that its row begins on, and with its end
+-- the line of a fault, with its line end: the file's path, the line of the file on which its row begins, and the fault
 abbrev pub fault_line : List ℕ → ℕ → RecordFault → List ℕ
 fault_line path line why = printable path ++ codes ":" ++ decimal line ++ codes ": " ++ fault_text why ++ codes "\n"
 
--- The lines of faults, in their order: for each its line, and what stands below it.
+-- The lines of faults, in order: for each its line, and what is shown below it.
 abbrev pub AreLines : List ℕ → List RecordFault → List ℕ → Type 0
 AreLines path [] text = text ≡ []
 AreLines path (why ∷ rest) text =

@@ -3,7 +3,7 @@ use Rattle.std.specs.Prelude.{◌++◌, ◌&&◌, not, ◌==◌, ◌/◌, ◌%�
 use Rattle.std.specs.Prelude.{flat_map, if◌then◌else◌, nat_le}
 use Rattle.std.specs.Fmt.{digit_glyph}
 
--- printable ASCII, and no backslash
+-- printable ASCII other than a backslash
 abbrev pub is_printable : ℕ → Bool
 is_printable byte = nat_le 32 byte && (nat_le byte 126 && not (byte == 92))
 

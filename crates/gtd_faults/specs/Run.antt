@@ -9,12 +9,12 @@ use Rattle.gtd_faults.specs.Listing.{AreLines}
 use Rattle.gtd_faults.specs.declared.list_fault.ListFault.{ListFault}
 use Rattle.gtd_faults.specs.declared.list_fault.ListFault.TheVariants as fault
 
--- The output took some first bytes of a text, which may be none or all of them.
+-- The output took a first part of a text, which may be none or all of it.
 abbrev pub TookSome : Option (List ℕ) → Option (List ℕ) → List ℕ → Type 0
 TookSome old new text = (n : ℕ) × (n ≤ length text) × Appends old new (take n text)
 
--- What the output took of the list of these faults: all of it, and the answer is their number; some first bytes of it,
--- where the output failed; and nothing, where the input failed or memory was refused.
+-- What the output took of the list of these faults: all of it, and the answer is their number; a first part of it, if the
+-- output failed; nothing, if the input failed or memory was refused.
 abbrev pub HasPut : List ℕ → List RecordFault → Option (List ℕ) → Option (List ℕ) → Result ℕ ListFault → Type 0
 HasPut path faults old new (Ok count) =
     (text : List ℕ) × AreLines path faults text × (count ≡ length faults) × Appends old new text
@@ -24,7 +24,7 @@ HasPut path faults old new (Err fault.ReadFault) = Keeps old new
 HasPut path faults old new (Err fault.Endless) = Keeps old new
 HasPut path faults old new (Err fault.NoMemory) = Keeps old new
 
--- The same, of all faults of a file with these bytes.
+-- The same for all faults of a file with these bytes.
 abbrev pub HasListed : List ℕ → List ℕ → Option (List ℕ) → Option (List ℕ) → Result ℕ ListFault → Type 0
 HasListed path bytes old new (Ok count) =
     (faults : List RecordFault) × AreFileFaults bytes faults × HasPut path faults old new (Ok count)
@@ -39,12 +39,12 @@ list_fault_of input.TooLarge = fault.ReadFault
 list_fault_of input.Endless = fault.Endless
 list_fault_of input.NoMemory = fault.NoMemory
 
--- one failure of the input more exactly where the answer is that it failed
+-- one more failure of the input exactly if the answer is that it failed
 abbrev pub failures_after_reading : {T : Type 0} → Result T ListFault → ℕ → ℕ
 failures_after_reading (Err fault.ReadFault) count = count + 1
 failures_after_reading _ count = count
 
--- one failure of the output more exactly where the answer is that it failed
+-- one more failure of the output exactly if the answer is that it failed
 abbrev pub failures_after_listing : {T : Type 0} → Result T ListFault → ℕ → ℕ
 failures_after_listing (Err fault.WriteFault) count = count + 1
 failures_after_listing _ count = count

@@ -1,4 +1,4 @@
-//! What stands below the line of a fault.
+//! What is shown below the line of a fault.
 
 ghost use Rattle.std.specs.Prelude.{◌++◌, Some, codes, replicate};
 ghost use Rattle.gtd_faults.specs.Below.{below_text};
@@ -7,18 +7,18 @@ use crate::printable::Printable;
 use std::fmt;
 use std::fmt::{Display, Formatter};
 
-/// What stands below the line of a fault.
+/// What is shown below the line of a fault.
 #[derive(Clone, Copy)]
 pub(crate) enum Below<'a> {
     /// Nothing.
     Nothing,
-    /// A field, and a caret in the column behind as many.
+    /// A field, and a caret after this many columns.
     Field { field: &'a [u8], columns: usize },
-    /// The first line of a file with no header, and the two that it may have.
+    /// The first line of a file without a header, and the two headers that it may have.
     Header { found: &'a [u8] },
 }
 
-// A caret behind as many spaces.
+// A caret after this many spaces.
 #[derive(Clone, Copy)]
 struct Caret(usize);
 

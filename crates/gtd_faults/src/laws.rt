@@ -1,4 +1,4 @@
-//! Laws of the definitions: calls that do nothing, and whose contracts are what is proved.
+//! Laws of the definitions: calls that do nothing; their contracts are what is proved.
 
 ghost use Rattle.std.specs.Prelude.{◌≡◌, ◌≤◌, ◌++◌, ◌∷◌, ◌↔◌, [], ℕ, List, Ok, Err, length, map};
 ghost use Rattle.std.specs.List.{Contains};
@@ -14,8 +14,8 @@ ghost use Rattle.gtd_faults.specs.Listing.{AreLines, fault_line};
 
 use gtd_records::laws::{listed_faults, one_answer};
 
-/// What the list of a file's faults says. Nothing is listed exactly if the file is accepted. The first line tells the fault
-/// by which the file is refused. Of a file with a header and within the limits of bytes and rows, a row is listed exactly
+/// What the list of a file's faults says. Nothing is listed exactly if the file is accepted. The first line names the fault
+/// for which the file is refused. For a file with a header and within the limits of bytes and rows, a row is listed exactly
 /// if its record of text stands for no restriction.
 pub fn listed_lines()
     ensures nothing { (path bytes : List ℕ) (faults : List RecordFault) (text : List ℕ) → AreFileFaults bytes faults

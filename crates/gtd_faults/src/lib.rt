@@ -1,4 +1,4 @@
-//! The list of all faults of a record file, in words: a line for each, in the order of the rows.
+//! The list of all faults of a record file, in words: a line for each, in row order.
 #![tactic(auto)]
 
 pub use list_fault::ListFault;

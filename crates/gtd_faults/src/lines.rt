@@ -11,7 +11,7 @@ use crate::words::FaultText;
 use gtd_records::RecordFault;
 use std::alloc::{AllocError, Global};
 
-// Writes the line of a fault, and what stands below it, behind what the text has.
+// Appends the line of a fault, and what is shown below it, to the text.
 fn push_fault(
     text: &mut String,
     path: &str,
@@ -27,7 +27,7 @@ fn push_fault(
     write!(text, "{path}:{line}: {words}\n{below}")
 }
 
-// The lines of these faults of the file with this path and these bytes, in their order.
+// The lines of these faults, in order, for the file with this path and these bytes.
 pub(crate) fn lines_of(
     alloc: Global,
     path: &str,

@@ -18,7 +18,7 @@ pub enum ListFault {
     NoMemory,
 }
 
-// The fault of a list, for one of the input. An input that is too large is listed, and has none.
+// Why a list is not put, for a fault of the input. An input that is too large is not one: it is listed.
 pub(crate) fn fault_of_input(fault: InputFault) -> ListFault
     ensures value { result ≡ list_fault_of fault }
 {

@@ -1,4 +1,4 @@
-//! Where the rows of a file stand, and what is shown of them.
+//! Where the rows of a file are, and what is shown of them.
 
 use crate::below::Below;
 use crate::printable::is_printable;
@@ -6,7 +6,7 @@ use csv::{ByteRecord, Reader, ReaderBuilder};
 use gtd_records::RecordFault;
 use std::alloc::{AllocError, Global};
 
-/// The rows of a file's bytes, gone through in their order. The header is row 0.
+/// The rows of a file's bytes, read in order. The header is row 0.
 #[derive(Drop)]
 pub(crate) struct Rows<'a> {
     bytes: &'a [u8],
@@ -34,7 +34,7 @@ impl<'a> Rows<'a> {
         }
     }
 
-    /// Goes on to the row of a fault, which is none of a row before.
+    /// Moves forward to the row of a fault; it never goes back.
     pub(crate) fn go_to(&mut self, fault: RecordFault) -> Result<(), AllocError> {
         let end = row_of(fault).saturating_add(1);
         for _row in self.passed..end {
@@ -47,7 +47,7 @@ impl<'a> Rows<'a> {
         Ok(())
     }
 
-    // Counts the lines before the row.
+    // Counts the lines before the row's place in the reader.
     fn count_lines(&mut self) {
         let start = match self.row.position() {
             Some(position) => position.byte() as usize,
@@ -70,7 +70,7 @@ impl<'a> Rows<'a> {
         let Some(rest) = self.bytes.get(self.counted..) else {
             return line;
         };
-        // A row's place may be before the line feed that ends the row before it, and before empty lines.
+        // The reader may place a row before the line feed that ends the previous row, and before empty lines.
         for byte in rest {
             match *byte {
                 10 => line = line.saturating_add(1),
@@ -95,7 +95,7 @@ impl<'a> Rows<'a> {
         }
     }
 
-    // A field of the row, with a caret below this byte of it.
+    // A field of the row, with a caret below its byte at this place.
     fn field(&self, index: usize, place: usize) -> Below<'_> {
         match self.row.get(index) {
             Some(field) => Below::Field {
@@ -107,7 +107,7 @@ impl<'a> Rows<'a> {
     }
 }
 
-// The row of a fault, and 0 where it is of none.
+// The row of a fault, or 0 if it has none.
 fn row_of(fault: RecordFault) -> u32 {
     match fault {
         RecordFault::FieldCount { row } => row,
@@ -120,7 +120,7 @@ fn row_of(fault: RecordFault) -> u32 {
     }
 }
 
-// The columns that the bytes before this place are shown in.
+// How many columns the bytes before this place take when shown.
 fn columns_before(field: &[u8], place: usize) -> usize {
     let mut columns = 0usize;
     for byte in &field[..place.min(field.len())] {
@@ -129,7 +129,7 @@ fn columns_before(field: &[u8], place: usize) -> usize {
     columns
 }
 
-// The bytes before the first end of a line.
+// The bytes before the first line end.
 fn first_line(bytes: &[u8]) -> &[u8] {
     let end = bytes.iter().position(|byte| *byte == 10 || *byte == 13);
     match end {

@@ -7,7 +7,7 @@ ghost use Rattle.gtd_faults.specs.Printable.{printable, shown_byte};
 use std::fmt;
 use std::fmt::{Display, Formatter};
 
-// Whether a byte is printable ASCII, and no backslash.
+// Whether a byte is printable ASCII other than a backslash.
 pub(crate) fn is_printable(byte: u8) -> bool
     ensures { result ≡ spec.is_printable byte }
 {
@@ -31,7 +31,7 @@ impl Display for ShownByte {
     }
 }
 
-/// Bytes as they are shown, with `\x` and two digits in place of each byte that is no printable ASCII, and of the backslash.
+/// Bytes as they are shown: `\x` and two digits stand for a backslash and for each byte that is not printable ASCII.
 #[derive(Clone, Copy)]
 pub struct Printable<'a>(pub &'a [u8]);
 

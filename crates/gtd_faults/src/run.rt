@@ -1,4 +1,4 @@
-//! The faults of the record file that an input brings, listed to an output.
+//! The run that lists the faults of a record file.
 
 ghost use Rattle.std.specs.Prelude.{◌≡◌, ◌≢◌, ◌⊎◌, ◌<◌, IfErr, IfOk, IfSome, IsErrOf, IsTrue, OnErr, OnOk};
 ghost use Rattle.std.specs.Io.KnownBytes.{Appends, Keeps};
@@ -33,7 +33,7 @@ fn put_text<O: Output>(output: &mut O, text: &str) -> Result<(), ListFault>
     }
 }
 
-// The list of these faults of the file with this path and these bytes, put: their number.
+// Puts the list of these faults of the file with this path and these bytes. Answers their number.
 fn put_faults<O: Output>(
     alloc: Global,
     output: &mut O,
@@ -58,7 +58,7 @@ fn put_faults<O: Output>(
     }
 }
 
-// All faults of a file with these bytes. An input of bytes in memory does not fail, so that only memory may be refused.
+// All faults of a file with these bytes. Reading bytes in memory does not fail, so only memory may be refused.
 fn faults_of(alloc: Global, bytes: &[u8]) -> Result<Vec<RecordFault>, AllocError>
     ensures { IfOk result (λ faults. AreFileFaults bytes.now faults.items) }
 {
@@ -70,7 +70,7 @@ fn faults_of(alloc: Global, bytes: &[u8]) -> Result<Vec<RecordFault>, AllocError
     }
 }
 
-// The list of all faults of the file with this path and these bytes, put.
+// Puts the list of all faults of the file with this path and these bytes.
 fn put_list<O: Output>(
     alloc: Global,
     output: &mut O,
@@ -93,12 +93,12 @@ fn put_list<O: Output>(
 
 /// Puts the list of all faults of the record file that an input brings, and answers their number. Each fault has a line: the
 /// file's path, as [`crate::Printable`] shows it, the line of the file on which its row begins, the row, and its kind. Below
-/// it stands the field at fault with a caret at the place, or the first line of a file that has no header.
+/// it is the field at fault with a caret at the place, or the first line of a file that has no header.
 ///
-/// Each row that stands for no restriction is listed, in order, and `TooManyRows` behind those of the first 65,536 rows;
-/// `TooLarge` or `Header` alone. Nothing is listed exactly where the file is accepted, and the first line tells the fault
-/// by which [`gtd_records::read_records`] refuses it. Nothing is put before the whole file was read. The caller keeps the
-/// failures of both devices under `u64::MAX` before the call.
+/// Each row that stands for no restriction is listed, in order; `TooManyRows` follows the faults of the first 65,536 rows;
+/// `TooLarge` or `Header` is listed alone. Nothing is listed exactly if the file is accepted, and the first line names the
+/// fault for which [`gtd_records::read_records`] refuses it. Nothing is put before the whole file has been read. Before the
+/// call, the failures of both devices must be below `u64::MAX`.
 pub fn run_faults<I: Input, O: Output>(
     alloc: Global,
     input: &mut I,
@@ -107,12 +107,12 @@ pub fn run_faults<I: Input, O: Output>(
 ) -> Result<usize, ListFault>
     requires readable { I.failure_count input.old < u64.MAX }
     requires writable { O.failure_count output.old < u64.MAX }
-    // What the output took, by the answer: all lines of the file's faults, or, after a failure, the first bytes of them.
+    // What the output took, by the answer: all lines of the file's faults or, after a failure, a first part of them.
     ensures listed { IfSome (I.to_come input.old)
         (λ bytes. HasListed path.now bytes (O.taken output.old) (O.taken output.new) result) }
-    // Where the input failed or memory was refused, nothing was put.
+    // If the input failed or memory was refused, nothing was put.
     ensures kept { IfErr result (λ why. why ≢ ListFault.WriteFault → Keeps (O.taken output.old) (O.taken output.new)) }
-    // The end comes last: an output that took the whole list was then ended.
+    // An output that took the whole list was then ended.
     ensures ended { OnOk result (IsTrue (O.is_ended output.new)) }
     ensures endless { IsErrOf result ListFault.Endless → IsTrue (I.may_fall_silent input.old) }
     ensures read_faults { I.failure_count input.new

@@ -7,7 +7,7 @@ use gtd_records::RecordFault;
 use std::fmt;
 use std::fmt::{Display, Formatter};
 
-/// A fault in words: its row, where it is one of a row, and its kind, with the place where it is one of a domain.
+/// A fault in words: its row, if it has one; its kind; and for a fault of a domain, the place.
 #[derive(Clone, Copy)]
 pub struct FaultText(pub RecordFault);
 

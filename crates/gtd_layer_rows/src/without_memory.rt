@@ -1,9 +1,9 @@
-//! The calls that take no memory, where every growth is refused. Each test asserts the same answers twice, first with ample
+//! The calls that take no memory, while every growth is refused. Each test asserts the same answers twice, first with ample
 //! memory. What the calls work on is made before.
 //!
 //! `tests/refusals.sh` refuses the growths: a request for `SWITCH` bytes and all growths after it, up to the next such
-//! request. Each of them is told, and the script sees that the request was the only one. So a call that asks for memory is
-//! found, even where it does without.
+//! request. Each refusal is reported, and the script checks that the first request was the only one. So a call that asks for
+//! memory is found, even if it can do without.
 
 ghost use Rattle.std.specs.Prelude.{◌≡◌, ℤ, pos};
 ghost use Rattle.gtd_core.specs.Seconds.{Within};
@@ -41,10 +41,10 @@ const DAY: i64 = 86_400;
 /// 2024-01-01.
 const NEW_YEAR: i64 = 19_723;
 
-/// How many bytes nothing else asks for.
+/// A number of bytes that nothing else asks for.
 const SWITCH: usize = 7_654_321;
 
-// From here on all growths are refused, or from the second call on none is any more, where the script runs the test.
+// If the script runs the test: the first call makes all growths fail from here on, and the second ends this.
 fn switch(alloc: Global) {
     if let Ok(mut bytes) = Vec::<u8>::with_capacity(alloc, SWITCH) {
         let _ = bytes.push(1);
@@ -75,7 +75,7 @@ fn expect_horizons(rt: &impl Abort) {
     assert_eq!(rt; day.until(), Sec(1_704_153_600));
 }
 
-// The most basic domains make a domain, and one more come back.
+// The greatest number of basic domains makes a domain; one more is handed back.
 fn expect_domains(rt: &impl Abort, most: Expr, over: Expr, known: &Expr) {
     let Ok(domain) = Domain::new(most) else {
         panic!(rt; "no domain");
@@ -156,7 +156,7 @@ fn dates_and_stamps(rt: HostRuntime) {
     switch(rt.alloc());
 }
 
-// What is asked of the list of 10 to 30 and 40 to 41, and of another one of the same.
+// What the list of 10 to 30 and 40 to 41 answers, and another list of the same spans.
 fn expect_list(rt: &impl Abort, alloc: Global, list: &SpanList, other: &SpanList) {
     let none = SpanList::new(alloc);
     assert!(rt; none.spans().is_empty() && !none.contains(Sec(10)));
@@ -202,8 +202,8 @@ fn changes_of_a_list(rt: HostRuntime) -> Result<(), Fail> {
     Ok(())
 }
 
-// Adds a span that begins no earlier than this second, which is that of the last one, and no later than that one's end.
-// Answers the second that it begins at.
+// Adds a span that begins no earlier than `latest`, where the last one begins, and no later than the last one's end.
+// Answers the second at which it begins.
 fn join(rt: &impl Abort, list: &mut SpanList, latest: Sec, from: i64, until: i64) -> Sec
     requires order { NoneBeginsAfter latest.0 list.old }
     ensures order { NoneBeginsAfter result.0 list.new }
@@ -215,7 +215,7 @@ fn join(rt: &impl Abort, list: &mut SpanList, latest: Sec, from: i64, until: i64
     from
 }
 
-// Spans that are joined to the one span of the list, 10 to 20.
+// Spans that are joined to the list's only span, 10 to 20.
 fn expect_joined(rt: &impl Abort, list: &mut SpanList)
     requires order { NoneBeginsAfter (pos 10) list.old }
 {
@@ -259,7 +259,7 @@ fn sources_and_sweeps(rt: HostRuntime) -> Result<(), Fail> {
     Ok(())
 }
 
-// What the domain of four hours from ten on has on New Year's Day of 2024. Answers how far its sources have counted.
+// What the domain of four hours from ten o'clock gives on New Year's Day of 2024. Answers how far its sources counted.
 fn expect_four_hours(rt: &impl Abort, basic: Basic) -> (u64, u64) {
     let ten = NEW_YEAR * DAY + 10 * HOUR;
     assert!(rt; covers(&basic, Sec(ten)) && !covers(&basic, Sec(ten - 1)));
@@ -287,7 +287,7 @@ fn recurrences(rt: HostRuntime) {
     switch(rt.alloc());
 }
 
-// The spans of the night or the broken morning of a day.
+// The spans of a day's night and broken morning together.
 const EITHER: [(i64, i64); 4] = [
     (0, 6 * HOUR),
     (8 * HOUR, 10 * HOUR),
@@ -295,7 +295,7 @@ const EITHER: [(i64, i64); 4] = [
     (22 * HOUR, 24 * HOUR),
 ];
 
-// What the cursor of the night or the morning gives, and that of a whole day. Answers how far the first has counted.
+// What the cursor of the night or the morning gives, and that of a whole day. Answers how far the first counted.
 fn expect_cursors(rt: &impl Abort, cursor: &mut Cursor, day: Horizon) -> u64 {
     assert_eq!(rt; cursor.nodes(), 5);
     gives(rt, cursor, NEW_YEAR * DAY, &EITHER);
@@ -343,7 +343,7 @@ fn seconds_of_a_domain(rt: HostRuntime) -> Result<(), Fail> {
     Ok(())
 }
 
-// What is asked of the records of `R`.
+// What the records of `R` answer.
 fn expect_records(rt: &impl Abort, records: &Records) {
     assert_eq!(rt; records.elements(), [17u64].as_slice());
     let ten = Sec(19_814 * DAY + 10 * HOUR);
@@ -399,7 +399,7 @@ fn inputs(rt: HostRuntime) -> Result<(), Fail> {
     Ok(())
 }
 
-// What an output with a room of eight bytes takes, five at once.
+// What an output with room for eight bytes takes, five at a time.
 fn expect_memory_out(rt: &impl Abort, output: &mut MemoryOut)
     requires sound { ⟦<MemoryOut as Output>⟧.failure_count output.old ≡ 0 }
 {

@@ -6,8 +6,8 @@ use Rattle.gtd_calendar.specs.ComputedFields.{day_fields}
 use Rattle.gtd_recur.specs.Begins.{begins_on, month_and_year_fit}
 use Rattle.gtd_recur.specs.Work.{days_between}
 
--- The day `first` is the last before day n, and not before day `low`, on which the start begins, or `low` if there is
--- none. The days from it up to n that no given month or year excludes were looked at.
+-- The day `first` is the last day before day n, and not before day `low`, on which the start begins; or `low` if there is
+-- none. Of the days from it up to n, those that no given month or year excludes were looked at.
 pub record IsFirstDay (p : StartParts) (low n first : ℤ) (looked : ℕ) : Type 0 where
   pub begin : low ≤ℤ first
   pub within : first ≤ℤ n
@@ -16,7 +16,7 @@ pub record IsFirstDay (p : StartParts) (low n first : ℤ) (looked : ℕ) : Type
   pub reason : ((first <ℤ n) × (begins_on p (day_fields first) ≡ true)) ⊎ (first ≡ low)
 
 -- a look backwards that ended at such a day: if the start begins on it, it is open from its first second on; otherwise
--- the day is the one before it, and closed
+-- the open day is the one before it, with nothing left of it
 pub record IsLookBack (p : StartParts) (low n first day : ℤ) (clock looked : ℕ) : Type 0 where
   pub at : IsFirstDay p low n first looked
   pub opened : ((first <ℤ n) × (begins_on p (day_fields first) ≡ true) × (day ≡ first) × (clock ≡ 0))

@@ -1,11 +1,11 @@
-//! What of a day says whether a start begins on it.
+//! What must be known of a day to say whether a start begins on it.
 
 ghost use Rattle.gtd_recur.specs.Asked.{IsAsked};
 
 use crate::begin::asks_no_date;
 use gtd_core::StartParts;
 
-/// What of a day says whether a start begins on it.
+/// What must be known of a day to say whether a start begins on it.
 #[derive(Clone, Copy, Debug)]
 pub(crate) enum Asks {
     /// Nothing: it begins on every day.
@@ -16,7 +16,7 @@ pub(crate) enum Asks {
     Date,
 }
 
-/// What this start asks of a day.
+/// What must be known of a day for this start.
 pub(crate) fn asked(start: &StartParts) -> Asks
     ensures asked { IsAsked start.now result }
 {

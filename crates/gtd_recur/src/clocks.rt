@@ -1,4 +1,4 @@
-//! The starts of a day: the first, the last, and how far apart they lie.
+//! The starts of a day: the first, the last, and how far apart they are.
 
 ghost use Rattle.std.specs.Prelude.{Some};
 ghost use Rattle.gtd_core.specs.Ranges.{IsStart};
@@ -10,13 +10,13 @@ use crate::begin::latest_begin;
 use gtd_core::StartParts;
 use gtd_core::limits::LAST_SECOND_OF_DAY;
 
-/// The starts of a day on which a start begins. It has one at least.
+/// The starts of a day on which a start begins: at least one.
 #[derive(Clone, Copy, Debug)]
 pub(crate) struct Clocks {
-    /// The second of the day that is its first start, and the one that is its last.
+    /// The seconds of the day at which its first and its last start are.
     pub(crate) first: u32,
     pub(crate) last: u32,
-    /// How far apart they lie, where there are several.
+    /// How far apart the starts are, if there are several.
     pub(crate) step: u32,
 }
 
@@ -32,7 +32,7 @@ pub(crate) fn day_clocks(start: &StartParts) -> Clocks
     }
 }
 
-// The first second of a day at which the start begins: what is left out of its clock is at 0.
+// The first second of a day at which the start begins: fields of its clock that are left out are 0.
 fn first_begin(start: &StartParts) -> u32
     requires valid { IsStart start.now }
     ensures first { IsNextPassing (spec.begins_at start.now) 0 (Some result) }
@@ -43,7 +43,7 @@ fn first_begin(start: &StartParts) -> u32
     3600 * hour + 60 * minute + second
 }
 
-// How far apart the starts of a day lie, where it has several.
+// How far apart the starts of a day are, if it has several.
 fn day_step(start: &StartParts) -> u32
     requires valid { IsStart start.now }
     ensures step { IsStep (spec.begins_at start.now) result }

@@ -16,10 +16,10 @@ use crate::jump::{earlier, later};
 use gtd_calendar::{DayFields, day_of, fields, weekday};
 use gtd_core::StartParts;
 
-/// The first day from a given one on and before an end on which the start begins; or the end. For days that a weekday, a
-/// week, a place in the month or a day of the month excludes, no date is computed.
+/// The first day on which the start begins, from a given day on and before an end; or the end. No date is computed of a
+/// day that a weekday, a week, a place in the month or a day of the month excludes.
 ///
-/// A function of its own, so that starts that ask for no date do not pay for it.
+/// A function of its own, so that starts that need no date do not pay for it.
 #[inline(never)]
 pub(crate) fn next_begun(start: &StartParts, day: i64, end: i64) -> i64
     requires valid { IsStart start.now }
@@ -38,7 +38,7 @@ pub(crate) fn next_begun(start: &StartParts, day: i64, end: i64) -> i64
     found
 }
 
-/// The same for a start that asks for no date: the weekday alone decides whether it begins on a day.
+/// The same for a start that needs no date: the weekday alone decides whether it begins on a day.
 pub(crate) fn next_weekday(start: &StartParts, day: i64, end: i64) -> i64
     requires asks { IsByWeekday start.now }
     requires day_in { first_window_day ≤ℤ day }
@@ -56,7 +56,7 @@ pub(crate) fn next_weekday(start: &StartParts, day: i64, end: i64) -> i64
     found
 }
 
-/// The last day before an end and not below a lowest one on which the start begins; or the day before the lowest.
+/// The last day on which the start begins, before an end and not below a lowest day; or the day before the lowest.
 pub(crate) fn last_begun(start: &StartParts, low: i64, end: i64) -> i64
     requires valid { IsStart start.now }
     requires low_in { first_window_day ≤ℤ low }
@@ -74,8 +74,7 @@ pub(crate) fn last_begun(start: &StartParts, low: i64, end: i64) -> i64
     found
 }
 
-// The next day after a given one that the start does not exclude at once; or `None` if the start begins on the given
-// day.
+// The next day after a given one that the start does not exclude at once; `None` if the start begins on the given day.
 fn next_left(start: &StartParts, day: i64, end: i64) -> Option<i64>
     requires valid { IsStart start.now }
     requires day_in { first_window_day ≤ℤ day }
@@ -96,8 +95,7 @@ fn next_left(start: &StartParts, day: i64, end: i64) -> Option<i64>
     }
 }
 
-// The last day before a given one that the start does not exclude at once; or `None` if the start begins on the given
-// day.
+// The last day before a given one that the start does not exclude at once; `None` if the start begins on the given day.
 fn last_left(start: &StartParts, low: i64, day: i64) -> Option<i64>
     requires valid { IsStart start.now }
     requires low_in { first_window_day ≤ℤ low }
@@ -121,7 +119,7 @@ fn last_left(start: &StartParts, low: i64, day: i64) -> Option<i64>
     }
 }
 
-// A place in the month, if it is given, is of this weekday.
+// Whether a place in the month is of this weekday, if it is given.
 fn place_on(given: Option<(u8, u8)>, weekday: u8) -> bool
     ensures { result ≡ jumps.place_on given weekday }
 {
@@ -185,8 +183,8 @@ fn last_of_week(year: i64, week: u8, day: i64) -> Option<i64>
     Some(earlier(monday + 6, day - 1))
 }
 
-// The next day after a given one that the start's week, and its year if that is given, does not exclude; or the end. The
-// given day is in a week of the year `of`.
+// The next day after a given one that neither the start's week nor its year, if given, excludes; or the end. The given day
+// is in a week of the year `of`.
 fn next_in_week(start: &StartParts, week: u8, of: i64, day: i64, end: i64) -> i64
     requires week { start.now.week ≡ Some week }
     requires week_in { IsInRange 1 53 week }
@@ -206,8 +204,8 @@ fn next_in_week(start: &StartParts, week: u8, of: i64, day: i64, end: i64) -> i6
     }
 }
 
-// The last day before a given one that the start's week, and its year if that is given, does not exclude; or the day before
-// the lowest. The given day is in a week of the year `of`.
+// The last day before a given one that neither the start's week nor its year, if given, excludes; or the day before the
+// lowest. The given day is in a week of the year `of`.
 fn last_in_week(start: &StartParts, week: u8, of: i64, low: i64, day: i64) -> i64
     requires week { start.now.week ≡ Some week }
     requires week_in { IsInRange 1 53 week }
@@ -250,8 +248,8 @@ fn month_days(start: &StartParts) -> (u8, u8)
     (1, 1)
 }
 
-// The next day after a given one that is not excluded by the days of the month on which the start can begin. No month has
-// fewer than 28 days.
+// The next day after a given one that may be one of the days of a month on which the start can begin. No month has fewer
+// than 28 days.
 fn next_in_month(start: &StartParts, of_month: u8, day: i64) -> i64
     requires valid { IsStart start.now }
     requires no_week { start.now.week ≡ None }
@@ -271,7 +269,7 @@ fn next_in_month(start: &StartParts, of_month: u8, day: i64) -> i64
     later(day + 28 + i64::from(first) - i64::from(of_month), day + 1)
 }
 
-// The last day before a given one that is not excluded by the days of the month on which the start can begin.
+// The last day before a given one that may be one of the days of a month on which the start can begin.
 fn last_in_month(start: &StartParts, of_month: u8, day: i64) -> i64
     requires valid { IsStart start.now }
     requires no_week { start.now.week ≡ None }

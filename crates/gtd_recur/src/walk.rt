@@ -1,4 +1,4 @@
-//! A walk over the starts on the days from a first one to the end of a horizon.
+//! A walk over the starts on the days from a first one to the end of the horizon.
 
 ghost use Rattle.std.specs.Prelude.{◌≤◌, ◌≤ℤ◌};
 ghost use Rattle.gtd_core.specs.Parts.{start_parts};
@@ -20,21 +20,21 @@ use crate::jump::{Days, next_days};
 use gtd_core::limits::DAY_SECONDS;
 use gtd_core::{Basic, Horizon, Sec};
 
-/// A walk over the starts of a basic domain on the days from a first one to the last of a horizon.
+/// A walk over the starts of a basic domain on the days from a first one to the last of the horizon.
 #[derive(Debug, Drop)]
 pub(crate) struct Walk {
     pub(crate) basic: Basic,
     pub(crate) horizon: Horizon,
-    /// The first day whose starts are walked over.
+    /// The first day of the walk.
     pub(crate) first: i64,
-    /// Days before this one were looked at before the walk began.
+    /// Days before this one were looked at when the walk began.
     pub(crate) seen: i64,
-    /// What of a day decides whether the start begins on it, and the starts of a day on which it does.
+    /// What must be known of a day to say whether the start begins on it, and the starts of a day on which it does.
     asks: Asks,
     clocks: Clocks,
-    /// The day that is open: the last one that was opened.
+    /// The open day: the last one that was opened.
     day: i64,
-    /// The second of that day from which its starts are still to come.
+    /// The second of that day from which on its starts are still to come.
     clock: u32,
     /// The next day to look at.
     next_day: i64,
@@ -106,7 +106,7 @@ impl Walk {
         }
     }
 
-    /// The walk that looks backwards for the last day before the horizon on which the start begins, begins there, and
+    /// The walk that looks backwards for the last day before the horizon on which the start begins, starts there, and
     /// goes on with the days of the horizon.
     pub(crate) fn from_last(basic: Basic, horizon: Horizon) -> Walk
         ensures basic { result.basic ≡ basic }
@@ -217,7 +217,7 @@ impl Walk {
         None
     }
 
-    // Passes over the starts after a given one up to the last of its day, if they are no further apart than a length.
+    // Passes over the starts after a given one, up to the last of its day, if no two are further apart than a length.
     pub(crate) fn pass_day(&mut self, start: Sec, length: i64) -> Sec
         requires open { IsOpenBehind self.old start.0 }
         requires length_in { pos 0 ≤ℤ length }
@@ -232,8 +232,8 @@ impl Walk {
         Sec(DAY_SECONDS * self.day + i64::from(clocks.last))
     }
 
-    // Opens the next day on which the start begins, or the last of those that are not excluded if it begins on none of
-    // them. Days are looked at only here, and each day that is passed over is counted.
+    // Opens the next day on which the start begins; if it begins on none that is not excluded, opens the last of these.
+    // Days are looked at only here, and each day that is passed over is counted.
     fn look(&mut self)
         requires done { clock_starts (start_parts self.old.basic.start) self.old.day self.old.clock ≡ [] }
         requires more { self.old.next_day <ℤ to_day self.old.horizon }
@@ -250,7 +250,8 @@ impl Walk {
         }
     }
 
-    // The first day that is not excluded and on which the start begins, from the next day to look at on; or the end of such days.
+    // The first day, from the next one to look at, that is not excluded and on which the start begins; or the end of the
+    // days that are not excluded.
     fn next_found(&self) -> i64
         requires more { self.now.next_day <ℤ to_day self.now.horizon }
         ensures found { IsFirstBegun (start_parts self.now.basic.start) self.now.next_day self.now.fits_until result }

@@ -20,7 +20,7 @@ const TWO_ELEMENTS: &str =
 
 const ALL_BUT_TWO: &str = "element,direction,vehicles,domain\n17,positive,!12;11,\n";
 
-// The answer to the words over a file, and what is printed.
+// The answer to the words for a file, and what is printed.
 fn carried_out(
     rt: &impl Abort,
     alloc: Global,
@@ -99,7 +99,7 @@ static SCHEDULES: [(&str, [&str; 3], &str); 6] = [
             17,positive,1,2024-01-01T12:00:00,2024-01-02T00:00:00\n\
             17,negative,1,2024-01-01T12:00:00,2024-01-02T00:00:00\n",
     ),
-    // Vehicle type 13 is of all but two, so that only one direction is open to it.
+    // Vehicle type 13 is among all but two, so only one direction is open to it.
     (
         ALL_BUT_TWO,
         ["2024-04-01", "2024-04-02", "13"],
@@ -115,7 +115,7 @@ fn schedules(rt: HostRuntime) {
     }
 }
 
-// Vehicle type 11 is none of all but two.
+// Vehicle type 11 is not among all but two.
 #[test]
 fn a_schedule_of_version_2(rt: HostRuntime) {
     let words = ["schedule", "r.csv", "2024-04-01", "2024-04-02", "11"];
@@ -193,7 +193,7 @@ fn tables_that_are_refused(rt: HostRuntime) -> Result<(), Fail> {
     Ok(())
 }
 
-// Files, and those of version 2 that they are migrated to.
+// Files, and the files of version 2 to which they are migrated.
 static MIGRATED: [(&str, &str); 3] = [
     (
         R,

@@ -1,6 +1,6 @@
-//! The calls that take no memory, where every growth is refused: a request for `SWITCH` bytes and all growths after it, up to
+//! The calls that take no memory, while every growth is refused: a request for `SWITCH` bytes and all growths after it, up to
 //! the next such request. Each test asserts the same answers twice, first with ample memory. `tests/refusals.sh` refuses the
-//! growths, and sees that none but that request was asked for.
+//! growths, and checks that the first request was the only one.
 
 use crate::tests::owned;
 use gtd_records::RecordFault;
@@ -9,10 +9,10 @@ use gtd_tool::{Plan, Refusal, plan};
 use std::alloc::Global;
 use std::process::Abort;
 
-/// How many bytes nothing else asks for.
+/// A number of bytes that nothing else asks for.
 const SWITCH: usize = 7_654_321;
 
-// From here on all growths are refused, or from the second call on none is any more, where the script runs the test.
+// If the script runs the test: the first call makes all growths fail from here on, and the second ends this.
 fn switch(alloc: Global) {
     if let Ok(mut bytes) = Vec::<u8>::with_capacity(alloc, SWITCH) {
         let _ = bytes.push(1);

@@ -1,5 +1,5 @@
 -- The schedule of a record file: when each of its road elements is open, over the days of a horizon and for a vehicle
--- type. A line has its end: the LF is its last byte.
+-- type. The LF is the last byte of each line.
 use Rattle.std.specs.Prelude.{◌≡◌, ◌++◌, ℕ, List, [], ◌∷◌, codes, decimal}
 use Rattle.gtd_core.specs.Seconds.{Interval, day_of_second}
 use Rattle.gtd_core.specs.declared.horizon.Horizon.{Horizon}
@@ -13,8 +13,8 @@ use Rattle.gtd_runs.specs.Putting.{IsByElement, direction_word}
 abbrev pub header_line : List ℕ
 header_line = codes "element,direction,vehicle,from,until\n"
 
--- The line of a span in which an element is open in a direction for a vehicle type: its first second, and the first one
--- after it, each shown by the date of its day and its clock.
+-- The line of a span in which an element is open in a direction for a vehicle type: its first second and the first second
+-- after it, each as the date of its day and its clock.
 pub record IsSpanLine (element : ℕ) (direction : Direction) (vehicle : ℕ) (span : Interval) (line : List ℕ) : Type 0 where
   pub from : List ℕ
   pub until : List ℕ

@@ -15,7 +15,7 @@ abbrev pub texts : List (Bor Text) → List Text
 texts words = map (λ word. word.now) words
 
 -- A command with each of its words read. A domain is the tree of its expression, and the day `to` is given by its
--- number: the horizon goes from the moment's day up to and without it. A file is named by its path.
+-- number: the horizon goes from the moment's day up to but not including it. A file is named by its path.
 pub data Asked : Type 0 where
   Check : (domain : Tree) → Asked
   Canon : (domain : Tree) → Asked

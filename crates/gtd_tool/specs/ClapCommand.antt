@@ -14,15 +14,15 @@ use Rattle.gtd_tool.specs.Asked.{Text}
 abbrev pub id : Text
 id = codes "WORDS"
 
--- It takes any number of words. They are counted once the command is known.
+-- It takes any number of words. Their number is checked once the command is known.
 abbrev pub word_rule : Rule
 word_rule = record (new_rule id) { action = Some Append }
 
--- The command of this name.
+-- The command with this name.
 abbrev pub leaf_given : Text → Shape
 leaf_given name = (with_rule (new_app name) word_rule).top
 
--- The program: a command must follow, and help is not one.
+-- The program: a command must be given, and `help` is not one.
 abbrev pub top_given : Shape
 top_given = record (new_shape (codes "gtd")) {
   no_binary_name = true;
@@ -39,7 +39,7 @@ none_given = record { top = top_given; subs = [] }
 abbrev pub gtd_app : App
 gtd_app = fold (λ app name. with_subcommand app (leaf_given name)) none_given command_names
 
--- What is found of these words: nothing if there are none.
+-- What is found in these words: nothing if there are none.
 abbrev pub found_words : List Text → Option (List Text)
 found_words [] = None
 found_words (v ∷ vs) = Some (v ∷ vs)

@@ -1,4 +1,4 @@
--- The command lines of `gtd`: the name of a command, and words that stand for themselves.
+-- The command lines of `gtd`: the name of a command, and positional words.
 use Rattle.std.specs.Prelude.{◌==◌, Bool, false, List, [], ◌∷◌}
 use Rattle.std.specs.Prelude.{Option, Some, None, option_map, option_and_then, codes}
 use Rattle.std.specs.Prelude.{if◌then◌else◌}
@@ -31,6 +31,6 @@ abbrev pub named_in : List Text → Option (Text × List Text)
 named_in [] = None
 named_in (name ∷ rest) = if is_command name then option_map (λ words. (name, words)) (plain_words rest) else None
 
--- The reading of a command line, where it names a command and has as many words as that takes.
+-- The reading of a command line, if it names a command and has as many words as that command takes.
 abbrev pub reading_in : List Text → Option Reading
 reading_in words = option_and_then (λ given. reading_named given.0 given.1) (named_in words)

@@ -22,7 +22,7 @@ pub mod Schedule
 pub mod Year
 pub mod Migrate
 
--- The commands by their names, and how each reads its words, where they are as many as it takes.
+-- The commands by their names, and how each reads its words, if they are as many as it takes.
 abbrev pub commands : List (Text × (List Text → Option Reading))
 commands =
     (codes "check", check.reading)
@@ -39,7 +39,7 @@ commands =
 abbrev pub command_names : List Text
 command_names = map (λ command. command.0) commands
 
--- The reading of the words by the command of this name.
+-- The reading of the words by the command with this name.
 abbrev pub reading_named : Text → List Text → Option Reading
 reading_named name words =
     option_and_then (λ command. command.1 words) (find (λ command. bytes_eq name command.0) commands)
@@ -55,6 +55,6 @@ task_of (asked.Schedule path horizon vehicle) = schedule.task path horizon vehic
 task_of (asked.Year path element direction vehicle year) = table.task path element direction vehicle year
 task_of (asked.Migrate path) = migrate.task path
 
--- The file that is read, where one is.
+-- The file that is read, if there is one.
 abbrev pub file_of : Asked → Option Text
 file_of asked = (task_of asked).file

@@ -5,8 +5,8 @@ use Rattle.gtd_tool.specs.Printed.{AppendsPartOfLine, AsksPastYears, IsAnswer, T
 use Rattle.gtd_tool.specs.declared.refusal.Refusal.{Refusal}
 use Rattle.gtd_tool.specs.declared.refusal.Refusal.TheVariants as refusal
 
--- For a command that reads no file: a write fails after a first part of the line. Memory is refused, or the domain gives
--- a year, before anything is written.
+-- For a command that reads no file: a write fails after a first part of the line; or, before anything is written, memory
+-- is refused or the domain gives a year.
 abbrev pub IsCutShort : Asked → Option (List ℕ) → Option (List ℕ) → Type 0 → Refusal → Type 0
 IsCutShort asked old new unwritten refusal.Write = AppendsPartOfLine (IsAnswer asked) old new
 IsCutShort asked old new unwritten refusal.Memory = unwritten × TakesMemory asked

@@ -5,7 +5,7 @@ use Rattle.gtd_tool.specs.Asked.{Asked}
 use Rattle.gtd_tool.specs.Commands.{task_of}
 use Rattle.gtd_tool.specs.Writing.{AppendsPart}
 
--- The answer, without the end of its line. A command that reads a file has none.
+-- The answer, without its line end. A command that reads a file has none.
 abbrev pub IsAnswer : Asked → List ℕ → Type 0
 IsAnswer asked answer = (task_of asked).is_answer answer
 

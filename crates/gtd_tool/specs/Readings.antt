@@ -14,9 +14,9 @@ use Rattle.gtd_tool.specs.Asked.{Asked, Text}
 
 -- ---- what is read
 
--- What is read of a command's words: a word for a number, for a number that is handed on as the limit where it is above
--- that, for a direction, a domain, a moment or a date, and, by their words, the horizon up to a date from the day of a
--- moment or from another date.
+-- What is read of a command's words: a word for a number, for a number that is handed on as the limit if it is above it,
+-- for a direction, a domain, a moment or a date; and, by their words, the horizon up to a date from the day of a moment
+-- or from another date.
 pub data Part : Type 0 where
   NumberPart : (text : Text) → Part
   NumberUpToPart : (limit : ℕ) → (text : Text) → Part
@@ -27,7 +27,7 @@ pub data Part : Type 0 where
   HorizonPart : (moment to : Text) → Part
   DaysPart : (from to : Text) → Part
 
--- What a part stands for. The horizon from a moment's day is given by the day that it goes up to.
+-- What a part stands for. For the horizon from a moment's day, this is the day that it goes up to.
 abbrev pub ValueOf : Part → Type 0
 ValueOf (NumberPart text) = ℕ
 ValueOf (NumberUpToPart limit text) = ℕ
@@ -55,16 +55,16 @@ pub record IsHorizonTo (first second : Text) (to : ℤ) : Type 0 where
   pub date_read : date_in second ≡ Ok to
   pub horizon : IsHorizon (day_of_second moment.0) to
 
--- The words stand for the first day of the horizon and for the day after its last one.
+-- The words stand for the first day of the horizon and for the day after its last.
 pub record IsHorizonOf (first second : Text) (horizon : Horizon) : Type 0 where
   pub from_read : date_in first ≡ Ok (from_day horizon)
   pub to_read : date_in second ≡ Ok (to_day horizon)
 
--- The number, or the limit where it is above that.
+-- The number, or the limit if the number is above it.
 abbrev pub at_most : ℕ → ℕ → ℕ
 at_most limit n = if nat_le n limit then n else limit
 
--- The word is a number, which is handed on as this one: a number above the limit as the limit.
+-- The word is a number, which is handed on as this number: the limit, if it is above the limit.
 abbrev pub IsNumberUpTo : ℕ → Text → ℕ → Type 0
 IsNumberUpTo limit text n = option_map (at_most limit) (number_of text) ≡ Some n
 
@@ -81,12 +81,12 @@ IsValue (DaysPart from to) horizon = IsHorizonOf from to horizon
 
 -- ---- what is asked
 
--- What is asked by what the parts stand for.
+-- What is asked for, as a function of what the parts stand for.
 abbrev pub Asks : List Part → Type 0
 Asks [] = Asked
 Asks (part ∷ rest) = ValueOf part → Asks rest
 
--- What is read of a command's words, in order, and what it asks.
+-- What is read of a command's words, in order, and what it asks for.
 pub record Reading : Type 0 where
   pub parts : List Part
   pub asks : Asks parts

@@ -22,7 +22,7 @@ use Rattle.gtd_tool.specs.Asked.{Text}
 use Rattle.gtd_tool.specs.declared.refusal.Refusal.{Refusal}
 use Rattle.gtd_tool.specs.declared.refusal.Refusal.TheVariants as refusal
 
--- The days from one up to another are no horizon, and this is why.
+-- The days from one up to another are not a horizon, and this is why.
 abbrev pub AreNoHorizon : ℤ → ℤ → Refusal → Type 0
 AreNoHorizon from to r = (fault : HorizonFault) × IsHorizonFault fault from to × (r ≡ refusal.Horizon fault)
 
@@ -52,7 +52,7 @@ abbrev pub IsFirstRefusal : List Part → Refusal → Type 0
 IsFirstRefusal [] r = ⊥
 IsFirstRefusal (part ∷ rest) r = IsFaultOf part r ⊎ (IsFaultless part × IsFirstRefusal rest r)
 
--- The first refusal of a command by its reading: usage where there is none.
+-- The first refusal of a command by its reading: usage if there is none.
 abbrev pub IsRefused : Option Reading → Refusal → Type 0
 IsRefused None r = r ≡ refusal.Usage
 IsRefused (Some reading) r = IsFirstRefusal reading.parts r
@@ -109,7 +109,7 @@ records_words (records.Domain row fault) =
 records_words records.TooManyRows = codes "row 65537 TooManyRows"
 records_words fault = record_fault_name fault
 
--- The line for standard error, with its end.
+-- The line for standard error, with its line end.
 abbrev pub refusal_line : Refusal → List ℕ
 refusal_line refusal.Usage = codes "usage: gtd COMMAND ARGUMENTS\n"
 refusal_line (refusal.Text fault) =

@@ -26,7 +26,7 @@ use Rattle.gtd_tool.specs.declared.refusal.Refusal.TheVariants as refusal
 abbrev pub ReadsFile : Asked → Type 0
 ReadsFile asked = MatchOption (file_of asked) ⊥ (λ path. ⊤)
 
--- The fact holds if the command reads a record file, or if it reads none.
+-- The fact holds if the command reads a record file; for `IfAlone`, if it reads none.
 abbrev pub IfFile : Asked → Type 0 → Type 0
 IfFile asked P = MatchOption (file_of asked) ⊤ (λ path. P)
 

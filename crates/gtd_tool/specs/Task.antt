@@ -4,9 +4,9 @@ use Rattle.gtd_roads.specs.Closing.{Restriction}
 use Rattle.gtd_roads.specs.Subject.{Subject}
 use Rattle.gtd_tool.specs.Asked.{Text}
 
--- What is to be done: the file that is read, where one is; the answer, without the end of its line; whether what is
--- printed takes memory, or is found by what takes memory; whether it is asked for all later changes of a domain that
--- gives a year; what a report of the file is asked of, and the lines of its text.
+-- What is to be done: the file that is read, if there is one; the answer, without its line end; whether what is printed
+-- takes memory, or is found by what takes memory; whether all later changes of a domain that gives a year are asked for;
+-- what a report of the file is asked about, and the lines of its text.
 pub record Task : Type 1 where
   pub file : Option Text
   pub is_answer : List ℕ → Type 0
@@ -15,7 +15,7 @@ pub record Task : Type 1 where
   pub subject : Subject
   pub is_text : List Restriction → List (List ℕ) → Type 0
 
--- To print such an answer.
+-- To print an answer that meets the condition.
 abbrev pub answered : (List ℕ → Type 0) → Task
 answered is = record {
   file = None;
@@ -26,6 +26,6 @@ answered is = record {
   is_text = λ found lines. ⊥;
 }
 
--- To print such a text of a file.
+-- To print a text of the file that meets the condition.
 abbrev pub reported : Text → Subject → (List Restriction → List (List ℕ) → Type 0) → Task
 reported path subject is = record (answered (λ answer. ⊥)) { file = Some path; subject = subject; is_text = is }

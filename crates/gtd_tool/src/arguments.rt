@@ -27,7 +27,7 @@ fn without_commands<'a>(alloc: Global) -> Command<'a>
         .subcommand_required(true)
 }
 
-// Adds a command that has only positional words. They are counted after they are read.
+// Adds a command that has only positional words. Their number is checked after they are read.
 fn add_command<'a>(
     alloc: Global,
     program: Command<'a>,
@@ -66,7 +66,7 @@ fn usage_refusal(error: &clap::Error) -> Refusal
     }
 }
 
-// The words as `clap` finds them.
+// What `clap` finds in the words.
 fn parse<'a>(alloc: Global, words: &'a [String]) -> Result<ArgMatches<'a>, Refusal>
     ensures found { IfOk result (HasGiven (map string_bytes words.entry.now)) }
     ensures refused { IfErr result (λ r. (r ≡ Refusal.Memory)

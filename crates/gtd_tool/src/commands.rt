@@ -24,7 +24,7 @@ mod next;
 mod schedule;
 mod year;
 
-/// The plan of the words, by the command of this name. Where there is none, they are a fault of usage.
+/// The plan of the words, by the command with this name. If there is none, they are a fault of usage.
 pub fn read_command(alloc: Global, name: &str, words: &[&str]) -> Result<Plan, Refusal>
     ensures read { IsReadTo (reading_named name.now (texts words.now)) result }
 {

@@ -4,8 +4,8 @@ ghost use Rattle.gtd_tool.specs.Lending.{marked};
 
 use std::io::{Result, Write};
 
-/// A writer that is lent. Its known bytes come after the name of the loan, so that whoever keeps them and adds to them is
-/// known to have kept the loan: in the end, the writer has taken what the device was given.
+/// A writer that is lent. Its known bytes come after the name of the loan, so whoever keeps them and adds to them is known
+/// to have kept the loan: in the end, the writer has taken what the device was given.
 #[derive(Drop)]
 pub struct Lent<'a, W> {
     pub writer: &'a mut W,

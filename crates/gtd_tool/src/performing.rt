@@ -36,10 +36,10 @@ pub fn perform<I: Input, W: Write>(
     // What is printed: an answer, or a report of the record file that the input brings.
     ensures printed { OnOk result (IsPrinted (asked_by plan.now)
         (I.to_come input.old) (W.contents out.old) (W.contents out.new)) }
-    // Otherwise a first part of that.
+    // If it fails, a first part of that.
     ensures part { OnErr result (IsPartPrinted (asked_by plan.now)
         (I.to_come input.old) (W.contents out.old) (W.contents out.new)) }
-    // Accepted files are printed, if nothing hinders it.
+    // An accepted file is printed, if nothing hinders it.
     ensures accepted { IfRead (asked_by plan.now) (I.to_come input.old) result (λ bytes.
         (found : List Restriction) → IsFile bytes (Ok found) → IsAccepted (asked_by plan.now) found
         → IsOk result × AppendsTextOf (asked_by plan.now) found
@@ -51,7 +51,7 @@ pub fn perform<I: Input, W: Write>(
     ensures nothing { IfFile (asked_by plan.now) (IfSome (I.to_come input.old) (λ bytes.
         IsRefusedFile (asked_by plan.now) bytes
         → Keeps (W.contents out.old) (W.contents out.new))) }
-    // Files that do not name the element of a year's table are refused for that, if nothing hinders it.
+    // A file that does not name the element of a year's table is refused for that, if nothing hinders it.
     ensures lacking { IfRead (asked_by plan.now) (I.to_come input.old) result (λ bytes.
         IsLacking (asked_by plan.now) bytes → result ≡ Err Refusal.NoElement) }
     // Each refusal has its cause: `Memory` comes only where a command takes memory, `Write` only once a file is accepted.

@@ -15,9 +15,9 @@ use std::alloc::Global;
 /// What the words after the program's name ask for, or their first refusal.
 ///
 /// In order: `Usage` if they are not a command and as many words as it takes, or if a word for a number or a direction
-/// stands for none; then the first fault of the words for a domain (`Text`), a moment (`Moment`) and a date (`Date`),
-/// from left to right; then `Horizon` if the days that are asked for are not a horizon. If memory was refused, `Memory`
-/// is the answer in place of these. A vehicle type above 255 is taken as 255 and a year above 65,535 as 65,535, and
+/// does not stand for one; then the first fault of the words for a domain (`Text`), a moment (`Moment`) and a date
+/// (`Date`), from left to right; then `Horizon` if the days that are asked for are not a horizon. If memory was refused,
+/// `Memory` is the answer in place of these. A vehicle type above 255 is taken as 255 and a year above 65,535 as 65,535;
 /// [`perform`](crate::perform) checks their ranges. The file is not opened.
 pub fn plan(alloc: Global, words: Vec<String>) -> Result<Plan, Refusal>
     // The plan is what the words ask for.

@@ -14,7 +14,7 @@ pub struct Moment {
     pub ghost in_range: { IsMomentSecond second.0 },
 }
 
-/// A moment, and a horizon that it is in.
+/// A moment, and a horizon that contains it.
 #[derive(Clone, Copy, Debug, PartialEq, Eq)]
 pub struct MomentInHorizon {
     /// Its second.

@@ -62,7 +62,7 @@ fn put_and_flush<W: Write>(texts: &[&str], out: &mut W) -> io::Result<()>
     out.flush()
 }
 
-// Writes the line of a stamp and a state, and flushes.
+// Writes a line with a stamp and a state, and flushes.
 fn print_stamped<W: Write>(stamp: &[u8], state: &str, out: &mut W) -> Result<(), Refusal>
     ensures printed { OnOk result (Appends (W.contents out.old) (W.contents out.new)
         (stamp.now ++ (codes " " ++ (state.now ++ codes "\n")))) }

@@ -40,13 +40,13 @@ pub enum Refusal {
     /// The words name no command, or are not the words that it takes.
     #[error("usage: gtd COMMAND ARGUMENTS")]
     Usage,
-    /// The word for a domain stands for none. This is its first fault, which is never `NoMemory`.
+    /// The word for a domain does not stand for one. This is its first fault, which is never `NoMemory`.
     #[error("fault {0}")]
     Text(TextFault),
-    /// The word for a moment stands for none. This is its first fault.
+    /// The word for a moment does not stand for one. This is its first fault.
     #[error("fault moment {0}")]
     Moment(StampFault),
-    /// A word for a date stands for none. This is its first fault.
+    /// A word for a date does not stand for one. This is its first fault.
     #[error("fault date {0}")]
     Date(StampFault),
     /// The days are not a horizon. This is their first fault.

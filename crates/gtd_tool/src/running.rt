@@ -1,4 +1,4 @@
-//! Reports of a record file, as commands.
+//! Commands that print reports of a record file.
 
 ghost use Rattle.std.specs.Prelude.{◌≡◌, ◌<◌};
 ghost use Rattle.gtd_tool.specs.Running.{RanReport, outcome_of, refusal_for};

@@ -65,7 +65,7 @@ pub fn date_of(text: &str) -> Result<i64, Refusal>
     }
 }
 
-/// The moment, in the horizon from its own day up to but not including another.
+/// The moment, in the horizon from its own day up to but not including the day `to`.
 pub fn in_horizon(moment: Moment, to: i64) -> Result<MomentInHorizon, Refusal>
     ensures read { IfOk result (λ x. (x.second ≡ moment.second) × (to_day x.horizon ≡ to)
         × IsHorizon (day_of_second moment.second.0) to) }
@@ -118,7 +118,7 @@ pub fn direction_in(text: &str) -> Result<Direction, Refusal>
     }
 }
 
-/// The vehicle type that a word stands for; 255 for every greater number, which the run refuses as it would the number.
+/// The vehicle type that a word stands for. A greater number is taken as 255: the run refuses either in the same way.
 pub fn vehicle_in(text: &str) -> Result<u8, Refusal>
     ensures read { IfOk result (IsNumberUpTo 255 text.now) }
     ensures stopped { IfErr result (IsStopped (NumberUpToPart 255 text.now ∷ [])) }
@@ -127,7 +127,7 @@ pub fn vehicle_in(text: &str) -> Result<u8, Refusal>
     Ok(if number <= 255 { number as u8 } else { 255 })
 }
 
-/// The year that a word stands for; 65,535 for every greater number, which the run refuses as it would the number.
+/// The year that a word stands for. A greater number is taken as 65,535: the run refuses either in the same way.
 pub fn year_in(text: &str) -> Result<u16, Refusal>
     ensures read { IfOk result (IsNumberUpTo 65535 text.now) }
     ensures stopped { IfErr result (IsStopped (NumberUpToPart 65535 text.now ∷ [])) }
@@ -162,7 +162,7 @@ pub fn days_in(from: &str, to: &str) -> Result<Horizon, Refusal>
     horizon_between(first, last)
 }
 
-/// The text of a word, to be kept in a plan.
+/// A copy of a word's text, for a plan to keep.
 pub fn owned(alloc: Global, text: &str) -> Result<String, Refusal>
     ensures kept { IfOk result (λ copy. string_bytes copy ≡ text.now) }
     ensures cause { IfErr result (λ r. r ≡ Refusal.Memory) }

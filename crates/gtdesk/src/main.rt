@@ -1,9 +1,9 @@
-//! `gtdesk` prints, for people, what is closed now and by which rows of a file of road restrictions, and lists the rows of a
-//! file that are at fault.
+//! `gtdesk` prints, for people, which elements of a record file are closed at a moment and by which rows, and lists the
+//! rows of a file that are at fault.
 //!
-//! It writes its answer to standard output and ends with status 0, or 1 where it listed faults; or it writes one line to
-//! standard error and ends with the status of its refusal: 1 where the input is refused, 2 for usage, 3 where opening,
-//! reading, writing or memory failed.
+//! It writes its answer to standard output and ends with status 0, or 1 if it listed faults. Or it writes one line to
+//! standard error and ends with the status of its refusal: 1 if the input is refused, 2 for usage, 3 if opening, reading,
+//! writing or memory failed.
 #![tactic(auto)]
 
 use gtd_desk::{Ending, Plan, Refusal, RefusalLine, perform, plan};
@@ -13,10 +13,10 @@ use std::io::{BufWriter, ErrorKind, Read};
 use std::process::ExitCode;
 use std::{env, io};
 
-// The bytes that are gathered before standard output is written to: as many as a pipe holds.
+// How many bytes are buffered before a write to standard output: as many as a pipe holds.
 const OUTPUT_BUFFER: usize = 65_536;
 
-// The words after the program's name. A word that is no text is a fault of usage.
+// The words after the program's name. A word that is not UTF-8 is a fault of usage.
 fn words_of(rt: &HostRuntime) -> Result<Vec<String>, Refusal> {
     let words = env::args(rt).map_err(|error| match error.kind() {
         ErrorKind::OutOfMemory => Refusal::Memory,
@@ -52,7 +52,7 @@ fn run(rt: &HostRuntime, plan: &Plan) -> Result<Ending, Refusal> {
     }
 }
 
-// Writes the line of a refusal. Where standard error fails, the status stays the same.
+// Writes the line of a refusal. If standard error fails, the status stays the same.
 fn refuse(rt: &HostRuntime, refusal: Refusal, file: &str) -> ExitCode {
     let _ = rt.eprintln(&RefusalLine { refusal, file });
     ExitCode::from(refusal.status())

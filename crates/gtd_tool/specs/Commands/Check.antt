@@ -9,6 +9,6 @@ abbrev pub reading : List Text → Option Reading
 reading (domain ∷ []) = Some (record { parts = DomainPart domain ∷ []; asks = Check })
 reading words = None
 
--- It is said that it is one.
+-- The answer says that the word is a domain.
 abbrev pub task : Tree → Task
 task domain = record (answered (λ answer. answer ≡ codes "ok")) { takes_memory = ⊥ }

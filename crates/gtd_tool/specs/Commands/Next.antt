@@ -1,4 +1,4 @@
--- `next DOMAIN MOMENT TO`: the domain's first change after the moment, in the days before another.
+-- `next DOMAIN MOMENT TO`: the domain's first change after the moment and before the day `TO`.
 use Rattle.std.specs.Prelude.{◌≡◌, ◌⊎◌, ℕ, ℤ, pos, ◌*ℤ◌, List, [], ◌∷◌, Option, Some, None, codes}
 use Rattle.gtd_core.specs.Limits.{day_seconds}
 use Rattle.gtd_core.specs.Trees.{Tree}

@@ -6,7 +6,7 @@ use Rattle.gtd_tool.specs.Asked.{Schedule, Text}
 use Rattle.gtd_tool.specs.Readings.{DatePart, DaysPart, NumberUpToPart, Reading}
 use Rattle.gtd_tool.specs.Task.{Task, reported}
 
--- The vehicle type is read first, and the file is what it is.
+-- The vehicle type is read first, and the word for the file is not checked.
 abbrev pub reading : List Text → Option Reading
 reading (file ∷ from ∷ to ∷ vehicle ∷ []) = Some (record {
   parts = NumberUpToPart 255 vehicle ∷ DatePart from ∷ DatePart to ∷ DaysPart from to ∷ [];

@@ -23,7 +23,7 @@ pub fn read(alloc: Global, words: &[&str]) -> Result<Plan, Refusal>
     Ok(Plan::Check(domain_of(alloc, domain)?))
 }
 
-/// Prints that the word is one.
+/// Prints that the word is a domain.
 pub fn print<W: Write>(out: &mut W) -> Result<(), Refusal>
     ensures printed { OnOk result (AppendsLine (λ answer. answer ≡ codes "ok")
         (W.contents out.old) (W.contents out.new)) }

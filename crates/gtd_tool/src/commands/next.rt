@@ -1,4 +1,4 @@
-//! `next DOMAIN MOMENT TO`: the domain's first change after the moment, in the days before another.
+//! `next DOMAIN MOMENT TO`: the domain's first change after the moment and before the day `TO`.
 
 ghost use Rattle.std.specs.Prelude.{◌≡◌, IfErr, OnOk};
 ghost use Rattle.std.specs.Prelude.{[], ◌∷◌};
