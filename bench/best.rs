@@ -1,11 +1,11 @@
-//! A native program for the main job, unproved, as fast as we could make one thread: `best FILE FROM TO VEHICLE [plain]`.
-//! It prints the same bytes as `gtd schedule` for a file that is accepted. For any other it prints nothing, and ends with
-//! status 1.
+//! An unproved native program for the main job, as fast as we could make it with one thread:
+//! `best FILE FROM TO VEHICLE [plain]`. For an accepted file it prints the same bytes as `gtd schedule`. For any other it
+//! prints nothing, and ends with status 1.
 //!
 //! What makes it fast: the file is read at once and parsed by hand. A time is a day of the horizon and a clock, packed into
-//! one number, so that no line divides. Equal domain texts are read and evaluated once, which `plain` turns off. Days are
-//! matched by one mask and one comparison on a table of packed dates. A stretch without months ends a constant after its
-//! start. Dates and clocks are copied from tables.
+//! one number, so that no line needs a division. Equal domain texts are read and evaluated once, which `plain` turns off.
+//! Days are matched by one mask and one comparison on a table of packed dates. A stretch without months ends a constant time
+//! after its start. Dates and clocks are copied from tables.
 #![allow(long_running_const_eval)]
 mod best_file;
 use best_file::{ALWAYS, Found, NEVER, Texts, found, text_of};
@@ -381,7 +381,7 @@ fn unite(x: &[Span], y: &[Span], out: &mut Vec<Span>) {
     }
     out.push((a, e));
 }
-// The unions of the first two lists, of the next two and so on, in place of the lists.
+// Replaces the lists by the unions of the first two, of the next two, and so on.
 fn unite_pairs(from: &[Span], lists: &mut Vec<(usize, usize)>, out: &mut Vec<Span>) {
     out.clear();
     for i in 0..lists.len().div_ceil(2) {
@@ -427,7 +427,7 @@ impl Out {
     #[inline(always)]
     fn line(&mut self, a: i64, e: i64) -> Res<()> {
         if self.len > self.limit { self.flush()? }
-        // SAFETY: `buf` has 128 bytes behind `limit`; days are within `dates`, clocks below 86,400.
+        // SAFETY: `buf` has 128 bytes after `limit`; days are within `dates`, clocks below 86,400.
         unsafe {
             let p = self.buf.as_mut_ptr().add(self.len);
             std::ptr::copy_nonoverlapping(self.head.as_ptr(), p, 32);
@@ -532,7 +532,7 @@ impl Printer {
         head[h + 1] = b',';
         self.out.head_len = h + 2;
     }
-    // The texts that close the direction; none where it is always closed.
+    // The texts that close the direction; none if it is always closed.
     fn closing(&mut self, found: &Found, rows: &[u64], bit: u32) -> bool {
         self.ids.clear();
         for x in rows {
@@ -564,7 +564,7 @@ impl Printer {
             [x] => out.open_of_one(&arena[x.0..x.1], end),
             [x, y] => out.open_of_two(&arena[x.0..x.1], &arena[y.0..y.1], end),
             _ => {
-                // The longest is left for the walk over two. The others are united by pairs.
+                // The longest list is left for the walk over two. The others are united in pairs.
                 lists.sort_unstable_by_key(|x| x.1 - x.0);
                 let x = lists.pop().unwrap();
                 unite_pairs(arena, lists, &mut self.sum);

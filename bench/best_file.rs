@@ -66,7 +66,7 @@ fn serves(two: bool, b: &[u8], vehicle: u64) -> Res<bool> {
     Ok(some != not)
 }
 
-// Takes a field behind its first quote, up to its last. One that is empty and alone in its line is no empty line.
+// Takes a field from after its first quote up to its last. An empty one alone in its line does not make the line empty.
 fn quoted(data: &[u8], mut i: usize, out: &mut Vec<u8>) -> Res<usize> {
     let from = out.len();
     let alone = out.last().is_none_or(|c| *c == b'\n');
@@ -83,7 +83,7 @@ fn quoted(data: &[u8], mut i: usize, out: &mut Vec<u8>) -> Res<usize> {
     let ended = matches!(data.get(i), None | Some(b'\n' | b'\r'));
     if alone && ended && out.len() == from { Err(()) } else { Ok(i) }
 }
-// A text with quotes or CR, as one with neither: fields hold no comma or line end where the file is accepted.
+// A text with quotes or CR, rewritten with neither: fields of an accepted file hold no comma or line end.
 fn plain_text(data: &[u8]) -> Res<Vec<u8>> {
     let mut out = Vec::with_capacity(data.len() + 64);
     let (mut i, mut at_field) = (0, true);

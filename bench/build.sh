@@ -1,5 +1,5 @@
 # Sourced by the benchmarks. `build NAME DEP..` proves and builds bench/NAME/main.rattle as a program over a copy of this
-# repository's crates, and sets `program` to its path and `work` to a folder that goes when the script ends.
+# repository's crates. It sets `program` to its path and `work` to a folder that is removed when the script ends.
 set -euo pipefail
 top=$(cd "$(dirname "${BASH_SOURCE[0]}")/.." && pwd)
 work=$(mktemp -d)

@@ -1,6 +1,6 @@
 #!/usr/bin/env bash
-# Instructions for one look at a day, by callgrind: the crate's `fields`, and `jiff`'s public calls for the same numbers in a
-# program of their own, since a second place that adds days makes each of the two slower. Prints both and their ratio.
+# Instructions for one look at a day, by callgrind: with the crate's `fields`, and with `jiff`'s public calls for the same
+# numbers. These have a program of their own, since a second place that adds days makes both slower. Prints both and their ratio.
 . "$(dirname "$0")/build.sh"
 days=146097
 count() { # instructions of one run

@@ -1,10 +1,10 @@
 #!/usr/bin/env python3
 """A country's run by 1, 2 and 4 workers: bench/country.py [ROWS [WORKERS..]], a million rows over 91 days by default.
 
-Prints, for each number of workers, the seconds of the run, rows a second and the speed-up to the first; the processors' seconds
-of workers and what they ran; the largest memory that a worker had; and what the workers' seconds went to. The bytes of all runs
-are compared. It runs the built program, or the one that the environment variable GTD names, and needs python3-distributed. Its
-folder is below TMPDIR, and takes 2.7 GB for a million rows.
+Prints, for each number of workers, the seconds of the run, the rows per second and the speed relative to the first run; the
+processor seconds of the workers and of what they ran; the largest memory of a worker; and what the workers' seconds went to. The
+bytes of all runs are compared. It runs the built program, or the one that the environment variable GTD names, and needs
+python3-distributed. Its folder is below TMPDIR, and takes 2.7 GB for a million rows.
 """
 
 import collections

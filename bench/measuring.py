@@ -24,7 +24,7 @@ class Run(NamedTuple):
 
 
 def program(words):
-    """The path of `gtd`: the first of the words, or where `rt run` and `rt ci` put it."""
+    """The path of `gtd`: the first word, or where `rt run` and `rt ci` put it."""
     path = words[0] if words else os.path.join(TOP, "crates", "gtd", "out", "gtd")
     if not os.access(path, os.X_OK):
         sys.exit(f"no program at {path}: run rt ci first, or give the program's path")
@@ -32,10 +32,10 @@ def program(words):
 
 
 def run(command, limit, report):
-    """One run whose output goes nowhere: its seconds by the clock and of the processor, its peak memory, its status.
+    """One run whose output is discarded: its seconds by the clock and of the processor, its peak memory, its status.
 
-    The kernel charges a new process with the pages of the one that started it until it becomes another program, and
-    Python has 14 MiB of them. So the peak is asked of /usr/bin/time, which has 2 MiB. It writes it to the file `report`."""
+    Until a new process becomes another program, the kernel charges it with the pages of the process that started it, and
+    Python has 14 MiB of them. So /usr/bin/time, which has 2 MiB, measures the peak and writes it to the file `report`."""
     timed = ["/usr/bin/time", "-q", "-f", "%U %S %M", "-o", report, "timeout", str(limit), *command]
     begun = time.perf_counter()
     status = subprocess.run(timed, stdout=subprocess.DEVNULL, stderr=subprocess.DEVNULL, check=False).returncode
@@ -46,7 +46,7 @@ def run(command, limit, report):
 
 
 def check_memory(report):
-    """Ends the script if the peak memory is not measured well: `dd` fills a buffer of a known size."""
+    """Ends the script if the peak memory is measured wrongly: `dd` fills a buffer of a known size."""
     if not os.path.exists("/usr/bin/time"):
         sys.exit("no /usr/bin/time: install the package time")
     for mebibytes in (1, 64):
@@ -57,14 +57,14 @@ def check_memory(report):
 
 
 def seconds(command):
-    """The seconds of one run whose output goes nowhere, with nothing between it and this script."""
+    """The seconds of one run whose output is discarded, with nothing between it and this script."""
     begun = time.perf_counter()
     subprocess.run(command, stdout=subprocess.DEVNULL, check=True)
     return time.perf_counter() - begun
 
 
 def written(command, path):
-    """The path, once the command's output was written there."""
+    """The path, once the command's output has been written there."""
     with open(path, "wb") as file:
         subprocess.run(command, stdout=file, check=True)
     return path
@@ -75,14 +75,14 @@ def has_callgrind():
 
 
 def instructions(command):
-    """The instructions of one run, which other work on the machine does not change."""
+    """The instructions of one run; other work on the machine does not change them."""
     traced = ["valgrind", "--tool=callgrind", "--callgrind-out-file=/dev/null", *command]
     done = subprocess.run(traced, stdout=subprocess.DEVNULL, stderr=subprocess.PIPE, text=True, check=True)
     return int(re.search(r"Collected : (\d+)", done.stderr).group(1))
 
 
 def build_native(name, work):
-    """Builds bench/NAME.rs as fast as rustc makes it, and returns the program's path."""
+    """Builds bench/NAME.rs as fast as rustc can make it, and returns the program's path."""
     path = os.path.join(work, name)
     best = ["-C", "opt-level=3", "-C", "codegen-units=1", "-C", "panic=abort"]
     source = os.path.join(BENCH, f"{name}.rs")
@@ -91,11 +91,11 @@ def build_native(name, work):
 
 
 def row(cells):
-    """Prints one row of a table of Markdown, at once."""
+    """Prints one row of a Markdown table, at once."""
     print("| " + " | ".join(str(cell) for cell in cells) + " |", flush=True)
 
 
 def head(names):
-    """Prints the head of a table of Markdown."""
+    """Prints the head of a Markdown table."""
     row(names)
     print("|" + "---|" * len(names), flush=True)

@@ -1,5 +1,5 @@
-//! A plain native program for the main job, unproved, to compare speed and answers with: the schedule of a record file by
-//! whole lists of spans. `native FILE FROM TO VEHICLE`. It takes good input for granted (lines that end in LF or CR LF, no
+//! A plain, unproved native program for the main job, to compare speed and answers with: `native FILE FROM TO VEHICLE`. It
+//! makes the schedule of a record file by whole lists of spans. It expects good input (lines that end in LF or CR LF, no
 //! quotes inside fields): for anything else it prints `fault` and ends with status 1.
 use std::io::Write;
 

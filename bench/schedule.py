@@ -1,12 +1,12 @@
 #!/usr/bin/env python3
 """The main job beside two native programs that are not proved: `schedule.py [PROGRAM]`. All outputs must be the same bytes.
 
-`native.rs` is a plain program; `best.rs` is the fastest one that we know, which reads equal texts once, and each text
-again with the word `plain`. It needs a built `gtd` (`rt ci` builds it), rustc, and what `measuring.py` says; without
-valgrind it shows nanoseconds in place of instructions. Prints tables of Markdown: for two files, the best of seven times
-of each program, taken in turns, and its peak memory; then how the cost of a line goes with the rows, the horizon, the
+`native.rs` is a plain program; `best.rs` is the fastest one that we know. It reads equal texts once, or with the word
+`plain` each time. The script needs a built `gtd` (`rt ci` builds it), rustc, and what `measuring.py` needs; without
+valgrind it shows nanoseconds in place of instructions. It prints Markdown tables: for two files, the best of seven times
+of each program, run in turns, and its peak memory; then how the cost of a line grows with the rows, the horizon, the
 records of one element and the basic domains of one text. Instructions are those of the whole run, counted by callgrind,
-so other work on the machine changes times alone."""
+so other work on the machine changes only the times."""
 import filecmp
 import os
 import sys
@@ -21,7 +21,7 @@ FIRST = "2024-01-01"
 
 
 class Bench:
-    """The programs beside one another, and a folder for what they read and print."""
+    """The programs to compare, and a folder for what they read and print."""
 
     def __init__(self, gtd, work):
         best = measuring.build_native("best", work)
@@ -53,13 +53,13 @@ class Bench:
         return measuring.run(command, 600, self.report).mebibytes
 
     def made(self, rows):
-        """A file of so many rows as a map has them."""
+        """A file of this many rows, such as a map has."""
         maker = [sys.executable, os.path.join(measuring.TOP, "python", "tests", "make_records.py"), str(rows), "1"]
         return measuring.written(maker, os.path.join(self.work, "made"))
 
 
 def cost(command, lines):
-    """The instructions of a line; or its nanoseconds, where there is no callgrind."""
+    """The instructions of a line; or its nanoseconds, if there is no callgrind."""
     if measuring.has_callgrind():
         return f"{measuring.instructions(command) / lines:,.0f}"
     return f"{min(measuring.seconds(command) for _ in range(3)) / lines * 1e9:,.0f}"
@@ -70,7 +70,7 @@ def unit():
 
 
 def best_times(commands):
-    """The least of the times of each, which run in turns so that all meet the same machine."""
+    """The least time of each; they run in turns, so that all meet the same conditions."""
     rounds = [{name: measuring.seconds(command) for name, command in commands.items()} for _ in range(ROUNDS)]
     return {name: min(times[name] for times in rounds) for name in commands}
 
@@ -87,7 +87,7 @@ def beside_one_another(bench, rows, last):
 
 
 def scaled(bench, what, points):
-    """A table of the cost of a line, whose points are a number, a file and a last day each."""
+    """A table of the cost of a line; each of its points is a number, a file and a last day."""
     print(f"\n{unit()}, by {what}:\n")
     measuring.head([what.capitalize(), "Lines", *bench.calls, "Memory of `gtd`"])
     for number, records, last in points:

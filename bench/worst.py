@@ -1,11 +1,11 @@
 #!/usr/bin/env python3
-"""The inputs that cost most, each run once: `worst.py [PROGRAM [WORD]]`; with a word, those alone whose name has it.
+"""The inputs that cost most, each run once: `worst.py [PROGRAM [WORD]]`; with a word, only those whose name contains it.
 
-It needs a built `gtd` (`rt ci` builds it) and what `measuring.py` says; the files are made in a temporary folder. Each
-run has 60 seconds, or its goal where that is more. The goal is two seconds of the processor, which other work on the
-machine blurs less than the clock; but where an input has more than 20 million lines, spans or days that are gone over
-one by one, two seconds for each 20 million. Prints both times and the peak memory of each. Ends with status 1 if one
-misses its goal, or ends in a way that is no answer."""
+It needs a built `gtd` (`rt ci` builds it) and what `measuring.py` needs; the files are made in a temporary folder. Each
+run has 60 seconds, or its goal if that is longer. The goal is two seconds of the processor, which other work on the
+machine blurs less than the clock; if an input has more than 20 million lines, spans or days that are gone over one by
+one, it is two seconds for each 20 million. Prints both times and the peak memory of each. Ends with status 1 if one
+misses its goal, or ends without an answer."""
 import sys
 import tempfile
 
@@ -23,7 +23,7 @@ def goal(case):
 
 
 def ending(case, run):
-    """How the run ended, in a word: empty if it is within its goal."""
+    """How the run ended, in a word: empty if it met its goal."""
     if run.status == measuring.STOPPED:
         return "stopped"
     if run.status not in ANSWERS:
@@ -32,7 +32,7 @@ def ending(case, run):
 
 
 def measured(case, gtd, report):
-    """Runs a case, prints its row, and tells whether it missed its goal."""
+    """Runs a case, prints its row, and returns whether it missed its goal."""
     run = measuring.run([gtd, *case.words], max(LIMIT, goal(case)), report)
     ended = ending(case, run)
     times = [f"{run.processor:.2f} s", f"{run.elapsed:.2f} s", f"{goal(case):.0f} s"]

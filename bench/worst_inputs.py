@@ -21,7 +21,7 @@ NEVER = "(f11d8){y100}"  # the first Sunday of a month is never its eighth day
 
 
 class Case(NamedTuple):
-    """A command; and how many of what it counts one by one, where these are so many that they decide its time."""
+    """A command; and what it goes over one by one and how many, if these are so many that they decide its time."""
     name: str
     words: list
     counted: int = 0
@@ -49,7 +49,7 @@ class Folder:
         return self.file(name, HEADER + "".join(f"{n},both,0,{domain}\n" for n, domain in enumerate(domains)))
 
     def field(self, name, front, unit, head=HEADER):
-        """A file of the greatest size: a head, the front, and as many units as fit."""
+        """A file of the greatest size: a head, a front, and as many units as fit."""
         count = (MOST_BYTES - len(head) - len(front)) // len(unit)
         return self.file(name, head + front + unit * count)
 
@@ -71,7 +71,7 @@ def nested(parts, signs="+"):
 
 
 def clock_starts(count, step):
-    """Basic domains of one second each, the given seconds apart, by clock time."""
+    """Basic domains of one second each, `step` seconds apart, by clock time."""
     clocks = [step * n for n in range(count)]
     return [f"(h{c // 3600}m{c // 60 % 60}s{c % 60}){{s1}}" for c in clocks]
 
@@ -82,7 +82,7 @@ def hour_starts(count):
 
 
 def minute_starts(count):
-    """Basic domains of one second of each minute: thirty that do not touch, and these again."""
+    """Basic domains of one second of each minute: thirty that do not touch, and then the same again."""
     return [f"(s{2 * n % 60}){{s1}}" for n in range(count)]
 
 
@@ -95,7 +95,7 @@ def year(file):
 
 
 def asked(text, name, counted=0, what=""):
-    """The commands that look for a change, and the one that looks at a moment."""
+    """The commands that look for a change, and the one that asks about a moment."""
     yield Case(f"next, {name}", ["next", text, MOMENT, LONGEST[1]], counted, what)
     yield Case(f"ever, {name}", ["ever", text, MOMENT], counted, what)
     yield Case(f"at, {name}", ["at", text, MOMENT])
@@ -117,7 +117,7 @@ def domains():
 
 
 def taken_away():
-    """Domains of which nothing is left, so that each span is looked at."""
+    """Domains of which nothing remains, so that each span is looked at."""
     yield Case("ever, each minute's first second less itself", ["ever", "[(s0){s1}]-[(s0){s1}]", MOMENT])
     yield from taken_on_few_days()
     seconds = [f"(s{n % 60}){{s1}}" for n in range(MOST_BASIC - 1)]
@@ -131,7 +131,7 @@ def taken_away():
 
 
 def taken_on_few_days():
-    """The same where a part gives a date, so that 400 years are looked at and not a week."""
+    """The same with a part that gives a date, so that 400 years are looked at and not a week."""
     spans = 2 * 1440 * DAYS[LONGEST]
     for name, text in (
         ("less itself", "[(s0){s1}]-[(s0){s1}]-[(M2d29){d1}]"),
@@ -153,7 +153,7 @@ def words():
 
 
 def one_row(folder):
-    """Files of one row or few, whose domains have many starts."""
+    """Files of one or a few rows, whose domains have many starts."""
     few = folder.rows("few", [FULL] * 20)
     yield Case("20 rows that each minute begin a century, a day", schedule(few, DAY))
     many = folder.rows("many", [joined([FULL] * MOST_BASIC)])
@@ -191,9 +191,9 @@ def one_element(folder):
 
 
 def many_elements(folder):
-    """Files with one row of each element, whose starts are rare.
+    """Files with one row for each element, whose starts are rare.
 
-    Where the days looked at decide, there are fewer rows than a file can have, since the time is linear in them."""
+    If the days looked at decide the time, there are fewer rows than a file can have, since the time is linear in them."""
     leap = folder.elements("leap", ["(M2d29){y8}"] * MOST_ROWS)
     yield Case("65,536 elements from 29 February on, a day", schedule(leap, DAY))
     full = folder.elements("full", [FULL] * MOST_ROWS)

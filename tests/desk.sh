@@ -1,6 +1,6 @@
 #!/usr/bin/env bash
-# What the built program `gtdesk` does with its words, files and outputs: what it prints, its line and its status. The texts of
-# help are compared with those in tests/desk/. Run it after `rt ci`, which builds the program.
+# What the built program `gtdesk` does with its words, files and outputs: what it prints, its error line and its status. The texts
+# of help are compared with those in tests/desk/. Run it after `rt ci`, which builds the program.
 set -u
 top=$(cd "$(dirname "$0")/.." && pwd)
 program=$top/crates/gtdesk/out/gtdesk
@@ -66,7 +66,7 @@ for vehicle in 0 100 eleven 4294967297 ''; do
     expect "the vehicle type '$vehicle'" 1 '' 'gtdesk: VEHICLE: not a number from 1 to 99'
 done
 
-# The state at a moment: the rows of both directions, of one vehicle type, before and at the second of a change.
+# The state at a moment: rows for both directions and for one vehicle type, at the second of a change and the second before it.
 always=$'18,positive,11,open,,\n18,negative,11,closed,,3'
 at_ten=$'17,positive,11,closed,2024-04-01T14:00:00,1;2\n17,negative,11,closed,2024-04-01T11:00:00,2'
 before=$'17,positive,11,open,2024-04-01T10:00:00,\n17,negative,11,open,2024-04-01T10:00:00,'

@@ -10,12 +10,12 @@ room=$(mktemp -d)
 trap 'rm -rf "$room"' EXIT
 passed=0 failed=0
 
-# The programs stand first on the path, alone in their folder.
+# The programs come first on the path, alone in their folder.
 mkdir "$room/bin"
 ln -s "$program" "$room/bin/gtd"
 ln -s "$top/crates/gtdesk/out/gtdesk" "$room/bin/gtdesk"
 
-# compare WHERE COMMAND FILE: what the command writes, its faults among it, is exactly the file.
+# compare WHERE COMMAND FILE: what the command writes, its faults included, is exactly the file.
 compare() {
     PATH=$room/bin:$PATH bash -c "$2" > "$room/out" 2>&1 < /dev/null
     if cmp -s "$room/out" "$3"; then
@@ -63,7 +63,7 @@ for path in "$top"/CONTRIBUTING.md "$top"/docs/*.md "$top"/crates/*/README.md; d
     document "${path#"$top/"}"
 done
 
-# shown PAGE: each of the domains that were found on a page stands in a command of that page.
+# shown PAGE: each domain that was found on a page occurs in a command of that page.
 shown() {
     local domain
     while IFS= read -r domain; do
@@ -74,7 +74,7 @@ shown() {
     must_show "$1" "$(wc -l < "$room/domains")"
 }
 
-# The domains of the recipe and those that are easily mistaken, and those of restrictions in words.
+# The domains of the recipe, those that are easily mistaken, and those of restrictions in words.
 page=$top/docs/LANGUAGE.md
 {
     sed -n '/^## From A until B/,/^## Easily/s/^|.* | `\([^`]*\)` |$/\1/p' "$page"

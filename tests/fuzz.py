@@ -1,8 +1,8 @@
 #!/usr/bin/env python3
-"""The built program on random and damaged inputs, for so many seconds, beside the plain model of tests/model.py.
+"""The built program on random and damaged inputs, for SECONDS, against the plain model of tests/model.py.
 
-Every run must end by itself with a status from 0 to 3, print nothing on standard output where the status is 1 or 2, and write
-one line to standard error exactly where it is not 0. What it answers must be what the model answers: faults and their places,
+Every run must end by itself with a status from 0 to 3, print nothing on standard output if the status is 1 or 2, and write one
+line to standard error exactly if the status is not 0. It must answer what the model answers: faults and their places,
 membership, changes, schedules at their borders and in between. Run it after `rt ci`, which builds the program.
 
 Usage: tests/fuzz.py SECONDS [SEED]    (the same seed makes the same inputs)
@@ -27,7 +27,7 @@ HEADERS = {1: "element,direction,vehicle,domain", 2: "element,direction,vehicles
 
 
 class Failure(Exception):
-    """What the program did and should not have done."""
+    """What the program did but should not have done."""
 
 
 def expect(holds, what):
@@ -36,7 +36,7 @@ def expect(holds, what):
 
 
 def run(*words):
-    """One run: its status and its output. A failure where it breaks what holds for every run."""
+    """One run: its status and its output. It is a failure if it breaks what holds for every run."""
     words = [word if isinstance(word, bytes) else str(word).encode() for word in words]
     try:
         done = subprocess.run([GTD, *words], stdin=subprocess.DEVNULL, capture_output=True, timeout=LIMIT)
@@ -59,7 +59,7 @@ def stamp_of(second):
 
 
 class Maker:
-    """Makes random inputs: mostly sound ones, near each other in time."""
+    """Makes random inputs: mostly valid ones, near each other in time."""
 
     def __init__(self, seed):
         self.random = random.Random(seed)
@@ -96,7 +96,7 @@ class Maker:
         return f"[{text}]" if self.random.random() < 0.5 else text
 
     def loose(self):
-        """A text of the form of a domain whose fields may be anything, or that is near a limit."""
+        """A text in the form of a domain, whose fields may be anything or that is near a limit."""
         if self.random.random() < 0.1:
             count = self.random.randint(126, 130)
             length = self.random.choice(["d36600", "d36601", "y100", "y100s1", "M1180", "M1181", "w5228", "w5229", "h878400m1"])
@@ -112,7 +112,7 @@ class Maker:
         return f"({fields()}){self.random.choice(['{', '{', '[', '+'])}{fields()}}}"
 
     def damaged(self, text, alphabet):
-        """The bytes of a text with some put in, taken out or changed."""
+        """The bytes of a text, with some inserted, removed or changed."""
         data = bytearray(text.encode())
         for _ in range(self.random.choice([0, 1, 1, 2, 4])):
             at = self.random.randint(0, len(data))
@@ -121,7 +121,7 @@ class Maker:
         return bytes(data)
 
     def moment(self, text=""):
-        """A second of moments: often about the new year, of a year that the text gives where it gives one."""
+        """A second for a moment: often near New Year, in a year that the text gives if it gives one."""
         years = re.findall(r"y(\d{4})", text)
         if years and self.random.random() < 0.5:
             new_year = second_of(f"{self.random.choice(years)}-01-01")
@@ -171,7 +171,7 @@ def check_fault(maker):
 
 
 def check_membership(maker):
-    """Membership of a second, and that of the canonical text."""
+    """Membership of a second, in the domain and in that of the canonical text."""
     text = maker.domain()
     second = maker.moment(text)
     state = "in" if model.contains(model.read(text.encode()), second) else "out"
@@ -214,7 +214,7 @@ def write(room, name, version, rows):
 
 
 def spans_of(lines, words):
-    """The spans of a schedule by element and direction, which must come in order and not touch."""
+    """The spans of a schedule by element and direction; they must be in order and not touch."""
     spans, before = {}, None
     for line in lines:
         element, direction, _, start, end = line.split(",")
@@ -228,7 +228,7 @@ def spans_of(lines, words):
 
 
 def check_schedule(maker, room):
-    """A schedule at the borders of its spans and at some seconds between, that of the migrated file, and days of the table."""
+    """A schedule at its spans' borders and at some seconds between; that of the migrated file; and days of the table."""
     version, rows = maker.file()
     path, vehicle = write(room, "records.csv", version, rows), maker.random.randint(1, 15)
     first = maker.moment() // model.DAY

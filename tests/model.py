@@ -1,6 +1,6 @@
 #!/usr/bin/env python3
-"""A plain model of time domains and record files, written from docs/LANGUAGE.md and docs/FILES.md alone: short, slow, and apart
-from the program. It answers which fault a text has, and whether a second is in a domain or closed by a file's rows.
+"""A plain model of time domains and record files, written from docs/LANGUAGE.md and docs/FILES.md alone: short, slow, and
+independent of the program. It answers which fault a text has, and whether a second is in a domain or closed by a file's rows.
 
 Seconds are numbered from 1970-01-01T00:00:00 of the local civil clock. tests/fuzz.py compares the program with it."""
 import calendar
@@ -24,7 +24,7 @@ class Fault(Exception):
 
 
 def tokens(text):
-    """The tokens of a text, each with its place, or the fault of the first byte that begins none."""
+    """The tokens of a text, each with its place, or the fault of the first byte that does not begin one."""
     found, place = [], 0
     while place < len(text):
         token = re.match(rb" +|[\[\](){}+*-]|[yMwdtflhms]([0-9]{1,6})(?![0-9])", text[place:])
@@ -38,7 +38,7 @@ def tokens(text):
 
 
 def check_limits(found):
-    """The limits that are looked at before the grammar: brackets that are open, then parentheses."""
+    """The limits that are checked before the grammar: open brackets, then parentheses."""
     depth = 0
     for token, place in found:
         depth = depth + 1 if token == "[" else max(depth - 1, 0) if token == "]" else depth
@@ -70,7 +70,7 @@ def check_duration_field(token, before, place):
 
 
 class Reader:
-    """A reader by recursion over the grammar's rules: a sum of products of items."""
+    """A reader that recurs over the grammar's rules: a sum of products of items."""
 
     def __init__(self, found, end):
         self.found, self.end, self.at = found, end, 0
@@ -116,7 +116,7 @@ class Reader:
         return ("basic", start, self.fields("}", check_duration_field))
 
     def fields(self, close, check):
-        """One field or more, and the sign that closes."""
+        """One or more fields, and the closing sign."""
         fields = []
         while self.peek() is not None and (self.peek()[0].isalpha() or (fields and self.peek() == close)):
             token, place = self.found[self.at]
@@ -159,8 +159,8 @@ def date_of(day):
 
 
 def holds_on(fields, day):
-    """Whether the fields of a start down to the day hold on a day, those that are missing below the finest given one at their
-    first value."""
+    """Whether the fields of a start down to the day hold on a day. Missing fields below the finest given one are at their first
+    value."""
     date = date_of(day)
     length = calendar.monthrange(date.year, date.month)[1]
     weekday = date.isoweekday() % 7 + 1
@@ -199,7 +199,7 @@ def clocks(fields):
 
 
 def end_of(begin, fields):
-    """The first second after the stretch from a second on."""
+    """The first second after the stretch that begins at a second."""
     number = {letter: 0 for letter in DURATION} | {field[0]: int(field[1:]) for field in fields}
     date = date_of(begin // DAY)
     months = 12 * date.year + date.month - 1 + 12 * number["y"] + number["M"]
@@ -210,7 +210,7 @@ def end_of(begin, fields):
 
 
 def in_basic(start, duration, second):
-    """Whether the stretch of some matching start holds the second. Of the starts of one day up to it the last ends last."""
+    """Whether the stretch of some matching start holds the second. Of one day's starts up to it, the last one ends last."""
     today = second // DAY
     for day in range(today, today - bound(duration) // DAY - 2, -1):
         if holds_on(start, day):
@@ -233,7 +233,7 @@ def contains(expression, second):
 
 
 def serves(column, version, vehicle):
-    """Whether a row's third column has the vehicle type."""
+    """Whether a row's third column includes the vehicle type."""
     if version == 1 or column in ("0", "00"):
         return int(column) in (0, vehicle)
     listed = vehicle in [int(code) for code in column.lstrip("!").split(";")]
@@ -241,8 +241,8 @@ def serves(column, version, vehicle):
 
 
 def is_open(rows, version, element, direction, vehicle, second):
-    """Whether no row closes the element in the direction for the vehicle type at the second. A row is its four columns, the
-    last an expression, or None for always."""
+    """Whether no row closes the element in the direction for the vehicle type at the second. A row is its four columns; the
+    last is an expression, or None for always."""
     return not any(
         int(row[0]) == element and row[1] in (direction, "both") and serves(row[2], version, vehicle)
         and (row[3] is None or contains(row[3], second))

@@ -1,10 +1,10 @@
 #!/usr/bin/env bash
-# The Debian package: builds it twice and compares the bytes, installs it in a scratch root, lints the man pages that lie there,
-# presses Tab in real shells over the completions that lie there, runs the main job from it on examples/, and removes it.
-# Run it after `rt ci`, which builds the program. It needs Debian's dpkg, and calls tests/setup.sh where a tool is missing.
+# The Debian package: builds it twice and compares the bytes, installs it in a scratch root, lints the installed man pages,
+# presses Tab in real shells with the installed completions, runs the main job from it on examples/, and removes it.
+# Run it after `rt ci`, which builds the program. It needs Debian's dpkg, and calls tests/setup.sh if a tool is missing.
 #
-# It installs by `dpkg --root` and not by `dpkg -x`, which only unpacks: so dpkg's own list of files decides what a removal takes
-# away, and the test sees what is left.
+# It installs with `dpkg --root` and not with `dpkg -x`, which only unpacks: so dpkg's own list of files decides what a removal
+# takes away, and the test sees what is left.
 set -u
 top=$(cd "$(dirname "$0")/.." && pwd)
 [ -x "$top/crates/gtd/out/gtd" ] || { echo "no program in crates/gtd/out: run rt ci first" >&2; exit 1; }
@@ -37,7 +37,7 @@ succeeds() {
     if "$@" > "$room/said" 2>&1; then pass; else fail "$name" "$room/said"; fi
 }
 
-# gives NAME EXPECTED COMMAND..: the command's output, its errors among it, is exactly the text.
+# gives NAME EXPECTED COMMAND..: the command's output, its errors included, is exactly the text.
 gives() {
     local name=$1 expected=$2
     shift 2
@@ -61,8 +61,8 @@ build_twice() {
     gives 'all files may be read' '' grep -v '^[-d]r[-w][-x]r-[-x]r-[-x] ' "$room/contents"
 }
 
-# dpkg_in ARGUMENTS..: dpkg over the scratch root. The root has no C library of its own, so dependencies only warn; and it takes
-# the documents also where this machine's dpkg leaves them out.
+# dpkg_in ARGUMENTS..: dpkg over the scratch root. The root has no C library of its own, so dependencies only warn. The documents
+# are installed even if this machine's dpkg leaves documents out.
 dpkg_in() {
     local as_root=
     [ "$(id -u)" = 0 ] || as_root=fakeroot
@@ -95,8 +95,8 @@ assert open(sys.argv[1]).read() in open(sys.argv[2]).read()' "$top/LICENSE-$lice
     done
 }
 
-# lint PAGE: mandoc finds nothing. It looks for the pages that one refers to in /usr/share/man alone, so whether these are there is
-# asked of the scratch root here.
+# lint PAGE: mandoc finds nothing. It looks for the pages that a page refers to only in /usr/share/man, so this checks that they
+# are in the scratch root.
 lint() {
     local page=$root/usr/share/man/man${1##*.}/$1 name section
     zcat "$page.gz" > "$room/$1" || fail "$1 is there"
@@ -133,7 +133,7 @@ complete_in() {
     tab "$1" 'gtd schedule town.csv restr' '<schedule><town.csv><restr>'
 }
 
-# The program lists no commands itself, so they are taken from where it names them.
+# The program does not list its commands, so they are taken from where it names them.
 know_commands() {
     gives "the program's commands" "$(tr ' ' '\n' <<< "$commands" | sort)" \
         bash -c "sed -n 's/.*add_command(alloc, program, \"\([a-z]*\)\").*/\1/p' '$top/crates/gtd_tool/src/arguments.rt' | sort"

@@ -1,9 +1,9 @@
 #!/usr/bin/env python3
 """What the Tab key makes of a command line, in a real shell on a pseudo-terminal.
 
-Starts the shell with no start-up files, runs the setup line in it, types the text and Tab, waits until the line stands still, and
-then presses Enter. The setup makes `gtd` a function, so that the line prints its words, each in angle brackets, in place of
-running the program: `<year><town.csv>`.
+Starts the shell without start-up files, runs the setup line in it, types the text and Tab, waits until the line stops changing,
+and then presses Enter. The setup makes `gtd` a function that prints its words, each in angle brackets, in place of running the
+program: `<year><town.csv>`.
 
 Usage: tests/press_tab.py bash|zsh SETUP TEXT
 """
@@ -21,7 +21,7 @@ PRINT = "gtd() { printf '\\133words '; printf '<%s>' \"$@\"; printf ' words\\135
 
 
 class Shell:
-    """A shell on a pseudo-terminal, and all that it has written since the last keys."""
+    """A shell on a pseudo-terminal, and all that it has written since the last key press."""
 
     def __init__(self, name):
         pid, self.terminal = pty.fork()
@@ -35,7 +35,7 @@ class Shell:
         os.write(self.terminal, keys.encode())
 
     def wait(self, text, seconds=20):
-        """Waits until the text was written."""
+        """Waits until the text has been written."""
         end = time.monotonic() + seconds
         while text not in self.seen:
             if time.monotonic() > end:
@@ -43,7 +43,7 @@ class Shell:
             self.read(0.2)
 
     def settle(self):
-        """Waits until nothing was written for half a second."""
+        """Waits until nothing has been written for half a second."""
         while self.read(0.5):
             pass
 

@@ -1,5 +1,5 @@
 #!/usr/bin/env bash
-# What the built program does with the system: words that are no text, files, outputs that fail, its line and its status.
+# What the built program does with the system: words that are not text, files, outputs that fail, its error line and its status.
 # Run it after `rt ci`, which builds the program.
 set -u
 program=$(cd "$(dirname "$0")/.." && pwd)/crates/gtd/out/gtd

@@ -1,9 +1,9 @@
 #!/usr/bin/env bash
 # The Python package: its types, its tests, and its wheel in a fresh virtual environment. Run it after `rt ci`, which builds the
-# program. It needs Debian's Python packages, and calls tests/setup.sh where one is missing. The tests mount a small disk: where
-# this is not root, they run as the root of a name space of their own.
+# program. It needs Debian's Python packages, and calls tests/setup.sh if one is missing. The tests mount a small disk: if this is
+# not run as root, they run as root of their own namespace.
 #
-# Three groups of tests run side by side, since most of their time they wait for processes to start.
+# Three groups of tests run side by side, since they mostly wait for processes to start.
 set -u
 top=$(cd "$(dirname "$0")/.." && pwd)
 export GTD=$top/crates/gtd/out/gtd
@@ -53,7 +53,7 @@ end() {
     tail -n 60 "$room/$1.log"
 }
 
-# The wheel is built and installed by the commands of docs/PYTHON.md, from a copy: nothing is written into the repository, and
+# The wheel is built and installed with the commands of docs/PYTHON.md, from a copy: nothing is written into the repository, and
 # nothing is fetched.
 install_wheel() {
     local line
@@ -68,7 +68,7 @@ install_wheel() {
     done < "$room/install"
 }
 
-# The installed package, from a folder where the repository's is not found.
+# The installed package, from a folder in which Python does not find the repository's.
 use_wheel() {
     mkdir "$room/elsewhere"
     cd "$room/elsewhere" || exit 1

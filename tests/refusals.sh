@@ -1,7 +1,7 @@
 #!/usr/bin/env bash
-# Runs each test of memory refused with its first growth refused, then with its second, and so on to its last; and so
-# each command of the program. Runs each test of calls that take no memory with all growths refused in those calls. Run it
-# after `rt ci`, which proves and builds what it runs. It needs a C compiler.
+# Runs each test of refused memory with its first growth refused, then with its second, and so on to its last. Does the same
+# for each command of the program. Runs each test of calls that take no memory with all growths in those calls refused. Run
+# it after `rt ci`, which proves and builds what it runs. It needs a C compiler.
 set -u
 ulimit -c 0
 here=$(cd "$(dirname "$0")" && pwd)
@@ -17,7 +17,7 @@ trap 'rm -rf "$room"' EXIT
 
 refused=0 failed=0
 
-# tests_refused TESTS: the tests of memory refused in this program, with their growths refused in turn.
+# tests_refused TESTS: this program's tests of refused memory, with their growths refused in turn.
 tests_refused() {
     local names name
     names=$("$1" --list | sed -n 's/^\(refusals::.*\): test$/\1/p')
@@ -31,12 +31,12 @@ tests_refused() {
                 failed=$((failed + 1))
                 echo "FAILED $name, growth $growth: status $status, said '$said$told'"
             fi
-            # A success is not the end: a call can do without some growths.
+            # A success does not end the loop: a call can do without some growths.
             [[ $told == *'growth refused'* ]] || break
             refused=$((refused + 1))
         done
         echo "${name#refusals::}: $((growth - 1))"
-        # Each of them takes memory: with none refused, nothing was tested.
+        # Each test takes memory: if no growth was refused, nothing was tested.
         [ "$growth" != 1 ] || failed=$((failed + 1))
     done
 }
@@ -44,11 +44,11 @@ tests_refused() {
 tests_refused "$layer_tests"
 tests_refused "$command_tests"
 
-# The number of bytes that a test asks for before the calls that are to take no memory, and after them.
+# The number of bytes that a test asks for before and after the calls that must take no memory.
 switch=7654321
 
-# tests_without TESTS: the tests of calls that take no memory in this program. The request before the calls is refused, and
-# is to be the only growth up to the next such request.
+# tests_without TESTS: this program's tests of calls that take no memory. The request before the calls is refused, and must be
+# the only growth up to the next such request.
 tests_without() {
     local names name
     names=$("$1" --list | sed -n 's/^\(without_memory::.*\): test$/\1/p')
@@ -69,12 +69,12 @@ tests_without() {
 tests_without "$layer_tests"
 tests_without "$command_tests"
 
-# as_before: the last run of the program ended as it does with all its memory, though it may tell of a growth refused.
+# as_before: the last run of the program ended as it does with all its memory, though it may report a refused growth.
 as_before() {
     [ "$status" = 0 ] && [ "${told#growth refused}" = '' ] && cmp -s "$room/out" "$room/whole"
 }
 
-# in_want: the last run told of want of memory, and had printed a first part of what it prints.
+# in_want: the last run reported refused memory, and had printed a first part of what it prints.
 in_want() {
     [ "$status" = 3 ] && [ "$told" = $'growth refused\nfault NoMemory' ] \
         && cmp -s -n "$(stat -c %s "$room/out")" "$room/out" "$room/whole"

@@ -1,7 +1,7 @@
-// Refuses growths of memory of a process that it is loaded into by LD_PRELOAD: the one whose number, from 1, the variable
-// REFUSE_GROWTH gives; or, where REFUSE_BETWEEN gives a number of bytes, each request for exactly so many and all growths
-// after it, up to the next such request, which is granted again. Tells of each on standard error. Growths are the calls of
-// malloc, calloc and realloc.
+// Refuses growths of memory of a process that it is loaded into by LD_PRELOAD: the one whose number, from 1, is in the variable
+// REFUSE_GROWTH; or, if REFUSE_BETWEEN gives a number of bytes, a request for exactly that many and all growths after it, up
+// to the next such request, which is granted. Reports each refusal on standard error. Growths are calls of malloc, calloc
+// and realloc.
 #include <errno.h>
 #include <stddef.h>
 #include <stdlib.h>

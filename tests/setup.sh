@@ -1,12 +1,12 @@
 #!/usr/bin/env bash
-# Installs what the tests need beside Rattle's kit, from Debian's packages:
+# Installs what the tests need besides Rattle's kit, from Debian's packages:
 #   gcc, libc6-dev   tests/refusals.sh compiles the library that refuses growths of memory
 #   python3          tests/statement.py, tests/fuzz.py, tests/press_tab.py
 #   mandoc           tests/packaging.sh lints the man pages
-#   zsh              tests/packaging.sh tries the completions; bash is there
-#   fakeroot         tests/packaging.sh installs the package, where it is not run as root
+#   zsh              tests/packaging.sh tries the completions; bash is already there
+#   fakeroot         tests/packaging.sh installs the package, if it is not run as root
 #   python3-pandas, python3-geopandas, python3-dask, python3-distributed
-#                    what the Python package stands on; tests/python.sh, bench/country.py
+#                    what the Python package needs; tests/python.sh, bench/country.py
 #   python3-pytest, mypy, python3-build, python3-setuptools, python3-wheel, python3-venv
 #                    tests/python.sh tests the package, its types, and its wheel in a fresh environment
 #   openssl, mount   tests/python.sh makes certificates, and a small disk

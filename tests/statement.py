@@ -4,9 +4,9 @@
 Starts at the clause `headline` of `run_schedule` and the traits of its devices, and follows each name that a definition uses
 to where that name is defined: in a crate's specs/, or as a type or trait of its sources. Prints every definition with its
 place, and how many lines a reader must believe: those of the definitions, without comments and blank lines, and those of the
-types and traits that they name. Fails where the table of docs/THEOREM.md misses one of these definitions, or names one that
-is not among them; where README.md gives other numbers; and where a definition stands among lemmas, in specs/facts/, or a
-file of specs/ cites a lemma.
+types and traits that they name. Fails if the table of docs/THEOREM.md misses one of these definitions, or names one that is
+not among them; if README.md gives other numbers; if a definition is among the lemmas, in specs/facts/; or if a file of specs/
+cites a lemma.
 
 Usage: tests/statement.py [--table]    (--table prints the rows that the table of docs/THEOREM.md must have)
 """
@@ -52,7 +52,7 @@ class Module:
 
 
 def imports(text):
-    """Each import of a text, as (module, names with what they are called here, or None; how the module is called here)."""
+    """Each import of a text, as (module, names with what they are called here, or None; what the module is called here)."""
     for line in re.findall(r"^\s*(?:pub |ghost )?use (Rattle\.[^\n;]+?);?\s*$", text, re.M):
         names = re.match(r"^(.*)\.\{(.*)\}$", line)
         if names:
@@ -116,14 +116,14 @@ def read_module(path):
 
 
 def module_file(name):
-    """The file of a module of specs/, or None for one that the check generates or that is not of this repository."""
+    """The file of a module of specs/, or None for one that the check generates or that is not in this repository."""
     parts = name.split(".")
     path = os.path.join(CRATES, parts[1], *parts[2:]) + ".antt"
     return path if parts[1].startswith("gtd_") and os.path.exists(path) else None
 
 
 def declared_type(name):
-    """The struct, enum or trait that a generated module is of, as a definition of its source file, or None."""
+    """The struct, enum or trait that a generated module is made from, as a definition of its source file, or None."""
     found = re.match(r"^Rattle\.(gtd_\w+)\.specs\.declared\.(?P<path>.*?)(?:\.TheVariants)?$", name)
     if not found:
         return None
@@ -142,7 +142,7 @@ def declared_type(name):
 
 
 class Statement:
-    """The definitions that are reached, and the words of std and of the kit's crates at which the walk ends."""
+    """The definitions that are reached, and the names of std and of the kit's crates at which the walk ends."""
 
     def __init__(self):
         self.modules, self.reached, self.ends, self.todo = {}, {}, {}, []

@@ -1,7 +1,7 @@
 """Time domains of GDF (ISO 14825:2004) and timed road restrictions, for pandas.
 
-Everything is computed by the proved program ``gtd``, which is run for each call: the path in the environment variable
-``GTD``, else ``gtd`` on ``PATH``. Moments are seconds of the local civil clock; time zones and daylight saving do not enter.
+The proved program ``gtd`` computes everything, and is run for each call: the program at the path in the environment variable
+``GTD``, or otherwise ``gtd`` on ``PATH``. Moments are seconds of the local civil clock, without time zones or daylight saving.
 
 >>> from datetime import datetime
 >>> import gtd
@@ -10,7 +10,7 @@ Everything is computed by the proved program ``gtd``, which is run for each call
 >>> gtd.contains("[(M5h10){h1}]", datetime(2024, 5, 17, 10, 59, 59))
 True
 
-A column of domains has the accessor ``gtd``: see :class:`gtd.Domains`. Record sets too large for one file:
+A column of domains has the accessor ``gtd``: see :class:`gtd.Domains`. For record sets that are too large for one file, see
 :mod:`gtd.country`.
 """
 

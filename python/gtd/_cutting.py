@@ -1,12 +1,12 @@
 """Record sets that are larger than a file may be, cut into files.
 
-Two things make this right. No field of an accepted file holds the end of a line, so each line of such a file is a row, or
-empty, and means the same wherever it stands: a file may be cut at any end of a line. It is accepted exactly if each piece is,
-behind the file's header; and its first fault is that of the first piece at fault. And what an element's schedule is, its own
-rows alone decide: the schedules of ascending ranges of elements, one after another, are the schedule of all.
+Two things make this right. First, no field of an accepted file holds a line end. So each line of such a file is a row, or empty,
+and means the same wherever it is: a file may be cut at any line end. It is accepted exactly if each piece is accepted under the
+file's header, and its first fault is that of the first piece at fault. Second, an element's own rows alone decide its schedule:
+the schedules of ascending ranges of elements, one after another, are the schedule of all.
 
-Whether a piece is accepted, and what its rows mean, the program says: ``gtd migrate`` prints each row in one form, without
-quotes, whatever the file's version, line ends and quotes were.
+The program says whether a piece is accepted and what its rows mean: ``gtd migrate`` prints each row in one form, without quotes,
+whatever the file's version, line ends and quotes were.
 """
 
 from __future__ import annotations
@@ -36,14 +36,14 @@ class Refused:
     """Some lines, one of which is at fault: where the first fault is."""
 
     line: int
-    """Lines before it."""
+    """How many lines come before it."""
     row: int
-    """Rows before it."""
+    """How many rows come before it."""
 
 
 @dataclass(frozen=True)
 class Rows:
-    """Migrated rows in ascending order of their elements; of one element, in the order in which they were read."""
+    """Migrated rows in ascending order of their elements; those of one element in the order in which they were read."""
 
     elements: Numbers
     """int64, of each row."""
@@ -75,22 +75,22 @@ class Beyond:
 
     @property
     def note(self) -> str:
-        """What a fault says of it."""
+        """What a fault says about it."""
         has = f"element {self.element} has {self.rows:,} rows of together {self.size:,} bytes"
         return f"{has}; what one file can hold is {MOST_ROWS:,} rows and {_LARGEST_PART:,} bytes"
 
     def is_passed(self, rows: int, size: int) -> bool:
-        """Whether so many of its rows, of so many bytes, are too many."""
+        """Whether this many of its rows, with this many bytes, are too many."""
         return rows > MOST_ROWS if self.kind == "TooManyRows" else size > _LARGEST_PART
 
 
 def is_empty(line: bytes) -> bool:
-    """Whether a line gives no row."""
+    """Whether a line holds no row."""
     return not line.rstrip(b"\r\n")
 
 
 def stretches(rows: Numbers, sizes: Numbers, largest: int, most: int = MOST_ROWS) -> List[int]:
-    """Where each of the fewest stretches begins that have at most ``most`` rows and ``largest`` bytes, or one entry."""
+    """Where stretches begin, as few as possible: each has at most ``most`` rows and ``largest`` bytes, or is one entry."""
     rows_before, sizes_before = _before(rows), _before(sizes)
     begins: List[int] = []
     at = 0
@@ -103,14 +103,14 @@ def stretches(rows: Numbers, sizes: Numbers, largest: int, most: int = MOST_ROWS
 
 
 def _before(numbers: Numbers) -> Numbers:
-    """The sums of the numbers before each, and of all."""
+    """The sum of the numbers before each, and then the sum of all."""
     return numpy.concatenate((numpy.zeros(1, "int64"), numpy.cumsum(numbers)))
 
 
 def files_of(lines: List[bytes], head: bytes) -> List[Tuple[int, int]]:
-    """Begins and ends of runs of lines that are files behind a header; a line that is too long for any is a run alone.
+    """Begins and ends of runs of lines that are files under a header; a line that is too long for any is a run by itself.
 
-    There is at least one run, so that the header is looked at.
+    There is at least one run, so that the header is checked.
     """
     sizes = numpy.fromiter(map(len, lines), dtype="int64", count=len(lines))
     begins = stretches(numpy.ones(len(lines), dtype="int64"), sizes, LARGEST_FILE - len(head))
@@ -118,7 +118,7 @@ def files_of(lines: List[bytes], head: bytes) -> List[Tuple[int, int]]:
 
 
 def migrate_lines(head: bytes, lines: List[bytes]) -> Union[List[bytes], Refused]:
-    """The rows of some lines behind a header, each migrated and with its line end, if the program accepts them all."""
+    """The rows of some lines under a header, each migrated and with its line end, if the program accepts them all."""
     migrated: List[bytes] = []
     for begin, end in files_of(lines, head):
         try:
@@ -136,9 +136,9 @@ def migrate_lines(head: bytes, lines: List[bytes]) -> Union[List[bytes], Refused
 def fault_of(
     head: bytes, lines: List[bytes], number: int, *, file: Optional[str] = None, line: Optional[int] = None
 ) -> Optional[Fault]:
-    """The first fault of lines that begin with the row at fault, told as that of a row of this number.
+    """The first fault of lines that begin with the row at fault, reported as that of the row with this number.
 
-    The lines must hold the row whole: a field in quotes may run on over line ends. None where there is no fault.
+    The lines must hold the whole row: a quoted field may run on over line ends. None if there is no fault.
     """
     begin, end = files_of(lines, head)[0]
     try:
@@ -163,7 +163,7 @@ def sort_rows(migrated: List[bytes]) -> Rows:
 
 
 def count(rows: Rows) -> pandas.DataFrame:
-    """How many ``rows`` and bytes (``size``) each ``element`` has; all int64, in ascending order."""
+    """How many ``rows`` and bytes (``size``) each ``element`` has: all int64, in ascending order of elements."""
     begins = numpy.flatnonzero(numpy.diff(rows.elements, prepend=-1))
     sizes = numpy.diff(rows.ends, prepend=0)
     number = numpy.diff(numpy.append(begins, len(rows.elements)))
@@ -172,7 +172,7 @@ def count(rows: Rows) -> pandas.DataFrame:
 
 
 def cut(total: pandas.DataFrame, most: int = MOST_ROWS) -> Union[Cuts, Beyond]:
-    """The parts of all elements, each the longest that has at most ``most`` rows and is a file; or why there are none.
+    """The parts of all elements, each as long as it can be with at most ``most`` rows in one file; or why there are none.
 
     Parameters
     ----------

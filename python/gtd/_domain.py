@@ -26,12 +26,12 @@ class Change(NamedTuple):
 
 
 def check(text: str) -> None:
-    """Nothing, if a text is a time domain.
+    """Return nothing if a text is a time domain.
 
     Raises
     ------
     Fault
-        The text is none; ``kind`` and ``place`` (in bytes) are those of its first fault.
+        The text is not one; ``kind`` and ``place`` (in bytes) are those of its first fault.
     """
     _ask("check", text)
 
@@ -42,7 +42,7 @@ def canon(text: str) -> str:
     Raises
     ------
     Fault
-        The text is no time domain.
+        The text is not a time domain.
     """
     return _ask("canon", text)
 
@@ -55,13 +55,14 @@ def contains(text: str, moment: Moment) -> bool:
     text : str
         A time domain.
     moment : datetime.datetime, numpy.datetime64 or str
-        From 1901 to 2199, of the local civil clock and so without a time zone. Fractions of a second are dropped: they
-        lie within their second. A str has the form ``YYYY-MM-DDThh:mm:ss``.
+        From 1901 to 2199, of the local civil clock and so without a time zone. Fractions of a second are dropped, since
+        they lie within their second. A str has the form ``YYYY-MM-DDThh:mm:ss``.
 
     Raises
     ------
     Fault
-        The text is no time domain, or the moment is refused: ``'moment Shape'``, ``'moment NoSuchDate'``, ``'moment Range'``.
+        The text is not a time domain, or the moment is refused: ``'moment Shape'``, ``'moment NoSuchDate'``,
+        ``'moment Range'``.
     ValueError
         The moment has a time zone, or is not a time (NaT).
     """
@@ -81,12 +82,12 @@ def next_change(text: str, moment: Moment, until: Day) -> Optional[Change]:
     Returns
     -------
     Change or None
-        None where the state does not change.
+        None if the state does not change.
 
     Raises
     ------
     Fault, ValueError
-        As :func:`contains`, and ``'date ...'`` and ``'horizon ...'``.
+        As for :func:`contains`; also ``'date ...'`` and ``'horizon ...'``.
     """
     return _change(_ask("next", text, stamp(moment), day(until)))
 
@@ -97,7 +98,7 @@ def next_change_ever(text: str, moment: Moment) -> Optional[Change]:
     Raises
     ------
     Fault, ValueError
-        As :func:`contains`; ``'HasYear'`` for a domain that gives a year.
+        As for :func:`contains`; also ``'HasYear'`` for a domain that gives a year.
     """
     return _change(_ask("ever", text, stamp(moment)))
 
@@ -108,7 +109,7 @@ def _ask(command: str, text: str, *words: str) -> str:
     try:
         if "\0" in text or len(text) > _LONGEST_WORD:
             text = _short(text)
-        # Behind "--" a text that begins with "-" is a word like any other. A lone surrogate becomes "?", which is no
+        # After "--", a text that begins with "-" is a word like any other. A lone surrogate becomes "?", which is not a
         # token either.
         return run(command, "--", text.encode("utf-8", "replace").decode(), *words).decode().rstrip("\n")
     except Fault as fault:
@@ -118,7 +119,7 @@ def _ask(command: str, text: str, *words: str) -> str:
 
 
 def _short(text: str) -> str:
-    """The canonical text of one that can be no word of a command line, by way of a record file."""
+    """The canonical text of a domain that cannot be a word of a command line, by way of a record file."""
     quoted = text.encode("utf-8", "replace").replace(b'"', b'""')
     try:
         migrated = run("migrate", "/dev/stdin", given=b'element,direction,vehicles,domain\n1,both,0,"' + quoted + b'"\n')

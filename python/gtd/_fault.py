@@ -15,7 +15,7 @@ class Fault(ValueError):
     Attributes
     ----------
     kind : str
-        The words of the program's line: ``'FieldRange'``, ``'moment Range'``, ``'horizon Empty'``, ``'Header'``,
+        As in the program's line: ``'FieldRange'``, ``'moment Range'``, ``'horizon Empty'``, ``'Header'``,
         ``'Direction'``, ``'Domain FieldRange'``. The README of ``gtd``, docs/LANGUAGE.md and docs/FILES.md list them all.
     place : int or None
         For a time domain: the number of bytes of the domain's text before the fault.
@@ -28,7 +28,7 @@ class Fault(ValueError):
     file, line : str and int, or None
         For the rows of :mod:`gtd.country`: the file as it was named, and the line in it, from 1.
     note : str or None
-        What else there is to say.
+        Anything else there is to say.
     """
 
     def __init__(
@@ -75,7 +75,7 @@ def _made(parts: Dict[str, Any]) -> Fault:
 
 
 def read_fault(line: str) -> Optional[Fault]:
-    """The fault that a line of the program's standard error tells, or None where it tells none."""
+    """The fault that a line of the program's standard error reports, or None if it reports none."""
     found = _LINE.fullmatch(line)
     if not found:
         return None
@@ -94,7 +94,7 @@ def in_domain(fault: Fault, text: str, row: Optional[int] = None, note: Optional
 def in_row(
     fault: Fault, row: bytes, number: Optional[int], *, file: Optional[str] = None, line: Optional[int] = None
 ) -> Fault:
-    """The same fault, with the row's text and number. The fields before a faulty domain are read, so they hold no comma."""
+    """The same fault, with the row's text and number. The fields before a faulty domain were read, so they hold no comma."""
     caret = None
     if fault.place is not None:
         caret = len(row[: _begin_in(row, fault.place)].decode("utf-8", "replace"))
@@ -103,7 +103,7 @@ def in_row(
 
 
 def _begin_in(row: bytes, place: int) -> int:
-    """Where in a row the byte ``place`` of its fourth field stands; quotes around it are no bytes of the field."""
+    """Where in a row the byte ``place`` of its fourth field is; quotes around the field are not part of it."""
     at = -1
     for _ in range(3):
         at = row.find(b",", at + 1)

@@ -17,16 +17,16 @@ MOST_ROWS = 65_536  # rows of a record file
 
 
 class ProgramNotFound(FileNotFoundError):
-    """The program ``gtd`` is not where it was looked for."""
+    """The program ``gtd`` was not found."""
 
 
 def program() -> str:
-    """The path of the program: the environment variable ``GTD``, else ``gtd`` on ``PATH``.
+    """The path of the program: the environment variable ``GTD``, or otherwise ``gtd`` on ``PATH``.
 
     Raises
     ------
     ProgramNotFound
-        ``GTD`` names no file that can be run; or it is not set, and there is no ``gtd`` on ``PATH``.
+        ``GTD`` does not name a file that can be run; or it is not set, and there is no ``gtd`` on ``PATH``.
     """
     named = os.environ.get("GTD")
     found = shutil.which(named or "gtd")
@@ -39,19 +39,18 @@ def program() -> str:
 
 @lru_cache(maxsize=None)
 def fingerprint(path: str) -> str:
-    """The SHA-256 of a file, in hexadecimal digits: which program it is."""
+    """The SHA-256 of a file, in hexadecimal digits; it tells programs apart."""
     with open(path, "rb") as file:
         return hashlib.sha256(file.read()).hexdigest()
 
 
 def run(*words: str, given: bytes = b"", into: Optional[IO[bytes]] = None) -> bytes:
-    """What the program prints, ``given`` being what it reads from ``/dev/stdin``.
+    """What the program prints when it reads ``given`` from ``/dev/stdin``.
 
     Parameters
     ----------
     into : binary file, optional
-        Takes what is printed, and nothing is returned then. It has a file descriptor, and nothing written to it is
-        still in its buffer.
+        Takes what is printed; nothing is returned then. It must have a file descriptor, and an empty buffer.
 
     Raises
     ------
@@ -60,11 +59,12 @@ def run(*words: str, given: bytes = b"", into: Optional[IO[bytes]] = None) -> by
     ProgramNotFound
         There is no program.
     OSError, MemoryError
-        The program could not read or write, or had no memory.
+        The program could not read or write, or ran out of memory.
     RuntimeError
         What ran is not this program, or it was killed.
     """
-    # Files of memory and no pipes: Python feeds a pipe by 4 KiB, and both processes would wait for one another each time.
+    # Files in memory and not pipes: Python feeds a pipe in pieces of 4 KiB, and the processes would wait for each other
+    # each time.
     with _memory() as source, _memory() as printed:
         source.write(given)
         source.seek(0)  # what is buffered is written, too
@@ -78,7 +78,7 @@ def run(*words: str, given: bytes = b"", into: Optional[IO[bytes]] = None) -> by
 
 
 def _failure(command: str, status: int, said: str) -> Exception:
-    """What a run that ended with another status than 0 is told as."""
+    """The exception for a run that ended with a status other than 0."""
     fault = read_fault(said)
     if fault is not None and status == 1:
         return fault

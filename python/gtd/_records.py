@@ -33,13 +33,13 @@ def schedule(records: Records, first: Day, until: Day, vehicle: int) -> pandas.D
     Parameters
     ----------
     records : str, os.PathLike, bytes, binary file or pandas.DataFrame
-        A record file: its path (``.gz`` for one that is packed by gzip), its bytes, or an open file, of at most 65,536
-        rows and 16,777,216 bytes; :mod:`gtd.country` reads larger ones. Or a frame of any size with the columns
-        ``element``, ``direction``, ``vehicle`` (or ``vehicles``) and ``domain``, whose other columns are left alone; a
-        missing value in ``domain`` is the empty domain: always closed.
+        A record file: its path (``.gz`` if gzip has packed it), its bytes, or an open file, of at most 65,536 rows and
+        16,777,216 bytes; :mod:`gtd.country` reads larger ones. Or a frame of any size with the columns ``element``,
+        ``direction``, ``vehicle`` (or ``vehicles``) and ``domain``; its other columns are ignored, and a missing value in
+        ``domain`` is the empty domain: always closed.
     first, until : datetime.date, datetime.datetime at midnight, numpy.datetime64 at midnight or str
-        The days, up to and without ``until``: from 1901-01-01 to 2700-01-01, at most 146,098 of them. A str has the form
-        ``YYYY-MM-DD``.
+        The days up to but not including ``until``: from 1901-01-01 to 2700-01-01, at most 146,098 of them. A str has the
+        form ``YYYY-MM-DD``.
     vehicle : int
         The vehicle type, 1 to 99.
 
@@ -54,12 +54,12 @@ def schedule(records: Records, first: Day, until: Day, vehicle: int) -> pandas.D
     Raises
     ------
     Fault
-        The first fault of the days, the vehicle type or the records; for a large frame, then ``'TooManyRows'`` or
+        The first fault of the days, the vehicle type or the records; then, for a large frame, ``'TooManyRows'`` or
         ``'TooLarge'`` for an element that no file can hold.
     OSError
-        The file is not opened or read.
+        The file cannot be opened or read.
     pandas.errors.OutOfBoundsDatetime
-        pandas 1 holds no moment after 2262-04-11, and ``until`` is later.
+        With pandas 1, ``until`` is after 2262-04-11, the last day that it can hold.
     """
     last = day(until)
     if not _HAS_SECONDS and len(last) == 10 and last > _LAST_NANOSECOND:
@@ -112,9 +112,9 @@ def year(records: Records, element: int, direction: str, vehicle: int, year: int
     Raises
     ------
     Fault
-        As :func:`schedule`; ``'YearRange'``; ``'NoElement'`` where no record names the element.
+        As for :func:`schedule`; also ``'YearRange'``, and ``'NoElement'`` if no record names the element.
     OSError
-        The file is not opened or read.
+        The file cannot be opened or read.
     """
     if direction not in ("positive", "negative"):
         raise Fault("Direction", text=str(direction))
@@ -132,22 +132,22 @@ def year(records: Records, element: int, direction: str, vehicle: int, year: int
 
 
 def migrate(records: Records) -> pandas.DataFrame:
-    """The records as those of a file of version 2, each in its canonical form, in the same order and with its repeats.
+    """The records as those of a file of version 2: each in its canonical form, in the same order, repeated ones included.
 
-    ``migrate(records).to_csv(path, index=False, lineterminator="\\n")`` writes just the file that the program prints.
+    ``migrate(records).to_csv(path, index=False, lineterminator="\\n")`` writes exactly the file that the program prints.
 
     Returns
     -------
     pandas.DataFrame
         ``element`` (int64), ``direction`` (category: positive, negative, both), ``vehicles`` (str) and ``domain`` (str,
-        empty for always), by the rows' places and not by a frame's own index.
+        empty for always), indexed by the rows' places and not by a frame's own index.
 
     Raises
     ------
     Fault
         The first fault of the records.
     OSError
-        The file is not opened or read.
+        The file cannot be opened or read.
     """
     given = as_bytes(records)
     if _is_large(records, given):
@@ -159,7 +159,7 @@ def migrate(records: Records) -> pandas.DataFrame:
 
 
 def as_bytes(records: Records) -> bytes:
-    """The bytes of a record file; of one that is too large, one byte more than it may have; of a frame, all."""
+    """The bytes of a record file; if it is too large, one byte more than it may have. Of a frame, all bytes."""
     if isinstance(records, pandas.DataFrame):
         return _as_file(records)
     if isinstance(records, (bytes, bytearray, memoryview)):
@@ -175,7 +175,7 @@ def as_bytes(records: Records) -> bytes:
 
 
 def number(given: int, kind: str) -> str:
-    """The word for a number; a number that no word stands for is out of range."""
+    """The word for a number; a number that has no word is out of range."""
     value = operator.index(given)
     if not 0 <= value <= 9_999_999_999:
         raise Fault(kind, text=str(value))
@@ -213,7 +213,7 @@ def _migrated(given: bytes) -> List[bytes]:
 
 
 def _check_year(element: str, direction: str, vehicle: str, year: str) -> None:
-    """Raise the fault of the type or the year, which are looked at before the records."""
+    """Raise the fault of the type or the year, which are checked before the records."""
     one = HEADER + element.encode() + b",both,0,\n"
     run("year", "/dev/stdin", element, direction, vehicle, year, given=one)
 
@@ -237,6 +237,6 @@ def _run(given: bytes, *words: str, into: Optional[IO[bytes]] = None) -> bytes:
 
 
 def row_of(file: bytes, row: int) -> bytes:
-    """The text of a row, given that the rows before it are accepted: none of these runs over the end of its line."""
+    """The text of a row, if the rows before it are accepted: none of these runs over the end of its line."""
     lines = [line for line in file.removeprefix(b"\xef\xbb\xbf").splitlines() if line]
     return lines[row] if row < len(lines) else b""

@@ -17,10 +17,10 @@ _Answer = TypeVar("_Answer")
 
 
 class Domains:
-    """What the program says of a column of time domains, as ``frame.domain.gtd``.
+    """What the program says about a column of time domains, as ``frame.domain.gtd``.
 
-    The program is asked once and not once a row: the texts that differ go to it as the rows of one record file, or of as
-    few as can hold them. As in such a file, an empty text or a missing value is the domain that always holds.
+    The program is run once, and not once for each row: it gets the different texts as the rows of one record file, or of as
+    few files as can hold them. As in such a file, an empty text or a missing value is the domain that always holds.
 
     >>> import pandas, gtd
     >>> domains = pandas.Series(["(h07){m30h1}", "[(t2){d5}]", None])
@@ -38,7 +38,7 @@ class Domains:
         self._codes, self._texts = pandas.factorize(values)
 
     def check(self) -> None:
-        """Nothing, if each text is a time domain or empty.
+        """Return nothing if each text is a time domain or empty.
 
         Raises
         ------
@@ -53,12 +53,12 @@ class Domains:
         Returns
         -------
         pandas.Series
-            str (object) by the column's own index. What is empty or missing stays so.
+            str (object), with the column's own index. Empty and missing values stay so.
 
         Raises
         ------
         Fault
-            As :meth:`check`.
+            As for :meth:`check`.
         """
         canonical = numpy.array([*self._canonical(), None], dtype=object)
         values = numpy.where(self._codes < 0, self._values, canonical[self._codes])
@@ -75,12 +75,12 @@ class Domains:
         Returns
         -------
         pandas.Series
-            bool by the column's own index; True for what is empty or missing.
+            bool, with the column's own index; True for empty and missing values.
 
         Raises
         ------
         Fault
-            The moment is refused: ``'moment Shape'``, ``'moment NoSuchDate'``, ``'moment Range'``; then as :meth:`check`.
+            The moment is refused: ``'moment Shape'``, ``'moment NoSuchDate'``, ``'moment Range'``; then as for :meth:`check`.
         ValueError
             The moment has a time zone, or is not a time (NaT).
         """
@@ -91,8 +91,8 @@ class Domains:
         until = (asked + timedelta(days=1)).date().isoformat()
 
         def ask(texts: List[bytes]) -> List[bool]:
-            # The second row of each closes the day but for the second that is asked about. So an element is open then, and
-            # has a line, exactly if the domain does not contain that second.
+            # The second row of each element closes the day except for the second that is asked about. So the element is open
+            # then, and has a line, exactly if the domain does not contain that second.
             rows = b"".join(b"%d,both,0,%s\n%d%s" % (at, text, at, rest) for at, text in enumerate(texts))
             printed = run("schedule", "/dev/stdin", second[:10], until, "1", given=HEADER + rows)
             open_then = {int(line.split(b",", 1)[0]) for line in printed.splitlines()[1:]}
@@ -110,7 +110,7 @@ class Domains:
         return self._asked(ask, 1, 0)
 
     def _asked(self, ask: Callable[[List[bytes]], List[_Answer]], rows: int, more: int) -> List[_Answer]:
-        """The answers to all texts, of so many rows each, the rows that are not the text's own of ``more`` bytes."""
+        """The answers to all texts. Each takes ``rows`` rows; those beside the text's own have ``more`` bytes."""
         fields = [b'"' + text.encode("utf-8", "replace").replace(b'"', b'""') + b'"' for text in self._texts]
         sizes = numpy.array([len(field) + 20 + more for field in fields], dtype="int64")
         begins = stretches(numpy.full(len(fields), rows), sizes, LARGEST_FILE - len(HEADER))
@@ -130,7 +130,7 @@ class Domains:
 
 
 def _rest_of_day(moment: datetime) -> str:
-    """The domain of all seconds of each day but the one at this time of the day."""
+    """The domain of all seconds of each day except the one at this time of day."""
     hour, minute, second = moment.hour, moment.minute, moment.second
     before = f"(h0){_duration(hour * 3600 + minute * 60 + second)}"
     following = datetime.combine(date(2000, 1, 1), moment.time()) + timedelta(seconds=1)

@@ -25,7 +25,7 @@ def pytest_configure(config):
 
 
 def by_hand(paths, first, until, vehicle, size):
-    """The schedule of record files of version 1, as one would make it without any of gtd.country."""
+    """The schedule of record files of version 1, made without gtd.country."""
     elements = {}
     for path in paths:
         with open(path, newline="") as file:
@@ -66,7 +66,7 @@ def command(*words, **more):
 
 
 class Cluster:
-    """A scheduler and workers on 127.0.0.1, each a process of its own."""
+    """A scheduler and workers on 127.0.0.1, each in its own process."""
 
     def __init__(self, folder, workers, *words):
         folder.mkdir(exist_ok=True)
@@ -79,7 +79,7 @@ class Cluster:
             self.add_worker()
 
     def add_worker(self):
-        """Start one worker more."""
+        """Start one more worker."""
         words = ("--scheduler-file", self.file, "--no-nanny", "--nthreads", "1", "--no-dashboard", "--host", "127.0.0.1")
         room = ("--local-directory", str(self.folder), "--memory-limit", "1GB")
         self.workers.append(self._start("dask_worker", *words, *room))
@@ -100,7 +100,7 @@ class Cluster:
 
 
 def kill(process):
-    """End a process at once, as the system does that has no more memory."""
+    """End a process at once, as a system does that has run out of memory."""
     os.kill(process.pid, signal.SIGKILL)
     process.wait()
 
@@ -114,7 +114,7 @@ def until(true, seconds=120):
 
 @pytest.fixture(scope="session")
 def many(tmp_path_factory):
-    """20,000 rows in three files of both versions, with every kind of line end and quotes; and the same in one file."""
+    """20,000 rows in three files of both versions, with quotes and every kind of line end; and the same in one file."""
     from tests.make_records import rows
 
     folder = tmp_path_factory.mktemp("many")

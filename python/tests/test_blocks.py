@@ -1,4 +1,4 @@
-"""Files cut into blocks against the program on the whole file: the same rows, or the same first fault."""
+"""Files cut into blocks, against the program on the whole file: the same rows, or the same first fault."""
 
 import random
 
@@ -57,7 +57,7 @@ def whole(text):
 
 
 def line_of(text, row):
-    """The line on which a row begins, found by letting the program read the file up to each line's end."""
+    """The line on which a row begins, found by running the program on the file up to each line end."""
     lines = text.splitlines(keepends=True)
     for number in range(1, len(lines) + 1):
         try:

@@ -1,4 +1,4 @@
-"""Whole runs on two workers: against schedules by hand, and each fault by its file and line."""
+"""Whole runs on two workers, against schedules by hand; and each fault, by its file and line."""
 
 import gzip
 import os
@@ -163,7 +163,7 @@ def test_many_vehicle_types(client, many, tmp_path):
 
 
 def test_many_parts_and_blocks(client, many, tmp_path, monkeypatch):
-    """Blocks that are shuffled together, and parts that are written by one task, are the same parts."""
+    """Blocks that are shuffled together, and parts that one task writes, give the same parts."""
     lines = (many / "plain.csv").read_text().splitlines(keepends=True)[:120]
     (tmp_path / "few.csv").write_text("".join(lines))
     elements = {line.split(",")[0] for line in lines[1:]}

@@ -45,7 +45,7 @@ def test_python_of_a_page(folder, page):
 
 @pytest.mark.parametrize("page", PAGES, ids=lambda page: f"{page.parent.name}-{page.name}")
 def test_commands_of_a_page(folder, page):
-    """The commands of a cluster that is there are run by test_failures.py; these start their own."""
+    """These commands start their own cluster; test_failures.py runs those for a cluster that already runs."""
     shown = re.findall(r"^python3 -m gtd\.country [^\n]*", page.read_text(), re.MULTILINE)
     assert shown
     for line in shown:

@@ -25,7 +25,7 @@ STAGED = ".out.gtd-run-*"
 
 @pytest.fixture(scope="module")
 def whole(many, tmp_path_factory):
-    """The schedule as it is without any failure, and by hand."""
+    """The schedule without any failure, which is also the one made by hand."""
     out = tmp_path_factory.mktemp("whole") / "out"
     with country.local(1) as client:
         country.schedule(many / "plain.csv", FIRST, LAST, VEHICLE, out, client=client, **SMALL)

@@ -183,7 +183,7 @@ def test_a_line_end_in_a_field_is_no_row():
 
 
 def large(number):
-    """A frame of so many rows over 20,000 elements."""
+    """A frame of ``number`` rows over 20,000 elements."""
     numbers = numpy.arange(number)
     return pandas.DataFrame(
         {

@@ -1,11 +1,11 @@
 """Schedules of record sets too large for one file, on Dask.
 
 A record file has at most 65,536 rows and 16 MiB. A set of records is one or many CSV files of any size, each with a header of
-either version. Its rows are made into parts, each a range of element numbers within these limits, and the program is run on
-each part, by the workers of a Dask cluster.
+either version. Its rows are divided into parts, each a range of element numbers within these limits, and the workers of a Dask
+cluster run the program on each part.
 
-What an element's schedule is, its own records alone decide. So the schedule of all rows is the header, and then the parts'
-schedules without their headers, in ascending order of elements.
+An element's own records alone decide its schedule. So the schedule of all rows is the header, and then the parts' schedules
+without their headers, in ascending order of elements.
 
 ::
 
@@ -54,26 +54,26 @@ def schedule(
     show_progress: bool = False,
     storage_options: Optional[Dict[str, Any]] = None,
 ) -> Done:
-    """Write when each road element of a set of records is open.
+    """Write the schedule of a set of records: when each of its road elements is open.
 
     Parameters
     ----------
     paths : str, os.PathLike or a list of them
         Record files of any size, or patterns (``'data/*.csv'``), or addresses that ``fsspec`` knows. All workers and the
-        client reach them by the same name. A file whose name ends in ``.gz`` is unpacked first, beside the output.
+        client must reach them by the same names. A file whose name ends in ``.gz`` is unpacked first, beside the output.
     first, until
         As in :func:`gtd.schedule`.
     vehicle : int or sequence of int
-        The vehicle type, 1 to 99; or many, for which the rows are read only once.
+        The vehicle type, 1 to 99; or many: the rows are still read only once.
     out : str or os.PathLike
-        The folder of the parts ``part-00000.csv``..., each a schedule with its header; of many vehicle types, with a folder
-        ``vehicle-11`` of parts for each. If ``joined``, the file; of many types, the folder of the files
-        ``vehicle-11.csv``... It is not there yet, or is an empty folder. All workers and the client reach it by the same
-        name.
+        The folder of the parts ``part-00000.csv``..., each a schedule with its header; for many vehicle types, it has a
+        folder ``vehicle-11`` of parts for each. If ``joined``, the file; for many types, the folder of the files
+        ``vehicle-11.csv``... It must not exist yet, or be an empty folder. All workers and the client must reach it by the
+        same name.
     client : distributed.Client, optional
         The cluster. Without it, one is started on this machine, with a worker for each core.
     joined : bool
-        One file with one header for each vehicle type.
+        Write one file with one header for each vehicle type.
     block_size : int
         Bytes that a worker reads at once; it needs about eight times as much memory.
     rows_per_part : int
@@ -90,12 +90,12 @@ def schedule(
     Raises
     ------
     Fault
-        The first fault of the days or the vehicle types; then the first of all rows, by files in the order given and lines,
-        with its ``file``, ``line`` and ``row``; then of the first element with more than 65,536 rows, or too many bytes
-        (``'TooManyRows'``, ``'TooLarge'``), by the row with which it becomes too large. Nothing is kept.
+        The first fault of the days or the vehicle types; then the first of all rows, by files in the order given and by
+        lines, with its ``file``, ``line`` and ``row``; then that of the first element with more than 65,536 rows, or too many
+        bytes (``'TooManyRows'``, ``'TooLarge'``), by the row with which it becomes too large. Nothing is kept.
     OSError
-        A file is not opened, read or unpacked; or the output is there already, is being written by another run, or is not
-        written; or the scheduler has gone away (ConnectionError). Nothing is kept.
+        A file cannot be opened, read or unpacked; or the output exists already, is being written by another run, or cannot
+        be written; or the scheduler has gone away (ConnectionError). Nothing is kept.
     RuntimeError
         A file was changed while it was read, or workers have different programs. Nothing is kept.
 
@@ -121,7 +121,7 @@ def schedule(
 def _write(
     client: Client, asked: Asked, paths: List[str], out: Path, show: bool, storage_options: Optional[Dict[str, Any]]
 ) -> Done:
-    # The days and the vehicle types are looked at before any file is.
+    # The days and the vehicle types are checked before any file.
     refused = client.submit(_parts.refusal, asked.first, asked.until, asked.vehicles, pure=False).result()
     if refused is not None:
         raise refused

@@ -16,7 +16,7 @@ from gtd.country._claims import LeftBehind
 
 
 def main(words: Optional[List[str]] = None) -> int:
-    """Run the command; its status is that of the program: 0 done, 1 refused, 2 usage, 3 the machine."""
+    """Run the command and return its exit status, as the program's: 0 done, 1 refused, 2 usage, 3 the machine."""
     parser = _parser()
     given = parser.parse_args(words)
     if not given.scheduler and (given.tls_ca_file or given.tls_cert or given.tls_key):
@@ -94,7 +94,7 @@ def _at_least_one(word: str) -> int:
 
 
 def _end(number: int, _: Any) -> NoReturn:
-    """End as if it were interrupted: nothing is kept, and nothing is left."""
+    """End as if interrupted: nothing is kept, and nothing is left behind."""
     sys.exit(128 + number)
 
 

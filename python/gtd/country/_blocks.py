@@ -19,14 +19,14 @@ class BlockRows:
 
     rows: Rows
     lines: int
-    """Lines of the block, the empty ones among them."""
+    """How many lines the block has, including empty ones."""
     program: str
-    """The fingerprint of the program that has read them."""
+    """The fingerprint of the program that read them."""
 
 
 @dataclass(frozen=True)
 class Accepted:
-    """What the client is told of a block that the program accepts."""
+    """What the client is told about a block that the program accepts."""
 
     lines: int
     rows: int
@@ -43,7 +43,7 @@ def read_rows(block: Block) -> Union[BlockRows, Refused]:
 
 
 def report(read: Union[BlockRows, Refused]) -> Union[Accepted, Refused]:
-    """What the client is told of a block."""
+    """What the client is told about a block."""
     if isinstance(read, Refused):
         return read
     return Accepted(read.lines, len(read.rows.elements), read.program)
@@ -79,7 +79,7 @@ def size_of(read: BlockRows, element: int) -> Tuple[int, int]:
 def fault_beyond(
     block: Block, beyond: Beyond, before: Tuple[int, int], lines_before: int, rows_before: int
 ) -> Optional[Fault]:
-    """The fault of the row with which an element has become too large for a file, or None if that is in no such block.
+    """The fault of the row with which an element becomes too large for a file, or None if the row is not in this block.
 
     Parameters
     ----------

@@ -1,4 +1,4 @@
-"""Names in a folder that one process at a time holds, and what processes left that were killed while they held one."""
+"""Names in a folder, each held by one process at a time; and what is left by processes that were killed while they held one."""
 
 from __future__ import annotations
 
@@ -15,7 +15,7 @@ _UNKNOWN = (errno.ENOLCK, errno.ENOSYS, errno.EOPNOTSUPP)  # file systems withou
 
 
 class LeftBehind(UserWarning):
-    """What a run left that was killed; or that could not be removed."""
+    """What a killed run left behind; or that it could not be removed."""
 
 
 class Claim:
@@ -24,7 +24,7 @@ class Claim:
     def __init__(self, path: Path, file: int, is_certain: bool) -> None:
         self.path, self._file = path, file
         self.is_certain = is_certain
-        """Whether no other process holds it. Where the file system has no locks, nobody knows."""
+        """Whether it is certain that no other process holds it. On a file system without locks, nobody knows."""
 
     def release(self) -> None:
         """Let others take it."""
@@ -33,7 +33,7 @@ class Claim:
 
 
 def take(path: Path) -> Optional[Claim]:
-    """Hold a name, or None where another process holds it.
+    """Hold a name; None if another process holds it.
 
     Raises
     ------
@@ -64,9 +64,9 @@ def _is_still(path: Path, file: int) -> bool:
 
 
 def remove(folder: Path, seconds: float = 5.0) -> None:
-    """Remove a folder and all in it, also while a process that was given up still puts files there.
+    """Remove a folder and all in it, even while a process that was given up still puts files there.
 
-    It warns where that does not succeed within the time.
+    It warns if that does not succeed within the time.
     """
     end = time.monotonic() + seconds
     while True:

@@ -1,4 +1,4 @@
-"""Clusters: one of this machine, or one that is there."""
+"""Clusters: one on this machine, or one that already runs."""
 
 from __future__ import annotations
 
@@ -21,12 +21,12 @@ _SCRATCH = "gtd-workers-"
 
 @contextlib.contextmanager
 def local(workers: Optional[int] = None) -> Iterator[Client]:
-    """A cluster of this machine for as long as the context lasts.
+    """A cluster on this machine, for as long as the context lasts.
 
     Parameters
     ----------
     workers : int, optional
-        How many worker processes; without it, one for each core.
+        How many worker processes; by default, one for each core.
     """
     with _scratch() as folder, LocalCluster(
         n_workers=workers,
@@ -40,7 +40,7 @@ def local(workers: Optional[int] = None) -> Iterator[Client]:
 
 @contextlib.contextmanager
 def _scratch() -> Iterator[Path]:
-    """A folder for what the workers put on the disk. Those of processes that were killed are removed on the way."""
+    """A folder for what the workers put on the disk. Folders of processes that were killed are removed on the way."""
     top = Path(tempfile.gettempdir())
     for lock in top.glob(f"{_SCRATCH}*.lock"):
         with contextlib.suppress(OSError):  # gone meanwhile
@@ -69,10 +69,10 @@ def connect(
     Parameters
     ----------
     address : str
-        As ``tcp://10.0.0.1:8786``, or ``tls://10.0.0.1:8786`` for a scheduler that asks for TLS.
+        Such as ``tcp://10.0.0.1:8786``, or ``tls://10.0.0.1:8786`` for a scheduler that asks for TLS.
     ca_file, certificate, key : str, optional
-        For TLS, the paths of files in the form PEM: the certificates of who is trusted, this client's own, and its key.
-        What is left out is taken from ``distributed.comm.tls`` in Dask's configuration.
+        For TLS, the paths of PEM files: the trusted certificates, this client's own, and its key. What is left out is taken
+        from ``distributed.comm.tls`` in Dask's configuration.
 
     Raises
     ------
@@ -80,9 +80,9 @@ def connect(
         The scheduler does not answer; or it asks for TLS and the address does not, or the other way round; or one of the
         two refuses the other's certificate.
     FileNotFoundError
-        A file of TLS is not there.
+        A TLS file does not exist.
     ValueError
-        The address is none, or the certificates that it needs are not named.
+        The address is not one, or the certificates that it needs are not named.
     """
     given = {"tls_ca_file": ca_file, "tls_client_cert": certificate, "tls_client_key": key}
     for path in filter(None, given.values()):
@@ -126,7 +126,7 @@ def _root(failure: BaseException) -> BaseException:
 
 
 def _speaks_tls(address: str) -> Optional[bool]:
-    """Whether who listens there answers a greeting of TLS; None where nobody listens."""
+    """Whether the listener there answers a TLS greeting; None if nobody listens."""
     host, _, port = address.rpartition("://")[2].rpartition(":")
     context = ssl.SSLContext(ssl.PROTOCOL_TLS_CLIENT)
     context.check_hostname, context.verify_mode = False, ssl.CERT_NONE

@@ -1,4 +1,4 @@
-"""The files of a set of records: where each begins, and how it is read from any place on."""
+"""The files of a set of records: where their rows begin, and how each is read from any place on."""
 
 from __future__ import annotations
 
@@ -22,12 +22,12 @@ _HEAD = re.compile(rb"(?P<empty>[\r\n]*)(?P<head>[^\r\n]+(?:\r\n|\r(?!\Z)|\n))")
 
 @dataclass(frozen=True)
 class Source:
-    """An input file as it was named."""
+    """An input file, as it was named."""
 
     fs: Any
     path: str
     key: str
-    """What changes when the file does."""
+    """A value that changes when the file does."""
 
     @property
     def is_packed(self) -> bool:
@@ -35,7 +35,7 @@ class Source:
         return self.path.endswith(".gz")
 
     def is_changed(self) -> bool:
-        """Whether the file is another than when it was looked at first."""
+        """Whether the file has changed since it was first looked at."""
         return bool(self.fs.ukey(self.path) != self.key)
 
 
@@ -46,42 +46,42 @@ class File:
     fs: Any
     path: str
     name: str
-    """What faults call it."""
+    """What faults call the file."""
     size: int
     """Bytes."""
     head: bytes
-    """The header, with the end of its line."""
+    """The header, with its line end."""
     empty: int
-    """How many empty lines stand before the header."""
+    """How many empty lines come before the header."""
     begin: int
     """The first byte after the header."""
 
     @property
     def end_of_line(self) -> bytes:
-        """What the file is cut at."""
+        """The line end at which the file is cut."""
         return b"\r" if self.head.endswith(b"\r") else b"\n"
 
     @property
     def lines_before(self) -> int:
-        """Lines before the first row's."""
+        """How many lines come before the first row's line."""
         return self.empty + 1
 
 
 @dataclass(frozen=True)
 class Block:
-    """Some lines of a file: those that begin after the ends of lines from ``begin`` on, up to ``length`` bytes later."""
+    """Some lines of a file: those that begin after the line ends from ``begin`` on, up to ``length`` bytes later."""
 
     file: File
     begin: int
     length: int
 
     def read(self, further: int = 0) -> bytes:
-        """The bytes of the lines, and of the lines in so many bytes more."""
+        """The bytes of the lines, and of the lines in ``further`` more bytes."""
         if self.file.begin >= self.file.size:
             return b""
         with self.file.fs.open(self.file.path, "rb") as opened:
             text = bytes(read_block(opened, self.begin, self.length + further, self.file.end_of_line))
-        # A file that is cut at CR may hold CR LF too.
+        # A file that is cut at CR may also hold CR LF.
         return text[1:] if self.file.end_of_line == b"\r" and text.startswith(b"\n") else text
 
 
@@ -91,7 +91,7 @@ def sources(paths: List[str], storage_options: Optional[Dict[str, Any]] = None) 
     Raises
     ------
     FileNotFoundError
-        There is none, or one of them is not there.
+        There is none, or one of them does not exist.
     """
     found: List[Source] = []
     for path in paths:
@@ -108,7 +108,7 @@ def unpack(source: Source, into: Path) -> None:
     Raises
     ------
     OSError
-        The file is not one of gzip, or is cut short; or it is not read, or the other is not written.
+        The file is not a gzip file, or is cut short; or it cannot be read, or the other cannot be written.
     """
     try:
         with source.fs.open(source.path, "rb") as packed, open(into, "wb") as file, gzip.GzipFile(fileobj=packed) as opened:
@@ -120,19 +120,19 @@ def unpack(source: Source, into: Path) -> None:
 
 
 def named(failure: OSError, path: Path) -> OSError:
-    """The same failure with the file's name, if it has none: the system tells none where a write fails."""
+    """The same failure with the file's name, if it has none: the system gives none if a write fails."""
     if failure.filename is not None or failure.errno is None:
         return failure
     return OSError(failure.errno, failure.strerror, str(path))
 
 
 def open_file(source: Source, unpacked: Optional[Path] = None) -> File:
-    """The record file of an input file, which lies at ``unpacked`` if it was packed.
+    """The record file of an input file; if that was packed, the record file is at ``unpacked``.
 
     Raises
     ------
     OSError
-        The file is not read.
+        The file cannot be read.
     """
     fs = source.fs if unpacked is None else LocalFileSystem()
     path = source.path if unpacked is None else str(unpacked)
@@ -147,7 +147,7 @@ def open_file(source: Source, unpacked: Optional[Path] = None) -> File:
 def _front(read: Callable[[int], bytes]) -> Tuple[bytes, Optional[re.Match[bytes]]]:
     """The first bytes of a file, and its first line that is not empty.
 
-    That line's end is known once a byte after it is, or the file's end.
+    The line's end is known once a byte after it, or the end of the file, has been read.
     """
     front = read(4096)
     mark = len(_MARK) if front.startswith(_MARK) else 0
@@ -166,6 +166,6 @@ def _count_lines(text: bytes) -> int:
 
 
 def blocks(file: File, size: int) -> List[Block]:
-    """The blocks of a file, of so many bytes; at least one, so that its header is looked at."""
+    """The blocks of a file, of ``size`` bytes each; at least one, so that its header is checked."""
     begin = max(file.begin - 1, 0)  # the end of the header's line, after which the first row begins
     return [Block(file, at, size) for at in range(begin, max(file.size, begin + 1), size)]

@@ -1,4 +1,4 @@
-"""Rows of all blocks, made into parts: ascending ranges of elements, each within the limits of a file."""
+"""The rows of all blocks, divided into parts: ascending ranges of elements, each within the limits of a file."""
 
 from __future__ import annotations
 
@@ -29,42 +29,42 @@ _BIN = 14  # bits of an element's number
 
 @dataclass(frozen=True)
 class Plan:
-    """What is written of each part, and where."""
+    """What is written for each part, and where."""
 
     first: str
     until: str
     vehicles: Tuple[str, ...]
     attempts: Path
-    """The folder of what is being written."""
+    """The folder of parts that are being written."""
     parts: Path
-    """The folder of what is whole."""
+    """The folder of parts that are whole."""
     count: int
     """How many parts there are."""
 
     def name(self, vehicle: str, part: int) -> str:
-        """The name of a part in its folder. So many digits that the parts are in order by their names."""
+        """The name of a part in its folder. It has enough digits for the parts to be in the order of their names."""
         name = f"part-{part:0{max(5, len(str(self.count - 1)))}d}.csv"
         return name if len(self.vehicles) == 1 else f"{vehicle_name(vehicle)}/{name}"
 
 
 @dataclass(frozen=True)
 class Written:
-    """A part that was written, for one vehicle type."""
+    """A part that was written for one vehicle type."""
 
     name: str
     size: int
-    """Bytes, its header among them."""
+    """How many bytes, including its header."""
     program: str
-    """The fingerprint of the program that has written it."""
+    """The fingerprint of the program that wrote it."""
 
 
 def vehicle_name(vehicle: str) -> str:
-    """The name of what is written for a vehicle type, where there are many."""
+    """The name of what is written for a vehicle type, if there are many."""
     return f"vehicle-{int(vehicle):02d}"
 
 
 def bins(read: Union[BlockRows, Refused]) -> pandas.DataFrame:
-    """How many rows of a block have elements of each bin: 16,384 numbers that follow one another."""
+    """How many rows of a block have elements of each bin. A bin is 16,384 consecutive numbers."""
     if isinstance(read, Refused):
         return BINS
     numbers, rows = numpy.unique(read.rows.elements >> _BIN, return_counts=True)
@@ -72,9 +72,9 @@ def bins(read: Union[BlockRows, Refused]) -> pandas.DataFrame:
 
 
 def ranges(total: pandas.DataFrame, most: int) -> Numbers:
-    """The first elements of ranges that have at most so many rows, or one bin.
+    """The first elements of ranges that have at most ``most`` rows, or are one bin.
 
-    The elements of each range are counted by one task, so that no worker must hold the counts of all.
+    One task counts the elements of each range, so that no worker must hold the counts of all.
 
     Parameters
     ----------
@@ -89,7 +89,7 @@ def ranges(total: pandas.DataFrame, most: int) -> Numbers:
 
 
 def counts(reads: Sequence[BlockRows], firsts: Numbers) -> pandas.DataFrame:
-    """How many rows and bytes of some blocks each of their elements has, with the range that it lies in."""
+    """How many rows and bytes each element has in some blocks, with the range that it lies in."""
     frame = pandas.concat([COUNTS, *(count(read.rows) for read in reads)], ignore_index=True)
     frame["range"] = numpy.searchsorted(firsts, frame["element"].to_numpy(), side="right") - 1
     return frame.astype("int64")
@@ -111,12 +111,12 @@ def join_cuts(cuts: Sequence[Union[Cuts, Beyond]]) -> Union[Cuts, Beyond]:
 
 
 def pieces(reads: Sequence[BlockRows], cuts: Cuts, bundle_size: int) -> pandas.DataFrame:
-    """The rows of some blocks by part: a row of the frame for each block and part with any of them, with their text.
+    """The rows of some blocks by part: the frame has a row, with their text, for each block and part that has any.
 
     Parameters
     ----------
     bundle_size : int
-        How many parts that follow one another are written by one task.
+        How many consecutive parts one task writes.
     """
     frames = [_piece(read, cuts, bundle_size) for read in reads]
     return pandas.concat(frames, ignore_index=True)
@@ -141,9 +141,9 @@ def refusal(first: str, until: str, vehicles: Sequence[str]) -> Optional[Fault]:
 
 
 def write_bundle(frame: pandas.DataFrame, first_part: int, rows: Sequence[int], plan: Plan) -> List[Written]:
-    """Write the schedules of some parts that follow one another, each whole or not at all.
+    """Write the schedules of some consecutive parts, each whole or not at all.
 
-    A second attempt writes the same bytes in their places.
+    A second attempt writes the same bytes in the same places.
 
     Parameters
     ----------
@@ -170,7 +170,7 @@ def _write(given: bytes, vehicle: str, name: str, plan: Plan) -> Written:
             try:
                 run("schedule", "/dev/stdin", plan.first, plan.until, vehicle, given=given, into=file)
             except OSError:
-                # The program does not say why it could not write. The system says it again.
+                # The program does not say why it could not write. Another write makes the system say it.
                 os.lseek(file.fileno(), 0, os.SEEK_END)
                 for _ in range(2):
                     os.write(file.fileno(), bytes(1 << 16))

@@ -23,10 +23,10 @@ from gtd.country._staging import Staging
 _RETRIES = 3  # of a task that raised: want of memory, a file system that falters. Dask itself runs a lost worker's tasks again
 
 
-# What goes into the shuffle and comes out of it: so many that two stages are enough, of 32 each.
+# How many pieces go into the shuffle and come out of it: as many as two stages of 32 each can take.
 _MOST_PIECES = 1024
 _ROWS_PER_RANGE = 1 << 20  # whose elements one task counts; it needs 150 bytes for each
-# Dask's shuffle by tasks, in stages where there are many parts; under the names that its versions have for it.
+# Dask's shuffle by tasks, in stages if there are many parts; under the names that its versions have for it.
 _SHUFFLE: Dict[str, Any] = {
     "shuffle": "tasks",
     "dataframe.shuffle.algorithm": "tasks",
@@ -39,11 +39,11 @@ class Done(NamedTuple):
     """What was written."""
 
     rows: int
-    """Rows of all files."""
+    """How many rows all files have."""
     parts: List[str]
-    """The names of the files, in order, as they stand in the output; of one that is a file itself, its own."""
+    """The names of the files, in order, relative to the output; for an output that is a file itself, its own name."""
     size: int
-    """Bytes of the output."""
+    """How many bytes the output has."""
 
 
 class Asked(NamedTuple):
@@ -84,7 +84,7 @@ class Run:
         return self._kept(plan, written, sum(report.rows for report in accepted))
 
     def _files(self, sources: List[Source]) -> List[File]:
-        """The record files of the input, those that were packed lying in the staging folder."""
+        """The record files of the input; those that were packed are in the staging folder."""
         places = [
             self.staging.unpacked / f"{number}.csv" if source.is_packed else None for number, source in enumerate(sources)
         ]
@@ -95,7 +95,7 @@ class Run:
         return [open_file(source, place) for source, place in zip(sources, places)]
 
     def _accepted(self, every: List[Block], reports: Sequence[Union[Accepted, Refused]]) -> List[Accepted]:
-        """The reports, if all rows are accepted; else the first fault is raised."""
+        """The reports, if all rows are accepted; otherwise the first fault is raised."""
         accepted: List[Accepted] = []
         for (block, lines, rows), report in zip(_counted(every, accepted), reports):
             if isinstance(report, Refused):
@@ -115,7 +115,7 @@ class Run:
         return _parts.join_cuts(self._gathered("counting", cuts))
 
     def _fault_beyond(self, beyond: Beyond, every: List[Block], read: List[Future], accepted: List[Accepted]) -> Exception:
-        """The fault of the row with which an element has become too large for a file."""
+        """The fault of the row with which an element becomes too large for a file."""
         held = self._gathered("looking", self._map(partial(_blocks.size_of, element=beyond.element), read))
         rows, size = 0, 0
         for (block, lines, before), (more_rows, more_size) in zip(_counted(every, accepted), held):
@@ -135,7 +135,7 @@ class Run:
         return _parts.Plan(self.asked.first, self.asked.until, vehicles, *folders, len(cuts.rows))
 
     def _bundles(self, read: List[Future], cuts: Cuts, plan: _parts.Plan) -> List[Future]:
-        """The tasks that write the parts, each some that follow one another."""
+        """The tasks that write the parts, each some consecutive ones."""
         size = -(-plan.count // _MOST_PIECES)
         begins = range(0, plan.count, size)
         pieces = self.client.map(
@@ -166,7 +166,7 @@ class Run:
         return futures
 
     def _gathered(self, what: str, futures: List[Future]) -> List[Any]:
-        """The results of tasks, with a bar on standard error that tells how many are done."""
+        """The results of tasks, with a bar on standard error that shows how many are done."""
         try:
             if self.show:
                 with contextlib.redirect_stdout(sys.stderr):
@@ -188,7 +188,7 @@ def _grouped(read: List[Future]) -> List[List[Future]]:
 
 
 def _shuffled(frames: List[Future], meta: Any, column: str, count: int) -> List[Any]:
-    """The rows of frames by a column that has the values from 0 up to a count: a lazy frame for each value."""
+    """The rows of frames, by a column that has the values from 0 up to ``count``: a lazy frame for each value."""
     with dask.config.set(_SHUFFLE):
         frame = dask.dataframe.from_delayed(frames, meta=meta, verify_meta=False)
         return list(frame.set_index(column, divisions=list(range(count + 1))).to_delayed())
@@ -206,7 +206,7 @@ def _counted(every: List[Block], accepted: List[Accepted]) -> Iterator[Tuple[Blo
 
 @contextlib.contextmanager
 def told_plainly(client: Client) -> Iterator[None]:
-    """A lost scheduler is one error, whatever call has met it."""
+    """Turns a lost scheduler into one error, whatever call met it."""
     try:
         yield
     except (CancelledError, CommClosedError) as lost:

@@ -19,21 +19,21 @@ _NO_LINKS = (errno.EPERM, errno.EOPNOTSUPP, errno.ENOSYS, errno.EMLINK)  # file 
 class Staging:
     """A folder beside the output, in which the parts are made.
 
-    The output takes its name in one step once it is whole. A worker that was given up and still writes finds no folder to
+    The output gets its name in one step once it is whole. A worker that was given up and still writes finds no folder to
     put its part in. The run holds a lock file beside the output; a folder that is there while nobody holds the lock was
-    left by a run that was killed. The next run of the same output removes it, and says so by a warning.
+    left by a run that was killed. The next run for the same output removes it, with a warning.
 
     Parameters
     ----------
     out : pathlib.Path
         The output, absolute.
     is_file : bool
-        Whether the output is one file, and not a folder.
+        Whether the output is one file and not a folder.
 
     Raises
     ------
     FileExistsError
-        The output is there already, or another run is writing it.
+        The output exists already, or another run is writing it.
     OSError
         The folder cannot be made.
     """
@@ -76,7 +76,7 @@ class Staging:
         return self.path / "unpacked"
 
     def _clean(self) -> None:
-        """Remove what runs of this output left that were killed."""
+        """Remove what killed runs for this output left behind."""
         left = sorted(path for path in self.out.parent.iterdir() if path.name.startswith(self._prefix))
         for folder in left:
             if self._claim.is_certain:
@@ -97,14 +97,14 @@ class Staging:
         groups : sequence of sequences of str
             The parts of each file of a joined output, by their names in ``parts``.
         names : sequence of str
-            The names of these files; of an output that is a file itself, its own.
+            The names of these files; for an output that is a file itself, its own name.
         is_joined : bool
-            Whether the parts of each group are made one file.
+            Whether the parts of each group are joined into one file.
 
         Raises
         ------
         OSError
-            The name was taken meanwhile, or the disk is full.
+            The name has been taken meanwhile, or the disk is full.
         """
         if not is_joined:
             os.replace(self.parts, self.out)
@@ -126,7 +126,7 @@ class Staging:
 
 
 def join(parts: Sequence[Path], into: Path) -> None:
-    """Make one file of CSV files: the header of the first, and then the lines of all. The parts are removed on the way."""
+    """Join CSV files into one: the header of the first, and then the lines of all. The parts are removed on the way."""
     with open(into, "xb") as whole:
         for number, path in enumerate(parts):
             with open(path, "rb") as part:
