@@ -1,5 +1,6 @@
 pub mod SpanFacts
-pub mod NextDay
+pub mod MonthDays
+pub mod FirstMoments
 pub mod ShortLines
 pub mod SplitFacts
 pub mod HeadlineFacts

@@ -1,4 +1,5 @@
 pub mod Lines
+pub mod Moments
 pub mod Schedule
 pub mod Split
 pub mod Theorem

@@ -5,7 +5,7 @@ ghost use Rattle.gtd_runs.specs.Putting.{Puts, PutsText, failures_after_stop, mo
 ghost use Rattle.gtd_schedule.specs.Lines.{AreShown, span_line};
 ghost use Rattle.gtd_schedule.specs.Schedule.{AreLines};
 
-use crate::line::{KeptTexts, write_head, write_span};
+use crate::line::{write_first_moments, write_head, write_span};
 use gtd_core::Horizon;
 use gtd_devices::Output;
 use gtd_records::{Direction, Records, open_seconds};
@@ -34,9 +34,9 @@ fn put_spans<O: Output, S: SpanSource>(
 {
     write_head(line, element, direction, vehicle)?;
     let head = line.len();
-    let mut kept = KeptTexts::new();
+    let mut shown = write_first_moments(line)?;
     while let Some(span) = spans.next() {
-        write_span(line, &mut kept, head, span)?;
+        write_span(line, head, &mut shown, span);
         put_line(output, progress, line.as_slice())?;
     }
     Ok(())

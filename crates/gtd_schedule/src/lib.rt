@@ -3,9 +3,8 @@
 
 pub use run::{Schedule, run_schedule};
 
-mod clock_text;
-mod day_text;
 mod elements;
 pub mod laws;
 mod line;
+mod moment;
 mod run;

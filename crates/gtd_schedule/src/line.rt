@@ -1,14 +1,13 @@
 //! The lines of a schedule.
 
-ghost use Rattle.std.specs.Prelude.{[], ◌∷◌, ◌≡◌, ◌++◌, ◌≤◌, length, take, OnOk};
+ghost use Rattle.std.specs.Prelude.{◌≡◌, ◌++◌, ◌≤◌, ℕ, List, length, take, drop, OnOk, IfOk};
 ghost use Rattle.gtd_calendar.specs.Calendar.{IsCalendarDay};
 ghost use Rattle.gtd_core.specs.Seconds.{day_of_second};
-ghost use Rattle.gtd_calendar.specs.Stamp.{stamp_text};
 ghost use Rattle.gtd_schedule.specs.Lines.{line_head, span_text};
+ghost use Rattle.gtd_schedule.specs.Moments.{AreMoments};
 
-use crate::clock_text::ClockText;
-use crate::day_text::DayText;
-use gtd_core::{Sec, Span};
+use crate::moment::{Shown, write_moment};
+use gtd_core::Span;
 use gtd_records::Direction;
 use itoa::Buffer;
 use std::alloc::AllocError;
@@ -32,54 +31,43 @@ pub(crate) fn write_head(
     line.extend_from_slice(b",")
 }
 
-/// What a line keeps for the lines after it: the text of a day, and those of the clock times at which spans begin and
-/// end.
+/// The bytes of two moments, of second 0, after the head of a line.
+const FIRST_MOMENTS: &[u8] = b"1970-01-01T00:00:00,1970-01-01T00:00:00\n";
+
+/// What the two moments of a line show.
 #[derive(Clone, Copy)]
-pub(crate) struct KeptTexts {
-    days: DayText,
-    from: ClockText,
-    until: ClockText,
+pub(crate) struct ShownSpan {
+    pub(crate) from: Shown,
+    pub(crate) until: Shown,
 }
 
-impl KeptTexts {
-    /// The texts of second 0.
-    pub(crate) fn new() -> KeptTexts {
-        let clock = ClockText::new(Sec(0));
-        KeptTexts {
-            days: DayText::new(0),
-            from: clock,
-            until: clock,
-        }
-    }
-}
-
-// The text of a moment, and the byte that ends it.
-fn moment_text(days: &mut DayText, clocks: &mut ClockText, second: Sec, end: u8) -> [u8; 20]
-    requires day { IsCalendarDay (day_of_second second.0) }
-    ensures { result ≡ stamp_text second.0 ++ (end ∷ []) }
+// Writes the two moments of second 0 after the head of a line.
+pub(crate) fn write_first_moments(line: &mut Vec<u8>) -> Result<ShownSpan, AllocError>
+    ensures line { IfOk result (λ shown. (moments : List ℕ)
+        × (line.new.items ≡ line.old.items ++ moments) × AreMoments shown moments) }
 {
-    let [y1, y2, y3, y4, h1, m1, m2, h2, d1, d2] = days.text_of(second.day());
-    let [t, hour1, hour2, c1, min1, min2, c2, s1, s2] = clocks.text_of(second);
-    [
-        y1, y2, y3, y4, h1, m1, m2, h2, d1, d2, t, hour1, hour2, c1, min1, min2, c2, s1, s2, end,
-    ]
+    line.extend_from_slice(FIRST_MOMENTS)?;
+    let shown = Shown {
+        month_eve: -1,
+        past_hour: 0,
+    };
+    Ok(ShownSpan {
+        from: shown,
+        until: shown,
+    })
 }
 
-// Writes the line of a span after the head of its line, which has so many bytes.
-pub(crate) fn write_span(
-    line: &mut Vec<u8>,
-    kept: &mut KeptTexts,
-    head: usize,
-    span: Span,
-) -> Result<(), AllocError>
+// Writes a span over the two moments after the head of its line, which has so many bytes.
+pub(crate) fn write_span(line: &mut Vec<u8>, head: usize, shown: &mut ShownSpan, span: Span)
     requires head { head ≤ length line.old.items }
+    requires shown { AreMoments shown.old (drop head line.old.items) }
     requires from { IsCalendarDay (day_of_second span.from) }
     requires until { IsCalendarDay (day_of_second span.until) }
-    ensures line { OnOk result (line.new.items ≡ take head line.old.items ++ span_text span) }
+    ensures line { line.new.items ≡ take head line.old.items ++ span_text span }
+    ensures shown { AreMoments shown.new (span_text span) }
 {
-    let from = moment_text(&mut kept.days, &mut kept.from, span.from(), b',');
-    let until = moment_text(&mut kept.days, &mut kept.until, span.until(), b'\n');
-    line.truncate(head);
-    line.extend_from_slice(&from)?;
-    line.extend_from_slice(&until)
+    let (_, moments) = line.as_mut_slice().split_at_mut(head);
+    let (from, until) = moments.split_at_mut(20);
+    write_moment(from, &mut shown.from, span.from());
+    write_moment(until, &mut shown.until, span.until());
 }

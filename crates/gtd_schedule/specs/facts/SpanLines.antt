@@ -1,5 +1,5 @@
 -- The lines of spans are those that are computed of them.
-use Rattle.std.proofs.Common.{◌≡◌, refl, sym, ap, ◌∙◌, map, ℕ, List, [], ◌∷◌, ◌++◌}
+use Rattle.std.proofs.Common.{◌≡◌, refl, map, ℕ, List, [], ◌∷◌}
 use Rattle.gtd_core.specs.Seconds.{Interval, day_of_second}
 use Rattle.gtd_calendar.specs.Stamp.{date_text}
 use Rattle.gtd_calendar.specs.facts.DateTexts.{date_text-is, date_text-only}

@@ -1,15 +1,17 @@
 use Rattle.std.proofs.Common.{◌≡◌, ◌∙◌, ap, refl, arith, ◌<◌, ◌≤◌, ◌+◌, ◌*◌, ◌^◌, ℕ, suc, List, [], ◌∷◌, ◌++◌, length, map}
-use Rattle.std.proofs.Common.{take, subst, length-append}
+use Rattle.std.proofs.Common.{take, drop, sym, subst, length-append}
 use Rattle.std.specs.Prelude.{Ok, Err}
-use Rattle.std.proofs.Math.Seq.{take-length}
+use Rattle.std.proofs.Math.Seq.{drop-append_seam}
 use Rattle.std.proofs.lemmas.List.{take_at, length-take-le}
 use Rattle.std.proofs.lemmas.Result.{err_from_is_err_and}
 use Rattle.gtd_core.specs.Seconds.{Interval}
 use Rattle.gtd_records.specs.declared.direction.Direction.{Direction}
-use Rattle.gtd_runs.specs.facts.PutFacts.{one_put, one_short, puts_nothing}
+use Rattle.gtd_runs.specs.facts.PutFacts.{one_put, one_short}
 use Rattle.gtd_runs.specs.Putting.{Puts}
 use Rattle.gtd_schedule.specs.Lines.{AreShown, line_head, span_text}
 use Rattle.gtd_schedule.specs.Lines.{span_line}
+use Rattle.gtd_schedule.specs.Moments.{AreMoments}
+use Rattle.gtd_schedule.specs.declared.line.ShownSpan.{ShownSpan}
 use Rattle.gtd_schedule.specs.facts.LineFacts.{length-put_line, line_parts}
 use Rattle.gtd_schedule.proofs.SpanFacts.{carries_none, carries_one, carries_short}
 use Rattle.gtd_schedule.proofs.elements.put_spans.Goals as goal
@@ -25,8 +27,12 @@ same_head : (head line rest : List ℕ) (n : ℕ) → length head ≡ n → line
 same_head head line rest n long is =
     let count = ap length is ∙ length-append head rest in (omega arith, ap (take n) is ∙ take_at head rest n long)
 
-all_head : (n : ℕ) (line : List ℕ) → n ≡ length line → take n line ≡ line
-all_head n line is = rw is (take-length line)
+-- the rest of the line is what was appended to the head
+moments_after : (shown : ShownSpan) (head line rest : List ℕ) (n : ℕ) → length head ≡ n → line ≡ head ++ rest
+    → AreMoments shown rest → AreMoments shown (drop n line)
+moments_after shown head line rest n long is are =
+    let same : drop n line ≡ rest = rw (is, ← long) (drop-append_seam head rest) in
+    subst (λ (l : List ℕ). AreMoments shown l) (sym same) are
 
 long_head : (n : ℕ) (line : List ℕ) → n ≤ length line → length (take n line) ≡ n
 long_head n line room = length-take-le n line room
@@ -46,19 +52,26 @@ room_lines : (now old len n : ℕ) → now + suc n ≤ old + len → old + len <
 room_lines now old len n h k = (omega arith, omega arith)
 
 pub loop-span-init : goal.loop-span-init
-loop-span-init g c = record {
-  shown = c.requires.shown;
-  room = omega (arith, c.len-head.ensures);
-  head = all_head c.len-head.result c.write_head.new.line.items (omega (arith, c.len-head.ensures))
-      ∙ c.in_ok-write_head.ensures.head;
-  written = omega arith;
-  lines = omega arith;
-  failures = refl;
-  carries = λ r d s puts. puts;
-}
+loop-span-init g c =
+    let long : length c.write_head.new.line.items ≡ c.len-head.result = omega (arith, c.len-head.ensures) in record {
+      shown = c.requires.shown;
+      room = (same_head c.write_head.new.line.items _ _ c.len-head.result long
+          c.in_ok-shown.ensures.line.1).0;
+      head = (same_head c.write_head.new.line.items _ _ c.len-head.result long
+          c.in_ok-shown.ensures.line.1).1 ∙ c.in_ok-write_head.ensures.head;
+      moments = moments_after _ c.write_head.new.line.items _ _ c.len-head.result long
+          c.in_ok-shown.ensures.line.1 c.in_ok-shown.ensures.line.2;
+      written = omega arith;
+      lines = omega arith;
+      failures = refl;
+      carries = λ r d s puts. puts;
+    }
 
 pub write_span-requires-clause-head : goal.write_span-requires-clause-head
 write_span-requires-clause-head g c = c.loop-span.invariant.room
+
+pub write_span-requires-clause-shown : goal.write_span-requires-clause-shown
+write_span-requires-clause-shown g c = c.loop-span.invariant.moments
 
 pub write_span-requires-clause-from : goal.write_span-requires-clause-from
 write_span-requires-clause-from g c =
@@ -72,14 +85,6 @@ write_span-requires-clause-until g c =
     (shown_first c.in-Some.span (rest c.next.new.self) (rest c.loop-span.spans) c.loop-span.invariant.shown
     c.in-Some.ensures.takes).1
 
-pub returns-in_err-write_span-clause-puts : goal.returns-in_err-write_span-clause-puts
-returns-in_err-write_span-clause-puts g c =
-    let p = err_from_is_err_and c.from_residual-in_err-write_span.result c.from_residual-in_err-write_span.ensures.1 in
-    let f = span_line c.args.element c.args.direction c.args.vehicle in
-    let taken = g.O.Output.taken in
-    rw (p.1) (c.loop-span.invariant.carries (Err p.0) (taken c.loop-span.output) c.loop-span.progress
-    (puts_nothing p.0 (taken c.loop-span.output) c.loop-span.progress (map f (g.S.SpanSource.rest c.loop-span.spans))))
-
 pub put_line-requires-clause-written : goal.put_line-requires-clause-written
 put_line-requires-clause-written g c =
     let rest = g.S.SpanSource.rest in
@@ -90,7 +95,7 @@ put_line-requires-clause-written g c =
     let x = c.in-Some.span in
     let line = c.as_slice.result.now in
     let is = whole_line e d v x (take c.len-head.result c.loop-span.line.items) c.write_span.new.line.items line i.head
-    c.in_ok-write_span.ensures.line c.as_slice.ensures.value in
+    c.write_span.ensures.line c.as_slice.ensures.value in
     let short : length line ≤ 80 = rw is (length-put_line e d v x (omega arith) (omega arith)) in
     (room_written c.loop-span.progress.written c.args.progress.now.written (length (rest c.args.spans.now)) (length line)
     (length (rest c.next.new.self))
@@ -118,11 +123,11 @@ loop-span-preserved g c =
     let line = c.as_slice.result.now in
     let more = rest c.next.new.self in
     let takes = c.in-Some.ensures.takes in
-    let is = whole_line e d v x (take n now) c.write_span.new.line.items line i.head c.in_ok-write_span.ensures.line
+    let is = whole_line e d v x (take n now) c.write_span.new.line.items line i.head c.write_span.ensures.line
     c.as_slice.ensures.value in
     let short : length line ≤ 80 = rw is (length-put_line e d v x (omega arith) (omega arith)) in
     let kept = same_head (take n now) c.write_span.new.line.items (span_text x) n
-    (long_head n now i.room) c.in_ok-write_span.ensures.line in
+    (long_head n now i.room) c.write_span.ensures.line in
     let put = c.in_ok-put_line.ensures in
     let a = g.O.Output.taken c.args.output.now in
     let b = g.O.Output.taken c.loop-span.output in
@@ -138,6 +143,8 @@ loop-span-preserved g c =
       shown = (shown_first x more (rest c.loop-span.spans) i.shown takes).2;
       room = kept.0;
       head = kept.1 ∙ i.head;
+      moments = moments_after c.write_span.new.shown (take n now) c.write_span.new.line.items (span_text x) n
+          (long_head n now i.room) c.write_span.ensures.line c.write_span.ensures.shown;
       written = rw after written;
       lines = rw after lines;
       failures = put.failures ∙ i.failures;
@@ -159,7 +166,7 @@ returns-in_err-put_line-clause-puts g c =
     let line = c.as_slice.result.now in
     let more = rest c.next.new.self in
     let is = whole_line e d v x (take c.len-head.result c.loop-span.line.items) c.write_span.new.line.items line i.head
-    c.in_ok-write_span.ensures.line c.as_slice.ensures.value in
+    c.write_span.ensures.line c.as_slice.ensures.value in
     let put = c.in_err-put_line.ensures in
     let a = g.O.Output.taken c.args.output.now in
     let b = g.O.Output.taken c.loop-span.output in

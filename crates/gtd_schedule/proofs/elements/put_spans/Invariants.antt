@@ -1,15 +1,17 @@
-use Rattle.std.proofs.Common.{◌≡◌, ◌≤◌, ◌+◌, ◌*◌, length, map, take}
+use Rattle.std.proofs.Common.{◌≡◌, ◌≤◌, ◌+◌, ◌*◌, length, map, take, drop}
 use Rattle.gtd_schedule.proofs.SpanFacts.{Carries}
 use Rattle.gtd_schedule.specs.Lines.{AreShown, line_head}
+use Rattle.gtd_schedule.specs.Moments.{AreMoments}
 use Rattle.gtd_schedule.specs.Lines.{span_line}
 use Rattle.gtd_schedule.proofs.elements.put_spans.Given as goal
 
--- the buffer begins with the head, and where the rest is put, all is
+-- the buffer is the head and the moments that are shown, and where the rest is put, all is
 abbrev pub invariant-loop-span : goal.invariant-loop-span
 invariant-loop-span g l = record {
   shown : AreShown (g.S.SpanSource.rest l.spans);
   room : l.head ≤ length l.line.items;
   head : take l.head l.line.items ≡ line_head l.element l.fn.direction l.vehicle;
+  moments : AreMoments l.shown (drop l.head l.line.items);
   written : l.progress.written + 80 * length (g.S.SpanSource.rest l.spans)
       ≤ l.fn.progress.written + 80 * length (g.S.SpanSource.rest l.fn.spans);
   lines : l.progress.lines + length (g.S.SpanSource.rest l.spans)

@@ -1,36 +1,70 @@
-use Rattle.std.proofs.Common.{◌≡◌, ◌∙◌, ap, List, ℕ, [], ◌∷◌, ◌++◌, take, append_assoc}
-use Rattle.std.specs.Prelude.{Result, Ok, Err, OnOk, is_ok, if◌then◌else◌}
+use Rattle.std.proofs.Common.{◌≡◌, ◌∙◌, sym, ap, refl, arith, ℕ, ℤ, List, [], ◌∷◌, ◌++◌, length, length-append, take, drop}
+use Rattle.std.proofs.lemmas.List.{take_at, take-append-drop}
 use Rattle.gtd_calendar.specs.Stamp.{stamp_text}
 use Rattle.gtd_schedule.specs.Lines.{span_text}
+use Rattle.gtd_schedule.specs.Moments.{AreMoments, IsShown}
+use Rattle.gtd_schedule.specs.declared.line.ShownSpan.{ShownSpan}
 use Rattle.gtd_schedule.proofs.line.write_span.Goals as goal
 
--- what is read of a buffer whose growth was not refused
-grown : {T E : Type 0} (r : Result T E) (B : Type 0) (whole more less : List ℕ) → (whole ≡ more → B)
-    → whole ≡ (if is_ok r then more else less) → OnOk r B
-grown (Ok x) B whole more less f e = f e
-grown (Err x) B whole more less f e = tt
+module _ (shown : ShownSpan) (bytes : List ℕ) (are : AreMoments shown bytes) (part : List ℕ) where
+  from_shown : part ≡ take 20 bytes → IsShown shown.from part
+  from_shown is = record { second = are.from; rest = 44 ∷ []; kept = are.from_kept; is = is ∙ ap (take 20) are.is }
 
--- a head, a moment with its comma, and a moment with the end of the line
-in_two : (head from until first whole : List ℕ) → first ≡ head ++ (from ++ (44 ∷ [])) → whole ≡ first ++ (until ++ (10 ∷ []))
-    → whole ≡ head ++ (from ++ (44 ∷ (until ++ (10 ∷ []))))
-in_two head from until first whole a b =
-    b ∙ ap (λ (l : List ℕ). l ++ (until ++ (10 ∷ []))) a
-    ∙ append_assoc head (from ++ (44 ∷ [])) (until ++ (10 ∷ []))
-    ∙ ap (λ (l : List ℕ). head ++ l) (append_assoc from (44 ∷ []) (until ++ (10 ∷ [])))
+  until_shown : part ≡ drop 20 bytes → IsShown shown.until part
+  until_shown is = record { second = are.until; rest = 10 ∷ []; kept = are.until_kept; is = is ∙ ap (drop 20) are.is }
 
-pub returns : goal.returns
-returns c =
-    let head = take c.args.head c.args.line.now.items in
-    let first = c.extend_from_slice.new.self.items in
-    let whole = c.extend_from_slice-2.new.self.items in
-    let from : c.moment_text-from.result ≡ stamp_text c.args.span.from ++ (44 ∷ []) =
-    rw (c.from.ensures.value) at c.moment_text-from.ensures in
-    let until : c.moment_text-until.result ≡ stamp_text c.args.span.until ++ (10 ∷ []) =
-    rw (c.until.ensures.value) at c.moment_text-until.ensures in
-    let begun : first ≡ head ++ (stamp_text c.args.span.from ++ (44 ∷ [])) =
-    rw (c.truncate.ensures.items, from) at c.in_ok-extend_from_slice.ensures.items in
-    record {
-      line = grown c.extend_from_slice-2.result (whole ≡ head ++ span_text c.args.span) _ _ _
-          (λ e. in_two head (stamp_text c.args.span.from) (stamp_text c.args.span.until) first whole begun (rw until at e))
-          c.extend_from_slice-2.ensures.items;
-    }
+  from_is : (second : ℤ) (new : List ℕ) → part ≡ take 20 bytes → new ≡ stamp_text second ++ drop 19 part
+      → new ≡ stamp_text second ++ (44 ∷ [])
+  from_is second new is written = written ∙ ap (λ (l : List ℕ). stamp_text second ++ drop 19 l) (is ∙ ap (take 20) are.is)
+
+  until_is : (second : ℤ) (new : List ℕ) → part ≡ drop 20 bytes → new ≡ stamp_text second ++ drop 19 part
+      → new ≡ stamp_text second ++ (10 ∷ [])
+  until_is second new is written = written ∙ ap (λ (l : List ℕ). stamp_text second ++ drop 19 l) (is ∙ ap (drop 20) are.is)
+
+-- the whole buffer, once its last bytes were written over by as many
+whole_is : (items front a b text : List ℕ) (head len : ℕ) → length items ≡ len → front ≡ take head items
+    → length (drop head items) ≡ length text → a ++ b ≡ text
+    → take len ((front ++ (a ++ b)) ++ drop (length (front ++ (a ++ b))) items) ≡ take head items ++ text
+whole_is items front a b text head len long is same both =
+    let new : front ++ (a ++ b) ≡ take head items ++ text = rw (is, both) refl in
+    let parts = ap length (take-append-drop head items) in
+    let sum = length-append (take head items) (drop head items) in
+    let written = ap length new ∙ length-append (take head items) text in
+    take_at (front ++ (a ++ b)) (drop (length (front ++ (a ++ b))) items) len (omega arith) ∙ new
+
+pub write_moment-requires-clause-shown : goal.write_moment-requires-clause-shown
+write_moment-requires-clause-shown c =
+    from_shown c.args.shown.now (drop c.args.head c.args.line.now.items) c.requires.shown c.split_at_mut-from.result.0.now
+    (c.split_at_mut-from.ensures.front ∙ ap (take 20) (c.split_at_mut-moments.ensures.back
+    ∙ ap (drop c.args.head) c.as_mut_slice.ensures.value))
+
+pub write_moment-requires-2-clause-shown : goal.write_moment-requires-2-clause-shown
+write_moment-requires-2-clause-shown c =
+    until_shown c.args.shown.now (drop c.args.head c.args.line.now.items) c.requires.shown c.split_at_mut-from.result.1.now
+    (c.split_at_mut-from.ensures.back ∙ ap (drop 20) (c.split_at_mut-moments.ensures.back
+    ∙ ap (drop c.args.head) c.as_mut_slice.ensures.value))
+
+pub returns-clause-line : goal.returns-clause-line
+returns-clause-line c =
+    let items = c.args.line.now.items in
+    let span = c.args.span in
+    let bytes = drop c.args.head items in
+    let now = c.split_at_mut-moments.ensures.back ∙ ap (drop c.args.head) c.as_mut_slice.ensures.value in
+    let a = from_is c.args.shown.now bytes c.requires.shown c.split_at_mut-from.result.0.now span.from c.write_moment.new.text
+    (c.split_at_mut-from.ensures.front ∙ ap (take 20) now) (rw (c.from.ensures.value) at c.write_moment.ensures.text) in
+    let b = until_is c.args.shown.now bytes c.requires.shown c.split_at_mut-from.result.1.now span.until
+    c.write_moment-2.new.text
+    (c.split_at_mut-from.ensures.back ∙ ap (drop 20) now) (rw (c.until.ensures.value) at c.write_moment-2.ensures.text) in
+    whole_is items c.split_at_mut-moments.result.0.now c.write_moment.new.text c.write_moment-2.new.text (span_text span)
+    c.args.head c.args.line.now.len (sym (ap length c.as_mut_slice.ensures.value) ∙ c.as_mut_slice.ensures.len)
+    (c.split_at_mut-moments.ensures.front ∙ ap (take c.args.head) c.as_mut_slice.ensures.value)
+    (ap length c.requires.shown.is) (rw (a, b) refl)
+
+pub returns-clause-shown : goal.returns-clause-shown
+returns-clause-shown c = record {
+  from = c.args.span.from;
+  until = c.args.span.until;
+  from_kept = rw (c.from.ensures.value) at c.write_moment.ensures.kept;
+  until_kept = rw (c.until.ensures.value) at c.write_moment-2.ensures.kept;
+  is = refl;
+}
