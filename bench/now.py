@@ -24,7 +24,6 @@ MIXES = {
     "each day": lambda rng: f"[(h{rng.randint(5, 11)}){{h{rng.randint(1, 5)}}}]",
     "all of each day": lambda rng: "[(h0){h24}]",
     "hours of working days": lambda rng: f"[(h{rng.randint(5, 11)}){{h2}}]*[(t2){{d5}}]",
-    "hours that never meet": lambda rng: "[(h5){h1}]*[(h7){h1}]",
     "each year": lambda rng: f"[(M{rng.randint(1, 12)}d1){{M3}}]",
     "nights of each year": lambda rng: f"[(M{rng.randint(1, 12)}d1){{M3}}]*[(h22){{h8}}]",
     "years past and to come": lambda rng: f"[(y{rng.randint(2004, 2044)}M{rng.randint(1, 12)}d1){{w{rng.randint(1, 9)}}}]",
