@@ -141,6 +141,19 @@ listed 'lines that end with two bytes, and an empty line' $'element,direction,ve
     $'bad.csv:3: row 2: Direction\n    up\n    ^\nbad.csv:5: row 3: Direction\n    x\n    ^'
 listed 'bytes that are shown escaped' "$top_line"$'1,both,0,\\\xc3\xa9(h25)\n' \
     $'bad.csv:2: row 1: Domain BadToken at 0\n    \\x5c\\xc3\\xa9(h25)\n    ^'
+# Texts of more than 100 columns are cut: 40 columns before the place and 50 from it on are left.
+times() { printf "$2%.0s" $(seq "$1"); }
+listed 'a field of 100 columns' "$top_line$(times 100 x)"$',both,0,\n' \
+    $'bad.csv:2: row 1: Element\n    '"$(times 100 x)"$'\n    ^'
+listed 'a longer field' "$top_line$(times 101 x)"$',both,0,\n' \
+    $'bad.csv:2: row 1: Element\n    '"$(times 50 x)"$'...\n    ^'
+listed 'a domain cut on both sides' "$top_line"$'1,both,0,'"$(times 60 ' ')(h25){h1}$(times 60 ' ')"$'\n' \
+    $'bad.csv:2: row 1: Domain FieldRange at 61\n    ...'"$(times 39 ' ')(h25){h1}$(times 42 ' ')"$'...\n'"$(times 47 ' ')^"
+listed 'a domain cut on the left' "$top_line"$'1,both,0,'"$(times 100 ' ')(h25){h1}"$'\n' \
+    $'bad.csv:2: row 1: Domain FieldRange at 101\n    ...'"$(times 39 ' ')(h25){h1}"$'\n'"$(times 47 ' ')^"
+listed 'a field cut where bytes are shown escaped' "$top_line$(times 26 '\\')"$',both,0,\n' \
+    $'bad.csv:2: row 1: Element\n    '"$(times 12 '\\x5c')"$'...\n    ^'
+listed 'a first line that is cut' "$(times 101 x)"$'\n' $'bad.csv:1: Header\n    found:    '"$(times 50 x)"$'...\n'"$expected"
 { printf '%s' "$top_line"; yes 1,both,0, | head -n 65536; printf '1,both\n1,both\n'; } > bad.csv
 run faults bad.csv
 expect 'too many rows' 1 'bad.csv:65538: row 65537: TooManyRows' ''

@@ -1,3 +1,4 @@
 pub mod Shapes
+pub mod StayDays
 pub mod Unions
 pub mod Weekly

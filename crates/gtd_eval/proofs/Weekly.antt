@@ -1,9 +1,13 @@
 -- Sets that repeat after 7 days, and their changes.
 use Rattle.gtd_core.specs.declared.second.Sec.{Sec}
-use Rattle.std.proofs.Common.{Option, Some, None, MatchOption, ◌≡◌, ◌↔◌, ℕ, zero, suc, ◌+◌, ◌*◌, ◌/◌, ◌%◌}
+use Rattle.std.proofs.Common.{Option, Some, None, MatchOption, ◌≡◌, ◌↔◌, ◌⊎◌, inl, inr, ℕ, zero, suc, ◌+◌, ◌*◌, ◌/◌, ◌%◌}
 use Rattle.std.proofs.Common.{sym, subst, arith}
-use Rattle.std.specs.Prelude.{ℤ, pos, ◌+ℤ◌, ◌<ℤ◌}
-use Rattle.std.proofs.lemmas.Int.{ints}
+use Rattle.std.specs.Prelude.{ℤ, pos, ◌+ℤ◌, ◌<ℤ◌, ◌≤ℤ◌}
+use Rattle.std.proofs.lemmas.Int.{ints, by_lt_z}
+use Rattle.gtd_core.specs.declared.duration.DurationParts.{DurationParts}
+use Rattle.gtd_core.specs.declared.start.StartParts.{StartParts}
+use Rattle.gtd_recur.specs.Membership.{InStretches}
+use Rattle.gtd_recur.specs.Weekly.{IsWeekly}
 use Rattle.gtd_spans.specs.facts.NormalFor.{combined-both}
 use Rattle.gtd_spans.specs.Change.{NeverChanges, IsNextChange}
 use Rattle.gtd_recur.specs.facts.WeekLemmas.{week-forward, week-back}
@@ -53,3 +57,20 @@ pub changes-after-week : (set : ℤ → Type 0) → RepeatsWeekly set → (s unt
     → MatchOption o (NeverChangesAfter set s) (λ c. IsFirstChange set s c.0)
 changes-after-week set r s until far None h = never-after-week set r s until far h
 changes-after-week set r s until far (Some c) h = first-of-next set s until c.0 h
+
+-- ---- the first change of a basic domain, in the days in which it is looked for
+
+looked : (set : ℤ → Type 0) → (s until last c : ℤ) → IsNextChange set s until c → until ≤ℤ last → c ≤ℤ last
+looked set s until last c h le = omega (arith, ints, h.within, le)
+
+-- no later second stays longer
+pub no_later : (set : ℤ → Type 0) (s until c u : ℤ) → IsNextChange set s until c → NeverChanges set s u → u ≤ℤ c
+no_later set s until c u h never =
+    by_lt_z {P = u ≤ℤ c} c u (λ lt. absurd (h.differs (never c h.later lt))) (λ ge. ge)
+
+-- where nothing changes in the days that are looked at, nothing changes in the horizon
+pub never-to-end : (p : StartParts) (q : DurationParts) (s until last : ℤ) → NeverChanges (InStretches p q) s until
+    → ((until ≡ last) ⊎ (((s +ℤ week) <ℤ until) × IsWeekly p q)) → NeverChanges (InStretches p q) s last
+never-to-end p q s until last never (inl e) = subst (λ (l : ℤ). NeverChanges (InStretches p q) s l) e never
+never-to-end p q s until last never (inr w) = λ t later within.
+    never-after-week (InStretches p q) (λ t. (week-forward p q t w.1, week-back p q t w.1)) s until w.0 never t later

@@ -6,6 +6,7 @@ pub mod Names
 pub mod Nodes
 pub mod Shape
 pub mod Single
+pub mod Stays
 pub mod Weekly
 pub mod facts
 pub use Rattle.gtd_core.specs.Seconds

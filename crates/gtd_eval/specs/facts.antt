@@ -3,3 +3,4 @@ pub mod TreeDecisions
 pub mod NodeFacts
 pub mod Repeats
 pub mod SingleFacts
+pub mod StayFacts

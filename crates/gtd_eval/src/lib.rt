@@ -10,6 +10,7 @@ pub use ever::{EverFault, next_change_ever};
 pub use membership::holds;
 pub use node::Node;
 pub use queries::{next_change, spans};
+pub use stay::{Stay, stay_of};
 
 mod cursor;
 mod ever;
@@ -17,3 +18,4 @@ pub mod laws;
 mod membership;
 mod node;
 mod queries;
+mod stay;

@@ -1,2 +1,3 @@
 pub mod ListFacts
 pub mod RunFacts
+pub mod StretchFacts

@@ -12,7 +12,7 @@ use Rattle.gtd_records.specs.File.{IsFile, header}
 use Rattle.gtd_records.specs.facts.OneAnswer.{one_version}
 use Rattle.gtd_records.specs.declared.fault.RecordFault.{RecordFault}
 use Rattle.gtd_records.specs.declared.vehicles.Version.{Version}
-use Rattle.gtd_faults.specs.Below.{below_text}
+use Rattle.gtd_faults.specs.Below.{IsBelow, below_text, fault_place}
 use Rattle.gtd_faults.specs.Listing.{AreLines, fault_line, fault_text}
 use Rattle.gtd_faults.specs.Printable.{printable}
 use Rattle.gtd_faults.specs.declared.below.Below.{Below}
@@ -29,17 +29,18 @@ some_line path line why below after e =
 
 -- the line of one fault more
 pub lines_more : (path : List ℕ) (faults : List RecordFault) (why : RecordFault) (text : List ℕ) (line : ℕ) (below : Below)
-    → AreLines path faults text
+    → IsBelow (fault_place why) below → AreLines path faults text
     → AreLines path (faults ++ why ∷ []) (text ++ (fault_line path line why ++ below_text below))
-lines_more path [] why text line below is =
-    (line, below, [], refl, rw is (sym (append-nil (fault_line path line why ++ below_text below))))
-lines_more path (x ∷ faults) why text line below is =
+lines_more path [] why text line below at is =
+    (line, below, at, [], refl, rw is (sym (append-nil (fault_line path line why ++ below_text below))))
+lines_more path (x ∷ faults) why text line below at is =
     let more = fault_line path line why ++ below_text below in (
       is.0,
       is.1,
-      is.2 ++ more,
-      lines_more path faults why is.2 line below is.3,
-      rw (is.4) (append_assoc (fault_line path is.0 x ++ below_text is.1) is.2 more),
+      is.2,
+      is.3 ++ more,
+      lines_more path faults why is.3 line below at is.4,
+      rw (is.5) (append_assoc (fault_line path is.0 x ++ below_text is.1) is.3 more),
     )
 
 abbrev Accepted : List ℕ → Type 0
@@ -56,7 +57,7 @@ module _ (accepted : (bytes : List ℕ) → AreFileFaults bytes [] ↔ Accepted 
       → AreLines path faults text → (text ≡ []) ↔ Accepted bytes
   nothing_listed path bytes [] text are lines = (λ e. (accepted bytes).0 are, λ is. lines)
   nothing_listed path bytes (why ∷ rest) text are lines = (
-    (λ e. absurd (some_line path lines.0 why (below_text lines.1) lines.2 (sym (lines.4) ∙ e))),
+    (λ e. absurd (some_line path lines.0 why (below_text lines.1) lines.3 (sym (lines.5) ∙ e))),
     (λ is. absurd (apart is.0 why (one bytes (Ok is.0) (Err why) is.1 (first bytes why rest are)))),
   )
 
@@ -73,9 +74,9 @@ module _ (accepted : (bytes : List ℕ) → AreFileFaults bytes [] ↔ Accepted 
       let same = same_fault x why (one bytes (Err x) (Err why) (first bytes x rest are) is) in
       let below = below_text lines.1 in (
         lines.0,
-        below ++ lines.2,
-        lines.4 ∙ append_assoc (fault_line path lines.0 x) below lines.2
-            ∙ ap (λ w. fault_line path lines.0 w ++ (below ++ lines.2)) same,
+        below ++ lines.3,
+        lines.5 ∙ append_assoc (fault_line path lines.0 x) below lines.3
+            ∙ ap (λ w. fault_line path lines.0 w ++ (below ++ lines.3)) same,
       )
 
 module _ (each : (v : Version) (rows : List Fields) (faults : List RecordFault) → AreRowFaults v 1 rows faults

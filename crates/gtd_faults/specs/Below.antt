@@ -1,16 +1,90 @@
 -- What is shown below the line of a fault: indented lines.
-use Rattle.std.specs.Prelude.{◌++◌, ℕ, List, [], codes, replicate}
-use Rattle.gtd_faults.specs.Printable.{printable}
+use Rattle.std.specs.Prelude.{◌≡◌, ◌+◌, ◌-◌, ◌++◌, ℕ, suc, zero, Bool, true, false, List, [], ◌∷◌, codes}
+use Rattle.std.specs.Prelude.{drop, get_or, length, map, take, flat_map, if◌then◌else◌, nat_eq, nat_le, nat_lt, ⊤}
+use Rattle.gtd_records.specs.declared.fault.RecordFault.{RecordFault}
+use Rattle.gtd_records.specs.declared.fault.RecordFault.TheVariants as fault
+use Rattle.gtd_faults.specs.Printable.{printable, shown_byte}
 use Rattle.gtd_faults.specs.declared.below.Below.{Below}
 use Rattle.gtd_faults.specs.declared.below.Below.TheVariants as below
+use Rattle.gtd_faults.specs.declared.stretch.Stretch.{Stretch}
+
+-- A text that takes more columns than these is cut: before the place and from it on, no more than these are left.
+abbrev pub most_columns : ℕ
+most_columns = 100
+
+abbrev pub columns_before : ℕ
+columns_before = 40
+
+abbrev pub columns_after : ℕ
+columns_after = 50
+
+-- how many columns a byte takes
+abbrev pub width : ℕ → ℕ
+width byte = length (shown_byte byte)
+
+-- how many bytes of a text, from its first on, fit into so many columns
+abbrev pub fit : ℕ → List ℕ → ℕ
+fit columns [] = 0
+fit columns (byte ∷ rest) = if nat_le (width byte) columns then suc (fit (columns - width byte) rest) else 0
+
+-- how many of its first n bytes, from their last back, fit into so many columns
+abbrev pub fit_back : ℕ → List ℕ → ℕ → ℕ
+fit_back columns text zero = 0
+fit_back columns text (suc n) =
+    if nat_le (width (get_or text n 0)) columns then suc (fit_back (columns - width (get_or text n 0)) text n) else 0
+
+-- all of a text fits
+abbrev pub is_short : List ℕ → Bool
+is_short text = nat_eq (fit most_columns text) (length text)
+
+-- how many bytes before the place are shown, and from it on
+abbrev pub count_before : List ℕ → ℕ → ℕ
+count_before text place = if is_short text then place else fit_back columns_before text place
+
+abbrev pub count_after : List ℕ → ℕ → ℕ
+count_after text place = if is_short text then length text - place else fit columns_after (drop place text)
+
+-- the stretch of a text around a place: these bytes before it and from it on, and whether more are left out on a side
+pub record IsAround (text : List ℕ) (place : ℕ) (stretch : Stretch) : Type 0 where
+  pub before : stretch.before.now ≡ take (count_before text place) (drop (place - count_before text place) text)
+  pub after : stretch.after.now ≡ take (count_after text place) (drop place text)
+  pub cut_before : stretch.cut_before ≡ nat_lt (count_before text place) place
+  pub cut_after : stretch.cut_after ≡ nat_lt (place + count_after text place) (length text)
+
+-- dots for what is left out
+abbrev pub dots : Bool → List ℕ
+dots true = codes "..."
+dots false = []
+
+-- a stretch as it is shown
+abbrev pub stretch_text : Stretch → List ℕ
+stretch_text s = dots s.cut_before ++ printable s.before.now ++ printable s.after.now ++ dots s.cut_after
+
+-- as many spaces as a text has columns
+abbrev pub blanks : List ℕ → List ℕ
+blanks text = map (λ (column : ℕ). 32) text
+
+-- a caret below the first byte after the place: as many spaces before it as columns are shown before that byte
+abbrev pub caret_text : Stretch → List ℕ
+caret_text s = blanks (dots s.cut_before) ++ flat_map (λ (byte : ℕ). blanks (shown_byte byte)) s.before.now ++ codes "^"
 
 -- the headers that a file may have
 abbrev pub expected_text : List ℕ
 expected_text = codes "\n    expected: element,direction,vehicle,domain (or vehicles)\n"
 
--- nothing; a field, with a caret after this many columns; or the first line of a file without a header
+-- nothing; the stretch of a field around a place, with a caret; or the first line of a file without a header
 abbrev pub below_text : Below → List ℕ
 below_text below.Nothing = []
-below_text (below.Field field columns) =
-    codes "    " ++ printable field.now ++ codes "\n    " ++ replicate columns 32 ++ codes "^\n"
-below_text (below.Header found) = codes "    found:    " ++ printable found.now ++ expected_text
+below_text (below.Field field) = codes "    " ++ stretch_text field ++ codes "\n    " ++ caret_text field ++ codes "\n"
+below_text (below.Header found) = codes "    found:    " ++ stretch_text found ++ expected_text
+
+-- where the field of a fault is at fault: the place in a domain's text, or its first byte
+abbrev pub fault_place : RecordFault → ℕ
+fault_place (fault.Domain row why) = why.place
+fault_place why = 0
+
+-- what is shown of a field is its stretch around this place
+abbrev pub IsBelow : ℕ → Below → Type 0
+IsBelow place below.Nothing = ⊤
+IsBelow place (below.Field stretch) = (field : List ℕ) × IsAround field place stretch
+IsBelow place (below.Header found) = (first : List ℕ) × IsAround first 0 found

@@ -3,7 +3,7 @@ use Rattle.std.specs.Prelude.{◌≡◌, ◌++◌, ℕ, List, [], ◌∷◌, cod
 use Rattle.gtd_core.specs.Names.{fault_name}
 use Rattle.gtd_records.specs.declared.fault.RecordFault.{RecordFault}
 use Rattle.gtd_records.specs.declared.fault.RecordFault.TheVariants as fault
-use Rattle.gtd_faults.specs.Below.{below_text}
+use Rattle.gtd_faults.specs.Below.{IsBelow, below_text, fault_place}
 use Rattle.gtd_faults.specs.Printable.{printable}
 use Rattle.gtd_faults.specs.declared.below.Below.{Below}
 
@@ -26,9 +26,9 @@ fault_text fault.Endless = codes "Endless"
 abbrev pub fault_line : List ℕ → ℕ → RecordFault → List ℕ
 fault_line path line why = printable path ++ codes ":" ++ decimal line ++ codes ": " ++ fault_text why ++ codes "\n"
 
--- The lines of faults, in order: for each its line, and what is shown below it.
+-- The lines of faults, in order: for each its line, and what is shown below it, around the place of the fault.
 abbrev pub AreLines : List ℕ → List RecordFault → List ℕ → Type 0
 AreLines path [] text = text ≡ []
 AreLines path (why ∷ rest) text =
-    (line : ℕ) × (below : Below) × (after : List ℕ)
+    (line : ℕ) × (below : Below) × IsBelow (fault_place why) below × (after : List ℕ)
     × AreLines path rest after × (text ≡ fault_line path line why ++ below_text below ++ after)

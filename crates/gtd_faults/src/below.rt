@@ -1,9 +1,9 @@
 //! What is shown below the line of a fault.
 
-ghost use Rattle.std.specs.Prelude.{◌++◌, Some, codes, replicate};
+ghost use Rattle.std.specs.Prelude.{Some};
 ghost use Rattle.gtd_faults.specs.Below.{below_text};
 
-use crate::printable::Printable;
+use crate::stretch::{Caret, Stretch};
 use std::fmt;
 use std::fmt::{Display, Formatter};
 
@@ -12,25 +12,10 @@ use std::fmt::{Display, Formatter};
 pub(crate) enum Below<'a> {
     /// Nothing.
     Nothing,
-    /// A field, and a caret after this many columns.
-    Field { field: &'a [u8], columns: usize },
+    /// The stretch of a field around a place, with a caret below the place.
+    Field(Stretch<'a>),
     /// The first line of a file without a header, and the two headers that it may have.
-    Header { found: &'a [u8] },
-}
-
-// A caret after this many spaces.
-#[derive(Clone, Copy)]
-struct Caret(usize);
-
-impl Display for Caret {
-    ghost output = { λ caret. Some (replicate caret.0 32 ++ codes "^") };
-
-    fn fmt<W: fmt::Write>(&self, f: &mut Formatter<W>) -> fmt::Result {
-        for _space in 0..self.0 {
-            write!(f, " ")?;
-        }
-        write!(f, "^")
-    }
+    Header(Stretch<'a>),
 }
 
 impl Display for Below<'_> {
@@ -39,13 +24,11 @@ impl Display for Below<'_> {
     fn fmt<W: fmt::Write>(&self, f: &mut Formatter<W>) -> fmt::Result {
         match *self {
             Below::Nothing => Ok(()),
-            Below::Field { field, columns } => {
-                let field = Printable(field);
-                let caret = Caret(columns);
+            Below::Field(field) => {
+                let caret = Caret(field);
                 write!(f, "    {field}\n    {caret}\n")
             }
-            Below::Header { found } => {
-                let found = Printable(found);
+            Below::Header(found) => {
                 write!(
                     f,
                     "    found:    {found}\n    expected: element,direction,vehicle,domain (or vehicles)\n"

@@ -13,4 +13,5 @@ mod list_fault;
 mod places;
 mod printable;
 mod run;
+mod stretch;
 mod words;

@@ -1,7 +1,9 @@
 //! Where the rows of a file are, and what is shown of them.
 
+ghost use Rattle.gtd_faults.specs.Below.{IsBelow, fault_place};
+
 use crate::below::Below;
-use crate::printable::is_printable;
+use crate::stretch::Stretch;
 use csv::{ByteRecord, Reader, ReaderBuilder};
 use gtd_records::RecordFault;
 use std::alloc::{AllocError, Global};
@@ -82,11 +84,11 @@ impl<'a> Rows<'a> {
     }
 
     /// What is shown of the row, below the line of its fault.
-    pub(crate) fn below(&self, fault: RecordFault) -> Below<'_> {
+    pub(crate) fn below(&self, fault: RecordFault) -> Below<'_>
+        ensures at { IsBelow (fault_place fault) result }
+    {
         match fault {
-            RecordFault::Header => Below::Header {
-                found: first_line(self.bytes),
-            },
+            RecordFault::Header => Below::Header(Stretch::around(first_line(self.bytes), 0)),
             RecordFault::Element { .. } => self.field(0, 0),
             RecordFault::Direction { .. } => self.field(1, 0),
             RecordFault::Vehicle { .. } => self.field(2, 0),
@@ -96,13 +98,12 @@ impl<'a> Rows<'a> {
     }
 
     // A field of the row, with a caret below its byte at this place.
-    fn field(&self, index: usize, place: usize) -> Below<'_> {
+    fn field(&self, index: usize, place: usize) -> Below<'_>
+        ensures at { IsBelow place result }
+    {
         match self.row.get(index) {
-            Some(field) => Below::Field {
-                field,
-                columns: columns_before(field, place),
-            },
-            None => Below::Nothing,
+            Some(field) if place <= field.len() => Below::Field(Stretch::around(field, place)),
+            _ => Below::Nothing,
         }
     }
 }
@@ -118,15 +119,6 @@ fn row_of(fault: RecordFault) -> u32 {
         RecordFault::TooManyRows => 65_537,
         _ => 0,
     }
-}
-
-// How many columns the bytes before this place take when shown.
-fn columns_before(field: &[u8], place: usize) -> usize {
-    let mut columns = 0usize;
-    for byte in &field[..place.min(field.len())] {
-        columns = columns.saturating_add(if is_printable(*byte) { 1 } else { 4 });
-    }
-    columns
 }
 
 // The bytes before the first line end.

@@ -1,8 +1,8 @@
 //! When the state of an element changes.
 
 ghost use Rattle.std.specs.Prelude.{◌≡◌, ◌*ℤ◌, pos, ℤ, IfOk, MatchOption};
-ghost use Rattle.gtd_core.specs.Seconds.{day_of_second, IsHorizonSecond, Within};
-ghost use Rattle.gtd_core.specs.Whole.{from_day, to_day, whole};
+ghost use Rattle.gtd_core.specs.Seconds.{day_of_second, IsHorizonSecond};
+ghost use Rattle.gtd_core.specs.Whole.{from_day, to_day};
 ghost use Rattle.gtd_records.specs.Closing.{IsOpen};
 ghost use Rattle.gtd_spans.specs.Change.{IsNextChange, NeverChanges};
 ghost use Rattle.gtd_now.specs.Now.{IsLookEnd};
@@ -10,7 +10,7 @@ ghost use Rattle.gtd_core.specs.Limits.{day_seconds};
 
 use gtd_core::limits::{HORIZONS_END, MOST_HORIZON_DAYS};
 use gtd_core::{Horizon, Sec};
-use gtd_records::{Direction, Records, open_seconds};
+use gtd_records::{Direction, Records, next_change};
 use std::alloc::{AllocError, Global};
 
 // The day before which a change is looked for, when the search begins on a day.
@@ -39,25 +39,6 @@ fn days_from(second: Sec) -> Horizon
     }
 }
 
-// The least later second of the days at which the element's state differs from that at the given one.
-fn change_in(
-    alloc: Global,
-    found: &Records,
-    element: u64,
-    direction: Direction,
-    vehicle: u8,
-    second: Sec,
-    days: Horizon,
-) -> Result<Option<Sec>, AllocError>
-    requires inside { Within (whole days) second.0 }
-    ensures change { IfOk result (λ change. MatchOption change
-        (NeverChanges (IsOpen found.now element direction vehicle) second.0 (whole days).until)
-        (λ c. IsNextChange (IsOpen found.now element direction vehicle) second.0 (whole days).until c.0)) }
-{
-    let mut open = open_seconds(alloc, found, element, direction, vehicle, days)?;
-    Ok(gtd_spans::next_change(&mut open, second, days.until()))
-}
-
 // The least later second within the search at which the element's state differs from that at the given one.
 pub(crate) fn change_of(
     alloc: Global,
@@ -72,7 +53,7 @@ pub(crate) fn change_of(
         (NeverChanges (IsOpen found.now element direction vehicle) second.0 (last *ℤ pos day_seconds))
         (λ c. IsNextChange (IsOpen found.now element direction vehicle) second.0 (last *ℤ pos day_seconds) c.0)) }
 {
-    change_in(
+    next_change(
         alloc,
         found,
         element,

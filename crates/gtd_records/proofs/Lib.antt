@@ -12,3 +12,4 @@ pub mod CutFaults
 pub mod DomainTexts
 pub mod SortedCodes
 pub mod EachFile
+pub mod StayFacts

@@ -4,7 +4,9 @@ ghost use Rattle.std.specs.Prelude.{◌≡◌, ◌↔◌, ◌<◌, ◌≤◌, �
 ghost use Rattle.std.specs.List.{AllWithin};
 ghost use Rattle.std.specs.List.Sorted.{IsNonDecreasingBy, IsStrictlyIncreasing};
 ghost use Rattle.gtd_core.specs.Limits.{most_rows};
-ghost use Rattle.gtd_core.specs.Seconds.{IsHorizonSecond};
+ghost use Rattle.gtd_core.specs.Seconds.{IsHorizonSecond, Within};
+ghost use Rattle.gtd_core.specs.Whole.{whole};
+ghost use Rattle.gtd_eval.specs.Stays.{IsStay};
 ghost use Rattle.gtd_records.specs.Closing.{AreElements, IsClosed};
 ghost use Rattle.gtd_records.specs.ClosingRows.{AreClosingRows};
 ghost use Rattle.gtd_records.specs.Index.{AreClosing, ArePlaces};
@@ -12,8 +14,8 @@ ghost use Rattle.gtd_records.specs.Columns.{IsSortedSet};
 
 use crate::direction::Direction;
 use crate::record::Record;
-use gtd_core::{Horizon, Sec};
-use gtd_eval::Cursor;
+use gtd_core::{Horizon, Op, Sec};
+use gtd_eval::{Cursor, Stay};
 use std::alloc::{AllocError, Global};
 use std::marker::Model;
 
@@ -175,6 +177,36 @@ impl Records {
             }
         }
         Ok(in_order(rows))
+    }
+
+    // Whether some record closes the element in the direction for the vehicle type at the second, and how long that does
+    // not change.
+    pub(crate) fn stay(
+        &self,
+        element: u64,
+        direction: Direction,
+        vehicle: u8,
+        second: Sec,
+        horizon: Horizon,
+    ) -> Stay
+        requires inside { Within (whole horizon) second.0 }
+        ensures stays { IsStay (IsClosed self.now element direction vehicle) second.0 (whole horizon).until result }
+    {
+        let from = places_below(self.places.as_slice(), element);
+        let mut stay = Stay {
+            holds: false,
+            until: horizon.until(),
+        };
+        for place in &self.places[from..] {
+            if place.element != element {
+                return stay;
+            }
+            let restriction = &self.rows[place.row];
+            if restriction.concerns(direction, vehicle) {
+                stay = Stay::joined(Op::Union, stay, restriction.stay(second, horizon));
+            }
+        }
+        stay
     }
 
     // The cursors of the records that close the element in the direction for the vehicle type.

@@ -3,9 +3,10 @@
 //! A record closes a road element in one direction or both, for some vehicle types, at the seconds of a time domain.
 //! [`read_records`] reads a record file of either version from a device, and answers its [`Records`] or its first fault.
 //! [`Records::closed_at`] says whether some record closes an element at a second, [`schedule_of`] says when it is open, and
-//! [`open_seconds`] says the same span by span.
+//! [`open_seconds`] says the same span by span. [`next_change`] says when that changes.
 #![tactic(auto)]
 
+pub use change::next_change;
 pub use column::{read_direction, read_number};
 pub use direction::{Closed, Direction};
 pub use fault::RecordFault;
@@ -16,6 +17,7 @@ pub use record::Record;
 pub use schedule::{open_seconds, schedule_of};
 pub use vehicles::{Codes, Vehicles};
 
+mod change;
 mod column;
 mod direction;
 mod fault;

@@ -5,12 +5,13 @@ ghost use Rattle.gtd_core.specs.Seconds.{Within, IsHorizonSecond};
 ghost use Rattle.gtd_core.specs.Whole.{whole};
 ghost use Rattle.gtd_eval.specs.Cursors.{cursor_list, cursor_nodes};
 ghost use Rattle.gtd_records.specs.Closing.{Closes, Concerns, HoldsAt};
+ghost use Rattle.gtd_eval.specs.Stays.{IsStay};
 ghost use Rattle.gtd_spans.specs.Normal.{Holds};
 
 use crate::direction::{Closed, Direction};
 use crate::vehicles::Vehicles;
 use gtd_core::{Domain, Horizon, Sec};
-use gtd_eval::{Cursor, holds};
+use gtd_eval::{Cursor, Stay, holds, stay_of};
 use std::alloc::{AllocError, Global};
 use std::marker::Model;
 
@@ -75,6 +76,20 @@ impl Record {
         match &self.domain {
             Some(domain) => holds(domain, second),
             None => true,
+        }
+    }
+
+    // Whether the record closes what it concerns at a second, and how long that does not change.
+    pub(crate) fn stay(&self, second: Sec, horizon: Horizon) -> Stay
+        requires inside { Within (whole horizon) second.0 }
+        ensures stays { IsStay (HoldsAt self.now.domain) second.0 (whole horizon).until result }
+    {
+        match &self.domain {
+            Some(domain) => stay_of(domain, second, horizon),
+            None => Stay {
+                holds: true,
+                until: horizon.until(),
+            },
         }
     }
 

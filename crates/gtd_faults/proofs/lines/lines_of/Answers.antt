@@ -12,4 +12,4 @@ loop-fault-preserved c =
     take_more c.args.faults.now i fault.ReadFault (omega arith) in
     rw (next, c.in_ok-push_fault.ensures)
     (lines_more c.args.path.now (take i c.args.faults.now) here (string_bytes c.loop-fault.text) c.line.result c.below.result
-    c.loop-fault.invariant)
+    c.below.ensures.at c.loop-fault.invariant)

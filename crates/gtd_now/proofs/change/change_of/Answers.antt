@@ -1,8 +1,8 @@
 use Rattle.gtd_now.proofs.DayFacts.{looks_at}
 use Rattle.gtd_now.proofs.change.change_of.Goals as goal
 
-pub change_in-requires : goal.change_in-requires
-change_in-requires c = record {
+pub next_change-requires : goal.next_change-requires
+next_change-requires c = record {
   inside = looks_at c.args.second.0 c.days_from.result.from_day c.days_from.result.to_day c.requires.in_range
       c.days_from.ensures.first c.days_from.ensures.last;
 }

@@ -1,0 +1,160 @@
+//! How long a domain stays as it is at a second.
+
+ghost use Rattle.std.specs.Prelude.{◌↔◌, ◌⊎◌, ◌≡◌, ◌+ℤ◌, ◌<ℤ◌, ◌≤ℤ◌, pos, ℤ};
+ghost use Rattle.gtd_core.specs.Parts.{domain_tree, start_parts, duration_parts};
+ghost use Rattle.gtd_core.specs.Limits.{first_horizon_day, horizons_end};
+ghost use Rattle.gtd_core.specs.Seconds.{Within};
+ghost use Rattle.gtd_core.specs.Trees.{tree_of};
+ghost use Rattle.gtd_core.specs.Whole.{whole};
+ghost use Rattle.gtd_recur.specs.Membership.{InBasic};
+ghost use Rattle.gtd_recur.specs.Weekly.{IsWeekly};
+ghost use Rattle.gtd_spans.specs.Change.{NeverChanges};
+ghost use Rattle.gtd_eval.specs.Ever.{week};
+ghost use Rattle.gtd_eval.specs.Membership.{InDomain, InTree};
+ghost use Rattle.gtd_eval.specs.Stays.{ComesBefore, IsStay, NoneChanges};
+
+use gtd_core::{Basic, Domain, Expr, Horizon, Op, Sec};
+use gtd_recur::{Runs, covers, is_weekly};
+
+// The days of a week, and one more: the rest of a second's own day.
+const WEEKLY_DAYS: i64 = 8;
+
+/// Whether a set of seconds has a second, and a later second before which that does not change.
+#[derive(Clone, Copy, Debug, PartialEq, Eq)]
+pub struct Stay {
+    /// Whether the set has the second.
+    pub holds: bool,
+    /// Before this second, the set has each later second exactly if it has the given one.
+    pub until: Sec,
+}
+
+impl Stay {
+    ghost use Rattle.gtd_eval.specs.Stays.{IsJoined};
+
+    /// The stay, at a second, of what the operator makes of two sets, from theirs at that second. A side that decides
+    /// alone, as one that has the second decides a union, need not wait for the other.
+    pub fn joined(op: Op, left: Stay, right: Stay) -> Stay
+        ensures joined { IsJoined op left right result }
+    {
+        match op {
+            Op::Union => Stay {
+                holds: left.holds || right.holds,
+                until: end_of_both(left.holds, left.until, right.holds, right.until),
+            },
+            Op::Meet => Stay {
+                holds: left.holds && right.holds,
+                until: end_of_both(!left.holds, left.until, !right.holds, right.until),
+            },
+            Op::Minus => Stay {
+                holds: left.holds && !right.holds,
+                until: end_of_both(!left.holds, left.until, right.holds, right.until),
+            },
+        }
+    }
+}
+
+// The end of two sides: of those that decide alone, if there are any, the later one, and otherwise the earlier one.
+fn end_of_both(left_decides: bool, left: Sec, right_decides: bool, right: Sec) -> Sec
+    ensures end { (t : ℤ) → (t <ℤ result.0) ↔ ComesBefore left_decides right_decides left.0 right.0 t }
+{
+    if left_decides {
+        if right_decides {
+            left.later(right)
+        } else {
+            left
+        }
+    } else if right_decides {
+        right
+    } else {
+        left.earlier(right)
+    }
+}
+
+// The day before which a change of a basic domain is looked for: a weekly one that does not change for a week never does.
+fn look_end(basic: &Basic, day: i64, to_day: i64) -> i64
+    requires day_in { first_horizon_day ≤ℤ day }
+    requires days { day <ℤ to_day }
+    requires to_day_in { to_day ≤ℤ horizons_end }
+    ensures later { day <ℤ result }
+    ensures within { result ≤ℤ to_day }
+    ensures end { (result ≡ to_day)
+        ⊎ ((result ≡ day +ℤ pos 8) × IsWeekly (start_parts basic.now.start) (duration_parts basic.now.duration)) }
+{
+    if is_weekly(basic) && day + WEEKLY_DAYS < to_day {
+        return day + WEEKLY_DAYS;
+    }
+    to_day
+}
+
+// The days in which a change of a basic domain is looked for, from that of a second on.
+fn days_from(basic: &Basic, second: Sec, horizon: Horizon) -> Horizon
+    requires inside { Within (whole horizon) second.0 }
+    ensures inside { Within (whole result) second.0 }
+    ensures within { (whole result).until ≤ℤ (whole horizon).until }
+    ensures until { ((whole result).until ≡ (whole horizon).until)
+        ⊎ (((second.0 +ℤ week) <ℤ (whole result).until)
+        × IsWeekly (start_parts basic.now.start) (duration_parts basic.now.duration)) }
+{
+    let day = second.day();
+    match Horizon::new(day, look_end(basic, day, horizon.to_day())) {
+        Ok(days) => days,
+        Err(_) => unreachable!(),
+    }
+}
+
+// The first change of a basic domain after a second, or else the end of the horizon.
+fn basic_end(basic: &Basic, second: Sec, horizon: Horizon) -> Sec
+    requires inside { Within (whole horizon) second.0 }
+    ensures later { second.0 <ℤ result.0 }
+    ensures within { result.0 ≤ℤ (whole horizon).until }
+    ensures same { NeverChanges (InBasic basic.now) second.0 result.0 }
+    ensures far { (u : ℤ) → u ≤ℤ (whole horizon).until → NeverChanges (InBasic basic.now) second.0 u → u ≤ℤ result.0 }
+{
+    let days = days_from(basic, second, horizon);
+    match gtd_spans::next_change(&mut Runs::new(*basic, days), second, days.until()) {
+        Some(change) => change,
+        None => horizon.until(),
+    }
+}
+
+// The stay of an expression at a second.
+fn expr_stay(expr: &Expr, second: Sec, horizon: Horizon) -> Stay
+    requires inside { Within (whole horizon) second.0 }
+    ensures stays { IsStay (InTree (tree_of expr.now)) second.0 (whole horizon).until result }
+    ensures far { (u : ℤ) → u ≤ℤ (whole horizon).until → NoneChanges (tree_of expr.now) second.0 u
+        → u ≤ℤ result.until.0 }
+{
+    match expr {
+        Expr::Leaf(basic) => Stay {
+            holds: covers(basic, second),
+            until: basic_end(basic, second, horizon),
+        },
+        Expr::Join(op, left, right) => {
+            let left = expr_stay(left, second, horizon);
+            let right = expr_stay(right, second, horizon);
+            Stay::joined(*op, left, right)
+        }
+    }
+}
+
+/// Whether the domain contains the second, which must be in the horizon, and a later second, at most the end of the
+/// horizon, before which that does not change. It may stay so for longer, but the second that is answered is at least the
+/// first at which any basic domain of the domain changes; so for a single basic domain it is the next change. Of a basic
+/// domain that repeats each week, a week is looked at. Takes no memory.
+///
+/// ```
+/// let domain = read_domain(alloc, b"[(h10){h4}]")?;
+/// // 2024-01-01 up to the next day, and 12:00:00.
+/// let horizon = Horizon::new(19_723, 19_724).expect(&rt, "a horizon");
+/// let stay = stay_of(&domain, Sec(1_704_110_400), horizon);
+/// assert!(rt; stay.holds);
+/// assert_eq!(rt; stay.until, Sec(1_704_117_600));
+/// ```
+pub fn stay_of(domain: &Domain, second: Sec, horizon: Horizon) -> Stay
+    requires inside { Within (whole horizon) second.0 }
+    ensures stays { IsStay (InDomain domain.now) second.0 (whole horizon).until result }
+    ensures far { (u : ℤ) → u ≤ℤ (whole horizon).until → NoneChanges (domain_tree domain.now) second.0 u
+        → u ≤ℤ result.until.0 }
+{
+    expr_stay(domain.expr(), second, horizon)
+}

@@ -1,0 +1,195 @@
+-- How long an element stays open or closed, found place by place.
+use Rattle.std.proofs.Common.{◌≡◌, ◌∙◌, sym, refl, subst, arith, ◌<◌, ◌+◌, ◌⊎◌, inl, inr, ◌↔◌, ℕ, List, length, Bool, true, false}
+use Rattle.std.specs.Prelude.{ℤ, ◌<ℤ◌, ◌≤ℤ◌, Any, IsTrue, slice_index_or}
+use Rattle.std.proofs.lemmas.Int.{ints, by_lt_z}
+use Rattle.gtd_core.specs.declared.domain.Op.TheVariants.{Union}
+use Rattle.gtd_core.specs.declared.second.Sec.{Sec}
+use Rattle.gtd_eval.specs.Stays.{IsJoined, IsStay}
+use Rattle.gtd_eval.specs.facts.StayFacts.{joined_stays}
+use Rattle.gtd_eval.specs.declared.stay.Stay.{Stay}
+use Rattle.gtd_spans.specs.Change.{IsNextChange, NeverChanges, SameAt}
+use Rattle.gtd_records.specs.facts.IndexFacts.{any_default, by_le, one_record}
+use Rattle.gtd_records.specs.Closing.{Closes, Concerns, HoldsAt, IsClosed, IsOpen, Restriction}
+use Rattle.gtd_records.specs.declared.direction.Direction.{Direction}
+use Rattle.gtd_records.specs.declared.index.Place.{Place}
+
+-- one set stays as it is as long as an equal one
+same_set : (P Q : ℤ → Type 0) (s last : ℤ) (stay : Stay) → ((t : ℤ) → P t ↔ Q t) → IsStay P s last stay → IsStay Q s last stay
+same_set P Q s last stay e is = record {
+  holds = ((λ h. (e s).0 (is.holds.0 h)), (λ q. is.holds.1 ((e s).1 q)));
+  later = is.later;
+  within = is.within;
+  same = λ t after before.
+      let same = is.same t after before in
+      ((λ q. (e t).0 (same.0 ((e s).1 q))), (λ q. (e s).0 (same.1 ((e t).1 q))));
+}
+
+module _ (rows : List Restriction) (part : List Place) (element : ℕ) (direction : Direction) (vehicle : ℕ) where
+  -- a restriction at the first places closes the element at the second
+  pub record ClosesSoFar (stop : ℕ) (t : ℤ) : Type 0 where
+    pub before : ℕ
+    pub place : Place
+    pub row : Restriction
+    pub early : before < stop
+    pub at : slice_index_or part before place ≡ place
+    pub within : place.row < length rows
+    pub stands : slice_index_or rows place.row row ≡ row
+    pub closes : Closes element direction vehicle t row
+
+  -- none does at no place
+  pub none_yet : (s last : ℤ) (until : Sec) → s <ℤ last → until.0 ≡ last
+      → IsStay (ClosesSoFar 0) s last (record { holds = false; until = until })
+  none_yet s last until lt is = record {
+    holds = ((λ h. absurd (cc)), (λ c. absurd (let e = c.early in omega arith)));
+    later = omega (arith, ints, lt, is);
+    within = omega (arith, ints, is);
+    same = λ t after before.
+        ((λ c. absurd (let e = c.early in omega arith)), (λ c. absurd (let e = c.early in omega arith)));
+  }
+
+  module _ (i : ℕ) (d : Place) (here : i < length part) (r : Restriction)
+      (within : (slice_index_or part i d).row < length rows) (stands : r ≡ slice_index_or rows (slice_index_or part i d).row r)
+      (s last : ℤ) where
+    more : (t : ℤ) → ClosesSoFar i t → ClosesSoFar (i + 1) t
+    more t c = record {
+      before = c.before;
+      place = c.place;
+      row = c.row;
+      early = (let e = c.early in omega arith);
+      at = c.at;
+      within = c.within;
+      stands = c.stands;
+      closes = c.closes;
+    }
+
+    -- it closes the element at a place before, or here
+    last_one : {P : Type 0} (t : ℤ) → ClosesSoFar (i + 1) t → (ClosesSoFar i t → P) → (Closes element direction vehicle t r → P)
+        → P
+    last_one {P} t c earlier own =
+        by_le {P = P} i c.before
+        (λ ge.
+        let e : c.before ≡ i = (let lt = c.early in omega arith) in
+        let same : slice_index_or part i d ≡ c.place = any_default part i d c.place here
+        ∙ subst (λ (k : ℕ). slice_index_or part k c.place ≡ c.place) e c.at in
+        own (subst (Closes element direction vehicle t)
+        (one_record rows (slice_index_or part i d).row c.row r within
+        (subst (λ (q : Place). slice_index_or rows q.row c.row ≡ c.row) (sym same) c.stands) stands) c.closes))
+        (λ less. earlier (record {
+          before = c.before;
+          place = c.place;
+          row = c.row;
+          early = less;
+          at = c.at;
+          within = c.within;
+          stands = c.stands;
+          closes = c.closes;
+        }))
+
+    -- a restriction that concerns nothing asked for
+    pub skipped : (stay : Stay) → (Concerns direction vehicle r → ⊥) → IsStay (ClosesSoFar i) s last stay
+        → IsStay (ClosesSoFar (i + 1)) s last stay
+    skipped stay never is =
+        same_set (ClosesSoFar i) (ClosesSoFar (i + 1)) s last stay
+        (λ t. (more t, (λ c. last_one {P = ClosesSoFar i t} t c (λ old. old) (λ h. absurd (never h.concerns))))) is
+
+    here_too : (t : ℤ) → Closes element direction vehicle t r → ClosesSoFar (i + 1) t
+    here_too t closes = record {
+      before = i;
+      place = slice_index_or part i d;
+      row = r;
+      early = omega arith;
+      at = any_default part i (slice_index_or part i d) d here;
+      within = within;
+      stands = sym stands;
+      closes = closes;
+    }
+
+    -- one that does
+    pub taken : (old own stay : Stay) → r.element ≡ element → Concerns direction vehicle r → IsStay (ClosesSoFar i) s last old
+        → IsStay (HoldsAt r.domain) s last own → IsJoined Union old own stay → IsStay (ClosesSoFar (i + 1)) s last stay
+    taken old own stay names concerns is also joined =
+        same_set (λ t. ClosesSoFar i t ⊎ HoldsAt r.domain t) (ClosesSoFar (i + 1)) s last stay
+        (λ t. (
+          (λ h. elim h [
+            | inl c ↦ more t c
+            | inr q ↦ here_too t (record { names = names; concerns = concerns; holds = q })
+          ]),
+          (λ c. last_one {P = ClosesSoFar i t ⊎ HoldsAt r.domain t} t c (λ old. inl old) (λ h. inr h.holds)),
+        ))
+        (joined_stays Union (ClosesSoFar i) (HoldsAt r.domain) s last old own stay is also joined)
+
+  -- where the first places have all restrictions of the element, these close it
+  pub all_stay : (stop : ℕ) (s last : ℤ) (stay : Stay) → IsStay (ClosesSoFar stop) s last stay
+      → ((row : ℕ) (r : Restriction) → row < length rows → slice_index_or rows row r ≡ r → r.element ≡ element
+      → (j : ℕ) × (j < stop) × (slice_index_or part j (record { element = r.element; row = row })
+      ≡ record { element = r.element; row = row }))
+      → IsStay (IsClosed rows element direction vehicle) s last stay
+  all_stay stop s last stay is placed =
+      same_set (ClosesSoFar stop) (IsClosed rows element direction vehicle) s last stay
+      (λ t. (
+        (λ c. (c.place.row, c.row, c.within, c.stands, c.closes)),
+        (λ a.
+            let p = placed a.0 a.1 a.2 a.3 a.4.names in
+            record {
+              before = p.0;
+              place = record { element = a.1.element; row = a.0 };
+              row = a.1;
+              early = p.1;
+              at = p.2;
+              within = a.2;
+              stands = a.3;
+              closes = a.4;
+            }),
+      )) is
+
+-- ---- from one stay to the next
+
+module _ (rows : List Restriction) (element : ℕ) (direction : Direction) (vehicle : ℕ) (s last : ℤ) where
+  abbrev Set : ℤ → Type 0
+  Set = IsClosed rows element direction vehicle
+
+  opened : (t : ℤ) → SameAt Set s t → SameAt (IsOpen rows element direction vehicle) s t
+  opened t same = ((λ o c. o (same.1 c)), (λ o c. o (same.0 c)))
+
+  -- nothing changes in a stay
+  pub first_stays : (stay : Stay) → IsStay Set s last stay → NeverChanges (IsOpen rows element direction vehicle) s stay.until.0
+  first_stays stay is = λ t after before. opened t (is.same t after before)
+
+  told : (a b : Bool) (P Q : Type 0) → IsTrue a ↔ P → IsTrue b ↔ Q → a ≡ b → P ↔ Q
+  told a b P Q p q e = (
+    (λ h. q.0 (subst (λ (x : Bool). IsTrue x) e (p.1 h))),
+    (λ h. p.0 (subst (λ (x : Bool). IsTrue x) (sym e) (q.1 h))),
+  )
+
+  -- nor in the next, if it begins in the same state
+  pub next_stays : (first stay : Stay) (at : ℤ) → IsStay Set s last first → IsStay Set at last stay → stay.holds ≡ first.holds
+      → s <ℤ at → NeverChanges (IsOpen rows element direction vehicle) s at
+      → NeverChanges (IsOpen rows element direction vehicle) s stay.until.0
+  next_stays first stay at is also same later never = λ t after before.
+      by_lt_z {P = SameAt (IsOpen rows element direction vehicle) s t} t at
+      (λ lt. never t after lt)
+      (λ ge. opened t (trans t (by_lt_z {P = SameAt Set at t} at t (λ lt. also.same t lt before)
+      (λ le. let e : at ≡ t = omega (arith, ints, ge, le) in subst (λ (u : ℤ). SameAt Set at u) e ((λ h. h), (λ h. h))))))
+    where
+      begins : SameAt Set s at
+      begins = told first.holds stay.holds (Set s) (Set at) is.holds also.holds (sym same)
+
+      trans : (t : ℤ) → SameAt Set at t → SameAt Set s t
+      trans t q = ((λ h. q.0 (begins.0 h)), (λ h. begins.1 (q.1 h)))
+
+  decided : (a b : Bool) (P Q : Type 0) → IsTrue a ↔ P → IsTrue b ↔ Q → (a ≡ b → ⊥) → ((P → ⊥) ↔ (Q → ⊥)) → ⊥
+  decided true true P Q p q not e = not refl
+  decided false false P Q p q not e = not refl
+  decided true false P Q p q not e = (e.1 (λ h. absurd (let t = q.1 h in cc))) (p.0 refl)
+  decided false true P Q p q not e = (e.0 (λ h. absurd (let t = p.1 h in cc))) (q.0 refl)
+
+  -- it changes where the next begins in another state
+  pub changes_at : (first stay : Stay) (at : ℤ) → IsStay Set s last first → IsStay Set at last stay
+      → (stay.holds ≡ first.holds → ⊥) → s <ℤ at → at <ℤ last → NeverChanges (IsOpen rows element direction vehicle) s at
+      → IsNextChange (IsOpen rows element direction vehicle) s last at
+  changes_at first stay at is also differ later within never = record {
+    later = later;
+    within = within;
+    differs = λ e. decided first.holds stay.holds (Set s) (Set at) is.holds also.holds (λ h. differ (sym h)) e;
+    least = never;
+  }
