@@ -1,3 +1,4 @@
+pub mod ExtentLemmas
 pub mod Shapes
 pub mod Unions
 pub mod Weekly

@@ -7,12 +7,14 @@
 
 pub use cursor::Cursor;
 pub use ever::{EverFault, next_change_ever};
+pub use extent::{Extent, extent_of};
 pub use membership::holds;
 pub use node::Node;
 pub use queries::{next_change, spans};
 
 mod cursor;
 mod ever;
+mod extent;
 pub mod laws;
 mod membership;
 mod node;
