@@ -68,10 +68,13 @@ pub varied-late : (tree : Tree) (middle until : ℤ) (found : Bool) → SomeGive
     → NeverChanges (InTree tree) first_second until
     → IsChanging (InTree tree) middle (horizons_end *ℤ pos day_seconds) found
     → IsVaried tree first_second found
-varied-late tree middle until true y after before never c =
-    (c.0, (λ y. (omega (arith, ints, after, c.1), c.2)), (λ same. c.3
-    (same-next (InTree tree) middle first_second c.0
-    ((never middle after before).1, (never middle after before).0) same)))
+varied-late tree middle until true y after before never c = (
+  c.0,
+  (λ y. (omega (arith, ints, after, c.1), c.2)),
+  (λ same. c.3
+      (same-next (InTree tree) middle first_second c.0
+      ((never middle after before).1, (never middle after before).0) same)),
+)
 varied-late tree middle until false y after before never c = λ t looked.
     let inside : IsHorizonSecond t = looked y in
     by_lt_z {P = SameAt (InTree tree) first_second t} first_second t (λ lt.

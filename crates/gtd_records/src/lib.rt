@@ -15,6 +15,7 @@ pub use reading::read_records;
 pub use record::Record;
 pub use schedule::{open_seconds, schedule_of};
 pub use vehicles::{Codes, Vehicles};
+pub use warnings::{Warning, warnings_of};
 
 mod column;
 mod direction;
@@ -30,3 +31,4 @@ mod row;
 mod schedule;
 mod table;
 mod vehicles;
+mod warnings;
