@@ -6,8 +6,8 @@ use crate::{is_closed_for_eleven, migrate, schedule_of_eleven};
 use gtd_roads::{
     Direction, Horizon, HorizonFault, Host, HostOut, Input, InputFault, MemoryIn, MemoryOut,
     Migration, Output, Pull, Put, RecordFault, Records, RunFault, Schedule, Sec, Span, SpanSource,
-    YearTable, open_seconds, read_direction, read_faults, read_number, read_records, read_whole,
-    run_migrate, run_report, run_schedule, run_year, schedule_of,
+    YearTable, faults_of, open_seconds, read_direction, read_faults, read_number, read_records,
+    read_whole, run_migrate, run_report, run_schedule, run_year, schedule_of,
 };
 use std::alloc::Global;
 use std::process::Abort;
@@ -121,6 +121,7 @@ fn records_of_a_file(rt: HostRuntime) -> Result<(), Fail> {
     let rows = found.closing_rows(alloc, 17, Direction::Negative, 11, ten)?;
     assert_eq!(rt; rows.as_slice(), [2].as_slice());
     assert!(rt; read_faults(alloc, &mut file(&rt, alloc, None))?.is_empty());
+    assert_eq!(rt; faults_of(alloc, b"")?.len(), 1);
     Ok(())
 }
 

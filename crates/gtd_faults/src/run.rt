@@ -2,16 +2,15 @@
 
 ghost use Rattle.std.specs.Prelude.{◌≡◌, ◌≢◌, ◌⊎◌, ◌<◌, IfErr, IfOk, IfSome, IsErrOf, IsTrue, OnErr, OnOk};
 ghost use Rattle.std.specs.Io.KnownBytes.{Appends, Keeps};
-ghost use Rattle.gtd_records.specs.Faults.{AreFileFaults};
 ghost use Rattle.gtd_faults.specs.Run.{HasListed, HasPut, TookSome, failures_after_listing, failures_after_reading};
 
 use crate::lines::lines_of;
 use crate::list_fault::{ListFault, fault_of_input};
 use gtd_core::limits::MOST_FILE_BYTES;
-use gtd_devices::{Input, InputFault, MemoryIn, Output, read_whole};
-use gtd_records::{RecordFault, read_faults};
+use gtd_devices::{Input, InputFault, Output, read_whole};
+use gtd_records::{RecordFault, faults_of};
 use gtd_runs::{Progress, finish, put_line};
-use std::alloc::{AllocError, Global};
+use std::alloc::Global;
 
 // Puts a text, and ends the output.
 fn put_text<O: Output>(output: &mut O, text: &str) -> Result<(), ListFault>
@@ -55,18 +54,6 @@ fn put_faults<O: Output>(
     match put_text(output, text.as_str()) {
         Ok(()) => Ok(faults.len()),
         Err(why) => Err(why),
-    }
-}
-
-// All faults of a file with these bytes. Reading bytes in memory does not fail, so only memory may be refused.
-fn faults_of(alloc: Global, bytes: &[u8]) -> Result<Vec<RecordFault>, AllocError>
-    ensures { IfOk result (λ faults. AreFileFaults bytes.now faults.items) }
-{
-    let copy = Vec::from_slice(alloc, bytes)?;
-    let mut input = MemoryIn::new(copy, 4_096, None, None);
-    match read_faults(alloc, &mut input) {
-        Ok(faults) => Ok(faults),
-        Err(_) => Err(AllocError),
     }
 }
 

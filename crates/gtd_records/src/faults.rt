@@ -93,10 +93,21 @@ fn faults_of_table(alloc: Global, bytes: &[u8]) -> Result<Vec<RecordFault>, Allo
     }
 }
 
-/// All faults of the file that an input brings. Each row that stands for no restriction has its first fault in the
-/// list, and `TooManyRows` comes after the faults of the first 65,536 rows. `TooLarge` or `Header` is the only fault of
-/// its file. The list is empty exactly if the file is accepted. The whole input is pulled first: `ReadFault`, `Endless`
-/// and `NoMemory` are answered as by [`crate::read_records`]. Before the call, the input's failures must be below
+/// All faults of a file with these bytes. Each row that stands for no restriction has its first fault in the list, and
+/// `TooManyRows` comes after the faults of the first 65,536 rows. `TooLarge`, for more than 16,777,216 bytes, or `Header`
+/// is the only fault of its file. The list is empty exactly if the file is accepted. `AllocError` is answered only if
+/// memory was refused.
+pub fn faults_of(alloc: Global, bytes: &[u8]) -> Result<Vec<RecordFault>, AllocError>
+    ensures file { IfOk result (λ faults. AreFileFaults bytes.now faults.items) }
+{
+    if bytes.len() > MOST_FILE_BYTES {
+        return alone(alloc, RecordFault::TooLarge);
+    }
+    faults_of_table(alloc, bytes)
+}
+
+/// All faults of the file that an input brings, as [`faults_of`] lists them. The whole input is pulled first: `ReadFault`,
+/// `Endless` and `NoMemory` are answered as by [`crate::read_records`]. Before the call, the input's failures must be below
 /// `u64::MAX`.
 pub fn read_faults<I: Input>(alloc: Global, input: &mut I) -> Result<Vec<RecordFault>, InputFault>
     requires countable { I.failure_count input.old < u64.MAX }
@@ -108,7 +119,7 @@ pub fn read_faults<I: Input>(alloc: Global, input: &mut I) -> Result<Vec<RecordF
     ensures endless { IsErrOf result InputFault.Endless → IsTrue (I.may_fall_silent input.old) }
 {
     match read_whole(alloc, input, MOST_FILE_BYTES) {
-        Ok(bytes) => match faults_of_table(alloc, bytes.as_slice()) {
+        Ok(bytes) => match faults_of(alloc, bytes.as_slice()) {
             Ok(faults) => Ok(faults),
             Err(_) => Err(InputFault::NoMemory),
         },

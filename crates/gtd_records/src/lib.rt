@@ -9,7 +9,7 @@
 pub use column::{read_direction, read_number};
 pub use direction::{Closed, Direction};
 pub use fault::RecordFault;
-pub use faults::read_faults;
+pub use faults::{faults_of, read_faults};
 pub use index::Records;
 pub use reading::read_records;
 pub use record::Record;

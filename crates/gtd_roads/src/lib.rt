@@ -11,8 +11,8 @@ pub use gtd_devices::{
 };
 pub use gtd_migrate::{Migration, run_migrate};
 pub use gtd_records::{
-    Closed, Codes, Direction, Record, RecordFault, Records, Vehicles, open_seconds, read_direction,
-    read_faults, read_number, read_records, schedule_of,
+    Closed, Codes, Direction, Record, RecordFault, Records, Vehicles, faults_of, open_seconds,
+    read_direction, read_faults, read_number, read_records, schedule_of,
 };
 pub use gtd_runs::{Report, RunFault, Subject, run_report};
 pub use gtd_schedule::{Schedule, run_schedule};

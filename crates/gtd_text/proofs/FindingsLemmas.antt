@@ -3,6 +3,7 @@ use Rattle.std.proofs.Common.{◌≡◌, ℕ, ◌+◌, ◌≤◌, Bool, true, fa
 use Rattle.std.proofs.Common.{sym, ap, ◌∙◌, inr, append_assoc, arith}
 use Rattle.std.specs.Prelude.{MatchOption, nat_lt}
 use Rattle.std.proofs.lemmas.List.{append-nil}
+use Rattle.std.specs.Option.{option_or}
 use Rattle.gtd_core.specs.declared.fault.Fault.{Fault}
 use Rattle.gtd_core.specs.declared.fault.TextFault.{TextFault}
 use Rattle.gtd_text.specs.declared.check.findings.Findings.{Findings}
@@ -17,7 +18,7 @@ use Rattle.gtd_text.specs.Findings.{findings_with, no_findings, first_of}
 use Rattle.gtd_text.specs.FirstFault.{fields_at_front, is_too_long}
 use Rattle.gtd_text.specs.Fitting.{fits}
 use Rattle.gtd_text.specs.Found.{IsReadable, depth_after, count_after, too_deep_after, too_many_after, fault_after, too_long}
-use Rattle.gtd_text.specs.Found.{or_else, fault_of_tokens}
+use Rattle.gtd_text.specs.Found.{fault_of_tokens}
 use Rattle.gtd_text.specs.Lexing.{AreTokens, kinds}
 use Rattle.gtd_text.specs.Reading.{IsFault}
 use Rattle.gtd_text.specs.Summary.{seen, seen_with, takes, misfit}
@@ -27,20 +28,20 @@ use Rattle.gtd_text.proofs.SeenLemmas.{takes_agrees, misfit_agrees, seen_more}
 
 -- ---- the first fault of two
 
-or_assoc : (a b c : Option TextFault) → or_else (or_else a b) c ≡ or_else a (or_else b c)
+or_assoc : (a b c : Option TextFault) → option_or (option_or a b) c ≡ option_or a (option_or b c)
 or_assoc None b c = refl
 or_assoc (Some fault) b c = refl
 
-or_none : (a : Option TextFault) → or_else a None ≡ a
+or_none : (a : Option TextFault) → option_or a None ≡ a
 or_none None = refl
 or_none (Some fault) = refl
 
-chosen : (b : Bool) (fault : TextFault) (later : Option TextFault) → or_else (cond b (Some fault) None) later
+chosen : (b : Bool) (fault : TextFault) (later : Option TextFault) → option_or (cond b (Some fault) None) later
     ≡ cond b (Some fault) later
 chosen true fault later = refl
 chosen false fault later = refl
 
-chosen_not : (b : Bool) (fault : TextFault) (later : Option TextFault) → or_else (cond b None (Some fault)) later
+chosen_not : (b : Bool) (fault : TextFault) (later : Option TextFault) → option_or (cond b None (Some fault)) later
     ≡ cond b later (Some fault)
 chosen_not true fault later = refl
 chosen_not false fault later = refl
@@ -48,24 +49,24 @@ chosen_not false fault later = refl
 -- ---- one more token, for each kind of fault
 
 too_deep_more : (found : Option TextFault) (depth : ℕ) (token : Token) (more : List Token)
-    → or_else (or_else found (too_deep_at (depth_after depth token.kind) token.from))
-    (too_deep_after (depth_after depth token.kind) more) ≡ or_else found (too_deep_after depth (token ∷ more))
+    → option_or (option_or found (too_deep_at (depth_after depth token.kind) token.from))
+    (too_deep_after (depth_after depth token.kind) more) ≡ option_or found (too_deep_after depth (token ∷ more))
 too_deep_more (Some fault) depth token more = refl
 too_deep_more None depth token more = chosen (nat_lt 128 (depth_after depth token.kind)) _ _
 
 too_many_more : (found : Option TextFault) (count : ℕ) (token : Token) (more : List Token)
-    → or_else (or_else found (too_many_at (count_after count token.kind) token.from))
-    (too_many_after (count_after count token.kind) more) ≡ or_else found (too_many_after count (token ∷ more))
+    → option_or (option_or found (too_many_at (count_after count token.kind) token.from))
+    (too_many_after (count_after count token.kind) more) ≡ option_or found (too_many_after count (token ∷ more))
 too_many_more (Some fault) count token more = refl
 too_many_more None count token more = chosen (nat_lt 128 (count_after count token.kind)) _ _
 
 misfit_more : (end : ℕ) (found : Option TextFault) (now : Seen) (before : List TokenKind) (token : Token) (more : List Token)
-    → now ≡ seen before → or_else (or_else found (misfit_at now token)) (fault_after end (token.kind ∷ before) more)
-    ≡ or_else found (fault_after end before (token ∷ more))
+    → now ≡ seen before → option_or (option_or found (misfit_at now token)) (fault_after end (token.kind ∷ before) more)
+    ≡ option_or found (fault_after end before (token ∷ more))
 misfit_more end (Some fault) now before token more known = refl
 misfit_more end None now before token more known =
     let make : Bool → Fault → Option TextFault =
-    λ b k. or_else (cond b None (Some (record { kind = k; place = token.from }))) (fault_after end (token.kind ∷ before) more) in
+    λ b k. option_or (cond b None (Some (record { kind = k; place = token.from }))) (fault_after end (token.kind ∷ before) more) in
     ap (λ (s : Seen). make (takes s token.kind) (misfit s token.kind)) known
     ∙ ap (λ (b : Bool). make b (misfit (seen before) token.kind)) (takes_agrees before token.kind)
     ∙ ap (make (fits before token.kind)) (misfit_agrees before token.kind)
@@ -75,32 +76,32 @@ misfit_more end None now before token more known =
 abbrev pub too_long_from : Option OpenDuration → List Token → Option TextFault
 too_long_from None more = too_long more
 too_long_from (Some duration) more =
-    or_else (fault_of_opened (Some (record {
+    option_or (fault_of_opened (Some (record {
       place = duration.place;
       parts = with_duration_fields duration.parts (fields_at_front (kinds more));
     }))) (too_long more)
 
 too_long_at : (found : Option TextFault) (opened : Option OpenDuration) (kind : TokenKind) (from to : ℕ) (more : List Token)
-    → or_else (too_long_with found opened kind) (too_long_from (opened_after opened kind from) more)
-    ≡ or_else found (too_long_from opened (record { kind = kind; from = from; to = to } ∷ more))
+    → option_or (too_long_with found opened kind) (too_long_from (opened_after opened kind from) more)
+    ≡ option_or found (too_long_from opened (record { kind = kind; from = from; to = to } ∷ more))
 too_long_at found None (Field letter value digits) from to more = refl
 too_long_at found (Some duration) (Field letter value digits) from to more =
-    ap (λ (fields : List TokenKind). or_else found (or_else (fault_of_opened (Some (record {
+    ap (λ (fields : List TokenKind). option_or found (option_or (fault_of_opened (Some (record {
       place = duration.place;
       parts = with_duration_fields duration.parts fields;
     }))) (too_long more))) (sym (fields_more letter value digits (kinds more)))
 too_long_at found None OpenBrace from to more =
-    or_assoc found None _ ∙ ap (or_else found) (chosen (is_too_long (fields_at_front (kinds more))) _ _)
+    or_assoc found None _ ∙ ap (option_or found) (chosen (is_too_long (fields_at_front (kinds more))) _ _)
 too_long_at found (Some duration) OpenBrace from to more =
     or_assoc found (fault_of_opened (Some duration)) _
-    ∙ ap (λ (x : Option TextFault). or_else found (or_else (fault_of_opened (Some duration)) x))
+    ∙ ap (λ (x : Option TextFault). option_or found (option_or (fault_of_opened (Some duration)) x))
     (chosen (is_too_long (fields_at_front (kinds more))) _ _)
 too_long_at found None sign from to more = or_assoc found None _
 too_long_at found (Some duration) sign from to more = or_assoc found (fault_of_opened (Some duration)) _
 
 too_long_more : (found : Option TextFault) (opened : Option OpenDuration) (token : Token) (more : List Token)
-    → or_else (too_long_with found opened token.kind) (too_long_from (opened_after opened token.kind token.from) more)
-    ≡ or_else found (too_long_from opened (token ∷ more))
+    → option_or (too_long_with found opened token.kind) (too_long_from (opened_after opened token.kind token.from) more)
+    ≡ option_or found (too_long_from opened (token ∷ more))
 too_long_more found opened token more = too_long_at found opened token.kind token.from token.to more
 
 -- ---- all of them
@@ -108,9 +109,9 @@ too_long_more found opened token more = too_long_at found opened token.kind toke
 -- the first fault, where these tokens are still to come
 abbrev pub found_from : ℕ → List TokenKind → Findings → List Token → Option TextFault
 found_from end before now more =
-    or_else (or_else (or_else (or_else now.too_deep (too_deep_after now.seen.depth more))
-    (or_else now.too_many (too_many_after now.count more))) (or_else now.misfit (fault_after end before more)))
-    (or_else now.too_long (too_long_from now.opened more))
+    option_or (option_or (option_or (option_or now.too_deep (too_deep_after now.seen.depth more))
+    (option_or now.too_many (too_many_after now.count more))) (option_or now.misfit (fault_after end before more)))
+    (option_or now.too_long (too_long_from now.opened more))
 
 found_more : (end : ℕ) (before : List TokenKind) (now : Findings) (token : Token) (more : List Token) → now.seen ≡ seen before
     → found_from end (token.kind ∷ before) (findings_with now token) more ≡ found_from end before now (token ∷ more)

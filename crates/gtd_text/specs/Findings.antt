@@ -1,6 +1,7 @@
 -- What the check keeps in one pass over the tokens: the first fault of each kind so far, and what finds later ones. It
 -- defines no fault: `FirstFault` does, and it is proved that both say the same.
 use Rattle.std.specs.Prelude.{ℕ, [], Option, Some, None, nat_lt, if◌then◌else◌}
+use Rattle.std.specs.Option.{option_or}
 use Rattle.gtd_core.specs.Limits.{most_bound, most_basic_domains, most_depth}
 use Rattle.gtd_core.specs.Ranges.{bound_of}
 use Rattle.gtd_core.specs.declared.fault.Fault.TheVariants as faults
@@ -12,7 +13,7 @@ use Rattle.gtd_text.specs.declared.check.findings.Findings.{Findings}
 use Rattle.gtd_text.specs.declared.check.grammar.Seen.{Seen}
 use Rattle.gtd_text.specs.declared.check.limits.OpenDuration.{OpenDuration}
 use Rattle.gtd_text.specs.Grammar.{with_duration_field, zero_parts}
-use Rattle.gtd_text.specs.Found.{count_after, depth_after, or_else}
+use Rattle.gtd_text.specs.Found.{count_after, depth_after}
 use Rattle.gtd_text.specs.Summary.{seen, seen_with, takes, misfit, ends}
 
 -- The fault of a token after which this many brackets are open, or this many parentheses have opened.
@@ -54,7 +55,7 @@ opened_after opened sign place = None
 -- The first fault of a duration: a sign ends the one that is open.
 abbrev pub too_long_with : Option TextFault → Option OpenDuration → TokenKind → Option TextFault
 too_long_with found opened (Field letter value digits) = found
-too_long_with found opened sign = or_else found (fault_of_opened opened)
+too_long_with found opened sign = option_or found (fault_of_opened opened)
 
 -- Before any token is read.
 abbrev pub no_findings : Findings
@@ -74,14 +75,14 @@ findings_with before token = record {
   seen = seen_with before.seen token.kind;
   count = count_after before.count token.kind;
   opened = opened_after before.opened token.kind token.from;
-  too_deep = or_else before.too_deep (too_deep_at (depth_after before.seen.depth token.kind) token.from);
-  too_many = or_else before.too_many (too_many_at (count_after before.count token.kind) token.from);
-  misfit = or_else before.misfit (misfit_at before.seen token);
+  too_deep = option_or before.too_deep (too_deep_at (depth_after before.seen.depth token.kind) token.from);
+  too_many = option_or before.too_many (too_many_at (count_after before.count token.kind) token.from);
+  misfit = option_or before.misfit (misfit_at before.seen token);
   too_long = too_long_with before.too_long before.opened token.kind;
 }
 
 -- The first fault, if the text ends here.
 abbrev pub first_of : ℕ → Findings → Option TextFault
 first_of end findings =
-    or_else (or_else (or_else findings.too_deep findings.too_many) (or_else findings.misfit (incomplete_at findings.seen end)))
-    (or_else findings.too_long (fault_of_opened findings.opened))
+    option_or (option_or (option_or findings.too_deep findings.too_many) (option_or findings.misfit (incomplete_at findings.seen end)))
+    (option_or findings.too_long (fault_of_opened findings.opened))

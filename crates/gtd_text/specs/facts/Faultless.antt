@@ -3,6 +3,7 @@ use Rattle.std.proofs.Common.{◌≡◌, ℕ, ◌+◌, ◌-◌, ◌≤◌, Bool,
 use Rattle.std.proofs.Common.{refl, sym, ap, subst, ◌∙◌, arith}
 use Rattle.std.specs.Prelude.{nat_lt, is_some}
 use Rattle.std.proofs.lemmas.Bool.{le-ltb}
+use Rattle.std.specs.Option.{option_or}
 use Rattle.gtd_core.specs.declared.fault.TextFault.{TextFault}
 use Rattle.gtd_core.specs.declared.domain.Op.{Op}
 use Rattle.gtd_core.specs.declared.domain.Op.TheVariants.{Union, Meet, Minus as OpMinus}
@@ -17,7 +18,7 @@ use Rattle.gtd_text.specs.Grammar.{fits_start, fits_duration, all_fit_start, all
 use Rattle.gtd_text.specs.Grammar.{Level, Sum, Product, Item, Stands, basic, bracketed, item, meet, product, union, minus}
 use Rattle.gtd_text.specs.Grammar.{basic_tokens}
 use Rattle.gtd_text.specs.Fitting.{fits, may_end}
-use Rattle.gtd_text.specs.Found.{fault_after, depth_after, too_deep_after, count_after, too_many_after, too_long, or_else}
+use Rattle.gtd_text.specs.Found.{fault_after, depth_after, too_deep_after, count_after, too_many_after, too_long}
 use Rattle.gtd_text.specs.Found.{fault_of_tokens}
 use Rattle.gtd_text.specs.facts.Linked.{all_fit, all_fit_builds}
 use Rattle.gtd_text.specs.FirstFault.{is_too_long, opens_too_long}
@@ -247,7 +248,7 @@ stands_fit tokens e d = all_fit_builds tokens ∙ ap is_some (builds_whole token
 
 -- ---- all together
 
-none_of_both : (first later : Option TextFault) → first ≡ None → later ≡ None → or_else first later ≡ None
+none_of_both : (first later : Option TextFault) → first ≡ None → later ≡ None → option_or first later ≡ None
 none_of_both None later e h = h
 none_of_both (Some fault) later e h = absurd cc
 
@@ -259,9 +260,9 @@ no_fault_of_tokens len tokens e d h few deep =
     let many = not_too_many 0 tokens (omega (arith, opened, few)) in
     let fit = fits_no_fault len [] tokens (stands_fit (kinds tokens) e d) in
     let long = not_too_long tokens (none_long Sum (kinds tokens) e d h) in
-    none_of_both (or_else (or_else (too_deep_after 0 tokens) (too_many_after 0 tokens)) (fault_after len [] tokens))
+    none_of_both (option_or (option_or (too_deep_after 0 tokens) (too_many_after 0 tokens)) (fault_after len [] tokens))
     (too_long tokens)
-    (none_of_both (or_else (too_deep_after 0 tokens) (too_many_after 0 tokens)) (fault_after len [] tokens)
+    (none_of_both (option_or (too_deep_after 0 tokens) (too_many_after 0 tokens)) (fault_after len [] tokens)
     (none_of_both (too_deep_after 0 tokens) (too_many_after 0 tokens) deep many) fit) long
 
 pub canonical_faultless : (e : Tree) → AreValid e → leaf_count e ≤ 128 → HasNoFault (canonical e)

@@ -2,13 +2,14 @@
 use Rattle.std.proofs.Common.{◌≡◌, ℕ, Bool, true, false, cond, List, [], ◌∷◌, length, Option, Some, None, refl, sym, ap, ◌∙◌}
 use Rattle.std.proofs.Common.{◌≤◌, subst, Result, Ok, Err, ◌⊎◌, inl, inr, arith}
 use Rattle.std.specs.Prelude.{◌&&◌, is_some, IfOk, IfErr, MatchResult}
+use Rattle.std.specs.Option.{option_or}
 use Rattle.gtd_core.specs.declared.fault.TextFault.{TextFault}
 use Rattle.gtd_core.specs.declared.fault.Fault.{Fault}
 use Rattle.gtd_core.specs.Trees.{Tree, AreValid, leaf_count}
 use Rattle.gtd_text.specs.declared.token.Token.{Token}
 use Rattle.gtd_text.specs.declared.token.TokenKind.{TokenKind}
 use Rattle.gtd_text.specs.Fitting.{fits, may_end}
-use Rattle.gtd_text.specs.Found.{fault_after, or_else, fault_of_tokens, too_deep_after, too_many_after, too_long}
+use Rattle.gtd_text.specs.Found.{fault_after, fault_of_tokens, too_deep_after, too_many_after, too_long}
 use Rattle.gtd_text.specs.facts.Linked.{all_fit, all_fit_builds}
 use Rattle.gtd_text.specs.Lexing.{AreTokens, IsFaultAt, IsTokenFault, kinds}
 use Rattle.gtd_text.specs.Grammar.{Stands, Sum}
@@ -44,7 +45,7 @@ pub some_is : {A : Type 0} (o : Option A) → is_some o ≡ true → (x : A) × 
 some_is (Some x) h = (x, refl)
 some_is None h = absurd cc
 
-both_none : (first later : Option TextFault) → or_else first later ≡ None → (first ≡ None) × (later ≡ None)
+both_none : (first later : Option TextFault) → option_or first later ≡ None → (first ≡ None) × (later ≡ None)
 both_none None later e = (refl, e)
 both_none (Some fault) later e = absurd cc
 
@@ -59,9 +60,9 @@ pub record Readable (tokens : List Token) : Type 0 where
 pub readable : (text : List ℕ) (tokens : List Token) (len : ℕ) → AreTokens text tokens → fault_of_tokens len tokens ≡ None
     → Readable tokens
 readable text tokens len are none =
-    let last = both_none (or_else (or_else (too_deep_after 0 tokens) (too_many_after 0 tokens)) (fault_after len [] tokens))
+    let last = both_none (option_or (option_or (too_deep_after 0 tokens) (too_many_after 0 tokens)) (fault_after len [] tokens))
     (too_long tokens) none in
-    let middle = both_none (or_else (too_deep_after 0 tokens) (too_many_after 0 tokens)) (fault_after len [] tokens) last.0 in
+    let middle = both_none (option_or (too_deep_after 0 tokens) (too_many_after 0 tokens)) (fault_after len [] tokens) last.0 in
     let limits = both_none (too_deep_after 0 tokens) (too_many_after 0 tokens) middle.0 in
     let fit = no_fault_fits len [] tokens middle.1 in
     let found = some_is (build at_front (kinds tokens)) (sym (all_fit_builds (kinds tokens)) ∙ fit) in

@@ -4,6 +4,7 @@ use Rattle.std.proofs.Common.{None, refl, sym, subst, ap, ◌∙◌, arith, inl,
 use Rattle.std.specs.Prelude.{nat_lt, ◌==◌, ◌&&◌, is_some}
 use Rattle.std.proofs.lemmas.Bool.{cases_eq, ne_eqb, le-ltb, lt-ltb}
 use Rattle.std.proofs.lemmas.List.{reverse-append, append-nil}
+use Rattle.std.specs.Option.{option_or}
 use Rattle.gtd_core.specs.declared.fault.Fault.{Fault}
 use Rattle.gtd_core.specs.declared.fault.Fault.TheVariants as faults
 use Rattle.gtd_core.specs.declared.fault.TextFault.{TextFault}
@@ -15,7 +16,7 @@ use Rattle.gtd_text.specs.FirstFault.{IsFirst, IsMisfit, IsFirstFault, too_deep,
 use Rattle.gtd_text.specs.FirstFault.{depth, fault_of, opens_too_long, GoesOn}
 use Rattle.gtd_text.specs.Fitting.{grammar_fault, fits, may_end}
 use Rattle.gtd_text.specs.Found.{fault_after, depth_after, count_after, too_deep_after, too_many_after, too_long as long_of}
-use Rattle.gtd_text.specs.Found.{or_else, fault_of_tokens}
+use Rattle.gtd_text.specs.Found.{fault_of_tokens}
 use Rattle.gtd_text.specs.Lexing.{kinds, newest_first}
 use Rattle.gtd_text.specs.facts.Builds.{turned, and_left, and_right, builds_whole}
 use Rattle.gtd_text.specs.Grammar.{Stands, Sum}
@@ -277,13 +278,13 @@ ended len b = cond b None (Some (record { kind = faults.Incomplete; place = len 
 abbrev pub ending : ℕ → List TokenKind → Option TextFault
 ending len before = ended len (may_end before)
 
-fit_token : (c : Bool) (token : Token) (kind : Fault) (x y z : Option TextFault) → x ≡ or_else y z
-    → cond c x (Some (record { kind = kind; place = token.from })) ≡ or_else (at token (cond c None (Some kind)) y) z
+fit_token : (c : Bool) (token : Token) (kind : Fault) (x y z : Option TextFault) → x ≡ option_or y z
+    → cond c x (Some (record { kind = kind; place = token.from })) ≡ option_or (at token (cond c None (Some kind)) y) z
 fit_token true token kind x y z h = h
 fit_token false token kind x y z h = refl
 
 fit_scan : (len : ℕ) (b : List TokenKind) (tokens : List Token) → fault_after len b tokens
-    ≡ or_else (scan grammar_fault b tokens) (ending len (turned b (kinds tokens)))
+    ≡ option_or (scan grammar_fault b tokens) (ending len (turned b (kinds tokens)))
 fit_scan len b [] = refl
 fit_scan len b (t ∷ ts) =
     fit_token (fits b t.kind) t (fault_of b t.kind) (fault_after len (t.kind ∷ b) ts) (scan grammar_fault (t.kind ∷ b) ts)
@@ -296,8 +297,8 @@ long_scan b (t ∷ ts) = both_ways (opens_too_long t.kind (kinds ts)) (opens_too
 
 -- the grammar's fault is the first token that does not fit, or else that the tokens end too early
 pub fit_fault : (len : ℕ) (tokens : List Token) → fault_after len [] tokens
-    ≡ or_else (scan grammar_fault [] tokens) (ending len (newest_first tokens))
-fit_fault len tokens = fit_scan len [] tokens ∙ ap (λ (l : List TokenKind). or_else (scan grammar_fault [] tokens) (ending len l))
+    ≡ option_or (scan grammar_fault [] tokens) (ending len (newest_first tokens))
+fit_fault len tokens = fit_scan len [] tokens ∙ ap (λ (l : List TokenKind). option_or (scan grammar_fault [] tokens) (ending len l))
     (newest tokens)
 
 -- ---- a token at fault by the grammar is the first with which no expression goes on
@@ -459,7 +460,7 @@ data Deciding (a b c d e : Option TextFault) (fault : TextFault) : Type 0 where
   by_d : a ≡ None → b ≡ None → c ≡ None → d ≡ Some fault → Deciding a b c d e fault
   by_e : a ≡ None → b ≡ None → c ≡ None → d ≡ None → e ≡ Some fault → Deciding a b c d e fault
 
-deciding : (a b c d e : Option TextFault) (fault : TextFault) → or_else (or_else (or_else a b) (or_else c d)) e ≡ Some fault
+deciding : (a b c d e : Option TextFault) (fault : TextFault) → option_or (option_or (option_or a b) (option_or c d)) e ≡ Some fault
     → Deciding a b c d e fault
 deciding (Some f) b c d e fault h = by_a h
 deciding None (Some f) c d e fault h = by_b refl h
@@ -468,17 +469,17 @@ deciding None None None (Some f) e fault h = by_d refl refl refl h
 deciding None None None None e fault h = by_e refl refl refl refl h
 
 abbrev chain : Option TextFault → Option TextFault → Option TextFault → Option TextFault → Option TextFault → Option TextFault
-chain a b c d e = or_else (or_else (or_else a b) (or_else c d)) e
+chain a b c d e = option_or (option_or (option_or a b) (option_or c d)) e
 
 phases : (len : ℕ) (tokens : List Token) → fault_of_tokens len tokens
     ≡ chain (scan bracket_fault [] tokens) (scan parenthesis_fault [] tokens) (scan grammar_fault [] tokens)
     (ending len (newest_first tokens)) (scan brace_fault [] tokens)
 phases len tokens =
-    ap (λ (o : Option TextFault). or_else (or_else (or_else o (too_many_after 0 tokens)) (fault_after len [] tokens))
+    ap (λ (o : Option TextFault). option_or (option_or (option_or o (too_many_after 0 tokens)) (fault_after len [] tokens))
     (long_of tokens)) (deep_scan [] tokens (omega arith))
-    ∙ ap (λ (o : Option TextFault). or_else (or_else (or_else (scan bracket_fault [] tokens) o) (fault_after len [] tokens))
+    ∙ ap (λ (o : Option TextFault). option_or (option_or (option_or (scan bracket_fault [] tokens) o) (fault_after len [] tokens))
     (long_of tokens)) (many_scan [] tokens (omega arith))
-    ∙ ap (λ (o : Option TextFault). or_else (or_else (or_else (scan bracket_fault [] tokens) (scan parenthesis_fault [] tokens))
+    ∙ ap (λ (o : Option TextFault). option_or (option_or (option_or (scan bracket_fault [] tokens) (scan parenthesis_fault [] tokens))
     o) (long_of tokens)) (fit_fault len tokens)
     ∙ ap (λ (o : Option TextFault). chain (scan bracket_fault [] tokens) (scan parenthesis_fault [] tokens)
     (scan grammar_fault [] tokens) (ending len (newest_first tokens)) o) (long_scan [] tokens)
@@ -551,11 +552,11 @@ first_found len tokens fault h = phases len tokens ∙ chosen _ _ _ _ _ fault (d
 pub no_misfit : (len : ℕ) (tokens : List Token) → IsClean grammar_fault tokens → may_end (newest_first tokens) ≡ true
     → fault_after len [] tokens ≡ None
 no_misfit len tokens h e =
-    fit_fault len tokens ∙ ap (λ (o : Option TextFault). or_else o (ending len (newest_first tokens)))
+    fit_fault len tokens ∙ ap (λ (o : Option TextFault). option_or o (ending len (newest_first tokens)))
     (scans_clean grammar_fault tokens h)
     ∙ ending_none len (may_end (newest_first tokens)) e
 
-both_none : (a b : Option TextFault) → or_else a b ≡ None → (a ≡ None) × (b ≡ None)
+both_none : (a b : Option TextFault) → option_or a b ≡ None → (a ≡ None) × (b ≡ None)
 both_none None b e = (refl, e)
 both_none (Some f) b e = absurd cc
 

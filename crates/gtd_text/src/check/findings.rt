@@ -1,7 +1,6 @@
 //! What the check finds in one pass over the tokens.
 
 ghost use Rattle.std.specs.Prelude.{◌≡◌, ◌≤◌, ◌<◌, ◌+◌, ◌^◌};
-ghost use Rattle.gtd_text.specs.Found.{or_else};
 ghost use Rattle.gtd_text.specs.Findings.{no_findings, findings_with, misfit_at, incomplete_at, first_of};
 
 use crate::check::grammar::Seen;
@@ -45,13 +44,13 @@ impl Findings {
         requires count { self.old.count + 1 < 2 ^ 64 }
         ensures { self.new ≡ findings_with self.old token }
     {
-        self.misfit = or_else(self.misfit, misfit_at(self.seen, token));
+        self.misfit = self.misfit.or(misfit_at(self.seen, token));
         self.seen = self.seen.with(token.kind);
         self.count = count_after(self.count, token.kind);
-        self.too_deep = or_else(self.too_deep, too_deep_at(self.seen.depth(), token.from));
-        self.too_many = or_else(self.too_many, too_many_at(self.count, token.from));
+        self.too_deep = self.too_deep.or(too_deep_at(self.seen.depth(), token.from));
+        self.too_many = self.too_many.or(too_many_at(self.count, token.from));
         if !matches!(token.kind, TokenKind::Field { .. }) {
-            self.too_long = or_else(self.too_long, fault_of_opened(self.opened));
+            self.too_long = self.too_long.or(fault_of_opened(self.opened));
         }
         self.opened = opened_after(self.opened, token);
     }
@@ -60,10 +59,10 @@ impl Findings {
     pub fn first(&self, end: usize) -> Option<TextFault>
         ensures { result ≡ first_of end self.now }
     {
-        let limits = or_else(self.too_deep, self.too_many);
-        let grammar = or_else(self.misfit, incomplete_at(self.seen, end));
-        let durations = or_else(self.too_long, fault_of_opened(self.opened));
-        or_else(or_else(limits, grammar), durations)
+        let limits = self.too_deep.or(self.too_many);
+        let grammar = self.misfit.or(incomplete_at(self.seen, end));
+        let durations = self.too_long.or(fault_of_opened(self.opened));
+        limits.or(grammar).or(durations)
     }
 }
 
@@ -92,14 +91,5 @@ fn incomplete_at(seen: Seen, end: usize) -> Option<TextFault>
             kind: Fault::Incomplete,
             place: end,
         })
-    }
-}
-
-fn or_else(fault: Option<TextFault>, later: Option<TextFault>) -> Option<TextFault>
-    ensures { result ≡ or_else fault later }
-{
-    match fault {
-        Some(fault) => Some(fault),
-        None => later,
     }
 }
