@@ -1,5 +1,5 @@
 -- The rows of a record file whose domain never holds, or always.
-use Rattle.std.specs.Prelude.{◌≡◌, ◌≤◌, ◌⊎◌, ℕ, ◌+◌, List, [], ◌∷◌, length, take, Option, Some, None, Result, Ok, Err}
+use Rattle.std.specs.Prelude.{◌≡◌, ◌<◌, ◌≤◌, ◌⊎◌, ℕ, ◌+◌, List, [], ◌∷◌, length, take, Option, Some, None, Result, Ok, Err}
 use Rattle.csv.specs.Reading.{default_config, records, strip_bom}
 use Rattle.gtd_core.specs.Limits.{most_file_bytes, most_rows}
 use Rattle.gtd_core.specs.Trees.{Tree}
@@ -52,6 +52,8 @@ AreTableWarnings text warnings =
     ((v : Version) × (rows : List Fields) × (text ≡ header v ∷ rows) × AreRowWarnings v 1 (take most_rows rows) warnings)
     ⊎ (((v : Version) (rows : List Fields) → text ≡ header v ∷ rows → ⊥) × (warnings ≡ []))
 
--- the warnings of a file's bytes, if there are not too many
-abbrev pub AreWarnings : List ℕ → List Warning → Type 0
-AreWarnings bytes warnings = AreTableWarnings (records default_config (strip_bom bytes)) warnings
+-- the warnings of a file's bytes: none if there are too many bytes
+abbrev pub AreFileWarnings : List ℕ → List Warning → Type 0
+AreFileWarnings bytes warnings =
+    ((length bytes ≤ most_file_bytes) × AreTableWarnings (records default_config (strip_bom bytes)) warnings)
+    ⊎ ((most_file_bytes < length bytes) × (warnings ≡ []))

@@ -8,7 +8,8 @@ ghost use Rattle.gtd_core.specs.Parts.{domain_tree};
 ghost use Rattle.gtd_records.specs.Columns.{Fields};
 ghost use Rattle.gtd_records.specs.Table.{HasLeft};
 ghost use Rattle.gtd_records.specs.Warnings as spec;
-ghost use Rattle.gtd_records.specs.Warnings.{AreRowWarnings, AreWarnings, IsDomainWarning, IsRowWarning};
+ghost use Rattle.gtd_records.specs.Warnings.{AreFileWarnings, AreRowWarnings, AreTableWarnings, IsDomainWarning};
+ghost use Rattle.gtd_records.specs.Warnings.{IsRowWarning};
 
 use crate::fault::RecordFault;
 use crate::file::version_of;
@@ -18,7 +19,7 @@ use crate::table::{next_row, table};
 use crate::vehicles::Version;
 use csv::{ByteRecord, Reader};
 use gtd_core::Domain;
-use gtd_core::limits::MOST_ROWS;
+use gtd_core::limits::{MOST_FILE_BYTES, MOST_ROWS};
 use gtd_eval::{Extent, extent_of};
 use std::alloc::{AllocError, Global};
 
@@ -97,12 +98,10 @@ fn warnings_of_rows(
     Ok(warnings)
 }
 
-/// The warnings of a record file with these bytes, in row order: each row that stands for a restriction, and whose
-/// domain holds at no second or at all. If some start of the domain gives a year, the seconds of the days from
-/// 1901-01-01 to 2699-12-31 count, otherwise those of all time. Rows after the 65,536th are not looked at, and a file
-/// without a header has no warnings.
-pub fn warnings_of(alloc: Global, bytes: &[u8]) -> Result<Vec<Warning>, AllocError>
-    ensures warnings { IfOk result (λ warnings. AreWarnings bytes.now warnings.items) }
+// The warnings of a file's bytes, if there are not too many bytes.
+fn warnings_of_table(alloc: Global, bytes: &[u8]) -> Result<Vec<Warning>, AllocError>
+    ensures { IfOk result
+        (λ warnings. AreTableWarnings (records default_config (strip_bom bytes.now)) warnings.items) }
 {
     let mut reader = table(alloc, bytes);
     let mut row = ByteRecord::new(alloc);
@@ -113,4 +112,17 @@ pub fn warnings_of(alloc: Global, bytes: &[u8]) -> Result<Vec<Warning>, AllocErr
         Some(version) => warnings_of_rows(alloc, version, &mut reader, &mut row),
         None => Ok(Vec::new(alloc)),
     }
+}
+
+/// The warnings of a record file with these bytes, in row order: each row that stands for a restriction, and whose
+/// domain holds at no second or at all. If some start of the domain gives a year, the seconds of the days from
+/// 1901-01-01 to 2699-12-31 count, otherwise those of all time. Rows after the 65,536th are not looked at. A file
+/// without a header, or with too many bytes, has no warnings.
+pub fn warnings_of(alloc: Global, bytes: &[u8]) -> Result<Vec<Warning>, AllocError>
+    ensures warnings { IfOk result (λ warnings. AreFileWarnings bytes.now warnings.items) }
+{
+    if bytes.len() > MOST_FILE_BYTES {
+        return Ok(Vec::new(alloc));
+    }
+    warnings_of_table(alloc, bytes)
 }
