@@ -1,3 +1,4 @@
+pub mod ExtentLemmas
 pub mod Shapes
 pub mod StayDays
 pub mod Unions

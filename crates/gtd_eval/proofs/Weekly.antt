@@ -30,7 +30,7 @@ at-once-week t = omega (arith, ints)
 once-more-week : (t : ℤ) (k : ℕ) → (t +ℤ pos (k * 604800)) +ℤ week ≡ t +ℤ pos ((suc k) * 604800)
 once-more-week t k = omega (arith, ints)
 
-repeats-weekly : (set : ℤ → Type 0) → RepeatsWeekly set → (k : ℕ) (t : ℤ) → set t ↔ set (t +ℤ pos (k * 604800))
+pub repeats-weekly : (set : ℤ → Type 0) → RepeatsWeekly set → (k : ℕ) (t : ℤ) → set t ↔ set (t +ℤ pos (k * 604800))
 repeats-weekly set r zero t = rw at-once-week ((λ h. h), (λ h. h))
 repeats-weekly set r (suc k) t =
     let i = repeats-weekly set r k t in

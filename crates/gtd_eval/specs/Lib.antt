@@ -1,6 +1,7 @@
 pub mod Chains
 pub mod Cursors
 pub mod Ever
+pub mod Extent
 pub mod Membership
 pub mod Names
 pub mod Nodes

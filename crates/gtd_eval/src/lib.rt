@@ -7,6 +7,7 @@
 
 pub use cursor::Cursor;
 pub use ever::{EverFault, next_change_ever};
+pub use extent::{Extent, extent_of};
 pub use membership::holds;
 pub use node::Node;
 pub use queries::{next_change, spans};
@@ -14,6 +15,7 @@ pub use stay::{Stay, stay_of};
 
 mod cursor;
 mod ever;
+mod extent;
 pub mod laws;
 mod membership;
 mod node;

@@ -12,8 +12,9 @@ use Rattle.gtd_records.specs.File.{IsFile, header}
 use Rattle.gtd_records.specs.facts.OneAnswer.{one_version}
 use Rattle.gtd_records.specs.declared.fault.RecordFault.{RecordFault}
 use Rattle.gtd_records.specs.declared.vehicles.Version.{Version}
+use Rattle.gtd_records.specs.declared.warnings.Warning.{Warning}
 use Rattle.gtd_faults.specs.Below.{IsBelow, below_text, fault_place}
-use Rattle.gtd_faults.specs.Listing.{AreLines, fault_line, fault_text}
+use Rattle.gtd_faults.specs.Listing.{AreLines, AreWarningLines, fault_line, fault_text, warning_line}
 use Rattle.gtd_faults.specs.Printable.{printable}
 use Rattle.gtd_faults.specs.declared.below.Below.{Below}
 
@@ -42,6 +43,18 @@ lines_more path (x ∷ faults) why text line below at is =
       lines_more path faults why is.3 line below at is.4,
       rw (is.5) (append_assoc (fault_line path is.0 x ++ below_text is.1) is.3 more),
     )
+
+-- the line of one warning more
+pub warning_lines_more : (path : List ℕ) (warnings : List Warning) (said : Warning) (text : List ℕ) (line : ℕ)
+    → AreWarningLines path warnings text → AreWarningLines path (warnings ++ said ∷ []) (text ++ warning_line path line said)
+warning_lines_more path [] said text line is =
+    (line, [], refl, rw is (sym (append-nil (warning_line path line said))))
+warning_lines_more path (x ∷ warnings) said text line is = (
+  is.0,
+  is.1 ++ warning_line path line said,
+  warning_lines_more path warnings said is.1 line is.2,
+  rw (is.3) (append_assoc (warning_line path is.0 x) is.1 (warning_line path line said)),
+)
 
 abbrev Accepted : List ℕ → Type 0
 Accepted bytes = (found : List Restriction) × IsFile bytes (Ok found)

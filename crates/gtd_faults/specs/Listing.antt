@@ -1,8 +1,12 @@
--- The list of a file's faults, in words.
-use Rattle.std.specs.Prelude.{◌≡◌, ◌++◌, ℕ, List, [], ◌∷◌, codes, decimal}
+-- The list of a file's faults and warnings, in words.
+use Rattle.std.specs.Prelude.{◌≡◌, ◌++◌, ℕ, Bool, false, true, List, [], ◌∷◌, codes, decimal, length}
 use Rattle.gtd_core.specs.Names.{fault_name}
 use Rattle.gtd_records.specs.declared.fault.RecordFault.{RecordFault}
 use Rattle.gtd_records.specs.declared.fault.RecordFault.TheVariants as fault
+use Rattle.gtd_records.specs.Faults.{AreFileFaults}
+use Rattle.gtd_records.specs.Warnings.{AreFileWarnings}
+use Rattle.gtd_records.specs.declared.warnings.Warning.{Warning}
+use Rattle.gtd_records.specs.declared.warnings.Warning.TheVariants as warning
 use Rattle.gtd_faults.specs.Below.{IsBelow, below_text, fault_place}
 use Rattle.gtd_faults.specs.Printable.{printable}
 use Rattle.gtd_faults.specs.declared.below.Below.{Below}
@@ -32,3 +36,34 @@ AreLines path [] text = text ≡ []
 AreLines path (why ∷ rest) text =
     (line : ℕ) × (below : Below) × IsBelow (fault_place why) below × (after : List ℕ)
     × AreLines path rest after × (text ≡ fault_line path line why ++ below_text below ++ after)
+
+-- the words of a warning: its row, and what is said of its domain
+abbrev pub warning_text : Warning → List ℕ
+warning_text (warning.NeverHolds row) = codes "row " ++ decimal row ++ codes ": never holds"
+warning_text (warning.AlwaysHolds row) = codes "row " ++ decimal row ++ codes ": always holds"
+
+-- the line of a warning, with its line end
+abbrev pub warning_line : List ℕ → ℕ → Warning → List ℕ
+warning_line path line said = printable path ++ codes ":" ++ decimal line ++ codes ": " ++ warning_text said ++ codes "\n"
+
+-- the lines of warnings, in order
+abbrev pub AreWarningLines : List ℕ → List Warning → List ℕ → Type 0
+AreWarningLines path [] text = text ≡ []
+AreWarningLines path (said ∷ rest) text =
+    (line : ℕ) × (after : List ℕ) × AreWarningLines path rest after × (text ≡ warning_line path line said ++ after)
+
+-- what is added for a file's warnings: their lines if they are asked for, otherwise nothing
+abbrev pub IsWarned : Bool → List ℕ → List ℕ → List ℕ → Type 0
+IsWarned false path bytes text = text ≡ []
+IsWarned true path bytes text = (warnings : List Warning) × AreFileWarnings bytes warnings × AreWarningLines path warnings text
+
+-- the list of a file with these bytes: the lines of all its faults, of which there are so many, and then of its warnings
+pub record IsList (path bytes : List ℕ) (warn : Bool) (count : ℕ) (text : List ℕ) : Type 0 where
+  pub faults : List RecordFault
+  pub all : AreFileFaults bytes faults
+  pub counted : count ≡ length faults
+  pub first : List ℕ
+  pub lines : AreLines path faults first
+  pub last : List ℕ
+  pub warned : IsWarned warn path bytes last
+  pub whole : text ≡ first ++ last

@@ -1,14 +1,15 @@
-//! The lines of faults.
+//! The lines of faults and of warnings.
 
-ghost use Rattle.std.specs.Prelude.{◌≡◌, ◌++◌, IfOk, OnOk, string_bytes};
+ghost use Rattle.std.specs.Prelude.{◌≡◌, ◌++◌, IfOk, OnOk, length, string_bytes};
 ghost use Rattle.gtd_faults.specs.Below.{below_text};
-ghost use Rattle.gtd_faults.specs.Listing.{AreLines, fault_line};
+ghost use Rattle.gtd_records.specs.Faults.{AreFileFaults};
+ghost use Rattle.gtd_faults.specs.Listing.{AreLines, AreWarningLines, IsList, fault_line, warning_line};
 
 use crate::below::Below;
 use crate::places::Rows;
 use crate::printable::Printable;
-use crate::words::FaultText;
-use gtd_records::RecordFault;
+use crate::words::{FaultText, WarningText};
+use gtd_records::{RecordFault, Warning, warnings_of};
 use std::alloc::{AllocError, Global};
 
 // Appends the line of a fault, and what is shown below it, to the text.
@@ -39,8 +40,60 @@ pub(crate) fn lines_of(
     let mut text = String::new(alloc);
     let mut rows = Rows::new(alloc, bytes);
     for fault in faults {
-        rows.go_to(*fault)?;
+        rows.go_to_fault(*fault)?;
         push_fault(&mut text, path, rows.line(), *fault, rows.below(*fault))?;
+    }
+    Ok(text)
+}
+
+// Appends the line of a warning to the text.
+fn push_warning(
+    text: &mut String,
+    path: &str,
+    line: u64,
+    warning: Warning,
+) -> Result<(), AllocError>
+    ensures { OnOk result (string_bytes text.new ≡ string_bytes text.old ++ warning_line path.now line warning) }
+{
+    let path = Printable(path.as_bytes());
+    let words = WarningText(warning);
+    write!(text, "{path}:{line}: {words}\n")
+}
+
+// The lines of these warnings, in order, for the file with this path and these bytes.
+fn warning_lines(
+    alloc: Global,
+    path: &str,
+    bytes: &[u8],
+    warnings: &[Warning],
+) -> Result<String, AllocError>
+    ensures { IfOk result (λ text. AreWarningLines path.now warnings.now (string_bytes text)) }
+{
+    let mut text = String::new(alloc);
+    let mut rows = Rows::new(alloc, bytes);
+    for warning in warnings {
+        rows.go_to_warning(*warning)?;
+        push_warning(&mut text, path, rows.line(), *warning)?;
+    }
+    Ok(text)
+}
+
+// The list of a file with this path, these bytes and these faults, with or without its warnings.
+pub(crate) fn list_of(
+    alloc: Global,
+    path: &str,
+    bytes: &[u8],
+    faults: &[RecordFault],
+    warn: bool,
+) -> Result<String, AllocError>
+    requires all { AreFileFaults bytes.now faults.now }
+    ensures { IfOk result (λ text. IsList path.now bytes.now warn (length faults.now) (string_bytes text)) }
+{
+    let mut text = lines_of(alloc, path, bytes, faults)?;
+    if warn {
+        let warnings = warnings_of(alloc, bytes)?;
+        let added = warning_lines(alloc, path, bytes, warnings.as_slice())?;
+        text.push_str(added.as_str())?;
     }
     Ok(text)
 }

@@ -5,7 +5,7 @@ ghost use Rattle.gtd_faults.specs.Below.{IsBelow, fault_place};
 use crate::below::Below;
 use crate::stretch::Stretch;
 use csv::{ByteRecord, Reader, ReaderBuilder};
-use gtd_records::RecordFault;
+use gtd_records::{RecordFault, Warning};
 use std::alloc::{AllocError, Global};
 
 /// The rows of a file's bytes, read in order. The header is row 0.
@@ -37,8 +37,19 @@ impl<'a> Rows<'a> {
     }
 
     /// Moves forward to the row of a fault; it never goes back.
-    pub(crate) fn go_to(&mut self, fault: RecordFault) -> Result<(), AllocError> {
-        let end = row_of(fault).saturating_add(1);
+    pub(crate) fn go_to_fault(&mut self, fault: RecordFault) -> Result<(), AllocError> {
+        self.go_to(row_of(fault))
+    }
+
+    /// Moves forward to the row of a warning; it never goes back.
+    pub(crate) fn go_to_warning(&mut self, warning: Warning) -> Result<(), AllocError> {
+        match warning {
+            Warning::NeverHolds { row } | Warning::AlwaysHolds { row } => self.go_to(row),
+        }
+    }
+
+    fn go_to(&mut self, row: u32) -> Result<(), AllocError> {
+        let end = row.saturating_add(1);
         for _row in self.passed..end {
             if self.reader.read_byte_record(&mut self.row).is_err() {
                 return Err(AllocError);

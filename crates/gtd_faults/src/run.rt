@@ -1,10 +1,11 @@
 //! The run that lists the faults of a record file.
 
-ghost use Rattle.std.specs.Prelude.{◌≡◌, ◌≢◌, ◌⊎◌, ◌<◌, IfErr, IfOk, IfSome, IsErrOf, IsTrue, OnErr, OnOk};
+ghost use Rattle.std.specs.Prelude.{◌≡◌, ◌≢◌, ◌⊎◌, ◌<◌, ℕ, Bool, IfErr, IfSome, IsErrOf, IsTrue, List, OnErr, OnOk, length};
+ghost use Rattle.gtd_core.specs.Limits.{most_file_bytes};
 ghost use Rattle.std.specs.Io.KnownBytes.{Appends, Keeps};
 ghost use Rattle.gtd_faults.specs.Run.{HasListed, HasPut, TookSome, failures_after_listing, failures_after_reading};
 
-use crate::lines::lines_of;
+use crate::lines::{lines_of, list_of};
 use crate::list_fault::{ListFault, fault_of_input};
 use gtd_core::limits::MOST_FILE_BYTES;
 use gtd_devices::{Input, InputFault, Output, read_whole};
@@ -32,40 +33,31 @@ fn put_text<O: Output>(output: &mut O, text: &str) -> Result<(), ListFault>
     }
 }
 
-// Puts the list of these faults of the file with this path and these bytes. Answers their number.
-fn put_faults<O: Output>(
-    alloc: Global,
-    output: &mut O,
-    path: &str,
-    bytes: &[u8],
-    faults: &[RecordFault],
-) -> Result<usize, ListFault>
+// Puts a text, and ends the output. Answers this number.
+fn put_numbered<O: Output>(output: &mut O, text: &str, number: usize) -> Result<usize, ListFault>
     requires writable { O.failure_count output.old < u64.MAX }
-    ensures put { HasPut path.now faults.now (O.taken output.old) (O.taken output.new) result }
-    ensures cause { IfErr result (λ why. (why ≡ ListFault.WriteFault) ⊎ ((why ≡ ListFault.NoMemory)
-        × Keeps (O.taken output.old) (O.taken output.new))) }
+    ensures put { HasPut text.now number (O.taken output.old) (O.taken output.new) result }
+    ensures cause { IfErr result (λ why. why ≡ ListFault.WriteFault) }
     ensures ended { OnOk result (IsTrue (O.is_ended output.new)) }
     ensures failures { O.failure_count output.new
         ≡ failures_after_listing result (O.failure_count output.old) }
 {
-    let Ok(text) = lines_of(alloc, path, bytes, faults) else {
-        return Err(ListFault::NoMemory);
-    };
-    match put_text(output, text.as_str()) {
-        Ok(()) => Ok(faults.len()),
+    match put_text(output, text) {
+        Ok(()) => Ok(number),
         Err(why) => Err(why),
     }
 }
 
-// Puts the list of all faults of the file with this path and these bytes.
+// Puts the list of the file with this path and these bytes, with or without its warnings.
 fn put_list<O: Output>(
     alloc: Global,
     output: &mut O,
     path: &str,
     bytes: &[u8],
+    warn: bool,
 ) -> Result<usize, ListFault>
     requires writable { O.failure_count output.old < u64.MAX }
-    ensures listed { HasListed path.now bytes.now (O.taken output.old) (O.taken output.new) result }
+    ensures listed { HasListed path.now warn bytes.now (O.taken output.old) (O.taken output.new) result }
     ensures cause { IfErr result (λ why. (why ≡ ListFault.WriteFault) ⊎ ((why ≡ ListFault.NoMemory)
         × Keeps (O.taken output.old) (O.taken output.new))) }
     ensures ended { OnOk result (IsTrue (O.is_ended output.new)) }
@@ -75,11 +67,31 @@ fn put_list<O: Output>(
     let Ok(faults) = faults_of(alloc, bytes) else {
         return Err(ListFault::NoMemory);
     };
-    put_faults(alloc, output, path, bytes, faults.as_slice())
+    let Ok(text) = list_of(alloc, path, bytes, faults.as_slice(), warn) else {
+        return Err(ListFault::NoMemory);
+    };
+    put_numbered(output, text.as_str(), faults.len())
 }
 
-/// Puts the list of all faults of the record file that an input brings, and answers their number. Each fault has a line: the
-/// file's path, as [`crate::Printable`] shows it, the line of the file on which its row begins, the row, and its kind. Below
+// Puts the list of a file with this path and too many bytes: its only fault, and no warnings.
+fn put_too_large<O: Output>(alloc: Global, output: &mut O, path: &str) -> Result<usize, ListFault>
+    requires writable { O.failure_count output.old < u64.MAX }
+    ensures listed { (bytes : List ℕ) (warn : Bool) → most_file_bytes < length bytes
+        → HasListed path.now warn bytes (O.taken output.old) (O.taken output.new) result }
+    ensures cause { IfErr result (λ why. (why ≡ ListFault.WriteFault) ⊎ ((why ≡ ListFault.NoMemory)
+        × Keeps (O.taken output.old) (O.taken output.new))) }
+    ensures ended { OnOk result (IsTrue (O.is_ended output.new)) }
+    ensures failures { O.failure_count output.new
+        ≡ failures_after_listing result (O.failure_count output.old) }
+{
+    let Ok(text) = lines_of(alloc, path, &[], &[RecordFault::TooLarge]) else {
+        return Err(ListFault::NoMemory);
+    };
+    put_numbered(output, text.as_str(), 1)
+}
+
+/// Puts the list of all faults of the record file that an input brings, and answers their number. If they are asked for, the
+/// list goes on with a line for each warning ([`gtd_records::warnings_of`]). Each fault has a line: the file's path, as [`crate::Printable`] shows it, the line of the file on which its row begins, the row, and its kind. Below
 /// it is the field at fault with a caret at the place, or the first line of a file that has no header.
 ///
 /// Each row that stands for no restriction is listed, in order; `TooManyRows` follows the faults of the first 65,536 rows;
@@ -91,12 +103,13 @@ pub fn run_faults<I: Input, O: Output>(
     input: &mut I,
     output: &mut O,
     path: &str,
+    warn: bool,
 ) -> Result<usize, ListFault>
     requires readable { I.failure_count input.old < u64.MAX }
     requires writable { O.failure_count output.old < u64.MAX }
-    // What the output took, by the answer: all lines of the file's faults or, after a failure, a first part of them.
+    // What the output took, by the answer: all lines of the file's list or, after a failure, a first part of them.
     ensures listed { IfSome (I.to_come input.old)
-        (λ bytes. HasListed path.now bytes (O.taken output.old) (O.taken output.new) result) }
+        (λ bytes. HasListed path.now warn bytes (O.taken output.old) (O.taken output.new) result) }
     // If the input failed or memory was refused, nothing was put.
     ensures kept { IfErr result (λ why. why ≢ ListFault.WriteFault → Keeps (O.taken output.old) (O.taken output.new)) }
     // An output that took the whole list was then ended.
@@ -108,10 +121,8 @@ pub fn run_faults<I: Input, O: Output>(
         ≡ failures_after_listing result (O.failure_count output.old) }
 {
     match read_whole(alloc, input, MOST_FILE_BYTES) {
-        Ok(bytes) => put_list(alloc, output, path, bytes.as_slice()),
-        Err(InputFault::TooLarge) => {
-            put_faults(alloc, output, path, &[], &[RecordFault::TooLarge])
-        }
+        Ok(bytes) => put_list(alloc, output, path, bytes.as_slice(), warn),
+        Err(InputFault::TooLarge) => put_too_large(alloc, output, path),
         Err(why) => Err(fault_of_input(why)),
     }
 }

@@ -1,9 +1,9 @@
-//! The words of a fault.
+//! The words of a fault, and of a warning.
 
 ghost use Rattle.std.specs.Prelude.{Some};
-ghost use Rattle.gtd_faults.specs.Listing.{fault_text};
+ghost use Rattle.gtd_faults.specs.Listing.{fault_text, warning_text};
 
-use gtd_records::RecordFault;
+use gtd_records::{RecordFault, Warning};
 use std::fmt;
 use std::fmt::{Display, Formatter};
 
@@ -31,6 +31,21 @@ impl Display for FaultText {
             RecordFault::TooManyRows => write!(f, "row 65537: TooManyRows"),
             RecordFault::NoMemory => write!(f, "NoMemory"),
             RecordFault::Endless => write!(f, "Endless"),
+        }
+    }
+}
+
+/// A warning in words: its row, and what is said of its domain.
+#[derive(Clone, Copy)]
+pub struct WarningText(pub Warning);
+
+impl Display for WarningText {
+    ghost output = { λ shown. Some (warning_text shown.0) };
+
+    fn fmt<W: fmt::Write>(&self, f: &mut Formatter<W>) -> fmt::Result {
+        match self.0 {
+            Warning::NeverHolds { row } => write!(f, "row {row}: never holds"),
+            Warning::AlwaysHolds { row } => write!(f, "row {row}: always holds"),
         }
     }
 }

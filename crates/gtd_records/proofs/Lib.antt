@@ -5,6 +5,7 @@ pub mod OpenFacts
 pub mod CutFacts
 pub mod ClosingRowFacts
 pub mod FaultFacts
+pub mod WarningFacts
 pub mod ListedFacts
 pub mod CutBytes
 pub mod CutFile

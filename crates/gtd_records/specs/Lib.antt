@@ -8,10 +8,12 @@ pub mod Index
 pub mod Reading
 pub mod RecordFaultNames
 pub mod Table
+pub mod Warnings
 pub mod facts
 pub use Rattle.gtd_core.specs.Seconds
 pub use Rattle.gtd_core.specs.Limits
 pub use Rattle.gtd_core.specs.Parts
 pub use Rattle.gtd_devices.specs.WholeInput
 pub use Rattle.gtd_eval.specs.Cursors
+pub use Rattle.gtd_eval.specs.Extent
 pub use Rattle.gtd_eval.specs.Membership

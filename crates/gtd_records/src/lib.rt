@@ -16,6 +16,7 @@ pub use reading::read_records;
 pub use record::Record;
 pub use schedule::{open_seconds, schedule_of};
 pub use vehicles::{Codes, Vehicles};
+pub use warnings::{Warning, warnings_of};
 
 mod change;
 mod column;
@@ -32,3 +33,4 @@ mod row;
 mod schedule;
 mod table;
 mod vehicles;
+mod warnings;

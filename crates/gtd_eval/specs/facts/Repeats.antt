@@ -33,7 +33,7 @@ at-once t = omega (arith, ints)
 once-more : (t : ℤ) (k : ℕ) → (t +ℤ pos (k * 12622780800)) +ℤ cycle ≡ t +ℤ pos ((suc k) * 12622780800)
 once-more t k = omega (arith, ints)
 
-repeats-many : (set : ℤ → Type 0) → Repeats set → (k : ℕ) (t : ℤ) → set t ↔ set (t +ℤ pos (k * 12622780800))
+pub repeats-many : (set : ℤ → Type 0) → Repeats set → (k : ℕ) (t : ℤ) → set t ↔ set (t +ℤ pos (k * 12622780800))
 repeats-many set r zero t = rw at-once ((λ h. h), (λ h. h))
 repeats-many set r (suc k) t =
     let i = repeats-many set r k t in

@@ -1,0 +1,15 @@
+use Rattle.std.proofs.Common.{◌≡◌, ◌+◌, arith, ◌∷◌, ◌++◌, [], take, get_or, string_bytes}
+use Rattle.std.proofs.lemmas.List.{take_more}
+use Rattle.gtd_records.specs.declared.warnings.Warning.TheVariants as warning
+use Rattle.gtd_faults.proofs.ListFacts.{warning_lines_more}
+use Rattle.gtd_faults.proofs.lines.warning_lines.Goals as goal
+
+pub loop-warning-preserved : goal.loop-warning-preserved
+loop-warning-preserved c =
+    let i = c.loop-warning.warning-index in
+    let here = get_or c.args.warnings.now i (warning.NeverHolds 0) in
+    let next : take (i + 1) c.args.warnings.now ≡ take i c.args.warnings.now ++ here ∷ [] =
+    take_more c.args.warnings.now i (warning.NeverHolds 0) (omega arith) in
+    rw (next, c.in_ok-push_warning.ensures)
+    (warning_lines_more c.args.path.now (take i c.args.warnings.now) here (string_bytes c.loop-warning.text) c.line.result
+    c.loop-warning.invariant)

@@ -1,0 +1,8 @@
+use Rattle.std.proofs.Common.{take}
+use Rattle.std.specs.Prelude.{string_bytes}
+use Rattle.gtd_faults.specs.Listing.{AreWarningLines}
+use Rattle.gtd_faults.proofs.lines.warning_lines.Given as goal
+
+-- the lines of the warnings so far
+abbrev pub invariant-loop-warning : goal.invariant-loop-warning
+invariant-loop-warning l = AreWarningLines l.fn.path (take l.warning-index l.warnings) (string_bytes l.text)
