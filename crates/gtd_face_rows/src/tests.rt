@@ -54,7 +54,7 @@ fn expect_lines(rt: &impl Abort, alloc: Global, output: &MemoryOut, lines: [&str
     for line in lines {
         text.extend_from_slice(line.as_bytes()).expect(rt, "memory");
     }
-    assert_eq!(rt; output.bytes(), text.as_slice());
+    assert!(rt; output.bytes() == text.as_slice());
 }
 
 fn april(rt: &impl Abort) -> Horizon {
@@ -73,19 +73,19 @@ fn records(rt: &impl Abort, alloc: Global) -> Records {
 
 #[test]
 fn words_of_columns(rt: HostRuntime) {
-    assert_eq!(rt; read_number(b"0017"), Some(17));
-    assert_eq!(rt; read_number(b"x"), None);
-    assert_eq!(rt; read_direction(b"negative"), Some(Direction::Negative));
-    assert_eq!(rt; read_direction(b"both"), None);
+    assert!(rt; read_number(b"0017") == Some(17));
+    assert!(rt; read_number(b"x") == None);
+    assert!(rt; read_direction(b"negative") == Some(Direction::Negative));
+    assert!(rt; read_direction(b"both") == None);
 }
 
 #[test]
 fn values(rt: HostRuntime) {
-    assert_eq!(rt; Horizon::new(5, 5).err(), Some(HorizonFault::Empty));
-    assert_eq!(rt; Span::new(Sec(10), Sec(10)).is_none(), true);
-    assert_eq!(rt; RecordFault::Header.name(), "Header");
-    assert_eq!(rt; RunFault::NoElement.name(), "NoElement");
-    assert_eq!(rt; InputFault::TooLarge.name(), "TooLarge");
+    assert!(rt; Horizon::new(5, 5).err() == Some(HorizonFault::Empty));
+    assert!(rt; Span::new(Sec(10), Sec(10)).is_none());
+    assert!(rt; RecordFault::Header.name() == "Header");
+    assert!(rt; RunFault::NoElement.name() == "NoElement");
+    assert!(rt; InputFault::TooLarge.name() == "TooLarge");
 }
 
 #[test]
@@ -93,18 +93,15 @@ fn devices(rt: HostRuntime) -> Result<(), Fail> {
     let alloc = rt.alloc();
     let mut buffer = [0u8; 4];
     let mut host = Host::new(&b"abcdef"[..]);
-    assert_eq!(rt; host.pull(&mut buffer), Pull::Got(4));
-    assert_eq!(rt; host.failures(), 0);
+    assert!(rt; host.pull(&mut buffer) == Pull::Got(4));
+    assert!(rt; host.failures() == 0);
     let mut failing = file(&rt, alloc, Some(1));
-    assert_eq!(rt; failing.pull(&mut buffer), Pull::Failed);
-    assert_eq!(rt;
-        read_whole(alloc, &mut file(&rt, alloc, None), 88)?.as_slice(),
-        R.as_bytes()
-    );
+    assert!(rt; failing.pull(&mut buffer) == Pull::Failed);
+    assert!(rt; read_whole(alloc, &mut file(&rt, alloc, None), 88)?.as_slice() == R.as_bytes());
     let mut written = Vec::new(alloc);
     let mut out = HostOut::new(&mut written);
-    assert_eq!(rt; out.put(b"abc"), Put::Took(3));
-    assert_eq!(rt; out.finish(), Put::Took(0));
+    assert!(rt; out.put(b"abc") == Put::Took(3));
+    assert!(rt; out.finish() == Put::Took(0));
     Ok(())
 }
 
@@ -112,14 +109,14 @@ fn devices(rt: HostRuntime) -> Result<(), Fail> {
 fn records_of_a_file(rt: HostRuntime) -> Result<(), Fail> {
     let alloc = rt.alloc();
     let found = records(&rt, alloc);
-    assert_eq!(rt; found.elements(), [17].as_slice());
-    assert_eq!(rt; found.rows().len(), 2);
+    assert!(rt; found.elements() == [17].as_slice());
+    assert!(rt; found.rows().len() == 2);
     let ten = Sec(APRIL + 10 * HOUR);
     assert!(rt; found.closed_at(17, Direction::Positive, 11, ten));
     assert!(rt; is_closed_for_eleven(&found, 17, ten));
     assert!(rt; !is_closed_for_eleven(&found, 17, Sec(APRIL)));
     let rows = found.closing_rows(alloc, 17, Direction::Negative, 11, ten)?;
-    assert_eq!(rt; rows.as_slice(), [2].as_slice());
+    assert!(rt; rows.as_slice() == [2].as_slice());
     assert!(rt; read_faults(alloc, &mut file(&rt, alloc, None))?.is_empty());
     assert_eq!(rt; faults_of(alloc, b"")?.len(), 1);
     Ok(())
@@ -130,14 +127,11 @@ fn open_seconds_of_an_element(rt: HostRuntime) -> Result<(), Fail> {
     let alloc = rt.alloc();
     let found = records(&rt, alloc);
     let list = schedule_of(alloc, &found, 17, Direction::Positive, 11, april(&rt))?;
-    assert_eq!(rt; list.spans().len(), 2);
+    assert!(rt; list.spans().len() == 2);
     let mut open = open_seconds(alloc, &found, 17, Direction::Positive, 11, april(&rt))?;
-    assert_eq!(rt; open.next(), Span::new(Sec(APRIL), Sec(APRIL + 10 * HOUR)));
-    assert_eq!(rt;
-        open.next(),
-        Span::new(Sec(APRIL + 14 * HOUR), Sec(APRIL + 24 * HOUR))
-    );
-    assert_eq!(rt; open.next(), None);
+    assert!(rt; open.next() == Span::new(Sec(APRIL), Sec(APRIL + 10 * HOUR)));
+    assert!(rt; open.next() == Span::new(Sec(APRIL + 14 * HOUR), Sec(APRIL + 24 * HOUR)));
+    assert!(rt; open.next() == None);
     Ok(())
 }
 
@@ -145,21 +139,19 @@ fn open_seconds_of_an_element(rt: HostRuntime) -> Result<(), Fail> {
 fn schedules(rt: HostRuntime) {
     let alloc = rt.alloc();
     let mut whole = room(&rt, alloc, None);
-    assert_eq!(rt;
+    assert!(rt;
         run_schedule(
             alloc,
             &mut file(&rt, alloc, None),
             &mut whole,
             april(&rt),
             11
-        ),
-        Ok(3)
+        ) == Ok(3)
     );
     expect_lines(&rt, alloc, &whole, SCHEDULE);
     let mut again = room(&rt, alloc, None);
-    assert_eq!(rt;
-        schedule_of_eleven(alloc, &mut file(&rt, alloc, None), &mut again, april(&rt)),
-        Ok(3)
+    assert!(rt;
+        schedule_of_eleven(alloc, &mut file(&rt, alloc, None), &mut again, april(&rt)) == Ok(3)
     );
     expect_lines(&rt, alloc, &again, SCHEDULE);
     let report = Schedule {
@@ -168,7 +160,7 @@ fn schedules(rt: HostRuntime) {
     };
     let mut none = room(&rt, alloc, None);
     let refused = run_report(alloc, &mut file(&rt, alloc, None), &mut none, &report);
-    assert_eq!(rt; refused, Err(RunFault::VehicleRange));
+    assert!(rt; refused == Err(RunFault::VehicleRange));
     let mut failing = room(&rt, alloc, Some(1));
     let failed = run_schedule(
         alloc,
@@ -177,7 +169,7 @@ fn schedules(rt: HostRuntime) {
         april(&rt),
         11,
     );
-    assert_eq!(rt; failed, Err(RunFault::WriteFault { written: 0 }));
+    assert!(rt; failed == Err(RunFault::WriteFault { written: 0 }));
 }
 
 #[test]
@@ -193,8 +185,8 @@ fn tables_and_migrated_files(rt: HostRuntime) {
         11,
         2024,
     );
-    assert_eq!(rt; days, Ok(366));
-    assert_eq!(rt; table.bytes().len(), 366 * 17);
+    assert!(rt; days == Ok(366));
+    assert!(rt; table.bytes().len() == 366 * 17);
     let mut other = room(&rt, alloc, None);
     let report = YearTable {
         element: 18,
@@ -203,21 +195,12 @@ fn tables_and_migrated_files(rt: HostRuntime) {
         year: 2024,
     };
     let unnamed = run_report(alloc, &mut file(&rt, alloc, None), &mut other, &report);
-    assert_eq!(rt; unnamed, Err(RunFault::NoElement));
+    assert!(rt; unnamed == Err(RunFault::NoElement));
     let mut migrated = room(&rt, alloc, None);
-    assert_eq!(rt;
-        migrate(alloc, &mut file(&rt, alloc, None), &mut migrated),
-        Ok(3)
-    );
+    assert!(rt; migrate(alloc, &mut file(&rt, alloc, None), &mut migrated) == Ok(3));
     expect_lines(&rt, alloc, &migrated, MIGRATED);
     let mut again = room(&rt, alloc, None);
-    assert_eq!(rt;
-        run_migrate(alloc, &mut file(&rt, alloc, None), &mut again),
-        Ok(3)
-    );
+    assert!(rt; run_migrate(alloc, &mut file(&rt, alloc, None), &mut again) == Ok(3));
     let mut last = room(&rt, alloc, None);
-    assert_eq!(rt;
-        run_report(alloc, &mut file(&rt, alloc, None), &mut last, &Migration),
-        Ok(3)
-    );
+    assert!(rt; run_report(alloc, &mut file(&rt, alloc, None), &mut last, &Migration) == Ok(3));
 }

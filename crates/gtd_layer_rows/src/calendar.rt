@@ -99,19 +99,17 @@ fn four_hundred_years(rt: HostRuntime) {
     };
     for _ in 0..146_097 {
         let day = count.fields;
-        assert_eq!(rt;
-            known_fields(count.number),
-            Some(day),
+        assert!(rt;
+            known_fields(count.number) == Some(day),
             "day {}",
             count.number
         );
-        assert_eq!(rt; day_of(day.year, day.month, day.day), Some(count.number));
+        assert!(rt; day_of(day.year, day.month, day.day) == Some(count.number));
         count = next_day(&count);
     }
     let last = count.fields;
-    assert_eq!(rt;
-        (count.number, last.year, last.month, last.day, last.weekday),
-        (146_097, 2370, 1, 1, 5)
+    assert!(rt;
+        (count.number, last.year, last.month, last.day, last.weekday) == (146_097, 2370, 1, 1, 5)
     );
 }
 
@@ -129,15 +127,15 @@ fn known_days(rt: HostRuntime) {
     ];
     for (year, month, day, number, weekday) in rows {
         let known = known_fields(number).map(|f| (f.year, f.month, f.day, f.weekday));
-        assert_eq!(rt; known, Some((year, month, day, weekday)), "day {number}");
-        assert_eq!(rt; day_of(year, month, day), Some(number), "day {number}");
+        assert!(rt; known == Some((year, month, day, weekday)), "day {number}");
+        assert!(rt; day_of(year, month, day) == Some(number), "day {number}");
     }
 }
 
 #[test]
 fn first_and_last_days(rt: HostRuntime) {
-    assert_eq!(rt; day_of(2700, 1, 1), Some(266_627));
-    assert_eq!(rt; day_of(2799, 12, 31), Some(303_150));
+    assert!(rt; day_of(2700, 1, 1) == Some(266_627));
+    assert!(rt; day_of(2799, 12, 31) == Some(303_150));
     for (year, month, day) in [
         (2800, 1, 1),
         (1799, 12, 31),
@@ -146,7 +144,7 @@ fn first_and_last_days(rt: HostRuntime) {
         (2024, 13, 1),
         (2024, 1, 0),
     ] {
-        assert_eq!(rt; day_of(year, month, day), None, "year {year}");
+        assert!(rt; day_of(year, month, day) == None, "year {year}");
     }
 }
 
@@ -162,7 +160,7 @@ fn known_fields_of_days(rt: HostRuntime) {
         nth: 5,
         nth_back: 1,
     };
-    assert_eq!(rt; fields(20_087), last_monday);
+    assert!(rt; fields(20_087) == last_monday);
     let first_sunday = DayFields {
         year: 2021,
         month: 1,
@@ -173,7 +171,7 @@ fn known_fields_of_days(rt: HostRuntime) {
         nth: 1,
         nth_back: 5,
     };
-    assert_eq!(rt; fields(18_630), first_sunday);
+    assert!(rt; fields(18_630) == first_sunday);
 }
 
 // The text of a second of the calendar.
@@ -225,14 +223,14 @@ fn known_ends(rt: HostRuntime) {
         ),
     ];
     for (start, parts, end) in rows {
-        assert_eq!(rt; end_text(start, parts), Some(*end), "from {start}");
+        assert!(rt; end_text(start, parts) == Some(*end), "from {start}");
     }
 }
 
 #[test]
 fn known_texts(rt: HostRuntime) {
-    assert_eq!(rt; &write_date(20_087), b"2024-12-30");
-    assert_eq!(rt; known_stamp(Sec(-1)), Some(*b"1969-12-31T23:59:59"));
+    assert!(rt; &write_date(20_087) == b"2024-12-30");
+    assert!(rt; known_stamp(Sec(-1)) == Some(*b"1969-12-31T23:59:59"));
 }
 
 #[test]
@@ -248,7 +246,7 @@ fn dates_that_are_read(rt: HostRuntime) {
         ("2024-2-30", Err(StampFault::Shape)),
     ];
     for (text, answer) in dates {
-        assert_eq!(rt; read_date(text.as_bytes()), answer, "date {text}");
+        assert!(rt; read_date(text.as_bytes()) == answer, "date {text}");
     }
 }
 
@@ -265,7 +263,7 @@ fn moments_that_are_read(rt: HostRuntime) {
         ("2200-01-01T00:00:00", Err(StampFault::Range)),
     ];
     for (text, answer) in moments {
-        assert_eq!(rt; read_stamp(text.as_bytes()), answer, "moment {text}");
+        assert!(rt; read_stamp(text.as_bytes()) == answer, "moment {text}");
     }
 }
 
@@ -276,8 +274,8 @@ fn names_of_faults(rt: HostRuntime) {
         (StampFault::NoSuchDate, "NoSuchDate"),
         (StampFault::Range, "Range"),
     ] {
-        assert_eq!(rt; fault.name(), name);
+        assert!(rt; fault.name() == name);
         let shown = format!(in rt.alloc(); "{fault}").expect(&rt, "memory");
-        assert_eq!(rt; shown.as_str(), name);
+        assert!(rt; shown.as_str() == name);
     }
 }

@@ -22,7 +22,7 @@ fn whole<I: Input>(rt: &impl Abort, alloc: Global, input: &mut I)
     requires { I.failure_count input.old < u64.MAX }
 {
     match read_whole(alloc, input, 88) {
-        Ok(bytes) => assert_eq!(rt; bytes.as_slice(), R.as_bytes()),
+        Ok(bytes) => assert!(rt; bytes.as_slice() == R.as_bytes()),
         Err(fault) => panic!(rt; "{fault:?}"),
     }
 }
@@ -39,9 +39,9 @@ fn refused<I: Input>(
 {
     match read_whole(alloc, input, most) {
         Ok(_) => panic!(rt; "read"),
-        Err(why) => assert_eq!(rt; why, fault),
+        Err(why) => assert!(rt; why == fault),
     }
-    assert_eq!(rt; input.failures(), failures);
+    assert!(rt; input.failures() == failures);
 }
 
 // 88 bytes come in 13 pieces of 7 bytes at most, and the 14th pull finds the end.
@@ -159,7 +159,7 @@ fn silence_ends_at_its_thousandth_pull(rt: HostRuntime) {
     );
     let mut mute = Mute { pulls: 0 };
     refused(&rt, alloc, &mut mute, 88, InputFault::Endless, 0);
-    assert_eq!(rt; mute.pulls, 1000);
+    assert!(rt; mute.pulls == 1000);
 }
 
 // A writer that is interrupted so often before each write, and at its flush if told to.
@@ -196,10 +196,10 @@ fn interrupted_writes(rt: HostRuntime) {
         left: 999,
         flushes: true,
     });
-    assert_eq!(rt; output.put(b"17".as_slice()), Put::Took(2));
-    assert_eq!(rt; output.put(b"18".as_slice()), Put::Took(2));
-    assert_eq!(rt; output.finish(), Put::Took(0));
-    assert_eq!(rt; output.failures(), 0);
+    assert!(rt; output.put(b"17".as_slice()) == Put::Took(2));
+    assert!(rt; output.put(b"18".as_slice()) == Put::Took(2));
+    assert!(rt; output.finish() == Put::Took(0));
+    assert!(rt; output.failures() == 0);
 }
 
 #[test]
@@ -209,10 +209,10 @@ fn writes_that_are_given_up(rt: HostRuntime) {
         left: 1000,
         flushes: false,
     });
-    assert_eq!(rt; output.put(b"17".as_slice()), Put::Failed);
-    assert_eq!(rt; output.put(b"17".as_slice()), Put::Took(2));
-    assert_eq!(rt; output.finish(), Put::Failed);
-    assert_eq!(rt; output.failures(), 2);
+    assert!(rt; output.put(b"17".as_slice()) == Put::Failed);
+    assert!(rt; output.put(b"17".as_slice()) == Put::Took(2));
+    assert!(rt; output.finish() == Put::Failed);
+    assert!(rt; output.failures() == 2);
 }
 
 // A writer that takes no byte of its first write, and all of the others.
@@ -239,9 +239,9 @@ impl Write for Full {
 #[test]
 fn a_write_of_no_byte(rt: HostRuntime) {
     let mut output = HostOut::new(Full { writes: 0 });
-    assert_eq!(rt; output.put(b"17".as_slice()), Put::Failed);
-    assert_eq!(rt; output.put(b"17".as_slice()), Put::Took(2));
-    assert_eq!(rt; output.failures(), 1);
+    assert!(rt; output.put(b"17".as_slice()) == Put::Failed);
+    assert!(rt; output.put(b"17".as_slice()) == Put::Took(2));
+    assert!(rt; output.failures() == 1);
 }
 
 // A writer whose second write and second flush fail by an error of this kind, and all others succeed.
@@ -278,10 +278,10 @@ fn expect_three_ends(rt: &impl Abort, kind: ErrorKind) {
         writes: 0,
         flushes: 0,
     });
-    assert_eq!(rt; output.finish(), Put::Took(0));
-    assert_eq!(rt; output.finish(), Put::Failed);
-    assert_eq!(rt; output.finish(), Put::Took(0));
-    assert_eq!(rt; output.failures(), 1);
+    assert!(rt; output.finish() == Put::Took(0));
+    assert!(rt; output.finish() == Put::Failed);
+    assert!(rt; output.finish() == Put::Took(0));
+    assert!(rt; output.failures() == 1);
 }
 
 #[test]
@@ -299,10 +299,10 @@ pub(crate) fn expect_one_failure(rt: &impl Abort, kind: ErrorKind) {
         writes: 0,
         flushes: 0,
     });
-    assert_eq!(rt; output.put(b"17".as_slice()), Put::Took(2));
-    assert_eq!(rt; output.put(b"18".as_slice()), Put::Failed);
-    assert_eq!(rt; output.put(b"18".as_slice()), Put::Took(2));
-    assert_eq!(rt; output.failures(), 1);
+    assert!(rt; output.put(b"17".as_slice()) == Put::Took(2));
+    assert!(rt; output.put(b"18".as_slice()) == Put::Failed);
+    assert!(rt; output.put(b"18".as_slice()) == Put::Took(2));
+    assert!(rt; output.failures() == 1);
 }
 
 #[test]
@@ -343,18 +343,18 @@ fn reader_that_halts() -> Host<Halting<'static>>
 fn interrupted_reads(rt: HostRuntime) {
     let mut buffer = [0u8; 100];
     let mut input = reader_that_halts();
-    assert_eq!(rt; input.pull(&mut buffer), Pull::Got(0));
-    assert_eq!(rt; input.pull(&mut buffer), Pull::Got(88));
-    assert_eq!(rt; input.pull(&mut buffer), Pull::Got(0));
-    assert_eq!(rt; input.pull(&mut buffer), Pull::Done);
-    assert_eq!(rt; input.failures(), 0);
+    assert!(rt; input.pull(&mut buffer) == Pull::Got(0));
+    assert!(rt; input.pull(&mut buffer) == Pull::Got(88));
+    assert!(rt; input.pull(&mut buffer) == Pull::Got(0));
+    assert!(rt; input.pull(&mut buffer) == Pull::Done);
+    assert!(rt; input.failures() == 0);
 }
 
 #[test]
 fn a_text_whose_reads_are_interrupted(rt: HostRuntime) {
     let mut input = reader_that_halts();
     whole(&rt, rt.alloc(), &mut input);
-    assert_eq!(rt; input.failures(), 0);
+    assert!(rt; input.failures() == 0);
 }
 
 // A reader that fails once, by an error of this kind.
@@ -392,9 +392,9 @@ fn a_read_that_fails(rt: HostRuntime) {
             kind,
             failed: false,
         });
-        assert_eq!(rt; input.pull(&mut buffer), Pull::Failed);
-        assert_eq!(rt; input.pull(&mut buffer), Pull::Done);
-        assert_eq!(rt; input.failures(), 1);
+        assert!(rt; input.pull(&mut buffer) == Pull::Failed);
+        assert!(rt; input.pull(&mut buffer) == Pull::Done);
+        assert!(rt; input.failures() == 1);
     }
 }
 
@@ -421,7 +421,7 @@ impl Input for Asked {
 fn bytes_that_are_asked_for(rt: HostRuntime) -> Result<(), Fail> {
     let mut input = Asked { asked: 0 };
     assert!(rt; read_whole(rt.alloc(), &mut input, 88)?.is_empty());
-    assert_eq!(rt; input.asked, 4096);
+    assert!(rt; input.asked == 4096);
     Ok(())
 }
 
@@ -439,8 +439,8 @@ fn pieces_of_an_input(rt: HostRuntime) -> Result<(), Fail> {
     ] {
         let bytes = Vec::from_slice(rt.alloc(), R.as_bytes())?;
         let mut input = MemoryIn::new(bytes, piece, None, None);
-        assert_eq!(rt; input.pull(&mut buffer), Pull::Got(length));
-        assert_eq!(rt; &buffer[..length.min(100)], &R.as_bytes()[..length.min(88)]);
+        assert!(rt; input.pull(&mut buffer) == Pull::Got(length));
+        assert!(rt; &buffer[..length.min(100)] == &R.as_bytes()[..length.min(88)]);
     }
     Ok(())
 }
@@ -449,28 +449,28 @@ fn pieces_of_an_input(rt: HostRuntime) -> Result<(), Fail> {
 fn a_reader_of_bytes(rt: HostRuntime) {
     let mut input = Host::new(R.as_bytes());
     whole(&rt, rt.alloc(), &mut input);
-    assert_eq!(rt; input.failures(), 0);
+    assert!(rt; input.failures() == 0);
 }
 
 #[test]
 fn pieces_and_calls(rt: HostRuntime) -> Result<(), Fail> {
     let mut output = MemoryOut::new(rt.alloc(), 1000, 5, Some(3))?;
-    assert_eq!(rt; output.put(b"element,direction".as_slice()), Put::Took(5));
-    assert_eq!(rt; output.put(b"nt,direction".as_slice()), Put::Took(5));
-    assert_eq!(rt; output.put(b"rection".as_slice()), Put::Failed);
-    assert_eq!(rt; output.bytes(), b"element,di".as_slice());
-    assert_eq!(rt; output.failures(), 1);
-    assert_eq!(rt; output.finish(), Put::Took(0));
+    assert!(rt; output.put(b"element,direction".as_slice()) == Put::Took(5));
+    assert!(rt; output.put(b"nt,direction".as_slice()) == Put::Took(5));
+    assert!(rt; output.put(b"rection".as_slice()) == Put::Failed);
+    assert!(rt; output.bytes() == b"element,di".as_slice());
+    assert!(rt; output.failures() == 1);
+    assert!(rt; output.finish() == Put::Took(0));
     Ok(())
 }
 
 #[test]
 fn room_and_an_end_that_fails(rt: HostRuntime) -> Result<(), Fail> {
     let mut output = MemoryOut::new(rt.alloc(), 3, 5, Some(2))?;
-    assert_eq!(rt; output.put(b"element".as_slice()), Put::Took(3));
-    assert_eq!(rt; output.finish(), Put::Failed);
-    assert_eq!(rt; output.put(b"ment".as_slice()), Put::Failed);
-    assert_eq!(rt; output.bytes(), b"ele".as_slice());
-    assert_eq!(rt; output.failures(), 2);
+    assert!(rt; output.put(b"element".as_slice()) == Put::Took(3));
+    assert!(rt; output.finish() == Put::Failed);
+    assert!(rt; output.put(b"ment".as_slice()) == Put::Failed);
+    assert!(rt; output.bytes() == b"ele".as_slice());
+    assert!(rt; output.failures() == 2);
     Ok(())
 }

@@ -45,9 +45,9 @@ pub(crate) fn gives(rt: &impl Abort, cursor: &mut Cursor, midnight: i64, ends: &
     for (from, until) in ends {
         let from = Sec(midnight.wrapping_add(*from));
         let until = Sec(midnight.wrapping_add(*until));
-        assert_eq!(rt; cursor.next(), Span::new(from, until));
+        assert!(rt; cursor.next() == Span::new(from, until));
     }
-    assert_eq!(rt; cursor.next(), None);
+    assert!(rt; cursor.next() == None);
 }
 
 pub(crate) fn days(rt: &impl Abort, from_day: i64, to_day: i64) -> Horizon {
@@ -59,12 +59,12 @@ fn tokens_of_a_text(rt: HostRuntime) {
     for _ in 0..2 {
         match tokens(rt.alloc(), TEXT) {
             Ok(found) => {
-                assert_eq!(rt; found.len(), 18);
-                assert_eq!(rt; found[9].kind, TokenKind::Star);
-                assert_eq!(rt; found[17].to, 24);
+                assert!(rt; found.len() == 18);
+                assert!(rt; found[9].kind == TokenKind::Star);
+                assert!(rt; found[17].to == 24);
                 return;
             }
-            Err(fault) => assert_eq!(rt; fault, NO_MEMORY),
+            Err(fault) => assert!(rt; fault == NO_MEMORY),
         }
     }
     panic!(rt; "refused twice");
@@ -78,15 +78,15 @@ fn a_domain_that_is_read(rt: HostRuntime) {
                 let Expr::Join(op, left, right) = domain.expr() else {
                     panic!(rt; "no two domains");
                 };
-                assert_eq!(rt; *op, Op::Meet);
+                assert!(rt; *op == Op::Meet);
                 let (Expr::Leaf(left), Expr::Leaf(right)) = (&**left, &**right) else {
                     panic!(rt; "no basic domains");
                 };
-                assert_eq!(rt; left.start.parts().month, Some(4));
-                assert_eq!(rt; right.start.parts().hour, Some(10));
+                assert!(rt; left.start.parts().month == Some(4));
+                assert!(rt; right.start.parts().hour == Some(10));
                 return;
             }
-            Err(fault) => assert_eq!(rt; fault, NO_MEMORY),
+            Err(fault) => assert!(rt; fault == NO_MEMORY),
         }
     }
     panic!(rt; "refused twice");
@@ -99,7 +99,7 @@ fn a_domain_that_is_printed(rt: HostRuntime) {
     };
     for _ in 0..2 {
         if let Ok(text) = print_domain(rt.alloc(), &domain) {
-            assert_eq!(rt; text.as_str(), CANONICAL);
+            assert!(rt; text.as_str() == CANONICAL);
             return;
         }
     }
@@ -325,7 +325,7 @@ fn expect_change(
     };
     for _ in 0..2 {
         if let Ok(change) = change(rt, alloc, &domain, second, to_day) {
-            assert_eq!(rt; change, wanted);
+            assert!(rt; change == wanted);
             return;
         }
     }
@@ -359,7 +359,7 @@ fn expect_change_ever(
         assert!(rt; -25_202 * DAY <= second.0 && second.0 < 84_006 * DAY);
         let answer = next_change_ever(alloc, &domain, second);
         if answer != Err(EverFault::NoMemory) {
-            assert_eq!(rt; answer, wanted);
+            assert!(rt; answer == wanted);
             return;
         }
     }
@@ -387,7 +387,7 @@ fn a_cursor(rt: HostRuntime) {
     let horizon = days(&rt, 19_814, 19_815);
     for _ in 0..2 {
         if let Ok(mut cursor) = Cursor::open(rt.alloc(), &domain, horizon) {
-            assert_eq!(rt; cursor.nodes(), 3);
+            assert!(rt; cursor.nodes() == 3);
             gives(&rt, &mut cursor, 19_814 * DAY, &[(10 * HOUR, 14 * HOUR)]);
             return;
         }
@@ -437,7 +437,7 @@ fn any_of_two_cursors(rt: HostRuntime) {
             return;
         };
         if let Ok(mut cursor) = Cursor::any(alloc, cursors, horizon) {
-            assert_eq!(rt; cursor.nodes(), 5);
+            assert!(rt; cursor.nodes() == 5);
             gives(&rt, &mut cursor, NEW_YEAR * DAY, &EITHER);
             return;
         }
@@ -470,7 +470,7 @@ fn outside_a_cursor(rt: HostRuntime) {
             return;
         };
         if let Ok(mut cursor) = Cursor::outside(alloc, inner, horizon) {
-            assert_eq!(rt; cursor.nodes(), 6);
+            assert!(rt; cursor.nodes() == 6);
             gives(&rt, &mut cursor, NEW_YEAR * DAY, &NEITHER);
             return;
         }
@@ -500,11 +500,11 @@ fn records_that_are_read(rt: HostRuntime) {
     for _ in 0..2 {
         match records(rt.alloc()) {
             Ok(records) => {
-                assert_eq!(rt; records.elements(), [17u64].as_slice());
-                assert_eq!(rt; records.rows().len(), 2);
+                assert!(rt; records.elements() == [17u64].as_slice());
+                assert!(rt; records.rows().len() == 2);
                 return;
             }
-            Err(fault) => assert_eq!(rt; fault, RecordFault::NoMemory),
+            Err(fault) => assert!(rt; fault == RecordFault::NoMemory),
         }
     }
     panic!(rt; "refused twice");

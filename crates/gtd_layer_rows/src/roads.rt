@@ -45,7 +45,7 @@ fn accepted(rt: &impl Abort, alloc: Global, parts: &[&[u8]]) -> Records {
 fn refused(rt: &impl Abort, alloc: Global, parts: &[&[u8]], fault: RecordFault) {
     match read(rt, alloc, parts) {
         Ok(_) => panic!(rt; "accepted"),
-        Err(why) => assert_eq!(rt; why, fault),
+        Err(why) => assert!(rt; why == fault),
     }
 }
 
@@ -104,10 +104,10 @@ fn headers(rt: HostRuntime) {
     ];
     for (rows, count) in table {
         let records = accepted(&rt, alloc, &[HEADER.as_bytes(), rows.as_bytes()]);
-        assert_eq!(rt; records.elements().len(), count);
+        assert!(rt; records.elements().len() == count);
         let parts = [MARK.as_bytes(), HEADER_2.as_bytes(), rows.as_bytes()];
         let records = accepted(&rt, alloc, &parts);
-        assert_eq!(rt; records.elements().len(), count);
+        assert!(rt; records.elements().len() == count);
     }
 }
 
@@ -142,9 +142,8 @@ fn vehicles_of_version_2(rt: HostRuntime) {
     for (field, closed) in table {
         let records = accepted(&rt, rt.alloc(), &for_vehicles(field));
         for (vehicle, mark) in (1u8..14).zip(closed.as_bytes()) {
-            assert_eq!(rt;
-                records.closed_at(17, Direction::Positive, vehicle, Sec(APRIL)),
-                *mark == b'x',
+            assert!(rt;
+                records.closed_at(17, Direction::Positive, vehicle, Sec(APRIL)) == (*mark == b'x'),
                 "{field}, {vehicle}"
             );
         }
@@ -158,7 +157,7 @@ fn all_but_two_vehicles(rt: HostRuntime) {
     for vehicle in 1u8..100 {
         for direction in [Direction::Positive, Direction::Negative] {
             let closed = records.closed_at(17, direction, vehicle, Sec(APRIL));
-            assert_eq!(rt; closed, vehicle != 11 && vehicle != 12, "{vehicle}");
+            assert!(rt; closed == (vehicle != 11 && vehicle != 12), "{vehicle}");
         }
     }
 }
@@ -168,8 +167,8 @@ fn a_file_byte_by_byte(rt: HostRuntime) -> Result<(), Fail> {
     let alloc = rt.alloc();
     let bytes = Vec::from_slice(alloc, R.as_bytes())?;
     let records = read_records(alloc, &mut MemoryIn::new(bytes, 1, None, None))?;
-    assert_eq!(rt; records.elements(), [17u64].as_slice());
-    assert_eq!(rt; records.rows().len(), 2);
+    assert!(rt; records.elements() == [17u64].as_slice());
+    assert!(rt; records.rows().len() == 2);
     Ok(())
 }
 
@@ -178,7 +177,7 @@ fn great_elements(rt: HostRuntime) {
     let rows = b"9999999999,both,0,\n7000000001,both,0,\n4294967296,both,0,\n".as_slice();
     let records = accepted(&rt, rt.alloc(), &[HEADER.as_bytes(), rows]);
     let elements = [4_294_967_296u64, 7_000_000_001, 9_999_999_999];
-    assert_eq!(rt; records.elements(), elements.as_slice());
+    assert!(rt; records.elements() == elements.as_slice());
     for element in elements {
         let closed = records.closed_at(element, Direction::Negative, 1, Sec(APRIL));
         assert!(rt; closed, "{element}");
@@ -188,7 +187,7 @@ fn great_elements(rt: HostRuntime) {
 #[test]
 fn what_closes(rt: HostRuntime) {
     let records = accepted(&rt, rt.alloc(), &[R.as_bytes()]);
-    assert_eq!(rt; records.elements(), [17u64].as_slice());
+    assert!(rt; records.elements() == [17u64].as_slice());
     let ten = Sec(APRIL + 10 * HOUR);
     let table: [(u64, Direction, u8, Sec, bool); 6] = [
         (17, Direction::Positive, 11, ten, true),
@@ -205,10 +204,7 @@ fn what_closes(rt: HostRuntime) {
         (5, Direction::Positive, 11, ten, false),
     ];
     for (element, direction, vehicle, second, closed) in table {
-        assert_eq!(rt;
-            records.closed_at(element, direction, vehicle, second),
-            closed
-        );
+        assert!(rt; records.closed_at(element, direction, vehicle, second) == closed);
     }
 }
 
@@ -229,7 +225,7 @@ fn of_prefix(rt: &impl Abort, length: usize, read: Result<Records, RecordFault>)
         Err(RecordFault::FieldCount { row: 2 }) => "FieldCount of 2",
         Err(_) => "another",
     };
-    assert_eq!(rt; found, expected, "{length}");
+    assert!(rt; found == expected, "{length}");
 }
 
 #[test]
@@ -249,13 +245,13 @@ fn devices_that_fail_or_fall_silent(rt: HostRuntime) -> Result<(), Fail> {
     for call in 1u64..16 {
         let mut input = MemoryIn::new(Vec::from_slice(alloc, R.as_bytes())?, 7, Some(call), None);
         match read_records(alloc, &mut input) {
-            Ok(_) => assert_eq!(rt; call, 15),
-            Err(fault) => assert_eq!(rt; fault, RecordFault::ReadFault),
+            Ok(_) => assert!(rt; call == 15),
+            Err(fault) => assert!(rt; fault == RecordFault::ReadFault),
         }
         let mut input = MemoryIn::new(Vec::from_slice(alloc, R.as_bytes())?, 7, None, Some(call));
         match read_records(alloc, &mut input) {
-            Ok(_) => assert_eq!(rt; call, 15),
-            Err(fault) => assert_eq!(rt; fault, RecordFault::Endless),
+            Ok(_) => assert!(rt; call == 15),
+            Err(fault) => assert!(rt; fault == RecordFault::Endless),
         }
     }
     Ok(())
@@ -269,7 +265,7 @@ fn as_many_rows_and_bytes_as_may_be(rt: HostRuntime) -> Result<(), Fail> {
         bytes.extend_from_slice(b"1,both,0,\n".as_slice())?;
     }
     let records = accepted(&rt, alloc, &[bytes.as_slice()]);
-    assert_eq!(rt; records.elements(), [1u64].as_slice());
+    assert!(rt; records.elements() == [1u64].as_slice());
     refused(
         &rt,
         alloc,
@@ -277,11 +273,11 @@ fn as_many_rows_and_bytes_as_may_be(rt: HostRuntime) -> Result<(), Fail> {
         RecordFault::TooManyRows,
     );
     let horizon = Horizon::new(NEW_YEAR, NEW_YEAR + 1).expect(&rt, "a horizon");
-    assert_eq!(rt;
+    assert!(rt;
         schedule_of(alloc, &records, 1, Direction::Positive, 1, horizon)?
             .spans()
-            .len(),
-        0
+            .len()
+            == 0
     );
 
     let mut bytes = Vec::new(alloc);
@@ -301,7 +297,7 @@ fn open_seconds_of_elements(rt: HostRuntime) -> Result<(), Fail> {
     let alloc = rt.alloc();
     let rows = b"17,both,0,[(h0){h12}]\n009,positive,0,\n17,negative,2,\n".as_slice();
     let records = accepted(&rt, alloc, &[HEADER.as_bytes(), rows]);
-    assert_eq!(rt; records.elements(), [9u64, 17].as_slice());
+    assert!(rt; records.elements() == [9u64, 17].as_slice());
     let horizon = Horizon::new(NEW_YEAR, NEW_YEAR + 1).expect(&rt, "a horizon");
     let midnight = horizon.from();
     let noon = Sec(midnight.0 + 12 * HOUR);
@@ -319,7 +315,7 @@ fn open_seconds_of_elements(rt: HostRuntime) -> Result<(), Fail> {
             Some(from) => Span::new(from, horizon.until()),
             None => None,
         };
-        assert_eq!(rt; list.spans().first().copied(), whole);
+        assert!(rt; list.spans().first().copied() == whole);
         assert!(rt; list.spans().len() < 2);
     }
     Ok(())
@@ -338,17 +334,11 @@ fn numbers_and_directions(rt: HostRuntime) {
         ("1 ", None),
     ];
     for (text, number) in table {
-        assert_eq!(rt; read_number(text.as_bytes()), number);
+        assert!(rt; read_number(text.as_bytes()) == number);
     }
-    assert_eq!(rt;
-        read_direction(b"positive".as_slice()),
-        Some(Direction::Positive)
-    );
-    assert_eq!(rt;
-        read_direction(b"negative".as_slice()),
-        Some(Direction::Negative)
-    );
-    assert_eq!(rt; read_direction(b"both".as_slice()), None);
+    assert!(rt; read_direction(b"positive".as_slice()) == Some(Direction::Positive));
+    assert!(rt; read_direction(b"negative".as_slice()) == Some(Direction::Negative));
+    assert!(rt; read_direction(b"both".as_slice()) == None);
 }
 
 #[test]
@@ -360,6 +350,6 @@ fn names(rt: HostRuntime) {
         (RecordFault::Vehicle { row: 7 }, "Vehicle"),
     ];
     for (fault, name) in table {
-        assert_eq!(rt; fault.name(), name);
+        assert!(rt; fault.name() == name);
     }
 }

@@ -13,14 +13,13 @@ use std::test::Fail;
 /// Asserts that the source gives spans with these ends, and then none, again and again.
 pub(crate) fn gives<S: SpanSource>(rt: &impl Abort, source: &mut S, ends: &[(i64, i64)]) {
     for &(from, until) in ends {
-        assert_eq!(rt;
-            source.next(),
-            Span::new(Sec(from), Sec(until)),
+        assert!(rt;
+            source.next() == Span::new(Sec(from), Sec(until)),
             "from {from}"
         );
     }
-    assert_eq!(rt; source.next(), None);
-    assert_eq!(rt; source.next(), None);
+    assert!(rt; source.next() == None);
+    assert!(rt; source.next() == None);
 }
 
 #[test]
@@ -75,7 +74,7 @@ fn changes_of_a_list(rt: HostRuntime) -> Result<(), Fail> {
     for (second, change) in [(0, Some(Sec(10))), (10, Some(Sec(20))), (20, None)] {
         let second = Sec(second);
         assert!(rt; day.from() <= second && second < day.until());
-        assert_eq!(rt; inner.next_change(second, day), change);
+        assert!(rt; inner.next_change(second, day) == change);
     }
     Ok(())
 }
@@ -115,17 +114,14 @@ fn sources(rt: HostRuntime) -> Result<(), Fail> {
 pub(crate) fn expect_sweep_outside(rt: &impl Abort) {
     let day = Horizon::new(0, 1).expect(rt, "a horizon");
     let mut sweep = Sweep::outside(day);
-    assert_eq!(rt; sweep.step(), Ask::Left);
+    assert!(rt; sweep.step() == Ask::Left);
     sweep.tell(Some(Span::between(Sec(10), Sec(20))));
-    assert_eq!(rt; sweep.step(), Ask::Give(Span::between(Sec(0), Sec(10))));
-    assert_eq!(rt; sweep.step(), Ask::Left);
+    assert!(rt; sweep.step() == Ask::Give(Span::between(Sec(0), Sec(10))));
+    assert!(rt; sweep.step() == Ask::Left);
     sweep.tell(None);
-    assert_eq!(rt;
-        sweep.step(),
-        Ask::Give(Span::between(Sec(20), Sec(86_400)))
-    );
-    assert_eq!(rt; sweep.step(), Ask::End);
-    assert_eq!(rt; sweep.step(), Ask::End);
+    assert!(rt; sweep.step() == Ask::Give(Span::between(Sec(20), Sec(86_400))));
+    assert!(rt; sweep.step() == Ask::End);
+    assert!(rt; sweep.step() == Ask::End);
 }
 
 #[test]
@@ -136,14 +132,14 @@ fn a_sweep_outside(rt: HostRuntime) {
 /// A sweep of no span and of 1 to 2 gives the latter.
 pub(crate) fn expect_sweep_of_two_sides(rt: &impl Abort) {
     let mut sweep = Sweep::new(Op::Union);
-    assert_eq!(rt; sweep.step(), Ask::Left);
+    assert!(rt; sweep.step() == Ask::Left);
     sweep.tell(None);
-    assert_eq!(rt; sweep.step(), Ask::Right);
+    assert!(rt; sweep.step() == Ask::Right);
     sweep.tell(Some(Span::between(Sec(1), Sec(2))));
-    assert_eq!(rt; sweep.step(), Ask::Right);
+    assert!(rt; sweep.step() == Ask::Right);
     sweep.tell(None);
-    assert_eq!(rt; sweep.step(), Ask::Give(Span::between(Sec(1), Sec(2))));
-    assert_eq!(rt; sweep.step(), Ask::End);
+    assert!(rt; sweep.step() == Ask::Give(Span::between(Sec(1), Sec(2))));
+    assert!(rt; sweep.step() == Ask::End);
 }
 
 #[test]
@@ -167,7 +163,7 @@ fn days(rt: HostRuntime) -> Result<(), Fail> {
         (259_200, 40_800),
         (345_600, 0),
     ] {
-        assert_eq!(rt; seconds.count(Sec(midnight)), count, "from {midnight}");
+        assert!(rt; seconds.count(Sec(midnight)) == count, "from {midnight}");
     }
     Ok(())
 }
@@ -212,13 +208,13 @@ fn operations_second_by_second(rt: HostRuntime) -> Result<(), Fail> {
         assert!(rt; are_apart(&inner) && are_apart(&outer), "{left}");
         for second in -3..5i64 {
             let (here, in_day) = (is_in(left, second), 0 <= second);
-            assert_eq!(rt; a.contains(Sec(second)), here);
-            assert_eq!(rt; inner.contains(Sec(second)), in_day && here);
-            assert_eq!(rt; outer.contains(Sec(second)), in_day && !here);
+            assert!(rt; a.contains(Sec(second)) == here);
+            assert!(rt; inner.contains(Sec(second)) == (in_day && here));
+            assert!(rt; outer.contains(Sec(second)) == (in_day && !here));
         }
         for right in 0..64u8 {
             let b = seconds_of(&rt, alloc, right)?;
-            assert_eq!(rt; same(&a, &b), left == right);
+            assert!(rt; same(&a, &b) == (left == right));
             let (either, both, rest) = (
                 union(alloc, &a, &b)?,
                 meet(alloc, &a, &b)?,
@@ -230,9 +226,9 @@ fn operations_second_by_second(rt: HostRuntime) -> Result<(), Fail> {
             );
             for second in -3..5i64 {
                 let (in_a, in_b) = (is_in(left, second), is_in(right, second));
-                assert_eq!(rt; either.contains(Sec(second)), in_a || in_b);
-                assert_eq!(rt; both.contains(Sec(second)), in_a && in_b);
-                assert_eq!(rt; rest.contains(Sec(second)), in_a && !in_b);
+                assert!(rt; either.contains(Sec(second)) == (in_a || in_b));
+                assert!(rt; both.contains(Sec(second)) == (in_a && in_b));
+                assert!(rt; rest.contains(Sec(second)) == (in_a && !in_b));
             }
         }
     }

@@ -52,27 +52,27 @@ fn switch(alloc: Global) {
 }
 
 fn expect_values(rt: &impl Abort) {
-    assert_eq!(rt; Span::new(Sec(10), Sec(10)), None);
+    assert!(rt; Span::new(Sec(10), Sec(10)) == None);
     let span = Span::new(Sec(10), Sec(20)).expect(rt, "a span");
-    assert_eq!(rt; (span.from(), span.until()), (Sec(10), Sec(20)));
-    assert_eq!(rt; Start::new(StartParts::default()), None);
+    assert!(rt; (span.from(), span.until()) == (Sec(10), Sec(20)));
+    assert!(rt; Start::new(StartParts::default()) == None);
     let start = Start::new(field(b'h', 10)).expect(rt, "a start");
-    assert_eq!(rt; start.parts(), field(b'h', 10));
-    assert_eq!(rt; Duration::new(number(b'y', 101)), None);
+    assert!(rt; start.parts() == field(b'h', 10));
+    assert!(rt; Duration::new(number(b'y', 101)) == None);
     let duration = Duration::new(number(b'y', 100)).expect(rt, "a duration");
-    assert_eq!(rt; duration.parts(), number(b'y', 100));
-    assert_eq!(rt; duration.bound(), 3_162_240_000);
+    assert!(rt; duration.parts() == number(b'y', 100));
+    assert!(rt; duration.bound() == 3_162_240_000);
 }
 
 fn expect_horizons(rt: &impl Abort) {
-    assert_eq!(rt; Horizon::new(5, 5), Err(HorizonFault::Empty));
-    assert_eq!(rt; Horizon::new(-25_203, 0), Err(HorizonFault::TooEarly));
-    assert_eq!(rt; Horizon::new(266_000, 266_628), Err(HorizonFault::TooLate));
-    assert_eq!(rt; Horizon::new(-25_202, 120_897), Err(HorizonFault::TooLong));
+    assert!(rt; Horizon::new(5, 5) == Err(HorizonFault::Empty));
+    assert!(rt; Horizon::new(-25_203, 0) == Err(HorizonFault::TooEarly));
+    assert!(rt; Horizon::new(266_000, 266_628) == Err(HorizonFault::TooLate));
+    assert!(rt; Horizon::new(-25_202, 120_897) == Err(HorizonFault::TooLong));
     let day = days(rt, 19_723, 19_724);
-    assert_eq!(rt; (day.from_day(), day.to_day()), (19_723, 19_724));
-    assert_eq!(rt; day.from(), Sec(1_704_067_200));
-    assert_eq!(rt; day.until(), Sec(1_704_153_600));
+    assert!(rt; (day.from_day(), day.to_day()) == (19_723, 19_724));
+    assert!(rt; day.from() == Sec(1_704_067_200));
+    assert!(rt; day.until() == Sec(1_704_153_600));
 }
 
 // The greatest number of basic domains makes a domain; one more is handed back.
@@ -107,12 +107,12 @@ fn values(rt: HostRuntime) -> Result<(), Fail> {
 }
 
 fn expect_names(rt: &impl Abort) {
-    assert_eq!(rt; Fault::TooLongDuration.name(), "TooLongDuration");
-    assert_eq!(rt; HorizonFault::TooEarly.name(), "TooEarly");
-    assert_eq!(rt; StampFault::NoSuchDate.name(), "NoSuchDate");
-    assert_eq!(rt; EverFault::HasYear.name(), "HasYear");
-    assert_eq!(rt; InputFault::Endless.name(), "Endless");
-    assert_eq!(rt; RecordFault::Vehicle { row: 3 }.name(), "Vehicle");
+    assert!(rt; Fault::TooLongDuration.name() == "TooLongDuration");
+    assert!(rt; HorizonFault::TooEarly.name() == "TooEarly");
+    assert!(rt; StampFault::NoSuchDate.name() == "NoSuchDate");
+    assert!(rt; EverFault::HasYear.name() == "HasYear");
+    assert!(rt; InputFault::Endless.name() == "Endless");
+    assert!(rt; RecordFault::Vehicle { row: 3 }.name() == "Vehicle");
 }
 
 #[test]
@@ -125,25 +125,25 @@ fn names(rt: HostRuntime) {
 
 fn expect_dates(rt: &impl Abort) {
     let day = fields(20_087);
-    assert_eq!(rt; (day.year, day.month, day.day), (2024, 12, 30));
-    assert_eq!(rt; (day.weekday, day.week, day.week_year), (2, 1, 2025));
-    assert_eq!(rt; (day.nth, day.nth_back), (5, 1));
-    assert_eq!(rt; day_of(2024, 12, 30), Some(20_087));
-    assert_eq!(rt; day_of(2100, 2, 29), None);
-    assert_eq!(rt; &write_date(20_087), b"2024-12-30");
-    assert_eq!(rt; read_date(b"2024-12-30".as_slice()), Ok(20_087));
+    assert!(rt; (day.year, day.month, day.day) == (2024, 12, 30));
+    assert!(rt; (day.weekday, day.week, day.week_year) == (2, 1, 2025));
+    assert!(rt; (day.nth, day.nth_back) == (5, 1));
+    assert!(rt; day_of(2024, 12, 30) == Some(20_087));
+    assert!(rt; day_of(2100, 2, 29) == None);
+    assert!(rt; &write_date(20_087) == b"2024-12-30");
+    assert!(rt; read_date(b"2024-12-30".as_slice()) == Ok(20_087));
     let none = read_date(b"2700-01-02".as_slice());
-    assert_eq!(rt; none, Err(StampFault::Range));
+    assert!(rt; none == Err(StampFault::Range));
 }
 
 fn expect_stamps(rt: &impl Abort) {
-    assert_eq!(rt; known_stamp(Sec(-1)), Some(*b"1969-12-31T23:59:59"));
+    assert!(rt; known_stamp(Sec(-1)) == Some(*b"1969-12-31T23:59:59"));
     let moment = read_stamp(b"2024-01-31T00:00:00".as_slice());
-    assert_eq!(rt; moment, Ok(Sec(19_753 * DAY)));
+    assert!(rt; moment == Ok(Sec(19_753 * DAY)));
     let none = read_stamp(b"2024-02-01T24:00:00".as_slice());
-    assert_eq!(rt; none, Err(StampFault::NoSuchDate));
+    assert!(rt; none == Err(StampFault::NoSuchDate));
     let end = end_text("2024-01-31T00:00:00", number(b'M', 1));
-    assert_eq!(rt; end, Some(*b"2024-02-29T00:00:00"));
+    assert!(rt; end == Some(*b"2024-02-29T00:00:00"));
 }
 
 #[test]
@@ -185,7 +185,7 @@ fn expect_changes(rt: &impl Abort, list: &SpanList, day: Horizon)
     for (second, change) in [(0, Some(Sec(10))), (10, Some(Sec(20))), (20, None)] {
         let second = Sec(second);
         assert!(rt; day.from() <= second && second < day.until());
-        assert_eq!(rt; list.next_change(second, day), change);
+        assert!(rt; list.next_change(second, day) == change);
     }
 }
 
@@ -265,12 +265,12 @@ fn expect_four_hours(rt: &impl Abort, basic: Basic) -> (u64, u64) {
     assert!(rt; covers(&basic, Sec(ten)) && !covers(&basic, Sec(ten - 1)));
     let day = days(rt, NEW_YEAR, NEW_YEAR + 1);
     let mut starts = Starts::new(basic, day);
-    assert_eq!(rt; starts.next(), Some(Sec(ten - DAY)));
-    assert_eq!(rt; starts.next(), Some(Sec(ten)));
-    assert_eq!(rt; starts.next(), None);
+    assert!(rt; starts.next() == Some(Sec(ten - DAY)));
+    assert!(rt; starts.next() == Some(Sec(ten)));
+    assert!(rt; starts.next() == None);
     let mut runs = Runs::new(basic, day);
-    assert_eq!(rt; runs.next(), Span::new(Sec(ten), Sec(ten + 4 * HOUR)));
-    assert_eq!(rt; runs.next(), None);
+    assert!(rt; runs.next() == Span::new(Sec(ten), Sec(ten + 4 * HOUR)));
+    assert!(rt; runs.next() == None);
     assert!(rt; runs.ticks() <= 4);
     (starts.ticks(), runs.ticks())
 }
@@ -283,7 +283,7 @@ fn recurrences(rt: HostRuntime) {
     };
     let counted = expect_four_hours(&rt, basic);
     switch(rt.alloc());
-    assert_eq!(rt; expect_four_hours(&rt, basic), counted);
+    assert!(rt; expect_four_hours(&rt, basic) == counted);
     switch(rt.alloc());
 }
 
@@ -297,13 +297,13 @@ const EITHER: [(i64, i64); 4] = [
 
 // What the cursor of the night or the morning gives, and that of a whole day. Answers how far the first counted.
 fn expect_cursors(rt: &impl Abort, cursor: &mut Cursor, day: Horizon) -> u64 {
-    assert_eq!(rt; cursor.nodes(), 5);
+    assert!(rt; cursor.nodes() == 5);
     gives(rt, cursor, NEW_YEAR * DAY, &EITHER);
-    assert_eq!(rt; cursor.nodes(), 5);
+    assert!(rt; cursor.nodes() == 5);
     let mut whole = Cursor::whole(day);
-    assert_eq!(rt; whole.nodes(), 1);
+    assert!(rt; whole.nodes() == 1);
     gives(rt, &mut whole, NEW_YEAR * DAY, &[(0, DAY)]);
-    assert_eq!(rt; whole.ticks(), 0);
+    assert!(rt; whole.ticks() == 0);
     cursor.ticks()
 }
 
@@ -319,7 +319,7 @@ fn cursors(rt: HostRuntime) -> Result<(), Fail> {
     let mut again = Cursor::any(alloc, cursors, day)?;
     let ticks = expect_cursors(&rt, &mut cursor, day);
     switch(alloc);
-    assert_eq!(rt; expect_cursors(&rt, &mut again, day), ticks);
+    assert!(rt; expect_cursors(&rt, &mut again, day) == ticks);
     switch(alloc);
     Ok(())
 }
@@ -345,7 +345,7 @@ fn seconds_of_a_domain(rt: HostRuntime) -> Result<(), Fail> {
 
 // What the records of `R` answer.
 fn expect_records(rt: &impl Abort, records: &Records) {
-    assert_eq!(rt; records.elements(), [17u64].as_slice());
+    assert!(rt; records.elements() == [17u64].as_slice());
     let ten = Sec(19_814 * DAY + 10 * HOUR);
     let before = Sec(19_814 * DAY + 10 * HOUR - 1);
     assert!(rt; records.closed_at(17, Direction::Positive, 11, ten));
@@ -353,11 +353,11 @@ fn expect_records(rt: &impl Abort, records: &Records) {
     assert!(rt; records.closed_at(17, Direction::Negative, 11, before));
     assert!(rt; !records.closed_at(17, Direction::Negative, 12, ten));
     assert!(rt; !records.closed_at(5, Direction::Positive, 11, ten));
-    assert_eq!(rt; read_number(b"0000000017".as_slice()), Some(17));
-    assert_eq!(rt; read_number(b"00000000017".as_slice()), None);
+    assert!(rt; read_number(b"0000000017".as_slice()) == Some(17));
+    assert!(rt; read_number(b"00000000017".as_slice()) == None);
     let negative = read_direction(b"negative".as_slice());
-    assert_eq!(rt; negative, Some(Direction::Negative));
-    assert_eq!(rt; read_direction(b"both".as_slice()), None);
+    assert!(rt; negative == Some(Direction::Negative));
+    assert!(rt; read_direction(b"both".as_slice()) == None);
 }
 
 #[test]
@@ -376,15 +376,15 @@ fn records(rt: HostRuntime) -> Result<(), Fail> {
 fn expect_inputs(rt: &impl Abort, bytes: Vec<u8>) {
     let mut buffer = [0u8; 100];
     let mut memory = MemoryIn::new(bytes, 87, Some(2), Some(4));
-    assert_eq!(rt; memory.pull(&mut buffer), Pull::Got(87));
-    assert_eq!(rt; memory.pull(&mut buffer), Pull::Failed);
-    assert_eq!(rt; memory.pull(&mut buffer), Pull::Got(1));
-    assert_eq!(rt; memory.pull(&mut buffer), Pull::Got(0));
-    assert_eq!(rt; memory.failures(), 1);
+    assert!(rt; memory.pull(&mut buffer) == Pull::Got(87));
+    assert!(rt; memory.pull(&mut buffer) == Pull::Failed);
+    assert!(rt; memory.pull(&mut buffer) == Pull::Got(1));
+    assert!(rt; memory.pull(&mut buffer) == Pull::Got(0));
+    assert!(rt; memory.failures() == 1);
     let mut host = Host::new(R.as_bytes());
-    assert_eq!(rt; host.pull(&mut buffer), Pull::Got(88));
-    assert_eq!(rt; host.pull(&mut buffer), Pull::Done);
-    assert_eq!(rt; host.failures(), 0);
+    assert!(rt; host.pull(&mut buffer) == Pull::Got(88));
+    assert!(rt; host.pull(&mut buffer) == Pull::Done);
+    assert!(rt; host.failures() == 0);
 }
 
 #[test]
@@ -403,12 +403,12 @@ fn inputs(rt: HostRuntime) -> Result<(), Fail> {
 fn expect_memory_out(rt: &impl Abort, output: &mut MemoryOut)
     requires sound { ⟦<MemoryOut as Output>⟧.failure_count output.old ≡ 0 }
 {
-    assert_eq!(rt; output.put(b"element,".as_slice()), Put::Took(5));
-    assert_eq!(rt; output.put(b"nt,".as_slice()), Put::Took(3));
-    assert_eq!(rt; output.put(b"direction".as_slice()), Put::Failed);
-    assert_eq!(rt; output.finish(), Put::Took(0));
-    assert_eq!(rt; output.bytes(), b"element,".as_slice());
-    assert_eq!(rt; output.failures(), 1);
+    assert!(rt; output.put(b"element,".as_slice()) == Put::Took(5));
+    assert!(rt; output.put(b"nt,".as_slice()) == Put::Took(3));
+    assert!(rt; output.put(b"direction".as_slice()) == Put::Failed);
+    assert!(rt; output.finish() == Put::Took(0));
+    assert!(rt; output.bytes() == b"element,".as_slice());
+    assert!(rt; output.failures() == 1);
 }
 
 #[test]

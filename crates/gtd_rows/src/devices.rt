@@ -68,8 +68,8 @@ fn inputs_that_fail(rt: HostRuntime) {
         for call in 1u64..15 {
             let mut failing = input(&rt, alloc, R.as_bytes(), Some(call), None);
             let (answer, output) = run_over(&rt, alloc, job, &mut failing);
-            assert_eq!(rt; answer, Err(RunFault::Records(RecordFault::ReadFault)));
-            assert_eq!(rt; failing.failures(), 1);
+            assert!(rt; answer == Err(RunFault::Records(RecordFault::ReadFault)));
+            assert!(rt; failing.failures() == 1);
             assert!(rt; output.bytes().is_empty());
         }
     }
@@ -82,8 +82,8 @@ fn inputs_that_fall_silent(rt: HostRuntime) {
         for call in 1u64..15 {
             let mut silent = input(&rt, alloc, R.as_bytes(), None, Some(call));
             let (answer, output) = run_over(&rt, alloc, job, &mut silent);
-            assert_eq!(rt; answer, Err(RunFault::Records(RecordFault::Endless)));
-            assert_eq!(rt; silent.failures(), 0);
+            assert!(rt; answer == Err(RunFault::Records(RecordFault::Endless)));
+            assert!(rt; silent.failures() == 0);
             assert!(rt; output.bytes().is_empty());
         }
     }
@@ -98,9 +98,9 @@ fn inputs_that_would_fail_after_their_end(rt: HostRuntime) {
         for (fail, silent) in [(Some(15), None), (None, Some(15))] {
             let mut input = input(&rt, alloc, R.as_bytes(), fail, silent);
             let (answer, output) = run_over(&rt, alloc, job, &mut input);
-            assert_eq!(rt; answer, Ok(count));
-            assert_eq!(rt; input.failures(), 0);
-            assert_eq!(rt; output.bytes(), text.as_slice());
+            assert!(rt; answer == Ok(count));
+            assert!(rt; input.failures() == 0);
+            assert!(rt; output.bytes() == text.as_slice());
         }
     }
 }
@@ -127,8 +127,8 @@ fn taken_before(text: &[u8], call: u64) -> (usize, u64) {
 fn outputs_that_fail_at_a_call(rt: HostRuntime) {
     let alloc = rt.alloc();
     let (count, text) = whole(&rt, alloc, APRIL);
-    assert_eq!(rt; count, 3);
-    assert_eq!(rt; text.len(), 147);
+    assert!(rt; count == 3);
+    assert!(rt; text.len() == 147);
     for call in 1u64..33 {
         let written = match call {
             1..=8 => 5 * (call - 1),
@@ -142,8 +142,8 @@ fn outputs_that_fail_at_a_call(rt: HostRuntime) {
         } else {
             Err(RunFault::WriteFault { written })
         };
-        assert_eq!(rt; answer, whole, "call {call}");
-        assert_eq!(rt; output.bytes(), &text[..(written as usize).min(text.len())]);
+        assert!(rt; answer == whole, "call {call}");
+        assert!(rt; output.bytes() == &text[..(written as usize).min(text.len())]);
     }
 }
 
@@ -159,16 +159,15 @@ fn each_run_stops_at_the_first_failure(rt: HostRuntime) {
             let (taken, _) = taken_before(text.as_slice(), call);
             let (answer, output) = run_into(&rt, alloc, job, 10_000, 5, Some(call));
             let written = taken as u64;
-            assert_eq!(rt;
-                answer,
-                Err(RunFault::WriteFault { written }),
+            assert!(rt;
+                answer == Err(RunFault::WriteFault { written }),
                 "call {call}"
             );
-            assert_eq!(rt; output.bytes(), &text[..taken.min(text.len())]);
+            assert!(rt; output.bytes() == &text[..taken.min(text.len())]);
         }
         let after = end.saturating_add(1);
         let (answer, _) = run_into(&rt, alloc, job, 10_000, 5, Some(after));
-        assert_eq!(rt; answer, Ok(count));
+        assert!(rt; answer == Ok(count));
     }
 }
 
@@ -180,12 +179,12 @@ fn outputs_with_too_little_room(rt: HostRuntime) {
         for room in 0..text.len().min(200) {
             let (answer, output) = run_into(&rt, alloc, job, room, 10_000, None);
             let written = room as u64;
-            assert_eq!(rt; answer, Err(RunFault::WriteFault { written }));
-            assert_eq!(rt; output.bytes(), &text[..room.min(text.len())]);
+            assert!(rt; answer == Err(RunFault::WriteFault { written }));
+            assert!(rt; output.bytes() == &text[..room.min(text.len())]);
         }
         let (answer, output) = run_into(&rt, alloc, job, text.len(), 1, None);
-        assert_eq!(rt; answer, Ok(count));
-        assert_eq!(rt; output.bytes(), text.as_slice());
+        assert!(rt; answer == Ok(count));
+        assert!(rt; output.bytes() == text.as_slice());
     }
 }
 
@@ -245,8 +244,8 @@ fn silence_of_999_pulls_is_waited_for(rt: HostRuntime) {
             left: 999,
         };
         let (answer, output) = run_over(&rt, alloc, job, &mut slow);
-        assert_eq!(rt; answer, Ok(count));
-        assert_eq!(rt; output.bytes(), text.as_slice());
+        assert!(rt; answer == Ok(count));
+        assert!(rt; output.bytes() == text.as_slice());
     }
 }
 
@@ -255,8 +254,8 @@ fn silence_for_ever_ends_at_its_thousandth_pull(rt: HostRuntime) {
     for job in JOBS {
         let mut mute = Mute { pulls: 0 };
         let (answer, output) = run_over(&rt, rt.alloc(), job, &mut mute);
-        assert_eq!(rt; answer, Err(RunFault::Records(RecordFault::Endless)));
-        assert_eq!(rt; mute.pulls, 1000);
+        assert!(rt; answer == Err(RunFault::Records(RecordFault::Endless)));
+        assert!(rt; mute.pulls == 1000);
         assert!(rt; output.bytes().is_empty());
     }
 }
@@ -303,7 +302,7 @@ fn writers_that_are_interrupted(rt: HostRuntime) -> Result<(), Fail> {
             left: interruptions,
             flushes,
         });
-        assert_eq!(rt; run(&rt, alloc, APRIL, &mut input, &mut output), expected);
+        assert!(rt; run(&rt, alloc, APRIL, &mut input, &mut output) == expected);
     }
     Ok(())
 }
@@ -349,8 +348,8 @@ fn lines_and_ends_of_outputs(rt: HostRuntime) {
             ends: 0,
             is_ended: false,
         };
-        assert_eq!(rt; run(&rt, alloc, job, &mut input, &mut output), Ok(lines));
-        assert_eq!(rt; (output.puts, output.ends), (lines, 1));
+        assert!(rt; run(&rt, alloc, job, &mut input, &mut output) == Ok(lines));
+        assert!(rt; (output.puts, output.ends) == (lines, 1));
         assert!(rt; output.is_ended);
     }
 }
@@ -377,9 +376,8 @@ fn flushes_of_file_commands(rt: HostRuntime) -> Result<(), Fail> {
                 left: 0,
                 flushes,
             };
-            assert_eq!(rt;
-                perform(alloc, &plan, &mut input, &mut out),
-                expected,
+            assert!(rt;
+                perform(alloc, &plan, &mut input, &mut out) == expected,
                 "{words:?}"
             );
         }

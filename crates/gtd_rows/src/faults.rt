@@ -25,7 +25,7 @@ fn expect_shown<T: Display>(
     expected: &str,
 ) -> Result<(), Fail> {
     let shown = format!(in alloc; "{value}")?;
-    assert_eq!(rt; shown.as_str(), expected);
+    assert!(rt; shown.as_str() == expected);
     Ok(())
 }
 
@@ -45,7 +45,7 @@ fn faults_of_texts(rt: HostRuntime) -> Result<(), Fail> {
         (Fault::TooLongDuration, "TooLongDuration"),
         (Fault::NoMemory, "NoMemory"),
     ] {
-        assert_eq!(rt; fault.name(), name);
+        assert!(rt; fault.name() == name);
         expect_shown(&rt, alloc, &fault, name)?;
     }
     expect_shown(&rt, alloc, &FAULT, "FieldRange at 2")
@@ -60,14 +60,14 @@ fn faults_of_horizons_and_moments(rt: HostRuntime) -> Result<(), Fail> {
         (HorizonFault::TooLate, "TooLate"),
         (HorizonFault::TooLong, "TooLong"),
     ] {
-        assert_eq!(rt; fault.name(), name);
+        assert!(rt; fault.name() == name);
         expect_shown(&rt, alloc, &fault, name)?;
     }
     for (fault, name) in [
         (EverFault::HasYear, "HasYear"),
         (EverFault::NoMemory, "NoMemory"),
     ] {
-        assert_eq!(rt; fault.name(), name);
+        assert!(rt; fault.name() == name);
         expect_shown(&rt, alloc, &fault, name)?;
     }
     Ok(())
@@ -82,7 +82,7 @@ fn faults_of_files(rt: HostRuntime) -> Result<(), Fail> {
         (InputFault::Endless, "Endless"),
         (InputFault::NoMemory, "NoMemory"),
     ] {
-        assert_eq!(rt; fault.name(), name);
+        assert!(rt; fault.name() == name);
         expect_shown(&rt, alloc, &fault, name)?;
     }
     for (fault, name) in [
@@ -104,7 +104,7 @@ fn faults_of_files(rt: HostRuntime) -> Result<(), Fail> {
         (RecordFault::NoMemory, "NoMemory"),
         (RecordFault::Endless, "Endless"),
     ] {
-        assert_eq!(rt; fault.name(), name);
+        assert!(rt; fault.name() == name);
         expect_shown(&rt, alloc, &fault, name)?;
     }
     Ok(())
@@ -125,7 +125,7 @@ fn faults_of_runs(rt: HostRuntime) -> Result<(), Fail> {
         ),
         (RunFault::NoMemory { written: 5 }, "NoMemory", "NoMemory"),
     ] {
-        assert_eq!(rt; fault.name(), name);
+        assert!(rt; fault.name() == name);
         expect_shown(&rt, rt.alloc(), &fault, shown)?;
     }
     Ok(())
@@ -139,11 +139,11 @@ fn expect_line(
     status: u8,
     line: &str,
 ) -> Result<(), Fail> {
-    assert_eq!(rt; refusal.status(), status, "{line}");
+    assert!(rt; refusal.status() == status, "{line}");
     let mut put = Vec::new(alloc);
     refusal.put_line(&mut put)?;
     let expected = format!(in alloc; "{line}\n")?;
-    assert_eq!(rt; put.as_slice(), expected.as_bytes());
+    assert!(rt; put.as_slice() == expected.as_bytes());
     expect_shown(rt, alloc, &refusal, line)
 }
 

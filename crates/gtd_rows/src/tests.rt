@@ -359,9 +359,9 @@ fn carry_out<W: Write>(alloc: Global, words: &[&str], out: &mut W) -> Result<(),
 // The command line prints this text and a line end.
 fn expect_printed(rt: &impl Abort, alloc: Global, words: &[&str], text: &str) -> Result<(), Fail> {
     let mut out = Vec::new(alloc);
-    assert_eq!(rt; carry_out(alloc, words, &mut out), Ok(()), "{words:?}");
+    assert!(rt; carry_out(alloc, words, &mut out) == Ok(()), "{words:?}");
     let expected = format!(in alloc; "{text}\n")?;
-    assert_eq!(rt; out.as_slice(), expected.as_bytes(), "{words:?}");
+    assert!(rt; out.as_slice() == expected.as_bytes(), "{words:?}");
     Ok(())
 }
 
@@ -379,13 +379,13 @@ pub(crate) fn expect_refused(
     let Err(refusal) = done else {
         panic!(rt; "{words:?} is not refused");
     };
-    assert_eq!(rt; refusal.status(), status, "{words:?}");
+    assert!(rt; refusal.status() == status, "{words:?}");
     let mut err = Vec::new(alloc);
     refusal.put_line(&mut err)?;
-    assert_eq!(rt; err.as_slice(), line.as_bytes(), "{words:?}");
+    assert!(rt; err.as_slice() == line.as_bytes(), "{words:?}");
     // As text, a refusal is its line.
     let text = format!(in alloc; "{refusal}\n")?;
-    assert_eq!(rt; text.as_str(), line, "{words:?}");
+    assert!(rt; text.as_str() == line, "{words:?}");
     Ok(())
 }
 
@@ -425,7 +425,7 @@ fn faults_are_told(rt: HostRuntime) -> Result<(), Fail> {
     });
     let mut out = Vec::new(alloc);
     let done = carry_out(alloc, &["canon", "[(h1h2){h1}]"], &mut out);
-    assert_eq!(rt; done, Err(repeated));
+    assert!(rt; done == Err(repeated));
     Ok(())
 }
 
@@ -504,12 +504,9 @@ fn basic_domains_are_limited(rt: HostRuntime) -> Result<(), Fail> {
     text.push_str("(h1){h1}")?;
 
     let mut printed = Vec::new(alloc);
-    assert_eq!(rt;
-        carry_out(alloc, &["canon", text.as_str()], &mut printed),
-        Ok(())
-    );
-    assert_eq!(rt; printed.pop(), Some(b'\n'));
-    assert_eq!(rt; depth_of(printed.as_slice()), 128);
+    assert!(rt; carry_out(alloc, &["canon", text.as_str()], &mut printed) == Ok(()));
+    assert!(rt; printed.pop() == Some(b'\n'));
+    assert!(rt; depth_of(printed.as_slice()) == 128);
     let canonical = String::from_utf8(printed)?;
     expect_printed(
         &rt,
@@ -572,27 +569,27 @@ fn writes_that_fail_are_told(rt: HostRuntime) -> Result<(), Fail> {
     for room in 0..=line.len() {
         let mut out = Narrow::new(alloc, room);
         let done = carry_out(alloc, &["canon", "[(m30h07){m30h1}]"], &mut out);
-        assert_eq!(rt; done.is_ok(), room == line.len(), "{room} bytes of room");
-        assert_eq!(rt; out.taken.as_slice(), &line[..room]);
+        assert!(rt;
+            done.is_ok() == (room == line.len()),
+            "{room} bytes of room"
+        );
+        assert!(rt; out.taken.as_slice() == &line[..room]);
         if let Err(refusal) = done {
-            assert_eq!(rt; refusal, Refusal::Write);
+            assert!(rt; refusal == Refusal::Write);
         }
     }
     let mut out = Narrow::new(alloc, 10);
     out.flush_fails = true;
-    assert_eq!(rt;
-        carry_out(alloc, &["check", "(h1){h1}"], &mut out),
-        Err(Refusal::Write)
-    );
-    assert_eq!(rt; out.taken.as_slice(), b"ok\n".as_slice());
+    assert!(rt; carry_out(alloc, &["check", "(h1){h1}"], &mut out) == Err(Refusal::Write));
+    assert!(rt; out.taken.as_slice() == b"ok\n".as_slice());
 
-    assert_eq!(rt; Refusal::Write.status(), 3);
+    assert!(rt; Refusal::Write.status() == 3);
     let mut err = Vec::new(alloc);
     Refusal::Write.put_line(&mut err)?;
-    assert_eq!(rt; err.as_slice(), b"fault WriteFault\n".as_slice());
+    assert!(rt; err.as_slice() == b"fault WriteFault\n".as_slice());
     let mut err = Narrow::new(alloc, 12);
     assert!(rt; Refusal::Write.put_line(&mut err).is_err());
-    assert_eq!(rt; err.taken.as_slice(), b"fault WriteF".as_slice());
+    assert!(rt; err.taken.as_slice() == b"fault WriteF".as_slice());
     Ok(())
 }
 
@@ -600,15 +597,15 @@ fn writes_that_fail_are_told(rt: HostRuntime) -> Result<(), Fail> {
 #[test]
 fn want_of_memory_is_told(rt: HostRuntime) -> Result<(), Fail> {
     let alloc = rt.alloc();
-    assert_eq!(rt; Refusal::Memory.status(), 3);
+    assert!(rt; Refusal::Memory.status() == 3);
     for (text, canonical) in &CANONICAL {
         let Ok(mut out) = Vec::with_capacity(alloc, 100) else {
             continue;
         };
         match carry_out(alloc, &["canon", text], &mut out) {
-            Ok(()) => assert_eq!(rt; out.len(), canonical.len() + 1),
+            Ok(()) => assert!(rt; out.len() == canonical.len() + 1),
             Err(refusal) => {
-                assert_eq!(rt; refusal, Refusal::Memory);
+                assert!(rt; refusal == Refusal::Memory);
                 assert!(rt; out.is_empty());
             }
         }
@@ -617,6 +614,6 @@ fn want_of_memory_is_told(rt: HostRuntime) -> Result<(), Fail> {
         return Ok(());
     };
     Refusal::Memory.put_line(&mut err)?;
-    assert_eq!(rt; err.as_slice(), b"fault NoMemory\n".as_slice());
+    assert!(rt; err.as_slice() == b"fault NoMemory\n".as_slice());
     Ok(())
 }

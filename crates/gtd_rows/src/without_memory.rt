@@ -20,14 +20,14 @@ fn switch(alloc: Global) {
 }
 
 fn expect_names(rt: &impl Abort) {
-    assert_eq!(rt; RunFault::YearRange.name(), "YearRange");
+    assert!(rt; RunFault::YearRange.name() == "YearRange");
     let header = RunFault::Records(RecordFault::Header);
-    assert_eq!(rt; header.name(), "Records");
-    assert_eq!(rt; RunFault::WriteFault { written: 5 }.name(), "WriteFault");
-    assert_eq!(rt; RunFault::NoMemory { written: 5 }.name(), "NoMemory");
-    assert_eq!(rt; Refusal::Usage.status(), 2);
-    assert_eq!(rt; Refusal::Open.status(), 3);
-    assert_eq!(rt; Refusal::HasYear.status(), 1);
+    assert!(rt; header.name() == "Records");
+    assert!(rt; RunFault::WriteFault { written: 5 }.name() == "WriteFault");
+    assert!(rt; RunFault::NoMemory { written: 5 }.name() == "NoMemory");
+    assert!(rt; Refusal::Usage.status() == 2);
+    assert!(rt; Refusal::Open.status() == 3);
+    assert!(rt; Refusal::HasYear.status() == 1);
 }
 
 #[test]
@@ -51,8 +51,8 @@ fn files_of_plans(rt: HostRuntime) {
     let alloc = rt.alloc();
     let migrate = planned(&rt, alloc, &["migrate", "r.csv"]);
     let check = planned(&rt, alloc, &["check", "(h1){h1}"]);
-    assert_eq!(rt; (migrate.file(), check.file()), (Some("r.csv"), None));
+    assert!(rt; (migrate.file(), check.file()) == (Some("r.csv"), None));
     switch(alloc);
-    assert_eq!(rt; (migrate.file(), check.file()), (Some("r.csv"), None));
+    assert!(rt; (migrate.file(), check.file()) == (Some("r.csv"), None));
     switch(alloc);
 }
