@@ -1,7 +1,7 @@
 use Rattle.std.proofs.Common.{rules, ◌≡◌, ◌∙◌, pos, FitsSigned, to_z, of_z, w64, to_z-of_z, ◌+◌}
 use Rattle.gtd_calendar.specs.Calendar.{first_day}
-use Rattle.gtd_year.proofs.YearFacts.{next_year, no_fault, year_horizon}
-use Rattle.gtd_year.proofs.year.days_of_year.Goals as goal
+use Rattle.gtd_calendar.specs.facts.YearDays.{next_year, no_fault, year_horizon}
+use Rattle.gtd_calendar.proofs.year.days_of_year.Goals as goal
 
 pub unreachable-requires : goal.unreachable-requires
 unreachable-requires c =
