@@ -26,7 +26,8 @@ held_column xs day place = record {
 }
 
 -- a day has one column
-pub one_column : (set : ℤ → Type 0) (day : ℤ) (place : ℕ) (a b : List Rect) → IsColumn set day place a → IsColumn set day place b → a ≡ b
+pub one_column : (set : ℤ → Type 0) (day : ℤ) (place : ℕ) (a b : List Rect) → IsColumn set day place a
+    → IsColumn set day place b → a ≡ b
 one_column set day place a b p q =
     p.each
     ∙ ap (map (rect_of place (day *ℤ pos 86400)))
@@ -72,7 +73,8 @@ module _ (set : ℤ → Type 0) where
       rw k (p.0, p.1 ++ b, p.2, r, ap (λ (l : List (List Rect)). l ++ b) p.4)
 
   -- days have one list of columns
-  pub one_columns : (day : ℤ) (place n : ℕ) (a b : List (List Rect)) → AreColumns set day place n a → AreColumns set day place n b → a ≡ b
+  pub one_columns : (day : ℤ) (place n : ℕ) (a b : List (List Rect)) → AreColumns set day place n a
+      → AreColumns set day place n b → a ≡ b
   unfolding AreColumns
   one_columns day place zero a b p q = p ∙ sym q
   one_columns day place (suc n) a b p q =
@@ -89,7 +91,8 @@ module _ (set : ℤ → Type 0) where
       omega (arith, l, r)
 
 -- the days of a list of spans have columns
-pub held_columns : (xs : List Interval) (day : ℤ) (place n : ℕ) → (columns : List (List Rect)) × AreColumns (Holds xs) day place n columns
+pub held_columns : (xs : List Interval) (day : ℤ) (place n : ℕ)
+    → (columns : List (List Rect)) × AreColumns (Holds xs) day place n columns
 unfolding AreColumns
 held_columns xs day place zero = ([], refl)
 held_columns xs day place (suc n) =
@@ -133,7 +136,8 @@ whole_picture all first place days done few are =
     (more.0, subst (λ (k : ℕ). AreColumns (Holds all) first 0 k (done ++ more.0)) n r)
 
 -- the lines of the days so far, and of more
-pub day_lines-append : (day next : ℤ) (place there : ℕ) (a b : List (List Rect)) → next ≡ day +ℤ pos (length a) → there ≡ place + length a
+pub day_lines-append : (day next : ℤ) (place there : ℕ) (a b : List (List Rect)) → next ≡ day +ℤ pos (length a)
+    → there ≡ place + length a
     → day_lines day place (a ++ b) ≡ day_lines day place a ++ day_lines next there b
 day_lines-append day next place there [] b e f =
     let same : next ≡ day = omega (arith, ints, e) in

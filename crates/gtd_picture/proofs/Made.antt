@@ -19,7 +19,8 @@ five a b c d e f v w x y z p q r s t = three a d e f (v ++ w ++ x) y z (three a 
 -- four pieces, and nothing before them
 pub four_alone : (a b c d e w x y z : List ℕ) → a ≡ [] → b ≡ a ++ w → c ≡ b ++ x → d ≡ c ++ y → e ≡ d ++ z → e ≡ w ++ x ++ y ++ z
 four_alone a b c d e w x y z none p q r s =
-    s ∙ ap (λ (l : List ℕ). l ++ z) (r ∙ ap (λ (l : List ℕ). l ++ y) (q ∙ ap (λ (l : List ℕ). l ++ x) (p ∙ ap (λ (l : List ℕ). l ++ w) none)))
+    s ∙ ap (λ (l : List ℕ). l ++ z) (r ∙ ap (λ (l : List ℕ). l ++ y) (q ∙ ap (λ (l : List ℕ). l ++ x) (p
+    ∙ ap (λ (l : List ℕ). l ++ w) none)))
 
 -- one piece, and then three
 pub then_three : (a b c x y z : List ℕ) → b ≡ a → c ≡ b ++ (x ++ y ++ z) → c ≡ a ++ x ++ y ++ z
@@ -64,7 +65,8 @@ foot_none y a line none is =
 
 -- one month more
 pub foot_more : (y : ℤ) (n place : ℕ) (line more : List ℕ) → line ≡ plot_end_text ++ months_text y n
-    → place ≡ days_of_months y (n + 1 - 1) → more ≡ line ++ month_text (n + 1) place → more ≡ plot_end_text ++ months_text y (n + 1)
+    → place ≡ days_of_months y (n + 1 - 1) → more ≡ line ++ month_text (n + 1) place → more ≡ plot_end_text
+    ++ months_text y (n + 1)
 foot_more y n place line more is at made =
     let same : n + 1 - 1 ≡ n = omega arith in
     let there : place ≡ days_of_months y n = at ∙ ap (days_of_months y) same in

@@ -53,7 +53,8 @@ module _ (set : ℤ → Type 0) (title inside outside : List ℕ) (year : ℕ) w
   -- the picture of columns
   pub picture_of : (columns : List (List Rect)) → AreColumns set (first_day (pos year)) 0 (year_length (pos year)) columns
       → IsPicture set title inside outside year
-      (head_text title inside outside (year_length (pos year)) ∷ (day_lines (first_day (pos year)) 0 columns ++ (foot_text (pos year) ∷ [])))
+      (head_text title inside outside (year_length (pos year)) ∷ (day_lines (first_day (pos year)) 0 columns
+      ++ (foot_text (pos year) ∷ [])))
   picture_of columns are = record { columns = columns; are = are; whole = refl }
 
   -- a part of the head was put
@@ -67,14 +68,16 @@ module _ (set : ℤ → Type 0) (title inside outside : List ℕ) (year : ℕ) w
   -- what was put of the lines of a picture
   pub put_picture : (r : Result (Unit {0}) Stop) (a b : Option (List ℕ)) (p q : Progress) (columns : List (List Rect))
       → AreColumns set (first_day (pos year)) 0 (year_length (pos year)) columns
-      → Puts r a b p q (head_text title inside outside (year_length (pos year)) ∷ (day_lines (first_day (pos year)) 0 columns ++ (foot_text (pos year) ∷ [])))
+      → Puts r a b p q (head_text title inside outside (year_length (pos year)) ∷ (day_lines (first_day (pos year)) 0 columns
+      ++ (foot_text (pos year) ∷ [])))
       → PutsText (IsPicture set title inside outside year) r a b p q
   put_picture r a b p q columns are puts =
       puts_text (IsPicture set title inside outside year) r a b p q _ (picture_of columns are)
       (λ other is. one_picture set title inside outside year other _ is (picture_of columns are)) puts
 
 -- the columns of the source's spans
-pub columns_are : (xs seconds : List Interval) (from first : ℤ) (n days : ℕ) (columns : List (List Rect)) → seconds ≡ xs → from ≡ first → n ≡ days
+pub columns_are : (xs seconds : List Interval) (from first : ℤ) (n days : ℕ) (columns : List (List Rect)) → seconds ≡ xs
+    → from ≡ first → n ≡ days
     → AreColumns (Holds seconds) from 0 n columns → AreColumns (Holds xs) first 0 days columns
 columns_are xs seconds from first n days columns e f g are =
     subst (λ (k : ℕ). AreColumns (Holds xs) first 0 k columns) g
@@ -97,13 +100,15 @@ texts_ended A (Err x) a b c p q one put kept = λ lines is.
 
 -- the list that is normal for a set over a year has the picture of the set
 module _ (set : ℤ → Type 0) (horizon : Horizon) (list : List Interval) (year : ℕ) (normal : IsNormalOver set horizon list)
-    (from : from_day horizon ≡ first_day (pos year)) (to : to_day horizon ≡ first_day (pos year) +ℤ pos (year_length (pos year))) where
+    (from : from_day horizon ≡ first_day (pos year)) (to : to_day horizon ≡ first_day (pos year) +ℤ pos (year_length (pos
+    year))) where
   same_there : (t : ℤ) → (first_day (pos year) *ℤ pos 86400) ≤ℤ t
       → t <ℤ ((first_day (pos year) +ℤ pos (year_length (pos year))) *ℤ pos 86400) → Holds list t ↔ set t
   same_there t low high = ((λ h. (normal.inside t h).2), (λ s. normal.complete t (rw from low, rw to high, s)))
 
   pub picture_there : (r : Result (Unit {0}) Stop) (a b : Option (List ℕ)) (p q : Progress) (title inside outside : List ℕ)
-      → PutsText (IsPicture (Holds list) title inside outside year) r a b p q → PutsText (IsPicture set title inside outside year) r a b p q
+      → PutsText (IsPicture (Holds list) title inside outside year) r a b p q
+      → PutsText (IsPicture set title inside outside year) r a b p q
   picture_there r a b p q title inside outside put =
       texts_as (IsPicture (Holds list) title inside outside year) (IsPicture set title inside outside year) r a b p q
       (λ lines is. same_picture (Holds list) set title inside outside year lines same_there is)

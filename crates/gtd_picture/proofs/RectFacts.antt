@@ -87,7 +87,8 @@ inside-append : (n : ℕ) (a b : List Rect) → AreInside n a → AreInside n b 
 inside-append n [] b p q = q
 inside-append n (r ∷ a) b p q = (p.0, p.1, p.2, inside-append n a b p.3 q)
 
-inside-column : (place n : ℕ) (midnight : ℤ) (xs : List Interval) → place < n → AreOn midnight xs → AreInside n (map (rect_of place midnight) xs)
+inside-column : (place n : ℕ) (midnight : ℤ) (xs : List Interval) → place < n → AreOn midnight xs
+    → AreInside n (map (rect_of place midnight) xs)
 inside-column place n midnight [] h on = tt
 inside-column place n midnight (s ∷ xs) h on =
     let a = distance midnight s.from on.0 in
@@ -138,7 +139,8 @@ module _ (set : ℤ → Type 0) where
         (λ h. covers.1 (is.normal.complete (day *ℤ pos 86400 +ℤ pos y) (omega (arith, ints), omega (arith, ints, short), h))),
       )
 
-  pub columns_from : (day : ℤ) (place n : ℕ) (columns : List (List Rect)) → AreColumns set day place n columns → AllFrom place (rects_of columns)
+  pub columns_from : (day : ℤ) (place n : ℕ) (columns : List (List Rect)) → AreColumns set day place n columns
+      → AllFrom place (rects_of columns)
   unfolding AreColumns
   columns_from day place zero columns are = rw are tt
   columns_from day place (suc n) columns are =
@@ -146,7 +148,8 @@ module _ (set : ℤ → Type 0) where
       rw (are.4) (from-append place are.0 (rects_of are.1) (rw (are.2.each) (from-column place (day *ℤ pos 86400) are.2.spans))
       (from-weaken place (place + 1) (rects_of are.1) (omega arith) rest))
 
-  pub columns_inside : (day : ℤ) (place n all : ℕ) (columns : List (List Rect)) → place + n ≤ all → AreColumns set day place n columns
+  pub columns_inside : (day : ℤ) (place n all : ℕ) (columns : List (List Rect)) → place + n ≤ all
+      → AreColumns set day place n columns
       → AreInside all (rects_of columns)
   unfolding AreColumns
   columns_inside day place zero all columns few are = rw are tt
@@ -156,7 +159,8 @@ module _ (set : ℤ → Type 0) where
       rw (are.4) (inside-append all are.0 (rects_of are.1)
       (rw (are.2.each) (inside-column place all (day *ℤ pos 86400) are.2.spans (omega (arith, few)) on)) rest)
 
-  pub columns_apart : (day : ℤ) (place n : ℕ) (columns : List (List Rect)) → AreColumns set day place n columns → AreApart (rects_of columns)
+  pub columns_apart : (day : ℤ) (place n : ℕ) (columns : List (List Rect)) → AreColumns set day place n columns
+      → AreApart (rects_of columns)
   unfolding AreColumns
   columns_apart day place zero columns are = rw are tt
   columns_apart day place (suc n) columns are =
@@ -166,7 +170,8 @@ module _ (set : ℤ → Type 0) where
       let from = columns_from (day +ℤ pos 1) (place + 1) n are.1 are.3 in
       rw (are.4) (rw (are.2.each) (apart-then place (day *ℤ pos 86400) are.2.spans (rects_of are.1) on normal from rest))
 
-  pub columns_cover : (day : ℤ) (place n x y : ℕ) (columns : List (List Rect)) → AreColumns set day place n columns → x < n → y < 86400
+  pub columns_cover : (day : ℤ) (place n x y : ℕ) (columns : List (List Rect)) → AreColumns set day place n columns → x < n
+      → y < 86400
       → SomeCovers (place + x) y (rects_of columns) ↔ set ((day +ℤ pos x) *ℤ pos 86400 +ℤ pos y)
   unfolding AreColumns
   columns_cover day place zero x y columns are few short = absurd (omega (arith, few))
@@ -178,7 +183,11 @@ module _ (set : ℤ → Type 0) where
       let then : day +ℤ pos 0 ≡ day = omega (arith, ints) in
       let is : SomeCovers place y are.0 ↔ SomeCovers (place + 0) y are.0 = rw at ((λ h. h), (λ h. h)) in
       rw (are.4, then) (
-        (λ h. elim (parts.0 h) [ inl a ↦ here.0 (is.1 a) | inr b ↦ absurd (none_before (place + 1) (place + 0) y (rects_of are.1) (omega arith) from b) ]),
+        (λ h. elim (parts.0 h) [
+          | inl a ↦ here.0 (is.1 a)
+          | inr b ↦ absurd (none_before (place + 1) (place + 0) y (rects_of
+              are.1) (omega arith) from b)
+        ]),
         (λ h. parts.1 (inl (is.0 (here.1 h)))),
       )
   columns_cover day place (suc n) (suc x) y columns are few short =
@@ -188,7 +197,11 @@ module _ (set : ℤ → Type 0) where
       let then : day +ℤ pos (suc x) ≡ (day +ℤ pos 1) +ℤ pos x = omega (arith, ints) in
       let never : SomeCovers (place + suc x) y are.0 → ⊥ =
       rw (are.2.each) (elsewhere place (place + suc x) y (day *ℤ pos 86400) are.2.spans (omega arith)) in
-      let same : SomeCovers (place + suc x) y (rects_of are.1) ↔ SomeCovers (place + 1 + x) y (rects_of are.1) = rw at ((λ h. h), (λ h. h)) in
+      let same : SomeCovers (place + suc x) y (rects_of are.1) ↔ SomeCovers (place + 1 + x) y (rects_of are.1) = rw at (
+        (λ h.
+            h),
+        (λ h. h),
+      ) in
       rw (are.4, then) (
         (λ h. elim (parts.0 h) [ inl a ↦ absurd (never a) | inr b ↦ rest.0 (same.0 b) ]),
         (λ h. parts.1 (inr (same.1 (rest.1 h)))),

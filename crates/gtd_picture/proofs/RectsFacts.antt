@@ -14,20 +14,24 @@ abbrev pub spans_text : ℕ → ℤ → List Interval → List ℕ
 spans_text place midnight xs = flat_map rect_text (map (rect_of place midnight) xs)
 
 -- one rectangle more
-pub rects_more : (place : ℕ) (midnight : ℤ) (stretch part : Interval) (now new : List Interval) (all line more : List ℕ) (r : Rect)
+pub rects_more : (place : ℕ) (midnight : ℤ) (stretch part : Interval) (now new : List Interval) (all line more : List ℕ) (r :
+    Rect)
     → all ≡ line ++ spans_text place midnight (part_within stretch now) → part_within stretch now ≡ part ∷ part_within stretch new
-    → r ≡ rect_of place midnight part → more ≡ line ++ rect_text r → all ≡ more ++ spans_text place midnight (part_within stretch new)
+    → r ≡ rect_of place midnight part → more ≡ line ++ rect_text r → all ≡ more
+    ++ spans_text place midnight (part_within stretch new)
 rects_more place midnight stretch part now new all line more r e takes is made =
     e
     ∙ ap (λ (xs : List Interval). line ++ spans_text place midnight xs) takes
     ∙ sym (append_assoc line (rect_text (rect_of place midnight part)) (spans_text place midnight (part_within stretch new)))
-    ∙ ap (λ (l : List ℕ). l ++ spans_text place midnight (part_within stretch new)) (sym (made ∙ ap (λ (q : Rect). line ++ rect_text q) is))
+    ∙ ap (λ (l : List ℕ). l ++ spans_text place midnight (part_within stretch new)) (sym (made ∙ ap (λ (q : Rect). line
+    ++ rect_text q) is))
 
 -- all rectangles of the day
 pub rects_done : (place : ℕ) (day midnight : ℤ) (stretch : Interval) (all now : List Interval) (first line : List ℕ)
     → stretch ≡ stretch_of day → midnight ≡ day *ℤ pos 86400
     → first ++ spans_text place midnight (part_within stretch all) ≡ line ++ spans_text place midnight (part_within stretch now)
-    → part_within stretch now ≡ [] → (column : List Rect) × IsColumn (Holds all) day place column × (line ≡ first ++ flat_map rect_text column)
+    → part_within stretch now ≡ [] → (column : List Rect) × IsColumn (Holds all) day place column × (line ≡ first
+    ++ flat_map rect_text column)
 rects_done place day midnight stretch all now first line is at e none = (
   column_of day place all,
   held_column all day place,

@@ -20,6 +20,7 @@ pub some_picture : (set : ℤ → Type 0) → ((t : ℤ) → set t ⊎ (set t �
     → (lines : List (List ℕ)) × IsPicture set title inside outside year lines
 some_picture set decided title inside outside year =
     let columns = some_columns set decided (first_day (pos year)) 0 (year_length (pos year)) in (
-      head_text title inside outside (year_length (pos year)) ∷ (day_lines (first_day (pos year)) 0 columns.0 ++ (foot_text (pos year) ∷ [])),
+      head_text title inside outside (year_length (pos year)) ∷ (day_lines (first_day (pos year)) 0 columns.0
+          ++ (foot_text (pos year) ∷ [])),
       picture_of set title inside outside year columns.0 columns.1,
     )

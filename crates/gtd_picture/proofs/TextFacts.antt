@@ -11,8 +11,10 @@ use Rattle.gtd_calendar.specs.Stamp.{date_text}
 use Rattle.gtd_core.specs.Seconds.{Interval}
 use Rattle.gtd_runs.specs.Putting.{text_of}
 use Rattle.gtd_spans.specs.Normal.{AllBeginFrom, AreInOrder, Holds}
-use Rattle.gtd_picture.specs.Picture.{AreColumns, IsColumn, Rect, day_head, day_line, day_lines, foot_text, group_text, is_weekend}
-use Rattle.gtd_picture.specs.Picture.{month_text, months_text, plot_end_text, rect_of, rect_text, tick_text, ticks_text, whole_column}
+use Rattle.gtd_picture.specs.Picture.{AreColumns, IsColumn, Rect, day_head, day_line, day_lines, foot_text, group_text}
+use Rattle.gtd_picture.specs.Picture.{is_weekend}
+use Rattle.gtd_picture.specs.Picture.{month_text, months_text, plot_end_text, rect_of, rect_text, tick_text, ticks_text}
+use Rattle.gtd_picture.specs.Picture.{whole_column}
 use Rattle.gtd_picture.specs.Words.{month_name, weekday_name}
 
 -- a rectangle within a day
@@ -83,9 +85,11 @@ group_short : (weekend : Bool) → length (group_text weekend) ≤ 26
 group_short true = omega arith
 group_short false = omega arith
 
-name_short : (day : ℤ) → length (group_text (is_weekend (weekday_of day)) ++ date_text day ++ codes " " ++ weekday_name (weekday_of day)) ≤ 46
+name_short : (day : ℤ) → length (group_text (is_weekend (weekday_of day)) ++ date_text day ++ codes " "
+    ++ weekday_name (weekday_of day)) ≤ 46
 name_short day =
-    parts (group_text (is_weekend (weekday_of day))) (date_text day) (weekday_name (weekday_of day)) (group_short (is_weekend (weekday_of day)))
+    parts (group_text (is_weekend (weekday_of day))) (date_text day) (weekday_name (weekday_of day)) (group_short (is_weekend
+    (weekday_of day)))
     (date_long day) (weekday_short (weekday_of day))
   where
     parts : (a b c : List ℕ) → length a ≤ 26 → length b ≡ 10 → length c ≤ 9 → length (a ++ b ++ codes " " ++ c) ≤ 46
@@ -94,7 +98,8 @@ name_short day =
 head_short : (day : ℤ) (place : ℕ) → place ≤ 366 → length (day_head day place) ≤ 200
 head_short day place few =
     let column = rect_short (whole_column place) few (omega arith) (omega arith) in
-    parts (group_text (is_weekend (weekday_of day)) ++ date_text day ++ codes " " ++ weekday_name (weekday_of day)) (rect_text (whole_column place))
+    parts (group_text (is_weekend (weekday_of day)) ++ date_text day ++ codes " "
+    ++ weekday_name (weekday_of day)) (rect_text (whole_column place))
     (name_short day) column
   where
     parts : (a b : List ℕ) → length a ≤ 46 → length b ≤ 22
@@ -132,7 +137,8 @@ tick_short day few =
 
 ticks_short : length ticks_text ≤ 200
 ticks_short =
-    parts (tick_text 1) (tick_text 10) (tick_text 20) (tick_short 1 (omega arith)) (tick_short 10 (omega arith)) (tick_short 20 (omega arith))
+    parts (tick_text 1) (tick_text 10) (tick_text 20) (tick_short 1 (omega arith)) (tick_short 10 (omega arith)) (tick_short
+    20 (omega arith))
   where
     parts : (a b c : List ℕ) → length a ≤ 60 → length b ≤ 60 → length c ≤ 60
         → length (codes "</text>" ++ a ++ b ++ c ++ codes "</g>") ≤ 200
@@ -144,7 +150,8 @@ month_text_short month place few =
     (length-decimal-le 4 (72 + 3 * place) (omega arith) (omega arith) (omega arith)) (month_short month) ticks_short
   where
     parts : (a b c : List ℕ) → length a ≤ 4 → length b ≤ 3 → length c ≤ 200
-        → length (codes "<g transform='translate(" ++ a ++ codes " 0)'><path class='line' d='M0 72h1v456h-1z'/><text x='6' y='88'>"
+        → length (codes "<g transform='translate(" ++ a ++ codes
+        " 0)'><path class='line' d='M0 72h1v456h-1z'/><text x='6' y='88'>"
         ++ b ++ c) ≤ 350
     parts a b c i j k = simp length-append (omega arith)
 

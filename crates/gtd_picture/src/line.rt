@@ -1,6 +1,7 @@
 //! The line of a day.
 
-ghost use Rattle.std.specs.Prelude.{◌≡◌, ◌++◌, ◌↔◌, ◌≤◌, ◌≤ℤ◌, ◌+ℤ◌, ◌-ℤ◌, ◌*ℤ◌, ℤ, pos, List, OnOk, codes, flat_map, unsigned_abs};
+ghost use Rattle.std.specs.Prelude.{◌≡◌, ◌++◌, ◌↔◌, ◌≤◌, ◌≤ℤ◌, ◌+ℤ◌, ◌-ℤ◌, ◌*ℤ◌, ℤ, pos, List, OnOk, codes};
+ghost use Rattle.std.specs.Prelude.{flat_map, unsigned_abs};
 ghost use Rattle.gtd_core.specs.Limits.{day_seconds};
 ghost use Rattle.gtd_calendar.specs.Calendar.{IsCalendarDay, weekday_of};
 ghost use Rattle.gtd_calendar.specs.Stamp.{date_text};

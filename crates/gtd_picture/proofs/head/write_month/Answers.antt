@@ -16,6 +16,7 @@ returns c =
           c.in_ok-extend_from_slice.ensures.items
           (rw c.from.ensures at c.in_ok-write_number.ensures.number)
           c.in_ok-extend_from_slice-2.ensures.items
-          (c.in_ok-extend_from_slice-3.ensures.items ∙ ap (λ (l : List ℕ). d ++ l) (c.as_bytes.ensures.value ∙ c.month_name.ensures.name))
+          (c.in_ok-extend_from_slice-3.ensures.items ∙ ap (λ (l : List ℕ). d ++ l) (c.as_bytes.ensures.value
+          ∙ c.month_name.ensures.name))
           c.in_ok-write_ticks.ensures.ticks;
     }

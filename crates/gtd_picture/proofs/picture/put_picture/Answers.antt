@@ -17,8 +17,10 @@ pub returns-in_err-put_head-clause-puts : goal.returns-in_err-put_head-clause-pu
 returns-in_err-put_head-clause-puts g c =
     let taken = g.O.Output.taken in
     let r = err_from_is_err_and c.from_residual.result c.from_residual.ensures.1 in
-    rw (r.1) (cut_head (Holds (g.S.SpanSource.rest c.args.seconds)) c.args.title.now c.args.inside.now c.args.outside.now c.args.year r.0
-    (taken c.args.output.now) (taken c.put_head.new.output) c.args.progress.now c.put_head.new.progress c.in_err-put_head.ensures.puts)
+    rw (r.1) (cut_head (Holds (g.S.SpanSource.rest c.args.seconds)) c.args.title.now c.args.inside.now c.args.outside.now
+    c.args.year r.0
+    (taken c.args.output.now) (taken c.put_head.new.output) c.args.progress.now c.put_head.new.progress
+    c.in_err-put_head.ensures.puts)
 
 pub returns-in_err-put_year-clause-puts : goal.returns-in_err-put_year-clause-puts
 returns-in_err-put_year-clause-puts g c =

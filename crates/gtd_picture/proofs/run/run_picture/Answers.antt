@@ -9,5 +9,6 @@ pub returns-clause-lines : goal.returns-clause-lines
 returns-clause-lines g c =
     let a = c.args in
     IfOk-weaker c.run_report.result _ _ (λ count is.
-    is.3 ∙ picture_lines (IsOpen is.0 a.element a.direction a.vehicle) a.title.now (codes "open") (codes "closed") a.year is.1 is.2)
+    is.3 ∙ picture_lines (IsOpen is.0 a.element a.direction a.vehicle) a.title.now (codes "open") (codes "closed") a.year is.1
+    is.2)
     c.run_report.ensures.lines
