@@ -7,6 +7,7 @@ pub mod MonthLemmas
 pub mod OrderLemmas
 pub mod Signed
 pub mod YearLemmas
+pub mod YearDays
 pub mod FieldLemmas
 pub mod StopLemmas
 pub mod TimeLemmas

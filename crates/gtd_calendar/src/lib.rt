@@ -8,8 +8,10 @@
 pub use clock::{end_of, second_of_day};
 pub use day::{DayFields, day_of, fields, weekday};
 pub use stamp::{StampFault, read_date, read_stamp, write_clock, write_date, write_stamp};
+pub use year::{days_before_month, days_of_year, first_of_month, length_of_year, new_year};
 
 mod clock;
 mod day;
 pub mod laws;
 mod stamp;
+mod year;

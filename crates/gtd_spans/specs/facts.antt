@@ -8,6 +8,7 @@ pub mod Joining
 pub mod NormalFor
 pub mod OneList
 pub mod Orders
+pub mod PartFacts
 pub mod SideFacts
 pub mod SomeList
 pub mod SweepFacts

@@ -6,4 +6,3 @@ pub use run::{YearTable, run_year};
 pub mod laws;
 mod run;
 mod table;
-mod year;

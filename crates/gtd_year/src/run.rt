@@ -8,7 +8,7 @@ ghost use Rattle.gtd_year.specs.Theorem.{YearClaim};
 ghost use Rattle.gtd_year.specs.YearTable.{IsYearTable};
 
 use crate::table::put_days;
-use crate::year::days_of_year;
+use gtd_calendar::days_of_year;
 use gtd_devices::{Input, Output};
 use gtd_records::{Direction, RecordFault, Records, open_seconds};
 use gtd_runs::{Progress, Report, RunFault, Stop, Subject, finish, run_report};

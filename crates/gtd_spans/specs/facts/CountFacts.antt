@@ -146,21 +146,6 @@ count-held xs t (suc n) =
       | inr h ↦ (r.0, (r.0, r.1, inr (h, refl)))
     ]
 
--- no second before the first interval is held
-pub count-behind : (x : Interval) (xs : List Interval) (t : ℤ) (n : ℕ) → IsNormal (x ∷ xs) → (t +ℤ pos n) ≤ℤ x.from
-    → IsCount (Holds (x ∷ xs)) t n 0
-count-behind x xs t n normal h =
-    count-none (Holds (x ∷ xs)) t n (λ s a k. let f = first-holds x xs s normal k in omega (arith, ints, f, a.1, h))
-
--- if the first interval reaches the end, no later one counts
-pub count-only : (x : Interval) (xs : List Interval) (t : ℤ) (n i : ℕ) → IsNormal (x ∷ xs) → (t +ℤ pos n) ≤ℤ x.until
-    → IsCount (Within x) t n i → IsCount (Holds (x ∷ xs)) t n i
-count-only x xs t n i normal h p =
-    let none = count-none (Holds xs) t n (λ s a k. let f = after-holds x.until s xs normal.1 k in
-    omega (arith, ints, f, a.1, h)) in
-    let c : i + 0 ≡ i = omega arith in
-    subst (λ (j : ℕ). IsCount (Holds (x ∷ xs)) t n j) c (count-either (Within x) (Holds xs) t n i 0 (apart x xs normal) p none)
-
 -- the first interval's seconds, and those of the others
 pub count-first : (x : Interval) (xs : List Interval) (t : ℤ) (n i j : ℕ) → IsNormal (x ∷ xs) → IsCount (Within x) t n i
     → IsCount (Holds xs) t n j → IsCount (Holds (x ∷ xs)) t n (i + j)
@@ -177,39 +162,10 @@ takes-is before None after h = h.0
 takes-is before (Some x) after h = h
 
 module _ (held : Option Interval) (x : Interval) (rest : List Interval) (is : held ≡ Some x)
-    (normal : IsNormal (spans_to_come held rest)) (t : ℤ) (n : ℕ) where
+    (normal : IsNormal (spans_to_come held rest)) where
   at_hand : spans_to_come held rest ≡ x ∷ rest
   at_hand = ap (λ (o : Option Interval). spans_to_come o rest) is
-
-  normal_there : IsNormal (x ∷ rest)
-  normal_there = subst IsNormal at_hand normal
-
-  back : (i : ℕ) → IsCount (Holds (x ∷ rest)) t n i → IsCount (Holds (spans_to_come held rest)) t n i
-  back i p = subst (λ (xs : List Interval). IsCount (Holds xs) t n i) (sym at_hand) p
-
-  -- the span at hand begins after the day
-  pub day-behind : (t +ℤ pos n) ≤ℤ x.from → IsCount (Holds (spans_to_come held rest)) t n 0
-  day-behind h = back 0 (count-behind x rest t n normal_there h)
-
-  -- the span at hand ends after the day
-  pub day-only : (i : ℕ) → (t +ℤ pos n) ≤ℤ x.until → IsCount (Within x) t n i → IsCount (Holds (spans_to_come held rest)) t n i
-  day-only i h p = back i (count-only x rest t n i normal_there h p)
-
-  -- the span at hand and those after it
-  pub day-first : (i j : ℕ) → IsCount (Within x) t n i → IsCount (Holds rest) t n j
-      → IsCount (Holds (spans_to_come held rest)) t n (i + j)
-  day-first i j p q = back (i + j) (count-first x rest t n i j normal_there p q)
-
-  pub day-rest-normal : IsNormal rest
-  day-rest-normal = normal_there.2
 
   -- from its end on, the span at hand is used up
   pub day-later : (s : ℤ) → x.until ≤ℤ s → Holds (spans_to_come held rest) s ↔ Holds rest s
   day-later s h = subst (λ (xs : List Interval). Holds xs s ↔ Holds rest s) (sym at_hand) (later-same x rest s h)
-
--- nothing is to come
-pub day-none : (held : Option Interval) (rest : List Interval) → held ≡ None → (t : ℤ) (n : ℕ)
-    → IsCount (Holds (spans_to_come held rest)) t n 0
-day-none held rest is t n =
-    subst (λ (o : Option Interval). IsCount (Holds (spans_to_come o rest)) t n 0) (sym is) (count-none (Holds []) t n
-    (λ s a h. h))

@@ -6,7 +6,8 @@ use Rattle.gtd_records.specs.Closing.{IsOpen}
 use Rattle.gtd_runs.specs.facts.PutFacts.{puts_ended, puts_text}
 use Rattle.gtd_year.specs.YearTable.{IsYearTable}
 use Rattle.gtd_year.proofs.DayFacts.{one_table}
-use Rattle.gtd_year.proofs.YearFacts.{days_between, year_length-few, year_table}
+use Rattle.gtd_calendar.specs.facts.YearDays.{days_between, year_length-few}
+use Rattle.gtd_year.proofs.YearFacts.{year_table}
 use Rattle.gtd_year.proofs.run.YearTableReport.put.Goals as goal
 
 pub returns-in_err-put_days-clause-puts : goal.returns-in_err-put_days-clause-puts

@@ -1,0 +1,7 @@
+pub mod ColumnFacts
+pub mod Made
+pub mod PictureFacts
+pub mod RectFacts
+pub mod RectsFacts
+pub mod SomePicture
+pub mod TextFacts

@@ -1,0 +1,75 @@
+//! The picture of a domain.
+
+ghost use Rattle.std.specs.Prelude.{◌≡◌, ◌<◌, ◌↔◌, IsErrOf, IsTrue, OnOk};
+ghost use Rattle.gtd_picture.specs.Domain.{HasPut, IsDomainPicture};
+ghost use Rattle.gtd_runs.specs.Putting.{PutsText, failures_after_stop, nothing_put};
+ghost use Rattle.gtd_runs.specs.Run.{IsTableYear, failures_after_write};
+
+use crate::picture::put_picture;
+use gtd_calendar::days_of_year;
+use gtd_core::Domain;
+use gtd_devices::Output;
+use gtd_eval::Cursor;
+use gtd_runs::{Progress, RunFault, Stop, finish};
+use std::alloc::Global;
+
+// Puts the picture of a domain, and ends the output.
+fn put_seconds<O: Output>(
+    alloc: Global,
+    output: &mut O,
+    progress: &mut Progress,
+    domain: &Domain,
+    title: &str,
+    year: u16,
+) -> Result<(), Stop>
+    requires countable { O.failure_count output.old < u64.MAX }
+    requires begins { progress.old ≡ nothing_put }
+    requires year { IsTableYear year }
+    ensures puts { PutsText (IsDomainPicture domain.now title.now year) result
+        (O.taken output.old) (O.taken output.new) progress.old progress.new }
+    ensures ended { OnOk result (IsTrue (O.is_ended output.new)) }
+    ensures failures { O.failure_count output.new
+        ≡ failures_after_stop result (O.failure_count output.old) }
+{
+    let seconds = Cursor::open(alloc, domain, days_of_year(year))?;
+    put_picture(
+        alloc,
+        output,
+        progress,
+        seconds,
+        title,
+        "in the domain",
+        "not in the domain",
+        year,
+    )?;
+    finish(output)
+}
+
+/// Puts the picture of a domain: which seconds of the days of a year from 1901 to 2199 it contains. Answers the number of
+/// its lines, two more than the year has days.
+///
+/// In order: `YearRange`; then `WriteFault` or `NoMemory`, whichever happens first. Before the call, the output's failures
+/// must be below `u64::MAX`.
+pub fn put_domain_picture<O: Output>(
+    alloc: Global,
+    output: &mut O,
+    domain: &Domain,
+    title: &str,
+    year: u16,
+) -> Result<u64, RunFault>
+    requires writable { O.failure_count output.old < u64.MAX }
+    // What each answer means: after a failure or a refusal of memory, the first bytes of the same picture.
+    ensures stands { HasPut (IsDomainPicture domain.now title.now year) (O.taken output.old) (O.taken output.new) result }
+    // An output that took the whole text was then ended, last of all.
+    ensures ended { OnOk result (IsTrue (O.is_ended output.new)) }
+    ensures year { IsErrOf result RunFault.YearRange ↔ (IsTableYear year → ⊥) }
+    ensures write_faults { O.failure_count output.new
+        ≡ failures_after_write result (O.failure_count output.old) }
+{
+    if year < 1901 || year > 2199 {
+        return Err(RunFault::YearRange);
+    }
+    let mut progress = Progress::new();
+    let put = put_seconds(alloc, output, &mut progress, domain, title, year);
+    progress.answer(put)
+}

@@ -1,0 +1,14 @@
+//! The picture of a year, in SVG: at which seconds of which days a road element is open, or which a domain contains.
+#![tactic(auto)]
+
+pub use domain::put_domain_picture;
+pub use picture::put_picture;
+pub use run::run_picture;
+
+mod domain;
+mod head;
+pub mod laws;
+mod line;
+mod picture;
+mod run;
+mod words;

@@ -1,0 +1,120 @@
+//! The picture of a year of an element of the record file that an input brings, put to an output.
+
+ghost use Rattle.std.specs.Prelude.{◌≡◌, ◌+◌, ◌<◌, ◌↔◌, Any, Some, OnOk, IfOk, IsErrOf, IsTrue, List, pos};
+ghost use Rattle.gtd_calendar.specs.Calendar.{year_length};
+ghost use Rattle.gtd_records.specs.Closing.{Restriction};
+ghost use Rattle.gtd_runs.specs.Run.{AcceptedFilesArePut, HasRun, IsTableYear, IsVehicleType, RefusedFilesPutNothing};
+ghost use Rattle.gtd_runs.specs.Run.{UnacceptedFilesPutNothing, failures_after_read, failures_after_write};
+ghost use Rattle.gtd_picture.specs.Open.{IsOpenPicture};
+
+use crate::picture::put_picture;
+use gtd_calendar::days_of_year;
+use gtd_devices::{Input, Output};
+use gtd_records::{Direction, RecordFault, Records, open_seconds};
+use gtd_runs::{Progress, Report, RunFault, Stop, Subject, finish, run_report};
+use std::alloc::Global;
+
+/// The picture of a year, for an element in a direction and a vehicle type, under a title.
+#[derive(Clone, Copy)]
+struct Picture<'a> {
+    element: u64,
+    direction: Direction,
+    vehicle: u8,
+    year: u16,
+    title: &'a str,
+}
+
+impl Report for Picture<'_> {
+    ghost subject = { λ report.
+        record { vehicle = Some report.vehicle; year = Some report.year; element = Some report.element } };
+
+    ghost is_text = { λ report found lines.
+        IsOpenPicture found report.element report.direction report.vehicle report.title.now report.year lines };
+
+    fn subject(&self) -> Subject {
+        Subject {
+            vehicle: Some(self.vehicle),
+            year: Some(self.year),
+            element: Some(self.element),
+        }
+    }
+
+    fn put<O: Output>(
+        &self,
+        alloc: Global,
+        output: &mut O,
+        progress: &mut Progress,
+        found: &Records,
+    ) -> Result<(), Stop> {
+        let open = open_seconds(
+            alloc,
+            found,
+            self.element,
+            self.direction,
+            self.vehicle,
+            days_of_year(self.year),
+        )?;
+        put_picture(
+            alloc, output, progress, open, self.title, "open", "closed", self.year,
+        )?;
+        finish(output)
+    }
+}
+
+/// Puts the picture of an element of the record file that an input brings: at which seconds of the days of a year from
+/// 1901 to 2199 the element is open in the direction for a vehicle type from 1 to 99. Answers the number of its lines, two
+/// more than the year has days.
+///
+/// In order: `VehicleRange`; `YearRange`; the first fault of reading the file (`Records`); `NoElement` if no record
+/// names the element; then `WriteFault` or `NoMemory`, whichever happens first. Nothing is put until the whole file has
+/// been read and accepted. Before the call, the failures of both devices must be below `u64::MAX`.
+pub fn run_picture<I: Input, O: Output>(
+    alloc: Global,
+    input: &mut I,
+    output: &mut O,
+    title: &str,
+    element: u64,
+    direction: Direction,
+    vehicle: u8,
+    year: u16,
+) -> Result<u64, RunFault>
+    requires readable { I.failure_count input.old < u64.MAX }
+    requires writable { O.failure_count output.old < u64.MAX }
+    // Accepted files are shown: if nothing hinders it, the output took the picture of an element that the file names, and
+    // the answer is the number of its lines.
+    ensures accepted { IsVehicleType vehicle → IsTableYear year → AcceptedFilesArePut
+        (λ found. Any (λ (r : Restriction). r.element ≡ element) found)
+        (λ found lines. IsOpenPicture found element direction vehicle title.now year lines)
+        (I.to_come input.old) (O.taken output.old) (O.taken output.new) result }
+    // Refused files print nothing: if nothing hinders it, the answer is the first fault of the file.
+    ensures refused { IsVehicleType vehicle → IsTableYear year → RefusedFilesPutNothing
+        (I.to_come input.old) (O.taken output.old) (O.taken output.new) result }
+    // An element that the file does not name has no picture: if nothing hinders it, the answer says so.
+    ensures unnamed { IsVehicleType vehicle → IsTableYear year → UnacceptedFilesPutNothing
+        (λ found. Any (λ (r : Restriction). r.element ≡ element) found)
+        (I.to_come input.old) (O.taken output.old) (O.taken output.new) result }
+    // What each answer means: after a failure or a refusal of memory, the first bytes of the same picture.
+    ensures stands { HasRun
+        (λ found. Any (λ (r : Restriction). r.element ≡ element) found)
+        (λ found lines. IsOpenPicture found element direction vehicle title.now year lines)
+        (I.to_come input.old) (O.taken output.old) (O.taken output.new) result }
+    ensures lines { IfOk result (λ count. count ≡ year_length (pos year) + 2) }
+    // An output that took the whole text was then ended, last of all.
+    ensures ended { OnOk result (IsTrue (O.is_ended output.new)) }
+    ensures vehicle { IsErrOf result RunFault.VehicleRange ↔ (IsVehicleType vehicle → ⊥) }
+    ensures year { IsErrOf result RunFault.YearRange ↔ (IsVehicleType vehicle × (IsTableYear year → ⊥)) }
+    ensures endless { IsErrOf result (RunFault.Records RecordFault.Endless) → IsTrue (I.may_fall_silent input.old) }
+    ensures read_faults { I.failure_count input.new
+        ≡ failures_after_read result (I.failure_count input.old) }
+    ensures write_faults { O.failure_count output.new
+        ≡ failures_after_write result (O.failure_count output.old) }
+{
+    let picture = Picture {
+        element,
+        direction,
+        vehicle,
+        year,
+        title,
+    };
+    run_report(alloc, input, output, &picture)
+}
