@@ -8,11 +8,13 @@ ghost use Rattle.std.specs.Prelude.{◌≡◌, ◌≤◌, vec_len, IfOk};
 ghost use Rattle.gtd_eval.specs.Cursors.{cursor_nodes, total_nodes};
 ghost use Rattle.gtd_spans.specs.Pushing.{NoneBeginsAfter};
 
+use crate::hours::friday_night;
 use crate::lists::{has_ends, list_of};
 use crate::roads::R;
 use gtd_core::{Basic, Domain, Expr, Fault, Horizon, Op, Sec, Span, TextFault};
 use gtd_devices::{MemoryIn, MemoryOut};
 use gtd_eval::{Cursor, EverFault, next_change, next_change_ever, spans};
+use gtd_osm::{HoursFault, domain_of};
 use gtd_records::{Direction, RecordFault, Records, open_seconds, read_records, schedule_of};
 use gtd_recur::spans_of;
 use gtd_spans::{SpanList, SpanSource, complement, meet, minus, union, within};
@@ -543,6 +545,20 @@ fn open_seconds_of_records(rt: HostRuntime) {
         if let Ok(mut open) = open_seconds(alloc, &records, 17, Direction::Positive, 11, april) {
             gives(&rt, &mut open, 19_814 * DAY, &ends);
             return;
+        }
+    }
+    panic!(rt; "refused twice");
+}
+
+#[test]
+fn hours_that_are_translated(rt: HostRuntime) {
+    let Ok(hours) = friday_night(&rt, rt.alloc()) else {
+        return;
+    };
+    for _ in 0..2 {
+        match domain_of(rt.alloc(), &hours) {
+            Ok(_) => return,
+            Err(fault) => assert_eq!(rt; fault, HoursFault::NoMemory),
         }
     }
     panic!(rt; "refused twice");

@@ -1,0 +1,150 @@
+//! Opening hours as values.
+
+ghost use Rattle.std.specs.Prelude.{◌≡◌, ◌↔◌, IfSome, IsSome};
+ghost use Rattle.gtd_osm.specs.Ranges.{IsDatedRange, IsMonth, IsMonthDay, IsTimeRange, IsWeekday, IsWeekdayPlace};
+ghost use Rattle.gtd_osm.specs.Ranges.{IsWeeks, IsYearDate, IsYears};
+ghost use Rattle.std.proofs.Props.{props};
+
+/// Every so many years, from the first to the last, of 1800 to 2799.
+#[derive(Clone, Copy, Debug, PartialEq, Eq)]
+pub struct Years {
+    pub(crate) first: u16,
+    pub(crate) last: u16,
+    pub(crate) step: u16,
+    pub ghost in_range: { IsYears first last step } by { Prim.hlevel props },
+}
+
+/// A range of months, which may go over the end of the year. A month is 1 to 12.
+#[derive(Clone, Copy, Debug, PartialEq, Eq)]
+pub struct Months {
+    pub(crate) first: u8,
+    pub(crate) last: u8,
+    pub ghost first_in: { IsMonth first } by { Prim.hlevel props },
+    pub ghost last_in: { IsMonth last } by { Prim.hlevel props },
+}
+
+/// A month and a day of it, which may be 29 February.
+#[derive(Clone, Copy, Debug, PartialEq, Eq)]
+pub struct MonthDay {
+    pub(crate) month: u8,
+    pub(crate) day: u8,
+    pub ghost in_range: { IsMonthDay month day } by { Prim.hlevel props },
+}
+
+/// A range of dates of each year, which may go over its end.
+#[derive(Clone, Copy, Debug, PartialEq, Eq)]
+pub struct Dates {
+    pub first: MonthDay,
+    pub last: MonthDay,
+}
+
+/// A date of a year from 1800 to 2799.
+#[derive(Clone, Copy, Debug, PartialEq, Eq)]
+pub struct YearDate {
+    pub(crate) year: u16,
+    pub(crate) month: u8,
+    pub(crate) day: u8,
+    pub ghost is_date: { IsYearDate year month day } by { Prim.hlevel props },
+}
+
+/// From a date to the same or a later one, at most 36,600 days with both.
+#[derive(Clone, Copy, Debug, PartialEq, Eq)]
+pub struct Dated {
+    pub(crate) first: YearDate,
+    pub(crate) last: YearDate,
+    pub ghost in_range: { IsDatedRange first.year first.month first.day last.year last.month last.day } by { Prim.hlevel props },
+}
+
+/// Every so many weeks of ISO 8601, from the first to the last, of 1 to 53.
+#[derive(Clone, Copy, Debug, PartialEq, Eq)]
+pub struct Weeks {
+    pub(crate) first: u16,
+    pub(crate) last: u16,
+    pub(crate) step: u16,
+    pub ghost in_range: { IsWeeks first last step } by { Prim.hlevel props },
+}
+
+/// A range of weekdays, which may go over the end of the week. A weekday is 1 for Sunday to 7 for Saturday.
+#[derive(Clone, Copy, Debug, PartialEq, Eq)]
+pub struct Weekdays {
+    pub(crate) first: u8,
+    pub(crate) last: u8,
+    pub ghost first_in: { IsWeekday first } by { Prim.hlevel props },
+    pub ghost last_in: { IsWeekday last } by { Prim.hlevel props },
+}
+
+/// A weekday and its place in the month: the first to the fifth.
+#[derive(Clone, Copy, Debug, PartialEq, Eq)]
+pub struct Place {
+    pub(crate) weekday: u8,
+    pub(crate) number: u8,
+    pub ghost in_range: { IsWeekdayPlace weekday number } by { Prim.hlevel props },
+}
+
+/// What holds on some days.
+#[derive(Clone, Copy, Debug, PartialEq, Eq)]
+pub enum Selector {
+    /// `2024-2030/2`
+    Years(Years),
+    /// `Apr-Sep`
+    Months(Months),
+    /// `Apr 10-Sep 20`
+    Dates(Dates),
+    /// `2024 Dec 24-2025 Jan 3`
+    Dated(Dated),
+    /// `week 10-20/2`
+    Weeks(Weeks),
+    /// `Mo-Fr`
+    Weekdays(Weekdays),
+    /// `We[1]`: a place from the beginning of the month.
+    Nth(Place),
+    /// `We[-1]`: a place back from the end of the month.
+    NthBack(Place),
+}
+
+/// The selectors of one kind, of which one must hold.
+#[derive(Debug, Drop)]
+pub struct Kind {
+    pub selectors: Vec<Selector>,
+}
+
+/// A range of times, in minutes from the beginning of a day. One that does not end after its first minute ends 24 hours
+/// later.
+#[derive(Clone, Copy, Debug, PartialEq, Eq)]
+pub struct TimeRange {
+    pub(crate) begin: u16,
+    pub(crate) last: u16,
+    pub ghost in_range: { IsTimeRange begin last } by { Prim.hlevel props },
+}
+
+/// How a rule stands to those before it.
+#[derive(Clone, Copy, Debug, PartialEq, Eq)]
+pub enum Link {
+    /// The first rule, or one after `;`: if it is open, the days that it matches are its own.
+    Instead,
+    /// A rule after `,`: if it is open, it is added.
+    Also,
+}
+
+/// What a rule says of its spans.
+#[derive(Clone, Copy, Debug, PartialEq, Eq)]
+pub enum Modifier {
+    Open,
+    Closed,
+}
+
+/// A rule: the kinds of selectors that are given, each of which must hold on a day that matches, and the times on such
+/// days. Without a kind each day matches. Without times all of the day is meant.
+#[derive(Debug, Drop)]
+pub struct Rule {
+    pub link: Link,
+    pub kinds: Vec<Kind>,
+    pub times: Vec<TimeRange>,
+    pub modifier: Modifier,
+}
+
+/// The rules, in their order.
+#[derive(Debug, Drop)]
+pub struct Hours {
+    pub rules: Vec<Rule>,
+}
