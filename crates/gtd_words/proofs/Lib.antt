@@ -1,1 +1,4 @@
 pub mod LineFacts
+pub mod Prefixes
+pub mod WeekdayLists
+pub mod StartParts
