@@ -5,3 +5,4 @@ pub mod StartParts
 pub mod Anchors
 pub mod Clocks
 pub mod StartLaw
+pub mod DurationLaw
