@@ -6,7 +6,7 @@ use Rattle.std.specs.Char.{is_ascii_digit}
 use Rattle.std.proofs.lemmas.Bool.{false≢true, eq-eqb}
 use Rattle.std.proofs.lemmas.List.{append_cancel_left}
 use Rattle.gtd_words.specs.Names.{two_digits}
-use Rattle.gtd_words.specs.Starts.{clock_words, hour_words, minute_words, of_hour, of_hours, second_words, seconds_words, time_from}
+use Rattle.gtd_words.specs.Starts.{clock_words, hour_words, minute_words, of_hour, of_hours, second_words, seconds_words}
 use Rattle.gtd_words.proofs.Prefixes.{Both, NoDigit, Digit, head, tail, no_way, decimal_then, first_digit, two_then}
 use Rattle.gtd_words.proofs.StartParts.{rank, spaced_then}
 
@@ -105,7 +105,8 @@ after_minute_then None (Some b) r s p q e =
 after_minute_then (Some a) None r s p q e =
     absurd (no_way (codes " and second ") (codes " of every hour ") (decimal a ++ (codes " of every hour " ++ r)) s refl e)
 after_minute_then (Some a) (Some b) r s p q e =
-    let same = decimal_then a b (codes " of every hour " ++ r) (codes " of every hour " ++ s) (omega arith) (omega arith) refl refl
+    let same = decimal_then a b (codes " of every hour " ++ r) (codes " of every hour " ++ s) (omega arith) (omega arith)
+    refl refl
     (append_cancel_left (codes " and second ") (decimal a ++ (codes " of every hour " ++ r))
     (decimal b ++ (codes " of every hour " ++ s)) e) in
     (ap (λ (n : ℕ). Some n) same.0, append_cancel_left (codes " of every hour ") r s same.1)
@@ -141,7 +142,8 @@ second_is s h r = simp append_assoc
 second_then : (s s' : ℕ) (h h' : Option ℕ) (r r' : List ℕ) → s < 100 → s' < 100 → IfSome h IsClock → IfSome h' IsClock
     → second_words s h ++ r ≡ second_words s' h' ++ r' → SameClock h None (Some s) h' None (Some s') r r'
 second_then s s' h h' r r' ps qs ph qh e =
-    let second = decimal_then s s' (codes " of every minute " ++ (of_hour h ++ r)) (codes " of every minute " ++ (of_hour h' ++ r'))
+    let second = decimal_then s s' (codes " of every minute " ++ (of_hour h ++ r))
+    (codes " of every minute " ++ (of_hour h' ++ r'))
     (omega arith) (omega arith) refl refl
     (append_cancel_left (codes "from second ") (decimal s ++ (codes " of every minute " ++ (of_hour h ++ r)))
     (decimal s' ++ (codes " of every minute " ++ (of_hour h' ++ r'))) (sym (second_is s h r) ∙ e ∙ second_is s' h' r')) in

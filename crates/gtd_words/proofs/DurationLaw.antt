@@ -231,9 +231,10 @@ duration_step : (t u : Bool) (d e : DurationParts) (r s : List ℕ) → HasSixDi
     ≡ cond u (codes "0 seconds") (date_words e ++ clock_part_words e) ++ s → AllSame (pairs d e) × (r ≡ s)
 duration_step true true d e r s p q t u h k same =
     let zd : all_sum d ≡ 0 = eqb-true (all_sum d) 0 t in
-    let ze : all_sum e ≡ 0 = eqb-true (all_sum e) 0 u in
-    (((omega arith), ((omega arith), ((omega arith), ((omega arith), ((omega arith), ((omega arith), ((omega arith), tt))))))),
-    append_cancel_left (codes "0 seconds") r s same)
+    let ze : all_sum e ≡ 0 = eqb-true (all_sum e) 0 u in (
+      ((omega arith), ((omega arith), ((omega arith), ((omega arith), ((omega arith), ((omega arith), ((omega arith), tt))))))),
+      append_cancel_left (codes "0 seconds") r s same,
+    )
 duration_step true false d e r s p q t u h k same =
     absurd (none_there (units e) 0 s r refl (small_units e q)
     (λ z. eqb-false (all_sum e) 0 u (omega arith))
@@ -280,7 +281,7 @@ pub record SameBasic (x : StartParts) (d : DurationParts) (y : StartParts) (e : 
   pub duration : d ≡ e
   pub rest : r ≡ s
 
-basic_is : (x : StartParts) (d : DurationParts) (r : List ℕ) → basic_words x d ++ r
+pub basic_is : (x : StartParts) (d : DurationParts) (r : List ℕ) → basic_words x d ++ r
     ≡ start_words x ++ (codes "for " ++ (duration_words d ++ (until_words (clock_end x d) ++ r)))
 unfolding basic_words
 basic_is x d r =

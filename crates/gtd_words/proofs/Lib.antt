@@ -6,3 +6,4 @@ pub mod Anchors
 pub mod Clocks
 pub mod StartLaw
 pub mod DurationLaw
+pub mod WordsLaw

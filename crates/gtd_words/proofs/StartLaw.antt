@@ -168,7 +168,7 @@ from_year a start r = year_words (is_given start.month) (is_given start.week) st
 abbrev from_week : Anchor → StartParts → List ℕ → List ℕ
 from_week a start r = week_words start.week ++ from_year a start r
 
-abbrev from_month : Anchor → StartParts → List ℕ → List ℕ
+abbrev pub from_month : Anchor → StartParts → List ℕ → List ℕ
 from_month a start r = month_words (is_in_month a) start.month ++ from_week a start r
 
 conditions_are : (a : Anchor) (start : StartParts) (r : List ℕ) → condition_words a start ++ from_clock start r
@@ -191,7 +191,7 @@ period_is a start r =
     append_assoc (month_words (is_in_month a) start.month ++ week_words start.week) _ (from_place a start r)
     ∙ append_assoc (month_words (is_in_month a) start.month) (week_words start.week) _
 
-words_are : (start : StartParts) (r : List ℕ) → start_words start ++ (codes "for " ++ r)
+pub words_are : (start : StartParts) (r : List ℕ) → start_words start ++ (codes "for " ++ r)
     ≡ lead_words (has_clock start) (anchor_of start)
     ++ (anchor_words (is_given start.month) (anchor_of start) ++ from_month (anchor_of start) start r)
 unfolding start_words

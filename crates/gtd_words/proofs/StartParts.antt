@@ -98,9 +98,25 @@ month_then m n r s a b e =
 month_ranked : (m : ℕ) → IsMonth m → (r : List ℕ) → rank (month_words false (Some m) ++ r) ≡ 1
 unfolding month_name
 month_ranked m h r =
-    of_name (λ x. (r : List ℕ) → of_rank (x ++ codes " " ++ r) ≡ 1) 1 month_names m
-    (λ r. refl, (λ r. refl, (λ r. refl, (λ r. refl, (λ r. refl, (λ r. refl,
-    (λ r. refl, (λ r. refl, (λ r. refl, (λ r. refl, (λ r. refl, λ r. refl))))))))))) r
+    of_name (λ x. (r : List ℕ) → of_rank (x ++ codes " " ++ r) ≡ 1) 1 month_names m (
+      λ r. refl,
+      (
+        λ r. refl,
+        (
+          λ r. refl,
+          (
+            λ r. refl,
+            (
+              λ r. refl,
+              (
+                λ r. refl,
+                (λ r. refl, (λ r. refl, (λ r. refl, (λ r. refl, (λ r. refl, λ r. refl))))),
+              ),
+            ),
+          ),
+        ),
+      ),
+    ) r
 
 month_code : (a b : ℕ) → IsMonth a → IsMonth b → (r s : List ℕ) → 1 < rank r → 1 < rank s
     → month_words false (Some a) ++ r ≡ month_words false (Some b) ++ s → Both a b r s
@@ -232,7 +248,8 @@ pair_same p q e h =
 pub place_then : (p q : ℕ × ℕ) (r s : List ℕ) → IsAt p → IsAt q → place_words p ++ r ≡ place_words q ++ s → Both p q r s
 unfolding place_words place_name
 place_then p q r s h k e =
-    let first = name_then 1 place_names p.0 q.0 (weekday_name p.1 ++ (codes " of " ++ r)) (weekday_name q.1 ++ (codes " of " ++ s))
+    let first = name_then 1 place_names p.0 q.0 (weekday_name p.1 ++ (codes " of " ++ r))
+    (weekday_name q.1 ++ (codes " of " ++ s))
     refl h.0 (let a = h.1 in omega arith) k.0 (let a = k.1 in omega arith)
     (sym (append_assoc (place_name p.0) (weekday_name p.1) (codes " of " ++ r))
     ∙ sym (append_assoc (place_name p.0 ++ weekday_name p.1) (codes " of ") r) ∙ e
@@ -257,7 +274,8 @@ place_code : (p q : ℕ × ℕ) → IsAt p → IsAt q → (r s : List ℕ) → 4
 place_code p q h k r s a b e =
     let same = place_then p q (codes "the month " ++ r) (codes "the month " ++ s) h k
     (sym (append_assoc (place_words p) (codes "the month ") r)
-    ∙ append_cancel_left (codes "if it is the ") (place_words p ++ codes "the month " ++ r) (place_words q ++ codes "the month " ++ s) e
+    ∙ append_cancel_left (codes "if it is the ") (place_words p ++ codes "the month " ++ r)
+    (place_words q ++ codes "the month " ++ s) e
     ∙ append_assoc (place_words q) (codes "the month ") s) in
     (same.0, append_cancel_left (codes "the month ") r s same.1)
 
