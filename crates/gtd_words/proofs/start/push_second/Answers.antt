@@ -1,0 +1,8 @@
+use Rattle.gtd_words.specs.Starts.{second_of_minutes, of_hour}
+use Rattle.gtd_words.proofs.LineFacts.{ok_so, both_appended}
+use Rattle.gtd_words.proofs.start.push_second.Goals as goal
+
+pub returns : goal.returns
+returns c = ok_so c.push_of_hour.result
+    (both_appended _ _ _ (second_of_minutes c.args.second) (of_hour c.args.hour)
+    c.in_ok-push_second_of_minutes.ensures) c.push_of_hour.ensures

@@ -1,0 +1,210 @@
+//! Names, and numbers in words.
+
+ghost use Rattle.std.specs.Prelude.{◌≡◌, ◌≤◌, ◌<◌, ◌+◌, ◌++◌, [], ◌∷◌, string_bytes, decimal, OnOk};
+ghost use Rattle.gtd_words.specs.Names.{weekday_name, month_name, place_name, back_name, place_words, back_words};
+ghost use Rattle.gtd_words.specs.Names.{ordinal_ending, two_digits, four_digits, weekday_joint, weekday_if_set, weekdays_words};
+
+use itoa::Buffer;
+use std::alloc::AllocError;
+
+// The name of a weekday, from 1 for Sunday.
+#[tactic(auto, unfolding(crate::specs::Names::weekday_name))]
+fn weekday_name(weekday: u8) -> &'static str
+    ensures { result.now ≡ weekday_name weekday }
+{
+    match weekday {
+        1 => "Sunday",
+        2 => "Monday",
+        3 => "Tuesday",
+        4 => "Wednesday",
+        5 => "Thursday",
+        6 => "Friday",
+        _ => "Saturday",
+    }
+}
+
+/// The name of a month, from 1 for January.
+#[tactic(auto, unfolding(crate::specs::Names::month_name))]
+pub(crate) fn month_name(month: u8) -> &'static str
+    ensures { result.now ≡ month_name month }
+{
+    match month {
+        1 => "January",
+        2 => "February",
+        3 => "March",
+        4 => "April",
+        5 => "May",
+        6 => "June",
+        7 => "July",
+        8 => "August",
+        9 => "September",
+        10 => "October",
+        11 => "November",
+        _ => "December",
+    }
+}
+
+// A weekday's place from the beginning of the month.
+#[tactic(auto, unfolding(crate::specs::Names::place_name))]
+fn place_name(n: u8) -> &'static str
+    ensures { result.now ≡ place_name n }
+{
+    match n {
+        1 => "first ",
+        2 => "second ",
+        3 => "third ",
+        4 => "fourth ",
+        _ => "fifth ",
+    }
+}
+
+// How many such weekdays come after it in the month.
+#[tactic(auto, unfolding(crate::specs::Names::back_name))]
+fn back_name(n: u8) -> &'static str
+    ensures { result.now ≡ back_name n }
+{
+    match n {
+        1 => " of ",
+        2 => " but one of ",
+        3 => " but two of ",
+        4 => " but three of ",
+        _ => " but four of ",
+    }
+}
+
+/// The ending of an ordinal number.
+pub(crate) fn ordinal_ending(n: u8) -> &'static str
+    ensures { result.now ≡ ordinal_ending n }
+{
+    if n / 10 == 1 {
+        return "th";
+    }
+    match n % 10 {
+        1 => "st",
+        2 => "nd",
+        3 => "rd",
+        _ => "th",
+    }
+}
+
+/// Appends a weekday's place from the beginning of the month.
+#[tactic(auto, unfolding(crate::specs::Names::place_words))]
+pub(crate) fn push_place(out: &mut String, place: (u8, u8)) -> Result<(), AllocError>
+    ensures { OnOk result (string_bytes out.new ≡ string_bytes out.old ++ place_words place) }
+{
+    out.push_str(place_name(place.0))?;
+    out.push_str(weekday_name(place.1))?;
+    out.push_str(" of ")
+}
+
+/// Appends a weekday's place back from the end of the month.
+#[tactic(auto, unfolding(crate::specs::Names::back_words))]
+pub(crate) fn push_place_back(out: &mut String, place: (u8, u8)) -> Result<(), AllocError>
+    ensures { OnOk result (string_bytes out.new ≡ string_bytes out.old ++ back_words place) }
+{
+    out.push_str("last ")?;
+    out.push_str(weekday_name(place.1))?;
+    out.push_str(back_name(place.0))
+}
+
+/// Appends a number.
+pub(crate) fn push_number(out: &mut String, n: u32) -> Result<(), AllocError>
+    ensures { OnOk result (string_bytes out.new ≡ string_bytes out.old ++ decimal n) }
+{
+    out.push_str(Buffer::new().format(n))
+}
+
+/// Appends a text and a number.
+pub(crate) fn push_number_after(out: &mut String, before: &str, n: u32) -> Result<(), AllocError>
+    ensures { OnOk result (string_bytes out.new ≡ string_bytes out.old ++ (before.now ++ decimal n)) }
+{
+    out.push_str(before)?;
+    push_number(out, n)
+}
+
+/// Appends a number between two texts.
+pub(crate) fn push_number_between(
+    out: &mut String,
+    before: &str,
+    n: u32,
+    after: &str,
+) -> Result<(), AllocError>
+    ensures { OnOk result (string_bytes out.new ≡ string_bytes out.old ++ (before.now ++ decimal n ++ after.now)) }
+{
+    out.push_str(before)?;
+    push_number(out, n)?;
+    out.push_str(after)
+}
+
+#[tactic(auto, using(std::proofs::lemmas::Fmt::decimal_digit))]
+fn push_digit(out: &mut String, digit: u32) -> Result<(), AllocError>
+    requires { digit < 10 }
+    ensures { OnOk result (string_bytes out.new ≡ string_bytes out.old ++ (48 + digit) ∷ []) }
+{
+    out.push_str(Buffer::new().format(digit))
+}
+
+/// Appends a number below 100 in two digits.
+pub(crate) fn push_two_digits(out: &mut String, n: u32) -> Result<(), AllocError>
+    requires { n < 100 }
+    ensures { OnOk result (string_bytes out.new ≡ string_bytes out.old ++ two_digits n) }
+{
+    push_digit(out, n / 10)?;
+    push_digit(out, n % 10)
+}
+
+/// Appends a number below 10,000 in four digits.
+#[tactic(auto, unfolding(crate::specs::Names::four_digits))]
+pub(crate) fn push_four_digits(out: &mut String, n: u32) -> Result<(), AllocError>
+    requires { n ≤ 9999 }
+    ensures { OnOk result (string_bytes out.new ≡ string_bytes out.old ++ four_digits n) }
+{
+    push_digit(out, n / 1000)?;
+    push_digit(out, n / 100 % 10)?;
+    push_digit(out, n / 10 % 10)?;
+    push_digit(out, n % 10)
+}
+
+// Appends a weekday's name if its bit is set, with what joins it to the name before it.
+#[tactic(auto, unfolding(crate::specs::Names::weekday_if_set))]
+fn push_weekday(out: &mut String, weekdays: u8, weekday: u8) -> Result<(), AllocError>
+    requires low { 1 ≤ weekday }
+    requires high { weekday ≤ 7 }
+    ensures { OnOk result (string_bytes out.new ≡ string_bytes out.old ++ weekday_if_set weekdays weekday) }
+{
+    if (weekdays >> (weekday - 1)) % 2 == 1 {
+        out.push_str(weekday_joint(weekdays, weekday))?;
+        out.push_str(weekday_name(weekday))
+    } else {
+        Ok(())
+    }
+}
+
+/// Appends the names of weekdays.
+#[tactic(auto, unfolding(crate::specs::Names::weekdays_words))]
+pub(crate) fn push_weekdays(out: &mut String, weekdays: u8) -> Result<(), AllocError>
+    ensures { OnOk result (string_bytes out.new ≡ string_bytes out.old ++ weekdays_words weekdays) }
+{
+    push_weekday(out, weekdays, 1)?;
+    push_weekday(out, weekdays, 2)?;
+    push_weekday(out, weekdays, 3)?;
+    push_weekday(out, weekdays, 4)?;
+    push_weekday(out, weekdays, 5)?;
+    push_weekday(out, weekdays, 6)?;
+    push_weekday(out, weekdays, 7)
+}
+
+// What joins a weekday's name to the name before it.
+fn weekday_joint(weekdays: u8, weekday: u8) -> &'static str
+    requires low { 1 ≤ weekday }
+    requires high { weekday ≤ 7 }
+    ensures { result.now ≡ weekday_joint weekdays weekday }
+{
+    if weekdays % (1 << (weekday - 1)) == 0 {
+        ""
+    } else if weekdays >> weekday == 0 {
+        " and "
+    } else {
+        ", "
+    }
+}
