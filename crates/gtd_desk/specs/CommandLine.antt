@@ -44,6 +44,24 @@ bare_faults = new_app (codes "faults")
 abbrev pub faults_app : App
 faults_app = with_rule bare_faults (word_rule (codes "FILE"))
 
+-- The command `picture` without its words.
+abbrev pub bare_picture : App
+bare_picture = new_app (codes "picture")
+
+-- The command `picture FILE ELEMENT DIRECTION VEHICLE YEAR`.
+abbrev pub picture_app : App
+picture_app =
+    with_rule (with_rule (with_rule (with_rule (with_rule bare_picture (word_rule (codes "FILE"))) (word_rule (codes "ELEMENT")))
+    (word_rule (codes "DIRECTION"))) (word_rule (codes "VEHICLE"))) (word_rule (codes "YEAR"))
+
+-- The command `picture-domain` without its words.
+abbrev pub bare_domain : App
+bare_domain = new_app (codes "picture-domain")
+
+-- The command `picture-domain DOMAIN YEAR`.
+abbrev pub domain_app : App
+domain_app = with_rule (with_rule bare_domain (word_rule (codes "DOMAIN"))) (word_rule (codes "YEAR"))
+
 -- The program without its commands: one must be given, and there is a version to show.
 abbrev pub none_given : App
 none_given = record {
@@ -51,9 +69,13 @@ none_given = record {
   subs = [];
 }
 
+-- The program with its commands that print no picture.
+abbrev pub no_pictures : App
+no_pictures = with_subcommand (with_subcommand none_given now_app.top) faults_app.top
+
 -- The program with all its commands.
 abbrev pub desk_app : App
-desk_app = with_subcommand (with_subcommand none_given now_app.top) faults_app.top
+desk_app = with_subcommand (with_subcommand no_pictures picture_app.top) domain_app.top
 
 -- Three values, if all are given.
 abbrev pub all_three : Option Text → Option Text → Option Text → Option (Text × Text × Text)
@@ -78,6 +100,63 @@ faults_given found = if bytes_eq found.0 (codes "faults") then first_of (codes "
 -- The word of the command `faults` among these words.
 abbrev pub faults_word_of : List Text → Option Text
 faults_word_of words = option_and_then faults_given (subcommand_of desk_app words)
+
+-- The words of the command `picture`.
+pub record PictureTexts : Type 0 where
+  pub file : Text
+  pub element : Text
+  pub direction : Text
+  pub vehicle : Text
+  pub year : Text
+
+-- The words of the command `picture`, if all are given.
+abbrev pub all_five : Option Text → Option Text → Option Text → Option Text → Option Text → Option PictureTexts
+all_five (Some file) (Some element) (Some direction) (Some vehicle) (Some year) =
+    Some (record { file = file; element = element; direction = direction; vehicle = vehicle; year = year })
+all_five file element direction vehicle year = None
+
+-- The words of the command `picture`, from a command's name and what was found for it.
+abbrev pub picture_given : Text × List Row → Option PictureTexts
+picture_given found =
+    if bytes_eq found.0 (codes "picture")
+    then all_five (first_of (codes "FILE") found.1) (first_of (codes "ELEMENT") found.1) (first_of (codes "DIRECTION") found.1)
+    (first_of (codes "VEHICLE") found.1) (first_of (codes "YEAR") found.1)
+    else None
+
+-- The words of the command `picture` among these words.
+abbrev pub picture_words_of : List Text → Option PictureTexts
+picture_words_of words = option_and_then picture_given (subcommand_of desk_app words)
+
+-- The words of the command `picture-domain`.
+pub record DomainTexts : Type 0 where
+  pub domain : Text
+  pub year : Text
+
+-- The words of the command `picture-domain`, if both are given.
+abbrev pub both_given : Option Text → Option Text → Option DomainTexts
+both_given (Some domain) (Some year) = Some (record { domain = domain; year = year })
+both_given domain year = None
+
+-- The words of the command `picture-domain`, from a command's name and what was found for it.
+abbrev pub domain_given : Text × List Row → Option DomainTexts
+domain_given found =
+    if bytes_eq found.0 (codes "picture-domain")
+    then both_given (first_of (codes "DOMAIN") found.1) (first_of (codes "YEAR") found.1)
+    else None
+
+-- The words of the command `picture-domain` among these words.
+abbrev pub domain_words_of : List Text → Option DomainTexts
+domain_words_of words = option_and_then domain_given (subcommand_of desk_app words)
+
+-- The words give the command `picture` with these words.
+pub record ArePictureWords (words : List Text) (texts : PictureTexts) : Type 0 where
+  pub faultless : fault_of desk_app words ≡ []
+  pub given : picture_words_of words ≡ Some texts
+
+-- The words give the command `picture-domain` with these words.
+pub record AreDomainWords (words : List Text) (texts : DomainTexts) : Type 0 where
+  pub faultless : fault_of desk_app words ≡ []
+  pub given : domain_words_of words ≡ Some texts
 
 -- The words give the command `faults` with this word.
 pub record AreFaultsWords (words : List Text) (file : Text) : Type 0 where
@@ -113,4 +192,5 @@ AskForText words = (kind : ErrorKind) × IsAmong kind (fault_of desk_app words) 
 abbrev pub AreMistaken : List Text → Type 0
 AreMistaken words =
     ((kind : ErrorKind) × IsAmong kind (fault_of desk_app words) × (is_request kind ≡ false))
-    ⊎ ((now_words_of words ≡ None) × (faults_word_of words ≡ None))
+    ⊎ ((now_words_of words ≡ None) × (faults_word_of words ≡ None) × (picture_words_of words ≡ None)
+    × (domain_words_of words ≡ None))

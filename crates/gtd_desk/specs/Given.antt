@@ -1,7 +1,21 @@
 -- The words of a command, as they were read.
-use Rattle.gtd_desk.specs.CommandLine.{Text}
+use Rattle.gtd_desk.specs.CommandLine.{DomainTexts, PictureTexts, Text}
+use Rattle.gtd_desk.specs.declared.arguments.DomainWords.{DomainWords}
 use Rattle.gtd_desk.specs.declared.arguments.NowWords.{NowWords}
+use Rattle.gtd_desk.specs.declared.arguments.PictureWords.{PictureWords}
 
 -- Its words, without where they lie in memory.
 abbrev pub texts_of : NowWords → Text × Text × Text
 texts_of words = (words.file.now, words.moment.now, words.vehicle.now)
+
+abbrev pub picture_texts : PictureWords → PictureTexts
+picture_texts words = record {
+  file = words.file.now;
+  element = words.element.now;
+  direction = words.direction.now;
+  vehicle = words.vehicle.now;
+  year = words.year.now;
+}
+
+abbrev pub domain_texts : DomainWords → DomainTexts
+domain_texts words = record { domain = words.domain.now; year = words.year.now }

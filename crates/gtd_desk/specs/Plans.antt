@@ -1,10 +1,12 @@
 -- What a command line asks for.
-use Rattle.std.specs.Prelude.{◌≡◌, ℕ, List, Option, Some, None, Ok, Err, string_bytes}
+use Rattle.std.specs.Prelude.{◌≡◌, ◌⊎◌, ℕ, List, Option, Some, None, Ok, Err, string_bytes}
 use Rattle.gtd_core.specs.declared.second.Sec.{Sec}
 use Rattle.gtd_calendar.specs.Read.{stamp_in}
 use Rattle.gtd_calendar.specs.declared.stamp.StampFault.{StampFault}
 use Rattle.gtd_records.specs.Columns.{number_of}
 use Rattle.gtd_runs.specs.Run.{IsVehicleType}
+use Rattle.gtd_desk.specs.Pictures.{AskForDomainPicture, AskForPicture, HaveDomainFault, HavePictureFault}
+pub use Rattle.gtd_desk.specs.Pictures.{IsNoVehicle}
 use Rattle.gtd_desk.specs.CommandLine.{AreFaultsWords, AreMistaken, AreNowWords, AskForText, Text}
 use Rattle.gtd_desk.specs.declared.plans.Plan.{Plan}
 use Rattle.gtd_desk.specs.declared.plans.Plan.TheVariants as plan
@@ -24,17 +26,17 @@ pub record AskForNow (words : List Text) (file : Text) (moment : Sec) (vehicle :
 abbrev pub AskFor : List Text → Plan → Type 0
 AskFor words (plan.Now file moment vehicle) = AskForNow words (string_bytes file) moment.second vehicle
 AskFor words (plan.Faults file) = AreFaultsWords words (string_bytes file)
+AskFor words (plan.Picture file title subject) = AskForPicture words (string_bytes file) subject
+AskFor words (plan.DomainPicture domain title year) = AskForDomainPicture words domain (string_bytes title) year
 AskFor words (plan.Show text) = AskForText words
 
 -- The path of the record file that the plan reads, if it reads one.
 abbrev pub file_of : Plan → Option Text
 file_of (plan.Now file moment vehicle) = Some (string_bytes file)
 file_of (plan.Faults file) = Some (string_bytes file)
+file_of (plan.Picture file title subject) = Some (string_bytes file)
+file_of (plan.DomainPicture domain title year) = None
 file_of (plan.Show text) = None
-
--- The word does not stand for a vehicle type.
-abbrev pub IsNoVehicle : Text → Type 0
-IsNoVehicle text = (vehicle : ℕ) → number_of text ≡ Some vehicle → IsVehicleType vehicle → ⊥
 
 -- The words give the command `now`, and the word for the moment does not stand for one.
 pub record HaveMomentFault (words : List Text) (fault : StampFault) : Type 0 where
@@ -58,12 +60,16 @@ pub record HaveNoVehicle (words : List Text) : Type 0 where
 abbrev pub IsNowPlan : Text → Sec → ℕ → Plan → Type 0
 IsNowPlan file moment vehicle (plan.Now f m v) = (string_bytes f ≡ file) × (m.second ≡ moment) × (v ≡ vehicle)
 IsNowPlan file moment vehicle (plan.Faults f) = ⊥
+IsNowPlan file moment vehicle (plan.Picture f t s) = ⊥
+IsNowPlan file moment vehicle (plan.DomainPicture d t y) = ⊥
 IsNowPlan file moment vehicle (plan.Show text) = ⊥
 
 -- The plan is for `faults`, with this file.
 abbrev pub IsFaultsPlan : Text → Plan → Type 0
 IsFaultsPlan file (plan.Now f m v) = ⊥
 IsFaultsPlan file (plan.Faults f) = string_bytes f ≡ file
+IsFaultsPlan file (plan.Picture f t s) = ⊥
+IsFaultsPlan file (plan.DomainPicture d t y) = ⊥
 IsFaultsPlan file (plan.Show text) = ⊥
 
 -- The words give the command `now`, and this is the refusal for the first of its words that stands for nothing.
@@ -77,5 +83,6 @@ abbrev pub IsRefusalOf : List Text → Refusal → Type 0
 IsRefusalOf words (refusal.Usage why) = AreMistaken words
 IsRefusalOf words (refusal.Moment fault) = HaveMomentFault words fault
 IsRefusalOf words refusal.Vehicle = HaveNoVehicle words
+IsRefusalOf words (refusal.Word fault) = HavePictureFault words fault ⊎ HaveDomainFault words fault
 IsRefusalOf words refusal.Memory = Unit {0}
 IsRefusalOf words r = ⊥

@@ -1,10 +1,17 @@
 -- What a plan prints, how it ends, and why it is refused.
 use Rattle.std.specs.Prelude.{◌≡◌, ◌≢◌, ◌↔◌, ⊤, ℕ, zero, suc, ℤ, Bool, List, Option, Result, Ok, Err, IsErrOf, IsTrue, OnOk}
-use Rattle.std.specs.Prelude.{IfErr, IfOk, IfSome, string_bytes}
+use Rattle.std.specs.Prelude.{Any, IfErr, IfOk, IfSome, string_bytes}
 use Rattle.std.specs.Io.KnownBytes.{Appends, Keeps}
 use Rattle.gtd_records.specs.declared.fault.RecordFault.{RecordFault}
 use Rattle.gtd_records.specs.declared.fault.RecordFault.TheVariants as records
-use Rattle.gtd_runs.specs.Run.{AcceptedFilesArePut, HasRun, RefusedFilesPutNothing, IsVehicleType}
+use Rattle.gtd_core.specs.declared.domain.Domain.{Domain}
+use Rattle.gtd_records.specs.Closing.{Restriction}
+use Rattle.gtd_runs.specs.Run.{AcceptedFilesArePut, HasRun, IsTableYear, IsVehicleType, RefusedFilesPutNothing}
+use Rattle.gtd_runs.specs.Run.{UnacceptedFilesPutNothing}
+use Rattle.gtd_picture.specs.Domain.{HasPut, IsDomainPicture}
+use Rattle.gtd_picture.specs.Open.{IsOpenPicture}
+use Rattle.gtd_desk.specs.declared.plans.PictureSubject.{PictureSubject}
+use Rattle.gtd_desk.specs.declared.refusal.WordFault.TheVariants as fault
 use Rattle.gtd_runs.specs.declared.fault.RunFault.{RunFault}
 use Rattle.gtd_runs.specs.declared.fault.RunFault.TheVariants as run
 use Rattle.gtd_faults.specs.Run.{HasListed}
@@ -18,6 +25,10 @@ use Rattle.gtd_desk.specs.declared.plans.Plan.TheVariants as plan
 use Rattle.gtd_desk.specs.declared.refusal.Refusal.{Refusal}
 use Rattle.gtd_desk.specs.declared.refusal.Refusal.TheVariants as refusal
 
+-- Some restriction names the element.
+abbrev pub IsNamed : ℕ → List Restriction → Type 0
+IsNamed element found = Any (λ (r : Restriction). r.element ≡ element) found
+
 -- The refusal for a fault of a run.
 abbrev pub refusal_for : RunFault → Refusal
 refusal_for (run.Records records.NoMemory) = refusal.Memory
@@ -25,13 +36,13 @@ refusal_for (run.Records why) = refusal.Records why
 refusal_for (run.WriteFault written) = refusal.Write
 refusal_for (run.NoMemory written) = refusal.Memory
 refusal_for run.VehicleRange = refusal.Vehicle
-refusal_for run.YearRange = refusal.Vehicle
-refusal_for run.NoElement = refusal.Vehicle
+refusal_for run.YearRange = refusal.Word fault.Year
+refusal_for run.NoElement = refusal.NoElement
 
 -- The answer of a command, from that of its run.
 abbrev pub outcome_of : Result ℕ RunFault → Result Ending Refusal
 outcome_of (Ok count) = Ok ending.Done
-outcome_of (Err fault) = Err (refusal_for fault)
+outcome_of (Err why) = Err (refusal_for why)
 
 -- The run of `now` had an answer, and all that the run promises for this answer holds.
 pub record RanNow (vehicle : ℕ) (second : ℤ) (file old new : Option (List ℕ)) (silent ended : Bool)
@@ -47,6 +58,34 @@ pub record RanNow (vehicle : ℕ) (second : ℤ) (file old new : Option (List �
   pub year : IsErrOf answer run.YearRange → ⊥
   pub element : IsErrOf answer run.NoElement → ⊥
   pub endless : IsErrOf answer (run.Records records.Endless) → IsTrue silent
+
+-- The run of `picture` had an answer, and all that the run promises for this answer holds.
+pub record RanPicture (subject : PictureSubject) (title : List ℕ) (file old new : Option (List ℕ)) (silent ended : Bool)
+    (result : Result Ending Refusal) : Type 0 where
+  pub answer : Result ℕ RunFault
+  pub outcome : result ≡ outcome_of answer
+  pub accepted : IsVehicleType subject.vehicle → IsTableYear subject.year → AcceptedFilesArePut (IsNamed subject.element)
+      (λ found lines. IsOpenPicture found subject.element subject.direction subject.vehicle title subject.year lines)
+      file old new answer
+  pub refused : IsVehicleType subject.vehicle → IsTableYear subject.year → RefusedFilesPutNothing file old new answer
+  pub unnamed : IsVehicleType subject.vehicle → IsTableYear subject.year
+      → UnacceptedFilesPutNothing (IsNamed subject.element) file old new answer
+  pub stands : HasRun (IsNamed subject.element)
+      (λ found lines. IsOpenPicture found subject.element subject.direction subject.vehicle title subject.year lines)
+      file old new answer
+  pub whole : OnOk answer (IsTrue ended)
+  pub vehicle_range : IsErrOf answer run.VehicleRange ↔ (IsVehicleType subject.vehicle → ⊥)
+  pub year_range : IsErrOf answer run.YearRange ↔ (IsVehicleType subject.vehicle × (IsTableYear subject.year → ⊥))
+  pub endless : IsErrOf answer (run.Records records.Endless) → IsTrue silent
+
+-- The run of `picture-domain` had an answer, and all that the run promises for this answer holds.
+pub record RanDomainPicture (domain : Domain) (title : List ℕ) (year : ℕ) (old new : Option (List ℕ)) (ended : Bool)
+    (result : Result Ending Refusal) : Type 0 where
+  pub answer : Result ℕ RunFault
+  pub outcome : result ≡ outcome_of answer
+  pub stands : HasPut (IsDomainPicture domain title year) old new answer
+  pub whole : OnOk answer (IsTrue ended)
+  pub year_range : IsErrOf answer run.YearRange ↔ (IsTableYear year → ⊥)
 
 -- The answer of a command, from that of its list of faults.
 abbrev pub listing_outcome : Result ℕ ListFault → Result Ending Refusal
@@ -73,6 +112,10 @@ abbrev pub HasRunPlan : Plan → Option (List ℕ) → Option (List ℕ) → Opt
 HasRunPlan (plan.Now path moment vehicle) file old new silent ended result =
     RanNow vehicle moment.second.0 file old new silent ended result
 HasRunPlan (plan.Faults path) file old new silent ended result = RanFaults (string_bytes path) file old new silent ended result
+HasRunPlan (plan.Picture path title subject) file old new silent ended result =
+    RanPicture subject (string_bytes title) file old new silent ended result
+HasRunPlan (plan.DomainPicture domain title year) file old new silent ended result =
+    RanDomainPicture domain (string_bytes title) year old new ended result
 HasRunPlan (plan.Show text) file old new silent ended result =
     IfOk result (λ e. (e ≡ ending.Done) × Appends old new (string_bytes text) × IsTrue ended)
     × IfErr result (λ r. r ≡ refusal.Write)
@@ -87,13 +130,15 @@ abbrev pub records_status : RecordFault → ℕ
 records_status records.ReadFault = 3
 records_status records.Endless = 3
 records_status records.NoMemory = 3
-records_status fault = 1
+records_status why = 1
 
 abbrev pub status_of : Refusal → ℕ
 status_of (refusal.Usage why) = 2
-status_of (refusal.Moment fault) = 1
+status_of (refusal.Moment why) = 1
 status_of refusal.Vehicle = 1
-status_of (refusal.Records fault) = records_status fault
+status_of (refusal.Word why) = 1
+status_of refusal.NoElement = 1
+status_of (refusal.Records why) = records_status why
 status_of refusal.Open = 3
 status_of refusal.Write = 3
 status_of refusal.Memory = 3

@@ -6,9 +6,11 @@ ghost use Rattle.clap.specs.Kinds.{HasKind};
 ghost use Rattle.clap.specs.Matches.{found_of};
 ghost use Rattle.clap.specs.Simple.{app_of, subcommand_rows_of, with_rule, with_subcommand};
 ghost use Rattle.clap.specs.Walk.{first_of, rows_of};
-ghost use Rattle.gtd_desk.specs.CommandLine.{HasWords, IsLocal, all_three, bare_faults, bare_now, desk_app};
-ghost use Rattle.gtd_desk.specs.CommandLine.{faults_app, faults_given, none_given, now_app, now_given, word_rule};
-ghost use Rattle.gtd_desk.specs.Given.{texts_of};
+ghost use Rattle.gtd_desk.specs.CommandLine.{HasWords, IsLocal, all_five, all_three, bare_domain, bare_faults, bare_now};
+ghost use Rattle.gtd_desk.specs.CommandLine.{bare_picture, both_given, desk_app, domain_app, domain_given, faults_app};
+ghost use Rattle.gtd_desk.specs.CommandLine.{faults_given, no_pictures, none_given, now_app, now_given, picture_app, picture_given};
+ghost use Rattle.gtd_desk.specs.CommandLine.{word_rule};
+ghost use Rattle.gtd_desk.specs.Given.{domain_texts, picture_texts, texts_of};
 
 use clap::{Arg, ArgAction, ArgMatches, Command};
 use std::alloc::{AllocError, Global};
@@ -19,6 +21,23 @@ pub(crate) struct NowWords<'a> {
     pub(crate) file: &'a str,
     pub(crate) moment: &'a str,
     pub(crate) vehicle: &'a str,
+}
+
+/// The words of `picture FILE ELEMENT DIRECTION VEHICLE YEAR`, as they were given.
+#[derive(Clone, Copy)]
+pub(crate) struct PictureWords<'a> {
+    pub(crate) file: &'a str,
+    pub(crate) element: &'a str,
+    pub(crate) direction: &'a str,
+    pub(crate) vehicle: &'a str,
+    pub(crate) year: &'a str,
+}
+
+/// The words of `picture-domain DOMAIN YEAR`, as they were given.
+#[derive(Clone, Copy)]
+pub(crate) struct DomainWords<'a> {
+    pub(crate) domain: &'a str,
+    pub(crate) year: &'a str,
 }
 
 // Adds a word that must be given, under the name that help shows.
@@ -94,6 +113,59 @@ fn faults_command<'a>(alloc: Global) -> Result<Command<'a>, AllocError>
     )
 }
 
+// The command `picture` without its words.
+fn bare_picture<'a>(alloc: Global) -> Command<'a>
+    ensures app { app_of result ≡ bare_picture }
+    ensures local { IsLocal result }
+{
+    Command::new(alloc, "picture").about(
+        "Print a picture, in SVG, of the seconds of a year in which an element of a record file is open",
+    )
+}
+
+// The command `picture`.
+fn picture_command<'a>(alloc: Global) -> Result<Command<'a>, AllocError>
+    ensures app { IfOk result (λ c. app_of c ≡ picture_app) }
+    ensures local { IfOk result IsLocal }
+{
+    let command = bare_picture(alloc);
+    let command = add_word(
+        alloc,
+        command,
+        "FILE",
+        "The record file, or - for standard input",
+    )?;
+    let command = add_word(alloc, command, "ELEMENT", "The number of the element")?;
+    let command = add_word(
+        alloc,
+        command,
+        "DIRECTION",
+        "The direction: positive or negative",
+    )?;
+    let command = add_word(alloc, command, "VEHICLE", "The vehicle type, from 1 to 99")?;
+    add_word(alloc, command, "YEAR", "The year, from 1901 to 2199")
+}
+
+// The command `picture-domain` without its words.
+fn bare_domain<'a>(alloc: Global) -> Command<'a>
+    ensures app { app_of result ≡ bare_domain }
+    ensures local { IsLocal result }
+{
+    Command::new(alloc, "picture-domain").about(
+        "Print a picture, in SVG, of the seconds of a year that a time domain contains",
+    )
+}
+
+// The command `picture-domain`.
+fn domain_command<'a>(alloc: Global) -> Result<Command<'a>, AllocError>
+    ensures app { IfOk result (λ c. app_of c ≡ domain_app) }
+    ensures local { IfOk result IsLocal }
+{
+    let command = bare_domain(alloc);
+    let command = add_word(alloc, command, "DOMAIN", "The time domain")?;
+    add_word(alloc, command, "YEAR", "The year, from 1901 to 2199")
+}
+
 // The program without its commands. A usage line begins with the program's name; the words that are read do not.
 fn without_commands<'a>(alloc: Global) -> Result<Command<'a>, AllocError>
     ensures { IfOk result (λ c. app_of c ≡ none_given) }
@@ -114,15 +186,26 @@ fn add_command<'a>(program: Command<'a>, command: Command<'a>) -> Result<Command
     program.subcommand(command)
 }
 
-// The program with all its commands.
-fn gtdesk<'a>(alloc: Global) -> Result<Command<'a>, AllocError>
-    ensures { IfOk result (λ c. app_of c ≡ desk_app) }
+// The program with its commands that print no picture.
+fn without_pictures<'a>(alloc: Global) -> Result<Command<'a>, AllocError>
+    ensures { IfOk result (λ c. app_of c ≡ no_pictures) }
 {
     let now = now_command(alloc)?;
     let faults = faults_command(alloc)?;
     let program = without_commands(alloc)?;
     let program = add_command(program, now)?;
     add_command(program, faults)
+}
+
+// The program with all its commands.
+fn gtdesk<'a>(alloc: Global) -> Result<Command<'a>, AllocError>
+    ensures { IfOk result (λ c. app_of c ≡ desk_app) }
+{
+    let picture = picture_command(alloc)?;
+    let domain = domain_command(alloc)?;
+    let program = without_pictures(alloc)?;
+    let program = add_command(program, picture)?;
+    add_command(program, domain)
 }
 
 /// What `clap` finds in the words, or its error.
@@ -198,6 +281,89 @@ pub(crate) fn faults_word<'a>(matches: &ArgMatches<'a>) -> Option<&'a str>
 {
     match matches.subcommand() {
         Some((name, given)) => word_of(name, given),
+        None => None,
+    }
+}
+
+// The words of `picture`, if all are given.
+fn gather_picture<'a>(
+    file: Option<&'a str>,
+    element: Option<&'a str>,
+    direction: Option<&'a str>,
+    vehicle: Option<&'a str>,
+    year: Option<&'a str>,
+) -> Option<PictureWords<'a>>
+    ensures { option_map picture_texts result ≡ all_five (option_map (λ s. s.now) file.entry)
+        (option_map (λ s. s.now) element.entry) (option_map (λ s. s.now) direction.entry)
+        (option_map (λ s. s.now) vehicle.entry) (option_map (λ s. s.now) year.entry) }
+{
+    Some(PictureWords {
+        file: file?,
+        element: element?,
+        direction: direction?,
+        vehicle: vehicle?,
+        year: year?,
+    })
+}
+
+// The words of `picture`, if this is the command's name.
+fn picture_of<'a>(name: &str, given: &ArgMatches<'a>) -> Option<PictureWords<'a>>
+    ensures { option_map picture_texts result ≡ picture_given (name.now, rows_of (found_of given.now)) }
+{
+    match name {
+        "picture" => {
+            let file = value(given, "FILE");
+            let element = value(given, "ELEMENT");
+            let direction = value(given, "DIRECTION");
+            let vehicle = value(given, "VEHICLE");
+            let year = value(given, "YEAR");
+            gather_picture(file, element, direction, vehicle, year)
+        }
+        _ => None,
+    }
+}
+
+/// The words of `picture`, if the matches hold them.
+pub(crate) fn picture_words<'a>(matches: &ArgMatches<'a>) -> Option<PictureWords<'a>>
+    ensures { option_map picture_texts result ≡ option_and_then picture_given (subcommand_rows_of matches.now) }
+{
+    match matches.subcommand() {
+        Some((name, given)) => picture_of(name, given),
+        None => None,
+    }
+}
+
+// The words of `picture-domain`, if both are given.
+fn gather_domain<'a>(domain: Option<&'a str>, year: Option<&'a str>) -> Option<DomainWords<'a>>
+    ensures { option_map domain_texts result
+        ≡ both_given (option_map (λ s. s.now) domain.entry) (option_map (λ s. s.now) year.entry) }
+{
+    Some(DomainWords {
+        domain: domain?,
+        year: year?,
+    })
+}
+
+// The words of `picture-domain`, if this is the command's name.
+fn domain_of<'a>(name: &str, given: &ArgMatches<'a>) -> Option<DomainWords<'a>>
+    ensures { option_map domain_texts result ≡ domain_given (name.now, rows_of (found_of given.now)) }
+{
+    match name {
+        "picture-domain" => {
+            let domain = value(given, "DOMAIN");
+            let year = value(given, "YEAR");
+            gather_domain(domain, year)
+        }
+        _ => None,
+    }
+}
+
+/// The words of `picture-domain`, if the matches hold them.
+pub(crate) fn domain_words<'a>(matches: &ArgMatches<'a>) -> Option<DomainWords<'a>>
+    ensures { option_map domain_texts result ≡ option_and_then domain_given (subcommand_rows_of matches.now) }
+{
+    match matches.subcommand() {
+        Some((name, given)) => domain_of(name, given),
         None => None,
     }
 }

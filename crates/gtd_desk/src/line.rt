@@ -1,6 +1,6 @@
 //! The line for standard error that reports a refusal.
 
-use crate::refusal::Refusal;
+use crate::refusal::{Refusal, WordFault};
 use gtd_calendar::StampFault;
 use gtd_faults::{FaultText, Printable};
 use std::fmt;
@@ -12,6 +12,22 @@ fn moment_reason(fault: StampFault) -> &'static str {
         StampFault::Shape => "not of the form YYYY-MM-DDThh:mm:ss",
         StampFault::NoSuchDate => "no such date or clock time",
         StampFault::Range => "not from 1901-01-01T00:00:00 to 2199-12-31T23:59:59",
+    }
+}
+
+/// Which word of a picture's command stands for nothing, and why.
+#[derive(Drop)]
+struct WordLine(WordFault);
+
+impl Display for WordLine {
+    fn fmt<W: fmt::Write>(&self, f: &mut Formatter<W>) -> fmt::Result {
+        match self.0 {
+            WordFault::Element => write!(f, "ELEMENT: not a number of 1 to 10 digits"),
+            WordFault::Direction => write!(f, "DIRECTION: neither positive nor negative"),
+            WordFault::Vehicle => write!(f, "VEHICLE: not a number from 1 to 99"),
+            WordFault::Year => write!(f, "YEAR: not a number from 1901 to 2199"),
+            WordFault::Domain(fault) => write!(f, "DOMAIN: {} at {}", fault.kind, fault.place),
+        }
     }
 }
 
@@ -31,6 +47,8 @@ impl Display for RefusalLine<'_> {
             Refusal::Usage(why) => write!(f, "gtdesk: command line: {why} (see gtdesk --help)"),
             Refusal::Moment(fault) => write!(f, "gtdesk: MOMENT: {}", moment_reason(fault)),
             Refusal::Vehicle => write!(f, "gtdesk: VEHICLE: not a number from 1 to 99"),
+            Refusal::Word(fault) => write!(f, "gtdesk: {}", WordLine(fault)),
+            Refusal::NoElement => write!(f, "gtdesk: {file}: no row names the element"),
             Refusal::Records(fault) => write!(f, "gtdesk: {file}: {}", FaultText(fault)),
             Refusal::Open => write!(f, "gtdesk: {file}: cannot be opened"),
             Refusal::Write => write!(f, "gtdesk: standard output: cannot be written"),

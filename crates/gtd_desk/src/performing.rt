@@ -5,8 +5,10 @@ ghost use Rattle.std.specs.Io.KnownBytes.{Appends, Keeps};
 ghost use Rattle.gtd_desk.specs.Running.{HasRunPlan, RanFaults, RanNow, listing_outcome, outcome_of, refusal_for};
 
 use crate::ending::Ending;
+use crate::picture::print_picture;
+use crate::picture_domain::print_domain;
 use crate::plans::{Moment, Plan};
-use crate::refusal::Refusal;
+use crate::refusal::{Refusal, WordFault};
 use gtd_devices::{Input, Output};
 use gtd_faults::{ListFault, run_faults};
 use gtd_now::run_now;
@@ -26,13 +28,13 @@ fn run_refusal(fault: RunFault) -> Refusal
         RunFault::WriteFault { .. } => Refusal::Write,
         RunFault::NoMemory { .. } => Refusal::Memory,
         RunFault::VehicleRange => Refusal::Vehicle,
-        RunFault::YearRange => Refusal::Vehicle,
-        RunFault::NoElement => Refusal::Vehicle,
+        RunFault::YearRange => Refusal::Word(WordFault::Year),
+        RunFault::NoElement => Refusal::NoElement,
     }
 }
 
-// The answer of a command, from that of its run.
-fn outcome(answer: Result<u64, RunFault>) -> Result<Ending, Refusal>
+/// The answer of a command, from that of its run.
+pub(crate) fn outcome(answer: Result<u64, RunFault>) -> Result<Ending, Refusal>
     ensures value { result ≡ outcome_of answer }
 {
     match answer {
@@ -137,6 +139,18 @@ pub fn perform<I: Input, O: Output>(
             ..
         } => print_now(alloc, input, output, *moment, *vehicle),
         Plan::Faults { file } => list_faults(alloc, input, output, file.as_str()),
+        Plan::Picture { title, subject, .. } => print_picture(
+            alloc,
+            input,
+            output,
+            title.as_str(),
+            *subject,
+        ),
+        Plan::DomainPicture {
+            domain,
+            title,
+            year,
+        } => print_domain(alloc, output, domain, title.as_str(), *year),
         Plan::Show { text } => print_text(output, text.as_str()),
     }
 }

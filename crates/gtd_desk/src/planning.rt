@@ -9,14 +9,18 @@ ghost use Rattle.gtd_calendar.specs.Read.{stamp_in};
 ghost use Rattle.gtd_core.specs.declared.second.Sec.{Sec};
 ghost use Rattle.gtd_records.specs.Columns.{number_of};
 ghost use Rattle.gtd_runs.specs.Run.{IsVehicleType};
-ghost use Rattle.gtd_desk.specs.CommandLine.{AreFaultsWords, AreNowWords, AskForText, Text, desk_app};
+ghost use Rattle.gtd_desk.specs.CommandLine.{AreFaultsWords, AreNowWords, AskForText, HasWords, Text, desk_app};
+ghost use Rattle.gtd_desk.specs.CommandLine.{faults_word_of, now_words_of};
 ghost use Rattle.gtd_desk.specs.CommandLine as spec;
 ghost use Rattle.gtd_desk.specs.Plans.{AskFor, AskForNow, IsFaultsPlan, IsNoVehicle, IsNowPlan, IsRefusalOf, IsWordFault};
 ghost use Rattle.gtd_desk.specs.declared.refusal.Refusal.{Refusal};
 
-use crate::arguments::{NowWords, faults_word, now_words, parse};
+use crate::arguments::{NowWords, domain_words, faults_word, now_words, parse, picture_words};
+use crate::picture::plan_picture;
+use crate::picture_domain::plan_domain;
 use crate::plans::{Moment, Plan};
 use crate::refusal::Refusal;
+use clap::ArgMatches;
 use clap::error::ErrorKind;
 use gtd_calendar::{StampFault, read_stamp};
 use gtd_records::read_number;
@@ -80,8 +84,8 @@ fn moment_of(text: &str) -> Result<Moment, StampFault>
     }
 }
 
-// The vehicle type that a word stands for, if any.
-fn vehicle_of(text: &str) -> Option<u8>
+/// The vehicle type that a word stands for, if any.
+pub(crate) fn vehicle_of(text: &str) -> Option<u8>
     ensures found { IfSome result (λ vehicle. (number_of text.now ≡ Some vehicle) × IsVehicleType vehicle) }
     ensures none { result ≡ None → IsNoVehicle text.now }
 {
@@ -132,6 +136,20 @@ fn plan_faults(alloc: Global, file: &str) -> Result<Plan, Refusal>
     }
 }
 
+// The plan of a picture, where the matches hold no words of another command.
+fn plan_pictures(alloc: Global, matches: &ArgMatches<'_>) -> Result<Plan, Refusal>
+    ensures { (words : List Text) → HasWords words matches.now → now_words_of words ≡ None → faults_word_of words ≡ None
+        → MatchResult result (AskFor words) (IsRefusalOf words) }
+{
+    match picture_words(matches) {
+        Some(given) => plan_picture(alloc, given),
+        None => match domain_words(matches) {
+            Some(given) => plan_domain(alloc, given),
+            None => Err(Refusal::Usage("the words are not understood")),
+        },
+    }
+}
+
 // The plan of the words after the program's name.
 fn plan_words(alloc: Global, words: &[String]) -> Result<Plan, Refusal>
     ensures { MatchResult result (AskFor (map string_bytes words.now)) (IsRefusalOf (map string_bytes words.now)) }
@@ -141,7 +159,7 @@ fn plan_words(alloc: Global, words: &[String]) -> Result<Plan, Refusal>
             Some(given) => plan_now(alloc, given),
             None => match faults_word(&matches) {
                 Some(file) => plan_faults(alloc, file),
-                None => Err(Refusal::Usage("the words are not understood")),
+                None => plan_pictures(alloc, &matches),
             },
         },
         Err(error) => plan_error(alloc, &error),
@@ -151,7 +169,8 @@ fn plan_words(alloc: Global, words: &[String]) -> Result<Plan, Refusal>
 /// What the words after the program's name ask for, or why they are refused.
 ///
 /// In order: `Usage` if they neither give a command with its words nor ask for help; `Moment` if the word for the moment
-/// does not stand for one; then `Vehicle`. If memory was refused, `Memory` is the answer in place of these.
+/// of `now` does not stand for one; then `Vehicle`. `Word` is the first word of a picture's command that stands for nothing,
+/// in the order of the words. If memory was refused, `Memory` is the answer in place of these.
 pub fn plan(alloc: Global, words: Vec<String>) -> Result<Plan, Refusal>
     // The plan is what the words ask for.
     ensures asked { IfOk result (AskFor (map string_bytes words.items)) }

@@ -2,7 +2,8 @@
 
 ghost use Rattle.gtd_core.specs.Seconds.{IsMomentSecond};
 
-use gtd_core::Sec;
+use gtd_core::{Domain, Sec};
+use gtd_records::Direction;
 
 /// A moment: a second from 1901-01-01T00:00:00 to 2199-12-31T23:59:59.
 #[derive(Clone, Copy)]
@@ -10,6 +11,19 @@ pub struct Moment {
     /// Its second.
     pub second: Sec,
     pub ghost in_range: { IsMomentSecond second.0 },
+}
+
+/// What a picture of an element is about. The vehicle type of a plan is from 1 to 99, and its year from 1901 to 2199.
+#[derive(Clone, Copy)]
+pub struct PictureSubject {
+    /// The element.
+    pub element: u64,
+    /// The direction.
+    pub direction: Direction,
+    /// The vehicle type.
+    pub vehicle: u8,
+    /// The year.
+    pub year: u16,
 }
 
 /// What a command line asks for, with each of its words read.
@@ -29,6 +43,24 @@ pub enum Plan {
         /// The file's path, or `-` for standard input.
         file: String,
     },
+    /// To print the picture of an element of a record file.
+    Picture {
+        /// The file's path, or `-` for standard input.
+        file: String,
+        /// The picture's title.
+        title: String,
+        /// The element, its direction, the vehicle type and the year.
+        subject: PictureSubject,
+    },
+    /// To print the picture of a time domain.
+    DomainPicture {
+        /// The domain.
+        domain: Domain,
+        /// The picture's title: the text of the domain.
+        title: String,
+        /// The year, from 1901 to 2199.
+        year: u16,
+    },
     /// To print a text: help, or the version.
     Show {
         /// The text.
@@ -47,6 +79,8 @@ impl Plan {
         match self {
             Plan::Now { file, .. } => Some(file.as_str()),
             Plan::Faults { file } => Some(file.as_str()),
+            Plan::Picture { file, .. } => Some(file.as_str()),
+            Plan::DomainPicture { .. } => None,
             Plan::Show { .. } => None,
         }
     }

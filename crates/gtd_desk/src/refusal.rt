@@ -4,7 +4,23 @@ ghost use Rattle.std.specs.Prelude.{◌≡◌};
 ghost use Rattle.gtd_desk.specs.Running.{records_status, status_of};
 
 use gtd_calendar::StampFault;
+use gtd_core::TextFault;
 use gtd_records::RecordFault;
+
+/// Which word of a picture's command stands for nothing.
+#[derive(Clone, Copy)]
+pub enum WordFault {
+    /// The word for an element is not a number.
+    Element,
+    /// The word for a direction is neither `positive` nor `negative`.
+    Direction,
+    /// The word for a vehicle type is not a number from 1 to 99.
+    Vehicle,
+    /// The word for a year is not a number from 1901 to 2199.
+    Year,
+    /// The word for a domain does not stand for one. This is its first fault.
+    Domain(TextFault),
+}
 
 /// Why a command line is not carried out.
 #[derive(Clone, Copy)]
@@ -15,6 +31,10 @@ pub enum Refusal {
     Moment(StampFault),
     /// The word for a vehicle type is not a number from 1 to 99.
     Vehicle,
+    /// A word of a picture's command stands for nothing.
+    Word(WordFault),
+    /// No row of the record file names the element of a picture.
+    NoElement,
     /// The record file is not read. This is its first fault, or why the input failed, and never `NoMemory`.
     Records(RecordFault),
     /// The record file is not opened.
@@ -31,7 +51,7 @@ impl Refusal {
         ensures value { result ≡ status_of self.now }
     {
         match self {
-            Refusal::Moment(_) | Refusal::Vehicle => 1,
+            Refusal::Moment(_) | Refusal::Vehicle | Refusal::Word(_) | Refusal::NoElement => 1,
             Refusal::Records(fault) => records_status(*fault),
             Refusal::Usage(_) => 2,
             Refusal::Open | Refusal::Write | Refusal::Memory => 3,
