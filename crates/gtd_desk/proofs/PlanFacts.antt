@@ -13,7 +13,7 @@ use Rattle.gtd_calendar.specs.declared.stamp.StampFault.{StampFault}
 use Rattle.gtd_core.specs.declared.second.Sec.{Sec}
 use Rattle.gtd_desk.specs.CommandLine.{AreFaultsWords, AreMistaken, AreNowWords, AskForText, Text, desk_app}
 use Rattle.gtd_desk.specs.CommandLine.{AreDomainWords, ArePictureWords, DomainTexts, PictureTexts, all_five, all_three}
-use Rattle.gtd_desk.specs.CommandLine.{both_given}
+use Rattle.gtd_desk.specs.CommandLine.{FaultsTexts, both_given, faults_texts}
 use Rattle.gtd_desk.specs.Pictures.{HaveDomainFault, HavePictureFault}
 use Rattle.gtd_desk.specs.declared.refusal.WordFault.{WordFault}
 use Rattle.gtd_desk.specs.Plans.{AskFor, AskForNow, HaveMomentFault, HaveNoVehicle, IsFaultsPlan, IsNowPlan, IsRefusalOf}
@@ -54,8 +54,8 @@ module _ (words : List Text) where
       have_name (codes "now") (λ rows. all_three (first_of (codes "FILE") rows) (first_of (codes "MOMENT") rows)
       (first_of (codes "VEHICLE") rows)) (subcommand_of desk_app words) (f, m, v) a.given
 
-  name_of_faults : (g : Text) → AreFaultsWords words g → HaveName (codes "faults") (subcommand_of desk_app words)
-  name_of_faults g a = have_name (codes "faults") (λ rows. first_of (codes "FILE") rows) (subcommand_of desk_app words) g a.given
+  name_of_faults : (g : FaultsTexts) → AreFaultsWords words g → HaveName (codes "faults") (subcommand_of desk_app words)
+  name_of_faults g a = have_name (codes "faults") faults_texts (subcommand_of desk_app words) g a.given
 
   name_of_picture : (t : PictureTexts) → ArePictureWords words t → HaveName (codes "picture") (subcommand_of desk_app words)
   name_of_picture t a =
@@ -77,11 +77,11 @@ module _ (words : List Text) where
   no_domain_now f m v t a b =
       one_name (subcommand_of desk_app words) (codes "now") (codes "picture-domain") (name_of_now f m v a) (name_of_domain t b) refl
 
-  no_picture_faults : (g : Text) (t : PictureTexts) → AreFaultsWords words g → ArePictureWords words t → ⊥
+  no_picture_faults : (g : FaultsTexts) (t : PictureTexts) → AreFaultsWords words g → ArePictureWords words t → ⊥
   no_picture_faults g t a b =
       one_name (subcommand_of desk_app words) (codes "faults") (codes "picture") (name_of_faults g a) (name_of_picture t b) refl
 
-  no_domain_faults : (g : Text) (t : DomainTexts) → AreFaultsWords words g → AreDomainWords words t → ⊥
+  no_domain_faults : (g : FaultsTexts) (t : DomainTexts) → AreFaultsWords words g → AreDomainWords words t → ⊥
   no_domain_faults g t a b =
       one_name (subcommand_of desk_app words) (codes "faults") (codes "picture-domain") (name_of_faults g a) (name_of_domain t b)
       refl
@@ -91,7 +91,7 @@ module _ (words : List Text) where
   no_word_now f m v fault a (inl h) = no_picture_now f m v h.texts a h.given
   no_word_now f m v fault a (inr h) = no_domain_now f m v h.texts a h.given
 
-  no_word_faults : (g : Text) (fault : WordFault) → AreFaultsWords words g
+  no_word_faults : (g : FaultsTexts) (fault : WordFault) → AreFaultsWords words g
       → HavePictureFault words fault ⊎ HaveDomainFault words fault → ⊥
   no_word_faults g fault a (inl h) = no_picture_faults g h.texts a h.given
   no_word_faults g fault a (inr h) = no_domain_faults g h.texts a h.given
@@ -111,7 +111,7 @@ module _ (words : List Text) where
   not_text : (f m v : Text) → AreNowWords words f m v → AskForText words → ⊥
   not_text f m v a x = no_fault f m v a x.0 x.1
 
-  not_faults : (f m v g : Text) → AreNowWords words f m v → AreFaultsWords words g → ⊥
+  not_faults : (f m v : Text) (g : FaultsTexts) → AreNowWords words f m v → AreFaultsWords words g → ⊥
   not_faults f m v g a b =
       one_name (subcommand_of desk_app words) (codes "now") (codes "faults") (name_of_now f m v a) (name_of_faults g b) refl
 
@@ -164,7 +164,7 @@ module _ (words : List Text) where
       → (file : Text) (moment : Sec) (vehicle : ℕ) → AskForNow words file moment vehicle
       → MatchResult result (IsNowPlan file moment vehicle) (λ r. r ≡ refusal.Memory)
   plan_only (Ok (plan.Now f m v)) is file moment vehicle h = one_plan _ m.second v file moment vehicle is h
-  plan_only (Ok (plan.Faults f)) is file moment vehicle h = absurd (not_faults file h.second h.vehicle_word _ h.given is)
+  plan_only (Ok (plan.Faults f w)) is file moment vehicle h = absurd (not_faults file h.second h.vehicle_word _ h.given is)
   plan_only (Ok (plan.Picture f t s)) is file moment vehicle h =
       absurd (no_picture_now file h.second h.vehicle_word is.texts h.given is.given)
   plan_only (Ok (plan.DomainPicture d t y)) is file moment vehicle h =
@@ -187,7 +187,7 @@ module _ (words : List Text) where
       → HaveMomentFault words fault
       → MatchResult result (λ plan. ⊥) (λ r. (r ≡ refusal.Memory) ⊎ (r ≡ refusal.Moment fault))
   moment_refused fault (Ok (plan.Now f m v)) is h = moment_apart _ m.second v fault is h
-  moment_refused fault (Ok (plan.Faults f)) is h = not_faults h.file h.moment h.vehicle _ h.given is
+  moment_refused fault (Ok (plan.Faults f w)) is h = not_faults h.file h.moment h.vehicle _ h.given is
   moment_refused fault (Ok (plan.Picture f t s)) is h = no_picture_now h.file h.moment h.vehicle is.texts h.given is.given
   moment_refused fault (Ok (plan.DomainPicture d t y)) is h = no_domain_now h.file h.moment h.vehicle is.texts h.given is.given
   moment_refused fault (Ok (plan.Show text)) is h = not_text h.file h.moment h.vehicle h.given is
@@ -205,7 +205,7 @@ module _ (words : List Text) where
       → HaveNoVehicle words
       → MatchResult result (λ plan. ⊥) (λ r. (r ≡ refusal.Memory) ⊎ (r ≡ refusal.Vehicle))
   vehicle_refused (Ok (plan.Now f m v)) is h = vehicle_apart _ m.second v is h
-  vehicle_refused (Ok (plan.Faults f)) is h = not_faults h.file h.moment h.vehicle _ h.given is
+  vehicle_refused (Ok (plan.Faults f w)) is h = not_faults h.file h.moment h.vehicle _ h.given is
   vehicle_refused (Ok (plan.Picture f t s)) is h = no_picture_now h.file h.moment h.vehicle is.texts h.given is.given
   vehicle_refused (Ok (plan.DomainPicture d t y)) is h = no_domain_now h.file h.moment h.vehicle is.texts h.given is.given
   vehicle_refused (Ok (plan.Show text)) is h = not_text h.file h.moment h.vehicle h.given is
@@ -219,20 +219,22 @@ module _ (words : List Text) where
   vehicle_refused (Err refusal.Write) is h = absurd is
   vehicle_refused (Err refusal.Memory) is h = inl refl
 
-  no_fault_of : (g : Text) → AreFaultsWords words g → (kind : ErrorKind) → IsAmong kind (fault_of desk_app words) → ⊥
+  no_fault_of : (g : FaultsTexts) → AreFaultsWords words g → (kind : ErrorKind) → IsAmong kind (fault_of desk_app words) → ⊥
   no_fault_of g a kind among = subst (λ kinds. IsAmong kind kinds) a.faultless among
 
-  faults_not_mistaken : (g : Text) → AreFaultsWords words g → AreMistaken words → ⊥
+  faults_not_mistaken : (g : FaultsTexts) → AreFaultsWords words g → AreMistaken words → ⊥
   faults_not_mistaken g a (inl x) = no_fault_of g a x.0 x.1
   faults_not_mistaken g a (inr none) = true≢false (ap is_some (sym a.given ∙ none.1))
 
-  one_faults : (g h : Text) → AreFaultsWords words g → AreFaultsWords words h → g ≡ h
-  one_faults g h a b = ap (λ (o : Option Text). unwrap_or o g) (sym a.given ∙ b.given)
+  one_faults : (g h : FaultsTexts) → AreFaultsWords words g → AreFaultsWords words h → g ≡ h
+  one_faults g h a b = ap (λ (o : Option FaultsTexts). unwrap_or o g) (sym a.given ∙ b.given)
 
   pub plan_only_faults : (result : Result Plan Refusal) → MatchResult result (AskFor words) (IsRefusalOf words)
-      → (file : Text) → AreFaultsWords words file → MatchResult result (IsFaultsPlan file) (λ r. r ≡ refusal.Memory)
+      → (file : FaultsTexts) → AreFaultsWords words file → MatchResult result (IsFaultsPlan file) (λ r. r ≡ refusal.Memory)
   plan_only_faults (Ok (plan.Now f m v)) is file h = absurd (not_faults _ is.second is.vehicle_word file is.given h)
-  plan_only_faults (Ok (plan.Faults f)) is file h = one_faults _ file is h
+  plan_only_faults (Ok (plan.Faults f w)) is file h =
+      let same = one_faults _ file is h in
+      (ap (λ (t : FaultsTexts). t.file) same, ap (λ (t : FaultsTexts). t.warn) same)
   plan_only_faults (Ok (plan.Picture f t s)) is file h = absurd (no_picture_faults file is.texts h is.given)
   plan_only_faults (Ok (plan.DomainPicture d t y)) is file h = absurd (no_domain_faults file is.texts h is.given)
   plan_only_faults (Ok (plan.Show text)) is file h = absurd (no_fault_of file h is.0 is.1)

@@ -1,13 +1,13 @@
 -- The command line as it is described to `clap`. The specification of that library says which of the given words is which
 -- word of a command.
-use Rattle.std.specs.Prelude.{◌≡◌, ◌⊎◌, ℕ, Bool, true, false, List, [], Option, Some, None, codes, option_and_then}
+use Rattle.std.specs.Prelude.{◌≡◌, ◌⊎◌, ℕ, Bool, true, false, List, [], Option, Some, None, codes, option_and_then, option_map}
 use Rattle.std.specs.Prelude.{if◌then◌else◌}
 use Rattle.std.specs.Str.{bytes_eq}
 use Rattle.clap.specs.Walk.{Row, Rule, first_of}
 use Rattle.clap.specs.Simple.{App, new_app, new_rule, new_shape, subcommand_of, subcommand_rows_of, with_rule, with_subcommand}
 use Rattle.clap.specs.Kinds.{IsAmong}
 use Rattle.clap.specs.Faults.{fault_of}
-use Rattle.clap.specs.declared.builder.action.ArgAction.TheVariants.{Set}
+use Rattle.clap.specs.declared.builder.action.ArgAction.TheVariants.{Set, SetTrue}
 use Rattle.clap.specs.declared.builder.command.Command.{Command}
 use Rattle.clap.specs.declared.builder.command.Command.TheViews.{out-Command}
 use Rattle.clap.specs.declared.error.kind.ErrorKind.{ErrorKind}
@@ -21,6 +21,10 @@ Text = List ℕ
 -- A word of a command, under the name that help shows. It must be given.
 abbrev pub word_rule : Text → Rule
 word_rule name = record (new_rule name) { action = Some Set; required = true }
+
+-- An option without a value, of this long name.
+abbrev pub flag_rule : Text → Rule
+flag_rule name = record (new_rule name) { long = Some name; action = Some SetTrue }
 
 -- The command has no argument that its subcommands share.
 abbrev pub IsLocal : Command → Type 0
@@ -36,13 +40,13 @@ now_app =
     with_rule (with_rule (with_rule bare_now (word_rule (codes "FILE"))) (word_rule (codes "MOMENT")))
     (word_rule (codes "VEHICLE"))
 
--- The command `faults` without its word.
+-- The command `faults` without its words.
 abbrev pub bare_faults : App
 bare_faults = new_app (codes "faults")
 
--- The command `faults FILE`.
+-- The command `faults [--warn] FILE`.
 abbrev pub faults_app : App
-faults_app = with_rule bare_faults (word_rule (codes "FILE"))
+faults_app = with_rule (with_rule bare_faults (flag_rule (codes "warn"))) (word_rule (codes "FILE"))
 
 -- The command `picture` without its words.
 abbrev pub bare_picture : App
@@ -93,13 +97,28 @@ now_given found =
 abbrev pub now_words_of : List Text → Option (Text × Text × Text)
 now_words_of words = option_and_then now_given (subcommand_of desk_app words)
 
--- The word of the command `faults`, from a command's name and what was found for it.
-abbrev pub faults_given : Text × List Row → Option Text
-faults_given found = if bytes_eq found.0 (codes "faults") then first_of (codes "FILE") found.1 else None
+-- The words of the command `faults`: the file, and whether warnings are asked for.
+pub record FaultsTexts : Type 0 where
+  pub file : Text
+  pub warn : Bool
 
--- The word of the command `faults` among these words.
-abbrev pub faults_word_of : List Text → Option Text
-faults_word_of words = option_and_then faults_given (subcommand_of desk_app words)
+-- What `clap` keeps of an option without a value says that it was given.
+abbrev pub is_set : Option Text → Bool
+is_set None = false
+is_set (Some text) = bytes_eq text (codes "true")
+
+-- The words of the command `faults`, from what was found for it.
+abbrev pub faults_texts : List Row → Option FaultsTexts
+faults_texts rows =
+    option_map (λ file. record { file = file; warn = is_set (first_of (codes "warn") rows) }) (first_of (codes "FILE") rows)
+
+-- The same, from a command's name and what was found for it.
+abbrev pub faults_given : Text × List Row → Option FaultsTexts
+faults_given found = if bytes_eq found.0 (codes "faults") then faults_texts found.1 else None
+
+-- The words of the command `faults` among these words.
+abbrev pub faults_words_of : List Text → Option FaultsTexts
+faults_words_of words = option_and_then faults_given (subcommand_of desk_app words)
 
 -- The words of the command `picture`.
 pub record PictureTexts : Type 0 where
@@ -158,10 +177,10 @@ pub record AreDomainWords (words : List Text) (texts : DomainTexts) : Type 0 whe
   pub faultless : fault_of desk_app words ≡ []
   pub given : domain_words_of words ≡ Some texts
 
--- The words give the command `faults` with this word.
-pub record AreFaultsWords (words : List Text) (file : Text) : Type 0 where
+-- The words give the command `faults` with these words.
+pub record AreFaultsWords (words : List Text) (texts : FaultsTexts) : Type 0 where
   pub faultless : fault_of desk_app words ≡ []
-  pub given : faults_word_of words ≡ Some file
+  pub given : faults_words_of words ≡ Some texts
 
 -- The words give the command `now` with these words.
 pub record AreNowWords (words : List Text) (file moment vehicle : Text) : Type 0 where
@@ -192,5 +211,5 @@ AskForText words = (kind : ErrorKind) × IsAmong kind (fault_of desk_app words) 
 abbrev pub AreMistaken : List Text → Type 0
 AreMistaken words =
     ((kind : ErrorKind) × IsAmong kind (fault_of desk_app words) × (is_request kind ≡ false))
-    ⊎ ((now_words_of words ≡ None) × (faults_word_of words ≡ None) × (picture_words_of words ≡ None)
+    ⊎ ((now_words_of words ≡ None) × (faults_words_of words ≡ None) × (picture_words_of words ≡ None)
     × (domain_words_of words ≡ None))

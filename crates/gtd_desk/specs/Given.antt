@@ -1,12 +1,16 @@
 -- The words of a command, as they were read.
-use Rattle.gtd_desk.specs.CommandLine.{DomainTexts, PictureTexts, Text}
+use Rattle.gtd_desk.specs.CommandLine.{DomainTexts, FaultsTexts, PictureTexts, Text}
 use Rattle.gtd_desk.specs.declared.arguments.DomainWords.{DomainWords}
+use Rattle.gtd_desk.specs.declared.arguments.FaultsWords.{FaultsWords}
 use Rattle.gtd_desk.specs.declared.arguments.NowWords.{NowWords}
 use Rattle.gtd_desk.specs.declared.arguments.PictureWords.{PictureWords}
 
 -- Its words, without where they lie in memory.
 abbrev pub texts_of : NowWords → Text × Text × Text
 texts_of words = (words.file.now, words.moment.now, words.vehicle.now)
+
+abbrev pub given_faults : FaultsWords → FaultsTexts
+given_faults words = record { file = words.file.now; warn = words.warn }
 
 abbrev pub picture_texts : PictureWords → PictureTexts
 picture_texts words = record {

@@ -7,7 +7,7 @@ use Rattle.gtd_records.specs.Columns.{number_of}
 use Rattle.gtd_runs.specs.Run.{IsVehicleType}
 use Rattle.gtd_desk.specs.Pictures.{AskForDomainPicture, AskForPicture, HaveDomainFault, HavePictureFault}
 pub use Rattle.gtd_desk.specs.Pictures.{IsNoVehicle}
-use Rattle.gtd_desk.specs.CommandLine.{AreFaultsWords, AreMistaken, AreNowWords, AskForText, Text}
+use Rattle.gtd_desk.specs.CommandLine.{AreFaultsWords, AreMistaken, AreNowWords, AskForText, FaultsTexts, Text}
 use Rattle.gtd_desk.specs.declared.plans.Plan.{Plan}
 use Rattle.gtd_desk.specs.declared.plans.Plan.TheVariants as plan
 use Rattle.gtd_desk.specs.declared.refusal.Refusal.{Refusal}
@@ -25,7 +25,7 @@ pub record AskForNow (words : List Text) (file : Text) (moment : Sec) (vehicle :
 -- The words ask for what the plan carries out.
 abbrev pub AskFor : List Text → Plan → Type 0
 AskFor words (plan.Now file moment vehicle) = AskForNow words (string_bytes file) moment.second vehicle
-AskFor words (plan.Faults file) = AreFaultsWords words (string_bytes file)
+AskFor words (plan.Faults file warn) = AreFaultsWords words (record { file = string_bytes file; warn = warn })
 AskFor words (plan.Picture file title subject) = AskForPicture words (string_bytes file) subject
 AskFor words (plan.DomainPicture domain title year) = AskForDomainPicture words domain (string_bytes title) year
 AskFor words (plan.Show text) = AskForText words
@@ -33,7 +33,7 @@ AskFor words (plan.Show text) = AskForText words
 -- The path of the record file that the plan reads, if it reads one.
 abbrev pub file_of : Plan → Option Text
 file_of (plan.Now file moment vehicle) = Some (string_bytes file)
-file_of (plan.Faults file) = Some (string_bytes file)
+file_of (plan.Faults file warn) = Some (string_bytes file)
 file_of (plan.Picture file title subject) = Some (string_bytes file)
 file_of (plan.DomainPicture domain title year) = None
 file_of (plan.Show text) = None
@@ -59,18 +59,18 @@ pub record HaveNoVehicle (words : List Text) : Type 0 where
 -- The plan is for `now`, with this file, moment and vehicle type.
 abbrev pub IsNowPlan : Text → Sec → ℕ → Plan → Type 0
 IsNowPlan file moment vehicle (plan.Now f m v) = (string_bytes f ≡ file) × (m.second ≡ moment) × (v ≡ vehicle)
-IsNowPlan file moment vehicle (plan.Faults f) = ⊥
+IsNowPlan file moment vehicle (plan.Faults f w) = ⊥
 IsNowPlan file moment vehicle (plan.Picture f t s) = ⊥
 IsNowPlan file moment vehicle (plan.DomainPicture d t y) = ⊥
 IsNowPlan file moment vehicle (plan.Show text) = ⊥
 
--- The plan is for `faults`, with this file.
-abbrev pub IsFaultsPlan : Text → Plan → Type 0
-IsFaultsPlan file (plan.Now f m v) = ⊥
-IsFaultsPlan file (plan.Faults f) = string_bytes f ≡ file
-IsFaultsPlan file (plan.Picture f t s) = ⊥
-IsFaultsPlan file (plan.DomainPicture d t y) = ⊥
-IsFaultsPlan file (plan.Show text) = ⊥
+-- The plan is for `faults`, with these words.
+abbrev pub IsFaultsPlan : FaultsTexts → Plan → Type 0
+IsFaultsPlan texts (plan.Now f m v) = ⊥
+IsFaultsPlan texts (plan.Faults f w) = (string_bytes f ≡ texts.file) × (w ≡ texts.warn)
+IsFaultsPlan texts (plan.Picture f t s) = ⊥
+IsFaultsPlan texts (plan.DomainPicture d t y) = ⊥
+IsFaultsPlan texts (plan.Show text) = ⊥
 
 -- The words give the command `now`, and this is the refusal for the first of its words that stands for nothing.
 abbrev pub IsWordFault : List Text → Refusal → Type 0

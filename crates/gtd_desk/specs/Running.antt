@@ -97,11 +97,11 @@ listing_outcome (Err list.WriteFault) = Err refusal.Write
 listing_outcome (Err list.NoMemory) = Err refusal.Memory
 
 -- The run of `faults` had an answer, and all that the run promises for this answer holds.
-pub record RanFaults (path : List ℕ) (file old new : Option (List ℕ)) (silent ended : Bool)
+pub record RanFaults (path : List ℕ) (warn : Bool) (file old new : Option (List ℕ)) (silent ended : Bool)
     (result : Result Ending Refusal) : Type 0 where
   pub answer : Result ℕ ListFault
   pub outcome : result ≡ listing_outcome answer
-  pub listed : IfSome file (λ bytes. HasListed path bytes old new answer)
+  pub listed : IfSome file (λ bytes. HasListed path warn bytes old new answer)
   pub kept : IfErr answer (λ why. why ≢ list.WriteFault → Keeps old new)
   pub whole : OnOk answer (IsTrue ended)
   pub endless : IsErrOf answer list.Endless → IsTrue silent
@@ -111,7 +111,8 @@ abbrev pub HasRunPlan : Plan → Option (List ℕ) → Option (List ℕ) → Opt
     → Result Ending Refusal → Type 0
 HasRunPlan (plan.Now path moment vehicle) file old new silent ended result =
     RanNow vehicle moment.second.0 file old new silent ended result
-HasRunPlan (plan.Faults path) file old new silent ended result = RanFaults (string_bytes path) file old new silent ended result
+HasRunPlan (plan.Faults path warn) file old new silent ended result =
+    RanFaults (string_bytes path) warn file old new silent ended result
 HasRunPlan (plan.Picture path title subject) file old new silent ended result =
     RanPicture subject (string_bytes title) file old new silent ended result
 HasRunPlan (plan.DomainPicture domain title year) file old new silent ended result =

@@ -9,8 +9,8 @@ ghost use Rattle.clap.specs.Walk.{first_of, rows_of};
 ghost use Rattle.gtd_desk.specs.CommandLine.{HasWords, IsLocal, all_five, all_three, bare_domain, bare_faults, bare_now};
 ghost use Rattle.gtd_desk.specs.CommandLine.{bare_picture, both_given, desk_app, domain_app, domain_given, faults_app};
 ghost use Rattle.gtd_desk.specs.CommandLine.{faults_given, no_pictures, none_given, now_app, now_given, picture_app, picture_given};
-ghost use Rattle.gtd_desk.specs.CommandLine.{word_rule};
-ghost use Rattle.gtd_desk.specs.Given.{domain_texts, picture_texts, texts_of};
+ghost use Rattle.gtd_desk.specs.CommandLine.{flag_rule, is_set, word_rule};
+ghost use Rattle.gtd_desk.specs.Given.{domain_texts, given_faults, picture_texts, texts_of};
 
 use clap::{Arg, ArgAction, ArgMatches, Command};
 use std::alloc::{AllocError, Global};
@@ -21,6 +21,13 @@ pub(crate) struct NowWords<'a> {
     pub(crate) file: &'a str,
     pub(crate) moment: &'a str,
     pub(crate) vehicle: &'a str,
+}
+
+/// The words of `faults [--warn] FILE`, as they were given.
+#[derive(Clone, Copy)]
+pub(crate) struct FaultsWords<'a> {
+    pub(crate) file: &'a str,
+    pub(crate) warn: bool,
 }
 
 /// The words of `picture FILE ELEMENT DIRECTION VEHICLE YEAR`, as they were given.
@@ -58,6 +65,24 @@ fn add_word<'a>(
     command.arg(word)
 }
 
+// Adds an option without a value, of this long name.
+fn add_flag<'a>(
+    alloc: Global,
+    command: Command<'a>,
+    name: &'a str,
+    help: &'a str,
+) -> Result<Command<'a>, AllocError>
+    requires local { IsLocal command }
+    ensures app { IfOk result (λ c. app_of c ≡ with_rule (app_of command.entry) (flag_rule name.entry.now)) }
+    ensures local { IfOk result IsLocal }
+{
+    let flag = Arg::new(alloc, name)
+        .long(name)
+        .action(ArgAction::SetTrue)
+        .help(help);
+    command.arg(flag)
+}
+
 // The command `now` without its words.
 fn bare_now<'a>(alloc: Global) -> Command<'a>
     ensures app { app_of result ≡ bare_now }
@@ -89,7 +114,7 @@ fn now_command<'a>(alloc: Global) -> Result<Command<'a>, AllocError>
     add_word(alloc, command, "VEHICLE", "The vehicle type, from 1 to 99")
 }
 
-// The command `faults` without its word.
+// The command `faults` without its words.
 fn bare_faults<'a>(alloc: Global) -> Command<'a>
     ensures app { app_of result ≡ bare_faults }
     ensures local { IsLocal result }
@@ -105,6 +130,12 @@ fn faults_command<'a>(alloc: Global) -> Result<Command<'a>, AllocError>
     ensures local { IfOk result IsLocal }
 {
     let command = bare_faults(alloc);
+    let command = add_flag(
+        alloc,
+        command,
+        "warn",
+        "Name the rows whose domain never or always holds, too",
+    )?;
     add_word(
         alloc,
         command,
@@ -265,22 +296,36 @@ pub(crate) fn now_words<'a>(matches: &ArgMatches<'a>) -> Option<NowWords<'a>>
     }
 }
 
-// The word of `faults`, if this is the command's name.
-fn word_of<'a>(name: &str, given: &ArgMatches<'a>) -> Option<&'a str>
-    ensures { option_map (λ s. s.now) result ≡ faults_given (name.now, rows_of (found_of given.now)) }
+// Whether an option without a value was given.
+fn is_set(given: Option<&str>) -> bool
+    ensures { result ≡ is_set (option_map (λ s. s.now) given.entry) }
+{
+    match given {
+        Some(text) => text == "true",
+        None => false,
+    }
+}
+
+// The words of `faults`, if this is the command's name.
+fn faults_of<'a>(name: &str, given: &ArgMatches<'a>) -> Option<FaultsWords<'a>>
+    ensures { option_map given_faults result ≡ faults_given (name.now, rows_of (found_of given.now)) }
 {
     match name {
-        "faults" => value(given, "FILE"),
+        "faults" => {
+            let warn = is_set(value(given, "warn"));
+            let file = value(given, "FILE")?;
+            Some(FaultsWords { file, warn })
+        }
         _ => None,
     }
 }
 
-/// The word of `faults`, if the matches hold it.
-pub(crate) fn faults_word<'a>(matches: &ArgMatches<'a>) -> Option<&'a str>
-    ensures { option_map (λ s. s.now) result ≡ option_and_then faults_given (subcommand_rows_of matches.now) }
+/// The words of `faults`, if the matches hold them.
+pub(crate) fn faults_words<'a>(matches: &ArgMatches<'a>) -> Option<FaultsWords<'a>>
+    ensures { option_map given_faults result ≡ option_and_then faults_given (subcommand_rows_of matches.now) }
 {
     match matches.subcommand() {
-        Some((name, given)) => word_of(name, given),
+        Some((name, given)) => faults_of(name, given),
         None => None,
     }
 }

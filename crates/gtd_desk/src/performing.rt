@@ -79,13 +79,14 @@ fn list_faults<I: Input, O: Output>(
     input: &mut I,
     output: &mut O,
     path: &str,
+    warn: bool,
 ) -> Result<Ending, Refusal>
     requires readable { I.failure_count input.old < u64.MAX }
     requires writable { O.failure_count output.old < u64.MAX }
-    ensures ran { RanFaults path.now (I.to_come input.old) (O.taken output.old) (O.taken output.new)
+    ensures ran { RanFaults path.now warn (I.to_come input.old) (O.taken output.old) (O.taken output.new)
         (I.may_fall_silent input.old) (O.is_ended output.new) result }
 {
-    listing_outcome(run_faults(alloc, input, output, path))
+    listing_outcome(run_faults(alloc, input, output, path, warn))
 }
 
 // Puts a text, and ends the output.
@@ -138,7 +139,7 @@ pub fn perform<I: Input, O: Output>(
             vehicle,
             ..
         } => print_now(alloc, input, output, *moment, *vehicle),
-        Plan::Faults { file } => list_faults(alloc, input, output, file.as_str()),
+        Plan::Faults { file, warn } => list_faults(alloc, input, output, file.as_str(), *warn),
         Plan::Picture { title, subject, .. } => print_picture(
             alloc,
             input,

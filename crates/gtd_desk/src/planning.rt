@@ -10,12 +10,13 @@ ghost use Rattle.gtd_core.specs.declared.second.Sec.{Sec};
 ghost use Rattle.gtd_records.specs.Columns.{number_of};
 ghost use Rattle.gtd_runs.specs.Run.{IsVehicleType};
 ghost use Rattle.gtd_desk.specs.CommandLine.{AreFaultsWords, AreNowWords, AskForText, HasWords, Text, desk_app};
-ghost use Rattle.gtd_desk.specs.CommandLine.{faults_word_of, now_words_of};
+ghost use Rattle.gtd_desk.specs.CommandLine.{FaultsTexts, faults_words_of, now_words_of};
 ghost use Rattle.gtd_desk.specs.CommandLine as spec;
+ghost use Rattle.gtd_desk.specs.Given.{given_faults};
 ghost use Rattle.gtd_desk.specs.Plans.{AskFor, AskForNow, IsFaultsPlan, IsNoVehicle, IsNowPlan, IsRefusalOf, IsWordFault};
 ghost use Rattle.gtd_desk.specs.declared.refusal.Refusal.{Refusal};
 
-use crate::arguments::{NowWords, domain_words, faults_word, now_words, parse, picture_words};
+use crate::arguments::{FaultsWords, NowWords, domain_words, faults_words, now_words, parse, picture_words};
 use crate::picture::plan_picture;
 use crate::picture_domain::plan_domain;
 use crate::plans::{Moment, Plan};
@@ -126,19 +127,22 @@ fn plan_now(alloc: Global, given: NowWords<'_>) -> Result<Plan, Refusal>
 }
 
 // The plan of `faults`.
-fn plan_faults(alloc: Global, file: &str) -> Result<Plan, Refusal>
-    ensures { (words : List Text) → AreFaultsWords words file.now
+fn plan_faults(alloc: Global, given: FaultsWords<'_>) -> Result<Plan, Refusal>
+    ensures { (words : List Text) → AreFaultsWords words (given_faults given.entry)
         → MatchResult result (AskFor words) (IsRefusalOf words) }
 {
-    match String::from_str(alloc, file) {
-        Ok(file) => Ok(Plan::Faults { file }),
+    match String::from_str(alloc, given.file) {
+        Ok(file) => Ok(Plan::Faults {
+            file,
+            warn: given.warn,
+        }),
         Err(_) => Err(Refusal::Memory),
     }
 }
 
 // The plan of a picture, where the matches hold no words of another command.
 fn plan_pictures(alloc: Global, matches: &ArgMatches<'_>) -> Result<Plan, Refusal>
-    ensures { (words : List Text) → HasWords words matches.now → now_words_of words ≡ None → faults_word_of words ≡ None
+    ensures { (words : List Text) → HasWords words matches.now → now_words_of words ≡ None → faults_words_of words ≡ None
         → MatchResult result (AskFor words) (IsRefusalOf words) }
 {
     match picture_words(matches) {
@@ -157,8 +161,8 @@ fn plan_words(alloc: Global, words: &[String]) -> Result<Plan, Refusal>
     match parse(alloc, words) {
         Ok(matches) => match now_words(&matches) {
             Some(given) => plan_now(alloc, given),
-            None => match faults_word(&matches) {
-                Some(file) => plan_faults(alloc, file),
+            None => match faults_words(&matches) {
+                Some(given) => plan_faults(alloc, given),
                 None => plan_pictures(alloc, &matches),
             },
         },
@@ -177,8 +181,8 @@ pub fn plan(alloc: Global, words: Vec<String>) -> Result<Plan, Refusal>
     // What the words ask for is planned, unless memory is refused.
     ensures only { (file : Text) (moment : Sec) (vehicle : ℕ) → AskForNow (map string_bytes words.items) file moment vehicle
         → MatchResult result (IsNowPlan file moment vehicle) (λ r. r ≡ Refusal.Memory) }
-    ensures only_faults { (file : Text) → AreFaultsWords (map string_bytes words.items) file
-        → MatchResult result (IsFaultsPlan file) (λ r. r ≡ Refusal.Memory) }
+    ensures only_faults { (texts : FaultsTexts) → AreFaultsWords (map string_bytes words.items) texts
+        → MatchResult result (IsFaultsPlan texts) (λ r. r ≡ Refusal.Memory) }
     // The refusal is one that the words have, unless memory was refused.
     ensures refused { IfErr result (IsRefusalOf (map string_bytes words.items)) }
     // If a word of `now` stands for nothing, the first such word gives the refusal, unless memory is refused.

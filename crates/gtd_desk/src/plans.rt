@@ -42,6 +42,8 @@ pub enum Plan {
     Faults {
         /// The file's path, or `-` for standard input.
         file: String,
+        /// Whether to list its warnings, too.
+        warn: bool,
     },
     /// To print the picture of an element of a record file.
     Picture {
@@ -78,7 +80,7 @@ impl Plan {
     {
         match self {
             Plan::Now { file, .. } => Some(file.as_str()),
-            Plan::Faults { file } => Some(file.as_str()),
+            Plan::Faults { file, .. } => Some(file.as_str()),
             Plan::Picture { file, .. } => Some(file.as_str()),
             Plan::DomainPicture { .. } => None,
             Plan::Show { .. } => None,
