@@ -44,6 +44,14 @@ bare_faults = new_app (codes "faults")
 abbrev pub faults_app : App
 faults_app = with_rule bare_faults (word_rule (codes "FILE"))
 
+-- The command `words` without its word.
+abbrev pub bare_words : App
+bare_words = new_app (codes "words")
+
+-- The command `words DOMAIN`.
+abbrev pub words_app : App
+words_app = with_rule bare_words (word_rule (codes "DOMAIN"))
+
 -- The program without its commands: one must be given, and there is a version to show.
 abbrev pub none_given : App
 none_given = record {
@@ -53,7 +61,7 @@ none_given = record {
 
 -- The program with all its commands.
 abbrev pub desk_app : App
-desk_app = with_subcommand (with_subcommand none_given now_app.top) faults_app.top
+desk_app = with_subcommand (with_subcommand (with_subcommand none_given now_app.top) faults_app.top) words_app.top
 
 -- Three values, if all are given.
 abbrev pub all_three : Option Text → Option Text → Option Text → Option (Text × Text × Text)
@@ -78,6 +86,19 @@ faults_given found = if bytes_eq found.0 (codes "faults") then first_of (codes "
 -- The word of the command `faults` among these words.
 abbrev pub faults_word_of : List Text → Option Text
 faults_word_of words = option_and_then faults_given (subcommand_of desk_app words)
+
+-- The word of the command `words`, from a command's name and what was found for it.
+abbrev pub domain_given : Text × List Row → Option Text
+domain_given found = if bytes_eq found.0 (codes "words") then first_of (codes "DOMAIN") found.1 else None
+
+-- The word of the command `words` among these words.
+abbrev pub domain_word_of : List Text → Option Text
+domain_word_of words = option_and_then domain_given (subcommand_of desk_app words)
+
+-- The words give the command `words` with this word.
+pub record AreDomainWords (words : List Text) (text : Text) : Type 0 where
+  pub faultless : fault_of desk_app words ≡ []
+  pub given : domain_word_of words ≡ Some text
 
 -- The words give the command `faults` with this word.
 pub record AreFaultsWords (words : List Text) (file : Text) : Type 0 where
@@ -113,4 +134,4 @@ AskForText words = (kind : ErrorKind) × IsAmong kind (fault_of desk_app words) 
 abbrev pub AreMistaken : List Text → Type 0
 AreMistaken words =
     ((kind : ErrorKind) × IsAmong kind (fault_of desk_app words) × (is_request kind ≡ false))
-    ⊎ ((now_words_of words ≡ None) × (faults_word_of words ≡ None))
+    ⊎ ((now_words_of words ≡ None) × (faults_word_of words ≡ None) × (domain_word_of words ≡ None))

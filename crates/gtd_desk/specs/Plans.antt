@@ -1,11 +1,15 @@
 -- What a command line asks for.
 use Rattle.std.specs.Prelude.{◌≡◌, ℕ, List, Option, Some, None, Ok, Err, string_bytes}
+use Rattle.gtd_core.specs.Parts.{domain_tree}
+use Rattle.gtd_core.specs.Trees.{Tree}
+use Rattle.gtd_core.specs.declared.fault.TextFault.{TextFault}
 use Rattle.gtd_core.specs.declared.second.Sec.{Sec}
+use Rattle.gtd_text.specs.Reading.{HasNoFault, IsFault, StandsFor}
 use Rattle.gtd_calendar.specs.Read.{stamp_in}
 use Rattle.gtd_calendar.specs.declared.stamp.StampFault.{StampFault}
 use Rattle.gtd_records.specs.Columns.{number_of}
 use Rattle.gtd_runs.specs.Run.{IsVehicleType}
-use Rattle.gtd_desk.specs.CommandLine.{AreFaultsWords, AreMistaken, AreNowWords, AskForText, Text}
+use Rattle.gtd_desk.specs.CommandLine.{AreDomainWords, AreFaultsWords, AreMistaken, AreNowWords, AskForText, Text}
 use Rattle.gtd_desk.specs.declared.plans.Plan.{Plan}
 use Rattle.gtd_desk.specs.declared.plans.Plan.TheVariants as plan
 use Rattle.gtd_desk.specs.declared.refusal.Refusal.{Refusal}
@@ -20,16 +24,25 @@ pub record AskForNow (words : List Text) (file : Text) (moment : Sec) (vehicle :
   pub vehicle_read : number_of vehicle_word ≡ Some vehicle
   pub in_range : IsVehicleType vehicle
 
+-- The words ask for the words of a domain.
+pub record AskForWords (words : List Text) (tree : Tree) : Type 0 where
+  pub text : Text
+  pub given : AreDomainWords words text
+  pub stands : StandsFor text tree
+  pub faultless : HasNoFault text
+
 -- The words ask for what the plan carries out.
 abbrev pub AskFor : List Text → Plan → Type 0
 AskFor words (plan.Now file moment vehicle) = AskForNow words (string_bytes file) moment.second vehicle
 AskFor words (plan.Faults file) = AreFaultsWords words (string_bytes file)
+AskFor words (plan.Words domain) = AskForWords words (domain_tree domain)
 AskFor words (plan.Show text) = AskForText words
 
 -- The path of the record file that the plan reads, if it reads one.
 abbrev pub file_of : Plan → Option Text
 file_of (plan.Now file moment vehicle) = Some (string_bytes file)
 file_of (plan.Faults file) = Some (string_bytes file)
+file_of (plan.Words domain) = None
 file_of (plan.Show text) = None
 
 -- The word does not stand for a vehicle type.
@@ -54,22 +67,38 @@ pub record HaveNoVehicle (words : List Text) : Type 0 where
   pub moment_read : stamp_in moment ≡ Ok second
   pub none : IsNoVehicle vehicle
 
+-- The words give the command `words`, and its word has this fault.
+pub record HaveDomainFault (words : List Text) (fault : TextFault) : Type 0 where
+  pub text : Text
+  pub given : AreDomainWords words text
+  pub has : IsFault text fault
+
 -- The plan is for `now`, with this file, moment and vehicle type.
 abbrev pub IsNowPlan : Text → Sec → ℕ → Plan → Type 0
 IsNowPlan file moment vehicle (plan.Now f m v) = (string_bytes f ≡ file) × (m.second ≡ moment) × (v ≡ vehicle)
 IsNowPlan file moment vehicle (plan.Faults f) = ⊥
+IsNowPlan file moment vehicle (plan.Words domain) = ⊥
 IsNowPlan file moment vehicle (plan.Show text) = ⊥
 
 -- The plan is for `faults`, with this file.
 abbrev pub IsFaultsPlan : Text → Plan → Type 0
 IsFaultsPlan file (plan.Now f m v) = ⊥
 IsFaultsPlan file (plan.Faults f) = string_bytes f ≡ file
+IsFaultsPlan file (plan.Words domain) = ⊥
 IsFaultsPlan file (plan.Show text) = ⊥
 
--- The words give the command `now`, and this is the refusal for the first of its words that stands for nothing.
+-- The plan is for `words`, with this domain.
+abbrev pub IsWordsPlan : Tree → Plan → Type 0
+IsWordsPlan tree (plan.Now f m v) = ⊥
+IsWordsPlan tree (plan.Faults f) = ⊥
+IsWordsPlan tree (plan.Words domain) = domain_tree domain ≡ tree
+IsWordsPlan tree (plan.Show text) = ⊥
+
+-- The words give a command, and this is the refusal for the first of its words that stands for nothing.
 abbrev pub IsWordFault : List Text → Refusal → Type 0
 IsWordFault words (refusal.Moment fault) = HaveMomentFault words fault
 IsWordFault words refusal.Vehicle = HaveNoVehicle words
+IsWordFault words (refusal.Domain fault) = HaveDomainFault words fault
 IsWordFault words r = ⊥
 
 -- Why words are refused. Refused memory is not a fault of theirs.
@@ -77,5 +106,6 @@ abbrev pub IsRefusalOf : List Text → Refusal → Type 0
 IsRefusalOf words (refusal.Usage why) = AreMistaken words
 IsRefusalOf words (refusal.Moment fault) = HaveMomentFault words fault
 IsRefusalOf words refusal.Vehicle = HaveNoVehicle words
+IsRefusalOf words (refusal.Domain fault) = HaveDomainFault words fault
 IsRefusalOf words refusal.Memory = Unit {0}
 IsRefusalOf words r = ⊥

@@ -1,5 +1,5 @@
 -- What a plan prints, how it ends, and why it is refused.
-use Rattle.std.specs.Prelude.{◌≡◌, ◌≢◌, ◌↔◌, ⊤, ℕ, zero, suc, ℤ, Bool, List, Option, Result, Ok, Err, IsErrOf, IsTrue, OnOk}
+use Rattle.std.specs.Prelude.{◌≡◌, ◌≢◌, ◌↔◌, ◌⊎◌, ⊤, ℕ, zero, suc, ℤ, Bool, List, Option, Result, Ok, Err, IsErrOf, IsTrue, OnOk}
 use Rattle.std.specs.Prelude.{IfErr, IfOk, IfSome, string_bytes}
 use Rattle.std.specs.Io.KnownBytes.{Appends, Keeps}
 use Rattle.gtd_records.specs.declared.fault.RecordFault.{RecordFault}
@@ -10,7 +10,9 @@ use Rattle.gtd_runs.specs.declared.fault.RunFault.TheVariants as run
 use Rattle.gtd_faults.specs.Run.{HasListed}
 use Rattle.gtd_faults.specs.declared.list_fault.ListFault.{ListFault}
 use Rattle.gtd_faults.specs.declared.list_fault.ListFault.TheVariants as list
+use Rattle.gtd_core.specs.Parts.{domain_tree}
 use Rattle.gtd_now.specs.Now.{IsNow}
+use Rattle.gtd_words.specs.Words.{words}
 use Rattle.gtd_desk.specs.declared.ending.Ending.{Ending}
 use Rattle.gtd_desk.specs.declared.ending.Ending.TheVariants as ending
 use Rattle.gtd_desk.specs.declared.plans.Plan.{Plan}
@@ -67,12 +69,18 @@ pub record RanFaults (path : List ℕ) (file old new : Option (List ℕ)) (silen
   pub whole : OnOk answer (IsTrue ended)
   pub endless : IsErrOf answer list.Endless → IsTrue silent
 
+-- The words of a domain were put whole, and then the output was ended. If memory was refused, nothing was put.
+pub record PutWords (text : List ℕ) (old new : Option (List ℕ)) (ended : Bool) (result : Result Ending Refusal) : Type 0 where
+  pub put : IfOk result (λ e. (e ≡ ending.Done) × Appends old new text × IsTrue ended)
+  pub cause : IfErr result (λ r. (r ≡ refusal.Write) ⊎ ((r ≡ refusal.Memory) × Keeps old new))
+
 -- What a plan did to the output, by its answer. A text that was asked for is taken whole, and then the output is ended.
 abbrev pub HasRunPlan : Plan → Option (List ℕ) → Option (List ℕ) → Option (List ℕ) → Bool → Bool
     → Result Ending Refusal → Type 0
 HasRunPlan (plan.Now path moment vehicle) file old new silent ended result =
     RanNow vehicle moment.second.0 file old new silent ended result
 HasRunPlan (plan.Faults path) file old new silent ended result = RanFaults (string_bytes path) file old new silent ended result
+HasRunPlan (plan.Words domain) file old new silent ended result = PutWords (words (domain_tree domain)) old new ended result
 HasRunPlan (plan.Show text) file old new silent ended result =
     IfOk result (λ e. (e ≡ ending.Done) × Appends old new (string_bytes text) × IsTrue ended)
     × IfErr result (λ r. r ≡ refusal.Write)
@@ -93,6 +101,7 @@ abbrev pub status_of : Refusal → ℕ
 status_of (refusal.Usage why) = 2
 status_of (refusal.Moment fault) = 1
 status_of refusal.Vehicle = 1
+status_of (refusal.Domain fault) = 1
 status_of (refusal.Records fault) = records_status fault
 status_of refusal.Open = 3
 status_of refusal.Write = 3

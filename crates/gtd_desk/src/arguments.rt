@@ -6,7 +6,8 @@ ghost use Rattle.clap.specs.Kinds.{HasKind};
 ghost use Rattle.clap.specs.Matches.{found_of};
 ghost use Rattle.clap.specs.Simple.{app_of, subcommand_rows_of, with_rule, with_subcommand};
 ghost use Rattle.clap.specs.Walk.{first_of, rows_of};
-ghost use Rattle.gtd_desk.specs.CommandLine.{HasWords, IsLocal, all_three, bare_faults, bare_now, desk_app};
+ghost use Rattle.gtd_desk.specs.CommandLine.{HasWords, IsLocal, all_three, bare_faults, bare_now, bare_words};
+ghost use Rattle.gtd_desk.specs.CommandLine.{desk_app, domain_given, words_app};
 ghost use Rattle.gtd_desk.specs.CommandLine.{faults_app, faults_given, none_given, now_app, now_given, word_rule};
 ghost use Rattle.gtd_desk.specs.Given.{texts_of};
 
@@ -94,6 +95,23 @@ fn faults_command<'a>(alloc: Global) -> Result<Command<'a>, AllocError>
     )
 }
 
+// The command `words` without its word.
+fn bare_words<'a>(alloc: Global) -> Command<'a>
+    ensures app { app_of result ≡ bare_words }
+    ensures local { IsLocal result }
+{
+    Command::new(alloc, "words").about("Say in plain English when a time domain holds")
+}
+
+// The command `words`.
+fn words_command<'a>(alloc: Global) -> Result<Command<'a>, AllocError>
+    ensures app { IfOk result (λ c. app_of c ≡ words_app) }
+    ensures local { IfOk result IsLocal }
+{
+    let command = bare_words(alloc);
+    add_word(alloc, command, "DOMAIN", "The time domain")
+}
+
 // The program without its commands. A usage line begins with the program's name; the words that are read do not.
 fn without_commands<'a>(alloc: Global) -> Result<Command<'a>, AllocError>
     ensures { IfOk result (λ c. app_of c ≡ none_given) }
@@ -120,9 +138,11 @@ fn gtdesk<'a>(alloc: Global) -> Result<Command<'a>, AllocError>
 {
     let now = now_command(alloc)?;
     let faults = faults_command(alloc)?;
+    let words = words_command(alloc)?;
     let program = without_commands(alloc)?;
     let program = add_command(program, now)?;
-    add_command(program, faults)
+    let program = add_command(program, faults)?;
+    add_command(program, words)
 }
 
 /// What `clap` finds in the words, or its error.
@@ -198,6 +218,26 @@ pub(crate) fn faults_word<'a>(matches: &ArgMatches<'a>) -> Option<&'a str>
 {
     match matches.subcommand() {
         Some((name, given)) => word_of(name, given),
+        None => None,
+    }
+}
+
+// The word of `words`, if this is the command's name.
+fn domain_of<'a>(name: &str, given: &ArgMatches<'a>) -> Option<&'a str>
+    ensures { option_map (λ s. s.now) result ≡ domain_given (name.now, rows_of (found_of given.now)) }
+{
+    match name {
+        "words" => value(given, "DOMAIN"),
+        _ => None,
+    }
+}
+
+/// The word of `words`, if the matches hold it.
+pub(crate) fn domain_word<'a>(matches: &ArgMatches<'a>) -> Option<&'a str>
+    ensures { option_map (λ s. s.now) result ≡ option_and_then domain_given (subcommand_rows_of matches.now) }
+{
+    match matches.subcommand() {
+        Some((name, given)) => domain_of(name, given),
         None => None,
     }
 }

@@ -31,6 +31,11 @@ impl Display for RefusalLine<'_> {
             Refusal::Usage(why) => write!(f, "gtdesk: command line: {why} (see gtdesk --help)"),
             Refusal::Moment(fault) => write!(f, "gtdesk: MOMENT: {}", moment_reason(fault)),
             Refusal::Vehicle => write!(f, "gtdesk: VEHICLE: not a number from 1 to 99"),
+            Refusal::Domain(fault) => {
+                let kind = fault.kind.name();
+                let place = fault.place;
+                write!(f, "gtdesk: DOMAIN: {kind} at {place}")
+            }
             Refusal::Records(fault) => write!(f, "gtdesk: {file}: {}", FaultText(fault)),
             Refusal::Open => write!(f, "gtdesk: {file}: cannot be opened"),
             Refusal::Write => write!(f, "gtdesk: standard output: cannot be written"),

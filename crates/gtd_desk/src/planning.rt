@@ -6,20 +6,24 @@ ghost use Rattle.clap.specs.Faults.{fault_of};
 ghost use Rattle.clap.specs.Kinds.{HasKind};
 ghost use Rattle.clap.specs.Values.{kind_of};
 ghost use Rattle.gtd_calendar.specs.Read.{stamp_in};
+ghost use Rattle.gtd_core.specs.Trees.{Tree};
 ghost use Rattle.gtd_core.specs.declared.second.Sec.{Sec};
 ghost use Rattle.gtd_records.specs.Columns.{number_of};
 ghost use Rattle.gtd_runs.specs.Run.{IsVehicleType};
-ghost use Rattle.gtd_desk.specs.CommandLine.{AreFaultsWords, AreNowWords, AskForText, Text, desk_app};
+ghost use Rattle.gtd_desk.specs.CommandLine.{AreDomainWords, AreFaultsWords, AreNowWords, AskForText, Text, desk_app};
 ghost use Rattle.gtd_desk.specs.CommandLine as spec;
-ghost use Rattle.gtd_desk.specs.Plans.{AskFor, AskForNow, IsFaultsPlan, IsNoVehicle, IsNowPlan, IsRefusalOf, IsWordFault};
+ghost use Rattle.gtd_desk.specs.Plans.{AskFor, AskForNow, AskForWords, IsFaultsPlan, IsNoVehicle, IsNowPlan, IsRefusalOf};
+ghost use Rattle.gtd_desk.specs.Plans.{IsWordFault, IsWordsPlan};
 ghost use Rattle.gtd_desk.specs.declared.refusal.Refusal.{Refusal};
 
-use crate::arguments::{NowWords, faults_word, now_words, parse};
+use crate::arguments::{NowWords, domain_word, faults_word, now_words, parse};
 use crate::plans::{Moment, Plan};
 use crate::refusal::Refusal;
 use clap::error::ErrorKind;
 use gtd_calendar::{StampFault, read_stamp};
+use gtd_core::Fault;
 use gtd_records::read_number;
+use gtd_text::read_domain;
 use std::alloc::Global;
 
 // Whether the words ask for help or the version.
@@ -132,6 +136,20 @@ fn plan_faults(alloc: Global, file: &str) -> Result<Plan, Refusal>
     }
 }
 
+// The plan of `words`.
+fn plan_domain(alloc: Global, text: &str) -> Result<Plan, Refusal>
+    ensures { (words : List Text) → AreDomainWords words text.now
+        → MatchResult result (AskFor words) (IsRefusalOf words) }
+{
+    match read_domain(alloc, text.as_bytes()) {
+        Ok(domain) => Ok(Plan::Words { domain }),
+        Err(fault) => match fault.kind {
+            Fault::NoMemory => Err(Refusal::Memory),
+            _ => Err(Refusal::Domain(fault)),
+        },
+    }
+}
+
 // The plan of the words after the program's name.
 fn plan_words(alloc: Global, words: &[String]) -> Result<Plan, Refusal>
     ensures { MatchResult result (AskFor (map string_bytes words.now)) (IsRefusalOf (map string_bytes words.now)) }
@@ -141,7 +159,10 @@ fn plan_words(alloc: Global, words: &[String]) -> Result<Plan, Refusal>
             Some(given) => plan_now(alloc, given),
             None => match faults_word(&matches) {
                 Some(file) => plan_faults(alloc, file),
-                None => Err(Refusal::Usage("the words are not understood")),
+                None => match domain_word(&matches) {
+                    Some(text) => plan_domain(alloc, text),
+                    None => Err(Refusal::Usage("the words are not understood")),
+                },
             },
         },
         Err(error) => plan_error(alloc, &error),
@@ -151,7 +172,7 @@ fn plan_words(alloc: Global, words: &[String]) -> Result<Plan, Refusal>
 /// What the words after the program's name ask for, or why they are refused.
 ///
 /// In order: `Usage` if they neither give a command with its words nor ask for help; `Moment` if the word for the moment
-/// does not stand for one; then `Vehicle`. If memory was refused, `Memory` is the answer in place of these.
+/// does not stand for one; then `Vehicle`; or `Domain`. If memory was refused, `Memory` is the answer in place of these.
 pub fn plan(alloc: Global, words: Vec<String>) -> Result<Plan, Refusal>
     // The plan is what the words ask for.
     ensures asked { IfOk result (AskFor (map string_bytes words.items)) }
@@ -160,9 +181,11 @@ pub fn plan(alloc: Global, words: Vec<String>) -> Result<Plan, Refusal>
         → MatchResult result (IsNowPlan file moment vehicle) (λ r. r ≡ Refusal.Memory) }
     ensures only_faults { (file : Text) → AreFaultsWords (map string_bytes words.items) file
         → MatchResult result (IsFaultsPlan file) (λ r. r ≡ Refusal.Memory) }
+    ensures only_words { (tree : Tree) → AskForWords (map string_bytes words.items) tree
+        → MatchResult result (IsWordsPlan tree) (λ r. r ≡ Refusal.Memory) }
     // The refusal is one that the words have, unless memory was refused.
     ensures refused { IfErr result (IsRefusalOf (map string_bytes words.items)) }
-    // If a word of `now` stands for nothing, the first such word gives the refusal, unless memory is refused.
+    // If a word of a command stands for nothing, the first such word gives the refusal, unless memory is refused.
     ensures first { (refusal : Refusal) → IsWordFault (map string_bytes words.items) refusal
         → MatchResult result (λ plan. ⊥) (λ r. (r ≡ Refusal.Memory) ⊎ (r ≡ refusal)) }
 {

@@ -2,7 +2,7 @@
 
 ghost use Rattle.gtd_core.specs.Seconds.{IsMomentSecond};
 
-use gtd_core::Sec;
+use gtd_core::{Domain, Sec};
 
 /// A moment: a second from 1901-01-01T00:00:00 to 2199-12-31T23:59:59.
 #[derive(Clone, Copy)]
@@ -29,6 +29,11 @@ pub enum Plan {
         /// The file's path, or `-` for standard input.
         file: String,
     },
+    /// To print the words of a domain.
+    Words {
+        /// The domain.
+        domain: Domain,
+    },
     /// To print a text: help, or the version.
     Show {
         /// The text.
@@ -47,6 +52,7 @@ impl Plan {
         match self {
             Plan::Now { file, .. } => Some(file.as_str()),
             Plan::Faults { file } => Some(file.as_str()),
+            Plan::Words { .. } => None,
             Plan::Show { .. } => None,
         }
     }

@@ -4,6 +4,7 @@ ghost use Rattle.std.specs.Prelude.{◌≡◌};
 ghost use Rattle.gtd_desk.specs.Running.{records_status, status_of};
 
 use gtd_calendar::StampFault;
+use gtd_core::TextFault;
 use gtd_records::RecordFault;
 
 /// Why a command line is not carried out.
@@ -15,6 +16,8 @@ pub enum Refusal {
     Moment(StampFault),
     /// The word for a vehicle type is not a number from 1 to 99.
     Vehicle,
+    /// The word for a domain does not stand for one. This is its first fault, and never `NoMemory`.
+    Domain(TextFault),
     /// The record file is not read. This is its first fault, or why the input failed, and never `NoMemory`.
     Records(RecordFault),
     /// The record file is not opened.
@@ -31,7 +34,7 @@ impl Refusal {
         ensures value { result ≡ status_of self.now }
     {
         match self {
-            Refusal::Moment(_) | Refusal::Vehicle => 1,
+            Refusal::Moment(_) | Refusal::Vehicle | Refusal::Domain(_) => 1,
             Refusal::Records(fault) => records_status(*fault),
             Refusal::Usage(_) => 2,
             Refusal::Open | Refusal::Write | Refusal::Memory => 3,

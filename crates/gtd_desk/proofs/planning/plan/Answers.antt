@@ -1,6 +1,6 @@
 use Rattle.std.proofs.Common.{map}
 use Rattle.std.specs.Prelude.{string_bytes}
-use Rattle.gtd_desk.proofs.PlanFacts.{plan_only, plan_only_faults, plan_first}
+use Rattle.gtd_desk.proofs.PlanFacts.{plan_only, plan_only_faults, plan_only_words, plan_first}
 use Rattle.gtd_desk.proofs.planning.plan.Goals as goal
 
 pub returns-clause-only : goal.returns-clause-only
@@ -16,4 +16,9 @@ returns-clause-first c = λ refusal is.
 pub returns-clause-only_faults : goal.returns-clause-only_faults
 returns-clause-only_faults c = λ file asks.
     plan_only_faults (map string_bytes c.as_slice.result.now) c.plan_words.result c.plan_words.ensures file
+    (rw (c.as_slice.ensures.value) asks)
+
+pub returns-clause-only_words : goal.returns-clause-only_words
+returns-clause-only_words c = λ tree asks.
+    plan_only_words (map string_bytes c.as_slice.result.now) c.plan_words.result c.plan_words.ensures tree
     (rw (c.as_slice.ensures.value) asks)
