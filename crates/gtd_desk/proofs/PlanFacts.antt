@@ -12,12 +12,12 @@ use Rattle.clap.specs.declared.error.kind.ErrorKind.{ErrorKind}
 use Rattle.gtd_calendar.specs.declared.stamp.StampFault.{StampFault}
 use Rattle.gtd_core.specs.declared.second.Sec.{Sec}
 use Rattle.gtd_desk.specs.CommandLine.{AreFaultsWords, AreMistaken, AreNowWords, AskForText, Text, desk_app}
-use Rattle.gtd_desk.specs.CommandLine.{AreDomainWords, ArePictureWords, DomainTexts, PictureTexts, all_five, all_three}
+use Rattle.gtd_desk.specs.CommandLine.{AreDomainWords, ArePictureWords, AreWordsWords, DomainTexts, PictureTexts, all_five, all_three}
 use Rattle.gtd_desk.specs.CommandLine.{FaultsTexts, both_given, faults_texts}
 use Rattle.gtd_desk.specs.Pictures.{HaveDomainFault, HavePictureFault}
 use Rattle.gtd_desk.specs.declared.refusal.WordFault.{WordFault}
-use Rattle.gtd_desk.specs.Plans.{AskFor, AskForNow, HaveMomentFault, HaveNoVehicle, IsFaultsPlan, IsNowPlan, IsRefusalOf}
-use Rattle.gtd_desk.specs.Plans.{IsWordFault}
+use Rattle.gtd_desk.specs.Plans.{AskFor, AskForNow, HaveMomentFault, HaveNoVehicle, HaveWordsFault, IsFaultsPlan, IsNowPlan}
+use Rattle.gtd_desk.specs.Plans.{IsRefusalOf, IsWordFault}
 use Rattle.gtd_desk.specs.declared.plans.Plan.{Plan}
 use Rattle.gtd_desk.specs.declared.plans.Plan.TheVariants as plan
 use Rattle.gtd_desk.specs.declared.refusal.Refusal.{Refusal}
@@ -69,6 +69,18 @@ module _ (words : List Text) where
       have_name (codes "picture-domain") (λ rows. both_given (first_of (codes "DOMAIN") rows) (first_of (codes "YEAR") rows))
       (subcommand_of desk_app words) t a.given
 
+  name_of_words : (t : Text) → AreWordsWords words t → HaveName (codes "words") (subcommand_of desk_app words)
+  name_of_words t a =
+      have_name (codes "words") (λ rows. first_of (codes "DOMAIN") rows) (subcommand_of desk_app words) t a.given
+
+  no_words_now : (f m v t : Text) → AreNowWords words f m v → AreWordsWords words t → ⊥
+  no_words_now f m v t a b =
+      one_name (subcommand_of desk_app words) (codes "now") (codes "words") (name_of_now f m v a) (name_of_words t b) refl
+
+  no_words_faults : (g : FaultsTexts) (t : Text) → AreFaultsWords words g → AreWordsWords words t → ⊥
+  no_words_faults g t a b =
+      one_name (subcommand_of desk_app words) (codes "faults") (codes "words") (name_of_faults g a) (name_of_words t b) refl
+
   no_picture_now : (f m v : Text) (t : PictureTexts) → AreNowWords words f m v → ArePictureWords words t → ⊥
   no_picture_now f m v t a b =
       one_name (subcommand_of desk_app words) (codes "now") (codes "picture") (name_of_now f m v a) (name_of_picture t b) refl
@@ -87,14 +99,16 @@ module _ (words : List Text) where
       refl
 
   no_word_now : (f m v : Text) (fault : WordFault) → AreNowWords words f m v
-      → HavePictureFault words fault ⊎ HaveDomainFault words fault → ⊥
+      → HavePictureFault words fault ⊎ HaveDomainFault words fault ⊎ HaveWordsFault words fault → ⊥
   no_word_now f m v fault a (inl h) = no_picture_now f m v h.texts a h.given
-  no_word_now f m v fault a (inr h) = no_domain_now f m v h.texts a h.given
+  no_word_now f m v fault a (inr (inl h)) = no_domain_now f m v h.texts a h.given
+  no_word_now f m v fault a (inr (inr h)) = no_words_now f m v h.text a h.given
 
   no_word_faults : (g : FaultsTexts) (fault : WordFault) → AreFaultsWords words g
-      → HavePictureFault words fault ⊎ HaveDomainFault words fault → ⊥
+      → HavePictureFault words fault ⊎ HaveDomainFault words fault ⊎ HaveWordsFault words fault → ⊥
   no_word_faults g fault a (inl h) = no_picture_faults g h.texts a h.given
-  no_word_faults g fault a (inr h) = no_domain_faults g h.texts a h.given
+  no_word_faults g fault a (inr (inl h)) = no_domain_faults g h.texts a h.given
+  no_word_faults g fault a (inr (inr h)) = no_words_faults g h.text a h.given
 
   same_words : (f m v g n w : Text) → AreNowWords words f m v → AreNowWords words g n w
       → ◌≡◌ {A = Text × Text × Text} (f, m, v) (g, n, w)
@@ -169,6 +183,8 @@ module _ (words : List Text) where
       absurd (no_picture_now file h.second h.vehicle_word is.texts h.given is.given)
   plan_only (Ok (plan.DomainPicture d t y)) is file moment vehicle h =
       absurd (no_domain_now file h.second h.vehicle_word is.texts h.given is.given)
+  plan_only (Ok (plan.Words d)) is file moment vehicle h =
+      absurd (no_words_now file h.second h.vehicle_word is.text h.given is.given)
   plan_only (Ok (plan.Show text)) is file moment vehicle h =
       absurd (not_text file h.second h.vehicle_word h.given is)
   plan_only (Err (refusal.Usage why)) is file moment vehicle h =
@@ -190,6 +206,7 @@ module _ (words : List Text) where
   moment_refused fault (Ok (plan.Faults f w)) is h = not_faults h.file h.moment h.vehicle _ h.given is
   moment_refused fault (Ok (plan.Picture f t s)) is h = no_picture_now h.file h.moment h.vehicle is.texts h.given is.given
   moment_refused fault (Ok (plan.DomainPicture d t y)) is h = no_domain_now h.file h.moment h.vehicle is.texts h.given is.given
+  moment_refused fault (Ok (plan.Words d)) is h = no_words_now h.file h.moment h.vehicle is.text h.given is.given
   moment_refused fault (Ok (plan.Show text)) is h = not_text h.file h.moment h.vehicle h.given is
   moment_refused fault (Err (refusal.Usage why)) is h = absurd (not_mistaken h.file h.moment h.vehicle h.given is)
   moment_refused fault (Err (refusal.Moment other)) is h = inr (ap refusal.Moment (one_moment_fault other fault is h))
@@ -208,6 +225,7 @@ module _ (words : List Text) where
   vehicle_refused (Ok (plan.Faults f w)) is h = not_faults h.file h.moment h.vehicle _ h.given is
   vehicle_refused (Ok (plan.Picture f t s)) is h = no_picture_now h.file h.moment h.vehicle is.texts h.given is.given
   vehicle_refused (Ok (plan.DomainPicture d t y)) is h = no_domain_now h.file h.moment h.vehicle is.texts h.given is.given
+  vehicle_refused (Ok (plan.Words d)) is h = no_words_now h.file h.moment h.vehicle is.text h.given is.given
   vehicle_refused (Ok (plan.Show text)) is h = not_text h.file h.moment h.vehicle h.given is
   vehicle_refused (Err (refusal.Usage why)) is h = absurd (not_mistaken h.file h.moment h.vehicle h.given is)
   vehicle_refused (Err (refusal.Moment other)) is h = absurd (moment_first other is h)
@@ -237,6 +255,7 @@ module _ (words : List Text) where
       (ap (λ (t : FaultsTexts). t.file) same, ap (λ (t : FaultsTexts). t.warn) same)
   plan_only_faults (Ok (plan.Picture f t s)) is file h = absurd (no_picture_faults file is.texts h is.given)
   plan_only_faults (Ok (plan.DomainPicture d t y)) is file h = absurd (no_domain_faults file is.texts h is.given)
+  plan_only_faults (Ok (plan.Words d)) is file h = absurd (no_words_faults file is.text h is.given)
   plan_only_faults (Ok (plan.Show text)) is file h = absurd (no_fault_of file h is.0 is.1)
   plan_only_faults (Err (refusal.Usage why)) is file h = absurd (faults_not_mistaken file h is)
   plan_only_faults (Err (refusal.Moment fault)) is file h = absurd (not_faults is.file is.moment is.vehicle file is.given h)

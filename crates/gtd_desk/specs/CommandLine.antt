@@ -66,6 +66,14 @@ bare_domain = new_app (codes "picture-domain")
 abbrev pub domain_app : App
 domain_app = with_rule (with_rule bare_domain (word_rule (codes "DOMAIN"))) (word_rule (codes "YEAR"))
 
+-- The command `words` without its word.
+abbrev pub bare_words : App
+bare_words = new_app (codes "words")
+
+-- The command `words DOMAIN`.
+abbrev pub words_app : App
+words_app = with_rule bare_words (word_rule (codes "DOMAIN"))
+
 -- The program without its commands: one must be given, and there is a version to show.
 abbrev pub none_given : App
 none_given = record {
@@ -75,7 +83,7 @@ none_given = record {
 
 -- The program with its commands that print no picture.
 abbrev pub no_pictures : App
-no_pictures = with_subcommand (with_subcommand none_given now_app.top) faults_app.top
+no_pictures = with_subcommand (with_subcommand (with_subcommand none_given now_app.top) faults_app.top) words_app.top
 
 -- The program with all its commands.
 abbrev pub desk_app : App
@@ -119,6 +127,14 @@ faults_given found = if bytes_eq found.0 (codes "faults") then faults_texts foun
 -- The words of the command `faults` among these words.
 abbrev pub faults_words_of : List Text → Option FaultsTexts
 faults_words_of words = option_and_then faults_given (subcommand_of desk_app words)
+
+-- The word of the command `words`, from a command's name and what was found for it.
+abbrev pub words_given : Text × List Row → Option Text
+words_given found = if bytes_eq found.0 (codes "words") then first_of (codes "DOMAIN") found.1 else None
+
+-- The word of the command `words` among these words.
+abbrev pub words_domain_of : List Text → Option Text
+words_domain_of words = option_and_then words_given (subcommand_of desk_app words)
 
 -- The words of the command `picture`.
 pub record PictureTexts : Type 0 where
@@ -177,6 +193,11 @@ pub record AreDomainWords (words : List Text) (texts : DomainTexts) : Type 0 whe
   pub faultless : fault_of desk_app words ≡ []
   pub given : domain_words_of words ≡ Some texts
 
+-- The words give the command `words` with this word.
+pub record AreWordsWords (words : List Text) (text : Text) : Type 0 where
+  pub faultless : fault_of desk_app words ≡ []
+  pub given : words_domain_of words ≡ Some text
+
 -- The words give the command `faults` with these words.
 pub record AreFaultsWords (words : List Text) (texts : FaultsTexts) : Type 0 where
   pub faultless : fault_of desk_app words ≡ []
@@ -212,4 +233,4 @@ abbrev pub AreMistaken : List Text → Type 0
 AreMistaken words =
     ((kind : ErrorKind) × IsAmong kind (fault_of desk_app words) × (is_request kind ≡ false))
     ⊎ ((now_words_of words ≡ None) × (faults_words_of words ≡ None) × (picture_words_of words ≡ None)
-    × (domain_words_of words ≡ None))
+    × (domain_words_of words ≡ None) × (words_domain_of words ≡ None))

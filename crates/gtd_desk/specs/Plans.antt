@@ -1,15 +1,20 @@
 -- What a command line asks for.
 use Rattle.std.specs.Prelude.{◌≡◌, ◌⊎◌, ℕ, List, Option, Some, None, Ok, Err, string_bytes}
+use Rattle.gtd_core.specs.declared.domain.Domain.{Domain}
+use Rattle.gtd_core.specs.declared.fault.TextFault.{TextFault}
 use Rattle.gtd_core.specs.declared.second.Sec.{Sec}
+use Rattle.gtd_text.specs.Reading.{IsFault}
 use Rattle.gtd_calendar.specs.Read.{stamp_in}
 use Rattle.gtd_calendar.specs.declared.stamp.StampFault.{StampFault}
 use Rattle.gtd_records.specs.Columns.{number_of}
 use Rattle.gtd_runs.specs.Run.{IsVehicleType}
-use Rattle.gtd_desk.specs.Pictures.{AskForDomainPicture, AskForPicture, HaveDomainFault, HavePictureFault}
+use Rattle.gtd_desk.specs.Pictures.{AskForDomainPicture, AskForPicture, HaveDomainFault, HavePictureFault, IsReadDomain}
 pub use Rattle.gtd_desk.specs.Pictures.{IsNoVehicle}
-use Rattle.gtd_desk.specs.CommandLine.{AreFaultsWords, AreMistaken, AreNowWords, AskForText, FaultsTexts, Text}
+use Rattle.gtd_desk.specs.CommandLine.{AreFaultsWords, AreMistaken, AreNowWords, AreWordsWords, AskForText, FaultsTexts, Text}
 use Rattle.gtd_desk.specs.declared.plans.Plan.{Plan}
 use Rattle.gtd_desk.specs.declared.plans.Plan.TheVariants as plan
+use Rattle.gtd_desk.specs.declared.refusal.WordFault.{WordFault}
+use Rattle.gtd_desk.specs.declared.refusal.WordFault.TheVariants as fault
 use Rattle.gtd_desk.specs.declared.refusal.Refusal.{Refusal}
 use Rattle.gtd_desk.specs.declared.refusal.Refusal.TheVariants as refusal
 
@@ -22,12 +27,27 @@ pub record AskForNow (words : List Text) (file : Text) (moment : Sec) (vehicle :
   pub vehicle_read : number_of vehicle_word ≡ Some vehicle
   pub in_range : IsVehicleType vehicle
 
+-- The words ask for a domain in plain English.
+pub record AskForWords (words : List Text) (domain : Domain) : Type 0 where
+  pub text : Text
+  pub given : AreWordsWords words text
+  pub read : IsReadDomain text domain
+
+-- The words give the command `words`, and its word has this fault.
+pub record HaveWordsFault (words : List Text) (fault : WordFault) : Type 0 where
+  pub text : Text
+  pub given : AreWordsWords words text
+  pub why : TextFault
+  pub is : fault ≡ fault.Domain why
+  pub has : IsFault text why
+
 -- The words ask for what the plan carries out.
 abbrev pub AskFor : List Text → Plan → Type 0
 AskFor words (plan.Now file moment vehicle) = AskForNow words (string_bytes file) moment.second vehicle
 AskFor words (plan.Faults file warn) = AreFaultsWords words (record { file = string_bytes file; warn = warn })
 AskFor words (plan.Picture file title subject) = AskForPicture words (string_bytes file) subject
 AskFor words (plan.DomainPicture domain title year) = AskForDomainPicture words domain (string_bytes title) year
+AskFor words (plan.Words domain) = AskForWords words domain
 AskFor words (plan.Show text) = AskForText words
 
 -- The path of the record file that the plan reads, if it reads one.
@@ -36,6 +56,7 @@ file_of (plan.Now file moment vehicle) = Some (string_bytes file)
 file_of (plan.Faults file warn) = Some (string_bytes file)
 file_of (plan.Picture file title subject) = Some (string_bytes file)
 file_of (plan.DomainPicture domain title year) = None
+file_of (plan.Words domain) = None
 file_of (plan.Show text) = None
 
 -- The words give the command `now`, and the word for the moment does not stand for one.
@@ -62,6 +83,7 @@ IsNowPlan file moment vehicle (plan.Now f m v) = (string_bytes f ≡ file) × (m
 IsNowPlan file moment vehicle (plan.Faults f w) = ⊥
 IsNowPlan file moment vehicle (plan.Picture f t s) = ⊥
 IsNowPlan file moment vehicle (plan.DomainPicture d t y) = ⊥
+IsNowPlan file moment vehicle (plan.Words domain) = ⊥
 IsNowPlan file moment vehicle (plan.Show text) = ⊥
 
 -- The plan is for `faults`, with these words.
@@ -70,6 +92,7 @@ IsFaultsPlan texts (plan.Now f m v) = ⊥
 IsFaultsPlan texts (plan.Faults f w) = (string_bytes f ≡ texts.file) × (w ≡ texts.warn)
 IsFaultsPlan texts (plan.Picture f t s) = ⊥
 IsFaultsPlan texts (plan.DomainPicture d t y) = ⊥
+IsFaultsPlan texts (plan.Words domain) = ⊥
 IsFaultsPlan texts (plan.Show text) = ⊥
 
 -- The words give the command `now`, and this is the refusal for the first of its words that stands for nothing.
@@ -83,6 +106,6 @@ abbrev pub IsRefusalOf : List Text → Refusal → Type 0
 IsRefusalOf words (refusal.Usage why) = AreMistaken words
 IsRefusalOf words (refusal.Moment fault) = HaveMomentFault words fault
 IsRefusalOf words refusal.Vehicle = HaveNoVehicle words
-IsRefusalOf words (refusal.Word fault) = HavePictureFault words fault ⊎ HaveDomainFault words fault
+IsRefusalOf words (refusal.Word fault) = HavePictureFault words fault ⊎ HaveDomainFault words fault ⊎ HaveWordsFault words fault
 IsRefusalOf words refusal.Memory = Unit {0}
 IsRefusalOf words r = ⊥

@@ -1,7 +1,9 @@
 -- What a plan prints, how it ends, and why it is refused.
-use Rattle.std.specs.Prelude.{◌≡◌, ◌≢◌, ◌↔◌, ⊤, ℕ, zero, suc, ℤ, Bool, List, Option, Result, Ok, Err, IsErrOf, IsTrue, OnOk}
+use Rattle.std.specs.Prelude.{◌≡◌, ◌≢◌, ◌↔◌, ◌⊎◌, ⊤, ℕ, zero, suc, ℤ, Bool, List, Option, Result, Ok, Err, IsErrOf, IsTrue, OnOk}
 use Rattle.std.specs.Prelude.{Any, IfErr, IfOk, IfSome, string_bytes}
 use Rattle.std.specs.Io.KnownBytes.{Appends, Keeps}
+use Rattle.gtd_core.specs.Parts.{domain_tree}
+use Rattle.gtd_words.specs.Words.{words}
 use Rattle.gtd_records.specs.declared.fault.RecordFault.{RecordFault}
 use Rattle.gtd_records.specs.declared.fault.RecordFault.TheVariants as records
 use Rattle.gtd_core.specs.declared.domain.Domain.{Domain}
@@ -106,6 +108,11 @@ pub record RanFaults (path : List ℕ) (warn : Bool) (file old new : Option (Lis
   pub whole : OnOk answer (IsTrue ended)
   pub endless : IsErrOf answer list.Endless → IsTrue silent
 
+-- The words of a domain were put whole, and then the output was ended. If memory was refused, nothing was put.
+pub record PutWords (text : List ℕ) (old new : Option (List ℕ)) (ended : Bool) (result : Result Ending Refusal) : Type 0 where
+  pub put : IfOk result (λ e. (e ≡ ending.Done) × Appends old new text × IsTrue ended)
+  pub cause : IfErr result (λ r. (r ≡ refusal.Write) ⊎ ((r ≡ refusal.Memory) × Keeps old new))
+
 -- What a plan did to the output, by its answer. A text that was asked for is taken whole, and then the output is ended.
 abbrev pub HasRunPlan : Plan → Option (List ℕ) → Option (List ℕ) → Option (List ℕ) → Bool → Bool
     → Result Ending Refusal → Type 0
@@ -117,6 +124,7 @@ HasRunPlan (plan.Picture path title subject) file old new silent ended result =
     RanPicture subject (string_bytes title) file old new silent ended result
 HasRunPlan (plan.DomainPicture domain title year) file old new silent ended result =
     RanDomainPicture domain (string_bytes title) year old new ended result
+HasRunPlan (plan.Words domain) file old new silent ended result = PutWords (words (domain_tree domain)) old new ended result
 HasRunPlan (plan.Show text) file old new silent ended result =
     IfOk result (λ e. (e ≡ ending.Done) × Appends old new (string_bytes text) × IsTrue ended)
     × IfErr result (λ r. r ≡ refusal.Write)

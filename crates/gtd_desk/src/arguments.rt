@@ -9,7 +9,7 @@ ghost use Rattle.clap.specs.Walk.{first_of, rows_of};
 ghost use Rattle.gtd_desk.specs.CommandLine.{HasWords, IsLocal, all_five, all_three, bare_domain, bare_faults, bare_now};
 ghost use Rattle.gtd_desk.specs.CommandLine.{bare_picture, both_given, desk_app, domain_app, domain_given, faults_app};
 ghost use Rattle.gtd_desk.specs.CommandLine.{faults_given, no_pictures, none_given, now_app, now_given, picture_app, picture_given};
-ghost use Rattle.gtd_desk.specs.CommandLine.{flag_rule, is_set, word_rule};
+ghost use Rattle.gtd_desk.specs.CommandLine.{bare_words, flag_rule, is_set, word_rule, words_app, words_given};
 ghost use Rattle.gtd_desk.specs.Given.{domain_texts, given_faults, picture_texts, texts_of};
 
 use clap::{Arg, ArgAction, ArgMatches, Command};
@@ -144,6 +144,23 @@ fn faults_command<'a>(alloc: Global) -> Result<Command<'a>, AllocError>
     )
 }
 
+// The command `words` without its word.
+fn bare_words<'a>(alloc: Global) -> Command<'a>
+    ensures app { app_of result ≡ bare_words }
+    ensures local { IsLocal result }
+{
+    Command::new(alloc, "words").about("Print a time domain in plain English")
+}
+
+// The command `words`.
+fn words_command<'a>(alloc: Global) -> Result<Command<'a>, AllocError>
+    ensures app { IfOk result (λ c. app_of c ≡ words_app) }
+    ensures local { IfOk result IsLocal }
+{
+    let command = bare_words(alloc);
+    add_word(alloc, command, "DOMAIN", "The time domain")
+}
+
 // The command `picture` without its words.
 fn bare_picture<'a>(alloc: Global) -> Command<'a>
     ensures app { app_of result ≡ bare_picture }
@@ -223,9 +240,11 @@ fn without_pictures<'a>(alloc: Global) -> Result<Command<'a>, AllocError>
 {
     let now = now_command(alloc)?;
     let faults = faults_command(alloc)?;
+    let words = words_command(alloc)?;
     let program = without_commands(alloc)?;
     let program = add_command(program, now)?;
-    add_command(program, faults)
+    let program = add_command(program, faults)?;
+    add_command(program, words)
 }
 
 // The program with all its commands.
@@ -326,6 +345,26 @@ pub(crate) fn faults_words<'a>(matches: &ArgMatches<'a>) -> Option<FaultsWords<'
 {
     match matches.subcommand() {
         Some((name, given)) => faults_of(name, given),
+        None => None,
+    }
+}
+
+// The word of `words`, if this is the command's name.
+fn word_of<'a>(name: &str, given: &ArgMatches<'a>) -> Option<&'a str>
+    ensures { option_map (λ s. s.now) result ≡ words_given (name.now, rows_of (found_of given.now)) }
+{
+    match name {
+        "words" => value(given, "DOMAIN"),
+        _ => None,
+    }
+}
+
+/// The word of `words`, if the matches hold it.
+pub(crate) fn words_domain<'a>(matches: &ArgMatches<'a>) -> Option<&'a str>
+    ensures { option_map (λ s. s.now) result ≡ option_and_then words_given (subcommand_rows_of matches.now) }
+{
+    match matches.subcommand() {
+        Some((name, given)) => word_of(name, given),
         None => None,
     }
 }

@@ -15,7 +15,7 @@ fn moment_reason(fault: StampFault) -> &'static str {
     }
 }
 
-/// Which word of a picture's command stands for nothing, and why.
+/// Which word of a picture's command, or of `words`, stands for nothing, and why.
 #[derive(Drop)]
 struct WordLine(WordFault);
 

@@ -2,18 +2,22 @@
 
 ghost use Rattle.std.specs.Prelude.{◌≡◌, ◌<◌, IfErr, IfOk, IsTrue, OnOk};
 ghost use Rattle.std.specs.Io.KnownBytes.{Appends, Keeps};
-ghost use Rattle.gtd_desk.specs.Running.{HasRunPlan, RanFaults, RanNow, listing_outcome, outcome_of, refusal_for};
+ghost use Rattle.gtd_core.specs.Parts.{domain_tree};
+ghost use Rattle.gtd_words.specs.Words.{words};
+ghost use Rattle.gtd_desk.specs.Running.{HasRunPlan, PutWords, RanFaults, RanNow, listing_outcome, outcome_of, refusal_for};
 
 use crate::ending::Ending;
 use crate::picture::print_picture;
 use crate::picture_domain::print_domain;
 use crate::plans::{Moment, Plan};
 use crate::refusal::{Refusal, WordFault};
+use gtd_core::Domain;
 use gtd_devices::{Input, Output};
 use gtd_faults::{ListFault, run_faults};
 use gtd_now::run_now;
 use gtd_records::RecordFault;
 use gtd_runs::{Progress, RunFault, finish, put_line};
+use gtd_words::write_words;
 use std::alloc::Global;
 
 // The refusal for a fault of a run.
@@ -117,6 +121,18 @@ fn end<O: Output>(output: &mut O) -> Result<Ending, Refusal>
     }
 }
 
+// Puts the words of a domain, and ends the output.
+fn print_words<O: Output>(alloc: Global, output: &mut O, domain: &Domain) -> Result<Ending, Refusal>
+    requires writable { O.failure_count output.old < u64.MAX }
+    ensures put { PutWords (words (domain_tree domain.now)) (O.taken output.old) (O.taken output.new)
+        (O.is_ended output.new) result }
+{
+    match write_words(alloc, domain) {
+        Ok(text) => print_text(output, text.as_str()),
+        Err(_) => Err(Refusal::Memory),
+    }
+}
+
 /// Carries a plan out: puts what it asks for, and ends the output. The input brings the bytes of the plan's record file;
 /// if the plan reads none, nothing is pulled.
 ///
@@ -152,6 +168,7 @@ pub fn perform<I: Input, O: Output>(
             title,
             year,
         } => print_domain(alloc, output, domain, title.as_str(), *year),
+        Plan::Words { domain } => print_words(alloc, output, domain),
         Plan::Show { text } => print_text(output, text.as_str()),
     }
 }

@@ -32,8 +32,8 @@ fn text_refusal(fault: TextFault) -> Refusal
     }
 }
 
-// The domain that a word stands for, or the refusal for its first fault.
-fn domain_of(alloc: Global, text: &str) -> Result<Domain, Refusal>
+/// The domain that a word stands for, or the refusal for its first fault.
+pub(crate) fn domain_of(alloc: Global, text: &str) -> Result<Domain, Refusal>
     ensures { MatchResult result (IsReadDomain text.now) (IsNoDomain text.now) }
 {
     match read_domain(alloc, text.as_bytes()) {

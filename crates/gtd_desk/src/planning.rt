@@ -10,15 +10,15 @@ ghost use Rattle.gtd_core.specs.declared.second.Sec.{Sec};
 ghost use Rattle.gtd_records.specs.Columns.{number_of};
 ghost use Rattle.gtd_runs.specs.Run.{IsVehicleType};
 ghost use Rattle.gtd_desk.specs.CommandLine.{AreFaultsWords, AreNowWords, AskForText, HasWords, Text, desk_app};
-ghost use Rattle.gtd_desk.specs.CommandLine.{FaultsTexts, faults_words_of, now_words_of};
+ghost use Rattle.gtd_desk.specs.CommandLine.{AreWordsWords, FaultsTexts, faults_words_of, now_words_of, words_domain_of};
 ghost use Rattle.gtd_desk.specs.CommandLine as spec;
 ghost use Rattle.gtd_desk.specs.Given.{given_faults};
 ghost use Rattle.gtd_desk.specs.Plans.{AskFor, AskForNow, IsFaultsPlan, IsNoVehicle, IsNowPlan, IsRefusalOf, IsWordFault};
 ghost use Rattle.gtd_desk.specs.declared.refusal.Refusal.{Refusal};
 
-use crate::arguments::{FaultsWords, NowWords, domain_words, faults_words, now_words, parse, picture_words};
+use crate::arguments::{FaultsWords, NowWords, domain_words, faults_words, now_words, parse, picture_words, words_domain};
 use crate::picture::plan_picture;
-use crate::picture_domain::plan_domain;
+use crate::picture_domain::{domain_of, plan_domain};
 use crate::plans::{Moment, Plan};
 use crate::refusal::Refusal;
 use clap::ArgMatches;
@@ -140,9 +140,21 @@ fn plan_faults(alloc: Global, given: FaultsWords<'_>) -> Result<Plan, Refusal>
     }
 }
 
+// The plan of `words`.
+fn plan_told(alloc: Global, text: &str) -> Result<Plan, Refusal>
+    ensures { (words : List Text) → AreWordsWords words text.now
+        → MatchResult result (AskFor words) (IsRefusalOf words) }
+{
+    match domain_of(alloc, text) {
+        Ok(domain) => Ok(Plan::Words { domain }),
+        Err(refusal) => Err(refusal),
+    }
+}
+
 // The plan of a picture, where the matches hold no words of another command.
 fn plan_pictures(alloc: Global, matches: &ArgMatches<'_>) -> Result<Plan, Refusal>
     ensures { (words : List Text) → HasWords words matches.now → now_words_of words ≡ None → faults_words_of words ≡ None
+        → words_domain_of words ≡ None
         → MatchResult result (AskFor words) (IsRefusalOf words) }
 {
     match picture_words(matches) {
@@ -163,7 +175,10 @@ fn plan_words(alloc: Global, words: &[String]) -> Result<Plan, Refusal>
             Some(given) => plan_now(alloc, given),
             None => match faults_words(&matches) {
                 Some(given) => plan_faults(alloc, given),
-                None => plan_pictures(alloc, &matches),
+                None => match words_domain(&matches) {
+                    Some(text) => plan_told(alloc, text),
+                    None => plan_pictures(alloc, &matches),
+                },
             },
         },
         Err(error) => plan_error(alloc, &error),

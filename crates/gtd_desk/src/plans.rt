@@ -63,6 +63,11 @@ pub enum Plan {
         /// The year, from 1901 to 2199.
         year: u16,
     },
+    /// To print a time domain in plain English.
+    Words {
+        /// The domain.
+        domain: Domain,
+    },
     /// To print a text: help, or the version.
     Show {
         /// The text.
@@ -83,6 +88,7 @@ impl Plan {
             Plan::Faults { file, .. } => Some(file.as_str()),
             Plan::Picture { file, .. } => Some(file.as_str()),
             Plan::DomainPicture { .. } => None,
+            Plan::Words { .. } => None,
             Plan::Show { .. } => None,
         }
     }

@@ -7,7 +7,7 @@ use gtd_calendar::StampFault;
 use gtd_core::TextFault;
 use gtd_records::RecordFault;
 
-/// Which word of a picture's command stands for nothing.
+/// Which word of a picture's command, or of `words`, stands for nothing.
 #[derive(Clone, Copy)]
 pub enum WordFault {
     /// The word for an element is not a number.
@@ -31,7 +31,7 @@ pub enum Refusal {
     Moment(StampFault),
     /// The word for a vehicle type is not a number from 1 to 99.
     Vehicle,
-    /// A word of a picture's command stands for nothing.
+    /// A word of a picture's command, or that of `words`, stands for nothing.
     Word(WordFault),
     /// No row of the record file names the element of a picture.
     NoElement,

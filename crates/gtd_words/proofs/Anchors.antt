@@ -24,7 +24,7 @@ IsAnchor other = Unit {0}
 -- ---- the lead
 
 abbrev after_every : ℕ → List ℕ → List ℕ
-after_every w r = weekdays_words w ++ codes " " ++ r
+after_every w r = weekdays_words (codes " and ") w ++ codes " " ++ r
 
 lead_true : (m n : Bool) (a b : Anchor) (r s : List ℕ) → clock_lead a ++ (anchor_words m a ++ r)
     ≡ clock_lead b ++ (anchor_words n b ++ s) → anchor_words m a ++ r ≡ anchor_words n b ++ s
@@ -121,19 +121,19 @@ weekday_kind : (n : ℕ) (r : List ℕ) → every_kind (weekday_name n ++ r) ≡
 weekday_kind n r = of_weekday (λ x. (r : List ℕ) → every_kind (x ++ r) ≡ 3) n
     (λ r. refl, (λ r. refl, (λ r. refl, (λ r. refl, (λ r. refl, (λ r. refl, λ r. refl)))))) r
 
-list_kind : (d : ℕ) (l r : List ℕ) → every_kind (from_day d l ++ r) ≡ 3
+list_kind : (d : ℕ) (l r : List ℕ) → every_kind (from_day (codes " and ") d l ++ r) ≡ 3
 list_kind d [] r = weekday_kind d r
 list_kind d (e ∷ []) r =
     ap (λ (l : List ℕ). every_kind l) (append_assoc (weekday_name d) (codes " and " ++ weekday_name e) r)
     ∙ weekday_kind d (codes " and " ++ weekday_name e ++ r)
 list_kind d (e ∷ f ∷ l) r =
-    ap (λ (l : List ℕ). every_kind l) (append_assoc (weekday_name d) (codes ", " ++ from_day e (f ∷ l)) r)
-    ∙ weekday_kind d (codes ", " ++ from_day e (f ∷ l) ++ r)
+    ap (λ (l : List ℕ). every_kind l) (append_assoc (weekday_name d) (codes ", " ++ from_day (codes " and ") e (f ∷ l)) r)
+    ∙ weekday_kind d (codes ", " ++ from_day (codes " and ") e (f ∷ l) ++ r)
 
-weekdays_kind : (w : ℕ) (r : List ℕ) → w ≢ 0 → w < 128 → every_kind (weekdays_words w ++ codes " " ++ r) ≡ 3
+weekdays_kind : (w : ℕ) (r : List ℕ) → w ≢ 0 → w < 128 → every_kind (weekdays_words (codes " and ") w ++ codes " " ++ r) ≡ 3
 weekdays_kind w r some small =
     let x = list_of_days w some small in
-    ap (λ (l : List ℕ). every_kind l) (append_assoc (weekdays_words w) (codes " ") r
+    ap (λ (l : List ℕ). every_kind l) (append_assoc (weekdays_words (codes " and ") w) (codes " ") r
     ∙ ap (λ (l : List ℕ). l ++ (codes " " ++ r)) x.text)
     ∙ list_kind x.first x.others (codes " " ++ r)
 

@@ -10,7 +10,7 @@ use Rattle.gtd_words.specs.Names.{back_words, weekday_name, weekdays_words, four
 use Rattle.gtd_words.specs.Starts.{month_words, week_words, year_words, also_place, also_back, also_weekdays}
 use Rattle.gtd_words.proofs.Prefixes.{Both, NoDigit, Digit, head, tail, no_way, decimal_then, first_digit, four_then, four_first}
 use Rattle.gtd_words.proofs.Prefixes.{name_then, not_named, EachName, of_name}
-use Rattle.gtd_words.proofs.WeekdayLists.{weekday_then, NotAnd, weekdays_then}
+use Rattle.gtd_words.proofs.WeekdayLists.{weekday_then, Differs, and_days_then, or_days_then}
 
 -- ---- the order of the parts, read off the first bytes of what comes next
 
@@ -39,14 +39,22 @@ digit_rank false c r h = absurd (false≢true h)
 ranked_digit : (text : List ℕ) → Digit text → rank text ≡ 3
 ranked_digit text d = ap (λ (l : List ℕ). rank l) d.whole ∙ digit_rank (is_ascii_digit d.first) d.first d.rest d.is_digit
 
-and_rank : (b : Bool) (c : ℕ) (r : List ℕ) → (c == 97) ≡ b → 0 < rank (c ∷ r) → b ≡ false
-and_rank false c r e h = refl
-and_rank true c r e h =
-    let none : rank (c ∷ r) ≡ 0 = ap (λ (d : ℕ). rank (d ∷ r)) (eqb-true c 97 e) in absurd (omega arith)
+pub not_and : (r : List ℕ) → 0 < rank r → Differs (codes " and ") r
+not_and r h l e =
+    let same : rank r ≡ 0 = ap (λ (m : List ℕ). rank (tail m)) e in absurd (omega arith)
 
-pub not_and : (r : List ℕ) → 0 < rank r → NotAnd r
-not_and [] h = refl
-not_and (c ∷ r) h = and_rank (c == 97) c r refl h
+or_rank : (r : List ℕ) → rank (111 ∷ 114 ∷ 32 ∷ r) < 6
+or_rank [] = omega arith
+or_rank (c ∷ r) = either_less (c == 116)
+  where
+    either_less : (b : Bool) → cond b 3 1 < 6
+    either_less true = omega arith
+    either_less false = omega arith
+
+not_or : (r : List ℕ) → 6 < rank r → Differs (codes " or ") r
+not_or r h l e =
+    let same : rank r ≡ rank (111 ∷ 114 ∷ 32 ∷ l) = ap (λ (m : List ℕ). rank (tail m)) e in
+    let low = or_rank l in absurd (omega arith)
 
 -- ---- a part that may be left out
 
@@ -310,12 +318,12 @@ given_days w = cond (w == 0) None (Some w)
 
 abbrev given_text : Option ℕ → List ℕ
 given_text None = []
-given_text (Some w) = codes "if it falls on " ++ weekdays_words w ++ codes " "
+given_text (Some w) = codes "if it falls on " ++ weekdays_words (codes " or ") w ++ codes " "
 
 abbrev AreWeekdays : ℕ → Type 0
 AreWeekdays w = (w ≢ 0) × (w < 128)
 
-text_of_given : (b : Bool) (w : ℕ) → cond b [] (codes "if it falls on " ++ weekdays_words w ++ codes " ")
+text_of_given : (b : Bool) (w : ℕ) → cond b [] (codes "if it falls on " ++ weekdays_words (codes " or ") w ++ codes " ")
     ≡ given_text (cond b None (Some w))
 text_of_given true w = refl
 text_of_given false w = refl
@@ -331,14 +339,20 @@ given_back a b false true h k e = absurd cc
 given_back a b false false h k e = cc
 
 pub weekdays_spaced : (a b : ℕ) (r s : List ℕ) → a ≢ 0 → a < 128 → b ≢ 0 → b < 128 → 0 < rank r → 0 < rank s
-    → weekdays_words a ++ codes " " ++ r ≡ weekdays_words b ++ codes " " ++ s → Both a b r s
-weekdays_spaced a b r s some few more less h k e = weekdays_then a b r s some few more less (not_and r h) (not_and s k)
-    (sym (append_assoc (weekdays_words a) (codes " ") r) ∙ e ∙ append_assoc (weekdays_words b) (codes " ") s)
+    → weekdays_words (codes " and ") a ++ codes " " ++ r ≡ weekdays_words (codes " and ") b ++ codes " " ++ s → Both a b r s
+weekdays_spaced a b r s some few more less h k e =
+    and_days_then a b r s some few more less (not_and r h) (not_and s k)
+    (sym (append_assoc (weekdays_words (codes " and ") a) (codes " ") r) ∙ e
+    ∙ append_assoc (weekdays_words (codes " and ") b) (codes " ") s)
 
 given_code : (a b : ℕ) → AreWeekdays a → AreWeekdays b → (r s : List ℕ) → 6 < rank r → 6 < rank s
     → given_text (Some a) ++ r ≡ given_text (Some b) ++ s → Both a b r s
-given_code a b p q r s h k e = weekdays_spaced a b r s p.0 p.1 q.0 q.1 (omega arith) (omega arith)
-    (append_cancel_left (codes "if it falls on ") _ _ e)
+given_code a b p q r s h k e =
+    or_days_then a b r s p.0 p.1 q.0 q.1 (not_or r h) (not_or s k)
+    (sym (append_assoc (weekdays_words (codes " or ") a) (codes " ") r)
+    ∙ append_cancel_left (codes "if it falls on ") (weekdays_words (codes " or ") a ++ codes " " ++ r)
+    (weekdays_words (codes " or ") b ++ codes " " ++ s) e
+    ∙ append_assoc (weekdays_words (codes " or ") b) (codes " ") s)
 
 pub also_weekdays_then : (a b : ℕ) (r s : List ℕ) → a < 128 → b < 128 → 6 < rank r → 6 < rank s
     → also_weekdays a ++ r ≡ also_weekdays b ++ s → Both a b r s

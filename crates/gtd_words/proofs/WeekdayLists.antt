@@ -2,9 +2,10 @@
 use Rattle.std.proofs.Common.{◌≡◌, ◌≢◌, ℕ, zero, suc, ◌+◌, ◌-◌, ◌*◌, ◌/◌, ◌%◌, ◌^◌, ◌<◌, ◌≤◌, Bool, true, false, cond, List}
 use Rattle.std.proofs.Common.{[], ◌∷◌, ◌++◌, length, refl, sym, ap, ◌∙◌, arith, append_assoc, ◌⊎◌, inl, inr}
 use Rattle.std.specs.Prelude.{◌==◌, ◌&&◌, codes, nat_le}
-use Rattle.std.proofs.lemmas.Bool.{false≢true, eqb-true, eq-eqb, and_parts, leb-true, cases_order}
+use Rattle.std.proofs.lemmas.List.{append_cancel_left}
+use Rattle.std.proofs.lemmas.Bool.{false≢true, eqb-true, and_parts, leb-true, cases_order}
 use Rattle.gtd_words.specs.Names.{name_from, weekday_names, weekday_name, weekday_joint, weekday_if_set, weekdays_words}
-use Rattle.gtd_words.proofs.Prefixes.{Both, apart, head, tail, no_way, name_then, EachName, of_name}
+use Rattle.gtd_words.proofs.Prefixes.{Both, apart, tail, no_way, name_then, EachName, of_name}
 
 pub weekday_then : (m n : ℕ) (r s : List ℕ) → 1 ≤ m → m ≤ 7 → 1 ≤ n → n ≤ 7 → weekday_name m ++ r ≡ weekday_name n ++ s
     → Both m n r s
@@ -17,67 +18,70 @@ of_weekday P n h = of_name P 1 weekday_names n h
 
 -- ---- a list of weekdays
 
-abbrev pub from_day : ℕ → List ℕ → List ℕ
-from_day d [] = weekday_name d
-from_day d (e ∷ []) = weekday_name d ++ (codes " and " ++ weekday_name e)
-from_day d (e ∷ f ∷ l) = weekday_name d ++ (codes ", " ++ from_day e (f ∷ l))
+module _ (last : List ℕ) where
+  -- with these words before the last
+  abbrev pub from_day : ℕ → List ℕ → List ℕ
+  from_day d [] = weekday_name d
+  from_day d (e ∷ []) = weekday_name d ++ (last ++ weekday_name e)
+  from_day d (e ∷ f ∷ l) = weekday_name d ++ (codes ", " ++ from_day e (f ∷ l))
 
 abbrev pub AreDays : List ℕ → Type 0
 AreDays [] = Unit {0}
 AreDays (d ∷ l) = (1 ≤ d) × (d ≤ 7) × AreDays l
 
-abbrev pub NotAnd : List ℕ → Type 0
-NotAnd r = (head r == 97) ≡ false
+-- what comes after a list of weekdays is not what comes before its last
+abbrev pub Differs : List ℕ → List ℕ → Type 0
+Differs last r = (l : List ℕ) → 32 ∷ r ≡ last ++ l → ⊥
 
-no_and : (r l : List ℕ) → NotAnd r → 32 ∷ r ≡ codes " and " ++ l → ⊥
-no_and r l h e =
-    let same : head r ≡ 97 = ap (λ (l : List ℕ). head (tail l)) e in
-    false≢true (sym h ∙ eq-eqb (head r) 97 same)
+module _ (last : List ℕ) (comma : apart (codes ", ") last ≡ true) (no_comma : apart last (codes ", ") ≡ true) where
+  second : (d e : ℕ) (r : List ℕ) → weekday_name d ++ (last ++ weekday_name e) ++ r
+      ≡ weekday_name d ++ (last ++ (weekday_name e ++ r))
+  second d e r =
+      append_assoc (weekday_name d) (last ++ weekday_name e) r
+      ∙ ap (λ (l : List ℕ). weekday_name d ++ l) (append_assoc last (weekday_name e) r)
 
-from_day_then : (d : ℕ) (x : List ℕ) (e : ℕ) (y r s : List ℕ) → AreDays (d ∷ x) → AreDays (e ∷ y) → NotAnd r → NotAnd s
-    → from_day d x ++ 32 ∷ r ≡ from_day e y ++ 32 ∷ s → Both (d ∷ x) (e ∷ y) r s
-from_day_then d [] e [] r s h k a b same =
-    let p = weekday_then d e (32 ∷ r) (32 ∷ s) h.0 h.1 k.0 k.1 same in
-    (ap (λ (n : ℕ). n ∷ []) p.0, ap (λ (l : List ℕ). tail l) p.1)
-from_day_then d [] e (f ∷ []) r s h k a b same =
-    let p = weekday_then d e (32 ∷ r) (codes " and " ++ weekday_name f ++ 32 ∷ s) h.0 h.1 k.0 k.1
-    (same ∙ append_assoc (weekday_name e) (codes " and " ++ weekday_name f) (32 ∷ s)) in
-    absurd (no_and r (weekday_name f ++ 32 ∷ s) a p.1)
-from_day_then d [] e (f ∷ g ∷ y) r s h k a b same =
-    let p = weekday_then d e (32 ∷ r) (codes ", " ++ from_day f (g ∷ y) ++ 32 ∷ s) h.0 h.1 k.0 k.1
-    (same ∙ append_assoc (weekday_name e) (codes ", " ++ from_day f (g ∷ y)) (32 ∷ s)) in
-    absurd (no_way (codes " ") (codes ", ") r (from_day f (g ∷ y) ++ 32 ∷ s) refl p.1)
-from_day_then d (c ∷ []) e [] r s h k a b same =
-    let p = weekday_then d e (codes " and " ++ weekday_name c ++ 32 ∷ r) (32 ∷ s) h.0 h.1 k.0 k.1
-    (sym (append_assoc (weekday_name d) (codes " and " ++ weekday_name c) (32 ∷ r)) ∙ same) in
-    absurd (no_and s (weekday_name c ++ 32 ∷ r) b (sym p.1))
-from_day_then d (c ∷ []) e (f ∷ []) r s h k a b same =
-    let p = weekday_then d e (codes " and " ++ weekday_name c ++ 32 ∷ r) (codes " and " ++ weekday_name f ++ 32 ∷ s) h.0 h.1
-    k.0 k.1 (sym (append_assoc (weekday_name d) (codes " and " ++ weekday_name c) (32 ∷ r)) ∙ same
-    ∙ append_assoc (weekday_name e) (codes " and " ++ weekday_name f) (32 ∷ s)) in
-    let q = weekday_then c f (32 ∷ r) (32 ∷ s) h.2.0 h.2.1 k.2.0 k.2.1
-    (ap (λ (l : List ℕ). tail (tail (tail (tail (tail l))))) p.1) in
-    (ap (λ (n : ℕ). n ∷ c ∷ []) p.0 ∙ ap (λ (n : ℕ). e ∷ n ∷ []) q.0, ap (λ (l : List ℕ). tail l) q.1)
-from_day_then d (c ∷ []) e (f ∷ g ∷ y) r s h k a b same =
-    let p = weekday_then d e (codes " and " ++ weekday_name c ++ 32 ∷ r) (codes ", " ++ from_day f (g ∷ y) ++ 32 ∷ s) h.0 h.1
-    k.0 k.1 (sym (append_assoc (weekday_name d) (codes " and " ++ weekday_name c) (32 ∷ r)) ∙ same
-    ∙ append_assoc (weekday_name e) (codes ", " ++ from_day f (g ∷ y)) (32 ∷ s)) in
-    absurd (no_way (codes " and ") (codes ", ") (weekday_name c ++ 32 ∷ r) (from_day f (g ∷ y) ++ 32 ∷ s) refl p.1)
-from_day_then d (c ∷ g ∷ x) e [] r s h k a b same =
-    let p = weekday_then d e (codes ", " ++ from_day c (g ∷ x) ++ 32 ∷ r) (32 ∷ s) h.0 h.1 k.0 k.1
-    (sym (append_assoc (weekday_name d) (codes ", " ++ from_day c (g ∷ x)) (32 ∷ r)) ∙ same) in
-    absurd (no_way (codes ", ") (codes " ") (from_day c (g ∷ x) ++ 32 ∷ r) s refl p.1)
-from_day_then d (c ∷ g ∷ x) e (f ∷ []) r s h k a b same =
-    let p = weekday_then d e (codes ", " ++ from_day c (g ∷ x) ++ 32 ∷ r) (codes " and " ++ weekday_name f ++ 32 ∷ s) h.0 h.1
-    k.0 k.1 (sym (append_assoc (weekday_name d) (codes ", " ++ from_day c (g ∷ x)) (32 ∷ r)) ∙ same
-    ∙ append_assoc (weekday_name e) (codes " and " ++ weekday_name f) (32 ∷ s)) in
-    absurd (no_way (codes ", ") (codes " and ") (from_day c (g ∷ x) ++ 32 ∷ r) (weekday_name f ++ 32 ∷ s) refl p.1)
-from_day_then d (c ∷ g ∷ x) e (f ∷ i ∷ y) r s h k a b same =
-    let p = weekday_then d e (codes ", " ++ from_day c (g ∷ x) ++ 32 ∷ r) (codes ", " ++ from_day f (i ∷ y) ++ 32 ∷ s) h.0 h.1
-    k.0 k.1 (sym (append_assoc (weekday_name d) (codes ", " ++ from_day c (g ∷ x)) (32 ∷ r)) ∙ same
-    ∙ append_assoc (weekday_name e) (codes ", " ++ from_day f (i ∷ y)) (32 ∷ s)) in
-    let q = from_day_then c (g ∷ x) f (i ∷ y) r s h.2 k.2 a b (ap (λ (l : List ℕ). tail (tail l)) p.1) in
-    (ap (λ (n : ℕ). n ∷ c ∷ g ∷ x) p.0 ∙ ap (λ (l : List ℕ). e ∷ l) q.0, q.1)
+  from_day_then : (d : ℕ) (x : List ℕ) (e : ℕ) (y r s : List ℕ) → AreDays (d ∷ x) → AreDays (e ∷ y) → Differs last r
+      → Differs last s → from_day last d x ++ 32 ∷ r ≡ from_day last e y ++ 32 ∷ s → Both (d ∷ x) (e ∷ y) r s
+  from_day_then d [] e [] r s h k a b same =
+      let p = weekday_then d e (32 ∷ r) (32 ∷ s) h.0 h.1 k.0 k.1 same in
+      (ap (λ (n : ℕ). n ∷ []) p.0, ap (λ (l : List ℕ). tail l) p.1)
+  from_day_then d [] e (f ∷ []) r s h k a b same =
+      let p = weekday_then d e (32 ∷ r) (last ++ (weekday_name f ++ 32 ∷ s)) h.0 h.1 k.0 k.1 (same ∙ second e f (32 ∷ s)) in
+      absurd (a (weekday_name f ++ 32 ∷ s) p.1)
+  from_day_then d [] e (f ∷ g ∷ y) r s h k a b same =
+      let p = weekday_then d e (32 ∷ r) (codes ", " ++ from_day last f (g ∷ y) ++ 32 ∷ s) h.0 h.1 k.0 k.1
+      (same ∙ append_assoc (weekday_name e) (codes ", " ++ from_day last f (g ∷ y)) (32 ∷ s)) in
+      absurd (no_way (codes " ") (codes ", ") r (from_day last f (g ∷ y) ++ 32 ∷ s) refl p.1)
+  from_day_then d (c ∷ []) e [] r s h k a b same =
+      let p = weekday_then d e (last ++ (weekday_name c ++ 32 ∷ r)) (32 ∷ s) h.0 h.1 k.0 k.1
+      (sym (second d c (32 ∷ r)) ∙ same) in
+      absurd (b (weekday_name c ++ 32 ∷ r) (sym p.1))
+  from_day_then d (c ∷ []) e (f ∷ []) r s h k a b same =
+      let p = weekday_then d e (last ++ (weekday_name c ++ 32 ∷ r)) (last ++ (weekday_name f ++ 32 ∷ s)) h.0 h.1 k.0 k.1
+      (sym (second d c (32 ∷ r)) ∙ same ∙ second e f (32 ∷ s)) in
+      let q = weekday_then c f (32 ∷ r) (32 ∷ s) h.2.0 h.2.1 k.2.0 k.2.1
+      (append_cancel_left last (weekday_name c ++ 32 ∷ r) (weekday_name f ++ 32 ∷ s) p.1) in
+      (ap (λ (n : ℕ). n ∷ c ∷ []) p.0 ∙ ap (λ (n : ℕ). e ∷ n ∷ []) q.0, ap (λ (l : List ℕ). tail l) q.1)
+  from_day_then d (c ∷ []) e (f ∷ g ∷ y) r s h k a b same =
+      let p = weekday_then d e (last ++ (weekday_name c ++ 32 ∷ r)) (codes ", " ++ from_day last f (g ∷ y) ++ 32 ∷ s) h.0 h.1
+      k.0 k.1 (sym (second d c (32 ∷ r)) ∙ same
+      ∙ append_assoc (weekday_name e) (codes ", " ++ from_day last f (g ∷ y)) (32 ∷ s)) in
+      absurd (no_way last (codes ", ") (weekday_name c ++ 32 ∷ r) (from_day last f (g ∷ y) ++ 32 ∷ s) no_comma p.1)
+  from_day_then d (c ∷ g ∷ x) e [] r s h k a b same =
+      let p = weekday_then d e (codes ", " ++ from_day last c (g ∷ x) ++ 32 ∷ r) (32 ∷ s) h.0 h.1 k.0 k.1
+      (sym (append_assoc (weekday_name d) (codes ", " ++ from_day last c (g ∷ x)) (32 ∷ r)) ∙ same) in
+      absurd (no_way (codes ", ") (codes " ") (from_day last c (g ∷ x) ++ 32 ∷ r) s refl p.1)
+  from_day_then d (c ∷ g ∷ x) e (f ∷ []) r s h k a b same =
+      let p = weekday_then d e (codes ", " ++ from_day last c (g ∷ x) ++ 32 ∷ r) (last ++ (weekday_name f ++ 32 ∷ s)) h.0 h.1
+      k.0 k.1 (sym (append_assoc (weekday_name d) (codes ", " ++ from_day last c (g ∷ x)) (32 ∷ r)) ∙ same
+      ∙ second e f (32 ∷ s)) in
+      absurd (no_way (codes ", ") last (from_day last c (g ∷ x) ++ 32 ∷ r) (weekday_name f ++ 32 ∷ s) comma p.1)
+  from_day_then d (c ∷ g ∷ x) e (f ∷ i ∷ y) r s h k a b same =
+      let p = weekday_then d e (codes ", " ++ from_day last c (g ∷ x) ++ 32 ∷ r) (codes ", " ++ from_day last f (i ∷ y) ++ 32 ∷ s)
+      h.0 h.1 k.0 k.1 (sym (append_assoc (weekday_name d) (codes ", " ++ from_day last c (g ∷ x)) (32 ∷ r)) ∙ same
+      ∙ append_assoc (weekday_name e) (codes ", " ++ from_day last f (i ∷ y)) (32 ∷ s)) in
+      let q = from_day_then c (g ∷ x) f (i ∷ y) r s h.2 k.2 a b (ap (λ (l : List ℕ). tail (tail l)) p.1) in
+      (ap (λ (n : ℕ). n ∷ c ∷ g ∷ x) p.0 ∙ ap (λ (l : List ℕ). e ∷ l) q.0, q.1)
 
 -- ---- the list of the bits that are set
 
@@ -100,17 +104,25 @@ abbrev are_days : List ℕ → Bool
 are_days [] = true
 are_days (d ∷ l) = nat_le 1 d && (nat_le d 7 && are_days l)
 
-abbrev stands_for : ℕ → List ℕ → Bool
-stands_for w [] = w == 0
-stands_for w (d ∷ l) = same_text (weekdays_words w) (from_day d l) && ((bits_of (d ∷ l) == w) && are_days (d ∷ l))
+abbrev pub stands_for : List ℕ → ℕ → List ℕ → Bool
+stands_for last w [] = w == 0
+stands_for last w (d ∷ l) =
+    same_text (weekdays_words last w) (from_day last d l) && ((bits_of (d ∷ l) == w) && are_days (d ∷ l))
 
 abbrev all_below : ℕ → (ℕ → Bool) → Bool
 all_below zero f = true
 all_below (suc n) f = f n && all_below n f
 
-all_stand : all_below 128 (λ w. stands_for w (days_of w)) ≡ true
+abbrev pub all_stand : List ℕ → Bool
+all_stand last = all_below 128 (λ w. stands_for last w (days_of w))
+
+and_stands : all_stand (codes " and ") ≡ true
 unfolding weekdays_words weekday_if_set weekday_name
-all_stand = refl
+and_stands = refl
+
+or_stands : all_stand (codes " or ") ≡ true
+unfolding weekdays_words weekday_if_set weekday_name
+or_stands = refl
 
 by_order : (m n : ℕ) (P : Type 0) → (m ≡ n) ⊎ ((m < n) ⊎ (n < m)) → m < suc n → (m ≡ n → P) → (m < n → P) → P
 by_order m n P (inl e) small same less = same e
@@ -140,35 +152,49 @@ days_are (d ∷ l) h =
     (leb-true 1 d p.0, leb-true d 7 q.0, days_are l q.1)
 
 -- weekdays as a list that is not empty
-pub record DaysOf (w : ℕ) : Type 0 where
+pub record DaysOf (last : List ℕ) (w : ℕ) : Type 0 where
   pub first : ℕ
   pub others : List ℕ
-  pub text : weekdays_words w ≡ from_day first others
+  pub text : weekdays_words last w ≡ from_day last first others
   pub bits : bits_of (first ∷ others) ≡ w
   pub days : AreDays (first ∷ others)
 
-in_list : (w : ℕ) (l : List ℕ) → w ≢ 0 → stands_for w l ≡ true → DaysOf w
-in_list w [] some h = absurd (some (eqb-true w 0 h))
-in_list w (d ∷ l) some h =
-    let p = and_parts (same_text (weekdays_words w) (from_day d l)) _ h in
+in_list : (last : List ℕ) (w : ℕ) (l : List ℕ) → w ≢ 0 → stands_for last w l ≡ true → DaysOf last w
+in_list last w [] some h = absurd (some (eqb-true w 0 h))
+in_list last w (d ∷ l) some h =
+    let p = and_parts (same_text (weekdays_words last w) (from_day last d l)) _ h in
     let q = and_parts (bits_of (d ∷ l) == w) (are_days (d ∷ l)) p.1 in
     record {
       first = d;
       others = l;
-      text = text_same (weekdays_words w) (from_day d l) p.0;
+      text = text_same (weekdays_words last w) (from_day last d l) p.0;
       bits = eqb-true (bits_of (d ∷ l)) w q.0;
       days = days_are (d ∷ l) q.1;
     }
 
-pub list_of_days : (w : ℕ) → w ≢ 0 → w < 128 → DaysOf w
-list_of_days w some small =
-    in_list w (days_of w) some (one_below 128 (λ n. stands_for n (days_of n)) w all_stand small)
+list_of : (last : List ℕ) (w : ℕ) → all_stand last ≡ true → w ≢ 0 → w < 128 → DaysOf last w
+list_of last w all some small =
+    in_list last w (days_of w) some (one_below 128 (λ n. stands_for last n (days_of n)) w all small)
 
-pub weekdays_then : (a b : ℕ) (r s : List ℕ) → a ≢ 0 → a < 128 → b ≢ 0 → b < 128 → NotAnd r → NotAnd s
-    → weekdays_words a ++ 32 ∷ r ≡ weekdays_words b ++ 32 ∷ s → Both a b r s
-weekdays_then a b r s some few more less h k e =
-    let x = list_of_days a some few in
-    let y = list_of_days b more less in
-    let p = from_day_then x.first x.others y.first y.others r s x.days y.days h k
+pub list_of_days : (w : ℕ) → w ≢ 0 → w < 128 → DaysOf (codes " and ") w
+list_of_days w some small = list_of (codes " and ") w and_stands some small
+
+same_days : (last : List ℕ) (a b : ℕ) (r s : List ℕ) → apart (codes ", ") last ≡ true → apart last (codes ", ") ≡ true
+    → DaysOf last a → DaysOf last b → Differs last r → Differs last s
+    → weekdays_words last a ++ 32 ∷ r ≡ weekdays_words last b ++ 32 ∷ s → Both a b r s
+same_days last a b r s comma no_comma x y h k e =
+    let p = from_day_then last comma no_comma x.first x.others y.first y.others r s x.days y.days h k
     (ap (λ (l : List ℕ). l ++ 32 ∷ r) (sym x.text) ∙ e ∙ ap (λ (l : List ℕ). l ++ 32 ∷ s) y.text) in
     (sym x.bits ∙ ap (λ (l : List ℕ). bits_of l) p.0 ∙ y.bits, p.1)
+
+pub and_days_then : (a b : ℕ) (r s : List ℕ) → a ≢ 0 → a < 128 → b ≢ 0 → b < 128 → Differs (codes " and ") r
+    → Differs (codes " and ") s → weekdays_words (codes " and ") a ++ 32 ∷ r ≡ weekdays_words (codes " and ") b ++ 32 ∷ s
+    → Both a b r s
+and_days_then a b r s some few more less h k e = same_days (codes " and ") a b r s refl refl (list_of_days a some few)
+    (list_of_days b more less) h k e
+
+pub or_days_then : (a b : ℕ) (r s : List ℕ) → a ≢ 0 → a < 128 → b ≢ 0 → b < 128 → Differs (codes " or ") r
+    → Differs (codes " or ") s → weekdays_words (codes " or ") a ++ 32 ∷ r ≡ weekdays_words (codes " or ") b ++ 32 ∷ s
+    → Both a b r s
+or_days_then a b r s some few more less h k e = same_days (codes " or ") a b r s refl refl
+    (list_of (codes " or ") a or_stands some few) (list_of (codes " or ") b or_stands more less) h k e

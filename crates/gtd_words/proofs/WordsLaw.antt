@@ -26,7 +26,7 @@ lead_begins : (P : List ℕ → Type 0) → ((r : List ℕ) → P (codes "from "
     → ((r : List ℕ) → P (codes "every " ++ r)) → (c m : Bool) (a : Anchor) (r : List ℕ)
     → P (lead_words c a ++ (anchor_words m a ++ r))
 lead_begins P f o e false m a r = f (anchor_words m a ++ r)
-lead_begins P f o e true m (Weekdays w) r = e (weekdays_words w ++ codes " " ++ r)
+lead_begins P f o e true m (Weekdays w) r = e (weekdays_words (codes " and ") w ++ codes " " ++ r)
 lead_begins P f o e true m EveryDay r = e (codes "day " ++ r)
 lead_begins P f o e true m a r = o (anchor_words m a ++ r)
 

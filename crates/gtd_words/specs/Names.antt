@@ -59,18 +59,18 @@ two_digits n = (48 + n / 10) ∷ (48 + n % 10) ∷ []
 unfoldable pub four_digits : ℕ → List ℕ
 four_digits n = (48 + n / 1000) ∷ (48 + n / 100 % 10) ∷ (48 + n / 10 % 10) ∷ (48 + n % 10) ∷ []
 
--- What comes before the name of a weekday in a list of them: nothing if it is the first, `and` if it is the last.
-abbrev pub weekday_joint : ℕ → ℕ → List ℕ
-weekday_joint weekdays k =
-    if weekdays % 2 ^ (k - 1) == 0 then [] else (if weekdays / 2 ^ k == 0 then codes " and " else codes ", ")
+-- What comes before the name of a weekday in a list of them: nothing if it is the first, and these words if it is the last.
+abbrev pub weekday_joint : List ℕ → ℕ → ℕ → List ℕ
+weekday_joint last weekdays k =
+    if weekdays % 2 ^ (k - 1) == 0 then [] else (if weekdays / 2 ^ k == 0 then last else codes ", ")
 
 -- The name of weekday k, where bit k - 1 is set.
-unfoldable pub weekday_if_set : ℕ → ℕ → List ℕ
-weekday_if_set weekdays k =
-    if weekdays / 2 ^ (k - 1) % 2 == 1 then weekday_joint weekdays k ++ weekday_name k else []
+unfoldable pub weekday_if_set : List ℕ → ℕ → ℕ → List ℕ
+weekday_if_set last weekdays k =
+    if weekdays / 2 ^ (k - 1) % 2 == 1 then weekday_joint last weekdays k ++ weekday_name k else []
 
--- `Monday`, `Monday and Friday`, `Monday, Tuesday and Friday`
-unfoldable pub weekdays_words : ℕ → List ℕ
-weekdays_words weekdays =
-    weekday_if_set weekdays 1 ++ weekday_if_set weekdays 2 ++ weekday_if_set weekdays 3 ++ weekday_if_set weekdays 4
-    ++ weekday_if_set weekdays 5 ++ weekday_if_set weekdays 6 ++ weekday_if_set weekdays 7
+-- `Monday`, `Monday and Friday`, `Monday, Tuesday and Friday`; or with ` or ` before the last
+unfoldable pub weekdays_words : List ℕ → ℕ → List ℕ
+weekdays_words last weekdays =
+    weekday_if_set last weekdays 1 ++ weekday_if_set last weekdays 2 ++ weekday_if_set last weekdays 3 ++ weekday_if_set last weekdays 4
+    ++ weekday_if_set last weekdays 5 ++ weekday_if_set last weekdays 6 ++ weekday_if_set last weekdays 7

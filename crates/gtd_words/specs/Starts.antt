@@ -46,7 +46,7 @@ abbrev pub anchor_words : Bool → Anchor → List ℕ
 anchor_words month (Day day) = day_words month day
 anchor_words month (Place place) = codes "the " ++ place_words place
 anchor_words month (PlaceBack place) = codes "the " ++ back_words place
-anchor_words month (Weekdays weekdays) = codes "every " ++ weekdays_words weekdays ++ codes " "
+anchor_words month (Weekdays weekdays) = codes "every " ++ weekdays_words (codes " and ") weekdays ++ codes " "
 anchor_words month EveryDay = codes "every day "
 anchor_words month TheMonday = codes "the Monday "
 anchor_words month Beginning = codes "the beginning "
@@ -92,7 +92,7 @@ back_condition anchor nth_back = []
 
 abbrev pub also_weekdays : ℕ → List ℕ
 also_weekdays weekdays =
-    if weekdays == 0 then [] else codes "if it falls on " ++ weekdays_words weekdays ++ codes " "
+    if weekdays == 0 then [] else codes "if it falls on " ++ weekdays_words (codes " or ") weekdays ++ codes " "
 
 abbrev pub weekdays_condition : Anchor → ℕ → List ℕ
 weekdays_condition anchor weekdays = if is_in_month anchor then also_weekdays weekdays else []

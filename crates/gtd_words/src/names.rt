@@ -167,43 +167,52 @@ pub(crate) fn push_four_digits(out: &mut String, n: u32) -> Result<(), AllocErro
 
 // Appends a weekday's name if its bit is set, with what joins it to the name before it.
 #[tactic(auto, unfolding(crate::specs::Names::weekday_if_set))]
-fn push_weekday(out: &mut String, weekdays: u8, weekday: u8) -> Result<(), AllocError>
+fn push_weekday(
+    out: &mut String,
+    last: &'static str,
+    weekdays: u8,
+    weekday: u8,
+) -> Result<(), AllocError>
     requires low { 1 ≤ weekday }
     requires high { weekday ≤ 7 }
-    ensures { OnOk result (string_bytes out.new ≡ string_bytes out.old ++ weekday_if_set weekdays weekday) }
+    ensures { OnOk result (string_bytes out.new ≡ string_bytes out.old ++ weekday_if_set last.now weekdays weekday) }
 {
     if (weekdays >> (weekday - 1)) % 2 == 1 {
-        out.push_str(weekday_joint(weekdays, weekday))?;
+        out.push_str(weekday_joint(last, weekdays, weekday))?;
         out.push_str(weekday_name(weekday))
     } else {
         Ok(())
     }
 }
 
-/// Appends the names of weekdays.
+/// Appends the names of weekdays, with these words before the last.
 #[tactic(auto, unfolding(crate::specs::Names::weekdays_words))]
-pub(crate) fn push_weekdays(out: &mut String, weekdays: u8) -> Result<(), AllocError>
-    ensures { OnOk result (string_bytes out.new ≡ string_bytes out.old ++ weekdays_words weekdays) }
+pub(crate) fn push_weekdays(
+    out: &mut String,
+    last: &'static str,
+    weekdays: u8,
+) -> Result<(), AllocError>
+    ensures { OnOk result (string_bytes out.new ≡ string_bytes out.old ++ weekdays_words last.now weekdays) }
 {
-    push_weekday(out, weekdays, 1)?;
-    push_weekday(out, weekdays, 2)?;
-    push_weekday(out, weekdays, 3)?;
-    push_weekday(out, weekdays, 4)?;
-    push_weekday(out, weekdays, 5)?;
-    push_weekday(out, weekdays, 6)?;
-    push_weekday(out, weekdays, 7)
+    push_weekday(out, last, weekdays, 1)?;
+    push_weekday(out, last, weekdays, 2)?;
+    push_weekday(out, last, weekdays, 3)?;
+    push_weekday(out, last, weekdays, 4)?;
+    push_weekday(out, last, weekdays, 5)?;
+    push_weekday(out, last, weekdays, 6)?;
+    push_weekday(out, last, weekdays, 7)
 }
 
 // What joins a weekday's name to the name before it.
-fn weekday_joint(weekdays: u8, weekday: u8) -> &'static str
+fn weekday_joint(last: &'static str, weekdays: u8, weekday: u8) -> &'static str
     requires low { 1 ≤ weekday }
     requires high { weekday ≤ 7 }
-    ensures { result.now ≡ weekday_joint weekdays weekday }
+    ensures { result.now ≡ weekday_joint last.now weekdays weekday }
 {
     if weekdays % (1 << (weekday - 1)) == 0 {
         ""
     } else if weekdays >> weekday == 0 {
-        " and "
+        last
     } else {
         ", "
     }

@@ -64,7 +64,7 @@ fn push_anchor(out: &mut String, month: bool, anchor: Anchor) -> Result<(), Allo
         Anchor::Day(day) => push_day(out, month, day),
         Anchor::Place(place) => push_place_between(out, "the ", place, ""),
         Anchor::PlaceBack(place) => push_back_between(out, "the ", place, ""),
-        Anchor::Weekdays(weekdays) => push_weekdays_between(out, "every ", weekdays, " "),
+        Anchor::Weekdays(weekdays) => push_weekdays_after(out, "every ", " and ", weekdays),
         Anchor::EveryDay => out.push_str("every day "),
         Anchor::TheMonday => out.push_str("the Monday "),
         Anchor::Beginning => out.push_str("the beginning "),
@@ -213,21 +213,21 @@ fn push_also_weekdays(out: &mut String, weekdays: u8) -> Result<(), AllocError>
     if weekdays == 0 {
         return Ok(());
     }
-    push_weekdays_between(out, "if it falls on ", weekdays, " ")
+    push_weekdays_after(out, "if it falls on ", " or ", weekdays)
 }
 
-fn push_weekdays_between(
+fn push_weekdays_after(
     out: &mut String,
     before: &str,
+    last: &'static str,
     weekdays: u8,
-    after: &str,
 ) -> Result<(), AllocError>
     ensures { OnOk result (string_bytes out.new ≡ string_bytes out.old
-        ++ (before.now ++ weekdays_words weekdays ++ after.now)) }
+        ++ (before.now ++ weekdays_words last.now weekdays ++ codes " ")) }
 {
     out.push_str(before)?;
-    push_weekdays(out, weekdays)?;
-    out.push_str(after)
+    push_weekdays(out, last, weekdays)?;
+    out.push_str(" ")
 }
 
 fn push_clock(
