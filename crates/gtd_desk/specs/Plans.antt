@@ -14,7 +14,7 @@ use Rattle.gtd_desk.specs.CommandLine.{AreFaultsWords, AreMistaken, AreNowWords,
 use Rattle.gtd_desk.specs.declared.plans.Plan.{Plan}
 use Rattle.gtd_desk.specs.declared.plans.Plan.TheVariants as plan
 use Rattle.gtd_desk.specs.declared.refusal.WordFault.{WordFault}
-use Rattle.gtd_desk.specs.declared.refusal.WordFault.TheVariants as fault
+use Rattle.gtd_desk.specs.declared.refusal.WordFault.TheVariants as word
 use Rattle.gtd_desk.specs.declared.refusal.Refusal.{Refusal}
 use Rattle.gtd_desk.specs.declared.refusal.Refusal.TheVariants as refusal
 
@@ -38,7 +38,7 @@ pub record HaveWordsFault (words : List Text) (fault : WordFault) : Type 0 where
   pub text : Text
   pub given : AreWordsWords words text
   pub why : TextFault
-  pub is : fault ≡ fault.Domain why
+  pub is : fault ≡ word.Domain why
   pub has : IsFault text why
 
 -- The words ask for what the plan carries out.

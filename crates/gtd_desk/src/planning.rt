@@ -16,7 +16,10 @@ ghost use Rattle.gtd_desk.specs.Given.{given_faults};
 ghost use Rattle.gtd_desk.specs.Plans.{AskFor, AskForNow, IsFaultsPlan, IsNoVehicle, IsNowPlan, IsRefusalOf, IsWordFault};
 ghost use Rattle.gtd_desk.specs.declared.refusal.Refusal.{Refusal};
 
-use crate::arguments::{FaultsWords, NowWords, domain_words, faults_words, now_words, parse, picture_words, words_domain};
+use crate::arguments::{
+    FaultsWords, NowWords, domain_words, faults_words, now_words, parse, picture_words,
+    words_domain,
+};
 use crate::picture::plan_picture;
 use crate::picture_domain::{domain_of, plan_domain};
 use crate::plans::{Moment, Plan};
