@@ -75,7 +75,8 @@ module _ (words : List Text) where
 
   no_domain_now : (f m v : Text) (t : DomainTexts) → AreNowWords words f m v → AreDomainWords words t → ⊥
   no_domain_now f m v t a b =
-      one_name (subcommand_of desk_app words) (codes "now") (codes "picture-domain") (name_of_now f m v a) (name_of_domain t b) refl
+      one_name (subcommand_of desk_app words) (codes "now") (codes "picture-domain") (name_of_now f m v a) (name_of_domain t
+      b) refl
 
   no_picture_faults : (g : Text) (t : PictureTexts) → AreFaultsWords words g → ArePictureWords words t → ⊥
   no_picture_faults g t a b =

@@ -32,4 +32,7 @@ returns c =
     let next_fits : FitsSigned w64 c.first_of_month.result = search rules in
     let next = to_z-of_z next_fits ∙ c.first_of_month.ensures.day in
     let first : to_z w64 (of_z w64 c.new_year.result) ≡ first_day y = to_z-of_z first_fits ∙ c.new_year.ensures.day in
-    record { value = c.days_from.ensures.value ∙ rw first (near_after (first_day y) _ (days_of_months y (c.args.month - 1)) few next).2 }
+    record {
+      value = c.days_from.ensures.value ∙ rw first (near_after (first_day y) _ (days_of_months y (c.args.month - 1))
+          few next).2;
+    }

@@ -29,4 +29,7 @@ returns c =
     let next_fits : FitsSigned w64 c.new_year-2.result = search rules in
     let next = to_z-of_z next_fits ∙ c.new_year-2.ensures.day ∙ next_year c.args.year in
     let first : to_z w64 (of_z w64 c.new_year.result) ≡ first_day y = to_z-of_z first_fits ∙ c.new_year.ensures.day in
-    record { value = c.days_from.ensures.value ∙ rw first (near_after (first_day y) _ (year_length y) (year_length-few y) next).2 }
+    record {
+      value = c.days_from.ensures.value ∙ rw first (near_after (first_day y) _ (year_length y) (year_length-few y)
+          next).2;
+    }
