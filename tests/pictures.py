@@ -8,6 +8,7 @@ mean, and the contrast between them. Run it after `rt ci`, which builds the prog
 
 Usage: tests/pictures.py [SEED]    (the same seed makes the same files)
 """
+import csv
 import datetime
 import os
 import random
@@ -146,7 +147,8 @@ def pictures(room, seed):
     for name, element, direction, vehicle, year in EXAMPLE_PICTURES:
         path = os.path.join(EXAMPLES, name)
         if element is None:
-            element = open(path).read().splitlines()[1].split(",")[0]
+            with open(path, newline="") as file:
+                element = int(next(row["element"] for row in csv.DictReader(file)))
         made.append(picture(path, element, direction, vehicle, year))
     made += [domain_picture(room, domain, year) for domain, year in EXAMPLE_DOMAINS]
     for number in range(RANDOM_PICTURES):
