@@ -1,6 +1,6 @@
 -- Words ask for one plan of `now` at most, or have one first fault at most, and never both.
 use Rattle.std.proofs.Common.{◌≡◌, ◌∙◌, ◌⊎◌, inl, inr, ap, sym, subst, refl, true, true≢false, List}
-use Rattle.std.proofs.Common.{Option, Some, None, is_some, Bool, false, arith, bytes_eq, codes, get_or, option_and_then}
+use Rattle.std.proofs.Common.{Option, Some, None, is_some, Bool, false, bytes_eq, codes, option_and_then}
 use Rattle.std.proofs.Common.{if◌then◌else◌}
 use Rattle.std.specs.Prelude.{Result, Ok, Err, MatchResult, ℕ, unwrap_or}
 use Rattle.std.proofs.lemmas.Slice.Eq.{bytes_eq-Decides}

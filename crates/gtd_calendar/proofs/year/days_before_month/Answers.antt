@@ -1,5 +1,4 @@
 use Rattle.std.proofs.Common.{rules, ◌≡◌, ◌∙◌, pos, ◌-◌, arith, FitsSigned, to_z, of_z, w64, to_z-of_z}
-use Rattle.std.specs.Prelude.{◌+ℤ◌}
 use Rattle.gtd_calendar.specs.Calendar.{days_of_months, first_day}
 use Rattle.gtd_calendar.specs.facts.YearDays.{few_before, near_after}
 use Rattle.gtd_calendar.proofs.year.days_before_month.Goals as goal

@@ -1,5 +1,4 @@
-use Rattle.std.proofs.Common.{rules, ◌≡◌, ◌∙◌, pos, ◌+◌, ℤ, FitsSigned, to_z, of_z, w64, to_z-of_z}
-use Rattle.std.specs.Prelude.{◌+ℤ◌}
+use Rattle.std.proofs.Common.{rules, ◌≡◌, ◌∙◌, pos, FitsSigned, to_z, of_z, w64, to_z-of_z}
 use Rattle.gtd_calendar.specs.Calendar.{first_day, year_length}
 use Rattle.gtd_calendar.specs.facts.YearDays.{near_after, next_year, year_length-few}
 use Rattle.gtd_calendar.proofs.year.length_of_year.Goals as goal
