@@ -40,6 +40,10 @@ run help now
 expect 'the command help with a command' 0 "$(cat "$top/tests/desk/now.txt")" ''
 run faults --help
 expect 'help of the command faults' 0 "$(cat "$top/tests/desk/faults.txt")" ''
+run picture --help
+expect 'help of the command picture' 0 "$(cat "$top/tests/desk/picture.txt")" ''
+run help picture-domain
+expect 'help of the command picture-domain' 0 "$(cat "$top/tests/desk/picture-domain.txt")" ''
 run --version
 expect 'version' 0 'gtdesk 0.1.0' ''
 
@@ -160,6 +164,36 @@ expect 'too many rows' 1 'bad.csv:65538: row 65537: TooManyRows' ''
 head -c 16777217 /dev/zero > bad.csv
 run faults bad.csv
 expect 'a file too large' 1 'bad.csv:1: TooLarge' ''
+
+# Pictures: a line for each day and two more, under their titles; refused words, in their order, and an element without rows.
+# tests/pictures.py looks at what they show.
+drawn() {
+    "$program" "${@:4}" > out 2> err < a.csv
+    status=$?
+    [ "$(wc -l < out)" = "$2" ] && [ "$(tail -n 1 out | tail -c 7)" = '</svg>' ] && grep -qF "<title>$3</title>" out && : > out
+    expect "$1" 0 '' ''
+}
+drawn 'a picture' 368 'Element 17, positive, vehicle type 12, 2024 (a.csv)' picture a.csv 17 positive 12 2024
+drawn 'a picture of standard input' 367 'Element 18, negative, vehicle type 1, 1901 (-)' picture - 18 negative 1 1901
+drawn 'a picture of a domain' 367 '(h10){h1}' picture-domain '(h10){h1}' 2199
+run picture a.csv x both 0 1900
+expect 'no element' 1 '' 'gtdesk: ELEMENT: not a number of 1 to 10 digits'
+run picture a.csv 17 both 0 1900
+expect 'no direction' 1 '' 'gtdesk: DIRECTION: neither positive nor negative'
+run picture a.csv 17 positive 0 1900
+expect 'no vehicle type of a picture' 1 '' 'gtdesk: VEHICLE: not a number from 1 to 99'
+run picture a.csv 17 positive 1 2200
+expect 'no year' 1 '' 'gtdesk: YEAR: not a number from 1901 to 2199'
+run picture a.csv 19 positive 1 2024
+expect 'an element that no row names' 1 '' 'gtdesk: a.csv: no row names the element'
+run picture gone.csv 17 positive 1 2024
+expect 'a picture of no file' 3 '' 'gtdesk: gone.csv: cannot be opened'
+run picture a.csv 17 positive 1
+expect 'a picture of no year' 2 '' "gtdesk: command line: one or more required arguments were not provided $see"
+run picture-domain '(h25){h1}' 1900
+expect 'no domain' 1 '' 'gtdesk: DOMAIN: FieldRange at 1'
+run picture-domain '(h5){h1}' 1900
+expect 'no year of a domain' 1 '' 'gtdesk: YEAR: not a number from 1901 to 2199'
 
 # Outputs that fail.
 : > out

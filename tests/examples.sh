@@ -63,6 +63,13 @@ for path in "$top"/CONTRIBUTING.md "$top"/docs/*.md "$top"/crates/*/README.md; d
     document "${path#"$top/"}"
 done
 
+# Each picture of the documents is one that a command shown there prints.
+for picture in "$top"/docs/pictures/*.svg; do
+    grep -qF "cmp - ../docs/pictures/${picture##*/} &&" "$top"/README.md "$top"/docs/*.md && continue
+    failed=$((failed + 1))
+    echo "FAILED ${picture#"$top/"}: no document shows its command"
+done
+
 # shown PAGE: each domain that was found on a page occurs in a command of that page.
 shown() {
     local domain

@@ -321,4 +321,5 @@ def main():
     print(f"fuzz: seed {seed}, {rounds} rounds of {len(checks)} checks passed, 0 failed")
 
 
-main()
+if __name__ == "__main__":
+    main()

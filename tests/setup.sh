@@ -10,11 +10,14 @@
 #   python3-pytest, mypy, python3-build, python3-setuptools, python3-wheel, python3-venv
 #                    tests/python.sh tests the package, its types, and its wheel in a fresh environment
 #   openssl, mount   tests/python.sh makes certificates, and a small disk
+#   chromium, librsvg2-bin, libxml2-utils, netpbm, fonts-dejavu-core
+#                    tests/pictures.py draws pictures, reads them as XML, and reads the drawn pixels
 # Run it as root, or as a user who may call sudo.
 set -eu
 packages=(gcc libc6-dev python3 mandoc zsh fakeroot
     python3-pandas python3-geopandas python3-dask python3-distributed
-    python3-pytest mypy python3-build python3-setuptools python3-wheel python3-venv openssl mount)
+    python3-pytest mypy python3-build python3-setuptools python3-wheel python3-venv openssl mount
+    chromium librsvg2-bin libxml2-utils netpbm fonts-dejavu-core)
 command -v apt-get > /dev/null || { echo "no apt-get here: install ${packages[*]} by hand" >&2; exit 1; }
 as_root=
 [ "$(id -u)" = 0 ] || as_root=sudo

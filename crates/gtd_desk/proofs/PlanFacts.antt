@@ -1,6 +1,6 @@
 -- Words ask for one plan of `now` at most, or have one first fault at most, and never both.
 use Rattle.std.proofs.Common.{◌≡◌, ◌∙◌, ◌⊎◌, inl, inr, ap, sym, subst, refl, true, true≢false, List}
-use Rattle.std.proofs.Common.{Option, Some, None, is_some, Bool, false, arith, bytes_eq, codes, get_or, option_and_then}
+use Rattle.std.proofs.Common.{Option, Some, None, is_some, Bool, false, bytes_eq, codes, option_and_then}
 use Rattle.std.proofs.Common.{if◌then◌else◌}
 use Rattle.std.specs.Prelude.{Result, Ok, Err, MatchResult, ℕ, unwrap_or}
 use Rattle.std.proofs.lemmas.Slice.Eq.{bytes_eq-Decides}
@@ -87,7 +87,8 @@ module _ (words : List Text) where
 
   no_domain_now : (f m v : Text) (t : DomainTexts) → AreNowWords words f m v → AreDomainWords words t → ⊥
   no_domain_now f m v t a b =
-      one_name (subcommand_of desk_app words) (codes "now") (codes "picture-domain") (name_of_now f m v a) (name_of_domain t b) refl
+      one_name (subcommand_of desk_app words) (codes "now") (codes "picture-domain") (name_of_now f m v a) (name_of_domain t
+      b) refl
 
   no_picture_faults : (g : FaultsTexts) (t : PictureTexts) → AreFaultsWords words g → ArePictureWords words t → ⊥
   no_picture_faults g t a b =

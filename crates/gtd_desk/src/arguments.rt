@@ -8,8 +8,8 @@ ghost use Rattle.clap.specs.Simple.{app_of, subcommand_rows_of, with_rule, with_
 ghost use Rattle.clap.specs.Walk.{first_of, rows_of};
 ghost use Rattle.gtd_desk.specs.CommandLine.{HasWords, IsLocal, all_five, all_three, bare_domain, bare_faults, bare_now};
 ghost use Rattle.gtd_desk.specs.CommandLine.{bare_picture, both_given, desk_app, domain_app, domain_given, faults_app};
-ghost use Rattle.gtd_desk.specs.CommandLine.{faults_given, no_pictures, none_given, now_app, now_given, picture_app, picture_given};
-ghost use Rattle.gtd_desk.specs.CommandLine.{bare_words, flag_rule, is_set, word_rule, words_app, words_given};
+ghost use Rattle.gtd_desk.specs.CommandLine.{bare_words, faults_given, flag_rule, is_set, no_pictures, none_given, now_app};
+ghost use Rattle.gtd_desk.specs.CommandLine.{now_given, picture_app, picture_given, word_rule, words_app, words_given};
 ghost use Rattle.gtd_desk.specs.Given.{domain_texts, given_faults, picture_texts, texts_of};
 
 use clap::{Arg, ArgAction, ArgMatches, Command};

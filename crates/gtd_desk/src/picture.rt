@@ -1,7 +1,6 @@
 //! The command `picture`: the picture of an element of a record file.
 
-ghost use Rattle.std.specs.Prelude.{◌≡◌, ◌<◌, IfSome, List, MatchResult, None, Some};
-ghost use Rattle.gtd_records.specs.Columns.{number_of};
+ghost use Rattle.std.specs.Prelude.{◌≡◌, ◌<◌, IfSome, List, MatchResult, None};
 ghost use Rattle.gtd_desk.specs.CommandLine.{ArePictureWords, Text};
 ghost use Rattle.gtd_desk.specs.Given.{picture_texts};
 ghost use Rattle.gtd_desk.specs.Pictures.{AreSubjectWords, IsNoYear, IsSubjectFault, IsYearWord};

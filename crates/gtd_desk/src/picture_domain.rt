@@ -1,8 +1,6 @@
 //! The command `picture-domain`: the picture of a time domain.
 
-ghost use Rattle.std.specs.Prelude.{◌≡◌, ◌≢◌, ◌⊎◌, ◌<◌, IfOk, IfErr, List, MatchResult};
-ghost use Rattle.gtd_core.specs.Parts.{domain_tree};
-ghost use Rattle.gtd_text.specs.Reading.{HasNoFault, IsFault, StandsFor};
+ghost use Rattle.std.specs.Prelude.{◌≡◌, ◌≢◌, ◌⊎◌, ◌<◌, List, MatchResult};
 ghost use Rattle.gtd_desk.specs.CommandLine.{AreDomainWords, Text};
 ghost use Rattle.gtd_desk.specs.Given.{domain_texts};
 ghost use Rattle.gtd_desk.specs.Pictures.{IsReadDomain, IsNoDomain};

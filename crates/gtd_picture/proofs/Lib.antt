@@ -1,7 +1,9 @@
 pub mod ColumnFacts
+pub mod LabelFacts
 pub mod Made
 pub mod PictureFacts
 pub mod RectFacts
 pub mod RectsFacts
 pub mod SomePicture
 pub mod TextFacts
+pub mod WordFacts

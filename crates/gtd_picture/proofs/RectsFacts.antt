@@ -5,7 +5,7 @@ use Rattle.std.specs.Prelude.{ℤ, pos, ◌*ℤ◌, flat_map}
 use Rattle.std.proofs.lemmas.List.{append-nil}
 use Rattle.gtd_core.specs.Seconds.{Interval}
 use Rattle.gtd_spans.specs.Normal.{Holds}
-use Rattle.gtd_spans.specs.Counting.{day_at, part_within}
+use Rattle.gtd_spans.specs.Counting.{part_within}
 use Rattle.gtd_picture.specs.Picture.{IsColumn, Rect, rect_of, rect_text}
 use Rattle.gtd_picture.proofs.ColumnFacts.{column_of, held_column, stretch_of}
 

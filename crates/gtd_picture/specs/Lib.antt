@@ -1,6 +1,7 @@
 pub mod Domain
 pub mod Open
 pub mod Picture
+pub mod Reading
 pub mod Rects
 pub mod Words
 pub use Rattle.gtd_core.specs.Seconds

@@ -1,9 +1,15 @@
 //! Laws of the definitions: calls that do nothing, whose contracts are what is proved.
 
-ghost use Rattle.std.specs.Prelude.{◌≡◌, ◌<◌, ◌≤◌, ◌+◌, ◌⊎◌, ◌↔◌, ◌+ℤ◌, ◌*ℤ◌, ℕ, ℤ, List, pos};
+ghost use Rattle.std.specs.Prelude.{◌≡◌, ◌<◌, ◌≤◌, ◌+◌, ◌-◌, ◌*◌, ◌⊎◌, ◌↔◌, ◌+ℤ◌, ◌*ℤ◌, All, flat_map, ℕ, ℤ, List, pos};
+ghost use Rattle.std.specs.Int.{IsInRange};
+ghost use Rattle.gtd_calendar.specs.Calendar.{AreFieldsOf, IsCalendarDay, IsDateOf, days_of_months, first_day, weekday_of};
+ghost use Rattle.gtd_calendar.specs.Stamp.{IsDateText, date_text};
+ghost use Rattle.gtd_calendar.specs.declared.day.DayFields.{DayFields};
 ghost use Rattle.gtd_core.specs.Limits.{day_seconds};
 ghost use Rattle.gtd_picture.specs.Picture.{AreColumns, IsPicture, Rect};
+ghost use Rattle.gtd_picture.specs.Reading.{IsReadAs};
 ghost use Rattle.gtd_picture.specs.Rects.{AreApart, AreInside, SomeCovers, rects_of};
+ghost use Rattle.gtd_picture.specs.Words.{escape, shown_byte, weekday_name};
 
 use gtd_spans::laws::SecondSet;
 
@@ -29,4 +35,26 @@ pub fn some_picture<S: SecondSet>()
 pub fn one_picture<S: SecondSet>()
     ensures one { (title inside outside : List ℕ) (year : ℕ) (a b : List (List ℕ))
         → IsPicture S.contains title inside outside year a → IsPicture S.contains title inside outside year b → a ≡ b }
+{}
+
+/// Words stand in a picture as text that XML reads as the words as people see them, and those are the words: different
+/// words are seen as different ones.
+pub fn words_read_back()
+    ensures read { (words : List ℕ) → All (λ (b : ℕ). b < 256) words
+        → IsReadAs (flat_map escape words) (flat_map shown_byte words) }
+    ensures back { (a b : List ℕ) → All (λ (x : ℕ). x < 256) a → All (λ (x : ℕ). x < 256) b
+        → flat_map shown_byte a ≡ flat_map shown_byte b → a ≡ b }
+{}
+
+/// The labels are right. A day's line has the text of its date and the name of its weekday. A month's name stands at the
+/// place of the first of the month, and the label of a day of the month as many columns behind it as the day is. An hour's
+/// label is as far down as its first second.
+pub fn right_labels()
+    ensures date { (day : ℤ) → IsCalendarDay day → IsDateText day (date_text day) }
+    ensures weekday { (day : ℤ) (fields : DayFields) → AreFieldsOf day fields
+        → weekday_name (weekday_of day) ≡ weekday_name fields.weekday }
+    ensures month { (year : ℤ) (n day : ℕ) → n < 12 → IsInRange 1 28 day
+        → IsDateOf (first_day year +ℤ pos (days_of_months year n + (day - 1))) year (n + 1) day }
+    ensures tick { (place day : ℕ) → 72 + 3 * place + 3 * (day - 1) ≡ 72 + 3 * (place + (day - 1)) }
+    ensures hour { (hour : ℕ) → 18 * hour * day_seconds ≡ 432 * (3600 * hour) }
 {}

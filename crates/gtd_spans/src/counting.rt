@@ -20,11 +20,7 @@ fn day_from(midnight: Sec) -> Span
 }
 
 /// Takes the first span of the seconds to come that are within bounds. The spans before it are used up.
-fn next_within<S: SpanSource>(
-    source: &mut S,
-    held: &mut Option<Span>,
-    bounds: Span,
-) -> Option<Span>
+fn next_within<S: SpanSource>(source: &mut S, held: &mut Option<Span>, bounds: Span) -> Option<Span>
     requires normal { IsNormal (spans_to_come held.old (S.rest source.old)) }
     ensures takes { Takes (part_within bounds (spans_to_come held.old (S.rest source.old))) result
         (part_within bounds (spans_to_come held.new (S.rest source.new))) }

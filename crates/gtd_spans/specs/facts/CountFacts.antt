@@ -5,7 +5,7 @@ use Rattle.std.proofs.lemmas.Int.{ints, by_lt_z}
 use borrow.Author.Differences.{up, down}
 use Rattle.gtd_core.specs.Seconds.{Interval, Within}
 use Rattle.gtd_spans.specs.Normal.{Holds, IsNormal}
-use Rattle.gtd_spans.specs.facts.OneList.{after-holds, first-holds}
+use Rattle.gtd_spans.specs.facts.OneList.{after-holds}
 use Rattle.std.specs.Prelude.{Option, Some, None}
 use Rattle.gtd_spans.specs.Sweeping.{Takes}
 use Rattle.gtd_spans.specs.Counting.{spans_to_come, IsCount}

@@ -25,7 +25,8 @@ part-holds d xs t =
     ((λ h. let k = c.0 h in (k.0, alone d t k.1)), (λ h. c.1 (h.0, inl h.1)))
 
 -- lists that hold the same there
-pub part-same : (d : Interval) (xs ys : List Interval) → ((t : ℤ) → Within d t → Holds xs t ↔ Holds ys t) → part_within d xs ≡ part_within d ys
+pub part-same : (d : Interval) (xs ys : List Interval) → ((t : ℤ) → Within d t → Holds xs t ↔ Holds ys t)
+    → part_within d xs ≡ part_within d ys
 part-same d xs ys h =
     one-list (part_within d xs) (part_within d ys) (part-normal d xs) (part-normal d ys) (λ t.
     let a = part-holds d xs t in
@@ -51,8 +52,12 @@ pub part-first : (d p : Interval) (xs ys : List Interval) → p.from <ℤ p.unti
     → ((t : ℤ) → Within d t → Holds xs t ↔ (Within p t ⊎ Holds ys t))
     → ((t : ℤ) → Within d t → Holds ys t → p.until <ℤ t) → part_within d xs ≡ p ∷ part_within d ys
 part-first d p xs ys some inside same after =
-    one-list (part_within d xs) (p ∷ part_within d ys) (part-normal d xs)
-    (some, begin-after p.until (part_within d ys) (part-normal d ys) (λ t k. let w = (part-holds d ys t).0 k in after t w.1 w.0), part-normal d ys)
+    one-list (part_within d xs) (p ∷ part_within d ys) (part-normal d xs) (
+      some,
+      begin-after p.until (part_within d ys) (part-normal d ys) (λ t k. let w = (part-holds d ys t).0 k in after t w.1
+          w.0),
+      part-normal d ys,
+    )
     (λ t.
     let a = part-holds d xs t in
     let b = part-holds d ys t in (
@@ -71,7 +76,8 @@ part-normal-for d xs =
     ((λ h. let k = c.0 h in (k.1.0, k.1.1, k.0)), (λ h. c.1 (h.2, (h.0, h.1)))))
 
 -- a part lies within its bounds
-pub part-inside : (d p : Interval) (xs rest : List Interval) → part_within d xs ≡ p ∷ rest → (d.from ≤ℤ p.from) × (p.from <ℤ p.until) × (p.until ≤ℤ d.until)
+pub part-inside : (d p : Interval) (xs rest : List Interval) → part_within d xs ≡ p ∷ rest
+    → (d.from ≤ℤ p.from) × (p.from <ℤ p.until) × (p.until ≤ℤ d.until)
 part-inside d p xs rest is =
     let n : IsNormal (p ∷ rest) = subst IsNormal is (part-normal d xs) in
     let there : (t : ℤ) → Within p t → Within d t = λ t w.
@@ -80,7 +86,8 @@ part-inside d p xs rest is =
     let last = there (p.until -ℤ pos 1) (omega (arith, ints, n.0), omega (arith, ints)) in
     (first.0, n.0, omega (arith, ints, last.1))
 
-module _ (d : Interval) (held : Option Interval) (x : Interval) (rest : List Interval) (is : held ≡ Some x) (normal : IsNormal (spans_to_come held rest)) where
+module _ (d : Interval) (held : Option Interval) (x : Interval) (rest : List Interval) (is : held ≡ Some x) (normal : IsNormal
+    (spans_to_come held rest)) where
   at_hand : spans_to_come held rest ≡ x ∷ rest
   at_hand = ap (λ (o : Option Interval). spans_to_come o rest) is
 
@@ -91,9 +98,16 @@ module _ (d : Interval) (held : Option Interval) (x : Interval) (rest : List Int
   rest-normal = normal_there.2
 
   -- the span at hand begins after the bounds
-  pub take-behind : d.until ≤ℤ x.from → Takes (part_within d (spans_to_come held rest)) None (part_within d (spans_to_come held rest))
+  pub take-behind : d.until ≤ℤ x.from → Takes (part_within d (spans_to_come held rest)) None (part_within d (spans_to_come
+      held rest))
   take-behind h =
-      let none = part-none d (x ∷ rest) (λ t k w. let f = first-holds x rest t normal_there k in omega (arith, ints, f, w.1, h)) in
+      let none = part-none d (x ∷ rest) (λ t k w. let f = first-holds x rest t normal_there k in omega (
+        arith,
+        ints,
+        f,
+        w.1,
+        h,
+      )) in
       let all : part_within d (spans_to_come held rest) ≡ [] = ap (part_within d) at_hand ∙ none in
       (all, all)
 
@@ -116,7 +130,8 @@ module _ (d : Interval) (held : Option Interval) (x : Interval) (rest : List Int
       (λ t w j. let a = after-holds x.until t rest normal_there.1 j in omega (arith, ints, a, ends))
 
   -- what is left of the span at hand, which ends after the bounds
-  module _ (y : Interval) (from : y.from ≡ d.until) (until : y.until ≡ x.until) (begins : x.from <ℤ d.until) (ends : d.until <ℤ x.until) where
+  module _ (y : Interval) (from : y.from ≡ d.until) (until : y.until ≡ x.until) (begins : x.from <ℤ d.until) (ends : d.until
+      <ℤ x.until) where
     pub left-normal : IsNormal (y ∷ rest)
     left-normal = (
       omega (arith, ints, from, until, ends),
@@ -151,19 +166,22 @@ module _ (d : Interval) (held : Option Interval) (x : Interval) (rest : List Int
         take-part p within.0 within.1 meets ∙ ap (λ (l : List Interval). p ∷ l) (none ∙ sym left)
 
 -- nothing is to come
-pub take-none : (d : Interval) (held : Option Interval) (rest : List Interval) → held ≡ None → Takes (part_within d (spans_to_come held rest)) None (part_within d (spans_to_come held rest))
+pub take-none : (d : Interval) (held : Option Interval) (rest : List Interval) → held ≡ None
+    → Takes (part_within d (spans_to_come held rest)) None (part_within d (spans_to_come held rest))
 take-none d held rest is =
     let none : part_within d (spans_to_come held rest) ≡ [] =
     ap (λ (o : Option Interval). part_within d (spans_to_come o rest)) is ∙ part-none d [] (λ t k w. k) in
     (none, none)
 
 -- what a list that has the same part gives
-pub takes-from : (d : Interval) (xs ys zs : List Interval) (r : Option Interval) → part_within d xs ≡ part_within d ys → Takes (part_within d ys) r (part_within d zs)
+pub takes-from : (d : Interval) (xs ys zs : List Interval) (r : Option Interval) → part_within d xs ≡ part_within d ys
+    → Takes (part_within d ys) r (part_within d zs)
     → Takes (part_within d xs) r (part_within d zs)
 takes-from d xs ys zs r e h = subst (λ (l : List Interval). Takes l r (part_within d zs)) (sym e) h
 
 -- the seconds of one part of a day
-part-count : (midnight : ℤ) (p : Interval) (n : ℕ) → midnight ≤ℤ p.from → p.until ≤ℤ (midnight +ℤ pos 86400) → p.from +ℤ pos n ≡ p.until
+part-count : (midnight : ℤ) (p : Interval) (n : ℕ) → midnight ≤ℤ p.from → p.until ≤ℤ (midnight +ℤ pos 86400)
+    → p.from +ℤ pos n ≡ p.until
     → IsCount (Within p) midnight 86400 n
 part-count midnight p n begins ends long =
     count-cut p midnight p.from p.until 86400 n begins ends long (λ s i. ((λ w. w), (λ w. w)))
@@ -195,4 +213,5 @@ part-whole-count midnight d xs n is counted =
 pub part-none-count : (midnight : ℤ) (d : Interval) (xs : List Interval) → part_within d xs ≡ []
     → IsCount (Holds (part_within d xs)) midnight 86400 0
 part-none-count midnight d xs none =
-    subst (λ (l : List Interval). IsCount (Holds l) midnight 86400 0) (sym none) (count-none (Holds []) midnight 86400 (λ s a h. h))
+    subst (λ (l : List Interval). IsCount (Holds l) midnight 86400 0) (sym none) (count-none (Holds []) midnight 86400 (λ s a
+    h. h))

@@ -1,5 +1,4 @@
 use Rattle.std.proofs.Common.{rules, ◌≡◌, ◌∙◌, pos, ◌-◌, arith, FitsSigned, to_z, of_z, w64, to_z-of_z}
-use Rattle.std.specs.Prelude.{◌+ℤ◌}
 use Rattle.gtd_calendar.specs.Calendar.{days_of_months, first_day}
 use Rattle.gtd_calendar.specs.facts.YearDays.{few_before, near_after}
 use Rattle.gtd_calendar.proofs.year.days_before_month.Goals as goal
@@ -32,4 +31,7 @@ returns c =
     let next_fits : FitsSigned w64 c.first_of_month.result = search rules in
     let next = to_z-of_z next_fits ∙ c.first_of_month.ensures.day in
     let first : to_z w64 (of_z w64 c.new_year.result) ≡ first_day y = to_z-of_z first_fits ∙ c.new_year.ensures.day in
-    record { value = c.days_from.ensures.value ∙ rw first (near_after (first_day y) _ (days_of_months y (c.args.month - 1)) few next).2 }
+    record {
+      value = c.days_from.ensures.value ∙ rw first (near_after (first_day y) _ (days_of_months y (c.args.month - 1))
+          few next).2;
+    }

@@ -1,4 +1,3 @@
-use Rattle.std.specs.Prelude.{OnOk}
 use Rattle.gtd_picture.specs.Domain.{IsDomainPicture}
 use Rattle.gtd_picture.proofs.PictureFacts.{has_put}
 use Rattle.gtd_picture.proofs.domain.put_domain_picture.Goals as goal

@@ -1,4 +1,4 @@
-use Rattle.std.proofs.Common.{◌≡◌, ◌∙◌, ap, refl, arith, ◌≤◌, ◌+◌, List, [], ◌∷◌, length}
+use Rattle.std.proofs.Common.{ap, refl, arith, ◌≤◌, ◌+◌, List, [], ◌∷◌}
 use Rattle.std.specs.Prelude.{Ok, Err, pos}
 use Rattle.std.proofs.lemmas.Result.{err_from_is_err_and}
 use Rattle.gtd_calendar.specs.Calendar.{first_day, year_length}

@@ -1,4 +1,4 @@
-use Rattle.std.proofs.Common.{◌≡◌, subst, arith, ◌+◌, ◌↔◌, ℕ}
+use Rattle.std.proofs.Common.{◌≡◌, subst, arith, ◌+◌, ℕ}
 use Rattle.std.specs.Prelude.{ℤ}
 use Rattle.gtd_spans.specs.Normal.{Holds}
 use Rattle.gtd_spans.specs.Counting.{IsCount, part_within, spans_to_come}

@@ -5,7 +5,8 @@ use Rattle.gtd_core.specs.Seconds.{Interval}
 use Rattle.gtd_spans.specs.Counting.{part_within, spans_to_come}
 use Rattle.gtd_spans.specs.Normal.{Holds, IsNormal}
 use Rattle.gtd_spans.specs.facts.CountFacts.{day-later, takes-is}
-use Rattle.gtd_spans.specs.facts.PartFacts.{left-later, left-normal, rest-normal, take-behind, take-last, take-none, take-part, take-skip, takes-from}
+use Rattle.gtd_spans.specs.facts.PartFacts.{left-later, left-normal, rest-normal, take-behind, take-last, take-none, take-part}
+use Rattle.gtd_spans.specs.facts.PartFacts.{take-skip, takes-from}
 use Rattle.gtd_spans.proofs.counting.next_within.Goals as goal
 
 pub returns-then-from-until-clause-takes : goal.returns-then-from-until-clause-takes
@@ -25,10 +26,12 @@ returns-then-until-clause-takes g c =
     let until = ap (λ (i : Interval). i.until) c.between.ensures.value in
     let begins : c.in-Some.span.from <ℤ c.args.bounds.until = omega (arith, ints) in
     let ends : c.args.bounds.until <ℤ c.in-Some.span.until = omega (arith, ints) in
-    takes-from c.args.bounds (spans_to_come c.args.held.now (rest c.args.source.now)) (spans_to_come l.held (rest l.source)) (c.between.result ∷ rest l.source)
+    takes-from c.args.bounds (spans_to_come c.args.held.now (rest c.args.source.now)) (spans_to_come l.held (rest l.source))
+    (c.between.result ∷ rest l.source)
     c.meet.result l.invariant.same
     (take-last c.args.bounds l.held c.in-Some.span (rest l.source) c.in-Some.is l.invariant.normal c.between.result
-    (from ∙ c.until-then-until.ensures.value) (until ∙ c.until-then-until-2.ensures.value) begins ends c.meet.result c.meet.ensures.seconds c.meet.ensures.ends)
+    (from ∙ c.until-then-until.ensures.value) (until ∙ c.until-then-until-2.ensures.value) begins ends c.meet.result
+    c.meet.ensures.seconds c.meet.ensures.ends)
 
 pub returns-then-until-clause-later : goal.returns-then-until-clause-later
 returns-then-until-clause-later g c =
@@ -62,7 +65,8 @@ returns-in-Some-meet-clause-takes g c =
     let took = takes-is (rest l.source) c.next.result (rest c.next.new.self) c.next.ensures.takes in
     let e = c.in-Some-meet.ensures in
     l.invariant.same
-    ∙ take-part c.args.bounds l.held c.in-Some.span (rest l.source) c.in-Some.is l.invariant.normal c.in-Some-meet.part e.ends.0 e.ends.1 e.seconds
+    ∙ take-part c.args.bounds l.held c.in-Some.span (rest l.source) c.in-Some.is l.invariant.normal c.in-Some-meet.part
+    e.ends.0 e.ends.1 e.seconds
     ∙ ap (λ (xs : List Interval). c.in-Some-meet.part ∷ part_within c.args.bounds xs) took
 
 pub returns-in-Some-meet-clause-later : goal.returns-in-Some-meet-clause-later
@@ -84,9 +88,11 @@ loop-held-preserved g c =
     let took = takes-is (rest l.source) c.next.result (rest c.next.new.self) c.next.ensures.takes in
     let ends : c.in-Some.span.until ≤ℤ c.args.bounds.until = omega (arith, ints) in
     record {
-      normal = subst IsNormal took (rest-normal c.args.bounds l.held c.in-Some.span (rest l.source) c.in-Some.is l.invariant.normal);
+      normal = subst IsNormal took (rest-normal c.args.bounds l.held c.in-Some.span (rest l.source) c.in-Some.is
+          l.invariant.normal);
       same = l.invariant.same
-          ∙ take-skip c.args.bounds l.held c.in-Some.span (rest l.source) c.in-Some.is l.invariant.normal c.in_default-meet.ensures.seconds
+          ∙ take-skip c.args.bounds l.held c.in-Some.span (rest l.source) c.in-Some.is l.invariant.normal
+          c.in_default-meet.ensures.seconds
           ∙ ap (part_within c.args.bounds) took;
       later = λ t h.
           let a = l.invariant.later t h in

@@ -8,9 +8,11 @@ use Rattle.gtd_spans.proofs.counting.next_within.Given as goal
 abbrev pub invariant-loop-held : goal.invariant-loop-held
 invariant-loop-held g l = record {
   normal : IsNormal (spans_to_come l.held (g.S.SpanSource.rest l.source));
-  same : part_within l.bounds (spans_to_come l.fn.held (g.S.SpanSource.rest l.fn.source)) ≡ part_within l.bounds (spans_to_come l.held (g.S.SpanSource.rest l.source));
+  same : part_within l.bounds (spans_to_come l.fn.held (g.S.SpanSource.rest l.fn.source)) ≡ part_within l.bounds
+      (spans_to_come l.held (g.S.SpanSource.rest l.source));
   later : (t : ℤ) → l.bounds.until ≤ℤ t
-      → Holds (spans_to_come l.fn.held (g.S.SpanSource.rest l.fn.source)) t ↔ Holds (spans_to_come l.held (g.S.SpanSource.rest l.source)) t;
+      → Holds (spans_to_come l.fn.held (g.S.SpanSource.rest l.fn.source)) t ↔ Holds (spans_to_come l.held (g.S.SpanSource.rest
+      l.source)) t;
 }
 
 abbrev pub decreases-loop-held : goal.decreases-loop-held
