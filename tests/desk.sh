@@ -40,6 +40,8 @@ run help now
 expect 'the command help with a command' 0 "$(cat "$top/tests/desk/now.txt")" ''
 run faults --help
 expect 'help of the command faults' 0 "$(cat "$top/tests/desk/faults.txt")" ''
+run words --help
+expect 'help of the command words' 0 "$(cat "$top/tests/desk/words.txt")" ''
 run --version
 expect 'version' 0 'gtdesk 0.1.0' ''
 
@@ -147,6 +149,18 @@ expect 'too many rows' 1 'bad.csv:65538: row 65537: TooManyRows' ''
 head -c 16777217 /dev/zero > bad.csv
 run faults bad.csv
 expect 'a file too large' 1 'bad.csv:1: TooLarge' ''
+
+# The words of a domain.
+run words '[(M4d1){M3}]*[(h22){h8}]'
+expect 'words' 0 $'from 1 April every year for 3 months\nand all this only in: every day from 22 o\'clock for 8 hours, until 6:00 the next day' ''
+run words '(h25){h1}'
+expect 'words of no domain' 1 '' 'gtdesk: DOMAIN: FieldRange at 1'
+run words ''
+expect 'words of nothing' 1 '' 'gtdesk: DOMAIN: Incomplete at 0'
+run words -- '-(h10){h1}'
+expect 'words of a domain with a sign in front' 1 '' 'gtdesk: DOMAIN: Unexpected at 0'
+run words
+expect 'words without a domain' 2 '' "gtdesk: command line: one or more required arguments were not provided $see"
 
 # Outputs that fail.
 : > out
