@@ -44,6 +44,8 @@ run picture --help
 expect 'help of the command picture' 0 "$(cat "$top/tests/desk/picture.txt")" ''
 run help picture-domain
 expect 'help of the command picture-domain' 0 "$(cat "$top/tests/desk/picture-domain.txt")" ''
+run words --help
+expect 'help of the command words' 0 "$(cat "$top/tests/desk/words.txt")" ''
 run --version
 expect 'version' 0 'gtdesk 0.1.0' ''
 
@@ -194,6 +196,30 @@ run picture-domain '(h25){h1}' 1900
 expect 'no domain' 1 '' 'gtdesk: DOMAIN: FieldRange at 1'
 run picture-domain '(h5){h1}' 1900
 expect 'no year of a domain' 1 '' 'gtdesk: YEAR: not a number from 1901 to 2199'
+# The words of a domain.
+run words '[(M4d1){M3}]*[(h22){h8}]'
+expect 'words' 0 $'from 1 April every year for 3 months\nand all this only in: every day from 22 o\'clock for 8 hours, until 6:00 the next day' ''
+run words '(h25){h1}'
+expect 'words of no domain' 1 '' 'gtdesk: DOMAIN: FieldRange at 1'
+run words ''
+expect 'words of nothing' 1 '' 'gtdesk: DOMAIN: Incomplete at 0'
+run words -- '-(h10){h1}'
+expect 'words of a domain with a sign in front' 1 '' 'gtdesk: DOMAIN: Unexpected at 0'
+run words
+expect 'words without a domain' 2 '' "gtdesk: command line: one or more required arguments were not provided $see"
+
+# Warnings: after the faults, of rows whose domain never or always holds.
+printf '%s\n' element,direction,vehicle,domain '1,both,0,[(h5){h1}]*[(h7){h1}]' '2,both,0,(h0){h24}' '3,up,0,' \
+    '4,both,0,(h7){h2}' 5,both,0, '6,both,0,(y1800){y1}' '7,both,0,(M2d30){d1}' > warn.csv
+run faults --warn warn.csv
+expect 'faults and warnings' 1 $'warn.csv:4: row 3: Direction\n    up\n    ^\nwarn.csv:2: row 1: never holds
+warn.csv:3: row 2: always holds\nwarn.csv:7: row 6: never holds\nwarn.csv:8: row 7: never holds' ''
+run faults warn.csv
+expect 'faults without warnings' 1 $'warn.csv:4: row 3: Direction\n    up\n    ^' ''
+sed -i 4d warn.csv
+run faults warn.csv --warn
+expect 'warnings alone' 0 $'warn.csv:2: row 1: never holds\nwarn.csv:3: row 2: always holds
+warn.csv:6: row 5: never holds\nwarn.csv:7: row 6: never holds' ''
 
 # Outputs that fail.
 : > out

@@ -149,7 +149,7 @@ fn bare_words<'a>(alloc: Global) -> Command<'a>
     ensures app { app_of result ≡ bare_words }
     ensures local { IsLocal result }
 {
-    Command::new(alloc, "words").about("Print a time domain in plain English")
+    Command::new(alloc, "words").about("Say in plain English when a time domain holds")
 }
 
 // The command `words`.

@@ -72,5 +72,6 @@ weekday_if_set last weekdays k =
 -- `Monday`, `Monday and Friday`, `Monday, Tuesday and Friday`; or with ` or ` before the last
 unfoldable pub weekdays_words : List ℕ → ℕ → List ℕ
 weekdays_words last weekdays =
-    weekday_if_set last weekdays 1 ++ weekday_if_set last weekdays 2 ++ weekday_if_set last weekdays 3 ++ weekday_if_set last weekdays 4
-    ++ weekday_if_set last weekdays 5 ++ weekday_if_set last weekdays 6 ++ weekday_if_set last weekdays 7
+    weekday_if_set last weekdays 1 ++ weekday_if_set last weekdays 2 ++ weekday_if_set last weekdays 3
+    ++ weekday_if_set last weekdays 4 ++ weekday_if_set last weekdays 5 ++ weekday_if_set last weekdays 6
+    ++ weekday_if_set last weekdays 7
