@@ -4,7 +4,7 @@
 pub use list_fault::ListFault;
 pub use printable::Printable;
 pub use run::run_faults;
-pub use words::FaultText;
+pub use words::{FaultText, WarningText};
 
 mod below;
 pub mod laws;
