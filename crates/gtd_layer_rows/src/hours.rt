@@ -173,6 +173,40 @@ fn winter(rt: HostRuntime) -> Result<(), Fail> {
     Ok(())
 }
 
+// `Nov 15-Mar 20 06:00-07:00`: one stretch of four months and six days.
+#[test]
+fn over_new_year(rt: HostRuntime) -> Result<(), Fail> {
+    let alloc = rt.alloc();
+    let dates = Selector::Dates(Dates {
+        first: date(&rt, 11, 15),
+        last: date(&rt, 3, 20),
+    });
+    let mut rules = Vec::new(alloc);
+    rules.push(rule(
+        alloc,
+        Link::Instead,
+        dates,
+        time(&rt, 360, 420),
+        Modifier::Open,
+    )?)?;
+    let hours = Hours { rules };
+    assert_eq!(rt; cost_of(&hours), 2);
+    let domain = domain_of(alloc, &hours).expect(&rt, "a domain");
+    expect_states(
+        &rt,
+        &domain,
+        &[
+            (0, 6, true),
+            (79, 6, true),
+            (80, 6, false),
+            (318, 6, false),
+            (319, 6, true),
+            (366, 6, true),
+        ],
+    );
+    Ok(())
+}
+
 // `Apr-Sep 08:00-18:00, Sa[1] 10:00-20:00; May 1 00:00-12:00 off`
 #[test]
 fn summer(rt: HostRuntime) -> Result<(), Fail> {
