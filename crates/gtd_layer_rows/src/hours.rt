@@ -207,6 +207,26 @@ fn over_new_year(rt: HostRuntime) -> Result<(), Fail> {
     Ok(())
 }
 
+// `Apr 20-Oct 10`: one stretch of five months and 21 days.
+#[test]
+fn season(rt: HostRuntime) -> Result<(), Fail> {
+    let alloc = rt.alloc();
+    let hours = mornings(&rt, alloc, date(&rt, 4, 20), date(&rt, 10, 10))?;
+    assert_eq!(rt; cost_of(&hours), 2);
+    let domain = domain_of(alloc, &hours).expect(&rt, "a domain");
+    expect_states(
+        &rt,
+        &domain,
+        &[
+            (109, 6, false),
+            (110, 6, true),
+            (283, 6, true),
+            (284, 6, false),
+        ],
+    );
+    Ok(())
+}
+
 // `Apr-Sep 08:00-18:00, Sa[1] 10:00-20:00; May 1 00:00-12:00 off`
 #[test]
 fn summer(rt: HostRuntime) -> Result<(), Fail> {
