@@ -4,7 +4,7 @@ use gtd_core::{Domain, Sec};
 use gtd_eval::holds;
 use gtd_osm::{
     Dated, Dates, Hours, HoursFault, Kind, Link, Modifier, MonthDay, Months, Place, Rule, Selector,
-    TimeRange, Weekdays, Weeks, YearDate, Years, cost_of, domain_of,
+    TimeRange, Weekdays, Weeks, YearDate, Years, cost_of, domain_of, print_hours,
 };
 use std::alloc::{AllocError, Global};
 use std::process::Abort;
@@ -94,6 +94,8 @@ pub(crate) fn friday_night(rt: &impl Abort, alloc: Global) -> Result<Hours, Allo
 fn later_rule(rt: HostRuntime) -> Result<(), Fail> {
     let alloc = rt.alloc();
     let hours = friday_night(&rt, alloc)?;
+    let text = print_hours(alloc, &hours)?;
+    assert_eq!(rt; text.as_str(), "Fr 22:00-04:00; Sa 10:00-12:00");
     assert_eq!(rt; cost_of(&hours), 5);
     let domain = domain_of(alloc, &hours).expect(&rt, "a domain");
     expect_states(
@@ -119,6 +121,8 @@ fn over_midnight(rt: HostRuntime) -> Result<(), Fail> {
     let alloc = rt.alloc();
     let mut hours = friday_night(&rt, alloc)?;
     let _ = hours.rules.pop();
+    let text = print_hours(alloc, &hours)?;
+    assert_eq!(rt; text.as_str(), "Fr 22:00-04:00");
     assert_eq!(rt; cost_of(&hours), 2);
     let domain = domain_of(alloc, &hours).expect(&rt, "a domain");
     let states = [(4, 21, false), (4, 22, true), (5, 3, true), (5, 4, false)];
@@ -146,6 +150,8 @@ fn winter(rt: HostRuntime) -> Result<(), Fail> {
     let mut rules = Vec::new(alloc);
     rules.push(winter)?;
     let hours = Hours { rules };
+    let text = print_hours(alloc, &hours)?;
+    assert_eq!(rt; text.as_str(), "Dec 20-Feb 29 week 1-53/2 08:00-12:00");
     assert_eq!(rt; cost_of(&hours), 32);
     let domain = domain_of(alloc, &hours).expect(&rt, "a domain");
     expect_states(
@@ -162,6 +168,60 @@ fn winter(rt: HostRuntime) -> Result<(), Fail> {
             (354, 9, true),
             (355, 9, true),
             (357, 9, false),
+        ],
+    );
+    Ok(())
+}
+
+// `Nov 15-Mar 20 06:00-07:00`: one stretch of four months and six days.
+#[test]
+fn over_new_year(rt: HostRuntime) -> Result<(), Fail> {
+    let alloc = rt.alloc();
+    let dates = Selector::Dates(Dates {
+        first: date(&rt, 11, 15),
+        last: date(&rt, 3, 20),
+    });
+    let mut rules = Vec::new(alloc);
+    rules.push(rule(
+        alloc,
+        Link::Instead,
+        dates,
+        time(&rt, 360, 420),
+        Modifier::Open,
+    )?)?;
+    let hours = Hours { rules };
+    assert_eq!(rt; cost_of(&hours), 2);
+    let domain = domain_of(alloc, &hours).expect(&rt, "a domain");
+    expect_states(
+        &rt,
+        &domain,
+        &[
+            (0, 6, true),
+            (79, 6, true),
+            (80, 6, false),
+            (318, 6, false),
+            (319, 6, true),
+            (366, 6, true),
+        ],
+    );
+    Ok(())
+}
+
+// `Apr 20-Oct 10`: one stretch of five months and 21 days.
+#[test]
+fn season(rt: HostRuntime) -> Result<(), Fail> {
+    let alloc = rt.alloc();
+    let hours = mornings(&rt, alloc, date(&rt, 4, 20), date(&rt, 10, 10))?;
+    assert_eq!(rt; cost_of(&hours), 2);
+    let domain = domain_of(alloc, &hours).expect(&rt, "a domain");
+    expect_states(
+        &rt,
+        &domain,
+        &[
+            (109, 6, false),
+            (110, 6, true),
+            (283, 6, true),
+            (284, 6, false),
         ],
     );
     Ok(())
@@ -189,6 +249,11 @@ fn summer(rt: HostRuntime) -> Result<(), Fail> {
         Modifier::Closed,
     )?)?;
     let hours = Hours { rules };
+    let text = print_hours(alloc, &hours)?;
+    assert_eq!(rt;
+        text.as_str(),
+        "Apr-Sep 08:00-18:00, Sa[1] 10:00-20:00; May 1 00:00-12:00 off"
+    );
     assert_eq!(rt; cost_of(&hours), 6);
     let domain = domain_of(alloc, &hours).expect(&rt, "a domain");
     expect_states(
@@ -225,6 +290,11 @@ fn years(rt: HostRuntime) -> Result<(), Fail> {
     rules.push(rule(alloc, Link::Also, dated, time(&rt, 300, 480), open)?)?;
     rules.push(rule(alloc, Link::Also, last, time(&rt, 720, 780), open)?)?;
     let hours = Hours { rules };
+    let text = print_hours(alloc, &hours)?;
+    assert_eq!(rt;
+        text.as_str(),
+        "2024-2030/2 00:00-06:00, 2024 Dec 30-2025 Jan 2 05:00-08:00, We[-1] 12:00-13:00"
+    );
     assert_eq!(rt; cost_of(&hours), 9);
     let domain = domain_of(alloc, &hours).expect(&rt, "a domain");
     expect_states(

@@ -5,4 +5,5 @@ pub mod LeafLemmas
 pub mod MonthLemmas
 pub mod PieceLemmas
 pub mod SpanLemmas
+pub mod StretchLemmas
 pub mod WeekLemmas

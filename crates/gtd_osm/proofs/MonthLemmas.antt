@@ -26,7 +26,7 @@ abbrev pub count : ℤ → ℤ
 count n = month_count (year_of n) (month_of n)
 
 -- a day is in the month of its count
-count-lies : (n : ℤ) → (n ≡ month_first (count n) +ℤ pos (day_of_month n - 1)) × (n <ℤ month_first (count n +ℤ pos 1))
+pub count-lies : (n : ℤ) → (n ≡ month_first (count n) +ℤ pos (day_of_month n - 1)) × (n <ℤ month_first (count n +ℤ pos 1))
 unfolding day_number
 count-lies n =
     let is = date_of-is n in
@@ -64,7 +64,7 @@ first-later n k first =
     none a p = omega (arith, signed_arith)
 
 -- months follow one another in the order of their counts
-order : (t u : ℤ) → t ≤ℤ u → month_first t ≤ℤ month_first u
+pub order : (t u : ℤ) → t ≤ℤ u → month_first t ≤ℤ month_first u
 order t u le =
     let part = one_part (u -ℤ t) in
     let e : t +ℤ pos (unsigned_abs (u -ℤ t)) ≡ u = omega (arith, signed_arith) in

@@ -5,7 +5,7 @@ ghost use Rattle.gtd_osm.specs.Cost.{cost_after, cost_by, counted, dates_cost, d
 ghost use Rattle.gtd_osm.specs.Cost.{late_cost, month_cost, rule_cost, selector_cost, selectors_cost, spans_cost};
 ghost use Rattle.gtd_osm.specs.Cost.{steps_cost, weeks_cost, years_cost};
 
-use crate::dates::month_after;
+use crate::dates::{is_one_stretch, month_after};
 use crate::hours::{Dates, Hours, Kind, Link, Modifier, Rule, Selector, TimeRange, Weeks, Years};
 use crate::numbers::MOST_YEARS;
 use crate::spans::is_early;
@@ -69,6 +69,9 @@ fn dates_cost(dates: Dates) -> u32
     ensures value { result ≡ dates_cost dates.first dates.last }
     ensures few { result ≤ 5 }
 {
+    if is_one_stretch(dates) {
+        return 1;
+    }
     let first = dates.first;
     let last = dates.last;
     if first.month == last.month && first.day <= last.day {

@@ -1,17 +1,19 @@
 //! The days of ranges of months and dates.
 
-ghost use Rattle.std.specs.Prelude.{◌≡◌, ◌↔◌, ◌⊎◌, ◌<◌, ◌≤◌, ◌+◌, ◌==◌, ◌&&◌, if◌then◌else◌, min, nat_lt, ℤ, IfOk};
-ghost use Rattle.gtd_core.specs.Trees.{leaf_count, tree_of};
+ghost use Rattle.std.specs.Prelude.{◌≡◌, ◌↔◌, ◌⊎◌, ◌<◌, ◌≤◌, ◌+◌, ◌==◌, ◌&&◌, if◌then◌else◌, min, nat_lt, ℤ, IfOk, IsTrue};
+ghost use Rattle.gtd_core.specs.Trees.{Single, leaf_count, tree_of};
 ghost use Rattle.gtd_calendar.specs.Calendar.{month_length};
 ghost use Rattle.gtd_calendar.specs.ComputedDates.{month_of, day_of_month};
+ghost use Rattle.gtd_osm.specs.Cost.{IsOneStretch, common_length, is_one_stretch};
 ghost use Rattle.gtd_osm.specs.Cost.{dates_cost, month_after, month_cost};
-ghost use Rattle.gtd_osm.specs.Opening.{IsRound};
+ghost use Rattle.gtd_osm.specs.Opening.{IsRound, date_key};
 ghost use Rattle.gtd_osm.specs.Ranges.{IsMonth, IsMonthDay};
+ghost use Rattle.gtd_osm.specs.Translation.{clocked, no_duration, on_month_day};
 ghost use Rattle.gtd_osm.specs.Translation.{AreDays, HoldsAt, InMaybe, IsMonthBetween, maybe_leaves, minutes_of, moved_day};
 ghost use Rattle.gtd_osm.specs.declared.hours.Selector.TheVariants as selector;
 
 use crate::clock::Clock;
-use crate::hours::{Dates, Months};
+use crate::hours::{Dates, MonthDay, Months};
 use crate::leaf::{NO_DURATION, NO_PARTS, each_day, each_days, leaf, or_nothing, unite};
 use gtd_core::{DurationParts, Expr, StartParts};
 use std::alloc::{AllocError, Global};
@@ -101,8 +103,9 @@ fn and_between(
     Ok(Some(expr))
 }
 
-// The days that each month of that number has.
+// How many days each month of that number has at least.
 fn shortest(month: u8) -> u8
+    ensures value { result ≡ common_length month }
     ensures all { (y : ℤ) → result ≤ month_length y month }
     ensures full { (y : ℤ) → month_length y month ≡ result ⊎ ((month ≡ 2) × (month_length y month ≤ 29)) }
     ensures range { (28 ≤ result) × (result ≤ 31) }
@@ -207,12 +210,88 @@ fn and_days_of_month(
     Ok(Some(expr))
 }
 
-/// The days of a range of dates: those of one month; or the rest of the first month, the months between, and the
-/// beginning of the last month.
+fn key(date: MonthDay) -> u16
+    ensures value { result ≡ date_key date.month date.day }
+    ensures day { (1 ≤ date.day) × (date.day ≤ 31) }
+    ensures month { IsMonth date.month }
+{
+    32 * u16::from(date.month) + u16::from(date.day)
+}
+
+// How many months later the last month is.
+fn months_later(first: MonthDay, last: MonthDay) -> u8
+    ensures value { ((first.month + result ≡ last.month)
+        × (date_key first.month first.day ≤ date_key last.month last.day))
+        ⊎ ((first.month + result ≡ last.month + 12)
+        × (date_key last.month last.day < date_key first.month first.day)) }
+    ensures few { result ≤ 12 }
+    ensures some { last.day < first.day → 1 ≤ result }
+{
+    if key(first) <= key(last) {
+        last.month - first.month
+    } else {
+        last.month + 12 - first.month
+    }
+}
+
+/// Whether one stretch of months and days reaches from the first date to the last.
+pub(crate) fn is_one_stretch(dates: Dates) -> bool
+    ensures value { result ≡ is_one_stretch dates.first dates.last }
+    ensures holds { IsTrue result ↔ IsOneStretch dates.first dates.last }
+{
+    let first = dates.first;
+    let last = dates.last;
+    first.day <= 28
+        && last.day <= shortest(last.month)
+        && (first.day <= last.day + 1 || last.month != 3)
+}
+
+// From a date of each year on, for some months and days.
+fn dates_from(first: MonthDay, months: u8, days: u8, clock: Clock) -> Expr
+    requires { months ≤ 12 }
+    ensures { tree_of result ≡ Single (clocked (on_month_day first.month first.day) clock)
+        (record no_duration { months = months; days = days }) }
+{
+    leaf(
+        StartParts {
+            month: Some(first.month),
+            day: Some(first.day),
+            ..NO_PARTS
+        },
+        DurationParts {
+            months: u32::from(months),
+            days: u32::from(days),
+            ..NO_DURATION
+        },
+        clock,
+    )
+}
+
+// The days of a range that one stretch reaches: by months to the last month, or to the one before it, and then by days.
+fn date_run(dates: Dates, clock: Clock) -> Expr
+    requires { IsOneStretch dates.first dates.last }
+    ensures days { AreDays (minutes_of clock) (HoldsAt (selector.Dates dates)) result }
+    ensures leaves { leaf_count (tree_of result) ≡ 1 }
+{
+    let first = dates.first;
+    let last = dates.last;
+    let months = months_later(first, last);
+    if first.day <= last.day + 1 {
+        return dates_from(first, months, last.day + 1 - first.day, clock);
+    }
+    let before = shortest(month_before(last.month));
+    dates_from(first, months - 1, before + last.day + 1 - first.day, clock)
+}
+
+/// The days of a range of dates: one stretch; or those of one month; or the rest of the first month, the months between, and
+/// the beginning of the last month.
 pub fn date_days(alloc: Global, dates: Dates, clock: Clock) -> Result<Expr, AllocError>
     ensures days { IfOk result (AreDays (minutes_of clock) (HoldsAt (selector.Dates dates))) }
     ensures leaves { IfOk result (λ e. leaf_count (tree_of e) ≡ dates_cost dates.first dates.last) }
 {
+    if is_one_stretch(dates) {
+        return Ok(date_run(dates, clock));
+    }
     let first = dates.first;
     let last = dates.last;
     if first.month == last.month && first.day <= last.day {

@@ -6,6 +6,7 @@ pub use hours::{
     Dated, Dates, Hours, Kind, Link, Modifier, MonthDay, Months, Place, Rule, Selector, TimeRange,
     Weekdays, Weeks, YearDate, Years,
 };
+pub use printer::print_hours;
 pub use translate::{HoursFault, domain_of};
 
 mod clock;
@@ -18,5 +19,6 @@ mod leaf;
 mod level;
 mod making;
 mod numbers;
+mod printer;
 mod spans;
 mod translate;
