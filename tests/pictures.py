@@ -36,10 +36,12 @@ COLOURS = {  # by page: for seconds in the set and others, on working days and o
 WEEKDAYS = "Monday Tuesday Wednesday Thursday Friday Saturday Sunday".split()
 EXAMPLE_PICTURES = [
     ("town.csv", 103, "positive", 1, 2024), ("town.csv", 104, "positive", 11, 2023), ("town.csv", 104, "negative", 11, 2024),
-    ("town.csv", 102, "negative", 3, 2100), ("town.csv", 105, "positive", 99, 2024), ("restrictions.csv", 17, "positive", 12, 2000),
-    ("works.csv", None, "positive", 1, 2024), ("pass.csv", None, "positive", 1, 2024),
+    ("town.csv", 102, "negative", 3, 2100), ("town.csv", 105, "positive", 99, 2024),
+    ("restrictions.csv", 17, "positive", 12, 2000), ("works.csv", None, "positive", 1, 2024), ("pass.csv", None, "positive", 1, 2024),
 ]
-EXAMPLE_DOMAINS = [("[(M4d1){M3}]*[(h10){h4}]", 2024), ("(h23m59s59){s2}", 1901), ("(M2d29){d1}", 2199), ("[(h0){h24}]-[(t1){d1}]", 2023)]
+EXAMPLE_DOMAINS = [
+    ("[(M4d1){M3}]*[(h10){h4}]", 2024), ("(h23m59s59){s2}", 1901), ("(M2d29){d1}", 2199), ("[(h0){h24}]-[(t1){d1}]", 2023),
+]
 RANDOM_PICTURES, RANDOM_DOMAINS = 6, 6
 
 passed = failed = 0
@@ -136,7 +138,8 @@ def domain_picture(room, domain, year):
 
 def random_file(room, maker, number):
     path = os.path.join(room, f"random<{number}>&.csv")
-    rows = [f"{maker.random.randint(1, 2)},{maker.random.choice(['both', 'positive', 'negative'])},0,{maker.domain()}" for _ in range(4)]
+    ways = ["both", "positive", "negative"]
+    rows = [f"{maker.random.randint(1, 2)},{maker.random.choice(ways)},0,{maker.domain()}" for _ in range(4)]
     with open(path, "w") as file:
         file.write("\n".join(["element,direction,vehicle,domain", "1,negative,0,", *rows, ""]))
     return path
