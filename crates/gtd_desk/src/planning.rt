@@ -12,7 +12,11 @@ ghost use Rattle.gtd_runs.specs.Run.{IsVehicleType};
 ghost use Rattle.gtd_desk.specs.CommandLine.{AreFaultsWords, AreNowWords, AskForText, HasWords, Text, desk_app};
 ghost use Rattle.gtd_desk.specs.CommandLine.{faults_word_of, now_words_of};
 ghost use Rattle.gtd_desk.specs.CommandLine as spec;
-ghost use Rattle.gtd_desk.specs.Plans.{AskFor, AskForNow, IsFaultsPlan, IsNoVehicle, IsNowPlan, IsRefusalOf, IsWordFault};
+ghost use Rattle.gtd_desk.specs.Plans.{AskFor, AskForNow, IsDomainPlan, IsFaultsPlan, IsNoVehicle, IsNowPlan};
+ghost use Rattle.gtd_desk.specs.Plans.{IsPicturePlan, IsRefusalOf, IsWordFault};
+ghost use Rattle.gtd_desk.specs.Pictures.{AskForDomainPicture, AskForPicture};
+ghost use Rattle.gtd_core.specs.declared.domain.Domain.{Domain};
+ghost use Rattle.gtd_desk.specs.declared.plans.PictureSubject.{PictureSubject};
 ghost use Rattle.gtd_desk.specs.declared.refusal.Refusal.{Refusal};
 
 use crate::arguments::{NowWords, domain_words, faults_word, now_words, parse, picture_words};
@@ -179,6 +183,11 @@ pub fn plan(alloc: Global, words: Vec<String>) -> Result<Plan, Refusal>
         → MatchResult result (IsNowPlan file moment vehicle) (λ r. r ≡ Refusal.Memory) }
     ensures only_faults { (file : Text) → AreFaultsWords (map string_bytes words.items) file
         → MatchResult result (IsFaultsPlan file) (λ r. r ≡ Refusal.Memory) }
+    ensures only_picture { (file : Text) (subject : PictureSubject) → AskForPicture (map string_bytes words.items) file subject
+        → MatchResult result (IsPicturePlan file subject) (λ r. r ≡ Refusal.Memory) }
+    ensures only_domain { (domain : Domain) (title : Text) (year : ℕ)
+        → AskForDomainPicture (map string_bytes words.items) domain title year
+        → MatchResult result (IsDomainPlan domain title year) (λ r. r ≡ Refusal.Memory) }
     // The refusal is one that the words have, unless memory was refused.
     ensures refused { IfErr result (IsRefusalOf (map string_bytes words.items)) }
     // If a word of `now` stands for nothing, the first such word gives the refusal, unless memory is refused.
