@@ -14,10 +14,20 @@ use Rattle.gtd_core.specs.declared.second.Sec.{Sec}
 use Rattle.gtd_desk.specs.CommandLine.{AreFaultsWords, AreMistaken, AreNowWords, AskForText, Text, desk_app}
 use Rattle.gtd_desk.specs.CommandLine.{AreDomainWords, ArePictureWords, AreWordsWords, DomainTexts, PictureTexts, all_five, all_three}
 use Rattle.gtd_desk.specs.CommandLine.{FaultsTexts, both_given, faults_texts}
-use Rattle.gtd_desk.specs.Pictures.{HaveDomainFault, HavePictureFault}
+use Rattle.gtd_desk.specs.CommandLine.{domain_words_of, picture_words_of, words_domain_of}
+use Rattle.gtd_desk.specs.Pictures.{AreSubjectWords, AskForDomainPicture, AskForPicture, HaveDomainFault, HavePictureFault}
+use Rattle.gtd_desk.specs.Pictures.{IsDomainFault, IsReadDomain, IsSubjectFault, IsYearWord}
+use Rattle.gtd_desk.specs.declared.plans.PictureSubject.{PictureSubject}
 use Rattle.gtd_desk.specs.declared.refusal.WordFault.{WordFault}
-use Rattle.gtd_desk.specs.Plans.{AskFor, AskForNow, HaveMomentFault, HaveNoVehicle, HaveWordsFault, IsFaultsPlan, IsNowPlan}
-use Rattle.gtd_desk.specs.Plans.{IsRefusalOf, IsWordFault}
+use Rattle.gtd_desk.specs.declared.refusal.WordFault.TheVariants as word
+use Rattle.gtd_core.specs.Parts.{domain_tree}
+use Rattle.gtd_core.specs.declared.domain.Domain.{Domain}
+use Rattle.gtd_records.specs.Columns.{direction_of, number_of}
+use Rattle.gtd_records.specs.declared.direction.Direction.{Direction}
+use Rattle.gtd_text.specs.Reading.{IsFault, StandsFor}
+use Rattle.gtd_text.specs.facts.OneMeaning.{one_meaning}
+use Rattle.gtd_desk.specs.Plans.{AskFor, AskForNow, HaveMomentFault, HaveNoVehicle, HaveWordsFault, IsDomainPlan, IsFaultsPlan}
+use Rattle.gtd_desk.specs.Plans.{AskForWords, IsNowPlan, IsPicturePlan, IsRefusalOf, IsWordFault, IsWordsPlan}
 use Rattle.gtd_desk.specs.declared.plans.Plan.{Plan}
 use Rattle.gtd_desk.specs.declared.plans.Plan.TheVariants as plan
 use Rattle.gtd_desk.specs.declared.refusal.Refusal.{Refusal}
@@ -47,6 +57,54 @@ one_name o a b h k other =
     let same : h.0 ≡ k.0 = ap (λ (p : Option (Text × List Row)). unwrap_or p h.0) (sym h.1 ∙ k.1) in
     let names : a ≡ b = sym h.2 ∙ ap (λ (p : Text × List Row). p.0) same ∙ k.2 in
     true≢false (sym ((bytes_eq-Decides a b).1 names) ∙ other)
+
+-- what is read of one text is one
+one_read : {T : Type 0} (o : Option T) (x y : T) → o ≡ Some x → o ≡ Some y → x ≡ y
+one_read o x y e f = ap (λ (p : Option _). unwrap_or p x) (sym e ∙ f)
+
+none_read : {T : Type 0} (o : Option T) (x : T) → o ≡ Some x → o ≡ None → ⊥
+none_read o x e f = true≢false (ap is_some (sym e ∙ f))
+
+-- subjects of equal fields are equal
+same_subject : (s t : PictureSubject) → s.element ≡ t.element → s.direction ≡ t.direction → s.vehicle ≡ t.vehicle
+    → s.year ≡ t.year
+    → s ≡ t
+same_subject s t a b c d =
+    ap (λ (x : ℕ). let p : PictureSubject =
+    record { element = x; direction = s.direction; vehicle = s.vehicle; year = s.year } in p) a
+    ∙ ap (λ (x : Direction). let p : PictureSubject =
+    record { element = t.element; direction = x; vehicle = s.vehicle; year = s.year } in p) b
+    ∙ ap (λ (x : ℕ). let p : PictureSubject =
+    record { element = t.element; direction = t.direction; vehicle = x; year = s.year } in p) c
+    ∙ ap (λ (x : ℕ). let p : PictureSubject =
+    record { element = t.element; direction = t.direction; vehicle = t.vehicle; year = x } in p) d
+
+-- words stand for one subject
+one_subject : (texts : PictureTexts) (s t : PictureSubject) → AreSubjectWords texts s → AreSubjectWords texts t → s ≡ t
+one_subject texts s t a b =
+    same_subject s t (one_read (number_of texts.element) s.element t.element a.element b.element)
+    (one_read (direction_of texts.direction) s.direction t.direction a.direction b.direction)
+    (one_read (number_of texts.vehicle) s.vehicle t.vehicle a.vehicle.0 b.vehicle.0)
+    (one_read (number_of texts.year) s.year t.year a.year.0 b.year.0)
+
+-- words that stand for a subject have no fault
+no_subject_fault : (texts : PictureTexts) (s : PictureSubject) (why : WordFault) → AreSubjectWords texts s
+    → IsSubjectFault texts why
+    → ⊥
+no_subject_fault texts s word.Element a h = none_read (number_of texts.element) s.element a.element h
+no_subject_fault texts s word.Direction a h = none_read (direction_of texts.direction) s.direction a.direction h.1
+no_subject_fault texts s word.Vehicle a h = h.2 s.vehicle a.vehicle.0 a.vehicle.1
+no_subject_fault texts s word.Year a h = h.3 s.year a.year.0 a.year.1
+no_subject_fault texts s (word.Domain why) a h = h
+
+-- words that stand for a domain and a year have no fault
+no_domain_fault : (texts : DomainTexts) (domain : Domain) (year : ℕ) (why : WordFault) → IsReadDomain texts.domain domain
+    → IsYearWord texts.year year → IsDomainFault texts why → ⊥
+no_domain_fault texts domain year word.Element read y h = h
+no_domain_fault texts domain year word.Direction read y h = h
+no_domain_fault texts domain year word.Vehicle read y h = h
+no_domain_fault texts domain year word.Year read y h = h.1 year y.0 y.1
+no_domain_fault texts domain year (word.Domain why) read y h = read.faultless why h
 
 module _ (words : List Text) where
   name_of_now : (f m v : Text) → AreNowWords words f m v → HaveName (codes "now") (subcommand_of desk_app words)
@@ -259,7 +317,7 @@ module _ (words : List Text) where
   plan_only_faults (Ok (plan.Words d)) is file h = absurd (no_words_faults file is.text h is.given)
   plan_only_faults (Ok (plan.Show text)) is file h = absurd (no_fault_of file h is.0 is.1)
   plan_only_faults (Err (refusal.Usage why)) is file h = absurd (faults_not_mistaken file h is)
-  plan_only_faults (Err (refusal.Moment fault)) is file h = absurd (not_faults is.file is.moment is.vehicle file is.given h)
+  plan_only_faults (Err (refusal.Moment why)) is file h = absurd (not_faults is.file is.moment is.vehicle file is.given h)
   plan_only_faults (Err refusal.Vehicle) is file h = absurd (not_faults is.file is.moment is.vehicle file is.given h)
   plan_only_faults (Err (refusal.Word fault)) is file h = absurd (no_word_faults file fault h is)
   plan_only_faults (Err refusal.NoElement) is file h = absurd is
@@ -267,6 +325,41 @@ module _ (words : List Text) where
   plan_only_faults (Err refusal.Open) is file h = absurd is
   plan_only_faults (Err refusal.Write) is file h = absurd is
   plan_only_faults (Err refusal.Memory) is file h = refl
+
+  same_word : (t u : Text) → AreWordsWords words t → AreWordsWords words u → t ≡ u
+  same_word t u a b = one_read (words_domain_of words) t u a.given b.given
+
+  words_not_mistaken : (t : Text) → AreWordsWords words t → AreMistaken words → ⊥
+  words_not_mistaken t a (inl x) = subst (λ kinds. IsAmong x.0 kinds) a.faultless x.1
+  words_not_mistaken t a (inr none) = none_read (words_domain_of words) t a.given none.4
+
+  words_not_refused : (domain : Domain) (why : WordFault) → AskForWords words domain
+      → HavePictureFault words why ⊎ HaveDomainFault words why ⊎ HaveWordsFault words why → ⊥
+  words_not_refused domain why a (inl h) = no_words_picture h.texts a.text h.given a.given
+  words_not_refused domain why a (inr (inl h)) = no_words_domain h.texts a.text h.given a.given
+  words_not_refused domain why a (inr (inr h)) =
+      a.read.faultless h.why (subst (λ (t : Text). IsFault t h.why) (same_word h.text a.text h.given a.given) h.has)
+
+  pub plan_only_words : (result : Result Plan Refusal) → MatchResult result (AskFor words) (IsRefusalOf words)
+      → (domain : Domain) → AskForWords words domain → MatchResult result (IsWordsPlan domain) (λ r. r ≡ refusal.Memory)
+  plan_only_words (Ok (plan.Now f m v)) is d h = absurd (no_words_now _ is.second is.vehicle_word h.text is.given h.given)
+  plan_only_words (Ok (plan.Faults f w)) is d h = absurd (no_words_faults _ h.text is h.given)
+  plan_only_words (Ok (plan.Picture f t s)) is d h = absurd (no_words_picture is.texts h.text is.given h.given)
+  plan_only_words (Ok (plan.DomainPicture e t y)) is d h = absurd (no_words_domain is.texts h.text is.given h.given)
+  plan_only_words (Ok (plan.Words e)) is d h =
+      one_meaning h.text (domain_tree e) (domain_tree d)
+      (subst (λ (t : Text). StandsFor t (domain_tree e)) (same_word is.text h.text is.given h.given) is.read.stands) h.read.stands
+  plan_only_words (Ok (plan.Show text)) is d h = absurd (subst (λ kinds. IsAmong is.0 kinds) h.given.faultless is.1)
+  plan_only_words (Err (refusal.Usage why)) is d h = absurd (words_not_mistaken h.text h.given is)
+  plan_only_words (Err (refusal.Moment why)) is d h =
+      absurd (no_words_now is.file is.moment is.vehicle h.text is.given h.given)
+  plan_only_words (Err refusal.Vehicle) is d h = absurd (no_words_now is.file is.moment is.vehicle h.text is.given h.given)
+  plan_only_words (Err (refusal.Word why)) is d h = absurd (words_not_refused d why h is)
+  plan_only_words (Err refusal.NoElement) is d h = absurd is
+  plan_only_words (Err (refusal.Records why)) is d h = absurd is
+  plan_only_words (Err refusal.Open) is d h = absurd is
+  plan_only_words (Err refusal.Write) is d h = absurd is
+  plan_only_words (Err refusal.Memory) is d h = refl
 
   pub plan_first : (result : Result Plan Refusal) → MatchResult result (AskFor words) (IsRefusalOf words)
       → (r : Refusal) → IsWordFault words r
@@ -280,3 +373,115 @@ module _ (words : List Text) where
   plan_first result is refusal.Open h = absurd h
   plan_first result is refusal.Write h = absurd h
   plan_first result is refusal.Memory h = absurd h
+
+  no_domain_picture : (t : PictureTexts) (d : DomainTexts) → ArePictureWords words t → AreDomainWords words d → ⊥
+  no_domain_picture t d a b =
+      one_name (subcommand_of desk_app words) (codes "picture") (codes "picture-domain") (name_of_picture t a) (name_of_domain
+      d b)
+      refl
+
+  no_words_picture : (t : PictureTexts) (d : Text) → ArePictureWords words t → AreWordsWords words d → ⊥
+  no_words_picture t d a b =
+      one_name (subcommand_of desk_app words) (codes "picture") (codes "words") (name_of_picture t a) (name_of_words d b) refl
+
+  no_words_domain : (t : DomainTexts) (d : Text) → AreDomainWords words t → AreWordsWords words d → ⊥
+  no_words_domain t d a b =
+      one_name (subcommand_of desk_app words) (codes "picture-domain") (codes "words") (name_of_domain t a) (name_of_words d b)
+      refl
+
+  same_texts : (t u : PictureTexts) → ArePictureWords words t → ArePictureWords words u → t ≡ u
+  same_texts t u a b = one_read (picture_words_of words) t u a.given b.given
+
+  same_domain_texts : (t u : DomainTexts) → AreDomainWords words t → AreDomainWords words u → t ≡ u
+  same_domain_texts t u a b = one_read (domain_words_of words) t u a.given b.given
+
+  picture_not_text : (t : PictureTexts) → ArePictureWords words t → AskForText words → ⊥
+  picture_not_text t a x = subst (λ kinds. IsAmong x.0 kinds) a.faultless x.1
+
+  picture_not_mistaken : (t : PictureTexts) → ArePictureWords words t → AreMistaken words → ⊥
+  picture_not_mistaken t a (inl x) = subst (λ kinds. IsAmong x.0 kinds) a.faultless x.1
+  picture_not_mistaken t a (inr none) = none_read (picture_words_of words) t a.given none.2
+
+  domain_not_text : (t : DomainTexts) → AreDomainWords words t → AskForText words → ⊥
+  domain_not_text t a x = subst (λ kinds. IsAmong x.0 kinds) a.faultless x.1
+
+  domain_not_mistaken : (t : DomainTexts) → AreDomainWords words t → AreMistaken words → ⊥
+  domain_not_mistaken t a (inl x) = subst (λ kinds. IsAmong x.0 kinds) a.faultless x.1
+  domain_not_mistaken t a (inr none) = none_read (domain_words_of words) t a.given none.3
+
+  picture_not_refused : (file : Text) (s : PictureSubject) (why : WordFault) → AskForPicture words file s
+      → HavePictureFault words why ⊎ HaveDomainFault words why ⊎ HaveWordsFault words why → ⊥
+  picture_not_refused file s why a (inl h) =
+      no_subject_fault a.texts s why a.read
+      (subst (λ (t : PictureTexts). IsSubjectFault t why) (same_texts h.texts a.texts h.given a.given) h.has)
+  picture_not_refused file s why a (inr (inl h)) = no_domain_picture a.texts h.texts a.given h.given
+  picture_not_refused file s why a (inr (inr h)) = no_words_picture a.texts h.text a.given h.given
+
+  domain_not_refused : (domain : Domain) (title : Text) (year : ℕ) (why : WordFault) → AskForDomainPicture words domain title year
+      → HavePictureFault words why ⊎ HaveDomainFault words why ⊎ HaveWordsFault words why → ⊥
+  domain_not_refused domain title year why a (inl h) = no_domain_picture h.texts a.texts h.given a.given
+  domain_not_refused domain title year why a (inr (inr h)) = no_words_domain a.texts h.text a.given h.given
+  domain_not_refused domain title year why a (inr (inl h)) =
+      no_domain_fault a.texts domain year why a.read a.year_read
+      (subst (λ (t : DomainTexts). IsDomainFault t why) (same_domain_texts h.texts a.texts h.given a.given) h.has)
+
+  one_picture_plan : (f g : Text) (s u : PictureSubject) → AskForPicture words f s → AskForPicture words g u → (f ≡ g) × (s ≡ u)
+  one_picture_plan f g s u a b =
+      let same = same_texts a.texts b.texts a.given b.given in (
+        a.path ∙ ap (λ (t : PictureTexts). t.file) same ∙ sym b.path,
+        one_subject b.texts s u (subst (λ (t : PictureTexts). AreSubjectWords t s) same a.read) b.read,
+      )
+
+  one_domain_plan : (d e : Domain) (f g : Text) (y z : ℕ) → AskForDomainPicture words d f y → AskForDomainPicture words e g z
+      → (domain_tree d ≡ domain_tree e) × (f ≡ g) × (y ≡ z)
+  one_domain_plan d e f g y z a b =
+      let same = same_domain_texts a.texts b.texts a.given b.given in
+      let text = ap (λ (t : DomainTexts). t.domain) same in
+      let read = subst (λ (t : DomainTexts). IsYearWord t.year y) same a.year_read in (
+        one_meaning b.texts.domain (domain_tree d) (domain_tree e)
+            (subst (λ (t : Text). StandsFor t (domain_tree d)) text a.read.stands) b.read.stands,
+        a.text ∙ text ∙ sym b.text,
+        one_read (number_of b.texts.year) y z read.0 b.year_read.0,
+      )
+
+  pub plan_only_picture : (result : Result Plan Refusal) → MatchResult result (AskFor words) (IsRefusalOf words)
+      → (file : Text) (subject : PictureSubject) → AskForPicture words file subject
+      → MatchResult result (IsPicturePlan file subject) (λ r. r ≡ refusal.Memory)
+  plan_only_picture (Ok (plan.Now f m v)) is file s h = absurd (no_picture_now _ is.second is.vehicle_word h.texts is.given
+      h.given)
+  plan_only_picture (Ok (plan.Faults f w)) is file s h = absurd (no_picture_faults _ h.texts is h.given)
+  plan_only_picture (Ok (plan.Picture f t u)) is file s h = one_picture_plan _ file u s is h
+  plan_only_picture (Ok (plan.DomainPicture d t y)) is file s h = absurd (no_domain_picture h.texts is.texts h.given is.given)
+  plan_only_picture (Ok (plan.Words d)) is file s h = absurd (no_words_picture h.texts is.text h.given is.given)
+  plan_only_picture (Ok (plan.Show text)) is file s h = absurd (picture_not_text h.texts h.given is)
+  plan_only_picture (Err (refusal.Usage why)) is file s h = absurd (picture_not_mistaken h.texts h.given is)
+  plan_only_picture (Err (refusal.Moment why)) is file s h =
+      absurd (no_picture_now is.file is.moment is.vehicle h.texts is.given h.given)
+  plan_only_picture (Err refusal.Vehicle) is file s h = absurd (no_picture_now is.file is.moment is.vehicle h.texts is.given
+      h.given)
+  plan_only_picture (Err (refusal.Word why)) is file s h = absurd (picture_not_refused file s why h is)
+  plan_only_picture (Err refusal.NoElement) is file s h = absurd is
+  plan_only_picture (Err (refusal.Records why)) is file s h = absurd is
+  plan_only_picture (Err refusal.Open) is file s h = absurd is
+  plan_only_picture (Err refusal.Write) is file s h = absurd is
+  plan_only_picture (Err refusal.Memory) is file s h = refl
+
+  pub plan_only_domain : (result : Result Plan Refusal) → MatchResult result (AskFor words) (IsRefusalOf words)
+      → (domain : Domain) (title : Text) (year : ℕ) → AskForDomainPicture words domain title year
+      → MatchResult result (IsDomainPlan domain title year) (λ r. r ≡ refusal.Memory)
+  plan_only_domain (Ok (plan.Now f m v)) is d t y h = absurd (no_domain_now _ is.second is.vehicle_word h.texts is.given h.given)
+  plan_only_domain (Ok (plan.Faults f w)) is d t y h = absurd (no_domain_faults _ h.texts is h.given)
+  plan_only_domain (Ok (plan.Picture f u s)) is d t y h = absurd (no_domain_picture is.texts h.texts is.given h.given)
+  plan_only_domain (Ok (plan.DomainPicture e u z)) is d t y h = one_domain_plan e d _ t z y is h
+  plan_only_domain (Ok (plan.Words e)) is d t y h = absurd (no_words_domain h.texts is.text h.given is.given)
+  plan_only_domain (Ok (plan.Show text)) is d t y h = absurd (domain_not_text h.texts h.given is)
+  plan_only_domain (Err (refusal.Usage why)) is d t y h = absurd (domain_not_mistaken h.texts h.given is)
+  plan_only_domain (Err (refusal.Moment why)) is d t y h =
+      absurd (no_domain_now is.file is.moment is.vehicle h.texts is.given h.given)
+  plan_only_domain (Err refusal.Vehicle) is d t y h = absurd (no_domain_now is.file is.moment is.vehicle h.texts is.given h.given)
+  plan_only_domain (Err (refusal.Word why)) is d t y h = absurd (domain_not_refused d t y why h is)
+  plan_only_domain (Err refusal.NoElement) is d t y h = absurd is
+  plan_only_domain (Err (refusal.Records why)) is d t y h = absurd is
+  plan_only_domain (Err refusal.Open) is d t y h = absurd is
+  plan_only_domain (Err refusal.Write) is d t y h = absurd is
+  plan_only_domain (Err refusal.Memory) is d t y h = refl

@@ -1,5 +1,6 @@
 -- What a command line asks for.
 use Rattle.std.specs.Prelude.{◌≡◌, ◌⊎◌, ℕ, List, Option, Some, None, Ok, Err, string_bytes}
+use Rattle.gtd_core.specs.Parts.{domain_tree}
 use Rattle.gtd_core.specs.declared.domain.Domain.{Domain}
 use Rattle.gtd_core.specs.declared.fault.TextFault.{TextFault}
 use Rattle.gtd_core.specs.declared.second.Sec.{Sec}
@@ -11,6 +12,7 @@ use Rattle.gtd_runs.specs.Run.{IsVehicleType}
 use Rattle.gtd_desk.specs.Pictures.{AskForDomainPicture, AskForPicture, HaveDomainFault, HavePictureFault, IsReadDomain}
 pub use Rattle.gtd_desk.specs.Pictures.{IsNoVehicle}
 use Rattle.gtd_desk.specs.CommandLine.{AreFaultsWords, AreMistaken, AreNowWords, AreWordsWords, AskForText, FaultsTexts, Text}
+use Rattle.gtd_desk.specs.declared.plans.PictureSubject.{PictureSubject}
 use Rattle.gtd_desk.specs.declared.plans.Plan.{Plan}
 use Rattle.gtd_desk.specs.declared.plans.Plan.TheVariants as plan
 use Rattle.gtd_desk.specs.declared.refusal.WordFault.{WordFault}
@@ -94,6 +96,34 @@ IsFaultsPlan texts (plan.Picture f t s) = ⊥
 IsFaultsPlan texts (plan.DomainPicture d t y) = ⊥
 IsFaultsPlan texts (plan.Words domain) = ⊥
 IsFaultsPlan texts (plan.Show text) = ⊥
+
+-- The plan is for `picture`, with this file and this subject.
+abbrev pub IsPicturePlan : Text → PictureSubject → Plan → Type 0
+IsPicturePlan file subject (plan.Now f m v) = ⊥
+IsPicturePlan file subject (plan.Faults f w) = ⊥
+IsPicturePlan file subject (plan.Picture f t s) = (string_bytes f ≡ file) × (s ≡ subject)
+IsPicturePlan file subject (plan.DomainPicture d t y) = ⊥
+IsPicturePlan file subject (plan.Words d) = ⊥
+IsPicturePlan file subject (plan.Show text) = ⊥
+
+-- The plan is for `picture-domain`, with a domain of the same expression, this title and this year.
+abbrev pub IsDomainPlan : Domain → Text → ℕ → Plan → Type 0
+IsDomainPlan domain title year (plan.Now f m v) = ⊥
+IsDomainPlan domain title year (plan.Faults f w) = ⊥
+IsDomainPlan domain title year (plan.Picture f t s) = ⊥
+IsDomainPlan domain title year (plan.DomainPicture d t y) =
+    (domain_tree d ≡ domain_tree domain) × (string_bytes t ≡ title) × (y ≡ year)
+IsDomainPlan domain title year (plan.Words d) = ⊥
+IsDomainPlan domain title year (plan.Show text) = ⊥
+
+-- The plan is for `words`, with a domain of the same expression.
+abbrev pub IsWordsPlan : Domain → Plan → Type 0
+IsWordsPlan domain (plan.Now f m v) = ⊥
+IsWordsPlan domain (plan.Faults f w) = ⊥
+IsWordsPlan domain (plan.Picture f t s) = ⊥
+IsWordsPlan domain (plan.DomainPicture d t y) = ⊥
+IsWordsPlan domain (plan.Words d) = domain_tree d ≡ domain_tree domain
+IsWordsPlan domain (plan.Show text) = ⊥
 
 -- The words give the command `now`, and this is the refusal for the first of its words that stands for nothing.
 abbrev pub IsWordFault : List Text → Refusal → Type 0

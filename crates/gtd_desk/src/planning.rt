@@ -13,7 +13,11 @@ ghost use Rattle.gtd_desk.specs.CommandLine.{AreFaultsWords, AreNowWords, AskFor
 ghost use Rattle.gtd_desk.specs.CommandLine.{AreWordsWords, FaultsTexts, faults_words_of, now_words_of, words_domain_of};
 ghost use Rattle.gtd_desk.specs.CommandLine as spec;
 ghost use Rattle.gtd_desk.specs.Given.{given_faults};
-ghost use Rattle.gtd_desk.specs.Plans.{AskFor, AskForNow, IsFaultsPlan, IsNoVehicle, IsNowPlan, IsRefusalOf, IsWordFault};
+ghost use Rattle.gtd_desk.specs.Plans.{AskFor, AskForNow, IsDomainPlan, IsFaultsPlan, IsNoVehicle, IsNowPlan};
+ghost use Rattle.gtd_desk.specs.Plans.{AskForWords, IsPicturePlan, IsRefusalOf, IsWordFault, IsWordsPlan};
+ghost use Rattle.gtd_desk.specs.Pictures.{AskForDomainPicture, AskForPicture};
+ghost use Rattle.gtd_core.specs.declared.domain.Domain.{Domain};
+ghost use Rattle.gtd_desk.specs.declared.plans.PictureSubject.{PictureSubject};
 ghost use Rattle.gtd_desk.specs.declared.refusal.Refusal.{Refusal};
 
 use crate::arguments::{
@@ -201,6 +205,13 @@ pub fn plan(alloc: Global, words: Vec<String>) -> Result<Plan, Refusal>
         → MatchResult result (IsNowPlan file moment vehicle) (λ r. r ≡ Refusal.Memory) }
     ensures only_faults { (texts : FaultsTexts) → AreFaultsWords (map string_bytes words.items) texts
         → MatchResult result (IsFaultsPlan texts) (λ r. r ≡ Refusal.Memory) }
+    ensures only_picture { (file : Text) (subject : PictureSubject) → AskForPicture (map string_bytes words.items) file subject
+        → MatchResult result (IsPicturePlan file subject) (λ r. r ≡ Refusal.Memory) }
+    ensures only_domain { (domain : Domain) (title : Text) (year : ℕ)
+        → AskForDomainPicture (map string_bytes words.items) domain title year
+        → MatchResult result (IsDomainPlan domain title year) (λ r. r ≡ Refusal.Memory) }
+    ensures only_words { (domain : Domain) → AskForWords (map string_bytes words.items) domain
+        → MatchResult result (IsWordsPlan domain) (λ r. r ≡ Refusal.Memory) }
     // The refusal is one that the words have, unless memory was refused.
     ensures refused { IfErr result (IsRefusalOf (map string_bytes words.items)) }
     // If a word of `now` stands for nothing, the first such word gives the refusal, unless memory is refused.

@@ -1,6 +1,6 @@
 use Rattle.std.proofs.Common.{map}
 use Rattle.std.specs.Prelude.{string_bytes}
-use Rattle.gtd_desk.proofs.PlanFacts.{plan_only, plan_only_faults, plan_first}
+use Rattle.gtd_desk.proofs.PlanFacts.{plan_first, plan_only, plan_only_domain, plan_only_faults, plan_only_picture, plan_only_words}
 use Rattle.gtd_desk.proofs.planning.plan.Goals as goal
 
 pub returns-clause-only : goal.returns-clause-only
@@ -16,4 +16,19 @@ returns-clause-first c = λ refusal is.
 pub returns-clause-only_faults : goal.returns-clause-only_faults
 returns-clause-only_faults c = λ file asks.
     plan_only_faults (map string_bytes c.as_slice.result.now) c.plan_words.result c.plan_words.ensures file
+    (rw (c.as_slice.ensures.value) asks)
+
+pub returns-clause-only_picture : goal.returns-clause-only_picture
+returns-clause-only_picture c = λ file subject asks.
+    plan_only_picture (map string_bytes c.as_slice.result.now) c.plan_words.result c.plan_words.ensures file subject
+    (rw (c.as_slice.ensures.value) asks)
+
+pub returns-clause-only_domain : goal.returns-clause-only_domain
+returns-clause-only_domain c = λ domain title year asks.
+    plan_only_domain (map string_bytes c.as_slice.result.now) c.plan_words.result c.plan_words.ensures domain title year
+    (rw (c.as_slice.ensures.value) asks)
+
+pub returns-clause-only_words : goal.returns-clause-only_words
+returns-clause-only_words c = λ domain asks.
+    plan_only_words (map string_bytes c.as_slice.result.now) c.plan_words.result c.plan_words.ensures domain
     (rw (c.as_slice.ensures.value) asks)
