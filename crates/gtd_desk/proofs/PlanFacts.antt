@@ -12,8 +12,8 @@ use Rattle.clap.specs.declared.error.kind.ErrorKind.{ErrorKind}
 use Rattle.gtd_calendar.specs.declared.stamp.StampFault.{StampFault}
 use Rattle.gtd_core.specs.declared.second.Sec.{Sec}
 use Rattle.gtd_desk.specs.CommandLine.{AreFaultsWords, AreMistaken, AreNowWords, AskForText, Text, desk_app}
-use Rattle.gtd_desk.specs.CommandLine.{AreDomainWords, ArePictureWords, AreWordsWords, DomainTexts, PictureTexts, all_five, all_three}
-use Rattle.gtd_desk.specs.CommandLine.{FaultsTexts, both_given, faults_texts}
+use Rattle.gtd_desk.specs.CommandLine.{AreDomainWords, ArePictureWords, AreWordsWords, DomainTexts, PictureTexts, all_five}
+use Rattle.gtd_desk.specs.CommandLine.{FaultsTexts, all_three, both_given, faults_texts}
 use Rattle.gtd_desk.specs.CommandLine.{domain_words_of, picture_words_of, words_domain_of}
 use Rattle.gtd_desk.specs.Pictures.{AreSubjectWords, AskForDomainPicture, AskForPicture, HaveDomainFault, HavePictureFault}
 use Rattle.gtd_desk.specs.Pictures.{IsDomainFault, IsReadDomain, IsSubjectFault, IsYearWord}

@@ -1,5 +1,6 @@
 -- What the output took, if a text is the list of a file.
-use Rattle.std.proofs.Common.{◌≡◌, ◌<◌, inr, refl, ℕ, Bool, true, false, List, [], ◌∷◌, ◌++◌, length, Option, Some, None, append-nil, sym}
+use Rattle.std.proofs.Common.{◌≡◌, ◌<◌, inr, refl, ℕ, Bool, true, false, List, [], ◌∷◌, ◌++◌, length}
+use Rattle.std.proofs.Common.{Option, Some, None, append-nil, sym}
 use Rattle.std.specs.Prelude.{IfSome, Result, Ok, Err}
 use Rattle.gtd_core.specs.Limits.{most_file_bytes}
 use Rattle.gtd_records.specs.Faults.{AreFileFaults}

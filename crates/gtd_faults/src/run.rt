@@ -91,8 +91,9 @@ fn put_too_large<O: Output>(alloc: Global, output: &mut O, path: &str) -> Result
 }
 
 /// Puts the list of all faults of the record file that an input brings, and answers their number. If they are asked for, the
-/// list goes on with a line for each warning ([`gtd_records::warnings_of`]). Each fault has a line: the file's path, as [`crate::Printable`] shows it, the line of the file on which its row begins, the row, and its kind. Below
-/// it is the field at fault with a caret at the place, or the first line of a file that has no header.
+/// list goes on with a line for each warning ([`gtd_records::warnings_of`]). Each fault has a line: the file's path, as
+/// [`crate::Printable`] shows it, the line of the file on which its row begins, the row, and its kind. Below it is the field at
+/// fault with a caret at the place, or the first line of a file that has no header.
 ///
 /// Each row that stands for no restriction is listed, in order; `TooManyRows` follows the faults of the first 65,536 rows;
 /// `TooLarge` or `Header` is listed alone. Nothing is listed exactly if the file is accepted, and the first line names the

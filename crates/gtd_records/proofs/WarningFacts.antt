@@ -66,7 +66,8 @@ module _ (v : Version) {R : Type 0} (rem : R → Option (List ℕ)) (old : Reade
       let nil = takes far.left far.has in
       let all : rows ≡ far.before = far.split ∙ ap (λ (l : List Fields). far.before ++ l) nil ∙ append-nil far.before in
       let count = far.count in
-      let cut : take most rows ≡ far.before = ap (λ (l : List Fields). take most l) all ∙ take_all most far.before (omega arith) in
+      let cut : take most rows ≡ far.before =
+      ap (λ (l : List Fields). take most l) all ∙ take_all most far.before (omega arith) in
       subst (λ (l : List Fields). AreRowWarnings v 1 l warnings) (sym cut) far.each
 
   pub warnings_at_limit : (warnings : List Warning) (most : ℕ) → WarningsSoFar v rem old rows warnings (most + 1)

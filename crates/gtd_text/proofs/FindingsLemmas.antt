@@ -66,7 +66,8 @@ misfit_more : (end : ℕ) (found : Option TextFault) (now : Seen) (before : List
 misfit_more end (Some fault) now before token more known = refl
 misfit_more end None now before token more known =
     let make : Bool → Fault → Option TextFault =
-    λ b k. option_or (cond b None (Some (record { kind = k; place = token.from }))) (fault_after end (token.kind ∷ before) more) in
+    λ b k. option_or (cond b None (Some (record { kind = k; place = token.from })))
+    (fault_after end (token.kind ∷ before) more) in
     ap (λ (s : Seen). make (takes s token.kind) (misfit s token.kind)) known
     ∙ ap (λ (b : Bool). make b (misfit (seen before) token.kind)) (takes_agrees before token.kind)
     ∙ ap (make (fits before token.kind)) (misfit_agrees before token.kind)

@@ -84,5 +84,6 @@ findings_with before token = record {
 -- The first fault, if the text ends here.
 abbrev pub first_of : ℕ → Findings → Option TextFault
 first_of end findings =
-    option_or (option_or (option_or findings.too_deep findings.too_many) (option_or findings.misfit (incomplete_at findings.seen end)))
+    option_or
+    (option_or (option_or findings.too_deep findings.too_many) (option_or findings.misfit (incomplete_at findings.seen end)))
     (option_or findings.too_long (fault_of_opened findings.opened))

@@ -298,8 +298,8 @@ long_scan b (t ∷ ts) = both_ways (opens_too_long t.kind (kinds ts)) (opens_too
 -- the grammar's fault is the first token that does not fit, or else that the tokens end too early
 pub fit_fault : (len : ℕ) (tokens : List Token) → fault_after len [] tokens
     ≡ option_or (scan grammar_fault [] tokens) (ending len (newest_first tokens))
-fit_fault len tokens = fit_scan len [] tokens ∙ ap (λ (l : List TokenKind). option_or (scan grammar_fault [] tokens) (ending len l))
-    (newest tokens)
+fit_fault len tokens =
+    fit_scan len [] tokens ∙ ap (λ (l : List TokenKind). option_or (scan grammar_fault [] tokens) (ending len l)) (newest tokens)
 
 -- ---- a token at fault by the grammar is the first with which no expression goes on
 
@@ -460,8 +460,8 @@ data Deciding (a b c d e : Option TextFault) (fault : TextFault) : Type 0 where
   by_d : a ≡ None → b ≡ None → c ≡ None → d ≡ Some fault → Deciding a b c d e fault
   by_e : a ≡ None → b ≡ None → c ≡ None → d ≡ None → e ≡ Some fault → Deciding a b c d e fault
 
-deciding : (a b c d e : Option TextFault) (fault : TextFault) → option_or (option_or (option_or a b) (option_or c d)) e ≡ Some fault
-    → Deciding a b c d e fault
+deciding : (a b c d e : Option TextFault) (fault : TextFault)
+    → option_or (option_or (option_or a b) (option_or c d)) e ≡ Some fault → Deciding a b c d e fault
 deciding (Some f) b c d e fault h = by_a h
 deciding None (Some f) c d e fault h = by_b refl h
 deciding None None (Some f) d e fault h = by_c refl refl h
@@ -479,8 +479,9 @@ phases len tokens =
     (long_of tokens)) (deep_scan [] tokens (omega arith))
     ∙ ap (λ (o : Option TextFault). option_or (option_or (option_or (scan bracket_fault [] tokens) o) (fault_after len [] tokens))
     (long_of tokens)) (many_scan [] tokens (omega arith))
-    ∙ ap (λ (o : Option TextFault). option_or (option_or (option_or (scan bracket_fault [] tokens) (scan parenthesis_fault [] tokens))
-    o) (long_of tokens)) (fit_fault len tokens)
+    ∙ ap (λ (o : Option TextFault).
+    option_or (option_or (option_or (scan bracket_fault [] tokens) (scan parenthesis_fault [] tokens)) o) (long_of tokens))
+    (fit_fault len tokens)
     ∙ ap (λ (o : Option TextFault). chain (scan bracket_fault [] tokens) (scan parenthesis_fault [] tokens)
     (scan grammar_fault [] tokens) (ending len (newest_first tokens)) o) (long_scan [] tokens)
 

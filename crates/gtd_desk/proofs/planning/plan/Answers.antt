@@ -1,6 +1,7 @@
 use Rattle.std.proofs.Common.{map}
 use Rattle.std.specs.Prelude.{string_bytes}
-use Rattle.gtd_desk.proofs.PlanFacts.{plan_first, plan_only, plan_only_domain, plan_only_faults, plan_only_picture, plan_only_words}
+use Rattle.gtd_desk.proofs.PlanFacts.{plan_first, plan_only, plan_only_domain, plan_only_faults, plan_only_picture}
+use Rattle.gtd_desk.proofs.PlanFacts.{plan_only_words}
 use Rattle.gtd_desk.proofs.planning.plan.Goals as goal
 
 pub returns-clause-only : goal.returns-clause-only
