@@ -16,7 +16,7 @@ use gtd_runs::{Progress, Stop, put_line};
 use gtd_spans::{ByDay, SpanSource};
 use std::alloc::Global;
 
-/// Longer than the line before the days may be: memory has no room for more.
+/// How many bytes the line before the days may have. More are answered like refused memory, so that all bytes can be counted.
 const MOST_HEAD: usize = 1 << 63;
 
 // Puts the line before the days.
