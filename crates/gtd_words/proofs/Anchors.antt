@@ -1,17 +1,17 @@
 -- What names the day of a start, read off its words.
-use Rattle.std.proofs.Common.{◌≡◌, ◌≢◌, ℕ, zero, suc, ◌+◌, ◌-◌, ◌*◌, ◌/◌, ◌%◌, ◌^◌, ◌<◌, ◌≤◌, Bool, true, false, cond, List}
-use Rattle.std.proofs.Common.{[], ◌∷◌, ◌++◌, Option, Some, None, refl, sym, ap, ◌∙◌, arith, append_assoc}
+use Rattle.std.proofs.Common.{◌≡◌, ◌≢◌, ℕ, ◌/◌, ◌%◌, ◌<◌, Bool, true, false, cond, List}
+use Rattle.std.proofs.Common.{[], ◌∷◌, ◌++◌, refl, sym, ap, ◌∙◌, arith, append_assoc}
 use Rattle.std.specs.Prelude.{◌==◌, codes, decimal}
 use Rattle.std.specs.Char.{is_ascii_digit}
 use Rattle.std.proofs.lemmas.Bool.{false≢true, eq-eqb}
 use Rattle.std.proofs.lemmas.List.{append_cancel_left}
 use Rattle.gtd_words.specs.declared.anchor.Anchor.{Anchor}
 use Rattle.gtd_words.specs.declared.anchor.Anchor.TheVariants.{Day, Place, PlaceBack, Weekdays, EveryDay, TheMonday, Beginning}
-use Rattle.gtd_words.specs.Names.{place_names, place_name, weekday_name, weekdays_words, place_words, back_words, back_name}
+use Rattle.gtd_words.specs.Names.{place_names, place_name, weekday_name, weekdays_words, place_words, back_words}
 use Rattle.gtd_words.specs.Names.{ordinal_ending}
 use Rattle.gtd_words.specs.Starts.{anchor_words, clock_lead, day_words, is_in_month, lead_words}
-use Rattle.gtd_words.proofs.Prefixes.{Both, NoDigit, Digit, head, tail, no_way, decimal_then, first_digit, EachName, of_name}
-use Rattle.gtd_words.proofs.WeekdayLists.{DaysOf, list_of_days, from_day, of_weekday}
+use Rattle.gtd_words.proofs.Prefixes.{Both, NoDigit, Digit, head, tail, no_way, decimal_then, first_digit, of_name}
+use Rattle.gtd_words.proofs.WeekdayLists.{list_of_days, from_day, of_weekday}
 use Rattle.gtd_words.proofs.StartParts.{rank, IsAt, place_then, back_then, weekdays_spaced, spaced_then}
 
 abbrev pub IsAnchor : Anchor → Type 0

@@ -1,5 +1,5 @@
 -- The clock of a start, read off its words.
-use Rattle.std.proofs.Common.{◌≡◌, ◌≢◌, ℕ, zero, suc, ◌+◌, ◌-◌, ◌*◌, ◌/◌, ◌%◌, ◌^◌, ◌<◌, ◌≤◌, Bool, true, false, cond, List}
+use Rattle.std.proofs.Common.{◌≡◌, ℕ, ◌<◌, Bool, true, false, cond, List}
 use Rattle.std.proofs.Common.{[], ◌∷◌, ◌++◌, Option, Some, None, refl, sym, ap, ◌∙◌, arith, append_assoc}
 use Rattle.std.specs.Prelude.{◌==◌, codes, decimal, IfSome}
 use Rattle.std.specs.Char.{is_ascii_digit}
@@ -7,7 +7,7 @@ use Rattle.std.proofs.lemmas.Bool.{false≢true, eq-eqb}
 use Rattle.std.proofs.lemmas.List.{append_cancel_left}
 use Rattle.gtd_words.specs.Names.{two_digits}
 use Rattle.gtd_words.specs.Starts.{clock_words, hour_words, minute_words, of_hour, of_hours, second_words, seconds_words}
-use Rattle.gtd_words.proofs.Prefixes.{Both, NoDigit, Digit, head, tail, no_way, decimal_then, first_digit, two_then}
+use Rattle.gtd_words.proofs.Prefixes.{Both, NoDigit, head, tail, no_way, decimal_then, first_digit, two_then}
 use Rattle.gtd_words.proofs.StartParts.{rank, spaced_then}
 
 abbrev pub IsClock : ℕ → Type 0

@@ -1,6 +1,6 @@
 -- Two durations with the same words are the same duration, and two basic domains too.
-use Rattle.std.proofs.Common.{◌≡◌, ◌≢◌, ℕ, ◌+◌, ◌*◌, ◌^◌, ◌<◌, ◌≤◌, Bool, true, false, cond, List, [], ◌∷◌, ◌++◌, Option, Some}
-use Rattle.std.proofs.Common.{None, refl, sym, ap, subst, ◌∙◌, arith, append_assoc}
+use Rattle.std.proofs.Common.{◌≡◌, ◌≢◌, ℕ, ◌+◌, ◌≤◌, Bool, true, false, cond, List, [], ◌∷◌, ◌++◌, Option, Some}
+use Rattle.std.proofs.Common.{None, refl, sym, ap, ◌∙◌, arith, append_assoc}
 use Rattle.std.specs.Prelude.{◌==◌, ◌&&◌, codes, decimal}
 use Rattle.std.specs.Char.{is_ascii_digit}
 use Rattle.std.proofs.lemmas.Bool.{false≢true, eqb-true, eqb-false, eq-eqb, ne_eqb, and_parts}
@@ -11,9 +11,9 @@ use Rattle.gtd_core.specs.declared.duration.DurationParts.{DurationParts}
 use Rattle.gtd_core.specs.Ranges.{IsStart, IsDuration, HasSixDigits}
 use Rattle.gtd_words.specs.Starts.{start_words}
 use Rattle.gtd_words.specs.Durations.{number_words, numbers_words, date_numbers, clock_numbers, date_sum, clock_sum, date_words}
-use Rattle.gtd_words.specs.Durations.{clock_part_words, duration_words, clock_end, until_words, time_words, day_after}
+use Rattle.gtd_words.specs.Durations.{clock_part_words, duration_words, clock_end, until_words}
 use Rattle.gtd_words.specs.Words.{basic_words}
-use Rattle.gtd_words.proofs.Prefixes.{Both, NoDigit, Digit, head, tail, apart, no_way, apart_all, all_apart, decimal_then}
+use Rattle.gtd_words.proofs.Prefixes.{Both, NoDigit, head, tail, apart, no_way, decimal_then}
 use Rattle.gtd_words.proofs.Prefixes.{first_digit}
 use Rattle.gtd_words.proofs.StartLaw.{start_then}
 

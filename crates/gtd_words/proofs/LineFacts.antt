@@ -1,13 +1,13 @@
 -- Indents, and the operators of an expression.
-use Rattle.std.proofs.Common.{◌≡◌, ◌≢◌, ℕ, zero, suc, ◌+◌, ◌-◌, ◌≤◌, ◌<◌, Bool, true, false, List, [], ◌∷◌, ◌++◌, refl}
+use Rattle.std.proofs.Common.{◌≡◌, ◌≢◌, ℕ, zero, suc, ◌+◌, ◌-◌, ◌<◌, List, ◌++◌, refl}
 use Rattle.std.proofs.Common.{sym, ap, ◌∙◌, arith, append_assoc}
-use Rattle.std.specs.Prelude.{codes, ◌==◌, Result, Ok, Err, OnOk}
-use Rattle.std.proofs.lemmas.Bool.{false≢true}
+use Rattle.std.specs.Prelude.{codes, Result, Ok, Err, OnOk}
 use Rattle.std.proofs.lemmas.List.{append-nil}
 use Rattle.gtd_core.specs.declared.domain.Domain.{Domain}
 use Rattle.gtd_core.specs.Parts.{domain_tree}
 use Rattle.gtd_core.specs.Trees.{Tree, Single, Joined, leaf_count}
-use Rattle.gtd_words.specs.Words.{indent, join_count}
+use Rattle.gtd_words.specs.Joins.{join_count}
+use Rattle.gtd_words.specs.Words.{indent}
 
 pub indent_none : (text : List ℕ) (depth : ℕ) → depth ≡ 0 → text ≡ text ++ indent depth
 indent_none text depth e = sym (ap (λ (n : ℕ). text ++ indent n) e ∙ append-nil text)

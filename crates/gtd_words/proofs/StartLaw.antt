@@ -1,11 +1,11 @@
 -- Two starts with the same words are the same start.
-use Rattle.std.proofs.Common.{◌≡◌, ◌≢◌, ℕ, ◌+◌, ◌*◌, ◌^◌, ◌<◌, ◌≤◌, Bool, true, false, cond, List, [], ◌∷◌, ◌++◌, Option, Some}
+use Rattle.std.proofs.Common.{◌≡◌, ℕ, ◌<◌, Bool, true, false, cond, List, ◌++◌, Option, Some}
 use Rattle.std.proofs.Common.{None, refl, sym, ap, subst, ◌∙◌, arith, append_assoc}
 use Rattle.std.specs.Prelude.{◌==◌, codes, IfSome}
 use Rattle.std.proofs.lemmas.Bool.{false≢true, eqb-true, eqb-false}
 use Rattle.std.proofs.lemmas.List.{append_cancel_left}
 use Rattle.gtd_core.specs.declared.start.StartParts.{StartParts}
-use Rattle.gtd_core.specs.Ranges.{IsStart, IsPlace, IsWithin}
+use Rattle.gtd_core.specs.Ranges.{IsStart, IsWithin}
 use Rattle.gtd_words.specs.declared.anchor.Anchor.{Anchor}
 use Rattle.gtd_words.specs.declared.anchor.Anchor.TheVariants.{Day, Place, PlaceBack, Weekdays, EveryDay, TheMonday, Beginning}
 use Rattle.gtd_words.specs.Starts.{anchor_from, anchor_of, anchor_words, also_back, also_place, also_weekdays, back_condition}

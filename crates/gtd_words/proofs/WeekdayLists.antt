@@ -1,10 +1,10 @@
 -- The names of weekdays: where a list of them ends, and which bits they stand for.
-use Rattle.std.proofs.Common.{◌≡◌, ◌≢◌, ℕ, zero, suc, ◌+◌, ◌-◌, ◌*◌, ◌/◌, ◌%◌, ◌^◌, ◌<◌, ◌≤◌, Bool, true, false, cond, List}
-use Rattle.std.proofs.Common.{[], ◌∷◌, ◌++◌, length, refl, sym, ap, ◌∙◌, arith, append_assoc, ◌⊎◌, inl, inr}
+use Rattle.std.proofs.Common.{◌≡◌, ◌≢◌, ℕ, zero, suc, ◌+◌, ◌-◌, ◌/◌, ◌%◌, ◌^◌, ◌<◌, ◌≤◌, Bool, true, false, cond, List}
+use Rattle.std.proofs.Common.{[], ◌∷◌, ◌++◌, refl, sym, ap, ◌∙◌, arith, append_assoc, ◌⊎◌, inl, inr}
 use Rattle.std.specs.Prelude.{◌==◌, ◌&&◌, codes, nat_le}
 use Rattle.std.proofs.lemmas.List.{append_cancel_left}
 use Rattle.std.proofs.lemmas.Bool.{false≢true, eqb-true, and_parts, leb-true, cases_order}
-use Rattle.gtd_words.specs.Names.{name_from, weekday_names, weekday_name, weekday_joint, weekday_if_set, weekdays_words}
+use Rattle.gtd_words.specs.Names.{weekday_names, weekday_name, weekday_if_set, weekdays_words}
 use Rattle.gtd_words.proofs.Prefixes.{Both, apart, tail, no_way, name_then, EachName, of_name}
 
 pub weekday_then : (m n : ℕ) (r s : List ℕ) → 1 ≤ m → m ≤ 7 → 1 ≤ n → n ≤ 7 → weekday_name m ++ r ≡ weekday_name n ++ s

@@ -1,5 +1,5 @@
 -- Two expressions with the same words are the same expression: the text gives its lines, and the lines give the tree.
-use Rattle.std.proofs.Common.{◌≡◌, ◌≢◌, ℕ, zero, suc, ◌+◌, ◌<◌, ◌≤◌, Bool, true, false, cond, List, [], ◌∷◌, ◌++◌, Option}
+use Rattle.std.proofs.Common.{◌≡◌, ℕ, zero, suc, ◌≤◌, Bool, true, false, List, [], ◌∷◌, ◌++◌, Option}
 use Rattle.std.proofs.Common.{Some, None, refl, sym, ap, subst, ◌∙◌, arith, append_assoc}
 use Rattle.std.specs.Prelude.{◌==◌, codes}
 use Rattle.std.proofs.lemmas.Bool.{false≢true, eq-eqb}
@@ -13,10 +13,10 @@ use Rattle.gtd_core.specs.Trees.{Tree, Single, Joined, AreValid}
 use Rattle.gtd_words.specs.declared.anchor.Anchor.{Anchor}
 use Rattle.gtd_words.specs.declared.anchor.Anchor.TheVariants.{Weekdays, EveryDay}
 use Rattle.gtd_words.specs.Names.{weekdays_words}
-use Rattle.gtd_words.specs.Starts.{anchor_of, anchor_words, clock_lead, has_clock, is_given, lead_words, start_words}
+use Rattle.gtd_words.specs.Starts.{anchor_of, anchor_words, has_clock, is_given, lead_words}
 use Rattle.gtd_words.specs.Words.{basic_words, indent, lead_words as op_lead, lines, op_words, words}
 use Rattle.gtd_words.specs.Durations.{duration_words, clock_end, until_words}
-use Rattle.gtd_words.proofs.Prefixes.{Both, head, tail, no_way}
+use Rattle.gtd_words.proofs.Prefixes.{Both, head, no_way}
 use Rattle.gtd_words.proofs.StartLaw.{from_month, words_are}
 use Rattle.gtd_words.proofs.DurationLaw.{SameBasic, basic_is, basic_then}
 

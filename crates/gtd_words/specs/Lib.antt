@@ -1,4 +1,5 @@
 pub mod Durations
+pub mod Joins
 pub mod Names
 pub mod Starts
 pub mod Words

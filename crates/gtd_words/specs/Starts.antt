@@ -1,5 +1,5 @@
 -- The words of a start.
-use Rattle.std.specs.Prelude.{ℕ, ◌==◌, ◌||◌, Bool, true, false, List, [], ◌∷◌, ◌++◌, Option, Some, None, if◌then◌else◌}
+use Rattle.std.specs.Prelude.{ℕ, ◌==◌, ◌||◌, Bool, true, false, List, [], ◌++◌, Option, Some, None, if◌then◌else◌}
 use Rattle.std.specs.Prelude.{codes, decimal}
 use Rattle.gtd_core.specs.declared.start.StartParts.{StartParts}
 use Rattle.gtd_words.specs.declared.anchor.Anchor.{Anchor}
@@ -66,13 +66,13 @@ abbrev pub week_words : Option ℕ → List ℕ
 week_words None = []
 week_words (Some week) = codes "in week " ++ decimal week ++ codes " "
 
--- The year of a month or of a week, or of neither.
+-- The year: its number alone after a month, and `of the year` otherwise. Without one, a month or week is one of `every year`.
 abbrev pub year_words : Bool → Bool → Option ℕ → List ℕ
 year_words month week (Some year) =
     (if month then (if week then codes "of the year " else []) else codes "of the year ") ++ four_digits year ++ codes " "
 year_words month week None = if month || week then codes "every year " else []
 
--- Fields that must hold too: places and weekdays that do not name the day.
+-- What must hold too: places that do not name the day, and weekdays.
 abbrev pub also_place : Option (ℕ × ℕ) → List ℕ
 also_place None = []
 also_place (Some place) = codes "if it is the " ++ place_words place ++ codes "the month "
@@ -97,7 +97,7 @@ also_weekdays weekdays =
 abbrev pub weekdays_condition : Anchor → ℕ → List ℕ
 weekdays_condition anchor weekdays = if is_in_month anchor then also_weekdays weekdays else []
 
--- The clock: `from 10 o'clock `, `from 10:30 `, `from minute 30 of every hour `.
+-- The clock, if it is given: `from 10 o'clock `, `from 10:30 `, `from minute 30 of every hour `.
 abbrev pub seconds_words : Option ℕ → List ℕ
 seconds_words None = []
 seconds_words (Some second) = codes ":" ++ two_digits second
@@ -137,12 +137,13 @@ clock_words None (Some minute) second = minute_words minute second
 clock_words None None (Some second) = second_words second None
 clock_words None None None = []
 
--- The month, the week and the year.
+-- The month, the week and the year of a start.
 unfoldable pub period_words : Anchor → StartParts → List ℕ
 period_words anchor start =
     month_words (is_in_month anchor) start.month ++ week_words start.week
     ++ year_words (is_given start.month) (is_given start.week) start.year
 
+-- What must hold too, if something else names the day.
 unfoldable pub condition_words : Anchor → StartParts → List ℕ
 condition_words anchor start =
     place_condition anchor start.nth ++ back_condition anchor start.nth_back ++ weekdays_condition anchor start.weekdays

@@ -2,7 +2,7 @@
 --
 -- The parts of a chain of operators stand below one another, and each line after the first says what is done with all the
 -- lines above it. A part in brackets has a heading, and stands below it, indented by four columns.
-use Rattle.std.specs.Prelude.{ℕ, zero, suc, ◌+◌, List, [], ◌∷◌, ◌++◌, Option, Some, None, codes}
+use Rattle.std.specs.Prelude.{ℕ, zero, suc, List, [], ◌++◌, Option, Some, None, codes}
 use Rattle.gtd_core.specs.declared.start.StartParts.{StartParts}
 use Rattle.gtd_core.specs.declared.duration.DurationParts.{DurationParts}
 use Rattle.gtd_core.specs.declared.domain.Op.{Op}
@@ -38,11 +38,6 @@ lines depth lead (Single start duration) = indent depth ++ lead_words lead ++ ba
 lines depth None (Joined op left right) = lines depth None left ++ lines depth (Some op) right
 lines depth (Some before) (Joined op left right) =
     indent depth ++ op_words before ++ codes "\n" ++ lines (suc depth) None left ++ lines (suc depth) (Some op) right
-
--- How many operators it has.
-abbrev pub join_count : Tree → ℕ
-join_count (Single start duration) = 0
-join_count (Joined op left right) = 1 + join_count left + join_count right
 
 -- The words of a domain's expression.
 abbrev pub words : Tree → List ℕ

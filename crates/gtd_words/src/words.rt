@@ -3,7 +3,8 @@
 ghost use Rattle.std.specs.Prelude.{◌≡◌, ◌<◌, ◌+◌, ◌++◌, string_bytes, codes, IfOk, OnOk, Some, None};
 ghost use Rattle.gtd_core.specs.Parts.{domain_tree, start_parts, duration_parts};
 ghost use Rattle.gtd_core.specs.Trees.{tree_of};
-ghost use Rattle.gtd_words.specs.Words.{basic_words, indent, join_count, lead_words, lines, op_words, words};
+ghost use Rattle.gtd_words.specs.Joins.{join_count};
+ghost use Rattle.gtd_words.specs.Words.{basic_words, indent, lead_words, lines, op_words, words};
 
 use crate::duration::{clock_end, push_duration, push_until};
 use crate::start::push_start;

@@ -1,4 +1,3 @@
-use Rattle.std.proofs.Common.{ℕ}
 use Rattle.gtd_words.proofs.words.+push_indent.Given as goal
 
 abbrev pub decreases-push_indent : goal.decreases-push_indent
