@@ -1,11 +1,9 @@
 -- One stretch of months and days from a date of each year to another.
-use Rattle.std.proofs.Common.{◌≡◌, ◌↔◌, ◌⊎◌, ℕ, ◌+◌, ◌-◌, ◌*◌, ◌<◌, ◌≤◌, min, Some, refl, sym, ◌∙◌, inl, inr, arith}
+use Rattle.std.proofs.Common.{◌≡◌, ◌↔◌, ◌⊎◌, ℕ, ◌+◌, ◌-◌, ◌*◌, ◌<◌, ◌≤◌, min, refl, sym, ◌∙◌, inl, inr, arith}
 use Rattle.std.proofs.Common.{ℤ, pos, ◌+ℤ◌, ◌-ℤ◌, ◌*ℤ◌, ◌≤ℤ◌, ◌<ℤ◌}
 use Rattle.std.proofs.lemmas.Int.{by_lt_z}
 use Rattle.gtd_calendar.specs.facts.Signed.{signed_arith}
-use Rattle.gtd_core.specs.Ranges.{no_parts}
 use Rattle.gtd_core.specs.Trees.{Tree, Single}
-use Rattle.gtd_core.specs.declared.start.StartParts.{StartParts}
 use Rattle.gtd_core.specs.declared.duration.DurationParts.{DurationParts}
 use Rattle.gtd_calendar.specs.Calendar.{day_number, first_day, days_of_months, month_length}
 use Rattle.gtd_calendar.specs.ComputedDates.{year_of, month_of, day_of_month}
@@ -18,7 +16,7 @@ use Rattle.gtd_eval.specs.Membership.{InTree}
 use Rattle.gtd_osm.specs.Cost.{common_length}
 use Rattle.gtd_osm.specs.Opening.{IsRound, date_key}
 use Rattle.gtd_osm.specs.Ranges.{IsMonth}
-use Rattle.gtd_osm.specs.Translation.{clocked, minutes_of, moved_day, no_duration}
+use Rattle.gtd_osm.specs.Translation.{clocked, minutes_of, moved_day, no_duration, on_month_day}
 use Rattle.gtd_osm.specs.declared.clock.Clock.{Clock}
 use Rattle.gtd_osm.proofs.DateLemmas.{date-in}
 use Rattle.gtd_osm.proofs.LeafLemmas.{days-held, reach}
@@ -136,9 +134,6 @@ pub common-days-fit : (m d : ℕ) → d ≤ common_length m → (y : ℤ) → d 
 common-days-fit m d le y = grind arith
 
 -- a month and a day of it
-abbrev pub on_month_day : ℕ → ℕ → StartParts
-on_month_day mo d = record no_parts { month = Some mo; day = Some d }
-
 to : (mo d : ℕ) (n : ℤ) → HoldsOnDay (on_month_day mo d) (day_fields n) → (month_of n ≡ mo) × (day_of_month n ≡ d)
 to mo d n x = (sym x.month, sym x.day)
 
@@ -191,13 +186,72 @@ reaches n m1 d1 m2 d2 k f l apart at fits =
         long (month_first t) (month_first (t +ℤ pos 1)) d2 (month_length (counted_year t) (counted_month t)) (month_first-next t)
         (rw month (fits (counted_year t)))
 
-pub date-run : (t : Tree) (c : Clock) (m1 d1 m2 d2 k j : ℕ)
-    → t ≡ Single (clocked (on_month_day m1 d1) c) (record no_duration { months = k; days = j }) → IsMonth m1 → IsMonth m2
-    → (1 ≤ d1) × (d1 ≤ 28) → (1 ≤ d2) × (d2 ≤ 31) → d1 + j ≡ d2 + 1 → AreMonthsApart m1 d1 m2 d2 k
+-- A stretch of i months and j days from the day d1 of month m1 ends after the day d2 of the month that is k months later.
+abbrev pub EndsAt : ℕ → ℕ → ℕ → ℕ → ℕ → ℕ → Type 0
+EndsAt m1 d1 d2 k i j = (n : ℤ) → month_of n ≡ m1 → day_of_month n ≡ d1
+    → months_later n i +ℤ pos j ≡ month_first (count n +ℤ pos k) +ℤ pos d2
+
+-- by months to that month
+pub ends-there : (m1 d1 d2 k j : ℕ) → (1 ≤ d1) × (d1 ≤ 28) → d1 + j ≡ d2 + 1 → EndsAt m1 d1 d2 k k j
+ends-there m1 d1 d2 k j low sum n mo at = rw (day-later n k d1 at low.1) (ends (month_first (count n +ℤ pos k)) d1 d2 j sum low.0)
+  where
+    ends : (a : ℤ) (d e j : ℕ) → d + j ≡ e + 1 → 1 ≤ d → (a +ℤ pos (d - 1)) +ℤ pos j ≡ a +ℤ pos e
+    ends a d e j s low = omega (arith, signed_arith)
+
+-- by months to the month before it, which has the same length in each year
+pub ends-over : (m1 d1 m2 d2 before long k j : ℕ) → IsMonth m1 → IsMonth before → (1 ≤ d1) × (d1 ≤ 28)
+    → AreMonthsApart m1 d1 m2 d2 k → 1 ≤ k
+    → (before + 1 ≡ m2) ⊎ ((m2 ≡ 1) × (before ≡ 12)) → ((y : ℤ) → month_length y before ≡ long) → d1 + j ≡ long + d2 + 1
+    → EndsAt m1 d1 d2 k (k - 1) j
+ends-over m1 d1 m2 d2 before long k j f b low apart some was fixed sum n mo at =
+    let t = count n +ℤ pos (k - 1) in
+    let month = counted t (there (year_of n) (month_of n) mo) in
+    let next = month_first-next t in
+    let length : month_length (counted_year t) (counted_month t) ≡ long = rw month (fixed (counted_year t)) in
+    let later : t +ℤ pos 1 ≡ count n +ℤ pos k = on (count n) k some in
+    rw (day-later n (k - 1) d1 at low.1)
+    (ends (month_first t) (month_first (count n +ℤ pos k)) d1 d2 long j sum low.0 (rw (later, length) at next))
+  where
+    on : (a : ℤ) (k : ℕ) → 1 ≤ k → (a +ℤ pos (k - 1)) +ℤ pos 1 ≡ a +ℤ pos k
+    on a k some = omega (arith, signed_arith)
+
+    ends : (a b : ℤ) (d e long j : ℕ) → d + j ≡ long + e + 1 → 1 ≤ d → b ≡ a +ℤ pos long
+        → (a +ℤ pos (d - 1)) +ℤ pos j ≡ b +ℤ pos e
+    ends a b d e long j s low next = omega (arith, signed_arith)
+
+    counted : (t : ℤ) → ((y : ℤ) × (t ≡ pos 12 *ℤ y +ℤ pos (before - 1))) → counted_month t ≡ before
+    counted t h =
+        let is = counted-is t h.0 (before - 1) (omega (arith, b.0, b.1)) h.1 in
+        let back : before - 1 + 1 ≡ before = omega (arith, b.0) in
+        is.1 ∙ back
+
+    in_year : (y : ℤ) (mo k before : ℕ) → mo + k ≡ before + 1 → 1 ≤ mo → 1 ≤ k → 1 ≤ before
+        → month_count y mo +ℤ pos (k - 1) ≡ pos 12 *ℤ y +ℤ pos (before - 1)
+    in_year y mo k before e low some c = omega (arith, signed_arith)
+
+    in_next : (y : ℤ) (mo k before : ℕ) → mo + k ≡ before + 13 → 1 ≤ mo → 1 ≤ k → 1 ≤ before
+        → month_count y mo +ℤ pos (k - 1) ≡ pos 12 *ℤ (y +ℤ pos 1) +ℤ pos (before - 1)
+    in_next y mo k before e low some c = omega (arith, signed_arith)
+
+    there : (y : ℤ) (mo : ℕ) → mo ≡ m1 → (z : ℤ) × (month_count y mo +ℤ pos (k - 1) ≡ pos 12 *ℤ z +ℤ pos (before - 1))
+    there y mo e = elim apart [
+      | inl same ↦ elim was [
+        | inl x ↦ (y, in_year y mo k before (omega (arith, e, same.0, x)) (omega (arith, e, f.0)) some b.0)
+        | inr x ↦ absurd (omega (arith, same.0, x.0, f.0, some))
+      ]
+      | inr over ↦ elim was [
+        | inl x ↦ (y +ℤ pos 1, in_next y mo k before (omega (arith, e, over.0, x)) (omega (arith, e, f.0)) some b.0)
+        | inr x ↦ (y, in_year y mo k before (omega (arith, e, over.0, x.0, x.1)) (omega (arith, e, f.0)) some b.0)
+      ]
+    ]
+
+pub date-run : (t : Tree) (c : Clock) (m1 d1 m2 d2 k i j : ℕ)
+    → t ≡ Single (clocked (on_month_day m1 d1) c) (record no_duration { months = i; days = j }) → IsMonth m1 → IsMonth m2
+    → (1 ≤ d1) × (d1 ≤ 28) → (1 ≤ d2) × (d2 ≤ 31) → AreMonthsApart m1 d1 m2 d2 k → EndsAt m1 d1 d2 k i j
     → ((y : ℤ) → d2 ≤ month_length y m2) → (s : ℤ) → let m = moved_day (minutes_of c) s in
     InTree t s ↔ IsRound (date_key m1 d1) (date_key m2 d2) (date_key (month_of m) (day_of_month m))
-date-run t c m1 d1 m2 d2 k j e f l low high sum apart fits s =
-    let q = record no_duration { months = k; days = j } in
+date-run t c m1 d1 m2 d2 k i j e f l low high apart ends fits s =
+    let q = record no_duration { months = i; days = j } in
     let held = days-held (on_month_day m1 d1) q c refl s in
     let m = moved_day (minutes_of c) s in
     let mi = month-in m in
@@ -224,25 +278,21 @@ date-run t c m1 d1 m2 d2 k j e f l low high sum apart fits s =
     along : (n a m : ℤ) (P : Type 0) → n ≡ a → ((a ≤ℤ m) ↔ P) → (n ≤ℤ m) ↔ P
     along n a m P e h = rw e h
 
-    same_end : (a : ℤ) (d e j : ℕ) → d + j ≡ e + 1 → 1 ≤ d → (a +ℤ pos (d - 1)) +ℤ pos j ≡ a +ℤ pos e
-    same_end a d e j s low = omega (arith, signed_arith)
-
     first : (n : ℤ) → day_of_month n ≡ d1 → n ≡ month_first (count n) +ℤ pos (d1 - 1)
     first n at = rw at at (count-lies n).0
 
-    end : (n : ℤ) → day_of_month n ≡ d1
-        → reach (record no_duration { months = k; days = j }) n ≡ month_first (count n +ℤ pos k) +ℤ pos d2
-    end n at =
-        reach-date (record no_duration { months = k; days = j }) n k j (omega arith) (omega arith)
-        ∙ (rw (day-later n k d1 at low.1) (same_end (month_first (count n +ℤ pos k)) d1 d2 j sum low.0))
+    end : (n : ℤ) → month_of n ≡ m1 → day_of_month n ≡ d1
+        → reach (record no_duration { months = i; days = j }) n ≡ month_first (count n +ℤ pos k) +ℤ pos d2
+    end n mo at =
+        reach-date (record no_duration { months = i; days = j }) n i j (omega arith) (omega arith) ∙ ends n mo at
 
     lies : (n m : ℤ) → month_of n ≡ m1 → day_of_month n ≡ d1
         → ((n ≤ℤ m) ↔ (place (count n) d1 ≤ℤ place (count m) (day_of_month m)))
-        × ((m <ℤ reach (record no_duration { months = k; days = j }) n)
+        × ((m <ℤ reach (record no_duration { months = i; days = j }) n)
         ↔ (place (count m) (day_of_month m) ≤ℤ place (count n +ℤ pos k) d2))
     lies n m mo at = (
       along n _ m _ (first n at) begun,
-      rw (end n at) (up-to-place m (count n +ℤ pos k) d2 high.0 high.1 (reaches n m1 d1 m2 d2 k f l apart mo fits)),
+      rw (end n mo at) (up-to-place m (count n +ℤ pos k) d2 high.0 high.1 (reaches n m1 d1 m2 d2 k f l apart mo fits)),
     )
       where
         begun : ((month_first (count n) +ℤ pos (d1 - 1)) ≤ℤ m) ↔ (place (count n) d1 ≤ℤ place (count m) (day_of_month m))
@@ -252,14 +302,14 @@ date-run t c m1 d1 m2 d2 k j e f l low high sum apart fits s =
 
     bounds : (n m : ℤ) → month_of n ≡ m1 → day_of_month n ≡ d1
         → (n ≤ℤ m → place (count n) d1 ≤ℤ place (count m) (day_of_month m))
-        × (m <ℤ reach (record no_duration { months = k; days = j }) n
+        × (m <ℤ reach (record no_duration { months = i; days = j }) n
         → place (count m) (day_of_month m) ≤ℤ place (count n +ℤ pos k) d2)
     bounds n m mo at = let x = lies n m mo at in (x.0.0, x.1.0)
 
     back : (n m : ℤ) → month_of n ≡ m1 → day_of_month n ≡ d1
         → (place (count n) d1 ≤ℤ place (count m) (day_of_month m) → n ≤ℤ m)
         × (place (count m) (day_of_month m) ≤ℤ place (count n +ℤ pos k) d2
-        → m <ℤ reach (record no_duration { months = k; days = j }) n)
+        → m <ℤ reach (record no_duration { months = i; days = j }) n)
     back n m mo at = let x = lies n m mo at in (x.0.1, x.1.1)
 
     round : (y z : ℤ) (mo d : ℕ) → IsMonth mo → (1 ≤ d) × (d ≤ 31) → place (month_count y m1) d1 ≤ℤ place (month_count z mo) d
@@ -326,3 +376,8 @@ date-run t c m1 d1 m2 d2 k j e f l low high sum apart fits s =
         near : (z : ℤ) (mo d m1 m2 d2 k : ℕ) → m1 + k ≡ m2 + 12 → 1 ≤ m1 → 1 ≤ mo → date_key mo d ≤ date_key m2 d2
             → place (month_count z mo) d ≤ℤ place (month_count (z -ℤ pos 1) m1 +ℤ pos k) d2
         near z mo d m1 m2 d2 k e f mi le = omega (arith, signed_arith)
+
+-- a month other than February is as long in each year
+pub fixed-length : (m long : ℕ) → ((y : ℤ) → (month_length y m ≡ long) ⊎ ((m ≡ 2) × (month_length y m ≤ 29))) → (m ≡ 2 → ⊥)
+    → (y : ℤ) → month_length y m ≡ long
+fixed-length m long full other y = elim (full y) [ inl e ↦ e | inr two ↦ absurd (other two.0) ]

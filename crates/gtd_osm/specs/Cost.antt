@@ -1,5 +1,6 @@
 -- How many basic domains the translation of opening hours has.
-use Rattle.std.specs.Prelude.{ℕ, ◌+◌, ◌-◌, ◌/◌, ◌==◌, ◌&&◌, ◌||◌, ◌≤◌, Bool, nat_lt, nat_le, if◌then◌else◌, max, min}
+use Rattle.std.specs.Prelude.{ℕ, ◌+◌, ◌-◌, ◌/◌, ◌==◌, ◌&&◌, ◌||◌, ◌≤◌, ◌≢◌, ◌⊎◌, not, Bool, nat_lt, nat_le}
+use Rattle.std.specs.Prelude.{if◌then◌else◌, max, min}
 use Rattle.std.specs.Prelude.{List, [], ◌∷◌}
 use Rattle.gtd_osm.specs.Ranges.{end_of}
 use Rattle.gtd_osm.specs.declared.hours.Selector.{Selector}
@@ -46,14 +47,17 @@ month_after month = if month == 12 then 1 else month + 1
 abbrev pub common_length : ℕ → ℕ
 common_length month = if month == 2 then 28 else if (month == 4) || (month == 6) || (month == 9) || (month == 11) then 30 else 31
 
--- One stretch of months and days reaches from the first date to the last one: each year has both, and a move by months keeps
--- the first day.
+-- One stretch of months and days reaches from the first date to the last one: each year has both, a move by months keeps
+-- the first day, and the last month, if it is reached by days, comes after one that is as long in each year.
 abbrev pub IsOneStretch : MonthDay → MonthDay → Type 0
-IsOneStretch first last = (first.day ≤ 28) × (last.day ≤ common_length last.month) × (first.day ≤ last.day + 1)
+IsOneStretch first last =
+    (first.day ≤ 28) × (last.day ≤ common_length last.month) × ((first.day ≤ last.day + 1) ⊎ (last.month ≢ 3))
 
 abbrev pub is_one_stretch : MonthDay → MonthDay → Bool
 is_one_stretch first last =
-    nat_le first.day 28 && (nat_le last.day (common_length last.month) && nat_le first.day (last.day + 1))
+    nat_le first.day 28
+    && (nat_le last.day (common_length last.month)
+    && (nat_le first.day (last.day + 1) || not (last.month == 3)))
 
 -- a range of dates: one stretch; or days within one month; or the rest of the first month, the months between, and the
 -- beginning of the last month

@@ -1,7 +1,7 @@
 -- What the expressions of the translation contain, and where they begin: each day begins some minutes late.
 use Rattle.std.specs.Prelude.{◌≡◌, ◌↔◌, ◌⊎◌, ℕ, ◌+◌, ◌*◌, ◌<◌, ◌≤◌, List, [], ◌∷◌, Option, Some, None, ℤ, pos, ◌-ℤ◌}
 use Rattle.gtd_core.specs.Seconds.{day_of_second}
-use Rattle.gtd_core.specs.Ranges.{IsWithin, IsPlace}
+use Rattle.gtd_core.specs.Ranges.{IsWithin, IsPlace, no_parts}
 use Rattle.gtd_core.specs.Trees.{leaf_count, tree_of}
 use Rattle.gtd_core.specs.declared.domain.Expr.{Expr}
 use Rattle.gtd_core.specs.declared.start.StartParts.{StartParts}
@@ -61,6 +61,10 @@ pub record AreDayParts (p : StartParts) : Type 0 where
 -- those fields, with a clock
 abbrev pub clocked : StartParts → Clock → StartParts
 clocked p clock = record p { hour = Some clock.hour; minute = Some clock.minute; second = None }
+
+-- a month and a day of it
+abbrev pub on_month_day : ℕ → ℕ → StartParts
+on_month_day month day = record no_parts { month = Some month; day = Some day }
 
 -- no number of a duration
 abbrev pub no_duration : DurationParts

@@ -1,13 +1,14 @@
 //! The days of ranges of months and dates.
 
 ghost use Rattle.std.specs.Prelude.{◌≡◌, ◌↔◌, ◌⊎◌, ◌<◌, ◌≤◌, ◌+◌, ◌==◌, ◌&&◌, if◌then◌else◌, min, nat_lt, ℤ, IfOk, IsTrue};
-ghost use Rattle.gtd_core.specs.Trees.{leaf_count, tree_of};
+ghost use Rattle.gtd_core.specs.Trees.{Single, leaf_count, tree_of};
 ghost use Rattle.gtd_calendar.specs.Calendar.{month_length};
 ghost use Rattle.gtd_calendar.specs.ComputedDates.{month_of, day_of_month};
 ghost use Rattle.gtd_osm.specs.Cost.{IsOneStretch, common_length, is_one_stretch};
 ghost use Rattle.gtd_osm.specs.Cost.{dates_cost, month_after, month_cost};
 ghost use Rattle.gtd_osm.specs.Opening.{IsRound, date_key};
 ghost use Rattle.gtd_osm.specs.Ranges.{IsMonth, IsMonthDay};
+ghost use Rattle.gtd_osm.specs.Translation.{clocked, no_duration, on_month_day};
 ghost use Rattle.gtd_osm.specs.Translation.{AreDays, HoldsAt, InMaybe, IsMonthBetween, maybe_leaves, minutes_of, moved_day};
 ghost use Rattle.gtd_osm.specs.declared.hours.Selector.TheVariants as selector;
 
@@ -224,6 +225,7 @@ fn months_later(first: MonthDay, last: MonthDay) -> u8
         ⊎ ((first.month + result ≡ last.month + 12)
         × (date_key last.month last.day < date_key first.month first.day)) }
     ensures few { result ≤ 12 }
+    ensures some { last.day < first.day → 1 ≤ result }
 {
     if key(first) <= key(last) {
         last.month - first.month
@@ -237,19 +239,19 @@ pub(crate) fn is_one_stretch(dates: Dates) -> bool
     ensures value { result ≡ is_one_stretch dates.first dates.last }
     ensures holds { IsTrue result ↔ IsOneStretch dates.first dates.last }
 {
+    let first = dates.first;
     let last = dates.last;
-    dates.first.day <= 28 && last.day <= shortest(last.month) && dates.first.day <= last.day + 1
+    first.day <= 28
+        && last.day <= shortest(last.month)
+        && (first.day <= last.day + 1 || last.month != 3)
 }
 
-// The days of such a range.
-fn date_run(dates: Dates, clock: Clock) -> Expr
-    requires { IsOneStretch dates.first dates.last }
-    ensures days { AreDays (minutes_of clock) (HoldsAt (selector.Dates dates)) result }
-    ensures leaves { leaf_count (tree_of result) ≡ 1 }
+// From a date of each year on, for some months and days.
+fn dates_from(first: MonthDay, months: u8, days: u8, clock: Clock) -> Expr
+    requires { months ≤ 12 }
+    ensures { tree_of result ≡ Single (clocked (on_month_day first.month first.day) clock)
+        (record no_duration { months = months; days = days }) }
 {
-    let first = dates.first;
-    let months = u32::from(months_later(first, dates.last));
-    let days = u32::from(dates.last.day + 1 - first.day);
     leaf(
         StartParts {
             month: Some(first.month),
@@ -257,12 +259,28 @@ fn date_run(dates: Dates, clock: Clock) -> Expr
             ..NO_PARTS
         },
         DurationParts {
-            months,
-            days,
+            months: u32::from(months),
+            days: u32::from(days),
             ..NO_DURATION
         },
         clock,
     )
+}
+
+// The days of a range that one stretch reaches: by months to the last month, or to the one before it, and then by days.
+fn date_run(dates: Dates, clock: Clock) -> Expr
+    requires { IsOneStretch dates.first dates.last }
+    ensures days { AreDays (minutes_of clock) (HoldsAt (selector.Dates dates)) result }
+    ensures leaves { leaf_count (tree_of result) ≡ 1 }
+{
+    let first = dates.first;
+    let last = dates.last;
+    let months = months_later(first, last);
+    if first.day <= last.day + 1 {
+        return dates_from(first, months, last.day + 1 - first.day, clock);
+    }
+    let before = shortest(month_before(last.month));
+    dates_from(first, months - 1, before + last.day + 1 - first.day, clock)
 }
 
 /// The days of a range of dates: one stretch; or those of one month; or the rest of the first month, the months between, and
