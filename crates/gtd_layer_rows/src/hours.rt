@@ -173,23 +173,30 @@ fn winter(rt: HostRuntime) -> Result<(), Fail> {
     Ok(())
 }
 
-// `Nov 15-Mar 20 06:00-07:00`: one stretch of four months and six days.
-#[test]
-fn over_new_year(rt: HostRuntime) -> Result<(), Fail> {
-    let alloc = rt.alloc();
-    let dates = Selector::Dates(Dates {
-        first: date(&rt, 11, 15),
-        last: date(&rt, 3, 20),
-    });
+// Each day of a range of dates from 06:00 to 07:00.
+fn mornings(
+    rt: &impl Abort,
+    alloc: Global,
+    first: MonthDay,
+    last: MonthDay,
+) -> Result<Hours, AllocError> {
+    let dates = Selector::Dates(Dates { first, last });
     let mut rules = Vec::new(alloc);
     rules.push(rule(
         alloc,
         Link::Instead,
         dates,
-        time(&rt, 360, 420),
+        time(rt, 360, 420),
         Modifier::Open,
     )?)?;
-    let hours = Hours { rules };
+    Ok(Hours { rules })
+}
+
+// `Nov 15-Mar 20`: one stretch of four months and six days.
+#[test]
+fn over_new_year(rt: HostRuntime) -> Result<(), Fail> {
+    let alloc = rt.alloc();
+    let hours = mornings(&rt, alloc, date(&rt, 11, 15), date(&rt, 3, 20))?;
     assert_eq!(rt; cost_of(&hours), 2);
     let domain = domain_of(alloc, &hours).expect(&rt, "a domain");
     expect_states(

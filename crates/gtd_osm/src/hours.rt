@@ -129,7 +129,9 @@ pub enum Link {
 /// What a rule says of its spans.
 #[derive(Clone, Copy, Debug, PartialEq, Eq)]
 pub enum Modifier {
+    /// `open`, `on`, or no word: its spans are open.
     Open,
+    /// `closed`, `off`: its spans are not open.
     Closed,
 }
 

@@ -17,13 +17,16 @@ use crate::spans::rule_spans;
 use gtd_core::limits::MOST_BASIC_DOMAINS;
 use gtd_core::{Domain, Expr, Op};
 use std::alloc::{AllocError, Global};
+use thiserror::Error;
 
 /// Why there is no domain.
-#[derive(Clone, Copy, Debug, PartialEq, Eq)]
+#[derive(Clone, Copy, Debug, PartialEq, Eq, Error)]
 pub enum HoursFault {
     /// The domain would have more than 128 basic domains.
+    #[error("TooMany")]
     TooMany,
     /// Memory was refused.
+    #[error("NoMemory")]
     NoMemory,
 }
 
