@@ -326,41 +326,6 @@ module _ (words : List Text) where
   plan_only_faults (Err refusal.Write) is file h = absurd is
   plan_only_faults (Err refusal.Memory) is file h = refl
 
-  same_word : (t u : Text) → AreWordsWords words t → AreWordsWords words u → t ≡ u
-  same_word t u a b = one_read (words_domain_of words) t u a.given b.given
-
-  words_not_mistaken : (t : Text) → AreWordsWords words t → AreMistaken words → ⊥
-  words_not_mistaken t a (inl x) = subst (λ kinds. IsAmong x.0 kinds) a.faultless x.1
-  words_not_mistaken t a (inr none) = none_read (words_domain_of words) t a.given none.4
-
-  words_not_refused : (domain : Domain) (why : WordFault) → AskForWords words domain
-      → HavePictureFault words why ⊎ HaveDomainFault words why ⊎ HaveWordsFault words why → ⊥
-  words_not_refused domain why a (inl h) = no_words_picture h.texts a.text h.given a.given
-  words_not_refused domain why a (inr (inl h)) = no_words_domain h.texts a.text h.given a.given
-  words_not_refused domain why a (inr (inr h)) =
-      a.read.faultless h.why (subst (λ (t : Text). IsFault t h.why) (same_word h.text a.text h.given a.given) h.has)
-
-  pub plan_only_words : (result : Result Plan Refusal) → MatchResult result (AskFor words) (IsRefusalOf words)
-      → (domain : Domain) → AskForWords words domain → MatchResult result (IsWordsPlan domain) (λ r. r ≡ refusal.Memory)
-  plan_only_words (Ok (plan.Now f m v)) is d h = absurd (no_words_now _ is.second is.vehicle_word h.text is.given h.given)
-  plan_only_words (Ok (plan.Faults f w)) is d h = absurd (no_words_faults _ h.text is h.given)
-  plan_only_words (Ok (plan.Picture f t s)) is d h = absurd (no_words_picture is.texts h.text is.given h.given)
-  plan_only_words (Ok (plan.DomainPicture e t y)) is d h = absurd (no_words_domain is.texts h.text is.given h.given)
-  plan_only_words (Ok (plan.Words e)) is d h =
-      one_meaning h.text (domain_tree e) (domain_tree d)
-      (subst (λ (t : Text). StandsFor t (domain_tree e)) (same_word is.text h.text is.given h.given) is.read.stands) h.read.stands
-  plan_only_words (Ok (plan.Show text)) is d h = absurd (subst (λ kinds. IsAmong is.0 kinds) h.given.faultless is.1)
-  plan_only_words (Err (refusal.Usage why)) is d h = absurd (words_not_mistaken h.text h.given is)
-  plan_only_words (Err (refusal.Moment why)) is d h =
-      absurd (no_words_now is.file is.moment is.vehicle h.text is.given h.given)
-  plan_only_words (Err refusal.Vehicle) is d h = absurd (no_words_now is.file is.moment is.vehicle h.text is.given h.given)
-  plan_only_words (Err (refusal.Word why)) is d h = absurd (words_not_refused d why h is)
-  plan_only_words (Err refusal.NoElement) is d h = absurd is
-  plan_only_words (Err (refusal.Records why)) is d h = absurd is
-  plan_only_words (Err refusal.Open) is d h = absurd is
-  plan_only_words (Err refusal.Write) is d h = absurd is
-  plan_only_words (Err refusal.Memory) is d h = refl
-
   pub plan_first : (result : Result Plan Refusal) → MatchResult result (AskFor words) (IsRefusalOf words)
       → (r : Refusal) → IsWordFault words r
       → MatchResult result (λ plan. ⊥) (λ s. (s ≡ refusal.Memory) ⊎ (s ≡ r))
@@ -485,3 +450,38 @@ module _ (words : List Text) where
   plan_only_domain (Err refusal.Open) is d t y h = absurd is
   plan_only_domain (Err refusal.Write) is d t y h = absurd is
   plan_only_domain (Err refusal.Memory) is d t y h = refl
+
+  same_word : (t u : Text) → AreWordsWords words t → AreWordsWords words u → t ≡ u
+  same_word t u a b = one_read (words_domain_of words) t u a.given b.given
+
+  words_not_mistaken : (t : Text) → AreWordsWords words t → AreMistaken words → ⊥
+  words_not_mistaken t a (inl x) = subst (λ kinds. IsAmong x.0 kinds) a.faultless x.1
+  words_not_mistaken t a (inr none) = none_read (words_domain_of words) t a.given none.4
+
+  words_not_refused : (domain : Domain) (why : WordFault) → AskForWords words domain
+      → HavePictureFault words why ⊎ HaveDomainFault words why ⊎ HaveWordsFault words why → ⊥
+  words_not_refused domain why a (inl h) = no_words_picture h.texts a.text h.given a.given
+  words_not_refused domain why a (inr (inl h)) = no_words_domain h.texts a.text h.given a.given
+  words_not_refused domain why a (inr (inr h)) =
+      a.read.faultless h.why (subst (λ (t : Text). IsFault t h.why) (same_word h.text a.text h.given a.given) h.has)
+
+  pub plan_only_words : (result : Result Plan Refusal) → MatchResult result (AskFor words) (IsRefusalOf words)
+      → (domain : Domain) → AskForWords words domain → MatchResult result (IsWordsPlan domain) (λ r. r ≡ refusal.Memory)
+  plan_only_words (Ok (plan.Now f m v)) is d h = absurd (no_words_now _ is.second is.vehicle_word h.text is.given h.given)
+  plan_only_words (Ok (plan.Faults f w)) is d h = absurd (no_words_faults _ h.text is h.given)
+  plan_only_words (Ok (plan.Picture f t s)) is d h = absurd (no_words_picture is.texts h.text is.given h.given)
+  plan_only_words (Ok (plan.DomainPicture e t y)) is d h = absurd (no_words_domain is.texts h.text is.given h.given)
+  plan_only_words (Ok (plan.Words e)) is d h =
+      one_meaning h.text (domain_tree e) (domain_tree d)
+      (subst (λ (t : Text). StandsFor t (domain_tree e)) (same_word is.text h.text is.given h.given) is.read.stands) h.read.stands
+  plan_only_words (Ok (plan.Show text)) is d h = absurd (subst (λ kinds. IsAmong is.0 kinds) h.given.faultless is.1)
+  plan_only_words (Err (refusal.Usage why)) is d h = absurd (words_not_mistaken h.text h.given is)
+  plan_only_words (Err (refusal.Moment why)) is d h =
+      absurd (no_words_now is.file is.moment is.vehicle h.text is.given h.given)
+  plan_only_words (Err refusal.Vehicle) is d h = absurd (no_words_now is.file is.moment is.vehicle h.text is.given h.given)
+  plan_only_words (Err (refusal.Word why)) is d h = absurd (words_not_refused d why h is)
+  plan_only_words (Err refusal.NoElement) is d h = absurd is
+  plan_only_words (Err (refusal.Records why)) is d h = absurd is
+  plan_only_words (Err refusal.Open) is d h = absurd is
+  plan_only_words (Err refusal.Write) is d h = absurd is
+  plan_only_words (Err refusal.Memory) is d h = refl
