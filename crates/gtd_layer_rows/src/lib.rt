@@ -11,6 +11,8 @@ mod eval;
 #[cfg(test)]
 mod hours;
 #[cfg(test)]
+mod hours_of;
+#[cfg(test)]
 mod large;
 #[cfg(test)]
 mod lists;

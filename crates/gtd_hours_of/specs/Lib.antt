@@ -1,0 +1,3 @@
+pub use Rattle.gtd_core.specs.Parts
+pub use Rattle.gtd_eval.specs.Membership
+pub use Rattle.gtd_osm.specs.Opening

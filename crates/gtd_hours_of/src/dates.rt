@@ -1,0 +1,69 @@
+//! Where a stretch of months and days ends, as a date of each year.
+
+ghost use Rattle.std.specs.Prelude.{◌≤◌};
+
+use gtd_osm::{Dates, MonthDay, Months};
+
+const MONTHS_OF_YEAR: u8 = 12;
+
+// A stretch that is a range of dates has fewer days after its months.
+const MOST_DAYS: u32 = 100;
+
+// The month that comes so many months later.
+fn month_later(month: u8, months: u8) -> u8
+    requires month_in { (1 ≤ month) × (month ≤ 12) }
+    requires few { months ≤ 12 }
+    ensures { (1 ≤ result) × (result ≤ 12) }
+{
+    (month - 1 + months) % MONTHS_OF_YEAR + 1
+}
+
+// How many days each month of that number has at least.
+fn shortest(month: u8) -> u8
+    ensures { (28 ≤ result) × (result ≤ 31) }
+{
+    match month {
+        2 => 28,
+        4 | 6 | 9 | 11 => 30,
+        _ => 31,
+    }
+}
+
+/// So many months from one on.
+pub fn months_from(month: u8, count: u32) -> Option<Months> {
+    if month == 0 || month > MONTHS_OF_YEAR || count == 0 || count > 12 {
+        return None;
+    }
+    Months::new(month, month_later(month, count as u8 - 1))
+}
+
+/// The dates from one on, for some months and then some days.
+pub fn dates_from(month: u8, day: u8, months: u32, days: u32) -> Option<Dates> {
+    if month == 0 || month > MONTHS_OF_YEAR || months > 12 || days > MOST_DAYS {
+        return None;
+    }
+    let first = MonthDay::new(month, day)?;
+    if months == 0 && days == 1 {
+        return Some(Dates { first, last: first });
+    }
+    let last = last_date(month_later(month, months as u8), u32::from(day) + days)?;
+    Some(Dates { first, last })
+}
+
+// The date before a day of a month, which may lie in the next month.
+fn last_date(month: u8, end: u32) -> Option<MonthDay>
+    requires month_in { (1 ≤ month) × (month ≤ 12) }
+    requires small { end ≤ 400 }
+{
+    let length = u32::from(shortest(month));
+    if end <= 1 {
+        return None;
+    }
+    if end <= length + 1 {
+        return MonthDay::new(month, end as u8 - 1);
+    }
+    if end - length > 40 {
+        return None;
+    }
+    MonthDay::new(month_later(month, 1), (end - length) as u8 - 1)
+}

@@ -1,0 +1,145 @@
+//! Rules, one after another.
+
+use crate::kinds::{are_same_kinds, kinds_of};
+use crate::times::{Time, single_time, times_of};
+use gtd_core::{Expr, Op};
+use gtd_osm::{Kind, Link, Modifier, Rule, TimeRange};
+use std::alloc::{AllocError, Global};
+
+// What a rule says of the spans of an expression.
+#[derive(Drop)]
+struct Spans {
+    kinds: Vec<Kind>,
+    times: Vec<TimeRange>,
+}
+
+impl Spans {
+    fn rule(self, link: Link, modifier: Modifier) -> Rule {
+        Rule {
+            link,
+            kinds: self.kinds,
+            times: self.times,
+            modifier,
+        }
+    }
+}
+
+// A range of times that ends on a later day, on days of its own.
+fn late_time(expr: &Expr) -> Option<Time> {
+    match expr {
+        Expr::Join(Op::Meet, _, clock) => {
+            let time = single_time(clock)?;
+            if time.is_late { Some(time) } else { None }
+        }
+        _ => None,
+    }
+}
+
+fn whole_days(alloc: Global, expr: &Expr) -> Result<Option<Spans>, AllocError> {
+    let Some(kinds) = kinds_of(alloc, expr)? else {
+        return Ok(None);
+    };
+    Ok(Some(Spans {
+        kinds,
+        times: Vec::new(alloc),
+    }))
+}
+
+fn days_with_times(
+    alloc: Global,
+    days: &Expr,
+    times: Vec<TimeRange>,
+) -> Result<Option<Spans>, AllocError> {
+    let Some(kinds) = kinds_of(alloc, days)? else {
+        return Ok(None);
+    };
+    Ok(Some(Spans { kinds, times }))
+}
+
+// The spans of a rule, if the expression has their form.
+fn spans_of(alloc: Global, expr: &Expr) -> Result<Option<Spans>, AllocError> {
+    match expr {
+        Expr::Join(Op::Meet, days, clocks) => match times_of(alloc, clocks)? {
+            Some(times) => days_with_times(alloc, days, times),
+            None => whole_days(alloc, expr),
+        },
+        Expr::Join(Op::Union, left, right) => match late_time(right) {
+            Some(time) => {
+                let spans = spans_of(alloc, left)?;
+                with_time(spans, time)
+            }
+            None => whole_days(alloc, expr),
+        },
+        _ => whole_days(alloc, expr),
+    }
+}
+
+fn with_time(spans: Option<Spans>, time: Time) -> Result<Option<Spans>, AllocError> {
+    let Some(spans) = spans else {
+        return Ok(None);
+    };
+    let mut times = spans.times;
+    times.push(time.range)?;
+    Ok(Some(Spans {
+        kinds: spans.kinds,
+        times,
+    }))
+}
+
+fn with_rule(rules: Vec<Rule>, rule: Rule) -> Result<Option<Vec<Rule>>, AllocError> {
+    let mut more = rules;
+    more.push(rule)?;
+    Ok(Some(more))
+}
+
+// Whether a rule takes all of the days of some kinds away.
+fn takes_days(rule: &Rule, kinds: &[Kind]) -> bool {
+    rule.modifier == Modifier::Closed
+        && rule.times.is_empty()
+        && are_same_kinds(rule.kinds.as_slice(), kinds)
+}
+
+// The rules, and one that adds spans. If the rule before it takes all of their days away, the two are one rule.
+fn with_open(rules: Vec<Rule>, spans: Spans) -> Result<Option<Vec<Rule>>, AllocError> {
+    let mut more = rules;
+    match more.pop() {
+        None => with_rule(more, spans.rule(Link::Instead, Modifier::Open)),
+        Some(last) => {
+            if takes_days(&last, spans.kinds.as_slice()) {
+                return with_rule(more, spans.rule(Link::Instead, Modifier::Open));
+            }
+            more.push(last)?;
+            with_rule(more, spans.rule(Link::Also, Modifier::Open))
+        }
+    }
+}
+
+/// The rules of an expression, if it has the form of their translation.
+pub fn rules_of(alloc: Global, expr: &Expr) -> Result<Option<Vec<Rule>>, AllocError> {
+    match expr {
+        Expr::Join(Op::Union, before, last) => {
+            let Some(rules) = rules_of(alloc, before)? else {
+                return Ok(None);
+            };
+            let Some(spans) = spans_of(alloc, last)? else {
+                return Ok(None);
+            };
+            with_open(rules, spans)
+        }
+        Expr::Join(Op::Minus, before, last) => {
+            let Some(rules) = rules_of(alloc, before)? else {
+                return Ok(None);
+            };
+            let Some(spans) = spans_of(alloc, last)? else {
+                return Ok(None);
+            };
+            with_rule(rules, spans.rule(Link::Instead, Modifier::Closed))
+        }
+        _ => {
+            let Some(spans) = spans_of(alloc, expr)? else {
+                return Ok(None);
+            };
+            with_open(Vec::new(alloc), spans)
+        }
+    }
+}

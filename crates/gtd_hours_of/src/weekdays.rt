@@ -1,0 +1,53 @@
+//! Weekdays, as a range.
+
+ghost use Rattle.std.specs.Prelude.{◌≤◌};
+
+use gtd_osm::Weekdays;
+
+fn has(bits: u8, weekday: u8) -> bool
+    requires { (1 ≤ weekday) × (weekday ≤ 7) }
+{
+    bits >> (weekday - 1) & 1 == 1
+}
+
+fn before(weekday: u8) -> u8
+    requires { (1 ≤ weekday) × (weekday ≤ 7) }
+    ensures { (1 ≤ result) × (result ≤ 7) }
+{
+    if weekday == 1 { 7 } else { weekday - 1 }
+}
+
+fn after(weekday: u8) -> u8
+    requires { (1 ≤ weekday) × (weekday ≤ 7) }
+    ensures { (1 ≤ result) × (result ≤ 7) }
+{
+    if weekday == 7 { 1 } else { weekday + 1 }
+}
+
+// The first weekday that the day before has not.
+fn first_of(bits: u8) -> u8 {
+    for weekday in 1..8 {
+        if has(bits, weekday) && !has(bits, before(weekday)) {
+            return weekday;
+        }
+    }
+    0
+}
+
+// The first weekday that the day after has not.
+fn last_of(bits: u8) -> u8 {
+    for weekday in 1..8 {
+        if has(bits, weekday) && !has(bits, after(weekday)) {
+            return weekday;
+        }
+    }
+    0
+}
+
+/// The range of weekdays with these bits, from Sunday on, if they are one. All of them are from Monday to Sunday.
+pub fn weekdays_of(bits: u8) -> Option<Weekdays> {
+    if bits == 127 {
+        return Weekdays::new(2, 1);
+    }
+    Weekdays::new(first_of(bits), last_of(bits))
+}
