@@ -1,5 +1,6 @@
 //! Kinds of selectors, each of which must hold.
 
+use crate::alike::is_translated_to;
 use crate::pieces::selector_of_expr;
 use gtd_core::{Basic, Expr, Op};
 use gtd_osm::{Kind, Selector};
@@ -42,19 +43,22 @@ fn push_kind(kinds: Vec<Kind>, kind: Option<Kind>) -> Result<Option<Vec<Kind>>, 
     Ok(Some(more))
 }
 
-// The selectors of one kind: those of a chain.
+// The selectors of one kind: one that has all of the expression, or else those of a chain.
 fn kind_of(alloc: Global, expr: &Expr) -> Result<Option<Kind>, AllocError> {
+    if let Some(selector) = selector_of_expr(expr) {
+        if is_translated_to(alloc, selector, expr)? {
+            let none = Kind {
+                selectors: Vec::new(alloc),
+            };
+            return push_selector(none, Some(selector));
+        }
+    }
     match expr {
         Expr::Join(Op::Union, left, right) => match kind_of(alloc, left)? {
             Some(kind) => push_selector(kind, selector_of_expr(right)),
             None => Ok(None),
         },
-        _ => {
-            let none = Kind {
-                selectors: Vec::new(alloc),
-            };
-            push_selector(none, selector_of_expr(expr))
-        }
+        _ => Ok(None),
     }
 }
 

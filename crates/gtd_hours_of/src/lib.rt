@@ -7,6 +7,7 @@
 
 pub use back::hours_of;
 
+mod alike;
 mod back;
 mod dates;
 mod kinds;
