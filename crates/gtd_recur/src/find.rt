@@ -1,9 +1,10 @@
 //! The days on which a start begins, found forwards and backwards.
 
-ghost use Rattle.std.specs.Prelude.{◌≡◌, ◌≤ℤ◌, ◌<ℤ◌, ◌≤◌, ℤ, pos, neg_ℤ, true, false, Some, None, IfSome};
+ghost use Rattle.std.specs.Prelude.{◌≡◌, ◌+ℤ◌, ◌≤ℤ◌, ◌<ℤ◌, ◌≤◌, ℤ, pos, neg_ℤ, true, false, Some, None, IfSome};
 ghost use Rattle.std.specs.Int.{IsInRange};
 ghost use Rattle.gtd_core.specs.Limits.{horizons_end, first_window_day};
 ghost use Rattle.gtd_core.specs.Ranges.{IsStart};
+ghost use Rattle.gtd_calendar.specs.Calendar.{weekday_of};
 ghost use Rattle.gtd_calendar.specs.ComputedDates.{day_of_month, week_year_of};
 ghost use Rattle.gtd_calendar.specs.ComputedFields.{day_fields};
 ghost use Rattle.gtd_recur.specs.Asked.{IsByWeekday};
@@ -47,13 +48,24 @@ pub(crate) fn next_weekday(start: &StartParts, day: i64, end: i64) -> i64
     ensures first { IsFirstBegun start.now day end result }
 {
     let mut found = day;
+    let mut of_week = weekday(day);
     while found < end {
-        if is_weekday(start, weekday(found)) {
+        if is_weekday(start, of_week) {
             return found;
         }
         found += 1;
+        of_week = weekday_after(of_week);
     }
     found
+}
+
+// The weekday of the day after one of this weekday.
+fn weekday_after(weekday: u8) -> u8
+    requires weekday_in { IsInRange 1 7 weekday }
+    ensures next { (n : ℤ) → weekday ≡ weekday_of n → result ≡ weekday_of (n +ℤ pos 1) }
+    ensures bound { IsInRange 1 7 result }
+{
+    if weekday == 7 { 1 } else { weekday + 1 }
 }
 
 /// The last day on which the start begins, before an end and not below a lowest day; or the day before the lowest.

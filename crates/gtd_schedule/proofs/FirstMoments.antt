@@ -25,11 +25,11 @@ day_zero : day_of_second (pos 0) ≡ pos 0
 unfolding day_of_second
 day_zero = refl
 
-pub first_kept : IsKeptOf (pos 0) record { month_eve = negsuc 0; past_hour = 0 }
+pub first_kept : IsKeptOf (pos 0) record { month_eve = negsuc 0; clock = 0 }
 first_kept = let d = first_date in record {
   day = rw day_zero (search rules);
   month = rw (day_zero, ← d.2) refl;
-  hour = rw first_clock refl;
+  clock = sym first_clock;
 }
 
 first_stamp : stamp_text (pos 0) ≡ codes "1970-01-01T00:00:00"

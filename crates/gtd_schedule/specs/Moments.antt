@@ -1,5 +1,5 @@
 -- The moments of a line, and what is kept of them while the line is written over.
-use Rattle.std.specs.Prelude.{◌≡◌, ◌%◌, ◌++◌, ℕ, ℤ, pos, ◌+ℤ◌, List, codes}
+use Rattle.std.specs.Prelude.{◌≡◌, ◌++◌, ℕ, ℤ, pos, ◌+ℤ◌, List, codes}
 use Rattle.gtd_core.specs.Seconds.{day_of_second}
 use Rattle.gtd_calendar.specs.Calendar.{IsCalendarDay}
 use Rattle.gtd_calendar.specs.Clock.{second_of_day}
@@ -12,11 +12,11 @@ use Rattle.gtd_schedule.specs.declared.line.ShownSpan.{ShownSpan}
 abbrev pub IsMonthEve : ℤ → Type 0
 IsMonthEve eve = (n : ℤ) × IsCalendarDay n × (eve +ℤ pos (day_of_month n) ≡ n)
 
--- it is kept of this second: the day before its month, and the seconds since its full hour
+-- it is kept of this second: the day before its month, and its place in its day
 pub record IsKeptOf (second : ℤ) (shown : Shown) : Type 0 where
   pub day : IsCalendarDay (day_of_second second)
   pub month : shown.month_eve +ℤ pos (day_of_month (day_of_second second)) ≡ day_of_second second
-  pub hour : shown.past_hour ≡ second_of_day second % 3600
+  pub clock : shown.clock ≡ second_of_day second
 
 -- a text begins with a moment, of which it is kept
 pub record IsShown (shown : Shown) (text : List ℕ) : Type 0 where

@@ -49,7 +49,7 @@ pub(crate) fn write_first_moments(line: &mut Vec<u8>) -> Result<ShownSpan, Alloc
     line.extend_from_slice(FIRST_MOMENTS)?;
     let shown = Shown {
         month_eve: -1,
-        past_hour: 0,
+        clock: 0,
     };
     Ok(ShownSpan {
         from: shown,

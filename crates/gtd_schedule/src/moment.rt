@@ -3,6 +3,7 @@
 ghost use Rattle.std.specs.Prelude.{◌≡◌, ◌+◌, ◌*◌, ◌%◌, ◌<◌, ◌≤◌, ◌++◌, ℤ, ℕ, List, pos, ◌+ℤ◌, length, take, drop, IfSome};
 ghost use Rattle.gtd_calendar.specs.Calendar.{IsCalendarDay};
 ghost use Rattle.gtd_calendar.specs.ComputedDates.{day_of_month};
+ghost use Rattle.gtd_calendar.specs.Clock.{second_of_day as clock_of};
 ghost use Rattle.gtd_calendar.specs.Stamp as spec;
 ghost use Rattle.gtd_calendar.specs.Stamp.{date_text, stamp_text};
 ghost use Rattle.gtd_core.specs.Limits.{day_seconds};
@@ -12,14 +13,22 @@ ghost use Rattle.gtd_schedule.specs.Moments.{IsKeptOf, IsMonthEve, IsShown};
 
 use gtd_calendar::{second_of_day, write_date};
 use gtd_core::Sec;
+use gtd_core::limits::DAY_SECONDS;
 
 /// What the text of a moment shows. Only what differs from it is written for the next moment.
 #[derive(Clone, Copy)]
 pub(crate) struct Shown {
     /// The day before the first day of its month.
     pub(crate) month_eve: i64,
-    /// The seconds since its full hour.
-    pub(crate) past_hour: u32,
+    /// The second of its day.
+    pub(crate) clock: u32,
+}
+
+/// Where a second is in a month: its day, from 1 on, and the second of that day.
+#[derive(Clone, Copy)]
+struct Place {
+    day: u32,
+    clock: u32,
 }
 
 // Writes two decimal digits over the two bytes at a place.
@@ -47,53 +56,63 @@ fn write_whole_day(text: &mut [u8], day: i64) -> i64
     day - i64::from(10 * (tens - b'0') + (ones - b'0'))
 }
 
-// The place of a day after the day before a month, if each month has such a place: from 1 to 28.
-fn place_in_month(month_eve: i64, day: i64) -> Option<u32>
-    requires day { IsCalendarDay day }
+// The place of a second after the day before a month, if each month has such a day: from 1 to 28.
+fn place_in_month(month_eve: i64, second: Sec) -> Option<Place>
+    requires day { IsCalendarDay (day_of_second second.0) }
     requires eve { IsMonthEve month_eve }
-    ensures place { IfSome result (λ place. (month_eve +ℤ pos place ≡ day) × (1 ≤ place) × (place ≤ 28)) }
+    ensures day { IfSome result (λ at. (month_eve +ℤ pos at.day ≡ day_of_second second.0) × (1 ≤ at.day) × (at.day ≤ 28)) }
+    ensures clock { IfSome result (λ at. at.clock ≡ clock_of second.0) }
 {
-    let place = day - month_eve;
-    if 1 <= place && place <= 28 {
-        Some(place as u32)
+    let since = second.0 - DAY_SECONDS * month_eve;
+    if DAY_SECONDS <= since && since < 29 * DAY_SECONDS {
+        let since = since as u32;
+        let day = since / 86_400;
+        let clock = since - 86_400 * day;
+        Some(Place { day, clock })
     } else {
         None
     }
 }
 
-// Does the same for a text that begins with a day of a known month: mostly the new day is in that month too.
-fn write_day(text: &mut [u8], month_eve: i64, day: i64) -> i64
-    requires day { IsCalendarDay day }
+// Writes the day of a second over the one of a known month that the text begins with: mostly the new day is in that month
+// too. Answers the day before its month, and the second of the day.
+fn write_day(text: &mut [u8], month_eve: i64, second: Sec) -> (i64, u32)
+    requires day { IsCalendarDay (day_of_second second.0) }
     requires eve { IsMonthEve month_eve }
     requires inside { 10 ≤ length text.old }
     ensures text { (n : ℤ) (rest : List ℕ) → text.old ≡ date_text n ++ rest → month_eve +ℤ pos (day_of_month n) ≡ n
-        → text.new ≡ date_text day ++ rest }
-    ensures eve { (n : ℤ) → month_eve +ℤ pos (day_of_month n) ≡ n → result +ℤ pos (day_of_month day) ≡ day }
+        → text.new ≡ date_text (day_of_second second.0) ++ rest }
+    ensures eve { (n : ℤ) → month_eve +ℤ pos (day_of_month n) ≡ n
+        → result.0 +ℤ pos (day_of_month (day_of_second second.0)) ≡ day_of_second second.0 }
+    ensures clock { result.1 ≡ clock_of second.0 }
 {
-    if let Some(place) = place_in_month(month_eve, day) {
-        write_two(text, 8, place);
-        return month_eve;
+    if let Some(at) = place_in_month(month_eve, second) {
+        write_two(text, 8, at.day);
+        return (month_eve, at.clock);
     }
-    write_whole_day(text, day)
+    let eve = write_whole_day(text, second.day());
+    (eve, second_of_day(second))
 }
 
-// Writes a clock over the one after the day, and answers the seconds since its full hour.
-fn write_clock(text: &mut [u8], past_hour: u32, clock: u32) -> u32
+// Writes a clock over the one after the day, if it is another one.
+fn write_clock(text: &mut [u8], shown: u32, clock: u32)
+    requires shown { shown < day_seconds }
     requires clock { clock < day_seconds }
     requires inside { 19 ≤ length text.old }
-    ensures text { (n : ℤ) (c : ℕ) (rest : List ℕ) → text.old ≡ date_text n ++ (clock_bytes c ++ rest)
-        → past_hour ≡ c % 3600 → text.new ≡ date_text n ++ (clock_bytes clock ++ rest) }
-    ensures past_hour { result ≡ clock % 3600 }
+    ensures text { (n : ℤ) (rest : List ℕ) → text.old ≡ date_text n ++ (clock_bytes shown ++ rest)
+        → text.new ≡ date_text n ++ (clock_bytes clock ++ rest) }
 {
+    if clock == shown {
+        return;
+    }
     let hours = clock / 3600;
     let seconds = clock - 3600 * hours;
     write_two(text, 11, hours);
-    if seconds != past_hour {
+    if seconds != shown % 3600 {
         let minutes = seconds / 60;
         write_two(text, 14, minutes);
         write_two(text, 17, seconds - 60 * minutes);
     }
-    seconds
 }
 
 /// Writes the text of a moment over the one that a text begins with.
@@ -103,7 +122,8 @@ pub(crate) fn write_moment(text: &mut [u8], shown: &mut Shown, second: Sec)
     ensures text { text.new ≡ stamp_text second.0 ++ drop 19 text.old }
     ensures kept { IsKeptOf second.0 shown.new }
 {
-    let clock = second_of_day(second);
-    shown.month_eve = write_day(text, shown.month_eve, second.day());
-    shown.past_hour = write_clock(text, shown.past_hour, clock);
+    let (month_eve, clock) = write_day(text, shown.month_eve, second);
+    shown.month_eve = month_eve;
+    write_clock(text, shown.clock, clock);
+    shown.clock = clock;
 }

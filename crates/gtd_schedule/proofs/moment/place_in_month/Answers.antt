@@ -1,9 +1,11 @@
-use Rattle.std.proofs.Common.{arith, ◌≡◌, ◌≤◌, ℤ, ℕ, pos, ◌+ℤ◌}
-use Rattle.std.proofs.Common.{◌-ℤ◌, FitsSigned, to_z, of_z, w64}
+use Rattle.std.proofs.Common.{rules, arith, refl, ◌≡◌, ◌≤◌, ◌/◌, ◌*◌, ◌-◌, ℤ, ℕ, pos, ◌+ℤ◌, ◌*ℤ◌, ◌≤ℤ◌, ◌<ℤ◌}
+use Rattle.std.proofs.Common.{◌-ℤ◌, FitsSigned, to_z, of_z, w64, to_z-of_z, unsigned_abs}
 use Rattle.gtd_calendar.specs.Calendar.{IsCalendarDay}
+use Rattle.gtd_calendar.specs.Clock.{second_of_day}
 use Rattle.gtd_calendar.specs.ComputedDates.{year_of, month_of, day_of_month}
-use Rattle.gtd_calendar.specs.facts.Signed.{signed_arith}
+use Rattle.gtd_calendar.specs.facts.Signed.{signed_arith, one_part}
 use Rattle.gtd_calendar.specs.facts.DateLemmas.{date_of-is, month_length_bounds}
+use Rattle.gtd_core.specs.Seconds.{day_of_second}
 use Rattle.gtd_schedule.proofs.moment.place_in_month.Goals as goal
 
 few : (n : ℤ) → day_of_month n ≤ 31
@@ -11,14 +13,73 @@ few n =
     let date = date_of-is n in
     let long = month_length_bounds (year_of n) (month_of n) in omega (arith, date.0.1.1, long.0)
 
-fits : (day eve n : ℤ) (d : ℕ) → IsCalendarDay day → IsCalendarDay n → eve +ℤ pos d ≡ n → d ≤ 31
-    → FitsSigned w64 (to_z w64 (of_z w64 day) -ℤ to_z w64 (of_z w64 eve))
-fits day eve n d a b e f = omega (arith, signed_arith, a.0, a.1, b.0, b.1)
+eve_fits : (eve n : ℤ) (d : ℕ) → IsCalendarDay n → eve +ℤ pos d ≡ n → d ≤ 31
+    → FitsSigned w64 (pos 86400 *ℤ to_z w64 (of_z w64 eve))
+eve_fits eve n d b e f = omega (arith, signed_arith, b.0, b.1)
 
-pub overflow_sub-place : goal.overflow_sub-place
-overflow_sub-place c =
-    let m = c.requires.eve in fits c.args.day c.args.month_eve m.0 (day_of_month m.0) c.requires.day m.1 m.2 (few m.0)
+since_fits : (s eve n : ℤ) (d : ℕ) → IsCalendarDay (day_of_second s) → IsCalendarDay n → eve +ℤ pos d ≡ n → d ≤ 31
+    → FitsSigned w64 (s -ℤ (pos 86400 *ℤ eve))
+unfolding day_of_second
+since_fits s eve n d a b e f = omega (arith, signed_arith, a.0, a.1, b.0, b.1)
 
-place_is : (day eve n : ℤ) (d : ℕ) → IsCalendarDay day → IsCalendarDay n → eve +ℤ pos d ≡ n → d ≤ 31
-    → 1 ≤ 2
-place_is day eve n d a b e f = omega arith
+day_is : (s eve since : ℤ) → since ≡ s -ℤ (pos 86400 *ℤ eve) → pos 86400 ≤ℤ since → since <ℤ pos 2505600
+    → (eve +ℤ pos (unsigned_abs since / 86400) ≡ day_of_second s)
+    × (1 ≤ unsigned_abs since / 86400) × (unsigned_abs since / 86400 ≤ 28)
+unfolding day_of_second
+day_is s eve since is low high =
+    let part = one_part since in
+    (omega (arith, signed_arith, part), omega (arith, signed_arith, part), omega (arith, signed_arith, part))
+
+clock_is : (s eve since : ℤ) → since ≡ s -ℤ (pos 86400 *ℤ eve) → pos 86400 ≤ℤ since → since <ℤ pos 2505600
+    → unsigned_abs since - 86400 * (unsigned_abs since / 86400) ≡ second_of_day s
+unfolding second_of_day
+clock_is s eve since is low high = let part = one_part since in omega (arith, signed_arith, part)
+
+pub overflow_mul-since : goal.overflow_mul-since
+overflow_mul-since c = let m = c.requires.eve in eve_fits c.args.month_eve m.0 (day_of_month m.0) m.1 m.2 (few m.0)
+
+pub overflow_sub-since : goal.overflow_sub-since
+overflow_sub-since c =
+    let m = c.requires.eve in
+    let s_fits : FitsSigned w64 c.args.second.0 = search rules in
+    let second : to_z w64 (of_z w64 c.args.second.0) ≡ c.args.second.0 = to_z-of_z s_fits in
+    let eve : to_z w64 (of_z w64 c.args.month_eve) ≡ c.args.month_eve = to_z-of_z c.ranges.month_eve in
+    let e_fits : FitsSigned w64 (pos 86400 *ℤ c.args.month_eve) =
+    rw eve at (eve_fits c.args.month_eve m.0 (day_of_month m.0) m.1 m.2 (few m.0)) in
+    let begin : to_z w64 (of_z w64 (pos 86400 *ℤ c.args.month_eve)) ≡ pos 86400 *ℤ c.args.month_eve = to_z-of_z e_fits in
+    rw (second, eve, begin)
+    (since_fits c.args.second.0 c.args.month_eve m.0 (day_of_month m.0) c.requires.day m.1 m.2 (few m.0))
+
+pub returns-then-since-clause-day : goal.returns-then-since-clause-day
+returns-then-since-clause-day c =
+    let m = c.requires.eve in
+    let s_fits : FitsSigned w64 c.args.second.0 = search rules in
+    let second : to_z w64 (of_z w64 c.args.second.0) ≡ c.args.second.0 = to_z-of_z s_fits in
+    let eve : to_z w64 (of_z w64 c.args.month_eve) ≡ c.args.month_eve = to_z-of_z c.ranges.month_eve in
+    let e_fits : FitsSigned w64 (pos 86400 *ℤ c.args.month_eve) =
+    rw eve at (eve_fits c.args.month_eve m.0 (day_of_month m.0) m.1 m.2 (few m.0)) in
+    let begin : to_z w64 (of_z w64 (pos 86400 *ℤ c.args.month_eve)) ≡ pos 86400 *ℤ c.args.month_eve = to_z-of_z e_fits in
+    let d_fits = since_fits c.args.second.0 c.args.month_eve m.0 (day_of_month m.0) c.requires.day m.1 m.2 (few m.0) in
+    let since : to_z w64 (of_z w64 (c.args.second.0 -ℤ (pos 86400 *ℤ c.args.month_eve)))
+    ≡ c.args.second.0 -ℤ (pos 86400 *ℤ c.args.month_eve) = to_z-of_z d_fits in
+    let low = rw (second, eve, begin, since) at c.if-since-ge-DAY_SECONDS.true in
+    let high = rw (second, eve, begin, since) at c.if-since.true in
+    rw (second, eve, begin, since) (day_is c.args.second.0 c.args.month_eve _ refl (omega (arith, signed_arith, low))
+    (omega (arith, signed_arith, high)))
+
+pub returns-then-since-clause-clock : goal.returns-then-since-clause-clock
+returns-then-since-clause-clock c =
+    let m = c.requires.eve in
+    let s_fits : FitsSigned w64 c.args.second.0 = search rules in
+    let second : to_z w64 (of_z w64 c.args.second.0) ≡ c.args.second.0 = to_z-of_z s_fits in
+    let eve : to_z w64 (of_z w64 c.args.month_eve) ≡ c.args.month_eve = to_z-of_z c.ranges.month_eve in
+    let e_fits : FitsSigned w64 (pos 86400 *ℤ c.args.month_eve) =
+    rw eve at (eve_fits c.args.month_eve m.0 (day_of_month m.0) m.1 m.2 (few m.0)) in
+    let begin : to_z w64 (of_z w64 (pos 86400 *ℤ c.args.month_eve)) ≡ pos 86400 *ℤ c.args.month_eve = to_z-of_z e_fits in
+    let d_fits = since_fits c.args.second.0 c.args.month_eve m.0 (day_of_month m.0) c.requires.day m.1 m.2 (few m.0) in
+    let since : to_z w64 (of_z w64 (c.args.second.0 -ℤ (pos 86400 *ℤ c.args.month_eve)))
+    ≡ c.args.second.0 -ℤ (pos 86400 *ℤ c.args.month_eve) = to_z-of_z d_fits in
+    let low = rw (second, eve, begin, since) at c.if-since-ge-DAY_SECONDS.true in
+    let high = rw (second, eve, begin, since) at c.if-since.true in
+    rw (second, eve, begin, since) (clock_is c.args.second.0 c.args.month_eve _ refl (omega (arith, signed_arith, low))
+    (omega (arith, signed_arith, high)))
