@@ -1,5 +1,5 @@
 -- Sets that vary, and those that do not.
-use Rattle.std.proofs.Common.{is_some, ◌≡◌, ◌↔◌, ℕ, ◌+◌, ◌*◌, arith, inl, inr, true, false, Option, Some, None, MatchOption}
+use Rattle.std.proofs.Common.{is_some, ◌≡◌, ℕ, ◌+◌, ◌*◌, arith, inl, inr, true, false, Option, Some, None, MatchOption}
 use Rattle.std.specs.Prelude.{ℤ, ◌⊎◌, pos, ◌+ℤ◌, ◌*ℤ◌, ◌≤ℤ◌, ◌<ℤ◌, Bool}
 use Rattle.std.proofs.lemmas.Int.{ints, by_lt_z}
 use Rattle.gtd_core.specs.declared.second.Sec.{Sec}
@@ -14,7 +14,7 @@ use Rattle.gtd_eval.specs.facts.Repeats.{Repeats, behind, never-after, repeats-m
 use Rattle.gtd_eval.specs.facts.TreeDecisions.{in_tree}
 use Rattle.gtd_eval.specs.Membership.{InTree, SomeGivesYear}
 use Rattle.gtd_eval.specs.Weekly.{AllWeekly}
-use Rattle.gtd_eval.proofs.Weekly.{RepeatsWeekly, never-after-week, repeats-weekly, tree-weekly}
+use Rattle.gtd_eval.specs.facts.WeekFacts.{RepeatsWeekly, never-after-week, repeats-weekly, tree-weekly}
 
 pub same-self : (set : ℤ → Type 0) (s : ℤ) → SameAt set s s
 same-self set s = ((λ h. h), (λ h. h))

@@ -2,4 +2,3 @@ pub mod ExtentLemmas
 pub mod Shapes
 pub mod StayDays
 pub mod Unions
-pub mod Weekly

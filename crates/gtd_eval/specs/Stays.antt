@@ -1,5 +1,5 @@
 -- How long a set, or what an operator makes of two sets, stays as it is at a second.
-use Rattle.std.specs.Prelude.{ℤ, pos, ◌+ℤ◌, ◌<ℤ◌, ◌≤ℤ◌, ◌≡◌, ◌⊎◌, ◌↔◌, Bool, true, false, IsTrue, not}
+use Rattle.std.specs.Prelude.{ℤ, ◌<ℤ◌, ◌≤ℤ◌, ◌≡◌, ◌⊎◌, ◌↔◌, Bool, true, false, IsTrue, not}
 use Rattle.gtd_core.specs.Trees.{Tree, Single, Joined}
 use Rattle.gtd_core.specs.declared.domain.Op.{Op}
 use Rattle.gtd_core.specs.declared.domain.Op.TheVariants.{Union, Meet, Minus}

@@ -4,3 +4,4 @@ pub mod NodeFacts
 pub mod Repeats
 pub mod SingleFacts
 pub mod StayFacts
+pub mod WeekFacts

@@ -8,10 +8,10 @@
 pub use cursor::Cursor;
 pub use ever::{EverFault, next_change_ever};
 pub use extent::{Extent, extent_of};
-pub use membership::holds;
+pub use membership::{holds, is_weekly};
 pub use node::Node;
 pub use queries::{next_change, spans};
-pub use stay::{Stay, stay_of};
+pub use stay::{Stay, days_to_look, stay_of};
 
 mod cursor;
 mod ever;

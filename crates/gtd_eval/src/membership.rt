@@ -1,6 +1,7 @@
 //! Whether a domain contains a second.
 
 ghost use Rattle.std.specs.Prelude.{◌↔◌, IsTrue, ◌≡◌, ◌⊎◌, pos};
+ghost use Rattle.gtd_core.specs.Parts.{domain_tree};
 ghost use Rattle.gtd_core.specs.Trees.{tree_of};
 ghost use Rattle.gtd_core.specs.Seconds.{IsHorizonSecond};
 ghost use Rattle.gtd_eval.specs.Membership.{InDomain, InTree, SomeGivesYear};
@@ -51,13 +52,25 @@ pub(crate) fn gives_year(expr: &Expr) -> bool
 }
 
 // Whether each basic domain of the expression repeats after 7 days.
-fn is_weekly(expr: &Expr) -> bool
+fn all_weekly(expr: &Expr) -> bool
     ensures weekly { IsTrue result ↔ AllWeekly (tree_of expr.now) }
 {
     match expr {
         Expr::Leaf(basic) => is_basic_weekly(basic),
-        Expr::Join(_, left, right) => is_weekly(left) && is_weekly(right),
+        Expr::Join(_, left, right) => all_weekly(left) && all_weekly(right),
     }
+}
+
+/// Whether each basic domain of the domain repeats after 7 days. Then the domain does too. Takes no memory.
+///
+/// ```
+/// assert!(rt; is_weekly(&read_domain(alloc, b"[(t2h10){h4}]")?));
+/// assert!(rt; !is_weekly(&read_domain(alloc, b"[(M5h10){h4}]")?));
+/// ```
+pub fn is_weekly(domain: &Domain) -> bool
+    ensures weekly { IsTrue result ↔ AllWeekly (domain_tree domain.now) }
+{
+    all_weekly(domain.expr())
 }
 
 /// The days after which an expression without a year repeats, 7 or the 146,097 of 400 years, and one more: the rest of
@@ -66,7 +79,7 @@ pub(crate) fn days_to_repeat(expr: &Expr) -> i64
     ensures days { (result ≡ pos most_horizon_days) ⊎ ((result ≡ pos 8) × AllWeekly (tree_of expr.now)) }
     ensures short { AllWeekly (tree_of expr.now) → result ≡ pos 8 }
 {
-    if is_weekly(expr) {
+    if all_weekly(expr) {
         8
     } else {
         MOST_HORIZON_DAYS

@@ -1,13 +1,12 @@
 //! How long a domain stays as it is at a second.
 
-ghost use Rattle.std.specs.Prelude.{◌↔◌, ◌⊎◌, ◌≡◌, ◌+ℤ◌, ◌<ℤ◌, ◌≤ℤ◌, pos, ℤ};
+ghost use Rattle.std.specs.Prelude.{◌↔◌, ◌⊎◌, ◌≡◌, ◌+ℤ◌, ◌<ℤ◌, ◌≤ℤ◌, pos, ℤ, IsTrue};
 ghost use Rattle.gtd_core.specs.Parts.{domain_tree, start_parts, duration_parts};
 ghost use Rattle.gtd_core.specs.Limits.{first_horizon_day, horizons_end};
-ghost use Rattle.gtd_core.specs.Seconds.{Within};
+ghost use Rattle.gtd_core.specs.Seconds.{Within, day_of_second};
 ghost use Rattle.gtd_core.specs.Trees.{tree_of};
-ghost use Rattle.gtd_core.specs.Whole.{whole};
+ghost use Rattle.gtd_core.specs.Whole.{from_day, to_day, whole};
 ghost use Rattle.gtd_recur.specs.Membership.{InBasic};
-ghost use Rattle.gtd_recur.specs.Weekly.{IsWeekly};
 ghost use Rattle.gtd_spans.specs.Change.{NeverChanges};
 ghost use Rattle.gtd_eval.specs.Ever.{week};
 ghost use Rattle.gtd_eval.specs.Membership.{InDomain, InTree};
@@ -70,33 +69,42 @@ fn end_of_both(left_decides: bool, left: Sec, right_decides: bool, right: Sec) -
     }
 }
 
-// The day before which a change of a basic domain is looked for: a weekly one that does not change for a week never does.
-fn look_end(basic: &Basic, day: i64, to_day: i64) -> i64
+// The day before which a change is looked for: what repeats weekly and does not change for a week never does.
+fn look_end(weekly: bool, day: i64, to_day: i64) -> i64
     requires day_in { first_horizon_day ≤ℤ day }
     requires days { day <ℤ to_day }
     requires to_day_in { to_day ≤ℤ horizons_end }
     ensures later { day <ℤ result }
     ensures within { result ≤ℤ to_day }
-    ensures end { (result ≡ to_day)
-        ⊎ ((result ≡ day +ℤ pos 8) × IsWeekly (start_parts basic.now.start) (duration_parts basic.now.duration)) }
+    ensures end { (result ≡ to_day) ⊎ ((result ≡ day +ℤ pos 8) × IsTrue weekly) }
+    ensures short { IsTrue weekly → result ≤ℤ (day +ℤ pos 8) }
 {
-    if is_weekly(basic) && day + WEEKLY_DAYS < to_day {
+    if weekly && day + WEEKLY_DAYS < to_day {
         return day + WEEKLY_DAYS;
     }
     to_day
 }
 
-// The days in which a change of a basic domain is looked for, from that of a second on.
-fn days_from(basic: &Basic, second: Sec, horizon: Horizon) -> Horizon
+/// The days in which a change after a second is looked for: from the second's own day, which must be in the horizon, to
+/// the end of the horizon; but of what repeats after 7 days, a week and the rest of that day are enough.
+///
+/// ```
+/// // 2024-01-01 up to 2025-01-01, and 12:00:00.
+/// let horizon = Horizon::new(19_723, 20_089).expect(&rt, "a horizon");
+/// assert_eq!(rt; days_to_look(true, Sec(1_704_110_400), horizon).to_day(), 19_731);
+/// assert_eq!(rt; days_to_look(false, Sec(1_704_110_400), horizon).to_day(), 20_089);
+/// ```
+pub fn days_to_look(weekly: bool, second: Sec, horizon: Horizon) -> Horizon
     requires inside { Within (whole horizon) second.0 }
+    ensures first { from_day result ≡ day_of_second second.0 }
     ensures inside { Within (whole result) second.0 }
     ensures within { (whole result).until ≤ℤ (whole horizon).until }
     ensures until { ((whole result).until ≡ (whole horizon).until)
-        ⊎ (((second.0 +ℤ week) <ℤ (whole result).until)
-        × IsWeekly (start_parts basic.now.start) (duration_parts basic.now.duration)) }
+        ⊎ (((second.0 +ℤ week) <ℤ (whole result).until) × IsTrue weekly) }
+    ensures short { IsTrue weekly → to_day result ≤ℤ (day_of_second second.0 +ℤ pos 8) }
 {
     let day = second.day();
-    match Horizon::new(day, look_end(basic, day, horizon.to_day())) {
+    match Horizon::new(day, look_end(weekly, day, horizon.to_day())) {
         Ok(days) => days,
         Err(_) => unreachable!(),
     }
@@ -110,7 +118,7 @@ fn basic_end(basic: &Basic, second: Sec, horizon: Horizon) -> Sec
     ensures same { NeverChanges (InBasic basic.now) second.0 result.0 }
     ensures far { (u : ℤ) → u ≤ℤ (whole horizon).until → NeverChanges (InBasic basic.now) second.0 u → u ≤ℤ result.0 }
 {
-    let days = days_from(basic, second, horizon);
+    let days = days_to_look(is_weekly(basic), second, horizon);
     match gtd_spans::next_change(&mut Runs::new(*basic, days), second, days.until()) {
         Some(change) => change,
         None => horizon.until(),

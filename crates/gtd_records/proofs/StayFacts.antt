@@ -162,17 +162,18 @@ module _ (rows : List Restriction) (element : ℕ) (direction : Direction) (vehi
   )
 
   -- nor in the next, if it begins in the same state
-  pub next_stays : (first stay : Stay) (at : ℤ) → IsStay Set s last first → IsStay Set at last stay → stay.holds ≡ first.holds
+  pub next_stays : (first stay : Stay) (closed : Bool) (at : ℤ) → IsStay Set s last first → IsStay Set at last stay
+      → IsTrue closed ↔ Set at → closed ≡ first.holds
       → s <ℤ at → NeverChanges (IsOpen rows element direction vehicle) s at
       → NeverChanges (IsOpen rows element direction vehicle) s stay.until.0
-  next_stays first stay at is also same later never = λ t after before.
+  next_stays first stay closed at is also tells same later never = λ t after before.
       by_lt_z {P = SameAt (IsOpen rows element direction vehicle) s t} t at
       (λ lt. never t after lt)
       (λ ge. opened t (trans t (by_lt_z {P = SameAt Set at t} at t (λ lt. also.same t lt before)
       (λ le. let e : at ≡ t = omega (arith, ints, ge, le) in subst (λ (u : ℤ). SameAt Set at u) e ((λ h. h), (λ h. h))))))
     where
       begins : SameAt Set s at
-      begins = told first.holds stay.holds (Set s) (Set at) is.holds also.holds (sym same)
+      begins = told first.holds closed (Set s) (Set at) is.holds tells (sym same)
 
       trans : (t : ℤ) → SameAt Set at t → SameAt Set s t
       trans t q = ((λ h. q.0 (begins.0 h)), (λ h. begins.1 (q.1 h)))
@@ -184,12 +185,12 @@ module _ (rows : List Restriction) (element : ℕ) (direction : Direction) (vehi
   decided false true P Q p q not e = (e.0 (λ h. absurd (let t = p.1 h in cc))) (q.0 refl)
 
   -- it changes where the next begins in another state
-  pub changes_at : (first stay : Stay) (at : ℤ) → IsStay Set s last first → IsStay Set at last stay
-      → (stay.holds ≡ first.holds → ⊥) → s <ℤ at → at <ℤ last → NeverChanges (IsOpen rows element direction vehicle) s at
+  pub changes_at : (first : Stay) (closed : Bool) (at : ℤ) → IsStay Set s last first → IsTrue closed ↔ Set at
+      → (closed ≡ first.holds → ⊥) → s <ℤ at → at <ℤ last → NeverChanges (IsOpen rows element direction vehicle) s at
       → IsNextChange (IsOpen rows element direction vehicle) s last at
-  changes_at first stay at is also differ later within never = record {
+  changes_at first closed at is tells differ later within never = record {
     later = later;
     within = within;
-    differs = λ e. decided first.holds stay.holds (Set s) (Set at) is.holds also.holds (λ h. differ (sym h)) e;
+    differs = λ e. decided first.holds closed (Set s) (Set at) is.holds tells (λ h. differ (sym h)) e;
     least = never;
   }

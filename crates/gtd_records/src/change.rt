@@ -10,13 +10,14 @@ use crate::direction::Direction;
 use crate::index::Records;
 use crate::schedule::open_seconds;
 use gtd_core::{Horizon, Sec};
+use gtd_eval::days_to_look;
 use std::alloc::{AllocError, Global};
 
 // How often the records are asked how long they stay as they are, before their seconds are gone over span by span.
 const MOST_STAYS: usize = 16;
 
 // The least later second of the horizon at which the element's state differs from that at the given one, found span by
-// span.
+// span. Where all records repeat weekly, so does the state, and a week is enough.
 fn change_by_spans(
     alloc: Global,
     records: &Records,
@@ -31,8 +32,10 @@ fn change_by_spans(
         (NeverChanges (IsOpen records.now element direction vehicle) second.0 (whole horizon).until)
         (λ c. IsNextChange (IsOpen records.now element direction vehicle) second.0 (whole horizon).until c.0)) }
 {
-    let mut open = open_seconds(alloc, records, element, direction, vehicle, horizon)?;
-    Ok(gtd_spans::next_change(&mut open, second, horizon.until()))
+    let weekly = records.repeats_weekly(element, direction, vehicle);
+    let days = days_to_look(weekly, second, horizon);
+    let mut open = open_seconds(alloc, records, element, direction, vehicle, days)?;
+    Ok(gtd_spans::next_change(&mut open, second, days.until()))
 }
 
 /// The least later second of the horizon at which the element is opened or closed in the direction for the vehicle type,
@@ -59,10 +62,10 @@ pub fn next_change(
         if at.0 >= horizon.until().0 {
             return Ok(None);
         }
-        let stay = records.stay(element, direction, vehicle, at, horizon);
-        if stay.holds != first.holds {
+        if records.closed_at(element, direction, vehicle, at) != first.holds {
             return Ok(Some(at));
         }
+        let stay = records.stay(element, direction, vehicle, at, horizon);
         at = stay.until;
     }
     change_by_spans(alloc, records, element, direction, vehicle, second, horizon)

@@ -1,11 +1,12 @@
 //! The records of a file in memory, found by their element.
 
-ghost use Rattle.std.specs.Prelude.{◌≡◌, ◌↔◌, ◌<◌, ◌≤◌, ℕ, List, length, map, IfOk, IsTrue};
+ghost use Rattle.std.specs.Prelude.{◌≡◌, ◌↔◌, ◌<◌, ◌≤◌, ◌+ℤ◌, ℕ, ℤ, List, length, map, IfOk, IsTrue};
 ghost use Rattle.std.specs.List.{AllWithin};
 ghost use Rattle.std.specs.List.Sorted.{IsNonDecreasingBy, IsStrictlyIncreasing};
 ghost use Rattle.gtd_core.specs.Limits.{most_rows};
 ghost use Rattle.gtd_core.specs.Seconds.{IsHorizonSecond, Within};
 ghost use Rattle.gtd_core.specs.Whole.{whole};
+ghost use Rattle.gtd_eval.specs.Ever.{week};
 ghost use Rattle.gtd_eval.specs.Stays.{IsStay};
 ghost use Rattle.gtd_records.specs.Closing.{AreElements, IsClosed};
 ghost use Rattle.gtd_records.specs.ClosingRows.{AreClosingRows};
@@ -207,6 +208,25 @@ impl Records {
             }
         }
         stay
+    }
+
+    // Whether each record that closes the element in the direction for the vehicle type repeats after 7 days.
+    pub(crate) fn repeats_weekly(&self, element: u64, direction: Direction, vehicle: u8) -> bool
+        ensures weekly { IsTrue result
+            → (t : ℤ) → IsClosed self.now element direction vehicle t
+            ↔ IsClosed self.now element direction vehicle (t +ℤ week) }
+    {
+        let from = places_below(self.places.as_slice(), element);
+        for place in &self.places[from..] {
+            if place.element != element {
+                return true;
+            }
+            let restriction = &self.rows[place.row];
+            if restriction.concerns(direction, vehicle) && !restriction.is_weekly() {
+                return false;
+            }
+        }
+        true
     }
 
     // The cursors of the records that close the element in the direction for the vehicle type.

@@ -1,17 +1,18 @@
 //! One restriction record.
 
-ghost use Rattle.std.specs.Prelude.{◌↔◌, ◌≤◌, ℤ, IfOk, IsTrue};
+ghost use Rattle.std.specs.Prelude.{◌↔◌, ◌≤◌, ◌+ℤ◌, ℤ, IfOk, IsTrue};
 ghost use Rattle.gtd_core.specs.Seconds.{Within, IsHorizonSecond};
 ghost use Rattle.gtd_core.specs.Whole.{whole};
 ghost use Rattle.gtd_eval.specs.Cursors.{cursor_list, cursor_nodes};
 ghost use Rattle.gtd_records.specs.Closing.{Closes, Concerns, HoldsAt};
+ghost use Rattle.gtd_eval.specs.Ever.{week};
 ghost use Rattle.gtd_eval.specs.Stays.{IsStay};
 ghost use Rattle.gtd_spans.specs.Normal.{Holds};
 
 use crate::direction::{Closed, Direction};
 use crate::vehicles::Vehicles;
 use gtd_core::{Domain, Horizon, Sec};
-use gtd_eval::{Cursor, Stay, holds, stay_of};
+use gtd_eval::{Cursor, Stay, holds, is_weekly, stay_of};
 use std::alloc::{AllocError, Global};
 use std::marker::Model;
 
@@ -91,6 +92,17 @@ impl Record {
                 until: horizon.until(),
             },
         }
+    }
+
+    // Whether the seconds at which the record closes what it concerns repeat after 7 days: all do, or those of a domain
+    // whose basic domains repeat.
+    pub(crate) fn is_weekly(&self) -> bool
+        ensures weekly { IsTrue result → (t : ℤ) → HoldsAt self.now.domain t ↔ HoldsAt self.now.domain (t +ℤ week) }
+    {
+        let Some(domain) = &self.domain else {
+            return true;
+        };
+        is_weekly(domain)
     }
 
     // The seconds of a horizon at which the record closes what it concerns.

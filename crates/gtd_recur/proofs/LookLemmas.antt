@@ -1,6 +1,6 @@
 -- A walk that begins at a day from which the stretches reach as far as all before.
 use Rattle.std.proofs.Common.{◌≡◌, ◌⊎◌, ℕ, ◌<◌, ◌≤◌, true, false, refl, inl, inr, arith, ℤ, pos, ◌+ℤ◌, ◌-ℤ◌, ◌*ℤ◌, ◌<ℤ◌, ◌≤ℤ◌}
-use Rattle.std.proofs.Common.{int_lt, not, unsigned_abs}
+use Rattle.std.proofs.Common.{int_lt, not, unsigned_abs, ◌∙◌, zero, suc}
 use Rattle.std.proofs.lemmas.Bool.{both_ways}
 use Rattle.std.proofs.lemmas.Int.{by_lt_z, ints}
 use Rattle.gtd_calendar.specs.facts.Signed.{signed_arith}
@@ -16,6 +16,7 @@ use Rattle.gtd_calendar.specs.Clock.{second_of_day}
 use Rattle.gtd_calendar.specs.ComputedEnds.{stop}
 use Rattle.gtd_recur.specs.Ascending.{Has}
 use Rattle.gtd_recur.specs.Begins.{begins, begins_on}
+use Rattle.gtd_recur.specs.ComputedStretches.{IsHeldFromDay, IsHeldFromDays}
 use Rattle.gtd_recur.specs.Look.{IsFirstDay}
 use Rattle.gtd_recur.specs.Membership.{InStretches}
 use Rattle.gtd_recur.specs.Stretches.{runs_between}
@@ -54,6 +55,47 @@ held-nearer p q b t n on lt le far fits =
   where
     before : (t n : ℤ) (k : ℕ) → k < 86400 → (pos 86400 *ℤ (n +ℤ pos 1)) ≤ℤ t → (pos 86400 *ℤ n +ℤ pos k) ≤ℤ t
     before t n k low far = omega (arith, signed_arith)
+
+-- what is held from some day before its own is held from the last of them on which the start begins
+pub held-from-last : (p : StartParts) (q : DurationParts) (low n first s : ℤ) (looked : ℕ) → IsFirstDay p low n first looked
+    → n ≡ day_of_second s → IsHeldFromDays p q low n s → (first <ℤ n) × IsHeldFromDay p q first s
+held-from-last p q low n first s looked look today held =
+    let m = held.0 in
+    let b = held.3.0 in
+    let parts = second-parts s in
+    let on : begins_on p (day_fields m) ≡ true = rw (held.3.1) at (begins-parts p b held.3.2.0).0 in
+    by_lt_z {P = (first <ℤ n) × IsHeldFromDay p q first s} first m
+    (λ gt. absurd (both_ways _ (look.none m gt held.2) on))
+    (λ le. elim (look.reason) [
+      | inl w ↦
+          let c = held-nearer p q b s first held.3.2.0 held.3.2.2 (rw (held.3.1) le)
+          (past first n s (day_of_second s) (second_of_day s) today w.0 parts.0) w.1 in
+          (w.0, (c.0, c.1, (c.2, c.3, c.4)))
+      | inr last ↦
+          let same : m ≡ first = equal m first low held.1 le last in
+          (let lt = held.2 in omega (arith, signed_arith, same, lt), (b, held.3.1 ∙ same, held.3.2))
+    ])
+  where
+    past : (first n s d : ℤ) (k : ℕ) → n ≡ d → first <ℤ n → s ≡ pos 86400 *ℤ d +ℤ pos k → (pos 86400 *ℤ (first +ℤ pos 1)) ≤ℤ s
+    past first n s d k e lt is = omega (arith, signed_arith)
+
+    equal : (m first low : ℤ) → low ≤ℤ m → m ≤ℤ first → first ≡ low → m ≡ first
+    equal m first low a b e = omega (arith, signed_arith)
+
+-- what is held is held from the day itself or from one of the lookback before it
+pub held-anywhere : (p : StartParts) (q : DurationParts) (low s : ℤ) → low ≡ day_of_second s -ℤ pos (lookback_of q)
+    → InStretches p q s → ¬ (IsHeldFromDay p q (day_of_second s) s) → IsHeldFromDays p q low (day_of_second s) s
+held-anywhere p q low s e member none =
+    let near = held_in_lookback p q s member in
+    by-days near.0 near.1 near.2
+  where
+    by-days : (k : ℕ) → k ≤ lookback_of q → IsHeldFromDay p q (day_of_second s -ℤ pos k) s
+        → IsHeldFromDays p q low (day_of_second s) s
+    by-days zero le held =
+        let same : day_of_second s -ℤ pos 0 ≡ day_of_second s = omega (arith, signed_arith) in
+        absurd (none (rw same at held))
+    by-days (suc k) le held =
+        (day_of_second s -ℤ pos (suc k), omega (arith, signed_arith, e, le), omega (arith, signed_arith), held)
 
 -- the runs of the starts from there on are those of the basic domain
 pub look-runs : (p : StartParts) (q : DurationParts) (first from to : ℤ) (back : ℕ) → first ≡ from -ℤ pos back → from ≤ℤ to

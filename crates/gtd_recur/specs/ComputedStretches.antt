@@ -19,6 +19,10 @@ InComputedStretches p q s = (b : ℤ) × IsHeldToStop p q b s
 abbrev pub IsHeldFromDay : StartParts → DurationParts → ℤ → ℤ → Type 0
 IsHeldFromDay p q n s = (b : ℤ) × (day_of_second b ≡ n) × IsHeldToStop p q b s
 
+-- a stretch that begins on a day from `low` on and before day n holds the second
+abbrev pub IsHeldFromDays : StartParts → DurationParts → ℤ → ℤ → ℤ → Type 0
+IsHeldFromDays p q low n s = (m : ℤ) × (low ≤ℤ m) × (m <ℤ n) × IsHeldFromDay p q m s
+
 -- the latest second of day n, not after s, at which the clock fits, if there is one
 abbrev pub IsLatestNotAfter : StartParts → ℤ → ℤ → Option ℕ → Type 0
 IsLatestNotAfter p n s (Some k) =

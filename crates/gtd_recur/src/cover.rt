@@ -8,8 +8,8 @@ ghost use Rattle.gtd_core.specs.Parts.{start_parts, duration_parts};
 ghost use Rattle.gtd_core.specs.Ranges.{IsStart};
 ghost use Rattle.gtd_calendar.specs.Calendar.{IsCalendarDay};
 ghost use Rattle.gtd_recur.specs.Membership.{InBasic};
-ghost use Rattle.gtd_recur.specs.ComputedStretches.{IsHeldFromDay, IsLatestNotAfter};
-ghost use Rattle.gtd_core.specs.Seconds.{IsHorizonSecond};
+ghost use Rattle.gtd_recur.specs.ComputedStretches.{IsHeldFromDay, IsHeldFromDays, IsLatestNotAfter};
+ghost use Rattle.gtd_core.specs.Seconds.{day_of_second, IsHorizonSecond};
 
 use crate::begin::{asks_no_date, begins_on_day, latest_begin};
 use crate::find::last_begun;
@@ -41,6 +41,30 @@ fn held_from_day(
     second.0 < end_of(begin, duration).0
 }
 
+// Whether a stretch holds the second that begins on a day before its own, but not below a lowest day. No stretch from an
+// earlier day ends later than the last from the last day on which the start begins, so that only that day is asked.
+fn held_from_before(
+    start: &StartParts,
+    duration: &Duration,
+    second: Sec,
+    low: i64,
+    today: i64,
+) -> bool
+    requires valid { IsStart start.now }
+    requires low_in { first_window_day ≤ℤ low }
+    requires order { low ≤ℤ today }
+    requires today_in { today ≤ℤ horizons_end }
+    requires today { today ≡ day_of_second second.0 }
+    ensures { IsTrue result ↔ IsHeldFromDays start.now (duration_parts duration.now) low today second.0 }
+{
+    let look = first_look(start, low, today);
+    if look.first >= today {
+        return false;
+    }
+    let latest = latest_begin(start, LAST_SECOND_OF_DAY);
+    held_from_day(start, duration, second, look.first, latest)
+}
+
 /// Whether the basic domain contains the second: the stretch of some matching start holds it, however long ago that
 /// start was. The second must be from 1901-01-01 to the end of 2699-12-31.
 pub fn covers(basic: &Basic, second: Sec) -> bool
@@ -49,25 +73,12 @@ pub fn covers(basic: &Basic, second: Sec) -> bool
 {
     let start = basic.start.parts();
     let today = second.day();
-    let latest_today = latest_begin(&start, second_of_day(second));
-    let latest_before = latest_begin(&start, LAST_SECOND_OF_DAY);
-    for back in 0..basic.duration.lookback() + 1 {
-        let latest = if back == 0 {
-            latest_today
-        } else {
-            latest_before
-        };
-        if held_from_day(
-            &start,
-            &basic.duration,
-            second,
-            today - i64::from(back),
-            latest,
-        ) {
-            return true;
-        }
+    let latest = latest_begin(&start, second_of_day(second));
+    if held_from_day(&start, &basic.duration, second, today, latest) {
+        return true;
     }
-    false
+    let low = today - i64::from(basic.duration.lookback());
+    held_from_before(&start, &basic.duration, second, low, today)
 }
 
 /// Where a look backwards ended.

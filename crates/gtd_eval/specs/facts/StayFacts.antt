@@ -1,10 +1,10 @@
 -- How long what an operator makes of two sets stays as it is.
-use Rattle.std.proofs.Common.{◌≡◌, sym, refl, subst, arith, ◌⊎◌, inl, inr, ◌↔◌, Bool, true, false}
-use Rattle.std.specs.Prelude.{ℤ, ◌<ℤ◌, ◌≤ℤ◌, IsTrue, not}
+use Rattle.std.proofs.Common.{sym, refl, subst, arith, inl, inr, ◌↔◌, Bool, true, false}
+use Rattle.std.specs.Prelude.{ℤ, ◌<ℤ◌, ◌≤ℤ◌, IsTrue}
 use Rattle.std.proofs.lemmas.Int.{ints, by_lt_z}
 use Rattle.gtd_core.specs.declared.domain.Op.{Op}
 use Rattle.gtd_core.specs.declared.domain.Op.TheVariants.{Union, Meet, Minus}
-use Rattle.gtd_spans.specs.Change.{NeverChanges, SameAt}
+use Rattle.gtd_spans.specs.Change.{SameAt}
 use Rattle.gtd_spans.specs.Normal.{Combined, combined}
 use Rattle.gtd_spans.specs.facts.NormalFor.{combined-both}
 use Rattle.gtd_eval.specs.Stays.{ComesBefore, IsJoined, IsStay, left_decides, right_decides}

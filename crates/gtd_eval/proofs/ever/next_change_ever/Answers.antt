@@ -6,7 +6,7 @@ use Rattle.gtd_core.specs.Whole.{whole}
 use Rattle.gtd_eval.specs.Ever.{cycle, week}
 use Rattle.gtd_eval.specs.Membership.{InDomain, SomeGivesYear}
 use Rattle.gtd_eval.specs.facts.Repeats.{tree-repeats, changes-after}
-use Rattle.gtd_eval.proofs.Weekly.{tree-weekly, changes-after-week}
+use Rattle.gtd_eval.specs.facts.WeekFacts.{tree-weekly, changes-after-week}
 use Rattle.gtd_eval.proofs.ever.next_change_ever.Goals as goal
 
 pub returns-in-Ok-next_change-clause-change : goal.returns-in-Ok-next_change-clause-change

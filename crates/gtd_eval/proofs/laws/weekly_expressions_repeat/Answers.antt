@@ -1,4 +1,4 @@
-use Rattle.gtd_eval.proofs.Weekly.{tree-weekly}
+use Rattle.gtd_eval.specs.facts.WeekFacts.{tree-weekly}
 use Rattle.gtd_eval.proofs.laws.weekly_expressions_repeat.Goals as goal
 
 pub returns : goal.returns

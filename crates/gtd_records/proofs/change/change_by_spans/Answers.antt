@@ -1,13 +1,21 @@
+use Rattle.std.specs.Prelude.{ℤ, MatchOption, ◌↔◌, ◌⊎◌, ◌+ℤ◌, ◌<ℤ◌, ◌≤ℤ◌, ◌≡◌, IsTrue}
 use Rattle.gtd_core.specs.Whole.{whole}
 use Rattle.gtd_eval.specs.facts.Repeats.{changes-in}
+use Rattle.gtd_eval.specs.facts.WeekFacts.{changes-to-end}
 use Rattle.gtd_eval.specs.Cursors.{cursor_list}
 use Rattle.gtd_records.specs.Closing.{IsOpen}
+use Rattle.gtd_records.proofs.WeekFacts.{opened}
 use Rattle.gtd_records.proofs.change.change_by_spans.Goals as goal
 
 pub returns : goal.returns
-returns c = record {
-  change = changes-in (IsOpen c.args.records.now c.args.element c.args.direction c.args.vehicle) (whole c.args.horizon).from
-      (whole c.args.horizon).until
-      c.args.second.0 (cursor_list c.in_ok-open.open) c.in_ok-open.ensures.seconds c.requires.inside.0
-      c.next_change.result (rw (← c.until.ensures.value) c.next_change.ensures.change);
-}
+returns c =
+    let days = whole c.days_to_look-days.result in
+    let set = IsOpen c.args.records.now c.args.element c.args.direction c.args.vehicle in
+    let found = changes-in set days.from days.until c.args.second.0 (cursor_list c.in_ok-open.open) c.in_ok-open.ensures.seconds
+    c.days_to_look-days.ensures.inside.0 c.next_change.result (rw (← c.until.ensures.value) c.next_change.ensures.change) in
+    record {
+      change = changes-to-end set (IsTrue c.repeats_weekly-weekly.result)
+          (λ yes. opened c.args.records.now c.args.element c.args.direction c.args.vehicle
+          (c.repeats_weekly-weekly.ensures.weekly yes)) c.args.second.0 days.until (whole c.args.horizon).until
+          c.days_to_look-days.ensures.within c.days_to_look-days.ensures.until c.next_change.result found;
+    }

@@ -1,10 +1,8 @@
 use Rattle.std.proofs.Common.{arith, rules, FitsSigned, to_z-of_z, w64, ◌∙◌}
-use Rattle.std.specs.Prelude.{◌≤ℤ◌}
+use Rattle.std.specs.Prelude.{IsTrue}
 use Rattle.std.proofs.lemmas.Int.{ints}
-use Rattle.gtd_core.specs.Parts.{start_parts, duration_parts}
-use Rattle.gtd_recur.specs.Weekly.{IsWeekly}
 use Rattle.gtd_eval.proofs.StayDays.{no_fault, week_on}
-use Rattle.gtd_eval.proofs.stay.days_from.Goals as goal
+use Rattle.gtd_eval.proofs.stay.days_to_look.Goals as goal
 
 pub unreachable-requires : goal.unreachable-requires
 unreachable-requires c =
@@ -26,7 +24,6 @@ returns-clause-until c =
     let day : FitsSigned w64 c.day-day.result = search rules in
     let end : FitsSigned w64 c.look_end.result = search rules in
     let last : FitsSigned w64 c.to_day.result = search rules in
-    week_on (IsWeekly (start_parts c.args.basic.now.start) (duration_parts c.args.basic.now.duration)) c.args.second.0
-    c.day-day.result c.look_end.result c.args.horizon.to_day c.in-Ok.days.to_day c.day-day.ensures.on_day.0
+    week_on (IsTrue c.args.weekly) c.args.second.0 c.day-day.result c.look_end.result c.args.horizon.to_day c.in-Ok.days.to_day c.day-day.ensures.on_day.0
     c.day-day.ensures.on_day.1 (c.in-Ok.ensures.horizon.1 ∙ to_z-of_z end)
     (rw (to_z-of_z day, to_z-of_z last, c.to_day.ensures.value) at c.look_end.ensures.end)

@@ -74,3 +74,18 @@ pub never-to-end : (p : StartParts) (q : DurationParts) (s until last : ℤ) →
 never-to-end p q s until last never (inl e) = subst (λ (l : ℤ). NeverChanges (InStretches p q) s l) e never
 never-to-end p q s until last never (inr w) = λ t later within.
     never-after-week (InStretches p q) (λ t. (week-forward p q t w.1, week-back p q t w.1)) s until w.0 never t later
+
+-- what the changes in the days that are looked at say of the horizon
+pub changes-to-end : (set : ℤ → Type 0) (weekly : Type 0) → (weekly → RepeatsWeekly set) → (s until last : ℤ) → until ≤ℤ last
+    → ((until ≡ last) ⊎ (((s +ℤ week) <ℤ until) × weekly))
+    → (o : Option Sec) → MatchOption o (NeverChanges set s until) (λ c. IsNextChange set s until c.0)
+    → MatchOption o (NeverChanges set s last) (λ c. IsNextChange set s last c.0)
+changes-to-end set weekly r s until last le (inl e) None h = subst (λ (l : ℤ). NeverChanges set s l) e h
+changes-to-end set weekly r s until last le (inr w) None h = λ t later within.
+    never-after-week set (r w.1) s until w.0 h t later
+changes-to-end set weekly r s until last le far (Some c) h = record {
+  later = h.later;
+  within = omega (arith, ints, h.within, le);
+  differs = h.differs;
+  least = h.least;
+}
