@@ -147,6 +147,49 @@ listed 'lines that end with two bytes, and an empty line' $'element,direction,ve
     $'bad.csv:3: row 2: Direction\n    up\n    ^\nbad.csv:5: row 3: Direction\n    x\n    ^'
 listed 'bytes that are shown escaped' "$top_line"$'1,both,0,\\\xc3\xa9(h25)\n' \
     $'bad.csv:2: row 1: Domain BadToken at 0\n    \\x5c\\xc3\\xa9(h25)\n    ^'
+# A hint for a first line that is nearly a header: the first of those that apply, and none for another line.
+hinted() {
+    [ "$2" = - ] || printf "$2" > bad.csv
+    run faults bad.csv
+    expect "a hint for $1" 1 $'bad.csv:1: Header\n    found:    '"$3"$'\n'"$expected${4:+$'\n    hint:     '$4}" ''
+}
+commas=element,direction,vehicle,domain
+semicolons='the fields are separated by semicolons; use commas'
+tabs='the fields are separated by tabs; use commas'
+spaces='there are spaces in the header; remove them'
+capitals='there are capital letters in the header; use small ones'
+quotes='quotes make one field of several; remove them'
+utf16='the file is UTF-16; save it as UTF-8'
+hinted 'semicolons' 'element;direction;vehicle;domain\n17;both;0;\n' 'element;direction;vehicle;domain' "$semicolons"
+hinted 'semicolons of version 2 at the end of the file' 'element;direction;vehicles;domain' \
+    'element;direction;vehicles;domain' "$semicolons"
+hinted 'semicolons between quoted capitals after a mark' '\xef\xbb\xbf"Element";"Direction";"Vehicle";"Domain"\r\n' \
+    '\xef\xbb\xbf"Element";"Direction";"Vehicle";"Domain"' "$semicolons"
+hinted 'semicolons, tabs and spaces' 'element;direction\tvehicle; domain\n' 'element;direction\x09vehicle; domain' \
+    "$semicolons"
+hinted 'tabs' 'element\tdirection\tvehicle\tdomain\n' 'element\x09direction\x09vehicle\x09domain' "$tabs"
+hinted 'tabs and spaces' 'element\t direction\tvehicle\tdomain\n' 'element\x09 direction\x09vehicle\x09domain' "$tabs"
+hinted 'spaces' 'element, direction, vehicle, domain\n' 'element, direction, vehicle, domain' "$spaces"
+hinted 'a space at the end, and capitals' 'Element,direction,vehicle,domain \r\n' 'Element,direction,vehicle,domain ' "$spaces"
+hinted 'capitals' 'Element,Direction,Vehicle,Domain\n' 'Element,Direction,Vehicle,Domain' "$capitals"
+hinted 'one capital' 'element,direction,vehicles,domaiN\r' 'element,direction,vehicles,domaiN' "$capitals"
+hinted 'quoted capitals' '"ELEMENT","DIRECTION","VEHICLE","DOMAIN"\n' '"ELEMENT","DIRECTION","VEHICLE","DOMAIN"' "$capitals"
+hinted 'a quoted line' "\"$commas\"\n" "\"$commas\"" "$quotes"
+hinted 'UTF-16 without a mark' "$(printf %s "$commas" | sed 's/./&\\0/g')" \
+    'e\x00l\x00e\x00m\x00e\x00n\x00t\x00,\x00d\x00i\x00...' "$utf16"
+for order in LE BE; do
+    printf 'element,direction,vehicle,domain\n17,both,0,\n' | iconv -t "UTF-16$order" > bad.csv
+    run faults bad.csv
+    sed -i 2d out
+    expect "UTF-16$order without a mark" 1 $'bad.csv:1: Header\n'"$expected"$'\n    hint:     '"$utf16" ''
+done
+hinted 'UTF-16 with a mark' '\xff\xfex\0' '\xff\xfex\x00' "$utf16"
+hinted 'UTF-16 with the other mark' '\xfe\xff\0x' '\xfe\xff\x00x' "$utf16"
+hinted 'another word' 'element;direction;vehicle;domains\n' 'element;direction;vehicle;domains' ''
+hinted 'a fifth field' 'element;direction;vehicle;domain;\n' 'element;direction;vehicle;domain;' ''
+hinted 'a field left out' 'Element,Direction,Vehicle\n' 'Element,Direction,Vehicle' ''
+hinted 'a mark in another place' "$commas\\xef\\xbb\\xbf\n" "$commas\xef\xbb\xbf" ''
+hinted 'half a mark' '\xff\n' '\xff' ''
 # Texts of more than 100 columns are cut: 40 columns before the place and 50 from it on are left.
 times() { printf "$2%.0s" $(seq "$1"); }
 listed 'a field of 100 columns' "$top_line$(times 100 x)"$',both,0,\n' \

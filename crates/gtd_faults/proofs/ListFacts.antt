@@ -13,7 +13,7 @@ use Rattle.gtd_records.specs.facts.OneAnswer.{one_version}
 use Rattle.gtd_records.specs.declared.fault.RecordFault.{RecordFault}
 use Rattle.gtd_records.specs.declared.vehicles.Version.{Version}
 use Rattle.gtd_records.specs.declared.warnings.Warning.{Warning}
-use Rattle.gtd_faults.specs.Below.{IsBelow, below_text, fault_place}
+use Rattle.gtd_faults.specs.Below.{IsBelow, below_text}
 use Rattle.gtd_faults.specs.Listing.{AreLines, AreWarningLines, fault_line, fault_text, warning_line}
 use Rattle.gtd_faults.specs.Printable.{printable}
 use Rattle.gtd_faults.specs.declared.below.Below.{Below}
@@ -29,18 +29,18 @@ some_line path line why below after e =
     absurd (omega (arith, all, both, end, none))
 
 -- the line of one fault more
-pub lines_more : (path : List ℕ) (faults : List RecordFault) (why : RecordFault) (text : List ℕ) (line : ℕ) (below : Below)
-    → IsBelow (fault_place why) below → AreLines path faults text
-    → AreLines path (faults ++ why ∷ []) (text ++ (fault_line path line why ++ below_text below))
-lines_more path [] why text line below at is =
+pub lines_more : (path bytes : List ℕ) (faults : List RecordFault) (why : RecordFault) (text : List ℕ) (line : ℕ)
+    (below : Below) → IsBelow bytes why below → AreLines path bytes faults text
+    → AreLines path bytes (faults ++ why ∷ []) (text ++ (fault_line path line why ++ below_text below))
+lines_more path bytes [] why text line below at is =
     (line, below, at, [], refl, rw is (sym (append-nil (fault_line path line why ++ below_text below))))
-lines_more path (x ∷ faults) why text line below at is =
+lines_more path bytes (x ∷ faults) why text line below at is =
     let more = fault_line path line why ++ below_text below in (
       is.0,
       is.1,
       is.2,
       is.3 ++ more,
-      lines_more path faults why is.3 line below at is.4,
+      lines_more path bytes faults why is.3 line below at is.4,
       rw (is.5) (append_assoc (fault_line path is.0 x ++ below_text is.1) is.3 more),
     )
 
@@ -67,7 +67,7 @@ module _ (accepted : (bytes : List ℕ) → AreFileFaults bytes [] ↔ Accepted 
     → IsFile bytes (Err why))
     (one : (bytes : List ℕ) (a b : Result (List Restriction) RecordFault) → IsFile bytes a → IsFile bytes b → a ≡ b) where
   pub nothing_listed : (path bytes : List ℕ) (faults : List RecordFault) (text : List ℕ) → AreFileFaults bytes faults
-      → AreLines path faults text → (text ≡ []) ↔ Accepted bytes
+      → AreLines path bytes faults text → (text ≡ []) ↔ Accepted bytes
   nothing_listed path bytes [] text are lines = (λ e. (accepted bytes).0 are, λ is. lines)
   nothing_listed path bytes (why ∷ rest) text are lines = (
     (λ e. absurd (some_line path lines.0 why (below_text lines.1) lines.3 (sym (lines.5) ∙ e))),
@@ -78,7 +78,7 @@ module _ (accepted : (bytes : List ℕ) → AreFileFaults bytes [] ↔ Accepted 
   same_fault a b e = cc
 
   pub first_line : (path bytes : List ℕ) (faults : List RecordFault) (text : List ℕ) (why : RecordFault)
-      → AreFileFaults bytes faults → AreLines path faults text → IsFile bytes (Err why)
+      → AreFileFaults bytes faults → AreLines path bytes faults text → IsFile bytes (Err why)
       → (line : ℕ) × (after : List ℕ) × (text ≡ fault_line path line why ++ after)
   first_line path bytes [] text why are lines is =
       let file = (accepted bytes).0 are in

@@ -1,8 +1,9 @@
 -- What is shown below the line of a fault: indented lines.
-use Rattle.std.specs.Prelude.{◌≡◌, ◌+◌, ◌-◌, ◌++◌, ℕ, suc, zero, Bool, true, false, List, [], ◌∷◌, codes}
+use Rattle.std.specs.Prelude.{◌≡◌, ◌≢◌, ◌+◌, ◌-◌, ◌++◌, ℕ, suc, zero, Bool, true, false, List, [], ◌∷◌, codes}
 use Rattle.std.specs.Prelude.{drop, get_or, length, map, take, flat_map, if◌then◌else◌, nat_eq, nat_le, nat_lt, ⊤}
 use Rattle.gtd_records.specs.declared.fault.RecordFault.{RecordFault}
 use Rattle.gtd_records.specs.declared.fault.RecordFault.TheVariants as fault
+use Rattle.gtd_faults.specs.Hints.{first_line, hint_line, hint_of}
 use Rattle.gtd_faults.specs.Printable.{printable, shown_byte}
 use Rattle.gtd_faults.specs.declared.below.Below.{Below}
 use Rattle.gtd_faults.specs.declared.below.Below.TheVariants as below
@@ -72,19 +73,25 @@ caret_text s = blanks (dots s.cut_before) ++ flat_map (λ (byte : ℕ). blanks (
 abbrev pub expected_text : List ℕ
 expected_text = codes "\n    expected: element,direction,vehicle,domain (or vehicles)\n"
 
--- nothing; the stretch of a field around a place, with a caret; or the first line of a file without a header
+-- nothing; the stretch of a field around a place, with a caret; or the first line of a file without a header, with its hint
 abbrev pub below_text : Below → List ℕ
 below_text below.Nothing = []
 below_text (below.Field field) = codes "    " ++ stretch_text field ++ codes "\n    " ++ caret_text field ++ codes "\n"
-below_text (below.Header found) = codes "    found:    " ++ stretch_text found ++ expected_text
+below_text (below.Header found hint) = codes "    found:    " ++ (stretch_text found ++ (expected_text ++ hint_line hint))
 
 -- where the field of a fault is at fault: the place in a domain's text, or its first byte
 abbrev pub fault_place : RecordFault → ℕ
 fault_place (fault.Domain row why) = why.place
 fault_place why = 0
 
--- what is shown of a field is its stretch around this place
-abbrev pub IsBelow : ℕ → Below → Type 0
-IsBelow place below.Nothing = ⊤
-IsBelow place (below.Field stretch) = (field : List ℕ) × IsAround field place stretch
-IsBelow place (below.Header found) = (first : List ℕ) × IsAround first 0 found
+-- what is shown of a row is the stretch of a field around this place, or nothing
+abbrev pub IsOfRow : ℕ → Below → Type 0
+IsOfRow place below.Nothing = ⊤
+IsOfRow place (below.Field stretch) = (field : List ℕ) × IsAround field place stretch
+IsOfRow place (below.Header found hint) = ⊥
+
+-- What is shown below the line of a fault of a file with these bytes. If it has no header: its first line, and the hint for it.
+abbrev pub IsBelow : List ℕ → RecordFault → Below → Type 0
+IsBelow bytes why (below.Header found hint) =
+    (why ≡ fault.Header) × IsAround (first_line bytes) 0 found × (hint ≡ hint_of (first_line bytes))
+IsBelow bytes why of_row = (why ≢ fault.Header) × IsOfRow (fault_place why) of_row

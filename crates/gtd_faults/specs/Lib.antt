@@ -1,4 +1,5 @@
 pub mod Below
+pub mod Hints
 pub mod Listing
 pub mod Printable
 pub mod Run

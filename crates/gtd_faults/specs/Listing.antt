@@ -7,7 +7,7 @@ use Rattle.gtd_records.specs.Faults.{AreFileFaults}
 use Rattle.gtd_records.specs.Warnings.{AreFileWarnings}
 use Rattle.gtd_records.specs.declared.warnings.Warning.{Warning}
 use Rattle.gtd_records.specs.declared.warnings.Warning.TheVariants as warning
-use Rattle.gtd_faults.specs.Below.{IsBelow, below_text, fault_place}
+use Rattle.gtd_faults.specs.Below.{IsBelow, below_text}
 use Rattle.gtd_faults.specs.Printable.{printable}
 use Rattle.gtd_faults.specs.declared.below.Below.{Below}
 
@@ -30,12 +30,12 @@ fault_text fault.Endless = codes "Endless"
 abbrev pub fault_line : List ℕ → ℕ → RecordFault → List ℕ
 fault_line path line why = printable path ++ codes ":" ++ decimal line ++ codes ": " ++ fault_text why ++ codes "\n"
 
--- The lines of faults, in order: for each its line, and what is shown below it, around the place of the fault.
-abbrev pub AreLines : List ℕ → List RecordFault → List ℕ → Type 0
-AreLines path [] text = text ≡ []
-AreLines path (why ∷ rest) text =
-    (line : ℕ) × (below : Below) × IsBelow (fault_place why) below × (after : List ℕ)
-    × AreLines path rest after × (text ≡ fault_line path line why ++ below_text below ++ after)
+-- The lines of the faults of a file with these bytes, in order: for each its line, and what is shown below it.
+abbrev pub AreLines : List ℕ → List ℕ → List RecordFault → List ℕ → Type 0
+AreLines path bytes [] text = text ≡ []
+AreLines path bytes (why ∷ rest) text =
+    (line : ℕ) × (below : Below) × IsBelow bytes why below × (after : List ℕ)
+    × AreLines path bytes rest after × (text ≡ fault_line path line why ++ below_text below ++ after)
 
 -- the words of a warning: its row, and what is said of its domain
 abbrev pub warning_text : Warning → List ℕ
@@ -63,7 +63,7 @@ pub record IsList (path bytes : List ℕ) (warn : Bool) (count : ℕ) (text : Li
   pub all : AreFileFaults bytes faults
   pub counted : count ≡ length faults
   pub first : List ℕ
-  pub lines : AreLines path faults first
+  pub lines : AreLines path bytes faults first
   pub last : List ℕ
   pub warned : IsWarned warn path bytes last
   pub whole : text ≡ first ++ last

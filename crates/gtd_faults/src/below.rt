@@ -3,6 +3,7 @@
 ghost use Rattle.std.specs.Prelude.{Some};
 ghost use Rattle.gtd_faults.specs.Below.{below_text};
 
+use crate::hint::{Hint, HintLine};
 use crate::stretch::{Caret, Stretch};
 use std::fmt;
 use std::fmt::{Display, Formatter};
@@ -14,8 +15,13 @@ pub(crate) enum Below<'a> {
     Nothing,
     /// The stretch of a field around a place, with a caret below the place.
     Field(Stretch<'a>),
-    /// The first line of a file without a header, and the two headers that it may have.
-    Header(Stretch<'a>),
+    /// The first line of a file without a header, the two headers that it may have, and a hint.
+    Header {
+        /// The first line.
+        found: Stretch<'a>,
+        /// What is wrong with it, if it is nearly a header.
+        hint: Option<Hint>,
+    },
 }
 
 impl Display for Below<'_> {
@@ -28,10 +34,11 @@ impl Display for Below<'_> {
                 let caret = Caret(field);
                 write!(f, "    {field}\n    {caret}\n")
             }
-            Below::Header(found) => {
+            Below::Header { found, hint } => {
+                let line = HintLine(hint);
                 write!(
                     f,
-                    "    found:    {found}\n    expected: element,direction,vehicle,domain (or vehicles)\n"
+                    "    found:    {found}\n    expected: element,direction,vehicle,domain (or vehicles)\n{line}"
                 )
             }
         }

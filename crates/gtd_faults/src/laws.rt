@@ -19,9 +19,9 @@ use gtd_records::laws::{listed_faults, one_answer};
 /// if its record of text stands for no restriction.
 pub fn listed_lines()
     ensures nothing { (path bytes : List ℕ) (faults : List RecordFault) (text : List ℕ) → AreFileFaults bytes faults
-        → AreLines path faults text → (text ≡ []) ↔ ((found : List Restriction) × IsFile bytes (Ok found)) }
+        → AreLines path bytes faults text → (text ≡ []) ↔ ((found : List Restriction) × IsFile bytes (Ok found)) }
     ensures first { (path bytes : List ℕ) (faults : List RecordFault) (text : List ℕ) (why : RecordFault)
-        → AreFileFaults bytes faults → AreLines path faults text → IsFile bytes (Err why)
+        → AreFileFaults bytes faults → AreLines path bytes faults text → IsFile bytes (Err why)
         → (line : ℕ) × (after : List ℕ) × (text ≡ fault_line path line why ++ after) }
     ensures rows { (bytes : List ℕ) (faults : List RecordFault) (v : Version) (rows : List Fields) → AreFileFaults bytes faults
         → length bytes ≤ most_file_bytes → records default_config (strip_bom bytes) ≡ header v ∷ rows

@@ -7,6 +7,7 @@ pub use run::run_faults;
 pub use words::{FaultText, WarningText};
 
 mod below;
+mod hint;
 pub mod laws;
 mod lines;
 mod list_fault;

@@ -1,13 +1,16 @@
 //! The lines of faults and of warnings.
 
 ghost use Rattle.std.specs.Prelude.{◌≡◌, ◌++◌, IfOk, OnOk, length, string_bytes};
-ghost use Rattle.gtd_faults.specs.Below.{below_text};
+ghost use Rattle.gtd_faults.specs.Below.{IsBelow, below_text};
 ghost use Rattle.gtd_records.specs.Faults.{AreFileFaults};
+ghost use Rattle.gtd_faults.specs.Hints as spec;
 ghost use Rattle.gtd_faults.specs.Listing.{AreLines, AreWarningLines, IsList, fault_line, warning_line};
 
 use crate::below::Below;
+use crate::hint::hint_of;
 use crate::places::Rows;
 use crate::printable::Printable;
+use crate::stretch::Stretch;
 use crate::words::{FaultText, WarningText};
 use gtd_records::{RecordFault, Warning, warnings_of};
 use std::alloc::{AllocError, Global};
@@ -28,6 +31,34 @@ fn push_fault(
     write!(text, "{path}:{line}: {words}\n{below}")
 }
 
+// The bytes before the first line end.
+fn first_line(bytes: &[u8]) -> &[u8]
+    ensures value { result.now ≡ spec.first_line bytes.now }
+{
+    for (end, byte) in bytes.iter().enumerate() {
+        if *byte == 10 || *byte == 13 {
+            return &bytes[..end];
+        }
+    }
+    bytes
+}
+
+// What is shown below the line of a fault: of the file's first line if it is no header, and otherwise of the row.
+fn below_fault<'a>(bytes: &'a [u8], rows: &'a Rows<'_>, fault: RecordFault) -> Below<'a>
+    ensures below { IsBelow bytes.now fault result }
+{
+    match fault {
+        RecordFault::Header => {
+            let line = first_line(bytes);
+            Below::Header {
+                found: Stretch::around(line, 0),
+                hint: hint_of(line),
+            }
+        }
+        _ => rows.below(fault),
+    }
+}
+
 // The lines of these faults, in order, for the file with this path and these bytes.
 pub(crate) fn lines_of(
     alloc: Global,
@@ -35,13 +66,14 @@ pub(crate) fn lines_of(
     bytes: &[u8],
     faults: &[RecordFault],
 ) -> Result<String, AllocError>
-    ensures { IfOk result (λ text. AreLines path.now faults.now (string_bytes text)) }
+    ensures { IfOk result (λ text. AreLines path.now bytes.now faults.now (string_bytes text)) }
 {
     let mut text = String::new(alloc);
     let mut rows = Rows::new(alloc, bytes);
     for fault in faults {
         rows.go_to_fault(*fault)?;
-        push_fault(&mut text, path, rows.line(), *fault, rows.below(*fault))?;
+        let below = below_fault(bytes, &rows, *fault);
+        push_fault(&mut text, path, rows.line(), *fault, below)?;
     }
     Ok(text)
 }

@@ -1,6 +1,6 @@
 //! Where the rows of a file are, and what is shown of them.
 
-ghost use Rattle.gtd_faults.specs.Below.{IsBelow, fault_place};
+ghost use Rattle.gtd_faults.specs.Below.{IsOfRow, fault_place};
 
 use crate::below::Below;
 use crate::stretch::Stretch;
@@ -96,10 +96,9 @@ impl<'a> Rows<'a> {
 
     /// What is shown of the row, below the line of its fault.
     pub(crate) fn below(&self, fault: RecordFault) -> Below<'_>
-        ensures at { IsBelow (fault_place fault) result }
+        ensures at { IsOfRow (fault_place fault) result }
     {
         match fault {
-            RecordFault::Header => Below::Header(Stretch::around(first_line(self.bytes), 0)),
             RecordFault::Element { .. } => self.field(0, 0),
             RecordFault::Direction { .. } => self.field(1, 0),
             RecordFault::Vehicle { .. } => self.field(2, 0),
@@ -110,7 +109,7 @@ impl<'a> Rows<'a> {
 
     // A field of the row, with a caret below its byte at this place.
     fn field(&self, index: usize, place: usize) -> Below<'_>
-        ensures at { IsBelow place result }
+        ensures at { IsOfRow place result }
     {
         match self.row.get(index) {
             Some(field) if place <= field.len() => Below::Field(Stretch::around(field, place)),
@@ -129,14 +128,5 @@ fn row_of(fault: RecordFault) -> u32 {
         RecordFault::Domain { row, .. } => row,
         RecordFault::TooManyRows => 65_537,
         _ => 0,
-    }
-}
-
-// The bytes before the first line end.
-fn first_line(bytes: &[u8]) -> &[u8] {
-    let end = bytes.iter().position(|byte| *byte == 10 || *byte == 13);
-    match end {
-        Some(end) => &bytes[..end],
-        None => bytes,
     }
 }

@@ -11,5 +11,5 @@ loop-fault-preserved c =
     let next : take (i + 1) c.args.faults.now ≡ take i c.args.faults.now ++ here ∷ [] =
     take_more c.args.faults.now i fault.ReadFault (omega arith) in
     rw (next, c.in_ok-push_fault.ensures)
-    (lines_more c.args.path.now (take i c.args.faults.now) here (string_bytes c.loop-fault.text) c.line.result c.below.result
-    c.below.ensures.at c.loop-fault.invariant)
+    (lines_more c.args.path.now c.args.bytes.now (take i c.args.faults.now) here (string_bytes c.loop-fault.text) c.line.result
+    c.below_fault-below.result c.below_fault-below.ensures.below c.loop-fault.invariant)

@@ -5,4 +5,4 @@ use Rattle.gtd_faults.proofs.lines.lines_of.Given as goal
 
 -- the lines of the faults so far
 abbrev pub invariant-loop-fault : goal.invariant-loop-fault
-invariant-loop-fault l = AreLines l.fn.path (take l.fault-index l.faults) (string_bytes l.text)
+invariant-loop-fault l = AreLines l.fn.path l.fn.bytes (take l.fault-index l.faults) (string_bytes l.text)

@@ -1,0 +1,4 @@
+use Rattle.gtd_faults.proofs.below.BelowDisplay.fmt.Goals as goal
+
+pub returns-in-Header-clause-writes : goal.returns-in-Header-clause-writes
+returns-in-Header-clause-writes g c = λ plain ok. rw c.in-Header.is (c.write-in-Header.ensures.writes plain ok)
