@@ -2,7 +2,7 @@
 use Rattle.std.proofs.Common.{◌≡◌, ◌∙◌, ◌⊎◌, inl, inr, ap, sym, subst, refl, true, true≢false, List}
 use Rattle.std.proofs.Common.{Option, Some, None, is_some, Bool, false, bytes_eq, codes, option_and_then}
 use Rattle.std.proofs.Common.{if◌then◌else◌}
-use Rattle.std.specs.Prelude.{Result, Ok, Err, MatchResult, ℕ, unwrap_or}
+use Rattle.std.specs.Prelude.{Result, Ok, Err, IsSome, MatchResult, ℕ, unwrap_or}
 use Rattle.std.proofs.lemmas.Slice.Eq.{bytes_eq-Decides}
 use Rattle.clap.specs.Faults.{fault_of}
 use Rattle.clap.specs.Simple.{subcommand_of}
@@ -26,8 +26,9 @@ use Rattle.gtd_records.specs.Columns.{direction_of, number_of}
 use Rattle.gtd_records.specs.declared.direction.Direction.{Direction}
 use Rattle.gtd_text.specs.Reading.{IsFault, StandsFor}
 use Rattle.gtd_text.specs.facts.OneMeaning.{one_meaning}
+use Rattle.gtd_text.specs.facts.ReadingLaws.{one_fault}
 use Rattle.gtd_desk.specs.Plans.{AskFor, AskForNow, HaveMomentFault, HaveNoVehicle, HaveWordsFault, IsDomainPlan, IsFaultsPlan}
-use Rattle.gtd_desk.specs.Plans.{AskForWords, IsNowPlan, IsPicturePlan, IsRefusalOf, IsWordFault, IsWordsPlan}
+use Rattle.gtd_desk.specs.Plans.{AskForWords, HaveWordFault, IsNowPlan, IsPicturePlan, IsRefusalOf, IsWordFault, IsWordsPlan}
 use Rattle.gtd_desk.specs.declared.plans.Plan.{Plan}
 use Rattle.gtd_desk.specs.declared.plans.Plan.TheVariants as plan
 use Rattle.gtd_desk.specs.declared.refusal.Refusal.{Refusal}
@@ -105,6 +106,49 @@ no_domain_fault texts domain year word.Direction read y h = h
 no_domain_fault texts domain year word.Vehicle read y h = h
 no_domain_fault texts domain year word.Year read y h = h.1 year y.0 y.1
 no_domain_fault texts domain year (word.Domain why) read y h = read.faultless why h
+
+some_read : {T : Type 0} (o : Option T) → IsSome o → o ≡ None → ⊥
+some_read o h e = true≢false (sym h ∙ ap is_some e)
+
+-- one word of `picture` is the first that stands for nothing
+one_subject_fault : (texts : PictureTexts) (x y : WordFault) → IsSubjectFault texts x → IsSubjectFault texts y → x ≡ y
+one_subject_fault texts word.Element word.Element h k = refl
+one_subject_fault texts word.Element word.Direction h k = absurd (some_read (number_of texts.element) k.0 h)
+one_subject_fault texts word.Element word.Vehicle h k = absurd (some_read (number_of texts.element) k.0 h)
+one_subject_fault texts word.Element word.Year h k = absurd (some_read (number_of texts.element) k.0 h)
+one_subject_fault texts word.Direction word.Element h k = absurd (some_read (number_of texts.element) h.0 k)
+one_subject_fault texts word.Direction word.Direction h k = refl
+one_subject_fault texts word.Direction word.Vehicle h k = absurd (some_read (direction_of texts.direction) k.1 h.1)
+one_subject_fault texts word.Direction word.Year h k = absurd (some_read (direction_of texts.direction) k.1 h.1)
+one_subject_fault texts word.Vehicle word.Element h k = absurd (some_read (number_of texts.element) h.0 k)
+one_subject_fault texts word.Vehicle word.Direction h k = absurd (some_read (direction_of texts.direction) h.1 k.1)
+one_subject_fault texts word.Vehicle word.Vehicle h k = refl
+one_subject_fault texts word.Vehicle word.Year h k = absurd (h.2 k.2.0 k.2.1.0 k.2.1.1)
+one_subject_fault texts word.Year word.Element h k = absurd (some_read (number_of texts.element) h.0 k)
+one_subject_fault texts word.Year word.Direction h k = absurd (some_read (direction_of texts.direction) h.1 k.1)
+one_subject_fault texts word.Year word.Vehicle h k = absurd (k.2 h.2.0 h.2.1.0 h.2.1.1)
+one_subject_fault texts word.Year word.Year h k = refl
+one_subject_fault texts word.Element (word.Domain why) h k = absurd k
+one_subject_fault texts word.Direction (word.Domain why) h k = absurd k
+one_subject_fault texts word.Vehicle (word.Domain why) h k = absurd k
+one_subject_fault texts word.Year (word.Domain why) h k = absurd k
+one_subject_fault texts (word.Domain why) y h k = absurd h
+
+-- one word of `picture-domain` is the first that stands for nothing
+one_domain_fault : (texts : DomainTexts) (x y : WordFault) → IsDomainFault texts x → IsDomainFault texts y → x ≡ y
+one_domain_fault texts (word.Domain a) (word.Domain b) h k = ap word.Domain (one_fault texts.domain a b h k)
+one_domain_fault texts (word.Domain a) word.Year h k = absurd (k.0 a h)
+one_domain_fault texts (word.Domain a) word.Element h k = absurd k
+one_domain_fault texts (word.Domain a) word.Direction h k = absurd k
+one_domain_fault texts (word.Domain a) word.Vehicle h k = absurd k
+one_domain_fault texts word.Year (word.Domain b) h k = absurd (h.0 b k)
+one_domain_fault texts word.Year word.Year h k = refl
+one_domain_fault texts word.Year word.Element h k = absurd k
+one_domain_fault texts word.Year word.Direction h k = absurd k
+one_domain_fault texts word.Year word.Vehicle h k = absurd k
+one_domain_fault texts word.Element y h k = absurd h
+one_domain_fault texts word.Direction y h k = absurd h
+one_domain_fault texts word.Vehicle y h k = absurd h
 
 module _ (words : List Text) where
   name_of_now : (f m v : Text) → AreNowWords words f m v → HaveName (codes "now") (subcommand_of desk_app words)
@@ -326,19 +370,6 @@ module _ (words : List Text) where
   plan_only_faults (Err refusal.Write) is file h = absurd is
   plan_only_faults (Err refusal.Memory) is file h = refl
 
-  pub plan_first : (result : Result Plan Refusal) → MatchResult result (AskFor words) (IsRefusalOf words)
-      → (r : Refusal) → IsWordFault words r
-      → MatchResult result (λ plan. ⊥) (λ s. (s ≡ refusal.Memory) ⊎ (s ≡ r))
-  plan_first result is (refusal.Moment fault) h = moment_refused fault result is h
-  plan_first result is refusal.Vehicle h = vehicle_refused result is h
-  plan_first result is (refusal.Usage why) h = absurd h
-  plan_first result is (refusal.Word fault) h = absurd h
-  plan_first result is refusal.NoElement h = absurd h
-  plan_first result is (refusal.Records why) h = absurd h
-  plan_first result is refusal.Open h = absurd h
-  plan_first result is refusal.Write h = absurd h
-  plan_first result is refusal.Memory h = absurd h
-
   no_domain_picture : (t : PictureTexts) (d : DomainTexts) → ArePictureWords words t → AreDomainWords words d → ⊥
   no_domain_picture t d a b =
       one_name (subcommand_of desk_app words) (codes "picture") (codes "picture-domain") (name_of_picture t a) (name_of_domain
@@ -485,3 +516,65 @@ module _ (words : List Text) where
   plan_only_words (Err refusal.Open) is d h = absurd is
   plan_only_words (Err refusal.Write) is d h = absurd is
   plan_only_words (Err refusal.Memory) is d h = refl
+
+  one_words_fault : (x y : WordFault) → HaveWordsFault words x → HaveWordsFault words y → x ≡ y
+  one_words_fault x y a b =
+      let has = subst (λ (t : Text). IsFault t a.why) (same_word a.text b.text a.given b.given) a.has in
+      a.is ∙ ap word.Domain (one_fault b.text a.why b.why has b.has) ∙ sym b.is
+
+  one_word_fault : (x y : WordFault) → HaveWordFault words x → HaveWordFault words y → x ≡ y
+  one_word_fault x y (inl a) (inl b) =
+      one_subject_fault b.texts x y
+      (subst (λ (t : PictureTexts). IsSubjectFault t x) (same_texts a.texts b.texts a.given b.given) a.has) b.has
+  one_word_fault x y (inl a) (inr (inl b)) = absurd (no_domain_picture a.texts b.texts a.given b.given)
+  one_word_fault x y (inl a) (inr (inr b)) = absurd (no_words_picture a.texts b.text a.given b.given)
+  one_word_fault x y (inr (inl a)) (inl b) = absurd (no_domain_picture b.texts a.texts b.given a.given)
+  one_word_fault x y (inr (inl a)) (inr (inl b)) =
+      one_domain_fault b.texts x y
+      (subst (λ (t : DomainTexts). IsDomainFault t x) (same_domain_texts a.texts b.texts a.given b.given) a.has) b.has
+  one_word_fault x y (inr (inl a)) (inr (inr b)) = absurd (no_words_domain a.texts b.text a.given b.given)
+  one_word_fault x y (inr (inr a)) (inl b) = absurd (no_words_picture b.texts a.text b.given a.given)
+  one_word_fault x y (inr (inr a)) (inr (inl b)) = absurd (no_words_domain b.texts a.text b.given a.given)
+  one_word_fault x y (inr (inr a)) (inr (inr b)) = one_words_fault x y a b
+
+  word_not_mistaken : (fault : WordFault) → HaveWordFault words fault → AreMistaken words → ⊥
+  word_not_mistaken fault (inl h) m = picture_not_mistaken h.texts h.given m
+  word_not_mistaken fault (inr (inl h)) m = domain_not_mistaken h.texts h.given m
+  word_not_mistaken fault (inr (inr h)) m = words_not_mistaken h.text h.given m
+
+  word_not_text : (fault : WordFault) → HaveWordFault words fault → AskForText words → ⊥
+  word_not_text fault (inl h) x = picture_not_text h.texts h.given x
+  word_not_text fault (inr (inl h)) x = domain_not_text h.texts h.given x
+  word_not_text fault (inr (inr h)) x = subst (λ kinds. IsAmong x.0 kinds) h.given.faultless x.1
+
+  word_refused : (fault : WordFault) (result : Result Plan Refusal) → MatchResult result (AskFor words) (IsRefusalOf words)
+      → HaveWordFault words fault
+      → MatchResult result (λ plan. ⊥) (λ r. (r ≡ refusal.Memory) ⊎ (r ≡ refusal.Word fault))
+  word_refused fault (Ok (plan.Now f m v)) is h = no_word_now _ is.second is.vehicle_word fault is.given h
+  word_refused fault (Ok (plan.Faults f w)) is h = no_word_faults _ fault is h
+  word_refused fault (Ok (plan.Picture f t s)) is h = picture_not_refused _ s fault is h
+  word_refused fault (Ok (plan.DomainPicture d t y)) is h = domain_not_refused d _ y fault is h
+  word_refused fault (Ok (plan.Words d)) is h = words_not_refused d fault is h
+  word_refused fault (Ok (plan.Show text)) is h = word_not_text fault h is
+  word_refused fault (Err (refusal.Usage why)) is h = absurd (word_not_mistaken fault h is)
+  word_refused fault (Err (refusal.Moment why)) is h = absurd (no_word_now is.file is.moment is.vehicle fault is.given h)
+  word_refused fault (Err refusal.Vehicle) is h = absurd (no_word_now is.file is.moment is.vehicle fault is.given h)
+  word_refused fault (Err (refusal.Word other)) is h = inr (ap refusal.Word (one_word_fault other fault is h))
+  word_refused fault (Err refusal.NoElement) is h = absurd is
+  word_refused fault (Err (refusal.Records why)) is h = absurd is
+  word_refused fault (Err refusal.Open) is h = absurd is
+  word_refused fault (Err refusal.Write) is h = absurd is
+  word_refused fault (Err refusal.Memory) is h = inl refl
+
+  pub plan_first : (result : Result Plan Refusal) → MatchResult result (AskFor words) (IsRefusalOf words)
+      → (r : Refusal) → IsWordFault words r
+      → MatchResult result (λ plan. ⊥) (λ s. (s ≡ refusal.Memory) ⊎ (s ≡ r))
+  plan_first result is (refusal.Moment fault) h = moment_refused fault result is h
+  plan_first result is refusal.Vehicle h = vehicle_refused result is h
+  plan_first result is (refusal.Word fault) h = word_refused fault result is h
+  plan_first result is (refusal.Usage why) h = absurd h
+  plan_first result is refusal.NoElement h = absurd h
+  plan_first result is (refusal.Records why) h = absurd h
+  plan_first result is refusal.Open h = absurd h
+  plan_first result is refusal.Write h = absurd h
+  plan_first result is refusal.Memory h = absurd h

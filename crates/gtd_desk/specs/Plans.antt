@@ -125,10 +125,16 @@ IsWordsPlan domain (plan.DomainPicture d t y) = ⊥
 IsWordsPlan domain (plan.Words d) = domain_tree d ≡ domain_tree domain
 IsWordsPlan domain (plan.Show text) = ⊥
 
--- The words give the command `now`, and this is the refusal for the first of its words that stands for nothing.
+-- The words give `picture`, `picture-domain` or `words`, and this is the first word of the command that stands for nothing.
+abbrev pub HaveWordFault : List Text → WordFault → Type 0
+HaveWordFault words fault = HavePictureFault words fault ⊎ HaveDomainFault words fault ⊎ HaveWordsFault words fault
+
+-- The words give a command, and this is the refusal for the first of its words that stands for nothing. The words of
+-- `faults` all stand for something.
 abbrev pub IsWordFault : List Text → Refusal → Type 0
 IsWordFault words (refusal.Moment fault) = HaveMomentFault words fault
 IsWordFault words refusal.Vehicle = HaveNoVehicle words
+IsWordFault words (refusal.Word fault) = HaveWordFault words fault
 IsWordFault words r = ⊥
 
 -- Why words are refused. Refused memory is not a fault of theirs.
@@ -136,6 +142,6 @@ abbrev pub IsRefusalOf : List Text → Refusal → Type 0
 IsRefusalOf words (refusal.Usage why) = AreMistaken words
 IsRefusalOf words (refusal.Moment fault) = HaveMomentFault words fault
 IsRefusalOf words refusal.Vehicle = HaveNoVehicle words
-IsRefusalOf words (refusal.Word fault) = HavePictureFault words fault ⊎ HaveDomainFault words fault ⊎ HaveWordsFault words fault
+IsRefusalOf words (refusal.Word fault) = HaveWordFault words fault
 IsRefusalOf words refusal.Memory = Unit {0}
 IsRefusalOf words r = ⊥

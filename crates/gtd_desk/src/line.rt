@@ -1,5 +1,9 @@
 //! The line for standard error that reports a refusal.
 
+ghost use Rattle.std.specs.Prelude.{◌≡◌, Some};
+ghost use Rattle.gtd_desk.specs.Lines as spec;
+ghost use Rattle.gtd_desk.specs.Lines.{refusal_line, word_text};
+
 use crate::refusal::{Refusal, WordFault};
 use gtd_calendar::StampFault;
 use gtd_faults::{FaultText, Printable};
@@ -7,7 +11,9 @@ use std::fmt;
 use std::fmt::{Display, Formatter};
 
 // Why a text is not a moment, in words.
-fn moment_reason(fault: StampFault) -> &'static str {
+fn moment_reason(fault: StampFault) -> &'static str
+    ensures { result.now ≡ spec.moment_reason fault }
+{
     match fault {
         StampFault::Shape => "not of the form YYYY-MM-DDThh:mm:ss",
         StampFault::NoSuchDate => "no such date or clock time",
@@ -20,13 +26,19 @@ fn moment_reason(fault: StampFault) -> &'static str {
 struct WordLine(WordFault);
 
 impl Display for WordLine {
+    ghost output = { λ shown. Some (word_text shown.0) };
+
     fn fmt<W: fmt::Write>(&self, f: &mut Formatter<W>) -> fmt::Result {
         match self.0 {
             WordFault::Element => write!(f, "ELEMENT: not a number of 1 to 10 digits"),
             WordFault::Direction => write!(f, "DIRECTION: neither positive nor negative"),
             WordFault::Vehicle => write!(f, "VEHICLE: not a number from 1 to 99"),
             WordFault::Year => write!(f, "YEAR: not a number from 1901 to 2199"),
-            WordFault::Domain(fault) => write!(f, "DOMAIN: {} at {}", fault.kind, fault.place),
+            WordFault::Domain(fault) => {
+                let kind = fault.kind.name();
+                let place = fault.place;
+                write!(f, "DOMAIN: {kind} at {place}")
+            }
         }
     }
 }
@@ -41,6 +53,8 @@ pub struct RefusalLine<'a> {
 }
 
 impl Display for RefusalLine<'_> {
+    ghost output = { λ line. Some (refusal_line line.file.now line.refusal) };
+
     fn fmt<W: fmt::Write>(&self, f: &mut Formatter<W>) -> fmt::Result {
         let file = Printable(self.file.as_bytes());
         match self.refusal {

@@ -194,9 +194,9 @@ fn plan_words(alloc: Global, words: &[String]) -> Result<Plan, Refusal>
 
 /// What the words after the program's name ask for, or why they are refused.
 ///
-/// In order: `Usage` if they neither give a command with its words nor ask for help; `Moment` if the word for the moment
-/// of `now` does not stand for one; then `Vehicle`. `Word` is the first word of a picture's command that stands for nothing,
-/// in the order of the words. If memory was refused, `Memory` is the answer in place of these.
+/// In order: `Usage` if they neither give a command with its words nor ask for help; then the refusal for the first of the
+/// command's words that stands for nothing, from left to right: `Moment` or `Vehicle` for `now`, and `Word` for `words`,
+/// `picture` and `picture-domain`. If memory was refused, `Memory` is the answer in place of these.
 pub fn plan(alloc: Global, words: Vec<String>) -> Result<Plan, Refusal>
     // The plan is what the words ask for.
     ensures asked { IfOk result (AskFor (map string_bytes words.items)) }
@@ -214,7 +214,7 @@ pub fn plan(alloc: Global, words: Vec<String>) -> Result<Plan, Refusal>
         → MatchResult result (IsWordsPlan domain) (λ r. r ≡ Refusal.Memory) }
     // The refusal is one that the words have, unless memory was refused.
     ensures refused { IfErr result (IsRefusalOf (map string_bytes words.items)) }
-    // If a word of `now` stands for nothing, the first such word gives the refusal, unless memory is refused.
+    // If a word of the command stands for nothing, the first such word gives the refusal, unless memory is refused.
     ensures first { (refusal : Refusal) → IsWordFault (map string_bytes words.items) refusal
         → MatchResult result (λ plan. ⊥) (λ r. (r ≡ Refusal.Memory) ⊎ (r ≡ refusal)) }
 {

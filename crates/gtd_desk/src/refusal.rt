@@ -8,7 +8,7 @@ use gtd_core::TextFault;
 use gtd_records::RecordFault;
 
 /// Which word of a picture's command, or of `words`, stands for nothing.
-#[derive(Clone, Copy)]
+#[derive(Clone, Copy, Debug, PartialEq, Eq)]
 pub enum WordFault {
     /// The word for an element is not a number.
     Element,
@@ -23,7 +23,7 @@ pub enum WordFault {
 }
 
 /// Why a command line is not carried out.
-#[derive(Clone, Copy)]
+#[derive(Clone, Copy, Debug, PartialEq, Eq)]
 pub enum Refusal {
     /// The words name no command, or are not the words that it takes. This says what is wrong with them.
     Usage(&'static str),

@@ -1,0 +1,38 @@
+-- The line for standard error that reports a refusal.
+use Rattle.std.specs.Prelude.{◌++◌, ℕ, List, codes, decimal}
+use Rattle.gtd_calendar.specs.declared.stamp.StampFault.{StampFault}
+use Rattle.gtd_calendar.specs.declared.stamp.StampFault.TheVariants as moment
+use Rattle.gtd_core.specs.Names.{fault_name}
+use Rattle.gtd_faults.specs.Listing.{fault_text}
+use Rattle.gtd_faults.specs.Printable.{printable}
+use Rattle.gtd_desk.specs.declared.refusal.Refusal.{Refusal}
+use Rattle.gtd_desk.specs.declared.refusal.Refusal.TheVariants as refusal
+use Rattle.gtd_desk.specs.declared.refusal.WordFault.{WordFault}
+use Rattle.gtd_desk.specs.declared.refusal.WordFault.TheVariants as word
+
+-- why a text is not a moment
+abbrev pub moment_reason : StampFault → List ℕ
+moment_reason moment.Shape = codes "not of the form YYYY-MM-DDThh:mm:ss"
+moment_reason moment.NoSuchDate = codes "no such date or clock time"
+moment_reason moment.Range = codes "not from 1901-01-01T00:00:00 to 2199-12-31T23:59:59"
+
+-- the word that stands for nothing, and why; for a domain, its first fault and the place
+abbrev pub word_text : WordFault → List ℕ
+word_text word.Element = codes "ELEMENT: not a number of 1 to 10 digits"
+word_text word.Direction = codes "DIRECTION: neither positive nor negative"
+word_text word.Vehicle = codes "VEHICLE: not a number from 1 to 99"
+word_text word.Year = codes "YEAR: not a number from 1901 to 2199"
+word_text (word.Domain why) = codes "DOMAIN: " ++ fault_name why.kind ++ codes " at " ++ decimal why.place
+
+-- the line without its line end: the program, where the fault is, and what it is. The name of the record file is shown as
+-- printable ASCII.
+abbrev pub refusal_line : List ℕ → Refusal → List ℕ
+refusal_line file (refusal.Usage why) = codes "gtdesk: command line: " ++ why.now ++ codes " (see gtdesk --help)"
+refusal_line file (refusal.Moment why) = codes "gtdesk: MOMENT: " ++ moment_reason why
+refusal_line file refusal.Vehicle = codes "gtdesk: VEHICLE: not a number from 1 to 99"
+refusal_line file (refusal.Word why) = codes "gtdesk: " ++ word_text why
+refusal_line file refusal.NoElement = codes "gtdesk: " ++ printable file ++ codes ": no row names the element"
+refusal_line file (refusal.Records why) = codes "gtdesk: " ++ printable file ++ codes ": " ++ fault_text why
+refusal_line file refusal.Open = codes "gtdesk: " ++ printable file ++ codes ": cannot be opened"
+refusal_line file refusal.Write = codes "gtdesk: standard output: cannot be written"
+refusal_line file refusal.Memory = codes "gtdesk: memory: refused by the system"
