@@ -9,6 +9,8 @@ mod devices;
 #[cfg(test)]
 mod eval;
 #[cfg(test)]
+mod hour_tokens;
+#[cfg(test)]
 mod hours;
 #[cfg(test)]
 mod hours_of;

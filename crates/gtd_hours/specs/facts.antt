@@ -1,0 +1,3 @@
+pub mod NextToken
+pub mod Runs
+pub mod TokenForms
