@@ -264,8 +264,8 @@ run faults warn.csv --warn
 expect 'warnings alone' 0 $'warn.csv:2: row 1: never holds\nwarn.csv:3: row 2: always holds
 warn.csv:6: row 5: never holds\nwarn.csv:7: row 6: never holds' ''
 
-# A script of its own: a long file that is mended by what is printed of it.
-for script in mend.py; do
+# Scripts of their own: a long file that is mended by what is printed of it, and the table of words beside pictures.
+for script in mend.py words.py; do
     if "$top/tests/$script" > out 2>&1; then
         passed=$((passed + 1))
     else
