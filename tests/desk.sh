@@ -1,6 +1,6 @@
 #!/usr/bin/env bash
 # What the built program `gtdesk` does with its words, files and outputs: what it prints, its error line and its status. The texts
-# of help are compared with those in tests/desk/. Run it after `rt ci`, which builds the program.
+# of help are compared with those in tests/desk/. Run it after `rt ci`, which builds the programs.
 set -u
 top=$(cd "$(dirname "$0")/.." && pwd)
 program=$top/crates/gtdesk/out/gtdesk
@@ -263,6 +263,16 @@ sed -i 4d warn.csv
 run faults warn.csv --warn
 expect 'warnings alone' 0 $'warn.csv:2: row 1: never holds\nwarn.csv:3: row 2: always holds
 warn.csv:6: row 5: never holds\nwarn.csv:7: row 6: never holds' ''
+
+# Scripts of their own: a long file that is mended by what is printed of it, and the table of words beside pictures.
+for script in mend.py words.py; do
+    if "$top/tests/$script" > out 2>&1; then
+        passed=$((passed + 1))
+    else
+        failed=$((failed + 1))
+        echo "FAILED $script: $(cat out)"
+    fi
+done
 
 # Outputs that fail.
 : > out
