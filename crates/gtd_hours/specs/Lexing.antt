@@ -90,3 +90,21 @@ abbrev pub IsNext : List ℕ → ℕ → Result (Option Token) BadToken → Type
 IsNext text from (Ok (Some token)) = AreSpaces text from token.from × IsToken text token
 IsNext text from (Ok None) = AreSpaces text from (length text)
 IsNext text from (Err bad) = IsStop text from bad.place
+
+-- From one place to another the text is these tokens, with spaces or none before, between and after them.
+abbrev pub Reads : List ℕ → ℕ → List Token → ℕ → Type 0
+Reads text from [] to = AreSpaces text from to
+Reads text from (token ∷ tokens) to =
+    AreSpaces text from token.from × IsToken text token × Reads text token.to tokens to
+
+-- The whole text is spaces and these tokens, each at its place.
+abbrev pub AreTokens : List ℕ → List Token → Type 0
+AreTokens text tokens = Reads text 0 tokens (length text)
+
+-- The first byte other than a space with which no token begins is here. Before it there are at most spaces and tokens.
+pub record IsTokenFault (text : List ℕ) (place : ℕ) : Type 0 where
+  pub before : List Token
+  pub reads : Reads text 0 before place
+  pub inside : place < length text
+  pub no_space : slice_index text place ≢ 32
+  pub no_token : BeginsNoToken text place

@@ -1,3 +1,4 @@
 pub mod NextToken
 pub mod Runs
 pub mod TokenForms
+pub mod WholeText

@@ -1,8 +1,9 @@
 //! From bytes to tokens.
 
-ghost use Rattle.std.specs.Prelude.{◌≡◌, ◌≢◌, ◌≤◌, ◌<◌, length, slice_index, IfSome, IfOk};
-ghost use Rattle.gtd_hours.specs.Lexing.{AreSpaces, IsNext};
+ghost use Rattle.std.specs.Prelude.{◌≡◌, ◌≢◌, ◌≤◌, ◌<◌, length, slice_index, IfErr, IfOk, IfSome, List};
+ghost use Rattle.gtd_hours.specs.Lexing.{AreSpaces, AreTokens, IsNext, IsTokenFault};
 ghost use Rattle.gtd_hours.specs.TokenAt.{front, token_at};
+ghost use Rattle.gtd_hours.specs.declared.token.Token.{Token};
 
 use crate::numbers::number_front;
 use crate::runs::{after_digits, digits_at_front, letters_at_front};
@@ -27,6 +28,19 @@ pub fn next_token(text: &[u8], place: usize) -> Result<Option<Token>, BadToken>
         Some(token) => Ok(Some(token)),
         None => Err(BadToken { place: from }),
     }
+}
+
+/// Whether a text is tokens from its front to its end, or the place of the first byte that is no space and with which no token
+/// begins. Takes no memory.
+pub fn check_tokens(text: &[u8]) -> Result<(), BadToken>
+    ensures tokens { IfOk result (λ done. (tokens : List Token) × AreTokens text.now tokens) }
+    ensures fault { IfErr result (λ bad. IsTokenFault text.now bad.place) }
+{
+    let mut place = 0;
+    while let Some(token) = next_token(text, place)? {
+        place = token.to;
+    }
+    Ok(())
 }
 
 // The first place from this one on that is not a space.

@@ -13,5 +13,5 @@ mod signs;
 mod token;
 mod words;
 
-pub use lexer::next_token;
+pub use lexer::{check_tokens, next_token};
 pub use token::{BadToken, Token, TokenKind};

@@ -1,6 +1,6 @@
 //! Worked tokens of opening hours.
 
-use gtd_hours::{Token, TokenKind, next_token};
+use gtd_hours::{BadToken, Token, TokenKind, check_tokens, next_token};
 use std::process::Abort;
 
 fn expect_token(rt: &impl Abort, text: &str, kind: TokenKind, from: usize, to: usize) {
@@ -115,6 +115,24 @@ fn no_tokens(rt: HostRuntime) {
     ];
     for (text, place) in table {
         expect_bad(&rt, text, place);
+    }
+}
+
+#[test]
+fn whole_texts(rt: HostRuntime) {
+    let table: [(&str, Result<(), BadToken>); 9] = [
+        ("", Ok(())),
+        ("   ", Ok(())),
+        ("Mo-Fr 07:00-09:00,16:00-18:00; Dec 25 off", Ok(())),
+        ("2024 Dec 24-2025 Jan 3:We[-1]", Ok(())),
+        ("]][ 99:99 PH \"x", Ok(())),
+        ("Apr 10:08:00-12:00", Err(BadToken { place: 4 })),
+        ("Mo-Fr 7:00-09:00", Err(BadToken { place: 6 })),
+        ("Mo xx 12345", Err(BadToken { place: 3 })),
+        ("24/7 open.", Err(BadToken { place: 9 })),
+    ];
+    for (text, wanted) in table {
+        assert!(rt; check_tokens(text.as_bytes()) == wanted, "{text}");
     }
 }
 
