@@ -7,8 +7,9 @@ ulimit -c 0
 here=$(cd "$(dirname "$0")" && pwd)
 layer_tests=$here/../crates/gtd_layer_rows/out/gtd_layer_rows_tests
 command_tests=$here/../crates/gtd_rows/out/gtd_rows_tests
+desk_tests=$here/../crates/gtd_desk_rows/out/gtd_desk_rows_tests
 program=$here/../crates/gtd/out/gtd
-for built in "$layer_tests" "$command_tests" "$program"; do
+for built in "$layer_tests" "$command_tests" "$desk_tests" "$program"; do
     [ -x "$built" ] || { echo "nothing at $built: run rt ci first" >&2; exit 1; }
 done
 room=$(mktemp -d)
@@ -43,6 +44,7 @@ tests_refused() {
 
 tests_refused "$layer_tests"
 tests_refused "$command_tests"
+tests_refused "$desk_tests"
 
 # The number of bytes that a test asks for before and after the calls that must take no memory.
 switch=7654321
@@ -68,6 +70,7 @@ tests_without() {
 
 tests_without "$layer_tests"
 tests_without "$command_tests"
+tests_without "$desk_tests"
 
 # as_before: the last run of the program ended as it does with all its memory, though it may report a refused growth.
 as_before() {

@@ -1,0 +1,411 @@
+//! Commands over devices that fail, fall silent, are interrupted, or take little at a time.
+
+ghost use Rattle.std.specs.Prelude.{◌≡◌, ◌<◌};
+
+use crate::common::{R, performed, planned};
+use gtd_desk::{Ending, Plan, Refusal, perform};
+use gtd_devices::{HostOut, Input, MemoryIn, MemoryOut, Output, Pull, Put};
+use gtd_records::RecordFault;
+use std::alloc::Global;
+use std::io;
+use std::io::{Error, ErrorKind, Write};
+use std::process::Abort;
+
+// Commands that read a file.
+static FILE_COMMANDS: [&[&str]; 4] = [
+    &["now", "r.csv", "2024-04-01T10:00:00", "11"],
+    &["faults", "r.csv"],
+    &["faults", "--warn", "r.csv"],
+    &["picture", "r.csv", "17", "positive", "11", "2024"],
+];
+
+// Commands that read no file.
+static OTHER_COMMANDS: [&[&str]; 3] = [
+    &["words", "[(M4d1){M3}]*[(h10){h4}]"],
+    &["picture-domain", "(h10){h4}", "2024"],
+    &["help"],
+];
+
+// The bytes of `R`, in pieces of 7 at most: 13 pieces, and the 14th pull finds the end.
+fn in_pieces(
+    rt: &impl Abort,
+    alloc: Global,
+    fail_call: Option<u64>,
+    silent_from: Option<u64>,
+) -> MemoryIn
+    ensures { ⟦<MemoryIn as Input>⟧.failure_count result ≡ 0 }
+{
+    let bytes = Vec::from_slice(alloc, R.as_bytes()).expect(rt, "memory");
+    MemoryIn::new(bytes, 7, fail_call, silent_from)
+}
+
+// What a plan answers over the input, and an output that takes all of what it puts.
+fn perform_over<I: Input>(
+    rt: &impl Abort,
+    alloc: Global,
+    plan: &Plan,
+    input: &mut I,
+) -> (Result<Ending, Refusal>, MemoryOut)
+    requires readable { I.failure_count input.old < u64.MAX }
+{
+    let mut output = MemoryOut::new(alloc, 100_000, 100_000, None).expect(rt, "memory");
+    let done = perform(alloc, plan, input, &mut output);
+    (done, output)
+}
+
+// What a plan answers for `R`, and the output. It has so much room, takes so many bytes at once, and fails at the call with
+// this number.
+fn perform_into(
+    rt: &impl Abort,
+    alloc: Global,
+    plan: &Plan,
+    room: usize,
+    piece: usize,
+    fail_call: Option<u64>,
+) -> (Result<Ending, Refusal>, MemoryOut)
+    requires some_byte { 0 < piece }
+{
+    let mut input = in_pieces(rt, alloc, None, None);
+    let mut output = MemoryOut::new(alloc, room, piece, fail_call).expect(rt, "memory");
+    let done = perform(alloc, plan, &mut input, &mut output);
+    (done, output)
+}
+
+#[test]
+fn inputs_that_fail(rt: HostRuntime) {
+    let alloc = rt.alloc();
+    for words in FILE_COMMANDS {
+        let plan = planned(&rt, alloc, words);
+        for call in 1u64..15 {
+            let mut failing = in_pieces(&rt, alloc, Some(call), None);
+            let (done, output) = perform_over(&rt, alloc, &plan, &mut failing);
+            assert!(rt; done == Err(Refusal::Records(RecordFault::ReadFault)));
+            assert!(rt; failing.failures() == 1);
+            assert!(rt; output.bytes().is_empty());
+        }
+    }
+}
+
+#[test]
+fn inputs_that_fall_silent(rt: HostRuntime) {
+    let alloc = rt.alloc();
+    for words in FILE_COMMANDS {
+        let plan = planned(&rt, alloc, words);
+        for call in 1u64..15 {
+            let mut silent = in_pieces(&rt, alloc, None, Some(call));
+            let (done, output) = perform_over(&rt, alloc, &plan, &mut silent);
+            assert!(rt; done == Err(Refusal::Records(RecordFault::Endless)));
+            assert!(rt; silent.failures() == 0);
+            assert!(rt; output.bytes().is_empty());
+        }
+    }
+}
+
+// There is no 15th pull. A plan that reads no file pulls nothing at all.
+#[test]
+fn inputs_that_would_fail_after_their_end(rt: HostRuntime) {
+    let alloc = rt.alloc();
+    for words in FILE_COMMANDS {
+        let plan = planned(&rt, alloc, words);
+        let (_, text) = performed(&rt, alloc, &plan, R.as_bytes());
+        let mut input = in_pieces(&rt, alloc, Some(15), None);
+        let (done, output) = perform_over(&rt, alloc, &plan, &mut input);
+        assert!(rt; done == Ok(Ending::Done), "{words:?}");
+        assert!(rt; output.bytes() == text.as_slice(), "{words:?}");
+    }
+    for words in OTHER_COMMANDS {
+        let plan = planned(&rt, alloc, words);
+        let mut input = in_pieces(&rt, alloc, Some(1), None);
+        let (done, _) = perform_over(&rt, alloc, &plan, &mut input);
+        assert!(rt; done == Ok(Ending::Done), "{words:?}");
+        assert!(rt; input.failures() == 0);
+    }
+}
+
+// Silent for so many pulls before each pull that gives bytes or the end.
+#[derive(Drop)]
+struct Slow {
+    inner: MemoryIn,
+    silent: u32,
+    left: u32,
+}
+
+impl Input for Slow {
+    ghost failure_count = { λ slow. ⟦<MemoryIn as Input>⟧.failure_count slow.inner };
+
+    fn pull(&mut self, into: &mut [u8]) -> Pull {
+        if self.left > 0 {
+            self.left -= 1;
+            return Pull::Got(0);
+        }
+        self.left = self.silent;
+        self.inner.pull(into)
+    }
+
+    fn failures(&self) -> u64 {
+        self.inner.failures()
+    }
+}
+
+// Silence of 999 pulls is waited for, and that of 1,000 is not.
+#[test]
+fn inputs_that_are_silent_for_a_while(rt: HostRuntime) {
+    let alloc = rt.alloc();
+    for words in FILE_COMMANDS {
+        let plan = planned(&rt, alloc, words);
+        let (_, text) = performed(&rt, alloc, &plan, R.as_bytes());
+        for silent in [999, 1_000] {
+            let inner = in_pieces(&rt, alloc, None, None);
+            let mut slow = Slow {
+                inner,
+                silent,
+                left: silent,
+            };
+            let (done, output) = perform_over(&rt, alloc, &plan, &mut slow);
+            if silent == 999 {
+                assert!(rt; done == Ok(Ending::Done), "{words:?}");
+                assert!(rt; output.bytes() == text.as_slice(), "{words:?}");
+            } else {
+                let endless = Refusal::Records(RecordFault::Endless);
+                assert!(rt; done == Err(endless), "{words:?}");
+                assert!(rt; output.bytes().is_empty(), "{words:?}");
+            }
+        }
+    }
+}
+
+// Whether a command puts its text whole, or line by line.
+fn is_put_whole(plan: &Plan) -> bool {
+    match plan {
+        Plan::Words { .. } | Plan::Show { .. } | Plan::Faults { .. } => true,
+        _ => false,
+    }
+}
+
+// How many bytes were taken before the call with this number, if calls take at most 50 bytes of what is put; with no such
+// call before the end, how many there are. And the number of that call, or of the end.
+fn taken_before(text: &[u8], is_whole: bool, call: u64) -> (usize, u64) {
+    let mut taken = 0usize;
+    let mut calls = 1u64;
+    for part in text.split_inclusive(|byte| *byte == b'\n' && !is_whole) {
+        for piece in part.chunks(50) {
+            if calls == call {
+                return (taken, calls);
+            }
+            taken = taken.saturating_add(piece.len());
+            calls = calls.saturating_add(1);
+        }
+    }
+    (taken, calls)
+}
+
+// A plan whose output fails at one of its first calls or its last ones, the end among them, puts what was taken before.
+fn expect_failures(rt: &impl Abort, alloc: Global, words: &[&str]) {
+    let plan = planned(rt, alloc, words);
+    let (_, text) = performed(rt, alloc, &plan, R.as_bytes());
+    let is_whole = is_put_whole(&plan);
+    let (_, end) = taken_before(text.as_slice(), is_whole, 0);
+    let last = [end.saturating_sub(2), end.saturating_sub(1), end];
+    for call in (1u64..12)
+        .chain(last)
+        .filter(|call| *call > 0 && *call <= end)
+    {
+        let (taken, _) = taken_before(text.as_slice(), is_whole, call);
+        let (done, output) = perform_into(rt, alloc, &plan, 100_000, 50, Some(call));
+        assert!(rt; done == Err(Refusal::Write), "{words:?}, call {call}");
+        assert!(rt;
+            output.bytes() == &text[..taken.min(text.len())],
+            "{words:?}, call {call}"
+        );
+        assert!(rt; output.failures() == 1);
+    }
+    let after = end.saturating_add(1);
+    let (done, output) = perform_into(rt, alloc, &plan, 100_000, 50, Some(after));
+    assert!(rt; done == Ok(Ending::Done), "{words:?}");
+    assert!(rt; output.bytes() == text.as_slice(), "{words:?}");
+}
+
+#[test]
+fn outputs_that_fail_at_a_call(rt: HostRuntime) {
+    for words in FILE_COMMANDS {
+        expect_failures(&rt, rt.alloc(), words);
+    }
+    for words in OTHER_COMMANDS {
+        expect_failures(&rt, rt.alloc(), words);
+    }
+}
+
+/// A file of two faults and a warning.
+const FAULTY: &str = "element,direction,vehicle,domain\n1,up,0,\nx,both,0,\n2,both,0,(h0){h24}\n";
+
+const LIST: &str =
+    "r.csv:2: row 1: Direction\n    up\n    ^\nr.csv:3: row 2: Element\n    x\n    ^\n\
+    r.csv:4: row 3: always holds\n";
+
+// A list of faults is put whole: with less room than it takes, its first bytes.
+#[test]
+fn lists_with_too_little_room(rt: HostRuntime) {
+    let alloc = rt.alloc();
+    let plan = planned(&rt, alloc, &["faults", "--warn", "r.csv"]);
+    for room in 0..=LIST.len() {
+        let bytes = Vec::from_slice(alloc, FAULTY.as_bytes()).expect(&rt, "memory");
+        let mut input = MemoryIn::new(bytes, 7, None, None);
+        let mut output = MemoryOut::new(alloc, room, 3, None).expect(&rt, "memory");
+        let done = perform(alloc, &plan, &mut input, &mut output);
+        let expected = if room == LIST.len() {
+            Ok(Ending::FaultsListed)
+        } else {
+            Err(Refusal::Write)
+        };
+        assert!(rt; done == expected, "{room} bytes of room");
+        assert!(rt; output.bytes() == &LIST.as_bytes()[..room]);
+    }
+}
+
+// With room for every byte but the last, all but the last are put; with room for all, all.
+#[test]
+fn outputs_with_too_little_room(rt: HostRuntime) {
+    let alloc = rt.alloc();
+    for words in FILE_COMMANDS {
+        let plan = planned(&rt, alloc, words);
+        let (_, text) = performed(&rt, alloc, &plan, R.as_bytes());
+        let rooms = [0, 1, text.len() / 2, text.len().saturating_sub(1)];
+        for room in rooms.into_iter().filter(|room| *room < text.len()) {
+            let (done, output) = perform_into(&rt, alloc, &plan, room, 10_000, None);
+            assert!(rt; done == Err(Refusal::Write), "{words:?}, room {room}");
+            assert!(rt; output.bytes() == &text[..room.min(text.len())]);
+        }
+        let (done, output) = perform_into(&rt, alloc, &plan, text.len(), 10_000, None);
+        assert!(rt; done == Ok(Ending::Done), "{words:?}");
+        assert!(rt; output.bytes() == text.as_slice(), "{words:?}");
+    }
+}
+
+// A writer that is interrupted so often before each write, takes no byte if told so, and fails at its flush if told so.
+#[derive(Drop)]
+struct Busy {
+    interruptions: u32,
+    left: u32,
+    takes: bool,
+    flushes: bool,
+}
+
+impl Write for Busy {
+    fn write(&mut self, bytes: &[u8]) -> io::Result<usize> {
+        if self.left > 0 {
+            self.left -= 1;
+            return Err(Error::from(ErrorKind::Interrupted));
+        }
+        self.left = self.interruptions;
+        if self.takes { Ok(bytes.len()) } else { Ok(0) }
+    }
+
+    fn flush(&mut self) -> io::Result<()> {
+        if self.flushes {
+            Ok(())
+        } else {
+            Err(Error::from(ErrorKind::Interrupted))
+        }
+    }
+}
+
+// What each command of the list answers over such a writer.
+fn expect_over_writer(
+    rt: &impl Abort,
+    alloc: Global,
+    words: &[&str],
+    interruptions: u32,
+    takes: bool,
+    flushes: bool,
+    expected: Result<Ending, Refusal>,
+) {
+    let plan = planned(rt, alloc, words);
+    let mut input = in_pieces(rt, alloc, None, None);
+    let mut output = HostOut::new(Busy {
+        interruptions,
+        left: interruptions,
+        takes,
+        flushes,
+    });
+    let done = perform(alloc, &plan, &mut input, &mut output);
+    assert!(rt;
+        done == expected,
+        "{words:?}, {interruptions} interruptions"
+    );
+}
+
+#[test]
+fn writers_that_are_interrupted(rt: HostRuntime) {
+    let alloc = rt.alloc();
+    let refused = Err(Refusal::Write);
+    let now = FILE_COMMANDS[0];
+    for words in [now, OTHER_COMMANDS[0], OTHER_COMMANDS[1], OTHER_COMMANDS[2]] {
+        expect_over_writer(&rt, alloc, words, 999, true, true, Ok(Ending::Done));
+        expect_over_writer(&rt, alloc, words, 1_000, true, true, refused);
+        expect_over_writer(&rt, alloc, words, 0, true, false, refused);
+        expect_over_writer(&rt, alloc, words, 0, false, true, refused);
+    }
+    // No fault is listed of `R`: nothing is written, and only the flush can fail.
+    for words in [FILE_COMMANDS[1], FILE_COMMANDS[2]] {
+        expect_over_writer(&rt, alloc, words, 1_000, false, true, Ok(Ending::Done));
+        expect_over_writer(&rt, alloc, words, 0, true, false, refused);
+    }
+}
+
+// An output that takes all that it is offered, and counts how often it is offered something and how often it is ended.
+#[derive(Drop)]
+struct Counting {
+    puts: u64,
+    ends: u64,
+    is_ended: bool,
+}
+
+impl Output for Counting {
+    ghost is_ended = { λ counting. counting.is_ended };
+
+    ghost failure_count = { λ _. 0 };
+
+    fn put(&mut self, bytes: &[u8]) -> Put {
+        self.puts = self.puts.saturating_add(1);
+        self.is_ended = false;
+        Put::Took(bytes.len())
+    }
+
+    fn finish(&mut self) -> Put {
+        self.ends = self.ends.saturating_add(1);
+        self.is_ended = true;
+        Put::Took(0)
+    }
+
+    fn failures(&self) -> u64 {
+        0
+    }
+}
+
+// An output is offered each line of a report once, where it takes all of it, and is ended once.
+#[test]
+fn lines_and_ends_of_outputs(rt: HostRuntime) {
+    let alloc = rt.alloc();
+    let table: [(&[&str], u64); 7] = [
+        (FILE_COMMANDS[0], 3),
+        (FILE_COMMANDS[1], 0),
+        (FILE_COMMANDS[2], 0),
+        (FILE_COMMANDS[3], 368),
+        (OTHER_COMMANDS[0], 1),
+        (OTHER_COMMANDS[1], 368),
+        (OTHER_COMMANDS[2], 1),
+    ];
+    for (words, puts) in table {
+        let plan = planned(&rt, alloc, words);
+        let mut input = in_pieces(&rt, alloc, None, None);
+        let mut output = Counting {
+            puts: 0,
+            ends: 0,
+            is_ended: false,
+        };
+        let done = perform(alloc, &plan, &mut input, &mut output);
+        assert!(rt; done == Ok(Ending::Done), "{words:?}");
+        assert!(rt; (output.puts, output.ends) == (puts, 1), "{words:?}");
+        assert!(rt; output.is_ended, "{words:?}");
+    }
+}

@@ -1,0 +1,26 @@
+//! Tests of the commands of `gtdesk`: what each command line asks for, or how it is refused; what the commands put for record
+//! files; what holds when a device fails or memory is refused.
+#![tactic(auto)]
+
+#[cfg(test)]
+mod common;
+#[cfg(test)]
+mod devices;
+#[cfg(test)]
+mod faults;
+#[cfg(test)]
+mod now;
+#[cfg(test)]
+mod pictures;
+#[cfg(test)]
+mod plans;
+#[cfg(test)]
+mod refusals;
+#[cfg(test)]
+mod usage;
+#[cfg(test)]
+mod warnings;
+#[cfg(test)]
+mod without_memory;
+#[cfg(test)]
+mod words;

@@ -1,0 +1,69 @@
+//! The calls that take no memory, while every growth is refused: a request for `SWITCH` bytes and all growths after it, up to
+//! the next such request. Each test asserts the same answers twice, first with ample memory. `tests/refusals.sh` refuses the
+//! growths, and checks that the first request was the only one.
+
+use crate::common::{R, planned};
+use gtd_desk::{Ending, Plan, Refusal, WordFault, perform};
+use gtd_devices::{MemoryIn, MemoryOut};
+use gtd_records::RecordFault;
+use std::alloc::Global;
+use std::process::Abort;
+
+/// A number of bytes that nothing else asks for.
+const SWITCH: usize = 7_654_321;
+
+// If the script runs the test: the first call makes all growths fail from here on, and the second ends this.
+fn switch(alloc: Global) {
+    if let Ok(mut bytes) = Vec::<u8>::with_capacity(alloc, SWITCH) {
+        let _ = bytes.push(1);
+    }
+}
+
+fn expect_statuses(rt: &impl Abort) {
+    assert!(rt; Ending::Done.status() == 0);
+    assert!(rt; Ending::FaultsListed.status() == 1);
+    assert!(rt; Refusal::Usage("x").status() == 2);
+    assert!(rt; Refusal::Vehicle.status() == 1);
+    assert!(rt; Refusal::Word(WordFault::Year).status() == 1);
+    assert!(rt; Refusal::NoElement.status() == 1);
+    assert!(rt; Refusal::Records(RecordFault::Header).status() == 1);
+    assert!(rt; Refusal::Records(RecordFault::ReadFault).status() == 3);
+    assert!(rt; Refusal::Records(RecordFault::Endless).status() == 3);
+    assert!(rt; Refusal::Open.status() == 3);
+    assert!(rt; Refusal::Write.status() == 3);
+    assert!(rt; Refusal::Memory.status() == 3);
+}
+
+#[test]
+fn statuses(rt: HostRuntime) {
+    expect_statuses(&rt);
+    switch(rt.alloc());
+    expect_statuses(&rt);
+    switch(rt.alloc());
+}
+
+#[test]
+fn files_of_plans(rt: HostRuntime) {
+    let alloc = rt.alloc();
+    let faults = planned(&rt, alloc, &["faults", "r.csv"]);
+    let words = planned(&rt, alloc, &["words", "(h1){h1}"]);
+    assert!(rt; (faults.file(), words.file()) == (Some("r.csv"), None));
+    switch(alloc);
+    assert!(rt; (faults.file(), words.file()) == (Some("r.csv"), None));
+    switch(alloc);
+}
+
+// A text that was asked for is put without memory.
+#[test]
+fn texts(rt: HostRuntime) {
+    let alloc = rt.alloc();
+    let plan: Plan = planned(&rt, alloc, &["--version"]);
+    let bytes = Vec::from_slice(alloc, R.as_bytes()).expect(&rt, "memory");
+    let mut input = MemoryIn::new(bytes, 7, None, None);
+    let mut output = MemoryOut::new(alloc, 1_000, 5, None).expect(&rt, "memory");
+    switch(alloc);
+    let done = perform(alloc, &plan, &mut input, &mut output);
+    assert!(rt; done == Ok(Ending::Done));
+    assert!(rt; output.bytes() == b"gtdesk 0.1.0\n".as_slice());
+    switch(alloc);
+}
