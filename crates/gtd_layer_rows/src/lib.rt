@@ -28,3 +28,5 @@ mod text;
 mod values;
 #[cfg(test)]
 mod without_memory;
+#[cfg(test)]
+mod words;
