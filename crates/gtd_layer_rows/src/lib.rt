@@ -32,3 +32,5 @@ mod text;
 mod values;
 #[cfg(test)]
 mod without_memory;
+#[cfg(test)]
+mod words;
