@@ -112,10 +112,13 @@ fn the_version(rt: HostRuntime) {
 
 // How many rectangles of `'in'` paths the lines of days have: in a line of a day only rectangles have the letter v.
 fn rectangles(text: &[u8]) -> usize {
-    text.split(|byte| *byte == b'\n')
-        .filter(|line| line.starts_with(b"<g"))
-        .map(|line| line.iter().filter(|byte| **byte == b'v').count())
-        .sum::<usize>()
+    let mut count: usize = 0;
+    for line in text.split(|byte| *byte == b'\n') {
+        if line.starts_with(b"<g") {
+            count = count.wrapping_add(line.iter().filter(|byte| **byte == b'v').count());
+        }
+    }
+    count
 }
 
 // A picture of 2024 with so many rectangles is put if no memory is refused; otherwise a part of it that is not whole.
