@@ -139,8 +139,22 @@ fn whole_texts(rt: HostRuntime) {
 #[test]
 fn further_on(rt: HostRuntime) {
     let text = b"Apr 10 08:00 x ";
-    assert!(rt; next_token(text, 3) == Ok(Some(Token { kind: number(10, 2), from: 4, to: 6 })));
-    assert!(rt; next_token(text, 6) == Ok(Some(Token { kind: time(8, 0), from: 7, to: 12 })));
+    assert!(rt;
+        next_token(text, 3)
+            == Ok(Some(Token {
+                kind: number(10, 2),
+                from: 4,
+                to: 6
+            }))
+    );
+    assert!(rt;
+        next_token(text, 6)
+            == Ok(Some(Token {
+                kind: time(8, 0),
+                from: 7,
+                to: 12
+            }))
+    );
     match next_token(text, 12) {
         Ok(_) => panic!(rt; "read"),
         Err(bad) => assert!(rt; bad.place == 13),

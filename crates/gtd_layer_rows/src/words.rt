@@ -13,22 +13,52 @@ fn words_of(alloc: Global, text: &str) -> Result<String, Fail> {
 #[test]
 fn words_of_days_and_hours(rt: HostRuntime) -> Result<(), Fail> {
     let table: [(&str, &str); 13] = [
-        ("(h10){h4}", "every day from 10 o'clock for 4 hours, until 14:00\n"),
-        ("(h7m30){h1m30}", "every day from 7:30 for 1 hour and 30 minutes, until 9:00\n"),
-        ("(h22){h8}", "every day from 22 o'clock for 8 hours, until 6:00 the next day\n"),
-        ("(h6m5s9){s30}", "every day from 6:05:09 for 30 seconds, until 6:05:39\n"),
-        ("(h10){h50}", "every day from 10 o'clock for 50 hours, until 12:00, 2 days later\n"),
+        (
+            "(h10){h4}",
+            "every day from 10 o'clock for 4 hours, until 14:00\n",
+        ),
+        (
+            "(h7m30){h1m30}",
+            "every day from 7:30 for 1 hour and 30 minutes, until 9:00\n",
+        ),
+        (
+            "(h22){h8}",
+            "every day from 22 o'clock for 8 hours, until 6:00 the next day\n",
+        ),
+        (
+            "(h6m5s9){s30}",
+            "every day from 6:05:09 for 30 seconds, until 6:05:39\n",
+        ),
+        (
+            "(h10){h50}",
+            "every day from 10 o'clock for 50 hours, until 12:00, 2 days later\n",
+        ),
         ("(h10){h0}", "every day from 10 o'clock for 0 seconds\n"),
-        ("(m30){m15}", "every day from minute 30 of every hour for 15 minutes\n"),
-        ("(h10s5){s1}", "every day from second 5 of every minute of hour 10 for 1 second\n"),
-        ("(t7h5){h10}", "every Saturday from 5 o'clock for 10 hours, until 15:00\n"),
+        (
+            "(m30){m15}",
+            "every day from minute 30 of every hour for 15 minutes\n",
+        ),
+        (
+            "(h10s5){s1}",
+            "every day from second 5 of every minute of hour 10 for 1 second\n",
+        ),
+        (
+            "(t7h5){h10}",
+            "every Saturday from 5 o'clock for 10 hours, until 15:00\n",
+        ),
         ("(t2){d5}", "from every Monday for 5 days\n"),
         (
             "(t2t3t4t5t6h7){h2}",
             "every Monday, Tuesday, Wednesday, Thursday and Friday from 7 o'clock for 2 hours, until 9:00\n",
         ),
-        ("(t6h18){d2h12}", "every Friday from 18 o'clock for 2 days and 12 hours\n"),
-        ("(M5){M1}", "from the beginning of May every year for 1 month\n"),
+        (
+            "(t6h18){d2h12}",
+            "every Friday from 18 o'clock for 2 days and 12 hours\n",
+        ),
+        (
+            "(M5){M1}",
+            "from the beginning of May every year for 1 month\n",
+        ),
     ];
     for (text, words) in table {
         let found = words_of(rt.alloc(), text)?;
@@ -40,10 +70,19 @@ fn words_of_days_and_hours(rt: HostRuntime) -> Result<(), Fail> {
 #[test]
 fn words_of_the_calendar_and_of_operators(rt: HostRuntime) -> Result<(), Fail> {
     let table: [(&str, &str); 12] = [
-        ("(M5h10){h2}", "every day of May every year from 10 o'clock for 2 hours, until 12:00\n"),
-        ("(M3d10){M3d11}", "from 10 March every year for 3 months and 11 days\n"),
+        (
+            "(M5h10){h2}",
+            "every day of May every year from 10 o'clock for 2 hours, until 12:00\n",
+        ),
+        (
+            "(M3d10){M3d11}",
+            "from 10 March every year for 3 months and 11 days\n",
+        ),
         ("(d1){d1}", "from the 1st of every month for 1 day\n"),
-        ("(d13t6){d1}", "from the 13th of every month if it falls on Friday for 1 day\n"),
+        (
+            "(d13t6){d1}",
+            "from the 13th of every month if it falls on Friday for 1 day\n",
+        ),
         (
             "(l16h20){h6}",
             "on the last Friday of every month from 20 o'clock for 6 hours, until 2:00 the next day\n",
@@ -53,8 +92,14 @@ fn words_of_the_calendar_and_of_operators(rt: HostRuntime) -> Result<(), Fail> {
             "from the 1st of every month if it is the first Monday of the month if it is also the last Monday but \
              four of the month for 1 day\n",
         ),
-        ("(w7h9){h2}", "every day in week 7 every year from 9 o'clock for 2 hours, until 11:00\n"),
-        ("(y2025M12w1){d1}", "from the Monday of December in week 1 of the year 2025 for 1 day\n"),
+        (
+            "(w7h9){h2}",
+            "every day in week 7 every year from 9 o'clock for 2 hours, until 11:00\n",
+        ),
+        (
+            "(y2025M12w1){d1}",
+            "from the Monday of December in week 1 of the year 2025 for 1 day\n",
+        ),
         ("(y2024M12d23){d14}", "from 23 December 2024 for 14 days\n"),
         (
             "(M1d1){y1M2w3d4h5m6s7}",
