@@ -24,6 +24,7 @@ TOP = os.path.dirname(os.path.abspath(__file__))
 FIRST = datetime.date(2023, 1, 1)
 DAYS = (datetime.date(2027, 1, 1) - FIRST).days
 BASE = (FIRST - hours_model.EPOCH).days
+RANDOM_DAYS = 200
 SAMPLES = 12
 FEWEST_TEXTS, FEWEST_FAULTS, MOST_BASIC_DOMAINS = 100, 40, 128
 ENDINGS = ["", "off", "Mo", "-10:00", "10:00", "/7", "7", "]", "1]", "5]", "1", "31", "53", "Jan", "Dec 31", "2799"]
@@ -98,12 +99,12 @@ def check_text(row, maker):
     check_printed(text, rules)
 
 
-def check_printed(text, rules):
-    """What is printed of rules is read as rules that mean the same."""
+def check_printed(text, rules, first=FIRST, days=DAYS):
+    """What is printed of rules is read as rules that mean the same on some days."""
     printed = hours_model.print_rules(rules)
     again = hours_model.read(printed.encode())
     expect(hours_model.print_rules(again) == printed, f"{text}: printed as {printed}, and that as something else")
-    same = hours_model.open_minutes(rules, FIRST, DAYS) == hours_model.open_minutes(again, FIRST, DAYS)
+    same = hours_model.open_minutes(rules, first, days) == hours_model.open_minutes(again, first, days)
     expect(same, f"{text}: printed as {printed}, which means something else")
 
 
@@ -216,7 +217,8 @@ def check_random(maker):
     text = maker.text()
     fault = fault_of(text.encode())
     expect(fault is None, f"{text}: {fault}, but it is a text of the grammar")
-    check_printed(text, hours_model.read(text.encode()))
+    first = datetime.date(maker.randint(2021, 2028), maker.randint(1, 12), 1)
+    check_printed(text, hours_model.read(text.encode()), first, RANDOM_DAYS)
     for _ in range(4):
         check_damaged(maker.damaged(text))
 
