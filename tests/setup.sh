@@ -1,7 +1,7 @@
 #!/usr/bin/env bash
 # Installs what the tests need besides Rattle's kit, from Debian's packages:
 #   gcc, libc6-dev   tests/refusals.sh compiles the library that refuses growths of memory
-#   python3          tests/statement.py, tests/fuzz.py, tests/press_tab.py
+#   python3          tests/statement.py, tests/fuzz.py, tests/hours.py, tests/press_tab.py
 #   mandoc           tests/packaging.sh lints the man pages
 #   zsh              tests/packaging.sh tries the completions; bash is already there
 #   fakeroot         tests/packaging.sh installs the package, if it is not run as root
