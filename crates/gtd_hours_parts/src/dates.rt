@@ -83,8 +83,8 @@ fn last_year(first: YearDate, month: u8, day: u8) -> u16
     }
 }
 
-/// `2024 Dec 24-Jan 3`: from a date to the next such day, of the same year or of the next one. `None` exactly if the number
-/// is no day or that year does not have it.
+/// `2024 Dec 24-Jan 3`: from a date to a month and day of the same year or, if that would come before it, of the next one.
+/// `None` exactly if the number is no day, or that year has no such date or is after 2799.
 pub fn to_month_day(first: YearDate, month: u8, day: Digits) -> Option<Dated>
     ensures first { IfSome result (λ x. x.first ≡ first) }
     ensures last { IfSome result
@@ -96,8 +96,8 @@ pub fn to_month_day(first: YearDate, month: u8, day: Digits) -> Option<Dated>
     Dated::new(first, last)
 }
 
-/// `2024 Apr 10-20`: from a date to a day of the same month, of the same year or of the next one. `None` exactly if the number
-/// is no day or that month does not have it.
+/// `2024 Apr 10-20`: from a date to a day of the same month in the same year or, if that would come before it, in the next
+/// one. `None` exactly if the number is no day, or that month does not have it or is after 2799.
 pub fn to_year_day(first: YearDate, day: Digits) -> Option<Dated>
     ensures first { IfSome result (λ x. x.first ≡ first) }
     ensures last { IfSome result
