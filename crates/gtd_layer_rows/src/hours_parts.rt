@@ -1,11 +1,11 @@
 //! Worked parts of opening hours, as a reader of texts makes them.
 
 use gtd_hours_parts::{
-    ClockTime, Digits, month_day, months, one_week, one_year, one_year_day, place_from_back,
-    place_from_front, times, to_day, to_month_day, to_year_date, to_year_day, weekdays, weeks,
-    year_date, years,
+    ClockTime, Digits, month_day, months, one_day, one_week, one_year, one_year_day,
+    place_from_back, place_from_front, times, to_day, to_month_day, to_year_date, to_year_day,
+    weekdays, weeks, year_date, years,
 };
-use gtd_osm::{Dated, Place, Selector, YearDate, Years};
+use gtd_osm::{Dated, Place, Selector, Weeks, YearDate, Years};
 use std::process::Abort;
 
 const JAN: u8 = 1;
@@ -108,6 +108,8 @@ fn steps(rt: HostRuntime) {
     assert!(rt; weeks(number(10), number(20), Some(number(0))).is_none());
     assert!(rt; one_year(number(2024)) == Years::new(2024, 2024, 1));
     assert!(rt; one_week(number(54)).is_none());
+    assert!(rt; one_week(number(53)) == Weeks::new(53, 53, 1));
+    assert!(rt; weeks(number(10), number(20), Some(number(2))) == Weeks::new(10, 20, 2));
 }
 
 // Two times, and whether a range goes from one to the other.
@@ -261,6 +263,7 @@ fn days_of_a_month(rt: HostRuntime) {
     assert!(rt; dates.first == date);
     assert!(rt; Some(dates.last) == month_day(APR, number(10)));
     assert!(rt; to_day(date, number(31)).is_none());
+    assert!(rt; to_day(date, number(20)) == Some(one_day(date)));
 }
 
 #[test]
