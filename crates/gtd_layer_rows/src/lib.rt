@@ -15,6 +15,8 @@ mod hours;
 #[cfg(test)]
 mod hours_of;
 #[cfg(test)]
+mod hours_parts;
+#[cfg(test)]
 mod large;
 #[cfg(test)]
 mod lists;

@@ -8,17 +8,22 @@ ghost use Rattle.std.proofs.Props.{props};
 /// Every so many years, from the first to the last, of 1800 to 2799.
 #[derive(Clone, Copy, Debug, PartialEq, Eq)]
 pub struct Years {
-    pub(crate) first: u16,
-    pub(crate) last: u16,
-    pub(crate) step: u16,
+    /// The first year, 1800 at least.
+    pub first: u16,
+    /// The last year, not before the first, 2799 at most.
+    pub last: u16,
+    /// From each year of the range to the next: 1 for all of them, 9999 at most.
+    pub step: u16,
     pub ghost in_range: { IsYears first last step } by { Prim.hlevel props },
 }
 
 /// A range of months, which may go over the end of the year. A month is 1 to 12.
 #[derive(Clone, Copy, Debug, PartialEq, Eq)]
 pub struct Months {
-    pub(crate) first: u8,
-    pub(crate) last: u8,
+    /// The first month, 1 to 12.
+    pub first: u8,
+    /// The last month, 1 to 12. Before the first it is one of the next year.
+    pub last: u8,
     pub ghost first_in: { IsMonth first } by { Prim.hlevel props },
     pub ghost last_in: { IsMonth last } by { Prim.hlevel props },
 }
@@ -26,8 +31,10 @@ pub struct Months {
 /// A month and a day of it, which may be 29 February.
 #[derive(Clone, Copy, Debug, PartialEq, Eq)]
 pub struct MonthDay {
-    pub(crate) month: u8,
-    pub(crate) day: u8,
+    /// The month, 1 to 12.
+    pub month: u8,
+    /// The day, from 1 to the length of the month in leap years.
+    pub day: u8,
     pub ghost in_range: { IsMonthDay month day } by { Prim.hlevel props },
 }
 
@@ -41,34 +48,44 @@ pub struct Dates {
 /// A date of a year from 1800 to 2799.
 #[derive(Clone, Copy, Debug, PartialEq, Eq)]
 pub struct YearDate {
-    pub(crate) year: u16,
-    pub(crate) month: u8,
-    pub(crate) day: u8,
+    /// The year, 1800 to 2799.
+    pub year: u16,
+    /// The month, 1 to 12.
+    pub month: u8,
+    /// The day, from 1 to the length of the month in that year.
+    pub day: u8,
     pub ghost is_date: { IsYearDate year month day } by { Prim.hlevel props },
 }
 
 /// From a date to the same or a later one, at most 36,600 days with both.
 #[derive(Clone, Copy, Debug, PartialEq, Eq)]
 pub struct Dated {
-    pub(crate) first: YearDate,
-    pub(crate) last: YearDate,
+    /// The first date.
+    pub first: YearDate,
+    /// The last date, which is included.
+    pub last: YearDate,
     pub ghost in_range: { IsDatedRange first.year first.month first.day last.year last.month last.day } by { Prim.hlevel props },
 }
 
 /// Every so many weeks of ISO 8601, from the first to the last, of 1 to 53.
 #[derive(Clone, Copy, Debug, PartialEq, Eq)]
 pub struct Weeks {
-    pub(crate) first: u16,
-    pub(crate) last: u16,
-    pub(crate) step: u16,
+    /// The first week, 1 to 53.
+    pub first: u16,
+    /// The last week, not before the first, 53 at most.
+    pub last: u16,
+    /// From each week of the range to the next: 1 for all of them, 9999 at most.
+    pub step: u16,
     pub ghost in_range: { IsWeeks first last step } by { Prim.hlevel props },
 }
 
 /// A range of weekdays, which may go over the end of the week. A weekday is 1 for Sunday to 7 for Saturday.
 #[derive(Clone, Copy, Debug, PartialEq, Eq)]
 pub struct Weekdays {
-    pub(crate) first: u8,
-    pub(crate) last: u8,
+    /// The first weekday, 1 for Sunday to 7 for Saturday.
+    pub first: u8,
+    /// The last weekday, 1 to 7. Before the first it is one of the next week.
+    pub last: u8,
     pub ghost first_in: { IsWeekday first } by { Prim.hlevel props },
     pub ghost last_in: { IsWeekday last } by { Prim.hlevel props },
 }
@@ -76,8 +93,10 @@ pub struct Weekdays {
 /// A weekday and its place in the month: the first to the fifth.
 #[derive(Clone, Copy, Debug, PartialEq, Eq)]
 pub struct Place {
-    pub(crate) weekday: u8,
-    pub(crate) number: u8,
+    /// The weekday, 1 for Sunday to 7 for Saturday.
+    pub weekday: u8,
+    /// Which of these weekdays of the month it is, 1 to 5.
+    pub number: u8,
     pub ghost in_range: { IsWeekdayPlace weekday number } by { Prim.hlevel props },
 }
 
@@ -112,8 +131,10 @@ pub struct Kind {
 /// later.
 #[derive(Clone, Copy, Debug, PartialEq, Eq)]
 pub struct TimeRange {
-    pub(crate) begin: u16,
-    pub(crate) last: u16,
+    /// The minute at which the range begins, 0 to 1439.
+    pub begin: u16,
+    /// The minute at which it ends: at most 1440 after `begin`; on the next day if it is not after `begin`.
+    pub last: u16,
     pub ghost in_range: { IsTimeRange begin last } by { Prim.hlevel props },
 }
 
