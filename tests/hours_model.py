@@ -221,7 +221,7 @@ class Reader:
         month = self.month() if given or self.peek() == "month" else first.month
         following = (month, int(self.text()) if self.peek() == "number" else 0) < (first.month, first.day)
         last = self.day(given or year + following, month)
-        self.check(first <= last and (last - first).days < LONGEST)
+        self.check(first <= last and (last - first).days < LONGEST and last.year <= 2799)
         return last
 
     def weekdays(self):
