@@ -46,6 +46,10 @@ run help picture-domain
 expect 'help of the command picture-domain' 0 "$(cat "$top/tests/desk/picture-domain.txt")" ''
 run words --help
 expect 'help of the command words' 0 "$(cat "$top/tests/desk/words.txt")" ''
+run hours --help
+expect 'help of the command hours' 0 "$(cat "$top/tests/desk/hours.txt")" ''
+run help hours
+expect 'the command help with the command hours' 0 "$(cat "$top/tests/desk/hours.txt")" ''
 run --version
 expect 'version' 0 'gtdesk 0.1.0' ''
 
@@ -251,6 +255,24 @@ expect 'words of a domain with a sign in front' 1 '' 'gtdesk: DOMAIN: Unexpected
 run words
 expect 'words without a domain' 2 '' "gtdesk: command line: one or more required arguments were not provided $see"
 
+# Opening hours of a domain.
+run hours --of '[(t2t3t4t5t6h0m0){d1}]*[[(h7m0){m120}]+[(h16m0){m120}]]'
+expect 'hours' 0 'Mo-Fr 07:00-09:00,16:00-18:00' ''
+run hours '--of=(h0m0){d1}-(M12d25h0m0){d1}'
+expect 'hours of a domain in one word with its option' 0 '24/7; Dec 25 off' ''
+run hours --of '(h7){h2}'
+expect 'no hours' 1 '' 'gtdesk: DOMAIN: no opening hours: not of the form of days from midnight and ranges of times in minutes'
+run hours --of '(h25){h1}'
+expect 'hours of no domain' 1 '' 'gtdesk: DOMAIN: FieldRange at 1'
+run hours --of ''
+expect 'hours of nothing' 1 '' 'gtdesk: DOMAIN: Incomplete at 0'
+run hours
+expect 'hours without an option' 2 '' "gtdesk: command line: one or more required arguments were not provided $see"
+run hours Mo-Fr
+expect 'hours of a text' 2 '' "gtdesk: command line: unexpected argument found $see"
+run hours --of
+expect 'hours without a domain' 2 '' "gtdesk: command line: one of the values isn't valid for an argument $see"
+
 # Warnings: after the faults, of rows whose domain never or always holds.
 printf '%s\n' element,direction,vehicle,domain '1,both,0,[(h5){h1}]*[(h7){h1}]' '2,both,0,(h0){h24}' '3,up,0,' \
     '4,both,0,(h7){h2}' 5,both,0, '6,both,0,(y1800){y1}' '7,both,0,(M2d30){d1}' > warn.csv
@@ -282,6 +304,9 @@ expect 'a full output' 3 '' 'gtdesk: standard output: cannot be written'
 "$program" --help > /dev/full 2> err
 status=$?
 expect 'a full output for help' 3 '' 'gtdesk: standard output: cannot be written'
+"$program" hours --of '(h0m0){d1}' > /dev/full 2> err
+status=$?
+expect 'a full output for hours' 3 '' 'gtdesk: standard output: cannot be written'
 : > err
 "$program" now gone.csv 2024-04-01T10:00:00 11 2> /dev/full
 status=$?

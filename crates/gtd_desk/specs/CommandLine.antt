@@ -26,6 +26,10 @@ word_rule name = record (new_rule name) { action = Some Set; required = true }
 abbrev pub flag_rule : Text → Rule
 flag_rule name = record (new_rule name) { long = Some name; action = Some SetTrue }
 
+-- An option with a value, of this long name. It must be given, and help shows one name for its value.
+abbrev pub option_rule : Text → Rule
+option_rule name = record (new_rule name) { long = Some name; value_names = 1; action = Some Set; required = true }
+
 -- The command has no argument that its subcommands share.
 abbrev pub IsLocal : Command → Type 0
 IsLocal command = (out-Command command).has_globals ≡ false
@@ -74,6 +78,14 @@ bare_words = new_app (codes "words")
 abbrev pub words_app : App
 words_app = with_rule bare_words (word_rule (codes "DOMAIN"))
 
+-- The command `hours` without its option.
+abbrev pub bare_hours : App
+bare_hours = new_app (codes "hours")
+
+-- The command `hours --of DOMAIN`.
+abbrev pub hours_app : App
+hours_app = with_rule bare_hours (option_rule (codes "of"))
+
 -- The program without its commands: one must be given, and there is a version to show.
 abbrev pub none_given : App
 none_given = record {
@@ -83,7 +95,9 @@ none_given = record {
 
 -- The program with its commands that print no picture.
 abbrev pub no_pictures : App
-no_pictures = with_subcommand (with_subcommand (with_subcommand none_given now_app.top) faults_app.top) words_app.top
+no_pictures =
+    with_subcommand (with_subcommand (with_subcommand (with_subcommand none_given now_app.top) faults_app.top) words_app.top)
+    hours_app.top
 
 -- The program with all its commands.
 abbrev pub desk_app : App
@@ -135,6 +149,14 @@ words_given found = if bytes_eq found.0 (codes "words") then first_of (codes "DO
 -- The word of the command `words` among these words.
 abbrev pub words_domain_of : List Text → Option Text
 words_domain_of words = option_and_then words_given (subcommand_of desk_app words)
+
+-- The domain of the command `hours --of`, from a command's name and what was found for it.
+abbrev pub hours_given : Text × List Row → Option Text
+hours_given found = if bytes_eq found.0 (codes "hours") then first_of (codes "of") found.1 else None
+
+-- The domain of the command `hours --of` among these words.
+abbrev pub hours_domain_of : List Text → Option Text
+hours_domain_of words = option_and_then hours_given (subcommand_of desk_app words)
 
 -- The words of the command `picture`.
 pub record PictureTexts : Type 0 where
@@ -198,6 +220,11 @@ pub record AreWordsWords (words : List Text) (text : Text) : Type 0 where
   pub faultless : fault_of desk_app words ≡ []
   pub given : words_domain_of words ≡ Some text
 
+-- The words give the command `hours --of` with this domain.
+pub record AreHoursWords (words : List Text) (text : Text) : Type 0 where
+  pub faultless : fault_of desk_app words ≡ []
+  pub given : hours_domain_of words ≡ Some text
+
 -- The words give the command `faults` with these words.
 pub record AreFaultsWords (words : List Text) (texts : FaultsTexts) : Type 0 where
   pub faultless : fault_of desk_app words ≡ []
@@ -233,4 +260,4 @@ abbrev pub AreMistaken : List Text → Type 0
 AreMistaken words =
     ((kind : ErrorKind) × IsAmong kind (fault_of desk_app words) × (is_request kind ≡ false))
     ⊎ ((now_words_of words ≡ None) × (faults_words_of words ≡ None) × (picture_words_of words ≡ None)
-    × (domain_words_of words ≡ None) × (words_domain_of words ≡ None))
+    × (domain_words_of words ≡ None) × (words_domain_of words ≡ None) × (hours_domain_of words ≡ None))

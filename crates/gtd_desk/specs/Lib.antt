@@ -1,10 +1,14 @@
 pub mod CommandLine
 pub mod Plans
 pub mod Given
+pub mod Hours
 pub mod Lines
 pub mod Pictures
 pub mod Running
 pub use Rattle.gtd_core.specs.Seconds
+pub use Rattle.gtd_hours_of.specs.Membership
+pub use Rattle.gtd_osm.specs.Opening
+pub use Rattle.gtd_osm.specs.Written
 pub use Rattle.gtd_records.specs.Closing
 pub use Rattle.gtd_runs.specs.Putting
 pub use Rattle.gtd_runs.specs.Run

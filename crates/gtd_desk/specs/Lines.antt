@@ -24,6 +24,10 @@ word_text word.Vehicle = codes "VEHICLE: not a number from 1 to 99"
 word_text word.Year = codes "YEAR: not a number from 1901 to 2199"
 word_text (word.Domain why) = codes "DOMAIN: " ++ fault_name why.kind ++ codes " at " ++ decimal why.place
 
+-- why no hours are printed: the domain is not of the form that hours are sought for
+abbrev pub no_hours : List ℕ
+no_hours = codes "DOMAIN: no opening hours: not of the form of days from midnight and ranges of times in minutes"
+
 -- the line without its line end: the program, where the fault is, and what it is. The name of the record file is shown as
 -- printable ASCII.
 abbrev pub refusal_line : List ℕ → Refusal → List ℕ
@@ -31,6 +35,7 @@ refusal_line file (refusal.Usage why) = codes "gtdesk: command line: " ++ why.no
 refusal_line file (refusal.Moment why) = codes "gtdesk: MOMENT: " ++ moment_reason why
 refusal_line file refusal.Vehicle = codes "gtdesk: VEHICLE: not a number from 1 to 99"
 refusal_line file (refusal.Word why) = codes "gtdesk: " ++ word_text why
+refusal_line file refusal.NoHours = codes "gtdesk: " ++ no_hours
 refusal_line file refusal.NoElement = codes "gtdesk: " ++ printable file ++ codes ": no row names the element"
 refusal_line file (refusal.Records why) = codes "gtdesk: " ++ printable file ++ codes ": " ++ fault_text why
 refusal_line file refusal.Open = codes "gtdesk: " ++ printable file ++ codes ": cannot be opened"

@@ -9,6 +9,7 @@ use Rattle.gtd_calendar.specs.Read.{stamp_in}
 use Rattle.gtd_calendar.specs.declared.stamp.StampFault.{StampFault}
 use Rattle.gtd_records.specs.Columns.{number_of}
 use Rattle.gtd_runs.specs.Run.{IsVehicleType}
+use Rattle.gtd_desk.specs.Hours.{AskForHours, HaveHoursFault}
 use Rattle.gtd_desk.specs.Pictures.{AskForDomainPicture, AskForPicture, HaveDomainFault, HavePictureFault, IsReadDomain}
 pub use Rattle.gtd_desk.specs.Pictures.{IsNoVehicle}
 use Rattle.gtd_desk.specs.CommandLine.{AreFaultsWords, AreMistaken, AreNowWords, AreWordsWords, AskForText, FaultsTexts, Text}
@@ -50,6 +51,7 @@ AskFor words (plan.Faults file warn) = AreFaultsWords words (record { file = str
 AskFor words (plan.Picture file title subject) = AskForPicture words (string_bytes file) subject
 AskFor words (plan.DomainPicture domain title year) = AskForDomainPicture words domain (string_bytes title) year
 AskFor words (plan.Words domain) = AskForWords words domain
+AskFor words (plan.HoursOf domain) = AskForHours words domain
 AskFor words (plan.Show text) = AskForText words
 
 -- The path of the record file that the plan reads, if it reads one.
@@ -59,6 +61,7 @@ file_of (plan.Faults file warn) = Some (string_bytes file)
 file_of (plan.Picture file title subject) = Some (string_bytes file)
 file_of (plan.DomainPicture domain title year) = None
 file_of (plan.Words domain) = None
+file_of (plan.HoursOf domain) = None
 file_of (plan.Show text) = None
 
 -- The words give the command `now`, and the word for the moment does not stand for one.
@@ -86,6 +89,7 @@ IsNowPlan file moment vehicle (plan.Faults f w) = ⊥
 IsNowPlan file moment vehicle (plan.Picture f t s) = ⊥
 IsNowPlan file moment vehicle (plan.DomainPicture d t y) = ⊥
 IsNowPlan file moment vehicle (plan.Words domain) = ⊥
+IsNowPlan file moment vehicle (plan.HoursOf domain) = ⊥
 IsNowPlan file moment vehicle (plan.Show text) = ⊥
 
 -- The plan is for `faults`, with these words.
@@ -95,6 +99,7 @@ IsFaultsPlan texts (plan.Faults f w) = (string_bytes f ≡ texts.file) × (w ≡
 IsFaultsPlan texts (plan.Picture f t s) = ⊥
 IsFaultsPlan texts (plan.DomainPicture d t y) = ⊥
 IsFaultsPlan texts (plan.Words domain) = ⊥
+IsFaultsPlan texts (plan.HoursOf domain) = ⊥
 IsFaultsPlan texts (plan.Show text) = ⊥
 
 -- The plan is for `picture`, with this file and this subject.
@@ -104,6 +109,7 @@ IsPicturePlan file subject (plan.Faults f w) = ⊥
 IsPicturePlan file subject (plan.Picture f t s) = (string_bytes f ≡ file) × (s ≡ subject)
 IsPicturePlan file subject (plan.DomainPicture d t y) = ⊥
 IsPicturePlan file subject (plan.Words d) = ⊥
+IsPicturePlan file subject (plan.HoursOf d) = ⊥
 IsPicturePlan file subject (plan.Show text) = ⊥
 
 -- The plan is for `picture-domain`, with a domain of the same expression, this title and this year.
@@ -114,6 +120,7 @@ IsDomainPlan domain title year (plan.Picture f t s) = ⊥
 IsDomainPlan domain title year (plan.DomainPicture d t y) =
     (domain_tree d ≡ domain_tree domain) × (string_bytes t ≡ title) × (y ≡ year)
 IsDomainPlan domain title year (plan.Words d) = ⊥
+IsDomainPlan domain title year (plan.HoursOf d) = ⊥
 IsDomainPlan domain title year (plan.Show text) = ⊥
 
 -- The plan is for `words`, with a domain of the same expression.
@@ -123,11 +130,24 @@ IsWordsPlan domain (plan.Faults f w) = ⊥
 IsWordsPlan domain (plan.Picture f t s) = ⊥
 IsWordsPlan domain (plan.DomainPicture d t y) = ⊥
 IsWordsPlan domain (plan.Words d) = domain_tree d ≡ domain_tree domain
+IsWordsPlan domain (plan.HoursOf d) = ⊥
 IsWordsPlan domain (plan.Show text) = ⊥
 
--- The words give `picture`, `picture-domain` or `words`, and this is the first word of the command that stands for nothing.
+-- The plan is for `hours --of`, with a domain of the same expression.
+abbrev pub IsHoursPlan : Domain → Plan → Type 0
+IsHoursPlan domain (plan.Now f m v) = ⊥
+IsHoursPlan domain (plan.Faults f w) = ⊥
+IsHoursPlan domain (plan.Picture f t s) = ⊥
+IsHoursPlan domain (plan.DomainPicture d t y) = ⊥
+IsHoursPlan domain (plan.Words d) = ⊥
+IsHoursPlan domain (plan.HoursOf d) = domain_tree d ≡ domain_tree domain
+IsHoursPlan domain (plan.Show text) = ⊥
+
+-- The words give `picture`, `picture-domain`, `words` or `hours`, and this is the first word of the command that stands for
+-- nothing.
 abbrev pub HaveWordFault : List Text → WordFault → Type 0
-HaveWordFault words fault = HavePictureFault words fault ⊎ HaveDomainFault words fault ⊎ HaveWordsFault words fault
+HaveWordFault words fault =
+    HavePictureFault words fault ⊎ HaveDomainFault words fault ⊎ HaveWordsFault words fault ⊎ HaveHoursFault words fault
 
 -- The words give a command, and this is the refusal for the first of its words that stands for nothing. The words of
 -- `faults` all stand for something.

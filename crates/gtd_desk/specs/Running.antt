@@ -12,6 +12,7 @@ use Rattle.gtd_runs.specs.Run.{AcceptedFilesArePut, HasRun, IsTableYear, IsVehic
 use Rattle.gtd_runs.specs.Run.{UnacceptedFilesPutNothing}
 use Rattle.gtd_picture.specs.Domain.{HasPut, IsDomainPicture}
 use Rattle.gtd_picture.specs.Open.{IsOpenPicture}
+use Rattle.gtd_desk.specs.Hours.{IsHoursLine}
 use Rattle.gtd_desk.specs.declared.plans.PictureSubject.{PictureSubject}
 use Rattle.gtd_desk.specs.declared.refusal.WordFault.TheVariants as fault
 use Rattle.gtd_runs.specs.declared.fault.RunFault.{RunFault}
@@ -113,6 +114,13 @@ pub record PutWords (text : List ℕ) (old new : Option (List ℕ)) (ended : Boo
   pub put : IfOk result (λ e. (e ≡ ending.Done) × Appends old new text × IsTrue ended)
   pub cause : IfErr result (λ r. (r ≡ refusal.Write) ⊎ ((r ≡ refusal.Memory) × Keeps old new))
 
+-- A line of hours that are open at exactly the seconds of the domain was put whole, and then the output was ended. If no hours
+-- were found, or memory was refused, nothing was put.
+pub record PutHours (domain : Domain) (old new : Option (List ℕ)) (ended : Bool) (result : Result Ending Refusal) : Type 0 where
+  pub put : IfOk result (λ e.
+      (e ≡ ending.Done) × ((line : List ℕ) × IsHoursLine domain line × Appends old new line) × IsTrue ended)
+  pub cause : IfErr result (λ r. (r ≡ refusal.Write) ⊎ (((r ≡ refusal.NoHours) ⊎ (r ≡ refusal.Memory)) × Keeps old new))
+
 -- What a plan did to the output, by its answer. A text that was asked for is taken whole, and then the output is ended.
 abbrev pub HasRunPlan : Plan → Option (List ℕ) → Option (List ℕ) → Option (List ℕ) → Bool → Bool
     → Result Ending Refusal → Type 0
@@ -125,6 +133,7 @@ HasRunPlan (plan.Picture path title subject) file old new silent ended result =
 HasRunPlan (plan.DomainPicture domain title year) file old new silent ended result =
     RanDomainPicture domain (string_bytes title) year old new ended result
 HasRunPlan (plan.Words domain) file old new silent ended result = PutWords (words (domain_tree domain)) old new ended result
+HasRunPlan (plan.HoursOf domain) file old new silent ended result = PutHours domain old new ended result
 HasRunPlan (plan.Show text) file old new silent ended result =
     IfOk result (λ e. (e ≡ ending.Done) × Appends old new (string_bytes text) × IsTrue ended)
     × IfErr result (λ r. r ≡ refusal.Write)
@@ -146,6 +155,7 @@ status_of (refusal.Usage why) = 2
 status_of (refusal.Moment why) = 1
 status_of refusal.Vehicle = 1
 status_of (refusal.Word why) = 1
+status_of refusal.NoHours = 1
 status_of refusal.NoElement = 1
 status_of (refusal.Records why) = records_status why
 status_of refusal.Open = 3

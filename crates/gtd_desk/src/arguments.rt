@@ -9,7 +9,8 @@ ghost use Rattle.clap.specs.Walk.{first_of, rows_of};
 ghost use Rattle.gtd_desk.specs.CommandLine.{HasWords, IsLocal, all_five, all_three, bare_domain, bare_faults, bare_now};
 ghost use Rattle.gtd_desk.specs.CommandLine.{bare_picture, both_given, desk_app, domain_app, domain_given, faults_app};
 ghost use Rattle.gtd_desk.specs.CommandLine.{bare_words, faults_given, flag_rule, is_set, no_pictures, none_given, now_app};
-ghost use Rattle.gtd_desk.specs.CommandLine.{now_given, picture_app, picture_given, word_rule, words_app, words_given};
+ghost use Rattle.gtd_desk.specs.CommandLine.{bare_hours, hours_app, hours_given, now_given, option_rule, picture_app};
+ghost use Rattle.gtd_desk.specs.CommandLine.{picture_given, word_rule, words_app, words_given};
 ghost use Rattle.gtd_desk.specs.Given.{domain_texts, given_faults, picture_texts, texts_of};
 
 use clap::{Arg, ArgAction, ArgMatches, Command};
@@ -81,6 +82,27 @@ fn add_flag<'a>(
         .action(ArgAction::SetTrue)
         .help(help);
     command.arg(flag)
+}
+
+// Adds an option with a value, of this long name, that must be given. Help shows the value under its own name.
+fn add_option<'a>(
+    alloc: Global,
+    command: Command<'a>,
+    name: &'a str,
+    value: &'a str,
+    help: &'a str,
+) -> Result<Command<'a>, AllocError>
+    requires local { IsLocal command }
+    ensures app { IfOk result (λ c. app_of c ≡ with_rule (app_of command.entry) (option_rule name.entry.now)) }
+    ensures local { IfOk result IsLocal }
+{
+    let option = Arg::new(alloc, name)
+        .long(name)
+        .value_name(value)
+        .required(true)
+        .action(ArgAction::Set)
+        .help(help);
+    command.arg(option)
 }
 
 // The command `now` without its words.
@@ -161,6 +183,35 @@ fn words_command<'a>(alloc: Global) -> Result<Command<'a>, AllocError>
     add_word(alloc, command, "DOMAIN", "The time domain")
 }
 
+// The command `hours` without its option.
+fn bare_hours<'a>(alloc: Global) -> Command<'a>
+    ensures app { app_of result ≡ bare_hours }
+    ensures local { IsLocal result }
+{
+    Command::new(alloc, "hours")
+        .about(
+            "Print opening hours of OpenStreetMap that are open at exactly the seconds of a time domain",
+        )
+        .after_help(
+            "Example: gtdesk hours --of '(t6h22m0){d1}*(h22m0){m360}' prints Fr 22:00-04:00",
+        )
+}
+
+// The command `hours`.
+fn hours_command<'a>(alloc: Global) -> Result<Command<'a>, AllocError>
+    ensures app { IfOk result (λ c. app_of c ≡ hours_app) }
+    ensures local { IfOk result IsLocal }
+{
+    let command = bare_hours(alloc);
+    add_option(
+        alloc,
+        command,
+        "of",
+        "DOMAIN",
+        "The time domain, made of days from midnight and ranges of times in minutes",
+    )
+}
+
 // The command `picture` without its words.
 fn bare_picture<'a>(alloc: Global) -> Command<'a>
     ensures app { app_of result ≡ bare_picture }
@@ -234,9 +285,10 @@ fn add_command<'a>(program: Command<'a>, command: Command<'a>) -> Result<Command
     program.subcommand(command)
 }
 
-// The program with its commands that print no picture.
-fn without_pictures<'a>(alloc: Global) -> Result<Command<'a>, AllocError>
-    ensures { IfOk result (λ c. app_of c ≡ no_pictures) }
+// The program with its first three commands.
+fn first_three<'a>(alloc: Global) -> Result<Command<'a>, AllocError>
+    ensures { IfOk result (λ c. app_of c
+        ≡ with_subcommand (with_subcommand (with_subcommand none_given now_app.top) faults_app.top) words_app.top) }
 {
     let now = now_command(alloc)?;
     let faults = faults_command(alloc)?;
@@ -245,6 +297,15 @@ fn without_pictures<'a>(alloc: Global) -> Result<Command<'a>, AllocError>
     let program = add_command(program, now)?;
     let program = add_command(program, faults)?;
     add_command(program, words)
+}
+
+// The program with its commands that print no picture.
+fn without_pictures<'a>(alloc: Global) -> Result<Command<'a>, AllocError>
+    ensures { IfOk result (λ c. app_of c ≡ no_pictures) }
+{
+    let hours = hours_command(alloc)?;
+    let program = first_three(alloc)?;
+    add_command(program, hours)
 }
 
 // The program with all its commands.
@@ -365,6 +426,26 @@ pub(crate) fn words_domain<'a>(matches: &ArgMatches<'a>) -> Option<&'a str>
 {
     match matches.subcommand() {
         Some((name, given)) => word_of(name, given),
+        None => None,
+    }
+}
+
+// The word of `hours`, if this is the command's name.
+fn hours_of<'a>(name: &str, given: &ArgMatches<'a>) -> Option<&'a str>
+    ensures { option_map (λ s. s.now) result ≡ hours_given (name.now, rows_of (found_of given.now)) }
+{
+    match name {
+        "hours" => value(given, "of"),
+        _ => None,
+    }
+}
+
+/// The word of `hours`, if the matches hold it.
+pub(crate) fn hours_domain<'a>(matches: &ArgMatches<'a>) -> Option<&'a str>
+    ensures { option_map (λ s. s.now) result ≡ option_and_then hours_given (subcommand_rows_of matches.now) }
+{
+    match matches.subcommand() {
+        Some((name, given)) => hours_of(name, given),
         None => None,
     }
 }

@@ -1,6 +1,7 @@
 #![tactic(auto)]
 
 mod arguments;
+mod domain_hours;
 mod ending;
 mod line;
 mod performing;

@@ -10,6 +10,10 @@ use gtd_faults::{FaultText, Printable};
 use std::fmt;
 use std::fmt::{Display, Formatter};
 
+// Why no hours are printed: the domain is not of the form that hours are sought for.
+const NO_HOURS: &str =
+    "DOMAIN: no opening hours: not of the form of days from midnight and ranges of times in minutes";
+
 // Why a text is not a moment, in words.
 fn moment_reason(fault: StampFault) -> &'static str
     ensures { result.now ≡ spec.moment_reason fault }
@@ -21,7 +25,7 @@ fn moment_reason(fault: StampFault) -> &'static str
     }
 }
 
-/// Which word of a picture's command, or of `words`, stands for nothing, and why.
+/// Which word of a picture's command, of `words` or of `hours`, stands for nothing, and why.
 #[derive(Drop)]
 struct WordLine(WordFault);
 
@@ -62,6 +66,7 @@ impl Display for RefusalLine<'_> {
             Refusal::Moment(fault) => write!(f, "gtdesk: MOMENT: {}", moment_reason(fault)),
             Refusal::Vehicle => write!(f, "gtdesk: VEHICLE: not a number from 1 to 99"),
             Refusal::Word(fault) => write!(f, "gtdesk: {}", WordLine(fault)),
+            Refusal::NoHours => write!(f, "gtdesk: {NO_HOURS}"),
             Refusal::NoElement => write!(f, "gtdesk: {file}: no row names the element"),
             Refusal::Records(fault) => write!(f, "gtdesk: {file}: {}", FaultText(fault)),
             Refusal::Open => write!(f, "gtdesk: {file}: cannot be opened"),

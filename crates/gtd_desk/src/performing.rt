@@ -6,6 +6,7 @@ ghost use Rattle.gtd_core.specs.Parts.{domain_tree};
 ghost use Rattle.gtd_words.specs.Words.{words};
 ghost use Rattle.gtd_desk.specs.Running.{HasRunPlan, PutWords, RanFaults, RanNow, listing_outcome, outcome_of, refusal_for};
 
+use crate::domain_hours::print_hours_of;
 use crate::ending::Ending;
 use crate::picture::print_picture;
 use crate::picture_domain::print_domain;
@@ -93,8 +94,8 @@ fn list_faults<I: Input, O: Output>(
     listing_outcome(run_faults(alloc, input, output, path, warn))
 }
 
-// Puts a text, and ends the output.
-fn print_text<O: Output>(output: &mut O, text: &str) -> Result<Ending, Refusal>
+/// Puts a text, and ends the output.
+pub(crate) fn print_text<O: Output>(output: &mut O, text: &str) -> Result<Ending, Refusal>
     requires writable { O.failure_count output.old < u64.MAX }
     ensures whole { OnOk result (Appends (O.taken output.old) (O.taken output.new) text.now) }
     ensures ended { OnOk result (IsTrue (O.is_ended output.new)) }
@@ -136,8 +137,9 @@ fn print_words<O: Output>(alloc: Global, output: &mut O, domain: &Domain) -> Res
 /// Carries a plan out: puts what it asks for, and ends the output. The input brings the bytes of the plan's record file;
 /// if the plan reads none, nothing is pulled.
 ///
-/// `Records` is the file's first fault, or why the input failed; `Write` and `Memory` are answered if the output failed and
-/// if memory was refused. Before the call, the failures of both devices must be below `u64::MAX`.
+/// `Records` is the file's first fault, or why the input failed; `NoHours` is answered if no opening hours are found for a
+/// domain, and `Write` and `Memory` if the output failed and if memory was refused. Before the call, the failures of both
+/// devices must be below `u64::MAX`.
 pub fn perform<I: Input, O: Output>(
     alloc: Global,
     plan: &Plan,
@@ -169,6 +171,7 @@ pub fn perform<I: Input, O: Output>(
             year,
         } => print_domain(alloc, output, domain, title.as_str(), *year),
         Plan::Words { domain } => print_words(alloc, output, domain),
+        Plan::HoursOf { domain } => print_hours_of(alloc, output, domain),
         Plan::Show { text } => print_text(output, text.as_str()),
     }
 }

@@ -10,20 +10,23 @@ ghost use Rattle.gtd_core.specs.declared.second.Sec.{Sec};
 ghost use Rattle.gtd_records.specs.Columns.{number_of};
 ghost use Rattle.gtd_runs.specs.Run.{IsVehicleType};
 ghost use Rattle.gtd_desk.specs.CommandLine.{AreFaultsWords, AreNowWords, AskForText, HasWords, Text, desk_app};
-ghost use Rattle.gtd_desk.specs.CommandLine.{AreWordsWords, FaultsTexts, faults_words_of, now_words_of, words_domain_of};
+ghost use Rattle.gtd_desk.specs.CommandLine.{AreWordsWords, FaultsTexts, faults_words_of, hours_domain_of, now_words_of};
+ghost use Rattle.gtd_desk.specs.CommandLine.{words_domain_of};
 ghost use Rattle.gtd_desk.specs.CommandLine as spec;
 ghost use Rattle.gtd_desk.specs.Given.{given_faults};
 ghost use Rattle.gtd_desk.specs.Plans.{AskFor, AskForNow, IsDomainPlan, IsFaultsPlan, IsNoVehicle, IsNowPlan};
-ghost use Rattle.gtd_desk.specs.Plans.{AskForWords, IsPicturePlan, IsRefusalOf, IsWordFault, IsWordsPlan};
+ghost use Rattle.gtd_desk.specs.Plans.{AskForWords, IsHoursPlan, IsPicturePlan, IsRefusalOf, IsWordFault, IsWordsPlan};
 ghost use Rattle.gtd_desk.specs.Pictures.{AskForDomainPicture, AskForPicture};
+ghost use Rattle.gtd_desk.specs.Hours.{AskForHours};
 ghost use Rattle.gtd_core.specs.declared.domain.Domain.{Domain};
 ghost use Rattle.gtd_desk.specs.declared.plans.PictureSubject.{PictureSubject};
 ghost use Rattle.gtd_desk.specs.declared.refusal.Refusal.{Refusal};
 
 use crate::arguments::{
-    FaultsWords, NowWords, domain_words, faults_words, now_words, parse, picture_words,
-    words_domain,
+    FaultsWords, NowWords, domain_words, faults_words, hours_domain, now_words, parse,
+    picture_words, words_domain,
 };
+use crate::domain_hours::plan_hours;
 use crate::picture::plan_picture;
 use crate::picture_domain::{domain_of, plan_domain};
 use crate::plans::{Moment, Plan};
@@ -161,7 +164,7 @@ fn plan_told(alloc: Global, text: &str) -> Result<Plan, Refusal>
 // The plan of a picture, where the matches hold no words of another command.
 fn plan_pictures(alloc: Global, matches: &ArgMatches<'_>) -> Result<Plan, Refusal>
     ensures { (words : List Text) → HasWords words matches.now → now_words_of words ≡ None → faults_words_of words ≡ None
-        → words_domain_of words ≡ None
+        → words_domain_of words ≡ None → hours_domain_of words ≡ None
         → MatchResult result (AskFor words) (IsRefusalOf words) }
 {
     match picture_words(matches) {
@@ -170,6 +173,18 @@ fn plan_pictures(alloc: Global, matches: &ArgMatches<'_>) -> Result<Plan, Refusa
             Some(given) => plan_domain(alloc, given),
             None => Err(Refusal::Usage("the words are not understood")),
         },
+    }
+}
+
+// The plan of `hours` or of a picture, where the matches hold no words of another command.
+fn plan_others(alloc: Global, matches: &ArgMatches<'_>) -> Result<Plan, Refusal>
+    ensures { (words : List Text) → HasWords words matches.now → now_words_of words ≡ None → faults_words_of words ≡ None
+        → words_domain_of words ≡ None
+        → MatchResult result (AskFor words) (IsRefusalOf words) }
+{
+    match hours_domain(matches) {
+        Some(text) => plan_hours(alloc, text),
+        None => plan_pictures(alloc, matches),
     }
 }
 
@@ -184,7 +199,7 @@ fn plan_words(alloc: Global, words: &[String]) -> Result<Plan, Refusal>
                 Some(given) => plan_faults(alloc, given),
                 None => match words_domain(&matches) {
                     Some(text) => plan_told(alloc, text),
-                    None => plan_pictures(alloc, &matches),
+                    None => plan_others(alloc, &matches),
                 },
             },
         },
@@ -195,7 +210,7 @@ fn plan_words(alloc: Global, words: &[String]) -> Result<Plan, Refusal>
 /// What the words after the program's name ask for, or why they are refused.
 ///
 /// In order: `Usage` if they neither give a command with its words nor ask for help; then the refusal for the first of the
-/// command's words that stands for nothing, from left to right: `Moment` or `Vehicle` for `now`, and `Word` for `words`,
+/// command's words that stands for nothing, from left to right: `Moment` or `Vehicle` for `now`, and `Word` for `words`, `hours`,
 /// `picture` and `picture-domain`. If memory was refused, `Memory` is the answer in place of these.
 pub fn plan(alloc: Global, words: Vec<String>) -> Result<Plan, Refusal>
     // The plan is what the words ask for.
@@ -212,6 +227,8 @@ pub fn plan(alloc: Global, words: Vec<String>) -> Result<Plan, Refusal>
         → MatchResult result (IsDomainPlan domain title year) (λ r. r ≡ Refusal.Memory) }
     ensures only_words { (domain : Domain) → AskForWords (map string_bytes words.items) domain
         → MatchResult result (IsWordsPlan domain) (λ r. r ≡ Refusal.Memory) }
+    ensures only_hours { (domain : Domain) → AskForHours (map string_bytes words.items) domain
+        → MatchResult result (IsHoursPlan domain) (λ r. r ≡ Refusal.Memory) }
     // The refusal is one that the words have, unless memory was refused.
     ensures refused { IfErr result (IsRefusalOf (map string_bytes words.items)) }
     // If a word of the command stands for nothing, the first such word gives the refusal, unless memory is refused.

@@ -68,6 +68,11 @@ pub enum Plan {
         /// The domain.
         domain: Domain,
     },
+    /// To print opening hours that are open at exactly the seconds of a time domain.
+    HoursOf {
+        /// The domain.
+        domain: Domain,
+    },
     /// To print a text: help, or the version.
     Show {
         /// The text.
@@ -89,6 +94,7 @@ impl Plan {
             Plan::Picture { file, .. } => Some(file.as_str()),
             Plan::DomainPicture { .. } => None,
             Plan::Words { .. } => None,
+            Plan::HoursOf { .. } => None,
             Plan::Show { .. } => None,
         }
     }

@@ -7,7 +7,7 @@ use gtd_calendar::StampFault;
 use gtd_core::TextFault;
 use gtd_records::RecordFault;
 
-/// Which word of a picture's command, or of `words`, stands for nothing.
+/// Which word of a picture's command, of `words` or of `hours`, stands for nothing.
 #[derive(Clone, Copy, Debug, PartialEq, Eq)]
 pub enum WordFault {
     /// The word for an element is not a number.
@@ -31,8 +31,10 @@ pub enum Refusal {
     Moment(StampFault),
     /// The word for a vehicle type is not a number from 1 to 99.
     Vehicle,
-    /// A word of a picture's command, or that of `words`, stands for nothing.
+    /// A word of a picture's command, or that of `words` or `hours`, stands for nothing.
     Word(WordFault),
+    /// No opening hours are found for a time domain. That none have its seconds is not said.
+    NoHours,
     /// No row of the record file names the element of a picture.
     NoElement,
     /// The record file is not read. This is its first fault, or why the input failed, and never `NoMemory`.
@@ -51,7 +53,8 @@ impl Refusal {
         ensures value { result ≡ status_of self.now }
     {
         match self {
-            Refusal::Moment(_) | Refusal::Vehicle | Refusal::Word(_) | Refusal::NoElement => 1,
+            Refusal::Moment(_) | Refusal::Vehicle | Refusal::Word(_) => 1,
+            Refusal::NoHours | Refusal::NoElement => 1,
             Refusal::Records(fault) => records_status(*fault),
             Refusal::Usage(_) => 2,
             Refusal::Open | Refusal::Write | Refusal::Memory => 3,

@@ -1,0 +1,69 @@
+//! The command `hours --of`: opening hours that are open at exactly the seconds of a time domain.
+
+ghost use Rattle.std.specs.Prelude.{◌≡◌, ◌⊎◌, ◌++◌, ◌<◌, IfErr, IfOk, List, MatchResult, codes, string_bytes};
+ghost use Rattle.gtd_osm.specs.Written.{hours_text};
+ghost use Rattle.gtd_desk.specs.CommandLine.{AreHoursWords, Text};
+ghost use Rattle.gtd_desk.specs.Hours.{IsHoursLine};
+ghost use Rattle.gtd_desk.specs.Plans.{AskFor, IsRefusalOf};
+ghost use Rattle.gtd_desk.specs.Running.{PutHours};
+
+use crate::ending::Ending;
+use crate::performing::print_text;
+use crate::picture_domain::domain_of;
+use crate::plans::Plan;
+use crate::refusal::Refusal;
+use gtd_core::Domain;
+use gtd_devices::Output;
+use gtd_hours_of::hours_of;
+use gtd_osm::{Hours, print_hours};
+use std::alloc::{AllocError, Global};
+
+/// The plan of `hours --of`.
+pub(crate) fn plan_hours(alloc: Global, text: &str) -> Result<Plan, Refusal>
+    ensures { (words : List Text) → AreHoursWords words text.now
+        → MatchResult result (AskFor words) (IsRefusalOf words) }
+{
+    match domain_of(alloc, text) {
+        Ok(domain) => Ok(Plan::HoursOf { domain }),
+        Err(refusal) => Err(refusal),
+    }
+}
+
+// The hours in one line, with its end.
+fn line_of(alloc: Global, hours: &Hours) -> Result<String, AllocError>
+    ensures exact { IfOk result (λ line. string_bytes line ≡ hours_text hours.now ++ codes "\n") }
+{
+    let mut line = print_hours(alloc, hours)?;
+    line.push_str("\n")?;
+    Ok(line)
+}
+
+// The line of hours that are open at exactly the seconds of the domain.
+fn hours_line(alloc: Global, domain: &Domain) -> Result<String, Refusal>
+    ensures line { IfOk result (λ line. IsHoursLine domain.now (string_bytes line)) }
+    ensures cause { IfErr result (λ r. (r ≡ Refusal.NoHours) ⊎ (r ≡ Refusal.Memory)) }
+{
+    match hours_of(alloc, domain) {
+        Ok(Some(hours)) => match line_of(alloc, &hours) {
+            Ok(line) => Ok(line),
+            Err(_) => Err(Refusal::Memory),
+        },
+        Ok(None) => Err(Refusal::NoHours),
+        Err(_) => Err(Refusal::Memory),
+    }
+}
+
+/// Puts hours that are open at exactly the seconds of the domain, and ends the output.
+pub(crate) fn print_hours_of<O: Output>(
+    alloc: Global,
+    output: &mut O,
+    domain: &Domain,
+) -> Result<Ending, Refusal>
+    requires writable { O.failure_count output.old < u64.MAX }
+    ensures put { PutHours domain.now (O.taken output.old) (O.taken output.new) (O.is_ended output.new) result }
+{
+    match hours_line(alloc, domain) {
+        Ok(line) => print_text(output, line.as_str()),
+        Err(refusal) => Err(refusal),
+    }
+}
