@@ -20,10 +20,11 @@ static FILE_COMMANDS: [&[&str]; 4] = [
 ];
 
 // Commands that read no file.
-static OTHER_COMMANDS: [&[&str]; 3] = [
+static OTHER_COMMANDS: [&[&str]; 4] = [
     &["words", "[(M4d1){M3}]*[(h10){h4}]"],
     &["picture-domain", "(h10){h4}", "2024"],
     &["help"],
+    &["hours", "--of", "(t2h0m0){d1}*(h7m0){m120}"],
 ];
 
 // The bytes of `R`, in pieces of 7 at most: 13 pieces, and the 14th pull finds the end.
@@ -339,7 +340,14 @@ fn writers_that_are_interrupted(rt: HostRuntime) {
     let alloc = rt.alloc();
     let refused = Err(Refusal::Write);
     let now = FILE_COMMANDS[0];
-    for words in [now, OTHER_COMMANDS[0], OTHER_COMMANDS[1], OTHER_COMMANDS[2]] {
+    let hours = OTHER_COMMANDS[3];
+    for words in [
+        now,
+        OTHER_COMMANDS[0],
+        OTHER_COMMANDS[1],
+        OTHER_COMMANDS[2],
+        hours,
+    ] {
         expect_over_writer(&rt, alloc, words, 999, true, true, Ok(Ending::Done));
         expect_over_writer(&rt, alloc, words, 1_000, true, true, refused);
         expect_over_writer(&rt, alloc, words, 0, true, false, refused);
@@ -386,7 +394,7 @@ impl Output for Counting {
 #[test]
 fn lines_and_ends_of_outputs(rt: HostRuntime) {
     let alloc = rt.alloc();
-    let table: [(&[&str], u64); 7] = [
+    let table: [(&[&str], u64); 8] = [
         (FILE_COMMANDS[0], 3),
         (FILE_COMMANDS[1], 0),
         (FILE_COMMANDS[2], 0),
@@ -394,6 +402,7 @@ fn lines_and_ends_of_outputs(rt: HostRuntime) {
         (OTHER_COMMANDS[0], 1),
         (OTHER_COMMANDS[1], 368),
         (OTHER_COMMANDS[2], 1),
+        (OTHER_COMMANDS[3], 1),
     ];
     for (words, puts) in table {
         let plan = planned(&rt, alloc, words);

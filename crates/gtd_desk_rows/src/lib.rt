@@ -9,6 +9,8 @@ mod devices;
 #[cfg(test)]
 mod faults;
 #[cfg(test)]
+mod hours;
+#[cfg(test)]
 mod now;
 #[cfg(test)]
 mod pictures;

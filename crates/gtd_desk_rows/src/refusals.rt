@@ -97,6 +97,17 @@ fn the_words_of_a_domain(rt: HostRuntime) {
 }
 
 #[test]
+fn the_hours_of_a_domain(rt: HostRuntime) {
+    let words = [
+        "hours",
+        "--of",
+        "(t2t3t4t5t6h0m0){d1}*[(h7m0){m120}+(h16m0){m120}]",
+    ];
+    let text = "Mo-Fr 07:00-09:00,16:00-18:00\n";
+    expect_put(&rt, rt.alloc(), &words, "", Ending::Done, text, true);
+}
+
+#[test]
 fn the_version(rt: HostRuntime) {
     let text = "gtdesk 0.1.0\n";
     expect_put(
@@ -166,10 +177,11 @@ fn a_picture_of_a_domain(rt: HostRuntime) {
 #[test]
 fn refused_words(rt: HostRuntime) {
     let alloc = rt.alloc();
-    let table: [&[&str]; 4] = [
+    let table: [&[&str]; 5] = [
         &["now", "r.csv", "2024-04-01", "11"],
         &["now", "r.csv"],
         &["words", "(h25){h1}"],
+        &["hours", "--of", "(h25){h1}"],
         &["picture-domain", "(h10){h1}", "1900"],
     ];
     for words in table {

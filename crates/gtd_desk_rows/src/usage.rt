@@ -14,6 +14,8 @@ const UNEXPECTED: &str = "unexpected argument found";
 
 const NO_VALUE: &str = "unexpected value for an argument found";
 
+const BAD_VALUE: &str = "one of the values isn't valid for an argument";
+
 const REPEATED: &str =
     "an argument cannot be used with one or more of the other specified arguments";
 
@@ -36,7 +38,7 @@ static NO_COMMANDS: [(&[&str], &str); 12] = [
 ];
 
 // Commands with too few words.
-static FEWER: [&[&str]; 14] = [
+static FEWER: [&[&str]; 15] = [
     &["now"],
     &["now", "r.csv"],
     &["now", "r.csv", MOMENT],
@@ -44,6 +46,7 @@ static FEWER: [&[&str]; 14] = [
     &["faults"],
     &["faults", "--warn"],
     &["words"],
+    &["hours"],
     &["picture"],
     &["picture", "r.csv"],
     &["picture", "r.csv", "17"],
@@ -54,7 +57,7 @@ static FEWER: [&[&str]; 14] = [
 ];
 
 // Commands with a word too many, or an option that they do not have, whatever their other words say.
-static MORE: [&[&str]; 14] = [
+static MORE: [&[&str]; 17] = [
     &["now", "r.csv", MOMENT, "11", "12"],
     &["now", "r.csv", "x", "x", "x"],
     &["now", "--warn", "r.csv", MOMENT, "11"],
@@ -65,6 +68,9 @@ static MORE: [&[&str]; 14] = [
     &["faults", "--", "--warn", "r.csv"],
     &["words", "(h1){h1}", "(h1){h1}"],
     &["words", "-(h1){h1}"],
+    &["hours", "(h0m0){d1}"],
+    &["hours", "--of", "(h0m0){d1}", "Mo-Fr"],
+    &["hours", "--for", "(h0m0){d1}"],
     &["picture", "r.csv", "17", "positive", "11", "2024", "2025"],
     &["picture", "r.csv", "-17", "positive", "11", "2024"],
     &["picture-domain", "(h1){h1}", "2024", "2025"],
@@ -108,14 +114,21 @@ fn too_many_words(rt: HostRuntime) -> Result<(), Fail> {
     Ok(())
 }
 
-// An option without a value is given once, and takes none.
+// An option without a value takes none, and one with a value has one. Each is given once.
 #[test]
-fn options_of_faults(rt: HostRuntime) -> Result<(), Fail> {
+fn options(rt: HostRuntime) -> Result<(), Fail> {
     let alloc = rt.alloc();
-    let table: [(&[&str], &str); 3] = [
+    let table: [(&[&str], &str); 7] = [
         (&["faults", "--warn=yes", "r.csv"], NO_VALUE),
         (&["faults", "--warn", "--warn", "r.csv"], REPEATED),
         (&["faults", "--warn", "r.csv", "--warn"], REPEATED),
+        (&["hours", "--of"], BAD_VALUE),
+        (&["hours", "--of", "--of"], BAD_VALUE),
+        (
+            &["hours", "--of", "(h0m0){d1}", "--of", "(h0m0){d1}"],
+            REPEATED,
+        ),
+        (&["hours", "--of=(h0m0){d1}", "--of", "x"], REPEATED),
     ];
     for (words, why) in table {
         let line = format!(in alloc; "command line: {why} (see gtdesk --help)")?;

@@ -25,6 +25,7 @@ fn expect_statuses(rt: &impl Abort) {
     assert!(rt; Refusal::Usage("x").status() == 2);
     assert!(rt; Refusal::Vehicle.status() == 1);
     assert!(rt; Refusal::Word(WordFault::Year).status() == 1);
+    assert!(rt; Refusal::NoHours.status() == 1);
     assert!(rt; Refusal::NoElement.status() == 1);
     assert!(rt; Refusal::Records(RecordFault::Header).status() == 1);
     assert!(rt; Refusal::Records(RecordFault::ReadFault).status() == 3);

@@ -114,6 +114,7 @@ fn help(rt: HostRuntime) {
         "  now  ",
         "  faults  ",
         "  words  ",
+        "  hours  ",
         "  picture  ",
         "  picture-domain  ",
         "  help  ",
@@ -126,10 +127,11 @@ fn help(rt: HostRuntime) {
 }
 
 // Commands, and the lines of their usage.
-static USAGE: [(&str, &str); 5] = [
+static USAGE: [(&str, &str); 6] = [
     ("now", "Usage: gtdesk now <FILE> <MOMENT> <VEHICLE>"),
     ("faults", "Usage: gtdesk faults [OPTIONS] <FILE>"),
     ("words", "Usage: gtdesk words <DOMAIN>"),
+    ("hours", "Usage: gtdesk hours --of <DOMAIN>"),
     (
         "picture",
         "Usage: gtdesk picture <FILE> <ELEMENT> <DIRECTION> <VEHICLE> <YEAR>",
