@@ -2,7 +2,6 @@
 use Rattle.std.specs.Prelude.{ℕ, ◌+◌, nat_lt, if◌then◌else◌}
 use Rattle.gtd_osm.specs.Opening.{date_key}
 use Rattle.gtd_osm.specs.Ranges.{IsDatedRange, IsMonthDay, IsYearDate}
-use Rattle.gtd_osm.specs.declared.hours.YearDate.{YearDate}
 use Rattle.gtd_hours_parts.specs.declared.digits.Digits.{Digits}
 use Rattle.gtd_hours_parts.specs.Numbers.{IsDayNumber}
 
@@ -16,11 +15,11 @@ IsDayOfYear year month day = IsDayNumber day × IsYearDate year month day.value
 
 -- The year of a last date that is written without one: that of the first date, or the next one, if in the same year the last
 -- date would come before the first.
-abbrev pub last_year : YearDate → ℕ → ℕ → ℕ
-last_year first month day =
-    if nat_lt (date_key month day) (date_key first.month first.day) then first.year + 1 else first.year
+abbrev pub last_year : ℕ → ℕ → ℕ → ℕ → ℕ → ℕ
+last_year first_year first_month first_day month day =
+    if nat_lt (date_key month day) (date_key first_month first_day) then first_year + 1 else first_year
 
 -- a range that begins with a date and ends on a day: not before it, and with both at most 36,600 days long
-abbrev pub EndsOn : YearDate → ℕ → ℕ → Digits → Type 0
-EndsOn first year month day =
-    IsDayOfYear year month day × IsDatedRange first.year first.month first.day year month day.value
+abbrev pub EndsOn : ℕ → ℕ → ℕ → ℕ → ℕ → Digits → Type 0
+EndsOn first_year first_month first_day year month day =
+    IsDayOfYear year month day × IsDatedRange first_year first_month first_day year month day.value

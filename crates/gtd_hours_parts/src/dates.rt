@@ -64,7 +64,8 @@ pub fn to_year_date(first: YearDate, year: Digits, month: u8, day: Digits) -> Op
     ensures first { IfSome result (λ x. x.first ≡ first) }
     ensures last { IfSome result
         (λ x. (x.last.year ≡ year.value) × (x.last.month ≡ month) × (x.last.day ≡ day.value)) }
-    ensures accepted { IsSome result ↔ (IsYearNumber year × EndsOn first year.value month day) }
+    ensures accepted { IsSome result
+        ↔ (IsYearNumber year × EndsOn first.year first.month first.day year.value month day) }
 {
     let last = year_date(year, month, day)?;
     Dated::new(first, last)
@@ -72,7 +73,7 @@ pub fn to_year_date(first: YearDate, year: Digits, month: u8, day: Digits) -> Op
 
 // The year of a last date that is written without one.
 fn last_year(first: YearDate, month: u8, day: u8) -> u16
-    ensures { result ≡ last_year first month day }
+    ensures { result ≡ last_year first.year first.month first.day month day }
 {
     let first_key = 32 * u16::from(first.month) + u16::from(first.day);
     let key = 32 * u16::from(month) + u16::from(day);
@@ -88,8 +89,10 @@ fn last_year(first: YearDate, month: u8, day: u8) -> u16
 pub fn to_month_day(first: YearDate, month: u8, day: Digits) -> Option<Dated>
     ensures first { IfSome result (λ x. x.first ≡ first) }
     ensures last { IfSome result
-        (λ x. (x.last.year ≡ last_year first month day.value) × (x.last.month ≡ month) × (x.last.day ≡ day.value)) }
-    ensures accepted { IsSome result ↔ EndsOn first (last_year first month day.value) month day }
+        (λ x. (x.last.year ≡ last_year first.year first.month first.day month day.value) × (x.last.month ≡ month)
+            × (x.last.day ≡ day.value)) }
+    ensures accepted { IsSome result ↔ EndsOn first.year first.month first.day
+        (last_year first.year first.month first.day month day.value) month day }
 {
     let number = day.day()?;
     let last = YearDate::new(last_year(first, month, number), month, number)?;
@@ -101,8 +104,10 @@ pub fn to_month_day(first: YearDate, month: u8, day: Digits) -> Option<Dated>
 pub fn to_year_day(first: YearDate, day: Digits) -> Option<Dated>
     ensures first { IfSome result (λ x. x.first ≡ first) }
     ensures last { IfSome result
-        (λ x. (x.last.year ≡ last_year first first.month day.value) × (x.last.month ≡ first.month) × (x.last.day ≡ day.value)) }
-    ensures accepted { IsSome result ↔ EndsOn first (last_year first first.month day.value) first.month day }
+        (λ x. (x.last.year ≡ last_year first.year first.month first.day first.month day.value)
+            × (x.last.month ≡ first.month) × (x.last.day ≡ day.value)) }
+    ensures accepted { IsSome result ↔ EndsOn first.year first.month first.day
+        (last_year first.year first.month first.day first.month day.value) first.month day }
 {
     to_month_day(first, first.month, day)
 }

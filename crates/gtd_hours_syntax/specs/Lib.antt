@@ -1,0 +1,6 @@
+pub mod Pieces
+pub mod Grammar
+pub mod Places
+pub mod Sound
+pub mod Moves
+pub mod Runs

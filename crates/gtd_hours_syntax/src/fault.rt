@@ -1,0 +1,33 @@
+//! The faults of texts of opening hours.
+
+use thiserror::Error;
+
+/// What is wrong with a text.
+#[derive(Clone, Copy, Debug, PartialEq, Eq, Error)]
+pub enum FaultKind {
+    /// No token begins here.
+    #[error("BadToken")]
+    BadToken,
+    /// A word or a sign that OpenStreetMap has and that is not read here.
+    #[error("Unsupported")]
+    Unsupported,
+    /// A number or a time that could stand here by its kind, but not by its digits or its value.
+    #[error("Range")]
+    Range,
+    /// A token that cannot stand here.
+    #[error("Unexpected")]
+    Unexpected,
+    /// The text ends too early.
+    #[error("Incomplete")]
+    Incomplete,
+}
+
+/// The first fault of a text.
+#[derive(Clone, Copy, Debug, PartialEq, Eq, Error)]
+#[error("{kind} at {place}")]
+pub struct HoursFault {
+    /// What is wrong.
+    pub kind: FaultKind,
+    /// The number of bytes before it: the length of the text if the text ends too early.
+    pub place: usize,
+}

@@ -1,0 +1,16 @@
+//! Opening hours of OpenStreetMap as texts: whether a text is one, and the first fault of one that is not.
+//!
+//! A text that is read is tokens, of which a grammar makes pieces: a range of years, a date, a weekday, a range of times. The
+//! grammar is a relation in `specs/Grammar.antt`, apart from the code, which steps from [`Place`] to place.
+#![tactic(auto)]
+
+mod fault;
+// mod moves;
+mod piece;
+mod place;
+mod stage;
+
+pub use fault::{FaultKind, HoursFault};
+pub use piece::{LastDate, Piece, WrittenDate};
+pub use place::{Move, Place};
+pub use stage::Stage;
