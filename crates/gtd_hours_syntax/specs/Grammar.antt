@@ -16,6 +16,18 @@ use Rattle.gtd_hours_syntax.specs.declared.stage.Stage.{Stage}
 use Rattle.gtd_hours_syntax.specs.declared.stage.Stage.TheVariants as stage
 use Rattle.gtd_hours_syntax.specs.Pieces.{AreWrittenTimes, EndsRange, IsRange, IsWrittenDate}
 
+-- What is asked of tokens: that they are a text in full; that they can be its beginning so far, where a text that has come to
+-- the last date of a range is judged at that date's day; or the same, where a number that comes last need only fit by its place.
+pub data Demand : Type 0 where
+  in_full : Demand
+  so_far : Demand
+  by_place : Demand
+
+abbrev pub may_break_off : Demand → Bool
+may_break_off in_full = false
+may_break_off so_far = true
+may_break_off by_place = true
+
 -- The first pieces and tokens go together, and the others are left.
 abbrev pub Text : Type 1
 Text = List Piece → List TokenKind → List Piece → List TokenKind → Type 0
@@ -85,22 +97,26 @@ unfinished (Some year) None = number year ∷ []
 unfinished (Some year) (Some month) = number year ∷ token.Month month ∷ []
 
 -- `Apr`, `Apr-Sep`, `Apr 10`, `Apr 10-20`, `2024 Dec 24-2025 Jan 3`.
--- A last date after one with a year is judged at its day: text that breaks off before that day counts as one that can go on,
--- whichever its year and month are. It is no whole text.
-pub data IsMonthDays (whole : Bool) (p : List Piece) (ts : List TokenKind) (later : List Piece) (rest : List TokenKind) : Type 0
-    where
-  month : (m : ℕ) → ts ≡ token.Month m ∷ rest → p ≡ piece.Months m None ∷ later → IsMonth m → IsMonthDays whole p ts later rest
+-- The last date after one with a year is judged at its day: a text that breaks off before that day can go on, whichever the year
+-- and the month are, and any number fits by its place there.
+pub data IsMonthDays (demand : Demand) (p : List Piece) (ts : List TokenKind) (later : List Piece) (rest : List TokenKind)
+    : Type 0 where
+  month : (m : ℕ) → ts ≡ token.Month m ∷ rest → p ≡ piece.Months m None ∷ later → IsMonth m
+      → IsMonthDays demand p ts later rest
   months : (first last : ℕ) → ts ≡ token.Month first ∷ token.Dash ∷ token.Month last ∷ rest
-      → p ≡ piece.Months first (Some last) ∷ later → IsMonth first → IsMonth last → IsMonthDays whole p ts later rest
+      → p ≡ piece.Months first (Some last) ∷ later → IsMonth first → IsMonth last → IsMonthDays demand p ts later rest
   date : (x : WrittenDate) → ts ≡ date_before x rest → p ≡ piece.Dates x None ∷ later → IsWrittenDate x
-      → IsMonthDays whole p ts later rest
+      → IsMonthDays demand p ts later rest
   dates : (first : WrittenDate) → (last : LastDate) → ts ≡ date_before first (token.Dash ∷ last_before last rest)
       → p ≡ piece.Dates first (Some last) ∷ later → IsWrittenDate first → EndsRange first last
-      → IsMonthDays whole p ts later rest
-  cut : (first : WrittenDate) → (year : Option Digits) → (month : Option ℕ) → whole ≡ false → is_some first.year ≡ true
-      → IsWrittenDate first → IfSome year IsYearNumber → IfSome month IsMonth
-      → ts ≡ date_before first (token.Dash ∷ unfinished year month) → rest ≡ [] → p ≡ later
-      → IsMonthDays whole p ts later rest
+      → IsMonthDays demand p ts later rest
+  cut : (first : WrittenDate) → (year : Option Digits) → (m : Option ℕ) → may_break_off demand ≡ true
+      → is_some first.year ≡ true → IsWrittenDate first → IfSome year IsYearNumber → IfSome m IsMonth
+      → ts ≡ date_before first (token.Dash ∷ unfinished year m) → rest ≡ [] → p ≡ later
+      → IsMonthDays demand p ts later rest
+  any_day : (first last : WrittenDate) → demand ≡ by_place → is_some first.year ≡ true → IsWrittenDate first
+      → IfSome last.year IsYearNumber → IsMonth last.month → ts ≡ date_before first (token.Dash ∷ date_before last [])
+      → rest ≡ [] → p ≡ later → IsMonthDays demand p ts later rest
 
 -- `1`, `1-2`, `-1`, in brackets after the weekday
 pub data IsPlaces (weekday : ℕ) (p : List Piece) (ts : List TokenKind) (later : List Piece) (rest : List TokenKind) : Type 0 where
@@ -131,13 +147,13 @@ pub record IsTimes (p : List Piece) (ts : List TokenKind) (later : List Piece) (
 -- ---- rules
 
 -- what the list of a stage is made of
-abbrev pub IsOne : Bool → Stage → Text
-IsOne whole stage.Years = IsYears
-IsOne whole stage.MonthDays = IsMonthDays whole
-IsOne whole stage.Weeks = IsWeeks
-IsOne whole stage.Weekdays = IsWeekdays
-IsOne whole stage.Times = IsTimes
-IsOne whole s = λ p ts later rest. ⊥
+abbrev pub IsOne : Demand → Stage → Text
+IsOne demand stage.Years = IsYears
+IsOne demand stage.MonthDays = IsMonthDays demand
+IsOne demand stage.Weeks = IsWeeks
+IsOne demand stage.Weekdays = IsWeekdays
+IsOne demand stage.Times = IsTimes
+IsOne demand s = λ p ts later rest. ⊥
 
 -- the parts of a rule come in this order
 abbrev pub order : Stage → ℕ
@@ -174,43 +190,43 @@ begins_with_date (token.Number value digits ∷ token.Month m ∷ token.Number v
 begins_with_date ts = false
 
 -- The pieces are the rest of a text, where its rule has come to a stage.
-pub data Follow (whole : Bool) : Stage → List Piece → List TokenKind → Type 0 where
+pub data Follow (demand : Demand) : Stage → List Piece → List TokenKind → Type 0 where
   always : (s : Stage) → (p : List Piece) → (ts us : List TokenKind) → s ≡ stage.Front
-      → ts ≡ token.Number 24 2 ∷ token.Slash ∷ token.Number 7 1 ∷ us → Follow whole stage.Always p us → Follow whole s p ts
+      → ts ≡ token.Number 24 2 ∷ token.Slash ∷ token.Number 7 1 ∷ us → Follow demand stage.Always p us → Follow demand s p ts
   years : (s : Stage) → (p q later : List Piece) → (ts rest : List TokenKind) → precedes s stage.Years ≡ true
       → begins_with_date ts ≡ false → p ≡ piece.Kind ∷ q → Listed IsYears q ts later rest
-      → Follow whole stage.Years later rest → Follow whole s p ts
+      → Follow demand stage.Years later rest → Follow demand s p ts
   month_days : (s : Stage) → (p q later : List Piece) → (ts rest : List TokenKind) → precedes s stage.MonthDays ≡ true
-      → p ≡ piece.Kind ∷ q → Listed (IsMonthDays whole) q ts later rest
-      → Follow whole stage.MonthDays later rest → Follow whole s p ts
+      → p ≡ piece.Kind ∷ q → Listed (IsMonthDays demand) q ts later rest
+      → Follow demand stage.MonthDays later rest → Follow demand s p ts
   weeks : (s : Stage) → (p q later : List Piece) → (ts us rest : List TokenKind) → precedes s stage.Weeks ≡ true
       → ts ≡ token.Week ∷ us → p ≡ piece.Kind ∷ q → Listed IsWeeks q us later rest
-      → Follow whole stage.Weeks later rest → Follow whole s p ts
+      → Follow demand stage.Weeks later rest → Follow demand s p ts
   colon : (s : Stage) → (p : List Piece) → (ts us : List TokenKind) → precedes stage.Front s ≡ true
-      → precedes s stage.Colon ≡ true → ts ≡ token.Colon ∷ us → Follow whole stage.Colon p us → Follow whole s p ts
+      → precedes s stage.Colon ≡ true → ts ≡ token.Colon ∷ us → Follow demand stage.Colon p us → Follow demand s p ts
   weekdays : (s : Stage) → (p q later : List Piece) → (ts rest : List TokenKind) → precedes s stage.Weekdays ≡ true
       → p ≡ piece.Kind ∷ q → Listed IsWeekdays q ts later rest
-      → Follow whole stage.Weekdays later rest → Follow whole s p ts
+      → Follow demand stage.Weekdays later rest → Follow demand s p ts
   times : (s : Stage) → (p later : List Piece) → (ts rest : List TokenKind) → precedes s stage.Times ≡ true
-      → Listed IsTimes p ts later rest → Follow whole stage.Times later rest → Follow whole s p ts
+      → Listed IsTimes p ts later rest → Follow demand stage.Times later rest → Follow demand s p ts
   opens : (s : Stage) → (p : List Piece) → (ts us : List TokenKind) → precedes s stage.Modifier ≡ true
-      → ts ≡ token.Open ∷ us → Follow whole stage.Modifier p us → Follow whole s p ts
+      → ts ≡ token.Open ∷ us → Follow demand stage.Modifier p us → Follow demand s p ts
   closes : (s : Stage) → (p q : List Piece) → (ts us : List TokenKind) → precedes s stage.Modifier ≡ true
-      → ts ≡ token.Closed ∷ us → p ≡ piece.Closed ∷ q → Follow whole stage.Modifier q us → Follow whole s p ts
+      → ts ≡ token.Closed ∷ us → p ≡ piece.Closed ∷ q → Follow demand stage.Modifier q us → Follow demand s p ts
   ends : (s : Stage) → (p : List Piece) → (ts : List TokenKind) → precedes stage.Front s ≡ true → p ≡ [] → ts ≡ []
-      → Follow whole s p ts
+      → Follow demand s p ts
   instead : (s : Stage) → (p q : List Piece) → (ts us : List TokenKind) → precedes stage.Front s ≡ true
-      → ts ≡ token.Semicolon ∷ us → p ≡ piece.Rule link.Instead ∷ q → Follow whole stage.Front q us → Follow whole s p ts
+      → ts ≡ token.Semicolon ∷ us → p ≡ piece.Rule link.Instead ∷ q → Follow demand stage.Front q us → Follow demand s p ts
   also : (s : Stage) → (p q : List Piece) → (ts us : List TokenKind) → precedes stage.Front s ≡ true
-      → ts ≡ token.Comma ∷ us → list_goes_on s us ≡ false → p ≡ piece.Rule link.Also ∷ q → Follow whole stage.Front q us
-      → Follow whole s p ts
+      → ts ≡ token.Comma ∷ us → list_goes_on s us ≡ false → p ≡ piece.Rule link.Also ∷ q → Follow demand stage.Front q us
+      → Follow demand s p ts
 
 -- The tokens are opening hours with these pieces.
 abbrev pub AreHours : List Piece → List TokenKind → Type 0
-AreHours p ts = Follow true stage.Front p ts
+AreHours p ts = Follow in_full stage.Front p ts
 
 -- Some opening hours begin with these tokens.
 pub record CanGoOn (before : List TokenKind) : Type 0 where
   pub p : List Piece
   pub after : List TokenKind
-  pub follow : Follow false stage.Front p (before ++ after)
+  pub follow : Follow so_far stage.Front p (before ++ after)
