@@ -4,3 +4,7 @@ pub mod Places
 pub mod Sound
 pub mod Moves
 pub mod Runs
+pub mod Faults
+pub mod Kinds
+pub mod Steps
+pub mod facts

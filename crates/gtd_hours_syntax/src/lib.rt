@@ -4,13 +4,19 @@
 //! grammar is a relation in `specs/Grammar.antt`, apart from the code, which steps from [`Place`] to place.
 #![tactic(auto)]
 
+mod check;
 mod fault;
-// mod moves;
+mod fits;
+pub mod laws;
+mod moves;
 mod piece;
 mod place;
+mod reading;
 mod stage;
 
+pub use check::check_hours;
 pub use fault::{FaultKind, HoursFault};
 pub use piece::{LastDate, Piece, WrittenDate};
 pub use place::{Move, Place};
+pub use reading::{Reading, begin, next_piece};
 pub use stage::Stage;

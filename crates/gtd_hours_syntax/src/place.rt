@@ -1,5 +1,8 @@
 //! Where the reading of a text of opening hours stands.
 
+ghost use Rattle.std.specs.Prelude.{◌≡◌};
+ghost use Rattle.gtd_hours_syntax.specs.Runs.{is_after};
+
 use crate::piece::{Piece, WrittenDate};
 use crate::stage::Stage;
 use gtd_hours_parts::{ClockTime, Digits};
@@ -127,6 +130,15 @@ pub enum Place {
     After(Stage),
     /// A comma after a part of a rule.
     Comma(Stage),
+}
+
+impl Place {
+    /// Whether a text may end here.
+    pub fn is_after(self) -> bool
+        ensures { result ≡ is_after self }
+    {
+        matches!(self, Place::After(_))
+    }
 }
 
 /// What comes of a token at a place.

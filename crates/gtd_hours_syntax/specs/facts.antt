@@ -1,0 +1,4 @@
+pub mod RunSteps
+pub mod Stubs
+pub mod FirstFault
+pub mod OneReading
