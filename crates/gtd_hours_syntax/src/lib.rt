@@ -5,7 +5,7 @@
 #![tactic(auto)]
 
 mod fault;
-// mod moves;
+mod moves;
 mod piece;
 mod place;
 mod stage;

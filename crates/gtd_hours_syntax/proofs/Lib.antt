@@ -1,0 +1,2 @@
+pub mod GoodLemmas
+pub mod GoodItems
