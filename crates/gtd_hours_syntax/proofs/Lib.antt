@@ -1,2 +1,3 @@
 pub mod GoodLemmas
 pub mod GoodItems
+pub mod GoodRules

@@ -1,9 +1,10 @@
 //! The moves in a list of years, and those of a year that begins a rule.
 
-ghost use Rattle.std.specs.Prelude.{◌≡◌, true, IfSome, None};
+ghost use Rattle.std.specs.Prelude.{◌≡◌, true, IfSome, None, Option};
+ghost use Rattle.gtd_hours.specs.declared.token.TokenKind.{TokenKind};
 ghost use Rattle.gtd_hours_syntax.specs.declared.piece.Piece.TheVariants as piece;
 ghost use Rattle.gtd_hours_syntax.specs.declared.place.Place.TheVariants as places;
-ghost use Rattle.gtd_hours_syntax.specs.Moves.{listed_year, next_move, year, year_dash, year_month, year_range, year_step};
+ghost use Rattle.gtd_hours_syntax.specs.Moves.{give, listed_year, year, year_dash, year_month, year_range, year_step};
 ghost use Rattle.gtd_hours_syntax.specs.Runs.{IsGood};
 ghost use Rattle.gtd_hours_syntax.specs.Sound.{Fits, IsPlace};
 
@@ -63,10 +64,10 @@ pub fn year_month(
 }
 
 /// The month of `2024 Dec`, where the year is a selector of its own
-pub fn month_after_year(month: u8, next: Option<TokenKind>, fits: bool) -> Option<Move>
+pub fn month_after_year(month: u8) -> Option<Move>
     requires sound { IsPlace (places.MonthAfterYear month) }
-    ensures computed { result ≡ next_move (places.MonthAfterYear month) next fits }
-    ensures good { IfSome result (λ move. IsGood (places.MonthAfterYear month) next move) }
+    ensures computed { result ≡ give piece.Kind (places.Month month) }
+    ensures good { (next : Option TokenKind) → IfSome result (λ move. IsGood (places.MonthAfterYear month) next move) }
 {
     give(Piece::Kind, Place::Month(month))
 }

@@ -3,7 +3,7 @@ use Rattle.std.proofs.Common.{rules}
 use Rattle.gtd_hours_syntax.proofs.moves.weekdays.weekday.Goals as goal
 
 pub returns-in-Some-OpenBracket-clause-good : goal.returns-in-Some-OpenBracket-clause-good
-returns-in-Some-OpenBracket-clause-good c = 
+returns-in-Some-OpenBracket-clause-good c =
     rw (c.take-in-Some-OpenBracket.ensures) (weekday_bracket_good c.args.day c.args.next (search rules) c.requires.sound)
 
 pub returns-in_default-clause-good : goal.returns-in_default-clause-good
