@@ -1,2 +1,5 @@
-pub mod ReadLemmas
 pub mod EndLemmas
+pub mod GoodItems
+pub mod GoodLemmas
+pub mod GoodRules
+pub mod ReadLemmas
