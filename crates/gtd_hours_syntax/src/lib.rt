@@ -5,6 +5,7 @@
 #![tactic(auto)]
 
 mod fault;
+mod fits;
 // mod moves;
 mod piece;
 mod place;
