@@ -7,4 +7,5 @@ pub mod Runs
 pub mod Faults
 pub mod Kinds
 pub mod Steps
+pub mod SoundPieces
 pub mod facts
