@@ -7,12 +7,14 @@ use Rattle.gtd_hours_syntax.specs.declared.piece.Piece.TheVariants as piece
 use Rattle.gtd_hours_syntax.specs.Pieces.{AreWrittenTimes, EndsRange, IsRange, IsWrittenDate}
 
 abbrev pub IsPiece : Piece → Type 0
-IsPiece (piece.Years first None step) = IsYearNumber first
+IsPiece (piece.Years first None None) = IsYearNumber first
+IsPiece (piece.Years first None (Some step)) = ⊥
 IsPiece (piece.Years first (Some last) step) = IsRange IsYearNumber first last × IfSome step IsStepNumber
 IsPiece (piece.Months first last) = IsMonth first × IfSome last IsMonth
 IsPiece (piece.Dates first None) = IsWrittenDate first
 IsPiece (piece.Dates first (Some last)) = IsWrittenDate first × EndsRange first last
-IsPiece (piece.Weeks first None step) = IsWeekNumber first
+IsPiece (piece.Weeks first None None) = IsWeekNumber first
+IsPiece (piece.Weeks first None (Some step)) = ⊥
 IsPiece (piece.Weeks first (Some last) step) = IsRange IsWeekNumber first last × IfSome step IsStepNumber
 IsPiece (piece.Weekdays first last) = IsWeekday first × IfSome last IsWeekday
 IsPiece (piece.Places k first None) = IsWeekday k × IsPlaceNumber first
