@@ -1,1 +1,4 @@
 pub mod RunSteps
+pub mod OneRun
+pub mod NoNext
+pub mod FollowBits
