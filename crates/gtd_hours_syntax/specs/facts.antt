@@ -2,3 +2,5 @@ pub mod RunSteps
 pub mod OneRun
 pub mod NoNext
 pub mod FollowBits
+pub mod FollowSteps
+pub mod FollowWeeks

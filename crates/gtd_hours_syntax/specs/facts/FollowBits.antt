@@ -1,7 +1,7 @@
 -- Whether what comes next fits can be told, at the places from which a piece is given.
-use Rattle.std.proofs.Common.{◌≡◌, ℕ, ◌≤◌, ◌↔◌, Bool, true, false, List, [], ◌∷◌, Option, Some, None, refl, sym, ap, subst, ◌∙◌}
-use Rattle.std.specs.Prelude.{nat_le, ◌==◌, ◌&&◌, if◌then◌else◌}
-use Rattle.std.proofs.lemmas.Bool.{le-leb, leb-true, eq-eqb, eqb-true, ne_eqb}
+use Rattle.std.proofs.Common.{◌≡◌, ℕ, ◌≤◌, ◌↔◌, Bool, true, false, Option, Some, refl}
+use Rattle.std.specs.Prelude.{nat_le, ◌==◌}
+use Rattle.std.proofs.lemmas.Bool.{le-leb, leb-true, eq-eqb, eqb-true}
 use Rattle.gtd_osm.specs.Ranges.{IsMonth, IsWeekday}
 use Rattle.gtd_hours.specs.declared.token.TokenKind.{TokenKind}
 use Rattle.gtd_hours.specs.declared.token.TokenKind.TheVariants as token

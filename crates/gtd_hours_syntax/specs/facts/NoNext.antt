@@ -1,5 +1,5 @@
 -- Where no number and no time can come next, none does.
-use Rattle.std.proofs.Common.{◌≡◌, ℕ, Bool, true, false, List, [], ◌∷◌, Option, Some, None, refl, sym, ap, subst, ◌∙◌}
+use Rattle.std.proofs.Common.{◌≡◌, ℕ, Bool, true, false, List, ◌∷◌, Some, None, refl, sym, subst, ◌∙◌}
 use Rattle.std.specs.Prelude.{◌&&◌}
 use Rattle.gtd_hours.specs.declared.token.TokenKind.{TokenKind}
 use Rattle.gtd_hours.specs.declared.token.TokenKind.TheVariants as token
@@ -13,18 +13,10 @@ use Rattle.gtd_hours_syntax.specs.declared.place.Place.TheVariants as places
 use Rattle.gtd_hours_syntax.specs.declared.place.Move.{Move}
 use Rattle.gtd_hours_syntax.specs.Grammar.{Demand, precedes}
 use Rattle.gtd_hours_syntax.specs.Sound.{takes_number, takes_time}
-use Rattle.gtd_hours_syntax.specs.Moves.{next_move, when, give, take, complete, written, clock}
+use Rattle.gtd_hours_syntax.specs.Moves.{next_move, give, take, complete, written, clock}
 use Rattle.gtd_hours_syntax.specs.Runs.{Runs, awaits_day, is_after, left}
 use Rattle.gtd_hours_syntax.specs.Runs.Runs.{ends, cut, any_day, step}
-
--- a token that makes no move at a place does not come there
-pub no_token : (demand : Demand) (at : Place) (p : List Piece) (t : TokenKind) (ts : List TokenKind) → awaits_day at ≡ false
-    → ((fits : Bool) → next_move at (Some t) fits ≡ None) → Runs demand at p (t ∷ ts) → ⊥
-no_token demand at p t ts day none (ends at' p' ts' after e f) = absurd cc
-no_token demand at p t ts day none (cut at' p' ts' may is e f) = absurd cc
-no_token demand at p t ts day none (any_day at' p' ts' v d by day' e f) = absurd cc
-no_token demand at p t ts day none (step at' p' q ts' move fits is m e go) =
-    let both : Some move ≡ None = sym m ∙ none fits in cc
+use Rattle.gtd_hours_syntax.specs.facts.RunSteps.{held, no_token, not_fit}
 
 abbrev is_nth : Place → Bool
 is_nth (places.Nth k n) = true
@@ -46,14 +38,6 @@ behind_piece demand at to x p t ts day gives (step at' p' q ts' move fits is m e
     let both : Some move ≡ Some given = sym m ∙ gives fits in
     let same : move ≡ given = cc in
     record { q = q; runs = subst (λ (w : Move). Runs demand w.to q (left w.takes (t ∷ ts))) same go }
-
-pub not_fit : (a b : Bool) → b ≡ false → (a && b) ≡ false
-not_fit true b e = e
-not_fit false b e = refl
-
-held : (b : Bool) (move : Option Move) → b ≡ false → when b move ≡ None
-held false move e = refl
-held true move e = absurd cc
 
 after_number : (demand : Demand) (s : Stage) (p : List Piece) (v d : ℕ) (ts : List TokenKind) → precedes s stage.MonthDays ≡ false
     → Runs demand (places.After s) p (token.Number v d ∷ ts) → ⊥

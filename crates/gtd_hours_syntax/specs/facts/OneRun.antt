@@ -1,5 +1,5 @@
 -- Tokens run in full give one list of pieces.
-use Rattle.std.proofs.Common.{◌≡◌, Bool, true, false, List, [], ◌∷◌, Option, Some, None, refl, sym, ap, subst, ◌∙◌}
+use Rattle.std.proofs.Common.{◌≡◌, Bool, true, List, [], Some, None, sym, ap, subst, ◌∙◌}
 use Rattle.gtd_hours.specs.declared.token.TokenKind.{TokenKind}
 use Rattle.gtd_hours_syntax.specs.declared.piece.Piece.{Piece}
 use Rattle.gtd_hours_syntax.specs.declared.place.Place.{Place}

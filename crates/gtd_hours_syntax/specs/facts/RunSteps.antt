@@ -1,5 +1,6 @@
 -- Steps of a run: the first step is the one that the table says.
 use Rattle.std.proofs.Common.{◌≡◌, ℕ, ◌↔◌, Bool, true, false, List, [], ◌∷◌, Option, Some, None, refl, sym, ap, subst, ◌∙◌}
+use Rattle.std.specs.Prelude.{◌&&◌}
 use Rattle.gtd_hours.specs.declared.token.TokenKind.{TokenKind}
 use Rattle.gtd_hours.specs.declared.token.TokenKind.TheVariants as token
 use Rattle.gtd_hours_syntax.specs.declared.piece.Piece.{Piece}
@@ -11,7 +12,7 @@ use Rattle.gtd_hours_syntax.specs.declared.place.Place.TheVariants as places
 use Rattle.gtd_hours_syntax.specs.declared.place.Move.{Move}
 use Rattle.gtd_hours_syntax.specs.Grammar.{Demand, in_full, so_far}
 use Rattle.gtd_hours_syntax.specs.Sound.{Fits}
-use Rattle.gtd_hours_syntax.specs.Moves.{next_move, give, take, complete, written}
+use Rattle.gtd_hours_syntax.specs.Moves.{next_move, give, take, complete, when, written}
 use Rattle.gtd_hours_syntax.specs.Runs.{Runs, first, left, is_after, is_cut, awaits_day}
 use Rattle.gtd_hours_syntax.specs.Runs.Runs.{ends, cut, any_day, step}
 
@@ -112,6 +113,23 @@ run_end_refused at p fits not is none (step at' p' q ts' other bit k n e go) =
     let both : Some other ≡ None = sym n ∙ ap (next_move at None) (sym same) ∙ none in
     cc
 
+-- a token that makes no move at a place does not come there
+pub no_token : (demand : Demand) (at : Place) (p : List Piece) (t : TokenKind) (ts : List TokenKind) → awaits_day at ≡ false
+    → ((fits : Bool) → next_move at (Some t) fits ≡ None) → Runs demand at p (t ∷ ts) → ⊥
+no_token demand at p t ts day none (ends at' p' ts' after e f) = absurd cc
+no_token demand at p t ts day none (cut at' p' ts' may is e f) = absurd cc
+no_token demand at p t ts day none (any_day at' p' ts' v d by day' e f) = absurd cc
+no_token demand at p t ts day none (step at' p' q ts' move fits is m e go) =
+    let both : Some move ≡ None = sym m ∙ none fits in cc
+
+pub not_fit : (a b : Bool) → b ≡ false → (a && b) ≡ false
+not_fit true b e = e
+not_fit false b e = refl
+
+pub held : (b : Bool) (move : Option Move) → b ≡ false → when b move ≡ None
+held false move e = refl
+held true move e = absurd cc
+
 -- ---- runs that begin with a step
 
 -- the token is used up
@@ -134,3 +152,22 @@ pub given : (demand : Demand) (at to : Place) (x : Piece) (p : List Piece) (ts :
     → Runs demand at (x ∷ p) ts
 given demand at to x p ts fits is m go =
     step at (x ∷ p) p ts (record { to = to; piece = Some x; takes = false }) fits is m refl go
+
+-- a token that fits is used up
+pub fit_taken : (demand : Demand) (at to : Place) (p : List Piece) (t : TokenKind) (ts : List TokenKind) → Fits at (Some t)
+    → next_move at (Some t) true ≡ take to → Runs demand to p ts → Runs demand at p (t ∷ ts)
+fit_taken demand at to p t ts fit m go = taken demand at to p t ts true (yes (Fits at (Some t)) fit) m go
+
+pub fit_completed : (demand : Demand) (at to : Place) (x : Piece) (p : List Piece) (t : TokenKind) (ts : List TokenKind)
+    → Fits at (Some t) → next_move at (Some t) true ≡ complete x to → Runs demand to p ts → Runs demand at (x ∷ p) (t ∷ ts)
+fit_completed demand at to x p t ts fit m go = completed demand at to x p t ts true (yes (Fits at (Some t)) fit) m go
+
+-- a word or sign is
+pub sign_taken : (demand : Demand) (at to : Place) (p : List Piece) (t : TokenKind) (ts : List TokenKind)
+    → (Fits at (Some t) → ⊥) → next_move at (Some t) false ≡ take to → Runs demand to p ts → Runs demand at p (t ∷ ts)
+sign_taken demand at to p t ts none m go = taken demand at to p t ts false (denied (Fits at (Some t)) none) m go
+
+pub sign_completed : (demand : Demand) (at to : Place) (x : Piece) (p : List Piece) (t : TokenKind) (ts : List TokenKind)
+    → (Fits at (Some t) → ⊥) → next_move at (Some t) false ≡ complete x to → Runs demand to p ts
+    → Runs demand at (x ∷ p) (t ∷ ts)
+sign_completed demand at to x p t ts none m go = completed demand at to x p t ts false (denied (Fits at (Some t)) none) m go
