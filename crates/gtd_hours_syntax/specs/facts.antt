@@ -4,3 +4,5 @@ pub mod NoNext
 pub mod FollowBits
 pub mod FollowSteps
 pub mod FollowWeeks
+pub mod FollowYears
+pub mod FollowWeekdays
