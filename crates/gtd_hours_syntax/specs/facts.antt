@@ -6,3 +6,4 @@ pub mod FollowSteps
 pub mod FollowWeeks
 pub mod FollowYears
 pub mod FollowWeekdays
+pub mod FollowDates
