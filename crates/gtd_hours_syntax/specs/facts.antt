@@ -7,3 +7,4 @@ pub mod FollowWeeks
 pub mod FollowYears
 pub mod FollowWeekdays
 pub mod FollowDates
+pub mod FollowRuns

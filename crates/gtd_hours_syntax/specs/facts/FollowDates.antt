@@ -219,7 +219,7 @@ days_begin demand p q ts us (IsMonthDays.any_day x l by some is y month e f g) g
 -- ---- lists
 
 -- a year, a month and a day, where the year stands for a date
-year_runs : (demand : Demand) (n : Digits) (m : ℕ) (day : Digits) (p : List Piece) (us : List TokenKind) → IsMonth m
+pub year_runs : (demand : Demand) (n : Digits) (m : ℕ) (day : Digits) (p : List Piece) (us : List TokenKind) → IsMonth m
     → IsDay (Some n) m day → Runs demand (places.Date (record { year = Some n; month = m; day = day })) p us
     → Runs demand (places.DateYear n) p (token.Month m ∷ number day ∷ us)
 year_runs demand n m day p us month fit go =
