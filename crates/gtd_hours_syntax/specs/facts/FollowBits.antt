@@ -12,7 +12,6 @@ use Rattle.gtd_hours_parts.specs.Times.{IsBegin}
 use Rattle.gtd_hours_syntax.specs.declared.stage.Stage.{Stage}
 use Rattle.gtd_hours_syntax.specs.declared.stage.Stage.TheVariants as stage
 use Rattle.gtd_hours_syntax.specs.declared.place.Place.{Place}
-use Rattle.gtd_hours_syntax.specs.declared.place.Place.TheVariants as places
 use Rattle.gtd_hours_syntax.specs.Sound.{Fits, NumberFits, TimeFits, ListedFits}
 use Rattle.gtd_hours_syntax.specs.Moves.{written, clock}
 use Rattle.gtd_hours_syntax.specs.facts.RunSteps.{yes, denied}

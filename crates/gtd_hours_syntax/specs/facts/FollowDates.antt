@@ -7,24 +7,22 @@ use Rattle.gtd_osm.specs.declared.hours.Link.TheVariants as link
 use Rattle.gtd_hours.specs.declared.token.TokenKind.{TokenKind}
 use Rattle.gtd_hours.specs.declared.token.TokenKind.TheVariants as token
 use Rattle.gtd_hours_parts.specs.declared.digits.Digits.{Digits}
-use Rattle.gtd_hours_parts.specs.Numbers.{IsDayNumber, IsYearNumber}
-use Rattle.gtd_hours_parts.specs.Dates.{EndsOn, IsDayOfYear, IsWrittenDay, last_year}
+use Rattle.gtd_hours_parts.specs.Numbers.{IsYearNumber}
+use Rattle.gtd_hours_parts.specs.Dates.{IsWrittenDay}
 use Rattle.gtd_hours_syntax.specs.declared.piece.WrittenDate.{WrittenDate}
 use Rattle.gtd_hours_syntax.specs.declared.piece.LastDate.{LastDate}
 use Rattle.gtd_hours_syntax.specs.declared.piece.LastDate.TheVariants as last_date
 use Rattle.gtd_hours_syntax.specs.declared.piece.Piece.{Piece}
 use Rattle.gtd_hours_syntax.specs.declared.piece.Piece.TheVariants as piece
 use Rattle.gtd_hours_syntax.specs.declared.stage.Stage.TheVariants as stage
-use Rattle.gtd_hours_syntax.specs.declared.place.Place.{Place}
 use Rattle.gtd_hours_syntax.specs.declared.place.Place.TheVariants as places
-use Rattle.gtd_hours_syntax.specs.declared.place.Move.{Move}
-use Rattle.gtd_hours_syntax.specs.Grammar.{Demand, by_place, may_break_off, IsMonthDays, Listed, More, number}
+use Rattle.gtd_hours_syntax.specs.Grammar.{Demand, may_break_off, IsMonthDays, Listed, number}
 use Rattle.gtd_hours_syntax.specs.Grammar.{date_before, dated, last_before, unfinished}
 use Rattle.gtd_hours_syntax.specs.Pieces.{EndsRange, IsDay, IsLastDay, IsWrittenDate}
-use Rattle.gtd_hours_syntax.specs.Sound.{YearOrDay, YearOrDayFits, is_last_year}
-use Rattle.gtd_hours_syntax.specs.Moves.{complete, give, take, when, year_or_day}
+use Rattle.gtd_hours_syntax.specs.Sound.{YearOrDay, is_last_year}
+use Rattle.gtd_hours_syntax.specs.Moves.{complete, give, take}
 use Rattle.gtd_hours_syntax.specs.Runs.{Runs}
-use Rattle.gtd_hours_syntax.specs.Runs.Runs.{ends, cut, any_day, step}
+use Rattle.gtd_hours_syntax.specs.Runs.Runs.{cut, any_day}
 use Rattle.gtd_hours_syntax.specs.facts.RunSteps.{fit_taken, fit_completed, sign_taken, no_token, held, not_fit}
 use Rattle.gtd_hours_syntax.specs.facts.FollowBits.{begin_bit, next_bit, no_bit}
 use Rattle.gtd_hours_syntax.specs.facts.FollowSteps.{after_nothing, comma_runs, given_by, more_runs, renamed}

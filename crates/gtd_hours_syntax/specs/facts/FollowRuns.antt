@@ -1,6 +1,6 @@
 -- What the grammar says of a text, the moves run over.
-use Rattle.std.proofs.Common.{◌≡◌, ℕ, Bool, true, false, List, [], ◌∷◌, Option, Some, None, refl, sym, ap, subst, ◌∙◌, arith}
-use Rattle.std.specs.Prelude.{◌&&◌, if◌then◌else◌}
+use Rattle.std.proofs.Common.{◌≡◌, ℕ, Bool, true, false, List, [], ◌∷◌, Some, refl, sym, ap, subst, ◌∙◌, arith}
+use Rattle.std.specs.Prelude.{if◌then◌else◌}
 use Rattle.gtd_osm.specs.declared.hours.Link.TheVariants as link
 use Rattle.gtd_hours.specs.declared.token.TokenKind.{TokenKind}
 use Rattle.gtd_hours.specs.declared.token.TokenKind.TheVariants as token
@@ -12,10 +12,9 @@ use Rattle.gtd_hours_syntax.specs.declared.stage.Stage.{Stage}
 use Rattle.gtd_hours_syntax.specs.declared.stage.Stage.TheVariants as stage
 use Rattle.gtd_hours_syntax.specs.declared.place.Place.{Place}
 use Rattle.gtd_hours_syntax.specs.declared.place.Place.TheVariants as places
-use Rattle.gtd_hours_syntax.specs.declared.place.Move.{Move}
-use Rattle.gtd_hours_syntax.specs.Grammar.{Demand, Follow, Listed, IsYears, begins_with_date, list_goes_on, number, precedes, time}
+use Rattle.gtd_hours_syntax.specs.Grammar.{Demand, Follow, list_goes_on, number, precedes, time}
 use Rattle.gtd_hours_syntax.specs.Sound.{TimeFits}
-use Rattle.gtd_hours_syntax.specs.Moves.{complete, give, listed, next_goes_on, next_move, take, when, written, clock}
+use Rattle.gtd_hours_syntax.specs.Moves.{complete, give, listed, next_goes_on, next_move, take, when, written}
 use Rattle.gtd_hours_syntax.specs.Runs.{Runs, first}
 use Rattle.gtd_hours_syntax.specs.Runs.Runs.{ends}
 use Rattle.gtd_hours_syntax.specs.facts.RunSteps.{fit_taken, fit_completed, sign_taken, sign_completed}

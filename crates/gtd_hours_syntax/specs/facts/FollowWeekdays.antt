@@ -1,19 +1,17 @@
 -- The run over a list of weekdays, and over a list of times.
-use Rattle.std.proofs.Common.{◌≡◌, ℕ, Bool, true, false, List, [], ◌∷◌, Some, None, refl, sym, ap, subst, ◌∙◌}
+use Rattle.std.proofs.Common.{◌≡◌, ℕ, List, [], ◌∷◌, Some, None, refl, sym, subst}
 use Rattle.gtd_osm.specs.Ranges.{IsWeekday}
 use Rattle.gtd_hours.specs.declared.token.TokenKind.{TokenKind}
 use Rattle.gtd_hours.specs.declared.token.TokenKind.TheVariants as token
 use Rattle.gtd_hours_parts.specs.declared.digits.Digits.{Digits}
 use Rattle.gtd_hours_parts.specs.declared.clock.ClockTime.{ClockTime}
-use Rattle.gtd_hours_parts.specs.Numbers.{IsPlaceNumber}
 use Rattle.gtd_hours_parts.specs.Times.{IsBegin}
 use Rattle.gtd_hours_syntax.specs.declared.piece.Piece.{Piece}
 use Rattle.gtd_hours_syntax.specs.declared.piece.Piece.TheVariants as piece
 use Rattle.gtd_hours_syntax.specs.declared.stage.Stage.TheVariants as stage
 use Rattle.gtd_hours_syntax.specs.declared.place.Place.TheVariants as places
-use Rattle.gtd_hours_syntax.specs.Grammar.{Demand, IsPlaces, IsTimes, IsWeekdays, Listed, More, number, time}
+use Rattle.gtd_hours_syntax.specs.Grammar.{Demand, IsPlaces, IsTimes, IsWeekdays, Listed, number, time}
 use Rattle.gtd_hours_syntax.specs.Runs.{Runs}
-use Rattle.gtd_hours_syntax.specs.Pieces.{IsRange}
 use Rattle.gtd_hours_syntax.specs.facts.RunSteps.{fit_taken, fit_completed, sign_taken, no_token}
 use Rattle.gtd_hours_syntax.specs.facts.FollowBits.{begin_bit, next_bit, no_bit}
 use Rattle.gtd_hours_syntax.specs.facts.FollowSteps.{comma_runs, given_by, more_runs, renamed}

@@ -1,19 +1,19 @@
 -- The run over a list of weeks.
-use Rattle.std.proofs.Common.{◌≡◌, ℕ, Bool, true, false, List, [], ◌∷◌, Some, None, refl, sym, ap, subst, ◌∙◌}
+use Rattle.std.proofs.Common.{List, [], ◌∷◌, Some, None, refl, sym, subst}
 use Rattle.gtd_hours.specs.declared.token.TokenKind.{TokenKind}
 use Rattle.gtd_hours.specs.declared.token.TokenKind.TheVariants as token
 use Rattle.gtd_hours_parts.specs.declared.digits.Digits.{Digits}
-use Rattle.gtd_hours_parts.specs.Numbers.{IsStepNumber, IsWeekNumber}
+use Rattle.gtd_hours_parts.specs.Numbers.{IsWeekNumber}
 use Rattle.gtd_hours_syntax.specs.declared.piece.Piece.{Piece}
 use Rattle.gtd_hours_syntax.specs.declared.piece.Piece.TheVariants as piece
 use Rattle.gtd_hours_syntax.specs.declared.stage.Stage.TheVariants as stage
 use Rattle.gtd_hours_syntax.specs.declared.place.Place.TheVariants as places
-use Rattle.gtd_hours_syntax.specs.Grammar.{Demand, IsWeeks, Listed, More, number}
+use Rattle.gtd_hours_syntax.specs.Grammar.{Demand, IsWeeks, Listed, number}
 use Rattle.gtd_hours_syntax.specs.Runs.{Runs}
 use Rattle.gtd_hours_syntax.specs.Pieces.{IsRange}
 use Rattle.gtd_hours_syntax.specs.facts.RunSteps.{fit_taken, fit_completed, sign_taken, no_token}
 use Rattle.gtd_hours_syntax.specs.facts.FollowBits.{begin_bit, next_bit, no_bit}
-use Rattle.gtd_hours_syntax.specs.facts.FollowSteps.{Begins, after_nothing, comma_runs, given_by, more_runs, renamed}
+use Rattle.gtd_hours_syntax.specs.facts.FollowSteps.{Begins, comma_runs, given_by, more_runs, renamed}
 
 week_given : (demand : Demand) (n : Digits) (q : List Piece) (ts : List TokenKind) → Runs demand (places.After stage.Weeks) q ts
     → Runs demand (places.Week n) (piece.Weeks n None None ∷ q) ts

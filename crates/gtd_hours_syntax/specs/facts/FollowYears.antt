@@ -7,16 +7,14 @@ use Rattle.gtd_osm.specs.declared.hours.Link.TheVariants as link
 use Rattle.gtd_hours.specs.declared.token.TokenKind.{TokenKind}
 use Rattle.gtd_hours.specs.declared.token.TokenKind.TheVariants as token
 use Rattle.gtd_hours_parts.specs.declared.digits.Digits.{Digits}
-use Rattle.gtd_hours_parts.specs.Numbers.{IsStepNumber, IsYearNumber}
+use Rattle.gtd_hours_parts.specs.Numbers.{IsYearNumber}
 use Rattle.gtd_hours_syntax.specs.declared.piece.Piece.{Piece}
 use Rattle.gtd_hours_syntax.specs.declared.piece.Piece.TheVariants as piece
-use Rattle.gtd_hours_syntax.specs.declared.stage.Stage.{Stage}
 use Rattle.gtd_hours_syntax.specs.declared.stage.Stage.TheVariants as stage
-use Rattle.gtd_hours_syntax.specs.declared.place.Place.{Place}
 use Rattle.gtd_hours_syntax.specs.declared.place.Place.TheVariants as places
 use Rattle.gtd_hours_syntax.specs.declared.place.Move.{Move}
-use Rattle.gtd_hours_syntax.specs.Grammar.{Demand, IsYears, Listed, More, begins_with_date, goes_on, number}
-use Rattle.gtd_hours_syntax.specs.Moves.{next_move, complete, give, listed, take, when}
+use Rattle.gtd_hours_syntax.specs.Grammar.{Demand, IsYears, Listed, begins_with_date, number}
+use Rattle.gtd_hours_syntax.specs.Moves.{complete, give, take, when}
 use Rattle.gtd_hours_syntax.specs.Runs.{Runs, first, left, with_piece}
 use Rattle.gtd_hours_syntax.specs.Runs.Runs.{ends, cut, any_day, step}
 use Rattle.gtd_hours_syntax.specs.Pieces.{IsRange}
