@@ -25,7 +25,9 @@ use Rattle.gtd_hours_syntax.specs.Sound.{Fits, IsPlace, takes_number, takes_time
 use Rattle.gtd_hours_syntax.specs.Runs.{Runs, first, from, is_after}
 use Rattle.gtd_hours_syntax.specs.Steps.{GivesTo, HasRead, IsMove, IsReading, RunsOn, end_or_fault, ended, kind_of}
 use Rattle.gtd_hours_syntax.specs.facts.RunSteps.{run_end_refused, run_refused}
-use Rattle.gtd_hours_syntax.specs.facts.Stubs.{ending, follow_runs, no_number, no_time, number_ending, time_ending}
+use Rattle.gtd_hours_syntax.specs.facts.FollowRuns.{follow_runs}
+use Rattle.gtd_hours_syntax.specs.facts.NoNext.{no_number, no_time}
+use Rattle.gtd_hours_syntax.specs.facts.Stubs.{ending, number_ending, time_ending}
 use Rattle.gtd_hours_syntax.proofs.ReadLemmas.{known, none_later, same_next, split_later, tails}
 
 -- ---- the end

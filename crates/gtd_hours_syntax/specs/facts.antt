@@ -1,4 +1,13 @@
 pub mod RunSteps
+pub mod OneRun
+pub mod NoNext
+pub mod FollowBits
+pub mod FollowSteps
+pub mod FollowWeeks
+pub mod FollowYears
+pub mod FollowWeekdays
+pub mod FollowDates
+pub mod FollowRuns
 pub mod Stubs
 pub mod FirstFault
 pub mod OneReading

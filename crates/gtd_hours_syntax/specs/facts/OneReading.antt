@@ -6,7 +6,8 @@ use Rattle.gtd_hours_syntax.specs.declared.piece.Piece.{Piece}
 use Rattle.gtd_hours_syntax.specs.declared.place.Place.TheVariants as places
 use Rattle.gtd_hours_syntax.specs.Grammar.{AreHours, in_full}
 use Rattle.gtd_hours_syntax.specs.Faults.{IsHoursText, kinds}
-use Rattle.gtd_hours_syntax.specs.facts.Stubs.{follow_runs, one_run}
+use Rattle.gtd_hours_syntax.specs.facts.FollowRuns.{follow_runs}
+use Rattle.gtd_hours_syntax.specs.facts.OneRun.{one_run}
 
 pub one_reading : (text : List ℕ) (p q : List Piece) → IsHoursText text p → IsHoursText text q → p ≡ q
 one_reading text p q h k =

@@ -39,16 +39,3 @@ pub record TimeEnding (at : Place) : Type 0 where
 pub time_ending : (at : Place) → IsPlace at → takes_time at ≡ true → TimeEnding at
 time_ending = ?
 
-pub no_number : (d : Demand) (at : Place) (p : List Piece) (v n : ℕ) (ts : List TokenKind) → takes_number at ≡ false
-    → Runs d at p (token.Number v n ∷ ts) → ⊥
-no_number = ?
-
-pub no_time : (d : Demand) (at : Place) (p : List Piece) (h m : ℕ) (ts : List TokenKind) → takes_time at ≡ false
-    → Runs d at p (token.Time h m ∷ ts) → ⊥
-no_time = ?
-
-pub follow_runs : (d : Demand) (p : List Piece) (ts : List TokenKind) → Follow d stage.Front p ts → Runs d places.Front p ts
-follow_runs = ?
-
-pub one_run : (at : Place) (p q : List Piece) (ts : List TokenKind) → Runs in_full at p ts → Runs in_full at q ts → p ≡ q
-one_run = ?
