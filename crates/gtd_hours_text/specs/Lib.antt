@@ -1,0 +1,2 @@
+pub mod Standing
+pub use Rattle.gtd_hours_syntax.specs.Faults

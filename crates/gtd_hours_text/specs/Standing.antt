@@ -1,0 +1,193 @@
+-- Which hours the pieces of a text stand for.
+use Rattle.std.specs.Prelude.{◌≡◌, ℕ, ◌+◌, ◌<◌, ◌≤◌, Bool, true, false, ◌||◌, List, [], ◌∷◌, ◌++◌, Option, Some, None}
+use Rattle.std.specs.List.{filter}
+use Rattle.gtd_osm.specs.declared.hours.Kind.{Kind}
+use Rattle.gtd_osm.specs.declared.hours.Link.{Link}
+use Rattle.gtd_osm.specs.declared.hours.Link.TheVariants as link
+use Rattle.gtd_osm.specs.declared.hours.Modifier.{Modifier}
+use Rattle.gtd_osm.specs.declared.hours.Modifier.TheVariants as modifier
+use Rattle.gtd_osm.specs.declared.hours.MonthDay.{MonthDay}
+use Rattle.gtd_osm.specs.declared.hours.YearDate.{YearDate}
+use Rattle.gtd_osm.specs.declared.hours.Hours.{Hours}
+use Rattle.gtd_osm.specs.declared.hours.Rule.{Rule}
+use Rattle.gtd_osm.specs.declared.hours.Selector.{Selector}
+use Rattle.gtd_osm.specs.declared.hours.Selector.TheVariants as selector
+use Rattle.gtd_osm.specs.declared.hours.TimeRange.{TimeRange}
+use Rattle.gtd_hours_parts.specs.declared.digits.Digits.{Digits}
+use Rattle.gtd_hours_parts.specs.Numbers.{last_of, step_of}
+use Rattle.gtd_hours_parts.specs.Dates.{last_year}
+use Rattle.gtd_hours_parts.specs.Times.{minute_of}
+use Rattle.gtd_hours_syntax.specs.declared.piece.LastDate.{LastDate}
+use Rattle.gtd_hours_syntax.specs.declared.piece.LastDate.TheVariants as last_date
+use Rattle.gtd_hours_syntax.specs.declared.piece.WrittenDate.{WrittenDate}
+use Rattle.gtd_hours_syntax.specs.declared.piece.Piece.{Piece}
+use Rattle.gtd_hours_syntax.specs.declared.piece.Piece.TheVariants as piece
+use Rattle.gtd_hours_syntax.specs.Faults.{IsHoursText}
+
+-- ---- selectors
+
+-- a range ends where it begins if no end is written
+abbrev pub last_number : Digits → Option Digits → ℕ
+last_number first None = first.value
+last_number first (Some last) = last.value
+
+abbrev pub IsMonthDay : MonthDay → ℕ → ℕ → Type 0
+IsMonthDay x month day = (x.month ≡ month) × (x.day ≡ day)
+
+abbrev pub IsYearDate : YearDate → ℕ → ℕ → ℕ → Type 0
+IsYearDate x year month day = (x.year ≡ year) × (x.month ≡ month) × (x.day ≡ day)
+
+-- the month and the day that a range of dates ends with
+abbrev pub last_month : WrittenDate → Option LastDate → ℕ
+last_month first None = first.month
+last_month first (Some (last_date.Day day)) = first.month
+last_month first (Some (last_date.Date last)) = last.month
+
+abbrev pub last_day : WrittenDate → Option LastDate → ℕ
+last_day first None = first.day.value
+last_day first (Some (last_date.Day day)) = day.value
+last_day first (Some (last_date.Date last)) = last.day.value
+
+-- and its year, where the first date has this one
+abbrev pub year_or : ℕ → Option Digits → ℕ
+year_or year None = year
+year_or year (Some written) = written.value
+
+abbrev pub end_year : ℕ → WrittenDate → Option LastDate → ℕ
+end_year year first None = year
+end_year year first (Some (last_date.Day day)) = last_year year first.month first.day.value first.month day.value
+end_year year first (Some (last_date.Date last)) =
+    year_or (last_year year first.month first.day.value last.month last.day.value) last.year
+
+-- dates of each year, or dates of years
+abbrev pub AreDates : Option Digits → WrittenDate → Option LastDate → Selector → Type 0
+AreDates None first last (selector.Dates x) =
+    IsMonthDay x.first first.month first.day.value × IsMonthDay x.last (last_month first last) (last_day first last)
+AreDates (Some year) first last (selector.Dated x) =
+    IsYearDate x.first year.value first.month first.day.value
+    × IsYearDate x.last (end_year year.value first last) (last_month first last) (last_day first last)
+AreDates year first last x = ⊥
+
+-- the piece is this selector
+abbrev pub IsSelector : Piece → Selector → Type 0
+IsSelector (piece.Years first last step) (selector.Years x) =
+    (x.first ≡ first.value) × (x.last ≡ last_number first last) × (x.step ≡ step_of step)
+IsSelector (piece.Months first last) (selector.Months x) = (x.first ≡ first) × (x.last ≡ last_of first last)
+IsSelector (piece.Dates first last) x = AreDates first.year first last x
+IsSelector (piece.Weeks first last step) (selector.Weeks x) =
+    (x.first ≡ first.value) × (x.last ≡ last_number first last) × (x.step ≡ step_of step)
+IsSelector (piece.Weekdays first last) (selector.Weekdays x) = (x.first ≡ first) × (x.last ≡ last_of first last)
+IsSelector (piece.PlaceBack weekday number) (selector.NthBack x) = (x.weekday ≡ weekday) × (x.number ≡ number.value)
+IsSelector y x = ⊥
+
+-- a weekday at each place from one to another
+abbrev pub IsPlace : ℕ → ℕ → Selector → Type 0
+IsPlace weekday number (selector.Nth x) = (x.weekday ≡ weekday) × (x.number ≡ number)
+IsPlace weekday number x = ⊥
+
+pub data ArePlaces (weekday : ℕ) : ℕ → ℕ → List Selector → Type 0 where
+  past : (first last : ℕ) → (xs : List Selector) → last < first → xs ≡ [] → ArePlaces weekday first last xs
+  place : (first last : ℕ) → (x : Selector) → (xs ys : List Selector) → first ≤ last → ys ≡ x ∷ xs → IsPlace weekday first x
+      → ArePlaces weekday (first + 1) last xs → ArePlaces weekday first last ys
+
+-- the piece is these selectors
+abbrev pub AreSelectors : Piece → List Selector → Type 0
+AreSelectors (piece.Places weekday first last) xs = ArePlaces weekday first.value (last_number first last) xs
+AreSelectors y (x ∷ []) = IsSelector y x
+AreSelectors y xs = ⊥
+
+-- and pieces are these, one after another
+pub data AllSelectors : List Piece → List Selector → Type 0 where
+  none : (p : List Piece) → (xs : List Selector) → p ≡ [] → xs ≡ [] → AllSelectors p xs
+  more : (y : Piece) → (p q : List Piece) → (xs ys zs : List Selector) → p ≡ y ∷ q → zs ≡ xs ++ ys → AreSelectors y xs
+      → AllSelectors q ys → AllSelectors p zs
+
+-- ---- times
+
+abbrev pub AllTimes : List Piece → List TimeRange → Type 0
+AllTimes [] [] = Unit {0}
+AllTimes (piece.Times begin last ∷ p) (x ∷ xs) = (x.begin ≡ minute_of begin) × (x.last ≡ minute_of last) × AllTimes p xs
+AllTimes p xs = ⊥
+
+-- ---- rules
+
+abbrev pub names_years : Piece → Bool
+names_years (piece.Years first last step) = true
+names_years x = false
+
+abbrev pub names_month_days : Piece → Bool
+names_month_days (piece.Months first last) = true
+names_month_days (piece.Dates first last) = true
+names_month_days x = false
+
+abbrev pub names_weeks : Piece → Bool
+names_weeks (piece.Weeks first last step) = true
+names_weeks x = false
+
+abbrev pub names_weekdays : Piece → Bool
+names_weekdays (piece.Weekdays first last) = true
+names_weekdays (piece.Places weekday first last) = true
+names_weekdays (piece.PlaceBack weekday number) = true
+names_weekdays x = false
+
+abbrev pub names_times : Piece → Bool
+names_times (piece.Times begin last) = true
+names_times x = false
+
+-- a rule is closed if a piece of it says so
+abbrev pub is_closed : List Piece → Bool
+is_closed [] = false
+is_closed (piece.Closed ∷ p) = true
+is_closed (x ∷ p) = is_closed p
+
+abbrev pub modifier_of : Bool → Modifier
+modifier_of true = modifier.Closed
+modifier_of false = modifier.Open
+
+-- the selectors of each kind
+abbrev pub selectors : List Kind → List (List Selector)
+selectors [] = []
+selectors (kind ∷ kinds) = kind.selectors.items ∷ selectors kinds
+
+-- a kind, if it has selectors
+abbrev pub kind_if : List Selector → List (List Selector)
+kind_if [] = []
+kind_if (x ∷ xs) = (x ∷ xs) ∷ []
+
+-- The pieces are a rule: of each kind its selectors, then its times, and whether it is closed.
+pub record IsRule (l : Link) (p : List Piece) (rule : Rule) : Type 0 where
+  pub years : List Selector
+  pub month_days : List Selector
+  pub weeks : List Selector
+  pub weekdays : List Selector
+  pub are_years : AllSelectors (filter names_years p) years
+  pub are_month_days : AllSelectors (filter names_month_days p) month_days
+  pub are_weeks : AllSelectors (filter names_weeks p) weeks
+  pub are_weekdays : AllSelectors (filter names_weekdays p) weekdays
+  pub kinds : selectors rule.kinds.items ≡ kind_if years ++ kind_if month_days ++ kind_if weeks ++ kind_if weekdays
+  pub times : AllTimes (filter names_times p) rule.times.items
+  pub modifier : rule.modifier ≡ modifier_of (is_closed p)
+  pub link : rule.link ≡ l
+
+abbrev pub begins_rule : Piece → Bool
+begins_rule (piece.Rule l) = true
+begins_rule x = false
+
+-- no other rule begins in the pieces
+abbrev pub is_one_rule : List Piece → Bool
+is_one_rule [] = true
+is_one_rule (piece.Rule l ∷ p) = false
+is_one_rule (x ∷ p) = is_one_rule p
+
+-- The pieces are these rules, the first of which has this link.
+pub data AreRules : Link → List Piece → List Rule → Type 0 where
+  last : (l : Link) → (p : List Piece) → (rule : Rule) → (rules : List Rule) → is_one_rule p ≡ true → IsRule l p rule
+      → rules ≡ rule ∷ [] → AreRules l p rules
+  another : (l next : Link) → (p q r : List Piece) → (rule : Rule) → (rules all : List Rule) → p ≡ q ++ piece.Rule next ∷ r
+      → is_one_rule q ≡ true → IsRule l q rule → all ≡ rule ∷ rules → AreRules next r rules → AreRules l p all
+
+-- The text stands for these hours.
+pub record StandsFor (text : List ℕ) (hours : Hours) : Type 0 where
+  pub p : List Piece
+  pub is : IsHoursText text p
+  pub rules : AreRules link.Instead p hours.rules.items

@@ -1,0 +1,1 @@
+//! The selectors that pieces are.
