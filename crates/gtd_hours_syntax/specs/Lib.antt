@@ -4,3 +4,4 @@ pub mod Places
 pub mod Sound
 pub mod Moves
 pub mod Runs
+pub mod facts

@@ -1,0 +1,2 @@
+pub mod EndingsOfParts
+pub mod Endings
