@@ -27,7 +27,7 @@ use Rattle.gtd_hours_syntax.specs.Steps.{GivesTo, HasRead, IsMove, IsReading, Ru
 use Rattle.gtd_hours_syntax.specs.facts.RunSteps.{run_end_refused, run_refused}
 use Rattle.gtd_hours_syntax.specs.facts.FollowRuns.{follow_runs}
 use Rattle.gtd_hours_syntax.specs.facts.NoNext.{no_number, no_time}
-use Rattle.gtd_hours_syntax.specs.facts.Stubs.{ending, number_ending, time_ending}
+use Rattle.gtd_hours_syntax.specs.facts.Endings.{ending, number_ending, time_ending}
 use Rattle.gtd_hours_syntax.proofs.ReadLemmas.{known, none_later, same_next, split_later, tails}
 
 -- ---- the end

@@ -8,6 +8,7 @@ pub mod FollowYears
 pub mod FollowWeekdays
 pub mod FollowDates
 pub mod FollowRuns
-pub mod Stubs
+pub mod EndingsOfParts
+pub mod Endings
 pub mod FirstFault
 pub mod OneReading
