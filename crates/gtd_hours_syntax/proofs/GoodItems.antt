@@ -1,5 +1,6 @@
 -- Which moves are right that complete a part of a list.
-use Rattle.std.proofs.Common.{◌≡◌, ℕ, Bool, true, false, Option, Some, None, List, ◌∷◌, IfSome, if◌then◌else◌, refl, subst, sym, arith, rules}
+use Rattle.std.proofs.Common.{◌≡◌, ℕ, Bool, true, false, Option, Some, None, List, ◌∷◌, IfSome, if◌then◌else◌}
+use Rattle.std.proofs.Common.{refl, subst, sym, arith, rules}
 use Rattle.gtd_osm.specs.Ranges.{IsMonth, IsWeekday}
 use Rattle.gtd_hours.specs.declared.token.TokenKind.{TokenKind}
 use Rattle.gtd_hours.specs.declared.token.TokenKind.TheVariants as token
@@ -17,7 +18,7 @@ use Rattle.gtd_hours_syntax.specs.Pieces.{IsRange, IsWrittenDate}
 use Rattle.gtd_hours_syntax.specs.Sound.{Both, Fits, IsPlace, YearOrDay, is_last_year}
 use Rattle.gtd_hours_syntax.specs.Moves.{clock, complete, take, written, year_or_day}
 use Rattle.gtd_hours_syntax.specs.Runs.{IsGood, from}
-use Rattle.gtd_hours_syntax.proofs.GoodLemmas.{completes, gives, listed, month_days_follow, sign_good, takes_to, token_good}
+use Rattle.gtd_hours_syntax.proofs.GoodLemmas.{completes, gives, month_days_follow, sign_good, takes_to, token_good}
 use Rattle.gtd_hours_syntax.proofs.GoodLemmas.{years_follow}
 
 -- ---- weeks
@@ -26,7 +27,10 @@ pub week_good : (n : Digits) (next : Option TokenKind) → IsWeekNumber n
     → IsGood (places.Week n) next (gives (piece.Weeks n None None) (places.After stage.Weeks))
 week_good n next sound = record {
   leads = λ d p ts rest. record {
-    later = p; rest = from next ts; one = IsWeeks.one n refl refl sound; behind = rest;
+    later = p;
+    rest = from next ts;
+    one = IsWeeks.one n refl refl sound;
+    behind = rest;
   };
   stands = refl;
   nearer = λ h. omega arith;
@@ -36,7 +40,10 @@ pub week_range_good : (a b : Digits) (next : Option TokenKind) → IsRange IsWee
     → IsGood (places.WeekRange a b) next (gives (piece.Weeks a (Some b) None) (places.After stage.Weeks))
 week_range_good a b next sound = record {
   leads = λ d p ts rest. record {
-    later = p; rest = from next ts; one = IsWeeks.range a b refl refl sound; behind = rest;
+    later = p;
+    rest = from next ts;
+    one = IsWeeks.range a b refl refl sound;
+    behind = rest;
   };
   stands = refl;
   nearer = λ h. omega arith;
@@ -49,7 +56,10 @@ week_step_good a b v c next fits same holds fit sound =
     token_good (places.WeekStep a b) next (token.Number v c) fits
     (completes (piece.Weeks a (Some b) (Some (written v c))) (places.After stage.Weeks)) same holds fit λ step. record {
       leads = λ d p ts rest. record {
-        later = p; rest = ts; one = IsWeeks.every a b (written v c) refl refl sound step; behind = rest;
+        later = p;
+        rest = ts;
+        one = IsWeeks.every a b (written v c) refl refl sound step;
+        behind = rest;
       };
       stands = refl;
       nearer = λ h. absurd cc;
@@ -64,7 +74,9 @@ time_dash_good t h m next fits same holds fit =
     token_good (places.TimeDash t) next (token.Time h m) fits
     (completes (piece.Times t (clock h m)) (places.After stage.Times)) same holds fit λ range. record {
       leads = λ d p ts rest. record {
-        later = p; rest = ts; behind = rest;
+        later = p;
+        rest = ts;
+        behind = rest;
         one = record { begin = t; last = clock h m; tokens = refl; pieces = refl; range = range };
       };
       stands = refl;
@@ -77,7 +89,10 @@ pub weekday_good : (k : ℕ) (next : Option TokenKind) → IsWeekday k
     → IsGood (places.Weekday k) next (gives (piece.Weekdays k None) (places.After stage.Weekdays))
 weekday_good k next sound = record {
   leads = λ d p ts rest. record {
-    later = p; rest = from next ts; one = IsWeekdays.one k refl refl sound; behind = rest;
+    later = p;
+    rest = from next ts;
+    one = IsWeekdays.one k refl refl sound;
+    behind = rest;
   };
   stands = refl;
   nearer = λ h. omega arith;
@@ -88,7 +103,10 @@ pub weekday_bracket_good : (k : ℕ) (next : Option TokenKind) → next ≡ Some
 weekday_bracket_good k next same sound = sign_good (places.Weekday k) next token.OpenBracket (takes_to (places.Bracket k)) same
     (record {
       leads = λ d p ts rest. record {
-        later = rest.later; rest = rest.rest; one = IsWeekdays.places k ts refl sound rest.listed; behind = rest.behind;
+        later = rest.later;
+        rest = rest.rest;
+        one = IsWeekdays.places k ts refl sound rest.listed;
+        behind = rest.behind;
       };
       stands = sound;
       nearer = λ h. absurd cc;
@@ -101,7 +119,10 @@ weekday_dash_good a b next fits same holds fit sound =
     token_good (places.WeekdayDash a) next (token.Weekday b) fits
     (completes (piece.Weekdays a (Some b)) (places.After stage.Weekdays)) same holds fit λ last. record {
       leads = λ d p ts rest. record {
-        later = p; rest = ts; one = IsWeekdays.range a b refl refl sound last; behind = rest;
+        later = p;
+        rest = ts;
+        one = IsWeekdays.range a b refl refl sound last;
+        behind = rest;
       };
       stands = refl;
       nearer = λ h. absurd cc;
@@ -114,7 +135,9 @@ bracket_dash_good k v c next fits same holds fit sound =
     token_good (places.BracketDash k) next (token.Number v c) fits
     (completes (piece.PlaceBack k (written v c)) (places.BracketEnd k)) same holds fit λ place. record {
       leads = λ d p ts rest. record {
-        later = rest.later; rest = rest.rest; behind = rest.behind;
+        later = rest.later;
+        rest = rest.rest;
+        behind = rest.behind;
         listed = record { q = p; us = ts; one = IsPlaces.back (written v c) refl refl place; more = rest.more };
       };
       stands = sound;
@@ -125,7 +148,9 @@ pub nth_good : (k : ℕ) (n : Digits) (next : Option TokenKind) → Both (IsWeek
     → IsGood (places.Nth k n) next (gives (piece.Places k n None) (places.BracketEnd k))
 nth_good k n next sound = record {
   leads = λ d p ts rest. record {
-    later = rest.later; rest = rest.rest; behind = rest.behind;
+    later = rest.later;
+    rest = rest.rest;
+    behind = rest.behind;
     listed = record { q = p; us = from next ts; one = IsPlaces.one n refl refl sound.other; more = rest.more };
   };
   stands = sound.one;
@@ -139,7 +164,9 @@ nth_dash_good k a v c next fits same holds fit sound =
     token_good (places.NthDash k a) next (token.Number v c) fits
     (completes (piece.Places k a (Some (written v c))) (places.BracketEnd k)) same holds fit λ range. record {
       leads = λ d p ts rest. record {
-        later = rest.later; rest = rest.rest; behind = rest.behind;
+        later = rest.later;
+        rest = rest.rest;
+        behind = rest.behind;
         listed = record { q = p; us = ts; one = IsPlaces.range a (written v c) refl refl range; more = rest.more };
       };
       stands = sound.one;
@@ -151,7 +178,9 @@ pub bracket_comma_good : (k : ℕ) (next : Option TokenKind) → next ≡ Some t
 bracket_comma_good k next same sound = sign_good (places.BracketEnd k) next token.Comma (takes_to (places.Bracket k)) same
     (record {
       leads = λ d p ts rest. record {
-        later = rest.later; rest = rest.rest; behind = rest.behind;
+        later = rest.later;
+        rest = rest.rest;
+        behind = rest.behind;
         more = More.comma p rest.listed.q (token.Comma ∷ ts) ts rest.listed.us refl rest.listed.one rest.listed.more;
       };
       stands = sound;
@@ -163,7 +192,10 @@ pub bracket_close_good : (k : ℕ) (next : Option TokenKind) → next ≡ Some t
 bracket_close_good k next same =
     sign_good (places.BracketEnd k) next token.CloseBracket (takes_to (places.After stage.Weekdays)) same (record {
       leads = λ d p ts rest. record {
-        later = p; rest = ts; behind = rest; more = More.none p (token.CloseBracket ∷ ts) refl refl;
+        later = p;
+        rest = ts;
+        behind = rest;
+        more = More.none p (token.CloseBracket ∷ ts) refl refl;
       };
       stands = refl;
       nearer = λ h. absurd cc;
@@ -199,7 +231,9 @@ year_month_good n m next dateless sound = record {
   leads = λ d p ts rest. Follow.years stage.Front (piece.Kind ∷ piece.Years n None None ∷ p) (piece.Years n None None ∷ p) p
       (number n ∷ token.Month m ∷ from next ts) (token.Month m ∷ from next ts) refl (dateless ts) refl
       (record {
-        q = p; us = token.Month m ∷ from next ts; one = IsYears.one n refl refl sound.one;
+        q = p;
+        us = token.Month m ∷ from next ts;
+        one = IsYears.one n refl refl sound.one;
         more = More.none p (token.Month m ∷ from next ts) refl refl;
       }) rest;
   stands = sound.other;
@@ -230,7 +264,10 @@ pub listed_year_good : (n : Digits) (next : Option TokenKind) → IsYearNumber n
     → IsGood (places.ListedYear n) next (gives (piece.Years n None None) (places.After stage.Years))
 listed_year_good n next sound = record {
   leads = λ d p ts rest. record {
-    later = p; rest = from next ts; one = IsYears.one n refl refl sound; behind = rest;
+    later = p;
+    rest = from next ts;
+    one = IsYears.one n refl refl sound;
+    behind = rest;
   };
   stands = refl;
   nearer = λ h. omega arith;
@@ -240,7 +277,10 @@ pub year_range_good : (a b : Digits) (next : Option TokenKind) → IsRange IsYea
     → IsGood (places.YearRange a b) next (gives (piece.Years a (Some b) None) (places.After stage.Years))
 year_range_good a b next sound = record {
   leads = λ d p ts rest. record {
-    later = p; rest = from next ts; one = IsYears.range a b refl refl sound; behind = rest;
+    later = p;
+    rest = from next ts;
+    one = IsYears.range a b refl refl sound;
+    behind = rest;
   };
   stands = refl;
   nearer = λ h. omega arith;
@@ -253,7 +293,10 @@ year_step_good a b v c next fits same holds fit sound =
     token_good (places.YearStep a b) next (token.Number v c) fits
     (completes (piece.Years a (Some b) (Some (written v c))) (places.After stage.Years)) same holds fit λ step. record {
       leads = λ d p ts rest. record {
-        later = p; rest = ts; one = IsYears.every a b (written v c) refl refl sound step; behind = rest;
+        later = p;
+        rest = ts;
+        one = IsYears.every a b (written v c) refl refl sound step;
+        behind = rest;
       };
       stands = refl;
       nearer = λ h. absurd cc;
@@ -265,7 +308,10 @@ pub month_good : (m : ℕ) (next : Option TokenKind) → IsMonth m
     → IsGood (places.Month m) next (gives (piece.Months m None) (places.After stage.MonthDays))
 month_good m next sound = record {
   leads = λ d p ts rest. record {
-    later = p; rest = from next ts; one = IsMonthDays.month m refl refl sound; behind = rest;
+    later = p;
+    rest = from next ts;
+    one = IsMonthDays.month m refl refl sound;
+    behind = rest;
   };
   stands = refl;
   nearer = λ h. omega arith;
@@ -278,7 +324,10 @@ month_dash_good a b next fits same holds fit sound =
     token_good (places.MonthDash a) next (token.Month b) fits
     (completes (piece.Months a (Some b)) (places.After stage.MonthDays)) same holds fit λ last. record {
       leads = λ d p ts rest. record {
-        later = p; rest = ts; one = IsMonthDays.months a b refl refl sound last; behind = rest;
+        later = p;
+        rest = ts;
+        one = IsMonthDays.months a b refl refl sound last;
+        behind = rest;
       };
       stands = refl;
       nearer = λ h. absurd cc;
@@ -288,7 +337,10 @@ pub date_good : (x : WrittenDate) (next : Option TokenKind) → IsWrittenDate x
     → IsGood (places.Date x) next (gives (piece.Dates x None) (places.After stage.MonthDays))
 date_good x next sound = record {
   leads = λ d p ts rest. record {
-    later = p; rest = from next ts; one = IsMonthDays.date x refl refl sound; behind = rest;
+    later = p;
+    rest = from next ts;
+    one = IsMonthDays.date x refl refl sound;
+    behind = rest;
   };
   stands = refl;
   nearer = λ h. omega arith;
@@ -304,7 +356,9 @@ date_dash_month_good x y m v c next fits same holds fit sound =
     (completes (piece.Dates x (Some (last_date.Date (record { year = y; month = m; day = written v c }))))
     (places.After stage.MonthDays)) same holds fit λ ends. record {
       leads = λ d p ts rest. record {
-        later = p; rest = ts; behind = rest;
+        later = p;
+        rest = ts;
+        behind = rest;
         one = IsMonthDays.dates x (last_date.Date (record { year = y; month = m; day = written v c })) refl refl sound.one ends;
       };
       stands = refl;
@@ -322,7 +376,10 @@ year_or_day_good x v c true is year sound = record {
 }
 year_or_day_good x v c false is ends sound = record {
   leads = λ d p ts rest. record {
-    later = p; rest = ts; behind = rest; one = IsMonthDays.dates x (last_date.Day (written v c)) refl refl sound ends;
+    later = p;
+    rest = ts;
+    behind = rest;
+    one = IsMonthDays.dates x (last_date.Day (written v c)) refl refl sound ends;
   };
   stands = refl;
   nearer = λ h. absurd cc;

@@ -105,12 +105,14 @@ later_closed s next same before =
 -- ---- the beginning of a rule
 
 pub always_good : (v c : ℕ) (next : Option TokenKind) (fits : Bool) → next ≡ Some (token.Number v c) → fits ≡ true
-    → (fits ≡ true → Fits places.TwentyFourSlash next) → IsGood places.TwentyFourSlash next (takes_to (places.After stage.Always))
+    → (fits ≡ true → Fits places.TwentyFourSlash next)
+    → IsGood places.TwentyFourSlash next (takes_to (places.After stage.Always))
 always_good v c next fits same holds fit =
     token_good places.TwentyFourSlash next (token.Number v c) fits (takes_to (places.After stage.Always)) same holds fit
     λ seven. record {
       leads = λ d p ts rest. Follow.always stage.Front p
-          (token.Number 24 2 ∷ token.Slash ∷ token.Number v c ∷ ts) ts refl (rw (seven.0, seven.1) refl) (behind_always d p ts rest);
+          (token.Number 24 2 ∷ token.Slash ∷ token.Number v c ∷ ts) ts refl (rw (seven.0, seven.1) refl)
+          (behind_always d p ts rest);
       stands = refl;
       nearer = λ h. absurd cc;
     }
@@ -150,8 +152,8 @@ pub after_year_good : (s : Stage) (v c : ℕ) (next : Option TokenKind) (fits : 
     → fits ≡ true → (fits ≡ true → Fits (places.After s) next) → precedes s stage.MonthDays ≡ true
     → IsGood (places.After s) next (completes piece.Kind (places.DateYear (written v c)))
 after_year_good s v c next fits same holds fit before =
-    token_good (places.After s) next (token.Number v c) fits (completes piece.Kind (places.DateYear (written v c))) same holds fit
-    λ sound. record {
+    token_good (places.After s) next (token.Number v c) fits (completes piece.Kind (places.DateYear (written v c))) same holds
+    fit λ sound. record {
       leads = λ d p ts rest. behind d s (piece.Kind ∷ p) (token.Number v c ∷ ts)
           (month_days_follow d s p (token.Number v c ∷ ts) before rest);
       stands = sound;

@@ -28,12 +28,7 @@ pub fn date_year(year: Digits, next: Option<TokenKind>, fits: bool) -> Option<Mo
 }
 
 /// `2024 Dec`, of a date
-pub fn date_year_month(
-    year: Digits,
-    month: u8,
-    next: Option<TokenKind>,
-    fits: bool,
-) -> Option<Move>
+pub fn date_year_month(year: Digits, month: u8, next: Option<TokenKind>, fits: bool) -> Option<Move>
     requires sound { IsPlace (places.DateYearMonth year month) }
     requires fit { fits ≡ true → Fits (places.DateYearMonth year month) next }
     ensures computed { result ≡ date_year_month year month next fits }

@@ -101,7 +101,6 @@ fn next_goes_on(s: Stage, next: Option<TokenKind>) -> bool
 }
 
 // The list goes on.
-#[tactic(auto, using(crate::proofs::GoodRules::listed_month_good, crate::proofs::GoodRules::listed_weekday_good, crate::proofs::GoodRules::listed_time_good))]
 fn listed(s: Stage, next: Option<TokenKind>, fits: bool) -> Option<Move>
     requires goes_on { next_goes_on s next ≡ true }
     requires fit { fits ≡ true → Fits (places.Comma s) next }
@@ -132,7 +131,6 @@ fn listed_number(s: Stage, n: Digits) -> Option<Move>
 }
 
 // A later part of a rule begins.
-#[tactic(auto, using(crate::proofs::GoodRules::later_month, crate::proofs::GoodRules::later_weekday, crate::proofs::GoodRules::later_time, crate::proofs::GoodRules::later_week, crate::proofs::GoodRules::later_open, crate::proofs::GoodRules::later_closed))]
 fn later(s: Stage, next: Option<TokenKind>, fits: bool) -> Option<Move>
     requires fit { fits ≡ true → Fits (places.After s) next }
     ensures computed { result ≡ later s next fits }

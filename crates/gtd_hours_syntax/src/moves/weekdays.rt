@@ -110,12 +110,7 @@ pub fn nth(weekday: u8, number: Digits, next: Option<TokenKind>) -> Option<Move>
 
 /// `We[1-`
 #[tactic(auto, using(crate::proofs::GoodItems::nth_dash_good))]
-pub fn nth_dash(
-    weekday: u8,
-    first: Digits,
-    next: Option<TokenKind>,
-    fits: bool,
-) -> Option<Move>
+pub fn nth_dash(weekday: u8, first: Digits, next: Option<TokenKind>, fits: bool) -> Option<Move>
     requires sound { IsPlace (places.NthDash weekday first) }
     requires fit { fits ≡ true → Fits (places.NthDash weekday first) next }
     ensures computed { result ≡ nth_dash weekday first next fits }

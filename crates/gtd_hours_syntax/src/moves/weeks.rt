@@ -83,12 +83,7 @@ pub fn week_range(first: Digits, last: Digits, next: Option<TokenKind>) -> Optio
 
 /// `10-20/`
 #[tactic(auto, using(crate::proofs::GoodItems::week_step_good))]
-pub fn week_step(
-    first: Digits,
-    last: Digits,
-    next: Option<TokenKind>,
-    fits: bool,
-) -> Option<Move>
+pub fn week_step(first: Digits, last: Digits, next: Option<TokenKind>, fits: bool) -> Option<Move>
     requires sound { IsPlace (places.WeekStep first last) }
     requires fit { fits ≡ true → Fits (places.WeekStep first last) next }
     ensures computed { result ≡ week_step first last next fits }

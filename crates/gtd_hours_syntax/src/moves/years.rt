@@ -36,12 +36,7 @@ pub fn year(n: Digits, next: Option<TokenKind>, fits: bool) -> Option<Move>
 }
 
 /// `2024 Dec`, at the beginning of a rule
-pub fn year_month(
-    year: Digits,
-    month: u8,
-    next: Option<TokenKind>,
-    fits: bool,
-) -> Option<Move>
+pub fn year_month(year: Digits, month: u8, next: Option<TokenKind>, fits: bool) -> Option<Move>
     requires sound { IsPlace (places.YearMonth year month) }
     requires fit { fits ≡ true → Fits (places.YearMonth year month) next }
     ensures computed { result ≡ year_month year month next fits }
@@ -121,12 +116,7 @@ pub fn year_range(first: Digits, last: Digits, next: Option<TokenKind>) -> Optio
 
 /// `2024-2030/`
 #[tactic(auto, using(crate::proofs::GoodItems::year_step_good))]
-pub fn year_step(
-    first: Digits,
-    last: Digits,
-    next: Option<TokenKind>,
-    fits: bool,
-) -> Option<Move>
+pub fn year_step(first: Digits, last: Digits, next: Option<TokenKind>, fits: bool) -> Option<Move>
     requires sound { IsPlace (places.YearStep first last) }
     requires fit { fits ≡ true → Fits (places.YearStep first last) next }
     ensures computed { result ≡ year_step first last next fits }

@@ -1,4 +1,4 @@
-use Rattle.std.proofs.Common.{◌∙◌, rules, sym}
+use Rattle.std.proofs.Common.{◌∙◌, sym}
 use Rattle.gtd_hours_syntax.proofs.GoodRules.{also_good}
 use Rattle.gtd_hours_syntax.proofs.moves.rules.comma.Goals as goal
 

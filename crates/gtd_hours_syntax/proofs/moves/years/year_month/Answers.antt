@@ -4,8 +4,8 @@ use Rattle.gtd_hours_syntax.proofs.moves.years.year_month.Goals as goal
 
 pub returns-then-fits-clause-good : goal.returns-then-fits-clause-good
 returns-then-fits-clause-good c =
-    rw (c.take.ensures, c.written.ensures) (year_date_good c.args.year c.args.month c.in-Some-Number.value c.in-Some-Number.digits
-    c.args.next c.args.fits (search rules) c.if-fits.true c.requires.fit c.requires.sound)
+    rw (c.take.ensures, c.written.ensures) (year_date_good c.args.year c.args.month c.in-Some-Number.value
+    c.in-Some-Number.digits c.args.next c.args.fits (search rules) c.if-fits.true c.requires.fit c.requires.sound)
 
 pub returns-in_default-clause-good : goal.returns-in_default-clause-good
 returns-in_default-clause-good c =
