@@ -3,3 +3,4 @@ pub mod GoodItems
 pub mod GoodLemmas
 pub mod GoodRules
 pub mod ReadLemmas
+pub mod SoundLemmas

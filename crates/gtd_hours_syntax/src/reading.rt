@@ -8,6 +8,7 @@ ghost use Rattle.gtd_hours_syntax.specs.Faults.{IsFirstFault, IsHoursText};
 ghost use Rattle.gtd_hours_syntax.specs.Kinds.{misfit_of, range_if};
 ghost use Rattle.gtd_hours_syntax.specs.Runs.{IsGood};
 ghost use Rattle.gtd_hours_syntax.specs.Sound.{IsPlace};
+ghost use Rattle.gtd_hours_syntax.specs.SoundPieces.{IsPiece};
 ghost use Rattle.gtd_hours_syntax.specs.Steps.{IsMove, IsReading, advanced, end_or_fault, kind_of, moves_left};
 
 use crate::fault::{FaultKind, HoursFault};
@@ -51,6 +52,7 @@ pub fn next_piece(text: &[u8], reading: Reading) -> Result<Option<(Piece, Readin
     requires stands { (given : List Piece) × IsReading text.now reading given }
     ensures piece { (given : List Piece) → IsReading text.now reading given →
         IfOk result (λ next. IfSome next (λ x. IsReading text.now x.1 (given ++ x.0 ∷ []))) }
+    ensures sound { IfOk result (λ next. IfSome next (λ x. IsPiece x.0)) }
     ensures all { (given : List Piece) → IsReading text.now reading given →
         result ≡ Ok None → IsHoursText text.now given }
     ensures fault { IfErr result (λ bad. IsFirstFault text.now bad) }

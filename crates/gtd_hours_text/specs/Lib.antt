@@ -1,2 +1,5 @@
 pub mod Standing
+pub mod Adding
+pub mod Drafts
+pub mod Reading
 pub use Rattle.gtd_hours_syntax.specs.Faults

@@ -1,2 +1,12 @@
-//! x
+//! Opening hours of OpenStreetMap as texts: the hours that a text stands for.
+//!
+//! A text is read in two passes: the first finds its first fault and takes no memory, the second builds the hours piece by piece.
 #![tactic(auto)]
+
+mod adding;
+mod building;
+mod draft;
+mod reader;
+mod selectors;
+
+pub use reader::{TextFault, read_hours};

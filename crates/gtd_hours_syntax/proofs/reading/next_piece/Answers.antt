@@ -6,6 +6,7 @@ use Rattle.gtd_hours_syntax.specs.declared.reading.Reading.{Reading}
 use Rattle.gtd_hours_syntax.specs.Faults.{IsFirstFault, IsHoursText}
 use Rattle.gtd_hours_syntax.specs.Steps.{IsMove, IsReading, advanced, moves_left}
 use Rattle.gtd_hours_syntax.proofs.ReadLemmas.{fewer, gives_piece, inside, keeps_more, stands_by}
+use Rattle.gtd_hours_syntax.proofs.SoundLemmas.{sound_piece}
 use Rattle.gtd_hours_syntax.proofs.EndLemmas.{ends_all, ends_fault}
 use Rattle.gtd_hours_syntax.proofs.reading.next_piece.Goals as goal
 
@@ -73,3 +74,9 @@ loop-step-preserved c =
     let none : c.in-Some.step.piece ≡ None = search rules in
     rw (c.advanced-now.ensures) (keeps_more c.args.text.now c.args.reading c.loop-step.now c.token_behind-next.result
     c.in-Some.step c.loop-step.invariant stands none)
+
+pub returns-in-Some-piece-clause-sound : goal.returns-in-Some-piece-clause-sound
+returns-in-Some-piece-clause-sound c =
+    let is = c.loop-step.invariant.same c.loop-step.invariant.some.0 c.loop-step.invariant.some.1 in
+    sound_piece c.loop-step.now.at c.kind_of.result c.in-Some.step c.in-Some-piece.piece is.stands
+    c.in-Some.ensures.computed c.in-Some-piece.is

@@ -1,0 +1,108 @@
+-- Drafts of rules.
+use Rattle.std.proofs.Common.{◌≡◌, Bool, true, false, cond, List, [], ◌∷◌, ◌++◌, length, refl, sym, ap, subst, ◌∙◌, append_assoc}
+use Rattle.std.specs.Prelude.{◌==◌}
+use Rattle.std.specs.List.{filter}
+use Rattle.std.proofs.lemmas.List.{append-nil}
+use Rattle.std.proofs.lemmas.List.Elements.{filter-append}
+use Rattle.gtd_osm.specs.declared.hours.Kind.{Kind}
+use Rattle.gtd_osm.specs.declared.hours.Link.{Link}
+use Rattle.gtd_osm.specs.declared.hours.Rule.{Rule}
+use Rattle.gtd_osm.specs.declared.hours.Selector.{Selector}
+use Rattle.gtd_osm.specs.declared.hours.TimeRange.{TimeRange}
+use Rattle.gtd_hours_parts.specs.declared.clock.ClockTime.{ClockTime}
+use Rattle.gtd_hours_syntax.specs.declared.piece.Piece.{Piece}
+use Rattle.gtd_hours_syntax.specs.declared.piece.Piece.TheVariants as piece
+use Rattle.gtd_hours_text.specs.declared.draft.Draft.{Draft}
+use Rattle.gtd_hours_text.specs.Adding.{AddsSelectors, AddsTimes}
+use Rattle.gtd_hours_text.specs.Drafts.{IsDraft}
+use Rattle.gtd_hours_text.specs.Standing.{AllSelectors, AllTimes, AreSelectors, IsRule, begins_rule, is_closed, is_one_rule}
+use Rattle.gtd_hours_text.specs.Standing.{kind_if, modifier_of, names_month_days, names_times, names_weekdays, names_weeks}
+use Rattle.gtd_hours_text.specs.Standing.{names_years, selectors}
+
+pub no_times : (xs : List TimeRange) → xs ≡ [] → AllTimes [] xs
+no_times [] e = record {}
+no_times (x ∷ xs) e = absurd cc
+
+-- ---- the rule of a draft
+
+pub ruled : (p : List Piece) (draft : Draft) (rule : Rule) → IsDraft p draft → rule.link ≡ draft.link
+    → selectors rule.kinds.items
+      ≡ kind_if draft.years.items ++ kind_if draft.month_days.items ++ kind_if draft.weeks.items ++ kind_if draft.weekdays.items
+    → rule.times ≡ draft.times → rule.modifier ≡ modifier_of draft.closed → IsRule draft.link p rule
+ruled p draft rule is l kinds times modifier = record {
+  years = draft.years.items;
+  month_days = draft.month_days.items;
+  weeks = draft.weeks.items;
+  weekdays = draft.weekdays.items;
+  are_years = is.years;
+  are_month_days = is.month_days;
+  are_weeks = is.weeks;
+  are_weekdays = is.weekdays;
+  kinds = kinds;
+  times = subst (λ t. AllTimes (filter names_times p) t.items) (sym times) is.times;
+  modifier = modifier ∙ ap modifier_of is.closed;
+  link = l;
+}
+
+-- ---- one piece more
+
+pub selectors_more : (p : List Piece) (y : Piece) (xs ys : List Selector) → AllSelectors p xs → AreSelectors y ys
+    → AllSelectors (p ++ y ∷ []) (xs ++ ys)
+selectors_more p y xs ys (AllSelectors.none q zs e f) are =
+    AllSelectors.more y (p ++ y ∷ []) [] ys [] (xs ++ ys) (ap (λ (l : List Piece). l ++ y ∷ []) e)
+    (ap (λ (l : List Selector). l ++ ys) f ∙ sym (append-nil ys)) are (AllSelectors.none [] [] refl refl)
+selectors_more p y xs ys (AllSelectors.more x o q a b c e f is all) are =
+    AllSelectors.more x (p ++ y ∷ []) (q ++ y ∷ []) a (b ++ ys) (xs ++ ys) (ap (λ (l : List Piece). l ++ y ∷ []) e)
+    (ap (λ (l : List Selector). l ++ ys) f ∙ append_assoc a b ys) is (selectors_more q y b ys all are)
+
+pub times_more : (p : List Piece) (b l : ClockTime) (xs : List TimeRange) (x : TimeRange) → AllTimes p xs
+    → AllTimes (piece.Times b l ∷ []) (x ∷ []) → AllTimes (p ++ piece.Times b l ∷ []) (xs ++ x ∷ [])
+times_more [] b l [] x h k = k
+times_more (piece.Times d e ∷ p) b l (y ∷ xs) x h k = (h.0, h.1, times_more p b l xs x h.2 k)
+times_more p b l xs x h k = absurd h
+
+-- a piece is kept, or it is not
+kept_if : (b : Bool) (x : Piece) → b ≡ true → cond b (x ∷ []) [] ≡ x ∷ []
+kept_if true x e = refl
+kept_if false x e = absurd cc
+
+left_if : (b : Bool) (x : Piece) → b ≡ false → cond b (x ∷ []) [] ≡ []
+left_if false x e = refl
+left_if true x e = absurd cc
+
+pub kept : (is : Piece → Bool) (p : List Piece) (x : Piece) → is x ≡ true → filter is (p ++ x ∷ []) ≡ filter is p ++ x ∷ []
+kept is p x e = filter-append is p (x ∷ []) ∙ ap (λ (l : List Piece). filter is p ++ l) (kept_if (is x) x e)
+
+pub left : (is : Piece → Bool) (p : List Piece) (x : Piece) → is x ≡ false → filter is (p ++ x ∷ []) ≡ filter is p
+left is p x e =
+    filter-append is p (x ∷ []) ∙ ap (λ (l : List Piece). filter is p ++ l) (left_if (is x) x e) ∙ append-nil (filter is p)
+
+-- ---- kinds
+
+selectors_append : (a b : List Kind) → selectors (a ++ b) ≡ selectors a ++ selectors b
+selectors_append [] b = refl
+selectors_append (k ∷ a) b = ap (λ (l : List (List Selector)). k.selectors.items ∷ l) (selectors_append a b)
+
+one_kind : (xs : List Selector) → (xs ≡ [] → ⊥) → kind_if xs ≡ xs ∷ []
+one_kind [] no_one = absurd (no_one refl)
+one_kind (x ∷ xs) no_one = refl
+
+pub kind_more : (list kinds : List Kind) (kind : Kind) → kinds ≡ list ++ kind ∷ [] → (kind.selectors.items ≡ [] → ⊥)
+    → selectors kinds ≡ selectors list ++ kind_if kind.selectors.items
+kind_more list kinds kind e some =
+    ap selectors e ∙ selectors_append list (kind ∷ [])
+    ∙ ap (λ (l : List (List Selector)). selectors list ++ l) (sym (one_kind kind.selectors.items some))
+
+pub not_empty : (xs : List Selector) → (length xs == 0) ≡ false → xs ≡ [] → ⊥
+not_empty [] some e = absurd cc
+not_empty (x ∷ xs) some e = absurd cc
+
+-- four kinds, one after another
+pub four_kinds : (none y m w all : List Kind) (a b d e : List (List Selector)) → none ≡ []
+    → selectors y ≡ selectors none ++ a → selectors m ≡ selectors y ++ b → selectors w ≡ selectors m ++ d
+    → selectors all ≡ selectors w ++ e → selectors all ≡ a ++ b ++ d ++ e
+four_kinds none y m w all a b d e empty is_y is_m is_w is_all =
+    is_all ∙ ap (λ (l : List (List Selector)). l ++ e)
+    (is_w ∙ ap (λ (l : List (List Selector)). l ++ d)
+    (is_m ∙ ap (λ (l : List (List Selector)). l ++ b)
+    (is_y ∙ ap (λ (l : List Kind). selectors l ++ a) empty)))

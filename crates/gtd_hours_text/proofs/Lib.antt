@@ -1,0 +1,3 @@
+pub mod DraftLemmas
+pub mod AddingLemmas
+pub mod BuildingLemmas
