@@ -1,3 +1,4 @@
 pub mod DraftLemmas
 pub mod AddingLemmas
 pub mod BuildingLemmas
+pub mod PlaceLemmas

@@ -1,11 +1,11 @@
 -- What a list has after the selectors or the times of a piece are added.
-use Rattle.std.specs.Prelude.{◌≡◌, Bool, ◌||◌, List, [], ◌∷◌, ◌++◌}
+use Rattle.std.specs.Prelude.{◌≡◌, ℕ, ◌≤◌, Bool, ◌||◌, List, [], ◌∷◌, ◌++◌}
 use Rattle.gtd_osm.specs.declared.hours.Selector.{Selector}
 use Rattle.gtd_osm.specs.declared.hours.TimeRange.{TimeRange}
 use Rattle.gtd_hours_parts.specs.declared.clock.ClockTime.{ClockTime}
 use Rattle.gtd_hours_parts.specs.Times.{minute_of}
 use Rattle.gtd_hours_syntax.specs.declared.piece.Piece.{Piece}
-use Rattle.gtd_hours_text.specs.Standing.{AreSelectors, names_month_days, names_weekdays, names_weeks, names_years}
+use Rattle.gtd_hours_text.specs.Standing.{ArePlaces, AreSelectors, IsPlace, names_month_days, names_weekdays, names_weeks, names_years}
 
 -- the piece is selectors
 abbrev pub names_selectors : Piece → Bool
@@ -23,3 +23,22 @@ pub record AddsTimes (before : List TimeRange) (begin last : ClockTime) (after :
   pub all : after ≡ before ++ x ∷ []
   pub begins : x.begin ≡ minute_of begin
   pub ends : x.last ≡ minute_of last
+
+-- the weekday at a place is added
+pub record AddsPlace (before : List Selector) (weekday number : ℕ) (after : List Selector) : Type 0 where
+  pub x : Selector
+  pub all : after ≡ before ++ x ∷ []
+  pub is : IsPlace weekday number x
+
+-- the weekday at each place from one to another is added
+pub record AddsPlaces (before : List Selector) (weekday first last : ℕ) (after : List Selector) : Type 0 where
+  pub xs : List Selector
+  pub all : after ≡ before ++ xs
+  pub are : ArePlaces weekday first last xs
+
+-- it is added up to but not including a place
+pub record AddsUpTo (before : List Selector) (weekday first number last : ℕ) (after : List Selector) : Type 0 where
+  pub xs : List Selector
+  pub all : after ≡ before ++ xs
+  pub inside : first ≤ number
+  pub are : (ys : List Selector) → ArePlaces weekday number last ys → ArePlaces weekday first last (xs ++ ys)

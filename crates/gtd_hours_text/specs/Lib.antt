@@ -1,5 +1,6 @@
 pub mod Standing
 pub mod Adding
+pub mod Dates
 pub mod Drafts
 pub mod Reading
 pub use Rattle.gtd_hours_syntax.specs.Faults

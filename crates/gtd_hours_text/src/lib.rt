@@ -5,7 +5,9 @@
 
 mod adding;
 mod building;
+mod dates;
 mod draft;
+mod places;
 mod reader;
 mod selectors;
 

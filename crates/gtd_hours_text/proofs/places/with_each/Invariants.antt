@@ -1,0 +1,9 @@
+use Rattle.std.proofs.Common.{ℕ, ◌-◌, ◌+◌}
+use Rattle.gtd_hours_text.specs.Adding.{AddsUpTo}
+use Rattle.gtd_hours_text.proofs.places.with_each.Given as goal
+
+abbrev pub invariant-loop-number : goal.invariant-loop-number
+invariant-loop-number l = AddsUpTo l.fn.list.items l.fn.weekday l.fn.first l.number l.fn.last l.selectors.items
+
+abbrev pub decreases-loop-number : goal.decreases-loop-number
+decreases-loop-number l = l.fn.last + 1 - l.number
