@@ -14,7 +14,8 @@ use Rattle.gtd_core.specs.declared.second.Sec.{Sec}
 use Rattle.gtd_desk.specs.CommandLine.{AreFaultsWords, AreMistaken, AreNowWords, AskForText, Text, desk_app}
 use Rattle.gtd_desk.specs.CommandLine.{AreDomainWords, ArePictureWords, AreWordsWords, DomainTexts, PictureTexts, all_five}
 use Rattle.gtd_desk.specs.CommandLine.{FaultsTexts, all_three, both_given, faults_texts}
-use Rattle.gtd_desk.specs.CommandLine.{AreHoursWords, domain_words_of, hours_domain_of, picture_words_of, words_domain_of}
+use Rattle.gtd_desk.specs.CommandLine.{AreHoursWords, HoursTexts, domain_words_of, either_given, hours_words_of}
+use Rattle.gtd_desk.specs.CommandLine.{picture_words_of, words_domain_of}
 use Rattle.gtd_desk.specs.Hours.{AskForHours, HaveHoursFault}
 use Rattle.gtd_desk.specs.Pictures.{AreSubjectWords, AskForDomainPicture, AskForPicture}
 use Rattle.gtd_desk.specs.Pictures.{IsDomainFault, IsReadDomain, IsSubjectFault, IsYearWord}
@@ -29,7 +30,7 @@ use Rattle.gtd_text.specs.Reading.{IsFault, StandsFor}
 use Rattle.gtd_text.specs.facts.OneMeaning.{one_meaning}
 use Rattle.gtd_text.specs.facts.ReadingLaws.{one_fault}
 use Rattle.gtd_desk.specs.Plans.{AskFor, AskForNow, HaveMomentFault, HaveNoVehicle, HaveWordsFault, IsDomainPlan, IsFaultsPlan}
-use Rattle.gtd_desk.specs.Plans.{IsHoursPlan}
+use Rattle.gtd_desk.specs.Plans.{IsHoursPlan, IsTextPlan}
 use Rattle.gtd_desk.specs.Plans.{AskForWords, HaveWordFault, IsNowPlan, IsPicturePlan, IsRefusalOf, IsWordFault, IsWordsPlan}
 use Rattle.gtd_desk.specs.declared.plans.Plan.{Plan}
 use Rattle.gtd_desk.specs.declared.plans.Plan.TheVariants as plan
@@ -152,6 +153,14 @@ one_domain_fault texts word.Element y h k = absurd h
 one_domain_fault texts word.Direction y h k = absurd h
 one_domain_fault texts word.Vehicle y h k = absurd h
 
+abbrev text_in : HoursTexts → Text
+text_in (HoursTexts.of_hours text) = text
+text_in (HoursTexts.of_domain text) = text
+
+abbrev is_of_hours : HoursTexts → Bool
+is_of_hours (HoursTexts.of_hours text) = true
+is_of_hours (HoursTexts.of_domain text) = false
+
 module _ (words : List Text) where
   name_of_now : (f m v : Text) → AreNowWords words f m v → HaveName (codes "now") (subcommand_of desk_app words)
   name_of_now f m v a =
@@ -177,28 +186,29 @@ module _ (words : List Text) where
   name_of_words t a =
       have_name (codes "words") (λ rows. first_of (codes "DOMAIN") rows) (subcommand_of desk_app words) t a.given
 
-  name_of_hours : (t : Text) → AreHoursWords words t → HaveName (codes "hours") (subcommand_of desk_app words)
+  name_of_hours : (t : HoursTexts) → AreHoursWords words t → HaveName (codes "hours") (subcommand_of desk_app words)
   name_of_hours t a =
-      have_name (codes "hours") (λ rows. first_of (codes "of") rows) (subcommand_of desk_app words) t a.given
+      have_name (codes "hours") (λ rows. either_given (first_of (codes "TEXT") rows) (first_of (codes "of") rows))
+      (subcommand_of desk_app words) t a.given
 
-  no_hours_now : (f m v t : Text) → AreNowWords words f m v → AreHoursWords words t → ⊥
+  no_hours_now : (f m v : Text) (t : HoursTexts) → AreNowWords words f m v → AreHoursWords words t → ⊥
   no_hours_now f m v t a b =
       one_name (subcommand_of desk_app words) (codes "now") (codes "hours") (name_of_now f m v a) (name_of_hours t b) refl
 
-  no_hours_faults : (g : FaultsTexts) (t : Text) → AreFaultsWords words g → AreHoursWords words t → ⊥
+  no_hours_faults : (g : FaultsTexts) (t : HoursTexts) → AreFaultsWords words g → AreHoursWords words t → ⊥
   no_hours_faults g t a b =
       one_name (subcommand_of desk_app words) (codes "faults") (codes "hours") (name_of_faults g a) (name_of_hours t b) refl
 
-  no_hours_picture : (t : PictureTexts) (d : Text) → ArePictureWords words t → AreHoursWords words d → ⊥
+  no_hours_picture : (t : PictureTexts) (d : HoursTexts) → ArePictureWords words t → AreHoursWords words d → ⊥
   no_hours_picture t d a b =
       one_name (subcommand_of desk_app words) (codes "picture") (codes "hours") (name_of_picture t a) (name_of_hours d b) refl
 
-  no_hours_domain : (t : DomainTexts) (d : Text) → AreDomainWords words t → AreHoursWords words d → ⊥
+  no_hours_domain : (t : DomainTexts) (d : HoursTexts) → AreDomainWords words t → AreHoursWords words d → ⊥
   no_hours_domain t d a b =
       one_name (subcommand_of desk_app words) (codes "picture-domain") (codes "hours") (name_of_domain t a) (name_of_hours d b)
       refl
 
-  no_hours_words : (t d : Text) → AreWordsWords words t → AreHoursWords words d → ⊥
+  no_hours_words : (t : Text) (d : HoursTexts) → AreWordsWords words t → AreHoursWords words d → ⊥
   no_hours_words t d a b =
       one_name (subcommand_of desk_app words) (codes "words") (codes "hours") (name_of_words t a) (name_of_hours d b) refl
 
@@ -233,14 +243,14 @@ module _ (words : List Text) where
   no_word_now f m v fault a (inl h) = no_picture_now f m v h.texts a h.given
   no_word_now f m v fault a (inr (inl h)) = no_domain_now f m v h.texts a h.given
   no_word_now f m v fault a (inr (inr (inl h))) = no_words_now f m v h.text a h.given
-  no_word_now f m v fault a (inr (inr (inr h))) = no_hours_now f m v h.text a h.given
+  no_word_now f m v fault a (inr (inr (inr h))) = no_hours_now f m v _ a h.given
 
   no_word_faults : (g : FaultsTexts) (fault : WordFault) → AreFaultsWords words g
       → HaveWordFault words fault → ⊥
   no_word_faults g fault a (inl h) = no_picture_faults g h.texts a h.given
   no_word_faults g fault a (inr (inl h)) = no_domain_faults g h.texts a h.given
   no_word_faults g fault a (inr (inr (inl h))) = no_words_faults g h.text a h.given
-  no_word_faults g fault a (inr (inr (inr h))) = no_hours_faults g h.text a h.given
+  no_word_faults g fault a (inr (inr (inr h))) = no_hours_faults g _ a h.given
 
   same_words : (f m v g n w : Text) → AreNowWords words f m v → AreNowWords words g n w
       → ◌≡◌ {A = Text × Text × Text} (f, m, v) (g, n, w)
@@ -318,7 +328,9 @@ module _ (words : List Text) where
   plan_only (Ok (plan.Words d)) is file moment vehicle h =
       absurd (no_words_now file h.second h.vehicle_word is.text h.given is.given)
   plan_only (Ok (plan.HoursOf d)) is file moment vehicle h =
-      absurd (no_hours_now file h.second h.vehicle_word is.text h.given is.given)
+      absurd (no_hours_now file h.second h.vehicle_word _ h.given is.given)
+  plan_only (Ok (plan.DomainOf t)) is file moment vehicle h =
+      absurd (no_hours_now file h.second h.vehicle_word _ h.given is)
   plan_only (Ok (plan.Show text)) is file moment vehicle h =
       absurd (not_text file h.second h.vehicle_word h.given is)
   plan_only (Err (refusal.Usage why)) is file moment vehicle h =
@@ -328,6 +340,7 @@ module _ (words : List Text) where
   plan_only (Err (refusal.Word fault)) is file moment vehicle h =
       absurd (no_word_now file h.second h.vehicle_word fault h.given is)
   plan_only (Err refusal.NoHours) is file moment vehicle h = absurd is
+  plan_only (Err (refusal.NoDomain why)) is file moment vehicle h = absurd is
   plan_only (Err refusal.NoElement) is file moment vehicle h = absurd is
   plan_only (Err (refusal.Records why)) is file moment vehicle h = absurd is
   plan_only (Err refusal.Open) is file moment vehicle h = absurd is
@@ -342,13 +355,15 @@ module _ (words : List Text) where
   moment_refused fault (Ok (plan.Picture f t s)) is h = no_picture_now h.file h.moment h.vehicle is.texts h.given is.given
   moment_refused fault (Ok (plan.DomainPicture d t y)) is h = no_domain_now h.file h.moment h.vehicle is.texts h.given is.given
   moment_refused fault (Ok (plan.Words d)) is h = no_words_now h.file h.moment h.vehicle is.text h.given is.given
-  moment_refused fault (Ok (plan.HoursOf d)) is h = no_hours_now h.file h.moment h.vehicle is.text h.given is.given
+  moment_refused fault (Ok (plan.HoursOf d)) is h = no_hours_now h.file h.moment h.vehicle _ h.given is.given
+  moment_refused fault (Ok (plan.DomainOf t)) is h = no_hours_now h.file h.moment h.vehicle _ h.given is
   moment_refused fault (Ok (plan.Show text)) is h = not_text h.file h.moment h.vehicle h.given is
   moment_refused fault (Err (refusal.Usage why)) is h = absurd (not_mistaken h.file h.moment h.vehicle h.given is)
   moment_refused fault (Err (refusal.Moment other)) is h = inr (ap refusal.Moment (one_moment_fault other fault is h))
   moment_refused fault (Err refusal.Vehicle) is h = absurd (moment_first fault h is)
   moment_refused fault (Err (refusal.Word other)) is h = absurd (no_word_now h.file h.moment h.vehicle other h.given is)
   moment_refused fault (Err refusal.NoHours) is h = absurd is
+  moment_refused fault (Err (refusal.NoDomain why)) is h = absurd is
   moment_refused fault (Err refusal.NoElement) is h = absurd is
   moment_refused fault (Err (refusal.Records why)) is h = absurd is
   moment_refused fault (Err refusal.Open) is h = absurd is
@@ -363,13 +378,15 @@ module _ (words : List Text) where
   vehicle_refused (Ok (plan.Picture f t s)) is h = no_picture_now h.file h.moment h.vehicle is.texts h.given is.given
   vehicle_refused (Ok (plan.DomainPicture d t y)) is h = no_domain_now h.file h.moment h.vehicle is.texts h.given is.given
   vehicle_refused (Ok (plan.Words d)) is h = no_words_now h.file h.moment h.vehicle is.text h.given is.given
-  vehicle_refused (Ok (plan.HoursOf d)) is h = no_hours_now h.file h.moment h.vehicle is.text h.given is.given
+  vehicle_refused (Ok (plan.HoursOf d)) is h = no_hours_now h.file h.moment h.vehicle _ h.given is.given
+  vehicle_refused (Ok (plan.DomainOf t)) is h = no_hours_now h.file h.moment h.vehicle _ h.given is
   vehicle_refused (Ok (plan.Show text)) is h = not_text h.file h.moment h.vehicle h.given is
   vehicle_refused (Err (refusal.Usage why)) is h = absurd (not_mistaken h.file h.moment h.vehicle h.given is)
   vehicle_refused (Err (refusal.Moment other)) is h = absurd (moment_first other is h)
   vehicle_refused (Err refusal.Vehicle) is h = inr refl
   vehicle_refused (Err (refusal.Word other)) is h = absurd (no_word_now h.file h.moment h.vehicle other h.given is)
   vehicle_refused (Err refusal.NoHours) is h = absurd is
+  vehicle_refused (Err (refusal.NoDomain why)) is h = absurd is
   vehicle_refused (Err refusal.NoElement) is h = absurd is
   vehicle_refused (Err (refusal.Records why)) is h = absurd is
   vehicle_refused (Err refusal.Open) is h = absurd is
@@ -395,13 +412,15 @@ module _ (words : List Text) where
   plan_only_faults (Ok (plan.Picture f t s)) is file h = absurd (no_picture_faults file is.texts h is.given)
   plan_only_faults (Ok (plan.DomainPicture d t y)) is file h = absurd (no_domain_faults file is.texts h is.given)
   plan_only_faults (Ok (plan.Words d)) is file h = absurd (no_words_faults file is.text h is.given)
-  plan_only_faults (Ok (plan.HoursOf d)) is file h = absurd (no_hours_faults file is.text h is.given)
+  plan_only_faults (Ok (plan.HoursOf d)) is file h = absurd (no_hours_faults file _ h is.given)
+  plan_only_faults (Ok (plan.DomainOf t)) is file h = absurd (no_hours_faults file _ h is)
   plan_only_faults (Ok (plan.Show text)) is file h = absurd (no_fault_of file h is.0 is.1)
   plan_only_faults (Err (refusal.Usage why)) is file h = absurd (faults_not_mistaken file h is)
   plan_only_faults (Err (refusal.Moment why)) is file h = absurd (not_faults is.file is.moment is.vehicle file is.given h)
   plan_only_faults (Err refusal.Vehicle) is file h = absurd (not_faults is.file is.moment is.vehicle file is.given h)
   plan_only_faults (Err (refusal.Word fault)) is file h = absurd (no_word_faults file fault h is)
   plan_only_faults (Err refusal.NoHours) is file h = absurd is
+  plan_only_faults (Err (refusal.NoDomain why)) is file h = absurd is
   plan_only_faults (Err refusal.NoElement) is file h = absurd is
   plan_only_faults (Err (refusal.Records why)) is file h = absurd is
   plan_only_faults (Err refusal.Open) is file h = absurd is
@@ -450,13 +469,13 @@ module _ (words : List Text) where
       (subst (λ (t : PictureTexts). IsSubjectFault t why) (same_texts h.texts a.texts h.given a.given) h.has)
   picture_not_refused file s why a (inr (inl h)) = no_domain_picture a.texts h.texts a.given h.given
   picture_not_refused file s why a (inr (inr (inl h))) = no_words_picture a.texts h.text a.given h.given
-  picture_not_refused file s why a (inr (inr (inr h))) = no_hours_picture a.texts h.text a.given h.given
+  picture_not_refused file s why a (inr (inr (inr h))) = no_hours_picture a.texts _ a.given h.given
 
   domain_not_refused : (domain : Domain) (title : Text) (year : ℕ) (why : WordFault) → AskForDomainPicture words domain title year
       → HaveWordFault words why → ⊥
   domain_not_refused domain title year why a (inl h) = no_domain_picture h.texts a.texts h.given a.given
   domain_not_refused domain title year why a (inr (inr (inl h))) = no_words_domain a.texts h.text a.given h.given
-  domain_not_refused domain title year why a (inr (inr (inr h))) = no_hours_domain a.texts h.text a.given h.given
+  domain_not_refused domain title year why a (inr (inr (inr h))) = no_hours_domain a.texts _ a.given h.given
   domain_not_refused domain title year why a (inr (inl h)) =
       no_domain_fault a.texts domain year why a.read a.year_read
       (subst (λ (t : DomainTexts). IsDomainFault t why) (same_domain_texts h.texts a.texts h.given a.given) h.has)
@@ -489,7 +508,8 @@ module _ (words : List Text) where
   plan_only_picture (Ok (plan.Picture f t u)) is file s h = one_picture_plan _ file u s is h
   plan_only_picture (Ok (plan.DomainPicture d t y)) is file s h = absurd (no_domain_picture h.texts is.texts h.given is.given)
   plan_only_picture (Ok (plan.Words d)) is file s h = absurd (no_words_picture h.texts is.text h.given is.given)
-  plan_only_picture (Ok (plan.HoursOf d)) is file s h = absurd (no_hours_picture h.texts is.text h.given is.given)
+  plan_only_picture (Ok (plan.HoursOf d)) is file s h = absurd (no_hours_picture h.texts _ h.given is.given)
+  plan_only_picture (Ok (plan.DomainOf t)) is file s h = absurd (no_hours_picture h.texts _ h.given is)
   plan_only_picture (Ok (plan.Show text)) is file s h = absurd (picture_not_text h.texts h.given is)
   plan_only_picture (Err (refusal.Usage why)) is file s h = absurd (picture_not_mistaken h.texts h.given is)
   plan_only_picture (Err (refusal.Moment why)) is file s h =
@@ -498,6 +518,7 @@ module _ (words : List Text) where
       h.given)
   plan_only_picture (Err (refusal.Word why)) is file s h = absurd (picture_not_refused file s why h is)
   plan_only_picture (Err refusal.NoHours) is file s h = absurd is
+  plan_only_picture (Err (refusal.NoDomain why)) is file s h = absurd is
   plan_only_picture (Err refusal.NoElement) is file s h = absurd is
   plan_only_picture (Err (refusal.Records why)) is file s h = absurd is
   plan_only_picture (Err refusal.Open) is file s h = absurd is
@@ -512,7 +533,8 @@ module _ (words : List Text) where
   plan_only_domain (Ok (plan.Picture f u s)) is d t y h = absurd (no_domain_picture is.texts h.texts is.given h.given)
   plan_only_domain (Ok (plan.DomainPicture e u z)) is d t y h = one_domain_plan e d _ t z y is h
   plan_only_domain (Ok (plan.Words e)) is d t y h = absurd (no_words_domain h.texts is.text h.given is.given)
-  plan_only_domain (Ok (plan.HoursOf e)) is d t y h = absurd (no_hours_domain h.texts is.text h.given is.given)
+  plan_only_domain (Ok (plan.HoursOf e)) is d t y h = absurd (no_hours_domain h.texts _ h.given is.given)
+  plan_only_domain (Ok (plan.DomainOf u)) is d t y h = absurd (no_hours_domain h.texts _ h.given is)
   plan_only_domain (Ok (plan.Show text)) is d t y h = absurd (domain_not_text h.texts h.given is)
   plan_only_domain (Err (refusal.Usage why)) is d t y h = absurd (domain_not_mistaken h.texts h.given is)
   plan_only_domain (Err (refusal.Moment why)) is d t y h =
@@ -520,6 +542,7 @@ module _ (words : List Text) where
   plan_only_domain (Err refusal.Vehicle) is d t y h = absurd (no_domain_now is.file is.moment is.vehicle h.texts is.given h.given)
   plan_only_domain (Err (refusal.Word why)) is d t y h = absurd (domain_not_refused d t y why h is)
   plan_only_domain (Err refusal.NoHours) is d t y h = absurd is
+  plan_only_domain (Err (refusal.NoDomain why)) is d t y h = absurd is
   plan_only_domain (Err refusal.NoElement) is d t y h = absurd is
   plan_only_domain (Err (refusal.Records why)) is d t y h = absurd is
   plan_only_domain (Err refusal.Open) is d t y h = absurd is
@@ -537,7 +560,7 @@ module _ (words : List Text) where
       → HaveWordFault words why → ⊥
   words_not_refused domain why a (inl h) = no_words_picture h.texts a.text h.given a.given
   words_not_refused domain why a (inr (inl h)) = no_words_domain h.texts a.text h.given a.given
-  words_not_refused domain why a (inr (inr (inr h))) = no_hours_words a.text h.text a.given h.given
+  words_not_refused domain why a (inr (inr (inr h))) = no_hours_words a.text _ a.given h.given
   words_not_refused domain why a (inr (inr (inl h))) =
       a.read.faultless h.why (subst (λ (t : Text). IsFault t h.why) (same_word h.text a.text h.given a.given) h.has)
 
@@ -550,7 +573,8 @@ module _ (words : List Text) where
   plan_only_words (Ok (plan.Words e)) is d h =
       one_meaning h.text (domain_tree e) (domain_tree d)
       (subst (λ (t : Text). StandsFor t (domain_tree e)) (same_word is.text h.text is.given h.given) is.read.stands) h.read.stands
-  plan_only_words (Ok (plan.HoursOf e)) is d h = absurd (no_hours_words h.text is.text h.given is.given)
+  plan_only_words (Ok (plan.HoursOf e)) is d h = absurd (no_hours_words h.text _ h.given is.given)
+  plan_only_words (Ok (plan.DomainOf t)) is d h = absurd (no_hours_words h.text _ h.given is)
   plan_only_words (Ok (plan.Show text)) is d h = absurd (subst (λ kinds. IsAmong is.0 kinds) h.given.faultless is.1)
   plan_only_words (Err (refusal.Usage why)) is d h = absurd (words_not_mistaken h.text h.given is)
   plan_only_words (Err (refusal.Moment why)) is d h =
@@ -558,52 +582,91 @@ module _ (words : List Text) where
   plan_only_words (Err refusal.Vehicle) is d h = absurd (no_words_now is.file is.moment is.vehicle h.text is.given h.given)
   plan_only_words (Err (refusal.Word why)) is d h = absurd (words_not_refused d why h is)
   plan_only_words (Err refusal.NoHours) is d h = absurd is
+  plan_only_words (Err (refusal.NoDomain why)) is d h = absurd is
   plan_only_words (Err refusal.NoElement) is d h = absurd is
   plan_only_words (Err (refusal.Records why)) is d h = absurd is
   plan_only_words (Err refusal.Open) is d h = absurd is
   plan_only_words (Err refusal.Write) is d h = absurd is
   plan_only_words (Err refusal.Memory) is d h = refl
 
-  same_hours_word : (t u : Text) → AreHoursWords words t → AreHoursWords words u → t ≡ u
-  same_hours_word t u a b = one_read (hours_domain_of words) t u a.given b.given
+  same_hours_words : (t u : HoursTexts) → AreHoursWords words t → AreHoursWords words u → t ≡ u
+  same_hours_words t u a b = one_read (hours_words_of words) t u a.given b.given
 
-  hours_not_text : (t : Text) → AreHoursWords words t → AskForText words → ⊥
+  same_hours_word : (t u : Text) → AreHoursWords words (HoursTexts.of_domain t) → AreHoursWords words (HoursTexts.of_domain u)
+      → t ≡ u
+  same_hours_word t u a b = ap text_in (same_hours_words (HoursTexts.of_domain t) (HoursTexts.of_domain u) a b)
+
+  no_text_domain : (t u : Text) → AreHoursWords words (HoursTexts.of_hours t) → AreHoursWords words (HoursTexts.of_domain u) → ⊥
+  no_text_domain t u a b =
+      true≢false (ap is_of_hours (same_hours_words (HoursTexts.of_hours t) (HoursTexts.of_domain u) a b))
+
+  hours_not_text : (t : HoursTexts) → AreHoursWords words t → AskForText words → ⊥
   hours_not_text t a x = subst (λ kinds. IsAmong x.0 kinds) a.faultless x.1
 
-  hours_not_mistaken : (t : Text) → AreHoursWords words t → AreMistaken words → ⊥
+  hours_not_mistaken : (t : HoursTexts) → AreHoursWords words t → AreMistaken words → ⊥
   hours_not_mistaken t a (inl x) = subst (λ kinds. IsAmong x.0 kinds) a.faultless x.1
-  hours_not_mistaken t a (inr none) = none_read (hours_domain_of words) t a.given none.5
+  hours_not_mistaken t a (inr none) = none_read (hours_words_of words) t a.given none.5
 
   hours_not_refused : (domain : Domain) (why : WordFault) → AskForHours words domain → HaveWordFault words why → ⊥
-  hours_not_refused domain why a (inl h) = no_hours_picture h.texts a.text h.given a.given
-  hours_not_refused domain why a (inr (inl h)) = no_hours_domain h.texts a.text h.given a.given
-  hours_not_refused domain why a (inr (inr (inl h))) = no_hours_words h.text a.text h.given a.given
+  hours_not_refused domain why a (inl h) = no_hours_picture h.texts _ h.given a.given
+  hours_not_refused domain why a (inr (inl h)) = no_hours_domain h.texts _ h.given a.given
+  hours_not_refused domain why a (inr (inr (inl h))) = no_hours_words h.text _ h.given a.given
   hours_not_refused domain why a (inr (inr (inr h))) =
       a.read.faultless h.why (subst (λ (t : Text). IsFault t h.why) (same_hours_word h.text a.text h.given a.given) h.has)
 
   pub plan_only_hours : (result : Result Plan Refusal) → MatchResult result (AskFor words) (IsRefusalOf words)
       → (domain : Domain) → AskForHours words domain → MatchResult result (IsHoursPlan domain) (λ r. r ≡ refusal.Memory)
-  plan_only_hours (Ok (plan.Now f m v)) is d h = absurd (no_hours_now _ is.second is.vehicle_word h.text is.given h.given)
-  plan_only_hours (Ok (plan.Faults f w)) is d h = absurd (no_hours_faults _ h.text is h.given)
-  plan_only_hours (Ok (plan.Picture f t s)) is d h = absurd (no_hours_picture is.texts h.text is.given h.given)
-  plan_only_hours (Ok (plan.DomainPicture e t y)) is d h = absurd (no_hours_domain is.texts h.text is.given h.given)
-  plan_only_hours (Ok (plan.Words e)) is d h = absurd (no_hours_words is.text h.text is.given h.given)
+  plan_only_hours (Ok (plan.Now f m v)) is d h = absurd (no_hours_now _ is.second is.vehicle_word _ is.given h.given)
+  plan_only_hours (Ok (plan.Faults f w)) is d h = absurd (no_hours_faults _ _ is h.given)
+  plan_only_hours (Ok (plan.Picture f t s)) is d h = absurd (no_hours_picture is.texts _ is.given h.given)
+  plan_only_hours (Ok (plan.DomainPicture e t y)) is d h = absurd (no_hours_domain is.texts _ is.given h.given)
+  plan_only_hours (Ok (plan.Words e)) is d h = absurd (no_hours_words is.text _ is.given h.given)
   plan_only_hours (Ok (plan.HoursOf e)) is d h =
       one_meaning h.text (domain_tree e) (domain_tree d)
       (subst (λ (t : Text). StandsFor t (domain_tree e)) (same_hours_word is.text h.text is.given h.given) is.read.stands)
       h.read.stands
-  plan_only_hours (Ok (plan.Show text)) is d h = absurd (hours_not_text h.text h.given is)
-  plan_only_hours (Err (refusal.Usage why)) is d h = absurd (hours_not_mistaken h.text h.given is)
+  plan_only_hours (Ok (plan.DomainOf t)) is d h = absurd (no_text_domain _ h.text is h.given)
+  plan_only_hours (Ok (plan.Show text)) is d h = absurd (hours_not_text _ h.given is)
+  plan_only_hours (Err (refusal.Usage why)) is d h = absurd (hours_not_mistaken _ h.given is)
   plan_only_hours (Err (refusal.Moment why)) is d h =
-      absurd (no_hours_now is.file is.moment is.vehicle h.text is.given h.given)
-  plan_only_hours (Err refusal.Vehicle) is d h = absurd (no_hours_now is.file is.moment is.vehicle h.text is.given h.given)
+      absurd (no_hours_now is.file is.moment is.vehicle _ is.given h.given)
+  plan_only_hours (Err refusal.Vehicle) is d h = absurd (no_hours_now is.file is.moment is.vehicle _ is.given h.given)
   plan_only_hours (Err (refusal.Word why)) is d h = absurd (hours_not_refused d why h is)
   plan_only_hours (Err refusal.NoHours) is d h = absurd is
+  plan_only_hours (Err (refusal.NoDomain why)) is d h = absurd is
   plan_only_hours (Err refusal.NoElement) is d h = absurd is
   plan_only_hours (Err (refusal.Records why)) is d h = absurd is
   plan_only_hours (Err refusal.Open) is d h = absurd is
   plan_only_hours (Err refusal.Write) is d h = absurd is
   plan_only_hours (Err refusal.Memory) is d h = refl
+
+  text_not_refused : (t : Text) (why : WordFault) → AreHoursWords words (HoursTexts.of_hours t) → HaveWordFault words why → ⊥
+  text_not_refused t why a (inl h) = no_hours_picture h.texts _ h.given a
+  text_not_refused t why a (inr (inl h)) = no_hours_domain h.texts _ h.given a
+  text_not_refused t why a (inr (inr (inl h))) = no_hours_words h.text _ h.given a
+  text_not_refused t why a (inr (inr (inr h))) = no_text_domain t h.text a h.given
+
+  pub plan_only_text : (result : Result Plan Refusal) → MatchResult result (AskFor words) (IsRefusalOf words)
+      → (t : Text) → AreHoursWords words (HoursTexts.of_hours t) → MatchResult result (IsTextPlan t) (λ r. r ≡ refusal.Memory)
+  plan_only_text (Ok (plan.Now f m v)) is t h = absurd (no_hours_now _ is.second is.vehicle_word _ is.given h)
+  plan_only_text (Ok (plan.Faults f w)) is t h = absurd (no_hours_faults _ _ is h)
+  plan_only_text (Ok (plan.Picture f u s)) is t h = absurd (no_hours_picture is.texts _ is.given h)
+  plan_only_text (Ok (plan.DomainPicture e u y)) is t h = absurd (no_hours_domain is.texts _ is.given h)
+  plan_only_text (Ok (plan.Words e)) is t h = absurd (no_hours_words is.text _ is.given h)
+  plan_only_text (Ok (plan.HoursOf e)) is t h = absurd (no_text_domain t is.text h is.given)
+  plan_only_text (Ok (plan.DomainOf u)) is t h = ap text_in (same_hours_words _ (HoursTexts.of_hours t) is h)
+  plan_only_text (Ok (plan.Show text)) is t h = absurd (hours_not_text _ h is)
+  plan_only_text (Err (refusal.Usage why)) is t h = absurd (hours_not_mistaken _ h is)
+  plan_only_text (Err (refusal.Moment why)) is t h = absurd (no_hours_now is.file is.moment is.vehicle _ is.given h)
+  plan_only_text (Err refusal.Vehicle) is t h = absurd (no_hours_now is.file is.moment is.vehicle _ is.given h)
+  plan_only_text (Err (refusal.Word why)) is t h = absurd (text_not_refused t why h is)
+  plan_only_text (Err refusal.NoHours) is t h = absurd is
+  plan_only_text (Err (refusal.NoDomain why)) is t h = absurd is
+  plan_only_text (Err refusal.NoElement) is t h = absurd is
+  plan_only_text (Err (refusal.Records why)) is t h = absurd is
+  plan_only_text (Err refusal.Open) is t h = absurd is
+  plan_only_text (Err refusal.Write) is t h = absurd is
+  plan_only_text (Err refusal.Memory) is t h = refl
 
   one_words_fault : (x y : WordFault) → HaveWordsFault words x → HaveWordsFault words y → x ≡ y
   one_words_fault x y a b =
@@ -621,32 +684,32 @@ module _ (words : List Text) where
       (subst (λ (t : PictureTexts). IsSubjectFault t x) (same_texts a.texts b.texts a.given b.given) a.has) b.has
   one_word_fault x y (inl a) (inr (inl b)) = absurd (no_domain_picture a.texts b.texts a.given b.given)
   one_word_fault x y (inl a) (inr (inr (inl b))) = absurd (no_words_picture a.texts b.text a.given b.given)
-  one_word_fault x y (inl a) (inr (inr (inr b))) = absurd (no_hours_picture a.texts b.text a.given b.given)
+  one_word_fault x y (inl a) (inr (inr (inr b))) = absurd (no_hours_picture a.texts _ a.given b.given)
   one_word_fault x y (inr (inl a)) (inl b) = absurd (no_domain_picture b.texts a.texts b.given a.given)
   one_word_fault x y (inr (inl a)) (inr (inl b)) =
       one_domain_fault b.texts x y
       (subst (λ (t : DomainTexts). IsDomainFault t x) (same_domain_texts a.texts b.texts a.given b.given) a.has) b.has
   one_word_fault x y (inr (inl a)) (inr (inr (inl b))) = absurd (no_words_domain a.texts b.text a.given b.given)
-  one_word_fault x y (inr (inl a)) (inr (inr (inr b))) = absurd (no_hours_domain a.texts b.text a.given b.given)
+  one_word_fault x y (inr (inl a)) (inr (inr (inr b))) = absurd (no_hours_domain a.texts _ a.given b.given)
   one_word_fault x y (inr (inr (inl a))) (inl b) = absurd (no_words_picture b.texts a.text b.given a.given)
   one_word_fault x y (inr (inr (inl a))) (inr (inl b)) = absurd (no_words_domain b.texts a.text b.given a.given)
   one_word_fault x y (inr (inr (inl a))) (inr (inr (inl b))) = one_words_fault x y a b
-  one_word_fault x y (inr (inr (inl a))) (inr (inr (inr b))) = absurd (no_hours_words a.text b.text a.given b.given)
-  one_word_fault x y (inr (inr (inr a))) (inl b) = absurd (no_hours_picture b.texts a.text b.given a.given)
-  one_word_fault x y (inr (inr (inr a))) (inr (inl b)) = absurd (no_hours_domain b.texts a.text b.given a.given)
-  one_word_fault x y (inr (inr (inr a))) (inr (inr (inl b))) = absurd (no_hours_words b.text a.text b.given a.given)
+  one_word_fault x y (inr (inr (inl a))) (inr (inr (inr b))) = absurd (no_hours_words a.text _ a.given b.given)
+  one_word_fault x y (inr (inr (inr a))) (inl b) = absurd (no_hours_picture b.texts _ b.given a.given)
+  one_word_fault x y (inr (inr (inr a))) (inr (inl b)) = absurd (no_hours_domain b.texts _ b.given a.given)
+  one_word_fault x y (inr (inr (inr a))) (inr (inr (inl b))) = absurd (no_hours_words b.text _ b.given a.given)
   one_word_fault x y (inr (inr (inr a))) (inr (inr (inr b))) = one_hours_fault x y a b
 
   word_not_mistaken : (fault : WordFault) → HaveWordFault words fault → AreMistaken words → ⊥
   word_not_mistaken fault (inl h) m = picture_not_mistaken h.texts h.given m
   word_not_mistaken fault (inr (inl h)) m = domain_not_mistaken h.texts h.given m
   word_not_mistaken fault (inr (inr (inl h))) m = words_not_mistaken h.text h.given m
-  word_not_mistaken fault (inr (inr (inr h))) m = hours_not_mistaken h.text h.given m
+  word_not_mistaken fault (inr (inr (inr h))) m = hours_not_mistaken _ h.given m
 
   word_not_text : (fault : WordFault) → HaveWordFault words fault → AskForText words → ⊥
   word_not_text fault (inl h) x = picture_not_text h.texts h.given x
   word_not_text fault (inr (inl h)) x = domain_not_text h.texts h.given x
-  word_not_text fault (inr (inr (inr h))) x = hours_not_text h.text h.given x
+  word_not_text fault (inr (inr (inr h))) x = hours_not_text _ h.given x
   word_not_text fault (inr (inr (inl h))) x = subst (λ kinds. IsAmong x.0 kinds) h.given.faultless x.1
 
   word_refused : (fault : WordFault) (result : Result Plan Refusal) → MatchResult result (AskFor words) (IsRefusalOf words)
@@ -658,12 +721,14 @@ module _ (words : List Text) where
   word_refused fault (Ok (plan.DomainPicture d t y)) is h = domain_not_refused d _ y fault is h
   word_refused fault (Ok (plan.Words d)) is h = words_not_refused d fault is h
   word_refused fault (Ok (plan.HoursOf d)) is h = hours_not_refused d fault is h
+  word_refused fault (Ok (plan.DomainOf t)) is h = text_not_refused _ fault is h
   word_refused fault (Ok (plan.Show text)) is h = word_not_text fault h is
   word_refused fault (Err (refusal.Usage why)) is h = absurd (word_not_mistaken fault h is)
   word_refused fault (Err (refusal.Moment why)) is h = absurd (no_word_now is.file is.moment is.vehicle fault is.given h)
   word_refused fault (Err refusal.Vehicle) is h = absurd (no_word_now is.file is.moment is.vehicle fault is.given h)
   word_refused fault (Err (refusal.Word other)) is h = inr (ap refusal.Word (one_word_fault other fault is h))
   word_refused fault (Err refusal.NoHours) is h = absurd is
+  word_refused fault (Err (refusal.NoDomain why)) is h = absurd is
   word_refused fault (Err refusal.NoElement) is h = absurd is
   word_refused fault (Err (refusal.Records why)) is h = absurd is
   word_refused fault (Err refusal.Open) is h = absurd is
@@ -678,6 +743,7 @@ module _ (words : List Text) where
   plan_first result is (refusal.Word fault) h = word_refused fault result is h
   plan_first result is (refusal.Usage why) h = absurd h
   plan_first result is refusal.NoHours h = absurd h
+  plan_first result is (refusal.NoDomain why) h = absurd h
   plan_first result is refusal.NoElement h = absurd h
   plan_first result is (refusal.Records why) h = absurd h
   plan_first result is refusal.Open h = absurd h

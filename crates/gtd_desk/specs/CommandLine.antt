@@ -26,9 +26,13 @@ word_rule name = record (new_rule name) { action = Some Set; required = true }
 abbrev pub flag_rule : Text → Rule
 flag_rule name = record (new_rule name) { long = Some name; action = Some SetTrue }
 
--- An option with a value, of this long name. It must be given, and help shows one name for its value.
+-- A word of a command that may be left out.
+abbrev pub free_word_rule : Text → Rule
+free_word_rule name = record (new_rule name) { action = Some Set }
+
+-- An option with a value, of this long name, that may be left out. Help shows one name for its value.
 abbrev pub option_rule : Text → Rule
-option_rule name = record (new_rule name) { long = Some name; value_names = 1; action = Some Set; required = true }
+option_rule name = record (new_rule name) { long = Some name; value_names = 1; action = Some Set }
 
 -- The command has no argument that its subcommands share.
 abbrev pub IsLocal : Command → Type 0
@@ -78,13 +82,13 @@ bare_words = new_app (codes "words")
 abbrev pub words_app : App
 words_app = with_rule bare_words (word_rule (codes "DOMAIN"))
 
--- The command `hours` without its option.
+-- The command `hours` without its word and its option.
 abbrev pub bare_hours : App
 bare_hours = new_app (codes "hours")
 
--- The command `hours --of DOMAIN`.
+-- The command `hours [TEXT] [--of DOMAIN]`, of which one is to be given.
 abbrev pub hours_app : App
-hours_app = with_rule bare_hours (option_rule (codes "of"))
+hours_app = with_rule (with_rule bare_hours (free_word_rule (codes "TEXT"))) (option_rule (codes "of"))
 
 -- The program without its commands: one must be given, and there is a version to show.
 abbrev pub none_given : App
@@ -150,13 +154,27 @@ words_given found = if bytes_eq found.0 (codes "words") then first_of (codes "DO
 abbrev pub words_domain_of : List Text → Option Text
 words_domain_of words = option_and_then words_given (subcommand_of desk_app words)
 
--- The domain of the command `hours --of`, from a command's name and what was found for it.
-abbrev pub hours_given : Text × List Row → Option Text
-hours_given found = if bytes_eq found.0 (codes "hours") then first_of (codes "of") found.1 else None
+-- What is given to the command `hours`: a text of opening hours or, by `--of`, one of a domain.
+pub data HoursTexts : Type 0 where
+  of_hours : Text → HoursTexts
+  of_domain : Text → HoursTexts
 
--- The domain of the command `hours --of` among these words.
-abbrev pub hours_domain_of : List Text → Option Text
-hours_domain_of words = option_and_then hours_given (subcommand_of desk_app words)
+-- One of two, if the other is not given.
+abbrev pub either_given : Option Text → Option Text → Option HoursTexts
+either_given (Some hours) None = Some (HoursTexts.of_hours hours)
+either_given None (Some domain) = Some (HoursTexts.of_domain domain)
+either_given hours domain = None
+
+-- What is given to the command `hours`, from a command's name and what was found for it.
+abbrev pub hours_given : Text × List Row → Option HoursTexts
+hours_given found =
+    if bytes_eq found.0 (codes "hours")
+    then either_given (first_of (codes "TEXT") found.1) (first_of (codes "of") found.1)
+    else None
+
+-- What is given to the command `hours` among these words.
+abbrev pub hours_words_of : List Text → Option HoursTexts
+hours_words_of words = option_and_then hours_given (subcommand_of desk_app words)
 
 -- The words of the command `picture`.
 pub record PictureTexts : Type 0 where
@@ -220,10 +238,10 @@ pub record AreWordsWords (words : List Text) (text : Text) : Type 0 where
   pub faultless : fault_of desk_app words ≡ []
   pub given : words_domain_of words ≡ Some text
 
--- The words give the command `hours --of` with this domain.
-pub record AreHoursWords (words : List Text) (text : Text) : Type 0 where
+-- The words give the command `hours` with this text, of opening hours or of a domain.
+pub record AreHoursWords (words : List Text) (texts : HoursTexts) : Type 0 where
   pub faultless : fault_of desk_app words ≡ []
-  pub given : hours_domain_of words ≡ Some text
+  pub given : hours_words_of words ≡ Some texts
 
 -- The words give the command `faults` with these words.
 pub record AreFaultsWords (words : List Text) (texts : FaultsTexts) : Type 0 where
@@ -260,4 +278,4 @@ abbrev pub AreMistaken : List Text → Type 0
 AreMistaken words =
     ((kind : ErrorKind) × IsAmong kind (fault_of desk_app words) × (is_request kind ≡ false))
     ⊎ ((now_words_of words ≡ None) × (faults_words_of words ≡ None) × (picture_words_of words ≡ None)
-    × (domain_words_of words ≡ None) × (words_domain_of words ≡ None) × (hours_domain_of words ≡ None))
+    × (domain_words_of words ≡ None) × (words_domain_of words ≡ None) × (hours_words_of words ≡ None))

@@ -1,7 +1,9 @@
 -- The words of a command, as they were read.
-use Rattle.gtd_desk.specs.CommandLine.{DomainTexts, FaultsTexts, PictureTexts, Text}
+use Rattle.gtd_desk.specs.CommandLine.{DomainTexts, FaultsTexts, HoursTexts, PictureTexts, Text}
 use Rattle.gtd_desk.specs.declared.arguments.DomainWords.{DomainWords}
 use Rattle.gtd_desk.specs.declared.arguments.FaultsWords.{FaultsWords}
+use Rattle.gtd_desk.specs.declared.arguments.HoursWords.{HoursWords}
+use Rattle.gtd_desk.specs.declared.arguments.HoursWords.TheVariants as given
 use Rattle.gtd_desk.specs.declared.arguments.NowWords.{NowWords}
 use Rattle.gtd_desk.specs.declared.arguments.PictureWords.{PictureWords}
 
@@ -23,3 +25,7 @@ picture_texts words = record {
 
 abbrev pub domain_texts : DomainWords → DomainTexts
 domain_texts words = record { domain = words.domain.now; year = words.year.now }
+
+abbrev pub hours_texts : HoursWords → HoursTexts
+hours_texts (given.Hours text) = HoursTexts.of_hours text.now
+hours_texts (given.Domain text) = HoursTexts.of_domain text.now

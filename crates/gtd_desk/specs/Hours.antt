@@ -1,14 +1,22 @@
--- What the words of `hours --of` stand for, and which lines are hours of a domain.
-use Rattle.std.specs.Prelude.{◌≡◌, ◌↔◌, ◌++◌, ℕ, ℤ, List, codes}
+-- What the words of `hours` stand for, which lines are hours of a domain, and which lines are the domain of hours.
+use Rattle.std.specs.Prelude.{◌≡◌, ◌↔◌, ◌++◌, ◌<◌, ℕ, ℤ, List, codes}
+use Rattle.gtd_core.specs.Limits.{most_basic_domains}
+use Rattle.gtd_core.specs.Parts.{domain_tree}
 use Rattle.gtd_core.specs.declared.domain.Domain.{Domain}
 use Rattle.gtd_core.specs.declared.fault.TextFault.{TextFault}
 use Rattle.gtd_hours_of.specs.Membership.{InDomain}
+use Rattle.gtd_hours_syntax.specs.Faults.{IsFirstFault}
+use Rattle.gtd_hours_text.specs.Standing.{StandsFor}
+use Rattle.gtd_osm.specs.Cost.{hours_cost}
 use Rattle.gtd_osm.specs.Opening.{IsOpen}
 use Rattle.gtd_osm.specs.Written.{hours_text}
 use Rattle.gtd_osm.specs.declared.hours.Hours.{Hours}
+use Rattle.gtd_text.specs.Canonical.{canonical}
 use Rattle.gtd_text.specs.Reading.{IsFault}
-use Rattle.gtd_desk.specs.CommandLine.{AreHoursWords, Text}
+use Rattle.gtd_desk.specs.CommandLine.{AreHoursWords, HoursTexts, Text}
 use Rattle.gtd_desk.specs.Pictures.{IsReadDomain}
+use Rattle.gtd_desk.specs.declared.refusal.NoDomain.{NoDomain}
+use Rattle.gtd_desk.specs.declared.refusal.NoDomain.TheVariants as none
 use Rattle.gtd_desk.specs.declared.refusal.WordFault.{WordFault}
 use Rattle.gtd_desk.specs.declared.refusal.WordFault.TheVariants as word
 
@@ -18,16 +26,30 @@ pub record IsHoursLine (domain : Domain) (line : List ℕ) : Type 0 where
   pub written : line ≡ hours_text hours ++ codes "\n"
   pub same : (s : ℤ) → IsOpen hours s ↔ InDomain domain s
 
+-- The line is the canonical text of some domain, with a line end, and this has exactly the seconds at which the hours are open
+-- that the text stands for.
+pub record IsDomainLine (text : Text) (line : List ℕ) : Type 0 where
+  pub hours : Hours
+  pub domain : Domain
+  pub stands : StandsFor text hours
+  pub same : (s : ℤ) → InDomain domain s ↔ IsOpen hours s
+  pub written : line ≡ canonical (domain_tree domain) ++ codes "\n"
+
+-- Why a text has no domain: its first fault; or it stands for hours whose domain has too many basic domains.
+abbrev pub IsNoDomainOf : Text → NoDomain → Type 0
+IsNoDomainOf text (none.Fault why) = IsFirstFault text why
+IsNoDomainOf text none.TooMany = (hours : Hours) × StandsFor text hours × (most_basic_domains < hours_cost hours)
+
 -- The words ask for opening hours of a domain.
 pub record AskForHours (words : List Text) (domain : Domain) : Type 0 where
   pub text : Text
-  pub given : AreHoursWords words text
+  pub given : AreHoursWords words (HoursTexts.of_domain text)
   pub read : IsReadDomain text domain
 
--- The words give the command `hours`, and its word has this fault.
+-- The words give the command `hours --of`, and its word has this fault.
 pub record HaveHoursFault (words : List Text) (fault : WordFault) : Type 0 where
   pub text : Text
-  pub given : AreHoursWords words text
+  pub given : AreHoursWords words (HoursTexts.of_domain text)
   pub why : TextFault
   pub is : fault ≡ word.Domain why
   pub has : IsFault text why

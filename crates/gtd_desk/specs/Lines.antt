@@ -5,6 +5,10 @@ use Rattle.gtd_calendar.specs.declared.stamp.StampFault.TheVariants as moment
 use Rattle.gtd_core.specs.Names.{fault_name}
 use Rattle.gtd_faults.specs.Listing.{fault_text}
 use Rattle.gtd_faults.specs.Printable.{printable}
+use Rattle.gtd_hours_syntax.specs.declared.fault.FaultKind.{FaultKind}
+use Rattle.gtd_hours_syntax.specs.declared.fault.FaultKind.TheVariants as kind
+use Rattle.gtd_desk.specs.declared.refusal.NoDomain.{NoDomain}
+use Rattle.gtd_desk.specs.declared.refusal.NoDomain.TheVariants as none
 use Rattle.gtd_desk.specs.declared.refusal.Refusal.{Refusal}
 use Rattle.gtd_desk.specs.declared.refusal.Refusal.TheVariants as refusal
 use Rattle.gtd_desk.specs.declared.refusal.WordFault.{WordFault}
@@ -24,6 +28,19 @@ word_text word.Vehicle = codes "VEHICLE: not a number from 1 to 99"
 word_text word.Year = codes "YEAR: not a number from 1901 to 2199"
 word_text (word.Domain why) = codes "DOMAIN: " ++ fault_name why.kind ++ codes " at " ++ decimal why.place
 
+-- what is wrong with a text of opening hours
+abbrev pub kind_name : FaultKind → List ℕ
+kind_name kind.BadToken = codes "BadToken"
+kind_name kind.Unsupported = codes "Unsupported"
+kind_name kind.Range = codes "Range"
+kind_name kind.Unexpected = codes "Unexpected"
+kind_name kind.Incomplete = codes "Incomplete"
+
+-- why it has no domain: its first fault and the place, or that the domain is too large
+abbrev pub no_domain_text : NoDomain → List ℕ
+no_domain_text (none.Fault why) = codes "TEXT: " ++ kind_name why.kind ++ codes " at " ++ decimal why.place
+no_domain_text none.TooMany = codes "TEXT: TooMany at 0"
+
 -- why no hours are printed: the domain is not of the form that hours are sought for
 abbrev pub no_hours : List ℕ
 no_hours = codes "DOMAIN: no opening hours: not of the form of days from midnight and ranges of times in minutes"
@@ -36,6 +53,7 @@ refusal_line file (refusal.Moment why) = codes "gtdesk: MOMENT: " ++ moment_reas
 refusal_line file refusal.Vehicle = codes "gtdesk: VEHICLE: not a number from 1 to 99"
 refusal_line file (refusal.Word why) = codes "gtdesk: " ++ word_text why
 refusal_line file refusal.NoHours = codes "gtdesk: " ++ no_hours
+refusal_line file (refusal.NoDomain why) = codes "gtdesk: " ++ no_domain_text why
 refusal_line file refusal.NoElement = codes "gtdesk: " ++ printable file ++ codes ": no row names the element"
 refusal_line file (refusal.Records why) = codes "gtdesk: " ++ printable file ++ codes ": " ++ fault_text why
 refusal_line file refusal.Open = codes "gtdesk: " ++ printable file ++ codes ": cannot be opened"

@@ -12,7 +12,8 @@ use Rattle.gtd_runs.specs.Run.{IsVehicleType}
 use Rattle.gtd_desk.specs.Hours.{AskForHours, HaveHoursFault}
 use Rattle.gtd_desk.specs.Pictures.{AskForDomainPicture, AskForPicture, HaveDomainFault, HavePictureFault, IsReadDomain}
 pub use Rattle.gtd_desk.specs.Pictures.{IsNoVehicle}
-use Rattle.gtd_desk.specs.CommandLine.{AreFaultsWords, AreMistaken, AreNowWords, AreWordsWords, AskForText, FaultsTexts, Text}
+use Rattle.gtd_desk.specs.CommandLine.{AreFaultsWords, AreHoursWords, AreMistaken, AreNowWords, AreWordsWords, AskForText}
+use Rattle.gtd_desk.specs.CommandLine.{FaultsTexts, HoursTexts, Text}
 use Rattle.gtd_desk.specs.declared.plans.PictureSubject.{PictureSubject}
 use Rattle.gtd_desk.specs.declared.plans.Plan.{Plan}
 use Rattle.gtd_desk.specs.declared.plans.Plan.TheVariants as plan
@@ -52,6 +53,7 @@ AskFor words (plan.Picture file title subject) = AskForPicture words (string_byt
 AskFor words (plan.DomainPicture domain title year) = AskForDomainPicture words domain (string_bytes title) year
 AskFor words (plan.Words domain) = AskForWords words domain
 AskFor words (plan.HoursOf domain) = AskForHours words domain
+AskFor words (plan.DomainOf text) = AreHoursWords words (HoursTexts.of_hours (string_bytes text))
 AskFor words (plan.Show text) = AskForText words
 
 -- The path of the record file that the plan reads, if it reads one.
@@ -62,6 +64,7 @@ file_of (plan.Picture file title subject) = Some (string_bytes file)
 file_of (plan.DomainPicture domain title year) = None
 file_of (plan.Words domain) = None
 file_of (plan.HoursOf domain) = None
+file_of (plan.DomainOf text) = None
 file_of (plan.Show text) = None
 
 -- The words give the command `now`, and the word for the moment does not stand for one.
@@ -90,6 +93,7 @@ IsNowPlan file moment vehicle (plan.Picture f t s) = ⊥
 IsNowPlan file moment vehicle (plan.DomainPicture d t y) = ⊥
 IsNowPlan file moment vehicle (plan.Words domain) = ⊥
 IsNowPlan file moment vehicle (plan.HoursOf domain) = ⊥
+IsNowPlan file moment vehicle (plan.DomainOf t) = ⊥
 IsNowPlan file moment vehicle (plan.Show text) = ⊥
 
 -- The plan is for `faults`, with these words.
@@ -100,6 +104,7 @@ IsFaultsPlan texts (plan.Picture f t s) = ⊥
 IsFaultsPlan texts (plan.DomainPicture d t y) = ⊥
 IsFaultsPlan texts (plan.Words domain) = ⊥
 IsFaultsPlan texts (plan.HoursOf domain) = ⊥
+IsFaultsPlan texts (plan.DomainOf t) = ⊥
 IsFaultsPlan texts (plan.Show text) = ⊥
 
 -- The plan is for `picture`, with this file and this subject.
@@ -110,6 +115,7 @@ IsPicturePlan file subject (plan.Picture f t s) = (string_bytes f ≡ file) × (
 IsPicturePlan file subject (plan.DomainPicture d t y) = ⊥
 IsPicturePlan file subject (plan.Words d) = ⊥
 IsPicturePlan file subject (plan.HoursOf d) = ⊥
+IsPicturePlan file subject (plan.DomainOf t) = ⊥
 IsPicturePlan file subject (plan.Show text) = ⊥
 
 -- The plan is for `picture-domain`, with a domain of the same expression, this title and this year.
@@ -121,6 +127,7 @@ IsDomainPlan domain title year (plan.DomainPicture d t y) =
     (domain_tree d ≡ domain_tree domain) × (string_bytes t ≡ title) × (y ≡ year)
 IsDomainPlan domain title year (plan.Words d) = ⊥
 IsDomainPlan domain title year (plan.HoursOf d) = ⊥
+IsDomainPlan domain title year (plan.DomainOf t) = ⊥
 IsDomainPlan domain title year (plan.Show text) = ⊥
 
 -- The plan is for `words`, with a domain of the same expression.
@@ -131,6 +138,7 @@ IsWordsPlan domain (plan.Picture f t s) = ⊥
 IsWordsPlan domain (plan.DomainPicture d t y) = ⊥
 IsWordsPlan domain (plan.Words d) = domain_tree d ≡ domain_tree domain
 IsWordsPlan domain (plan.HoursOf d) = ⊥
+IsWordsPlan domain (plan.DomainOf t) = ⊥
 IsWordsPlan domain (plan.Show text) = ⊥
 
 -- The plan is for `hours --of`, with a domain of the same expression.
@@ -141,16 +149,28 @@ IsHoursPlan domain (plan.Picture f t s) = ⊥
 IsHoursPlan domain (plan.DomainPicture d t y) = ⊥
 IsHoursPlan domain (plan.Words d) = ⊥
 IsHoursPlan domain (plan.HoursOf d) = domain_tree d ≡ domain_tree domain
+IsHoursPlan domain (plan.DomainOf t) = ⊥
 IsHoursPlan domain (plan.Show text) = ⊥
 
--- The words give `picture`, `picture-domain`, `words` or `hours`, and this is the first word of the command that stands for
+-- The plan is for `hours` with this text.
+abbrev pub IsTextPlan : Text → Plan → Type 0
+IsTextPlan wanted (plan.Now f m v) = ⊥
+IsTextPlan wanted (plan.Faults f w) = ⊥
+IsTextPlan wanted (plan.Picture f t s) = ⊥
+IsTextPlan wanted (plan.DomainPicture d t y) = ⊥
+IsTextPlan wanted (plan.Words d) = ⊥
+IsTextPlan wanted (plan.HoursOf d) = ⊥
+IsTextPlan wanted (plan.DomainOf t) = string_bytes t ≡ wanted
+IsTextPlan wanted (plan.Show text) = ⊥
+
+-- The words give `picture`, `picture-domain`, `words` or `hours --of`, and this is the first word of the command that stands for
 -- nothing.
 abbrev pub HaveWordFault : List Text → WordFault → Type 0
 HaveWordFault words fault =
     HavePictureFault words fault ⊎ HaveDomainFault words fault ⊎ HaveWordsFault words fault ⊎ HaveHoursFault words fault
 
 -- The words give a command, and this is the refusal for the first of its words that stands for nothing. The words of
--- `faults` all stand for something.
+-- `faults` all stand for something, and the text of `hours` is read when the plan is carried out.
 abbrev pub IsWordFault : List Text → Refusal → Type 0
 IsWordFault words (refusal.Moment fault) = HaveMomentFault words fault
 IsWordFault words refusal.Vehicle = HaveNoVehicle words

@@ -12,7 +12,7 @@ use Rattle.gtd_runs.specs.Run.{AcceptedFilesArePut, HasRun, IsTableYear, IsVehic
 use Rattle.gtd_runs.specs.Run.{UnacceptedFilesPutNothing}
 use Rattle.gtd_picture.specs.Domain.{HasPut, IsDomainPicture}
 use Rattle.gtd_picture.specs.Open.{IsOpenPicture}
-use Rattle.gtd_desk.specs.Hours.{IsHoursLine}
+use Rattle.gtd_desk.specs.Hours.{IsDomainLine, IsHoursLine, IsNoDomainOf}
 use Rattle.gtd_desk.specs.declared.plans.PictureSubject.{PictureSubject}
 use Rattle.gtd_desk.specs.declared.refusal.WordFault.TheVariants as fault
 use Rattle.gtd_runs.specs.declared.fault.RunFault.{RunFault}
@@ -121,6 +121,19 @@ pub record PutHours (domain : Domain) (old new : Option (List ℕ)) (ended : Boo
       (e ≡ ending.Done) × ((line : List ℕ) × IsHoursLine domain line × Appends old new line) × IsTrue ended)
   pub cause : IfErr result (λ r. (r ≡ refusal.Write) ⊎ (((r ≡ refusal.NoHours) ⊎ (r ≡ refusal.Memory)) × Keeps old new))
 
+-- The refusal is of memory, or says why the text has no domain.
+abbrev pub IsTextRefusal : List ℕ → Refusal → Type 0
+IsTextRefusal text (refusal.NoDomain why) = IsNoDomainOf text why
+IsTextRefusal text refusal.Memory = Unit {0}
+IsTextRefusal text other = ⊥
+
+-- The line of the domain of hours was put whole, and then the output was ended. If the text has no domain, or memory was
+-- refused, nothing was put.
+pub record PutDomain (text : List ℕ) (old new : Option (List ℕ)) (ended : Bool) (result : Result Ending Refusal) : Type 0 where
+  pub put : IfOk result (λ e.
+      (e ≡ ending.Done) × ((line : List ℕ) × IsDomainLine text line × Appends old new line) × IsTrue ended)
+  pub cause : IfErr result (λ r. (r ≡ refusal.Write) ⊎ (IsTextRefusal text r × Keeps old new))
+
 -- What a plan did to the output, by its answer. A text that was asked for is taken whole, and then the output is ended.
 abbrev pub HasRunPlan : Plan → Option (List ℕ) → Option (List ℕ) → Option (List ℕ) → Bool → Bool
     → Result Ending Refusal → Type 0
@@ -134,6 +147,7 @@ HasRunPlan (plan.DomainPicture domain title year) file old new silent ended resu
     RanDomainPicture domain (string_bytes title) year old new ended result
 HasRunPlan (plan.Words domain) file old new silent ended result = PutWords (words (domain_tree domain)) old new ended result
 HasRunPlan (plan.HoursOf domain) file old new silent ended result = PutHours domain old new ended result
+HasRunPlan (plan.DomainOf text) file old new silent ended result = PutDomain (string_bytes text) old new ended result
 HasRunPlan (plan.Show text) file old new silent ended result =
     IfOk result (λ e. (e ≡ ending.Done) × Appends old new (string_bytes text) × IsTrue ended)
     × IfErr result (λ r. r ≡ refusal.Write)
@@ -156,6 +170,7 @@ status_of (refusal.Moment why) = 1
 status_of refusal.Vehicle = 1
 status_of (refusal.Word why) = 1
 status_of refusal.NoHours = 1
+status_of (refusal.NoDomain why) = 1
 status_of refusal.NoElement = 1
 status_of (refusal.Records why) = records_status why
 status_of refusal.Open = 3

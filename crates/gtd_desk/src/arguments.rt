@@ -7,14 +7,20 @@ ghost use Rattle.clap.specs.Matches.{found_of};
 ghost use Rattle.clap.specs.Simple.{app_of, subcommand_rows_of, with_rule, with_subcommand};
 ghost use Rattle.clap.specs.Walk.{first_of, rows_of};
 ghost use Rattle.gtd_desk.specs.CommandLine.{HasWords, IsLocal, all_five, all_three, bare_domain, bare_faults, bare_now};
-ghost use Rattle.gtd_desk.specs.CommandLine.{bare_picture, both_given, desk_app, domain_app, domain_given, faults_app};
-ghost use Rattle.gtd_desk.specs.CommandLine.{bare_words, faults_given, flag_rule, is_set, no_pictures, none_given, now_app};
-ghost use Rattle.gtd_desk.specs.CommandLine.{bare_hours, hours_app, hours_given, now_given, option_rule, picture_app};
-ghost use Rattle.gtd_desk.specs.CommandLine.{picture_given, word_rule, words_app, words_given};
-ghost use Rattle.gtd_desk.specs.Given.{domain_texts, given_faults, picture_texts, texts_of};
+ghost use Rattle.gtd_desk.specs.CommandLine.{bare_picture, both_given, desk_app, domain_app, domain_given, either_given};
+ghost use Rattle.gtd_desk.specs.CommandLine.{bare_words, faults_app, faults_given, flag_rule, free_word_rule, is_set};
+ghost use Rattle.gtd_desk.specs.CommandLine.{bare_hours, hours_app, hours_given, no_pictures, none_given, now_app, now_given};
+ghost use Rattle.gtd_desk.specs.CommandLine.{option_rule, picture_app, picture_given, word_rule, words_app, words_given};
+ghost use Rattle.gtd_desk.specs.Given.{domain_texts, given_faults, hours_texts, picture_texts, texts_of};
 
 use clap::{Arg, ArgAction, ArgMatches, Command};
 use std::alloc::{AllocError, Global};
+
+// What help says at the end of the command `hours`.
+const HOURS_EXAMPLES: &str = "\
+Examples:
+  gtdesk hours 'Mo-Fr 08:00-17:00' prints [[(t2t3t4t5t6h0m0){d1}]*[(h8m0){m540}]]
+  gtdesk hours --of '(t6h22m0){d1}*(h22m0){m360}' prints Fr 22:00-04:00";
 
 /// The words of `now FILE MOMENT VEHICLE`, as they were given.
 #[derive(Clone, Copy)]
@@ -39,6 +45,15 @@ pub(crate) struct PictureWords<'a> {
     pub(crate) direction: &'a str,
     pub(crate) vehicle: &'a str,
     pub(crate) year: &'a str,
+}
+
+/// The word of `hours TEXT` or of `hours --of DOMAIN`, as it was given.
+#[derive(Clone, Copy)]
+pub(crate) enum HoursWords<'a> {
+    /// The text of opening hours.
+    Hours(&'a str),
+    /// The domain.
+    Domain(&'a str),
 }
 
 /// The words of `picture-domain DOMAIN YEAR`, as they were given.
@@ -84,7 +99,22 @@ fn add_flag<'a>(
     command.arg(flag)
 }
 
-// Adds an option with a value, of this long name, that must be given. Help shows the value under its own name.
+// Adds a word that may be left out, under the name that help shows.
+fn add_free_word<'a>(
+    alloc: Global,
+    command: Command<'a>,
+    name: &'a str,
+    help: &'a str,
+) -> Result<Command<'a>, AllocError>
+    requires local { IsLocal command }
+    ensures app { IfOk result (λ c. app_of c ≡ with_rule (app_of command.entry) (free_word_rule name.entry.now)) }
+    ensures local { IfOk result IsLocal }
+{
+    let word = Arg::new(alloc, name).action(ArgAction::Set).help(help);
+    command.arg(word)
+}
+
+// Adds an option with a value, of this long name, that may be left out. Help shows the value under its own name.
 fn add_option<'a>(
     alloc: Global,
     command: Command<'a>,
@@ -99,7 +129,6 @@ fn add_option<'a>(
     let option = Arg::new(alloc, name)
         .long(name)
         .value_name(value)
-        .required(true)
         .action(ArgAction::Set)
         .help(help);
     command.arg(option)
@@ -183,26 +212,27 @@ fn words_command<'a>(alloc: Global) -> Result<Command<'a>, AllocError>
     add_word(alloc, command, "DOMAIN", "The time domain")
 }
 
-// The command `hours` without its option.
+// The command `hours` without its word and its option.
 fn bare_hours<'a>(alloc: Global) -> Command<'a>
     ensures app { app_of result ≡ bare_hours }
     ensures local { IsLocal result }
 {
     Command::new(alloc, "hours")
         .about(
-            "Print opening hours of OpenStreetMap that are open at exactly the seconds of a time domain",
+            "Print the time domain with exactly the seconds at which opening hours of OpenStreetMap are open, \
+                or opening hours that are open at exactly the seconds of a time domain",
         )
-        .after_help(
-            "Example: gtdesk hours --of '(t6h22m0){d1}*(h22m0){m360}' prints Fr 22:00-04:00",
-        )
+        .override_usage("gtdesk hours <TEXT|--of <DOMAIN>>")
+        .after_help(HOURS_EXAMPLES)
 }
 
-// The command `hours`.
+// The command `hours`. Of its word and its option one is to be given, which the library does not see to.
 fn hours_command<'a>(alloc: Global) -> Result<Command<'a>, AllocError>
     ensures app { IfOk result (λ c. app_of c ≡ hours_app) }
     ensures local { IfOk result IsLocal }
 {
     let command = bare_hours(alloc);
+    let command = add_free_word(alloc, command, "TEXT", "The opening hours")?;
     add_option(
         alloc,
         command,
@@ -430,19 +460,40 @@ pub(crate) fn words_domain<'a>(matches: &ArgMatches<'a>) -> Option<&'a str>
     }
 }
 
+// The word of `hours`, if it is given alone.
+fn gather_hours<'a>(hours: Option<&'a str>, domain: Option<&'a str>) -> Option<HoursWords<'a>>
+    ensures { option_map hours_texts result
+        ≡ either_given (option_map (λ s. s.now) hours.entry) (option_map (λ s. s.now) domain.entry) }
+{
+    match hours {
+        Some(hours) => match domain {
+            Some(_) => None,
+            None => Some(HoursWords::Hours(hours)),
+        },
+        None => match domain {
+            Some(domain) => Some(HoursWords::Domain(domain)),
+            None => None,
+        },
+    }
+}
+
 // The word of `hours`, if this is the command's name.
-fn hours_of<'a>(name: &str, given: &ArgMatches<'a>) -> Option<&'a str>
-    ensures { option_map (λ s. s.now) result ≡ hours_given (name.now, rows_of (found_of given.now)) }
+fn hours_of<'a>(name: &str, given: &ArgMatches<'a>) -> Option<HoursWords<'a>>
+    ensures { option_map hours_texts result ≡ hours_given (name.now, rows_of (found_of given.now)) }
 {
     match name {
-        "hours" => value(given, "of"),
+        "hours" => {
+            let hours = value(given, "TEXT");
+            let domain = value(given, "of");
+            gather_hours(hours, domain)
+        }
         _ => None,
     }
 }
 
 /// The word of `hours`, if the matches hold it.
-pub(crate) fn hours_domain<'a>(matches: &ArgMatches<'a>) -> Option<&'a str>
-    ensures { option_map (λ s. s.now) result ≡ option_and_then hours_given (subcommand_rows_of matches.now) }
+pub(crate) fn hours_words<'a>(matches: &ArgMatches<'a>) -> Option<HoursWords<'a>>
+    ensures { option_map hours_texts result ≡ option_and_then hours_given (subcommand_rows_of matches.now) }
 {
     match matches.subcommand() {
         Some((name, given)) => hours_of(name, given),

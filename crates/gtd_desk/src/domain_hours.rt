@@ -2,7 +2,7 @@
 
 ghost use Rattle.std.specs.Prelude.{◌≡◌, ◌⊎◌, ◌++◌, ◌<◌, IfErr, IfOk, List, MatchResult, codes, string_bytes};
 ghost use Rattle.gtd_osm.specs.Written.{hours_text};
-ghost use Rattle.gtd_desk.specs.CommandLine.{AreHoursWords, Text};
+ghost use Rattle.gtd_desk.specs.CommandLine.{AreHoursWords, HoursTexts, Text};
 ghost use Rattle.gtd_desk.specs.Hours.{IsHoursLine};
 ghost use Rattle.gtd_desk.specs.Plans.{AskFor, IsRefusalOf};
 ghost use Rattle.gtd_desk.specs.Running.{PutHours};
@@ -19,8 +19,8 @@ use gtd_osm::{Hours, print_hours};
 use std::alloc::{AllocError, Global};
 
 /// The plan of `hours --of`.
-pub(crate) fn plan_hours(alloc: Global, text: &str) -> Result<Plan, Refusal>
-    ensures { (words : List Text) → AreHoursWords words text.now
+pub(crate) fn plan_hours_of(alloc: Global, text: &str) -> Result<Plan, Refusal>
+    ensures { (words : List Text) → AreHoursWords words (HoursTexts.of_domain text.now)
         → MatchResult result (AskFor words) (IsRefusalOf words) }
 {
     match domain_of(alloc, text) {

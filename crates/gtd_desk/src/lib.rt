@@ -3,6 +3,7 @@
 mod arguments;
 mod domain_hours;
 mod ending;
+mod hours_domain;
 mod line;
 mod performing;
 mod picture;
@@ -16,4 +17,4 @@ pub use line::RefusalLine;
 pub use performing::perform;
 pub use planning::plan;
 pub use plans::{Moment, PictureSubject, Plan};
-pub use refusal::{Refusal, WordFault};
+pub use refusal::{NoDomain, Refusal, WordFault};

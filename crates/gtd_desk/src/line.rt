@@ -2,11 +2,12 @@
 
 ghost use Rattle.std.specs.Prelude.{◌≡◌, Some};
 ghost use Rattle.gtd_desk.specs.Lines as spec;
-ghost use Rattle.gtd_desk.specs.Lines.{refusal_line, word_text};
+ghost use Rattle.gtd_desk.specs.Lines.{kind_name, no_domain_text, refusal_line, word_text};
 
-use crate::refusal::{Refusal, WordFault};
+use crate::refusal::{NoDomain, Refusal, WordFault};
 use gtd_calendar::StampFault;
 use gtd_faults::{FaultText, Printable};
+use gtd_hours_syntax::FaultKind;
 use std::fmt;
 use std::fmt::{Display, Formatter};
 
@@ -25,7 +26,7 @@ fn moment_reason(fault: StampFault) -> &'static str
     }
 }
 
-/// Which word of a picture's command, of `words` or of `hours`, stands for nothing, and why.
+/// Which word of a picture's command, of `words` or of `hours --of`, stands for nothing, and why.
 #[derive(Drop)]
 struct WordLine(WordFault);
 
@@ -43,6 +44,38 @@ impl Display for WordLine {
                 let place = fault.place;
                 write!(f, "DOMAIN: {kind} at {place}")
             }
+        }
+    }
+}
+
+// What is wrong with a text of opening hours.
+fn kind_name(kind: FaultKind) -> &'static str
+    ensures { result.now ≡ kind_name kind }
+{
+    match kind {
+        FaultKind::BadToken => "BadToken",
+        FaultKind::Unsupported => "Unsupported",
+        FaultKind::Range => "Range",
+        FaultKind::Unexpected => "Unexpected",
+        FaultKind::Incomplete => "Incomplete",
+    }
+}
+
+/// Why a text of opening hours has no domain.
+#[derive(Drop)]
+struct TextLine(NoDomain);
+
+impl Display for TextLine {
+    ghost output = { λ shown. Some (no_domain_text shown.0) };
+
+    fn fmt<W: fmt::Write>(&self, f: &mut Formatter<W>) -> fmt::Result {
+        match self.0 {
+            NoDomain::Fault(fault) => {
+                let kind = kind_name(fault.kind);
+                let place = fault.place;
+                write!(f, "TEXT: {kind} at {place}")
+            }
+            NoDomain::TooMany => write!(f, "TEXT: TooMany at 0"),
         }
     }
 }
@@ -67,6 +100,7 @@ impl Display for RefusalLine<'_> {
             Refusal::Vehicle => write!(f, "gtdesk: VEHICLE: not a number from 1 to 99"),
             Refusal::Word(fault) => write!(f, "gtdesk: {}", WordLine(fault)),
             Refusal::NoHours => write!(f, "gtdesk: {NO_HOURS}"),
+            Refusal::NoDomain(why) => write!(f, "gtdesk: {}", TextLine(why)),
             Refusal::NoElement => write!(f, "gtdesk: {file}: no row names the element"),
             Refusal::Records(fault) => write!(f, "gtdesk: {file}: {}", FaultText(fault)),
             Refusal::Open => write!(f, "gtdesk: {file}: cannot be opened"),

@@ -8,6 +8,7 @@ ghost use Rattle.gtd_desk.specs.Running.{HasRunPlan, PutWords, RanFaults, RanNow
 
 use crate::domain_hours::print_hours_of;
 use crate::ending::Ending;
+use crate::hours_domain::print_domain_of;
 use crate::picture::print_picture;
 use crate::picture_domain::print_domain;
 use crate::plans::{Moment, Plan};
@@ -138,7 +139,7 @@ fn print_words<O: Output>(alloc: Global, output: &mut O, domain: &Domain) -> Res
 /// if the plan reads none, nothing is pulled.
 ///
 /// `Records` is the file's first fault, or why the input failed; `NoHours` is answered if no opening hours are found for a
-/// domain, and `Write` and `Memory` if the output failed and if memory was refused. Before the call, the failures of both
+/// domain, `NoDomain` if a text is no opening hours or the domain of these is too large, and `Write` and `Memory` if the output failed and if memory was refused. Before the call, the failures of both
 /// devices must be below `u64::MAX`.
 pub fn perform<I: Input, O: Output>(
     alloc: Global,
@@ -172,6 +173,7 @@ pub fn perform<I: Input, O: Output>(
         } => print_domain(alloc, output, domain, title.as_str(), *year),
         Plan::Words { domain } => print_words(alloc, output, domain),
         Plan::HoursOf { domain } => print_hours_of(alloc, output, domain),
+        Plan::DomainOf { text } => print_domain_of(alloc, output, text.as_str()),
         Plan::Show { text } => print_text(output, text.as_str()),
     }
 }

@@ -10,12 +10,13 @@ ghost use Rattle.gtd_core.specs.declared.second.Sec.{Sec};
 ghost use Rattle.gtd_records.specs.Columns.{number_of};
 ghost use Rattle.gtd_runs.specs.Run.{IsVehicleType};
 ghost use Rattle.gtd_desk.specs.CommandLine.{AreFaultsWords, AreNowWords, AskForText, HasWords, Text, desk_app};
-ghost use Rattle.gtd_desk.specs.CommandLine.{AreWordsWords, FaultsTexts, faults_words_of, hours_domain_of, now_words_of};
-ghost use Rattle.gtd_desk.specs.CommandLine.{words_domain_of};
+ghost use Rattle.gtd_desk.specs.CommandLine.{AreHoursWords, AreWordsWords, FaultsTexts, HoursTexts, faults_words_of};
+ghost use Rattle.gtd_desk.specs.CommandLine.{hours_words_of, now_words_of, words_domain_of};
 ghost use Rattle.gtd_desk.specs.CommandLine as spec;
-ghost use Rattle.gtd_desk.specs.Given.{given_faults};
+ghost use Rattle.gtd_desk.specs.Given.{given_faults, hours_texts};
 ghost use Rattle.gtd_desk.specs.Plans.{AskFor, AskForNow, IsDomainPlan, IsFaultsPlan, IsNoVehicle, IsNowPlan};
-ghost use Rattle.gtd_desk.specs.Plans.{AskForWords, IsHoursPlan, IsPicturePlan, IsRefusalOf, IsWordFault, IsWordsPlan};
+ghost use Rattle.gtd_desk.specs.Plans.{AskForWords, IsHoursPlan, IsPicturePlan, IsRefusalOf, IsTextPlan, IsWordFault};
+ghost use Rattle.gtd_desk.specs.Plans.{IsWordsPlan};
 ghost use Rattle.gtd_desk.specs.Pictures.{AskForDomainPicture, AskForPicture};
 ghost use Rattle.gtd_desk.specs.Hours.{AskForHours};
 ghost use Rattle.gtd_core.specs.declared.domain.Domain.{Domain};
@@ -23,10 +24,11 @@ ghost use Rattle.gtd_desk.specs.declared.plans.PictureSubject.{PictureSubject};
 ghost use Rattle.gtd_desk.specs.declared.refusal.Refusal.{Refusal};
 
 use crate::arguments::{
-    FaultsWords, NowWords, domain_words, faults_words, hours_domain, now_words, parse,
+    FaultsWords, HoursWords, NowWords, domain_words, faults_words, hours_words, now_words, parse,
     picture_words, words_domain,
 };
-use crate::domain_hours::plan_hours;
+use crate::domain_hours::plan_hours_of;
+use crate::hours_domain::plan_domain_of;
 use crate::picture::plan_picture;
 use crate::picture_domain::{domain_of, plan_domain};
 use crate::plans::{Moment, Plan};
@@ -36,6 +38,9 @@ use clap::error::ErrorKind;
 use gtd_calendar::{StampFault, read_stamp};
 use gtd_records::read_number;
 use std::alloc::Global;
+
+// Why the words of a command are refused that the library takes: it leaves nothing to see to but this.
+const NEITHER_OR_BOTH: &str = "hours takes either TEXT or --of DOMAIN";
 
 // Whether the words ask for help or the version.
 fn is_request(kind: ErrorKind) -> bool
@@ -161,17 +166,28 @@ fn plan_told(alloc: Global, text: &str) -> Result<Plan, Refusal>
     }
 }
 
+// The plan of `hours`.
+fn plan_hours(alloc: Global, given: HoursWords<'_>) -> Result<Plan, Refusal>
+    ensures { (words : List Text) → AreHoursWords words (hours_texts given.entry)
+        → MatchResult result (AskFor words) (IsRefusalOf words) }
+{
+    match given {
+        HoursWords::Hours(text) => plan_domain_of(alloc, text),
+        HoursWords::Domain(text) => plan_hours_of(alloc, text),
+    }
+}
+
 // The plan of a picture, where the matches hold no words of another command.
 fn plan_pictures(alloc: Global, matches: &ArgMatches<'_>) -> Result<Plan, Refusal>
     ensures { (words : List Text) → HasWords words matches.now → now_words_of words ≡ None → faults_words_of words ≡ None
-        → words_domain_of words ≡ None → hours_domain_of words ≡ None
+        → words_domain_of words ≡ None → hours_words_of words ≡ None
         → MatchResult result (AskFor words) (IsRefusalOf words) }
 {
     match picture_words(matches) {
         Some(given) => plan_picture(alloc, given),
         None => match domain_words(matches) {
             Some(given) => plan_domain(alloc, given),
-            None => Err(Refusal::Usage("the words are not understood")),
+            None => Err(Refusal::Usage(NEITHER_OR_BOTH)),
         },
     }
 }
@@ -182,8 +198,8 @@ fn plan_others(alloc: Global, matches: &ArgMatches<'_>) -> Result<Plan, Refusal>
         → words_domain_of words ≡ None
         → MatchResult result (AskFor words) (IsRefusalOf words) }
 {
-    match hours_domain(matches) {
-        Some(text) => plan_hours(alloc, text),
+    match hours_words(matches) {
+        Some(given) => plan_hours(alloc, given),
         None => plan_pictures(alloc, matches),
     }
 }
@@ -210,8 +226,8 @@ fn plan_words(alloc: Global, words: &[String]) -> Result<Plan, Refusal>
 /// What the words after the program's name ask for, or why they are refused.
 ///
 /// In order: `Usage` if they neither give a command with its words nor ask for help; then the refusal for the first of the
-/// command's words that stands for nothing, from left to right: `Moment` or `Vehicle` for `now`, and `Word` for `words`, `hours`,
-/// `picture` and `picture-domain`. If memory was refused, `Memory` is the answer in place of these.
+/// command's words that stands for nothing, from left to right: `Moment` or `Vehicle` for `now`, and `Word` for `words`,
+/// `hours --of`, `picture` and `picture-domain`. If memory was refused, `Memory` is the answer in place of these.
 pub fn plan(alloc: Global, words: Vec<String>) -> Result<Plan, Refusal>
     // The plan is what the words ask for.
     ensures asked { IfOk result (AskFor (map string_bytes words.items)) }
@@ -229,6 +245,8 @@ pub fn plan(alloc: Global, words: Vec<String>) -> Result<Plan, Refusal>
         → MatchResult result (IsWordsPlan domain) (λ r. r ≡ Refusal.Memory) }
     ensures only_hours { (domain : Domain) → AskForHours (map string_bytes words.items) domain
         → MatchResult result (IsHoursPlan domain) (λ r. r ≡ Refusal.Memory) }
+    ensures only_text { (text : Text) → AreHoursWords (map string_bytes words.items) (HoursTexts.of_hours text)
+        → MatchResult result (IsTextPlan text) (λ r. r ≡ Refusal.Memory) }
     // The refusal is one that the words have, unless memory was refused.
     ensures refused { IfErr result (IsRefusalOf (map string_bytes words.items)) }
     // If a word of the command stands for nothing, the first such word gives the refusal, unless memory is refused.

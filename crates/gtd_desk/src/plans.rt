@@ -73,6 +73,11 @@ pub enum Plan {
         /// The domain.
         domain: Domain,
     },
+    /// To print the time domain with exactly the seconds at which opening hours are open.
+    DomainOf {
+        /// The text of the hours.
+        text: String,
+    },
     /// To print a text: help, or the version.
     Show {
         /// The text.
@@ -95,6 +100,7 @@ impl Plan {
             Plan::DomainPicture { .. } => None,
             Plan::Words { .. } => None,
             Plan::HoursOf { .. } => None,
+            Plan::DomainOf { .. } => None,
             Plan::Show { .. } => None,
         }
     }

@@ -5,9 +5,10 @@ ghost use Rattle.gtd_desk.specs.Running.{records_status, status_of};
 
 use gtd_calendar::StampFault;
 use gtd_core::TextFault;
+use gtd_hours_syntax::HoursFault;
 use gtd_records::RecordFault;
 
-/// Which word of a picture's command, of `words` or of `hours`, stands for nothing.
+/// Which word of a picture's command, of `words` or of `hours --of`, stands for nothing.
 #[derive(Clone, Copy, Debug, PartialEq, Eq)]
 pub enum WordFault {
     /// The word for an element is not a number.
@@ -22,6 +23,15 @@ pub enum WordFault {
     Domain(TextFault),
 }
 
+/// Why a text of opening hours has no time domain.
+#[derive(Clone, Copy, Debug, PartialEq, Eq)]
+pub enum NoDomain {
+    /// The text is no opening hours. This is its first fault.
+    Fault(HoursFault),
+    /// The domain would have more than 128 basic domains.
+    TooMany,
+}
+
 /// Why a command line is not carried out.
 #[derive(Clone, Copy, Debug, PartialEq, Eq)]
 pub enum Refusal {
@@ -31,10 +41,12 @@ pub enum Refusal {
     Moment(StampFault),
     /// The word for a vehicle type is not a number from 1 to 99.
     Vehicle,
-    /// A word of a picture's command, or that of `words` or `hours`, stands for nothing.
+    /// A word of a picture's command, or that of `words` or `hours --of`, stands for nothing.
     Word(WordFault),
     /// No opening hours are found for a time domain. That none have its seconds is not said.
     NoHours,
+    /// The text of `hours` has no time domain.
+    NoDomain(NoDomain),
     /// No row of the record file names the element of a picture.
     NoElement,
     /// The record file is not read. This is its first fault, or why the input failed, and never `NoMemory`.
@@ -54,7 +66,7 @@ impl Refusal {
     {
         match self {
             Refusal::Moment(_) | Refusal::Vehicle | Refusal::Word(_) => 1,
-            Refusal::NoHours | Refusal::NoElement => 1,
+            Refusal::NoHours | Refusal::NoDomain(_) | Refusal::NoElement => 1,
             Refusal::Records(fault) => records_status(*fault),
             Refusal::Usage(_) => 2,
             Refusal::Open | Refusal::Write | Refusal::Memory => 3,

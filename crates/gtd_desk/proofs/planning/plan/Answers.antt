@@ -1,7 +1,7 @@
 use Rattle.std.proofs.Common.{map}
 use Rattle.std.specs.Prelude.{string_bytes}
 use Rattle.gtd_desk.proofs.PlanFacts.{plan_first, plan_only, plan_only_domain, plan_only_faults, plan_only_picture}
-use Rattle.gtd_desk.proofs.PlanFacts.{plan_only_hours, plan_only_words}
+use Rattle.gtd_desk.proofs.PlanFacts.{plan_only_hours, plan_only_text, plan_only_words}
 use Rattle.gtd_desk.proofs.planning.plan.Goals as goal
 
 pub returns-clause-only : goal.returns-clause-only
@@ -37,4 +37,9 @@ returns-clause-only_words c = λ domain asks.
 pub returns-clause-only_hours : goal.returns-clause-only_hours
 returns-clause-only_hours c = λ domain asks.
     plan_only_hours (map string_bytes c.as_slice.result.now) c.plan_words.result c.plan_words.ensures domain
+    (rw (c.as_slice.ensures.value) asks)
+
+pub returns-clause-only_text : goal.returns-clause-only_text
+returns-clause-only_text c = λ text asks.
+    plan_only_text (map string_bytes c.as_slice.result.now) c.plan_words.result c.plan_words.ensures text
     (rw (c.as_slice.ensures.value) asks)
