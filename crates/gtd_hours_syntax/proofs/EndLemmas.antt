@@ -1,29 +1,25 @@
 -- What a reading comes to where no move can be made.
-use Rattle.std.proofs.Common.{◌≡◌, ℕ, Bool, true, false, cond, List, [], ◌∷◌, ◌++◌, length, Option, Some, None, Ok, Err}
-use Rattle.std.proofs.Common.{refl, sym, ap, subst, ◌∙◌, arith, append_assoc}
-use Rattle.std.specs.Prelude.{◌↔◌, IfErr}
+use Rattle.std.proofs.Common.{◌≡◌, ℕ, Bool, true, false, List, [], ◌∷◌, ◌++◌, length, Option, Some, None, Ok}
+use Rattle.std.proofs.Common.{refl, sym, ap, subst, ◌∙◌, append_assoc}
+use Rattle.std.specs.Prelude.{IfErr}
 use Rattle.std.proofs.lemmas.List.{append-nil}
-use Rattle.gtd_hours.specs.Lexing.{AreTokens, IsNext, Reads}
-use Rattle.gtd_hours.specs.facts.NextToken.{one_next}
-use Rattle.gtd_hours.specs.declared.token.BadToken.{BadToken}
+use Rattle.gtd_hours.specs.Lexing.{AreTokens, IsNext}
 use Rattle.gtd_hours.specs.declared.token.Token.{Token}
 use Rattle.gtd_hours.specs.declared.token.TokenKind.{TokenKind}
 use Rattle.gtd_hours.specs.declared.token.TokenKind.TheVariants as token
-use Rattle.gtd_hours_syntax.specs.declared.fault.FaultKind.{FaultKind}
 use Rattle.gtd_hours_syntax.specs.declared.fault.FaultKind.TheVariants as fault
-use Rattle.gtd_hours_syntax.specs.declared.fault.HoursFault.{HoursFault}
 use Rattle.gtd_hours_syntax.specs.declared.piece.Piece.{Piece}
 use Rattle.gtd_hours_syntax.specs.declared.stage.Stage.TheVariants as stage
 use Rattle.gtd_hours_syntax.specs.declared.place.Place.{Place}
 use Rattle.gtd_hours_syntax.specs.declared.place.Place.TheVariants as places
 use Rattle.gtd_hours_syntax.specs.declared.reading.Reading.{Reading}
 use Rattle.gtd_hours_syntax.specs.Grammar.{AreHours, CanGoOn, Follow, More, in_full, so_far, by_place}
-use Rattle.gtd_hours_syntax.specs.Faults.{FitsByPlace, IsFirstFault, IsHoursText, IsIncomplete, IsMisfit, IsMisfitKind, are_alike, kinds}
+use Rattle.gtd_hours_syntax.specs.Faults.{IsFirstFault, IsHoursText, IsMisfitKind, are_alike, kinds}
 use Rattle.gtd_hours_syntax.specs.Kinds.{misfit_of, range_if}
-use Rattle.gtd_hours_syntax.specs.Places.{Behind, Rest}
-use Rattle.gtd_hours_syntax.specs.Sound.{Fits, IsPlace, takes_number, takes_time}
-use Rattle.gtd_hours_syntax.specs.Runs.{Runs, first, from, is_after}
-use Rattle.gtd_hours_syntax.specs.Steps.{GivesTo, HasRead, IsMove, IsReading, RunsOn, end_or_fault, ended, kind_of}
+use Rattle.gtd_hours_syntax.specs.Places.{Rest}
+use Rattle.gtd_hours_syntax.specs.Sound.{IsPlace, takes_number, takes_time}
+use Rattle.gtd_hours_syntax.specs.Runs.{Runs, is_after}
+use Rattle.gtd_hours_syntax.specs.Steps.{GivesTo, IsMove, IsReading, end_or_fault, ended, kind_of}
 use Rattle.gtd_hours_syntax.specs.facts.RunSteps.{run_end_refused, run_refused}
 use Rattle.gtd_hours_syntax.specs.facts.FollowRuns.{follow_runs}
 use Rattle.gtd_hours_syntax.specs.facts.NoNext.{no_number, no_time}
@@ -152,7 +148,7 @@ misfits text r given t is h goes =
       no_further = λ more.
           let run = follow_runs so_far more.p ((kinds is.read.before ++ t.kind ∷ []) ++ more.after) more.follow in
           let all = subst (λ (l : List TokenKind). Runs so_far places.Front more.p l)
-              (first_runs (kinds is.read.before) t.kind more.after) run in
+          (first_runs (kinds is.read.before) t.kind more.after) run in
           let behind = is.read.runs so_far more.p (t.kind ∷ more.after) all in
           let at = gives.runs so_far behind.p more.after behind.runs in
           run_refused r.at at.p t.kind more.after goes.fits goes.bit (sym goes.computed) at.runs;

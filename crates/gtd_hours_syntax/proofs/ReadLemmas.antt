@@ -1,14 +1,13 @@
 -- A reading from token to token, and what it comes to.
-use Rattle.std.proofs.Common.{◌≡◌, ℕ, ◌≤◌, ◌<◌, ◌*◌, ◌-◌, Bool, true, false, List, [], ◌∷◌, ◌++◌, length, Option, Some, None, Result, Ok, Err}
+use Rattle.std.proofs.Common.{◌≡◌, ℕ, ◌≤◌, ◌<◌, Bool, true, false, List, [], ◌∷◌, ◌++◌, length, Option, Some, None, Result, Ok, Err}
 use Rattle.std.proofs.Common.{refl, sym, ap, subst, ◌∙◌, arith, append_assoc}
 use Rattle.std.specs.Prelude.{◌↔◌, IfSome}
 use Rattle.std.proofs.lemmas.List.{append-nil}
-use Rattle.gtd_hours.specs.Lexing.{AreSpaces, AreTokens, IsNext, IsToken, Reads}
+use Rattle.gtd_hours.specs.Lexing.{AreTokens, IsNext, Reads}
 use Rattle.gtd_hours.specs.facts.NextToken.{one_next}
 use Rattle.gtd_hours.specs.declared.token.BadToken.{BadToken}
 use Rattle.gtd_hours.specs.declared.token.Token.{Token}
 use Rattle.gtd_hours.specs.declared.token.TokenKind.{TokenKind}
-use Rattle.gtd_hours.specs.declared.token.TokenKind.TheVariants as token
 use Rattle.gtd_hours_syntax.specs.declared.piece.Piece.{Piece}
 use Rattle.gtd_hours_syntax.specs.declared.place.Place.{Place}
 use Rattle.gtd_hours_syntax.specs.declared.place.Place.TheVariants as places
@@ -17,7 +16,7 @@ use Rattle.gtd_hours_syntax.specs.declared.reading.Reading.{Reading}
 use Rattle.gtd_hours_syntax.specs.Grammar.{Demand}
 use Rattle.gtd_hours_syntax.specs.Faults.{kinds}
 use Rattle.gtd_hours_syntax.specs.Places.{Rest}
-use Rattle.gtd_hours_syntax.specs.Sound.{Fits, IsPlace}
+use Rattle.gtd_hours_syntax.specs.Sound.{Fits}
 use Rattle.gtd_hours_syntax.specs.Moves.{next_move, rank}
 use Rattle.gtd_hours_syntax.specs.Runs.{IsGood, Runs, first, from, left, with_piece}
 use Rattle.gtd_hours_syntax.specs.Steps.{GivesTo, HasRead, IsMove, IsReading, RunsOn, advanced, kind_of, moved, moves_left}
@@ -182,13 +181,13 @@ read_more text r given t move is h goes good takes =
       stands = good.stands;
       runs = λ d p ts run.
           let on = is.read.runs d p (t.kind ∷ ts)
-              (subst (λ (l : List TokenKind). Runs d places.Front p l) (kinds_one is.read.before t ts) run) in
+          (subst (λ (l : List TokenKind). Runs d places.Front p l) (kinds_one is.read.before t ts) run) in
           let at = gives.runs d on.p ts on.runs in
           subst (λ (l : List TokenKind). RunsOn d move.to l) (left_none move.takes t.kind ts takes)
           (move_runs d r.at (Some t.kind) move at.p ts goes at.runs);
       leads = λ d p ts rest.
           let at = good.leads d p ts
-              (subst (λ (l : List TokenKind). Rest d move.to p l) (sym (left_none move.takes t.kind ts takes)) rest) in
+          (subst (λ (l : List TokenKind). Rest d move.to p l) (sym (left_none move.takes t.kind ts takes)) rest) in
           let behind = gives.leads d (with_piece move.piece p) ts at in
           let front = is.read.leads d (is.two ++ with_piece move.piece p) (t.kind ∷ ts) behind in
           subst (λ (l : List TokenKind). Rest d places.Front (given ++ with_piece move.piece [] ++ p) l)

@@ -1,5 +1,5 @@
 -- The numbers and times of the pieces that moves complete are in range.
-use Rattle.std.proofs.Common.{◌≡◌, ℕ, Bool, true, false, List, Option, Some, None, refl, sym, ap, subst, ◌∙◌}
+use Rattle.std.proofs.Common.{◌≡◌, Bool, true, false, Option, Some, refl, sym, subst}
 use Rattle.std.specs.Prelude.{IfSome, ◌&&◌, ◌==◌, if◌then◌else◌}
 use Rattle.gtd_osm.specs.declared.hours.Link.TheVariants as link
 use Rattle.gtd_hours.specs.declared.token.TokenKind.{TokenKind}
@@ -15,7 +15,6 @@ use Rattle.gtd_hours_syntax.specs.declared.place.Place.{Place}
 use Rattle.gtd_hours_syntax.specs.declared.place.Place.TheVariants as places
 use Rattle.gtd_hours_syntax.specs.declared.place.Move.{Move}
 use Rattle.gtd_hours_syntax.specs.Moves.{complete, give, later, listed, listed_number, next_goes_on, next_move, take, when, written}
-use Rattle.gtd_hours_syntax.specs.Moves.{year_or_day}
 use Rattle.gtd_hours_syntax.specs.Pieces.{IsWrittenDate}
 use Rattle.gtd_hours_syntax.specs.Sound.{Fits, IsPlace, YearOrDay, is_last_year}
 use Rattle.gtd_hours_syntax.specs.SoundPieces.{IsPiece}
@@ -74,7 +73,7 @@ listed_sound s next fits = record {}
 
 year_or_day_sound : (x : WrittenDate) (n : Digits) (b : Bool) → YearOrDay b x n → IsWrittenDate x
     → IsSound (if b then take (places.DateDashYear x n)
-      else complete (piece.Dates x (Some (last_date.Day n))) (places.After stage.MonthDays))
+    else complete (piece.Dates x (Some (last_date.Day n))) (places.After stage.MonthDays))
 year_or_day_sound x n true fits h = record {}
 year_or_day_sound x n false fits h = (h, fits)
 
@@ -88,7 +87,7 @@ move_sound (places.After s) (Some token.Comma) fits h f = record {}
 move_sound (places.After s) (Some token.Colon) fits h f = if_taken _ _
 move_sound (places.After s) (Some (token.Number v d)) fits h f = if_begun _ _
 move_sound (places.After s) next fits h f = later_sound s next fits
-move_sound (places.Comma s) next fits h f = 
+move_sound (places.Comma s) next fits h f =
     either_given (next_goes_on s next) (listed s next fits) (piece.Rule link.Also) places.Front (record {})
     (listed_sound s next fits)
 move_sound (places.Year n) (Some (token.Month m)) fits h f = if_taken _ _

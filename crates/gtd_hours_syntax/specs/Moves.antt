@@ -1,6 +1,6 @@
 -- Which move a token, or the end of the text, makes at a place: the table that the code goes by. Whether a number, a time, a
 -- month or a weekday fits next is given.
-use Rattle.std.specs.Prelude.{List, ℕ, Bool, true, false, ◌&&◌, ◌||◌, ◌==◌, if◌then◌else◌, Option, Some, None}
+use Rattle.std.specs.Prelude.{ℕ, Bool, true, false, ◌&&◌, ◌==◌, if◌then◌else◌, Option, Some, None}
 use Rattle.gtd_osm.specs.declared.hours.Link.TheVariants as link
 use Rattle.gtd_hours.specs.declared.token.TokenKind.{TokenKind}
 use Rattle.gtd_hours.specs.declared.token.TokenKind.TheVariants as token

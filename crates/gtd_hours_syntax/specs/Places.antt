@@ -1,6 +1,6 @@
 -- What follows behind a place of the reading: the grammar from there on. The tokens of the part that is not finished are put
 -- before those that follow.
-use Rattle.std.specs.Prelude.{List, ℕ, ◌∷◌, Option, Some, None}
+use Rattle.std.specs.Prelude.{List, ℕ, ◌∷◌}
 use Rattle.gtd_hours.specs.declared.token.TokenKind.{TokenKind}
 use Rattle.gtd_hours.specs.declared.token.TokenKind.TheVariants as token
 use Rattle.gtd_hours_syntax.specs.declared.piece.Piece.{Piece}

@@ -1,5 +1,5 @@
 -- What is known of the numbers and times that a place keeps, and which ones fit next.
-use Rattle.std.specs.Prelude.{◌≡◌, ℕ, Bool, true, false, ◌&&◌, ◌==◌, Option, Some, None, IfSome, is_some}
+use Rattle.std.specs.Prelude.{◌≡◌, Bool, true, false, ◌&&◌, ◌==◌, Option, Some, None, IfSome, is_some}
 use Rattle.gtd_osm.specs.Ranges.{IsMonth, IsWeekday}
 use Rattle.gtd_hours.specs.declared.token.TokenKind.{TokenKind}
 use Rattle.gtd_hours.specs.declared.token.TokenKind.TheVariants as token

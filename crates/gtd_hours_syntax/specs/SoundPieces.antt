@@ -1,5 +1,5 @@
 -- The numbers and times of a piece are in range.
-use Rattle.std.specs.Prelude.{Option, Some, None, IfSome}
+use Rattle.std.specs.Prelude.{Some, None, IfSome}
 use Rattle.gtd_osm.specs.Ranges.{IsMonth, IsWeekday}
 use Rattle.gtd_hours_parts.specs.Numbers.{IsPlaceNumber, IsStepNumber, IsWeekNumber, IsYearNumber}
 use Rattle.gtd_hours_syntax.specs.declared.piece.Piece.{Piece}

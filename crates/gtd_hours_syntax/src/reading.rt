@@ -130,7 +130,11 @@ fn advanced(reading: Reading, next: Option<Token>, step: Move) -> Reading
 }
 
 // What a reading comes to where no move can be made.
-fn end_or_fault(text: &[u8], now: Reading, next: Option<Token>) -> Result<Option<(Piece, Reading)>, HoursFault>
+fn end_or_fault(
+    text: &[u8],
+    now: Reading,
+    next: Option<Token>,
+) -> Result<Option<(Piece, Reading)>, HoursFault>
     ensures { result ≡ end_or_fault text.now now next }
 {
     match next {

@@ -1,5 +1,5 @@
 -- One piece more in a draft.
-use Rattle.std.proofs.Common.{Vec, Global, ◌≡◌, Bool, true, false, cond, List, [], ◌∷◌, ◌++◌, refl, sym, ap, subst, ◌∙◌}
+use Rattle.std.proofs.Common.{Vec, Global, ◌≡◌, Bool, true, false, List, [], ◌∷◌, ◌++◌, refl, sym, ap, subst, ◌∙◌}
 use Rattle.std.specs.List.{filter}
 use Rattle.gtd_osm.specs.declared.hours.Selector.{Selector}
 use Rattle.gtd_osm.specs.declared.hours.TimeRange.{TimeRange}
@@ -7,8 +7,8 @@ use Rattle.gtd_hours_parts.specs.declared.clock.ClockTime.{ClockTime}
 use Rattle.gtd_hours_syntax.specs.declared.piece.Piece.{Piece}
 use Rattle.gtd_hours_syntax.specs.declared.piece.Piece.TheVariants as piece
 use Rattle.gtd_hours_text.specs.declared.draft.Draft.{Draft}
-use Rattle.gtd_hours_text.specs.Adding.{AddsSelectors, AddsTimes, names_selectors}
-use Rattle.gtd_hours_text.specs.Drafts.{IsAdded, IsDraft}
+use Rattle.gtd_hours_text.specs.Adding.{AddsSelectors, AddsTimes}
+use Rattle.gtd_hours_text.specs.Drafts.{IsAdded}
 use Rattle.gtd_hours_text.specs.Standing.{AllSelectors, AllTimes, begins_rule, is_closed, is_one_rule}
 use Rattle.gtd_hours_text.specs.Standing.{names_month_days, names_times, names_weekdays, names_weeks, names_years}
 use Rattle.gtd_hours_text.proofs.DraftLemmas.{kept, left, selectors_more, times_more}

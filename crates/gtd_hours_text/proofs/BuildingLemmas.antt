@@ -1,12 +1,11 @@
 -- Hours that are being read.
-use Rattle.std.proofs.Common.{◌≡◌, Bool, true, false, List, [], ◌∷◌, ◌++◌, refl, sym, ap, subst, ◌∙◌, append_assoc}
+use Rattle.std.proofs.Common.{◌≡◌, false, List, [], ◌∷◌, ◌++◌, refl, sym, ap, subst, ◌∙◌, append_assoc}
 use Rattle.gtd_osm.specs.declared.hours.Link.{Link}
 use Rattle.gtd_osm.specs.declared.hours.Link.TheVariants as link
 use Rattle.gtd_osm.specs.declared.hours.Rule.{Rule}
 use Rattle.gtd_hours_syntax.specs.declared.piece.Piece.{Piece}
 use Rattle.gtd_hours_syntax.specs.declared.piece.Piece.TheVariants as piece
 use Rattle.gtd_hours_text.specs.declared.building.Building.{Building}
-use Rattle.gtd_hours_text.specs.declared.draft.Draft.{Draft}
 use Rattle.gtd_hours_text.specs.Drafts.{Builds, Drafted, IsAdded, IsBuilding, IsDraft}
 use Rattle.gtd_hours_text.specs.Standing.{AreRules, IsRule, begins_rule, is_one_rule}
 use Rattle.gtd_hours_text.proofs.AddingLemmas.{one_more}
@@ -49,8 +48,11 @@ drafted_ends l p rules k r rule is (Drafted.more a n b c q rest d first others e
 pub begun : (so_far : Building) → so_far.rules.items ≡ [] → IsDraft [] so_far.draft → so_far.draft.link ≡ link.Instead
     → IsBuilding [] so_far
 begun so_far none is same =
-    record { here = []; rules = Drafted.here link.Instead so_far.draft.link [] [] so_far.rules.items none (sym same) refl refl;
-    draft = is }
+    record {
+      here = [];
+      rules = Drafted.here link.Instead so_far.draft.link [] [] so_far.rules.items none (sym same) refl refl;
+      draft = is;
+    }
 
 pub part_built : (so_far : Building) (x : Piece) (then : Building) → begins_rule x ≡ false → IsAdded so_far.draft x then.draft
     → then.rules ≡ so_far.rules → Builds so_far x then

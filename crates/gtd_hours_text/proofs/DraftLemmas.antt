@@ -5,7 +5,6 @@ use Rattle.std.specs.List.{filter}
 use Rattle.std.proofs.lemmas.List.{append-nil}
 use Rattle.std.proofs.lemmas.List.Elements.{filter-append}
 use Rattle.gtd_osm.specs.declared.hours.Kind.{Kind}
-use Rattle.gtd_osm.specs.declared.hours.Link.{Link}
 use Rattle.gtd_osm.specs.declared.hours.Rule.{Rule}
 use Rattle.gtd_osm.specs.declared.hours.Selector.{Selector}
 use Rattle.gtd_osm.specs.declared.hours.TimeRange.{TimeRange}
@@ -13,11 +12,10 @@ use Rattle.gtd_hours_parts.specs.declared.clock.ClockTime.{ClockTime}
 use Rattle.gtd_hours_syntax.specs.declared.piece.Piece.{Piece}
 use Rattle.gtd_hours_syntax.specs.declared.piece.Piece.TheVariants as piece
 use Rattle.gtd_hours_text.specs.declared.draft.Draft.{Draft}
-use Rattle.gtd_hours_text.specs.Adding.{AddsSelectors, AddsTimes}
 use Rattle.gtd_hours_text.specs.Drafts.{IsDraft}
-use Rattle.gtd_hours_text.specs.Standing.{AllSelectors, AllTimes, AreSelectors, IsRule, begins_rule, is_closed, is_one_rule}
-use Rattle.gtd_hours_text.specs.Standing.{kind_if, modifier_of, names_month_days, names_times, names_weekdays, names_weeks}
-use Rattle.gtd_hours_text.specs.Standing.{names_years, selectors}
+use Rattle.gtd_hours_text.specs.Standing.{AllSelectors, AllTimes, AreSelectors, IsRule}
+use Rattle.gtd_hours_text.specs.Standing.{kind_if, modifier_of, names_times}
+use Rattle.gtd_hours_text.specs.Standing.{selectors}
 
 pub no_times : (xs : List TimeRange) → xs ≡ [] → AllTimes [] xs
 no_times [] e = record {}
@@ -27,7 +25,7 @@ no_times (x ∷ xs) e = absurd cc
 
 pub ruled : (p : List Piece) (draft : Draft) (rule : Rule) → IsDraft p draft → rule.link ≡ draft.link
     → selectors rule.kinds.items
-      ≡ kind_if draft.years.items ++ kind_if draft.month_days.items ++ kind_if draft.weeks.items ++ kind_if draft.weekdays.items
+    ≡ kind_if draft.years.items ++ kind_if draft.month_days.items ++ kind_if draft.weeks.items ++ kind_if draft.weekdays.items
     → rule.times ≡ draft.times → rule.modifier ≡ modifier_of draft.closed → IsRule draft.link p rule
 ruled p draft rule is l kinds times modifier = record {
   years = draft.years.items;

@@ -31,7 +31,10 @@ fn with_month_days(draft: Draft, piece: Piece) -> Result<Draft, AllocError>
     ensures { IfOk result (λ then. IsAdded draft piece then) }
 {
     let month_days = with_selectors(draft.month_days, piece)?;
-    Ok(Draft { month_days, ..draft })
+    Ok(Draft {
+        month_days,
+        ..draft
+    })
 }
 
 // Weeks more.

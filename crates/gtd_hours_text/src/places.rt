@@ -27,7 +27,12 @@ pub fn with_places(
 }
 
 // The weekday at each place from one to another.
-fn with_each(list: Vec<Selector>, weekday: u8, first: u16, last: u16) -> Result<Vec<Selector>, AllocError>
+fn with_each(
+    list: Vec<Selector>,
+    weekday: u8,
+    first: u16,
+    last: u16,
+) -> Result<Vec<Selector>, AllocError>
     requires weekday { IsWeekday weekday }
     requires first { 1 ≤ first }
     requires last { last ≤ 5 }

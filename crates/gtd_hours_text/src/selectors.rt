@@ -84,7 +84,11 @@ fn place_back_of(weekday: u8, number: Digits) -> Selector
 }
 
 // One selector more.
-fn with_one(list: Vec<Selector>, piece: Piece, selector: Selector) -> Result<Vec<Selector>, AllocError>
+fn with_one(
+    list: Vec<Selector>,
+    piece: Piece,
+    selector: Selector,
+) -> Result<Vec<Selector>, AllocError>
     requires one { AreSelectors piece (selector ∷ []) }
     ensures { IfOk result (λ then. AddsSelectors list.items piece then.items) }
 {
@@ -118,7 +122,11 @@ pub fn with_selectors(list: Vec<Selector>, piece: Piece) -> Result<Vec<Selector>
 }
 
 /// The times of a list, and behind them a range.
-pub fn with_times(list: Vec<TimeRange>, begin: ClockTime, last: ClockTime) -> Result<Vec<TimeRange>, AllocError>
+pub fn with_times(
+    list: Vec<TimeRange>,
+    begin: ClockTime,
+    last: ClockTime,
+) -> Result<Vec<TimeRange>, AllocError>
     requires sound { AreWrittenTimes begin last }
     ensures { IfOk result (λ then. AddsTimes list.items begin last then.items) }
 {

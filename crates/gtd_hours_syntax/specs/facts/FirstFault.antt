@@ -1,7 +1,7 @@
 -- A text has one first fault at most, and none where it is opening hours.
-use Rattle.std.proofs.Common.{◌≡◌, ℕ, Bool, true, false, List, [], ◌∷◌, ◌++◌, length, refl, sym, ap, subst, ◌∙◌, append_assoc}
+use Rattle.std.proofs.Common.{◌≡◌, ℕ, List, [], ◌∷◌, ◌++◌, length, refl, sym, ap, subst, ◌∙◌, append_assoc}
 use Rattle.std.proofs.lemmas.List.{append-nil}
-use Rattle.gtd_hours.specs.Lexing.{AreTokens, IsTokenFault}
+use Rattle.gtd_hours.specs.Lexing.{AreTokens}
 use Rattle.gtd_hours.specs.facts.WholeText.{apart, one_fault, one_list}
 use Rattle.gtd_hours.specs.declared.token.Token.{Token}
 use Rattle.gtd_hours.specs.declared.token.TokenKind.{TokenKind}
@@ -13,7 +13,7 @@ use Rattle.gtd_hours_syntax.specs.declared.piece.Piece.{Piece}
 use Rattle.gtd_hours_syntax.specs.declared.stage.Stage.{Stage}
 use Rattle.gtd_hours_syntax.specs.declared.stage.Stage.TheVariants as stage
 use Rattle.gtd_hours_syntax.specs.Grammar.{AreHours, CanGoOn, Follow, IsMonthDays, Listed, More, in_full, so_far}
-use Rattle.gtd_hours_syntax.specs.Faults.{FitsByPlace, IsFirstFault, IsHoursText, IsIncomplete, IsMisfit, IsMisfitKind, kinds}
+use Rattle.gtd_hours_syntax.specs.Faults.{IsFirstFault, IsHoursText, IsMisfit, IsMisfitKind, kinds}
 
 -- ---- what is a text in full can go on
 

@@ -1,4 +1,4 @@
-use Rattle.std.proofs.Common.{rules, [], ◌∷◌, ◌++◌, ◌≡◌, ◌<◌, IfSome, None, Ok, List, Option, Some, ap, ◌∙◌, ℕ, subst}
+use Rattle.std.proofs.Common.{[], ◌∷◌, ◌++◌, ◌≡◌, ◌<◌, IfSome, Ok, List, Option, Some, ap, ℕ, subst}
 use Rattle.gtd_hours_syntax.specs.declared.piece.Piece.{Piece}
 use Rattle.gtd_hours_syntax.specs.declared.reading.Reading.{Reading}
 use Rattle.gtd_hours_syntax.specs.Steps.{IsReading, moves_left}
@@ -27,12 +27,16 @@ loop-next-smaller c = fewer_left c.args.text.now c.loop-next.reading c.in_ok-nex
 
 pub loop-next-preserved : goal.loop-next-preserved
 loop-next-preserved c =
-    let given = c.loop-next.invariant.0 in
-    (given ++ c.in-Some.field-0-0 ∷ [], reads_on c.args.text.now given c.in_ok-next.field-0 c.in-Some.field-0-0 c.in-Some.next
-    c.in-Some.is (c.in_ok-next.ensures.piece given c.loop-next.invariant.1))
+    let given = c.loop-next.invariant.0 in (
+      given ++ c.in-Some.field-0-0 ∷ [],
+      reads_on c.args.text.now given c.in_ok-next.field-0 c.in-Some.field-0-0 c.in-Some.next
+          c.in-Some.is (c.in_ok-next.ensures.piece given c.loop-next.invariant.1),
+    )
 
 pub returns-clause-hours : goal.returns-clause-hours
 returns-clause-hours c =
-    let given = c.loop-next.invariant.0 in
-    (given, c.in_ok-next.ensures.all given c.loop-next.invariant.1
-    (ap (λ (o : Option (Piece × Reading)). Ok o) c.in_default.is))
+    let given = c.loop-next.invariant.0 in (
+      given,
+      c.in_ok-next.ensures.all given c.loop-next.invariant.1
+          (ap (λ (o : Option (Piece × Reading)). Ok o) c.in_default.is),
+    )

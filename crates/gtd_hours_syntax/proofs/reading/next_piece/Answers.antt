@@ -1,10 +1,7 @@
-use Rattle.std.proofs.Common.{rules, ◌≡◌, ◌<◌, ◌≤◌, ◌∷◌, ◌++◌, [], IfErr, IfOk, IfSome, List, Option, None, Ok, length, ℕ, arith, sym, subst}
+use Rattle.std.proofs.Common.{rules, ◌≡◌, ◌<◌, ◌≤◌, Option, None, ℕ, arith, subst}
 use Rattle.gtd_hours.specs.declared.token.TokenKind.{TokenKind}
-use Rattle.gtd_hours_syntax.specs.declared.piece.Piece.{Piece}
 use Rattle.gtd_hours_syntax.specs.declared.place.Move.{Move}
-use Rattle.gtd_hours_syntax.specs.declared.reading.Reading.{Reading}
-use Rattle.gtd_hours_syntax.specs.Faults.{IsFirstFault, IsHoursText}
-use Rattle.gtd_hours_syntax.specs.Steps.{IsMove, IsReading, advanced, moves_left}
+use Rattle.gtd_hours_syntax.specs.Steps.{IsMove}
 use Rattle.gtd_hours_syntax.proofs.ReadLemmas.{fewer, gives_piece, inside, keeps_more, stands_by}
 use Rattle.gtd_hours_syntax.proofs.SoundLemmas.{sound_piece}
 use Rattle.gtd_hours_syntax.proofs.EndLemmas.{ends_all, ends_fault}
@@ -37,40 +34,40 @@ returns-in_default-clause-fault c =
     let k = c.loop-step.invariant in
     let none : c.step_from.result ≡ None = search rules in
     let goes = subst (λ (n : Option TokenKind). IsMove c.loop-step.now.at n None) c.kind_of.ensures
-        (subst (λ (m : Option Move). IsMove c.loop-step.now.at c.kind_of.result m) none c.step_from.ensures.computed) in
+    (subst (λ (m : Option Move). IsMove c.loop-step.now.at c.kind_of.result m) none c.step_from.ensures.computed) in
     rw (c.end_or_fault.ensures) (ends_fault c.args.text.now c.loop-step.now k.some.0 c.token_behind-next.result
     (k.same k.some.0 k.some.1) c.token_behind-next.ensures.next goes)
 
 pub returns-in-Some-piece-clause-piece : goal.returns-in-Some-piece-clause-piece
 returns-in-Some-piece-clause-piece c = λ given is.
     let stands = stands_by c.args.text.now c.loop-step.now c.token_behind-next.result c.kind_of.result c.in-Some.step
-        c.kind_of.ensures c.token_behind-next.ensures.next c.token_behind-next.ensures.past c.token_behind-next.ensures.inside
-        c.in-Some.ensures.computed c.in-Some.ensures.good in
+    c.kind_of.ensures c.token_behind-next.ensures.next c.token_behind-next.ensures.past c.token_behind-next.ensures.inside
+    c.in-Some.ensures.computed c.in-Some.ensures.good in
     rw (c.advanced-now.ensures) (gives_piece c.args.text.now c.args.reading c.loop-step.now c.token_behind-next.result
     c.in-Some.step c.in-Some-piece.piece c.loop-step.invariant stands c.in-Some-piece.is given is)
 
 pub returns-in-Some-piece-clause-nearer : goal.returns-in-Some-piece-clause-nearer
 returns-in-Some-piece-clause-nearer c =
     let stands = stands_by c.args.text.now c.loop-step.now c.token_behind-next.result c.kind_of.result c.in-Some.step
-        c.kind_of.ensures c.token_behind-next.ensures.next c.token_behind-next.ensures.past c.token_behind-next.ensures.inside
-        c.in-Some.ensures.computed c.in-Some.ensures.good in
+    c.kind_of.ensures c.token_behind-next.ensures.next c.token_behind-next.ensures.past c.token_behind-next.ensures.inside
+    c.in-Some.ensures.computed c.in-Some.ensures.good in
     let less = fewer c.args.text.now c.loop-step.now c.token_behind-next.result c.in-Some.step
-        (inside c.args.text.now c.args.reading c.loop-step.now c.loop-step.invariant) stands in
+    (inside c.args.text.now c.args.reading c.loop-step.now c.loop-step.invariant) stands in
     rw (c.advanced-now.ensures) (at_most c.loop-step.invariant.left less)
 
 pub loop-step-smaller : goal.loop-step-smaller
 loop-step-smaller c =
     let stands = stands_by c.args.text.now c.loop-step.now c.token_behind-next.result c.kind_of.result c.in-Some.step
-        c.kind_of.ensures c.token_behind-next.ensures.next c.token_behind-next.ensures.past c.token_behind-next.ensures.inside
-        c.in-Some.ensures.computed c.in-Some.ensures.good in
+    c.kind_of.ensures c.token_behind-next.ensures.next c.token_behind-next.ensures.past c.token_behind-next.ensures.inside
+    c.in-Some.ensures.computed c.in-Some.ensures.good in
     rw (c.advanced-now.ensures) (fewer c.args.text.now c.loop-step.now c.token_behind-next.result c.in-Some.step
     (inside c.args.text.now c.args.reading c.loop-step.now c.loop-step.invariant) stands)
 
 pub loop-step-preserved : goal.loop-step-preserved
 loop-step-preserved c =
     let stands = stands_by c.args.text.now c.loop-step.now c.token_behind-next.result c.kind_of.result c.in-Some.step
-        c.kind_of.ensures c.token_behind-next.ensures.next c.token_behind-next.ensures.past c.token_behind-next.ensures.inside
-        c.in-Some.ensures.computed c.in-Some.ensures.good in
+    c.kind_of.ensures c.token_behind-next.ensures.next c.token_behind-next.ensures.past c.token_behind-next.ensures.inside
+    c.in-Some.ensures.computed c.in-Some.ensures.good in
     let none : c.in-Some.step.piece ≡ None = search rules in
     rw (c.advanced-now.ensures) (keeps_more c.args.text.now c.args.reading c.loop-step.now c.token_behind-next.result
     c.in-Some.step c.loop-step.invariant stands none)

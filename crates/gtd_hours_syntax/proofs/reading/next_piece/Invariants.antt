@@ -1,4 +1,3 @@
-use Rattle.std.proofs.Common.{ℕ}
 use Rattle.gtd_hours_syntax.specs.Steps.{moves_left}
 use Rattle.gtd_hours_syntax.proofs.ReadLemmas.{Keeps}
 use Rattle.gtd_hours_syntax.proofs.reading.next_piece.Given as goal

@@ -1,5 +1,4 @@
 use Rattle.std.proofs.Common.{[], refl}
-use Rattle.std.specs.List.{filter}
 use Rattle.gtd_hours_text.specs.Standing.{AllSelectors}
 use Rattle.gtd_hours_text.proofs.DraftLemmas.{no_times}
 use Rattle.gtd_hours_text.proofs.draft.new_draft.Goals as goal

@@ -1,4 +1,4 @@
-use Rattle.std.proofs.Common.{ℕ, ◌-◌, ◌+◌}
+use Rattle.std.proofs.Common.{◌-◌, ◌+◌}
 use Rattle.gtd_hours_text.specs.Adding.{AddsUpTo}
 use Rattle.gtd_hours_text.proofs.places.with_each.Given as goal
 

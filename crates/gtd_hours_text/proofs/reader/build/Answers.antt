@@ -1,4 +1,4 @@
-use Rattle.std.proofs.Common.{◌≡◌, ◌∷◌, ◌++◌, IfOk, List, Result, Ok, Err, [], ℕ, refl}
+use Rattle.std.proofs.Common.{◌∷◌, ◌++◌, IfOk, List, Result, Ok, Err, [], ℕ, refl}
 use Rattle.std.specs.declared.alloc.AllocError.{AllocError}
 use Rattle.gtd_osm.specs.declared.hours.Hours.{Hours}
 use Rattle.gtd_osm.specs.declared.hours.Link.TheVariants as link
