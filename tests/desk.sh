@@ -267,11 +267,31 @@ expect 'hours of no domain' 1 '' 'gtdesk: DOMAIN: FieldRange at 1'
 run hours --of ''
 expect 'hours of nothing' 1 '' 'gtdesk: DOMAIN: Incomplete at 0'
 run hours
-expect 'hours without an option' 2 '' "gtdesk: command line: one or more required arguments were not provided $see"
-run hours Mo-Fr
-expect 'hours of a text' 2 '' "gtdesk: command line: unexpected argument found $see"
+expect 'hours of neither' 2 '' "gtdesk: command line: hours takes either TEXT or --of DOMAIN $see"
+run hours Mo-Fr --of '(h0m0){d1}'
+expect 'hours of both' 2 '' "gtdesk: command line: hours takes either TEXT or --of DOMAIN $see"
+run hours Mo Fr
+expect 'hours of two texts' 2 '' "gtdesk: command line: unexpected argument found $see"
 run hours --of
 expect 'hours without a domain' 2 '' "gtdesk: command line: one of the values isn't valid for an argument $see"
+
+# The domain of opening hours.
+run hours 'Mo-Fr 08:00-17:00'
+expect 'a text of hours' 0 '[[(t2t3t4t5t6h0m0){d1}]*[(h8m0){m540}]]' ''
+run hours '24/7; Dec 25 off'
+expect 'a text of two rules' 0 '[[(h0m0){d1}]-[(M12d25h0m0){d1}]]' ''
+run hours 'Mo-Fr 7:30-12:00'
+expect 'a byte that begins no token' 1 '' 'gtdesk: TEXT: BadToken at 6'
+run hours 'Mo-Fr 08:00-18:00; PH off'
+expect 'holidays' 1 '' 'gtdesk: TEXT: Unsupported at 19'
+run hours 'Apr 10-31'
+expect 'a day that its month never has' 1 '' 'gtdesk: TEXT: Range at 7'
+run hours ''
+expect 'an empty text of hours' 1 '' 'gtdesk: TEXT: Incomplete at 0'
+run hours '1800-2056/2'
+expect 'a domain too large' 1 '' 'gtdesk: TEXT: TooMany at 0'
+run hours $'Mo\xff'
+expect 'hours that are no text' 2 '' "gtdesk: command line: a word is no text $see"
 
 # Warnings: after the faults, of rows whose domain never or always holds.
 printf '%s\n' element,direction,vehicle,domain '1,both,0,[(h5){h1}]*[(h7){h1}]' '2,both,0,(h0){h24}' '3,up,0,' \
@@ -307,6 +327,9 @@ expect 'a full output for help' 3 '' 'gtdesk: standard output: cannot be written
 "$program" hours --of '(h0m0){d1}' > /dev/full 2> err
 status=$?
 expect 'a full output for hours' 3 '' 'gtdesk: standard output: cannot be written'
+"$program" hours 24/7 > /dev/full 2> err
+status=$?
+expect 'a full output for the domain of hours' 3 '' 'gtdesk: standard output: cannot be written'
 : > err
 "$program" now gone.csv 2024-04-01T10:00:00 11 2> /dev/full
 status=$?

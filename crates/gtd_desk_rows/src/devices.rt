@@ -20,11 +20,12 @@ static FILE_COMMANDS: [&[&str]; 4] = [
 ];
 
 // Commands that read no file.
-static OTHER_COMMANDS: [&[&str]; 4] = [
+static OTHER_COMMANDS: [&[&str]; 5] = [
     &["words", "[(M4d1){M3}]*[(h10){h4}]"],
     &["picture-domain", "(h10){h4}", "2024"],
     &["help"],
     &["hours", "--of", "(t2h0m0){d1}*(h7m0){m120}"],
+    &["hours", "Mo 07:00-09:00"],
 ];
 
 // The bytes of `R`, in pieces of 7 at most: 13 pieces, and the 14th pull finds the end.
@@ -347,6 +348,7 @@ fn writers_that_are_interrupted(rt: HostRuntime) {
         OTHER_COMMANDS[1],
         OTHER_COMMANDS[2],
         hours,
+        OTHER_COMMANDS[4],
     ] {
         expect_over_writer(&rt, alloc, words, 999, true, true, Ok(Ending::Done));
         expect_over_writer(&rt, alloc, words, 1_000, true, true, refused);
@@ -394,7 +396,7 @@ impl Output for Counting {
 #[test]
 fn lines_and_ends_of_outputs(rt: HostRuntime) {
     let alloc = rt.alloc();
-    let table: [(&[&str], u64); 8] = [
+    let table: [(&[&str], u64); 9] = [
         (FILE_COMMANDS[0], 3),
         (FILE_COMMANDS[1], 0),
         (FILE_COMMANDS[2], 0),
@@ -403,6 +405,7 @@ fn lines_and_ends_of_outputs(rt: HostRuntime) {
         (OTHER_COMMANDS[1], 368),
         (OTHER_COMMANDS[2], 1),
         (OTHER_COMMANDS[3], 1),
+        (OTHER_COMMANDS[4], 1),
     ];
     for (words, puts) in table {
         let plan = planned(&rt, alloc, words);

@@ -19,6 +19,8 @@ mod plans;
 #[cfg(test)]
 mod refusals;
 #[cfg(test)]
+mod texts;
+#[cfg(test)]
 mod usage;
 #[cfg(test)]
 mod warnings;

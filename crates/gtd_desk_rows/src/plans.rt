@@ -420,7 +420,7 @@ fn years_of_domains_that_are_refused(rt: HostRuntime) -> Result<(), Fail> {
 // The file that each plan reads, if it reads one.
 #[test]
 fn files_of_plans(rt: HostRuntime) {
-    let table: [(&[&str], Option<&str>); 8] = [
+    let table: [(&[&str], Option<&str>); 9] = [
         (&["now", "r.csv", MOMENT, "11"], Some("r.csv")),
         (&["faults", "--warn", "-"], Some("-")),
         (
@@ -430,6 +430,7 @@ fn files_of_plans(rt: HostRuntime) {
         (&["picture-domain", "(h1){h1}", "2024"], None),
         (&["words", "(h1){h1}"], None),
         (&["hours", "--of", "(h1){h1}"], None),
+        (&["hours", "24/7"], None),
         (&["help"], None),
         (&["--version"], None),
     ];

@@ -108,6 +108,13 @@ fn the_hours_of_a_domain(rt: HostRuntime) {
 }
 
 #[test]
+fn the_domain_of_hours(rt: HostRuntime) {
+    let words = ["hours", "Mo-Fr 07:00-09:00,16:00-18:00"];
+    let text = "[[(t2t3t4t5t6h0m0){d1}]*[[(h7m0){m120}]+[(h16m0){m120}]]]\n";
+    expect_put(&rt, rt.alloc(), &words, "", Ending::Done, text, true);
+}
+
+#[test]
 fn the_version(rt: HostRuntime) {
     let text = "gtdesk 0.1.0\n";
     expect_put(

@@ -38,7 +38,7 @@ static NO_COMMANDS: [(&[&str], &str); 12] = [
 ];
 
 // Commands with too few words.
-static FEWER: [&[&str]; 15] = [
+static FEWER: [&[&str]; 14] = [
     &["now"],
     &["now", "r.csv"],
     &["now", "r.csv", MOMENT],
@@ -46,7 +46,6 @@ static FEWER: [&[&str]; 15] = [
     &["faults"],
     &["faults", "--warn"],
     &["words"],
-    &["hours"],
     &["picture"],
     &["picture", "r.csv"],
     &["picture", "r.csv", "17"],
@@ -68,8 +67,8 @@ static MORE: [&[&str]; 17] = [
     &["faults", "--", "--warn", "r.csv"],
     &["words", "(h1){h1}", "(h1){h1}"],
     &["words", "-(h1){h1}"],
-    &["hours", "(h0m0){d1}"],
-    &["hours", "--of", "(h0m0){d1}", "Mo-Fr"],
+    &["hours", "Mo", "Fr"],
+    &["hours", "-Mo"],
     &["hours", "--for", "(h0m0){d1}"],
     &["picture", "r.csv", "17", "positive", "11", "2024", "2025"],
     &["picture", "r.csv", "-17", "positive", "11", "2024"],

@@ -3,7 +3,7 @@
 //! growths, and checks that the first request was the only one.
 
 use crate::common::{R, planned};
-use gtd_desk::{Ending, Plan, Refusal, WordFault, perform};
+use gtd_desk::{Ending, NoDomain, Plan, Refusal, WordFault, perform};
 use gtd_devices::{MemoryIn, MemoryOut};
 use gtd_records::RecordFault;
 use std::alloc::Global;
@@ -26,6 +26,7 @@ fn expect_statuses(rt: &impl Abort) {
     assert!(rt; Refusal::Vehicle.status() == 1);
     assert!(rt; Refusal::Word(WordFault::Year).status() == 1);
     assert!(rt; Refusal::NoHours.status() == 1);
+    assert!(rt; Refusal::NoDomain(NoDomain::TooMany).status() == 1);
     assert!(rt; Refusal::NoElement.status() == 1);
     assert!(rt; Refusal::Records(RecordFault::Header).status() == 1);
     assert!(rt; Refusal::Records(RecordFault::ReadFault).status() == 3);

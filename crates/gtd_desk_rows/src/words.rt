@@ -131,7 +131,7 @@ static USAGE: [(&str, &str); 6] = [
     ("now", "Usage: gtdesk now <FILE> <MOMENT> <VEHICLE>"),
     ("faults", "Usage: gtdesk faults [OPTIONS] <FILE>"),
     ("words", "Usage: gtdesk words <DOMAIN>"),
-    ("hours", "Usage: gtdesk hours --of <DOMAIN>"),
+    ("hours", "Usage: gtdesk hours <TEXT|--of <DOMAIN>>"),
     (
         "picture",
         "Usage: gtdesk picture <FILE> <ELEMENT> <DIRECTION> <VEHICLE> <YEAR>",
