@@ -1,10 +1,10 @@
 #!/usr/bin/env python3
 """The built program `gtdesk hours TEXT` beside the plain models of hours and of domains.
 
-For each row of tests/hours/texts.csv, the domain that is printed contains the same minutes of four years as the hours by the model
-of hours, and as the domain beside them. For each row of tests/hours/faults.csv, that fault is printed, and nothing else. Then, for
-SECONDS, random texts of the grammar, whose domains are compared at random seconds and around each change, and damaged ones, whose
-faults are compared. Run it after `rt ci`, which builds the programs.
+For each row of tests/hours/texts.csv, the domain that is printed contains the same minutes of four years as the hours by the
+model of hours, and as the domain beside them. For each row of tests/hours/faults.csv, that fault is printed, and nothing else.
+Then, for SECONDS, random texts of the grammar, whose domains are compared at random seconds and around each change, and damaged
+ones, whose faults are compared. Run it after `rt ci`, which builds the programs.
 
 Usage: tests/hours_program.py [SECONDS [SEED]]    (without SECONDS no random texts; the same seed makes the same texts)
 """
@@ -63,7 +63,8 @@ def check_random(maker):
     text = maker.text()
     for damaged in (maker.damaged(text) for _ in range(3)):
         known, fault = hours.fault_of(damaged.encode()), run(damaged)[1]
-        expect(known is None and fault in (None, "TooMany at 0") or known and fault == "%s at %d" % known, f"{damaged!r}: {fault}")
+        same = fault in (None, "TooMany at 0") if known is None else fault == "%s at %d" % known
+        expect(same, f"{damaged!r}: {fault}, and not {known}")
     domain, fault = run(text)
     if fault == "TooMany at 0":
         return False

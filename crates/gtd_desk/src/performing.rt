@@ -139,8 +139,8 @@ fn print_words<O: Output>(alloc: Global, output: &mut O, domain: &Domain) -> Res
 /// if the plan reads none, nothing is pulled.
 ///
 /// `Records` is the file's first fault, or why the input failed; `NoHours` is answered if no opening hours are found for a
-/// domain, `NoDomain` if a text is no opening hours or the domain of these is too large, and `Write` and `Memory` if the output failed and if memory was refused. Before the call, the failures of both
-/// devices must be below `u64::MAX`.
+/// domain, `NoDomain` if a text is no opening hours or the domain of these is too large, and `Write` and `Memory` if the output
+/// failed and if memory was refused. Before the call, the failures of both devices must be below `u64::MAX`.
 pub fn perform<I: Input, O: Output>(
     alloc: Global,
     plan: &Plan,

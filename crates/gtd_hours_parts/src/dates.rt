@@ -90,7 +90,7 @@ pub fn to_month_day(first: YearDate, month: u8, day: Digits) -> Option<Dated>
     ensures first { IfSome result (λ x. x.first ≡ first) }
     ensures last { IfSome result
         (λ x. (x.last.year ≡ last_year first.year first.month first.day month day.value) × (x.last.month ≡ month)
-            × (x.last.day ≡ day.value)) }
+        × (x.last.day ≡ day.value)) }
     ensures accepted { IsSome result ↔ EndsOn first.year first.month first.day
         (last_year first.year first.month first.day month day.value) month day }
 {
@@ -105,7 +105,7 @@ pub fn to_year_day(first: YearDate, day: Digits) -> Option<Dated>
     ensures first { IfSome result (λ x. x.first ≡ first) }
     ensures last { IfSome result
         (λ x. (x.last.year ≡ last_year first.year first.month first.day first.month day.value)
-            × (x.last.month ≡ first.month) × (x.last.day ≡ day.value)) }
+        × (x.last.month ≡ first.month) × (x.last.day ≡ day.value)) }
     ensures accepted { IsSome result ↔ EndsOn first.year first.month first.day
         (last_year first.year first.month first.day first.month day.value) first.month day }
 {
