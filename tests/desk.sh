@@ -50,6 +50,8 @@ run hours --help
 expect 'help of the command hours' 0 "$(cat "$top/tests/desk/hours.txt")" ''
 run help hours
 expect 'the command help with the command hours' 0 "$(cat "$top/tests/desk/hours.txt")" ''
+run records --help
+expect 'help of the command records' 0 "$(cat "$top/tests/desk/records.txt")" ''
 run --version
 expect 'version' 0 'gtdesk 0.1.0' ''
 
@@ -306,8 +308,9 @@ run faults warn.csv --warn
 expect 'warnings alone' 0 $'warn.csv:2: row 1: never holds\nwarn.csv:3: row 2: always holds
 warn.csv:6: row 5: never holds\nwarn.csv:7: row 6: never holds' ''
 
-# Scripts of their own: a long file that is mended by what is printed of it, and the table of words beside pictures.
-for script in mend.py words.py; do
+# Scripts of their own: a long file that is mended by what is printed of it, and the tables of words and of opening hours beside
+# pictures.
+for script in mend.py words.py hours_table.py; do
     if "$top/tests/$script" > out 2>&1; then
         passed=$((passed + 1))
     else
@@ -315,6 +318,34 @@ for script in mend.py words.py; do
         echo "FAILED $script: $(cat out)"
     fi
 done
+
+# Files of opening hours.
+printf '%s\n' element,direction,vehicles,hours '1,both,0,Fr 22:00-04:00' '2,positive,12;11,' > hours.csv
+run records hours.csv
+expect 'records' 0 $'element,direction,vehicles,domain\n1,both,0,[[(t6h22m0){d1}]*[(h22m0){m360}]]\n2,positive,11;12,' ''
+"$program" records - < hours.csv > out 2> err
+status=$?
+expect 'records of standard input' 0 $'element,direction,vehicles,domain\n1,both,0,[[(t6h22m0){d1}]*[(h22m0){m360}]]
+2,positive,11;12,' ''
+printf '%s\n' element,direction,vehicles,hours '1,both,0,Apr 10-31' '1,up,0,24/7' '1,both,0,24/7' '1,both,0,1800-2056/2' > bad.csv
+run records bad.csv
+expect 'faults of hours' 1 '' $'bad.csv:2: row 1: Hours Range at 7\n    Apr 10-31\n           ^\nbad.csv:3: row 2: Direction
+    up\n    ^\nbad.csv:5: row 4: Hours TooMany at 0\n    1800-2056/2\n    ^'
+run records a.csv
+expect 'no file of hours' 1 '' $'a.csv:1: Header\n    found:    element,direction,vehicle,domain
+    expected: element,direction,vehicles,hours'
+run records gone.csv
+expect 'no such file of hours' 3 '' 'gtdesk: gone.csv: cannot be opened'
+run records .
+expect 'a folder of hours' 3 '' 'gtdesk: .: ReadFault'
+"$program" records hours.csv > /dev/full 2> err
+status=$?
+: > out
+expect 'a full output for records' 3 '' 'gtdesk: standard output: cannot be written'
+"$program" records bad.csv > out 2> /dev/full
+status=$?
+: > err
+expect 'a full output for the faults of hours' 1 '' ''
 
 # Outputs that fail.
 : > out

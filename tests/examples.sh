@@ -92,12 +92,12 @@ sed -n 's/^|.* | `\([^`]*\)` |$/\1/p' "$top/docs/RESTRICTIONS.md" > "$room/domai
 shown docs/RESTRICTIONS.md
 
 # The table: a row holds a command and the file that it makes. A file that no row names fails.
-sed -n 's/^| `\(gtd [^`]*\)` | `\([^`]*\)` |$/\1\t\2/p' README.md > "$room/table"
+sed -n 's/^| `\(gtd[a-z]* [^`]*\)` | `\([^`]*\)` |$/\1\t\2/p' README.md > "$room/table"
 while IFS=$'\t' read -r command file; do
     compare examples/README.md "$command" "$file"
 done < "$room/table"
 must_show examples/README.md "$(wc -l < "$room/table")"
-for file in *.schedule.csv *.migrated.csv *.year.txt; do
+for file in *.schedule.csv *.migrated.csv *.records.csv *.year.txt; do
     grep -q $'\t'"$file\$" "$room/table" && continue
     failed=$((failed + 1))
     echo "FAILED examples/README.md: no row makes $file"

@@ -335,22 +335,33 @@ def text_of(selector, alone=True):
     return f"{WEEKDAYS[first - 1]}[{'-' if kind == 'back' else ''}{last}]"
 
 
-def text_of_rule(rule, ends):
-    """A rule as a text. Before a comma it has a modifier, so that the comma does not go on with a list."""
+def has_times(rule):
+    return rule.times != [(0, DAY)]
+
+
+def needs_word(rule, following):
+    """Whether the comma of the next rule would go on with the times or the selectors that an open rule ends in."""
+    if not following or not following[0].adds:
+        return False
+    goes_on = has_times(following[0]) and not following[0].kinds
+    return goes_on if has_times(rule) else bool(rule.kinds)
+
+
+def text_of_rule(rule, following):
+    """A rule as a text, where these follow."""
     words = []
     for kind, selectors in rule.kinds.items():
         listed = ",".join(text_of(selector, list(rule.kinds) == ["years"]) for selector in selectors)
         words.append("week " + listed if kind == "weeks" else listed)
-    if rule.times != [(0, DAY)]:
+    if has_times(rule):
         ranges = [(begin, end if end <= 2 * DAY else end - DAY) for begin, end in rule.times]
         words.append(",".join(f"{a // 60:02}:{a % 60:02}-{b // 60:02}:{b % 60:02}" for a, b in ranges))
     words += [] if words else ["24/7"]
-    words += ["off"] if not rule.opens else [] if ends else ["open"]
+    words += ["off"] if not rule.opens else ["open"] if needs_word(rule, following) else []
     return " ".join(words)
 
 
 def print_rules(rules):
     """A text of rules that means the same."""
-    following = [rule.adds for rule in rules[1:]] + [False]
-    parts = [text_of_rule(rule, not adds) for rule, adds in zip(rules, following)]
+    parts = [text_of_rule(rule, rules[at + 1:]) for at, rule in enumerate(rules)]
     return parts[0] + "".join((", " if rule.adds else "; ") + part for rule, part in zip(rules[1:], parts[1:]))

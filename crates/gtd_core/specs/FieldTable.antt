@@ -1,7 +1,9 @@
 -- The fields of a start and of a duration, each once, in the order of canonical texts: its letter, the numbers that it may
--- have, and what it gives. The ranges are this project's own; weeks are those of ISO 8601, and weekdays run from 1, Sunday, to
--- 7, Saturday.
-use Rattle.std.specs.Prelude.{ℕ, ◌-◌, ◌/◌, ◌%◌, ◌^◌, Bool, true, ◌&&◌, ◌==◌, nat_le, List, [], ◌∷◌, Some, bit_or, if◌then◌else◌}
+-- have, what it gives, and what a canonical text shows of it. The ranges are this project's own; weeks are those of ISO 8601,
+-- and weekdays run from 1, Sunday, to 7, Saturday.
+use Rattle.std.specs.Prelude.{ℕ, ◌+◌, ◌-◌, ◌/◌, ◌%◌, ◌^◌, Bool, true, false, ◌&&◌, ◌==◌, nat_le, List, [], ◌∷◌, Option, Some}
+use Rattle.std.specs.Prelude.{None, bit_or, decimal, if◌then◌else◌}
+use Rattle.std.specs.List.{flat_map}
 use Rattle.gtd_core.specs.declared.start.StartParts.{StartParts}
 use Rattle.gtd_core.specs.declared.duration.DurationParts.{DurationParts}
 
@@ -57,3 +59,49 @@ duration_fields =
 abbrev pub at_letter : {Parts A : Type 0} → List (FieldRow Parts) → (FieldRow Parts → A) → A → ℕ → A
 at_letter [] value other letter = other
 at_letter (row ∷ rows) value other letter = if letter == row.letter then value row else at_letter rows value other letter
+
+-- ---- what a canonical text shows of a field: the digits of each of its numbers
+
+-- A number has no leading zeros.
+abbrev pub number_digits : Option ℕ → List (List ℕ)
+number_digits None = []
+number_digits (Some n) = decimal n ∷ []
+
+-- A year has four digits.
+abbrev pub year_digits : Option ℕ → List (List ℕ)
+year_digits None = []
+year_digits (Some year) = ((48 + year / 1000) ∷ (48 + year / 100 % 10) ∷ (48 + year / 10 % 10) ∷ (48 + year % 10) ∷ []) ∷ []
+
+-- A place is two digits: the number, and the weekday.
+abbrev pub place_digits : Option (ℕ × ℕ) → List (List ℕ)
+place_digits None = []
+place_digits (Some place) = ((48 + place.0) ∷ (48 + place.1) ∷ []) ∷ []
+
+-- Weekday k is shown where bit k - 1 is set.
+abbrev pub weekday_digits : ℕ → ℕ → List (List ℕ)
+weekday_digits weekdays k = if weekdays / 2 ^ (k - 1) % 2 == 1 then ((48 + k) ∷ []) ∷ [] else []
+
+-- The weekdays come in ascending order, each once.
+abbrev pub weekdays_digits : ℕ → List (List ℕ)
+weekdays_digits weekdays = flat_map (weekday_digits weekdays) (1 ∷ 2 ∷ 3 ∷ 4 ∷ 5 ∷ 6 ∷ 7 ∷ [])
+
+-- A number of a duration is left out if it is 0.
+abbrev pub nonzero_digits : ℕ → List (List ℕ)
+nonzero_digits n = if n == 0 then [] else decimal n ∷ []
+
+-- One column more of `start_fields`, row by row.
+abbrev pub start_digits : List (StartParts → List (List ℕ))
+start_digits =
+    (λ parts. year_digits parts.year) ∷ (λ parts. number_digits parts.month) ∷ (λ parts. number_digits parts.week)
+    ∷ (λ parts. place_digits parts.nth) ∷ (λ parts. place_digits parts.nth_back) ∷ (λ parts. number_digits parts.day)
+    ∷ (λ parts. weekdays_digits parts.weekdays)
+    ∷ (λ parts. number_digits parts.hour) ∷ (λ parts. number_digits parts.minute) ∷ (λ parts. number_digits parts.second)
+    ∷ []
+
+-- One column more of `duration_fields`.
+abbrev pub duration_digits : List (DurationParts → List (List ℕ))
+duration_digits =
+    (λ parts. nonzero_digits parts.years) ∷ (λ parts. nonzero_digits parts.months) ∷ (λ parts. nonzero_digits parts.weeks)
+    ∷ (λ parts. nonzero_digits parts.days)
+    ∷ (λ parts. nonzero_digits parts.hours) ∷ (λ parts. nonzero_digits parts.minutes) ∷ (λ parts. nonzero_digits parts.seconds)
+    ∷ []

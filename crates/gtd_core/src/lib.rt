@@ -14,6 +14,7 @@ mod domain;
 mod duration;
 mod equality;
 mod fault;
+pub mod fields;
 mod horizon;
 pub mod laws;
 pub mod limits;

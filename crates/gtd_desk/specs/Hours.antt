@@ -1,9 +1,8 @@
--- What the words of `hours` stand for, which lines are hours of a domain, and which lines are the domain of hours.
+-- Which lines are hours of a domain, and which lines are the domain of hours.
 use Rattle.std.specs.Prelude.{◌≡◌, ◌↔◌, ◌++◌, ◌<◌, ℕ, ℤ, List, codes}
 use Rattle.gtd_core.specs.Limits.{most_basic_domains}
 use Rattle.gtd_core.specs.Parts.{domain_tree}
 use Rattle.gtd_core.specs.declared.domain.Domain.{Domain}
-use Rattle.gtd_core.specs.declared.fault.TextFault.{TextFault}
 use Rattle.gtd_hours_of.specs.Membership.{InDomain}
 use Rattle.gtd_hours_syntax.specs.Faults.{IsFirstFault}
 use Rattle.gtd_hours_text.specs.Standing.{StandsFor}
@@ -12,18 +11,16 @@ use Rattle.gtd_osm.specs.Opening.{IsOpen}
 use Rattle.gtd_osm.specs.Written.{hours_text}
 use Rattle.gtd_osm.specs.declared.hours.Hours.{Hours}
 use Rattle.gtd_text.specs.Canonical.{canonical}
-use Rattle.gtd_text.specs.Reading.{IsFault}
-use Rattle.gtd_desk.specs.CommandLine.{AreHoursWords, HoursTexts, Text}
-use Rattle.gtd_desk.specs.Pictures.{IsReadDomain}
-use Rattle.gtd_desk.specs.declared.refusal.NoDomain.{NoDomain}
-use Rattle.gtd_desk.specs.declared.refusal.NoDomain.TheVariants as none
-use Rattle.gtd_desk.specs.declared.refusal.WordFault.{WordFault}
-use Rattle.gtd_desk.specs.declared.refusal.WordFault.TheVariants as word
+use Rattle.gtd_desk_plans.specs.CommandLine.{Text}
+use Rattle.gtd_desk_plans.specs.declared.refusal.NoDomain.{NoDomain}
+use Rattle.gtd_desk_plans.specs.declared.refusal.NoDomain.TheVariants as none
 
--- The line is the written text of some hours, with a line end, and these are open at exactly the seconds of the domain.
+-- The line is the written text of some hours, with a line end. The text stands for these hours, and they are open at exactly the
+-- seconds of the domain.
 pub record IsHoursLine (domain : Domain) (line : List ℕ) : Type 0 where
   pub hours : Hours
   pub written : line ≡ hours_text hours ++ codes "\n"
+  pub stands : StandsFor (hours_text hours) hours
   pub same : (s : ℤ) → IsOpen hours s ↔ InDomain domain s
 
 -- The line is the canonical text of some domain, with a line end, and this has exactly the seconds at which the hours are open
@@ -39,17 +36,3 @@ pub record IsDomainLine (text : Text) (line : List ℕ) : Type 0 where
 abbrev pub IsNoDomainOf : Text → NoDomain → Type 0
 IsNoDomainOf text (none.Fault why) = IsFirstFault text why
 IsNoDomainOf text none.TooMany = (hours : Hours) × StandsFor text hours × (most_basic_domains < hours_cost hours)
-
--- The words ask for opening hours of a domain.
-pub record AskForHours (words : List Text) (domain : Domain) : Type 0 where
-  pub text : Text
-  pub given : AreHoursWords words (HoursTexts.of_domain text)
-  pub read : IsReadDomain text domain
-
--- The words give the command `hours --of`, and its word has this fault.
-pub record HaveHoursFault (words : List Text) (fault : WordFault) : Type 0 where
-  pub text : Text
-  pub given : AreHoursWords words (HoursTexts.of_domain text)
-  pub why : TextFault
-  pub is : fault ≡ word.Domain why
-  pub has : IsFault text why

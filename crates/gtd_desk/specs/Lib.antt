@@ -1,11 +1,12 @@
-pub mod CommandLine
-pub mod Plans
-pub mod Given
 pub mod Hours
 pub mod Lines
-pub mod Pictures
 pub mod Running
 pub use Rattle.gtd_core.specs.Seconds
+pub use Rattle.gtd_desk_plans.specs.CommandLine
+pub use Rattle.gtd_desk_plans.specs.Given
+pub use Rattle.gtd_desk_plans.specs.Plans
+pub use Rattle.gtd_desk_plans.specs.Statuses
+pub use Rattle.gtd_desk_plans.specs.Words
 pub use Rattle.gtd_hours_of.specs.Membership
 pub use Rattle.gtd_osm.specs.Opening
 pub use Rattle.gtd_osm.specs.Written

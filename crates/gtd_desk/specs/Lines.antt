@@ -7,12 +7,12 @@ use Rattle.gtd_faults.specs.Listing.{fault_text}
 use Rattle.gtd_faults.specs.Printable.{printable}
 use Rattle.gtd_hours_syntax.specs.declared.fault.FaultKind.{FaultKind}
 use Rattle.gtd_hours_syntax.specs.declared.fault.FaultKind.TheVariants as kind
-use Rattle.gtd_desk.specs.declared.refusal.NoDomain.{NoDomain}
-use Rattle.gtd_desk.specs.declared.refusal.NoDomain.TheVariants as none
-use Rattle.gtd_desk.specs.declared.refusal.Refusal.{Refusal}
-use Rattle.gtd_desk.specs.declared.refusal.Refusal.TheVariants as refusal
-use Rattle.gtd_desk.specs.declared.refusal.WordFault.{WordFault}
-use Rattle.gtd_desk.specs.declared.refusal.WordFault.TheVariants as word
+use Rattle.gtd_desk_plans.specs.declared.refusal.NoDomain.{NoDomain}
+use Rattle.gtd_desk_plans.specs.declared.refusal.NoDomain.TheVariants as none
+use Rattle.gtd_desk_plans.specs.declared.refusal.Refusal.{Refusal}
+use Rattle.gtd_desk_plans.specs.declared.refusal.Refusal.TheVariants as refusal
+use Rattle.gtd_desk_plans.specs.declared.refusal.WordFault.{WordFault}
+use Rattle.gtd_desk_plans.specs.declared.refusal.WordFault.TheVariants as word
 
 -- why a text is not a moment
 abbrev pub moment_reason : StampFault → List ℕ

@@ -1,4 +1,4 @@
--- What a plan prints, how it ends, and why it is refused.
+-- What a plan prints, and how it ends.
 use Rattle.std.specs.Prelude.{◌≡◌, ◌≢◌, ◌↔◌, ◌⊎◌, ⊤, ℕ, zero, suc, ℤ, Bool, List, Option, Result, Ok, Err, IsErrOf, IsTrue, OnOk}
 use Rattle.std.specs.Prelude.{Any, IfErr, IfOk, IfSome, string_bytes}
 use Rattle.std.specs.Io.KnownBytes.{Appends, Keeps}
@@ -13,20 +13,23 @@ use Rattle.gtd_runs.specs.Run.{UnacceptedFilesPutNothing}
 use Rattle.gtd_picture.specs.Domain.{HasPut, IsDomainPicture}
 use Rattle.gtd_picture.specs.Open.{IsOpenPicture}
 use Rattle.gtd_desk.specs.Hours.{IsDomainLine, IsHoursLine, IsNoDomainOf}
-use Rattle.gtd_desk.specs.declared.plans.PictureSubject.{PictureSubject}
-use Rattle.gtd_desk.specs.declared.refusal.WordFault.TheVariants as fault
+use Rattle.gtd_desk_plans.specs.declared.plans.PictureSubject.{PictureSubject}
+use Rattle.gtd_desk_plans.specs.declared.refusal.WordFault.TheVariants as fault
 use Rattle.gtd_runs.specs.declared.fault.RunFault.{RunFault}
 use Rattle.gtd_runs.specs.declared.fault.RunFault.TheVariants as run
-use Rattle.gtd_faults.specs.Run.{HasListed}
 use Rattle.gtd_faults.specs.declared.list_fault.ListFault.{ListFault}
 use Rattle.gtd_faults.specs.declared.list_fault.ListFault.TheVariants as list
+use Rattle.gtd_faults.specs.Run.{HasListed, TookSome}
+use Rattle.gtd_hours_records.specs.Run.{HasTranslated}
+use Rattle.gtd_hours_records.specs.declared.untranslated.Untranslated.{Untranslated}
+use Rattle.gtd_hours_records.specs.declared.untranslated.Untranslated.TheVariants as hours
 use Rattle.gtd_now.specs.Now.{IsNow}
 use Rattle.gtd_desk.specs.declared.ending.Ending.{Ending}
 use Rattle.gtd_desk.specs.declared.ending.Ending.TheVariants as ending
-use Rattle.gtd_desk.specs.declared.plans.Plan.{Plan}
-use Rattle.gtd_desk.specs.declared.plans.Plan.TheVariants as plan
-use Rattle.gtd_desk.specs.declared.refusal.Refusal.{Refusal}
-use Rattle.gtd_desk.specs.declared.refusal.Refusal.TheVariants as refusal
+use Rattle.gtd_desk_plans.specs.declared.plans.Plan.{Plan}
+use Rattle.gtd_desk_plans.specs.declared.plans.Plan.TheVariants as plan
+use Rattle.gtd_desk_plans.specs.declared.refusal.Refusal.{Refusal}
+use Rattle.gtd_desk_plans.specs.declared.refusal.Refusal.TheVariants as refusal
 
 -- Some restriction names the element.
 abbrev pub IsNamed : ℕ → List Restriction → Type 0
@@ -134,21 +137,65 @@ pub record PutDomain (text : List ℕ) (old new : Option (List ℕ)) (ended : Bo
       (e ≡ ending.Done) × ((line : List ℕ) × IsDomainLine text line × Appends old new line) × IsTrue ended)
   pub cause : IfErr result (λ r. (r ≡ refusal.Write) ⊎ (IsTextRefusal text r × Keeps old new))
 
+-- What the output for errors took: before and after, and how often it had failed.
+pub record Telling : Type 0 where
+  pub before : Option (List ℕ)
+  pub after : Option (List ℕ)
+  pub failed_before : ℕ
+  pub failed_after : ℕ
+
+-- It took a text: all of it or, if it failed, a first part.
+pub record Told (errors : Telling) (text : List ℕ) : Type 0 where
+  pub some : TookSome errors.before errors.after text
+  pub all : errors.failed_after ≡ errors.failed_before → Appends errors.before errors.after text
+
+-- What it took for the answer of a run that translates a file of hours: the list of the faults, if there are any.
+abbrev pub IsToldOf : Telling → Result ℕ Untranslated → Type 0
+IsToldOf errors (Err (hours.Faults list)) = Told errors (string_bytes list)
+IsToldOf errors other = Keeps errors.before errors.after
+
+-- The answer of `records`, from that of its run.
+abbrev pub records_outcome : Result ℕ Untranslated → Result Ending Refusal
+records_outcome (Ok count) = Ok ending.Done
+records_outcome (Err (hours.Faults list)) = Ok ending.FaultsListed
+records_outcome (Err hours.ReadFault) = Err (refusal.Records records.ReadFault)
+records_outcome (Err hours.Endless) = Err (refusal.Records records.Endless)
+records_outcome (Err (hours.WriteFault written)) = Err refusal.Write
+records_outcome (Err (hours.NoMemory written)) = Err refusal.Memory
+
+-- The run of `records` had an answer, and all that the run promises for this answer holds.
+pub record RanRecords (path : List ℕ) (file old new : Option (List ℕ)) (silent ended : Bool) (errors : Telling)
+    (result : Result Ending Refusal) : Type 0 where
+  pub answer : Result ℕ Untranslated
+  pub outcome : result ≡ records_outcome answer
+  pub translated : HasTranslated path file old new answer
+  pub told : IsToldOf errors answer
+  pub whole : OnOk answer (IsTrue ended)
+  pub endless : IsErrOf answer hours.Endless → IsTrue silent
+
+-- The plan puts nothing to the output for errors.
+abbrev pub IsQuiet : Plan → Type 0
+IsQuiet (plan.Records path) = ⊥
+IsQuiet other = ⊤
+
 -- What a plan did to the output, by its answer. A text that was asked for is taken whole, and then the output is ended.
-abbrev pub HasRunPlan : Plan → Option (List ℕ) → Option (List ℕ) → Option (List ℕ) → Bool → Bool
+abbrev pub HasRunPlan : Plan → Option (List ℕ) → Option (List ℕ) → Option (List ℕ) → Bool → Bool → Telling
     → Result Ending Refusal → Type 0
-HasRunPlan (plan.Now path moment vehicle) file old new silent ended result =
+HasRunPlan (plan.Now path moment vehicle) file old new silent ended errors result =
     RanNow vehicle moment.second.0 file old new silent ended result
-HasRunPlan (plan.Faults path warn) file old new silent ended result =
+HasRunPlan (plan.Faults path warn) file old new silent ended errors result =
     RanFaults (string_bytes path) warn file old new silent ended result
-HasRunPlan (plan.Picture path title subject) file old new silent ended result =
+HasRunPlan (plan.Picture path title subject) file old new silent ended errors result =
     RanPicture subject (string_bytes title) file old new silent ended result
-HasRunPlan (plan.DomainPicture domain title year) file old new silent ended result =
+HasRunPlan (plan.DomainPicture domain title year) file old new silent ended errors result =
     RanDomainPicture domain (string_bytes title) year old new ended result
-HasRunPlan (plan.Words domain) file old new silent ended result = PutWords (words (domain_tree domain)) old new ended result
-HasRunPlan (plan.HoursOf domain) file old new silent ended result = PutHours domain old new ended result
-HasRunPlan (plan.DomainOf text) file old new silent ended result = PutDomain (string_bytes text) old new ended result
-HasRunPlan (plan.Show text) file old new silent ended result =
+HasRunPlan (plan.Words domain) file old new silent ended errors result =
+    PutWords (words (domain_tree domain)) old new ended result
+HasRunPlan (plan.HoursOf domain) file old new silent ended errors result = PutHours domain old new ended result
+HasRunPlan (plan.DomainOf text) file old new silent ended errors result = PutDomain (string_bytes text) old new ended result
+HasRunPlan (plan.Records path) file old new silent ended errors result =
+    RanRecords (string_bytes path) file old new silent ended errors result
+HasRunPlan (plan.Show text) file old new silent ended errors result =
     IfOk result (λ e. (e ≡ ending.Done) × Appends old new (string_bytes text) × IsTrue ended)
     × IfErr result (λ r. r ≡ refusal.Write)
 
@@ -156,23 +203,3 @@ HasRunPlan (plan.Show text) file old new silent ended result =
 abbrev pub ending_status : Ending → ℕ
 ending_status ending.Done = 0
 ending_status ending.FaultsListed = 1
-
--- The exit status of a refusal: 1 if the input is refused, 2 for usage, 3 if opening, reading, writing or memory failed.
-abbrev pub records_status : RecordFault → ℕ
-records_status records.ReadFault = 3
-records_status records.Endless = 3
-records_status records.NoMemory = 3
-records_status why = 1
-
-abbrev pub status_of : Refusal → ℕ
-status_of (refusal.Usage why) = 2
-status_of (refusal.Moment why) = 1
-status_of refusal.Vehicle = 1
-status_of (refusal.Word why) = 1
-status_of refusal.NoHours = 1
-status_of (refusal.NoDomain why) = 1
-status_of refusal.NoElement = 1
-status_of (refusal.Records why) = records_status why
-status_of refusal.Open = 3
-status_of refusal.Write = 3
-status_of refusal.Memory = 3

@@ -1,33 +1,19 @@
 //! The command `hours --of`: opening hours that are open at exactly the seconds of a time domain.
 
-ghost use Rattle.std.specs.Prelude.{◌≡◌, ◌⊎◌, ◌++◌, ◌<◌, IfErr, IfOk, List, MatchResult, codes, string_bytes};
+ghost use Rattle.std.specs.Prelude.{◌≡◌, ◌⊎◌, ◌++◌, ◌<◌, IfErr, IfOk, codes, string_bytes};
 ghost use Rattle.gtd_osm.specs.Written.{hours_text};
-ghost use Rattle.gtd_desk.specs.CommandLine.{AreHoursWords, HoursTexts, Text};
 ghost use Rattle.gtd_desk.specs.Hours.{IsHoursLine};
-ghost use Rattle.gtd_desk.specs.Plans.{AskFor, IsRefusalOf};
 ghost use Rattle.gtd_desk.specs.Running.{PutHours};
 
 use crate::ending::Ending;
 use crate::performing::print_text;
-use crate::picture_domain::domain_of;
-use crate::plans::Plan;
-use crate::refusal::Refusal;
 use gtd_core::Domain;
+use gtd_desk_plans::Refusal;
 use gtd_devices::Output;
 use gtd_hours_of::hours_of;
+use gtd_hours_text::writing_laws::printed_hours_read_back;
 use gtd_osm::{Hours, print_hours};
 use std::alloc::{AllocError, Global};
-
-/// The plan of `hours --of`.
-pub(crate) fn plan_hours_of(alloc: Global, text: &str) -> Result<Plan, Refusal>
-    ensures { (words : List Text) → AreHoursWords words (HoursTexts.of_domain text.now)
-        → MatchResult result (AskFor words) (IsRefusalOf words) }
-{
-    match domain_of(alloc, text) {
-        Ok(domain) => Ok(Plan::HoursOf { domain }),
-        Err(refusal) => Err(refusal),
-    }
-}
 
 // The hours in one line, with its end.
 fn line_of(alloc: Global, hours: &Hours) -> Result<String, AllocError>
@@ -38,11 +24,12 @@ fn line_of(alloc: Global, hours: &Hours) -> Result<String, AllocError>
     Ok(line)
 }
 
-// The line of hours that are open at exactly the seconds of the domain.
+// The line of hours that are open at exactly the seconds of the domain. It reads as these hours, which is a law.
 fn hours_line(alloc: Global, domain: &Domain) -> Result<String, Refusal>
     ensures line { IfOk result (λ line. IsHoursLine domain.now (string_bytes line)) }
     ensures cause { IfErr result (λ r. (r ≡ Refusal.NoHours) ⊎ (r ≡ Refusal.Memory)) }
 {
+    printed_hours_read_back();
     match hours_of(alloc, domain) {
         Ok(Some(hours)) => match line_of(alloc, &hours) {
             Ok(line) => Ok(line),

@@ -1,6 +1,6 @@
 //! The command `hours` of a text: the time domain with exactly the seconds at which opening hours are open.
 
-ghost use Rattle.std.specs.Prelude.{◌≡◌, ◌↔◌, ◌⊎◌, ◌++◌, ◌<◌, ℤ, IfErr, IfOk, List, MatchResult, codes, string_bytes};
+ghost use Rattle.std.specs.Prelude.{◌≡◌, ◌↔◌, ◌⊎◌, ◌++◌, ◌<◌, ℤ, IfErr, IfOk, codes, string_bytes};
 ghost use Rattle.gtd_core.specs.Limits.{most_basic_domains};
 ghost use Rattle.gtd_core.specs.Parts.{domain_tree};
 ghost use Rattle.gtd_hours_of.specs.Membership.{InDomain};
@@ -8,32 +8,18 @@ ghost use Rattle.gtd_hours_text.specs.Standing.{StandsFor};
 ghost use Rattle.gtd_osm.specs.Cost.{hours_cost};
 ghost use Rattle.gtd_osm.specs.Opening.{IsOpen};
 ghost use Rattle.gtd_text.specs.Canonical.{canonical};
-ghost use Rattle.gtd_desk.specs.CommandLine.{AreHoursWords, HoursTexts, Text};
 ghost use Rattle.gtd_desk.specs.Hours.{IsDomainLine};
-ghost use Rattle.gtd_desk.specs.Plans.{AskFor, IsRefusalOf};
 ghost use Rattle.gtd_desk.specs.Running.{IsTextRefusal, PutDomain};
 
 use crate::ending::Ending;
 use crate::performing::print_text;
-use crate::plans::Plan;
-use crate::refusal::{NoDomain, Refusal};
 use gtd_core::Domain;
+use gtd_desk_plans::{NoDomain, Refusal};
 use gtd_devices::Output;
 use gtd_hours_text::{TextFault, read_hours};
 use gtd_osm::{Hours, HoursFault, domain_of};
 use gtd_text::print_domain;
 use std::alloc::{AllocError, Global};
-
-/// The plan of `hours` for a text of opening hours.
-pub(crate) fn plan_domain_of(alloc: Global, text: &str) -> Result<Plan, Refusal>
-    ensures { (words : List Text) → AreHoursWords words (HoursTexts.of_hours text.now)
-        → MatchResult result (AskFor words) (IsRefusalOf words) }
-{
-    match String::from_str(alloc, text) {
-        Ok(text) => Ok(Plan::DomainOf { text }),
-        Err(_) => Err(Refusal::Memory),
-    }
-}
 
 // The hours that the text stands for.
 fn hours_in(alloc: Global, text: &str) -> Result<Hours, Refusal>

@@ -1,20 +1,17 @@
+//! The commands of `gtdesk`.
+//!
+//! [`plan`] reads the words after the program's name, and [`perform`] carries out what they ask for.
 #![tactic(auto)]
 
-mod arguments;
 mod domain_hours;
 mod ending;
 mod hours_domain;
+mod hours_records;
 mod line;
 mod performing;
 mod picture;
-mod picture_domain;
-mod planning;
-mod plans;
-mod refusal;
 
 pub use ending::Ending;
+pub use gtd_desk_plans::{Moment, NoDomain, PictureSubject, Plan, Refusal, WordFault, plan};
 pub use line::RefusalLine;
 pub use performing::perform;
-pub use planning::plan;
-pub use plans::{Moment, PictureSubject, Plan};
-pub use refusal::{NoDomain, Refusal, WordFault};

@@ -4,8 +4,8 @@ ghost use Rattle.std.specs.Prelude.{◌≡◌, Some};
 ghost use Rattle.gtd_desk.specs.Lines as spec;
 ghost use Rattle.gtd_desk.specs.Lines.{kind_name, no_domain_text, refusal_line, word_text};
 
-use crate::refusal::{NoDomain, Refusal, WordFault};
 use gtd_calendar::StampFault;
+use gtd_desk_plans::{NoDomain, Refusal, WordFault};
 use gtd_faults::{FaultText, Printable};
 use gtd_hours_syntax::FaultKind;
 use std::fmt;

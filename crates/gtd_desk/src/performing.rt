@@ -4,16 +4,16 @@ ghost use Rattle.std.specs.Prelude.{◌≡◌, ◌<◌, IfErr, IfOk, IsTrue, OnO
 ghost use Rattle.std.specs.Io.KnownBytes.{Appends, Keeps};
 ghost use Rattle.gtd_core.specs.Parts.{domain_tree};
 ghost use Rattle.gtd_words.specs.Words.{words};
-ghost use Rattle.gtd_desk.specs.Running.{HasRunPlan, PutWords, RanFaults, RanNow, listing_outcome, outcome_of, refusal_for};
+ghost use Rattle.gtd_desk.specs.Running.{HasRunPlan, IsQuiet, PutWords, RanFaults, RanNow};
+ghost use Rattle.gtd_desk.specs.Running.{listing_outcome, outcome_of, refusal_for};
 
 use crate::domain_hours::print_hours_of;
 use crate::ending::Ending;
 use crate::hours_domain::print_domain_of;
-use crate::picture::print_picture;
-use crate::picture_domain::print_domain;
-use crate::plans::{Moment, Plan};
-use crate::refusal::{Refusal, WordFault};
+use crate::hours_records::print_records;
+use crate::picture::{print_domain, print_picture};
 use gtd_core::Domain;
+use gtd_desk_plans::{Moment, Plan, Refusal, WordFault};
 use gtd_devices::{Input, Output};
 use gtd_faults::{ListFault, run_faults};
 use gtd_now::run_now;
@@ -135,22 +135,32 @@ fn print_words<O: Output>(alloc: Global, output: &mut O, domain: &Domain) -> Res
     }
 }
 
-/// Carries a plan out: puts what it asks for, and ends the output. The input brings the bytes of the plan's record file;
-/// if the plan reads none, nothing is pulled.
+/// Carries a plan out: puts what it asks for, and ends the output. The input brings the bytes of the plan's file; if the plan
+/// reads none, nothing is pulled. Only `records` puts anything to the output for errors: all faults of a file of hours, if it has
+/// any. If that output fails, a first part of the list stands, and the answer is the same.
 ///
 /// `Records` is the file's first fault, or why the input failed; `NoHours` is answered if no opening hours are found for a
 /// domain, `NoDomain` if a text is no opening hours or the domain of these is too large, and `Write` and `Memory` if the output
-/// failed and if memory was refused. Before the call, the failures of both devices must be below `u64::MAX`.
-pub fn perform<I: Input, O: Output>(
+/// failed and if memory was refused. Before the call, the failures of each device must be below `u64::MAX`.
+pub fn perform<I: Input, O: Output, E: Output>(
     alloc: Global,
     plan: &Plan,
     input: &mut I,
     output: &mut O,
+    errors: &mut E,
 ) -> Result<Ending, Refusal>
     requires readable { I.failure_count input.old < u64.MAX }
     requires writable { O.failure_count output.old < u64.MAX }
+    requires tellable { E.failure_count errors.old < u64.MAX }
     ensures ran { HasRunPlan plan.now (I.to_come input.old) (O.taken output.old) (O.taken output.new)
-        (I.may_fall_silent input.old) (O.is_ended output.new) result }
+        (I.may_fall_silent input.old) (O.is_ended output.new)
+        (record {
+          before = E.taken errors.old;
+          after = E.taken errors.new;
+          failed_before = E.failure_count errors.old;
+          failed_after = E.failure_count errors.new;
+        }) result }
+    ensures quiet { IsQuiet plan.now → Keeps (E.taken errors.old) (E.taken errors.new) }
 {
     match plan {
         Plan::Now {
@@ -174,6 +184,7 @@ pub fn perform<I: Input, O: Output>(
         Plan::Words { domain } => print_words(alloc, output, domain),
         Plan::HoursOf { domain } => print_hours_of(alloc, output, domain),
         Plan::DomainOf { text } => print_domain_of(alloc, output, text.as_str()),
+        Plan::Records { file } => print_records(alloc, input, output, errors, file.as_str()),
         Plan::Show { text } => print_text(output, text.as_str()),
     }
 }

@@ -1,97 +1,15 @@
-//! The command `picture`: the picture of an element of a record file.
+//! The commands `picture` and `picture-domain`: the picture of an element of a record file, and that of a time domain.
 
-ghost use Rattle.std.specs.Prelude.{◌≡◌, ◌<◌, IfSome, List, MatchResult, None};
-ghost use Rattle.gtd_desk.specs.CommandLine.{ArePictureWords, Text};
-ghost use Rattle.gtd_desk.specs.Given.{picture_texts};
-ghost use Rattle.gtd_desk.specs.Pictures.{AreSubjectWords, IsNoYear, IsSubjectFault, IsYearWord};
-ghost use Rattle.gtd_desk.specs.Plans.{AskFor, IsRefusalOf};
-ghost use Rattle.gtd_desk.specs.Running.{RanPicture};
+ghost use Rattle.std.specs.Prelude.{◌≡◌, ◌<◌};
+ghost use Rattle.gtd_desk.specs.Running.{RanDomainPicture, RanPicture};
 
-use crate::arguments::PictureWords;
 use crate::ending::Ending;
 use crate::performing::outcome;
-use crate::planning::vehicle_of;
-use crate::plans::{PictureSubject, Plan};
-use crate::refusal::{Refusal, WordFault};
+use gtd_core::Domain;
+use gtd_desk_plans::{PictureSubject, Refusal};
 use gtd_devices::{Input, Output};
-use gtd_picture::run_picture;
-use gtd_records::{read_direction, read_number};
-use std::alloc::{AllocError, Global};
-
-/// The year that a word stands for, if a picture may be of it.
-pub(crate) fn year_of(text: &str) -> Option<u16>
-    ensures found { IfSome result (IsYearWord text.now) }
-    ensures none { result ≡ None → IsNoYear text.now }
-{
-    match read_number(text.as_bytes()) {
-        Some(number) => {
-            if number >= 1901 && number <= 2199 {
-                Some(number as u16)
-            } else {
-                None
-            }
-        }
-        None => None,
-    }
-}
-
-// What the words are about, or the first of them that stands for nothing.
-fn subject_of(given: PictureWords<'_>) -> Result<PictureSubject, WordFault>
-    ensures { MatchResult result (AreSubjectWords (picture_texts given.entry)) (IsSubjectFault (picture_texts given.entry)) }
-{
-    let element = match read_number(given.element.as_bytes()) {
-        Some(element) => element,
-        None => return Err(WordFault::Element),
-    };
-    let direction = match read_direction(given.direction.as_bytes()) {
-        Some(direction) => direction,
-        None => return Err(WordFault::Direction),
-    };
-    let vehicle = match vehicle_of(given.vehicle) {
-        Some(vehicle) => vehicle,
-        None => return Err(WordFault::Vehicle),
-    };
-    match year_of(given.year) {
-        Some(year) => Ok(PictureSubject {
-            element,
-            direction,
-            vehicle,
-            year,
-        }),
-        None => Err(WordFault::Year),
-    }
-}
-
-// The title of a picture.
-fn title_of(alloc: Global, given: PictureWords<'_>) -> Result<String, AllocError> {
-    format!(in alloc;
-        "Element {}, {}, vehicle type {}, {} ({})",
-        given.element, given.direction, given.vehicle, given.year, given.file
-    )
-}
-
-/// The plan of `picture`.
-pub(crate) fn plan_picture(alloc: Global, given: PictureWords<'_>) -> Result<Plan, Refusal>
-    ensures { (words : List Text) → ArePictureWords words (picture_texts given.entry)
-        → MatchResult result (AskFor words) (IsRefusalOf words) }
-{
-    let subject = match subject_of(given) {
-        Ok(subject) => subject,
-        Err(fault) => return Err(Refusal::Word(fault)),
-    };
-    let title = match title_of(alloc, given) {
-        Ok(title) => title,
-        Err(_) => return Err(Refusal::Memory),
-    };
-    match String::from_str(alloc, given.file) {
-        Ok(file) => Ok(Plan::Picture {
-            file,
-            title,
-            subject,
-        }),
-        Err(_) => Err(Refusal::Memory),
-    }
-}
+use gtd_picture::{put_domain_picture, run_picture};
+use std::alloc::Global;
 
 /// Prints the picture of an element of the record file that the input brings.
 pub(crate) fn print_picture<I: Input, O: Output>(
@@ -116,4 +34,19 @@ pub(crate) fn print_picture<I: Input, O: Output>(
         subject.vehicle,
         subject.year,
     ))
+}
+
+/// Prints the picture of a domain.
+pub(crate) fn print_domain<O: Output>(
+    alloc: Global,
+    output: &mut O,
+    domain: &Domain,
+    title: &str,
+    year: u16,
+) -> Result<Ending, Refusal>
+    requires writable { O.failure_count output.old < u64.MAX }
+    ensures ran { RanDomainPicture domain.now title.now year (O.taken output.old) (O.taken output.new)
+        (O.is_ended output.new) result }
+{
+    outcome(put_domain_picture(alloc, output, domain, title, year))
 }

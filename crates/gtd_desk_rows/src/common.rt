@@ -31,18 +31,32 @@ pub(crate) fn planned(rt: &impl Abort, alloc: Global, words: &[&str]) -> Plan {
     }
 }
 
-/// What a plan answers for a file with these bytes, and what it puts.
+/// What a plan answers for a file with these bytes, what it puts, and what it puts to the output for errors.
+pub(crate) fn told(
+    rt: &impl Abort,
+    alloc: Global,
+    plan: &Plan,
+    file: &[u8],
+) -> (Result<Ending, Refusal>, Vec<u8>, Vec<u8>) {
+    let bytes = Vec::from_slice(alloc, file).expect(rt, "memory");
+    let mut input = MemoryIn::new(bytes, 4_096, None, None);
+    let mut output = MemoryOut::new(alloc, 100_000, 4_096, None).expect(rt, "memory");
+    let mut errors = MemoryOut::new(alloc, 100_000, 4_096, None).expect(rt, "memory");
+    let done = perform(alloc, plan, &mut input, &mut output, &mut errors);
+    let put = Vec::from_slice(alloc, output.bytes()).expect(rt, "memory");
+    let told = Vec::from_slice(alloc, errors.bytes()).expect(rt, "memory");
+    (done, put, told)
+}
+
+/// What a plan answers for a file with these bytes, and what it puts. To the output for errors it puts nothing.
 pub(crate) fn performed(
     rt: &impl Abort,
     alloc: Global,
     plan: &Plan,
     file: &[u8],
 ) -> (Result<Ending, Refusal>, Vec<u8>) {
-    let bytes = Vec::from_slice(alloc, file).expect(rt, "memory");
-    let mut input = MemoryIn::new(bytes, 4_096, None, None);
-    let mut output = MemoryOut::new(alloc, 100_000, 4_096, None).expect(rt, "memory");
-    let done = perform(alloc, plan, &mut input, &mut output);
-    let put = Vec::from_slice(alloc, output.bytes()).expect(rt, "memory");
+    let (done, put, told) = told(rt, alloc, plan, file);
+    assert!(rt; told.is_empty());
     (done, put)
 }
 

@@ -51,7 +51,8 @@ fn perform_over<I: Input>(
     requires readable { I.failure_count input.old < u64.MAX }
 {
     let mut output = MemoryOut::new(alloc, 100_000, 100_000, None).expect(rt, "memory");
-    let done = perform(alloc, plan, input, &mut output);
+    let mut errors = MemoryOut::new(alloc, 100, 100, None).expect(rt, "memory");
+    let done = perform(alloc, plan, input, &mut output, &mut errors);
     (done, output)
 }
 
@@ -69,7 +70,8 @@ fn perform_into(
 {
     let mut input = in_pieces(rt, alloc, None, None);
     let mut output = MemoryOut::new(alloc, room, piece, fail_call).expect(rt, "memory");
-    let done = perform(alloc, plan, &mut input, &mut output);
+    let mut errors = MemoryOut::new(alloc, 100, 100, None).expect(rt, "memory");
+    let done = perform(alloc, plan, &mut input, &mut output, &mut errors);
     (done, output)
 }
 
@@ -253,7 +255,8 @@ fn lists_with_too_little_room(rt: HostRuntime) {
         let bytes = Vec::from_slice(alloc, FAULTY.as_bytes()).expect(&rt, "memory");
         let mut input = MemoryIn::new(bytes, 7, None, None);
         let mut output = MemoryOut::new(alloc, room, 3, None).expect(&rt, "memory");
-        let done = perform(alloc, &plan, &mut input, &mut output);
+        let mut errors = MemoryOut::new(alloc, 100, 100, None).expect(&rt, "memory");
+        let done = perform(alloc, &plan, &mut input, &mut output, &mut errors);
         let expected = if room == LIST.len() {
             Ok(Ending::FaultsListed)
         } else {
@@ -329,7 +332,8 @@ fn expect_over_writer(
         takes,
         flushes,
     });
-    let done = perform(alloc, &plan, &mut input, &mut output);
+    let mut errors = MemoryOut::new(alloc, 100, 100, None).expect(rt, "memory");
+    let done = perform(alloc, &plan, &mut input, &mut output, &mut errors);
     assert!(rt;
         done == expected,
         "{words:?}, {interruptions} interruptions"
@@ -415,7 +419,8 @@ fn lines_and_ends_of_outputs(rt: HostRuntime) {
             ends: 0,
             is_ended: false,
         };
-        let done = perform(alloc, &plan, &mut input, &mut output);
+        let mut errors = MemoryOut::new(alloc, 100, 100, None).expect(&rt, "memory");
+        let done = perform(alloc, &plan, &mut input, &mut output, &mut errors);
         assert!(rt; done == Ok(Ending::Done), "{words:?}");
         assert!(rt; (output.puts, output.ends) == (puts, 1), "{words:?}");
         assert!(rt; output.is_ended, "{words:?}");

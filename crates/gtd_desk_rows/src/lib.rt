@@ -17,6 +17,8 @@ mod pictures;
 #[cfg(test)]
 mod plans;
 #[cfg(test)]
+mod records;
+#[cfg(test)]
 mod refusals;
 #[cfg(test)]
 mod texts;

@@ -420,7 +420,7 @@ fn years_of_domains_that_are_refused(rt: HostRuntime) -> Result<(), Fail> {
 // The file that each plan reads, if it reads one.
 #[test]
 fn files_of_plans(rt: HostRuntime) {
-    let table: [(&[&str], Option<&str>); 9] = [
+    let table: [(&[&str], Option<&str>); 10] = [
         (&["now", "r.csv", MOMENT, "11"], Some("r.csv")),
         (&["faults", "--warn", "-"], Some("-")),
         (
@@ -431,6 +431,7 @@ fn files_of_plans(rt: HostRuntime) {
         (&["words", "(h1){h1}"], None),
         (&["hours", "--of", "(h1){h1}"], None),
         (&["hours", "24/7"], None),
+        (&["records", "-"], Some("-")),
         (&["help"], None),
         (&["--version"], None),
     ];

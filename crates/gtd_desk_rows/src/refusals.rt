@@ -44,8 +44,11 @@ fn expect_put(
         let Ok(mut output) = MemoryOut::new(alloc, 1_000, 1_000, None) else {
             return;
         };
+        let Ok(mut errors) = MemoryOut::new(alloc, 1_000, 1_000, None) else {
+            return;
+        };
         let mut input = MemoryIn::new(bytes, 7, None, None);
-        match perform(alloc, &plan, &mut input, &mut output) {
+        match perform(alloc, &plan, &mut input, &mut output, &mut errors) {
             Ok(done) => {
                 assert!(rt; done == ending);
                 assert!(rt; output.bytes() == text.as_bytes());
@@ -115,6 +118,49 @@ fn the_domain_of_hours(rt: HostRuntime) {
 }
 
 #[test]
+fn the_records_of_hours(rt: HostRuntime) {
+    let file = "element,direction,vehicles,hours\n1,both,0,Fr 22:00-04:00\n2,positive,11;12,\n";
+    let text = "element,direction,vehicles,domain\n1,both,0,[[(t6h22m0){d1}]*[(h22m0){m360}]]\n\
+        2,positive,11;12,\n";
+    let words = ["records", "r.csv"];
+    expect_put(&rt, rt.alloc(), &words, file, Ending::Done, text, false);
+}
+
+// All of the list is put to the output for errors, or nothing if memory is refused.
+#[test]
+fn a_list_of_faults_of_hours(rt: HostRuntime) {
+    let alloc = rt.alloc();
+    let Some(plan) = expect_plan(&rt, alloc, &["records", "r.csv"]) else {
+        return;
+    };
+    let file = "element,direction,vehicles,hours\n1,both,0,Apr 10-31\n1,up,0,\n";
+    let list = "r.csv:2: row 1: Hours Range at 7\n    Apr 10-31\n           ^\n\
+        r.csv:3: row 2: Direction\n    up\n    ^\n";
+    for _ in 0..2 {
+        let Ok(bytes) = Vec::from_slice(alloc, file.as_bytes()) else {
+            return;
+        };
+        let Ok(mut output) = MemoryOut::new(alloc, 1_000, 1_000, None) else {
+            return;
+        };
+        let Ok(mut errors) = MemoryOut::new(alloc, 1_000, 1_000, None) else {
+            return;
+        };
+        let mut input = MemoryIn::new(bytes, 7, None, None);
+        let done = perform(alloc, &plan, &mut input, &mut output, &mut errors);
+        assert!(rt; output.bytes().is_empty());
+        if done == Err(Refusal::Memory) {
+            assert!(rt; list.as_bytes().starts_with(errors.bytes()));
+        } else {
+            assert!(rt; done == Ok(Ending::FaultsListed));
+            assert!(rt; errors.bytes() == list.as_bytes());
+            return;
+        }
+    }
+    panic!(rt; "refused twice");
+}
+
+#[test]
 fn the_version(rt: HostRuntime) {
     let text = "gtdesk 0.1.0\n";
     expect_put(
@@ -151,8 +197,11 @@ fn expect_drawn(rt: &impl Abort, alloc: Global, words: &[&str], count: usize) {
         let Ok(mut output) = MemoryOut::new(alloc, 100_000, 100_000, None) else {
             return;
         };
+        let Ok(mut errors) = MemoryOut::new(alloc, 1_000, 1_000, None) else {
+            return;
+        };
         let mut input = MemoryIn::new(bytes, 7, None, None);
-        match perform(alloc, &plan, &mut input, &mut output) {
+        match perform(alloc, &plan, &mut input, &mut output, &mut errors) {
             Ok(done) => {
                 assert!(rt; done == Ending::Done);
                 assert!(rt; rectangles(output.bytes()) == count);

@@ -63,8 +63,9 @@ fn texts(rt: HostRuntime) {
     let bytes = Vec::from_slice(alloc, R.as_bytes()).expect(&rt, "memory");
     let mut input = MemoryIn::new(bytes, 7, None, None);
     let mut output = MemoryOut::new(alloc, 1_000, 5, None).expect(&rt, "memory");
+    let mut errors = MemoryOut::new(alloc, 100, 100, None).expect(&rt, "memory");
     switch(alloc);
-    let done = perform(alloc, &plan, &mut input, &mut output);
+    let done = perform(alloc, &plan, &mut input, &mut output, &mut errors);
     assert!(rt; done == Ok(Ending::Done));
     assert!(rt; output.bytes() == b"gtdesk 0.1.0\n".as_slice());
     switch(alloc);

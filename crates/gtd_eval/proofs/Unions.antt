@@ -4,20 +4,32 @@ use Rattle.std.proofs.Common.{refl, ◌∙◌, take, drop, append_assoc, subst, 
 use Rattle.std.proofs.Math.Seq.{drop-append_seam, take-append_seam}
 use Rattle.std.specs.Prelude.{ℤ}
 use Rattle.gtd_core.specs.Seconds.{Interval}
-use Rattle.gtd_core.specs.Trees.{Tree, Joined, leaf_count}
+use Rattle.gtd_core.specs.Trees.{Tree, Single, Joined, leaf_count}
+use Rattle.gtd_core.specs.Parts.{start_parts, duration_parts}
+use Rattle.gtd_core.specs.declared.domain.Basic.{Basic}
+use Rattle.gtd_recur.specs.Membership.{InBasic}
 use Rattle.gtd_core.specs.Whole.{whole}
 use Rattle.gtd_core.specs.declared.domain.Op.{Op}
 use Rattle.gtd_core.specs.declared.domain.Op.TheVariants.{Union, Meet, Minus}
 use Rattle.gtd_core.specs.declared.horizon.Horizon.{Horizon}
-use Rattle.gtd_spans.specs.Normal.{Holds, IsIn, Combined, combine}
+use Rattle.gtd_spans.specs.Normal.{Holds, IsIn, IsNormalFor, Combined, combine}
 use Rattle.gtd_spans.specs.facts.Combining.{combine-holds}
-use Rattle.gtd_spans.specs.facts.NormalFor.{combined-both, combined-in}
+use Rattle.gtd_spans.specs.facts.NormalFor.{combined-both, combined-in, normal-for, is-in}
 use Rattle.gtd_eval.specs.Chains.{right_of, AllHold, ChainHolds, IsChainOf, IsBasicChain, IsChainOfLast, AreTerms}
 use Rattle.gtd_eval.specs.Membership.{InTree}
-use Rattle.gtd_eval.specs.Nodes.{node_list, node_count, node_height, node_work}
+use Rattle.gtd_eval.specs.Nodes.{node_list, node_count, node_height, node_work, IsSameTree}
+use Rattle.gtd_eval.specs.Repeating.{AreKept}
+use Rattle.gtd_eval.specs.Weekly.{AllWeekly}
+use Rattle.gtd_eval.specs.declared.repeat.Stage.TheVariants.{Learning}
+use Rattle.gtd_eval.specs.facts.NodeFacts.{node_list-normal}
+use Rattle.gtd_eval.specs.facts.WeekFacts.{tree-weekly}
+use Rattle.gtd_eval.proofs.RepeatLemmas.{weekly-fits}
 use Rattle.gtd_eval.specs.Cursors.{cursor_list, cursor_nodes, cursor_height, cursor_work, total_nodes, total_work, NoneHigher}
 use Rattle.gtd_eval.specs.facts.CursorFacts.{some-append, nodes-append, work-append, higher-append}
-use Rattle.gtd_eval.specs.declared.node.Node.{Node}
+use Rattle.gtd_recur.specs.RunsToCome.{runs_to_come, runs_basic, runs_horizon}
+use Rattle.gtd_recur.specs.Work.{work_of}
+use Rattle.gtd_recur.specs.declared.runs.Runs.{Runs}
+use Rattle.gtd_eval.specs.declared.node.Node.{Node, Leaf}
 use Rattle.gtd_eval.specs.declared.cursor.Cursor.{Cursor}
 
 all-append : (ls rs : List Cursor) (t : ℤ) → AllHold (ls ++ rs) t ↔ (AllHold ls t × AllHold rs t)
@@ -186,3 +198,47 @@ pub count-of-terms : (op : Op) (e : Tree) (h : Horizon) (w : ℕ) (xs bs : List 
 count-of-terms op e h w xs bs n m given en em =
     let k : length bs ≡ length (xs ++ given.terms) = ap (λ (l : List Cursor). length l) given.split in
     omega (arith, length-append xs given.terms)
+
+-- the same tree is the chain of the same cursors
+pub same-chain : (op : Op) (cs : List Cursor) (n m : Node) → IsChainOf op cs n → IsSameTree n m → IsChainOf op cs m
+same-chain op cs n m chain same = record {
+  sound = same.sound;
+  seconds = λ t. subst (λ (xs : List Interval). Holds xs t ↔ ChainHolds op cs t) (sym same.list) (chain.seconds t);
+  nodes = omega (arith, chain.nodes, same.nodes);
+  work = same.work ∙ chain.work;
+  height = λ h k none le. omega (arith, chain.height h k none le, same.height);
+}
+
+-- the chain of all terms of an expression that repeats weekly repeats
+pub chain-fits : (op : Op) (e : Tree) (h : Horizon) (w : ℕ) (xs bs : List Cursor) (n : Node)
+    → (given : AreTerms op e h w xs bs) → IsChainOf op given.terms n → AllWeekly e
+    → AreKept Learning (whole h).until [] (node_list n)
+chain-fits op e h w xs bs n given chain weekly =
+    weekly-fits (InTree e) (whole h).from (whole h).until (node_list n)
+    (normal-for (InTree e) (whole h).from (whole h).until (node_list n) (node_list-normal n chain.sound)
+    (chain-in op e h w xs bs n given chain))
+    (λ t. tree-weekly e t weekly)
+
+-- the runs of a basic domain that repeats weekly
+pub runs-fit : (basic : Basic) (h : Horizon) (xs : List Interval)
+    → IsNormalFor (InBasic basic) (whole h).from (whole h).until xs
+    → AllWeekly (Single (start_parts basic.start) (duration_parts basic.duration)) → AreKept Learning (whole h).until [] xs
+runs-fit basic h xs normal weekly =
+    weekly-fits (InBasic basic) (whole h).from (whole h).until xs normal
+    (λ t. tree-weekly (Single (start_parts basic.start) (duration_parts basic.duration)) t weekly)
+
+-- the cursor of a basic domain, put behind a list
+pub leaf-term : (op : Op) (basic : Basic) (h : Horizon) (xs cs : List Cursor) (runs : Runs) (c : Cursor)
+    → IsNormalFor (InBasic basic) (whole h).from (whole h).until (runs_to_come runs)
+    → runs_basic runs ≡ basic → runs_horizon runs ≡ h → IsSameTree (Leaf runs) c.node → cs ≡ xs ++ (c ∷ [])
+    → AreTerms op (Single (start_parts basic.start) (duration_parts basic.duration)) h (work_of basic h) xs cs
+leaf-term op basic h xs cs runs c normal eb eh same pushed =
+    let e : Tree = Single (start_parts basic.start) (duration_parts basic.duration) in
+    let work : node_work (Leaf runs) ≡ work_of basic h =
+    ap (λ (b : Basic). work_of b (runs_horizon runs)) eb ∙ ap (λ (g : Horizon). work_of basic g) eh in
+    one-term op e h (work_of basic h) xs xs cs c refl pushed
+    (λ t. subst (λ (l : List Interval). Holds l t ↔ IsIn (InTree e) (whole h).from (whole h).until t) (sym same.list)
+    (is-in (InBasic basic) (whole h).from (whole h).until (runs_to_come runs) normal t))
+    (omega (arith, same.nodes)) (same.work ∙ work)
+    (λ b. (omega (arith, same.height), refl))
+    (λ other k b le. omega (arith, same.height))

@@ -1,5 +1,5 @@
 -- What a tree of operators still has to hand out, when its parts fit together, and how large it is.
-use Rattle.std.specs.Prelude.{ℕ, ◌+◌, List}
+use Rattle.std.specs.Prelude.{◌≡◌, ℕ, ◌+◌, List}
 use Rattle.gtd_core.specs.Seconds.{Interval}
 use Rattle.gtd_core.specs.declared.domain.Expr.{Expr}
 use Rattle.gtd_core.specs.declared.domain.Expr.TheVariants.{Leaf as LeafExpr, Join'}
@@ -9,23 +9,29 @@ use Rattle.gtd_spans.specs.Gaps.{gaps_left}
 use Rattle.gtd_spans.specs.Normal.{IsNormal, combine}
 use Rattle.gtd_spans.specs.Sides.{side_list}
 use Rattle.gtd_recur.specs.RunsToCome.{runs_to_come, runs_basic, runs_horizon, runs_ticks}
-use Rattle.gtd_eval.specs.Shape.{Shape, fixed, runs, between, two, shape_nodes, shape_height, shape_work}
+use Rattle.gtd_core.specs.Whole.{whole}
+use Rattle.gtd_eval.specs.Repeating.{to_come, AreKept}
+use Rattle.gtd_eval.specs.Shape.{Shape, fixed, runs, between, repeated, two, shape_nodes, shape_height, shape_work}
+use Rattle.gtd_eval.specs.Shape.{shape_size}
 use Rattle.gtd_eval.specs.Single.{IsSingle}
 use Rattle.gtd_recur.specs.Work.{work_of}
-use Rattle.gtd_eval.specs.declared.node.Node.{Node, Fixed, Leaf, Between', Two'}
+use Rattle.gtd_eval.specs.declared.node.Node.{Node, Fixed, Leaf, Between', Repeat', Two'}
 
 -- the normal list that the tree still has to hand out
 abbrev pub node_list : Node → List Interval
 node_list (Fixed span) = listed span
 node_list (Leaf leaf) = runs_to_come leaf
 node_list (Between' gaps p inner) = gaps_left gaps (node_list inner)
+node_list (Repeat' week p inner) = to_come week.stage (node_list inner)
 node_list (Two' op x p left y q right) = combine op (side_list x (node_list left)) (side_list y (node_list right))
 
--- what each side of an operator of the tree still has to hand out is normal
+-- what each side of an operator of the tree still has to hand out is normal, and kept spans fit what they are kept of
 abbrev pub IsSoundNode : Node → Type 0
 IsSoundNode (Fixed span) = IsSingle span
 IsSoundNode (Leaf leaf) = Unit {0}
 IsSoundNode (Between' gaps p inner) = IsSoundNode inner
+IsSoundNode (Repeat' week p inner) =
+    AreKept week.stage (whole week.horizon).until week.kept.items (node_list inner) × IsSoundNode inner
 IsSoundNode (Two' op x p left y q right) =
     IsNormal (side_list x (node_list left)) × IsNormal (side_list y (node_list right)) × IsSoundNode left × IsSoundNode right
 
@@ -34,6 +40,7 @@ abbrev pub node_shape : Node → Shape
 node_shape (Fixed span) = fixed
 node_shape (Leaf leaf) = runs (runs_basic leaf) (runs_horizon leaf)
 node_shape (Between' gaps p inner) = between (node_shape inner)
+node_shape (Repeat' week p inner) = repeated (node_shape inner)
 node_shape (Two' op x p left y q right) = two (node_shape left) (node_shape right)
 
 -- how many nodes the tree has; how many the longest path down has; the sum of the work of its runs
@@ -46,12 +53,25 @@ node_height node = shape_height (node_shape node)
 abbrev pub node_work : Node → ℕ
 node_work node = shape_work (node_shape node)
 
+-- how many parts it has, also those that keep spans
+abbrev pub node_size : Node → ℕ
+node_size node = shape_size (node_shape node)
+
 -- the sum of the ticks of its runs
 abbrev pub node_ticks : Node → ℕ
 node_ticks (Fixed span) = 0
 node_ticks (Leaf leaf) = runs_ticks leaf
 node_ticks (Between' gaps p inner) = node_ticks inner
+node_ticks (Repeat' week p inner) = node_ticks inner
 node_ticks (Two' op x p left y q right) = node_ticks left + node_ticks right
+
+-- the second tree hands out what the first one does, and is as large
+pub record IsSameTree (n m : Node) : Type 0 where
+  pub sound : IsSoundNode m
+  pub list : node_list m ≡ node_list n
+  pub nodes : node_count m ≡ node_count n
+  pub height : node_height m ≡ node_height n
+  pub work : node_work m ≡ node_work n
 
 -- the sum of the work of the basic domains of an expression in a horizon
 abbrev pub expr_work : Expr → Horizon → ℕ

@@ -6,6 +6,7 @@ ghost use Rattle.gtd_eval.specs.Nodes.{node_list, node_count, IsSoundNode};
 ghost use Rattle.gtd_eval.specs.facts.NodeFacts.{node_list-normal, IsSoundNode-prop};
 
 use crate::node::Node;
+use crate::weekly::{is_kept, is_long, is_term_kept, repeated};
 use gtd_core::{Domain, Expr, Horizon, Op, Span};
 use gtd_recur::Runs;
 use gtd_spans::{Gaps, Side, SpanSource};
@@ -74,41 +75,64 @@ impl Cursor {
         ensures height { (op : declared.Op) (k : ℕ) → IsBasicChain op (domain_tree domain.now)
             → leaf_count (domain_tree domain.now) ≤ 2 ^ k → IfOk result (λ c. cursor_height c ≤ k + 1) }
     {
+        let expr = domain.expr();
+        let keep = is_long(horizon);
+        let weekly = is_kept(keep, expr);
         let mut cursors = Vec::new(alloc);
-        Cursor::push_terms(alloc, Op::Union, domain.expr(), horizon, &mut cursors)?;
+        Cursor::push_terms(
+            alloc,
+            Op::Union,
+            expr,
+            horizon,
+            keep && !weekly,
+            &mut cursors,
+        )?;
         let count = cursors.len();
         let node = Cursor::join_last(alloc, Op::Union, &mut cursors, count)?;
+        let node = repeated(alloc, node, weekly, horizon)?;
         Ok(Cursor { node })
     }
 
     // Appends cursors for an expression to a list: one for each term of a chain of the operator, and a single one for
-    // an expression of another operator.
+    // an expression of another operator. If so told, a term that repeats weekly keeps its spans of a week.
     fn push_terms(
         alloc: Global,
         op: Op,
         expr: &Expr,
         horizon: Horizon,
+        keep: bool,
         cursors: &mut Vec<Cursor>,
     ) -> Result<(), AllocError>
         requires few { leaf_count (tree_of expr.now) ≤ most_basic_domains }
         ensures terms { OnOk result
             (AreTerms op (tree_of expr.now) horizon (expr_work expr.now horizon) cursors.old.items cursors.new.items) }
     {
+        let weekly = is_term_kept(keep, op, expr);
         match expr {
             Expr::Leaf(basic) => {
                 let node = Node::Leaf(Runs::new(*basic, horizon));
+                let node = repeated(alloc, node, weekly, horizon)?;
                 cursors.push(Cursor { node })?;
                 Ok(())
             }
             Expr::Join(inner, left, right) => {
                 let before = cursors.len();
-                Cursor::push_terms(alloc, *inner, left, horizon, cursors)?;
-                Cursor::push_terms(alloc, Cursor::right_of(*inner), right, horizon, cursors)?;
+                let keep = keep && !weekly;
+                Cursor::push_terms(alloc, *inner, left, horizon, keep, cursors)?;
+                Cursor::push_terms(
+                    alloc,
+                    Cursor::right_of(*inner),
+                    right,
+                    horizon,
+                    keep,
+                    cursors,
+                )?;
                 if *inner == op {
                     return Ok(());
                 }
                 let count = cursors.len() - before;
                 let node = Cursor::join_last(alloc, *inner, cursors, count)?;
+                let node = repeated(alloc, node, weekly, horizon)?;
                 cursors.push(Cursor { node })?;
                 Ok(())
             }

@@ -11,6 +11,7 @@ pub use extent::{Extent, extent_of};
 pub use membership::{holds, is_weekly};
 pub use node::Node;
 pub use queries::{next_change, spans};
+pub use repeat::{Repeat, Stage};
 pub use stay::{Stay, days_to_look, stay_of};
 
 mod cursor;
@@ -20,4 +21,6 @@ pub mod laws;
 mod membership;
 mod node;
 mod queries;
+mod repeat;
 mod stay;
+mod weekly;

@@ -52,7 +52,7 @@ pub(crate) fn gives_year(expr: &Expr) -> bool
 }
 
 // Whether each basic domain of the expression repeats after 7 days.
-fn all_weekly(expr: &Expr) -> bool
+pub(crate) fn all_weekly(expr: &Expr) -> bool
     ensures weekly { IsTrue result ↔ AllWeekly (tree_of expr.now) }
 {
     match expr {

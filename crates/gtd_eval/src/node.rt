@@ -6,13 +6,17 @@ ghost use Rattle.gtd_spans.specs.Gaps.{gaps_left};
 ghost use Rattle.gtd_core.specs.declared.domain.Op.TheVariants.{Union, Meet, Minus};
 ghost use Rattle.gtd_spans.specs.Normal.{IsNormal, combine};
 ghost use Rattle.gtd_spans.specs.Sides.{side_list, told_list, ComesFirst, Takes};
+ghost use Rattle.gtd_core.specs.Whole.{whole};
+ghost use Rattle.gtd_eval.specs.Repeating.{to_come, AreKept};
 ghost use Rattle.gtd_eval.specs.Nodes.{node_list, node_shape, IsSoundNode};
 
+use crate::repeat::Repeat;
 use gtd_core::{Op, Span};
 use gtd_recur::Runs;
 use gtd_spans::{Gaps, Side, SpanSource, cut, first_of, longer, share};
 
-/// A tree of operators over fixed spans and the runs of basic domains. A node is of a fixed size and holds no collection.
+/// A tree of operators over fixed spans and the runs of basic domains. A node is of a fixed size, and holds no collection
+/// but the few spans of a week that repeat.
 #[derive(Debug, Drop)]
 pub enum Node {
     /// One span, or none.
@@ -21,6 +25,8 @@ pub enum Node {
     Leaf(Runs),
     /// The gaps that the spans of a tree leave in a range of seconds.
     Between(Gaps, Box<Node>),
+    /// A tree that repeats after a week, and its spans of a week.
+    Repeat(Repeat, Box<Node>),
     /// An operator over a left and a right side: what is known of each, and its tree.
     Two(Op, Side, Box<Node>, Side, Box<Node>),
 }
@@ -42,6 +48,7 @@ impl Node {
             Node::Fixed(span) => span.take(),
             Node::Leaf(runs) => runs.next(),
             Node::Between(gaps, inner) => next_gap(gaps, inner),
+            Node::Repeat(week, inner) => next_repeated(week, inner),
             Node::Two(op, x, left, y, right) => match *op {
                 Op::Union => next_of_either(x, left, y, right),
                 Op::Meet => next_of_both(x, left, y, right),
@@ -58,6 +65,7 @@ impl Node {
         match self {
             Node::Fixed(_) | Node::Leaf(_) => 1,
             Node::Between(_, inner) => 1 + inner.count(),
+            Node::Repeat(_, inner) => inner.count(),
             Node::Two(_, _, left, _, right) => 1 + left.count() + right.count(),
         }
     }
@@ -72,6 +80,7 @@ impl Node {
             Node::Fixed(_) => 0,
             Node::Leaf(runs) => runs.ticks(),
             Node::Between(_, inner) => inner.ticks(),
+            Node::Repeat(_, inner) => inner.ticks(),
             Node::Two(_, _, left, _, right) => left.ticks() + right.ticks(),
         }
     }
@@ -91,6 +100,26 @@ fn next_gap(gaps: &mut Gaps, inner: &mut Node) -> Option<Span>
         }
     }
     gaps.last()
+}
+
+// The next span of a tree that repeats: from the kept spans, once all of a week are kept.
+#[cycle(next)]
+fn next_repeated(week: &mut Repeat, inner: &mut Node) -> Option<Span>
+    requires sound { IsSoundNode inner.old }
+    requires kept { AreKept week.old.stage (whole week.old.horizon).until week.old.kept.items (node_list inner.old) }
+    ensures sound { IsSoundNode inner.new }
+    ensures kept { AreKept week.new.stage (whole week.new.horizon).until week.new.kept.items (node_list inner.new) }
+    ensures takes { Takes (to_come week.old.stage (node_list inner.old)) result (to_come week.new.stage (node_list inner.new)) }
+    ensures shape { node_shape inner.new ≡ node_shape inner.old }
+{
+    if week.is_repeating() {
+        return week.turn();
+    }
+    let Some(span) = inner.next() else {
+        return None;
+    };
+    week.keep(span);
+    Some(span)
 }
 
 // The next span of a side, which is asked for if it is not known.

@@ -35,7 +35,7 @@ not_header e = cc
 of_any : (bytes : List ℕ) (below : Below) → IsBelow [] records.TooLarge below → IsBelow bytes records.TooLarge below
 of_any bytes below.Nothing is = is
 of_any bytes (below.Field stretch) is = is
-of_any bytes (below.Header found hint) is = absurd (not_header is.0)
+of_any bytes (below.Header found expected hint) is = absurd (not_header is.0)
 
 -- the list of a file that is too large
 pub large_list : (path bytes text : List ℕ) (warn : Bool) → most_file_bytes < length bytes

@@ -71,13 +71,15 @@ caret_text s = blanks (dots s.cut_before) ++ flat_map (λ (byte : ℕ). blanks (
 
 -- the headers that a file may have
 abbrev pub expected_text : List ℕ
-expected_text = codes "\n    expected: element,direction,vehicle,domain (or vehicles)\n"
+expected_text = codes "element,direction,vehicle,domain (or vehicles)"
 
 -- nothing; the stretch of a field around a place, with a caret; or the first line of a file without a header, with its hint
 abbrev pub below_text : Below → List ℕ
 below_text below.Nothing = []
 below_text (below.Field field) = codes "    " ++ stretch_text field ++ codes "\n    " ++ caret_text field ++ codes "\n"
-below_text (below.Header found hint) = codes "    found:    " ++ (stretch_text found ++ (expected_text ++ hint_line hint))
+below_text (below.Header found expected hint) =
+    codes "    found:    "
+    ++ (stretch_text found ++ (codes "\n    expected: " ++ (expected.now ++ (codes "\n" ++ hint_line hint))))
 
 -- where the field of a fault is at fault: the place in a domain's text, or its first byte
 abbrev pub fault_place : RecordFault → ℕ
@@ -88,10 +90,11 @@ fault_place why = 0
 abbrev pub IsOfRow : ℕ → Below → Type 0
 IsOfRow place below.Nothing = ⊤
 IsOfRow place (below.Field stretch) = (field : List ℕ) × IsAround field place stretch
-IsOfRow place (below.Header found hint) = ⊥
+IsOfRow place (below.Header found expected hint) = ⊥
 
 -- What is shown below the line of a fault of a file with these bytes. If it has no header: its first line, and the hint for it.
 abbrev pub IsBelow : List ℕ → RecordFault → Below → Type 0
-IsBelow bytes why (below.Header found hint) =
-    (why ≡ fault.Header) × IsAround (first_line bytes) 0 found × (hint ≡ hint_of (first_line bytes))
+IsBelow bytes why (below.Header found expected hint) =
+    (why ≡ fault.Header) × IsAround (first_line bytes) 0 found × (expected.now ≡ expected_text)
+    × (hint ≡ hint_of (first_line bytes))
 IsBelow bytes why of_row = (why ≢ fault.Header) × IsOfRow (fault_place why) of_row

@@ -26,9 +26,13 @@ fault_text fault.TooManyRows = codes "row 65537: TooManyRows"
 fault_text fault.NoMemory = codes "NoMemory"
 fault_text fault.Endless = codes "Endless"
 
--- the line of a fault, with its line end: the file's path, the line of the file on which its row begins, and the fault
+-- a line of the list, with its end: the file's path, the line of the file on which a row begins, and what is said of it
+abbrev pub line_text : List ℕ → ℕ → List ℕ → List ℕ
+line_text path line words = printable path ++ codes ":" ++ decimal line ++ codes ": " ++ words ++ codes "\n"
+
+-- the line of a fault
 abbrev pub fault_line : List ℕ → ℕ → RecordFault → List ℕ
-fault_line path line why = printable path ++ codes ":" ++ decimal line ++ codes ": " ++ fault_text why ++ codes "\n"
+fault_line path line why = line_text path line (fault_text why)
 
 -- The lines of the faults of a file with these bytes, in order: for each its line, and what is shown below it.
 abbrev pub AreLines : List ℕ → List ℕ → List RecordFault → List ℕ → Type 0
@@ -42,9 +46,9 @@ abbrev pub warning_text : Warning → List ℕ
 warning_text (warning.NeverHolds row) = codes "row " ++ decimal row ++ codes ": never holds"
 warning_text (warning.AlwaysHolds row) = codes "row " ++ decimal row ++ codes ": always holds"
 
--- the line of a warning, with its line end
+-- the line of a warning
 abbrev pub warning_line : List ℕ → ℕ → Warning → List ℕ
-warning_line path line said = printable path ++ codes ":" ++ decimal line ++ codes ": " ++ warning_text said ++ codes "\n"
+warning_line path line said = line_text path line (warning_text said)
 
 -- the lines of warnings, in order
 abbrev pub AreWarningLines : List ℕ → List Warning → List ℕ → Type 0

@@ -8,17 +8,19 @@ use crate::stretch::{Caret, Stretch};
 use std::fmt;
 use std::fmt::{Display, Formatter};
 
-/// What is shown below the line of a fault.
+/// What is shown below the line of a fault, as indented lines.
 #[derive(Clone, Copy)]
-pub(crate) enum Below<'a> {
+pub enum Below<'a> {
     /// Nothing.
     Nothing,
     /// The stretch of a field around a place, with a caret below the place.
     Field(Stretch<'a>),
-    /// The first line of a file without a header, the two headers that it may have, and a hint.
+    /// The first line of a file without a header, the header that is expected, and a hint.
     Header {
         /// The first line.
         found: Stretch<'a>,
+        /// The header that is expected, in words.
+        expected: &'a str,
         /// What is wrong with it, if it is nearly a header.
         hint: Option<Hint>,
     },
@@ -34,12 +36,13 @@ impl Display for Below<'_> {
                 let caret = Caret(field);
                 write!(f, "    {field}\n    {caret}\n")
             }
-            Below::Header { found, hint } => {
+            Below::Header {
+                found,
+                expected,
+                hint,
+            } => {
                 let line = HintLine(hint);
-                write!(
-                    f,
-                    "    found:    {found}\n    expected: element,direction,vehicle,domain (or vehicles)\n{line}"
-                )
+                write!(f, "    found:    {found}\n    expected: {expected}\n{line}")
             }
         }
     }

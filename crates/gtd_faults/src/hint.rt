@@ -9,7 +9,7 @@ use std::fmt::{Display, Formatter};
 
 /// What is wrong with a first line that is nearly a header.
 #[derive(Clone, Copy)]
-pub(crate) enum Hint {
+pub enum Hint {
     /// The file is UTF-16.
     Utf16,
     /// Semicolons stand for commas.

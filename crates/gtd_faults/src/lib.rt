@@ -1,9 +1,14 @@
 //! The list of all faults of a record file, in words: a line for each, in row order.
 #![tactic(auto)]
 
+pub use below::Below;
+pub use hint::Hint;
+pub use lines::first_line;
 pub use list_fault::ListFault;
+pub use places::Rows;
 pub use printable::Printable;
 pub use run::run_faults;
+pub use stretch::Stretch;
 pub use words::{FaultText, WarningText};
 
 mod below;

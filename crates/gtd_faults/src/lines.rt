@@ -31,8 +31,8 @@ fn push_fault(
     write!(text, "{path}:{line}: {words}\n{below}")
 }
 
-// The bytes before the first line end.
-fn first_line(bytes: &[u8]) -> &[u8]
+/// The bytes before the first line end, an LF or a CR: all of them if there is none.
+pub fn first_line(bytes: &[u8]) -> &[u8]
     ensures value { result.now ≡ spec.first_line bytes.now }
 {
     for (end, byte) in bytes.iter().enumerate() {
@@ -52,6 +52,7 @@ fn below_fault<'a>(bytes: &'a [u8], rows: &'a Rows<'_>, fault: RecordFault) -> B
             let line = first_line(bytes);
             Below::Header {
                 found: Stretch::around(line, 0),
+                expected: "element,direction,vehicle,domain (or vehicles)",
                 hint: hint_of(line),
             }
         }

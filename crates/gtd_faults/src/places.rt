@@ -10,7 +10,7 @@ use std::alloc::{AllocError, Global};
 
 /// The rows of a file's bytes, read in order. The header is row 0.
 #[derive(Drop)]
-pub(crate) struct Rows<'a> {
+pub struct Rows<'a> {
     bytes: &'a [u8],
     reader: Reader<&'a [u8]>,
     row: ByteRecord,
@@ -21,7 +21,7 @@ pub(crate) struct Rows<'a> {
 
 impl<'a> Rows<'a> {
     /// The rows of these bytes.
-    pub(crate) fn new(alloc: Global, bytes: &'a [u8]) -> Rows<'a> {
+    pub fn new(alloc: Global, bytes: &'a [u8]) -> Rows<'a> {
         let reader = ReaderBuilder::new()
             .has_headers(false)
             .flexible(true)
@@ -36,19 +36,20 @@ impl<'a> Rows<'a> {
         }
     }
 
-    /// Moves forward to the row of a fault; it never goes back.
+    // Moves forward to the row of a fault; it never goes back.
     pub(crate) fn go_to_fault(&mut self, fault: RecordFault) -> Result<(), AllocError> {
         self.go_to(row_of(fault))
     }
 
-    /// Moves forward to the row of a warning; it never goes back.
+    // Moves forward to the row of a warning; it never goes back.
     pub(crate) fn go_to_warning(&mut self, warning: Warning) -> Result<(), AllocError> {
         match warning {
             Warning::NeverHolds { row } | Warning::AlwaysHolds { row } => self.go_to(row),
         }
     }
 
-    fn go_to(&mut self, row: u32) -> Result<(), AllocError> {
+    /// Moves forward to the row with this number; it never goes back. `AllocError` is answered only if memory was refused.
+    pub fn go_to(&mut self, row: u32) -> Result<(), AllocError> {
         let end = row.saturating_add(1);
         for _row in self.passed..end {
             if self.reader.read_byte_record(&mut self.row).is_err() {
@@ -78,7 +79,7 @@ impl<'a> Rows<'a> {
     }
 
     /// The line on which the row begins, from 1.
-    pub(crate) fn line(&self) -> u64 {
+    pub fn line(&self) -> u64 {
         let mut line = self.line;
         let Some(rest) = self.bytes.get(self.counted..) else {
             return line;
@@ -94,7 +95,7 @@ impl<'a> Rows<'a> {
         line
     }
 
-    /// What is shown of the row, below the line of its fault.
+    // What is shown of the row, below the line of its fault.
     pub(crate) fn below(&self, fault: RecordFault) -> Below<'_>
         ensures at { IsOfRow (fault_place fault) result }
     {
@@ -107,8 +108,9 @@ impl<'a> Rows<'a> {
         }
     }
 
-    // A field of the row, with a caret below its byte at this place.
-    fn field(&self, index: usize, place: usize) -> Below<'_>
+    /// A field of the row, which has this index from 0 on, with a caret below its byte at this place. It is nothing if there
+    /// is no such field or place.
+    pub fn field(&self, index: usize, place: usize) -> Below<'_>
         ensures at { IsOfRow place result }
     {
         match self.row.get(index) {

@@ -17,17 +17,18 @@ const COLUMNS_BEFORE: usize = 40;
 
 const COLUMNS_AFTER: usize = 50;
 
-/// The stretch of a text around a place that is shown.
+/// The stretch of a text around a place that is shown: of a text of more than 100 columns at most 40 columns before the
+/// place and 50 from it on.
 #[derive(Clone, Copy)]
-pub(crate) struct Stretch<'a> {
+pub struct Stretch<'a> {
     /// Its bytes before the place.
-    before: &'a [u8],
+    pub before: &'a [u8],
     /// Its bytes from the place on.
-    after: &'a [u8],
+    pub after: &'a [u8],
     /// Whether bytes are left out before it.
-    cut_before: bool,
+    pub cut_before: bool,
     /// Whether bytes are left out after it.
-    cut_after: bool,
+    pub cut_after: bool,
 }
 
 // How many columns a byte takes.
@@ -95,8 +96,8 @@ fn count_after(bytes: &[u8], place: usize) -> usize
 }
 
 impl<'a> Stretch<'a> {
-    /// The stretch of the bytes around a place.
-    pub(crate) fn around(bytes: &'a [u8], place: usize) -> Stretch<'a>
+    /// The stretch of the bytes around a place, which is at most their number.
+    pub fn around(bytes: &'a [u8], place: usize) -> Stretch<'a>
         requires within { place ≤ length bytes.now }
         ensures around { IsAround bytes.now place result }
     {

@@ -16,3 +16,4 @@ mod pieces;
 mod rules;
 mod times;
 mod weekdays;
+mod writable;

@@ -2,3 +2,13 @@ pub mod DraftLemmas
 pub mod AddingLemmas
 pub mod BuildingLemmas
 pub mod PlaceLemmas
+pub mod WrittenTokens
+pub mod WrittenParts
+pub mod WrittenItems
+pub mod WrittenSelectors
+pub mod WrittenDays
+pub mod WrittenKinds
+pub mod WrittenChain
+pub mod WrittenRules
+pub mod WrittenHours
+pub mod WritableLemmas

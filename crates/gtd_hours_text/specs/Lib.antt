@@ -4,3 +4,4 @@ pub mod Dates
 pub mod Drafts
 pub mod Reading
 pub use Rattle.gtd_hours_syntax.specs.Faults
+pub mod facts

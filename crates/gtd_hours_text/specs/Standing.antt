@@ -1,7 +1,6 @@
 -- Which hours the pieces of a text stand for.
 use Rattle.std.specs.Prelude.{◌≡◌, ℕ, ◌+◌, ◌<◌, ◌≤◌, Bool, true, false, List, [], ◌∷◌, ◌++◌, Option, Some, None}
 use Rattle.std.specs.List.{filter}
-use Rattle.gtd_osm.specs.declared.hours.Kind.{Kind}
 use Rattle.gtd_osm.specs.declared.hours.Link.{Link}
 use Rattle.gtd_osm.specs.declared.hours.Link.TheVariants as link
 use Rattle.gtd_osm.specs.declared.hours.Modifier.{Modifier}
@@ -13,6 +12,7 @@ use Rattle.gtd_osm.specs.declared.hours.Rule.{Rule}
 use Rattle.gtd_osm.specs.declared.hours.Selector.{Selector}
 use Rattle.gtd_osm.specs.declared.hours.Selector.TheVariants as selector
 use Rattle.gtd_osm.specs.declared.hours.TimeRange.{TimeRange}
+pub use Rattle.gtd_osm.specs.Writable.{kind_if, selectors}
 use Rattle.gtd_hours_parts.specs.declared.digits.Digits.{Digits}
 use Rattle.gtd_hours_parts.specs.Numbers.{last_of, step_of}
 use Rattle.gtd_hours_parts.specs.Dates.{last_year}
@@ -143,16 +143,6 @@ is_closed (x ∷ p) = is_closed p
 abbrev pub modifier_of : Bool → Modifier
 modifier_of true = modifier.Closed
 modifier_of false = modifier.Open
-
--- the selectors of each kind
-abbrev pub selectors : List Kind → List (List Selector)
-selectors [] = []
-selectors (kind ∷ kinds) = kind.selectors.items ∷ selectors kinds
-
--- a kind, if it has selectors
-abbrev pub kind_if : List Selector → List (List Selector)
-kind_if [] = []
-kind_if (x ∷ xs) = (x ∷ xs) ∷ []
 
 -- The pieces are a rule: of each kind its selectors, then its times, and whether it is closed.
 pub record IsRule (l : Link) (p : List Piece) (rule : Rule) : Type 0 where

@@ -7,8 +7,10 @@ mod adding;
 mod building;
 mod dates;
 mod draft;
+pub mod laws;
 mod places;
 mod reader;
 mod selectors;
+pub mod writing_laws;
 
 pub use reader::{TextFault, read_hours};

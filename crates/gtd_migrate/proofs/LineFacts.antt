@@ -1,8 +1,8 @@
 -- How long the line of a row can be.
-use Rattle.std.proofs.Common.{◌<◌, ◌≤◌, ◌+◌, ◌*◌, arith, ℕ, zero, suc, List, [], ◌∷◌, ◌++◌, length, length-append, add-one}
-use Rattle.std.proofs.Common.{Option, Some, None, Bool, true, false}
+use Rattle.std.proofs.Common.{◌<◌, ◌≤◌, ◌+◌, ◌-◌, ◌*◌, ◌/◌, ◌%◌, ◌^◌, arith, ℕ, zero, suc, List, [], ◌∷◌, ◌++◌, length}
+use Rattle.std.proofs.Common.{length-append, add-one, Option, Some, None, Bool, true, false}
 use Rattle.std.specs.Prelude.{codes, decimal, ◌==◌, if◌then◌else◌}
-use Rattle.std.specs.List.{slice_index}
+use Rattle.std.specs.List.{flat_map, slice_index}
 use Rattle.std.specs.List.Sorted.{IsStrictlyIncreasing}
 use Rattle.std.proofs.lemmas.Fmt.{length-decimal-le}
 use Rattle.gtd_core.specs.facts.Leaves.{leaves_are_valid}
@@ -12,81 +12,85 @@ use Rattle.gtd_core.specs.declared.start.StartParts.{StartParts}
 use Rattle.gtd_core.specs.declared.duration.DurationParts.{DurationParts}
 use Rattle.gtd_core.specs.declared.domain.Op.{Op}
 use Rattle.gtd_core.specs.declared.domain.Op.TheVariants.{Union, Meet, Minus}
+use Rattle.gtd_core.specs.FieldTable.{number_digits, year_digits, place_digits, weekday_digits, weekdays_digits, nonzero_digits}
 use Rattle.gtd_core.specs.Ranges.{HasSixDigits, IsStart, IsWithin}
 use Rattle.gtd_core.specs.Trees.{Tree, Single, Joined, AreValid, leaf_count}
-use Rattle.gtd_text.specs.Canonical.{canonical, clock_fields, day_and_weekday_fields, duration_text, field_text, month_fields}
-use Rattle.gtd_text.specs.Canonical.{number_text, numbers_text, or_zero, place_fields, place_text, sign_text, start_text}
-use Rattle.gtd_text.specs.Canonical.{weekday_text, weekdays_text, year_text}
+use Rattle.gtd_text.specs.Canonical.{canonical, duration_shown, duration_text, field_text, fields_text, or_zero, sign_text}
+use Rattle.gtd_text.specs.Canonical.{start_text}
 
 -- ---- the canonical text of an expression
-
-field_short : (letter : List ℕ) (low high : ℕ) (field : Option ℕ) → length letter ≤ 1 → high < 100 → IsWithin low high field
-    → length (field_text letter field) ≤ 3
-field_short letter low high None l few is = omega arith
-field_short letter low high (Some n) l few is =
-    let up = is.1 in
-    let number = length-decimal-le 2 n (omega arith) (omega arith) (omega arith) in
-    let all = length-append letter (decimal n) in
-    omega arith
-
-year_short : (field : Option ℕ) → length (year_text field) ≤ 5
-year_short None = omega arith
-year_short (Some n) = omega arith
-
-place_short : (letter : List ℕ) (place : Option (ℕ × ℕ)) → length letter ≤ 1 → length (place_text letter place) ≤ 3
-place_short letter None l = omega arith
-place_short letter (Some p) l = let all = length-append letter ((48 + p.0) ∷ (48 + p.1) ∷ []) in omega arith
-
-weekday_by : (b : Bool) (k : ℕ) → length (if b then 116 ∷ (48 + k) ∷ [] else []) ≤ 2
-weekday_by true k = omega arith
-weekday_by false k = omega arith
-
-weekday_short : (weekdays k : ℕ) → length (weekday_text weekdays k) ≤ 2
-weekday_short weekdays k = weekday_by _ k
 
 joined_short : (a b : List ℕ) (m n : ℕ) → length a ≤ m → length b ≤ n → length (a ++ b) ≤ m + n
 joined_short a b m n p q = let all = length-append a b in omega arith
 
-weekdays_short : (weekdays : ℕ) → length (weekdays_text weekdays) ≤ 14
-unfolding weekdays_text
-weekdays_short w =
-    joined_short (weekday_text w 1) _ 2 12 (weekday_short w 1)
-    (joined_short (weekday_text w 2) _ 2 10 (weekday_short w 2)
-    (joined_short (weekday_text w 3) _ 2 8 (weekday_short w 3)
-    (joined_short (weekday_text w 4) _ 2 6 (weekday_short w 4)
-    (joined_short (weekday_text w 5) _ 2 4 (weekday_short w 5)
-    (joined_short (weekday_text w 6) _ 2 2 (weekday_short w 6)
-    (joined_short (weekday_text w 7) [] 2 0 (weekday_short w 7) (omega arith)))))))
-
 three_short : (a b c : List ℕ) (k l m : ℕ) → length a ≤ k → length b ≤ l → length c ≤ m → length (a ++ b ++ c) ≤ k + l + m
 three_short a b c k l m p q r = joined_short (a ++ b) c (k + l) m (joined_short a b k l p q) r
 
+-- a field with one number
+one_short : (letter : ℕ) (digits : List ℕ) (n : ℕ) → length digits ≤ n → length (field_text (letter ∷ []) (digits ∷ [])) ≤ n + 1
+unfolding field_text
+one_short letter digits n few = let all = length-append digits [] in omega arith
+
+number_short : (letter low high : ℕ) (o : Option ℕ) → high < 100 → IsWithin low high o
+    → length (field_text (letter ∷ []) (number_digits o)) ≤ 3
+unfolding field_text
+number_short letter low high None few is = omega arith
+number_short letter low high (Some n) few is =
+    let up = is.1 in
+    let number = length-decimal-le 2 n (omega arith) (omega arith) (omega arith) in
+    one_short letter (decimal n) 2 number
+
+year_short : (letter : ℕ) (o : Option ℕ) → length (field_text (letter ∷ []) (year_digits o)) ≤ 5
+unfolding field_text
+year_short letter None = omega arith
+year_short letter (Some n) = omega arith
+
+place_short : (letter : ℕ) (o : Option (ℕ × ℕ)) → length (field_text (letter ∷ []) (place_digits o)) ≤ 3
+unfolding field_text
+place_short letter None = omega arith
+place_short letter (Some p) = omega arith
+
+day_short : (b : Bool) (letter k : ℕ) (others : List (List ℕ)) (n : ℕ) → length (field_text (letter ∷ []) others) ≤ n
+    → length (field_text (letter ∷ []) ((if b then ((48 + k) ∷ []) ∷ [] else []) ++ others)) ≤ n + 2
+unfolding field_text
+day_short true letter k others n h = omega arith
+day_short false letter k others n h = omega arith
+
+days_short : (letter w : ℕ) (days : List ℕ)
+    → length (field_text (letter ∷ []) (flat_map (weekday_digits w) days)) ≤ 2 * length days
+unfolding field_text
+days_short letter w [] = omega arith
+days_short letter w (k ∷ days) =
+    let all = day_short (w / 2 ^ (k - 1) % 2 == 1) letter k (flat_map (weekday_digits w) days) (2 * length days)
+    (days_short letter w days) in
+    omega (arith, all)
+
+weekdays_short : (letter w : ℕ) → length (field_text (letter ∷ []) (weekdays_digits w)) ≤ 14
+weekdays_short letter w = days_short letter w (1 ∷ 2 ∷ 3 ∷ 4 ∷ 5 ∷ 6 ∷ 7 ∷ [])
+
 -- the fields of a start have at most 43 bytes
 start_short : (start : StartParts) → IsStart start → length (start_text start) ≤ 43
-unfolding start_text month_fields place_fields day_and_weekday_fields clock_fields
+unfolding start_text
 start_short s h =
-    joined_short (month_fields s ++ place_fields s ++ day_and_weekday_fields s) (clock_fields s) 34 9
-    (three_short (month_fields s) (place_fields s) (day_and_weekday_fields s) 11 6 17
-    (three_short (year_text s.year) (field_text (codes "M") s.month) (field_text (codes "w") s.week) 5 3 3 (year_short s.year)
-    (field_short (codes "M") 1 12 s.month (omega arith) (omega arith) h.month)
-    (field_short (codes "w") 1 53 s.week (omega arith) (omega arith) h.week))
-    (joined_short (place_text (codes "f") s.nth) (place_text (codes "l") s.nth_back) 3 3
-    (place_short (codes "f") s.nth (omega arith)) (place_short (codes "l") s.nth_back (omega arith)))
-    (joined_short (field_text (codes "d") s.day) (weekdays_text s.weekdays) 3 14
-    (field_short (codes "d") 1 31 s.day (omega arith) (omega arith) h.day) (weekdays_short s.weekdays)))
-    (three_short (field_text (codes "h") s.hour) (field_text (codes "m") s.minute) (field_text (codes "s") s.second) 3 3 3
-    (field_short (codes "h") 0 23 s.hour (omega arith) (omega arith) h.hour)
-    (field_short (codes "m") 0 59 s.minute (omega arith) (omega arith) h.minute)
-    (field_short (codes "s") 0 59 s.second (omega arith) (omega arith) h.second))
+    joined_short _ _ 5 38 (year_short 121 s.year)
+    (joined_short _ _ 3 35 (number_short 77 1 12 s.month (omega arith) h.month)
+    (joined_short _ _ 3 32 (number_short 119 1 53 s.week (omega arith) h.week)
+    (joined_short _ _ 3 29 (place_short 102 s.nth)
+    (joined_short _ _ 3 26 (place_short 108 s.nth_back)
+    (joined_short _ _ 3 23 (number_short 100 1 31 s.day (omega arith) h.day)
+    (joined_short _ _ 14 9 (weekdays_short 116 s.weekdays)
+    (joined_short _ _ 3 6 (number_short 104 0 23 s.hour (omega arith) h.hour)
+    (joined_short _ _ 3 3 (number_short 109 0 59 s.minute (omega arith) h.minute)
+    (joined_short _ _ 3 0 (number_short 115 0 59 s.second (omega arith) h.second) (omega arith))))))))))
 
-number_by : (b : Bool) (letter : List ℕ) (n : ℕ) → length letter ≤ 1 → n ≤ 999999
-    → length (if b then [] else letter ++ decimal n) ≤ 7
-number_by true letter n l few = omega arith
-number_by false letter n l few =
-    joined_short letter (decimal n) 1 6 l (length-decimal-le 6 n (omega arith) (omega arith) (omega arith))
+nonzero_by : (b : Bool) (letter n : ℕ) → n ≤ 999999 → length (field_text (letter ∷ []) (if b then [] else decimal n ∷ [])) ≤ 7
+unfolding field_text
+nonzero_by true letter n few = omega arith
+nonzero_by false letter n few =
+    one_short letter (decimal n) 6 (length-decimal-le 6 n (omega arith) (omega arith) (omega arith))
 
-number_short : (letter : List ℕ) (n : ℕ) → length letter ≤ 1 → n ≤ 999999 → length (number_text letter n) ≤ 7
-number_short letter n l few = number_by (n == 0) letter n l few
+nonzero_short : (letter n : ℕ) → n ≤ 999999 → length (field_text (letter ∷ []) (nonzero_digits n)) ≤ 7
+nonzero_short letter n few = nonzero_by (n == 0) letter n few
 
 zero_short : (text : List ℕ) (n : ℕ) → 2 ≤ n → length text ≤ n → length (or_zero text) ≤ n
 zero_short [] n some few = some
@@ -96,21 +100,14 @@ zero_short (b ∷ text) n some few = few
 duration_short : (duration : DurationParts) → HasSixDigits duration → length (duration_text duration) ≤ 49
 unfolding duration_text
 duration_short d h =
-    let y = number_text (codes "y") d.years in
-    let months = number_text (codes "M") d.months in
-    let w = number_text (codes "w") d.weeks in
-    let days = number_text (codes "d") d.days in
-    let hours = number_text (codes "h") d.hours in
-    let m = number_text (codes "m") d.minutes in
-    let s = number_text (codes "s") d.seconds in
-    let front = three_short y months w 7 7 7
-    (number_short (codes "y") d.years (omega arith) h.years) (number_short (codes "M") d.months (omega arith) h.months)
-    (number_short (codes "w") d.weeks (omega arith) h.weeks) in
-    let more = three_short (y ++ months ++ w) days hours 21 7 7 front
-    (number_short (codes "d") d.days (omega arith) h.days) (number_short (codes "h") d.hours (omega arith) h.hours) in
-    zero_short (numbers_text d) 49 (omega arith)
-    (three_short (y ++ months ++ w ++ days ++ hours) m s 35 7 7 more
-    (number_short (codes "m") d.minutes (omega arith) h.minutes) (number_short (codes "s") d.seconds (omega arith) h.seconds))
+    zero_short (fields_text (duration_shown d)) 49 (omega arith)
+    (joined_short _ _ 7 42 (nonzero_short 121 d.years h.years)
+    (joined_short _ _ 7 35 (nonzero_short 77 d.months h.months)
+    (joined_short _ _ 7 28 (nonzero_short 119 d.weeks h.weeks)
+    (joined_short _ _ 7 21 (nonzero_short 100 d.days h.days)
+    (joined_short _ _ 7 14 (nonzero_short 104 d.hours h.hours)
+    (joined_short _ _ 7 7 (nonzero_short 109 d.minutes h.minutes)
+    (joined_short _ _ 7 0 (nonzero_short 115 d.seconds h.seconds) (omega arith))))))))
 
 sign_short : (op : Op) → length (sign_text op) ≤ 1
 sign_short Union = omega arith

@@ -22,7 +22,8 @@ use Rattle.gtd_records.specs.facts.OneAnswer.{one_file}
 use Rattle.gtd_records.specs.facts.RowFacts.{full_row}
 use Rattle.gtd_records.specs.Columns.{closed_of, number_of, Fields, IsOrdered, AreTypesRead, vehicles_of}
 use Rattle.gtd_core.specs.Limits.{most_file_bytes, most_rows}
-use Rattle.gtd_records.specs.File.{AreRecords, IsFile, IsTable, header, IsDomainColumn, IsFullRow, IsRow, with_domain}
+use Rattle.gtd_records.specs.File.{AreRecords, AreSoundRows, IsFile, IsTable, header, IsDomainColumn, IsFullRow, IsRow}
+use Rattle.gtd_records.specs.File.{with_domain}
 use Rattle.gtd_records.specs.Closing.{Restriction}
 use Rattle.gtd_records.specs.declared.direction.Closed.{Closed}
 use Rattle.gtd_records.specs.declared.direction.Closed.TheVariants.{One, Both}
@@ -245,15 +246,27 @@ written_is_file found few p fits =
     rw (no_mark lines) (all_read found (length (header_line ++ lines) + 1) (omega arith) p) in
     inl (fits, inl (version.Two, map columns_of found, all, (omega arith, rows_read 1 found p)))
 
+printed_is_file : (found : List Restriction) → length found ≤ most_rows → ArePrintable found
+    → length (text_of (migrated found)) ≤ most_file_bytes → IsFile (text_of (migrated found)) (Ok found)
+printed_is_file found few p fits =
+    let w = written found in
+    let fits_too : length (header_line ++ flat_map row_line found) ≤ most_file_bytes =
+    subst (λ (t : List ℕ). length t ≤ most_file_bytes) w fits in
+    subst (λ (t : List ℕ). IsFile t (Ok found)) (sym w) (written_is_file found few p fits_too)
+
+-- the migrated file of the restrictions of sound rows is a file of just these
+pub rows_are_file : (v : Version) (rows : List Fields) (found : List Restriction) → AreSoundRows v rows found
+    → length (text_of (migrated found)) ≤ most_file_bytes → IsFile (text_of (migrated found)) (Ok found)
+rows_are_file v rows found sound fits =
+    let few = sound.0 in
+    let same = record_count v 1 rows found sound.1 in
+    printed_is_file found (omega arith) (records_printable v 1 rows found sound.1) fits
+
 -- the migrated file of a record file is a file of just the same restrictions
 pub migrated_is_file : (bytes : List ℕ) (found : List Restriction) → IsFile bytes (Ok found)
     → length (text_of (migrated found)) ≤ most_file_bytes → IsFile (text_of (migrated found)) (Ok found)
 migrated_is_file bytes found file fits =
-    let w = written found in
-    let fits_too : length (header_line ++ flat_map row_line found) ≤ most_file_bytes =
-    subst (λ (t : List ℕ). length t ≤ most_file_bytes) w fits in
-    subst (λ (t : List ℕ). IsFile t (Ok found)) (sym w)
-    (written_is_file found (file_few bytes found file) (file_printable bytes found file) fits_too)
+    printed_is_file found (file_few bytes found file) (file_printable bytes found file) fits
 
 -- ---- and the migrated file stands for nothing else
 

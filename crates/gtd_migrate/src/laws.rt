@@ -4,15 +4,21 @@ ghost use Rattle.std.specs.Prelude.{◌≡◌, ◌≤◌, ◌==◌, ◌↔◌, �
 ghost use Rattle.std.specs.List.{list_any};
 ghost use Rattle.gtd_core.specs.Limits.{most_file_bytes};
 ghost use Rattle.gtd_records.specs.Closing.{AreElements, IsClosed, IsOpen, Restriction};
-ghost use Rattle.gtd_records.specs.File.{IsFile};
+ghost use Rattle.gtd_records.specs.Columns.{Fields};
+ghost use Rattle.gtd_records.specs.File.{AreSoundRows, IsFile};
 ghost use Rattle.gtd_records.specs.declared.direction.Direction.{Direction};
+ghost use Rattle.gtd_records.specs.declared.vehicles.Version.{Version};
 ghost use Rattle.gtd_runs.specs.Putting.{text_of};
 ghost use Rattle.gtd_migrate.specs.Migrated.{IsPlainRow, migrated, row_line};
 
 /// The migrated file of a record file is a record file of exactly the same restrictions, if it has no more bytes than a
-/// record file may have. None of its fields needs quotes: it has no quotation mark.
+/// record file may have. None of its fields needs quotes: it has no quotation mark. The first holds too for the
+/// restrictions of any rows of records that are sound, without a file that they stand in.
 pub fn migrated_is_accepted()
     ensures accepted { (bytes : List ℕ) (found : List Restriction) → IsFile bytes (Ok found)
+        → length (text_of (migrated found)) ≤ most_file_bytes
+        → IsFile (text_of (migrated found)) (Ok found) }
+    ensures rows { (version : Version) (rows : List Fields) (found : List Restriction) → AreSoundRows version rows found
         → length (text_of (migrated found)) ≤ most_file_bytes
         → IsFile (text_of (migrated found)) (Ok found) }
     ensures unquoted { (bytes : List ℕ) (found : List Restriction) → IsFile bytes (Ok found)

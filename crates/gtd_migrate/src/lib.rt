@@ -4,6 +4,7 @@
 //! [`laws`] say that the resulting file is accepted and means the same as its source.
 #![tactic(auto)]
 
+pub use line::write_row;
 pub use run::{Migration, run_migrate};
 
 pub mod laws;

@@ -66,8 +66,37 @@ fn push_domain(alloc: Global, line: &mut Vec<u8>, domain: &Option<Domain>) -> Re
     }
 }
 
-// Writes the line of a record, in place of what the buffer held. A line is short enough that the lines of a whole file
-// can be counted without overflow.
+/// Writes the line of a row of a file of version 2, with its end, in place of what the buffer held: the element, the
+/// directions that are closed, the vehicle types, and the canonical text of the domain, or nothing. A line is short enough
+/// that the lines of a whole file can be counted without overflow.
+pub fn write_row(
+    alloc: Global,
+    line: &mut Vec<u8>,
+    element: u64,
+    closed: Closed,
+    vehicles: &Vehicles,
+    domain: &Option<Domain>,
+) -> Result<(), AllocError>
+    ensures text { OnOk result (line.new.items ≡ row_line (record {
+      element = element;
+      closed = closed;
+      vehicles = vehicles.now;
+      domain = option_map domain_tree domain.now;
+    })) }
+    ensures short { OnOk result (length line.new.items ≤ 16384) }
+{
+    line.clear();
+    line.extend_from_slice(Buffer::new().format(element).as_bytes())?;
+    line.extend_from_slice(b",")?;
+    line.extend_from_slice(word_of(closed))?;
+    line.extend_from_slice(b",")?;
+    push_vehicles(line, vehicles)?;
+    line.extend_from_slice(b",")?;
+    push_domain(alloc, line, domain)?;
+    line.extend_from_slice(b"\n")
+}
+
+// Writes the line of a record, in place of what the buffer held.
 pub(crate) fn write_line(
     alloc: Global,
     line: &mut Vec<u8>,
@@ -76,13 +105,12 @@ pub(crate) fn write_line(
     ensures text { OnOk result (line.new.items ≡ row_line restriction.now) }
     ensures short { OnOk result (length line.new.items ≤ 16384) }
 {
-    line.clear();
-    line.extend_from_slice(Buffer::new().format(restriction.element).as_bytes())?;
-    line.extend_from_slice(b",")?;
-    line.extend_from_slice(word_of(restriction.closed))?;
-    line.extend_from_slice(b",")?;
-    push_vehicles(line, &restriction.vehicles)?;
-    line.extend_from_slice(b",")?;
-    push_domain(alloc, line, &restriction.domain)?;
-    line.extend_from_slice(b"\n")
+    write_row(
+        alloc,
+        line,
+        restriction.element,
+        restriction.closed,
+        &restriction.vehicles,
+        &restriction.domain,
+    )
 }

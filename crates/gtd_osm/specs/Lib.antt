@@ -2,6 +2,7 @@ pub mod Cost
 pub mod Opening
 pub mod Ranges
 pub mod Translation
+pub mod Writable
 pub mod Written
 pub use Rattle.gtd_core.specs.Limits
 pub use Rattle.gtd_core.specs.Parts

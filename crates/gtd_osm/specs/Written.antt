@@ -136,6 +136,14 @@ abbrev pub times_text : List TimeRange → List ℕ
 times_text [] = []
 times_text (t ∷ ts) = time_text t ++ more_times_text ts
 
+abbrev pub is_some_time : List TimeRange → Bool
+is_some_time [] = false
+is_some_time (time ∷ times) = true
+
+abbrev pub is_also : Link → Bool
+is_also Instead = false
+is_also Also = true
+
 -- the selectors and the times of a rule; where it has neither, all days are meant
 abbrev pub spans_text : List Kind → List TimeRange → List ℕ
 spans_text [] [] = codes "24/7"
@@ -143,12 +151,26 @@ spans_text [] (t ∷ ts) = times_text (t ∷ ts)
 spans_text (kind ∷ kinds) [] = kinds_text (kind ∷ kinds)
 spans_text (kind ∷ kinds) (t ∷ ts) = kinds_text (kind ∷ kinds) ++ codes " " ++ times_text (t ∷ ts)
 
-abbrev pub modifier_text : Modifier → List ℕ
-modifier_text Open = []
-modifier_text Closed = codes " off"
+-- The comma of an additional rule would go on with the list that this rule ends in: with its times, if the next rule is times
+-- alone; with its selectors, if it has no times.
+abbrev pub goes_into : Rule → Rule → Bool
+goes_into rule next =
+    if is_some_time rule.times.items then is_some_time next.times.items && not (is_some_kind next.kinds.items)
+    else is_some_kind rule.kinds.items
 
-abbrev pub rule_text : Rule → List ℕ
-rule_text rule = spans_text rule.kinds.items rule.times.items ++ modifier_text rule.modifier
+-- An open rule needs a word for it where a comma would go on with its list. Behind the word the comma begins a rule.
+abbrev pub needs_word : Rule → List Rule → Bool
+needs_word rule [] = false
+needs_word rule (next ∷ rules) = is_also next.link && goes_into rule next
+
+abbrev pub modifier_text : Modifier → Bool → List ℕ
+modifier_text Open true = codes " open"
+modifier_text Open false = []
+modifier_text Closed needed = codes " off"
+
+-- a rule, and the rules behind it
+abbrev pub rule_text : Rule → List Rule → List ℕ
+rule_text rule rules = spans_text rule.kinds.items rule.times.items ++ modifier_text rule.modifier (needs_word rule rules)
 
 -- what stands before a rule that is not the first
 abbrev pub link_text : Link → List ℕ
@@ -157,11 +179,11 @@ link_text Also = codes ", "
 
 abbrev pub more_rules_text : List Rule → List ℕ
 more_rules_text [] = []
-more_rules_text (rule ∷ rules) = link_text rule.link ++ rule_text rule ++ more_rules_text rules
+more_rules_text (rule ∷ rules) = link_text rule.link ++ rule_text rule rules ++ more_rules_text rules
 
 abbrev pub rules_text : List Rule → List ℕ
 rules_text [] = []
-rules_text (rule ∷ rules) = rule_text rule ++ more_rules_text rules
+rules_text (rule ∷ rules) = rule_text rule rules ++ more_rules_text rules
 
 abbrev pub hours_text : Hours → List ℕ
 hours_text hours = rules_text hours.rules.items

@@ -2,9 +2,9 @@
 
 ghost use Rattle.std.specs.Prelude.{◌≡◌, ◌≤◌, ◌<◌, ◌+◌, ◌++◌, [], ◌∷◌, if◌then◌else◌, string_bytes, codes, decimal, IfOk, OnOk};
 ghost use Rattle.gtd_osm.specs.Ranges.{IsMonth, IsWeekday};
-ghost use Rattle.gtd_osm.specs.Written.{clock_text, dates_text, four_digits, hours_text, is_some_kind, kind_text, kind_word};
-ghost use Rattle.gtd_osm.specs.Written.{kinds_text, link_text, modifier_text, month_day_text, month_name, months_text};
-ghost use Rattle.gtd_osm.specs.Written.{more_rules_text, more_selectors_text, more_times_text, rule_text, rules_text};
+ghost use Rattle.gtd_osm.specs.Written.{clock_text, dates_text, four_digits, goes_into, hours_text, is_some_kind, kind_text};
+ghost use Rattle.gtd_osm.specs.Written.{kind_word, kinds_text, link_text, modifier_text, month_day_text, month_name, months_text};
+ghost use Rattle.gtd_osm.specs.Written.{more_rules_text, more_selectors_text, more_times_text, needs_word, rule_text, rules_text};
 ghost use Rattle.gtd_osm.specs.Written.{selector_text, spans_text, step_text, time_text, times_text, two_digits};
 ghost use Rattle.gtd_osm.specs.Written.{weekday_name, weekdays_text, weeks_text, year_date_text, years_text};
 
@@ -18,7 +18,8 @@ use std::alloc::{AllocError, Global};
 /// The text of the hours, or an error if memory was refused.
 ///
 /// Rules have `; ` or `, ` before them, as their links say, kinds of selectors and times a space, and a closed rule ends in
-/// ` off`. A rule without selectors and times begins with `24/7`.
+/// ` off`. An open rule ends in ` open` only where the comma of the next rule would else go on with its times or selectors. A
+/// rule without selectors and times begins with `24/7`.
 pub fn print_hours(alloc: Global, hours: &Hours) -> Result<String, AllocError>
     ensures exact { IfOk result (λ text. string_bytes text ≡ hours_text hours.now) }
 {
@@ -33,7 +34,7 @@ fn push_rules(out: &mut String, rules: &[Rule]) -> Result<(), AllocError>
     match rules.split_first() {
         None => Ok(()),
         Some((first, more)) => {
-            push_rule(out, first)?;
+            push_rule(out, first, more)?;
             push_more_rules(out, more)
         }
     }
@@ -45,7 +46,7 @@ fn push_more_rules(out: &mut String, rules: &[Rule]) -> Result<(), AllocError>
     let mut rest = rules;
     while let Some((rule, more)) = rest.split_first() {
         push_link(out, rule.link)?;
-        push_rule(out, rule)?;
+        push_rule(out, rule, more)?;
         rest = more;
     }
     Ok(())
@@ -60,14 +61,48 @@ fn push_link(out: &mut String, link: Link) -> Result<(), AllocError>
     }
 }
 
-fn push_rule(out: &mut String, rule: &Rule) -> Result<(), AllocError>
-    ensures { OnOk result (string_bytes out.new ≡ string_bytes out.old ++ rule_text rule.now) }
+// A rule, where these follow.
+fn push_rule(out: &mut String, rule: &Rule, more: &[Rule]) -> Result<(), AllocError>
+    ensures { OnOk result (string_bytes out.new ≡ string_bytes out.old ++ rule_text rule.now more.now) }
 {
     push_spans(out, rule.kinds.as_slice(), rule.times.as_slice())?;
-    match rule.modifier {
-        Modifier::Open => Ok(()),
+    push_modifier(out, rule.modifier, needs_word(rule, more))
+}
+
+fn push_modifier(out: &mut String, modifier: Modifier, needed: bool) -> Result<(), AllocError>
+    ensures { OnOk result (string_bytes out.new ≡ string_bytes out.old ++ modifier_text modifier needed) }
+{
+    match modifier {
+        Modifier::Open => {
+            if needed {
+                return out.push_str(" open");
+            }
+            Ok(())
+        }
         Modifier::Closed => out.push_str(" off"),
     }
+}
+
+// Whether the comma of the next rule would go on with a list of this one.
+fn needs_word(rule: &Rule, more: &[Rule]) -> bool
+    ensures { result ≡ needs_word rule.now more.now }
+{
+    match more.first() {
+        None => false,
+        Some(next) => match next.link {
+            Link::Instead => false,
+            Link::Also => goes_into(rule, next),
+        },
+    }
+}
+
+fn goes_into(rule: &Rule, next: &Rule) -> bool
+    ensures { result ≡ goes_into rule.now next.now }
+{
+    if rule.times.is_empty() {
+        return !rule.kinds.is_empty();
+    }
+    !next.times.is_empty() && next.kinds.is_empty()
 }
 
 fn push_spans(out: &mut String, kinds: &[Kind], times: &[TimeRange]) -> Result<(), AllocError>

@@ -35,8 +35,8 @@ pub fn read_direction(text: &[u8]) -> Option<Direction>
     }
 }
 
-// What a column closes: both directions, or one.
-pub(crate) fn read_closed(text: &[u8]) -> Option<Closed>
+/// The directions that the word `positive`, `negative` or `both` closes; `None` for every other text. Takes no memory.
+pub fn read_closed(text: &[u8]) -> Option<Closed>
     ensures value { result ≡ closed_of text.now }
 {
     if text == b"both".as_slice() {

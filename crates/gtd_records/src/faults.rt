@@ -15,7 +15,7 @@ use crate::fault::RecordFault;
 use crate::file::version_of;
 use crate::known::KnownTexts;
 use crate::row::read_row;
-use crate::table::{next_row, table};
+use crate::rows::{next_row, table};
 use crate::vehicles::Version;
 use csv::{ByteRecord, Reader};
 use gtd_core::limits::{MOST_FILE_BYTES, MOST_ROWS};

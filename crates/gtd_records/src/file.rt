@@ -13,7 +13,7 @@ use crate::fault::RecordFault;
 use crate::known::KnownTexts;
 use crate::record::Record;
 use crate::row::{four_columns, read_row};
-use crate::table::{next_row, table};
+use crate::rows::{next_row, table};
 use crate::vehicles::Version;
 use csv::{ByteRecord, Reader};
 use gtd_core::limits::MOST_ROWS;
@@ -32,7 +32,7 @@ pub(crate) fn version_of(row: &ByteRecord) -> Option<Version>
     if columns.closed != b"direction".as_slice() {
         return None;
     }
-    if columns.domain != b"domain".as_slice() {
+    if columns.last != b"domain".as_slice() {
         return None;
     }
     if columns.vehicles == b"vehicle".as_slice() {

@@ -7,15 +7,17 @@
 #![tactic(auto)]
 
 pub use change::next_change;
-pub use column::{read_direction, read_number};
+pub use column::{read_closed, read_direction, read_number};
 pub use direction::{Closed, Direction};
 pub use fault::RecordFault;
 pub use faults::{faults_of, read_faults};
 pub use index::Records;
 pub use reading::read_records;
 pub use record::Record;
+pub use row::{Columns, four_columns};
+pub use rows::{next_row, table};
 pub use schedule::{open_seconds, schedule_of};
-pub use vehicles::{Codes, Vehicles};
+pub use vehicles::{Codes, Vehicles, Version, read_vehicles};
 pub use warnings::{Warning, warnings_of};
 
 mod change;
@@ -30,7 +32,7 @@ pub mod laws;
 mod reading;
 mod record;
 mod row;
+mod rows;
 mod schedule;
-mod table;
 mod vehicles;
 mod warnings;

@@ -13,19 +13,23 @@ use csv::ByteRecord;
 use gtd_core::{Domain, Fault};
 use std::alloc::Global;
 
-// The columns of a row that has four.
+/// The columns of a row that has four.
 #[derive(Drop)]
-pub(crate) struct Columns<'a> {
-    pub(crate) element: &'a [u8],
-    pub(crate) closed: &'a [u8],
-    pub(crate) vehicles: &'a [u8],
-    pub(crate) domain: &'a [u8],
+pub struct Columns<'a> {
+    /// The element.
+    pub element: &'a [u8],
+    /// The directions that are closed.
+    pub closed: &'a [u8],
+    /// The vehicle types.
+    pub vehicles: &'a [u8],
+    /// When it closes: in a record file, the domain.
+    pub last: &'a [u8],
 }
 
-// The four columns of a row, if it has four.
-pub(crate) fn four_columns(row: &ByteRecord) -> Option<Columns<'_>>
+/// The four columns of a row, or `None` if it does not have four. Takes no memory.
+pub fn four_columns(row: &ByteRecord) -> Option<Columns<'_>>
     ensures four { IfSome result (λ columns. fields_of row.now
-        ≡ columns.element.now ∷ columns.closed.now ∷ columns.vehicles.now ∷ columns.domain.now ∷ []) }
+        ≡ columns.element.now ∷ columns.closed.now ∷ columns.vehicles.now ∷ columns.last.now ∷ []) }
     ensures other { IfNone result (length (fields_of row.now) ≢ 4) }
 {
     if row.len() != 4 {
@@ -40,14 +44,14 @@ pub(crate) fn four_columns(row: &ByteRecord) -> Option<Columns<'_>>
     let Some(vehicles) = row.get(2) else {
         return None;
     };
-    let Some(domain) = row.get(3) else {
+    let Some(last) = row.get(3) else {
         return None;
     };
     Some(Columns {
         element,
         closed,
         vehicles,
-        domain,
+        last,
     })
 }
 
@@ -94,7 +98,7 @@ pub(crate) fn read_row(
     let Some(vehicles) = read_vehicles(alloc, version, columns.vehicles)? else {
         return Err(RecordFault::Vehicle { row: number });
     };
-    let domain = read_last(alloc, known, number, columns.domain)?;
+    let domain = read_last(alloc, known, number, columns.last)?;
     Ok(Record {
         element,
         closed,

@@ -161,8 +161,9 @@ fn read_single(alloc: Global, text: &[u8]) -> Result<Option<Vehicles>, AllocErro
     Ok(Some(Vehicles::Only(Codes::ascending(codes))))
 }
 
-// The types that the third column of a record file names, if it does.
-pub(crate) fn read_vehicles(
+/// The types that the third column of a record file of this version names, or `None` if it names none. `AllocError` is
+/// answered only if memory was refused.
+pub fn read_vehicles(
     alloc: Global,
     version: Version,
     text: &[u8],

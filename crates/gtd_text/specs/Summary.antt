@@ -1,6 +1,7 @@
 -- What the check keeps of the tokens before a place, and what this says of the next. It is not part of what texts mean:
 -- it is proved that this says the same as all the tokens before.
-use Rattle.std.specs.Prelude.{ℕ, Bool, false, ◌&&◌, ◌||◌, ◌==◌, not, List, [], Option, Some, None, if◌then◌else◌}
+use Rattle.std.specs.Prelude.{ℕ, ◌/◌, ◌%◌, ◌^◌, nat_lt, bit_or, Bool, false, ◌&&◌, ◌||◌, ◌==◌, not, List, [], ◌∷◌, Option, Some}
+use Rattle.std.specs.Prelude.{None, if◌then◌else◌}
 use Rattle.gtd_core.specs.declared.fault.Fault.{Fault}
 use Rattle.gtd_core.specs.declared.fault.Fault.TheVariants as faults
 use Rattle.gtd_text.specs.declared.token.TokenKind.{TokenKind}
@@ -8,55 +9,25 @@ use Rattle.gtd_text.specs.declared.token.TokenKind.TheVariants.{OpenBracket, Clo
 use Rattle.gtd_text.specs.declared.token.TokenKind.TheVariants.{OpenBrace, CloseBrace, Plus, Star, Minus, Field}
 use Rattle.gtd_text.specs.declared.check.grammar.Seen.{Seen}
 use Rattle.gtd_text.specs.declared.check.letters.Letters.{Letters}
-use Rattle.gtd_text.specs.Grammar.{has_letter, is_start_letter, is_duration_letter, is_start_value}
+use Rattle.gtd_text.specs.Grammar.{is_start_letter, is_duration_letter, is_start_value}
 use Rattle.gtd_text.specs.Fitting.{begins_item, follows_item, is_open_brace, is_close_parenthesis, is_close_brace}
 use Rattle.gtd_text.specs.Fitting.{may_end_after}
 use Rattle.gtd_text.specs.Found.{depth_after}
 use Rattle.gtd_text.specs.FirstFault.{last_token, last_sign, depth, minus_fault}
 
--- For each letter of a start, whether a field since the last sign has it.
-abbrev pub letters : List TokenKind → Letters
-letters before = record {
-  year = has_letter 121 before;
-  month = has_letter 77 before;
-  week = has_letter 119 before;
-  nth = has_letter 102 before;
-  nth_back = has_letter 108 before;
-  day = has_letter 100 before;
-  weekday = has_letter 116 before;
-  hour = has_letter 104 before;
-  minute = has_letter 109 before;
-  second = has_letter 115 before;
-}
-
--- The same with one more field.
+-- The letters of a set with one more: bit k stands for the letter that is k in ASCII.
 abbrev pub with_letter : Letters → ℕ → Letters
-with_letter found letter = record {
-  year = letter == 121 || found.year;
-  month = letter == 77 || found.month;
-  week = letter == 119 || found.week;
-  nth = letter == 102 || found.nth;
-  nth_back = letter == 108 || found.nth_back;
-  day = letter == 100 || found.day;
-  weekday = letter == 116 || found.weekday;
-  hour = letter == 104 || found.hour;
-  minute = letter == 109 || found.minute;
-  second = letter == 115 || found.second;
-}
+with_letter found letter = if nat_lt letter 128 then record { bits = bit_or found.bits (2 ^ letter) } else found
 
--- Whether a field has this letter of a start.
+-- The letters of the fields since the last sign.
+abbrev pub letters : List TokenKind → Letters
+letters [] = record { bits = 0 }
+letters (Field letter value digits ∷ before) = with_letter (letters before) letter
+letters (sign ∷ before) = record { bits = 0 }
+
+-- Whether a field has this letter of ASCII.
 abbrev pub has_found : Letters → ℕ → Bool
-has_found found letter =
-    if letter == 121 then found.year
-    else if letter == 77 then found.month
-    else if letter == 119 then found.week
-    else if letter == 102 then found.nth
-    else if letter == 108 then found.nth_back
-    else if letter == 100 then found.day
-    else if letter == 116 then found.weekday
-    else if letter == 104 then found.hour
-    else if letter == 109 then found.minute
-    else found.second
+has_found found letter = nat_lt letter 128 && found.bits / 2 ^ letter % 2 == 1
 
 abbrev pub is_found_in_start : Letters → ℕ → Bool
 is_found_in_start found letter = not (letter == 116) && has_found found letter

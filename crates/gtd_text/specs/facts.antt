@@ -11,7 +11,7 @@ pub mod Ranges
 pub mod ReadingLaws
 pub mod Scanned
 pub mod ShortNumbers
-pub mod OptionalFields
+pub mod ShownFields
 pub mod BuiltIsMeant
 pub mod TextBytes
 pub mod TokenForms

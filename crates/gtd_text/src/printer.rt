@@ -1,13 +1,13 @@
 //! The canonical text of a domain.
 
 ghost use Rattle.std.specs.Prelude.{◌≡◌, ◌≤◌, ◌<◌, ◌+◌, ◌++◌, [], ◌∷◌, string_bytes, codes, decimal, length};
-ghost use Rattle.std.specs.Prelude.{IfOk, OnOk, IfSome};
+ghost use Rattle.std.specs.Prelude.{IfOk, OnOk, IfSome, drop, take};
 ghost use Rattle.gtd_core.specs.Trees.{tree_of};
 ghost use Rattle.gtd_core.specs.Parts.{domain_tree, start_parts, duration_parts};
 ghost use Rattle.gtd_text.specs.Canonical.{canonical, sign_text, start_text, duration_text};
-ghost use Rattle.gtd_text.specs.Canonical.{month_fields, place_fields, day_and_weekday_fields, clock_fields};
-ghost use Rattle.gtd_text.specs.Canonical.{field_text, year_text, place_text, weekday_text, weekdays_text};
-ghost use Rattle.gtd_text.specs.Canonical.{number_text, numbers_text};
+ghost use Rattle.gtd_text.specs.Canonical.{field_text, fields_text, start_shown, duration_shown};
+ghost use Rattle.gtd_core.specs.FieldTable.{number_digits, year_digits, place_digits, weekday_digits, weekdays_digits};
+ghost use Rattle.gtd_core.specs.FieldTable.{nonzero_digits};
 
 use gtd_core::{Basic, Domain, DurationParts, Expr, Op, Start, StartParts};
 use itoa::Buffer;
@@ -75,52 +75,39 @@ fn push_start(out: &mut String, start: &Start) -> Result<(), AllocError>
         ≡ string_bytes out.old ++ start_text (start_parts start.now)) }
 {
     let parts = start.parts();
-    push_month_fields(out, &parts)?;
-    push_place_fields(out, &parts)?;
-    push_day_fields(out, &parts)?;
-    push_clock_fields(out, &parts)
+    push_date_fields(out, &parts)?;
+    push_day_fields(out, &parts)
 }
 
-#[tactic(auto, unfolding(crate::specs::Canonical::month_fields))]
-fn push_month_fields(out: &mut String, start: &StartParts) -> Result<(), AllocError>
-    requires { IfSome start.now.year (λ n. n ≤ 9999) }
-    ensures { OnOk result (string_bytes out.new ≡ string_bytes out.old ++ month_fields start.now) }
+fn push_date_fields(out: &mut String, parts: &StartParts) -> Result<(), AllocError>
+    requires year { IfSome parts.now.year (λ n. n ≤ 9999) }
+    requires nth { IfSome parts.now.nth (λ place. (place.0 < 10) × (place.1 < 10)) }
+    requires nth_back { IfSome parts.now.nth_back (λ place. (place.0 < 10) × (place.1 < 10)) }
+    ensures { OnOk result (string_bytes out.new
+        ≡ string_bytes out.old ++ fields_text (take 5 (start_shown parts.now))) }
 {
-    push_year(out, start.year)?;
-    push_field(out, "M", start.month)?;
-    push_field(out, "w", start.week)
+    push_year(out, parts.year)?;
+    push_field(out, "M", parts.month)?;
+    push_field(out, "w", parts.week)?;
+    push_place(out, "f", parts.nth)?;
+    push_place(out, "l", parts.nth_back)
 }
 
-#[tactic(auto, unfolding(crate::specs::Canonical::place_fields))]
-fn push_place_fields(out: &mut String, start: &StartParts) -> Result<(), AllocError>
-    requires nth { IfSome start.now.nth (λ place. (place.0 < 10) × (place.1 < 10)) }
-    requires nth_back { IfSome start.now.nth_back (λ place. (place.0 < 10) × (place.1 < 10)) }
-    ensures { OnOk result (string_bytes out.new ≡ string_bytes out.old ++ place_fields start.now) }
+fn push_day_fields(out: &mut String, parts: &StartParts) -> Result<(), AllocError>
+    ensures { OnOk result (string_bytes out.new
+        ≡ string_bytes out.old ++ fields_text (drop 5 (start_shown parts.now))) }
 {
-    push_place(out, "f", start.nth)?;
-    push_place(out, "l", start.nth_back)
+    push_field(out, "d", parts.day)?;
+    push_weekdays(out, parts.weekdays)?;
+    push_field(out, "h", parts.hour)?;
+    push_field(out, "m", parts.minute)?;
+    push_field(out, "s", parts.second)
 }
 
-#[tactic(auto, unfolding(crate::specs::Canonical::day_and_weekday_fields))]
-fn push_day_fields(out: &mut String, start: &StartParts) -> Result<(), AllocError>
-    ensures { OnOk result (string_bytes out.new ≡ string_bytes out.old ++ day_and_weekday_fields start.now) }
-{
-    push_field(out, "d", start.day)?;
-    push_weekdays(out, start.weekdays)
-}
-
-#[tactic(auto, unfolding(crate::specs::Canonical::clock_fields))]
-fn push_clock_fields(out: &mut String, start: &StartParts) -> Result<(), AllocError>
-    ensures { OnOk result (string_bytes out.new ≡ string_bytes out.old ++ clock_fields start.now) }
-{
-    push_field(out, "h", start.hour)?;
-    push_field(out, "m", start.minute)?;
-    push_field(out, "s", start.second)
-}
-
+#[tactic(auto, unfolding(crate::specs::Canonical::field_text))]
 fn push_field(out: &mut String, letter: &str, field: Option<u8>) -> Result<(), AllocError>
     ensures { OnOk result (string_bytes out.new
-        ≡ string_bytes out.old ++ field_text letter.now field) }
+        ≡ string_bytes out.old ++ field_text letter.now (number_digits field)) }
 {
     match field {
         None => Ok(()),
@@ -131,9 +118,10 @@ fn push_field(out: &mut String, letter: &str, field: Option<u8>) -> Result<(), A
     }
 }
 
+#[tactic(auto, unfolding(crate::specs::Canonical::field_text))]
 fn push_number(out: &mut String, letter: &str, n: u32) -> Result<(), AllocError>
     ensures { OnOk result (string_bytes out.new
-        ≡ string_bytes out.old ++ number_text letter.now n) }
+        ≡ string_bytes out.old ++ field_text letter.now (nonzero_digits n)) }
 {
     if n == 0 {
         Ok(())
@@ -143,9 +131,10 @@ fn push_number(out: &mut String, letter: &str, n: u32) -> Result<(), AllocError>
     }
 }
 
+#[tactic(auto, unfolding(crate::specs::Canonical::field_text))]
 fn push_year(out: &mut String, year: Option<u16>) -> Result<(), AllocError>
     requires { IfSome year (λ n. n ≤ 9999) }
-    ensures { OnOk result (string_bytes out.new ≡ string_bytes out.old ++ year_text year) }
+    ensures { OnOk result (string_bytes out.new ≡ string_bytes out.old ++ field_text (codes "y") (year_digits year)) }
 {
     match year {
         None => Ok(()),
@@ -159,10 +148,11 @@ fn push_year(out: &mut String, year: Option<u16>) -> Result<(), AllocError>
     }
 }
 
+#[tactic(auto, unfolding(crate::specs::Canonical::field_text))]
 fn push_place(out: &mut String, letter: &str, place: Option<(u8, u8)>) -> Result<(), AllocError>
     requires { IfSome place (λ place. (place.0 < 10) × (place.1 < 10)) }
     ensures { OnOk result (string_bytes out.new
-        ≡ string_bytes out.old ++ place_text letter.now place) }
+        ≡ string_bytes out.old ++ field_text letter.now (place_digits place)) }
 {
     match place {
         None => Ok(()),
@@ -182,9 +172,9 @@ fn push_digit(out: &mut String, digit: u8) -> Result<(), AllocError>
     out.push_str(Buffer::new().format(digit))
 }
 
-#[tactic(auto, unfolding(crate::specs::Canonical::weekdays_text))]
+#[tactic(auto, unfolding(crate::specs::Canonical::field_text))]
 fn push_weekdays(out: &mut String, weekdays: u8) -> Result<(), AllocError>
-    ensures { OnOk result (string_bytes out.new ≡ string_bytes out.old ++ weekdays_text weekdays) }
+    ensures { OnOk result (string_bytes out.new ≡ string_bytes out.old ++ field_text (codes "t") (weekdays_digits weekdays)) }
 {
     push_weekday(out, weekdays, 1)?;
     push_weekday(out, weekdays, 2)?;
@@ -195,11 +185,12 @@ fn push_weekdays(out: &mut String, weekdays: u8) -> Result<(), AllocError>
     push_weekday(out, weekdays, 7)
 }
 
+#[tactic(auto, unfolding(crate::specs::Canonical::field_text))]
 fn push_weekday(out: &mut String, weekdays: u8, weekday: u8) -> Result<(), AllocError>
     requires low { 1 ≤ weekday }
     requires high { weekday ≤ 7 }
     ensures { OnOk result (string_bytes out.new
-        ≡ string_bytes out.old ++ weekday_text weekdays weekday) }
+        ≡ string_bytes out.old ++ field_text (codes "t") (weekday_digits weekdays weekday)) }
 {
     if (weekdays >> (weekday - 1)) % 2 == 1 {
         out.push_str("t")?;
@@ -214,15 +205,38 @@ fn push_duration(out: &mut String, duration: &DurationParts) -> Result<(), Alloc
     ensures { OnOk result (string_bytes out.new
         ≡ string_bytes out.old ++ duration_text duration.now) }
 {
-    if *duration == DurationParts::default() {
+    let from = out.len();
+    push_numbers(out, duration)?;
+    if out.len() == from {
         out.push_str("s0")
     } else {
-        push_number(out, "y", duration.years)?;
-        push_number(out, "M", duration.months)?;
-        push_number(out, "w", duration.weeks)?;
-        push_number(out, "d", duration.days)?;
-        push_number(out, "h", duration.hours)?;
-        push_number(out, "m", duration.minutes)?;
-        push_number(out, "s", duration.seconds)
+        Ok(())
     }
+}
+
+fn push_numbers(out: &mut String, parts: &DurationParts) -> Result<(), AllocError>
+    ensures { OnOk result (string_bytes out.new
+        ≡ string_bytes out.old ++ fields_text (duration_shown parts.now)) }
+{
+    push_date_numbers(out, parts)?;
+    push_clock_numbers(out, parts)
+}
+
+fn push_date_numbers(out: &mut String, parts: &DurationParts) -> Result<(), AllocError>
+    ensures { OnOk result (string_bytes out.new
+        ≡ string_bytes out.old ++ fields_text (take 4 (duration_shown parts.now))) }
+{
+    push_number(out, "y", parts.years)?;
+    push_number(out, "M", parts.months)?;
+    push_number(out, "w", parts.weeks)?;
+    push_number(out, "d", parts.days)
+}
+
+fn push_clock_numbers(out: &mut String, parts: &DurationParts) -> Result<(), AllocError>
+    ensures { OnOk result (string_bytes out.new
+        ≡ string_bytes out.old ++ fields_text (drop 4 (duration_shown parts.now))) }
+{
+    push_number(out, "h", parts.hours)?;
+    push_number(out, "m", parts.minutes)?;
+    push_number(out, "s", parts.seconds)
 }

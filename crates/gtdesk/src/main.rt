@@ -1,9 +1,10 @@
 //! `gtdesk` prints, for people, which elements of a record file are closed at a moment and by which rows, lists the rows of
-//! a file that are at fault, says in plain English and in opening hours when a time domain holds, and draws pictures of a year.
+//! a file that are at fault, says in plain English and in opening hours when a time domain holds, makes record files of files of
+//! opening hours, and draws pictures of a year.
 //!
-//! It writes its answer to standard output and ends with status 0, or 1 if it listed faults. Or it writes one line to
-//! standard error and ends with the status of its refusal: 1 if the input is refused, 2 for usage, 3 if opening, reading,
-//! writing or memory failed.
+//! It writes its answer to standard output and ends with status 0, or 1 if it listed faults; those of a file of opening hours go
+//! to standard error. Or it writes one line to standard error and ends with the status of its refusal: 1 if the input is refused,
+//! 2 for usage, 3 if opening, reading, writing or memory failed.
 #![tactic(auto)]
 
 use gtd_desk::{Ending, Plan, Refusal, RefusalLine, perform, plan};
@@ -41,7 +42,8 @@ fn print<R: Read + Drop>(rt: &HostRuntime, plan: &Plan, reader: R) -> Result<End
     let mut input = Host::new(reader);
     let made = BufWriter::with_capacity(rt.alloc(), OUTPUT_BUFFER, io::writer(rt));
     let mut output = HostOut::new(made.map_err(|_| Refusal::Memory)?);
-    perform(rt.alloc(), plan, &mut input, &mut output)
+    let mut errors = HostOut::new(rt.stderr());
+    perform(rt.alloc(), plan, &mut input, &mut output, &mut errors)
 }
 
 fn run(rt: &HostRuntime, plan: &Plan) -> Result<Ending, Refusal> {

@@ -14,6 +14,9 @@ from distributed import KilledWorker
 from gtd import Fault, country
 from gtd.country._claims import LeftBehind
 
+# Of Dask and what it runs on: what they meet is raised here, and calls that a run leaves open when it ends are no news.
+_LOGGERS = ("distributed", "tornado", "asyncio")
+
 
 def main(words: Optional[List[str]] = None) -> int:
     """Run the command and return its exit status, as the program's: 0 done, 1 refused, 2 usage, 3 the machine."""
@@ -23,7 +26,8 @@ def main(words: Optional[List[str]] = None) -> int:
         parser.error("the files of TLS are for a cluster that --scheduler names")
     if given.scheduler and given.workers is not None:
         parser.error("--workers is for the cluster that is started here, and --scheduler names another")
-    logging.getLogger("distributed").setLevel(logging.CRITICAL)
+    for name in _LOGGERS:
+        logging.getLogger(name).setLevel(logging.CRITICAL)
     warnings.simplefilter("ignore")
     warnings.simplefilter("always", LeftBehind)
     warnings.showwarning = _tell  # type: ignore[assignment]

@@ -1,48 +1,106 @@
--- The fields of the canonical text.
+-- The fields of the canonical text: one lemma for each kind of row, and one line for each row.
 use Rattle.std.proofs.Common.{◌≡◌, ◌≢◌, ℕ, zero, suc, ◌+◌, ◌-◌, ◌*◌, ◌/◌, ◌%◌, ◌^◌, ◌<◌, ◌≤◌, Bool, true, false, cond, List}
-use Rattle.std.proofs.Common.{[], ◌∷◌, ◌++◌, length, Option, Some, None, refl, sym, ap, ◌∙◌, arith, inl, inr, append_assoc}
-use Rattle.std.specs.Prelude.{◌==◌, ◌&&◌, bit_or, decimal}
+use Rattle.std.proofs.Common.{[], ◌∷◌, ◌++◌, length, Option, Some, None, refl, sym, ap, ◌∙◌, arith, inl, inr, fold}
+use Rattle.std.specs.Prelude.{◌==◌, ◌&&◌, bit_or, decimal, not}
 use Rattle.std.specs.Char.{is_ascii_digit}
+use Rattle.std.specs.List.{flat_map}
 use Rattle.std.proofs.lemmas.Bool.{eqb-true, cases_eq, le-leb}
-use Rattle.std.proofs.lemmas.List.{append-nil}
 use Rattle.std.proofs.lemmas.Fmt.{digits_decimal, digits_value-decimal, decimal_nonempty, length-decimal-le}
 use Rattle.gtd_core.specs.declared.start.StartParts.{StartParts}
 use Rattle.gtd_core.specs.declared.duration.DurationParts.{DurationParts}
+use Rattle.gtd_core.specs.FieldTable.{is_from_to, is_place_value, number_digits, year_digits, place_digits, weekday_digits}
+use Rattle.gtd_core.specs.FieldTable.{weekdays_digits, nonzero_digits}
 use Rattle.gtd_core.specs.Ranges.{IsStart, IsWithin, IsPlace, no_parts, HasSixDigits}
-use Rattle.gtd_text.specs.Canonical.{field_text, year_text, place_text, weekday_text, weekdays_text, month_fields}
-use Rattle.gtd_text.specs.Canonical.{place_fields, day_and_weekday_fields, clock_fields, start_text, number_text, numbers_text}
-use Rattle.gtd_text.specs.Canonical.{or_zero}
-use Rattle.gtd_text.specs.Canonical.{duration_text}
-use Rattle.gtd_core.specs.FieldTable.{is_from_to}
-use Rattle.gtd_text.specs.Grammar.{is_start_value, all_fit_start, with_start_fields, zero_parts}
+use Rattle.gtd_text.specs.declared.token.TokenKind.{TokenKind}
+use Rattle.gtd_text.specs.declared.token.TokenKind.TheVariants.{Field}
+use Rattle.gtd_text.specs.Canonical.{start_shown, start_text, duration_shown, duration_text, or_zero}
+use Rattle.gtd_text.specs.Grammar.{is_start_letter, is_duration_letter, is_start_value, has_letter, each_fits, fits_start}
+use Rattle.gtd_text.specs.Grammar.{fits_duration, with_start_field, with_duration_field, zero_parts}
+use Rattle.gtd_text.specs.TokenAt.{field_number}
 use Rattle.gtd_text.specs.facts.Builds.{and_left, and_right}
+use Rattle.gtd_text.specs.facts.Ranges.{from_to}
 use Rattle.gtd_text.specs.facts.TokenForms.{own}
-use Rattle.gtd_text.specs.facts.TokenWords.{Word, text_of, kinds_of, AreWords, AreDigits}
-use Rattle.gtd_text.specs.facts.OptionalFields.{Given, Slot, slot, slots_words, slot_text, slots_text, text_of-slots}
-use Rattle.gtd_text.specs.facts.OptionalFields.{AreGiven, AreSlots, are_words, IsInRange, AreInRange, slots_fit_start}
-use Rattle.gtd_text.specs.facts.OptionalFields.{with_slot, Gives, done, more, gives, with_number, Makes, made, further}
-use Rattle.gtd_text.specs.facts.OptionalFields.{or_zero_words, or_zero_text, AreNumbers, are_numbers}
+use Rattle.gtd_text.specs.facts.TokenWords.{Word, text_of, kinds_of, AreDigits}
+use Rattle.gtd_text.specs.facts.ShownFields.{Each, IsShown, AreShown, done, more, AreFields, are_fields, and_both, numbers_words}
+use Rattle.gtd_text.specs.facts.ShownFields.{shown_words, text_of-shown, or_zero_words, or_zero_text, or_zero_fields}
 
 -- ---- digits
 
 digit : (d : ℕ) → d < 10 → is_ascii_digit (48 + d) ≡ true
 digit d small = rw (le-leb 48 (48 + d) (omega arith)) (le-leb (48 + d) 57 (omega arith))
 
-number_digits : (n : ℕ) → n ≤ 999999 → AreDigits n (decimal n)
-number_digits n few =
+decimal_are : (n : ℕ) → n ≤ 999999 → AreDigits (decimal n)
+decimal_are n few =
     let small : n < 2 ^ 64 = omega arith in
     record {
       all = digits_decimal own n small;
       some = decimal_nonempty n small;
       few = length-decimal-le 6 n (omega arith) (omega arith) small;
-      means = digits_value-decimal own n small;
     }
 
-abbrev year_digits : ℕ → List ℕ
-year_digits year = (48 + year / 1000) ∷ (48 + year / 100 % 10) ∷ (48 + year / 10 % 10) ∷ (48 + year % 10) ∷ []
+decimal_means : (n : ℕ) → n ≤ 999999 → field_number (decimal n) ≡ n
+decimal_means n few = digits_value-decimal own n (omega arith)
 
-year_number : (year : ℕ) → year ≤ 9999 → AreDigits year (year_digits year)
-year_number year small = record {
+from_to_holds : (low high n : ℕ) → low ≤ n → n ≤ high → is_from_to low high n ≡ true
+from_to_holds low high n le le' = rw (le-leb low n le) (le-leb n high le')
+
+-- ---- a field that has no number, or one
+
+none_shown : {Parts : Type 0} {may_follow : List TokenKind → TokenKind → Bool} {with_field : Parts → TokenKind → Parts}
+    (letter : ℕ) (parts next : Parts) → parts ≡ next → IsShown Parts may_follow with_field letter [] parts next
+none_shown letter parts next e = record { digits = tt; fit = λ before none. refl; same = e }
+
+one_shown : {Parts : Type 0} {may_follow : List TokenKind → TokenKind → Bool} {with_field : Parts → TokenKind → Parts}
+    (letter value : ℕ) (digits : List ℕ) (parts next : Parts) → AreDigits digits → field_number digits ≡ value
+    → ((before : List TokenKind) → has_letter letter before ≡ false
+    → may_follow before (Field letter value (length digits)) ≡ true)
+    → with_field parts (Field letter value (length digits)) ≡ next
+    → IsShown Parts may_follow with_field letter (digits ∷ []) parts next
+one_shown {may_follow = may_follow} {with_field = with_field} letter value digits parts next are means fits same = record {
+  digits = (are, tt);
+  fit = λ before none. and_both (may_follow before (Field letter (field_number digits) (length digits))) true
+      (ap (λ (n : ℕ). may_follow before (Field letter n (length digits))) means ∙ fits before none) refl;
+  same = ap (λ (n : ℕ). with_field parts (Field letter n (length digits))) means ∙ same;
+}
+
+-- ---- the kinds of fields of a start
+
+abbrev IsStartField : ℕ → List (List ℕ) → StartParts → StartParts → Type 0
+IsStartField letter numbers parts next = IsShown StartParts fits_start with_start_field letter numbers parts next
+
+fits_by : (known many has value : Bool) → known ≡ true → has ≡ false → value ≡ true
+    → (known && not (many && has) && value) ≡ true
+fits_by true true false true h k e = refl
+fits_by true false false true h k e = refl
+fits_by false many has value h k e = absurd cc
+fits_by true many true value h k e = absurd cc
+fits_by true many false false h k e = absurd cc
+
+start_field : (letter value : ℕ) (digits : List ℕ) (parts next : StartParts) → is_start_letter letter ≡ true → AreDigits digits
+    → field_number digits ≡ value → is_start_value letter value (length digits) ≡ true
+    → with_start_field parts (Field letter value (length digits)) ≡ next → IsStartField letter (digits ∷ []) parts next
+start_field letter value digits parts next known are means fits same =
+    one_shown letter value digits parts next are means
+    (λ before none. fits_by (is_start_letter letter) (not (letter == 116)) (has_letter letter before)
+    (is_start_value letter value (length digits)) known none fits) same
+
+number : (letter low high : ℕ) (parts : StartParts) (set : StartParts → Option ℕ → StartParts) (o : Option ℕ)
+    → is_start_letter letter ≡ true → high ≤ 999999
+    → ((v d : ℕ) → low ≤ v → v ≤ high → is_start_value letter v d ≡ true) → parts ≡ set parts None
+    → ((v d : ℕ) → with_start_field parts (Field letter v d) ≡ set parts (Some v)) → IsWithin low high o
+    → IsStartField letter (number_digits o) parts (set parts o)
+number letter low high parts set None known few takes none some h = none_shown letter parts (set parts None) none
+number letter low high parts set (Some n) known few takes none some h =
+    let most = h.1 in
+    start_field letter n (decimal n) parts (set parts (Some n)) known (decimal_are n (omega arith))
+    (decimal_means n (omega arith)) (takes n (length (decimal n)) h.0 h.1) (some n (length (decimal n)))
+
+four_digits : ℕ → List ℕ
+four_digits year = (48 + year / 1000) ∷ (48 + year / 100 % 10) ∷ (48 + year / 10 % 10) ∷ (48 + year % 10) ∷ []
+
+year_are : (year : ℕ) → year ≤ 9999 → AreDigits (four_digits year)
+unfolding four_digits
+year_are year small = record {
   all = rw (
     digit (year / 1000) (omega arith),
     digit (year / 100 % 10) (omega arith),
@@ -51,219 +109,30 @@ year_number year small = record {
   ) refl;
   some = omega arith;
   few = omega arith;
-  means = omega arith;
 }
 
-place_number : (n weekday : ℕ) → n < 10 → weekday < 10 → AreDigits (n * 10 + weekday) ((48 + n) ∷ (48 + weekday) ∷ [])
-place_number n weekday small small' = record {
+year_means : (year : ℕ) → year ≤ 9999 → field_number (four_digits year) ≡ year
+unfolding four_digits
+year_means year small = omega arith
+
+year_field : (parts : StartParts) (o : Option ℕ) → parts ≡ record parts { year = None } → IsWithin 0 9999 o
+    → IsStartField 121 (year_digits o) parts (record parts { year = o })
+unfolding four_digits
+year_field parts None none h = none_shown 121 parts (record parts { year = None }) none
+year_field parts (Some year) none h = start_field 121 year (four_digits year) parts (record parts { year = Some year }) refl
+    (year_are year h.1) (year_means year h.1) (le-leb year 9999 h.1) refl
+
+place_are : (n weekday : ℕ) → n < 10 → weekday < 10 → AreDigits ((48 + n) ∷ (48 + weekday) ∷ [])
+place_are n weekday small small' = record {
   all = rw (digit n small, digit weekday small') refl;
   some = omega arith;
   few = omega arith;
-  means = omega arith;
 }
 
-one_digit : (n : ℕ) → n < 10 → AreDigits n ((48 + n) ∷ [])
-one_digit n small = record {
-  all = rw (digit n small) refl;
-  some = omega arith;
-  few = omega arith;
-  means = omega arith;
-}
+place_means : (n weekday : ℕ) → n < 10 → weekday < 10 → field_number ((48 + n) ∷ (48 + weekday) ∷ []) ≡ n * 10 + weekday
+place_means n weekday small small' = omega arith
 
--- ---- the fields of a start
-
-abbrev number_given : Option ℕ → Option Given
-number_given None = None
-number_given (Some n) = Some (n, decimal n)
-
-abbrev year_given : Option ℕ → Option Given
-year_given None = None
-year_given (Some year) = Some (year, year_digits year)
-
-abbrev place_given : Option (ℕ × ℕ) → Option Given
-place_given None = None
-place_given (Some place) = Some (place.0 * 10 + place.1, (48 + place.0) ∷ (48 + place.1) ∷ [])
-
-abbrev weekday_given : ℕ → ℕ → Option Given
-weekday_given weekdays k = cond (weekdays / 2 ^ (k - 1) % 2 == 1) (Some (k, (48 + k) ∷ [])) None
-
-abbrev pub start_slots : StartParts → List Slot
-start_slots start =
-    slot 121 (year_given start.year) ∷ slot 77 (number_given start.month) ∷ slot 119 (number_given start.week)
-    ∷ slot 102 (place_given start.nth) ∷ slot 108 (place_given start.nth_back) ∷ slot 100 (number_given start.day)
-    ∷ slot 116 (weekday_given start.weekdays 1) ∷ slot 116 (weekday_given start.weekdays 2)
-    ∷ slot 116 (weekday_given start.weekdays 3)
-    ∷ slot 116 (weekday_given start.weekdays 4) ∷ slot 116 (weekday_given start.weekdays 5)
-    ∷ slot 116 (weekday_given start.weekdays 6)
-    ∷ slot 116 (weekday_given start.weekdays 7)
-    ∷ slot 104 (number_given start.hour) ∷ slot 109 (number_given start.minute) ∷ slot 115 (number_given start.second) ∷ []
-
--- ---- their text
-
-join : (a b c d : List ℕ) → a ≡ b → c ≡ d → a ++ c ≡ b ++ d
-join a b c d e h = ap (λ (l : List ℕ). l ++ c) e ∙ ap (λ (l : List ℕ). b ++ l) h
-
-year_is : (year : Option ℕ) → slot_text 121 (year_given year) ≡ year_text year
-year_is None = refl
-year_is (Some year) = refl
-
-number_is : (letter : ℕ) (n : Option ℕ) → slot_text letter (number_given n) ≡ field_text (letter ∷ []) n
-number_is letter None = refl
-number_is letter (Some n) = refl
-
-place_is : (letter : ℕ) (place : Option (ℕ × ℕ)) → slot_text letter (place_given place) ≡ place_text (letter ∷ []) place
-place_is letter None = refl
-place_is letter (Some place) = refl
-
-weekday_text_is : (b : Bool) (k : ℕ) → slot_text 116 (cond b (Some (k, (48 + k) ∷ [])) None) ≡ cond b (116 ∷ (48 + k) ∷ []) []
-weekday_text_is true k = refl
-weekday_text_is false k = refl
-
-weekday_is : (w k : ℕ) → slot_text 116 (weekday_given w k) ≡ weekday_text w k
-weekday_is w k = weekday_text_is (w / 2 ^ (k - 1) % 2 == 1) k
-
-start_slots_text : (start : StartParts) → slots_text (start_slots start) ≡ start_text start
-unfolding start_text month_fields place_fields day_and_weekday_fields clock_fields weekdays_text
-start_slots_text start =
-    join _ _ _ _ (year_is start.year)
-    (join _ _ _ _ (number_is 77 start.month)
-    (join _ _ _ _ (number_is 119 start.week)
-    (join _ _ _ _ (place_is 102 start.nth)
-    (join _ _ _ _ (place_is 108 start.nth_back)
-    (join _ _ _ _ (number_is 100 start.day)
-    (join _ _ _ _ (weekday_is start.weekdays 1)
-    (join _ _ _ _ (weekday_is start.weekdays 2)
-    (join _ _ _ _ (weekday_is start.weekdays 3)
-    (join _ _ _ _ (weekday_is start.weekdays 4)
-    (join _ _ _ _ (weekday_is start.weekdays 5)
-    (join _ _ _ _ (weekday_is start.weekdays 6)
-    (join _ _ _ _ (weekday_is start.weekdays 7)
-    (join _ _ _ _ (number_is 104 start.hour)
-    (join _ _ _ _ (number_is 109 start.minute)
-    (join _ _ _ _ (number_is 115 start.second) refl)))))))))))))))
-    ∙ simp (append_assoc, append-nil)
-
-pub start_words_text : (start : StartParts) → text_of (slots_words (start_slots start)) ≡ start_text start
-start_words_text start = text_of-slots (start_slots start) ∙ start_slots_text start
-
--- ---- they are words, in their ranges
-
-from_to_holds : (low high n : ℕ) → low ≤ n → n ≤ high → is_from_to low high n ≡ true
-from_to_holds low high n le le' = rw (le-leb low n le) (le-leb n high le')
-
-year_is_given : (year : Option ℕ) → IsWithin 0 9999 year → AreGiven (year_given year)
-year_is_given None h = tt
-year_is_given (Some year) h = year_number year h.1
-
-number_is_given : (low high : ℕ) (n : Option ℕ) → high ≤ 999999 → IsWithin low high n → AreGiven (number_given n)
-number_is_given low high None few h = tt
-number_is_given low high (Some n) few h = let most = h.1 in number_digits n (omega arith)
-
-place_is_given : (place : Option (ℕ × ℕ)) → IsPlace place → AreGiven (place_given place)
-place_is_given None h = tt
-place_is_given (Some place) h = let n = h.1 in let weekday = h.3 in place_number place.0 place.1 (omega arith) (omega arith)
-
-weekday_digits : (b : Bool) (k : ℕ) → k < 10 → AreGiven (cond b (Some (k, (48 + k) ∷ [])) None)
-weekday_digits true k small = one_digit k small
-weekday_digits false k small = tt
-
-weekday_is_given : (w k : ℕ) → k < 10 → AreGiven (weekday_given w k)
-weekday_is_given w k small = weekday_digits (w / 2 ^ (k - 1) % 2 == 1) k small
-
-start_are_slots : (start : StartParts) → IsStart start → AreSlots (start_slots start)
-start_are_slots start h = (
-  refl,
-  refl,
-  year_is_given start.year h.year,
-  (
-    refl,
-    refl,
-    number_is_given 1 12 start.month (omega arith) h.month,
-    (
-      refl,
-      refl,
-      number_is_given 1 53 start.week (omega arith) h.week,
-      (
-        refl,
-        refl,
-        place_is_given start.nth h.nth,
-        (
-          refl,
-          refl,
-          place_is_given start.nth_back h.nth_back,
-          (
-            refl,
-            refl,
-            number_is_given 1 31 start.day (omega arith) h.day,
-            (
-              refl,
-              refl,
-              weekday_is_given start.weekdays 1 (omega arith),
-              (
-                refl,
-                refl,
-                weekday_is_given start.weekdays 2 (omega arith),
-                (
-                  refl,
-                  refl,
-                  weekday_is_given start.weekdays 3 (omega arith),
-                  (
-                    refl,
-                    refl,
-                    weekday_is_given start.weekdays 4 (omega arith),
-                    (
-                      refl,
-                      refl,
-                      weekday_is_given start.weekdays 5 (omega arith),
-                      (
-                        refl,
-                        refl,
-                        weekday_is_given start.weekdays 6 (omega arith),
-                        (
-                          refl,
-                          refl,
-                          weekday_is_given start.weekdays 7 (omega arith),
-                          (
-                            refl,
-                            refl,
-                            number_is_given 0 23 start.hour (omega arith) h.hour,
-                            (
-                              refl,
-                              refl,
-                              number_is_given 0 59 start.minute (omega arith) h.minute,
-                              (
-                                refl,
-                                refl,
-                                number_is_given 0 59 start.second (omega arith) h.second,
-                                tt,
-                              ),
-                            ),
-                          ),
-                        ),
-                      ),
-                    ),
-                  ),
-                ),
-              ),
-            ),
-          ),
-        ),
-      ),
-    ),
-  ),
-)
-
-year_in_range : (year : Option ℕ) → IsWithin 0 9999 year → IsInRange 121 (year_given year)
-year_in_range None h = tt
-year_in_range (Some year) h = le-leb year 9999 h.1
-
-number_in_range : (letter low high : ℕ) (n : Option ℕ) → ((value digits : ℕ) → low ≤ value → value ≤ high
-    → is_start_value letter value digits ≡ true) → IsWithin low high n → IsInRange letter (number_given n)
-number_in_range letter low high None holds h = tt
-number_in_range letter low high (Some n) holds h = holds n (length (decimal n)) h.0 h.1
-
-place_value : (n weekday : ℕ) → 1 ≤ n → n ≤ 5 → 1 ≤ weekday → weekday ≤ 7
-    → (is_from_to 1 5 ((n * 10 + weekday) / 10) && is_from_to 1 7 ((n * 10 + weekday) % 10)) ≡ true
+place_value : (n weekday : ℕ) → 1 ≤ n → n ≤ 5 → 1 ≤ weekday → weekday ≤ 7 → is_place_value (n * 10 + weekday) 2 ≡ true
 place_value n weekday a b c d =
     let front : (n * 10 + weekday) / 10 ≡ n = omega arith in
     let back : (n * 10 + weekday) % 10 ≡ weekday = omega arith in
@@ -272,109 +141,6 @@ place_value n weekday a b c d =
     ∙ ap (λ (x : Bool). x && is_from_to 1 7 weekday) (from_to_holds 1 5 n a b)
     ∙ from_to_holds 1 7 weekday c d
 
-nth_in_range : (place : Option (ℕ × ℕ)) → IsPlace place → IsInRange 102 (place_given place)
-nth_in_range None h = tt
-nth_in_range (Some place) h = place_value place.0 place.1 h.0 h.1 h.2 h.3
-
-nth_back_in_range : (place : Option (ℕ × ℕ)) → IsPlace place → IsInRange 108 (place_given place)
-nth_back_in_range None h = tt
-nth_back_in_range (Some place) h = place_value place.0 place.1 h.0 h.1 h.2 h.3
-
-weekday_fits : (b : Bool) (k : ℕ) → 1 ≤ k → k ≤ 7 → IsInRange 116 (cond b (Some (k, (48 + k) ∷ [])) None)
-weekday_fits true k low high = from_to_holds 1 7 k low high
-weekday_fits false k low high = tt
-
-weekday_in_range : (w k : ℕ) → 1 ≤ k → k ≤ 7 → IsInRange 116 (weekday_given w k)
-weekday_in_range w k low high = weekday_fits (w / 2 ^ (k - 1) % 2 == 1) k low high
-
-start_in_range : (start : StartParts) → IsStart start → AreInRange (start_slots start)
-start_in_range start h = (
-  year_in_range start.year h.year,
-  (
-    number_in_range 77 1 12 start.month (λ v d low high. from_to_holds 1 12 v low high) h.month,
-    (
-      number_in_range 119 1 53 start.week (λ v d low high. from_to_holds 1 53 v low high) h.week,
-      (
-        nth_in_range start.nth h.nth,
-        (
-          nth_back_in_range start.nth_back h.nth_back,
-          (
-            number_in_range 100 1 31 start.day (λ v d low high. from_to_holds 1 31 v low high) h.day,
-            (
-              weekday_in_range start.weekdays 1 (omega arith) (omega arith),
-              (
-                weekday_in_range start.weekdays 2 (omega arith) (omega arith),
-                (
-                  weekday_in_range start.weekdays 3 (omega arith) (omega arith),
-                  (
-                    weekday_in_range start.weekdays 4 (omega arith) (omega arith),
-                    (
-                      weekday_in_range start.weekdays 5 (omega arith) (omega arith),
-                      (
-                        weekday_in_range start.weekdays 6 (omega arith) (omega arith),
-                        (
-                          weekday_in_range start.weekdays 7 (omega arith) (omega arith),
-                          (
-                            number_in_range 104 0 23 start.hour (λ v d low high. le-leb v 23 high) h.hour,
-                            (
-                              number_in_range 109 0 59 start.minute (λ v d low high. le-leb v 59 high) h.minute,
-                              (
-                                number_in_range 115 0 59 start.second (λ v d low high. le-leb v 59 high) h.second,
-                                tt,
-                              ),
-                            ),
-                          ),
-                        ),
-                      ),
-                    ),
-                  ),
-                ),
-              ),
-            ),
-          ),
-        ),
-      ),
-    ),
-  ),
-)
-
--- ---- they give the start again
-
-year_again : (parts : StartParts) (year : Option ℕ) → parts.year ≡ None → with_slot parts 121 (year_given year)
-    ≡ record parts { year = year }
-year_again parts None e = ap (λ (m : Option ℕ). record parts { year = m }) e
-year_again parts (Some n) e = refl
-
-month_again : (parts : StartParts) (month : Option ℕ) → parts.month ≡ None → with_slot parts 77 (number_given month)
-    ≡ record parts { month = month }
-month_again parts None e = ap (λ (m : Option ℕ). record parts { month = m }) e
-month_again parts (Some n) e = refl
-
-week_again : (parts : StartParts) (week : Option ℕ) → parts.week ≡ None → with_slot parts 119 (number_given week)
-    ≡ record parts { week = week }
-week_again parts None e = ap (λ (m : Option ℕ). record parts { week = m }) e
-week_again parts (Some n) e = refl
-
-day_again : (parts : StartParts) (day : Option ℕ) → parts.day ≡ None → with_slot parts 100 (number_given day)
-    ≡ record parts { day = day }
-day_again parts None e = ap (λ (m : Option ℕ). record parts { day = m }) e
-day_again parts (Some n) e = refl
-
-hour_again : (parts : StartParts) (hour : Option ℕ) → parts.hour ≡ None → with_slot parts 104 (number_given hour)
-    ≡ record parts { hour = hour }
-hour_again parts None e = ap (λ (m : Option ℕ). record parts { hour = m }) e
-hour_again parts (Some n) e = refl
-
-minute_again : (parts : StartParts) (minute : Option ℕ) → parts.minute ≡ None → with_slot parts 109 (number_given minute)
-    ≡ record parts { minute = minute }
-minute_again parts None e = ap (λ (m : Option ℕ). record parts { minute = m }) e
-minute_again parts (Some n) e = refl
-
-second_again : (parts : StartParts) (second : Option ℕ) → parts.second ≡ None → with_slot parts 115 (number_given second)
-    ≡ record parts { second = second }
-second_again parts None e = ap (λ (m : Option ℕ). record parts { second = m }) e
-second_again parts (Some n) e = refl
-
 same_place : (n weekday : ℕ) → weekday < 10 → ◌≡◌ {A = ℕ × ℕ} ((n * 10 + weekday) / 10, (n * 10 + weekday) % 10) (n, weekday)
 same_place n weekday small =
     let front : (n * 10 + weekday) / 10 ≡ n = omega arith in
@@ -382,242 +148,198 @@ same_place n weekday small =
     let pair : ℕ → ℕ → ℕ × ℕ = λ a b. (a, b) in
     ap (λ (m : ℕ). pair m ((n * 10 + weekday) % 10)) front ∙ ap (pair n) back
 
-nth_again : (parts : StartParts) (place : Option (ℕ × ℕ)) → IsPlace place → parts.nth ≡ None
-    → with_slot parts 102 (place_given place) ≡ record parts { nth = place }
-nth_again parts None h e = ap (λ (m : Option (ℕ × ℕ)). record parts { nth = m }) e
-nth_again parts (Some place) h e = let last = h.3 in ap (λ (m : ℕ × ℕ). record parts { nth = Some m })
-    (same_place place.0 place.1 (omega arith))
+place : (letter : ℕ) (parts : StartParts) (set : StartParts → Option (ℕ × ℕ) → StartParts) (o : Option (ℕ × ℕ))
+    → is_start_letter letter ≡ true → ((v d : ℕ) → is_place_value v d ≡ true → is_start_value letter v d ≡ true)
+    → parts ≡ set parts None → ((v d : ℕ) → with_start_field parts (Field letter v d) ≡ set parts (Some (v / 10, v % 10)))
+    → IsPlace o → IsStartField letter (place_digits o) parts (set parts o)
+place letter parts set None known takes none some h = none_shown letter parts (set parts None) none
+place letter parts set (Some at) known takes none some h =
+    let n = h.1 in
+    let weekday = h.3 in
+    start_field letter (at.0 * 10 + at.1) ((48 + at.0) ∷ (48 + at.1) ∷ []) parts (set parts (Some at)) known
+    (place_are at.0 at.1 (omega arith) (omega arith)) (place_means at.0 at.1 (omega arith) (omega arith))
+    (takes (at.0 * 10 + at.1) 2 (place_value at.0 at.1 h.0 h.1 h.2 h.3))
+    (some (at.0 * 10 + at.1) 2 ∙ ap (λ (p : ℕ × ℕ). set parts (Some p)) (same_place at.0 at.1 (omega arith)))
 
-nth_back_again : (parts : StartParts) (place : Option (ℕ × ℕ)) → IsPlace place → parts.nth_back ≡ None
-    → with_slot parts 108 (place_given place) ≡ record parts { nth_back = place }
-nth_back_again parts None h e = ap (λ (m : Option (ℕ × ℕ)). record parts { nth_back = m }) e
-nth_back_again parts (Some place) h e = let last = h.3 in ap (λ (m : ℕ × ℕ). record parts { nth_back = Some m })
-    (same_place place.0 place.1 (omega arith))
+-- ---- weekdays
+
+one_digit : (n : ℕ) → n < 10 → AreDigits ((48 + n) ∷ [])
+one_digit n small = record { all = rw (digit n small) refl; some = omega arith; few = omega arith }
+
+day_means : (k : ℕ) → field_number ((48 + k) ∷ []) ≡ k
+day_means k = omega arith
+
+-- the digit of a weekday if it is given, and then others
+abbrev and_days : Bool → ℕ → List (List ℕ) → List (List ℕ)
+and_days b k others = cond b (((48 + k) ∷ []) ∷ []) [] ++ others
+
+days_are : (b : Bool) (k : ℕ) (others : List (List ℕ)) → k < 10 → Each AreDigits others → Each AreDigits (and_days b k others)
+days_are true k others small h = (one_digit k small, h)
+days_are false k others small h = h
+
+abbrev AlwaysFit : List (List ℕ) → Type 0
+AlwaysFit numbers = (before : List TokenKind) → each_fits fits_start before (kinds_of (numbers_words 116 numbers)) ≡ true
+
+days_fit : (b : Bool) (k : ℕ) (others : List (List ℕ)) → is_from_to 1 7 k ≡ true → AlwaysFit others
+    → AlwaysFit (and_days b k others)
+days_fit true k others is h before =
+    and_both (is_from_to 1 7 (field_number ((48 + k) ∷ []))) _ (ap (is_from_to 1 7) (day_means k) ∙ is)
+    (h (Field 116 (field_number ((48 + k) ∷ [])) 1 ∷ before))
+days_fit false k others is h before = h before
 
 -- the weekdays, with this one if it is given
 abbrev weekday_step : ℕ → ℕ → ℕ → ℕ
 weekday_step w before k = cond (w / 2 ^ (k - 1) % 2 == 1) (bit_or before (2 ^ (k - 1))) before
 
-weekday_added : (b : Bool) (parts : StartParts) (k : ℕ) → with_slot parts 116 (cond b (Some (k, (48 + k) ∷ [])) None)
-    ≡ record parts { weekdays = cond b (bit_or parts.weekdays (2 ^ (k - 1))) parts.weekdays }
-weekday_added true parts k = refl
-weekday_added false parts k = refl
+days_give : (b : Bool) (k : ℕ) (others : List (List ℕ)) (parts : StartParts)
+    → fold with_start_field parts (kinds_of (numbers_words 116 (and_days b k others)))
+    ≡ fold with_start_field (record parts { weekdays = cond b (bit_or parts.weekdays (2 ^ (k - 1))) parts.weekdays })
+    (kinds_of (numbers_words 116 others))
+days_give true k others parts =
+    ap (λ (n : ℕ). fold with_start_field (record parts { weekdays = bit_or parts.weekdays (2 ^ (n - 1)) })
+    (kinds_of (numbers_words 116 others))) (day_means k)
+days_give false k others parts = refl
 
-weekday_again : (parts : StartParts) (w k : ℕ) → with_slot parts 116 (weekday_given w k)
-    ≡ record parts { weekdays = weekday_step w parts.weekdays k }
-weekday_again parts w k = weekday_added (w / 2 ^ (k - 1) % 2 == 1) parts k
+abbrev all_days : List ℕ → Bool
+all_days [] = true
+all_days (k ∷ days) = is_from_to 1 7 k && all_days days
 
-abbrev all_steps : ℕ → ℕ
-all_steps w = weekday_step w (weekday_step w (weekday_step w
-    (weekday_step w (weekday_step w (weekday_step w (weekday_step w 0 1) 2) 3) 4) 5) 6) 7
+each_day_are : (w : ℕ) (days : List ℕ) → all_days days ≡ true → Each AreDigits (flat_map (weekday_digits w) days)
+each_day_are w [] h = tt
+each_day_are w (k ∷ days) h =
+    let most = (from_to 1 7 k (and_left _ (all_days days) h)).1 in
+    days_are (w / 2 ^ (k - 1) % 2 == 1) k (flat_map (weekday_digits w) days) (omega arith)
+    (each_day_are w days (and_right (is_from_to 1 7 k) _ h))
+
+each_day_fits : (w : ℕ) (days : List ℕ) → all_days days ≡ true → AlwaysFit (flat_map (weekday_digits w) days)
+each_day_fits w [] h = λ before. refl
+each_day_fits w (k ∷ days) h =
+    days_fit (w / 2 ^ (k - 1) % 2 == 1) k (flat_map (weekday_digits w) days) (and_left _ (all_days days) h)
+    (each_day_fits w days (and_right (is_from_to 1 7 k) _ h))
+
+each_day_gives : (w : ℕ) (days : List ℕ) (parts : StartParts)
+    → fold with_start_field parts (kinds_of (numbers_words 116 (flat_map (weekday_digits w) days)))
+    ≡ record parts { weekdays = fold (weekday_step w) parts.weekdays days }
+each_day_gives w [] parts = refl
+each_day_gives w (k ∷ days) parts =
+    days_give (w / 2 ^ (k - 1) % 2 == 1) k (flat_map (weekday_digits w) days) parts
+    ∙ each_day_gives w days (record parts { weekdays = weekday_step w parts.weekdays k })
+
+abbrev week : List ℕ
+week = 1 ∷ 2 ∷ 3 ∷ 4 ∷ 5 ∷ 6 ∷ 7 ∷ []
 
 come_back : ℕ → Bool
 come_back zero = true
-come_back (suc n) = (all_steps n == n) && come_back n
+come_back (suc n) = (fold (weekday_step n) 0 week == n) && come_back n
 
 all_come_back : come_back 128 ≡ true
 unfolding come_back
 all_come_back = refl
 
-below_come_back : (n w : ℕ) → come_back n ≡ true → w < n → all_steps w ≡ w
+below_come_back : (n w : ℕ) → come_back n ≡ true → w < n → fold (weekday_step w) 0 week ≡ w
 unfolding come_back
 below_come_back zero w h lt = absurd (omega arith)
 below_come_back (suc n) w h lt = elim (cases_eq w n) [
-  | inl same ↦ ap all_steps same ∙ eqb-true _ _ (and_left (all_steps n == n) (come_back n) h) ∙ sym same
-  | inr other ↦ below_come_back n w (and_right (all_steps n == n) _ h) (omega (arith, other))
+  | inl same ↦ ap (λ (m : ℕ). fold (weekday_step m) 0 week) same
+      ∙ eqb-true _ _ (and_left (fold (weekday_step n) 0 week == n) (come_back n) h) ∙ sym same
+  | inr other ↦ below_come_back n w (and_right (fold (weekday_step n) 0 week == n) _ h) (omega (arith, other))
 ]
 
-weekdays_again : (parts : StartParts) (w : ℕ) → w < 128 → record parts { weekdays = all_steps w } ≡ record parts { weekdays = w }
-weekdays_again parts w lt = ap (λ (m : ℕ). record parts { weekdays = m }) (below_come_back 128 w all_come_back lt)
+weekdays_field : (parts : StartParts) (w : ℕ) → parts.weekdays ≡ 0 → w < 128
+    → IsStartField 116 (weekdays_digits w) parts (record parts { weekdays = w })
+weekdays_field parts w none small = record {
+  digits = each_day_are w week refl;
+  fit = λ before others. each_day_fits w week refl before;
+  same = each_day_gives w week parts
+      ∙ ap (λ (m : ℕ). record parts { weekdays = m }) (ap (λ (m : ℕ). fold (weekday_step w) m week) none
+      ∙ below_come_back 128 w all_come_back small);
+}
 
-start_gives : (start : StartParts) → IsStart start → Gives no_parts (start_slots start) start
-start_gives start h =
-    more _ _ _ _ _ _ (year_again _ start.year refl)
-    (more _ _ _ _ _ _ (month_again _ start.month refl)
-    (more _ _ _ _ _ _ (week_again _ start.week refl)
-    (more _ _ _ _ _ _ (nth_again _ start.nth h.nth refl)
-    (more _ _ _ _ _ _ (nth_back_again _ start.nth_back h.nth_back refl)
-    (more _ _ _ _ _ _ (day_again _ start.day refl)
-    (more _ _ _ _ _ _ (weekday_again _ start.weekdays 1)
-    (more _ _ _ _ _ _ (weekday_again _ start.weekdays 2)
-    (more _ _ _ _ _ _ (weekday_again _ start.weekdays 3)
-    (more _ _ _ _ _ _ (weekday_again _ start.weekdays 4)
-    (more _ _ _ _ _ _ (weekday_again _ start.weekdays 5)
-    (more _ _ _ _ _ _ (weekday_again _ start.weekdays 6)
-    (more _ _ _ _ _ _ (weekday_again _ start.weekdays 7 ∙ weekdays_again
-    (record start { hour = None; minute = None; second = None }) start.weekdays h.weekdays)
-    (more _ _ _ _ _ _ (hour_again _ start.hour refl)
-    (more _ _ _ _ _ _ (minute_again _ start.minute refl)
-    (more _ _ _ _ _ _ (second_again _ start.second refl)
-    (done start))))))))))))))))
+-- ---- a start, row by row
 
--- what holds of the words of a start
-pub record AreStartWords (all : List Word) (start : StartParts) : Type 0 where
-  pub words : AreWords all
-  pub text : text_of all ≡ start_text start
-  pub some : kinds_of all ≢ []
-  pub fit : all_fit_start [] (kinds_of all) ≡ true
-  pub same : with_start_fields no_parts (kinds_of all) ≡ start
+pub start_rows : (start : StartParts) → IsStart start
+    → AreShown StartParts fits_start with_start_field no_parts (start_shown start) start
+start_rows start h =
+    more _ _ _ _ _ _ (year_field _ start.year refl h.year)
+    (more _ _ _ _ _ _ (number 77 1 12 _ (λ p n. record p { month = n }) start.month refl (omega arith)
+    (λ v d. from_to_holds 1 12 v) refl (λ v d. refl) h.month)
+    (more _ _ _ _ _ _ (number 119 1 53 _ (λ p n. record p { week = n }) start.week refl (omega arith)
+    (λ v d. from_to_holds 1 53 v) refl (λ v d. refl) h.week)
+    (more _ _ _ _ _ _ (place 102 _ (λ p at. record p { nth = at }) start.nth refl (λ v d is. is) refl (λ v d. refl) h.nth)
+    (more _ _ _ _ _ _ (place 108 _ (λ p at. record p { nth_back = at }) start.nth_back refl (λ v d is. is) refl (λ v d. refl)
+    h.nth_back)
+    (more _ _ _ _ _ _ (number 100 1 31 _ (λ p n. record p { day = n }) start.day refl (omega arith)
+    (λ v d. from_to_holds 1 31 v) refl (λ v d. refl) h.day)
+    (more _ _ _ _ _ _ (weekdays_field _ start.weekdays refl h.weekdays)
+    (more _ _ _ _ _ _ (number 104 0 23 _ (λ p n. record p { hour = n }) start.hour refl (omega arith)
+    (λ v d low. le-leb v 23) refl (λ v d. refl) h.hour)
+    (more _ _ _ _ _ _ (number 109 0 59 _ (λ p n. record p { minute = n }) start.minute refl (omega arith)
+    (λ v d low. le-leb v 59) refl (λ v d. refl) h.minute)
+    (more _ _ _ _ _ _ (number 115 0 59 _ (λ p n. record p { second = n }) start.second refl (omega arith)
+    (λ v d low. le-leb v 59) refl (λ v d. refl) h.second)
+    (done start))))))))))
 
-pub start_words : (start : StartParts) → IsStart start → AreStartWords (slots_words (start_slots start)) start
-start_words start h =
-    let same = gives no_parts (start_slots start) start (start_gives start h) in
-    record {
-      words = are_words (start_slots start) (start_are_slots start h);
-      text = start_words_text start;
-      some = λ none. h.given (sym same ∙ ap (with_start_fields no_parts) none);
-      fit = slots_fit_start (start_slots start) (start_are_slots start h) (start_in_range start h) refl;
-      same = same;
-    }
+abbrev pub start_words : StartParts → List Word
+start_words start = shown_words (start_shown start)
 
--- ---- the numbers of a duration
+pub start_fields : (start : StartParts) → IsStart start
+    → AreFields StartParts fits_start with_start_field (start_words start) no_parts start
+start_fields start h = are_fields no_parts start (start_shown start) (start_rows start h) refl
 
-abbrev nonzero : ℕ → Option Given
-nonzero n = cond (n == 0) None (Some (n, decimal n))
+pub start_words_text : (start : StartParts) → text_of (start_words start) ≡ start_text start
+unfolding start_text
+start_words_text start = text_of-shown (start_shown start)
 
-abbrev pub number_slots : DurationParts → List Slot
-number_slots d =
-    slot 121 (nonzero d.years) ∷ slot 77 (nonzero d.months) ∷ slot 119 (nonzero d.weeks) ∷ slot 100 (nonzero d.days)
-    ∷ slot 104 (nonzero d.hours) ∷ slot 109 (nonzero d.minutes) ∷ slot 115 (nonzero d.seconds) ∷ []
+pub start_some : (start : StartParts) → IsStart start → kinds_of (start_words start) ≢ []
+start_some start h none = h.given (sym (start_fields start h).same ∙ ap (fold with_start_field no_parts) none)
 
-nonzero_text : (b : Bool) (letter n : ℕ) → slot_text letter (cond b None (Some (n, decimal n))) ≡ cond b [] (letter ∷ decimal n)
-nonzero_text true letter n = refl
-nonzero_text false letter n = refl
+-- ---- a duration, row by row
 
-nonzero_is : (letter n : ℕ) → slot_text letter (nonzero n) ≡ number_text (letter ∷ []) n
-nonzero_is letter n = nonzero_text (n == 0) letter n
+abbrev IsNumber : ℕ → List (List ℕ) → DurationParts → DurationParts → Type 0
+IsNumber letter numbers parts next = IsShown DurationParts fits_duration with_duration_field letter numbers parts next
 
-number_slots_text : (d : DurationParts) → slots_text (number_slots d) ≡ numbers_text d
-number_slots_text d =
-    join _ _ _ _ (nonzero_is 121 d.years)
-    (join _ _ _ _ (nonzero_is 77 d.months)
-    (join _ _ _ _ (nonzero_is 119 d.weeks)
-    (join _ _ _ _ (nonzero_is 100 d.days)
-    (join _ _ _ _ (nonzero_is 104 d.hours)
-    (join _ _ _ _ (nonzero_is 109 d.minutes)
-    (join _ _ _ _ (nonzero_is 115 d.seconds) refl))))))
-    ∙ simp (append_assoc, append-nil)
+fits_once : (known has : Bool) → known ≡ true → has ≡ false → (known && not has) ≡ true
+fits_once true false h k = refl
+fits_once true true h k = absurd cc
+fits_once false has h k = absurd cc
 
-nonzero_digits : (b : Bool) (n : ℕ) → n ≤ 999999 → AreGiven (cond b None (Some (n, decimal n)))
-nonzero_digits true n few = tt
-nonzero_digits false n few = number_digits n few
+nonzero_by : (b : Bool) (letter : ℕ) (parts : DurationParts) (set : DurationParts → ℕ → DurationParts) (n : ℕ) → (n == 0) ≡ b
+    → is_duration_letter letter ≡ true → parts ≡ set parts 0
+    → ((v d : ℕ) → with_duration_field parts (Field letter v d) ≡ set parts v) → n ≤ 999999
+    → IsNumber letter (cond b [] (decimal n ∷ [])) parts (set parts n)
+nonzero_by true letter parts set n is known none some few =
+    none_shown letter parts (set parts n) (none ∙ ap (set parts) (sym (eqb-true n 0 is)))
+nonzero_by false letter parts set n is known none some few =
+    one_shown letter n (decimal n) parts (set parts n) (decimal_are n few) (decimal_means n few)
+    (λ before once. fits_once (is_duration_letter letter) (has_letter letter before) known once) (some n (length (decimal n)))
 
-nonzero_is_given : (n : ℕ) → n ≤ 999999 → AreGiven (nonzero n)
-nonzero_is_given n few = nonzero_digits (n == 0) n few
+nonzero : (letter : ℕ) (parts : DurationParts) (set : DurationParts → ℕ → DurationParts) (n : ℕ)
+    → is_duration_letter letter ≡ true → parts ≡ set parts 0
+    → ((v d : ℕ) → with_duration_field parts (Field letter v d) ≡ set parts v) → n ≤ 999999
+    → IsNumber letter (nonzero_digits n) parts (set parts n)
+nonzero letter parts set n = nonzero_by (n == 0) letter parts set n refl
 
-numbers_are_slots : (d : DurationParts) → HasSixDigits d → AreSlots (number_slots d)
-numbers_are_slots d h = (
-  refl,
-  refl,
-  nonzero_is_given d.years h.years,
-  (
-    refl,
-    refl,
-    nonzero_is_given d.months h.months,
-    (
-      refl,
-      refl,
-      nonzero_is_given d.weeks h.weeks,
-      (
-        refl,
-        refl,
-        nonzero_is_given d.days h.days,
-        (
-          refl,
-          refl,
-          nonzero_is_given d.hours h.hours,
-          (
-            refl,
-            refl,
-            nonzero_is_given d.minutes h.minutes,
-            (
-              refl,
-              refl,
-              nonzero_is_given d.seconds h.seconds,
-              tt,
-            ),
-          ),
-        ),
-      ),
-    ),
-  ),
-)
+pub duration_rows : (d : DurationParts) → HasSixDigits d
+    → AreShown DurationParts fits_duration with_duration_field zero_parts (duration_shown d) d
+duration_rows d h =
+    more _ _ _ _ _ _ (nonzero 121 _ (λ p n. record p { years = n }) d.years refl refl (λ v d. refl) h.years)
+    (more _ _ _ _ _ _ (nonzero 77 _ (λ p n. record p { months = n }) d.months refl refl (λ v d. refl) h.months)
+    (more _ _ _ _ _ _ (nonzero 119 _ (λ p n. record p { weeks = n }) d.weeks refl refl (λ v d. refl) h.weeks)
+    (more _ _ _ _ _ _ (nonzero 100 _ (λ p n. record p { days = n }) d.days refl refl (λ v d. refl) h.days)
+    (more _ _ _ _ _ _ (nonzero 104 _ (λ p n. record p { hours = n }) d.hours refl refl (λ v d. refl) h.hours)
+    (more _ _ _ _ _ _ (nonzero 109 _ (λ p n. record p { minutes = n }) d.minutes refl refl (λ v d. refl) h.minutes)
+    (more _ _ _ _ _ _ (nonzero 115 _ (λ p n. record p { seconds = n }) d.seconds refl refl (λ v d. refl) h.seconds)
+    (done d)))))))
 
-years_made : (b : Bool) (parts : DurationParts) (n : ℕ) → (n == 0) ≡ b → parts.years ≡ 0
-    → with_number parts 121 (cond b None (Some (n, decimal n))) ≡ record parts { years = n }
-years_made true parts n z e = ap (λ (m : ℕ). record parts { years = m }) (e ∙ sym (eqb-true n 0 z))
-years_made false parts n z e = refl
+abbrev pub duration_words : DurationParts → List Word
+duration_words d = or_zero_words (shown_words (duration_shown d))
 
-years_again : (parts : DurationParts) (n : ℕ) → parts.years ≡ 0 → with_number parts 121 (nonzero n) ≡ record parts { years = n }
-years_again parts n e = years_made (n == 0) parts n refl e
+pub duration_fields : (d : DurationParts) → HasSixDigits d
+    → AreFields DurationParts fits_duration with_duration_field (duration_words d) zero_parts d
+duration_fields d h =
+    or_zero_fields (shown_words (duration_shown d)) zero_parts d refl refl
+    (are_fields zero_parts d (duration_shown d) (duration_rows d h) refl)
 
-months_made : (b : Bool) (parts : DurationParts) (n : ℕ) → (n == 0) ≡ b → parts.months ≡ 0
-    → with_number parts 77 (cond b None (Some (n, decimal n))) ≡ record parts { months = n }
-months_made true parts n z e = ap (λ (m : ℕ). record parts { months = m }) (e ∙ sym (eqb-true n 0 z))
-months_made false parts n z e = refl
-
-months_again : (parts : DurationParts) (n : ℕ) → parts.months ≡ 0 → with_number parts 77 (nonzero n) ≡ record parts { months = n }
-months_again parts n e = months_made (n == 0) parts n refl e
-
-weeks_made : (b : Bool) (parts : DurationParts) (n : ℕ) → (n == 0) ≡ b → parts.weeks ≡ 0
-    → with_number parts 119 (cond b None (Some (n, decimal n))) ≡ record parts { weeks = n }
-weeks_made true parts n z e = ap (λ (m : ℕ). record parts { weeks = m }) (e ∙ sym (eqb-true n 0 z))
-weeks_made false parts n z e = refl
-
-weeks_again : (parts : DurationParts) (n : ℕ) → parts.weeks ≡ 0 → with_number parts 119 (nonzero n) ≡ record parts { weeks = n }
-weeks_again parts n e = weeks_made (n == 0) parts n refl e
-
-days_made : (b : Bool) (parts : DurationParts) (n : ℕ) → (n == 0) ≡ b → parts.days ≡ 0
-    → with_number parts 100 (cond b None (Some (n, decimal n))) ≡ record parts { days = n }
-days_made true parts n z e = ap (λ (m : ℕ). record parts { days = m }) (e ∙ sym (eqb-true n 0 z))
-days_made false parts n z e = refl
-
-days_again : (parts : DurationParts) (n : ℕ) → parts.days ≡ 0 → with_number parts 100 (nonzero n) ≡ record parts { days = n }
-days_again parts n e = days_made (n == 0) parts n refl e
-
-hours_made : (b : Bool) (parts : DurationParts) (n : ℕ) → (n == 0) ≡ b → parts.hours ≡ 0
-    → with_number parts 104 (cond b None (Some (n, decimal n))) ≡ record parts { hours = n }
-hours_made true parts n z e = ap (λ (m : ℕ). record parts { hours = m }) (e ∙ sym (eqb-true n 0 z))
-hours_made false parts n z e = refl
-
-hours_again : (parts : DurationParts) (n : ℕ) → parts.hours ≡ 0 → with_number parts 104 (nonzero n) ≡ record parts { hours = n }
-hours_again parts n e = hours_made (n == 0) parts n refl e
-
-minutes_made : (b : Bool) (parts : DurationParts) (n : ℕ) → (n == 0) ≡ b → parts.minutes ≡ 0
-    → with_number parts 109 (cond b None (Some (n, decimal n))) ≡ record parts { minutes = n }
-minutes_made true parts n z e = ap (λ (m : ℕ). record parts { minutes = m }) (e ∙ sym (eqb-true n 0 z))
-minutes_made false parts n z e = refl
-
-minutes_again : (parts : DurationParts) (n : ℕ) → parts.minutes ≡ 0 → with_number parts 109 (nonzero n)
-    ≡ record parts { minutes = n }
-minutes_again parts n e = minutes_made (n == 0) parts n refl e
-
-seconds_made : (b : Bool) (parts : DurationParts) (n : ℕ) → (n == 0) ≡ b → parts.seconds ≡ 0
-    → with_number parts 115 (cond b None (Some (n, decimal n))) ≡ record parts { seconds = n }
-seconds_made true parts n z e = ap (λ (m : ℕ). record parts { seconds = m }) (e ∙ sym (eqb-true n 0 z))
-seconds_made false parts n z e = refl
-
-seconds_again : (parts : DurationParts) (n : ℕ) → parts.seconds ≡ 0 → with_number parts 115 (nonzero n)
-    ≡ record parts { seconds = n }
-seconds_again parts n e = seconds_made (n == 0) parts n refl e
-
-numbers_make : (d : DurationParts) → Makes zero_parts (number_slots d) d
-numbers_make d =
-    further _ _ _ _ _ _ (years_again _ d.years refl)
-    (further _ _ _ _ _ _ (months_again _ d.months refl)
-    (further _ _ _ _ _ _ (weeks_again _ d.weeks refl)
-    (further _ _ _ _ _ _ (days_again _ d.days refl)
-    (further _ _ _ _ _ _ (hours_again _ d.hours refl)
-    (further _ _ _ _ _ _ (minutes_again _ d.minutes refl)
-    (further _ _ _ _ _ _ (seconds_again _ d.seconds refl)
-    (made d)))))))
-
-abbrev pub number_words : DurationParts → List Word
-number_words d = or_zero_words (slots_words (number_slots d))
-
-pub numbers : (d : DurationParts) → HasSixDigits d → AreNumbers (number_slots d) d
-numbers d h = are_numbers (number_slots d) d (numbers_are_slots d h) refl (numbers_make d)
-
-pub number_words_text : (d : DurationParts) → text_of (number_words d) ≡ duration_text d
+pub duration_words_text : (d : DurationParts) → text_of (duration_words d) ≡ duration_text d
 unfolding duration_text
-number_words_text d = or_zero_text (number_slots d) ∙ ap or_zero (text_of-slots (number_slots d) ∙ number_slots_text d)
+duration_words_text d = or_zero_text (duration_shown d) ∙ ap or_zero (text_of-shown (duration_shown d))

@@ -10,16 +10,16 @@ use Rattle.gtd_text.specs.declared.token.Token.{Token}
 use Rattle.gtd_text.specs.declared.token.TokenKind.{TokenKind}
 use Rattle.gtd_text.specs.declared.token.TokenKind.TheVariants.{OpenBracket, CloseBracket, OpenParenthesis, CloseParenthesis}
 use Rattle.gtd_text.specs.declared.token.TokenKind.TheVariants.{OpenBrace, CloseBrace, Plus, Star, Minus}
-use Rattle.gtd_text.specs.Canonical.{canonical, start_text, sign_text}
+use Rattle.gtd_text.specs.Canonical.{canonical, start_text, duration_shown, sign_text}
 use Rattle.gtd_text.specs.Grammar.{with_start_fields, Sum, Item, Stands, basic, bracketed, item, meet, product, union, minus}
 use Rattle.gtd_text.specs.Grammar.{basic_tokens}
 use Rattle.gtd_text.specs.Lexing.{AreTokens, kinds}
 use Rattle.gtd_text.specs.Reading.{StandsFor}
 use Rattle.gtd_text.specs.facts.TokenWords.{Word, text_of, kinds_of, text_of-append, kinds_of-append, IsWord, AreWords}
 use Rattle.gtd_text.specs.facts.TokenWords.{AreWords-append, placed, kinds-placed, are_tokens}
-use Rattle.gtd_text.specs.facts.OptionalFields.{slots_words, or_zero_some}
-use Rattle.gtd_text.specs.facts.CanonicalFields.{start_slots, number_slots, number_words, number_words_text, start_words}
-use Rattle.gtd_text.specs.facts.CanonicalFields.{numbers}
+use Rattle.gtd_text.specs.facts.ShownFields.{shown_words, or_zero_some}
+use Rattle.gtd_text.specs.facts.CanonicalFields.{start_words, start_words_text, start_some, start_fields, duration_words}
+use Rattle.gtd_text.specs.facts.CanonicalFields.{duration_words_text, duration_fields}
 
 abbrev pub op_word : Op → Word
 op_word Union = (Plus, 43 ∷ [])
@@ -46,8 +46,8 @@ close_brace = (CloseBrace, 125 ∷ [])
 
 abbrev pub canonical_words : Tree → List Word
 canonical_words (Single start duration) =
-    open_bracket ∷ open_parenthesis ∷ (slots_words (start_slots start) ++ close_parenthesis ∷ open_brace
-    ∷ (number_words duration ++ close_brace ∷ close_bracket ∷ []))
+    open_bracket ∷ open_parenthesis ∷ (start_words start ++ close_parenthesis ∷ open_brace
+    ∷ (duration_words duration ++ close_brace ∷ close_bracket ∷ []))
 canonical_words (Joined op left right) =
     open_bracket ∷ (canonical_words left ++ op_word op ∷ (canonical_words right ++ close_bracket ∷ []))
 
@@ -60,14 +60,14 @@ op_text OpMinus rest = refl
 
 words_text : (e : Tree) → AreValid e → text_of (canonical_words e) ≡ canonical e
 words_text (Single start duration) h =
-    let s = start_words start h.0 in
     ap (λ (l : List ℕ). 91 ∷ 40 ∷ l) (
-    text_of-append (slots_words (start_slots start)) (close_parenthesis ∷ open_brace
-    ∷ (number_words duration ++ close_brace ∷ close_bracket ∷ []))
-    ∙ ap (λ (l : List ℕ). l ++ 41 ∷ 123 ∷ text_of (number_words duration ++ close_brace ∷ close_bracket ∷ [])) s.text
+    text_of-append (start_words start) (close_parenthesis ∷ open_brace
+    ∷ (duration_words duration ++ close_brace ∷ close_bracket ∷ []))
+    ∙ ap (λ (l : List ℕ). l ++ 41 ∷ 123 ∷ text_of (duration_words duration ++ close_brace ∷ close_bracket ∷ []))
+    (start_words_text start)
     ∙ ap (λ (l : List ℕ). start_text start ++ 41 ∷ 123 ∷ l) (
-    text_of-append (number_words duration) (close_brace ∷ close_bracket ∷ [])
-    ∙ ap (λ (l : List ℕ). l ++ 125 ∷ 93 ∷ []) (number_words_text duration)))
+    text_of-append (duration_words duration) (close_brace ∷ close_bracket ∷ [])
+    ∙ ap (λ (l : List ℕ). l ++ 125 ∷ 93 ∷ []) (duration_words_text duration)))
     ∙ simp append_assoc
 words_text (Joined op left right) h =
     ap (λ (l : List ℕ). 91 ∷ l) (
@@ -107,16 +107,16 @@ is_close_brace = record { reads = λ rest none. refl; long = refl; no_digit = λ
 
 all_words : (e : Tree) → AreValid e → AreWords (canonical_words e)
 all_words (Single start duration) h =
-    let s = start_words start h.0 in
-    let n = numbers duration h.1.0 in (
+    let s = start_fields start h.0 in
+    let n = duration_fields duration h.1.0 in (
       is_open_bracket,
       (
         is_open_parenthesis,
-        AreWords-append (slots_words (start_slots start)) _ s.words (
+        AreWords-append (start_words start) _ s.are (
           is_close_parenthesis,
           (
             is_open_brace,
-            AreWords-append (number_words duration) _ n.words
+            AreWords-append (duration_words duration) _ n.are
                 (is_close_brace, (is_close_bracket, tt)),
           ),
         ),
@@ -131,16 +131,16 @@ all_words (Joined op left right) h = (
 -- ---- they stand for the expression
 
 basic_stands : (start : StartParts) (duration : DurationParts) → IsStart start → IsDuration duration
-    → Stands Item (basic_tokens (kinds_of (slots_words (start_slots start))) (kinds_of (number_words duration)))
+    → Stands Item (basic_tokens (kinds_of (start_words start)) (kinds_of (duration_words duration)))
     (Single start duration)
 basic_stands start duration h k =
-    let s = start_words start h in
-    let n = numbers duration k.0 in
-    let from = kinds_of (slots_words (start_slots start)) in
-    let long = kinds_of (number_words duration) in
+    let s = start_fields start h in
+    let n = duration_fields duration k.0 in
+    let from = kinds_of (start_words start) in
+    let long = kinds_of (duration_words duration) in
     subst (λ (p : StartParts). Stands Item (basic_tokens from long) (Single p duration)) s.same
     (subst (λ (p : DurationParts). Stands Item (basic_tokens from long) (Single (with_start_fields no_parts from) p)) n.same
-    (basic from long s.some s.fit (or_zero_some (slots_words (number_slots duration))) n.fit))
+    (basic from long (start_some start h) s.fit (or_zero_some (shown_words (duration_shown duration))) n.fit))
 
 op_stands : (op : Op) (left right : List TokenKind) (a b : Tree) → Stands Item left a → Stands Item right b
     → Stands Sum (left ++ (op_word op).0 ∷ right) (Joined op a b)
@@ -149,15 +149,15 @@ op_stands Meet left right a b d k = product (left ++ Star ∷ right) (Joined Mee
 op_stands OpMinus left right a b d k = minus left right a b (product left a (item left a d)) (item right b k)
 
 pub kinds_single : (start : StartParts) (duration : DurationParts) → kinds_of (canonical_words (Single start duration))
-    ≡ OpenBracket ∷ (basic_tokens (kinds_of (slots_words (start_slots start))) (kinds_of (number_words duration)) ++ CloseBracket
+    ≡ OpenBracket ∷ (basic_tokens (kinds_of (start_words start)) (kinds_of (duration_words duration)) ++ CloseBracket
     ∷ [])
 kinds_single start duration =
-    let from = kinds_of (slots_words (start_slots start)) in
+    let from = kinds_of (start_words start) in
     ap (λ (l : List TokenKind). OpenBracket ∷ OpenParenthesis ∷ l) (
-    kinds_of-append (slots_words (start_slots start)) (close_parenthesis ∷ open_brace
-    ∷ (number_words duration ++ close_brace ∷ close_bracket ∷ []))
+    kinds_of-append (start_words start) (close_parenthesis ∷ open_brace
+    ∷ (duration_words duration ++ close_brace ∷ close_bracket ∷ []))
     ∙ ap (λ (l : List TokenKind). from ++ CloseParenthesis ∷ OpenBrace ∷ l)
-    (kinds_of-append (number_words duration) (close_brace ∷ close_bracket ∷ [])))
+    (kinds_of-append (duration_words duration) (close_brace ∷ close_bracket ∷ [])))
     ∙ simp append_assoc
 
 pub kinds_joined : (op : Op) (left right : Tree) → kinds_of (canonical_words (Joined op left right)) ≡ OpenBracket
@@ -171,7 +171,7 @@ kinds_joined op left right =
 
 pub item_stands : (e : Tree) → AreValid e → Stands Item (kinds_of (canonical_words e)) e
 item_stands (Single start duration) h =
-    let own = basic_tokens (kinds_of (slots_words (start_slots start))) (kinds_of (number_words duration)) in
+    let own = basic_tokens (kinds_of (start_words start)) (kinds_of (duration_words duration)) in
     let d = basic_stands start duration h.0 h.1 in
     subst (λ (l : List TokenKind). Stands Item l (Single start duration)) (sym (kinds_single start duration))
     (bracketed own (Single start duration) (product own (Single start duration) (item own (Single start duration) d)))

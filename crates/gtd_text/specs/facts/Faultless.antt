@@ -28,8 +28,7 @@ use Rattle.gtd_text.specs.facts.Builds.{and_left, and_right, builds_whole}
 use Rattle.gtd_text.specs.facts.ReadingLaws.{no_fault}
 use Rattle.gtd_text.specs.facts.Valid.{IsNoField, opens_before, front_fields, opens_from, leaves}
 use Rattle.gtd_text.specs.facts.TokenWords.{kinds_of, kinds-placed}
-use Rattle.gtd_text.specs.facts.OptionalFields.{slots_words}
-use Rattle.gtd_text.specs.facts.CanonicalFields.{start_slots, number_words, start_words, numbers}
+use Rattle.gtd_text.specs.facts.CanonicalFields.{start_words, start_fields, duration_words, duration_fields}
 use Rattle.gtd_text.specs.facts.CanonicalText.{op_word, canonical_words, canonical_tokens, canonical_read, canonical_stand}
 use Rattle.gtd_text.specs.facts.CanonicalText.{kinds_single, kinds_joined}
 
@@ -216,11 +215,11 @@ op_stays OpMinus depth = refl
 
 item_stays : (e : Tree) → AreValid e → (depth : ℕ) → depth + leaf_count e ≤ 128 → Stays depth (kinds_of (canonical_words e))
 item_stays (Single start duration) h depth small =
-    let s = start_words start h.0 in
-    let n = numbers duration h.1.0 in
+    let s = start_fields start h.0 in
+    let n = duration_fields duration h.1.0 in
     subst (λ (l : List TokenKind). Stays depth l) (sym (kinds_single start duration))
-    (stays_bracketed depth _ (omega arith) (stays_basic (depth + 1) (kinds_of (slots_words (start_slots start)))
-    (kinds_of (number_words duration)) (omega arith) s.fit n.fit))
+    (stays_bracketed depth _ (omega arith) (stays_basic (depth + 1) (kinds_of (start_words start))
+    (kinds_of (duration_words duration)) (omega arith) s.fit n.fit))
 item_stays (Joined op left right) h depth small =
     let a = item_stays left h.0 (depth + 1) (omega (arith, one_leaf right)) in
     let b = item_stays right h.1 (depth + 1) (omega (arith, one_leaf left)) in

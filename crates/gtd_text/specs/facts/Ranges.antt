@@ -1,8 +1,8 @@
 -- Fields that fit make a start and a duration that are in their ranges.
 use Rattle.std.proofs.Common.{◌≡◌, ◌≢◌, ℕ, ◌-◌, ◌/◌, ◌%◌, ◌^◌, ◌<◌, ◌≤◌, Bool, true, false, List, [], ◌∷◌, Some, None}
-use Rattle.std.proofs.Common.{refl, ap, arith}
+use Rattle.std.proofs.Common.{refl, ap, arith, cond}
 use Rattle.std.specs.Prelude.{◌==◌, ◌&&◌, nat_le, bit_or, not}
-use Rattle.std.proofs.lemmas.Bool.{leb-true}
+use Rattle.std.proofs.lemmas.Bool.{leb-true, ne_eqb}
 use Rattle.std.proofs.lemmas.Nat.{or_lt, le_or_r, pow_pos}
 use Rattle.std.proofs.Math.Pow.{pow-lt}
 use Rattle.gtd_core.specs.declared.start.StartParts.{StartParts}
@@ -10,7 +10,7 @@ use Rattle.gtd_core.specs.declared.duration.DurationParts.{DurationParts}
 use Rattle.gtd_core.specs.Ranges.{IsStart, IsWithin, IsPlace, no_parts, HasSixDigits}
 use Rattle.gtd_text.specs.declared.token.TokenKind.{TokenKind}
 use Rattle.gtd_text.specs.declared.token.TokenKind.TheVariants.{Field}
-use Rattle.gtd_core.specs.FieldTable.{is_from_to, is_place_value, start_fields, duration_fields}
+use Rattle.gtd_core.specs.FieldTable.{FieldRow, is_from_to, is_place_value, start_fields, duration_fields}
 use Rattle.gtd_text.specs.Grammar.{is_start_letter, is_start_value, is_repeated_in_start, fits_start, all_fit_start}
 use Rattle.gtd_text.specs.Grammar.{with_start_field, with_start_fields, with_duration_field, with_duration_fields, zero_parts}
 use Rattle.gtd_text.specs.facts.Builds.{and_left, and_right}
@@ -150,6 +150,33 @@ valid_start (token ∷ tokens) some fit =
     } in
     more_fields (token ∷ []) tokens (with_start_field no_parts token) (and_right (fits_start [] token) _ fit)
     (more_field [] token no_parts (and_left _ (all_fit_start (token ∷ []) tokens) fit) none)
+
+-- ---- what fits a byte
+
+at_most : (low high n : ℕ) → high ≤ 59 → is_from_to low high n ≡ true → n ≤ 59
+at_most low high n le h = let both = from_to low high n h in omega (arith, le, both.1)
+
+two_digits : (value digits : ℕ) → is_place_value value digits ≡ true → value ≤ 59
+two_digits value digits h = let both = place value digits h in omega (arith, both.1)
+
+second_holds : (b x y : Bool) → b ≡ false → cond b x y ≡ true → y ≡ true
+second_holds false x y e h = h
+second_holds true x y e h = absurd cc
+
+-- the fields of a start that come after the year
+abbrev byte_fields : List (FieldRow StartParts) → List (FieldRow StartParts)
+byte_fields [] = []
+byte_fields (year ∷ rows) = rows
+
+-- a number of a start's field that is no year is at most 59
+pub byte_value : (l v d : ℕ) → l ≢ 121 → is_start_value l v d ≡ true → v ≤ 59
+byte_value l v d other h =
+    taken (λ parts. v ≤ 59) (byte_fields start_fields) no_parts l v d
+    (also (at_most 1 12 v (omega arith)) (also (at_most 1 53 v (omega arith))
+    (also (two_digits v d) (also (two_digits v d) (also (at_most 1 31 v (omega arith))
+    (also (at_most 1 7 v (omega arith)) (also (λ e. let le = leb-true v 23 e in omega (arith, le))
+    (also (leb-true v 59) (also (leb-true v 59) tt)))))))))
+    (second_holds (l == 121) (d == 4 && nat_le v 9999) _ (ne_eqb l 121 other) h)
 
 -- ---- durations
 

@@ -87,29 +87,30 @@ are_tokens words h = reads_words words (text_of words) [] 0 h refl refl
 
 -- ---- fields
 
--- a letter and digits
-pub record AreDigits (value : ℕ) (digits : List ℕ) : Type 0 where
+-- decimal digits, one to six
+pub record AreDigits (digits : List ℕ) : Type 0 where
   pub all : all_ascii_digits digits ≡ true
   pub some : 1 ≤ length digits
   pub few : length digits ≤ 6
-  pub means : field_number digits ≡ value
 
-abbrev pub field_word : ℕ → ℕ → List ℕ → Word
-field_word letter value digits = (Field letter value (length digits), letter ∷ digits)
+-- the token of a letter and digits, and its text
+abbrev pub field_kind : ℕ → List ℕ → TokenKind
+field_kind letter digits = Field letter (field_number digits) (length digits)
 
-field_kind : (letter value : ℕ) (digits : List ℕ) → AreDigits value digits → field_of letter digits
-    ≡ Some (Field letter value (length digits))
-field_kind letter value digits h =
+abbrev pub field_word : ℕ → List ℕ → Word
+field_word letter digits = (field_kind letter digits, letter ∷ digits)
+
+reads_field : (letter : ℕ) (digits : List ℕ) → AreDigits digits → field_of letter digits ≡ Some (field_kind letter digits)
+reads_field letter digits h =
     ap (λ (b : Bool). cond b (Some (Field letter (field_number digits) (length digits))) None) (few_digits digits h.some h.few)
-    ∙ ap (λ (n : ℕ). Some (Field letter n (length digits))) h.means
 
-pub is_field_word : (letter value : ℕ) (digits : List ℕ) → is_start_letter letter ≡ true → is_ascii_digit letter ≡ false
-    → AreDigits value digits → IsWord (field_word letter value digits)
-is_field_word letter value digits known no_digit h = record {
+pub is_field_word : (letter : ℕ) (digits : List ℕ) → is_start_letter letter ≡ true → is_ascii_digit letter ≡ false
+    → AreDigits digits → IsWord (field_word letter digits)
+is_field_word letter digits known no_digit h = record {
   reads = λ rest none.
       ap (λ (b : Bool). cond b (field_of letter (take_while is_ascii_digit (digits ++ rest))) (sign_of letter)) known
       ∙ ap (field_of letter) (digits_front digits rest h.all none)
-      ∙ field_kind letter value digits h;
+      ∙ reads_field letter digits h;
   long = omega arith;
   no_digit = λ rest. no_digit;
 }

@@ -11,8 +11,8 @@ ghost use Rattle.gtd_text.specs.BuilderStates.{TakesToken, fields_with, opened, 
 
 use crate::builder::join::{times, total};
 use crate::builder::state::{Pending, State};
-use crate::fields::{duration_with, start_with};
 use crate::token::TokenKind;
+use gtd_core::fields::{duration_with, start_with};
 use gtd_core::{Basic, Duration, DurationParts, Expr, Op, Start, StartParts};
 use std::alloc::{AllocError, Global};
 

@@ -7,9 +7,9 @@ ghost use Rattle.gtd_text.specs.Summary.{start_takes, duration_takes, is_found_i
 
 use crate::check::letters::Letters;
 use crate::check::limits::depth_after;
-use crate::fields::{is_duration_letter, is_start_letter, is_start_value};
 use crate::token::TokenKind;
 use gtd_core::Fault;
+use gtd_core::fields::{is_duration_letter, is_start_letter, is_start_value};
 
 /// What decides whether the next token fits: the last token, the last sign, how many brackets are open, and the letters
 /// of the fields since that sign.

@@ -1,19 +1,9 @@
 //! Which letters the fields since the last sign have.
 
-/// For each letter of a start, whether a field since the last sign has it. Each letter of a duration is also one of a
-/// start.
+/// A set of letters: bit k stands for the letter that is k in ASCII.
 #[derive(Clone, Copy)]
 pub struct Letters {
-    year: bool,
-    month: bool,
-    week: bool,
-    nth: bool,
-    nth_back: bool,
-    day: bool,
-    weekday: bool,
-    hour: bool,
-    minute: bool,
-    second: bool,
+    bits: u128,
 }
 
 impl Letters {
@@ -24,56 +14,26 @@ impl Letters {
     pub fn none() -> Letters
         ensures { result ≡ letters [] }
     {
-        Letters {
-            year: false,
-            month: false,
-            week: false,
-            nth: false,
-            nth_back: false,
-            day: false,
-            weekday: false,
-            hour: false,
-            minute: false,
-            second: false,
-        }
+        Letters { bits: 0 }
     }
 
     /// With one more field.
     pub fn with(self, letter: u8) -> Letters
         ensures { result ≡ with_letter self letter }
     {
-        let mut new = self;
-        match letter {
-            b'y' => new.year = true,
-            b'M' => new.month = true,
-            b'w' => new.week = true,
-            b'f' => new.nth = true,
-            b'l' => new.nth_back = true,
-            b'd' => new.day = true,
-            b't' => new.weekday = true,
-            b'h' => new.hour = true,
-            b'm' => new.minute = true,
-            b's' => new.second = true,
-            _ => {}
+        if letter < 128 {
+            Letters {
+                bits: self.bits | 1 << letter,
+            }
+        } else {
+            self
         }
-        new
     }
 
-    /// Whether a field has this letter of a start.
+    /// Whether a field has this letter of ASCII.
     pub fn has(self, letter: u8) -> bool
         ensures { result ≡ has_found self letter }
     {
-        match letter {
-            b'y' => self.year,
-            b'M' => self.month,
-            b'w' => self.week,
-            b'f' => self.nth,
-            b'l' => self.nth_back,
-            b'd' => self.day,
-            b't' => self.weekday,
-            b'h' => self.hour,
-            b'm' => self.minute,
-            _ => self.second,
-        }
+        letter < 128 && (self.bits >> letter) % 2 == 1
     }
 }

@@ -5,8 +5,8 @@ ghost use Rattle.gtd_text.specs.Findings.{opened_after, with_field, fault_of_ope
 ghost use Rattle.gtd_text.specs.Found.{depth_after, count_after};
 ghost use Rattle.gtd_text.specs.declared.token.TokenKind.TheVariants.{Field};
 
-use crate::fields::duration_with;
 use crate::token::{Token, TokenKind};
+use gtd_core::fields::duration_with;
 use gtd_core::limits::{MOST_BASIC_DOMAINS, MOST_BOUND, MOST_DEPTH};
 use gtd_core::{DurationParts, Fault, TextFault};
 

@@ -7,5 +7,6 @@ returns-in-Ok-clause-line c =
     record {
       hours = c.in-Ok-Some.hours;
       written = c.in-Ok.ensures.exact;
+      stands = c.printed_hours_read_back.ensures.written c.in-Ok-Some.hours (rw found at c.in-Ok-Some.ensures.writable);
       same = rw found at c.in-Ok-Some.ensures.same;
     }

@@ -3,11 +3,11 @@ use Rattle.gtd_core.specs.Limits.{most_basic_domains}
 use Rattle.gtd_hours_text.specs.Standing.{StandsFor}
 use Rattle.gtd_osm.specs.Cost.{hours_cost}
 use Rattle.gtd_osm.specs.declared.hours.Hours.{Hours}
-use Rattle.gtd_desk.specs.CommandLine.{Text}
+use Rattle.gtd_desk_plans.specs.CommandLine.{Text}
 use Rattle.gtd_desk.specs.Running.{IsTextRefusal}
-use Rattle.gtd_desk.specs.declared.refusal.NoDomain.TheVariants as none
-use Rattle.gtd_desk.specs.declared.refusal.Refusal.{Refusal}
-use Rattle.gtd_desk.specs.declared.refusal.Refusal.TheVariants as refusal
+use Rattle.gtd_desk_plans.specs.declared.refusal.NoDomain.TheVariants as none
+use Rattle.gtd_desk_plans.specs.declared.refusal.Refusal.{Refusal}
+use Rattle.gtd_desk_plans.specs.declared.refusal.Refusal.TheVariants as refusal
 use Rattle.gtd_desk.proofs.hours_domain.domain_line.Goals as goal
 
 -- what refuses hours refuses a text that stands for them

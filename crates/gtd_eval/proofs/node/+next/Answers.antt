@@ -1,4 +1,5 @@
-use Rattle.std.proofs.Common.{◌∙◌, ap}
+use Rattle.std.proofs.Common.{◌∙◌, ◌∷◌, List, ap, sym, refl}
+use Rattle.gtd_core.specs.Seconds.{Interval}
 use Rattle.gtd_core.specs.declared.domain.Op.TheVariants.{Union, Meet, Minus}
 use Rattle.gtd_spans.specs.Gaps.{gaps_left}
 use Rattle.gtd_spans.specs.facts.Combining.{combine-normal}
@@ -7,6 +8,7 @@ use Rattle.gtd_spans.specs.facts.Joining.{joining-begun, joining-more, joining-t
 use Rattle.gtd_spans.specs.facts.SideFacts.{comes-known}
 use Rattle.gtd_eval.specs.Nodes.{node_list}
 use Rattle.gtd_eval.specs.facts.NodeFacts.{node_list-normal}
+use Rattle.gtd_eval.proofs.RepeatLemmas.{come-all}
 use Rattle.gtd_eval.proofs.node.+next.Goals as goal
 
 pub next_gap-returns-in-Some-before-clause-takes : goal.next_gap-returns-in-Some-before-clause-takes
@@ -28,6 +30,28 @@ next_gap-loop-span-preserved t c =
           ∙ c.in_default-before.ensures.passes (node_list c.next.new.self) normal;
       shape = c.next.ensures.shape ∙ loop.invariant.shape;
     }
+
+pub next_repeated-returns-then-is_repeating-clause-kept : goal.next_repeated-returns-then-is_repeating-clause-kept
+next_repeated-returns-then-is_repeating-clause-kept t c =
+    c.turn.ensures.kept (node_list c.args.inner.now) (node_list-normal c.args.inner.now c.requires.sound) c.requires.kept
+
+pub next_repeated-returns-then-is_repeating-clause-takes : goal.next_repeated-returns-then-is_repeating-clause-takes
+next_repeated-returns-then-is_repeating-clause-takes t c =
+    c.turn.ensures.takes (node_list c.args.inner.now) (node_list-normal c.args.inner.now c.requires.sound) c.requires.kept
+
+pub next_repeated-returns-clause-kept : goal.next_repeated-returns-clause-kept
+next_repeated-returns-clause-kept t c =
+    let taken = c.in-Some.ensures.takes in
+    let normal = rw taken at (node_list-normal c.args.inner.now c.requires.sound) in
+    c.keep.ensures.kept (node_list c.next.new.self) normal (rw taken at c.requires.kept)
+
+pub next_repeated-returns-clause-takes : goal.next_repeated-returns-clause-takes
+next_repeated-returns-clause-takes t c =
+    let taken = c.in-Some.ensures.takes in
+    let normal = rw taken at (node_list-normal c.args.inner.now c.requires.sound) in
+    let all = c.keep.ensures.all (node_list c.next.new.self) normal (rw taken at c.requires.kept) in
+    come-all c.args.week.now.stage (node_list c.args.inner.now) (c.if-is_repeating.ensures.no refl) ∙ taken
+    ∙ ap (λ (l : List Interval). c.in-Some.span ∷ l) (sym all)
 
 pub next_of_either-returns-in_err-joined-clause-takes : goal.next_of_either-returns-in_err-joined-clause-takes
 next_of_either-returns-in_err-joined-clause-takes t c =

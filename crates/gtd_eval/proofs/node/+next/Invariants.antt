@@ -4,26 +4,29 @@ use Rattle.gtd_spans.specs.Normal.{IsNormal, combine}
 use Rattle.gtd_spans.specs.Gaps.{gaps_left}
 use Rattle.gtd_spans.specs.Sides.{side_list, Joining}
 use Rattle.gtd_spans.specs.declared.merge.Side.TheVariants.{Open}
-use Rattle.gtd_eval.specs.Nodes.{node_list, node_shape, node_count, IsSoundNode}
+use Rattle.gtd_eval.specs.Nodes.{node_list, node_shape, node_size, IsSoundNode}
 use Rattle.gtd_eval.proofs.node.+next.Given as goal
 
 abbrev pub decreases-Node::next : goal.decreases-Node::next
-decreases-Node::next l = 3 * node_count l.self.now
+decreases-Node::next l = 3 * node_size l.self.now
 
 abbrev pub decreases-next_gap : goal.decreases-next_gap
-decreases-next_gap l = 3 * node_count l.inner.now + 1
+decreases-next_gap l = 3 * node_size l.inner.now + 1
+
+abbrev pub decreases-next_repeated : goal.decreases-next_repeated
+decreases-next_repeated l = 3 * node_size l.inner.now + 1
 
 abbrev pub decreases-ahead : goal.decreases-ahead
-decreases-ahead l = 3 * node_count l.node.now + 1
+decreases-ahead l = 3 * node_size l.node.now + 1
 
 abbrev pub decreases-next_of_either : goal.decreases-next_of_either
-decreases-next_of_either l = 3 * (node_count l.left.now + node_count l.right.now) + 2
+decreases-next_of_either l = 3 * (node_size l.left.now + node_size l.right.now) + 2
 
 abbrev pub decreases-next_of_both : goal.decreases-next_of_both
-decreases-next_of_both l = 3 * (node_count l.left.now + node_count l.right.now) + 2
+decreases-next_of_both l = 3 * (node_size l.left.now + node_size l.right.now) + 2
 
 abbrev pub decreases-next_of_left : goal.decreases-next_of_left
-decreases-next_of_left l = 3 * (node_count l.left.now + node_count l.right.now) + 2
+decreases-next_of_left l = 3 * (node_size l.left.now + node_size l.right.now) + 2
 
 abbrev pub invariant-next_gap-loop-span : goal.invariant-next_gap-loop-span
 invariant-next_gap-loop-span l = record {

@@ -23,6 +23,6 @@ pub returns-clause-four : goal.returns-clause-four
 returns-clause-four c =
     let n : length (fields_of c.args.row.now) ≡ 4 = grind (arith, nat_tests) in
     four (fields_of c.args.row.now) c.in-Some.element.now c.in-Some-get.closed.now c.in-Some-get-2.vehicles.now
-    c.in-Some-get-3.domain.now n
+    c.in-Some-get-3.last.now n
     (sym c.in-Some.ensures.value) (sym c.in-Some-get.ensures.value) (sym c.in-Some-get-2.ensures.value)
     (sym c.in-Some-get-3.ensures.value)

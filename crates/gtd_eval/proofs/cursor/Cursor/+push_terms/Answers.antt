@@ -4,6 +4,7 @@ use Rattle.gtd_core.specs.Trees.{tree_of, leaf_count}
 use Rattle.gtd_eval.specs.Nodes.{expr_work}
 use Rattle.gtd_eval.specs.Chains.{right_of, AreTerms}
 use Rattle.gtd_eval.proofs.Unions.{joined-terms, chain-of-terms, chain-in, chain-low, one-term, chain-nodes, count-of-terms}
+use Rattle.gtd_eval.proofs.Unions.{same-chain, chain-fits, runs-fit, leaf-term}
 use Rattle.gtd_eval.proofs.cursor.Cursor.+push_terms.Goals as goal
 
 pub returns-then-eq : goal.returns-then-eq
@@ -16,8 +17,19 @@ returns-then-eq t c =
     let same : c.in-Join.inner ≡ c.args.op = search rules in
     record { terms = rw (c.in-Join.is, ← same) (joined-terms c.in-Join.inner _ _ _ _ _ _ _ _ l r) }
 
-pub invariant_of-push-in-Join : goal.invariant_of-push-in-Join
-invariant_of-push-in-Join t c =
+pub repeated-requires-clause-weekly : goal.repeated-requires-clause-weekly
+repeated-requires-clause-weekly t c = λ w.
+    runs-fit c.in-Leaf.basic c.args.horizon _ c.new.ensures.normal
+    (rw c.in-Leaf.is at (c.is_term_kept-weekly.ensures.weekly w))
+
+pub returns-in_ok-push-in-Leaf : goal.returns-in_ok-push-in-Leaf
+returns-in_ok-push-in-Leaf t c = record {
+  terms = rw c.in-Leaf.is (leaf-term c.args.op c.in-Leaf.basic c.args.horizon _ _ c.new.result _ c.new.ensures.normal
+      c.new.ensures.basic c.new.ensures.horizon c.in_ok-node-in-Leaf.ensures.same c.in_ok-push-in-Leaf.ensures.items);
+}
+
+pub repeated-requires-in-Join-clause-few : goal.repeated-requires-in-Join-clause-few
+repeated-requires-in-Join-clause-few t c =
     let l : AreTerms c.in-Join.inner (tree_of c.in-Join.left.value) c.args.horizon (expr_work c.in-Join.left.value c.args.horizon)
     c.args.cursors.now.items c.push_terms.new.cursors.items = rw (← c.deref.ensures) c.in_ok-push_terms-in-Join.ensures.terms in
     let r : AreTerms (right_of c.in-Join.inner) (tree_of c.in-Join.right.value) c.args.horizon
@@ -29,9 +41,38 @@ invariant_of-push-in-Join t c =
     let chain = chain-of-terms _ _ _ _ _ _ _ _ _ both many c.in_ok-node-in-Join.ensures.chain in
     let few : leaf_count (tree_of c.in-Join.left.value) + leaf_count (tree_of c.in-Join.right.value) ≤ most_basic_domains =
     rw c.in-Join.is at c.requires.few in
+    omega (arith, chain-nodes _ _ _ _ _ _ _ both chain.1, few)
+
+pub repeated-requires-in-Join-clause-weekly : goal.repeated-requires-in-Join-clause-weekly
+repeated-requires-in-Join-clause-weekly t c =
+    let l : AreTerms c.in-Join.inner (tree_of c.in-Join.left.value) c.args.horizon (expr_work c.in-Join.left.value c.args.horizon)
+    c.args.cursors.now.items c.push_terms.new.cursors.items = rw (← c.deref.ensures) c.in_ok-push_terms-in-Join.ensures.terms in
+    let r : AreTerms (right_of c.in-Join.inner) (tree_of c.in-Join.right.value) c.args.horizon
+    (expr_work c.in-Join.right.value c.args.horizon) c.push_terms.new.cursors.items c.push_terms-in-Join.new.cursors.items =
+    rw (← c.deref-in-Join.ensures, ← c.right_of.ensures) c.in_ok-push_terms-in-Join-2.ensures.terms in
+    let both = joined-terms c.in-Join.inner _ _ _ _ _ _ _ _ l r in
+    let many : c.len.result - c.len-before.result ≡ length both.terms =
+    count-of-terms _ _ _ _ _ _ _ _ both (omega (arith, c.len.ensures)) (omega (arith, c.len-before.ensures)) in
+    let chain = chain-of-terms _ _ _ _ _ _ _ _ _ both many c.in_ok-node-in-Join.ensures.chain in
+    λ w. chain-fits _ _ _ _ _ _ _ both chain.1 (rw c.in-Join.is at (c.is_term_kept-weekly.ensures.weekly w))
+
+pub invariant_of-push-in-Join : goal.invariant_of-push-in-Join
+invariant_of-push-in-Join t c =
+    let l : AreTerms c.in-Join.inner (tree_of c.in-Join.left.value) c.args.horizon (expr_work c.in-Join.left.value c.args.horizon)
+    c.args.cursors.now.items c.push_terms.new.cursors.items = rw (← c.deref.ensures) c.in_ok-push_terms-in-Join.ensures.terms in
+    let r : AreTerms (right_of c.in-Join.inner) (tree_of c.in-Join.right.value) c.args.horizon
+    (expr_work c.in-Join.right.value c.args.horizon) c.push_terms.new.cursors.items c.push_terms-in-Join.new.cursors.items =
+    rw (← c.deref-in-Join.ensures, ← c.right_of.ensures) c.in_ok-push_terms-in-Join-2.ensures.terms in
+    let both = joined-terms c.in-Join.inner _ _ _ _ _ _ _ _ l r in
+    let many : c.len.result - c.len-before.result ≡ length both.terms =
+    count-of-terms _ _ _ _ _ _ _ _ both (omega (arith, c.len.ensures)) (omega (arith, c.len-before.ensures)) in
+    let chain = chain-of-terms _ _ _ _ _ _ _ _ _ both many c.in_ok-node-in-Join.ensures.chain in
+    let node = same-chain _ _ _ _ chain.1 c.in_ok-node-in-Join-2.ensures.same in
+    let few : leaf_count (tree_of c.in-Join.left.value) + leaf_count (tree_of c.in-Join.right.value) ≤ most_basic_domains =
+    rw c.in-Join.is at c.requires.few in
     record {
-      sound = chain.1.sound;
-      small = omega (arith, chain-nodes _ _ _ _ _ _ _ both chain.1, few);
+      sound = node.sound;
+      small = omega (arith, chain-nodes _ _ _ _ _ _ _ both node, few);
     }
 
 pub returns-in_ok-push-in-Join : goal.returns-in_ok-push-in-Join
@@ -45,9 +86,10 @@ returns-in_ok-push-in-Join t c =
     let many : c.len.result - c.len-before.result ≡ length both.terms =
     count-of-terms _ _ _ _ _ _ _ _ both (omega (arith, c.len.ensures)) (omega (arith, c.len-before.ensures)) in
     let chain = chain-of-terms _ _ _ _ _ _ _ _ _ both many c.in_ok-node-in-Join.ensures.chain in
+    let node = same-chain _ _ _ _ chain.1 c.in_ok-node-in-Join-2.ensures.same in
     let other : c.in-Join.inner ≡ c.args.op → ⊥ = search rules in
     record {
       terms = rw c.in-Join.is (one-term c.args.op _ _ _ _ _ _ _ chain.0 c.in_ok-push-in-Join.ensures.items
-          (chain-in _ _ _ _ _ _ _ both chain.1) (chain-nodes _ _ _ _ _ _ _ both chain.1) (chain.1.work ∙ both.total)
-          (λ b. absurd (other b.0)) (chain-low _ _ _ _ _ _ _ _ both chain.1));
+          (chain-in _ _ _ _ _ _ _ both node) (chain-nodes _ _ _ _ _ _ _ both node) (node.work ∙ both.total)
+          (λ b. absurd (other b.0)) (chain-low _ _ _ _ _ _ _ _ both node));
     }

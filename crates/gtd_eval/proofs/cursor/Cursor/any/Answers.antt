@@ -25,4 +25,4 @@ returns-clause-height c =
     λ h k some none le. height-of c.args.cursors.items c.in_ok-node.node (vec_len c.args.cursors) count u h k none le
 
 pub returns-clause-normal : goal.returns-clause-normal
-returns-clause-normal c = node_list-normal _ c.in_ok-node.ensures.chain.chain.sound
+returns-clause-normal c = node_list-normal c.in_ok-node.node c.in_ok-node.ensures.chain.chain.sound

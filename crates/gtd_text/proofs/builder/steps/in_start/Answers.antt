@@ -3,7 +3,8 @@ use Rattle.gtd_core.specs.declared.start.StartParts.{StartParts}
 use Rattle.gtd_text.specs.Building.{InStart}
 use Rattle.gtd_text.specs.BuilderStates.{fields_with}
 use Rattle.gtd_text.specs.PendingParts.{sum_of, product_of}
-use Rattle.gtd_text.proofs.StepLemmas.{start_field, byte_value}
+use Rattle.gtd_text.proofs.StepLemmas.{start_field}
+use Rattle.gtd_text.specs.facts.Ranges.{byte_value}
 use Rattle.gtd_text.proofs.builder.steps.in_start.Goals as goal
 
 pub start_with-requires-clause-byte : goal.start_with-requires-clause-byte
@@ -19,4 +20,4 @@ returns-in-Field c outer fields next e =
     let field = start_field c.args.kind c.in-Field.letter c.in-Field.value c.in-Field.digits outer (sum_of c.args.pending.sum)
     (product_of c.args.pending.product) fields c.args.parts next c.in-Field.is e in
     ap (λ (p : StartParts). InStart outer (sum_of c.args.pending.sum) (product_of c.args.pending.product)
-    (fields_with c.args.kind fields) p) (c.start_with.ensures c.in-Field.digits) ∙ field.1
+    (fields_with c.args.kind fields) p) c.start_with.ensures ∙ field.1

@@ -9,5 +9,5 @@ pub returns-in-Some : goal.returns-in-Some
 returns-in-Some c digits =
     let with_parts : DurationParts → Option OpenDuration =
     λ parts. Some (record { place = c.in-Some.field-0.place; parts = parts }) in
-    ap with_parts (c.duration_with.ensures digits)
+    ap with_parts c.duration_with.ensures
     ∙ ap (λ (o : Option OpenDuration). with_field o (Field c.args.letter c.args.value digits)) (sym c.in-Some.is)

@@ -1,0 +1,103 @@
+//! The fields of starts and durations: their letters, the numbers that they may have, and what they give.
+
+ghost use Rattle.std.specs.Prelude.{◌≡◌, ◌≢◌, ◌≤◌, true, false};
+ghost use Rattle.gtd_core.specs.FieldTable.{at_letter, start_fields, duration_fields, is_place_value};
+
+use crate::duration::DurationParts;
+use crate::start::StartParts;
+
+/// Whether a field of a start has this letter.
+pub fn is_start_letter(letter: u8) -> bool
+    ensures { result ≡ at_letter start_fields (λ row. true) false letter }
+{
+    matches!(
+        letter,
+        b'y' | b'M' | b'w' | b'f' | b'l' | b'd' | b't' | b'h' | b'm' | b's'
+    )
+}
+
+/// Whether a field of a duration has this letter.
+pub fn is_duration_letter(letter: u8) -> bool
+    ensures { result ≡ at_letter duration_fields (λ row. true) false letter }
+{
+    matches!(letter, b'y' | b'M' | b'w' | b'd' | b'h' | b'm' | b's')
+}
+
+// A number 1 to 5 and a weekday, one digit each.
+fn is_place_value(value: u32, digits: u8) -> bool
+    ensures { result ≡ is_place_value value digits }
+{
+    digits == 2 && 1 <= value / 10 && value / 10 <= 5 && 1 <= value % 10 && value % 10 <= 7
+}
+
+/// Whether a field of a start with this letter may have this number, written in this many digits.
+pub fn is_start_value(letter: u8, value: u32, digits: u8) -> bool
+    ensures { result ≡ at_letter start_fields (λ row. row.takes value digits) false letter }
+{
+    match letter {
+        b'y' => digits == 4 && value <= 9999,
+        b'M' => 1 <= value && value <= 12,
+        b'w' => 1 <= value && value <= 53,
+        b'f' | b'l' => is_place_value(value, digits),
+        b'd' => 1 <= value && value <= 31,
+        b't' => 1 <= value && value <= 7,
+        b'h' => value <= 23,
+        b'm' | b's' => value <= 59,
+        _ => false,
+    }
+}
+
+/// The start with one more field.
+pub fn start_with(parts: StartParts, letter: u8, value: u32) -> StartParts
+    requires year { letter ≡ 121 → value ≤ 9999 }
+    requires byte { letter ≢ 121 → value ≤ 59 }
+    requires weekday { letter ≡ 116 → (1 ≤ value) × (value ≤ 7) }
+    ensures { result ≡ at_letter start_fields (λ row. row.gives parts value) parts letter }
+{
+    match letter {
+        b'y' => StartParts {
+            year: Some(value as u16),
+            ..parts
+        },
+        _ => start_with_byte(parts, letter, value as u8),
+    }
+}
+
+fn start_with_byte(parts: StartParts, letter: u8, value: u8) -> StartParts
+    requires letter { letter ≢ 121 }
+    requires weekday { letter ≡ 116 → (1 ≤ value) × (value ≤ 7) }
+    ensures { result ≡ at_letter start_fields (λ row. row.gives parts value) parts letter }
+{
+    let mut new = parts;
+    match letter {
+        b'M' => new.month = Some(value),
+        b'w' => new.week = Some(value),
+        b'f' => new.nth = Some((value / 10, value % 10)),
+        b'l' => new.nth_back = Some((value / 10, value % 10)),
+        b'd' => new.day = Some(value),
+        b't' => new.weekdays |= 1 << (value - 1),
+        b'h' => new.hour = Some(value),
+        b'm' => new.minute = Some(value),
+        b's' => new.second = Some(value),
+        _ => {}
+    }
+    new
+}
+
+/// The duration with one more field.
+pub fn duration_with(parts: DurationParts, letter: u8, value: u32) -> DurationParts
+    ensures { result ≡ at_letter duration_fields (λ row. row.gives parts value) parts letter }
+{
+    let mut new = parts;
+    match letter {
+        b'y' => new.years = value,
+        b'M' => new.months = value,
+        b'w' => new.weeks = value,
+        b'd' => new.days = value,
+        b'h' => new.hours = value,
+        b'm' => new.minutes = value,
+        b's' => new.seconds = value,
+        _ => {}
+    }
+    new
+}

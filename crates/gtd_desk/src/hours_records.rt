@@ -1,0 +1,66 @@
+//! The command `records`: the record file of a file of opening hours.
+
+ghost use Rattle.std.specs.Prelude.{◌≡◌, ◌<◌};
+ghost use Rattle.std.specs.Io.KnownBytes.{Appends};
+ghost use Rattle.gtd_faults.specs.Run.{TookSome};
+ghost use Rattle.gtd_desk.specs.Running.{RanRecords, records_outcome};
+
+use crate::ending::Ending;
+use gtd_desk_plans::Refusal;
+use gtd_devices::{Input, Output};
+use gtd_hours_records::{Untranslated, run_hours_records};
+use gtd_records::RecordFault;
+use gtd_runs::{Progress, put_line};
+use std::alloc::Global;
+
+// The answer of `records`, from that of its run.
+fn records_outcome(answer: &Result<u64, Untranslated>) -> Result<Ending, Refusal>
+    ensures value { result ≡ records_outcome answer.now }
+{
+    match answer {
+        Ok(_) => Ok(Ending::Done),
+        Err(Untranslated::Faults(_)) => Ok(Ending::FaultsListed),
+        Err(Untranslated::ReadFault) => Err(Refusal::Records(RecordFault::ReadFault)),
+        Err(Untranslated::Endless) => Err(Refusal::Records(RecordFault::Endless)),
+        Err(Untranslated::WriteFault { .. }) => Err(Refusal::Write),
+        Err(Untranslated::NoMemory { .. }) => Err(Refusal::Memory),
+    }
+}
+
+// Puts a list of faults. If that fails, a first part of it stands, and nobody is told.
+fn tell<E: Output>(errors: &mut E, list: &str)
+    requires tellable { E.failure_count errors.old < u64.MAX }
+    ensures some { TookSome (E.taken errors.old) (E.taken errors.new) list.now }
+    ensures whole { E.failure_count errors.new ≡ E.failure_count errors.old
+        → Appends (E.taken errors.old) (E.taken errors.new) list.now }
+{
+    let mut progress = Progress::new();
+    let _ = put_line(errors, &mut progress, list.as_bytes());
+}
+
+/// Prints the record file of the file of hours that the input brings, or lists all its faults on the output for errors.
+pub(crate) fn print_records<I: Input, O: Output, E: Output>(
+    alloc: Global,
+    input: &mut I,
+    output: &mut O,
+    errors: &mut E,
+    path: &str,
+) -> Result<Ending, Refusal>
+    requires readable { I.failure_count input.old < u64.MAX }
+    requires writable { O.failure_count output.old < u64.MAX }
+    requires tellable { E.failure_count errors.old < u64.MAX }
+    ensures ran { RanRecords path.now (I.to_come input.old) (O.taken output.old) (O.taken output.new)
+        (I.may_fall_silent input.old) (O.is_ended output.new)
+        (record {
+          before = E.taken errors.old;
+          after = E.taken errors.new;
+          failed_before = E.failure_count errors.old;
+          failed_after = E.failure_count errors.new;
+        }) result }
+{
+    let answer = run_hours_records(alloc, input, output, path);
+    if let Err(Untranslated::Faults(list)) = &answer {
+        tell(errors, list.as_str());
+    }
+    records_outcome(&answer)
+}

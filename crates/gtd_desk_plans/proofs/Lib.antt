@@ -1,0 +1,2 @@
+pub mod ClapWords
+pub mod PlanFacts

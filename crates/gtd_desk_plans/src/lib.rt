@@ -1,0 +1,16 @@
+//! What a command line of `gtdesk` asks for.
+//!
+//! [`plan`] reads the words after the program's name, as `clap` does, and answers the [`Plan`] that they ask for or why they are
+//! refused.
+#![tactic(auto)]
+
+mod command_line;
+mod given;
+mod planning;
+mod plans;
+mod refusal;
+mod words;
+
+pub use planning::plan;
+pub use plans::{Moment, PictureSubject, Plan};
+pub use refusal::{NoDomain, Refusal, WordFault};

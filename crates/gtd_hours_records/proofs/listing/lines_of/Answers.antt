@@ -1,0 +1,15 @@
+use Rattle.std.proofs.Common.{◌≡◌, ◌+◌, arith, ◌∷◌, ◌++◌, [], take, get_or, string_bytes}
+use Rattle.std.proofs.lemmas.List.{take_more}
+use Rattle.gtd_hours_records.specs.declared.fault.HoursFileFault.TheVariants as fault
+use Rattle.gtd_hours_records.proofs.ListFacts.{lines_more}
+use Rattle.gtd_hours_records.proofs.listing.lines_of.Goals as goal
+
+pub loop-fault-preserved : goal.loop-fault-preserved
+loop-fault-preserved c =
+    let i = c.loop-fault.fault-index in
+    let here = get_or c.args.faults.now i fault.TooLarge in
+    let next : take (i + 1) c.args.faults.now ≡ take i c.args.faults.now ++ here ∷ [] =
+    take_more c.args.faults.now i fault.TooLarge (omega arith) in
+    rw (next, c.in_ok-push_fault.ensures)
+    (lines_more c.args.path.now c.args.bytes.now (take i c.args.faults.now) here (string_bytes c.loop-fault.text) c.line.result
+    c.below_fault-below.result c.below_fault-below.ensures.below c.loop-fault.invariant)

@@ -1,0 +1,128 @@
+-- Hours that a text stands for can be written.
+use Rattle.std.proofs.Common.{◌≡◌, ℕ, ◌+◌, Bool, true, false, cond, List, [], ◌∷◌, Option, Some, None, refl, sym, subst, ◌∙◌}
+use Rattle.std.specs.List.{filter, list_all}
+use Rattle.std.proofs.lemmas.List.Folds.{list_all-append}
+use Rattle.gtd_osm.specs.declared.hours.Hours.{Hours}
+use Rattle.gtd_osm.specs.declared.hours.Link.{Link}
+use Rattle.gtd_osm.specs.declared.hours.Link.TheVariants as link
+use Rattle.gtd_osm.specs.declared.hours.Rule.{Rule}
+use Rattle.gtd_osm.specs.declared.hours.Selector.{Selector}
+use Rattle.gtd_osm.specs.declared.hours.Selector.TheVariants as selector
+use Rattle.gtd_osm.specs.Writable.{AreWritable, BeginAnew, IsWritable, IsWritableRule}
+use Rattle.gtd_osm.specs.Writable.{is_month_days, is_weekdays, is_weeks, is_years}
+use Rattle.gtd_hours_parts.specs.declared.digits.Digits.{Digits}
+use Rattle.gtd_hours_syntax.specs.declared.piece.LastDate.{LastDate}
+use Rattle.gtd_hours_syntax.specs.declared.piece.Piece.{Piece}
+use Rattle.gtd_hours_syntax.specs.declared.piece.Piece.TheVariants as piece
+use Rattle.gtd_hours_syntax.specs.declared.piece.WrittenDate.{WrittenDate}
+use Rattle.gtd_hours_text.specs.Standing.{AllSelectors, AreDates, ArePlaces, AreRules, AreSelectors, IsPlace, IsRule, StandsFor}
+use Rattle.gtd_hours_text.specs.Standing.{names_month_days, names_weekdays, names_weeks, names_years}
+use Rattle.gtd_hours_text.proofs.WrittenSelectors.{and_both}
+use Rattle.gtd_hours_text.proofs.WrittenTokens.{both_true}
+
+-- ---- the selectors of a piece are of its kind
+
+only_years : (y : Piece) (xs : List Selector) → names_years y ≡ true → AreSelectors y xs → list_all is_years xs ≡ true
+only_years (piece.Years a b d) (selector.Years x ∷ []) e are = refl
+only_years (piece.Years a b d) (x ∷ []) e are = absurd are
+only_years (piece.Years a b d) xs e are = absurd are
+only_years y xs e are = absurd cc
+
+only_weeks : (y : Piece) (xs : List Selector) → names_weeks y ≡ true → AreSelectors y xs → list_all is_weeks xs ≡ true
+only_weeks (piece.Weeks a b d) (selector.Weeks x ∷ []) e are = refl
+only_weeks (piece.Weeks a b d) (x ∷ []) e are = absurd are
+only_weeks (piece.Weeks a b d) xs e are = absurd are
+only_weeks y xs e are = absurd cc
+
+only_dates : (year : Option Digits) (a : WrittenDate) (b : Option LastDate) (x : Selector) → AreDates year a b x
+    → list_all is_month_days (x ∷ []) ≡ true
+only_dates None a b (selector.Dates x) are = refl
+only_dates (Some year) a b (selector.Dated x) are = refl
+only_dates None a b x are = absurd are
+only_dates (Some year) a b x are = absurd are
+
+only_month_days : (y : Piece) (xs : List Selector) → names_month_days y ≡ true → AreSelectors y xs
+    → list_all is_month_days xs ≡ true
+only_month_days (piece.Months a b) (selector.Months x ∷ []) e are = refl
+only_month_days (piece.Months a b) (x ∷ []) e are = absurd are
+only_month_days (piece.Months a b) xs e are = absurd are
+only_month_days (piece.Dates a b) (x ∷ []) e are = only_dates a.year a b x are
+only_month_days (piece.Dates a b) xs e are = absurd are
+only_month_days y xs e are = absurd cc
+
+one_place : (k n : ℕ) (x : Selector) → IsPlace k n x → is_weekdays x ≡ true
+one_place k n (selector.Nth x) is = refl
+one_place k n x is = absurd is
+
+only_places : (k first last : ℕ) (xs : List Selector) → ArePlaces k first last xs → list_all is_weekdays xs ≡ true
+only_places k first last xs (ArePlaces.past a b ys less e) =
+    subst (λ (l : List Selector). list_all is_weekdays l ≡ true) (sym e) refl
+only_places k first last xs (ArePlaces.place a b x ys zs le e is more) =
+    subst (λ (l : List Selector). list_all is_weekdays l ≡ true) (sym e)
+    (both_true (is_weekdays x) (list_all is_weekdays ys) (one_place k a x is) (only_places k (a + 1) b ys more))
+
+only_weekdays : (y : Piece) (xs : List Selector) → names_weekdays y ≡ true → AreSelectors y xs → list_all is_weekdays xs ≡ true
+only_weekdays (piece.Weekdays a b) (selector.Weekdays x ∷ []) e are = refl
+only_weekdays (piece.Weekdays a b) (x ∷ []) e are = absurd are
+only_weekdays (piece.Weekdays a b) xs e are = absurd are
+only_weekdays (piece.PlaceBack a b) (selector.NthBack x ∷ []) e are = refl
+only_weekdays (piece.PlaceBack a b) (x ∷ []) e are = absurd are
+only_weekdays (piece.PlaceBack a b) xs e are = absurd are
+only_weekdays (piece.Places k a b) xs e are = only_places k _ _ xs are
+only_weekdays y xs e are = absurd cc
+
+-- ---- and so are those of all pieces
+
+all_such : (is : Piece → Bool) (such : Selector → Bool)
+    → ((y : Piece) (xs : List Selector) → is y ≡ true → AreSelectors y xs → list_all such xs ≡ true)
+    → (p : List Piece) (xs : List Selector) → list_all is p ≡ true → AllSelectors p xs → list_all such xs ≡ true
+all_such is such each p xs h (AllSelectors.none q zs e f) =
+    subst (λ (l : List Selector). list_all such l ≡ true) (sym f) refl
+all_such is such each p xs h (AllSelectors.more y o q a b c e f are all) =
+    let here : list_all is (y ∷ q) ≡ true = subst (λ (l : List Piece). list_all is l ≡ true) e h in
+    let two = and_both (is y) (list_all is q) here in
+    subst (λ (l : List Selector). list_all such l ≡ true) (sym f)
+    (list_all-append such a b ∙ both_true (list_all such a) (list_all such b) (each y a two.0 are)
+    (all_such is such each q b two.1 all))
+
+filtered_by : (is : Piece → Bool) (b : Bool) (x : Piece) (xs : List Piece) → is x ≡ b → list_all is xs ≡ true
+    → list_all is (cond b (x ∷ xs) xs) ≡ true
+filtered_by is true x xs e h = both_true (is x) (list_all is xs) e h
+filtered_by is false x xs e h = h
+
+filtered : (is : Piece → Bool) (p : List Piece) → list_all is (filter is p) ≡ true
+filtered is [] = refl
+filtered is (x ∷ xs) = filtered_by is (is x) x (filter is xs) refl (filtered is xs)
+
+-- ---- rules
+
+writable_rule : (l : Link) (p : List Piece) (rule : Rule) → IsRule l p rule → IsWritableRule rule
+writable_rule l p rule r = record {
+  years = r.years;
+  month_days = r.month_days;
+  weeks = r.weeks;
+  weekdays = r.weekdays;
+  are_years = all_such names_years is_years only_years (filter names_years p) r.years (filtered names_years p) r.are_years;
+  are_month_days = all_such names_month_days is_month_days only_month_days (filter names_month_days p) r.month_days
+      (filtered names_month_days p) r.are_month_days;
+  are_weeks = all_such names_weeks is_weeks only_weeks (filter names_weeks p) r.weeks (filtered names_weeks p) r.are_weeks;
+  are_weekdays = all_such names_weekdays is_weekdays only_weekdays (filter names_weekdays p) r.weekdays
+      (filtered names_weekdays p) r.are_weekdays;
+  kinds = r.kinds;
+}
+
+writable_rules : (l : Link) (p : List Piece) (rules : List Rule) → AreRules l p rules → AreWritable rules
+writable_rules l p rules (AreRules.last k q rule all one is e) =
+    subst AreWritable (sym e) (writable_rule k q rule is, record {})
+writable_rules l p rules (AreRules.another k next o q r rule others all e one is f more) =
+    subst AreWritable (sym f) (writable_rule k q rule is, writable_rules next r others more)
+
+begin_anew : (p : List Piece) (rules : List Rule) → AreRules link.Instead p rules → BeginAnew rules
+begin_anew p rules (AreRules.last k q rule all one is e) = subst BeginAnew (sym e) is.link
+begin_anew p rules (AreRules.another k next o q r rule others all e one is f more) = subst BeginAnew (sym f) is.link
+
+pub can_be_written : (text : List ℕ) (hours : Hours) → StandsFor text hours → IsWritable hours
+can_be_written text hours s = record {
+  first = begin_anew s.p hours.rules.items s.rules;
+  rules = writable_rules link.Instead s.p hours.rules.items s.rules;
+}

@@ -1,0 +1,229 @@
+-- Written selectors are pieces.
+use Rattle.std.proofs.Common.{◌≡◌, ℕ, ◌≤◌, Bool, true, false, cond, List, [], ◌∷◌, ◌++◌, length}
+use Rattle.std.proofs.Common.{Option, Some, None, refl, sym, subst, arith}
+use Rattle.std.specs.Prelude.{◌==◌, ◌&&◌, not, codes, decimal}
+use Rattle.std.proofs.lemmas.Bool.{eqb-true}
+use Rattle.gtd_osm.specs.declared.hours.Selector.{Selector}
+use Rattle.gtd_osm.specs.declared.hours.Selector.TheVariants as selector
+use Rattle.gtd_osm.specs.declared.hours.Years.{Years}
+use Rattle.gtd_osm.specs.declared.hours.Weeks.{Weeks}
+use Rattle.gtd_osm.specs.Written.{four_digits, selector_text}
+use Rattle.gtd_osm.specs.Written.{step_text}
+use Rattle.gtd_hours.specs.declared.token.TokenKind.{TokenKind}
+use Rattle.gtd_hours.specs.declared.token.TokenKind.TheVariants as token
+use Rattle.gtd_hours_parts.specs.declared.digits.Digits.{Digits}
+use Rattle.gtd_hours_parts.specs.Numbers.{IsDayNumber, IsPlaceNumber, IsStepNumber, IsWeekNumber, IsYearNumber, step_of}
+use Rattle.gtd_hours_syntax.specs.declared.piece.Piece.{Piece}
+use Rattle.gtd_hours_syntax.specs.declared.piece.Piece.TheVariants as piece
+use Rattle.gtd_hours_syntax.specs.Pieces.{IsRange}
+use Rattle.gtd_hours_syntax.specs.Grammar.{IsWeeks, IsYears, begins_with_date}
+use Rattle.gtd_hours_text.specs.Standing.{AreSelectors}
+use Rattle.gtd_hours_text.proofs.WrittenTokens.{decimal_spelt}
+use Rattle.gtd_hours_text.proofs.WrittenParts.{length_of_decimal, ranged, step_kinds}
+use Rattle.gtd_hours_text.proofs.WrittenParts.{year_spelt}
+use Rattle.gtd_hours_text.proofs.WrittenItems.{Item, Says, no_selectors, one_piece}
+use Rattle.gtd_hours_text.proofs.WrittenItems.{only_weeks, only_years}
+
+-- ---- numbers
+
+abbrev pub year_digits : ℕ → Digits
+year_digits n = record { value = n; count = 4 }
+
+abbrev pub digits : ℕ → Digits
+digits n = record { value = n; count = length (decimal n) }
+
+abbrev step_digits : Bool → ℕ → Option Digits
+step_digits b step = cond b None (Some (digits step))
+
+step_is : (step : ℕ) (b : Bool) → (step == 1) ≡ b → step ≡ step_of (step_digits b step)
+step_is step true e = eqb-true step 1 e
+step_is step false e = refl
+
+is_step : (step : ℕ) → 1 ≤ step → step ≤ 9999 → IsStepNumber (digits step)
+is_step step low high =
+    let l = length_of_decimal 4 step (omega arith) (omega (arith, high)) high in
+    (l.0, l.1, low, high)
+
+is_week : (n : ℕ) → 1 ≤ n → n ≤ 53 → IsWeekNumber (digits n)
+is_week n low high =
+    let l = length_of_decimal 2 n (omega arith) (omega (arith, high)) (omega (arith, high)) in
+    (l.0, l.1, low, high)
+
+pub is_day : (n : ℕ) → 1 ≤ n → n ≤ 31 → IsDayNumber (digits n)
+is_day n low high =
+    let l = length_of_decimal 2 n (omega arith) (omega (arith, high)) (omega (arith, high)) in
+    (l.0, l.1, low, high)
+
+pub is_place : (n : ℕ) → 1 ≤ n → n ≤ 5 → IsPlaceNumber (digits n)
+is_place n low high =
+    let l = length_of_decimal 1 n (omega arith) (omega (arith, high)) (omega (arith, high)) in
+    (omega (arith, l.0, l.1), low, high)
+
+-- ---- what each piece says
+
+says_years : (a : Digits) (b d : Option Digits) (xs : List Selector) → AreSelectors (piece.Years a b d) xs
+    → Says (piece.Years a b d ∷ []) (only_years xs)
+says_years a b d xs are = record {
+  years = one_piece (piece.Years a b d) xs are;
+  month_days = no_selectors;
+  weeks = no_selectors;
+  weekdays = no_selectors;
+  times = record {};
+  closed = refl;
+  one = refl;
+}
+
+says_weeks : (a : Digits) (b d : Option Digits) (xs : List Selector) → AreSelectors (piece.Weeks a b d) xs
+    → Says (piece.Weeks a b d ∷ []) (only_weeks xs)
+says_weeks a b d xs are = record {
+  years = no_selectors;
+  month_days = no_selectors;
+  weeks = one_piece (piece.Weeks a b d) xs are;
+  weekdays = no_selectors;
+  times = record {};
+  closed = refl;
+  one = refl;
+}
+
+-- ---- years
+
+-- What follows a year is not a month with a day.
+abbrev pub Dateless : List TokenKind → Type 0
+Dateless rest = (value count : ℕ) → begins_with_date (token.Number value count ∷ rest) ≡ false
+
+abbrev pub DatelessIf : Bool → List TokenKind → Type 0
+DatelessIf true rest = Unit {0}
+DatelessIf false rest = Dateless rest
+
+pub record YearsItem (follows : Bool) (text : List ℕ) (x : Years) : Type 0 where
+  pub item : Item IsYears text (only_years (selector.Years x ∷ [])) false
+  pub dateless : (rest : List TokenKind) → DatelessIf follows rest → begins_with_date (item.us ++ rest) ≡ false
+
+is_year : (n : ℕ) → 1800 ≤ n → n ≤ 2799 → IsYearNumber (year_digits n)
+is_year n low high = (refl, low, high)
+
+years_one : (follows : Bool) (x : Years) → x.first ≡ x.last → x.step ≡ 1 → follows ≡ false
+    → YearsItem follows (four_digits x.first) x
+years_one follows x e f g =
+    let r = x.in_range in
+    let high : x.first ≤ 2799 = omega (arith, r.1, r.2) in
+    record {
+      item = record {
+        x = piece.Years (year_digits x.first) None None;
+        us = token.Number x.first 4 ∷ [];
+        spelt = year_spelt x.first (omega (arith, high));
+        one = λ later rest. IsYears.one (year_digits x.first) refl refl (is_year x.first r.0 high);
+        says = says_years (year_digits x.first) None None (selector.Years x ∷ []) (refl, sym e, f);
+        front = λ rest. refl;
+      };
+      dateless = λ rest d. (subst (λ (b : Bool). DatelessIf b rest) g d) x.first 4;
+    }
+
+range_of_years : (first last step : ℕ) (b : Bool) (later : List Piece) (rest : List TokenKind)
+    → IsRange IsYearNumber (year_digits first) (year_digits last) → IsStepNumber (digits step)
+    → IsYears (piece.Years (year_digits first) (Some (year_digits last)) (step_digits b step) ∷ later)
+    (token.Number first 4 ∷ token.Dash ∷ token.Number last 4
+    ∷ (cond b [] (token.Slash ∷ token.Number step (length (decimal step)) ∷ []) ++ rest)) later rest
+range_of_years first last step true later rest r s = IsYears.range (year_digits first) (year_digits last) refl refl r
+range_of_years first last step false later rest r s =
+    IsYears.every (year_digits first) (year_digits last) (digits step) refl refl r s
+
+years_range : (follows : Bool) (x : Years)
+    → YearsItem follows (four_digits x.first ++ codes "-" ++ four_digits x.last ++ step_text x.step) x
+years_range follows x =
+    let r = x.in_range in
+    let first = is_year x.first r.0 (omega (arith, r.1, r.2)) in
+    let last = is_year x.last (omega (arith, r.0, r.1)) r.2 in
+    record {
+      item = record {
+        x = piece.Years (year_digits x.first) (Some (year_digits x.last)) (step_digits (x.step == 1) x.step);
+        us = token.Number x.first 4 ∷ token.Dash ∷ token.Number x.last 4 ∷ step_kinds x.step;
+        spelt = ranged (four_digits x.first) (four_digits x.last) x.step (token.Number x.first 4 ∷ [])
+            (token.Number x.last 4 ∷ [])
+            r.4 (year_spelt x.first (omega (arith, r.1, r.2))) (year_spelt x.last (omega (arith, r.2)));
+        one = λ later rest. range_of_years x.first x.last x.step (x.step == 1) later rest (first, last, r.1)
+            (is_step x.step r.3 r.4);
+        says = says_years (year_digits x.first) (Some (year_digits x.last)) (step_digits (x.step == 1) x.step)
+            (selector.Years x ∷ []) (refl, refl, step_is x.step (x.step == 1) refl);
+        front = λ rest. refl;
+      };
+      dateless = λ rest d. refl;
+    }
+
+pub and_both : (a b : Bool) → (a && b) ≡ true → (a ≡ true) × (b ≡ true)
+and_both true true e = (refl, refl)
+and_both true false e = absurd cc
+and_both false b e = absurd cc
+
+not_true : (b : Bool) → not b ≡ true → b ≡ false
+not_true true e = absurd cc
+not_true false e = refl
+
+years_by : (follows : Bool) (x : Years) (b : Bool) → ((x.first == x.last) && (x.step == 1) && not follows) ≡ b
+    → YearsItem follows
+    (cond b (four_digits x.first) (four_digits x.first ++ codes "-" ++ four_digits x.last ++ step_text x.step)) x
+years_by follows x true e =
+    let both = and_both ((x.first == x.last) && (x.step == 1)) (not follows) e in
+    let same = and_both (x.first == x.last) (x.step == 1) both.0 in
+    years_one follows x (eqb-true x.first x.last same.0) (eqb-true x.step 1 same.1) (not_true follows both.1)
+years_by follows x false e = years_range follows x
+
+pub years_item : (follows : Bool) (x : Years) → YearsItem follows (selector_text follows (selector.Years x)) x
+years_item follows x = years_by follows x ((x.first == x.last) && (x.step == 1) && not follows) refl
+
+-- ---- weeks
+
+weeks_one : (x : Weeks) → x.first ≡ x.last → x.step ≡ 1
+    → Item IsWeeks (decimal x.first) (only_weeks (selector.Weeks x ∷ [])) false
+weeks_one x e f =
+    let r = x.in_range in
+    let high : x.first ≤ 53 = omega (arith, r.1, r.2) in
+    record {
+      x = piece.Weeks (digits x.first) None None;
+      us = token.Number x.first (length (decimal x.first)) ∷ [];
+      spelt = decimal_spelt x.first (omega (arith, high));
+      one = λ later rest. IsWeeks.one (digits x.first) refl refl (is_week x.first r.0 high);
+      says = says_weeks (digits x.first) None None (selector.Weeks x ∷ []) (refl, sym e, f);
+      front = λ rest. refl;
+    }
+
+range_of_weeks : (first last step : ℕ) (b : Bool) (later : List Piece) (rest : List TokenKind)
+    → IsRange IsWeekNumber (digits first) (digits last) → IsStepNumber (digits step)
+    → IsWeeks (piece.Weeks (digits first) (Some (digits last)) (step_digits b step) ∷ later)
+    (token.Number first (length (decimal first)) ∷ token.Dash ∷ token.Number last (length (decimal last))
+    ∷ (cond b [] (token.Slash ∷ token.Number step (length (decimal step)) ∷ []) ++ rest)) later rest
+range_of_weeks first last step true later rest r s = IsWeeks.range (digits first) (digits last) refl refl r
+range_of_weeks first last step false later rest r s =
+    IsWeeks.every (digits first) (digits last) (digits step) refl refl r s
+
+weeks_range : (x : Weeks) → Item IsWeeks (decimal x.first ++ codes "-" ++ decimal x.last ++ step_text x.step)
+    (only_weeks (selector.Weeks x ∷ [])) false
+weeks_range x =
+    let r = x.in_range in
+    let first = is_week x.first r.0 (omega (arith, r.1, r.2)) in
+    let last = is_week x.last (omega (arith, r.0, r.1)) r.2 in
+    record {
+      x = piece.Weeks (digits x.first) (Some (digits x.last)) (step_digits (x.step == 1) x.step);
+      us = token.Number x.first (length (decimal x.first)) ∷ token.Dash ∷ token.Number x.last (length (decimal x.last))
+          ∷ step_kinds x.step;
+      spelt = ranged (decimal x.first) (decimal x.last) x.step (token.Number x.first (length (decimal x.first)) ∷ [])
+          (token.Number x.last (length (decimal x.last)) ∷ []) r.4 (decimal_spelt x.first (omega (arith, r.1, r.2)))
+          (decimal_spelt x.last (omega (arith, r.2)));
+      one = λ later rest. range_of_weeks x.first x.last x.step (x.step == 1) later rest (first, last, r.1)
+          (is_step x.step r.3 r.4);
+      says = says_weeks (digits x.first) (Some (digits x.last)) (step_digits (x.step == 1) x.step)
+          (selector.Weeks x ∷ []) (refl, refl, step_is x.step (x.step == 1) refl);
+      front = λ rest. refl;
+    }
+
+weeks_by : (x : Weeks) (b : Bool) → ((x.first == x.last) && (x.step == 1)) ≡ b
+    → Item IsWeeks (cond b (decimal x.first) (decimal x.first ++ codes "-" ++ decimal x.last ++ step_text x.step))
+    (only_weeks (selector.Weeks x ∷ [])) false
+weeks_by x true e =
+    let same = and_both (x.first == x.last) (x.step == 1) e in
+    weeks_one x (eqb-true x.first x.last same.0) (eqb-true x.step 1 same.1)
+weeks_by x false e = weeks_range x
+
+pub weeks_item : (follows : Bool) (x : Weeks)
+    → Item IsWeeks (selector_text follows (selector.Weeks x)) (only_weeks (selector.Weeks x ∷ [])) false
+weeks_item follows x = weeks_by x ((x.first == x.last) && (x.step == 1)) refl
