@@ -6,6 +6,7 @@ pub mod ComputedStretches
 pub mod Jumps
 pub mod Look
 pub mod Membership
+pub mod Periods
 pub mod RunsToCome
 pub mod Starts
 pub mod StartsToCome

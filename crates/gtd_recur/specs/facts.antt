@@ -2,6 +2,8 @@ pub mod AscendingProps
 pub mod BoundLemmas
 pub mod ClockProps
 pub mod CycleLemmas
+pub mod PeriodLemmas
+pub mod RepeatLemmas
 pub mod StretchDecisions
 pub mod StartsLemmas
 pub mod StretchFacts

@@ -12,6 +12,8 @@ ghost use Rattle.gtd_recur.specs.Ascending.{IsAscending, Has};
 ghost use Rattle.gtd_recur.specs.Begins.{begins};
 ghost use Rattle.gtd_recur.specs.ComputedStretches.{InComputedStretches};
 ghost use Rattle.gtd_recur.specs.Membership.{Matches, InStretches};
+ghost use Rattle.gtd_recur.specs.Periods.{period_seconds, RepeatsAfter};
+ghost use Rattle.gtd_recur.specs.declared.period.Period.{Period};
 ghost use Rattle.gtd_recur.specs.Work.{starts_in, window_begin, work_of};
 
 /// A start that gives no year matches a second exactly if it matches the one 146,097 days later.
@@ -24,6 +26,14 @@ pub fn starts_repeat()
 pub fn domains_repeat()
     ensures repeats { (p : StartParts) (q : DurationParts) (s : ℤ) → p.year ≡ None
         → InStretches p q s ↔ InStretches p q (s +ℤ pos 12_622_780_800) }
+{}
+
+/// A basic domain whose fields let it repeat after a period contains a second exactly if it contains the one a period
+/// later.
+pub fn domains_repeat_after()
+    ensures repeats { (period : Period) (p : StartParts) (q : DurationParts) (s : ℤ)
+        → RepeatsAfter (period_seconds period) p q
+        → InStretches p q s ↔ InStretches p q (s +ℤ period_seconds period) }
 {}
 
 /// The starts of a basic domain over a horizon come in order. They are exactly the seconds that its start matches on

@@ -4,6 +4,7 @@
 #![tactic(auto)]
 
 pub use cover::{covers, is_weekly};
+pub use period::{Period, period_of};
 pub use runs::Runs;
 pub use spans::spans_of;
 pub use starts::Starts;
@@ -15,6 +16,7 @@ mod cover;
 mod find;
 mod jump;
 pub mod laws;
+mod period;
 mod runs;
 mod spans;
 mod starts;

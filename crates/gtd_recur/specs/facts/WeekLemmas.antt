@@ -1,23 +1,20 @@
 -- A start that asks for no date begins again a week later.
-use Rattle.std.proofs.Common.{◌≢◌, ◌⊎◌, inl, inr, Bool, true, false, not, ◌&&◌, ◌||◌, ◌==◌, ◌≡◌, ◌+◌, ◌*◌, ℕ, refl, sym, ◌∙◌}
-use Rattle.std.proofs.Common.{ap, arith, ℤ, pos, ◌+ℤ◌, ◌-ℤ◌, ◌*ℤ◌, ◌<ℤ◌, ◌≤ℤ◌}
+use Rattle.std.proofs.Common.{◌≢◌, ◌⊎◌, inl, inr, Bool, true, false, not, ◌&&◌, ◌||◌, ◌==◌, ◌≡◌, ℕ, refl, sym, ◌∙◌}
+use Rattle.std.proofs.Common.{ap, arith, ℤ, pos, ◌+ℤ◌, ◌*ℤ◌}
 use Rattle.std.proofs.lemmas.Bool.{ne_eqb}
 use Rattle.gtd_calendar.specs.facts.Signed.{signed_arith, one_part}
 use Rattle.std.specs.Int.{int_rem_euclid}
 use Rattle.gtd_core.specs.declared.start.StartParts.{StartParts}
 use Rattle.gtd_core.specs.declared.duration.DurationParts.{DurationParts}
-use Rattle.gtd_core.specs.Ranges.{clock_seconds}
 use Rattle.gtd_calendar.specs.Calendar.{weekday_of}
 use Rattle.gtd_calendar.specs.declared.day.DayFields.{DayFields}
 use Rattle.gtd_calendar.specs.ComputedFields.{day_fields}
 use Rattle.gtd_core.specs.Seconds.{day_of_second}
 use Rattle.gtd_calendar.specs.facts.ClockLemmas.{second-parts, second-only}
-use Rattle.gtd_calendar.specs.facts.MonthLemmas.{months_later-none}
 use Rattle.gtd_calendar.specs.Clock.{second_of_day}
-use Rattle.gtd_calendar.specs.ComputedEnds.{stop}
 use Rattle.gtd_recur.specs.Begins.{begins, begins_on, gives_clock, is_weekday, weekday_agrees}
 use Rattle.gtd_recur.specs.Membership.{InStretches}
-use Rattle.gtd_recur.specs.facts.MembershipLemmas.{from_computed, to_computed}
+use Rattle.gtd_recur.specs.facts.RepeatLemmas.{repeats-forward, repeats-back}
 use Rattle.gtd_recur.specs.Weekly.{AsksNoDate, IsWeekly}
 
 weekday-week : (n : ℤ) → weekday_of (n +ℤ pos 7) ≡ weekday_of n
@@ -66,55 +63,15 @@ begins_on-week : (p : StartParts) (q : DurationParts) (n : ℤ) → IsWeekly p q
 begins_on-week p q n w = date-free p (day_fields (n +ℤ pos 7)) w.start ∙ ap (λ (k : ℕ). is_weekday p k) (weekday-week n)
     ∙ sym (date-free p (day_fields n) w.start)
 
-begins-week : (p : StartParts) (q : DurationParts) (s : ℤ) → IsWeekly p q → begins p (s +ℤ pos 604_800) ≡ begins p s
+pub begins-week : (p : StartParts) (q : DurationParts) (s : ℤ) → IsWeekly p q → begins p (s +ℤ pos 604_800) ≡ begins p s
 unfolding begins
 begins-week p q s w = let at = day-week s in rw (at.0, at.1, begins_on-week p q (day_of_second s) w) refl
-
-stop-week : (p : StartParts) (q : DurationParts) (s : ℤ) → IsWeekly p q → stop q (s +ℤ pos 604_800) ≡ stop q s +ℤ pos 604_800
-unfolding stop
-stop-week p q s w =
-    let at = day-week s in
-    let none : 12 * q.years + q.months ≡ 0 = omega (arith, w.years, w.months) in
-    rw (none, at.0, at.1, months_later-none (day_of_second s +ℤ pos 7), months_later-none (day_of_second s))
-    (moved (day_of_second s) (7 * q.weeks + q.days) (second_of_day s + clock_seconds q))
-  where
-    moved : (n : ℤ) (d k : ℕ) → pos 86400 *ℤ (n +ℤ pos 7 +ℤ pos d) +ℤ pos k ≡ (pos 86400 *ℤ (n +ℤ pos d) +ℤ pos k) +ℤ pos 604_800
-    moved n d k = omega (arith, signed_arith)
 
 -- the basic domain repeats
 pub week-forward : (p : StartParts) (q : DurationParts) (s : ℤ) → IsWeekly p q → InStretches p q s
     → InStretches p q (s +ℤ pos 604_800)
-week-forward p q s w member =
-    let held = to_computed p q s member in
-    let b = held.0 in
-    let ends = stop-week p q b w in
-    from_computed p q (s +ℤ pos 604_800) (
-      b +ℤ pos 604_800,
-      (
-        begins-week p q b w ∙ held.1.0,
-        le b s held.1.1,
-        rw ends (lt s (stop q b) held.1.2),
-      ),
-    )
-  where
-    le : (a b : ℤ) → a ≤ℤ b → (a +ℤ pos 604_800) ≤ℤ (b +ℤ pos 604_800)
-    le a b h = omega (arith, signed_arith)
-
-    lt : (a b : ℤ) → a <ℤ b → (a +ℤ pos 604_800) <ℤ (b +ℤ pos 604_800)
-    lt a b h = omega (arith, signed_arith)
+week-forward p q s w = repeats-forward (pos 604_800) p q s (λ b. begins-week p q b w) w
 
 pub week-back : (p : StartParts) (q : DurationParts) (s : ℤ) → IsWeekly p q → InStretches p q (s +ℤ pos 604_800)
     → InStretches p q s
-week-back p q s w member =
-    let held = to_computed p q (s +ℤ pos 604_800) member in
-    let b = held.0 -ℤ pos 604_800 in
-    let same : b +ℤ pos 604_800 ≡ held.0 = omega (arith, signed_arith) in
-    let begun = rw same at (begins-week p q b w) in
-    let ends = rw same at (stop-week p q b w) in
-    from_computed p q s (b, (sym begun ∙ held.1.0, le held.0 s held.1.1, lt s (stop q b) (rw ends at held.1.2)))
-  where
-    le : (a b : ℤ) → a ≤ℤ (b +ℤ pos 604_800) → (a -ℤ pos 604_800) ≤ℤ b
-    le a b h = omega (arith, signed_arith)
-
-    lt : (a b : ℤ) → (a +ℤ pos 604_800) <ℤ (b +ℤ pos 604_800) → a <ℤ b
-    lt a b h = omega (arith, signed_arith)
+week-back p q s w = repeats-back (pos 604_800) p q s (λ b. begins-week p q b w) w
