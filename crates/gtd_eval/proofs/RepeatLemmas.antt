@@ -1,18 +1,16 @@
--- Lists of spans that repeat after a week.
+-- Lists of spans that repeat after a period of w seconds.
 use Rattle.std.proofs.Common.{◌≡◌, ◌⊎◌, ◌↔◌, ◌∙◌, List, [], ◌∷◌, ◌++◌, refl, sym, ap, subst, inl, inr, arith, Bool, true, false}
 use Rattle.std.proofs.Common.{append_assoc}
 use Rattle.std.proofs.lemmas.Bool.{cases_Bool}
-use Rattle.std.specs.Prelude.{ℤ, ◌+ℤ◌, ◌-ℤ◌, ◌≤ℤ◌, ◌<ℤ◌, int_lt, IsTrue}
+use Rattle.std.specs.Prelude.{ℤ, pos, ◌+ℤ◌, ◌-ℤ◌, ◌≤ℤ◌, ◌<ℤ◌, int_lt, IsTrue}
 use Rattle.std.proofs.lemmas.Int.{ints, by_lt_z}
 use Rattle.gtd_core.specs.Seconds.{Interval, Within}
 use Rattle.gtd_spans.specs.Normal.{Holds, AllBeginAfter, IsNormal, IsNormalFor, is_held}
 use Rattle.gtd_spans.specs.facts.Combining.{is_held-decides}
 use Rattle.gtd_spans.specs.facts.NormalFor.{normal-of}
 use Rattle.gtd_spans.specs.facts.OneList.{after-holds, first-holds, one-list, same-interval}
-use Rattle.gtd_eval.specs.Ever.{week}
-use Rattle.gtd_eval.specs.Repeating.{week_later, all_week_later, begun_after, to_come, IsRepeating}
+use Rattle.gtd_eval.specs.Repeating.{later, all_later, begun_after, to_come, IsRepeating}
 use Rattle.gtd_eval.specs.Repeating.{EndBy, RepeatUntil, AreKept}
-use Rattle.gtd_eval.specs.facts.WeekFacts.{RepeatsWeekly}
 use Rattle.gtd_eval.specs.declared.repeat.Stage.{Stage}
 use Rattle.gtd_eval.specs.declared.repeat.Stage.TheVariants.{Learning, Repeating, GivenUp}
 
@@ -22,80 +20,80 @@ lt-true a b h = grind (arith, ints)
 lt-false : (a b : ℤ) → b ≤ℤ a → int_lt a b ≡ false
 lt-false a b h = grind (arith, ints)
 
--- ---- a week later
+-- ---- w seconds later
 
-later-some : (u : ℤ) (x : Interval) (xs : List Interval) → (x.from +ℤ week) <ℤ u
-    → all_week_later u (x ∷ xs) ≡ week_later u x ∷ all_week_later u xs
-later-some u x xs h = rw (lt-true (x.from +ℤ week) u h) refl
+later-some : (w u : ℤ) (x : Interval) (xs : List Interval) → (x.from +ℤ w) <ℤ u
+    → all_later w u (x ∷ xs) ≡ later w u x ∷ all_later w u xs
+later-some w u x xs h = rw (lt-true (x.from +ℤ w) u h) refl
 
-later-none : (u : ℤ) (x : Interval) (xs : List Interval) → u ≤ℤ (x.from +ℤ week) → all_week_later u (x ∷ xs) ≡ []
-later-none u x xs h = rw (lt-false (x.from +ℤ week) u h) refl
+later-none : (w u : ℤ) (x : Interval) (xs : List Interval) → u ≤ℤ (x.from +ℤ w) → all_later w u (x ∷ xs) ≡ []
+later-none w u x xs h = rw (lt-false (x.from +ℤ w) u h) refl
 
-end-later : (u : ℤ) (x : Interval) → x.from <ℤ x.until → (x.from +ℤ week) <ℤ u
-    → ((week_later u x).until ≤ℤ (x.until +ℤ week)) × ((week_later u x).until ≤ℤ u)
-    × (((week_later u x).until ≡ (x.until +ℤ week)) ⊎ ((week_later u x).until ≡ u))
-    × ((week_later u x).from <ℤ (week_later u x).until)
-end-later u x some before =
-    by_lt_z u (x.until +ℤ week)
-    (λ lt. rw (lt-true u (x.until +ℤ week) lt) (omega (arith, ints, lt), omega (arith, ints), inr refl, before))
-    (λ le. rw (lt-false u (x.until +ℤ week) le) (omega (arith, ints), le, inl refl, omega (arith, ints, some)))
+end-later : (w u : ℤ) (x : Interval) → x.from <ℤ x.until → (x.from +ℤ w) <ℤ u
+    → ((later w u x).until ≤ℤ (x.until +ℤ w)) × ((later w u x).until ≤ℤ u)
+    × (((later w u x).until ≡ (x.until +ℤ w)) ⊎ ((later w u x).until ≡ u))
+    × ((later w u x).from <ℤ (later w u x).until)
+end-later w u x some before =
+    by_lt_z u (x.until +ℤ w)
+    (λ lt. rw (lt-true u (x.until +ℤ w) lt) (omega (arith, ints, lt), omega (arith, ints), inr refl, before))
+    (λ le. rw (lt-false u (x.until +ℤ w) le) (omega (arith, ints), le, inl refl, omega (arith, ints, some)))
 
 -- an interval that reaches the end, and one that does not
-later-cut : (u : ℤ) (x : Interval) → u ≤ℤ (x.until +ℤ week) → (week_later u x).until ≡ u
-later-cut u x h =
-    by_lt_z {P = (week_later u x).until ≡ u} u (x.until +ℤ week)
-    (λ lt. rw (lt-true u (x.until +ℤ week) lt) refl)
-    (λ le. rw (lt-false u (x.until +ℤ week) le) (omega (arith, ints, le, h)))
+later-cut : (w u : ℤ) (x : Interval) → u ≤ℤ (x.until +ℤ w) → (later w u x).until ≡ u
+later-cut w u x h =
+    by_lt_z {P = (later w u x).until ≡ u} u (x.until +ℤ w)
+    (λ lt. rw (lt-true u (x.until +ℤ w) lt) refl)
+    (λ le. rw (lt-false u (x.until +ℤ w) le) (omega (arith, ints, le, h)))
 
-later-full : (u : ℤ) (x : Interval) → (x.until +ℤ week) <ℤ u → (week_later u x).until ≡ x.until +ℤ week
-later-full u x h = rw (lt-false u (x.until +ℤ week) (omega (arith, ints, h))) refl
+later-full : (w u : ℤ) (x : Interval) → (x.until +ℤ w) <ℤ u → (later w u x).until ≡ x.until +ℤ w
+later-full w u x h = rw (lt-false u (x.until +ℤ w) (omega (arith, ints, h))) refl
 
-pub cut-is : (u f g : ℤ) (x y : Interval) → y ≡ record { from = f; until = g } → f ≡ x.from +ℤ week → g ≡ u
-    → u ≤ℤ (x.until +ℤ week) → y ≡ week_later u x
-cut-is u f g x y is e k h = is ∙ same-interval _ _ e (k ∙ sym (later-cut u x h))
+pub cut-is : (w u f g : ℤ) (x y : Interval) → y ≡ record { from = f; until = g } → f ≡ x.from +ℤ w → g ≡ u
+    → u ≤ℤ (x.until +ℤ w) → y ≡ later w u x
+cut-is w u f g x y is e k h = is ∙ same-interval _ _ e (k ∙ sym (later-cut w u x h))
 
-pub full-is : (u f g : ℤ) (x y : Interval) → y ≡ record { from = f; until = g } → f ≡ x.from +ℤ week → g ≡ x.until +ℤ week
-    → (x.until +ℤ week) <ℤ u → y ≡ week_later u x
-full-is u f g x y is e k h = is ∙ same-interval _ _ e (k ∙ sym (later-full u x h))
+pub full-is : (w u f g : ℤ) (x y : Interval) → y ≡ record { from = f; until = g } → f ≡ x.from +ℤ w → g ≡ x.until +ℤ w
+    → (x.until +ℤ w) <ℤ u → y ≡ later w u x
+full-is w u f g x y is e k h = is ∙ same-interval _ _ e (k ∙ sym (later-full w u x h))
 
-later-after : (u b c : ℤ) (xs : List Interval) → c ≤ℤ (b +ℤ week) → AllBeginAfter b xs → AllBeginAfter c (all_week_later u xs)
-later-after u b c [] le a = tt
-later-after u b c (x ∷ xs) le a =
-    by_lt_z {P = AllBeginAfter c (all_week_later u (x ∷ xs))} (x.from +ℤ week) u
-    (λ lt. rw (later-some u x xs lt) (omega (arith, ints, le, a.0), later-after u b c xs le a.1))
-    (λ ge. rw (later-none u x xs ge) tt)
+later-after : (w u b c : ℤ) (xs : List Interval) → c ≤ℤ (b +ℤ w) → AllBeginAfter b xs → AllBeginAfter c (all_later w u xs)
+later-after w u b c [] le a = tt
+later-after w u b c (x ∷ xs) le a =
+    by_lt_z {P = AllBeginAfter c (all_later w u (x ∷ xs))} (x.from +ℤ w) u
+    (λ lt. rw (later-some w u x xs lt) (omega (arith, ints, le, a.0), later-after w u b c xs le a.1))
+    (λ ge. rw (later-none w u x xs ge) tt)
 
-later-normal : (u : ℤ) (xs : List Interval) → IsNormal xs → IsNormal (all_week_later u xs)
-later-normal u [] n = tt
-later-normal u (x ∷ xs) n =
-    by_lt_z {P = IsNormal (all_week_later u (x ∷ xs))} (x.from +ℤ week) u
-    (λ lt. let e = end-later u x n.0 lt in
-    rw (later-some u x xs lt) (e.3, later-after u x.until (week_later u x).until xs e.0 n.1, later-normal u xs n.2))
-    (λ ge. rw (later-none u x xs ge) tt)
+later-normal : (w u : ℤ) (xs : List Interval) → IsNormal xs → IsNormal (all_later w u xs)
+later-normal w u [] n = tt
+later-normal w u (x ∷ xs) n =
+    by_lt_z {P = IsNormal (all_later w u (x ∷ xs))} (x.from +ℤ w) u
+    (λ lt. let e = end-later w u x n.0 lt in
+    rw (later-some w u x xs lt) (e.3, later-after w u x.until (later w u x).until xs e.0 n.1, later-normal w u xs n.2))
+    (λ ge. rw (later-none w u x xs ge) tt)
 
-within-later : (u : ℤ) (x : Interval) (t : ℤ) → x.from <ℤ x.until → (x.from +ℤ week) <ℤ u
-    → Within (week_later u x) t ↔ ((t <ℤ u) × Within x (t -ℤ week))
-within-later u x t some before =
-    let e = end-later u x some before in (
+within-later : (w u : ℤ) (x : Interval) (t : ℤ) → x.from <ℤ x.until → (x.from +ℤ w) <ℤ u
+    → Within (later w u x) t ↔ ((t <ℤ u) × Within x (t -ℤ w))
+within-later w u x t some before =
+    let e = end-later w u x some before in (
       (λ w. (omega (arith, ints, w.1, e.1), (omega (arith, ints, w.0), omega (arith, ints, w.1, e.0)))),
       (λ h. (omega (arith, ints, h.1.0), elim (e.2) [ inl k ↦ omega (arith, ints, k, h.1.1) | inr k ↦ omega (arith, ints, k, h.0) ])),
     )
 
--- what is held a week later is what was held a week before, before the end
-later-holds : (u : ℤ) (xs : List Interval) (t : ℤ) → IsNormal xs
-    → Holds (all_week_later u xs) t ↔ ((t <ℤ u) × Holds xs (t -ℤ week))
-later-holds u [] t n = ((λ h. absurd h), (λ h. absurd h.1))
-later-holds u (x ∷ xs) t n =
-    by_lt_z {P = Holds (all_week_later u (x ∷ xs)) t ↔ ((t <ℤ u) × Holds (x ∷ xs) (t -ℤ week))} (x.from +ℤ week) u
-    (λ lt. let w = within-later u x t n.0 lt in
-    let i = later-holds u xs t n.2 in
-    rw (later-some u x xs lt) (
-      (λ h. elim h [ inl k ↦ let q = w.0 k in (q.0, inl q.1) | inr k ↦ let q = i.0 k in (q.0, inr q.1) ]),
-      (λ h. elim h.1 [ inl k ↦ inl (w.1 (h.0, k)) | inr k ↦ inr (i.1 (h.0, k)) ]),
+-- what is held w seconds later is what was held w seconds before, before the end
+later-holds : (w u : ℤ) (xs : List Interval) (t : ℤ) → IsNormal xs
+    → Holds (all_later w u xs) t ↔ ((t <ℤ u) × Holds xs (t -ℤ w))
+later-holds w u [] t n = ((λ h. absurd h), (λ h. absurd h.1))
+later-holds w u (x ∷ xs) t n =
+    by_lt_z {P = Holds (all_later w u (x ∷ xs)) t ↔ ((t <ℤ u) × Holds (x ∷ xs) (t -ℤ w))} (x.from +ℤ w) u
+    (λ lt. let first = within-later w u x t n.0 lt in
+    let i = later-holds w u xs t n.2 in
+    rw (later-some w u x xs lt) (
+      (λ h. elim h [ inl k ↦ let q = first.0 k in (q.0, inl q.1) | inr k ↦ let q = i.0 k in (q.0, inr q.1) ]),
+      (λ h. elim h.1 [ inl k ↦ inl (first.1 (h.0, k)) | inr k ↦ inr (i.1 (h.0, k)) ]),
     ))
-    (λ ge. rw (later-none u x xs ge) (
+    (λ ge. rw (later-none w u x xs ge) (
       (λ h. absurd h),
-      (λ h. absurd (let f = first-holds x xs (t -ℤ week) n h.1 in omega (arith, ints, f, h.0, ge))),
+      (λ h. absurd (let f = first-holds x xs (t -ℤ w) n h.1 in omega (arith, ints, f, h.0, ge))),
     ))
 
 -- ---- what begins after a second
@@ -147,10 +145,10 @@ push-assoc : (kept xs : List Interval) (x : Interval) → kept ++ (x ∷ xs) ≡
 push-assoc kept xs x = sym (append_assoc kept (x ∷ []) xs)
 
 -- one more span is kept
-pub kept-more : (u : ℤ) (kept xs : List Interval) (x : Interval) → AreKept Learning u kept (x ∷ xs)
-    → AreKept Learning u (kept ++ (x ∷ [])) xs
-kept-more u kept xs x h =
-    subst (λ (l : List Interval). IsNormal l × EndBy u l × RepeatUntil u l) (push-assoc kept xs x) h
+pub kept-more : (w u : ℤ) (kept xs : List Interval) (x : Interval) → AreKept w Learning u kept (x ∷ xs)
+    → AreKept w Learning u (kept ++ (x ∷ [])) xs
+kept-more w u kept xs x h =
+    subst (λ (l : List Interval). IsNormal l × EndBy u l × RepeatUntil w u l) (push-assoc kept xs x) h
 
 apart : (x : Interval) (xs : List Interval) (t : ℤ) → IsNormal (x ∷ xs) → x.until ≤ℤ t → is_held (x ∷ xs) t ≡ is_held xs t
 apart x xs t n le =
@@ -166,8 +164,9 @@ apart x xs t n le =
     ]
 
 -- the first span is not kept
-pub kept-not : (u : ℤ) (xs : List Interval) (x : Interval) → AreKept Learning u [] (x ∷ xs) → AreKept Learning u [] xs
-kept-not u xs x h =
+pub kept-not : (w u : ℤ) (xs : List Interval) (x : Interval) → pos 0 <ℤ w → AreKept w Learning u [] (x ∷ xs)
+    → AreKept w Learning u [] xs
+kept-not w u xs x some h =
     let n : IsNormal (x ∷ xs) = h.0 in (
       n.2,
       (λ t k. h.1 t (let e = is_held-decides xs t in let d = is_held-decides (x ∷ xs) t in d.1 (inr (e.0 k)))),
@@ -177,10 +176,10 @@ kept-not u xs x h =
           let d = is_held-decides (x ∷ xs) s in
           sym (apart x xs t n (omega (arith, ints, after, le)))
           ∙ h.2 s t (d.1 (inr (e.0 k))) le before
-          ∙ apart x xs (t +ℤ week) n (omega (arith, ints, after, le))),
+          ∙ apart x xs (t +ℤ w) n (omega (arith, ints, some, after, le))),
     )
 
--- ---- from one week to all later ones
+-- ---- from one period to all later ones
 
 tail-normal : (kept xs : List Interval) → IsNormal (kept ++ xs) → IsNormal xs
 tail-normal [] xs n = n
@@ -204,118 +203,118 @@ tail-only (k ∷ ks) xs x t n le h =
       | inr r ↦ tail-only ks xs x t n.2 le r
     ]
 
-week-on : (t : ℤ) → (t -ℤ week) +ℤ week ≡ t
-week-on t = omega (arith, ints)
+back-on : (w t : ℤ) → (t -ℤ w) +ℤ w ≡ t
+back-on w t = omega (arith, ints)
 
--- where a span begins a week after the first kept one, the rest of the list is the list a week later
-pub repeats-from : (u : ℤ) (first : Interval) (ks xs : List Interval) (x : Interval)
-    → AreKept Learning u (first ∷ ks) (x ∷ xs) → x.from ≡ first.from +ℤ week
-    → x ∷ xs ≡ all_week_later u (first ∷ (ks ++ (x ∷ xs)))
-repeats-from u first ks xs x h is =
+-- where a span begins w seconds after the first kept one, the rest of the list is the list w seconds later
+pub repeats-from : (w u : ℤ) (first : Interval) (ks xs : List Interval) (x : Interval)
+    → AreKept w Learning u (first ∷ ks) (x ∷ xs) → x.from ≡ first.from +ℤ w
+    → x ∷ xs ≡ all_later w u (first ∷ (ks ++ (x ∷ xs)))
+repeats-from w u first ks xs x h is =
     let all : List Interval = first ∷ (ks ++ (x ∷ xs)) in
     let n : IsNormal all = h.0 in
     let m : IsNormal (x ∷ xs) = tail-normal (first ∷ ks) (x ∷ xs) n in
     let begins : IsTrue (is_held all first.from) =
     (is_held-decides all first.from).1 (inl (omega (arith, ints), n.0)) in
-    one-list (x ∷ xs) (all_week_later u all) m (later-normal u all n) (λ t.
-    let l = later-holds u all t n in
+    one-list (x ∷ xs) (all_later w u all) m (later-normal w u all n) (λ t.
+    let l = later-holds w u all t n in
     let d = is_held-decides all t in
-    let b = is_held-decides all (t -ℤ week) in
-    let again : first.from ≤ℤ (t -ℤ week) → t <ℤ u → is_held all (t -ℤ week) ≡ is_held all t =
-    λ from before. h.2 first.from (t -ℤ week) begins from (omega (arith, ints, before))
-    ∙ ap (λ (s : ℤ). is_held all s) (week-on t) in (
+    let b = is_held-decides all (t -ℤ w) in
+    let again : first.from ≤ℤ (t -ℤ w) → t <ℤ u → is_held all (t -ℤ w) ≡ is_held all t =
+    λ from before. h.2 first.from (t -ℤ w) begins from (omega (arith, ints, before))
+    ∙ ap (λ (s : ℤ). is_held all s) (back-on w t) in (
       (λ k. let at : Holds all t = tail-held (first ∷ ks) (x ∷ xs) t k in
           let f = first-holds x xs t m k in
           let before = h.1 t (d.1 at) in
           l.1 (before, b.0 (again (omega (arith, ints, f, is)) before ∙ d.1 at))),
       (λ k. let q = l.0 k in
-          let f = first-holds first (ks ++ (x ∷ xs)) (t -ℤ week) n q.1 in
+          let f = first-holds first (ks ++ (x ∷ xs)) (t -ℤ w) n q.1 in
           tail-only (first ∷ ks) xs x t n (omega (arith, ints, f, is)) (d.0 (sym (again f q.0) ∙ b.1 q.1))),
     ))
 
--- the first interval of what a list is a week later, and the others
-turned : (u : ℤ) (first : Interval) (ks xs : List Interval) (x : Interval)
-    → x ∷ xs ≡ all_week_later u (first ∷ (ks ++ (x ∷ xs))) → xs ≡ all_week_later u ((ks ++ (x ∷ [])) ++ xs)
-turned u first ks xs x r =
-    by_lt_z {P = xs ≡ all_week_later u ((ks ++ (x ∷ [])) ++ xs)} (first.from +ℤ week) u
-    (λ lt. let s : x ∷ xs ≡ week_later u first ∷ all_week_later u (ks ++ (x ∷ xs)) =
-    r ∙ later-some u first (ks ++ (x ∷ xs)) lt in
-    let others : xs ≡ all_week_later u (ks ++ (x ∷ xs)) = cc in
-    others ∙ ap (all_week_later u) (push-assoc ks xs x))
-    (λ ge. absurd (let s : x ∷ xs ≡ [] = r ∙ later-none u first (ks ++ (x ∷ xs)) ge in cc))
+-- the first interval of what a list is w seconds later, and the others
+turned : (w u : ℤ) (first : Interval) (ks xs : List Interval) (x : Interval)
+    → x ∷ xs ≡ all_later w u (first ∷ (ks ++ (x ∷ xs))) → xs ≡ all_later w u ((ks ++ (x ∷ [])) ++ xs)
+turned w u first ks xs x r =
+    by_lt_z {P = xs ≡ all_later w u ((ks ++ (x ∷ [])) ++ xs)} (first.from +ℤ w) u
+    (λ lt. let s : x ∷ xs ≡ later w u first ∷ all_later w u (ks ++ (x ∷ xs)) =
+    r ∙ later-some w u first (ks ++ (x ∷ xs)) lt in
+    let others : xs ≡ all_later w u (ks ++ (x ∷ xs)) = cc in
+    others ∙ ap (all_later w u) (push-assoc ks xs x))
+    (λ ge. absurd (let s : x ∷ xs ≡ [] = r ∙ later-none w u first (ks ++ (x ∷ xs)) ge in cc))
 
 -- the same, with that span behind the kept ones but the first
-pub kept-all : (u : ℤ) (kept ks xs : List Interval) (first x : Interval) → kept ≡ first ∷ ks → IsNormal (x ∷ xs)
-    → AreKept Learning u kept (x ∷ xs) → x.from ≡ first.from +ℤ week
-    → begun_after x.until xs ≡ all_week_later u ((ks ++ (x ∷ [])) ++ begun_after x.until xs)
-kept-all u kept ks xs first x e m h is =
+pub kept-all : (w u : ℤ) (kept ks xs : List Interval) (first x : Interval) → kept ≡ first ∷ ks → IsNormal (x ∷ xs)
+    → AreKept w Learning u kept (x ∷ xs) → x.from ≡ first.from +ℤ w
+    → begun_after x.until xs ≡ all_later w u ((ks ++ (x ∷ [])) ++ begun_after x.until xs)
+kept-all w u kept ks xs first x e m h is =
     let all : begun_after x.until xs ≡ xs = begun-all x.until xs m.1 in
-    let k : AreKept Learning u (first ∷ ks) (x ∷ xs) = subst (λ (l : List Interval). AreKept Learning u l (x ∷ xs)) e h in
+    let k : AreKept w Learning u (first ∷ ks) (x ∷ xs) = subst (λ (l : List Interval). AreKept w Learning u l (x ∷ xs)) e h in
     let n : IsNormal (first ∷ (ks ++ (x ∷ xs))) = k.0 in
-    let r : x ∷ xs ≡ all_week_later u (first ∷ (ks ++ (x ∷ xs))) = repeats-from u first ks xs x k is in
-    rw all (turned u first ks xs x r)
+    let r : x ∷ xs ≡ all_later w u (first ∷ (ks ++ (x ∷ xs))) = repeats-from w u first ks xs x k is in
+    rw all (turned w u first ks xs x r)
 
--- what is to come is what the kept spans and itself are a week later: what is handed out next, and what follows
-turn-some : (u last : ℤ) (kept ks xs : List Interval) (first x : Interval) → kept ≡ first ∷ ks → IsNormal xs
-    → begun_after last xs ≡ all_week_later u (kept ++ begun_after last xs)
-    → (first.from +ℤ week) <ℤ u → x ≡ week_later u first
+-- what is to come is what the kept spans and itself are w seconds later: what is handed out next, and what follows
+turn-some : (w u last : ℤ) (kept ks xs : List Interval) (first x : Interval) → kept ≡ first ∷ ks → IsNormal xs
+    → begun_after last xs ≡ all_later w u (kept ++ begun_after last xs)
+    → (first.from +ℤ w) <ℤ u → x ≡ later w u first
     → (begun_after last xs ≡ x ∷ begun_after x.until xs)
-    × (begun_after x.until xs ≡ all_week_later u ((ks ++ (x ∷ [])) ++ begun_after x.until xs))
-turn-some u last kept ks xs first x e n h lt is =
+    × (begun_after x.until xs ≡ all_later w u ((ks ++ (x ∷ [])) ++ begun_after x.until xs))
+turn-some w u last kept ks xs first x e n h lt is =
     let b : List Interval = begun_after last xs in
-    let rest : List Interval = all_week_later u (ks ++ b) in
+    let rest : List Interval = all_later w u (ks ++ b) in
     let s : b ≡ x ∷ rest =
-    h ∙ ap (λ (l : List Interval). all_week_later u (l ++ b)) e ∙ later-some u first (ks ++ b) lt
+    h ∙ ap (λ (l : List Interval). all_later w u (l ++ b)) e ∙ later-some w u first (ks ++ b) lt
     ∙ ap (λ (y : Interval). y ∷ rest) (sym is) in
     let more : begun_after x.until xs ≡ rest = begun-more last xs rest x n s in
-    let whole : x ∷ rest ≡ all_week_later u (first ∷ (ks ++ (x ∷ rest))) =
-    sym s ∙ h ∙ ap (λ (l : List Interval). all_week_later u (l ++ b)) e
-    ∙ ap (λ (l : List Interval). all_week_later u (first ∷ (ks ++ l))) s in
-    (s ∙ ap (λ (l : List Interval). x ∷ l) (sym more), rw more (turned u first ks rest x whole))
+    let whole : x ∷ rest ≡ all_later w u (first ∷ (ks ++ (x ∷ rest))) =
+    sym s ∙ h ∙ ap (λ (l : List Interval). all_later w u (l ++ b)) e
+    ∙ ap (λ (l : List Interval). all_later w u (first ∷ (ks ++ l))) s in
+    (s ∙ ap (λ (l : List Interval). x ∷ l) (sym more), rw more (turned w u first ks rest x whole))
 
-turn-late : (u last : ℤ) (kept ks xs : List Interval) (first : Interval) → kept ≡ first ∷ ks
-    → begun_after last xs ≡ all_week_later u (kept ++ begun_after last xs)
-    → u ≤ℤ (first.from +ℤ week) → begun_after last xs ≡ []
-turn-late u last kept ks xs first e h ge =
-    h ∙ ap (λ (l : List Interval). all_week_later u (l ++ begun_after last xs)) e
-    ∙ later-none u first (ks ++ begun_after last xs) ge
+turn-late : (w u last : ℤ) (kept ks xs : List Interval) (first : Interval) → kept ≡ first ∷ ks
+    → begun_after last xs ≡ all_later w u (kept ++ begun_after last xs)
+    → u ≤ℤ (first.from +ℤ w) → begun_after last xs ≡ []
+turn-late w u last kept ks xs first e h ge =
+    h ∙ ap (λ (l : List Interval). all_later w u (l ++ begun_after last xs)) e
+    ∙ later-none w u first (ks ++ begun_after last xs) ge
 
--- nothing is a week after itself
-never-after : (u : ℤ) (xs : List Interval) → xs ≡ all_week_later u xs → xs ≡ []
-never-after u [] e = refl
-never-after u (x ∷ xs) e =
-    by_lt_z {P = (x ∷ xs) ≡ []} (x.from +ℤ week) u
-    (λ lt. let s : x ∷ xs ≡ week_later u x ∷ all_week_later u xs = e ∙ later-some u x xs lt in
-    let same : x ≡ week_later u x = cc in
-    let from : x.from ≡ x.from +ℤ week = ap (λ (y : Interval). y.from) same in
-    absurd (omega (arith, ints, from)))
-    (λ ge. e ∙ later-none u x xs ge)
+-- nothing is later than itself
+never-after : (w u : ℤ) (xs : List Interval) → pos 0 <ℤ w → xs ≡ all_later w u xs → xs ≡ []
+never-after w u [] some e = refl
+never-after w u (x ∷ xs) some e =
+    by_lt_z {P = (x ∷ xs) ≡ []} (x.from +ℤ w) u
+    (λ lt. let s : x ∷ xs ≡ later w u x ∷ all_later w u xs = e ∙ later-some w u x xs lt in
+    let same : x ≡ later w u x = cc in
+    let from : x.from ≡ x.from +ℤ w = ap (λ (y : Interval). y.from) same in
+    absurd (omega (arith, ints, some, from)))
+    (λ ge. e ∙ later-none w u x xs ge)
 
-turn-none : (u last : ℤ) (kept xs : List Interval) → kept ≡ []
-    → begun_after last xs ≡ all_week_later u (kept ++ begun_after last xs) → begun_after last xs ≡ []
-turn-none u last kept xs e h =
-    never-after u (begun_after last xs) (h ∙ ap (λ (l : List Interval). all_week_later u (l ++ begun_after last xs)) e)
+turn-none : (w u last : ℤ) (kept xs : List Interval) → pos 0 <ℤ w → kept ≡ []
+    → begun_after last xs ≡ all_later w u (kept ++ begun_after last xs) → begun_after last xs ≡ []
+turn-none w u last kept xs some e h =
+    never-after w u (begun_after last xs) some (h ∙ ap (λ (l : List Interval). all_later w u (l ++ begun_after last xs)) e)
 
--- the same at a stage in which all spans of a week are kept
-pub turns-some : (s : Stage) (u : ℤ) (kept ks xs : List Interval) (first x : Interval) → IsRepeating s → kept ≡ first ∷ ks
-    → IsNormal xs → AreKept s u kept xs → (first.from +ℤ week) <ℤ u → x ≡ week_later u first
+-- the same at a stage in which all spans of a period are kept
+pub turns-some : (w : ℤ) (s : Stage) (u : ℤ) (kept ks xs : List Interval) (first x : Interval) → IsRepeating s → kept ≡ first ∷ ks
+    → IsNormal xs → AreKept w s u kept xs → (first.from +ℤ w) <ℤ u → x ≡ later w u first
     → (to_come s xs ≡ x ∷ begun_after x.until xs)
-    × (begun_after x.until xs ≡ all_week_later u ((ks ++ (x ∷ [])) ++ begun_after x.until xs))
-turns-some Learning u kept ks xs first x r e n h lt is = absurd r
-turns-some (Repeating last) u kept ks xs first x r e n h lt is = turn-some u last.0 kept ks xs first x e n h lt is
-turns-some GivenUp u kept ks xs first x r e n h lt is = absurd r
+    × (begun_after x.until xs ≡ all_later w u ((ks ++ (x ∷ [])) ++ begun_after x.until xs))
+turns-some w Learning u kept ks xs first x r e n h lt is = absurd r
+turns-some w (Repeating last) u kept ks xs first x r e n h lt is = turn-some w u last.0 kept ks xs first x e n h lt is
+turns-some w GivenUp u kept ks xs first x r e n h lt is = absurd r
 
-pub turns-late : (s : Stage) (u : ℤ) (kept ks xs : List Interval) (first : Interval) → IsRepeating s → kept ≡ first ∷ ks
-    → AreKept s u kept xs → u ≤ℤ (first.from +ℤ week) → to_come s xs ≡ []
-turns-late Learning u kept ks xs first r e h ge = absurd r
-turns-late (Repeating last) u kept ks xs first r e h ge = turn-late u last.0 kept ks xs first e h ge
-turns-late GivenUp u kept ks xs first r e h ge = absurd r
+pub turns-late : (w : ℤ) (s : Stage) (u : ℤ) (kept ks xs : List Interval) (first : Interval) → IsRepeating s → kept ≡ first ∷ ks
+    → AreKept w s u kept xs → u ≤ℤ (first.from +ℤ w) → to_come s xs ≡ []
+turns-late w Learning u kept ks xs first r e h ge = absurd r
+turns-late w (Repeating last) u kept ks xs first r e h ge = turn-late w u last.0 kept ks xs first e h ge
+turns-late w GivenUp u kept ks xs first r e h ge = absurd r
 
-pub turns-none : (s : Stage) (u : ℤ) (kept xs : List Interval) → IsRepeating s → kept ≡ [] → AreKept s u kept xs
+pub turns-none : (w : ℤ) (s : Stage) (u : ℤ) (kept xs : List Interval) → pos 0 <ℤ w → IsRepeating s → kept ≡ [] → AreKept w s u kept xs
     → to_come s xs ≡ []
-turns-none Learning u kept xs r e h = absurd r
-turns-none (Repeating last) u kept xs r e h = turn-none u last.0 kept xs e h
-turns-none GivenUp u kept xs r e h = absurd r
+turns-none w Learning u kept xs some r e h = absurd r
+turns-none w (Repeating last) u kept xs some r e h = turn-none w u last.0 kept xs some e h
+turns-none w GivenUp u kept xs some r e h = absurd r
 
 -- until then all of the list is to come
 pub come-all : (s : Stage) (xs : List Interval) → (IsRepeating s → ⊥) → to_come s xs ≡ xs
@@ -330,19 +329,20 @@ same-bool true b f g = sym (f refl)
 same-bool false true f g = g refl
 same-bool false false f g = refl
 
--- the normal list of a set that repeats weekly
-pub weekly-fits : (set : ℤ → Type 0) (from until : ℤ) (xs : List Interval) → IsNormalFor set from until xs → RepeatsWeekly set
-    → AreKept Learning until [] xs
-weekly-fits set from until xs n r = (
+-- the normal list of a set that repeats, as far as it is asked for
+pub repeat-fits : (w : ℤ) (set : ℤ → Type 0) (from until : ℤ) (xs : List Interval) → pos 0 <ℤ w → IsNormalFor set from until xs
+    → ((t : ℤ) → from ≤ℤ t → (t +ℤ w) <ℤ until → set t ↔ set (t +ℤ w)) → AreKept w Learning until [] xs
+repeat-fits w set from until xs some n r = (
   normal-of set from until xs n,
   (λ t k. (n.inside t ((is_held-decides xs t).0 k)).1),
   (λ s t k le before.
       let d = is_held-decides xs t in
-      let e = is_held-decides xs (t +ℤ week) in
+      let e = is_held-decides xs (t +ℤ w) in
       let begun : from ≤ℤ s = (n.inside s ((is_held-decides xs s).0 k)).0 in
-      same-bool (is_held xs t) (is_held xs (t +ℤ week))
+      let in_time : from ≤ℤ t = omega (arith, ints, begun, le) in
+      same-bool (is_held xs t) (is_held xs (t +ℤ w))
       (λ h. let i = n.inside t (d.0 h) in
-      e.1 (n.complete (t +ℤ week) (omega (arith, ints, begun, le), before, (r t).0 i.2)))
-      (λ h. let i = n.inside (t +ℤ week) (e.0 h) in
-      d.1 (n.complete t (omega (arith, ints, begun, le), omega (arith, ints, before), (r t).1 i.2)))),
+      e.1 (n.complete (t +ℤ w) (omega (arith, ints, some, in_time), before, (r t in_time before).0 i.2)))
+      (λ h. let i = n.inside (t +ℤ w) (e.0 h) in
+      d.1 (n.complete t (in_time, omega (arith, ints, some, before), (r t in_time before).1 i.2)))),
 )

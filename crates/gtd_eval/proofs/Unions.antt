@@ -2,8 +2,9 @@
 use Rattle.std.proofs.Common.{◌≡◌, ◌↔◌, ℕ, zero, suc, ◌+◌, ◌-◌, ◌*◌, ◌/◌, ◌^◌, ◌<◌, ◌≤◌, List, [], ◌∷◌, ◌++◌, length, sym, ap}
 use Rattle.std.proofs.Common.{refl, ◌∙◌, take, drop, append_assoc, subst, inl, inr, arith, length-append, max}
 use Rattle.std.proofs.Math.Seq.{drop-append_seam, take-append_seam}
-use Rattle.std.specs.Prelude.{ℤ}
-use Rattle.gtd_core.specs.Seconds.{Interval}
+use Rattle.std.specs.Prelude.{ℤ, pos, ◌+ℤ◌, ◌<ℤ◌, Option, Some, None, IfSome}
+use Rattle.std.proofs.lemmas.Int.{ints}
+use Rattle.gtd_core.specs.Seconds.{Interval, Within}
 use Rattle.gtd_core.specs.Trees.{Tree, Single, Joined, leaf_count}
 use Rattle.gtd_core.specs.Parts.{start_parts, duration_parts}
 use Rattle.gtd_core.specs.declared.domain.Basic.{Basic}
@@ -17,15 +18,17 @@ use Rattle.gtd_spans.specs.facts.Combining.{combine-holds}
 use Rattle.gtd_spans.specs.facts.NormalFor.{combined-both, combined-in, normal-for, is-in}
 use Rattle.gtd_eval.specs.Chains.{right_of, AllHold, ChainHolds, IsChainOf, IsBasicChain, IsChainOfLast, AreTerms}
 use Rattle.gtd_eval.specs.Membership.{InTree}
-use Rattle.gtd_eval.specs.Nodes.{node_list, node_count, node_height, node_work, IsSameTree}
+use Rattle.gtd_eval.specs.Nodes.{node_list, node_count, node_height, node_work, IsSoundNode, IsSameTree}
+use Rattle.gtd_eval.specs.Periods.{AllRepeat}
 use Rattle.gtd_eval.specs.Repeating.{AreKept}
-use Rattle.gtd_eval.specs.Weekly.{AllWeekly}
 use Rattle.gtd_eval.specs.declared.repeat.Stage.TheVariants.{Learning}
 use Rattle.gtd_eval.specs.facts.NodeFacts.{node_list-normal}
-use Rattle.gtd_eval.specs.facts.WeekFacts.{tree-weekly}
-use Rattle.gtd_eval.proofs.RepeatLemmas.{weekly-fits}
+use Rattle.gtd_eval.specs.facts.PeriodFacts.{tree-repeats-after, some-period}
+use Rattle.gtd_eval.proofs.RepeatLemmas.{repeat-fits}
 use Rattle.gtd_eval.specs.Cursors.{cursor_list, cursor_nodes, cursor_height, cursor_work, total_nodes, total_work, NoneHigher}
 use Rattle.gtd_eval.specs.facts.CursorFacts.{some-append, nodes-append, work-append, higher-append}
+use Rattle.gtd_recur.specs.Periods.{period_seconds}
+use Rattle.gtd_recur.specs.declared.period.Period.{Period}
 use Rattle.gtd_recur.specs.RunsToCome.{runs_to_come, runs_basic, runs_horizon}
 use Rattle.gtd_recur.specs.Work.{work_of}
 use Rattle.gtd_recur.specs.declared.runs.Runs.{Runs}
@@ -209,23 +212,44 @@ same-chain op cs n m chain same = record {
   height = λ h k none le. omega (arith, chain.height h k none le, same.height);
 }
 
--- the chain of all terms of an expression that repeats weekly repeats
-pub chain-fits : (op : Op) (e : Tree) (h : Horizon) (w : ℕ) (xs bs : List Cursor) (n : Node)
-    → (given : AreTerms op e h w xs bs) → IsChainOf op given.terms n → AllWeekly e
-    → AreKept Learning (whole h).until [] (node_list n)
-chain-fits op e h w xs bs n given chain weekly =
-    weekly-fits (InTree e) (whole h).from (whole h).until (node_list n)
+-- what follows of each period holds of one that there may be
+pub kept-if : (o : Option Period) (P Q : Period → Type 0) → ((x : Period) → P x → Q x) → IfSome o P → IfSome o Q
+kept-if None P Q f h = tt
+kept-if (Some x) P Q f h = f x h
+
+-- the chain of all terms of an expression that repeats
+pub chain-fits : (op : Op) (e : Tree) (h : Horizon) (w : ℕ) (xs bs : List Cursor) (n : Node) (x : Period)
+    → (given : AreTerms op e h w xs bs) → IsChainOf op given.terms n → AllRepeat (period_seconds x) e
+    → AreKept (period_seconds x) Learning (whole h).until [] (node_list n)
+chain-fits op e h w xs bs n x given chain r =
+    repeat-fits (period_seconds x) (InTree e) (whole h).from (whole h).until (node_list n) (some-period x)
     (normal-for (InTree e) (whole h).from (whole h).until (node_list n) (node_list-normal n chain.sound)
     (chain-in op e h w xs bs n given chain))
-    (λ t. tree-weekly e t weekly)
+    (λ t begun before. tree-repeats-after (period_seconds x) e t (x, refl) r)
 
--- the runs of a basic domain that repeats weekly
-pub runs-fit : (basic : Basic) (h : Horizon) (xs : List Interval)
+-- the runs of a basic domain that repeats
+pub runs-fit : (basic : Basic) (h : Horizon) (xs : List Interval) (x : Period)
     → IsNormalFor (InBasic basic) (whole h).from (whole h).until xs
-    → AllWeekly (Single (start_parts basic.start) (duration_parts basic.duration)) → AreKept Learning (whole h).until [] xs
-runs-fit basic h xs normal weekly =
-    weekly-fits (InBasic basic) (whole h).from (whole h).until xs normal
-    (λ t. tree-weekly (Single (start_parts basic.start) (duration_parts basic.duration)) t weekly)
+    → AllRepeat (period_seconds x) (Single (start_parts basic.start) (duration_parts basic.duration))
+    → AreKept (period_seconds x) Learning (whole h).until [] xs
+runs-fit basic h xs x normal r =
+    repeat-fits (period_seconds x) (InBasic basic) (whole h).from (whole h).until xs (some-period x) normal
+    (λ t begun before.
+    tree-repeats-after (period_seconds x) (Single (start_parts basic.start) (duration_parts basic.duration)) t
+    (x, refl) r)
+
+-- the list of a cursor that repeats in its horizon
+pub list-fits : (h : Horizon) (n : Node) (x : Period) → IsSoundNode n
+    → ((t : ℤ) → Holds (node_list n) t → Within (whole h) t)
+    → ((t : ℤ) → Within (whole h) t → Within (whole h) (t +ℤ period_seconds x)
+    → Holds (node_list n) t ↔ Holds (node_list n) (t +ℤ period_seconds x))
+    → AreKept (period_seconds x) Learning (whole h).until [] (node_list n)
+list-fits h n x sound inside r =
+    let some = some-period x in
+    repeat-fits (period_seconds x) (Holds (node_list n)) (whole h).from (whole h).until (node_list n) some
+    (normal-for (Holds (node_list n)) (whole h).from (whole h).until (node_list n) (node_list-normal n sound)
+    (λ t. ((λ k. let within = inside t k in (within.0, within.1, k)), (λ k. k.2))))
+    (λ t begun before. r t (begun, omega (arith, ints, some, before)) (omega (arith, ints, some, begun), before))
 
 -- the cursor of a basic domain, put behind a list
 pub leaf-term : (op : Op) (basic : Basic) (h : Horizon) (xs cs : List Cursor) (runs : Runs) (c : Cursor)
@@ -242,3 +266,17 @@ leaf-term op basic h xs cs runs c normal eb eh same pushed =
     (omega (arith, same.nodes)) (same.work ∙ work)
     (λ b. (omega (arith, same.height), refl))
     (λ other k b le. omega (arith, same.height))
+
+-- the seconds of an expression in a horizon are in the horizon, and repeat there if the expression does
+pub domain-inside : (e : Tree) (h : Horizon) (xs : List Interval) → IsNormalFor (InTree e) (whole h).from (whole h).until xs
+    → (t : ℤ) → Holds xs t → Within (whole h) t
+domain-inside e h xs n t k = let i = n.inside t k in (i.0, i.1)
+
+pub domain-repeats : (e : Tree) (h : Horizon) (xs : List Interval) (x : Period)
+    → IsNormalFor (InTree e) (whole h).from (whole h).until xs → AllRepeat (period_seconds x) e
+    → (t : ℤ) → Within (whole h) t → Within (whole h) (t +ℤ period_seconds x) → Holds xs t ↔ Holds xs (t +ℤ period_seconds x)
+domain-repeats e h xs x n r t now later =
+    let same = tree-repeats-after (period_seconds x) e t (x, refl) r in (
+      (λ k. n.complete (t +ℤ period_seconds x) (later.0, later.1, same.0 (n.inside t k).2)),
+      (λ k. n.complete t (now.0, now.1, same.1 (n.inside (t +ℤ period_seconds x) k).2)),
+    )

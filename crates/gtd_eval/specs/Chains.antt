@@ -1,14 +1,17 @@
 -- Chains of one operator, bracketed in any way that keeps their seconds.
 use Rattle.std.specs.Prelude.{◌≡◌, ℕ, ◌+◌, ◌*◌, ◌^◌, ◌<◌, ◌≤◌, ◌↔◌, ℤ, List, [], ◌∷◌, ◌++◌, length}
 use Rattle.gtd_core.specs.Trees.{Tree, Single, Joined, leaf_count}
+use Rattle.gtd_core.specs.Parts.{domain_tree}
 use Rattle.gtd_core.specs.Whole.{whole}
+use Rattle.gtd_core.specs.declared.domain.Domain.{Domain}
 use Rattle.gtd_core.specs.declared.domain.Op.{Op}
 use Rattle.gtd_core.specs.declared.domain.Op.TheVariants.{Union, Meet, Minus}
 use Rattle.gtd_core.specs.declared.horizon.Horizon.{Horizon}
 use Rattle.gtd_spans.specs.Normal.{Holds, IsIn}
-use Rattle.gtd_eval.specs.Membership.{InTree}
+use Rattle.gtd_eval.specs.Membership.{InDomain, InTree, IsNormalOver}
 use Rattle.gtd_eval.specs.Nodes.{node_list, node_count, node_height, node_work, IsSoundNode}
-use Rattle.gtd_eval.specs.Cursors.{cursor_list, SomeHolds, total_nodes, total_work, NoneHigher}
+use Rattle.gtd_eval.specs.Cursors.{cursor_list, cursor_nodes, cursor_height, cursor_work, domain_work}
+use Rattle.gtd_eval.specs.Cursors.{SomeHolds, total_nodes, total_work, NoneHigher}
 use Rattle.gtd_eval.specs.declared.node.Node.{Node}
 use Rattle.gtd_eval.specs.declared.cursor.Cursor.{Cursor}
 
@@ -64,3 +67,12 @@ pub record AreTerms (op : Op) (e : Tree) (h : Horizon) (work : ℕ) (before afte
   pub low : IsBasicChain op e → NoneHigher 1 terms × (length terms ≡ leaf_count e)
   pub lone : (other : Op) (k : ℕ) → (op ≡ other → ⊥) → IsBasicChain other e → leaf_count e ≤ 2 ^ k
       → NoneHigher (1 + k) terms × (length terms ≡ 1)
+
+-- The cursor has the seconds of the domain in the horizon, the nodes of its tree and the work of its basic domains. It is
+-- balanced over a chain of one operator.
+pub record IsCursorOf (domain : Domain) (h : Horizon) (c : Cursor) : Type 0 where
+  pub normal : IsNormalOver (InDomain domain) h (cursor_list c)
+  pub nodes : cursor_nodes c + 1 ≡ 2 * leaf_count (domain_tree domain)
+  pub work : cursor_work c ≡ domain_work domain h
+  pub height : (op : Op) (k : ℕ) → IsBasicChain op (domain_tree domain) → leaf_count (domain_tree domain) ≤ 2 ^ k
+      → cursor_height c ≤ k + 1

@@ -5,6 +5,7 @@ pub mod Extent
 pub mod Membership
 pub mod Names
 pub mod Nodes
+pub mod Periods
 pub mod Repeating
 pub mod Shape
 pub mod Single

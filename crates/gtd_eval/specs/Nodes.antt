@@ -8,6 +8,7 @@ use Rattle.gtd_spans.specs.Merging.{listed}
 use Rattle.gtd_spans.specs.Gaps.{gaps_left}
 use Rattle.gtd_spans.specs.Normal.{IsNormal, combine}
 use Rattle.gtd_spans.specs.Sides.{side_list}
+use Rattle.gtd_recur.specs.Periods.{period_seconds}
 use Rattle.gtd_recur.specs.RunsToCome.{runs_to_come, runs_basic, runs_horizon, runs_ticks}
 use Rattle.gtd_core.specs.Whole.{whole}
 use Rattle.gtd_eval.specs.Repeating.{to_come, AreKept}
@@ -22,7 +23,7 @@ abbrev pub node_list : Node → List Interval
 node_list (Fixed span) = listed span
 node_list (Leaf leaf) = runs_to_come leaf
 node_list (Between' gaps p inner) = gaps_left gaps (node_list inner)
-node_list (Repeat' week p inner) = to_come week.stage (node_list inner)
+node_list (Repeat' again p inner) = to_come again.stage (node_list inner)
 node_list (Two' op x p left y q right) = combine op (side_list x (node_list left)) (side_list y (node_list right))
 
 -- what each side of an operator of the tree still has to hand out is normal, and kept spans fit what they are kept of
@@ -30,8 +31,8 @@ abbrev pub IsSoundNode : Node → Type 0
 IsSoundNode (Fixed span) = IsSingle span
 IsSoundNode (Leaf leaf) = Unit {0}
 IsSoundNode (Between' gaps p inner) = IsSoundNode inner
-IsSoundNode (Repeat' week p inner) =
-    AreKept week.stage (whole week.horizon).until week.kept.items (node_list inner) × IsSoundNode inner
+IsSoundNode (Repeat' again p inner) =
+    AreKept (period_seconds again.period) again.stage (whole again.horizon).until again.kept.items (node_list inner) × IsSoundNode inner
 IsSoundNode (Two' op x p left y q right) =
     IsNormal (side_list x (node_list left)) × IsNormal (side_list y (node_list right)) × IsSoundNode left × IsSoundNode right
 
@@ -40,7 +41,7 @@ abbrev pub node_shape : Node → Shape
 node_shape (Fixed span) = fixed
 node_shape (Leaf leaf) = runs (runs_basic leaf) (runs_horizon leaf)
 node_shape (Between' gaps p inner) = between (node_shape inner)
-node_shape (Repeat' week p inner) = repeated (node_shape inner)
+node_shape (Repeat' again p inner) = repeated (node_shape inner)
 node_shape (Two' op x p left y q right) = two (node_shape left) (node_shape right)
 
 -- how many nodes the tree has; how many the longest path down has; the sum of the work of its runs
@@ -62,7 +63,7 @@ abbrev pub node_ticks : Node → ℕ
 node_ticks (Fixed span) = 0
 node_ticks (Leaf leaf) = runs_ticks leaf
 node_ticks (Between' gaps p inner) = node_ticks inner
-node_ticks (Repeat' week p inner) = node_ticks inner
+node_ticks (Repeat' again p inner) = node_ticks inner
 node_ticks (Two' op x p left y q right) = node_ticks left + node_ticks right
 
 -- the second tree hands out what the first one does, and is as large

@@ -1,23 +1,21 @@
--- Lists of spans that repeat after a week, and what the spans of one week say of all later ones.
-use Rattle.std.specs.Prelude.{◌≡◌, ℤ, ◌+ℤ◌, ◌≤ℤ◌, ◌<ℤ◌, int_lt, if◌then◌else◌, List, [], ◌∷◌, ◌++◌, IsTrue}
+-- Lists of spans that repeat after a period of w seconds, and what the spans of one period say of all later ones.
+use Rattle.std.specs.Prelude.{◌≡◌, ◌↔◌, ℤ, ◌+ℤ◌, ◌≤ℤ◌, ◌<ℤ◌, int_lt, if◌then◌else◌, List, [], ◌∷◌, ◌++◌, IsTrue}
 use Rattle.gtd_core.specs.Seconds.{Interval}
 use Rattle.gtd_spans.specs.Normal.{IsNormal, is_held}
-use Rattle.gtd_eval.specs.Ever.{week}
 use Rattle.gtd_eval.specs.declared.repeat.Stage.{Stage}
 use Rattle.gtd_eval.specs.declared.repeat.Stage.TheVariants.{Learning, Repeating, GivenUp}
 
--- the interval a week later, as far as it is before `until`
-abbrev pub week_later : ℤ → Interval → Interval
-week_later until x = record {
-  from = x.from +ℤ week;
-  until = if int_lt until (x.until +ℤ week) then until else (x.until +ℤ week);
+-- the interval w seconds later, as far as it is before `until`
+abbrev pub later : ℤ → ℤ → Interval → Interval
+later w until x = record {
+  from = x.from +ℤ w;
+  until = if int_lt until (x.until +ℤ w) then until else (x.until +ℤ w);
 }
 
--- the intervals a week later, as far as they are before `until`
-abbrev pub all_week_later : ℤ → List Interval → List Interval
-all_week_later until [] = []
-all_week_later until (x ∷ xs) =
-    if int_lt (x.from +ℤ week) until then week_later until x ∷ all_week_later until xs else []
+-- the intervals w seconds later, as far as they are before `until`
+abbrev pub all_later : ℤ → ℤ → List Interval → List Interval
+all_later w until [] = []
+all_later w until (x ∷ xs) = if int_lt (x.from +ℤ w) until then later w until x ∷ all_later w until xs else []
 
 -- the intervals from the first on that begins after the second
 abbrev pub begun_after : ℤ → List Interval → List Interval
@@ -28,12 +26,12 @@ begun_after b (x ∷ xs) = if int_lt b x.from then x ∷ xs else begun_after b x
 abbrev pub EndBy : ℤ → List Interval → Type 0
 EndBy until xs = (t : ℤ) → IsTrue (is_held xs t) → t <ℤ until
 
--- from the first second on, each second before `until` is held exactly if that of a week before is
-abbrev pub RepeatUntil : ℤ → List Interval → Type 0
-RepeatUntil until xs = (s t : ℤ) → IsTrue (is_held xs s) → s ≤ℤ t → (t +ℤ week) <ℤ until
-    → is_held xs t ≡ is_held xs (t +ℤ week)
+-- from the first second on, each second before `until` is held exactly if the one w seconds before it is
+abbrev pub RepeatUntil : ℤ → ℤ → List Interval → Type 0
+RepeatUntil w until xs = (s t : ℤ) → IsTrue (is_held xs s) → s ≤ℤ t → (t +ℤ w) <ℤ until
+    → is_held xs t ≡ is_held xs (t +ℤ w)
 
--- all spans of a week are kept
+-- all spans of a period are kept
 abbrev pub IsRepeating : Stage → Type 0
 IsRepeating Learning = ⊥
 IsRepeating (Repeating last) = Unit {0}
@@ -46,8 +44,8 @@ to_come (Repeating last) xs = begun_after last.0 xs
 to_come GivenUp xs = xs
 
 -- The kept intervals fit what is to come of the list: while they are learned they stand before it in a list that repeats;
--- after that it is what they and itself are a week later.
-abbrev pub AreKept : Stage → ℤ → List Interval → List Interval → Type 0
-AreKept Learning until kept xs = IsNormal (kept ++ xs) × EndBy until (kept ++ xs) × RepeatUntil until (kept ++ xs)
-AreKept (Repeating last) until kept xs = begun_after last.0 xs ≡ all_week_later until (kept ++ begun_after last.0 xs)
-AreKept GivenUp until kept xs = Unit {0}
+-- after that it is what they and itself are w seconds later.
+abbrev pub AreKept : ℤ → Stage → ℤ → List Interval → List Interval → Type 0
+AreKept w Learning until kept xs = IsNormal (kept ++ xs) × EndBy until (kept ++ xs) × RepeatUntil w until (kept ++ xs)
+AreKept w (Repeating last) until kept xs = begun_after last.0 xs ≡ all_later w until (kept ++ begun_after last.0 xs)
+AreKept w GivenUp until kept xs = Unit {0}

@@ -5,7 +5,7 @@ use Rattle.gtd_core.specs.declared.horizon.Horizon.{Horizon}
 use Rattle.gtd_recur.specs.Work.{work_of}
 
 -- a fixed span or none; the runs of a basic domain in a horizon; what the spans of a tree leave; a tree of which the spans
--- of a week are kept; an operator over two sides
+-- of a period are kept; an operator over two sides
 pub data Shape : Type 0 where
   fixed : Shape
   runs : (basic : Basic) → (horizon : Horizon) → Shape
@@ -13,7 +13,7 @@ pub data Shape : Type 0 where
   repeated : (inner : Shape) → Shape
   two : (left right : Shape) → Shape
 
--- how many nodes it has; what keeps the spans of a week is part of the node that it keeps them of
+-- how many nodes it has; what keeps the spans of a period is part of the node that it keeps them of
 abbrev pub shape_nodes : Shape → ℕ
 shape_nodes fixed = 1
 shape_nodes (runs basic horizon) = 1

@@ -1,6 +1,7 @@
 pub mod CursorFacts
 pub mod TreeDecisions
 pub mod NodeFacts
+pub mod PeriodFacts
 pub mod RepeatProps
 pub mod Repeats
 pub mod SingleFacts

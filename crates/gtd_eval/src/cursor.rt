@@ -5,10 +5,10 @@ ghost use Rattle.gtd_core.specs.Limits.{most_nodes};
 ghost use Rattle.gtd_eval.specs.Nodes.{node_list, node_count, IsSoundNode};
 ghost use Rattle.gtd_eval.specs.facts.NodeFacts.{node_list-normal, IsSoundNode-prop};
 
+use crate::keeping::{is_long, kept_period, repeated, term_period};
 use crate::node::Node;
-use crate::weekly::{is_kept, is_long, is_term_kept, repeated};
 use gtd_core::{Domain, Expr, Horizon, Op, Span};
-use gtd_recur::Runs;
+use gtd_recur::{Period, Runs};
 use gtd_spans::{Gaps, Side, SpanSource};
 use std::alloc::{AllocError, Global};
 
@@ -40,7 +40,7 @@ impl SpanSource for Cursor {
 }
 
 impl Cursor {
-    ghost use Rattle.std.specs.Prelude.{◌+◌, ◌*◌, ◌<◌, ◌^◌, ◌↔◌, [], ◌∷◌, ℕ, ℤ, IfOk, OnOk, vec_len};
+    ghost use Rattle.std.specs.Prelude.{◌+◌, ◌+ℤ◌, ◌*◌, ◌<◌, ◌^◌, ◌↔◌, [], ◌∷◌, ℕ, ℤ, IfOk, OnOk, vec_len};
     ghost use Rattle.gtd_core.specs.Seconds.{Within};
     ghost use Rattle.gtd_core.specs.Parts.{domain_tree};
     ghost use Rattle.gtd_core.specs.Limits.{most_basic_domains};
@@ -50,9 +50,10 @@ impl Cursor {
     ghost use Rattle.gtd_eval.specs.Membership.{InDomain, IsNormalOver};
     ghost use Rattle.gtd_eval.specs.Cursors.{cursor_list, cursor_nodes, cursor_ticks, cursor_height, cursor_work};
     ghost use Rattle.gtd_eval.specs.Cursors.{domain_work, SomeHolds, total_nodes, total_work, NoneHigher};
+    ghost use Rattle.gtd_recur.specs.Periods.{period_seconds};
     ghost use Rattle.gtd_core.specs.declared.domain.Op as declared;
     ghost use Rattle.gtd_eval.specs.Chains as spec;
-    ghost use Rattle.gtd_eval.specs.Chains.{AreTerms, IsBasicChain, IsChainOfLast};
+    ghost use Rattle.gtd_eval.specs.Chains.{AreTerms, IsBasicChain, IsChainOfLast, IsCursorOf};
     ghost use Rattle.gtd_eval.specs.Nodes.{expr_work};
 
     /// The cursor of the seconds of a domain in a horizon. For k basic domains it has 2k - 1 nodes. Its tree is balanced
@@ -75,26 +76,77 @@ impl Cursor {
         ensures height { (op : declared.Op) (k : ℕ) → IsBasicChain op (domain_tree domain.now)
             → leaf_count (domain_tree domain.now) ≤ 2 ^ k → IfOk result (λ c. cursor_height c ≤ k + 1) }
     {
-        let expr = domain.expr();
-        let keep = is_long(horizon);
-        let weekly = is_kept(keep, expr);
+        let Some(period) = kept_period(domain.expr(), horizon) else {
+            return Cursor::tree(alloc, domain, horizon, true);
+        };
+        let cursor = Cursor::tree(alloc, domain, horizon, false)?;
+        Cursor::repeating(alloc, cursor, period, horizon)
+    }
+
+    /// The same cursor, but one that finds each span anew. It is for the first few spans, or for a part of a larger cursor
+    /// that keeps the spans of a period itself.
+    pub fn open_once(alloc: Global, domain: &Domain, horizon: Horizon) -> Result<Cursor, AllocError>
+        ensures normal { IfOk result
+            (λ c. IsNormalOver (InDomain domain.now) horizon (cursor_list c)) }
+        ensures nodes { IfOk result
+            (λ c. cursor_nodes c + 1 ≡ 2 * leaf_count (domain_tree domain.now)) }
+        ensures work { IfOk result (λ c. cursor_work c ≡ domain_work domain.now horizon) }
+        ensures height { (op : declared.Op) (k : ℕ) → IsBasicChain op (domain_tree domain.now)
+            → leaf_count (domain_tree domain.now) ≤ 2 ^ k → IfOk result (λ c. cursor_height c ≤ k + 1) }
+    {
+        Cursor::tree(alloc, domain, horizon, false)
+    }
+
+    // The balanced tree of a domain. If so told, its terms that repeat keep their spans of a period.
+    fn tree(
+        alloc: Global,
+        domain: &Domain,
+        horizon: Horizon,
+        keep: bool,
+    ) -> Result<Cursor, AllocError>
+        ensures cursor { IfOk result (λ c. IsCursorOf domain.now horizon c) }
+    {
         let mut cursors = Vec::new(alloc);
         Cursor::push_terms(
             alloc,
             Op::Union,
-            expr,
+            domain.expr(),
             horizon,
-            keep && !weekly,
+            keep,
             &mut cursors,
         )?;
         let count = cursors.len();
         let node = Cursor::join_last(alloc, Op::Union, &mut cursors, count)?;
-        let node = repeated(alloc, node, weekly, horizon)?;
+        Ok(Cursor { node })
+    }
+
+    /// The same cursor, which keeps the spans of a period and hands them out again, each a period later. The seconds that it
+    /// still hands out must be in the horizon, and repeat after the period as far as the horizon reaches. There is room for
+    /// a few spans of each basic domain; where more come, or where the horizon has fewer than three periods, it finds each
+    /// span anew. After a refusal of memory the cursor is gone.
+    pub fn repeating(
+        alloc: Global,
+        cursor: Cursor,
+        period: Period,
+        horizon: Horizon,
+    ) -> Result<Cursor, AllocError>
+        requires inside { (t : ℤ) → Holds (cursor_list cursor) t → Within (whole horizon) t }
+        requires repeats { (t : ℤ) → Within (whole horizon) t → Within (whole horizon) (t +ℤ period_seconds period)
+            → Holds (cursor_list cursor) t ↔ Holds (cursor_list cursor) (t +ℤ period_seconds period) }
+        ensures list { IfOk result (λ c. cursor_list c ≡ cursor_list cursor) }
+        ensures nodes { IfOk result (λ c. cursor_nodes c ≡ cursor_nodes cursor) }
+        ensures height { IfOk result (λ c. cursor_height c ≡ cursor_height cursor) }
+        ensures work { IfOk result (λ c. cursor_work c ≡ cursor_work cursor) }
+    {
+        if !is_long(period, horizon) {
+            return Ok(cursor);
+        }
+        let node = repeated(alloc, cursor.node, Some(period), horizon)?;
         Ok(Cursor { node })
     }
 
     // Appends cursors for an expression to a list: one for each term of a chain of the operator, and a single one for
-    // an expression of another operator. If so told, a term that repeats weekly keeps its spans of a week.
+    // an expression of another operator. If so told, a term that repeats keeps its spans of a period.
     fn push_terms(
         alloc: Global,
         op: Op,
@@ -107,17 +159,17 @@ impl Cursor {
         ensures terms { OnOk result
             (AreTerms op (tree_of expr.now) horizon (expr_work expr.now horizon) cursors.old.items cursors.new.items) }
     {
-        let weekly = is_term_kept(keep, op, expr);
+        let period = term_period(keep, op, expr, horizon);
         match expr {
             Expr::Leaf(basic) => {
                 let node = Node::Leaf(Runs::new(*basic, horizon));
-                let node = repeated(alloc, node, weekly, horizon)?;
+                let node = repeated(alloc, node, period, horizon)?;
                 cursors.push(Cursor { node })?;
                 Ok(())
             }
             Expr::Join(inner, left, right) => {
                 let before = cursors.len();
-                let keep = keep && !weekly;
+                let keep = keep && period.is_none();
                 Cursor::push_terms(alloc, *inner, left, horizon, keep, cursors)?;
                 Cursor::push_terms(
                     alloc,
@@ -132,7 +184,7 @@ impl Cursor {
                 }
                 let count = cursors.len() - before;
                 let node = Cursor::join_last(alloc, *inner, cursors, count)?;
-                let node = repeated(alloc, node, weekly, horizon)?;
+                let node = repeated(alloc, node, period, horizon)?;
                 cursors.push(Cursor { node })?;
                 Ok(())
             }

@@ -7,6 +7,7 @@ ghost use Rattle.gtd_core.specs.declared.domain.Op.TheVariants.{Union, Meet, Min
 ghost use Rattle.gtd_spans.specs.Normal.{IsNormal, combine};
 ghost use Rattle.gtd_spans.specs.Sides.{side_list, told_list, ComesFirst, Takes};
 ghost use Rattle.gtd_core.specs.Whole.{whole};
+ghost use Rattle.gtd_recur.specs.Periods.{period_seconds};
 ghost use Rattle.gtd_eval.specs.Repeating.{to_come, AreKept};
 ghost use Rattle.gtd_eval.specs.Nodes.{node_list, node_shape, IsSoundNode};
 
@@ -16,7 +17,7 @@ use gtd_recur::Runs;
 use gtd_spans::{Gaps, Side, SpanSource, cut, first_of, longer, share};
 
 /// A tree of operators over fixed spans and the runs of basic domains. A node is of a fixed size, and holds no collection
-/// but the few spans of a week that repeat.
+/// but the few spans of a period that repeat.
 #[derive(Debug, Drop)]
 pub enum Node {
     /// One span, or none.
@@ -25,7 +26,7 @@ pub enum Node {
     Leaf(Runs),
     /// The gaps that the spans of a tree leave in a range of seconds.
     Between(Gaps, Box<Node>),
-    /// A tree that repeats after a week, and its spans of a week.
+    /// A tree that repeats after a period, and its spans of a period.
     Repeat(Repeat, Box<Node>),
     /// An operator over a left and a right side: what is known of each, and its tree.
     Two(Op, Side, Box<Node>, Side, Box<Node>),
@@ -48,7 +49,7 @@ impl Node {
             Node::Fixed(span) => span.take(),
             Node::Leaf(runs) => runs.next(),
             Node::Between(gaps, inner) => next_gap(gaps, inner),
-            Node::Repeat(week, inner) => next_repeated(week, inner),
+            Node::Repeat(again, inner) => next_repeated(again, inner),
             Node::Two(op, x, left, y, right) => match *op {
                 Op::Union => next_of_either(x, left, y, right),
                 Op::Meet => next_of_both(x, left, y, right),
@@ -102,23 +103,25 @@ fn next_gap(gaps: &mut Gaps, inner: &mut Node) -> Option<Span>
     gaps.last()
 }
 
-// The next span of a tree that repeats: from the kept spans, once all of a week are kept.
+// The next span of a tree that repeats: from the kept spans, once all of a period are kept.
 #[cycle(next)]
-fn next_repeated(week: &mut Repeat, inner: &mut Node) -> Option<Span>
+fn next_repeated(again: &mut Repeat, inner: &mut Node) -> Option<Span>
     requires sound { IsSoundNode inner.old }
-    requires kept { AreKept week.old.stage (whole week.old.horizon).until week.old.kept.items (node_list inner.old) }
+    requires kept { AreKept (period_seconds again.old.period) again.old.stage (whole again.old.horizon).until again.old.kept.items
+        (node_list inner.old) }
     ensures sound { IsSoundNode inner.new }
-    ensures kept { AreKept week.new.stage (whole week.new.horizon).until week.new.kept.items (node_list inner.new) }
-    ensures takes { Takes (to_come week.old.stage (node_list inner.old)) result (to_come week.new.stage (node_list inner.new)) }
+    ensures kept { AreKept (period_seconds again.new.period) again.new.stage (whole again.new.horizon).until again.new.kept.items
+        (node_list inner.new) }
+    ensures takes { Takes (to_come again.old.stage (node_list inner.old)) result (to_come again.new.stage (node_list inner.new)) }
     ensures shape { node_shape inner.new ≡ node_shape inner.old }
 {
-    if week.is_repeating() {
-        return week.turn();
+    if again.is_repeating() {
+        return again.turn();
     }
     let Some(span) = inner.next() else {
         return None;
     };
-    week.keep(span);
+    again.keep(span);
     Some(span)
 }
 

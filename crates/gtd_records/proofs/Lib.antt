@@ -6,7 +6,7 @@ pub mod CutFacts
 pub mod ClosingRowFacts
 pub mod FaultFacts
 pub mod WarningFacts
-pub mod WeekFacts
+pub mod PeriodFacts
 pub mod ListedFacts
 pub mod CutBytes
 pub mod CutFile

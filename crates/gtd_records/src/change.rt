@@ -8,7 +8,7 @@ ghost use Rattle.gtd_spans.specs.Change.{IsNextChange, NeverChanges};
 
 use crate::direction::Direction;
 use crate::index::Records;
-use crate::schedule::open_seconds;
+use crate::schedule::open_tree;
 use gtd_core::{Horizon, Sec};
 use gtd_eval::days_to_look;
 use std::alloc::{AllocError, Global};
@@ -32,9 +32,11 @@ fn change_by_spans(
         (NeverChanges (IsOpen records.now element direction vehicle) second.0 (whole horizon).until)
         (λ c. IsNextChange (IsOpen records.now element direction vehicle) second.0 (whole horizon).until c.0)) }
 {
-    let weekly = records.repeats_weekly(element, direction, vehicle);
+    let weekly = records.period(element, direction, vehicle).is_some();
     let days = days_to_look(weekly, second, horizon);
-    let mut open = open_seconds(alloc, records, element, direction, vehicle, days)?;
+    let mut open = open_tree(
+        alloc, records, element, direction, vehicle, days, false,
+    )?;
     Ok(gtd_spans::next_change(&mut open, second, days.until()))
 }
 

@@ -1,12 +1,12 @@
 //! The records of a file in memory, found by their element.
 
-ghost use Rattle.std.specs.Prelude.{◌≡◌, ◌↔◌, ◌<◌, ◌≤◌, ◌+ℤ◌, ℕ, ℤ, List, length, map, IfOk, IsTrue};
+ghost use Rattle.std.specs.Prelude.{◌≡◌, ◌↔◌, ◌<◌, ◌≤◌, ℕ, ℤ, List, length, map, IfOk, IfSome, IsTrue};
 ghost use Rattle.std.specs.List.{AllWithin};
 ghost use Rattle.std.specs.List.Sorted.{IsNonDecreasingBy, IsStrictlyIncreasing};
 ghost use Rattle.gtd_core.specs.Limits.{most_rows};
 ghost use Rattle.gtd_core.specs.Seconds.{IsHorizonSecond, Within};
 ghost use Rattle.gtd_core.specs.Whole.{whole};
-ghost use Rattle.gtd_eval.specs.Ever.{week};
+ghost use Rattle.gtd_eval.specs.Periods.{RepeatsFrom};
 ghost use Rattle.gtd_eval.specs.Stays.{IsStay};
 ghost use Rattle.gtd_records.specs.Closing.{AreElements, IsClosed};
 ghost use Rattle.gtd_records.specs.ClosingRows.{AreClosingRows};
@@ -16,7 +16,7 @@ ghost use Rattle.gtd_records.specs.Columns.{IsSortedSet};
 use crate::direction::Direction;
 use crate::record::Record;
 use gtd_core::{Horizon, Op, Sec};
-use gtd_eval::{Cursor, Stay};
+use gtd_eval::{Cursor, Period, Stay};
 use std::alloc::{AllocError, Global};
 use std::marker::Model;
 
@@ -210,26 +210,27 @@ impl Records {
         stay
     }
 
-    // Whether each record that closes the element in the direction for the vehicle type repeats after 7 days.
-    pub(crate) fn repeats_weekly(&self, element: u64, direction: Direction, vehicle: u8) -> bool
-        ensures weekly { IsTrue result
-            → (t : ℤ) → IsClosed self.now element direction vehicle t
-            ↔ IsClosed self.now element direction vehicle (t +ℤ week) }
+    // The period after which each record that closes the element in the direction for the vehicle type repeats, if all do.
+    pub(crate) fn period(&self, element: u64, direction: Direction, vehicle: u8) -> Option<Period>
+        ensures repeats { IfSome result (λ x. RepeatsFrom x (IsClosed self.now element direction vehicle)) }
     {
         let from = places_below(self.places.as_slice(), element);
+        let mut longest = Period::Minute;
         for place in &self.places[from..] {
             if place.element != element {
-                return true;
+                return Some(longest);
             }
             let restriction = &self.rows[place.row];
-            if restriction.concerns(direction, vehicle) && !restriction.is_weekly() {
-                return false;
+            if restriction.concerns(direction, vehicle) {
+                let period = restriction.period()?;
+                longest = longest.longer(period);
             }
         }
-        true
+        Some(longest)
     }
 
-    // The cursors of the records that close the element in the direction for the vehicle type.
+    // The cursors of the records that close the element in the direction for the vehicle type. If so told, they keep what
+    // repeats in them.
     pub(crate) fn closing(
         &self,
         alloc: Global,
@@ -237,6 +238,7 @@ impl Records {
         direction: Direction,
         vehicle: u8,
         horizon: Horizon,
+        keep: bool,
     ) -> Result<Vec<Cursor>, AllocError>
         ensures { IfOk result (λ cursors. AreClosing self.now element direction vehicle horizon cursors.items) }
     {
@@ -248,7 +250,7 @@ impl Records {
             }
             let restriction = &self.rows[place.row];
             if restriction.concerns(direction, vehicle) {
-                cursors.push(restriction.cursor(alloc, horizon)?)?;
+                cursors.push(restriction.cursor(alloc, horizon, keep)?)?;
             }
         }
         Ok(cursors)

@@ -1,18 +1,18 @@
 //! One restriction record.
 
-ghost use Rattle.std.specs.Prelude.{◌↔◌, ◌≤◌, ◌+ℤ◌, ℤ, IfOk, IsTrue};
+ghost use Rattle.std.specs.Prelude.{◌↔◌, ◌≤◌, ℤ, IfOk, IfSome, IsTrue};
 ghost use Rattle.gtd_core.specs.Seconds.{Within, IsHorizonSecond};
 ghost use Rattle.gtd_core.specs.Whole.{whole};
 ghost use Rattle.gtd_eval.specs.Cursors.{cursor_list, cursor_nodes};
 ghost use Rattle.gtd_records.specs.Closing.{Closes, Concerns, HoldsAt};
-ghost use Rattle.gtd_eval.specs.Ever.{week};
+ghost use Rattle.gtd_eval.specs.Periods.{RepeatsFrom};
 ghost use Rattle.gtd_eval.specs.Stays.{IsStay};
 ghost use Rattle.gtd_spans.specs.Normal.{Holds};
 
 use crate::direction::{Closed, Direction};
 use crate::vehicles::Vehicles;
 use gtd_core::{Domain, Horizon, Sec};
-use gtd_eval::{Cursor, Stay, holds, is_weekly, stay_of};
+use gtd_eval::{Cursor, Period, Stay, holds, period_of, stay_of};
 use std::alloc::{AllocError, Global};
 use std::marker::Model;
 
@@ -94,25 +94,36 @@ impl Record {
         }
     }
 
-    // Whether the seconds at which the record closes what it concerns repeat after 7 days: all do, or those of a domain
-    // whose basic domains repeat.
-    pub(crate) fn is_weekly(&self) -> bool
-        ensures weekly { IsTrue result → (t : ℤ) → HoldsAt self.now.domain t ↔ HoldsAt self.now.domain (t +ℤ week) }
+    // The period after which the seconds repeat at which the record closes what it concerns: all do, or those of a domain
+    // whose basic domains repeat. They repeat after each longer period too.
+    pub(crate) fn period(&self) -> Option<Period>
+        ensures repeats { IfSome result (λ x. RepeatsFrom x (HoldsAt self.now.domain)) }
     {
         let Some(domain) = &self.domain else {
-            return true;
+            return Some(Period::Minute);
         };
-        is_weekly(domain)
+        period_of(domain)
     }
 
-    // The seconds of a horizon at which the record closes what it concerns.
-    pub(crate) fn cursor(&self, alloc: Global, horizon: Horizon) -> Result<Cursor, AllocError>
+    // The seconds of a horizon at which the record closes what it concerns. If so told, what repeats in it is kept.
+    pub(crate) fn cursor(
+        &self,
+        alloc: Global,
+        horizon: Horizon,
+        keep: bool,
+    ) -> Result<Cursor, AllocError>
         ensures seconds { IfOk result (λ c. (t : ℤ) → Holds (cursor_list c) t
             ↔ (Within (whole horizon) t × HoldsAt self.now.domain t)) }
         ensures nodes { IfOk result (λ c. cursor_nodes c ≤ 255) }
     {
         match &self.domain {
-            Some(domain) => Cursor::open(alloc, domain, horizon),
+            Some(domain) => {
+                if keep {
+                    Cursor::open(alloc, domain, horizon)
+                } else {
+                    Cursor::open_once(alloc, domain, horizon)
+                }
+            }
             None => Ok(Cursor::whole(horizon)),
         }
     }

@@ -13,9 +13,27 @@ use gtd_eval::Cursor;
 use gtd_spans::SpanList;
 use std::alloc::{AllocError, Global};
 
+// The same seconds as those of `open_seconds`, each span found anew. If so told, what repeats in the records is kept.
+pub(crate) fn open_tree(
+    alloc: Global,
+    records: &Records,
+    element: u64,
+    direction: Direction,
+    vehicle: u8,
+    horizon: Horizon,
+    keep: bool,
+) -> Result<Cursor, AllocError>
+    ensures seconds { IfOk result
+        (λ c. IsNormalOver (IsOpen records.now element direction vehicle) horizon (cursor_list c)) }
+{
+    let closing = records.closing(alloc, element, direction, vehicle, horizon, keep)?;
+    let closed = Cursor::any(alloc, closing, horizon)?;
+    Cursor::outside(alloc, closed, horizon)
+}
+
 /// The seconds of the horizon in which no record closes the element in the direction for the vehicle type, span by
-/// span. The vehicle type must be from 1 to 99. An element that no record names is open throughout. `AllocError` is
-/// answered only if memory was refused.
+/// span. The vehicle type must be from 1 to 99. An element that no record names is open throughout. Where all its records
+/// repeat, the spans of a period are kept and handed out again. `AllocError` is answered only if memory was refused.
 pub fn open_seconds(
     alloc: Global,
     records: &Records,
@@ -27,9 +45,13 @@ pub fn open_seconds(
     ensures seconds { IfOk result
         (λ c. IsNormalOver (IsOpen records.now element direction vehicle) horizon (cursor_list c)) }
 {
-    let closing = records.closing(alloc, element, direction, vehicle, horizon)?;
-    let closed = Cursor::any(alloc, closing, horizon)?;
-    Cursor::outside(alloc, closed, horizon)
+    let Some(period) = records.period(element, direction, vehicle) else {
+        return open_tree(alloc, records, element, direction, vehicle, horizon, true);
+    };
+    let open = open_tree(
+        alloc, records, element, direction, vehicle, horizon, false,
+    )?;
+    Cursor::repeating(alloc, open, period, horizon)
 }
 
 /// The seconds of the horizon in which no record closes the element in the direction for the vehicle type, which must

@@ -6,6 +6,7 @@ use Rattle.gtd_spans.specs.facts.Combining.{combine-normal}
 use Rattle.gtd_spans.specs.facts.FitsProp.{IsNormal-prop}
 use Rattle.gtd_spans.specs.Sides.{side_list}
 use Rattle.gtd_eval.specs.Nodes.{node_list, IsSoundNode}
+use Rattle.gtd_recur.specs.Periods.{period_seconds}
 use Rattle.gtd_recur.specs.facts.StretchFacts.{runs_between-normal}
 use Rattle.gtd_core.specs.Whole.{whole}
 use Rattle.gtd_eval.specs.facts.RepeatProps.{AreKept-prop, come-normal}
@@ -16,17 +17,17 @@ pub node_list-normal : (n : Node) → IsSoundNode n → IsNormal (node_list n)
 node_list-normal (Fixed span) h = listed-normal span h
 node_list-normal (Leaf runs) h = runs_between-normal _ _ _ _
 node_list-normal (Between' gaps p inner) h = combine-normal Minus _ _
-node_list-normal (Repeat' week p inner) h = come-normal week.stage (node_list inner) (node_list-normal inner h.1)
+node_list-normal (Repeat' again p inner) h = come-normal again.stage (node_list inner) (node_list-normal inner h.1)
 node_list-normal (Two' op x p left y q right) h = combine-normal op _ _
 
 pub IsSoundNode-prop : (n : Node) → IsProp (IsSoundNode n)
 IsSoundNode-prop (Fixed span) = IsSingle-prop span
 IsSoundNode-prop (Leaf runs) = hlevel props
 IsSoundNode-prop (Between' gaps p inner) = IsSoundNode-prop inner
-IsSoundNode-prop (Repeat' week p inner) =
+IsSoundNode-prop (Repeat' again p inner) =
     hlevel (
       props,
-      AreKept-prop week.stage (whole week.horizon).until week.kept.items (node_list inner),
+      AreKept-prop (period_seconds again.period) again.stage (whole again.horizon).until again.kept.items (node_list inner),
       IsSoundNode-prop inner,
     )
 IsSoundNode-prop (Two' op x p left y q right) =

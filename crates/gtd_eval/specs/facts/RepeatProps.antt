@@ -10,10 +10,10 @@ use Rattle.gtd_eval.specs.Repeating.{begun_after, to_come, AreKept}
 use Rattle.gtd_eval.specs.declared.repeat.Stage.{Stage}
 use Rattle.gtd_eval.specs.declared.repeat.Stage.TheVariants.{Learning, Repeating, GivenUp}
 
-pub AreKept-prop : (s : Stage) (until : ℤ) (kept xs : List Interval) → IsProp (AreKept s until kept xs)
-AreKept-prop Learning until kept xs = hlevel (props, IsNormal-prop (kept ++ xs))
-AreKept-prop (Repeating last) until kept xs = hlevel props
-AreKept-prop GivenUp until kept xs = hlevel props
+pub AreKept-prop : (w : ℤ) (s : Stage) (until : ℤ) (kept xs : List Interval) → IsProp (AreKept w s until kept xs)
+AreKept-prop w Learning until kept xs = hlevel (props, IsNormal-prop (kept ++ xs))
+AreKept-prop w (Repeating last) until kept xs = hlevel props
+AreKept-prop w GivenUp until kept xs = hlevel props
 
 begun-normal : (b : ℤ) (xs : List Interval) → IsNormal xs → IsNormal (begun_after b xs)
 begun-normal b [] n = tt

@@ -50,7 +50,7 @@ next_repeated-returns-clause-takes t c =
     let taken = c.in-Some.ensures.takes in
     let normal = rw taken at (node_list-normal c.args.inner.now c.requires.sound) in
     let all = c.keep.ensures.all (node_list c.next.new.self) normal (rw taken at c.requires.kept) in
-    come-all c.args.week.now.stage (node_list c.args.inner.now) (c.if-is_repeating.ensures.no refl) ∙ taken
+    come-all c.args.again.now.stage (node_list c.args.inner.now) (c.if-is_repeating.ensures.no refl) ∙ taken
     ∙ ap (λ (l : List Interval). c.in-Some.span ∷ l) (sym all)
 
 pub next_of_either-returns-in_err-joined-clause-takes : goal.next_of_either-returns-in_err-joined-clause-takes

@@ -3,8 +3,9 @@ use Rattle.gtd_core.specs.Whole.{whole}
 use Rattle.gtd_eval.specs.facts.Repeats.{changes-in}
 use Rattle.gtd_eval.specs.facts.WeekFacts.{changes-to-end}
 use Rattle.gtd_eval.specs.Cursors.{cursor_list}
+use Rattle.gtd_eval.specs.Ever.{week}
 use Rattle.gtd_records.specs.Closing.{IsOpen}
-use Rattle.gtd_records.proofs.WeekFacts.{opened}
+use Rattle.gtd_records.proofs.PeriodFacts.{opened, if-weekly}
 use Rattle.gtd_records.proofs.change.change_by_spans.Goals as goal
 
 pub returns : goal.returns
@@ -14,8 +15,9 @@ returns c =
     let found = changes-in set days.from days.until c.args.second.0 (cursor_list c.in_ok-open.open) c.in_ok-open.ensures.seconds
     c.days_to_look-days.ensures.inside.0 c.next_change.result (rw (← c.until.ensures.value) c.next_change.ensures.change) in
     record {
-      change = changes-to-end set (IsTrue c.repeats_weekly-weekly.result)
-          (λ yes. opened c.args.records.now c.args.element c.args.direction c.args.vehicle
-          (c.repeats_weekly-weekly.ensures.weekly yes)) c.args.second.0 days.until (whole c.args.horizon).until
-          c.days_to_look-days.ensures.within c.days_to_look-days.ensures.until c.next_change.result found;
+      change = changes-to-end set (IsTrue c.is_some-weekly.result)
+          (λ yes. opened c.args.records.now c.args.element c.args.direction c.args.vehicle week
+          (if-weekly c.period.result _ yes c.period.ensures.repeats)) c.args.second.0 days.until
+          (whole c.args.horizon).until c.days_to_look-days.ensures.within c.days_to_look-days.ensures.until
+          c.next_change.result found;
     }

@@ -4,7 +4,7 @@ use Rattle.gtd_core.specs.Trees.{tree_of, leaf_count}
 use Rattle.gtd_eval.specs.Nodes.{expr_work}
 use Rattle.gtd_eval.specs.Chains.{right_of, AreTerms}
 use Rattle.gtd_eval.proofs.Unions.{joined-terms, chain-of-terms, chain-in, chain-low, one-term, chain-nodes, count-of-terms}
-use Rattle.gtd_eval.proofs.Unions.{same-chain, chain-fits, runs-fit, leaf-term}
+use Rattle.gtd_eval.proofs.Unions.{same-chain, chain-fits, runs-fit, leaf-term, kept-if}
 use Rattle.gtd_eval.proofs.cursor.Cursor.+push_terms.Goals as goal
 
 pub returns-then-eq : goal.returns-then-eq
@@ -17,10 +17,11 @@ returns-then-eq t c =
     let same : c.in-Join.inner ≡ c.args.op = search rules in
     record { terms = rw (c.in-Join.is, ← same) (joined-terms c.in-Join.inner _ _ _ _ _ _ _ _ l r) }
 
-pub repeated-requires-clause-weekly : goal.repeated-requires-clause-weekly
-repeated-requires-clause-weekly t c = λ w.
-    runs-fit c.in-Leaf.basic c.args.horizon _ c.new.ensures.normal
-    (rw c.in-Leaf.is at (c.is_term_kept-weekly.ensures.weekly w))
+pub repeated-requires-clause-kept : goal.repeated-requires-clause-kept
+repeated-requires-clause-kept t c =
+    kept-if c.term_period-period.result _ _
+    (λ x r. runs-fit c.in-Leaf.basic c.args.horizon _ x c.new.ensures.normal (rw c.in-Leaf.is at r))
+    c.term_period-period.ensures.repeats
 
 pub returns-in_ok-push-in-Leaf : goal.returns-in_ok-push-in-Leaf
 returns-in_ok-push-in-Leaf t c = record {
@@ -43,8 +44,8 @@ repeated-requires-in-Join-clause-few t c =
     rw c.in-Join.is at c.requires.few in
     omega (arith, chain-nodes _ _ _ _ _ _ _ both chain.1, few)
 
-pub repeated-requires-in-Join-clause-weekly : goal.repeated-requires-in-Join-clause-weekly
-repeated-requires-in-Join-clause-weekly t c =
+pub repeated-requires-in-Join-clause-kept : goal.repeated-requires-in-Join-clause-kept
+repeated-requires-in-Join-clause-kept t c =
     let l : AreTerms c.in-Join.inner (tree_of c.in-Join.left.value) c.args.horizon (expr_work c.in-Join.left.value c.args.horizon)
     c.args.cursors.now.items c.push_terms.new.cursors.items = rw (← c.deref.ensures) c.in_ok-push_terms-in-Join.ensures.terms in
     let r : AreTerms (right_of c.in-Join.inner) (tree_of c.in-Join.right.value) c.args.horizon
@@ -54,7 +55,8 @@ repeated-requires-in-Join-clause-weekly t c =
     let many : c.len.result - c.len-before.result ≡ length both.terms =
     count-of-terms _ _ _ _ _ _ _ _ both (omega (arith, c.len.ensures)) (omega (arith, c.len-before.ensures)) in
     let chain = chain-of-terms _ _ _ _ _ _ _ _ _ both many c.in_ok-node-in-Join.ensures.chain in
-    λ w. chain-fits _ _ _ _ _ _ _ both chain.1 (rw c.in-Join.is at (c.is_term_kept-weekly.ensures.weekly w))
+    kept-if c.term_period-period.result _ _ (λ x r. chain-fits _ _ _ _ _ _ _ x both chain.1 (rw c.in-Join.is at r))
+    c.term_period-period.ensures.repeats
 
 pub invariant_of-push-in-Join : goal.invariant_of-push-in-Join
 invariant_of-push-in-Join t c =

@@ -1,6 +1,6 @@
 use Rattle.gtd_eval.specs.Cursors.{cursor_list}
 use Rattle.gtd_records.proofs.OpenFacts.{ok_both, open_normal}
-use Rattle.gtd_records.proofs.schedule.open_seconds.Goals as goal
+use Rattle.gtd_records.proofs.schedule.open_tree.Goals as goal
 
 pub returns : goal.returns
 returns c = record {

@@ -1,14 +1,14 @@
 use Rattle.std.proofs.Common.{◌≡◌, ◌∙◌, ◌-◌, ◌<◌, sym, ap, subst, arith, rules, ℕ, List, length, take, drop, true, false}
-use Rattle.std.specs.Prelude.{ℤ, ◌+ℤ◌, ◌↔◌, slice_index_or, IsTrue}
-use Rattle.gtd_eval.specs.Ever.{week}
+use Rattle.std.specs.Prelude.{slice_index_or}
+use Rattle.gtd_eval.specs.Periods.{Period, period_seconds, RepeatsFrom}
 use Rattle.gtd_records.specs.Closing.{Concerns, IsClosed, Restriction}
 use Rattle.gtd_records.specs.Index.{ArePlaces}
 use Rattle.gtd_records.specs.declared.index.Place.{Place}
-use Rattle.gtd_records.proofs.WeekFacts.{all_repeat, Repeats}
+use Rattle.gtd_records.proofs.PeriodFacts.{all_repeat, so-far-longer}
 use Rattle.gtd_records.specs.facts.IndexFacts.{any_default, by_le, one_record, part_at, part_past, part_sound, row_placed}
-use Rattle.gtd_records.proofs.index.Records.repeats_weekly.Goals as goal
-use Rattle.gtd_records.proofs.index.Records.repeats_weekly.Goals.{else-concerns-via-then-concerns+else-not-is_weekly}
-use Rattle.gtd_records.proofs.index.Records.repeats_weekly.Goals.{else-concerns-via-else-concerns}
+use Rattle.gtd_records.proofs.index.Records.period.Goals as goal
+use Rattle.gtd_records.proofs.index.Records.period.Goals.{else-concerns-via-then-concerns+else-not-is_weekly}
+use Rattle.gtd_records.proofs.index.Records.period.Goals.{else-concerns-via-else-concerns}
 
 -- what stands past the end
 nowhere : Place
@@ -32,15 +32,14 @@ returns-then-place-element c =
     let all = c.deref.result.now in
     let part = take (length all - from) (drop from all) in
     let i = c.loop-place.place-index in
-    let is = all_repeat rows part c.args.element c.args.direction c.args.vehicle i c.loop-place.invariant
+    let is = all_repeat c.loop-place.longest rows part c.args.element c.args.direction c.args.vehicle i c.loop-place.invariant
     (row_placed rows places all same placed c.args.element from c.places_below-from.ensures.below c.places_below-from.ensures.rest
     i (λ d h e. c.if-place-element.true
     (ap (λ (q : Place). q.element) (any_default part i nowhere d c.loop-place-test.true
     ∙ part_at places all same from i d h) ∙ e))) in
     record {
-      weekly = λ yes. subst (λ (found : List Restriction). (t : ℤ)
-          → IsClosed found c.args.element c.args.direction c.args.vehicle t
-          ↔ IsClosed found c.args.element c.args.direction c.args.vehicle (t +ℤ week)) c.self.view_is is;
+      repeats = subst (λ (found : List Restriction).
+          RepeatsFrom c.loop-place.longest (IsClosed found c.args.element c.args.direction c.args.vehicle)) c.self.view_is is;
     }
 
 pub returns : goal.returns
@@ -54,13 +53,12 @@ returns c =
     let long = ap length same in
     let part = take (length all - from) (drop from all) in
     let i = c.loop-place.place-index in
-    let is = all_repeat rows part c.args.element c.args.direction c.args.vehicle i c.loop-place.invariant
+    let is = all_repeat c.loop-place.longest rows part c.args.element c.args.direction c.args.vehicle i c.loop-place.invariant
     (row_placed rows places all same placed c.args.element from c.places_below-from.ensures.below c.places_below-from.ensures.rest
     i (λ d h e. let past = part_past all from i (omega arith) in omega (arith, past, h, long))) in
     record {
-      weekly = λ yes. subst (λ (found : List Restriction). (t : ℤ)
-          → IsClosed found c.args.element c.args.direction c.args.vehicle t
-          ↔ IsClosed found c.args.element c.args.direction c.args.vehicle (t +ℤ week)) c.self.view_is is;
+      repeats = subst (λ (found : List Restriction).
+          RepeatsFrom c.loop-place.longest (IsClosed found c.args.element c.args.direction c.args.vehicle)) c.self.view_is is;
     }
 
 pub loop-place-preserved : goal.loop-place-preserved

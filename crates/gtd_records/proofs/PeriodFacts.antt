@@ -1,0 +1,74 @@
+-- Records that repeat after a period, found place by place.
+use Rattle.std.proofs.Common.{◌≡◌, true, sym, subst, ◌<◌, ◌↔◌, ℕ, List, length}
+use Rattle.std.specs.Prelude.{ℤ, ◌+ℤ◌, ◌≤ℤ◌, slice_index_or, Option, Some, None, is_some, IfSome}
+use Rattle.gtd_eval.specs.Periods.{Period, Week, period_seconds, RepeatsFrom}
+use Rattle.gtd_eval.specs.facts.PeriodFacts.{from-longer, short-period}
+use Rattle.gtd_eval.specs.Ever.{week}
+use Rattle.gtd_records.specs.Closing.{Closes, Concerns, HoldsAt, IsClosed, IsOpen, Restriction}
+use Rattle.gtd_records.specs.declared.direction.Direction.{Direction}
+use Rattle.gtd_records.specs.declared.index.Place.{Place}
+
+-- the restrictions at the first places repeat from a period on, as far as they close the element
+abbrev pub RepeatSoFar : Period → List Restriction → List Place → ℕ → Direction → ℕ → ℕ → Type 0
+RepeatSoFar x rows part element direction vehicle stop =
+    (k : ℕ) (d : Place) (r : Restriction) → k < stop → slice_index_or rows (slice_index_or part k d).row r ≡ r
+    → r.element ≡ element → Concerns direction vehicle r → RepeatsFrom x (HoldsAt r.domain)
+
+-- and from a longer one on
+pub so-far-longer : (x y : Period) (rows : List Restriction) (part : List Place) (element : ℕ) (direction : Direction)
+    (vehicle stop : ℕ) → period_seconds x ≤ℤ period_seconds y → RepeatSoFar x rows part element direction vehicle stop
+    → RepeatSoFar y rows part element direction vehicle stop
+so-far-longer x y rows part element direction vehicle stop le so = λ k d r less is name concerns.
+    from-longer x y (HoldsAt r.domain) le (so k d r less is name concerns)
+
+-- where these are all of the element, so do the seconds in which it is closed
+pub all_repeat : (x : Period) (rows : List Restriction) (part : List Place) (element : ℕ) (direction : Direction) (vehicle stop : ℕ)
+    → RepeatSoFar x rows part element direction vehicle stop
+    → ((row : ℕ) (r : Restriction) → row < length rows → slice_index_or rows row r ≡ r → r.element ≡ element
+    → (j : ℕ) × (j < stop) × (slice_index_or part j (record { element = r.element; row = row })
+    ≡ record { element = r.element; row = row }))
+    → RepeatsFrom x (IsClosed rows element direction vehicle)
+all_repeat x rows part element direction vehicle stop so placed y le t = (
+  (λ a. (
+    a.0,
+    a.1,
+    a.2,
+    a.3,
+    record {
+      names = a.4.names;
+      concerns = a.4.concerns;
+      holds = (own a.0 a.1 a.2 a.3 a.4.names a.4.concerns y le t).0 a.4.holds;
+    },
+  )),
+  (λ a. (
+    a.0,
+    a.1,
+    a.2,
+    a.3,
+    record {
+      names = a.4.names;
+      concerns = a.4.concerns;
+      holds = (own a.0 a.1 a.2 a.3 a.4.names a.4.concerns y le t).1 a.4.holds;
+    },
+  )),
+)
+  where
+    own : (row : ℕ) (r : Restriction) → row < length rows → slice_index_or rows row r ≡ r → r.element ≡ element
+        → Concerns direction vehicle r → RepeatsFrom x (HoldsAt r.domain)
+    own row r within stands names concerns =
+        let p = placed row r within stands names in
+        so p.0 (record { element = r.element; row = row }) r p.1
+        (subst (λ (q : Place). slice_index_or rows q.row r ≡ r) (sym p.2) stands) names concerns
+
+-- and those in which it is open
+pub opened : (rows : List Restriction) (element : ℕ) (direction : Direction) (vehicle : ℕ) (w : ℤ)
+    → ((t : ℤ) → IsClosed rows element direction vehicle t ↔ IsClosed rows element direction vehicle (t +ℤ w))
+    → (t : ℤ) → IsOpen rows element direction vehicle t ↔ IsOpen rows element direction vehicle (t +ℤ w)
+opened rows element direction vehicle w same t =
+    ((λ free closed. free ((same t).1 closed)), (λ free closed. free ((same t).0 closed)))
+
+-- what repeats after some period repeats weekly
+pub if-weekly : (o : Option Period) (set : ℤ → Type 0) → is_some o ≡ true → IfSome o (λ x. RepeatsFrom x set)
+    → (t : ℤ) → set t ↔ set (t +ℤ week)
+if-weekly None set yes r t = absurd (cc)
+if-weekly (Some x) set yes r t = r Week (short-period x) t

@@ -1,0 +1,9 @@
+use Rattle.gtd_core.specs.Parts.{domain_tree}
+use Rattle.gtd_eval.specs.facts.PeriodFacts.{found-from}
+use Rattle.gtd_records.proofs.record.Record.period.Goals as goal
+
+pub returns : goal.returns
+returns c = record {
+  repeats = rw (← c.self.view_is, c.in-Some.is) (found-from c.period_of.result _
+      (domain_tree c.in-Some.domain) c.period_of.ensures.period);
+}
