@@ -3,7 +3,12 @@ use Rattle.std.proofs.Common.{◌≡◌, true, sym, subst, ◌<◌, ◌↔◌, �
 use Rattle.std.specs.Prelude.{ℤ, ◌+ℤ◌, ◌≤ℤ◌, slice_index_or, Option, Some, None, is_some, IfSome}
 use Rattle.gtd_eval.specs.Periods.{Period, Week, period_seconds, RepeatsFrom}
 use Rattle.gtd_eval.specs.facts.PeriodFacts.{from-longer, short-period}
+use Rattle.gtd_core.specs.Seconds.{Interval, Within}
+use Rattle.gtd_core.specs.Whole.{whole}
+use Rattle.gtd_core.specs.declared.horizon.Horizon.{Horizon}
+use Rattle.gtd_spans.specs.Normal.{Holds}
 use Rattle.gtd_eval.specs.Ever.{week}
+use Rattle.gtd_eval.specs.Membership.{IsNormalOver}
 use Rattle.gtd_records.specs.Closing.{Closes, Concerns, HoldsAt, IsClosed, IsOpen, Restriction}
 use Rattle.gtd_records.specs.declared.direction.Direction.{Direction}
 use Rattle.gtd_records.specs.declared.index.Place.{Place}
@@ -70,5 +75,14 @@ opened rows element direction vehicle w same t =
 -- what repeats after some period repeats weekly
 pub if-weekly : (o : Option Period) (set : ℤ → Type 0) → is_some o ≡ true → IfSome o (λ x. RepeatsFrom x set)
     → (t : ℤ) → set t ↔ set (t +ℤ week)
-if-weekly None set yes r t = absurd (cc)
-if-weekly (Some x) set yes r t = r Week (short-period x) t
+if-weekly None set is r t = absurd (cc)
+if-weekly (Some x) set is r t = r Week (short-period x) t
+
+-- the normal list of the seconds in which an element is open repeats in its horizon
+pub open-repeats : (set : ℤ → Type 0) (h : Horizon) (xs : List Interval) (w : ℤ) → IsNormalOver set h xs
+    → ((t : ℤ) → set t ↔ set (t +ℤ w))
+    → (t : ℤ) → Within (whole h) t → Within (whole h) (t +ℤ w) → Holds xs t ↔ Holds xs (t +ℤ w)
+open-repeats set h xs w n same t now later = (
+  (λ k. n.complete (t +ℤ w) (later.0, later.1, (same t).0 (n.inside t k).2)),
+  (λ k. n.complete t (now.0, now.1, (same t).1 (n.inside (t +ℤ w) k).2)),
+)

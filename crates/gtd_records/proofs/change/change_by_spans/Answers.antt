@@ -1,3 +1,4 @@
+use Rattle.std.proofs.Common.{sym, ◌∙◌}
 use Rattle.std.specs.Prelude.{ℤ, MatchOption, ◌↔◌, ◌⊎◌, ◌+ℤ◌, ◌<ℤ◌, ◌≤ℤ◌, ◌≡◌, IsTrue}
 use Rattle.gtd_core.specs.Whole.{whole}
 use Rattle.gtd_eval.specs.facts.Repeats.{changes-in}
@@ -17,7 +18,7 @@ returns c =
     record {
       change = changes-to-end set (IsTrue c.is_some-weekly.result)
           (λ yes. opened c.args.records.now c.args.element c.args.direction c.args.vehicle week
-          (if-weekly c.period.result _ yes c.period.ensures.repeats)) c.args.second.0 days.until
+          (if-weekly c.period.result _ (sym c.is_some-weekly.ensures ∙ yes) c.period.ensures.repeats)) c.args.second.0 days.until
           (whole c.args.horizon).until c.days_to_look-days.ensures.within c.days_to_look-days.ensures.until
           c.next_change.result found;
     }

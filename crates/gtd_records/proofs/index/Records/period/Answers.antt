@@ -1,14 +1,14 @@
-use Rattle.std.proofs.Common.{◌≡◌, ◌∙◌, ◌-◌, ◌<◌, sym, ap, subst, arith, rules, ℕ, List, length, take, drop, true, false}
+use Rattle.std.proofs.Common.{◌≡◌, ◌∙◌, ◌+◌, ◌-◌, ◌<◌, ◌≤◌, sym, ap, subst, arith, rules, ℕ, List, length, take, drop, true, false}
 use Rattle.std.specs.Prelude.{slice_index_or}
 use Rattle.gtd_eval.specs.Periods.{Period, period_seconds, RepeatsFrom}
-use Rattle.gtd_records.specs.Closing.{Concerns, IsClosed, Restriction}
+use Rattle.gtd_eval.specs.facts.PeriodFacts.{from-longer}
+use Rattle.gtd_records.specs.Closing.{Concerns, HoldsAt, IsClosed, Restriction}
 use Rattle.gtd_records.specs.Index.{ArePlaces}
 use Rattle.gtd_records.specs.declared.index.Place.{Place}
 use Rattle.gtd_records.proofs.PeriodFacts.{all_repeat, so-far-longer}
 use Rattle.gtd_records.specs.facts.IndexFacts.{any_default, by_le, one_record, part_at, part_past, part_sound, row_placed}
 use Rattle.gtd_records.proofs.index.Records.period.Goals as goal
-use Rattle.gtd_records.proofs.index.Records.period.Goals.{else-concerns-via-then-concerns+else-not-is_weekly}
-use Rattle.gtd_records.proofs.index.Records.period.Goals.{else-concerns-via-else-concerns}
+use Rattle.gtd_records.proofs.index.Records.period.Goals.{then-concerns+in_ok-period, else-concerns}
 
 -- what stands past the end
 nowhere : Place
@@ -63,24 +63,34 @@ returns c =
 
 pub loop-place-preserved : goal.loop-place-preserved
 unfolding nowhere
-loop-place-preserved c = λ k d r lt is name concerns.
+loop-place-preserved c =
     let i = c.loop-place.place-index in
     let rows = c.self.inside.rows.items in
     let part = take (length c.deref.result.now - c.places_below-from.result)
     (drop c.places_below-from.result c.deref.result.now) in
-    by_le {P = Repeats r} i k
-    (λ ge.
-    let e : k ≡ i = omega arith in
     let p = part_sound rows c.self.inside.places.items c.deref.result.now c.deref.ensures.value c.self.invariant.placed
     c.places_below-from.result i nowhere c.loop-place-test.true in
-    let at = ap (λ (n : ℕ). slice_index_or part n d) e ∙ any_default part i d nowhere c.loop-place-test.true in
-    let there = subst (λ (q : Place). slice_index_or rows q.row r ≡ r) at is in
     let s = c.index-restriction.result.now in
-    let same : r ≡ s = one_record rows _ r s p.1 there c.index-restriction.ensures in
-    let own = subst (λ (x : Restriction). Concerns c.args.direction c.args.vehicle x) same concerns in
-    let on = c.concerns.ensures.1 own in
-    subst Repeats (sym same) (elim c.else-concerns.branch [
-      | else-concerns-via-then-concerns+else-not-is_weekly w ↦ w.is_weekly.ensures.weekly (search rules)
-      | else-concerns-via-else-concerns w ↦ absurd (search (rules, on))
-    ]))
-    (λ less. c.loop-place.invariant k d r less is name concerns)
+    let old = c.loop-place.invariant in
+    let own : (k : ℕ) (d : Place) (r : Restriction) → k < i + 1 → i ≤ k
+    → slice_index_or rows (slice_index_or part k d).row r ≡ r → r ≡ s =
+    λ k d r lt ge is.
+    let e : k ≡ i = omega arith in
+    let at = ap (λ (n : ℕ). slice_index_or part n d) e ∙ any_default part i d nowhere c.loop-place-test.true in
+    one_record rows _ r s p.1 (subst (λ (q : Place). slice_index_or rows q.row r ≡ r) at is) c.index-restriction.ensures in
+    elim c.if-concerns.branch [
+      | then-concerns+in_ok-period w ↦
+          rw w.longest-is (λ k d r lt is name concerns.
+          by_le {P = RepeatsFrom w.longer-longest.result (HoldsAt r.domain)} i k
+          (λ ge. subst (λ (x : Restriction). RepeatsFrom w.longer-longest.result (HoldsAt x.domain)) (sym (own k d r lt ge is))
+          (from-longer w.in_ok-period.period w.longer-longest.result (HoldsAt s.domain) w.longer-longest.ensures.second
+          w.in_ok-period.ensures.repeats))
+          (λ less. so-far-longer c.loop-place.longest w.longer-longest.result rows part c.args.element c.args.direction c.args.vehicle i
+          w.longer-longest.ensures.first old k d r less is name concerns))
+      | else-concerns w ↦
+          rw w.longest-is (λ k d r lt is name concerns.
+          by_le {P = RepeatsFrom c.loop-place.longest (HoldsAt r.domain)} i k
+          (λ ge. let does = subst (λ (x : Restriction). Concerns c.args.direction c.args.vehicle x) (own k d r lt ge is) concerns in
+          let on = w.if-concerns.ensures.1 does in absurd (search (rules, on)))
+          (λ less. old k d r less is name concerns))
+    ]
