@@ -76,7 +76,10 @@ within-later : (w u : ℤ) (x : Interval) (t : ℤ) → x.from <ℤ x.until → 
 within-later w u x t some before =
     let e = end-later w u x some before in (
       (λ w. (omega (arith, ints, w.1, e.1), (omega (arith, ints, w.0), omega (arith, ints, w.1, e.0)))),
-      (λ h. (omega (arith, ints, h.1.0), elim (e.2) [ inl k ↦ omega (arith, ints, k, h.1.1) | inr k ↦ omega (arith, ints, k, h.0) ])),
+      (λ h. (
+        omega (arith, ints, h.1.0),
+        elim (e.2) [ inl k ↦ omega (arith, ints, k, h.1.1) | inr k ↦ omega (arith, ints, k, h.0) ],
+      )),
     )
 
 -- what is held w seconds later is what was held w seconds before, before the end
@@ -106,7 +109,10 @@ begun-from : (b c : ℤ) (xs rest : List Interval) (x : Interval) → AllBeginAf
 begun-from b c [] rest x a e = absurd (cc)
 begun-from b c (y ∷ ys) rest x a e =
     elim (cases_Bool (int_lt b y.from)) [
-      | inl is ↦ let k : (y ∷ ys) ≡ x ∷ rest = rw is at e in let same : y ≡ x = cc in subst (λ (z : Interval). c <ℤ z.from) same a.0
+      | inl is ↦
+          let k : (y ∷ ys) ≡ x ∷ rest = rw is at e in
+          let same : y ≡ x = cc in
+          subst (λ (z : Interval). c <ℤ z.from) same a.0
       | inr is ↦ let k : begun_after b ys ≡ x ∷ rest = rw is at e in begun-from b c ys rest x a.1 k
     ]
 
@@ -135,7 +141,10 @@ begun-more b (y ∷ ys) rest x n e =
     begun-some b [] rest x n e = absurd (cc)
     begun-some b (y ∷ ys) rest x n e =
         elim (cases_Bool (int_lt b y.from)) [
-          | inl is ↦ let k : (y ∷ ys) ≡ x ∷ rest = rw is at e in let same : y ≡ x = cc in subst (λ (z : Interval). z.from <ℤ z.until) same n.0
+          | inl is ↦
+              let k : (y ∷ ys) ≡ x ∷ rest = rw is at e in
+              let same : y ≡ x = cc in
+              subst (λ (z : Interval). z.from <ℤ z.until) same n.0
           | inr is ↦ let k : begun_after b ys ≡ x ∷ rest = rw is at e in begun-some b ys rest x n.2 k
         ]
 
@@ -310,7 +319,8 @@ turns-late w Learning u kept ks xs first r e h ge = absurd r
 turns-late w (Repeating last) u kept ks xs first r e h ge = turn-late w u last.0 kept ks xs first e h ge
 turns-late w GivenUp u kept ks xs first r e h ge = absurd r
 
-pub turns-none : (w : ℤ) (s : Stage) (u : ℤ) (kept xs : List Interval) → pos 0 <ℤ w → IsRepeating s → kept ≡ [] → AreKept w s u kept xs
+pub turns-none : (w : ℤ) (s : Stage) (u : ℤ) (kept xs : List Interval) → pos 0 <ℤ w → IsRepeating s → kept ≡ []
+    → AreKept w s u kept xs
     → to_come s xs ≡ []
 turns-none w Learning u kept xs some r e h = absurd r
 turns-none w (Repeating last) u kept xs some r e h = turn-none w u last.0 kept xs some e h

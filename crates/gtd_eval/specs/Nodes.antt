@@ -32,7 +32,8 @@ IsSoundNode (Fixed span) = IsSingle span
 IsSoundNode (Leaf leaf) = Unit {0}
 IsSoundNode (Between' gaps p inner) = IsSoundNode inner
 IsSoundNode (Repeat' again p inner) =
-    AreKept (period_seconds again.period) again.stage (whole again.horizon).until again.kept.items (node_list inner) × IsSoundNode inner
+    AreKept (period_seconds again.period) again.stage (whole again.horizon).until again.kept.items
+    (node_list inner) × IsSoundNode inner
 IsSoundNode (Two' op x p left y q right) =
     IsNormal (side_list x (node_list left)) × IsNormal (side_list y (node_list right)) × IsSoundNode left × IsSoundNode right
 

@@ -107,14 +107,7 @@ impl Cursor {
         ensures cursor { IfOk result (λ c. IsCursorOf domain.now horizon c) }
     {
         let mut cursors = Vec::new(alloc);
-        Cursor::push_terms(
-            alloc,
-            Op::Union,
-            domain.expr(),
-            horizon,
-            keep,
-            &mut cursors,
-        )?;
+        Cursor::push_terms(alloc, Op::Union, domain.expr(), horizon, keep, &mut cursors)?;
         let count = cursors.len();
         let node = Cursor::join_last(alloc, Op::Union, &mut cursors, count)?;
         Ok(Cursor { node })

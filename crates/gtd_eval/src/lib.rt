@@ -8,8 +8,8 @@
 pub use cursor::Cursor;
 pub use ever::{EverFault, next_change_ever};
 pub use extent::{Extent, extent_of};
-pub use membership::{holds, is_weekly};
 pub use gtd_recur::Period;
+pub use membership::{holds, is_weekly};
 pub use node::Node;
 pub use period::period_of;
 pub use queries::{next_change, spans};

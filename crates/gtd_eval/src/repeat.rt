@@ -100,7 +100,7 @@ impl Repeat {
         horizon: Horizon,
         room: usize,
     ) -> Result<Repeat, AllocError>
-                ensures none { IfOk result (λ r. r.kept.items ≡ []) }
+        ensures none { IfOk result (λ r. r.kept.items ≡ []) }
         ensures stage { IfOk result (λ r. r.stage ≡ Learning) }
         ensures period { IfOk result (λ r. r.period ≡ period) }
         ensures horizon { IfOk result (λ r. r.horizon ≡ horizon) }

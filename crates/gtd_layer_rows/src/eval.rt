@@ -6,7 +6,7 @@ ghost use Rattle.gtd_eval.specs.Cursors.{cursor_nodes, total_nodes};
 use gtd_core::{
     Basic, Domain, Duration, DurationParts, Expr, Horizon, Op, Sec, Span, Start, StartParts,
 };
-use gtd_eval::{Cursor, EverFault, holds, next_change, next_change_ever, spans};
+use gtd_eval::{Cursor, EverFault, Period, holds, next_change, next_change_ever, period_of, spans};
 use gtd_spans::{SpanList, SpanSource};
 use std::alloc::{AllocError, Global};
 use std::process::Abort;
@@ -333,6 +333,92 @@ fn expressions(rt: HostRuntime) -> Result<(), Fail> {
     let expr = join(alloc, none, Op::Union, clock(&rt, 9, 1))?;
     let wanted = [(midnight + 9 * HOUR, midnight + 10 * HOUR)];
     check(&rt, alloc, expr, MONDAY, MONDAY + 1, &wanted)?;
+    Ok(())
+}
+
+/// The first ten seconds of each minute.
+fn each_minute(rt: &impl Abort) -> Expr {
+    let start = StartParts {
+        second: Some(0),
+        ..StartParts::default()
+    };
+    leaf(rt, start, ten_seconds())
+}
+
+/// The first ten seconds of each hour's second half.
+fn each_half_hour(rt: &impl Abort) -> Expr {
+    let start = StartParts {
+        minute: Some(30),
+        ..StartParts::default()
+    };
+    leaf(rt, start, ten_seconds())
+}
+
+fn ten_seconds() -> DurationParts {
+    DurationParts {
+        seconds: 10,
+        ..DurationParts::default()
+    }
+}
+
+#[test]
+fn periods(rt: HostRuntime) -> Result<(), Fail> {
+    let alloc = rt.alloc();
+    let first_of_may = leaf(&rt, date(5, 1), days(1));
+    let table = [
+        (each_minute(&rt), Some(Period::Minute)),
+        (each_half_hour(&rt), Some(Period::Hour)),
+        (clock(&rt, 10, 4), Some(Period::Day)),
+        (mondays(&rt), Some(Period::Week)),
+        (
+            join(alloc, each_minute(&rt), Op::Minus, clock(&rt, 10, 4))?,
+            Some(Period::Day),
+        ),
+        (
+            join(alloc, mondays(&rt), Op::Union, clock(&rt, 10, 4))?,
+            Some(Period::Week),
+        ),
+        (
+            join(alloc, clock(&rt, 10, 4), Op::Meet, first_of_may)?,
+            None,
+        ),
+        (leaf(&rt, hour(10), months(1)), None),
+    ];
+    for (expr, wanted) in table {
+        assert!(rt; period_of(&domain(&rt, expr)) == wanted);
+    }
+    Ok(())
+}
+
+/// Both cursors hand out the same spans.
+fn check_same(rt: &impl Abort, kept: &mut Cursor, once: &mut Cursor) {
+    for _ in 0..50_000u32 {
+        let span = kept.next();
+        assert!(rt; span == once.next());
+        if span.is_none() {
+            return;
+        }
+    }
+}
+
+#[test]
+fn spans_that_repeat(rt: HostRuntime) -> Result<(), Fail> {
+    let alloc = rt.alloc();
+    let weeks = horizon(&rt, MONDAY + 2, MONDAY + 30);
+    let table = [
+        each_minute(&rt),
+        each_half_hour(&rt),
+        broken_morning(&rt, alloc)?,
+        join(alloc, broken_morning(&rt, alloc)?, Op::Meet, mondays(&rt))?,
+        join(alloc, clock(&rt, 22, 8), Op::Minus, each_minute(&rt))?,
+    ];
+    for expr in table {
+        let domain = domain(&rt, expr);
+        let mut kept = Cursor::open(alloc, &domain, weeks)?;
+        let mut once = Cursor::open_once(alloc, &domain, weeks)?;
+        assert!(rt; kept.nodes() == once.nodes());
+        check_same(&rt, &mut kept, &mut once);
+    }
     Ok(())
 }
 

@@ -27,7 +27,8 @@ so-far-longer x y rows part element direction vehicle stop le so = λ k d r less
     from-longer x y (HoldsAt r.domain) le (so k d r less is name concerns)
 
 -- where these are all of the element, so do the seconds in which it is closed
-pub all_repeat : (x : Period) (rows : List Restriction) (part : List Place) (element : ℕ) (direction : Direction) (vehicle stop : ℕ)
+pub all_repeat : (x : Period) (rows : List Restriction) (part : List Place) (element : ℕ) (direction : Direction)
+    (vehicle stop : ℕ)
     → RepeatSoFar x rows part element direction vehicle stop
     → ((row : ℕ) (r : Restriction) → row < length rows → slice_index_or rows row r ≡ r → r.element ≡ element
     → (j : ℕ) × (j < stop) × (slice_index_or part j (record { element = r.element; row = row })

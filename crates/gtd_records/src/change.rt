@@ -34,9 +34,7 @@ fn change_by_spans(
 {
     let weekly = records.period(element, direction, vehicle).is_some();
     let days = days_to_look(weekly, second, horizon);
-    let mut open = open_tree(
-        alloc, records, element, direction, vehicle, days, false,
-    )?;
+    let mut open = open_tree(alloc, records, element, direction, vehicle, days, false)?;
     Ok(gtd_spans::next_change(&mut open, second, days.until()))
 }
 

@@ -48,9 +48,7 @@ pub fn open_seconds(
     let Some(period) = records.period(element, direction, vehicle) else {
         return open_tree(alloc, records, element, direction, vehicle, horizon, true);
     };
-    let open = open_tree(
-        alloc, records, element, direction, vehicle, horizon, false,
-    )?;
+    let open = open_tree(alloc, records, element, direction, vehicle, horizon, false)?;
     Cursor::repeating(alloc, open, period, horizon)
 }
 

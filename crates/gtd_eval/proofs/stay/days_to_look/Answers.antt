@@ -24,6 +24,7 @@ returns-clause-until c =
     let day : FitsSigned w64 c.day-day.result = search rules in
     let end : FitsSigned w64 c.look_end.result = search rules in
     let last : FitsSigned w64 c.to_day.result = search rules in
-    week_on (IsTrue c.args.weekly) c.args.second.0 c.day-day.result c.look_end.result c.args.horizon.to_day c.in-Ok.days.to_day c.day-day.ensures.on_day.0
+    week_on (IsTrue c.args.weekly) c.args.second.0 c.day-day.result c.look_end.result c.args.horizon.to_day
+    c.in-Ok.days.to_day c.day-day.ensures.on_day.0
     c.day-day.ensures.on_day.1 (c.in-Ok.ensures.horizon.1 ∙ to_z-of_z end)
     (rw (to_z-of_z day, to_z-of_z last, c.to_day.ensures.value) at c.look_end.ensures.end)

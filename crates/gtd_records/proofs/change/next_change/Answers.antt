@@ -13,7 +13,8 @@ loop-preserved c =
       later = omega (arith, ints, c.loop.invariant.later, is.later);
       within = is.within;
       never = next_stays c.args.records.now c.args.element c.args.direction c.args.vehicle c.args.second.0
-          (whole c.args.horizon).until c.stay-first.result c.stay-stay.result c.closed_at.result c.loop.at.0 c.stay-first.ensures.stays is
+          (whole c.args.horizon).until c.stay-first.result c.stay-stay.result c.closed_at.result c.loop.at.0
+          c.stay-first.ensures.stays is
           c.closed_at.ensures.closed same
           c.loop.invariant.later c.loop.invariant.never;
     }

@@ -22,10 +22,10 @@ returns c =
     let chain = (chain-of-terms _ _ _ _ _ _ _ _ _ given many c.in_ok-node.ensures.chain).1 in
     record {
       cursor = record {
-      normal = normal-for (InDomain c.args.domain.now) (whole c.args.horizon).from (whole c.args.horizon).until _
-          (node_list-normal c.in_ok-node.node chain.sound) (chain-in _ _ _ _ _ _ _ given chain);
-      nodes = chain-nodes _ _ _ _ _ _ _ given chain;
-      work = chain.work ∙ given.total;
-      height = union-low _ _ _ _ _ _ given chain;
-          };
+        normal = normal-for (InDomain c.args.domain.now) (whole c.args.horizon).from (whole c.args.horizon).until _
+            (node_list-normal c.in_ok-node.node chain.sound) (chain-in _ _ _ _ _ _ _ given chain);
+        nodes = chain-nodes _ _ _ _ _ _ _ given chain;
+        work = chain.work ∙ given.total;
+        height = union-low _ _ _ _ _ _ given chain;
+      };
     }

@@ -10,7 +10,8 @@ use Rattle.gtd_eval.proofs.repeat.Repeat.begin.Goals as goal
 
 pub returns-then-from-clause-kept : goal.returns-then-from-clause-kept
 returns-then-from-clause-kept c = λ xs h. c.append.ensures.kept xs
-    (subst (λ (l : List Interval). AreKept (period_seconds c.args.self.now.period) Learning (whole c.args.self.now.horizon).until l (c.args.span ∷ xs))
+    (subst (λ (l : List Interval). AreKept (period_seconds c.args.self.now.period) Learning
+    (whole c.args.self.now.horizon).until l (c.args.span ∷ xs))
     (sym c.requires.none) h)
 
 pub returns-else-from-clause-kept : goal.returns-else-from-clause-kept

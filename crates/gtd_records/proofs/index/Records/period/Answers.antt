@@ -1,4 +1,5 @@
-use Rattle.std.proofs.Common.{◌≡◌, ◌∙◌, ◌+◌, ◌-◌, ◌<◌, ◌≤◌, sym, ap, subst, arith, rules, ℕ, List, length, take, drop, true, false}
+use Rattle.std.proofs.Common.{◌≡◌, ◌∙◌, ◌+◌, ◌-◌, ◌<◌, ◌≤◌, sym, ap, subst, arith, rules, ℕ, List, length, take, drop, true}
+use Rattle.std.proofs.Common.{false}
 use Rattle.std.specs.Prelude.{slice_index_or}
 use Rattle.gtd_eval.specs.Periods.{Period, period_seconds, RepeatsFrom}
 use Rattle.gtd_eval.specs.facts.PeriodFacts.{from-longer}
@@ -85,12 +86,14 @@ loop-place-preserved c =
           (λ ge. subst (λ (x : Restriction). RepeatsFrom w.longer-longest.result (HoldsAt x.domain)) (sym (own k d r lt ge is))
           (from-longer w.in_ok-period.period w.longer-longest.result (HoldsAt s.domain) w.longer-longest.ensures.second
           w.in_ok-period.ensures.repeats))
-          (λ less. so-far-longer c.loop-place.longest w.longer-longest.result rows part c.args.element c.args.direction c.args.vehicle i
+          (λ less. so-far-longer c.loop-place.longest w.longer-longest.result rows part c.args.element c.args.direction
+          c.args.vehicle i
           w.longer-longest.ensures.first old k d r less is name concerns))
       | else-concerns w ↦
           rw w.longest-is (λ k d r lt is name concerns.
           by_le {P = RepeatsFrom c.loop-place.longest (HoldsAt r.domain)} i k
-          (λ ge. let does = subst (λ (x : Restriction). Concerns c.args.direction c.args.vehicle x) (own k d r lt ge is) concerns in
+          (λ ge. let does = subst (λ (x : Restriction). Concerns c.args.direction c.args.vehicle x)
+          (own k d r lt ge is) concerns in
           let on = w.if-concerns.ensures.1 does in absurd (search (rules, on)))
           (λ less. old k d r less is name concerns))
     ]
