@@ -1,13 +1,16 @@
 #!/usr/bin/env bash
-# Makes gtd_VERSION_amd64.deb from the proved program, in the folder given (by default the current one). Run it after `rt ci`, or
-# `rt run` in crates/gtd, which proves and builds the program. Version and date are those of the newest release in CHANGELOG.md,
-# and the same program and files give the same bytes. Packagers set the maintainer in the environment variable GTD_MAINTAINER.
+# Makes gtd_VERSION_amd64.deb from the proved programs, in the folder given (by default the current one). Run it after `rt ci`, or
+# `rt run` in crates/gtd and in crates/gtdesk, which proves and builds them. Version and date are those of the newest release in
+# CHANGELOG.md, and the same programs and files give the same bytes. Packagers set the maintainer in the environment variable
+# GTD_MAINTAINER.
 # Usage: packaging/deb.sh [FOLDER]
 set -eu
 into=$(cd "${1:-.}" && pwd)
 top=$(cd "$(dirname "$0")/.." && pwd)
-program=$top/crates/gtd/out/gtd
-[ -x "$program" ] || { echo "no program at $program: run rt ci first" >&2; exit 1; }
+programs=("$top/crates/gtd/out/gtd" "$top/crates/gtdesk/out/gtdesk")
+for program in "${programs[@]}"; do
+    [ -x "$program" ] || { echo "no program at $program: run rt ci first" >&2; exit 1; }
+done
 read -r version released < <(sed -n 's/^## \[\([0-9.]*\)\] - \([0-9-]*\)$/\1 \2/p' "$top/CHANGELOG.md")
 umask 022
 root=$(mktemp -d)
@@ -23,15 +26,18 @@ put() {
     install -m "$mode" "$@" "$folder"
 }
 
-put_program() {
-    put 755 usr/bin "$program"
-    put 644 usr/share/bash-completion/completions "$top/packaging/gtd.bash"
-    mv "$root/usr/share/bash-completion/completions/gtd.bash" "$root/usr/share/bash-completion/completions/gtd"
-    put 644 usr/share/zsh/vendor-completions "$top/packaging/_gtd"
+put_programs() {
+    local name completions=usr/share/bash-completion/completions
+    put 755 usr/bin "${programs[@]}"
+    for name in gtd gtdesk; do
+        put 644 "$completions" "$top/packaging/$name.bash"
+        mv "$root/$completions/$name.bash" "$root/$completions/$name"
+        put 644 usr/share/zsh/vendor-completions "$top/packaging/_$name"
+    done
 }
 
 put_pages() {
-    put 644 usr/share/man/man1 "$top/packaging/gtd.1"
+    put 644 usr/share/man/man1 "$top/packaging/gtd.1" "$top/packaging/gtdesk.1"
     put 644 usr/share/man/man5 "$top/packaging/gtd-files.5"
     put 644 usr/share/man/man7 "$top/packaging/gtd-domain.7"
     gzip -9n "$root"/usr/share/man/man?/*
@@ -55,9 +61,9 @@ put_licence() {
     cat "$top/LICENSE-APACHE"
 }
 
-# The C library must be at least as new as the newest of its symbols that the program names.
+# The C library must be at least as new as the newest of its symbols that the programs name.
 libc_version() {
-    grep -ao 'GLIBC_[0-9.]*[0-9]' "$program" | sort -uV | tail -n 1 | cut -d _ -f 2
+    grep -aoh 'GLIBC_[0-9.]*[0-9]' "${programs[@]}" | sort -uV | tail -n 1 | cut -d _ -f 2
 }
 
 put_control() {
@@ -75,7 +81,10 @@ Priority: optional
 Description: check and evaluate timed road restrictions
  gtd reads files of timed road restrictions, whose times are time domains of
  GDF (ISO 14825:2004), and prints when each road element is open. It also
- checks, prints and evaluates single time domains.
+ checks, prints and evaluates single time domains. gtdesk is its program for
+ people: it says which elements are closed at a moment and by which rows, lists
+ all faults of a file, draws pictures of a year, says in plain English when a
+ time domain holds, and turns opening hours into time domains.
  .
  It needs a processor of the level x86-64-v2.
 END
@@ -87,7 +96,7 @@ set_times() {
     find "$root" -exec touch -h -d "@$SOURCE_DATE_EPOCH" {} +
 }
 
-put_program
+put_programs
 put_pages
 put_documents
 put_control

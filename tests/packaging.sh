@@ -1,13 +1,15 @@
 #!/usr/bin/env bash
 # The Debian package: builds it twice and compares the bytes, installs it in a scratch root, lints the installed man pages,
 # presses Tab in real shells with the installed completions, runs the main job from it on examples/, and removes it.
-# Run it after `rt ci`, which builds the program. It needs Debian's dpkg, and calls tests/setup.sh if a tool is missing.
+# Run it after `rt ci`, which builds the programs. It needs Debian's dpkg, and calls tests/setup.sh if a tool is missing.
 #
 # It installs with `dpkg --root` and not with `dpkg -x`, which only unpacks: so dpkg's own list of files decides what a removal
 # takes away, and the test sees what is left.
 set -u
 top=$(cd "$(dirname "$0")/.." && pwd)
-[ -x "$top/crates/gtd/out/gtd" ] || { echo "no program in crates/gtd/out: run rt ci first" >&2; exit 1; }
+for name in gtd gtdesk; do
+    [ -x "$top/crates/$name/out/$name" ] || { echo "no program in crates/$name/out: run rt ci first" >&2; exit 1; }
+done
 PATH=$PATH:/usr/sbin:/sbin
 for tool in dpkg dpkg-deb mandoc zsh python3 fakeroot; do
     command -v "$tool" > /dev/null && continue
@@ -83,7 +85,10 @@ install_it() {
     make_root
     succeeds 'the package is installed' dpkg_in --install "$deb"
     gives 'dpkg knows it' 'install ok installed' dpkg-query --admindir="$root/var/lib/dpkg" -W -f '${Status}' gtd
-    succeeds 'the program is the proved one' cmp "$root/usr/bin/gtd" "$top/crates/gtd/out/gtd"
+    local name
+    for name in gtd gtdesk; do
+        succeeds "$name is the proved one" cmp "$root/usr/bin/$name" "$top/crates/$name/out/$name"
+    done
     succeeds 'the sums agree' bash -c "cd '$root' && md5sum --quiet -c var/lib/dpkg/info/gtd.md5sums"
     for file in README.md docs/LANGUAGE.md docs/FILES.md examples/restrictions.csv changelog.gz copyright; do
         succeeds "documents: $file" test -s "$root/usr/share/doc/gtd/$file"
@@ -109,11 +114,15 @@ lint() {
 
 lint_pages() {
     lint gtd.1
+    lint gtdesk.1
     lint gtd-files.5
     lint gtd-domain.7
     local command
     for command in $commands; do
         succeeds "gtd(1) has $command" grep -q "^\.It Cm $command " "$room/gtd.1"
+    done
+    for command in $desk_commands; do
+        succeeds "gtdesk(1) has $command" grep -q "^\.It Cm $command " "$room/gtdesk.1"
     done
 }
 
@@ -131,26 +140,44 @@ complete_in() {
     tab "$1" 'gtd year town.csv 103 n' '<year><town.csv><103><negative>'
     tab "$1" 'gtd check restr' '<check><restr>'
     tab "$1" 'gtd schedule town.csv restr' '<schedule><town.csv><restr>'
+    tab "$1" 'gtdesk fau' '<faults>'
+    tab "$1" 'gtdesk help rec' '<help><records>'
+    tab "$1" 'gtdesk faults --w' '<faults><--warn>'
+    tab "$1" 'gtdesk faults --warn restr' '<faults><--warn><restrictions.csv>'
+    tab "$1" 'gtdesk hours --o' '<hours><--of>'
+    tab "$1" 'gtdesk records town.hours' '<records><town.hours.csv>'
+    tab "$1" 'gtdesk picture town.csv 103 p' '<picture><town.csv><103><positive>'
+    tab "$1" 'gtdesk words restr' '<words><restr>'
+    tab "$1" 'gtdesk now town.csv restr' '<now><town.csv><restr>'
 }
 
 # The program does not list its commands, so they are taken from where it names them.
 know_commands() {
     gives "the program's commands" "$(tr ' ' '\n' <<< "$commands" | sort)" \
         bash -c "sed -n 's/.*add_command(alloc, program, \"\([a-z]*\)\").*/\1/p' '$top/crates/gtd_tool/src/arguments.rt' | sort"
+    local source=$top/crates/gtd_desk_plans/src/command_line.rt
+    gives "gtdesk's commands" "$(tr ' ' '\n' <<< "$desk_commands" | sort)" \
+        bash -c "sed -n 's/.*Command::new(alloc, \"\([a-z-]*\)\").*/\1/p' '$source' | grep -vx gtdesk | sort"
 }
 
 complete_words() {
     local bash_file=$root/usr/share/bash-completion/completions/gtd zsh_folder=$root/usr/share/zsh/vendor-completions
     declare -A setup=(
-        [bash]=". $bash_file"
+        [bash]=". $bash_file; . ${bash_file}esk"
         [zsh]="fpath=($zsh_folder \$fpath); autoload -Uz compinit; compinit -u -D"
     )
     gives 'bash: complete -p gtd' 'complete -F _gtd gtd' bash --norc -c ". '$bash_file'; complete -p gtd"
+    gives 'bash: complete -p gtdesk' 'complete -F _gtdesk gtdesk' bash --norc -c ". '${bash_file}esk'; complete -p gtdesk"
     gives 'zsh: the function of gtd' '_gtd' zsh -fc "${setup[zsh]}; echo \$_comps[gtd]"
+    gives 'zsh: the function of gtdesk' '_gtdesk' zsh -fc "${setup[zsh]}; echo \$_comps[gtdesk]"
     gives 'bash: all commands' "$commands" \
         bash --norc -c ". '$bash_file'; COMP_WORDS=(gtd '') COMP_CWORD=1; _gtd; echo \"\${COMPREPLY[*]}\""
     gives 'zsh: all commands' "$commands" \
         bash -c "sed -n \"s/^        '\\([a-z]*\\):.*/\\1/p\" '$zsh_folder/_gtd' | paste -sd ' '"
+    gives 'bash: all commands of gtdesk' "$desk_commands help --help --version" \
+        bash --norc -c ". '${bash_file}esk'; COMP_WORDS=(gtdesk '') COMP_CWORD=1; _gtdesk; echo \"\${COMPREPLY[*]}\""
+    gives 'zsh: all commands of gtdesk' "$desk_commands help" \
+        bash -c "sed -n \"s/^        '\\([a-z-]*\\):.*/\\1/p\" '${zsh_folder}/_gtdesk' | paste -sd ' '"
     complete_in bash
     complete_in zsh
 }
@@ -170,6 +197,8 @@ run_it() {
     makes works.schedule.csv schedule works.csv 2024-06-01 2024-10-01 1
     makes town.year.txt year town.csv 103 positive 11 2024
     makes works.migrated.csv migrate works.csv
+    "$root/usr/bin/gtdesk" records town.hours.csv > "$room/out" 2>&1
+    succeeds 'gtdesk records town.hours.csv' cmp "$room/out" "$top/examples/town.records.csv"
     cd "$top/examples" || exit 1
 }
 
@@ -180,6 +209,7 @@ remove_it() {
 
 # The commands, in the order of the completions.
 commands='schedule year migrate check canon at next ever'
+desk_commands='now faults words hours records picture picture-domain'
 cd "$top/examples" || exit 1
 build_twice
 install_it

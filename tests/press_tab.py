@@ -2,8 +2,8 @@
 """What the Tab key makes of a command line, in a real shell on a pseudo-terminal.
 
 Starts the shell without start-up files, runs the setup line in it, types the text and Tab, waits until the line stops changing,
-and then presses Enter. The setup makes `gtd` a function that prints its words, each in angle brackets, in place of running the
-program: `<year><town.csv>`.
+and then presses Enter. The setup makes `gtd` and `gtdesk` functions that print their words, each in angle brackets, in place of
+running the programs: `<year><town.csv>`.
 
 Usage: tests/press_tab.py bash|zsh SETUP TEXT
 """
@@ -17,7 +17,7 @@ import time
 
 SHELLS = {"bash": ["bash", "--norc", "--noprofile", "-i"], "zsh": ["zsh", "-f", "-i"]}
 READY, BEGIN, END = "ready> ", "[words ", " words]"
-PRINT = "gtd() { printf '\\133words '; printf '<%s>' \"$@\"; printf ' words\\135'; }"
+PRINT = "gtd() { printf '\\133words '; printf '<%s>' \"$@\"; printf ' words\\135'; }; gtdesk() { gtd \"$@\"; }"
 
 
 class Shell:
