@@ -1,4 +1,4 @@
-//! The texts of domains that were read, so that a text that a file repeats is read once.
+//! The texts of domains that a file repeats, so that such a text is not read each time.
 
 ghost use Rattle.std.specs.Prelude.{◌≡◌, ◌<◌, ◌⊎◌, IfOk, IfErr, IfSome, length};
 ghost use Rattle.gtd_core.specs.Parts.{domain_tree};
@@ -15,7 +15,7 @@ use std::marker::Model;
 const PLACES: usize = 1024;
 
 /// The bytes of the longest text that is kept.
-const LONGEST: usize = 128;
+const LONGEST: usize = 256;
 
 /// Memory was refused.
 const NO_MEMORY: TextFault = TextFault {
@@ -67,14 +67,19 @@ impl Model for KnownText {
     ghost invariant = { λ a. StandsFor a.text.items (domain_tree a.domain) × HasNoFault a.text.items };
 }
 
-// The place of a text. Other texts may have the same place.
-fn place_of(text: &[u8]) -> usize
-    ensures { result < 1024 }
-{
+// The bytes of a text, mixed into one number. Few other texts have the same.
+fn mixed(text: &[u8]) -> u32 {
     let mut mixed = 0u32;
     for byte in text {
         mixed = (mixed ^ u32::from(*byte)).wrapping_mul(16_777_619);
     }
+    mixed
+}
+
+// The place of a text with these mixed bytes. Other texts may have the same place.
+fn place_of(mixed: u32) -> usize
+    ensures { result < 1024 }
+{
     (mixed >> 22) as usize
 }
 
@@ -92,10 +97,12 @@ fn known_text(alloc: Global, text: &[u8], domain: &Domain) -> Result<KnownText, 
     })
 }
 
-/// The latest texts that were read, each at its place, with their domains.
+/// The latest texts that were read twice, each at its place, with their domains.
 #[derive(Drop)]
 pub(crate) struct KnownTexts {
     places: Vec<Option<KnownText>>,
+    /// The mixed bytes of the latest text of each place that was read.
+    heard: Vec<u32>,
 }
 
 impl KnownTexts {
@@ -103,15 +110,29 @@ impl KnownTexts {
     pub(crate) fn new(alloc: Global) -> KnownTexts {
         KnownTexts {
             places: Vec::new(alloc),
+            heard: Vec::new(alloc),
         }
     }
 
-    // A copy of the domain of a text, if the text is known.
-    fn find(&self, alloc: Global, text: &[u8]) -> Result<Option<Domain>, AllocError>
+    // Whether the latest text of the same place had the same mixed bytes. From now on, this one is the latest.
+    fn hear(&mut self, mixed: u32) -> Result<bool, AllocError> {
+        for _ in self.heard.len()..PLACES {
+            self.heard.push(0)?;
+        }
+        let Some(latest) = self.heard.get_mut(place_of(mixed)) else {
+            return Ok(false);
+        };
+        let is_heard = *latest == mixed;
+        *latest = mixed;
+        Ok(is_heard)
+    }
+
+    // A copy of the domain of a text with these mixed bytes, if the text is known.
+    fn find(&self, alloc: Global, text: &[u8], mixed: u32) -> Result<Option<Domain>, AllocError>
         ensures { IfOk result (λ found. IfSome found
             (λ domain. StandsFor text.now (domain_tree domain) × HasNoFault text.now)) }
     {
-        let Some(Some(known)) = self.places.get(place_of(text)) else {
+        let Some(Some(known)) = self.places.get(place_of(mixed)) else {
             return Ok(None);
         };
         if known.text.as_slice() != text {
@@ -121,16 +142,26 @@ impl KnownTexts {
         Ok(Some(domain))
     }
 
-    // Keeps a text at its place.
-    fn keep(&mut self, alloc: Global, text: &[u8], domain: &Domain) -> Result<(), AllocError>
+    // Keeps a text with these mixed bytes at its place, if it was read before. A file that repeats no text would only pay
+    // for the copies.
+    fn keep(
+        &mut self,
+        alloc: Global,
+        text: &[u8],
+        mixed: u32,
+        domain: &Domain,
+    ) -> Result<(), AllocError>
         requires found { StandsFor text.now (domain_tree domain.now) }
         requires faultless { HasNoFault text.now }
     {
+        if !self.hear(mixed)? {
+            return Ok(());
+        }
         for _ in self.places.len()..PLACES {
             self.places.push(None)?;
         }
         let known = known_text(alloc, text, domain)?;
-        if let Some(place) = self.places.get_mut(place_of(text)) {
+        if let Some(place) = self.places.get_mut(place_of(mixed)) {
             *place = Some(known);
         }
         Ok(())
@@ -144,13 +175,14 @@ impl KnownTexts {
         if text.len() > LONGEST {
             return read_domain(alloc, text);
         }
-        match self.find(alloc, text) {
+        let mixed = mixed(text);
+        match self.find(alloc, text, mixed) {
             Ok(Some(domain)) => return Ok(domain),
             Ok(None) => {}
             Err(_) => return Err(NO_MEMORY),
         }
         let domain = read_domain(alloc, text)?;
-        match self.keep(alloc, text, &domain) {
+        match self.keep(alloc, text, mixed, &domain) {
             Ok(()) => Ok(domain),
             Err(_) => Err(NO_MEMORY),
         }
