@@ -216,6 +216,9 @@ def many_elements(folder):
     hours = folder.elements("hours", [joined(["(h7){h2}"] * 26)] * MOST_ROWS)
     yield Case("65,536 elements, 26 basic domains in each row, a day", schedule(hours, DAY))
     yield Case("65,536 elements, 26 basic domains in each row, migrated", ["migrate", hours])
+    clocks = [f"(h{n // 3600}m{n // 60 % 60}s{n % 60}){{h2}}" for n in range(MOST_ROWS)]
+    unlike = folder.elements("unlike", [joined(["(h7){h2}"] * 25 + [clock]) for clock in clocks])
+    yield Case("65,536 elements, 26 basic domains in each row, no row like another, a day", schedule(unlike, DAY))
     deep = folder.elements("deep", ["[" * 110 + "(h7){h2}" + "]" * 110] * MOST_ROWS)
     yield Case("65,536 elements, 110 brackets in each row, migrated", ["migrate", deep])
 

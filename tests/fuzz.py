@@ -142,9 +142,14 @@ class Maker:
         return [str(self.random.randint(1, 3)), self.random.choice(["positive", "negative", "both"]), column, domain]
 
     def file(self):
-        """A record file of few elements: its version, and its rows as columns of text."""
+        """A record file of few elements, which may repeat a domain: its version, and its rows as columns of text."""
         version = self.random.choice([1, 2])
-        return version, [self.row(version) for _ in range(self.random.randint(0, 6))]
+        rows = [self.row(version) for _ in range(self.random.randint(0, 6))]
+        if rows and self.random.random() < 0.3:
+            repeated = self.random.choice(rows)[3]
+            for row in self.random.sample(rows, self.random.randint(1, len(rows))):
+                row[3] = repeated
+        return version, rows
 
 
 def is_text(data):

@@ -1,6 +1,7 @@
 -- Lists of spans that repeat after a period of w seconds.
 use Rattle.std.proofs.Common.{◌≡◌, ◌⊎◌, ◌↔◌, ◌∙◌, List, [], ◌∷◌, ◌++◌, refl, sym, ap, subst, inl, inr, arith, Bool, true, false}
-use Rattle.std.proofs.Common.{append_assoc}
+use Rattle.std.proofs.Common.{ℕ, zero, suc, ◌+◌, length, take, drop, set, append_assoc}
+use Rattle.std.proofs.lemmas.List.{append-nil, drop_more, drop_all, length-set, take_all, take_more_set}
 use Rattle.std.proofs.lemmas.Bool.{cases_Bool}
 use Rattle.std.specs.Prelude.{ℤ, pos, ◌+ℤ◌, ◌-ℤ◌, ◌≤ℤ◌, ◌<ℤ◌, int_lt, IsTrue}
 use Rattle.std.proofs.lemmas.Int.{ints, by_lt_z}
@@ -9,7 +10,7 @@ use Rattle.gtd_spans.specs.Normal.{Holds, AllBeginAfter, IsNormal, IsNormalFor, 
 use Rattle.gtd_spans.specs.facts.Combining.{is_held-decides}
 use Rattle.gtd_spans.specs.facts.NormalFor.{normal-of}
 use Rattle.gtd_spans.specs.facts.OneList.{after-holds, first-holds, one-list, same-interval}
-use Rattle.gtd_eval.specs.Repeating.{later, all_later, begun_after, to_come, IsRepeating}
+use Rattle.gtd_eval.specs.Repeating.{later, all_later, begun_after, to_come, IsRepeating, IsPlace}
 use Rattle.gtd_eval.specs.Repeating.{EndBy, RepeatUntil, AreKept}
 use Rattle.gtd_eval.specs.declared.repeat.Stage.{Stage}
 use Rattle.gtd_eval.specs.declared.repeat.Stage.TheVariants.{Learning, Repeating, GivenUp}
@@ -158,6 +159,26 @@ pub kept-more : (w u : ℤ) (kept xs : List Interval) (x : Interval) → AreKept
     → AreKept w Learning u (kept ++ (x ∷ [])) xs
 kept-more w u kept xs x h =
     subst (λ (l : List Interval). IsNormal l × EndBy u l × RepeatUntil w u l) (push-assoc kept xs x) h
+
+-- the same of the list that begins at a place
+pub kept-pushed : (w u : ℤ) (s : Stage) (place : ℕ) (kept now xs : List Interval) (x : Interval) → s ≡ Learning
+    → IsPlace place (length kept) s → now ≡ kept ++ (x ∷ []) → AreKept w s u (drop place kept ++ take place kept) (x ∷ xs)
+    → AreKept w s u (drop place now ++ take place now) xs
+kept-pushed w u Learning zero kept now xs x learning among is h =
+    let same : (kept ++ []) ++ (x ∷ []) ≡ now ++ [] = rw (append-nil kept, append-nil now) (sym is) in
+    subst (λ (l : List Interval). AreKept w Learning u l xs) same (kept-more w u (kept ++ []) xs x h)
+kept-pushed w u Learning (suc n) kept now xs x learning among is h = absurd (among (omega arith)).1
+kept-pushed w u (Repeating last) place kept now xs x learning among is h = absurd (cc)
+kept-pushed w u GivenUp place kept now xs x learning among is h = absurd (cc)
+
+-- a span that takes the place of the last one of the list
+pub put_at_end : (xs : List Interval) (n : ℕ) (y : Interval) → n + 1 ≡ length xs
+    → set xs n y ++ [] ≡ drop 1 (drop n xs ++ take n xs) ++ (y ∷ [])
+put_at_end xs n y e =
+    let first = drop_more xs n y (omega arith) in
+    let others = drop_all (n + 1) xs (omega arith) in
+    let whole = take_all (n + 1) (set xs n y) (omega (arith, length-set xs n y)) in
+    rw (append-nil (set xs n y), first, others) (sym whole ∙ take_more_set xs n y (omega arith))
 
 apart : (x : Interval) (xs : List Interval) (t : ℤ) → IsNormal (x ∷ xs) → x.until ≤ℤ t → is_held (x ∷ xs) t ≡ is_held xs t
 apart x xs t n le =

@@ -2,7 +2,7 @@
 use Rattle.std.proofs.Common.{◌≡◌, ◌↔◌, ℕ, zero, suc, ◌+◌, ◌-◌, ◌*◌, ◌/◌, ◌^◌, ◌<◌, ◌≤◌, List, [], ◌∷◌, ◌++◌, length, sym, ap}
 use Rattle.std.proofs.Common.{refl, ◌∙◌, take, drop, append_assoc, subst, inl, inr, arith, length-append, max}
 use Rattle.std.proofs.Math.Seq.{drop-append_seam, take-append_seam}
-use Rattle.std.specs.Prelude.{ℤ, pos, ◌+ℤ◌, ◌<ℤ◌, Option, Some, None, IfSome}
+use Rattle.std.specs.Prelude.{ℤ, ◌+ℤ◌, Option, Some, None, IfSome}
 use Rattle.std.proofs.lemmas.Int.{ints}
 use Rattle.gtd_core.specs.Seconds.{Interval, Within}
 use Rattle.gtd_core.specs.Trees.{Tree, Single, Joined, leaf_count}

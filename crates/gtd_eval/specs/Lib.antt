@@ -2,6 +2,7 @@ pub mod Chains
 pub mod Cursors
 pub mod Ever
 pub mod Extent
+pub mod Kept
 pub mod Membership
 pub mod Names
 pub mod Nodes

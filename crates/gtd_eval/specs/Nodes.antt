@@ -8,10 +8,9 @@ use Rattle.gtd_spans.specs.Merging.{listed}
 use Rattle.gtd_spans.specs.Gaps.{gaps_left}
 use Rattle.gtd_spans.specs.Normal.{IsNormal, combine}
 use Rattle.gtd_spans.specs.Sides.{side_list}
-use Rattle.gtd_recur.specs.Periods.{period_seconds}
 use Rattle.gtd_recur.specs.RunsToCome.{runs_to_come, runs_basic, runs_horizon, runs_ticks}
-use Rattle.gtd_core.specs.Whole.{whole}
-use Rattle.gtd_eval.specs.Repeating.{to_come, AreKept}
+use Rattle.gtd_eval.specs.Repeating.{to_come}
+use Rattle.gtd_eval.specs.Kept.{HasKept}
 use Rattle.gtd_eval.specs.Shape.{Shape, fixed, runs, between, repeated, two, shape_nodes, shape_height, shape_work}
 use Rattle.gtd_eval.specs.Shape.{shape_size}
 use Rattle.gtd_eval.specs.Single.{IsSingle}
@@ -31,9 +30,7 @@ abbrev pub IsSoundNode : Node → Type 0
 IsSoundNode (Fixed span) = IsSingle span
 IsSoundNode (Leaf leaf) = Unit {0}
 IsSoundNode (Between' gaps p inner) = IsSoundNode inner
-IsSoundNode (Repeat' again p inner) =
-    AreKept (period_seconds again.period) again.stage (whole again.horizon).until again.kept.items
-    (node_list inner) × IsSoundNode inner
+IsSoundNode (Repeat' again p inner) = HasKept again (node_list inner) × IsSoundNode inner
 IsSoundNode (Two' op x p left y q right) =
     IsNormal (side_list x (node_list left)) × IsNormal (side_list y (node_list right)) × IsSoundNode left × IsSoundNode right
 

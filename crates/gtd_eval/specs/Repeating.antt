@@ -1,5 +1,5 @@
 -- Lists of spans that repeat after a period of w seconds, and what the spans of one period say of all later ones.
-use Rattle.std.specs.Prelude.{◌≡◌, ◌↔◌, ℤ, ◌+ℤ◌, ◌≤ℤ◌, ◌<ℤ◌, int_lt, if◌then◌else◌, List, [], ◌∷◌, ◌++◌, IsTrue}
+use Rattle.std.specs.Prelude.{◌≡◌, ℕ, ℤ, ◌<◌, ◌+ℤ◌, ◌≤ℤ◌, ◌<ℤ◌, int_lt, if◌then◌else◌, List, [], ◌∷◌, ◌++◌, IsTrue}
 use Rattle.gtd_core.specs.Seconds.{Interval}
 use Rattle.gtd_spans.specs.Normal.{IsNormal, is_held}
 use Rattle.gtd_eval.specs.declared.repeat.Stage.{Stage}
@@ -36,6 +36,10 @@ abbrev pub IsRepeating : Stage → Type 0
 IsRepeating Learning = ⊥
 IsRepeating (Repeating last) = Unit {0}
 IsRepeating GivenUp = ⊥
+
+-- the place of the first of so many kept intervals: the beginning of the list, until all of a period are kept
+abbrev pub IsPlace : ℕ → ℕ → Stage → Type 0
+IsPlace place count stage = 0 < place → (place < count) × IsRepeating stage
 
 -- what is still to come of a tree's list, at that stage
 abbrev pub to_come : Stage → List Interval → List Interval

@@ -6,9 +6,8 @@ ghost use Rattle.gtd_spans.specs.Gaps.{gaps_left};
 ghost use Rattle.gtd_core.specs.declared.domain.Op.TheVariants.{Union, Meet, Minus};
 ghost use Rattle.gtd_spans.specs.Normal.{IsNormal, combine};
 ghost use Rattle.gtd_spans.specs.Sides.{side_list, told_list, ComesFirst, Takes};
-ghost use Rattle.gtd_core.specs.Whole.{whole};
-ghost use Rattle.gtd_recur.specs.Periods.{period_seconds};
-ghost use Rattle.gtd_eval.specs.Repeating.{to_come, AreKept};
+ghost use Rattle.gtd_eval.specs.Repeating.{to_come};
+ghost use Rattle.gtd_eval.specs.Kept.{HasKept};
 ghost use Rattle.gtd_eval.specs.Nodes.{node_list, node_shape, IsSoundNode};
 
 use crate::repeat::Repeat;
@@ -107,11 +106,9 @@ fn next_gap(gaps: &mut Gaps, inner: &mut Node) -> Option<Span>
 #[cycle(next)]
 fn next_repeated(again: &mut Repeat, inner: &mut Node) -> Option<Span>
     requires sound { IsSoundNode inner.old }
-    requires kept { AreKept (period_seconds again.old.period) again.old.stage (whole again.old.horizon).until again.old.kept.items
-        (node_list inner.old) }
+    requires kept { HasKept again.old (node_list inner.old) }
     ensures sound { IsSoundNode inner.new }
-    ensures kept { AreKept (period_seconds again.new.period) again.new.stage (whole again.new.horizon).until again.new.kept.items
-        (node_list inner.new) }
+    ensures kept { HasKept again.new (node_list inner.new) }
     ensures takes { Takes (to_come again.old.stage (node_list inner.old)) result (to_come again.new.stage (node_list inner.new)) }
     ensures shape { node_shape inner.new ≡ node_shape inner.old }
 {

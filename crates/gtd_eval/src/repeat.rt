@@ -1,15 +1,14 @@
 //! The spans of a period, from which all later ones follow.
 
-ghost use Rattle.std.specs.Prelude.{◌≡◌, ◌↔◌, ◌+ℤ◌, ◌≤ℤ◌, ◌<ℤ◌, MatchOption, IsTrue};
-ghost use Rattle.gtd_core.specs.Whole.{whole};
-ghost use Rattle.gtd_recur.specs.Periods.{period_seconds};
-ghost use Rattle.gtd_eval.specs.Repeating.{later};
+ghost use Rattle.std.specs.Prelude.{◌*ℤ◌, ◌≤ℤ◌, ◌<ℤ◌, pos, length};
+ghost use Rattle.gtd_core.specs.Limits.{day_seconds, first_horizon_day};
+ghost use Rattle.gtd_eval.specs.Ever.{week};
+ghost use Rattle.gtd_eval.specs.Repeating.{IsPlace};
+ghost use Rattle.gtd_eval.specs.facts.RepeatProps.{IsPlace-prop};
 
-use gtd_core::limits::DAY_SECONDS;
 use gtd_core::{Horizon, Sec, Span};
 use gtd_recur::Period;
 use std::alloc::{AllocError, Global};
-use std::collections::VecDeque;
 
 /// What is known of the spans of a period.
 #[derive(Clone, Copy, Debug)]
@@ -22,75 +21,32 @@ pub enum Stage {
     GivenUp,
 }
 
-/// The spans of a period that a tree has handed out, in order, over a horizon.
+/// The spans of a period that a tree has handed out over a horizon. In order they begin at the place, and after the end of the
+/// list they go on at its beginning.
 #[derive(Debug, Drop)]
 pub struct Repeat {
-    pub(crate) kept: VecDeque<Span>,
+    pub(crate) kept: Vec<Span>,
+    pub(crate) place: usize,
     pub(crate) stage: Stage,
-    pub(crate) horizon: Horizon,
-    pub(crate) period: Period,
-}
-
-// Whether the second a period later is before the end of the horizon.
-fn comes_again(second: Sec, period: Period, horizon: Horizon) -> bool
-    ensures before { IsTrue result ↔ ((second.0 +ℤ period_seconds period) <ℤ (whole horizon).until) }
-{
-    let until = horizon.until().0;
-    match period {
-        Period::Minute => second.0 < until - 60,
-        Period::Hour => second.0 < until - 3_600,
-        Period::Day => second.0 < until - DAY_SECONDS,
-        Period::Week => second.0 < until - 7 * DAY_SECONDS,
-    }
-}
-
-// The second a period later, which must be before the end of the horizon.
-fn moved_on(second: Sec, period: Period, horizon: Horizon) -> Sec
-    requires before { (second.0 +ℤ period_seconds period) <ℤ (whole horizon).until }
-    ensures value { result.0 ≡ second.0 +ℤ period_seconds period }
-{
-    let _ = horizon.until();
-    match period {
-        Period::Minute => Sec(second.0 + 60),
-        Period::Hour => Sec(second.0 + 3_600),
-        Period::Day => Sec(second.0 + DAY_SECONDS),
-        Period::Week => Sec(second.0 + 7 * DAY_SECONDS),
-    }
-}
-
-// The span a period later, as far as it is in the horizon.
-fn a_period_later(span: Span, period: Period, horizon: Horizon) -> Option<Span>
-    ensures later { MatchOption result ((whole horizon).until ≤ℤ (span.from +ℤ period_seconds period))
-        (λ x. ((span.from +ℤ period_seconds period) <ℤ (whole horizon).until) × (x ≡ later (period_seconds period) (whole horizon).until span)) }
-{
-    if !comes_again(span.from(), period, horizon) {
-        return None;
-    }
-    let from = moved_on(span.from(), period, horizon);
-    if comes_again(span.until(), period, horizon) {
-        return Some(Span::between(from, moved_on(span.until(), period, horizon)));
-    }
-    Some(Span::between(from, horizon.until()))
-}
-
-// Whether a span begins a period after another.
-fn is_period_after(first: Span, span: Span, period: Period, horizon: Horizon) -> bool
-    ensures after { IsTrue result → span.from ≡ first.from +ℤ period_seconds period }
-{
-    match a_period_later(first, period, horizon) {
-        Some(later) => later.from().0 == span.from().0,
-        None => false,
-    }
+    // In seconds.
+    pub(crate) period: i64,
+    pub(crate) horizon: Span,
+    ghost among: { IsPlace place (length kept.items) stage } by { IsPlace-prop place (length kept.items) stage },
+    ghost some: { pos 0 <ℤ period },
+    ghost short: { period ≤ℤ week },
+    ghost not_early: { (first_horizon_day *ℤ pos day_seconds) ≤ℤ horizon.until },
 }
 
 impl Repeat {
-    ghost use Rattle.std.specs.Prelude.{◌≡◌, ◌<◌, ◌∷◌, ◌++◌, [], List, length, drop, IfOk, IsTrue, IsFalse, MatchOption};
+    ghost use Rattle.std.specs.Prelude.{◌≡◌, ◌+ℤ◌, ◌≤ℤ◌, ◌<ℤ◌, ◌<◌, ◌∷◌, ◌++◌, [], List, length, drop};
+    ghost use Rattle.std.specs.Prelude.{IfOk, IsTrue, IsFalse, MatchOption};
     ghost use Rattle.gtd_core.specs.Seconds.{Interval};
     ghost use Rattle.gtd_core.specs.Whole.{whole};
     ghost use Rattle.gtd_spans.specs.Normal.{IsNormal};
     ghost use Rattle.gtd_spans.specs.Sweeping.{Takes};
     ghost use Rattle.gtd_recur.specs.Periods.{period_seconds};
-    ghost use Rattle.gtd_eval.specs.Repeating.{AreKept, IsRepeating, to_come};
+    ghost use Rattle.gtd_eval.specs.Repeating.{IsRepeating, later, to_come};
+    ghost use Rattle.gtd_eval.specs.Kept.{kept_list, HasKept};
     ghost use Rattle.gtd_eval.specs.declared.repeat.Stage.TheVariants.{Learning, Repeating};
 
     // Room for so many spans, none of which has been kept yet.
@@ -100,17 +56,18 @@ impl Repeat {
         horizon: Horizon,
         room: usize,
     ) -> Result<Repeat, AllocError>
-        ensures none { IfOk result (λ r. r.kept.items ≡ []) }
+        ensures none { IfOk result (λ r. kept_list r ≡ []) }
         ensures stage { IfOk result (λ r. r.stage ≡ Learning) }
-        ensures period { IfOk result (λ r. r.period ≡ period) }
-        ensures horizon { IfOk result (λ r. r.horizon ≡ horizon) }
+        ensures period { IfOk result (λ r. r.period ≡ period_seconds period) }
+        ensures horizon { IfOk result (λ r. r.horizon ≡ whole horizon) }
     {
-        let kept = VecDeque::with_capacity(alloc, room)?;
+        let kept = Vec::with_capacity(alloc, room)?;
         Ok(Repeat {
             kept,
+            place: 0,
             stage: Stage::Learning,
-            horizon,
-            period,
+            period: period.seconds(),
+            horizon: horizon.whole(),
         })
     }
 
@@ -126,44 +83,72 @@ impl Repeat {
         }
     }
 
+    // The span a period later, as far as it is in the horizon.
+    fn a_period_later(&self, span: Span) -> Option<Span>
+        ensures later { MatchOption result (self.now.horizon.until ≤ℤ (span.from +ℤ self.now.period))
+            (λ x. ((span.from +ℤ self.now.period) <ℤ self.now.horizon.until)
+            × (x ≡ later self.now.period self.now.horizon.until span)) }
+    {
+        let from = span.from().0;
+        let until = span.until().0;
+        let end = self.horizon.until();
+        let too_late = end.0 - self.period;
+        if from >= too_late {
+            return None;
+        }
+        if until >= too_late {
+            return Some(Span::between(Sec(from + self.period), end));
+        }
+        Some(Span::between(Sec(from + self.period), Sec(until + self.period)))
+    }
+
+    // Whether a span begins a period after another.
+    fn is_period_after(&self, first: Span, span: Span) -> bool
+        ensures after { IsTrue result → span.from ≡ first.from +ℤ self.now.period }
+    {
+        match self.a_period_later(first) {
+            Some(later) => later.from().0 == span.from().0,
+            None => false,
+        }
+    }
+
     // The first of the kept spans.
     fn first(&self) -> Option<Span>
-        ensures first { MatchOption result (self.now.kept.items ≡ [])
-            (λ x. self.now.kept.items ≡ x ∷ drop 1 self.now.kept.items) }
+        ensures first { MatchOption result (kept_list self.now ≡ [])
+            (λ x. kept_list self.now ≡ x ∷ drop 1 (kept_list self.now)) }
     {
-        match self.kept.front() {
+        match self.kept.get(self.place) {
             Some(first) => Some(*first),
             None => None,
         }
     }
 
-    // The span, which was handed out, takes the place of the first of the kept ones, behind the others.
+    // The span, which was handed out, takes the place of the first of the kept ones, and is the last of them.
+    #[tactic(auto, using(crate::proofs::RepeatLemmas::put_at_end))]
     fn put_last(&mut self, span: Span)
-        requires some { 0 < length self.old.kept.items }
-        ensures kept { self.new.kept.items ≡ drop 1 self.old.kept.items ++ span ∷ [] }
+        requires some { 0 < length (kept_list self.old) }
+        ensures kept { kept_list self.new ≡ drop 1 (kept_list self.old) ++ span ∷ [] }
         ensures stage { self.new.stage ≡ Repeating (record { 0 = span.until }) }
         ensures period { self.new.period ≡ self.old.period }
         ensures horizon { self.new.horizon ≡ self.old.horizon }
     {
         self.stage = Stage::Repeating(span.until());
-        let _ = self.kept.pop_front();
-        let Ok(()) = self.kept.push_back(span) else {
-            unreachable!();
-        };
+        self.kept[self.place] = span;
+        self.place += 1;
+        if self.place == self.kept.len() {
+            self.place = 0;
+        }
     }
 
     // The next span: the first of the kept ones, a period later. It takes that one's place.
     pub(crate) fn turn(&mut self) -> Option<Span>
         requires repeating { IsRepeating self.old.stage }
-        ensures takes { (xs : List Interval) → IsNormal xs
-            → AreKept (period_seconds self.old.period) self.old.stage (whole self.old.horizon).until self.old.kept.items xs
+        ensures takes { (xs : List Interval) → IsNormal xs → HasKept self.old xs
             → Takes (to_come self.old.stage xs) result (to_come self.new.stage xs) }
-        ensures kept { (xs : List Interval) → IsNormal xs
-            → AreKept (period_seconds self.old.period) self.old.stage (whole self.old.horizon).until self.old.kept.items xs
-            → AreKept (period_seconds self.new.period) self.new.stage (whole self.new.horizon).until self.new.kept.items xs }
+        ensures kept { (xs : List Interval) → IsNormal xs → HasKept self.old xs → HasKept self.new xs }
     {
         let first = self.first()?;
-        let span = a_period_later(first, self.period, self.horizon)?;
+        let span = self.a_period_later(first)?;
         self.put_last(span);
         Some(span)
     }
@@ -172,12 +157,9 @@ impl Repeat {
     // are kept.
     pub(crate) fn keep(&mut self, span: Span)
         requires learning { IsRepeating self.old.stage → ⊥ }
-        ensures all { (xs : List Interval) → IsNormal (span ∷ xs)
-            → AreKept (period_seconds self.old.period) self.old.stage (whole self.old.horizon).until self.old.kept.items (span ∷ xs)
+        ensures all { (xs : List Interval) → IsNormal (span ∷ xs) → HasKept self.old (span ∷ xs)
             → to_come self.new.stage xs ≡ xs }
-        ensures kept { (xs : List Interval) → IsNormal (span ∷ xs)
-            → AreKept (period_seconds self.old.period) self.old.stage (whole self.old.horizon).until self.old.kept.items (span ∷ xs)
-            → AreKept (period_seconds self.new.period) self.new.stage (whole self.new.horizon).until self.new.kept.items xs }
+        ensures kept { (xs : List Interval) → IsNormal (span ∷ xs) → HasKept self.old (span ∷ xs) → HasKept self.new xs }
     {
         match self.stage {
             Stage::Repeating(_) => {}
@@ -189,15 +171,13 @@ impl Repeat {
     fn learn(&mut self, span: Span)
         requires learning { self.old.stage ≡ Learning }
         ensures all { (xs : List Interval) → IsNormal (span ∷ xs) → to_come self.new.stage xs ≡ xs }
-        ensures kept { (xs : List Interval) → IsNormal (span ∷ xs)
-            → AreKept (period_seconds self.old.period) Learning (whole self.old.horizon).until self.old.kept.items (span ∷ xs)
-            → AreKept (period_seconds self.new.period) self.new.stage (whole self.new.horizon).until self.new.kept.items xs }
+        ensures kept { (xs : List Interval) → IsNormal (span ∷ xs) → HasKept self.old (span ∷ xs) → HasKept self.new xs }
     {
         let Some(first) = self.first() else {
             self.begin(span);
             return;
         };
-        if is_period_after(first, span, self.period, self.horizon) {
+        if self.is_period_after(first, span) {
             self.put_last(span);
         } else {
             self.append(span);
@@ -207,11 +187,9 @@ impl Repeat {
     // The first span of a horizon may have been cut by its beginning. Then it is not kept, since it would not come again.
     fn begin(&mut self, span: Span)
         requires learning { self.old.stage ≡ Learning }
-        requires none { self.old.kept.items ≡ [] }
+        requires none { kept_list self.old ≡ [] }
         ensures all { (xs : List Interval) → to_come self.new.stage xs ≡ xs }
-        ensures kept { (xs : List Interval)
-            → AreKept (period_seconds self.old.period) Learning (whole self.old.horizon).until [] (span ∷ xs)
-            → AreKept (period_seconds self.new.period) self.new.stage (whole self.new.horizon).until self.new.kept.items xs }
+        ensures kept { (xs : List Interval) → HasKept self.old (span ∷ xs) → HasKept self.new xs }
     {
         if span.from().0 > self.horizon.from().0 {
             self.append(span);
@@ -222,15 +200,13 @@ impl Repeat {
     fn append(&mut self, span: Span)
         requires learning { self.old.stage ≡ Learning }
         ensures all { (xs : List Interval) → to_come self.new.stage xs ≡ xs }
-        ensures kept { (xs : List Interval)
-            → AreKept (period_seconds self.old.period) Learning (whole self.old.horizon).until self.old.kept.items (span ∷ xs)
-            → AreKept (period_seconds self.new.period) self.new.stage (whole self.new.horizon).until self.new.kept.items xs }
+        ensures kept { (xs : List Interval) → HasKept self.old (span ∷ xs) → HasKept self.new xs }
     {
         if self.kept.len() == self.kept.capacity() {
             self.stage = Stage::GivenUp;
             return;
         }
-        if self.kept.push_back(span).is_err() {
+        if self.kept.push(span).is_err() {
             self.stage = Stage::GivenUp;
         }
     }

@@ -5,10 +5,9 @@ use Rattle.gtd_core.specs.declared.domain.Op.TheVariants.{Minus}
 use Rattle.gtd_spans.specs.facts.Combining.{combine-normal}
 use Rattle.gtd_spans.specs.facts.FitsProp.{IsNormal-prop}
 use Rattle.gtd_spans.specs.Sides.{side_list}
+use Rattle.gtd_eval.specs.Kept.{kept_list}
 use Rattle.gtd_eval.specs.Nodes.{node_list, IsSoundNode}
-use Rattle.gtd_recur.specs.Periods.{period_seconds}
 use Rattle.gtd_recur.specs.facts.StretchFacts.{runs_between-normal}
-use Rattle.gtd_core.specs.Whole.{whole}
 use Rattle.gtd_eval.specs.facts.RepeatProps.{AreKept-prop, come-normal}
 use Rattle.gtd_eval.specs.facts.SingleFacts.{IsSingle-prop, listed-normal}
 use Rattle.gtd_eval.specs.declared.node.Node.{Node, Fixed, Leaf, Between', Repeat', Two'}
@@ -27,7 +26,7 @@ IsSoundNode-prop (Between' gaps p inner) = IsSoundNode-prop inner
 IsSoundNode-prop (Repeat' again p inner) =
     hlevel (
       props,
-      AreKept-prop (period_seconds again.period) again.stage (whole again.horizon).until again.kept.items (node_list inner),
+      AreKept-prop again.period again.stage again.horizon.until (kept_list again) (node_list inner),
       IsSoundNode-prop inner,
     )
 IsSoundNode-prop (Two' op x p left y q right) =

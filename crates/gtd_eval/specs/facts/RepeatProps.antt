@@ -1,14 +1,22 @@
 -- Facts of the definitions in `Repeating`.
-use Rattle.std.specs.Prelude.{ℤ, int_lt, List, [], ◌∷◌, ◌++◌}
+use Rattle.std.specs.Prelude.{ℕ, ℤ, int_lt, List, [], ◌∷◌, ◌++◌}
 use Rattle.std.proofs.Common.{inl, inr}
 use Rattle.std.proofs.lemmas.Bool.{cases_Bool}
 use Rattle.std.proofs.Props.{props}
 use Rattle.gtd_core.specs.Seconds.{Interval}
 use Rattle.gtd_spans.specs.Normal.{IsNormal}
 use Rattle.gtd_spans.specs.facts.FitsProp.{IsNormal-prop}
-use Rattle.gtd_eval.specs.Repeating.{begun_after, to_come, AreKept}
+use Rattle.gtd_eval.specs.Repeating.{IsRepeating, IsPlace, begun_after, to_come, AreKept}
 use Rattle.gtd_eval.specs.declared.repeat.Stage.{Stage}
 use Rattle.gtd_eval.specs.declared.repeat.Stage.TheVariants.{Learning, Repeating, GivenUp}
+
+IsRepeating-prop : (stage : Stage) → IsProp (IsRepeating stage)
+IsRepeating-prop Learning = hlevel props
+IsRepeating-prop (Repeating last) = hlevel props
+IsRepeating-prop GivenUp = hlevel props
+
+pub IsPlace-prop : (place count : ℕ) (stage : Stage) → IsProp (IsPlace place count stage)
+IsPlace-prop place count stage = hlevel (props, IsRepeating-prop stage)
 
 pub AreKept-prop : (w : ℤ) (s : Stage) (until : ℤ) (kept xs : List Interval) → IsProp (AreKept w s until kept xs)
 AreKept-prop w Learning until kept xs = hlevel (props, IsNormal-prop (kept ++ xs))
