@@ -85,10 +85,9 @@ unfolding stamp_in
 shapeless text h = unshaped text (ymd_in (take 10 text)) (hms_in (drop 10 text)) (ymd_in-shape (take 10 text))
     (hms_in-shape (drop 10 text)) h
 
--- a text is read in one way alone
-pub stamp_in-only : (text : List ℕ) (r : Result Sec StampFault) → IsReadStamp text r → r ≡ stamp_in text
-stamp_in-only text (Ok x) h =
-    let is = h.0 in
+-- what a text that shows a second is read as
+shown-as : (text : List ℕ) (s : ℤ) → IsStampText s text → stamp_in text ≡ second_in_range s
+shown-as text s is =
     rw (
       numbered text is.year is.month is.day is.hour is.minute is.second is.shown,
       is_date-true (pos is.year) is.month is.day is.date.0,
@@ -96,22 +95,18 @@ stamp_in-only text (Ok x) h =
       ← is.date.1,
       ← is.is,
     )
-    (sym (second_in_range-ok x.0 h.1))
+    refl
+
+-- a text is read in one way alone
+pub stamp_in-only : (text : List ℕ) (r : Result Sec StampFault) → IsReadStamp text r → r ≡ stamp_in text
+stamp_in-only text (Ok x) h = sym (shown-as text x.0 h.0 ∙ second_in_range-ok x.0 h.1)
 stamp_in-only text (Err Shape) h = sym (shapeless text h)
 stamp_in-only text (Err NoSuchDate) (y, m, d, h, min, s, shape, never) =
     let none : (is_date (pos y) m d && is_clock h min s) ≡ false =
     false_from_ne_true (is_date (pos y) m d && is_clock h min s) (λ e. let both = and_parts (is_date (pos y) m d)
     (is_clock h min s) e in never (is_date-parts (pos y) m d both.0) (is_clock-parts h min s both.1)) in
     rw (numbered text y m d h min s shape, none) refl
-stamp_in-only text (Err Range) (s, is, never) =
-    rw (
-      numbered text is.year is.month is.day is.hour is.minute is.second is.shown,
-      is_date-true (pos is.year) is.month is.day is.date.0,
-      is_clock-true is.hour is.minute is.second is.clock,
-      ← is.date.1,
-      ← is.is,
-    )
-    (sym (second_in_range-err s never))
+stamp_in-only text (Err Range) (s, is, never) = sym (shown-as text s is ∙ second_in_range-err s never)
 
 -- and it is read in that way
 pub stamp_in-is : (text : List ℕ) → IsReadStamp text (stamp_in text)

@@ -97,23 +97,28 @@ is_list all types are some is = record {
   each = are_types types (λ n c. member all are n ((is.same n).0 c));
 }
 
+-- the list that a word keeps is that of the vehicle types in order
+module _ (kind : List ℕ → Vehicles) (named : (types : List ℕ) → IsList types → IsNamed (kind types))
+    (ordered : (all : List ℕ) (types : Vehicles) → IsOrdered (kind all) types
+    → (list : List ℕ) × IsSortedSet all list × (types ≡ kind list)) where
+  kind_named : (o : Option (List ℕ)) (given types : Vehicles)
+      → ((all : List ℕ) → o ≡ Some all → AreTypes all × (0 < length all))
+      → option_map kind o ≡ Some given → IsOrdered given types → IsNamed types
+  kind_named None given types are e is = absurd cc
+  kind_named (Some all) given types are e is =
+      let a = are all refl in
+      let same : kind all ≡ given = cc in
+      let o = ordered all types (subst (λ (v : Vehicles). IsOrdered v types) (sym same) is) in
+      subst IsNamed (sym o.2) (named o.0 (is_list all o.0 a.0 a.1 o.1))
+
 only_named : (o : Option (List ℕ)) (given types : Vehicles) → ((all : List ℕ) → o ≡ Some all → AreTypes all × (0 < length all))
     → option_map Only o ≡ Some given → IsOrdered given types → IsNamed types
-only_named None given types are e is = absurd cc
-only_named (Some all) given types are e is =
-    let a = are all refl in
-    let same : Only all ≡ given = cc in
-    let ordered : IsOrdered (Only all) types = subst (λ (v : Vehicles). IsOrdered v types) (sym same) is in
-    subst IsNamed (sym ordered.2) (is_list all ordered.0 a.0 a.1 ordered.1)
+only_named = kind_named Only (λ types l. l) (λ all types o. o)
 
-all_but_named : (o : Option (List ℕ)) (given types : Vehicles) → ((all : List ℕ) → o ≡ Some all → AreTypes all × (0 < length all))
+all_but_named : (o : Option (List ℕ)) (given types : Vehicles) → ((all : List ℕ) → o ≡ Some all → AreTypes all × (0 <
+    length all))
     → option_map AllBut o ≡ Some given → IsOrdered given types → IsNamed types
-all_but_named None given types are e is = absurd cc
-all_but_named (Some all) given types are e is =
-    let a = are all refl in
-    let same : AllBut all ≡ given = cc in
-    let ordered : IsOrdered (AllBut all) types = subst (λ (v : Vehicles). IsOrdered v types) (sym same) is in
-    subst IsNamed (sym ordered.2) (is_list all ordered.0 a.0 a.1 ordered.1)
+all_but_named = kind_named AllBut (λ types l. l) (λ all types o. o)
 
 every_named : (given types : Vehicles) → Some Every ≡ Some given → IsOrdered given types → IsNamed types
 every_named given types e is =

@@ -1,6 +1,6 @@
 -- An accepted file may be cut between two of its rows, byte for byte.
 use Rattle.std.proofs.Common.{◌≡◌, ◌∙◌, sym, ap, refl, subst, arith, ◌≤◌, inl, inr, ℕ, List, [], ◌∷◌, ◌++◌, length}
-use Rattle.std.proofs.Common.{length-append}
+use Rattle.std.proofs.Common.{◌+◌, length-append}
 use Rattle.std.specs.Prelude.{Result, Ok, Err}
 use Rattle.std.proofs.lemmas.Bool.{cases_Bool}
 use Rattle.csv.specs.Reading.{default_config, is_bom, records, strip_bom}
@@ -15,7 +15,6 @@ use Rattle.gtd_records.specs.Closing.{Restriction}
 use Rattle.gtd_records.specs.Table.{IsBetween}
 use Rattle.gtd_records.specs.Columns.{Fields}
 use Rattle.gtd_records.specs.declared.fault.RecordFault.{RecordFault}
-use Rattle.gtd_records.specs.declared.fault.RecordFault.TheVariants as fault
 use Rattle.gtd_records.specs.declared.vehicles.Version.{Version}
 
 strips : (head rest : List ℕ) → 3 ≤ length head → strip_bom (head ++ rest) ≡ strip_bom head ++ rest
@@ -78,19 +77,14 @@ module _ (v : Version) (head : List ℕ) (long : 3 ≤ length head)
         let rows = ap (λ (l : List Fields). header v ∷ l) (cut_records one two between) in
         inl (few, subst (λ (t : List Fields). IsTable t answer) (sym (under (one ++ two) ∙ rows)) is)
 
+    lengths : length (head ++ (one ++ two)) ≡ length head + (length one + length two)
+    lengths = simp (length-append)
+
     few_one : length (head ++ one) ≤ most_file_bytes
-    few_one =
-        let l = length-append head (one ++ two) in
-        let m = length-append one two in
-        let a = length-append head one in
-        omega arith
+    few_one = let a = length-append head one in omega (arith, lengths)
 
     few_two : length (head ++ two) ≤ most_file_bytes
-    few_two =
-        let l = length-append head (one ++ two) in
-        let m = length-append one two in
-        let b = length-append head two in
-        omega arith
+    few_two = let b = length-append head two in omega (arith, lengths)
 
     pub join_files : (first second : List Restriction)
         → length (records default_config one ++ records default_config two) ≤ most_rows

@@ -1,6 +1,6 @@
 -- Each file has an answer.
 use Rattle.std.proofs.Common.{◌≡◌, ◌∙◌, sym, ap, refl, ◌<◌, ◌≤◌, ◌+◌, ◌⊎◌, inl, inr, ℕ, List, [], ◌∷◌, ◌++◌, length, arith}
-use Rattle.std.proofs.Common.{add-zero, append_assoc, length-append, zero, suc}
+use Rattle.std.proofs.Common.{add-zero, append-nil, append_assoc, length-append, zero, suc}
 use Rattle.std.specs.Prelude.{Option, Some, None, MatchOption, Result, Ok, Err}
 use Rattle.std.proofs.lemmas.Bool.{cases_lt, cases_eq}
 use Rattle.csv.specs.Reading.{default_config, records, strip_bom}
@@ -10,8 +10,8 @@ use Rattle.gtd_core.specs.declared.fault.TextFault.{TextFault}
 use Rattle.gtd_text.specs.Reading.{HasNoFault, IsFault, StandsFor}
 use Rattle.gtd_records.specs.Closing.{Restriction}
 use Rattle.gtd_records.specs.Columns.{closed_of, Fields, IsOrdered, number_of, vehicles_of}
-use Rattle.gtd_records.specs.File.{AreRecords, AreRows, FirstFault, IsFile, AreSoundRows, IsTable, header, IsDomainColumn}
-use Rattle.gtd_records.specs.File.{IsFullRow, IsRow, with_domain}
+use Rattle.gtd_records.specs.File.{AreRecords, AreRows, IsFile, IsTable, header, IsDomainColumn}
+use Rattle.gtd_records.specs.File.{IsRow, with_domain}
 use Rattle.gtd_records.specs.declared.direction.Closed.{Closed}
 use Rattle.gtd_records.specs.declared.fault.RecordFault.{RecordFault}
 use Rattle.gtd_records.specs.declared.fault.RecordFault.TheVariants as fault
@@ -185,25 +185,30 @@ module _ (each_text : (text : List ℕ) → ((e : Tree) × StandsFor text e × H
       let a = each_row v k row in
       by_answer v k row rows a.0 a.1 (each_rows v (k + 1) rows)
 
-  -- at most as many rows as may be
-  few_rows : (v : Version) (rows : List Fields) → length rows ≤ most_rows → Records v 1 rows
-      → (answer : Result (List Restriction) RecordFault) × AreRows v rows answer
-  few_rows v rows few (inl r) = (Ok r.0, (few, r.1))
-  few_rows v rows few (inr f) =
-      let all = ap length f.split in
-      let parts = length-append f.before (f.row ∷ f.after) in
+  -- the first fault of some rows is that of all, if they come first
+  at_first : (v : Version) (rows before more : List Fields) → rows ≡ before ++ more → (f : FirstOf v 1 before)
+      → length f.before < most_rows → (answer : Result (List Restriction) RecordFault) × AreRows v rows answer
+  at_first v rows before more split f few =
       let n : 1 + length f.before ≡ length f.before + 1 = omega arith in (
         Err f.why,
         record {
           before = f.before;
           row = f.row;
-          after = f.after;
-          split = f.split;
+          after = f.after ++ more;
+          split = split ∙ ap (λ (l : List Fields). l ++ more) f.split ∙ append_assoc f.before (f.row ∷ f.after) more;
           found = f.found;
-          sound = (omega (arith, few, all, parts), f.sound);
-          fault = inr (omega (arith, few, all, parts), rw (← n) f.fault);
+          sound = (omega arith, f.sound);
+          fault = inr (few, rw (← n) f.fault);
         },
       )
+
+  -- at most as many rows as may be
+  few_rows : (v : Version) (rows : List Fields) → length rows ≤ most_rows → Records v 1 rows
+      → (answer : Result (List Restriction) RecordFault) × AreRows v rows answer
+  few_rows v rows few (inl r) = (Ok r.0, (few, r.1))
+  few_rows v rows few (inr f) =
+      let all = ap length f.split ∙ length-append f.before (f.row ∷ f.after) in
+      at_first v rows rows [] (sym (append-nil rows)) f (omega (arith, few, all))
 
   -- more of them: those that may be, and the next
   many_rows : (v : Version) (rows before : List Fields) (row : Fields) (after : List Fields) → rows ≡ before ++ row ∷ after
@@ -221,21 +226,8 @@ module _ (each_text : (text : List ℕ) → ((e : Tree) × StandsFor text e × H
     },
   )
   many_rows v rows before row after split many (inr f) =
-      let all = ap length f.split in
-      let parts = length-append f.before (f.row ∷ f.after) in
-      let n : 1 + length f.before ≡ length f.before + 1 = omega arith in (
-        Err f.why,
-        record {
-          before = f.before;
-          row = f.row;
-          after = f.after ++ row ∷ after;
-          split = split ∙ ap (λ (l : List Fields). l ++ row ∷ after) f.split
-              ∙ append_assoc f.before (f.row ∷ f.after) (row ∷ after);
-          found = f.found;
-          sound = (omega (arith, many, all, parts), f.sound);
-          fault = inr (omega (arith, many, all, parts), rw (← n) f.fault);
-        },
-      )
+      let all = ap length f.split ∙ length-append f.before (f.row ∷ f.after) in
+      at_first v rows before (row ∷ after) split f (omega (arith, many, all))
 
   all_rows : (v : Version) (rows : List Fields) → (answer : Result (List Restriction) RecordFault) × AreRows v rows answer
   all_rows v rows =

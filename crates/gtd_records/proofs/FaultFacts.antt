@@ -1,5 +1,5 @@
 -- All faults of a record file.
-use Rattle.std.proofs.Common.{◌≡◌, ◌∙◌, sym, ap, refl, subst, arith, ◌<◌, ◌≤◌, ◌+◌, ◌⊎◌, inl, inr, ◌↔◌, ℕ, true, false, List}
+use Rattle.std.proofs.Common.{◌≡◌, ◌∙◌, sym, ap, refl, subst, arith, ◌<◌, ◌≤◌, ◌+◌, ◌⊎◌, inl, inr, ◌↔◌, ℕ, true, List}
 use Rattle.std.proofs.Common.{[], ◌∷◌, ◌++◌, length, length-append, append_assoc, add-zero, Option}
 use Rattle.std.specs.Prelude.{Result, Ok, Err}
 use Rattle.std.proofs.lemmas.List.{append-nil}
@@ -9,6 +9,7 @@ use Rattle.gtd_records.specs.Faults.{AreFaults, AreFileFaults, AreRowFaults, Are
 use Rattle.gtd_core.specs.Limits.{most_file_bytes, most_rows}
 use Rattle.gtd_records.specs.File.{AreRecords, FirstFault, IsFile, AreSoundRows, IsTable, header, IsRow}
 use Rattle.gtd_records.specs.Closing.{Restriction}
+use Rattle.gtd_records.specs.facts.RowsRead.{IsListing, RowsRead, all_read, none_read, row_left, row_read}
 use Rattle.gtd_records.specs.Table.{HasLeft, TakesFirst}
 use Rattle.gtd_records.specs.Columns.{Fields}
 use Rattle.gtd_records.specs.declared.fault.RecordFault.{RecordFault}
@@ -189,78 +190,46 @@ first_listed bytes why rest (inr p) = inr (p.0, head why fault.TooLarge rest (p.
 
 -- ---- the rows that were read so far
 
--- the rows are those that were read with these faults, and those that the reader has left; the next has this number
-pub record FaultsSoFar (v : Version) {R : Type 0} (rem : R → Option (List ℕ)) (reader : Reader R) (rows : List Fields)
-    (faults : List RecordFault) (number : ℕ) : Type 0 where
-  pub before : List Fields
-  pub left : List Fields
-  pub split : rows ≡ before ++ left
-  pub has : HasLeft rem reader left
-  pub each : AreRowFaults v 1 before faults
-  pub count : length before + 1 ≡ number
-
 with_append : (a : Result Restriction RecordFault) (rest more : List RecordFault) → with_fault a rest ++ more
     ≡ with_fault a (rest ++ more)
 with_append (Ok r) rest more = refl
 with_append (Err why) rest more = refl
 
-one_more : (v : Version) (k : ℕ) (before : List Fields) (faults : List RecordFault) (row : Fields)
-    (a : Result Restriction RecordFault)
-    → AreRowFaults v k before faults → IsRow v (k + length before) row a
-    → AreRowFaults v k (before ++ row ∷ []) (faults ++ with_fault a [])
-one_more v k [] faults row a each is =
-    let at : IsRow v k row a = rw (add-zero k) at is in
-    (a, [], at, refl, ap (λ (f : List RecordFault). f ++ with_fault a []) each)
-one_more v k (b ∷ before) faults row a each is =
-    let at : IsRow v (k + 1 + length before) row a = (let e : k + length (b ∷ before) ≡ k + 1 + length before = omega arith in
-    rw e at is) in (
-      each.0,
-      each.1 ++ with_fault a [],
-      each.2,
-      one_more v (k + 1) before each.1 row a each.3 at,
-      ap (λ (f : List RecordFault). f ++ with_fault a []) each.4 ∙ with_append each.0 each.1 (with_fault a []),
-    )
+faults_listed : (v : Version) → IsListing with_fault (IsRow v) (AreRowFaults v)
+faults_listed v = record { joins = with_append; none = λ k l. ((λ e. e), (λ e. e)); more = λ k r rs l. ((λ a. a), (λ a. a)) }
+
+-- the rows are those that were read with these faults, and those that the reader has left; the next has this number
+abbrev pub FaultsSoFar : Version → {R : Type 0} → (R → Option (List ℕ)) → Reader R → List Fields → List RecordFault → ℕ → Type 0
+FaultsSoFar v rem reader rows faults number = RowsRead (AreRowFaults v) rem reader rows faults number
 
 module _ (v : Version) {R : Type 0} (rem : R → Option (List ℕ)) (old : Reader R) (rows : List Fields) where
   pub faults_at_start : HasLeft rem old rows → FaultsSoFar v rem old rows [] 1
-  faults_at_start has = record { before = []; left = rows; split = refl; has = has; each = refl; count = refl }
+  faults_at_start has = none_read _ _ _ (faults_listed v) rem old rows has
 
   pub faults_after_row : (new : Reader R) (faults : List RecordFault) (number : ℕ) (fields : Fields)
       (a : Result Restriction RecordFault)
       → FaultsSoFar v rem old rows faults number → TakesFirst rem old new true fields → IsRow v number fields a
       → FaultsSoFar v rem new rows (faults ++ with_fault a []) (number + 1)
   faults_after_row new faults number fields a far takes is =
-      let t = takes far.left far.has in
-      let e : 1 + length far.before ≡ number = (let c = far.count in omega arith) in
-      record {
-        before = far.before ++ fields ∷ [];
-        left = t.0;
-        split = far.split ∙ ap (λ (l : List Fields). far.before ++ l) t.1 ∙ sym (append_assoc far.before (fields ∷ []) t.0);
-        has = t.2;
-        each = one_more v 1 far.before faults fields a far.each (rw e is);
-        count = (let c = far.count in let l = length-append far.before (fields ∷ []) in omega arith);
-      }
+      row_read _ _ _ (faults_listed v) rem old new rows faults number fields a far takes is
 
-  pub faults_at_end : (new : Reader R) (faults : List RecordFault) (number : ℕ) (fields : Fields)
-      → FaultsSoFar v rem old rows faults number → number ≤ most_rows + 1 → TakesFirst rem old new false fields
-      → AreFaults v rows faults
-  faults_at_end new faults number fields far few takes =
-      let nil = takes far.left far.has in
-      let all : rows ≡ far.before = far.split ∙ ap (λ (l : List Fields). far.before ++ l) nil ∙ append-nil far.before in
-      let count = far.count in
-      rw all (inl (omega arith, far.each))
+  pub faults_at_end : (faults : List RecordFault) (number : ℕ) → FaultsSoFar v rem old rows faults number → number ≤
+      most_rows + 1
+      → ((left : List Fields) → HasLeft rem old left → left ≡ []) → AreFaults v rows faults
+  faults_at_end faults number far few none =
+      let all = all_read (AreRowFaults v) rem old rows faults number far none in inl (omega (arith, all.0, few), all.1)
 
   pub faults_too_many : (new : Reader R) (faults : List RecordFault) (fields : Fields)
       → FaultsSoFar v rem old rows faults (most_rows + 1) → TakesFirst rem old new true fields
       → AreFaults v rows (faults ++ (fault.TooManyRows ∷ []))
   faults_too_many new faults fields far takes =
-      let t = takes far.left far.has in
+      let next = row_left (AreRowFaults v) rem old rows faults (most_rows + 1) far new fields takes in
       let count = far.count in
       inr (record {
         before = far.before;
         row = fields;
-        after = t.0;
-        split = far.split ∙ ap (λ (l : List Fields). far.before ++ l) t.1;
+        after = next.0;
+        split = next.1;
         many = omega arith;
         listed = faults;
         each = far.each;

@@ -15,3 +15,5 @@ pub mod DomainTexts
 pub mod SortedCodes
 pub mod EachFile
 pub mod StayFacts
+pub mod FoundPlaces
+pub mod SortedSets

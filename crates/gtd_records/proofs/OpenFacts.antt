@@ -1,6 +1,6 @@
 -- The cursors of the restrictions that close an element.
-use Rattle.std.proofs.Common.{◌≡◌, ◌∙◌, sym, ap, subst, ◌<◌, ◌+◌, ◌⊎◌, inl, inr, ◌↔◌, ℕ, List, [], ◌∷◌, ◌++◌, length, arith}
-use Rattle.std.specs.Prelude.{Any, slice_index_or, ℤ, Result, Ok, Err, IfOk}
+use Rattle.std.proofs.Common.{◌≡◌, ◌∙◌, sym, ap, subst, ◌<◌, ◌≤◌, ◌+◌, ◌⊎◌, inl, inr, ◌↔◌, ℕ, List, [], ◌∷◌, ◌++◌, length, arith}
+use Rattle.std.specs.Prelude.{slice_index_or, ℤ, Result, Ok, Err, IfOk}
 use Rattle.gtd_core.specs.Seconds.{Interval, Within}
 use Rattle.gtd_core.specs.Whole.{whole}
 use Rattle.gtd_core.specs.declared.horizon.Horizon.{Horizon}
@@ -10,6 +10,10 @@ use Rattle.gtd_eval.specs.declared.cursor.Cursor.{Cursor}
 use Rattle.gtd_spans.specs.Normal.{Holds, IsNormal}
 use Rattle.gtd_spans.specs.facts.NormalFor.{normal-for}
 use Rattle.gtd_records.specs.facts.IndexFacts.{any_default, by_le, one_record}
+use Rattle.gtd_core.specs.Limits.{most_nodes}
+use Rattle.gtd_eval.specs.Cursors.{total_nodes}
+use Rattle.gtd_records.proofs.FoundPlaces.{AllSeen, none_of_seen}
+use Rattle.gtd_records.specs.Index.{AreClosing}
 use Rattle.gtd_records.specs.Closing.{Closes, Concerns, HoldsAt, IsClosed, IsOpen, Restriction}
 use Rattle.gtd_records.specs.declared.index.Place.{Place}
 use Rattle.gtd_records.specs.declared.direction.Direction.{Direction}
@@ -86,11 +90,16 @@ module _ (rows : List Restriction) (part : List Place) (element : ℕ) (directio
         (are.complete t within (λ old. not (push_old cursors c t old)));
   }
 
-  -- where the first places have all restrictions of the element, no other closes it
-  pub all_closing : (stop : ℕ) (cursors : List Cursor) → AreClosingSoFar stop cursors
-      → ((t : ℤ) → NoneCloses stop t → Any (Closes element direction vehicle t) rows → ⊥)
-      → (t : ℤ) → Within (whole horizon) t → (SomeHolds cursors t → ⊥) → IsOpen rows element direction vehicle t
-  all_closing stop cursors are all t within not = all t (are.complete t within not)
+  -- where the first places have all restrictions of the element, their cursors are those of all that close it
+  pub are_closing : (stop : ℕ) (cursors : List Cursor) → total_nodes cursors + length cursors ≤ most_nodes
+      → AreClosingSoFar stop cursors → AllSeen rows part element stop
+      → AreClosing rows element direction vehicle horizon cursors
+  are_closing stop cursors few are seen = record {
+    few = few;
+    sound = are.sound;
+    complete = λ t within not.
+        none_of_seen rows part element direction vehicle t stop seen (are.complete t within not);
+  }
 
 -- what lies outside of all that is closed is open
 pub open_normal : (rows : List Restriction) (element : ℕ) (direction : Direction) (vehicle : ℕ) (horizon : Horizon)

@@ -9,7 +9,7 @@ use Rattle.gtd_core.specs.declared.horizon.Horizon.{Horizon}
 use Rattle.gtd_spans.specs.Normal.{Holds}
 use Rattle.gtd_eval.specs.Ever.{week}
 use Rattle.gtd_eval.specs.Membership.{IsNormalOver}
-use Rattle.gtd_records.specs.Closing.{Closes, Concerns, HoldsAt, IsClosed, IsOpen, Restriction}
+use Rattle.gtd_records.specs.Closing.{Concerns, HoldsAt, IsClosed, IsOpen, Restriction}
 use Rattle.gtd_records.specs.declared.direction.Direction.{Direction}
 use Rattle.gtd_records.specs.declared.index.Place.{Place}
 
@@ -35,28 +35,8 @@ pub all_repeat : (x : Period) (rows : List Restriction) (part : List Place) (ele
     ≡ record { element = r.element; row = row }))
     → RepeatsFrom x (IsClosed rows element direction vehicle)
 all_repeat x rows part element direction vehicle stop so placed y le t = (
-  (λ a. (
-    a.0,
-    a.1,
-    a.2,
-    a.3,
-    record {
-      names = a.4.names;
-      concerns = a.4.concerns;
-      holds = (own a.0 a.1 a.2 a.3 a.4.names a.4.concerns y le t).0 a.4.holds;
-    },
-  )),
-  (λ a. (
-    a.0,
-    a.1,
-    a.2,
-    a.3,
-    record {
-      names = a.4.names;
-      concerns = a.4.concerns;
-      holds = (own a.0 a.1 a.2 a.3 a.4.names a.4.concerns y le t).1 a.4.holds;
-    },
-  )),
+  moved t (t +ℤ period_seconds y) (λ row r w s n c. (own row r w s n c y le t).0),
+  moved (t +ℤ period_seconds y) t (λ row r w s n c. (own row r w s n c y le t).1),
 )
   where
     own : (row : ℕ) (r : Restriction) → row < length rows → slice_index_or rows row r ≡ r → r.element ≡ element
@@ -65,6 +45,24 @@ all_repeat x rows part element direction vehicle stop so placed y le t = (
         let p = placed row r within stands names in
         so p.0 (record { element = r.element; row = row }) r p.1
         (subst (λ (q : Place). slice_index_or rows q.row r ≡ r) (sym p.2) stands) names concerns
+
+    -- closed at one second, and so at another
+    moved : (a b : ℤ)
+        → ((row : ℕ) (r : Restriction) → row < length rows → slice_index_or rows row r ≡ r → r.element ≡ element
+        → Concerns direction vehicle r → HoldsAt r.domain a → HoldsAt r.domain b)
+        → IsClosed rows element direction vehicle a → IsClosed rows element direction vehicle b
+    moved a b holds is =
+        let k = is.4 in (
+          is.0,
+          is.1,
+          is.2,
+          is.3,
+          record {
+            names = k.names;
+            concerns = k.concerns;
+            holds = holds is.0 is.1 is.2 is.3 k.names k.concerns k.holds;
+          },
+        )
 
 -- and those in which it is open
 pub opened : (rows : List Restriction) (element : ℕ) (direction : Direction) (vehicle : ℕ) (w : ℤ)

@@ -1,4 +1,5 @@
 pub mod OpenDecisions
+pub mod RowsRead
 pub mod FileFacts
 pub mod IndexFacts
 pub mod NumberFacts

@@ -15,13 +15,13 @@ pub after-weaken : (b c : ℤ) (xs : List ℤ) → c ≤ℤ b → AllAfter b xs 
 after-weaken b c [] le h = tt
 after-weaken b c (x ∷ xs) le h = (omega (arith, signed_arith, h.0), after-weaken b c xs le h.1)
 
-pub before-weaken : (b c : ℤ) (xs : List ℤ) → b ≤ℤ c → AllBefore b xs → AllBefore c xs
-before-weaken b c [] le h = tt
-before-weaken b c (x ∷ xs) le h = (omega (arith, signed_arith, h.0), before-weaken b c xs le h.1)
-
 pub after-append : (b : ℤ) (xs ys : List ℤ) → AllAfter b xs → AllAfter b ys → AllAfter b (xs ++ ys)
 after-append b [] ys p q = q
 after-append b (x ∷ xs) ys p q = (p.0, after-append b xs ys p.1 q)
+
+pub before-weaken : (b c : ℤ) (xs : List ℤ) → b ≤ℤ c → AllBefore b xs → AllBefore c xs
+before-weaken b c [] le h = tt
+before-weaken b c (x ∷ xs) le h = (omega (arith, signed_arith, h.0), before-weaken b c xs le h.1)
 
 -- two lists in order, the one before and the other from a second on
 pub ascending-append : (m : ℤ) (xs ys : List ℤ) → IsAscending xs → IsAscending ys → AllBefore m xs → AllAfter (m -ℤ pos 1) ys

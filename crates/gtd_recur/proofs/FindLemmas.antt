@@ -39,13 +39,9 @@ pub record BeginsParts (p : StartParts) (f : DayFields) : Type 0 where
 
 pub begun-parts : (p : StartParts) (f : DayFields) → begins_on p f ≡ true → BeginsParts p f
 begun-parts p f on =
-    let a = and_parts _ _ on in
-    let b = and_parts _ _ a.1 in
-    let c = and_parts _ _ b.1 in
-    let d = and_parts _ _ c.1 in
-    let e = and_parts _ _ d.1 in
-    let g = and_parts _ _ e.1 in
-    let h = and_parts _ _ g.1 in
+    let a = and_parts _ _ on in let b = and_parts _ _ a.1 in
+    let c = and_parts _ _ b.1 in let d = and_parts _ _ c.1 in
+    let e = and_parts _ _ d.1 in let g = and_parts _ _ e.1 in let h = and_parts _ _ g.1 in
     record { year = a.0; week = c.0; day = d.0; nth = e.0; nth_back = g.0; weekday = h.0; least = h.1 }
 
 -- a start begins on no day of a weekday that it excludes
@@ -166,6 +162,11 @@ dom-later n (suc j) =
     both a b c j (inr p) (inl q) = inr (omega (arith, p, q))
     both a b c j (inr p) (inr q) = inr (let q0 = q.0 in let q1 = q.1 in omega (arith, p, q0, q1))
 
+-- the same for a later day
+dom-between : (a b : ℤ) → a ≤ℤ b → (j : ℕ) × (b ≡ a +ℤ pos j)
+    × ((day_of_month b ≡ day_of_month a + j) ⊎ (day_of_month b + 28 ≤ day_of_month a + j))
+dom-between a b le = let is = later_by a b le in (unsigned_abs (b -ℤ a), is, rw (← is) at (dom-later a (unsigned_abs (b -ℤ a))))
+
 -- a day between has another day of the month than those from the first to the last
 pub off-month : (p : StartParts) (first last : ℕ) (day n : ℤ)
     → ((m : ℤ) → begins_on p (day_fields m) ≡ true → (first ≤ day_of_month m) × (day_of_month m ≤ last))
@@ -173,23 +174,13 @@ pub off-month : (p : StartParts) (first last : ℕ) (day n : ℤ)
     ⊎ ((last ≤ day_of_month day) × (n <ℤ (day +ℤ pos 28 +ℤ pos first -ℤ pos (day_of_month day))))
     → begins_on p (day_fields n) ≡ false
 off-month p first last day n days lt near = false_from_ne_true _ (λ on.
-    let j = unsigned_abs (n -ℤ day) in
-    let is = later_by day n (omega (arith, signed_arith, lt)) in
-    let later = dom-later day j in
-    let in_days = days n on in
-    apart (day_of_month day) (day_of_month n) j first last day n is lt near (rw (← is) at later) in_days.0 in_days.1)
+    let far = dom-between day n (omega (arith, signed_arith, lt)) in let in_days = days n on in
+    apart (day_of_month day) (day_of_month n) far.0 first last day n far.1 lt near far.2 in_days.0 in_days.1)
   where
     apart : (d e j first last : ℕ) (day n : ℤ) → n ≡ day +ℤ pos j → day <ℤ n
         → ((d < first) × (n <ℤ (day +ℤ pos first -ℤ pos d))) ⊎ ((last ≤ d) × (n <ℤ (day +ℤ pos 28 +ℤ pos first -ℤ pos d)))
         → (e ≡ d + j) ⊎ (e + 28 ≤ d + j) → first ≤ e → e ≤ last → ⊥
-    apart d e j first last day n is lt (inl a) (inl b) low high = (let a0 = a.0 in let a1 = a.1 in
-        omega (arith, signed_arith, is, lt, a0, a1, b, low, high))
-    apart d e j first last day n is lt (inl a) (inr b) low high = (let a0 = a.0 in let a1 = a.1 in
-        omega (arith, signed_arith, is, lt, a0, a1, b, low, high))
-    apart d e j first last day n is lt (inr a) (inl b) low high = (let a0 = a.0 in let a1 = a.1 in
-        omega (arith, signed_arith, is, lt, a0, a1, b, low, high))
-    apart d e j first last day n is lt (inr a) (inr b) low high = (let a0 = a.0 in let a1 = a.1 in
-        omega (arith, signed_arith, is, lt, a0, a1, b, low, high))
+    apart d e j first last day n is lt near later low high = grind (arith, signed_arith)
 
 -- the days of the month on which a start begins, by its places in the month
 pub nth-days : (p : StartParts) (k w : ℕ) → p.nth ≡ Some (k, w) → (n : ℤ) → begins_on p (day_fields n) ≡ true
@@ -274,6 +265,10 @@ week_year-calendar n low high = year_of-calendar _ (
 pub begun-week : (p : StartParts) (w : ℕ) (n : ℤ) → p.week ≡ Some w → begins_on p (day_fields n) ≡ true → w ≡ week_of n
 begun-week p w n is on = eqb-true _ _ (rw is at (begun-parts p (day_fields n) on).week)
 
+begun-inside : (p : StartParts) (w : ℕ) (n : ℤ) → p.week ≡ Some w → begins_on p (day_fields n) ≡ true
+    → (monday_of (week_year_of n) w ≤ℤ n) × (n ≤ℤ (monday_of (week_year_of n) w +ℤ pos 6))
+begun-inside p w n is on = let same = begun-week p w n is on in rw (sym same) at (week-days n)
+
 pub begun-year : (p : StartParts) (w y : ℕ) (n : ℤ) → p.week ≡ Some w → p.year ≡ Some y → begins_on p (day_fields n) ≡ true
     → pos y ≡ week_year_of n
 begun-year p w y n is given on =
@@ -284,10 +279,7 @@ pub off-week : (p : StartParts) (w : ℕ) (y day n next : ℤ) → p.week ≡ So
     → y ≤ℤ week_year_of n)
     → (next ≡ day +ℤ pos 1) ⊎ (next ≡ monday_of y w) → day <ℤ n → n <ℤ next → begins_on p (day_fields n) ≡ false
 off-week p w y day n next is year which gt lt = false_from_ne_true _ (λ on.
-    let same = begun-week p w n is on in
-    let inside = rw (sym same) at (week-days n) in
-    let order = monday-order y (week_year_of n) w (year on) in
-    let low = inside.0 in
+    let order = monday-order y (week_year_of n) w (year on) in let low = (begun-inside p w n is on).0 in
     elim which [
       | inl e ↦ omega (arith, signed_arith, e, gt, lt)
       | inr e ↦ apart n next (monday_of y w) (monday_of (week_year_of n) w) e lt order low
@@ -299,11 +291,7 @@ off-week p w y day n next is year which gt lt = false_from_ne_true _ (λ on.
 -- nor behind it
 pub past-week : (p : StartParts) (w : ℕ) (y n : ℤ) → p.week ≡ Some w → (monday_of y w +ℤ pos 6) <ℤ n
     → begins_on p (day_fields n) ≡ true → week_year_of n ≢ y
-past-week p w y n is gt on e =
-    let same = begun-week p w n is on in
-    let inside = rw (sym same, e) at (week-days n) in
-    let high = inside.1 in
-    apart n (monday_of y w) gt high
+past-week p w y n is gt on e = apart n (monday_of y w) gt (rw e at (begun-inside p w n is on)).1
   where
     apart : (n a : ℤ) → (a +ℤ pos 6) <ℤ n → n ≤ℤ (a +ℤ pos 6) → ⊥
     apart n a p q = omega (arith, signed_arith)
@@ -327,11 +315,6 @@ given-week p w y day n end r (Some next) is given which e low high gt lt less =
     let same : r ≡ next = e in
     off-week p w (pos y) day n next is (λ on. let year = begun-year p w y n is given on in
     omega (arith, signed_arith, year)) which.1 gt (rw same at lt)
-
-pub week-later : (y : ℤ) (w : ℕ) (day end r : ℤ) (o : Option ℤ) → IsNextOfWeek y w day o → r ≡ unwrap_or o end → day <ℤ end
-    → day <ℤ r
-week-later y w day end r None which e lt = rw e lt
-week-later y w day end r (Some next) which e lt = rw e which.0
 
 -- the next day of a week, where no year is given: in the year of the day's week
 pub this-week : (p : StartParts) (w : ℕ) (day n next : ℤ) → p.week ≡ Some w → IsNextOfWeek (week_year_of day) w day (Some next)
@@ -395,40 +378,27 @@ pub monday-bound : (f q : ℤ) (w : ℕ) → q ≡ int_div_euclid (f +ℤ pos 6)
     → 1 ≤ w → w ≤ 53 → (neg_ℤ (pos 9000) ≤ℤ q) × (q ≤ℤ pos 43_400)
 monday-bound f q w e low high a b = (omega (arith, signed_arith), omega (arith, signed_arith))
 
--- Backwards: a day between has another day of the month than those from the first to the last
+-- the same backwards
+apart-back : (d e j first last : ℕ) (day n : ℤ) → day ≡ n +ℤ pos j → n <ℤ day
+    → ((last < d) × ((day +ℤ pos last -ℤ pos d) <ℤ n)) ⊎ ((d ≤ first) × ((day +ℤ pos last -ℤ pos 28 -ℤ pos d) <ℤ n))
+    → (d ≡ e + j) ⊎ (d + 28 ≤ e + j) → first ≤ e → e ≤ last → ⊥
+apart-back d e j first last day n is lt near later low high = grind (arith, signed_arith)
+
 pub off-month-back : (p : StartParts) (first last : ℕ) (day n : ℤ)
     → ((m : ℤ) → begins_on p (day_fields m) ≡ true → (first ≤ day_of_month m) × (day_of_month m ≤ last))
     → n <ℤ day → ((last < day_of_month day) × ((day +ℤ pos last -ℤ pos (day_of_month day)) <ℤ n))
     ⊎ ((day_of_month day ≤ first) × ((day +ℤ pos last -ℤ pos 28 -ℤ pos (day_of_month day)) <ℤ n))
     → begins_on p (day_fields n) ≡ false
 off-month-back p first last day n days lt near = false_from_ne_true _ (λ on.
-    let j = unsigned_abs (day -ℤ n) in
-    let is = later_by n day (omega (arith, signed_arith, lt)) in
-    let later = dom-later n j in
-    let in_days = days n on in
-    apart (day_of_month day) (day_of_month n) j first last day n is lt near (rw (← is) at later) in_days.0 in_days.1)
-  where
-    apart : (d e j first last : ℕ) (day n : ℤ) → day ≡ n +ℤ pos j → n <ℤ day
-        → ((last < d) × ((day +ℤ pos last -ℤ pos d) <ℤ n)) ⊎ ((d ≤ first) × ((day +ℤ pos last -ℤ pos 28 -ℤ pos d) <ℤ n))
-        → (d ≡ e + j) ⊎ (d + 28 ≤ e + j) → first ≤ e → e ≤ last → ⊥
-    apart d e j first last day n is lt (inl a) (inl b) low high = (let a0 = a.0 in let a1 = a.1 in
-        omega (arith, signed_arith, is, lt, a0, a1, b, low, high))
-    apart d e j first last day n is lt (inl a) (inr b) low high = (let a0 = a.0 in let a1 = a.1 in
-        omega (arith, signed_arith, is, lt, a0, a1, b, low, high))
-    apart d e j first last day n is lt (inr a) (inl b) low high = (let a0 = a.0 in let a1 = a.1 in
-        omega (arith, signed_arith, is, lt, a0, a1, b, low, high))
-    apart d e j first last day n is lt (inr a) (inr b) low high = (let a0 = a.0 in let a1 = a.1 in
-        omega (arith, signed_arith, is, lt, a0, a1, b, low, high))
+    let far = dom-between n day (omega (arith, signed_arith, lt)) in let in_days = days n on in
+    apart-back (day_of_month day) (day_of_month n) far.0 first last day n far.1 lt near far.2 in_days.0 in_days.1)
 
 -- a start begins on no day behind the week
 off-week-back : (p : StartParts) (w : ℕ) (y day n last : ℤ) → p.week ≡ Some w
     → (begins_on p (day_fields n) ≡ true → week_year_of n ≤ℤ y)
     → (last ≡ day -ℤ pos 1) ⊎ (last ≡ monday_of y w +ℤ pos 6) → n <ℤ day → last <ℤ n → begins_on p (day_fields n) ≡ false
 off-week-back p w y day n last is year which lt gt = false_from_ne_true _ (λ on.
-    let same = begun-week p w n is on in
-    let inside = rw (sym same) at (week-days n) in
-    let order = monday-order (week_year_of n) y w (year on) in
-    let high = inside.1 in
+    let order = monday-order (week_year_of n) y w (year on) in let high = (begun-inside p w n is on).1 in
     elim which [
       | inl e ↦ omega (arith, signed_arith, e, gt, lt)
       | inr e ↦ apart n last (monday_of (week_year_of n) w) (monday_of y w) e gt order high
@@ -440,11 +410,7 @@ off-week-back p w y day n last is year which lt gt = false_from_ne_true _ (λ on
 -- nor before it
 before-week : (p : StartParts) (w : ℕ) (y n : ℤ) → p.week ≡ Some w → n <ℤ monday_of y w
     → begins_on p (day_fields n) ≡ true → week_year_of n ≢ y
-before-week p w y n is lt on e =
-    let same = begun-week p w n is on in
-    let inside = rw (sym same, e) at (week-days n) in
-    let low = inside.0 in
-    apart n (monday_of y w) lt low
+before-week p w y n is lt on e = apart n (monday_of y w) lt (rw e at (begun-inside p w n is on)).0
   where
     apart : (n a : ℤ) → n <ℤ a → a ≤ℤ n → ⊥
     apart n a p q = omega (arith, signed_arith)
@@ -460,11 +426,6 @@ given-week-back p w y low day n r (Some last) is given which e least high from g
     let same : r ≡ last = e in
     off-week-back p w (pos y) day n last is (λ on. let year = begun-year p w y n is given on in
     omega (arith, signed_arith, year)) which.1 lt (rw same at gt)
-
-pub week-earlier : (y : ℤ) (w : ℕ) (day none r : ℤ) (o : Option ℤ) → IsLastOfWeek y w day o → r ≡ unwrap_or o none → none <ℤ day
-    → r <ℤ day
-week-earlier y w day none r None which e lt = rw e lt
-week-earlier y w day none r (Some last) which e lt = rw e which.0
 
 pub this-week-back : (p : StartParts) (w : ℕ) (day n last : ℤ) → p.week ≡ Some w
     → IsLastOfWeek (week_year_of day) w day (Some last) → n <ℤ day → last <ℤ n → begins_on p (day_fields n) ≡ false

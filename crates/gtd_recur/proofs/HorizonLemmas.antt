@@ -1,33 +1,26 @@
 -- The starts of the window hold what the basic domain holds in the horizon.
 use Rattle.std.proofs.Common.{◌≡◌, ◌⊎◌, ℕ, zero, suc, ◌+◌, ◌<◌, ◌≤◌, Bool, true, List, [], ◌∷◌, ◌++◌, map, filter, refl, sym}
-use Rattle.std.proofs.Common.{ap, inl, inr, arith, ℤ, pos, ◌+ℤ◌, ◌-ℤ◌, ◌*ℤ◌, ◌<ℤ◌, ◌≤ℤ◌}
+use Rattle.std.proofs.Common.{ap, inl, inr, arith, ℤ, pos, ◌+ℤ◌, ◌*ℤ◌, ◌<ℤ◌, ◌≤ℤ◌}
 use Rattle.std.proofs.lemmas.Bool.{cases_Bool, cases_lt}
 use Rattle.gtd_calendar.specs.facts.Signed.{signed_arith}
 use Rattle.gtd_calendar.specs.facts.ClockLemmas.{second-parts}
 use Rattle.gtd_core.specs.declared.start.StartParts.{StartParts}
 use Rattle.gtd_core.specs.declared.duration.DurationParts.{DurationParts}
-use Rattle.gtd_core.specs.Ranges.{lookback_of}
 use Rattle.gtd_calendar.specs.ComputedFields.{day_fields}
 use Rattle.gtd_core.specs.Seconds.{day_of_second}
-use Rattle.gtd_spans.specs.Normal.{IsNormalFor}
-use Rattle.gtd_spans.specs.facts.NormalFor.{normal-for}
 use Rattle.gtd_calendar.specs.Clock.{second_of_day}
 use Rattle.gtd_calendar.specs.ComputedEnds.{stop}
 use Rattle.gtd_recur.specs.Begins.{begins, begins_on, begins_at}
-use Rattle.gtd_recur.specs.Membership.{InStretches}
-use Rattle.gtd_recur.specs.facts.MembershipLemmas.{from_computed}
 use Rattle.gtd_recur.specs.Work.{days_between, numbers_from, starts_on, starts_of}
 use Rattle.gtd_recur.specs.Starts.{clock_starts, TakesSecond}
 use Rattle.std.specs.Prelude.{Option, Some, None, IfSome}
 use Rattle.gtd_core.specs.declared.second.Sec.{Sec}
 use Rattle.gtd_calendar.specs.Calendar.{IsCalendarDay}
 use Rattle.gtd_recur.specs.Ascending.{Has}
-use Rattle.gtd_recur.specs.Stretches.{HeldBy, runs_between, starts_ahead, IsAheadIn}
-use Rattle.gtd_recur.specs.facts.StretchFacts.{runs_between-normal}
-use Rattle.gtd_recur.proofs.CoverLemmas.{begins-parts, begins-from, held_in_lookback}
+use Rattle.gtd_recur.specs.Stretches.{HeldBy, starts_ahead, IsAheadIn}
+use Rattle.gtd_recur.proofs.CoverLemmas.{begins-parts, begins-from}
 use Rattle.gtd_recur.specs.facts.StartsLemmas.{starts_on-yes, starts_on-no, starts_of-cons, starts_of-nil}
 use Rattle.gtd_recur.specs.facts.StartsLemmas.{days_between-append, days_between-next}
-use Rattle.gtd_recur.proofs.StretchLemmas.{runs_between-holds}
 
 pub has-left : (xs ys : List ℤ) (b : ℤ) → Has xs b → Has (xs ++ ys) b
 has-left [] ys b h = absurd h
@@ -120,40 +113,6 @@ pub begins-window : (p : StartParts) (first end b : ℤ) → begins p b ≡ true
     → Has (starts_of p (days_between first end)) b
 begins-window p first end b h low high = has-starts_of p (days_between first end) (day_of_second b) b
     (has-day first end (day_of_second b) low high) (begins-starts_on p b h)
-
--- the runs of the window's starts are those of the basic domain
-pub window-runs : (p : StartParts) (q : DurationParts) (first from to : ℤ) → first ≡ from -ℤ pos (lookback_of q) → from ≤ℤ to
-    → IsNormalFor (InStretches p q) (from *ℤ pos 86400) (to *ℤ pos 86400)
-    (runs_between q (starts_of p (days_between first to)) (from *ℤ pos 86400) (to *ℤ pos 86400))
-window-runs p q first from to back le =
-    let bs = starts_of p (days_between first to) in
-    normal-for (InStretches p q) (from *ℤ pos 86400) (to *ℤ pos 86400) _
-    (runs_between-normal q bs (from *ℤ pos 86400) (to *ℤ pos 86400)) (λ t.
-    let i = runs_between-holds q bs (from *ℤ pos 86400) (to *ℤ pos 86400) t (omega (arith, signed_arith)) in (
-      (λ h. let k = i.0 h in let held = held-to q bs t k.2 in
-          (k.0, k.1, from_computed p q t (held.0, (starts_of-begins p (days_between first to) held.0 held.1, held.2, held.3)))),
-      (λ h. let near = held_in_lookback p q t h.2 in
-          let parts = second-parts t in
-          let on = near.2.1 in
-          let held = near.2.2 in
-          i.1 (
-            h.0,
-            h.1,
-            held-from q bs near.2.0 t
-                (begins-window p first to near.2.0 held.0
-                (early first from t (day_of_second t) (day_of_second near.2.0) (second_of_day t) near.0
-                (lookback_of q) back h.0 parts.0 parts.1 near.1 on)
-                (late to t (day_of_second t) (day_of_second near.2.0) (second_of_day t) near.0 h.1 parts.0 parts.1 on))
-                held.1 held.2,
-          )),
-    ))
-  where
-    early : (first from t n m : ℤ) (i k back : ℕ) → first ≡ from -ℤ pos back → (from *ℤ pos 86400) ≤ℤ t → t ≡ pos 86400 *ℤ n
-        +ℤ pos i → i < 86400 → k ≤ back → m ≡ n -ℤ pos k → first ≤ℤ m
-    early first from t n m i k back g a b c e f = omega (arith, signed_arith)
-
-    late : (to t n m : ℤ) (i k : ℕ) → t <ℤ (to *ℤ pos 86400) → t ≡ pos 86400 *ℤ n +ℤ pos i → i < 86400 → m ≡ n -ℤ pos k → m <ℤ to
-    late to t n m i k a b c f = omega (arith, signed_arith)
 
 -- the start that is taken ahead and those that are left are all
 pub starts_ahead-is : (all left : List ℤ) (o : Option Sec) → TakesSecond all o left → starts_ahead o left ≡ all

@@ -1,6 +1,7 @@
 -- Which days a given year or month excludes.
 use Rattle.std.proofs.Common.{◌≡◌, ℕ, ◌+◌, ◌<◌, ◌≤◌, ◌⊎◌, inl, inr, Bool, true, false, Option, Some, None, refl, sym, arith, ℤ}
-use Rattle.std.proofs.Common.{pos, ◌+ℤ◌, ◌-ℤ◌, ◌<ℤ◌, ◌≤ℤ◌, is_some, IfSome, ◌||◌}
+use Rattle.std.proofs.Common.{FitsSigned, to_z-of_z, w64}
+use Rattle.std.proofs.Common.{pos, ◌+ℤ◌, ◌-ℤ◌, ◌<ℤ◌, ◌≤ℤ◌, is_some, IfSome, ◌||◌, ◌↔◌}
 use Rattle.std.specs.Prelude.{IsTrue}
 use Rattle.std.specs.Option.{unwrap_or}
 use Rattle.std.specs.Int.{IsInRange}
@@ -18,6 +19,7 @@ use Rattle.gtd_calendar.specs.ComputedDates.{year_of, month_of, guessed_year}
 use Rattle.gtd_recur.specs.Begins.{month_and_year_fit, agrees, year_agrees_with}
 use Rattle.gtd_recur.specs.Jumps.{IsNextRun, IsBefore, AreMonths, IsClipped, IsOf, IsOfMonth}
 use Rattle.gtd_recur.specs.Stretches.{IsLater, IsEarlier}
+use Rattle.gtd_recur.proofs.SmallLemmas.{IsSmall, word, year-small}
 
 -- those of the days that are from one on and before an end
 pub clipped : (first last day end a b : ℤ) → first <ℤ last → day <ℤ last → IsLater first day a → a <ℤ end → IsEarlier last end b
@@ -313,13 +315,26 @@ pub year-late : (n g : ℤ) → g ≡ guessed_year n → day_number (g +ℤ pos 
 year-late n g e le = let guess = near n g e in let high = guess.1 in let low = year-from n (g +ℤ pos 1) le in
     omega (arith, signed_arith, low, high)
 
+-- a guess, and the first day of the year that it gives
+pub record IsGuess (day guess first : ℤ) : Type 0 where
+  pub small : IsSmall guess
+  pub high : guess ≤ℤ pos 2700
+  pub value : guess ≡ guessed_year day
+  pub first_is : first ≡ day_number guess 1 1
+
+pub guess-is : (day guess first : ℤ) → FitsSigned w64 day → (pos 1800 ≤ℤ guess) × (guess ≤ℤ pos 2700)
+    → guess ≡ guessed_year (word day) → first ≡ day_number (word guess) 1 1 → IsGuess day guess first
+guess-is day guess first fits bound value number =
+    let small = year-small guess (bound.0, omega (arith, signed_arith, bound.1)) in
+    record { small = small; high = bound.1; value = rw (to_z-of_z fits) at value; first_is = rw (small.is) at number }
+
 pub year-low : (n y : ℤ) → first_window_day ≤ℤ n → y ≡ year_of n → pos 1800 ≤ℤ y
 year-low n y low e = rw e (year-from n (pos 1800) (chain (day_number (pos 1800) 1 1) n first-1800 low))
   where
     chain : (a n : ℤ) → a ≡ first_calendar_day → first_window_day ≤ℤ n → a ≤ℤ n
     chain a n e le = omega (arith, signed_arith)
 
-pub fit-year : (p : StartParts) (n : ℤ) (y : ℕ) → p.week ≡ None → p.year ≡ Some y → IsOf (pos y) p.month n
+fit-year : (p : StartParts) (n : ℤ) (y : ℕ) → p.week ≡ None → p.year ≡ Some y → IsOf (pos y) p.month n
     → IsTrue (month_and_year_fit p n)
 fit-year p n y none is h = rw (none, is) (and_from _ _ (month p.month (month_of n) h.1)
     ((Decides-int_eq (pos y) (year_of n)).1 (sym h.0)))
@@ -328,7 +343,7 @@ fit-year p n y none is h = rw (none, is) (and_from _ _ (month p.month (month_of 
     month None m h = refl
     month (Some k) m h = eq-eqb _ _ (sym h)
 
-pub year-fit : (p : StartParts) (n : ℤ) (y : ℕ) → p.week ≡ None → p.year ≡ Some y → IsTrue (month_and_year_fit p n)
+year-fit : (p : StartParts) (n : ℤ) (y : ℕ) → p.week ≡ None → p.year ≡ Some y → IsTrue (month_and_year_fit p n)
     → IsOf (pos y) p.month n
 year-fit p n y none is h =
     let parts = and_parts _ _ (rw (none, is) at h) in
@@ -339,7 +354,7 @@ year-fit p n y none is h =
     month (Some k) m h = sym (eqb-true _ _ h)
 
 -- where no year of the date is given, the month alone asks
-pub fit-month : (p : StartParts) (n : ℤ) (m : ℕ) → ((is_some p.week ≡ true) ⊎ (p.year ≡ None)) → p.month ≡ Some m → IsOfMonth m n
+fit-month : (p : StartParts) (n : ℤ) (m : ℕ) → ((is_some p.week ≡ true) ⊎ (p.year ≡ None)) → p.month ≡ Some m → IsOfMonth m n
     → IsTrue (month_and_year_fit p n)
 fit-month p n m free is h = and_from _ _ (rw is (eq-eqb _ _ (sym h))) (no_year (is_some p.week) p.year (year_of n) free)
   where
@@ -348,21 +363,35 @@ fit-month p n m free is h = and_from _ _ (rw is (eq-eqb _ _ (sym h))) (no_year (
     no_year true given y h = refl
     no_year false given y h = elim h [ inl e ↦ cc | inr e ↦ rw e refl ]
 
-pub month-fit : (p : StartParts) (n : ℤ) (m : ℕ) → p.month ≡ Some m → IsTrue (month_and_year_fit p n) → IsOfMonth m n
+month-fit : (p : StartParts) (n : ℤ) (m : ℕ) → p.month ≡ Some m → IsTrue (month_and_year_fit p n) → IsOfMonth m n
 month-fit p n m is h = let parts = and_parts (agrees p.month (month_of n))
     (is_some p.week || year_agrees_with p.year (year_of n)) h in sym (eqb-true m (month_of n) (rw is at parts.0))
 
-pub run-same : (p q : ℤ → Type 0) (day end from until : ℤ) → ((n : ℤ) → p n → q n) → ((n : ℤ) → q n → p n)
-    → IsNextRun p day end from until → IsNextRun q day end from until
-run-same p q day end from until f g h = record {
-  low = h.low;
-  order = h.order;
-  within = h.within;
-  some = h.some;
-  skipped = λ n ge lt k. h.skipped n ge lt (g n k);
-  run = λ n ge lt. f n (h.run n ge lt);
-}
-
-pub none_given : (o : Option ℕ) → is_some o ≡ false → o ≡ None
+none_given : (o : Option ℕ) → is_some o ≡ false → o ≡ None
 none_given None e = refl
 none_given (Some x) e = cc
+
+-- two properties that the same days have
+abbrev pub AreSameDays : (ℤ → Type 0) → (ℤ → Type 0) → Type 0
+AreSameDays p q = (n : ℤ) → p n ↔ q n
+
+pub same-year : (p : StartParts) (y : ℕ) → is_some p.week ≡ false → p.year ≡ Some y
+    → AreSameDays (IsOf (pos y) p.month) (λ n. IsTrue (month_and_year_fit p n))
+same-year p y none is n = let without = none_given p.week none in (fit-year p n y without is, year-fit p n y without is)
+
+pub same-month : (p : StartParts) (m : ℕ) → ((is_some p.week ≡ true) ⊎ (p.year ≡ None)) → p.month ≡ Some m
+    → AreSameDays (IsOfMonth m) (λ n. IsTrue (month_and_year_fit p n))
+same-month p m free is n = (fit-month p n m free is, month-fit p n m is)
+
+pub none-same : (p q : ℤ → Type 0) (a b : ℤ) → AreSameDays p q → ((n : ℤ) → a ≤ℤ n → n <ℤ b → p n → ⊥)
+    → (n : ℤ) → a ≤ℤ n → n <ℤ b → q n → ⊥
+none-same p q a b same none n ge lt k = none n ge lt ((same n).1 k)
+
+pub all-same : (p q : ℤ → Type 0) (a b : ℤ) → AreSameDays p q → ((n : ℤ) → a ≤ℤ n → n <ℤ b → p n)
+    → (n : ℤ) → a ≤ℤ n → n <ℤ b → q n
+all-same p q a b same all n ge lt = (same n).0 (all n ge lt)
+
+pub run-same : (p q : ℤ → Type 0) (day end from until : ℤ) → AreSameDays p q → IsNextRun p day end from until
+    → IsNextRun q day end from until
+run-same p q day end from until same h =
+    assumption (h, none-same p q day from same h.skipped, all-same p q from until same h.run)

@@ -17,9 +17,24 @@ use Rattle.gtd_recur.specs.Work.{days_from, days_between, starts_on, starts_of}
 use Rattle.gtd_recur.specs.Starts.{starts_left, AreLeft, IsInWindow, IsLookedCount, clock_starts}
 use Rattle.gtd_recur.specs.facts.StartsLemmas.{starts_of-cons, starts_of-nil, starts_of-past, starts_on-no, starts_on-yes}
 use Rattle.gtd_recur.specs.facts.StartsLemmas.{days_between-append, days_between-next, days_between-is, later_by}
-use Rattle.gtd_recur.specs.facts.StartsLemmas.{count-between, count-append, count-is, length-between, clock_starts-nil}
+use Rattle.gtd_recur.specs.facts.StartsLemmas.{count-between, count-append, length-between, clock_starts-nil}
 use Rattle.gtd_recur.specs.facts.WorkLemmas.{begins_on-fits}
 use Rattle.gtd_recur.proofs.GivenLemmas.{starts_of-append}
+
+-- what holds of each of some days holds of the first and of those after it
+pub each-next : (has : ℤ → Type 0) (a : ℤ) (k : ℕ) → ((i : ℕ) → i < suc k → has (a +ℤ pos i))
+    → has a × ((i : ℕ) → i < k → has (a +ℤ pos 1 +ℤ pos i))
+each-next has a k all =
+    let here : a +ℤ pos 0 ≡ a = omega (arith, signed_arith) in (
+      rw here at (all 0 (omega arith)),
+      λ i lt. let next : a +ℤ pos 1 +ℤ pos i ≡ a +ℤ pos (i + 1) = omega (arith, signed_arith) in
+          rw next (all (i + 1) (omega arith)),
+    )
+
+-- what holds of each day between two holds of so many from the first on
+pub each-between : (has : ℤ → Type 0) (a b : ℤ) (k : ℕ) → b ≡ a +ℤ pos k → ((n : ℤ) → a ≤ℤ n → n <ℤ b → has n)
+    → (i : ℕ) → i < k → has (a +ℤ pos i)
+each-between has a b k e all i lt = all (a +ℤ pos i) (omega (arith, signed_arith)) (omega (arith, signed_arith, e, lt))
 
 -- days on which the start does not begin have no starts
 starts_of-none : (p : StartParts) (n : ℤ) (k : ℕ) → ((i : ℕ) → i < k → begins_on p (day_fields (n +ℤ pos i)) ≡ false)
@@ -27,21 +42,15 @@ starts_of-none : (p : StartParts) (n : ℤ) (k : ℕ) → ((i : ℕ) → i < k �
 unfolding days_from
 starts_of-none p n zero none = starts_of-nil p
 starts_of-none p n (suc k) none =
-    let here : begins_on p (day_fields n) ≡ false = let same : n +ℤ pos 0 ≡ n = omega (arith, signed_arith) in
-    rw same at (none 0 (omega arith)) in
-    let rest = starts_of-none p (n +ℤ pos 1) k (λ i lt. let next : n +ℤ pos 1 +ℤ pos i ≡ n +ℤ pos (i + 1) =
-    omega (arith, signed_arith) in rw next (none (i + 1) (omega arith))) in
-    starts_of-cons p n (days_from (n +ℤ pos 1) k) ∙ rw (starts_on-no p n here, rest) refl
+    let each = each-next (λ m. begins_on p (day_fields m) ≡ false) n k none in
+    let rest = starts_of-none p (n +ℤ pos 1) k each.1 in
+    starts_of-cons p n (days_from (n +ℤ pos 1) k) ∙ rw (starts_on-no p n each.0, rest) refl
 
 pub no-starts : (p : StartParts) (a b : ℤ) → a ≤ℤ b → ((n : ℤ) → a ≤ℤ n → n <ℤ b → begins_on p (day_fields n) ≡ false)
     → starts_of p (days_between a b) ≡ []
 no-starts p a b le none =
     let e = later_by a b le in
-    rw (days_between-is a b (unsigned_abs (b -ℤ a)) e) (starts_of-none p a (unsigned_abs (b -ℤ a))
-    (λ i lt. none (a +ℤ pos i) (omega (arith, signed_arith)) (inside a b i (unsigned_abs (b -ℤ a)) e lt)))
-  where
-    inside : (a b : ℤ) (i j : ℕ) → b ≡ a +ℤ pos j → i < j → (a +ℤ pos i) <ℤ b
-    inside a b i j e lt = omega (arith, signed_arith)
+    rw (days_between-is a b _ e) (starts_of-none p a _ (each-between (λ m. begins_on p (day_fields m) ≡ false) a b _ e none))
 
 -- the starts from the day found on are those of that day and of the days that are still to be looked at
 pub found-left : (p : StartParts) (low seen first day next end : ℤ) (clock looked : ℕ)
@@ -158,34 +167,6 @@ back-run p low n day from until looked le h count none =
           (count-append (month_and_year_fit p) (days_between until day) (days_between day n) ∙ rw (gap, count) (omega arith));
       none = λ m ge lt. by_lt_z m day (λ less. unfit p m (h.skipped m ge less)) (λ more. none m more lt);
     }
-
--- one more day was looked at
-pub back-count : (p : StartParts) (day until n : ℤ) (looked : ℕ) → until ≡ day +ℤ pos 1 → until ≤ℤ n
-    → IsTrue (month_and_year_fit p day) → count_by (month_and_year_fit p) (days_between until n) ≡ looked
-    → count_by (month_and_year_fit p) (days_between day n) ≡ looked + 1
-back-count p day until n looked e le fit count =
-    let more = rw e at count in
-    rw (days_between-next day n (omega (arith, signed_arith, e, le)))
-    (count-is (month_and_year_fit p) day (days_between (day +ℤ pos 1) n) ∙ rw (fit, more) (omega arith))
-
--- none of the days up to there begins
-pub back-none : (p : StartParts) (day until n : ℤ) → until ≡ day +ℤ pos 1 → begins_on p (day_fields day) ≡ false
-    → ((m : ℤ) → until ≤ℤ m → m <ℤ n → begins_on p (day_fields m) ≡ false) → (m : ℤ) → day ≤ℤ m → m <ℤ n
-    → begins_on p (day_fields m) ≡ false
-back-none p day until n e off none m ge lt = by_lt_z day m (λ more. none m (omega (arith, signed_arith, e, more)) lt)
-    (λ le. let same : m ≡ day = omega (arith, signed_arith, ge, le) in rw same off)
-
--- the rest of a run
-pub back-on : (has : ℤ → Type 0) (low from day : ℤ) → low ≤ℤ from → from <ℤ day
-    → ((n : ℤ) → from ≤ℤ n → n <ℤ day → has n) → IsLastRun has low day from day
-back-on has low from day le lt fit = record {
-  begin = le;
-  order = omega (arith, signed_arith, lt);
-  within = omega (arith, signed_arith);
-  some = λ more. lt;
-  skipped = λ n ge less. absurd (omega (arith, signed_arith, ge, less));
-  run = fit;
-}
 
 -- the days counted are few
 pub back-small : (p : StartParts) (low n from until : ℤ) (looked : ℕ) → IsLookingBack p low n from until looked

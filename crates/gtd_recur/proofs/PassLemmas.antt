@@ -1,9 +1,12 @@
 -- A run that goes on over the starts of a day that are passed over.
-use Rattle.std.proofs.Common.{◌≡◌, neg_ℤ, to_z, of_z, w64, ℕ, ◌<◌, ◌≤◌, List, [], ◌∷◌, ◌++◌, length, take, refl, sym, ap, ◌∙◌}
+use Rattle.std.proofs.Common.{◌≡◌, neg_ℤ, ℕ, ◌<◌, ◌≤◌, List, [], ◌∷◌, ◌++◌, length, take, refl, sym, ap, ◌∙◌}
 use Rattle.std.proofs.Common.{arith, ◌⊎◌, inl, inr, ℤ, pos, ◌+ℤ◌, ◌-ℤ◌, ◌*ℤ◌, ◌≤ℤ◌}
 use Rattle.std.proofs.lemmas.List.{take_at, length-append, append_assoc}
 use Rattle.std.proofs.lemmas.Int.{by_lt_z}
 use Rattle.gtd_core.specs.Limits.{first_calendar_day, last_calendar_day}
+use Rattle.gtd_core.specs.Parts.{duration_parts}
+use Rattle.gtd_core.specs.Ranges.{bound_of}
+use Rattle.gtd_core.specs.declared.duration.Duration.{Duration}
 use Rattle.gtd_calendar.specs.facts.Signed.{signed_arith}
 use Rattle.gtd_calendar.specs.Calendar.{IsCalendarDay}
 use Rattle.gtd_calendar.specs.facts.ClockLemmas.{second-parts, stop-same_day}
@@ -15,8 +18,9 @@ use Rattle.gtd_recur.specs.declared.walk.Walk.{Walk}
 use Rattle.gtd_recur.specs.Ascending.{AllAfter, AllBefore}
 use Rattle.gtd_recur.specs.Stepping.{Stepped}
 use Rattle.gtd_recur.specs.Stretches.{IsRun, IsLater}
-use Rattle.gtd_recur.specs.Walking.{IsSameWindow, walk_all, walk_given, walk_to_come}
+use Rattle.gtd_recur.specs.Walking.{IsPassed, IsSameWindow, walk_all, walk_given, walk_to_come}
 use Rattle.gtd_recur.proofs.GivenLemmas.{all-split, same-all}
+use Rattle.gtd_recur.proofs.SmallLemmas.{word}
 use Rattle.gtd_recur.proofs.StretchLemmas.{run-longer}
 
 pub stepped-low : (step : ℕ) (b : ℤ) (xs : List ℤ) (last : ℤ) → Stepped step b xs last → b ≤ℤ last
@@ -135,14 +139,68 @@ near-epoch b day =
 
 -- and so are the ends of their stretches
 pub record AreNear (b r : ℤ) : Type 0 where
+  pub calendar : IsCalendarDay (day_of_second b)
   pub low : neg_ℤ (pos 5364662400) ≤ℤ b
   pub high : b ≤ℤ pos 26192246400
   pub order : b ≤ℤ r
   pub long : r ≤ℤ (b +ℤ pos 3162240000)
+  pub start_is : word b ≡ b
+  pub end_is : word r ≡ r
+  pub length_is : word (r -ℤ b) ≡ r -ℤ b
 
-pub are-near : (b r : ℤ) (k : ℕ) → IsCalendarDay (day_of_second b) → b ≤ℤ r → r ≤ℤ (b +ℤ pos k) → k ≤ 3162240000 → AreNear b r
-are-near b r k day order long small = let n = near-epoch b day in
-    record { low = n.0; high = n.1; order = order; long = omega (arith, signed_arith, long, small) }
+pub are-near : (d : Duration) (b r : ℤ) → IsCalendarDay (day_of_second b) → b ≤ℤ r
+    → r ≤ℤ (b +ℤ pos (bound_of (duration_parts d))) → AreNear b r
+are-near d b r day order long =
+    let n = near-epoch b day in
+    near b r (bound_of (duration_parts d)) day n.0 n.1 order long d.bounded.1
+  where
+    near : (b r : ℤ) (k : ℕ) → IsCalendarDay (day_of_second b) → neg_ℤ (pos 5364662400) ≤ℤ b → b ≤ℤ pos 26192246400 → b ≤ℤ r
+        → r ≤ℤ (b +ℤ pos k) → k ≤ 3162240000 → AreNear b r
+    near b r k day low high order long small = record {
+      calendar = day;
+      low = low;
+      high = high;
+      order = order;
+      long = omega (arith, signed_arith, long, small);
+      start_is = omega (arith, signed_arith);
+      end_is = omega (arith, signed_arith);
+      length_is = omega (arith, signed_arith);
+    }
 
-pub plain-z : (a : ℤ) → neg_ℤ (pos 40000000000) ≤ℤ a → a ≤ℤ pos 40000000000 → to_z w64 (of_z w64 a) ≡ a
-plain-z a low high = omega (arith, signed_arith)
+-- and the last start of the day, with the end of its stretch as it is computed
+pub record IsLastNear (p : DurationParts) (b r last : ℤ) : Type 0 where
+  pub near : AreNear b r
+  pub up : b ≤ℤ last
+  pub high : last ≤ℤ pos 26192246400
+  pub last_is : word last ≡ last
+  pub far_is : word (last -ℤ b) ≡ last -ℤ b
+  pub after : last ≤ℤ stop p last
+  pub stop_is : word (word r +ℤ word (word last -ℤ word b)) ≡ stop p last
+
+pub last-near : (p : DurationParts) (b r last length : ℤ) (v w : Walk) → AreNear b r → r ≡ stop p b → IsPassed v w b length last
+    → IsLastNear p b r last
+last-near p b r last length v w near is passed =
+    let up = stepped-low passed.step b passed.list last passed.stepped in
+    let one = one-length p last b passed.day in
+    let high = (near-epoch last (rw (passed.day) near.calendar)).1 in
+    let low = near.low in let order = near.order in let long = near.long in
+    let last_is : word last ≡ last = plain-z last (omega (arith, signed_arith, low, up)) (omega (arith, signed_arith, high)) in
+    let far_is : word (last -ℤ b) ≡ last -ℤ b = plain-z _ (omega (arith, signed_arith, up))
+    (omega (arith, signed_arith, high, low)) in
+    record {
+      near = near;
+      up = up;
+      high = high;
+      last_is = last_is;
+      far_is = far_is;
+      after = omega (arith, signed_arith, one, is, order);
+      stop_is = rw (near.start_is, last_is, far_is, near.end_is) (computed r b last (stop p last) (stop p b) is one low up high
+          order long);
+    }
+  where
+    plain-z : (a : ℤ) → neg_ℤ (pos 40000000000) ≤ℤ a → a ≤ℤ pos 40000000000 → word a ≡ a
+    plain-z a low high = omega (arith, signed_arith)
+
+    computed : (r b last end first : ℤ) → r ≡ first → end -ℤ last ≡ first -ℤ b → neg_ℤ (pos 5364662400) ≤ℤ b → b ≤ℤ last
+        → last ≤ℤ pos 26192246400 → b ≤ℤ r → r ≤ℤ (b +ℤ pos 3162240000) → word (r +ℤ (last -ℤ b)) ≡ end
+    computed r b last end first is one low up high order long = omega (arith, signed_arith)

@@ -1,5 +1,5 @@
 -- The starts of a day lie one step apart.
-use Rattle.std.proofs.Common.{◌≡◌, ℕ, zero, suc, ◌+◌, ◌-◌, ◌*◌, ◌/◌, ◌<◌, ◌≤◌, Bool, true, Some, None, List}
+use Rattle.std.proofs.Common.{◌≡◌, ℕ, zero, suc, ◌+◌, ◌-◌, ◌*◌, ◌/◌, ◌<◌, ◌≤◌, Bool, true, Some, List}
 use Rattle.std.proofs.Common.{[], ◌∷◌, ◌++◌, length, drop, refl, sym, ap, ◌∙◌, arith, ◌⊎◌, inl, inr, ℤ, pos}
 use Rattle.std.proofs.Common.{◌+ℤ◌, ◌*ℤ◌}
 use Rattle.std.proofs.lemmas.Bool.{both_ways, cases_lt}
@@ -110,12 +110,6 @@ last-behind p k last end low on = elim (cases_lt last k) [
   | inr ge ↦ omega (arith, ge)
 ]
 
--- the starts of a day: the first of them, one behind another, or none
-pub next-first : (test : ℕ → Bool) (first last step clock : ℕ) → AreClocks test first last step → clock ≤ first
-    → IsNextPassing test clock (Some first)
-next-first test first last step clock c low =
-    let b = c.begin in (low, b.1, b.2, λ j ge lt. b.3 j (omega arith) lt)
-
 pub next-step : (test : ℕ → Bool) (first last step clock : ℕ) → AreClocks test first last step → IsBehindOne test first last clock
     → first < clock → clock ≤ last → IsNextPassing test clock (Some (clock - 1 + step))
 next-step test first last step clock c behind low high =
@@ -135,10 +129,6 @@ next-step test first last step clock c behind low high =
   where
     more : (clock step : ℕ) → first < clock → (step ≡ 60) ⊎ (step ≡ 3600) → clock ≤ clock - 1 + step
     more clock step lt e = elim e [ inl x ↦ omega arith | inr x ↦ omega arith ]
-
-pub next-none : (test : ℕ → Bool) (first last step clock : ℕ) → AreClocks test first last step → last < clock
-    → IsNextPassing test clock None
-next-none test first last step clock c past j ge lt = c.end.2 j (omega arith) (omega arith)
 
 -- behind a start, at the first second and at the end of a day
 pub behind-start : (test : ℕ → Bool) (first last k : ℕ) → test k ≡ true → IsBehindOne test first last (k + 1)

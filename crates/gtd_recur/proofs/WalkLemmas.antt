@@ -12,26 +12,20 @@ use Rattle.gtd_recur.specs.Work.{days_between, days_from, starts_of}
 use Rattle.gtd_recur.specs.facts.StartsLemmas.{count-append, count-between, count-is, days_between-append, days_between-is}
 use Rattle.gtd_recur.specs.facts.StartsLemmas.{looked-left}
 use Rattle.gtd_recur.proofs.GivenLemmas.{starts_of-append}
-use Rattle.gtd_recur.proofs.OpenLemmas.{no-starts}
+use Rattle.gtd_recur.proofs.OpenLemmas.{each-next, each-between, no-starts}
 
 -- days that all pass a test
 count-each : (f : ℤ → Bool) (a : ℤ) (k : ℕ) → ((i : ℕ) → i < k → f (a +ℤ pos i) ≡ true) → count_by f (days_from a k) ≡ k
 unfolding days_from
 count-each f a zero all = refl
 count-each f a (suc k) all =
-    let here : f a ≡ true = let same : a +ℤ pos 0 ≡ a = omega (arith, signed_arith) in rw same at (all 0 (omega arith)) in
-    let rest = count-each f (a +ℤ pos 1) k (λ i lt. let next : a +ℤ pos 1 +ℤ pos i ≡ a +ℤ pos (i + 1) =
-    omega (arith, signed_arith) in rw next (all (i + 1) (omega arith))) in
-    count-is f a (days_from (a +ℤ pos 1) k) ∙ rw (here, rest) (omega arith)
+    let each = each-next (λ n. f n ≡ true) a k all in
+    let rest = count-each f (a +ℤ pos 1) k each.1 in
+    count-is f a (days_from (a +ℤ pos 1) k) ∙ rw (each.0, rest) (omega arith)
 
 pub count-full : (f : ℤ → Bool) (a b : ℤ) (k : ℕ) → b ≡ a +ℤ pos k → ((n : ℤ) → a ≤ℤ n → n <ℤ b → f n ≡ true)
     → count_by f (days_between a b) ≡ k
-count-full f a b k e all =
-    rw (days_between-is a b k e) (count-each f a k
-    (λ i lt. all (a +ℤ pos i) (omega (arith, signed_arith)) (inside a b i k e lt)))
-  where
-    inside : (a b : ℤ) (i j : ℕ) → b ≡ a +ℤ pos j → i < j → (a +ℤ pos i) <ℤ b
-    inside a b i j e lt = omega (arith, signed_arith)
+count-full f a b k e all = rw (days_between-is a b k e) (count-each f a k (each-between (λ n. f n ≡ true) a b k e all))
 
 left-from : (p : StartParts) (day next n e : ℤ) (before : ℕ) → starts_of p (days_between next e) ≡ starts_of p (days_between n e)
     → starts_left p day before next e ≡ starts_left p day before n e

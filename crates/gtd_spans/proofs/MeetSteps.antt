@@ -1,5 +1,5 @@
 -- The steps of an intersection, and what they share with those of a difference.
-use Rattle.std.proofs.Common.{◌≡◌, ◌⊎◌, ◌↔◌, List, ◌∷◌, refl, inl, inr, arith, Option, Some, None, IfSome, MatchOption}
+use Rattle.std.proofs.Common.{◌≡◌, ◌⊎◌, ◌↔◌, List, [], ◌∷◌, refl, inl, inr, arith, Option, Some, None, IfSome, MatchOption}
 use Rattle.std.proofs.Common.{Bool, true, false, is_le, int_cmp}
 use Rattle.std.specs.Prelude.{ℤ, ◌≤ℤ◌, ◌<ℤ◌}
 use Rattle.std.proofs.lemmas.Int.{ints}
@@ -11,7 +11,8 @@ use Rattle.gtd_spans.specs.declared.merge.Side.{Side}
 use Rattle.gtd_spans.specs.declared.merge.Side.TheVariants.{Held}
 use Rattle.gtd_spans.specs.declared.merge.Merge.{Merge}
 use Rattle.gtd_spans.specs.Normal.{Holds, IsNormal, combine}
-use Rattle.gtd_spans.specs.Merging.{listed, side_list, still, OnlyUnionKeeps, Fits}
+use Rattle.gtd_spans.specs.declared.merge.Ask.TheVariants.{End}
+use Rattle.gtd_spans.specs.Merging.{listed, side_list, still, OnlyUnionKeeps, Fits, Steps}
 use Rattle.gtd_spans.specs.facts.OneList.{after-holds, one-list}
 use Rattle.gtd_spans.specs.facts.Combining.{combine-normal, combine-holds}
 pub use Rattle.gtd_spans.specs.facts.Ended.{nothing-meet, meet-nothing, nothing-minus}
@@ -55,24 +56,23 @@ moved-on op s a b g l r e none f n m h = (
   ) h,
 )
 
-beyond-left : (x : Interval) (l ys : List Interval) (g : Option Interval) → IsNormal (x ∷ l)
-    → IfSome g (λ m. (m.from <ℤ m.until) × (m.until ≤ℤ x.until))
-    → IfSome g (λ a. (a.from <ℤ a.until) × ((t : ℤ) → Holds (combine Meet l ys) t → a.until <ℤ t))
-beyond-left x l ys None n e = tt
-beyond-left x l ys (Some a) n e = (
-  e.0,
-  (λ t h.
-      let q = after-holds x.until t l n.1 ((combine-holds Meet l ys t).0 h).0 in omega (arith, ints, e.1, q)),
+-- a merge that keeps nothing back, and whose operator leaves nothing, is at its end
+pub nothing-more : (op : Op) (s : Merge) → s.op ≡ op → (OnlyUnionKeeps op s.kept → s.kept ≡ None)
+    → ((l r : List Interval) → combine op (side_list s.left l) (side_list s.right r) ≡ []) → Steps s End s
+nothing-more op s e keeps none = (
+  (λ l r f. (f, refl)),
+  (λ l r f. rw (keeps (rw e at f.keeps), e, none l r) (union-nil [] tt)),
 )
 
-beyond-right : (y : Interval) (xs r : List Interval) (g : Option Interval) → IsNormal (y ∷ r)
-    → IfSome g (λ m. (m.from <ℤ m.until) × (m.until ≤ℤ y.until))
-    → IfSome g (λ a. (a.from <ℤ a.until) × ((t : ℤ) → Holds (combine Meet xs r) t → a.until <ℤ t))
-beyond-right y xs r None n e = tt
-beyond-right y xs r (Some a) n e = (
+-- what is handed out ends before the list that is left, if it ends with an interval that comes before that list
+beyond : (x : Interval) (l left : List Interval) (g : Option Interval) → IsNormal (x ∷ l)
+    → ((t : ℤ) → Holds left t → Holds l t) → IfSome g (λ m. (m.from <ℤ m.until) × (m.until ≤ℤ x.until))
+    → IfSome g (λ a. (a.from <ℤ a.until) × ((t : ℤ) → Holds left t → a.until <ℤ t))
+beyond x l left None n within e = tt
+beyond x l left (Some a) n within e = (
   e.0,
   (λ t h.
-      let q = after-holds y.until t r n.1 ((combine-holds Meet xs r t).0 h).1 in omega (arith, ints, e.1, q)),
+      let q = after-holds x.until t l n.1 (within t h) in omega (arith, ints, e.1, q)),
 )
 
 -- of the two first intervals, the one that ends first goes, and their common part is handed out
@@ -81,7 +81,7 @@ pub meet-left : (x y : Interval) (l r : List Interval) (g : Option Interval) →
     → IfSome g (λ m. (m.from <ℤ m.until) × (m.until ≤ℤ x.until))
     → Handed g (combine Meet (x ∷ l) (y ∷ r)) (combine Meet l (y ∷ r))
 meet-left x y l r g n m le both ends = handed-by g _ _ (combine-normal _ _ _) (combine-normal _ _ _)
-    (beyond-left x l (y ∷ r) g n ends)
+    (beyond x l (combine Meet l (y ∷ r)) g n (λ t h. ((combine-holds Meet l (y ∷ r) t).0 h).0) ends)
     (λ t. let old = combine-holds Meet (x ∷ l) (y ∷ r) t in let new = combine-holds Meet l (y ∷ r) t in (
       (λ h. let k = old.0 h in elim k.0 [
         | inl w ↦ elim k.1 [
@@ -101,7 +101,7 @@ pub meet-right : (x y : Interval) (l r : List Interval) (g : Option Interval) �
     → IfSome g (λ m. (m.from <ℤ m.until) × (m.until ≤ℤ y.until))
     → Handed g (combine Meet (x ∷ l) (y ∷ r)) (combine Meet (x ∷ l) r)
 meet-right x y l r g n m le both ends = handed-by g _ _ (combine-normal _ _ _) (combine-normal _ _ _)
-    (beyond-right y (x ∷ l) r g m ends)
+    (beyond y r (combine Meet (x ∷ l) r) g m (λ t h. ((combine-holds Meet (x ∷ l) r t).0 h).1) ends)
     (λ t. let old = combine-holds Meet (x ∷ l) (y ∷ r) t in let new = combine-holds Meet (x ∷ l) r t in (
       (λ h. let k = old.0 h in elim k.1 [
         | inl v ↦ elim k.0 [

@@ -1,38 +1,39 @@
 -- What is handed out for the intervals that come first on two sides.
-use Rattle.std.proofs.Common.{◌≡◌, ◌⊎◌, ◌↔◌, List, ◌∷◌, inl, inr, arith, Option, Some, None, IfSome}
+use Rattle.std.proofs.Common.{◌≡◌, ◌⊎◌, ◌↔◌, List, ◌∷◌, inl, inr, arith, Option, Some, None, MatchOption}
 use Rattle.std.specs.Prelude.{ℤ, ◌≤ℤ◌, ◌<ℤ◌}
 use Rattle.std.proofs.lemmas.Int.{ints, by_lt_z}
 use Rattle.gtd_core.specs.Seconds.{Interval, Within}
 use Rattle.gtd_core.specs.declared.domain.Op.TheVariants.{Meet, Minus}
 use Rattle.gtd_spans.specs.declared.merge.Side.{Side}
 use Rattle.gtd_spans.specs.declared.merge.Side.TheVariants.{Open, Held}
-use Rattle.gtd_spans.specs.Normal.{Holds, IsNormal, combine}
-use Rattle.gtd_spans.specs.Merging.{listed}
+use Rattle.gtd_spans.specs.Normal.{IsNormal, combine}
 use Rattle.gtd_spans.specs.Sides.{Handed, Hands}
 use Rattle.gtd_spans.specs.facts.Orders.{from-weaken, normal-begins}
 use Rattle.gtd_spans.proofs.GapLemmas.{Made, one-of-lower, one-of-upper}
-use Rattle.gtd_spans.proofs.MeetSteps.{meet-left, meet-right}
+use Rattle.gtd_spans.proofs.MeetSteps.{meet-left, meet-right, meet-listed, meet-ends}
 use Rattle.gtd_spans.proofs.MinusSteps.{drop-right, drop-left, give-left, give-drop, give-trim, trim-left}
 
 -- the left span ends first
 pub shares-left : (x y : Interval) (left right : Side) (g : Option Interval) → x.until ≤ℤ y.until
-    → ((t : ℤ) → Holds (listed g) t ↔ (Within x t × Within y t))
-    → IfSome g (λ m. (m.from <ℤ m.until) × (m.until ≤ℤ x.until)) → Hands Meet x y left right g Open right
+    → MatchOption g ((t : ℤ) → Within x t → Within y t → ⊥) (λ m. (t : ℤ) → Within m t ↔ (Within x t × Within y t))
+    → MatchOption g (Unit {0}) (λ m. (m.from <ℤ m.until) × (m.until ≤ℤ x.until) × (m.until ≤ℤ y.until))
+    → Hands Meet x y left right g Open right
 shares-left x y left right g le both ends hl hr l r n m = record {
   left_normal = n.2;
   right_normal = rw hr m;
-  handed = rw (hl, hr) (meet-left x y l r g n m le both ends);
+  handed = rw (hl, hr) (meet-left x y l r g n m le (meet-listed x y g both) (meet-ends x y g ends).0);
   fewer = rw (hl, hr) (omega arith);
 }
 
 -- the right span ends first
 pub shares-right : (x y : Interval) (left right : Side) (g : Option Interval) → y.until ≤ℤ x.until
-    → ((t : ℤ) → Holds (listed g) t ↔ (Within x t × Within y t))
-    → IfSome g (λ m. (m.from <ℤ m.until) × (m.until ≤ℤ y.until)) → Hands Meet x y left right g left Open
+    → MatchOption g ((t : ℤ) → Within x t → Within y t → ⊥) (λ m. (t : ℤ) → Within m t ↔ (Within x t × Within y t))
+    → MatchOption g (Unit {0}) (λ m. (m.from <ℤ m.until) × (m.until ≤ℤ x.until) × (m.until ≤ℤ y.until))
+    → Hands Meet x y left right g left Open
 shares-right x y left right g le both ends hl hr l r n m = record {
   left_normal = rw hl n;
   right_normal = m.2;
-  handed = rw (hl, hr) (meet-right x y l r g n m le both ends);
+  handed = rw (hl, hr) (meet-right x y l r g n m le (meet-listed x y g both) (meet-ends x y g ends).1);
   fewer = rw (hl, hr) (omega arith);
 }
 

@@ -124,37 +124,40 @@ left_taken s kept = record { op = s.op; left = Open; right = s.right; kept = Som
 abbrev right_taken : Merge → Interval → Merge
 right_taken s kept = record { op = s.op; left = s.left; right = Open; kept = Some kept }
 
-pub took-left : (s : Merge) (x : Interval) (g : Option Interval) (kept : Interval)
-    → s.op ≡ Union → s.left ≡ Held x → IsJoined s.kept x g kept
-    → (l r : List Interval) → AllBeginFrom x.from (side_list s.right r) → Fits s l r
-    → Fits (left_taken s kept) l r × Handed g (still s l r) (still (left_taken s kept) l r)
-took-left s x g kept op held j l r first f =
-    let n : IsNormal (x ∷ l) = rw held at f.left in
-    let k : KeptFits s.kept (x ∷ l) (side_list s.right r) = rw held at f.kept in
-    let begins : IfSome s.kept (λ k. k.from ≤ℤ x.from) = kept-left s.kept x l _ k in
-    let le : kept.from ≤ℤ x.from = j.2 begins in
-    let fl : AllBeginFrom kept.from l = from-weaken x.from kept.from l le (normal-begins x l n).1 in
-    let fr : AllBeginFrom kept.from (side_list s.right r) = from-weaken x.from kept.from _ le first in (
-      record { left = n.2; right = f.right; kept = (j.3, fl, fr); keeps = rw op tt },
-      rw (op, held) (handed g kept l (side_list s.right r) _ (combine-normal _ _ _) j.1 fl fr
-          (moved s.kept g x kept l (side_list s.right r) _ (old-left s.kept x l (side_list s.right r)) (j.0 begins))),
-    )
+pub handed-as : (g h : Option Interval) (old new : List Interval) → g ≡ h → Handed g old new → Handed h old new
+handed-as g h old new e k = let P : Option Interval → Type 0 = λ o. Handed o old new in subst P e k
 
-pub took-right : (s : Merge) (x : Interval) (g : Option Interval) (kept : Interval)
-    → s.op ≡ Union → s.right ≡ Held x → IsJoined s.kept x g kept
-    → (l r : List Interval) → AllBeginFrom x.from (side_list s.left l) → Fits s l r
-    → Fits (right_taken s kept) l r × Handed g (still s l r) (still (right_taken s kept) l r)
-took-right s x g kept op held j l r first f =
-    let n : IsNormal (x ∷ r) = rw held at f.right in
-    let k : KeptFits s.kept (side_list s.left l) (x ∷ r) = rw held at f.kept in
-    let begins : IfSome s.kept (λ k. k.from ≤ℤ x.from) = kept-right s.kept x _ r k in
-    let le : kept.from ≤ℤ x.from = j.2 begins in
-    let fr : AllBeginFrom kept.from r = from-weaken x.from kept.from r le (normal-begins x r n).1 in
-    let fl : AllBeginFrom kept.from (side_list s.left l) = from-weaken x.from kept.from _ le first in (
-      record { left = f.left; right = n.2; kept = (j.3, fl, fr); keeps = rw op tt },
-      rw (op, held) (handed g kept (side_list s.left l) r _ (combine-normal _ _ _) j.1 fl fr
-          (moved s.kept g x kept (side_list s.left l) r _ (old-right s.kept x (side_list s.left l) r) (j.0 begins))),
-    )
+module _ (s : Merge) (x : Interval) (g : Option Interval) (kept : Interval) (h : Option Interval) (is : g ≡ h)
+    (op : s.op ≡ Union) (joins : IsJoined s.kept x g kept) where
+  pub took-left : s.left ≡ Held x → ((l r : List Interval) → Fits s l r → AllBeginFrom x.from (side_list s.right r))
+      → (l r : List Interval) → Fits s l r
+      → Fits (left_taken s kept) l r × Handed h (still s l r) (still (left_taken s kept) l r)
+  took-left held first l r f =
+      let n : IsNormal (x ∷ l) = rw held at f.left in
+      let k : KeptFits s.kept (x ∷ l) (side_list s.right r) = rw held at f.kept in
+      let begins : IfSome s.kept (λ k. k.from ≤ℤ x.from) = kept-left s.kept x l _ k in
+      let le : kept.from ≤ℤ x.from = joins.2 begins in
+      let fl : AllBeginFrom kept.from l = from-weaken x.from kept.from l le (normal-begins x l n).1 in
+      let fr : AllBeginFrom kept.from (side_list s.right r) = from-weaken x.from kept.from _ le (first l r f) in (
+        record { left = n.2; right = f.right; kept = (joins.3, fl, fr); keeps = rw op tt },
+        handed-as g h _ _ is (rw (op, held) (handed g kept l (side_list s.right r) _ (combine-normal _ _ _) joins.1 fl fr
+            (moved s.kept g x kept l (side_list s.right r) _ (old-left s.kept x l (side_list s.right r)) (joins.0 begins)))),
+      )
+
+  pub took-right : s.right ≡ Held x → ((l r : List Interval) → Fits s l r → AllBeginFrom x.from (side_list s.left l))
+      → (l r : List Interval) → Fits s l r
+      → Fits (right_taken s kept) l r × Handed h (still s l r) (still (right_taken s kept) l r)
+  took-right held first l r f =
+      let n : IsNormal (x ∷ r) = rw held at f.right in
+      let k : KeptFits s.kept (side_list s.left l) (x ∷ r) = rw held at f.kept in
+      let begins : IfSome s.kept (λ k. k.from ≤ℤ x.from) = kept-right s.kept x _ r k in
+      let le : kept.from ≤ℤ x.from = joins.2 begins in
+      let fr : AllBeginFrom kept.from r = from-weaken x.from kept.from r le (normal-begins x r n).1 in
+      let fl : AllBeginFrom kept.from (side_list s.left l) = from-weaken x.from kept.from _ le (first l r f) in (
+        record { left = f.left; right = n.2; kept = (joins.3, fl, fr); keeps = rw op tt },
+        handed-as g h _ _ is (rw (op, held) (handed g kept (side_list s.left l) r _ (combine-normal _ _ _) joins.1 fl fr
+            (moved s.kept g x kept (side_list s.left l) r _ (old-right s.kept x (side_list s.left l) r) (joins.0 begins)))),
+      )
 
 abbrev kept_taken : Merge → Merge
 kept_taken s = record { op = s.op; left = s.left; right = s.right; kept = None }
@@ -180,9 +183,6 @@ took-kept s op el er l r f =
       rw (op, el, er) (handed-kept s.kept k),
       rw (op, el, er) nothing-left,
     )
-
-pub handed-as : (g h : Option Interval) (old new : List Interval) → g ≡ h → Handed g old new → Handed h old new
-handed-as g h old new e k = let P : Option Interval → Type 0 = λ o. Handed o old new in subst P e k
 
 -- a side begins no earlier than the interval that it holds
 pub side-begins : (b : ℤ) (side : Side) (y : Interval) (l : List Interval) → side ≡ Held y → b ≤ℤ y.from

@@ -1,7 +1,8 @@
 -- The table of a year, from the normal list of its open seconds.
-use Rattle.std.proofs.Common.{◌≡◌, subst, ℕ, List}
+use Rattle.std.proofs.Common.{◌≡◌, ◌∙◌, ◌-ℤ◌, subst, ℕ, List, FitsSigned, to_z, of_z, w64, to_z-of_z, unsigned_abs}
 use Rattle.std.specs.Prelude.{ℤ, pos, ◌+ℤ◌}
 use Rattle.gtd_calendar.specs.Calendar.{first_day, year_length}
+use Rattle.gtd_calendar.specs.facts.YearDays.{days_between, year_length-few}
 use Rattle.gtd_core.specs.Seconds.{Interval}
 use Rattle.gtd_core.specs.Whole.{from_day, to_day}
 use Rattle.gtd_core.specs.declared.horizon.Horizon.{Horizon}
@@ -27,3 +28,17 @@ year_table set horizon list seconds first days year lines normal is from to begi
       (λ h. (normal.inside t h).2),
       (λ s. normal.complete t (rw from low, rw to high, s)),
     )) at
+
+-- the days that were put, counted as the program counts them, are those of the year
+pub days_put : (set : ℤ → Type 0) (horizon : Horizon) (list seconds : List Interval) (first next : ℤ) (year : ℕ)
+    (lines : List (List ℕ)) → FitsSigned w64 first → FitsSigned w64 next
+    → IsNormalOver set horizon list → seconds ≡ list → first ≡ from_day horizon → next ≡ to_day horizon
+    → from_day horizon ≡ first_day (pos year) → to_day horizon ≡ first_day (pos year) +ℤ pos (year_length (pos year))
+    → AreDayLines (Holds seconds) (to_z w64 (of_z w64 first))
+    (unsigned_abs (to_z w64 (of_z w64 (to_z w64 (of_z w64 next) -ℤ to_z w64 (of_z w64 first))))) lines
+    → AreDayLines set (first_day (pos year)) (year_length (pos year)) lines
+days_put set horizon list seconds first next year lines from_fits to_fits normal is starts ends begins stops are =
+    let from : to_z w64 (of_z w64 first) ≡ first_day (pos year) = to_z-of_z from_fits ∙ starts ∙ begins in
+    let to = to_z-of_z to_fits ∙ ends ∙ stops in
+    let count = days_between (first_day (pos year)) _ (year_length (pos year)) (year_length-few (pos year)) to in
+    year_table set horizon list seconds _ _ year lines normal is begins stops from (rw from count) are

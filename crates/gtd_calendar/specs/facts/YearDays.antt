@@ -1,5 +1,5 @@
 -- The days of the years that a table or a picture may be of.
-use Rattle.std.proofs.Common.{◌≡◌, ◌∙◌, ap, unsigned_abs, to_z, of_z, w64, ◌≤◌, ◌+◌, ◌-◌, ℕ, arith}
+use Rattle.std.proofs.Common.{◌≡◌, ◌∙◌, ap, unsigned_abs, to_z, of_z, to_z-of_z, w64, FitsSigned, ◌≤◌, ◌+◌, ◌-◌, ℕ, arith}
 use Rattle.std.specs.Prelude.{ℤ, pos, ◌+ℤ◌, ◌-ℤ◌, ◌≤ℤ◌}
 use Rattle.gtd_core.specs.Limits.{first_horizon_day}
 use Rattle.gtd_core.specs.Horizons.{IsHorizonFault, IsHorizon}
@@ -73,6 +73,14 @@ pub near_after : (first day : ℤ) (n : ℕ) → n ≤ 366 → day ≡ first +�
 near_after first day n few e =
     let d : day -ℤ first ≡ pos n = omega (arith, signed_arith, e) in
     (omega (arith, signed_arith, e), omega (arith, signed_arith, e), rw d (omega (arith, signed_arith)))
+
+-- and so are two such days that the code holds as 64 bits
+pub near_cast : (first day start : ℤ) (n : ℕ) → FitsSigned w64 first → FitsSigned w64 day → first ≡ start
+    → day ≡ start +ℤ pos n → n ≤ 366
+    → (to_z w64 (of_z w64 first) ≤ℤ to_z w64 (of_z w64 day))
+    × (to_z w64 (of_z w64 day) ≤ℤ (to_z w64 (of_z w64 first) +ℤ pos 366))
+    × (unsigned_abs (to_z w64 (of_z w64 day) -ℤ to_z w64 (of_z w64 first)) ≡ n)
+near_cast first day start n f d is next few = rw (to_z-of_z f, is) (near_after start _ n few (to_z-of_z d ∙ next))
 
 -- the days from one to another
 pub days_between : (from to : ℤ) (n : ℕ) → n ≤ 366 → to ≡ from +ℤ pos n → unsigned_abs (to_z w64 (of_z w64 (to -ℤ from))) ≡ n

@@ -1,16 +1,15 @@
 -- Records found by their element.
 use Rattle.std.proofs.Common.{◌≡◌, ◌∙◌, sym, ap, refl, subst, ◌<◌, ◌≤◌, ◌+◌, ℕ, zero, suc, List, [], ◌∷◌, length, map, get_or}
 use Rattle.std.proofs.Common.{take, drop, ◌-◌, ◌*◌, arith, is_lt, false, length-drop, length-take}
-use Rattle.std.specs.Prelude.{Any, slice_index_or, ℤ}
+use Rattle.std.specs.Prelude.{Any, slice_index_or}
 use Rattle.std.specs.List.{Contains}
 use Rattle.std.specs.List.Sorted.{IsNonDecreasingBy, IsSorted}
 use Rattle.std.specs.Ordering.{nat_cmp}
 use Rattle.std.proofs.lemmas.List.{length-map, get_or-take, get_or-drop}
 use Rattle.std.proofs.lemmas.Bool.Decides.{nat_tests}
 use Rattle.gtd_records.specs.Index.{ArePlaces, IsPlaceOfRow}
-use Rattle.gtd_records.specs.Closing.{AreElements, Closes, Restriction}
+use Rattle.gtd_records.specs.Closing.{AreElements, Restriction}
 use Rattle.gtd_records.specs.Columns.{IsSortedSet}
-use Rattle.gtd_records.specs.declared.direction.Direction.{Direction}
 use Rattle.gtd_records.specs.declared.index.Place.{Place}
 
 pub by_le : {P : Type 0} (a b : ℕ) → (a ≤ b → P) → (b < a → P) → P
@@ -54,39 +53,6 @@ part_at places all same from k d h =
     let l = ap length same in
     get_or-take (length all - from) (drop from all) k d (omega (arith, l)) ∙ get_or-drop from all k d
     ∙ ap (λ (xs : List Place). get_or xs (from + k) d) same
-
-module _ (rows : List Restriction) (places all : List Place) (same : all ≡ places) (placed : ArePlaces rows places)
-    (element : ℕ) (direction : Direction) (vehicle : ℕ) (second : ℤ) (from : ℕ)
-    (below : (k : ℕ) (d : Place) → 0 ≤ k → k < from → (slice_index_or places k d).element < element)
-    (rest : (k : ℕ) (d : Place) → from ≤ k → k < length places → element ≤ (slice_index_or places k d).element) where
-  -- where no place up to one closes the element, and that one is of a later element or past the end, no record does
-  pub none_closes : (stop : ℕ)
-      → ((k : ℕ) (d : Place) (r : Restriction) → k < stop → slice_index_or rows
-      (slice_index_or (take (length all - from) (drop from all)) k d).row r ≡ r → Closes element direction vehicle second r
-      → ⊥)
-      → ((d : Place) → from + stop < length places → (slice_index_or places (from + stop) d).element ≡ element → ⊥)
-      → Any (Closes element direction vehicle second) rows → ⊥
-  none_closes stop none after a =
-      let r = a.1 in
-      let c = a.4 in
-      let p : Place = record { element = r.element; row = a.0 } in
-      let h = placed.each a.0 r a.2 a.3 in
-      let k = h.0 in
-      let name = ap (λ (q : Place). q.element) h.2 in
-      let row = ap (λ (q : Place). q.row) h.2 in
-      by_le {P = ⊥} from k
-      (λ ge.
-      by_le {P = ⊥} (from + stop) k
-      (λ past.
-      let s = placed.sorted (from + stop) k p past h.1 in
-      let m = rest (from + stop) p (omega arith) (omega (arith, h.1, past)) in
-      after p (omega (arith, h.1, past)) (omega (arith, s, m, name, c.names)))
-      (λ before.
-      let e : from + (k - from) ≡ k = omega arith in
-      let at = part_at places all same from (k - from) p (omega (arith, e, h.1)) ∙ ap (λ (n : ℕ). get_or places n p) e in
-      let there = ap (λ (q : Place). q.row) at ∙ row in
-      none (k - from) p r (omega arith) (ap (λ (n : ℕ). get_or rows n r) there ∙ a.3) c))
-      (λ lt. let b = below k p (omega arith) lt in omega (arith, b, name, c.names))
 
 -- the place of a row of the element is one of those up to one that is of a later element or past the end
 module _ (rows : List Restriction) (places all : List Place) (same : all ≡ places) (placed : ArePlaces rows places)

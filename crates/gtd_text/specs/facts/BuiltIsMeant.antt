@@ -14,7 +14,7 @@ use Rattle.gtd_text.specs.declared.token.TokenKind.TheVariants.{OpenBracket, Clo
 use Rattle.gtd_text.specs.declared.token.TokenKind.TheVariants.{OpenBrace, CloseBrace, Plus, Star, Minus}
 use Rattle.gtd_text.specs.Grammar.{fits_start, fits_duration, all_fit_start, all_fit_duration, with_start_field}
 use Rattle.gtd_text.specs.Grammar.{with_start_fields, with_duration_field, with_duration_fields, zero_parts, Sum, Product, Item}
-use Rattle.gtd_text.specs.Grammar.{Stands, basic, bracketed, item, meet, product, union, minus, basic_tokens}
+use Rattle.gtd_text.specs.Grammar.{Stands, basic, bracketed, item, meet, product, union, minus, basic_tokens, each_fits}
 use Rattle.gtd_text.specs.Building.{Sums, Pending, State, Expecting, InStart, AfterStart, InDuration, AfterItem, total, times}
 use Rattle.gtd_text.specs.Building.{close_start, close_duration, close_bracket, step, finish, build, at_front}
 use Rattle.gtd_text.specs.facts.Builds.{turned, and_left, and_right}
@@ -136,19 +136,13 @@ duration-append parts (other ∷ tokens) token = duration-append (with_duration_
 both : (a b : Bool) → a ≡ true → b ≡ true → (a && b) ≡ true
 both a b p q = rw p q
 
-fit_start-append : (before tokens : List TokenKind) (token : TokenKind) → all_fit_start before tokens ≡ true
-    → fits_start (turned before tokens) token ≡ true → all_fit_start before (tokens ++ token ∷ []) ≡ true
-fit_start-append before [] token h k = both (fits_start before token) true k refl
-fit_start-append before (other ∷ tokens) token h k =
-    both (fits_start before other) _ (and_left _ (all_fit_start (other ∷ before) tokens) h)
-    (fit_start-append (other ∷ before) tokens token (and_right (fits_start before other) _ h) k)
-
-fit_duration-append : (before tokens : List TokenKind) (token : TokenKind) → all_fit_duration before tokens ≡ true
-    → fits_duration (turned before tokens) token ≡ true → all_fit_duration before (tokens ++ token ∷ []) ≡ true
-fit_duration-append before [] token h k = both (fits_duration before token) true k refl
-fit_duration-append before (other ∷ tokens) token h k =
-    both (fits_duration before other) _ (and_left _ (all_fit_duration (other ∷ before) tokens) h)
-    (fit_duration-append (other ∷ before) tokens token (and_right (fits_duration before other) _ h) k)
+fit-append : (fits : List TokenKind → TokenKind → Bool) (before tokens : List TokenKind) (token : TokenKind)
+    → each_fits fits before tokens ≡ true → fits (turned before tokens) token ≡ true
+    → each_fits fits before (tokens ++ token ∷ []) ≡ true
+fit-append fits before [] token h k = both (fits before token) true k refl
+fit-append fits before (other ∷ tokens) token h k =
+    both (fits before other) _ (and_left _ (each_fits fits (other ∷ before) tokens) h)
+    (fit-append fits (other ∷ before) tokens token (and_right (fits before other) _ h) k)
 
 nonempty_turned : (field : TokenKind) (before fields : List TokenKind) → field ∷ before ≡ turned [] fields → fields ≢ []
 nonempty_turned field before [] e = absurd cc
@@ -195,7 +189,7 @@ more_start : (outer : List Pending) (sum : Sums) (prod : Option Tree) (before : 
 more_start outer sum prod before parts token tokens fit h =
     let fields = h.0 in (
       fields ++ token ∷ [],
-      fit_start-append [] fields token h.1 (rw (← h.2) fit),
+      fit-append fits_start [] fields token h.1 (rw (← h.2) fit),
       ap (λ (l : List TokenKind). token ∷ l) h.2 ∙ sym (turned-append [] fields token),
       ap (λ (p : StartParts). with_start_field p token) h.3 ∙ sym (start-append no_parts fields token),
       grown outer sum prod (OpenParenthesis ∷ fields) tokens token h.4,
@@ -212,7 +206,7 @@ more_duration outer sum prod start before parts token tokens fit h =
       h.2,
       h.3,
       fields ++ token ∷ [],
-      fit_duration-append [] fields token h.5 (rw (← h.6) fit),
+      fit-append fits_duration [] fields token h.5 (rw (← h.6) fit),
       ap (λ (l : List TokenKind). token ∷ l) h.6 ∙ sym (turned-append [] fields token),
       ap (λ (p : DurationParts). with_duration_field p token) h.7 ∙ sym (duration-append zero_parts fields token),
       subst (λ (l : List TokenKind). Around outer sum prod l (tokens ++ token ∷ []))

@@ -46,36 +46,45 @@ none_long_join (token ∷ left) sign right s h k = (
   none_long_join left sign right s h.1 k,
 )
 
-none_long_start : (before tokens : List TokenKind) → all_fit_start before tokens ≡ true → NoneLong tokens
-none_long_start before [] fit = tt
-none_long_start before (Field letter value digits ∷ tokens) fit = (
-  refl,
-  none_long_start (Field letter value digits ∷ before) tokens
-      (and_right (fits_start before (Field letter value digits)) _ fit),
-)
-none_long_start before (sign ∷ tokens) fit = absurd cc
+-- each of the tokens is a field
+abbrev AreFields : List TokenKind → Type 0
+AreFields [] = Unit {0}
+AreFields (Field letter value digits ∷ tokens) = AreFields tokens
+AreFields (sign ∷ tokens) = ⊥
 
-none_long_duration : (before tokens : List TokenKind) → all_fit_duration before tokens ≡ true → NoneLong tokens
-none_long_duration before [] fit = tt
-none_long_duration before (Field letter value digits ∷ tokens) fit = (
-  refl,
-  none_long_duration (Field letter value digits ∷ before) tokens
-      (and_right (fits_duration before (Field letter value digits)) _ fit),
-)
-none_long_duration before (sign ∷ tokens) fit = absurd cc
+start_fields-only : (before tokens : List TokenKind) → all_fit_start before tokens ≡ true → AreFields tokens
+start_fields-only before [] fit = tt
+start_fields-only before (Field letter value digits ∷ tokens) fit =
+    start_fields-only (Field letter value digits ∷ before) tokens
+    (and_right (fits_start before (Field letter value digits)) _ fit)
+start_fields-only before (sign ∷ tokens) fit = absurd cc
+
+duration_fields-only : (before tokens : List TokenKind) → all_fit_duration before tokens ≡ true → AreFields tokens
+duration_fields-only before [] fit = tt
+duration_fields-only before (Field letter value digits ∷ tokens) fit = duration_fields-only
+    (Field letter value digits ∷ before) tokens
+    (and_right (fits_duration before (Field letter value digits)) _ fit)
+duration_fields-only before (sign ∷ tokens) fit = absurd cc
+
+none_long_fields : (tokens : List TokenKind) → AreFields tokens → NoneLong tokens
+none_long_fields [] fields = tt
+none_long_fields (Field letter value digits ∷ tokens) fields = (refl, none_long_fields tokens fields)
+none_long_fields (sign ∷ tokens) fields = absurd fields
 
 none_long_basic : (start duration : List TokenKind) → all_fit_start [] start ≡ true → all_fit_duration [] duration ≡ true
     → bound_of (with_duration_fields zero_parts duration) ≤ 3162240000 → NoneLong (basic_tokens start duration)
 none_long_basic start duration fit fit' small =
     let short : is_too_long duration ≡ false = le-ltb 3162240000 (bound_of (with_duration_fields zero_parts duration)) small in (
       refl,
-      none_long_join start CloseParenthesis (OpenBrace ∷ (duration ++ CloseBrace ∷ [])) tt (none_long_start [] start fit) (
-        refl,
-        (
-          ap is_too_long (front_fields [] duration [] fit') ∙ short,
-          none_long_join duration CloseBrace [] tt (none_long_duration [] duration fit') (refl, tt),
-        ),
-      ),
+      none_long_join start CloseParenthesis (OpenBrace ∷ (duration ++ CloseBrace ∷ [])) tt
+          (none_long_fields start (start_fields-only [] start fit)) (
+            refl,
+            (
+              ap is_too_long (front_fields [] duration [] fit') ∙ short,
+              none_long_join duration CloseBrace [] tt (none_long_fields duration (duration_fields-only [] duration fit'))
+                  (refl, tt),
+            ),
+          ),
     )
 
 none_long : (level : Level) (tokens : List TokenKind) (e : Tree) → Stands level tokens e → AreValid e → NoneLong tokens
@@ -164,31 +173,20 @@ stays-more depth token tokens small same h = record {
 stays-none : (depth : ℕ) → Stays depth []
 stays-none depth = record { shallow = tt; back = refl }
 
-stays_start : (depth : ℕ) (before tokens : List TokenKind) → depth ≤ 128 → all_fit_start before tokens ≡ true → Stays depth tokens
-stays_start depth before [] small fit = stays-none depth
-stays_start depth before (Field letter value digits ∷ tokens) small fit =
-    stays-more depth (Field letter value digits) tokens small refl
-    (stays_start depth (Field letter value digits ∷ before) tokens small
-    (and_right (fits_start before (Field letter value digits)) _ fit))
-stays_start depth before (sign ∷ tokens) small fit = absurd cc
-
-stays_duration : (depth : ℕ) (before tokens : List TokenKind) → depth ≤ 128 → all_fit_duration before tokens ≡ true
-    → Stays depth tokens
-stays_duration depth before [] small fit = stays-none depth
-stays_duration depth before (Field letter value digits ∷ tokens) small fit =
-    stays-more depth (Field letter value digits) tokens small refl
-    (stays_duration depth (Field letter value digits ∷ before) tokens small
-    (and_right (fits_duration before (Field letter value digits)) _ fit))
-stays_duration depth before (sign ∷ tokens) small fit = absurd cc
+stays_fields : (depth : ℕ) (tokens : List TokenKind) → depth ≤ 128 → AreFields tokens → Stays depth tokens
+stays_fields depth [] small fields = stays-none depth
+stays_fields depth (Field letter value digits ∷ tokens) small fields =
+    stays-more depth (Field letter value digits) tokens small refl (stays_fields depth tokens small fields)
+stays_fields depth (sign ∷ tokens) small fields = absurd fields
 
 stays_basic : (depth : ℕ) (start duration : List TokenKind) → depth ≤ 128 → all_fit_start [] start ≡ true
     → all_fit_duration [] duration ≡ true → Stays depth (basic_tokens start duration)
 stays_basic depth start duration small fit fit' =
     stays-more depth OpenParenthesis _ small refl
-    (stays-append depth start _ (stays_start depth [] start small fit)
+    (stays-append depth start _ (stays_fields depth start small (start_fields-only [] start fit))
     (stays-more depth CloseParenthesis _ small refl
     (stays-more depth OpenBrace _ small refl
-    (stays-append depth duration _ (stays_duration depth [] duration small fit')
+    (stays-append depth duration _ (stays_fields depth duration small (duration_fields-only [] duration fit'))
     (stays-more depth CloseBrace [] small refl (stays-none depth))))))
 
 stays_bracketed : (depth : ℕ) (tokens : List TokenKind) → depth + 1 ≤ 128 → Stays (depth + 1) tokens

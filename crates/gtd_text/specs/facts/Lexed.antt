@@ -17,22 +17,28 @@ use Rattle.gtd_text.specs.Lexing.{IsToken, AreSpaces, Reads}
 use Rattle.gtd_text.specs.TokenAt.{sign_of, field_of, kind_at_front, length_of, token_from, token_at}
 use Rattle.gtd_text.specs.facts.TokenForms.{stands}
 
-pick : (b : Bool) (x : TokenKind) (o : Option TokenKind) (k : TokenKind) → length_of x ≡ 1 → (o ≡ Some k → length_of k ≡ 1)
-    → cond b (Some x) o ≡ Some k → length_of k ≡ 1
-pick true x o k one h e = let same : x ≡ k = cc in ap length_of (sym same) ∙ one
-pick false x o k one h e = h e
+pick : (P : TokenKind → Type 0) (b : Bool) (x : TokenKind) (o : Option TokenKind) (k : TokenKind) → P x
+    → (o ≡ Some k → P k) → cond b (Some x) o ≡ Some k → P k
+pick P true x o k here h e = let same : x ≡ k = cc in subst P same here
+pick P false x o k here h e = h e
+
+-- what holds of each sign holds of one that a byte is read as
+pub each_sign : (P : TokenKind → Type 0) → P OpenBracket → P CloseBracket → P OpenParenthesis → P CloseParenthesis
+    → P OpenBrace → P CloseBrace → P Plus → P Star → P Minus
+    → (byte : ℕ) (kind : TokenKind) → sign_of byte ≡ Some kind → P kind
+each_sign P left right opens closes begins ends plus star minus byte kind =
+    pick P (byte == 91) OpenBracket _ kind left
+    (pick P (byte == 93) CloseBracket _ kind right
+    (pick P (byte == 40) OpenParenthesis _ kind opens
+    (pick P (byte == 41) CloseParenthesis _ kind closes
+    (pick P (byte == 123) OpenBrace _ kind begins
+    (pick P (byte == 125) CloseBrace _ kind ends
+    (pick P (byte == 43) Plus _ kind plus
+    (pick P (byte == 42) Star _ kind star
+    (pick P (byte == 45) Minus None kind minus (λ e. absurd cc)))))))))
 
 sign_length : (byte : ℕ) (kind : TokenKind) → sign_of byte ≡ Some kind → length_of kind ≡ 1
-sign_length byte kind =
-    pick (byte == 91) OpenBracket _ kind refl
-    (pick (byte == 93) CloseBracket _ kind refl
-    (pick (byte == 40) OpenParenthesis _ kind refl
-    (pick (byte == 41) CloseParenthesis _ kind refl
-    (pick (byte == 123) OpenBrace _ kind refl
-    (pick (byte == 125) CloseBrace _ kind refl
-    (pick (byte == 43) Plus _ kind refl
-    (pick (byte == 42) Star _ kind refl
-    (pick (byte == 45) Minus None kind refl (λ e. absurd cc)))))))))
+sign_length = each_sign (λ kind. length_of kind ≡ 1) refl refl refl refl refl refl refl refl refl
 
 field_length : (b : Bool) (letter value digits : ℕ) (kind : TokenKind) → cond b (Some (Field letter value digits)) None
     ≡ Some kind → length_of kind ≡ digits + 1

@@ -1,6 +1,6 @@
 -- Fields that fit make a start and a duration that are in their ranges.
 use Rattle.std.proofs.Common.{◌≡◌, ◌≢◌, ℕ, ◌-◌, ◌/◌, ◌%◌, ◌^◌, ◌<◌, ◌≤◌, Bool, true, false, List, [], ◌∷◌, Some, None}
-use Rattle.std.proofs.Common.{refl, ap, arith, cond}
+use Rattle.std.proofs.Common.{refl, ap, arith, cond, rules}
 use Rattle.std.specs.Prelude.{◌==◌, ◌&&◌, nat_le, bit_or, not}
 use Rattle.std.proofs.lemmas.Bool.{leb-true, ne_eqb}
 use Rattle.std.proofs.lemmas.Nat.{or_lt, le_or_r, pow_pos}
@@ -111,18 +111,7 @@ more_field before (Field letter value digits) parts fit r =
 more_field before token parts fit r = absurd cc
 
 in_range : (parts : StartParts) → IsStart parts → AreInRange parts
-in_range parts h = record {
-  year = h.year;
-  month = h.month;
-  week = h.week;
-  day = h.day;
-  hour = h.hour;
-  minute = h.minute;
-  second = h.second;
-  nth = h.nth;
-  nth_back = h.nth_back;
-  weekdays = h.weekdays;
-}
+in_range parts h = search rules
 
 more_fields : (before tokens : List TokenKind) (parts : StartParts) → all_fit_start before tokens ≡ true → IsStart parts
     → IsStart (with_start_fields parts tokens)

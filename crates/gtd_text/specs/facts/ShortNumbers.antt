@@ -1,7 +1,7 @@
 -- The number of a field has at most six digits.
 use Rattle.std.proofs.Common.{◌≡◌, ℕ, ◌+◌, ◌^◌, ◌<◌, ◌≤◌, Bool, true, false, cond, List, [], ◌∷◌, length, drop, Option, Some}
 use Rattle.std.proofs.Common.{None, refl, ap, arith}
-use Rattle.std.specs.Prelude.{◌==◌, nat_le}
+use Rattle.std.specs.Prelude.{nat_le}
 use Rattle.std.specs.List.{take_while}
 use Rattle.std.specs.Char.{is_ascii_digit}
 use Rattle.std.specs.Str.{all_ascii_digits}
@@ -9,14 +9,14 @@ use Rattle.std.proofs.lemmas.Bool.{leb-true}
 use Rattle.std.proofs.lemmas.Str.Parse.{digits_value_short}
 use Rattle.gtd_text.specs.declared.token.Token.{Token}
 use Rattle.gtd_text.specs.declared.token.TokenKind.{TokenKind}
-use Rattle.gtd_text.specs.declared.token.TokenKind.TheVariants.{OpenBracket, CloseBracket, OpenParenthesis, CloseParenthesis}
-use Rattle.gtd_text.specs.declared.token.TokenKind.TheVariants.{OpenBrace, CloseBrace, Plus, Star, Minus, Field}
+use Rattle.gtd_text.specs.declared.token.TokenKind.TheVariants.{Field}
 use Rattle.gtd_core.specs.FieldTable.{is_from_to}
 use Rattle.gtd_text.specs.Grammar.{is_start_letter}
 use Rattle.gtd_text.specs.Lexing.{Reads, AreTokens, kinds}
 use Rattle.gtd_text.specs.TokenAt.{field_number, sign_of, field_of, kind_at_front, length_of, token_from}
 use Rattle.gtd_text.specs.facts.Builds.{and_right}
 use Rattle.gtd_text.specs.facts.TokenForms.{own, front_digits, computed}
+use Rattle.gtd_text.specs.facts.Lexed.{each_sign}
 use Rattle.gtd_text.specs.facts.Ranges.{IsShort, AreShort}
 
 small_number : (digits : List ℕ) → all_ascii_digits digits ≡ true → length digits ≤ 6 → field_number digits ≤ 999999
@@ -31,22 +31,8 @@ short_field true letter digits kind e all h =
     let same : Field letter (field_number digits) (length digits) ≡ kind = cc in
     rw (← same) (small_number digits all (leb-true (length digits) 6 (and_right (nat_le 1 (length digits)) _ e)))
 
-pick : (b : Bool) (x : TokenKind) (o : Option TokenKind) (k : TokenKind) → IsShort x → (o ≡ Some k → IsShort k)
-    → cond b (Some x) o ≡ Some k → IsShort k
-pick true x o k s h e = let same : x ≡ k = cc in rw (← same) s
-pick false x o k s h e = h e
-
 short_sign : (byte : ℕ) (kind : TokenKind) → sign_of byte ≡ Some kind → IsShort kind
-short_sign byte kind =
-    pick (byte == 91) OpenBracket _ kind tt
-    (pick (byte == 93) CloseBracket _ kind tt
-    (pick (byte == 40) OpenParenthesis _ kind tt
-    (pick (byte == 41) CloseParenthesis _ kind tt
-    (pick (byte == 123) OpenBrace _ kind tt
-    (pick (byte == 125) CloseBrace _ kind tt
-    (pick (byte == 43) Plus _ kind tt
-    (pick (byte == 42) Star _ kind tt
-    (pick (byte == 45) Minus None kind tt (λ e. absurd cc)))))))))
+short_sign = each_sign IsShort tt tt tt tt tt tt tt tt tt
 
 short_front : (b : Bool) (byte : ℕ) (bytes : List ℕ) (kind : TokenKind)
     → cond b (field_of byte (take_while is_ascii_digit bytes)) (sign_of byte) ≡ Some kind → IsShort kind

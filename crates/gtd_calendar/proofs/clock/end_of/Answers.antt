@@ -1,4 +1,4 @@
-use Rattle.std.proofs.Common.{arith, rules, ◌≡◌, to_z, of_z, w64, to_z-of_z, ◌+◌, ◌*◌, ◌∙◌, sym, refl, ◌≤◌, ◌<◌, ℕ, ℤ, pos}
+use Rattle.std.proofs.Common.{arith, rules, ◌≡◌, to_z, of_z, w64, to_z-of_z, ◌+◌, ◌*◌, ◌∙◌, sym, ◌≤◌, ◌<◌, ℕ, ℤ, pos}
 use Rattle.std.proofs.Common.{◌+ℤ◌, ◌*ℤ◌, FitsSigned}
 use Rattle.std.proofs.lemmas.Int.{to_z_pos}
 use Rattle.jiff_core.proofs.SignedLemmas.{signed_arith}
@@ -32,43 +32,35 @@ returns-clause-within_bound c = rw (returns-clause-value c)
 pub returns-clause-stop : goal.returns-clause-stop
 returns-clause-stop c = rw (returns-clause-value c) (stop-is (duration_parts c.args.duration.now) c.args.start.0)
 
--- a second of a calendar day and a length within the bound have a sum that fits
-short_sum : (b n : ℤ) (second lasts : ℕ) → IsCalendarDay n → b ≡ pos 86400 *ℤ n +ℤ pos second → second < 86400
-    → lasts ≤ 10_000_000_000 → FitsSigned w64 (b +ℤ pos lasts)
-short_sum b n second lasts day is clock few = omega (arith, signed_arith, day.0, day.1)
+-- a second of a calendar day and a length within the bound have a sum that fits, and the code finds it
+short_sum : (b n : ℤ) (second lasts : ℕ) → FitsSigned w64 b → IsCalendarDay n → b ≡ pos 86400 *ℤ n +ℤ pos second
+    → second < 86400 → lasts ≤ 10_000_000_000
+    → FitsSigned w64 (to_z w64 (of_z w64 b) +ℤ to_z w64 lasts)
+    × (to_z w64 (of_z w64 (to_z w64 (of_z w64 b) +ℤ to_z w64 lasts)) ≡ b +ℤ pos lasts)
+short_sum b n second lasts fits day is clock few =
+    let cast : to_z w64 lasts ≡ pos lasts = to_z_pos w64 lasts (omega (arith, few)) in
+    let sum : FitsSigned w64 (b +ℤ pos lasts) = omega (arith, signed_arith, day.0, day.1) in
+    rw (to_z-of_z fits, cast) (sum, to_z-of_z sum)
+
+few_seconds : (days clock d k : ℕ) → d ≡ days → k ≡ clock → days ≤ 36_600 → clock ≤ 3_162_240_000
+    → 86400 * d + k ≤ 10_000_000_000
+few_seconds days clock d k e f few short = omega arith
 
 pub overflow_add-result : goal.overflow_add-result
 overflow_add-result c =
-    let fits : FitsSigned w64 c.args.start.0 = search rules in
-    let same : to_z w64 (of_z w64 c.args.start.0) ≡ c.args.start.0 = to_z-of_z fits in
-    let lasts = 86400 * c.from.result + c.from-then-months-eq0.result in
-    let few : lasts ≤ 10_000_000_000 = omega (
-      arith,
-      c.whole_days.ensures.bound,
-      c.clock.ensures.bound,
-      c.from.ensures,
-      c.from-then-months-eq0.ensures,
-    ) in
-    let cast : to_z w64 lasts ≡ pos lasts = to_z_pos w64 lasts (omega (arith, few)) in
     let parts = second-parts c.args.start.0 in
-    rw (same, cast) (short_sum c.args.start.0 (day_of_second c.args.start.0) (second_of_day c.args.start.0) lasts c.requires
-    parts.0 parts.1 few)
+    let few = few_seconds c.whole_days.result c.clock.result _ _ c.from.ensures c.from-then-months-eq0.ensures
+    c.whole_days.ensures.bound c.clock.ensures.bound in
+    (short_sum c.args.start.0 (day_of_second c.args.start.0) (second_of_day c.args.start.0)
+    (86400 * c.from.result + c.from-then-months-eq0.result) (search rules) c.requires parts.0 parts.1 few).0
 
 pub returns-then-months-eq0-clause-value : goal.returns-then-months-eq0-clause-value
 returns-then-months-eq0-clause-value c =
-    let fits : FitsSigned w64 c.args.start.0 = search rules in
-    let same : to_z w64 (of_z w64 c.args.start.0) ≡ c.args.start.0 = to_z-of_z fits in
-    let lasts = 86400 * c.from.result + c.from-then-months-eq0.result in
-    let few : lasts ≤ 10_000_000_000 = omega (
-      arith,
-      c.whole_days.ensures.bound,
-      c.clock.ensures.bound,
-      c.from.ensures,
-      c.from-then-months-eq0.ensures,
-    ) in
-    let cast : to_z w64 lasts ≡ pos lasts = to_z_pos w64 lasts (omega (arith, few)) in
-    let whole : to_z w64 (of_z w64 (to_z w64 (of_z w64 c.args.start.0) +ℤ to_z w64 lasts)) ≡ c.args.start.0 +ℤ pos lasts =
-    to_z-of_z (overflow_add-result c) ∙ rw (same, cast) refl in
+    let parts = second-parts c.args.start.0 in
+    let few = few_seconds c.whole_days.result c.clock.result _ _ c.from.ensures c.from-then-months-eq0.ensures
+    c.whole_days.ensures.bound c.clock.ensures.bound in
+    let whole = (short_sum c.args.start.0 (day_of_second c.args.start.0) (second_of_day c.args.start.0)
+    (86400 * c.from.result + c.from-then-months-eq0.result) (search rules) c.requires parts.0 parts.1 few).1 in
     let none = sym (c.whole_months-months.ensures.value) ∙ c.if-months-eq0.true in
     let is = stop-without_months (duration_parts c.args.duration.now) c.args.start.0 none in
     let days = c.from.ensures ∙ c.whole_days.ensures.value in

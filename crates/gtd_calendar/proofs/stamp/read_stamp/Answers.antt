@@ -2,23 +2,14 @@ use Rattle.std.proofs.Common.{rules}
 use Rattle.gtd_calendar.proofs.MomentLemmas.{stamp_in-only}
 use Rattle.gtd_calendar.proofs.stamp.read_stamp.Goals as goal
 
-pub returns-in_err-year-clause-second : goal.returns-in_err-year-clause-second
-returns-in_err-year-clause-second c = search rules
-
 pub returns-in_err-year-clause-value : goal.returns-in_err-year-clause-value
-returns-in_err-year-clause-value c = stamp_in-only c.args.text.now _ (returns-in_err-year-clause-second c)
-
-pub returns-in_err-day-clause-second : goal.returns-in_err-day-clause-second
-returns-in_err-day-clause-second c = search rules
+returns-in_err-year-clause-value c = stamp_in-only c.args.text.now _ (search rules)
 
 pub returns-in_err-day-clause-value : goal.returns-in_err-day-clause-value
-returns-in_err-day-clause-value c = stamp_in-only c.args.text.now _ (returns-in_err-day-clause-second c)
-
-pub returns-in_err-number-clause-second : goal.returns-in_err-number-clause-second
-returns-in_err-number-clause-second c = search rules
+returns-in_err-day-clause-value c = stamp_in-only c.args.text.now _ (search rules)
 
 pub returns-in_err-number-clause-value : goal.returns-in_err-number-clause-value
-returns-in_err-number-clause-value c = stamp_in-only c.args.text.now _ (returns-in_err-number-clause-second c)
+returns-in_err-number-clause-value c = stamp_in-only c.args.text.now _ (search rules)
 
 pub returns-then-number-lt-FIRST_MOMENT-clause-second : goal.returns-then-number-lt-FIRST_MOMENT-clause-second
 returns-then-number-lt-FIRST_MOMENT-clause-second c = search rules
@@ -27,8 +18,5 @@ pub returns-then-number-lt-FIRST_MOMENT-clause-value : goal.returns-then-number-
 returns-then-number-lt-FIRST_MOMENT-clause-value c =
     stamp_in-only c.args.text.now _ (returns-then-number-lt-FIRST_MOMENT-clause-second c)
 
-pub returns-clause-second : goal.returns-clause-second
-returns-clause-second c = search rules
-
 pub returns-clause-value : goal.returns-clause-value
-returns-clause-value c = stamp_in-only c.args.text.now _ (returns-clause-second c)
+returns-clause-value c = stamp_in-only c.args.text.now _ (search rules)

@@ -1,37 +1,18 @@
-use Rattle.std.proofs.Common.{rules, ◌≡◌, ◌∙◌, pos, ◌-◌, arith, FitsSigned, to_z, of_z, w64, to_z-of_z}
-use Rattle.gtd_calendar.specs.Calendar.{days_of_months, first_day}
-use Rattle.gtd_calendar.specs.facts.YearDays.{few_before, near_after}
+use Rattle.std.proofs.Common.{rules, ◌∙◌, pos, ◌-◌, arith}
+use Rattle.gtd_calendar.specs.Calendar.{days_of_months}
+use Rattle.gtd_calendar.specs.facts.YearDays.{few_before, near_cast}
 use Rattle.gtd_calendar.proofs.year.days_before_month.Goals as goal
 
-pub days_from-requires-clause-order : goal.days_from-requires-clause-order
-days_from-requires-clause-order c =
-    let y = pos c.args.year in
-    let few = few_before y (c.args.month - 1) (omega arith) in
-    let first_fits : FitsSigned w64 c.new_year.result = search rules in
-    let next_fits : FitsSigned w64 c.first_of_month.result = search rules in
-    let next = to_z-of_z next_fits ∙ c.first_of_month.ensures.day in
-    let first : to_z w64 (of_z w64 c.new_year.result) ≡ first_day y = to_z-of_z first_fits ∙ c.new_year.ensures.day in
-    rw first (near_after (first_day y) _ (days_of_months y (c.args.month - 1)) few next).0
-
-pub days_from-requires-clause-near : goal.days_from-requires-clause-near
-days_from-requires-clause-near c =
-    let y = pos c.args.year in
-    let few = few_before y (c.args.month - 1) (omega arith) in
-    let first_fits : FitsSigned w64 c.new_year.result = search rules in
-    let next_fits : FitsSigned w64 c.first_of_month.result = search rules in
-    let next = to_z-of_z next_fits ∙ c.first_of_month.ensures.day in
-    let first : to_z w64 (of_z w64 c.new_year.result) ≡ first_day y = to_z-of_z first_fits ∙ c.new_year.ensures.day in
-    rw first (near_after (first_day y) _ (days_of_months y (c.args.month - 1)) few next).1
+pub days_from-requires : goal.days_from-requires
+days_from-requires c =
+    let few = few_before (pos c.args.year) (c.args.month - 1) (omega arith) in
+    let near = near_cast c.new_year.result c.first_of_month.result _ (days_of_months (pos c.args.year) (c.args.month - 1))
+    (search rules) (search rules) c.new_year.ensures.day c.first_of_month.ensures.day few in
+    record { order = near.0; near = near.1 }
 
 pub returns : goal.returns
 returns c =
-    let y = pos c.args.year in
-    let few = few_before y (c.args.month - 1) (omega arith) in
-    let first_fits : FitsSigned w64 c.new_year.result = search rules in
-    let next_fits : FitsSigned w64 c.first_of_month.result = search rules in
-    let next = to_z-of_z next_fits ∙ c.first_of_month.ensures.day in
-    let first : to_z w64 (of_z w64 c.new_year.result) ≡ first_day y = to_z-of_z first_fits ∙ c.new_year.ensures.day in
-    record {
-      value = c.days_from.ensures.value ∙ rw first (near_after (first_day y) _ (days_of_months y (c.args.month - 1))
-          few next).2;
-    }
+    let few = few_before (pos c.args.year) (c.args.month - 1) (omega arith) in
+    let near = near_cast c.new_year.result c.first_of_month.result _ (days_of_months (pos c.args.year) (c.args.month - 1))
+    (search rules) (search rules) c.new_year.ensures.day c.first_of_month.ensures.day few in
+    record { value = c.days_from.ensures.value ∙ near.2 }

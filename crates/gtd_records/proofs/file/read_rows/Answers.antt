@@ -8,9 +8,7 @@ use Rattle.gtd_records.proofs.file.read_rows.Goals as goal
 
 pub returns-then-not-branch : goal.returns-then-not-branch
 returns-then-not-branch c = λ rows has.
-    at_end c.args.version (λ (source : Bor (List ℕ)). Some source.now) c.loop-number.reader rows c.next_row.new.reader
-    c.loop-number.found.items c.loop-number.number (fields_of c.next_row.new.row)
-    (c.loop-number.invariant rows has) (omega arith) (rw c.if-not-branch.true at c.in_ok-next_row.ensures)
+    at_end _ _ _ _ _ _ (c.loop-number.invariant rows has) (omega arith) (rw c.if-not-branch.true at c.in_ok-next_row.ensures)
 
 pub returns-in_err-record : goal.returns-in_err-record
 returns-in_err-record c = λ rows has.
@@ -38,6 +36,4 @@ returns-then-branch c = λ rows has _.
 
 pub returns : goal.returns
 returns c = λ rows has.
-    at_end c.args.version (λ (source : Bor (List ℕ)). Some source.now) c.loop-number.reader rows c.next_row-2.new.reader
-    c.loop-number.found.items c.loop-number.number (fields_of c.next_row-2.new.row)
-    (c.loop-number.invariant rows has) (omega arith) (rw c.if-branch.false at c.in_ok-next_row-2.ensures)
+    at_end _ _ _ _ _ _ (c.loop-number.invariant rows has) (omega arith) (rw c.if-branch.false at c.in_ok-next_row-2.ensures)

@@ -1,17 +1,5 @@
-use Rattle.std.proofs.lemmas.List.Filters.{dedup_is}
-use Rattle.std.proofs.lemmas.List.Kept.{Contains-dedup_nat, Contains-from_dedup}
-use Rattle.std.proofs.lemmas.List.Sorted.{Contains-permutation, IsPermutation-sym}
-use Rattle.std.proofs.lemmas.Map.Keys.{IsStrictlyIncreasing-dedup}
+use Rattle.gtd_records.proofs.SortedSets.{sorted_set}
 use Rattle.gtd_records.proofs.index.in_order.Goals as goal
 
 pub returns : goal.returns
-returns c =
-    let is = dedup_is _ _ _ c.dedup.ensures.filtered in
-    let moved = c.sort_unstable.ensures.permutation in
-    record {
-      order = rw is (IsStrictlyIncreasing-dedup _ c.sort_unstable.ensures.sorted);
-      same = λ x. (
-        (λ h. Contains-permutation _ _ x (IsPermutation-sym _ _ moved) (Contains-from_dedup _ _ x (rw is at h))),
-        (λ h. rw is (Contains-dedup_nat _ x (Contains-permutation _ _ x moved h))),
-      );
-    }
+returns c = sorted_set _ _ _ c.sort_unstable.ensures.permutation c.sort_unstable.ensures.sorted c.dedup.ensures.filtered

@@ -3,16 +3,13 @@ use Rattle.std.proofs.lemmas.List.Sorted.{IsPartitionPoint-from_clause, IsPartit
 use Rattle.gtd_records.specs.declared.index.Place.{Place}
 use Rattle.gtd_records.proofs.index.places_below.Goals as goal
 
-pub returns-clause-below : goal.returns-clause-below
-returns-clause-below c =
+pub returns : goal.returns
+returns c =
     let parted = IsPartitionedBy-ltb (λ (p : Place). p.element) c.args.places.now c.args.element c.requires in
     let point = IsPartitionPoint-from_clause (λ (p : Place). ltb p.element c.args.element) _ _
     c.partition_point.ensures.partitioned parted (λ a r q k. search rules) in
-    λ k d l h. ltb-true _ _ (point.0 k d l h)
-
-pub returns-clause-rest : goal.returns-clause-rest
-returns-clause-rest c =
-    let parted = IsPartitionedBy-ltb (λ (p : Place). p.element) c.args.places.now c.args.element c.requires in
-    let point = IsPartitionPoint-from_clause (λ (p : Place). ltb p.element c.args.element) _ _
-    c.partition_point.ensures.partitioned parted (λ a r q k. search rules) in
-    λ k d l h. ltb-false _ _ (point.1 k d l h)
+    record {
+      within = search rules;
+      below = λ k d l h. ltb-true _ _ (point.0 k d l h);
+      rest = λ k d l h. ltb-false _ _ (point.1 k d l h);
+    }

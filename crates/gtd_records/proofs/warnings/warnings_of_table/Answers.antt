@@ -22,8 +22,7 @@ returns c =
 
 pub returns-in-Some : goal.returns-in-Some
 returns-in-Some c =
-    let text = records default_config (strip_bom c.args.bytes.now) in
-    let t = (rw c.if-not-branch.false at c.in_ok-next_row.ensures) text c.table-reader.ensures in
+    let t = (rw c.if-not-branch.false at c.in_ok-next_row.ensures) _ c.table-reader.ensures in
     IfOk-weaker c.warnings_of_rows.result _ _
     (λ warnings are. inl (c.in-Some.version, t.0, t.1 ∙ ap (λ f. f ∷ t.0) c.in-Some.ensures, are))
     (c.warnings_of_rows.ensures t.0 t.2)

@@ -1,4 +1,4 @@
-use Rattle.std.proofs.Common.{◌≡◌, ◌∙◌, sym, refl, Bool, true, false, ◌&&◌, ◌||◌, is_some, to_z, of_z, w64, to_z-of_z}
+use Rattle.std.proofs.Common.{◌≡◌, ◌∙◌, sym, refl, Bool, true, false, ◌&&◌, ◌||◌, is_some}
 use Rattle.gtd_calendar.specs.Calendar.{weekday_of}
 use Rattle.gtd_calendar.specs.ComputedFields.{day_fields}
 use Rattle.gtd_core.specs.declared.start.StartParts.{StartParts}
@@ -6,6 +6,7 @@ use Rattle.gtd_calendar.specs.declared.day.DayFields.{DayFields}
 use Rattle.gtd_recur.specs.Begins.{agrees, agrees_or_least, begins_on, gives_clock, gives_day, is_weekday, least_day}
 use Rattle.gtd_recur.specs.Begins.{place_agrees, weekday_agrees, year_agrees}
 use Rattle.gtd_recur.specs.facts.WeekLemmas.{date-free}
+use Rattle.gtd_recur.proofs.SearchLemmas.{tested}
 use Rattle.gtd_recur.proofs.begin.begins_on_day.Goals as goal
 
 -- a conjunction whose last part but one is false
@@ -27,17 +28,13 @@ unfit p f h =
 
 pub returns-then-not-is_weekday : goal.returns-then-not-is_weekday
 returns-then-not-is_weekday c =
-    let plain : to_z w64 (of_z w64 c.args.day) ≡ c.args.day = to_z-of_z c.ranges.day in
-    let weekday : c.weekday.result ≡ weekday_of c.args.day = rw plain at c.weekday.ensures.value in
-    let other : is_weekday c.args.start.now (weekday_of c.args.day) ≡ false =
-    rw weekday at (sym c.is_weekday.ensures ∙ c.if-not-is_weekday.true) in
+    let other = tested weekday_of (is_weekday c.args.start.now) c.args.day _ _ _ c.ranges.day c.weekday.ensures.value
+    c.is_weekday.ensures c.if-not-is_weekday.true in
     sym (unfit c.args.start.now (day_fields c.args.day) other)
 
 pub returns-then-asks_no_date : goal.returns-then-asks_no_date
 returns-then-asks_no_date c =
-    let plain : to_z w64 (of_z w64 c.args.day) ≡ c.args.day = to_z-of_z c.ranges.day in
-    let weekday : c.weekday.result ≡ weekday_of c.args.day = rw plain at c.weekday.ensures.value in
-    let fits : is_weekday c.args.start.now (weekday_of c.args.day) ≡ true =
-    rw weekday at (sym c.is_weekday.ensures ∙ c.if-not-is_weekday.false) in
-    let asks = c.asks_no_date.ensures.0 c.if-asks_no_date.true in
-    c.if-asks_no_date.true ∙ sym (date-free c.args.start.now (day_fields c.args.day) asks ∙ fits)
+    let fits = tested weekday_of (is_weekday c.args.start.now) c.args.day _ _ _ c.ranges.day c.weekday.ensures.value
+    c.is_weekday.ensures c.if-not-is_weekday.false in
+    c.if-asks_no_date.true ∙ sym (date-free c.args.start.now (day_fields c.args.day)
+    (c.asks_no_date.ensures.0 c.if-asks_no_date.true) ∙ fits)

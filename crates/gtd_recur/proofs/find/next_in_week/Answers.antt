@@ -24,13 +24,10 @@ returns-in-Some-clause-none c =
 
 pub returns-in-Some-next_of_week-clause-none : goal.returns-in-Some-next_of_week-clause-none
 returns-in-Some-next_of_week-clause-none c =
-    let day : to_z w64 (of_z w64 c.args.day) ≡ c.args.day = to_z-of_z c.ranges.day in
-    let of : to_z w64 (of_z w64 c.args.of) ≡ c.args.of = to_z-of_z c.ranges.of in
-    let is = c.requires.of in
+    let next = rw (to_z-of_z c.ranges.of, to_z-of_z c.ranges.day, c.requires.of, c.in-Some-next_of_week.is)
+    at c.next_of_week-in-None.ensures.next in
     let fits : FitsSigned w64 c.in-Some-next_of_week.next = search rules in
-    let back : to_z w64 (of_z w64 c.in-Some-next_of_week.next) ≡ c.in-Some-next_of_week.next = to_z-of_z fits in
-    rw back (λ n gt lt less. this-week c.args.start.now c.args.week c.args.day n c.in-Some-next_of_week.next c.requires.week
-    (rw (of, day, is, c.in-Some-next_of_week.is) at c.next_of_week-in-None.ensures.next) gt lt)
+    rw (to_z-of_z fits) (λ n gt lt less. this-week c.args.start.now c.args.week c.args.day n _ c.requires.week next gt lt)
 
 pub returns-in-None-next_of_week-clause-none : goal.returns-in-None-next_of_week-clause-none
 returns-in-None-next_of_week-clause-none c =

@@ -1,58 +1,39 @@
-use Rattle.std.proofs.Common.{◌≡◌, ◌∙◌, sym, arith, pos, ◌+ℤ◌, to_z, of_z, w64, to_z-of_z, false, FitsSigned, rules}
+use Rattle.std.proofs.Common.{arith, rules, to_z-of_z}
 use Rattle.gtd_calendar.specs.facts.Signed.{signed_arith}
 use Rattle.gtd_calendar.specs.Calendar.{weekday_of}
-use Rattle.gtd_calendar.specs.ComputedFields.{day_fields}
-use Rattle.gtd_recur.specs.Begins.{begins_on}
 use Rattle.gtd_recur.specs.Jumps.{weekday_fits}
-use Rattle.gtd_recur.proofs.FindLemmas.{missed-from, off-weekday}
+use Rattle.gtd_recur.proofs.FindLemmas.{off-weekday}
+use Rattle.gtd_recur.proofs.SearchLemmas.{begun-is, tested, missed-next, missed-up_to}
+use Rattle.gtd_recur.proofs.SmallLemmas.{small-day}
 use Rattle.gtd_recur.proofs.find.next_left.Goals as goal
 
 pub returns-then-not-weekday_fits : goal.returns-then-not-weekday_fits
 returns-then-not-weekday_fits c =
-    let d0 = c.requires.day_in in let d1 = c.requires.order in let d2 = c.requires.end_in in
-    let plain : to_z w64 (of_z w64 c.args.day) ≡ c.args.day = to_z-of_z c.ranges.day in
-    let next : to_z w64 (of_z w64 (to_z w64 (of_z w64 c.args.day) +ℤ pos 1)) ≡ c.args.day +ℤ pos 1 =
-    omega (arith, signed_arith, d0, d1, d2) in
-    let weekday : c.weekday.result ≡ weekday_of c.args.day = rw plain at c.weekday.ensures.value in
-    let off : weekday_fits c.args.start.now (weekday_of c.args.day) ≡ false =
-    rw weekday at (sym c.weekday_fits.ensures ∙ c.if-not-weekday_fits.true) in
-    rw next (record {
-      missed = missed-from c.args.start.now c.args.day c.args.end (c.args.day +ℤ pos 1)
-          (off-weekday c.args.start.now c.args.day off)
-          (omega (arith, signed_arith)) (λ n gt lt less. absurd (omega (arith, signed_arith, gt, lt)));
+    let day = small-day c.args.day (omega (arith, signed_arith, c.requires.day_in))
+    (omega (arith, signed_arith, c.requires.order, c.requires.end_in)) in
+    rw (day.is, day.after) (record {
+      missed = missed-next c.args.start.now c.args.day c.args.end (off-weekday c.args.start.now c.args.day
+          (tested weekday_of (weekday_fits c.args.start.now) c.args.day _ _ _ c.ranges.day c.weekday.ensures.value
+          c.weekday_fits.ensures c.if-not-weekday_fits.true));
     })
 
 pub returns-then-begins_on : goal.returns-then-begins_on
-returns-then-begins_on c =
-    let plain : to_z w64 (of_z w64 c.args.day) ≡ c.args.day = to_z-of_z c.ranges.day in
-    let fields = rw plain at c.fields-fields.ensures.value in
-    record { missed = rw fields at (sym c.begins_on.ensures ∙ c.if-begins_on.true) }
+returns-then-begins_on c = record {
+  missed = begun-is c.args.start.now _ c.ranges.day c.fields-fields.ensures.value c.begins_on.ensures c.if-begins_on.true;
+}
 
 pub returns-in-Some : goal.returns-in-Some
 returns-in-Some c =
-    let plain : to_z w64 (of_z w64 c.args.day) ≡ c.args.day = to_z-of_z c.ranges.day in
-    let end : to_z w64 (of_z w64 c.args.end) ≡ c.args.end = to_z-of_z c.ranges.end in
-    let fields = rw plain at c.fields-fields.ensures.value in
-    let off : begins_on c.args.start.now (day_fields c.args.day) ≡ false =
-    rw fields at (sym c.begins_on.ensures ∙ c.if-begins_on.false) in
-    let fits : FitsSigned w64 c.next_in_week.result = search rules in
-    let back : to_z w64 (of_z w64 c.next_in_week.result) ≡ c.next_in_week.result = to_z-of_z fits in
-    rw back (record {
-      missed = missed-from c.args.start.now c.args.day c.args.end c.next_in_week.result off
-          (rw plain at c.next_in_week.ensures.later)
-          (rw (plain, end) at c.next_in_week.ensures.none);
-    })
+    let off = begun-is c.args.start.now _ c.ranges.day c.fields-fields.ensures.value c.begins_on.ensures c.if-begins_on.false in
+    record {
+      missed = missed-up_to c.args.start.now _ _ c.next_in_week.result c.ranges.day (search rules) off
+          c.next_in_week.ensures.later (rw (to_z-of_z c.ranges.end) at c.next_in_week.ensures.none);
+    }
 
 pub returns-in-None : goal.returns-in-None
 returns-in-None c =
-    let plain : to_z w64 (of_z w64 c.args.day) ≡ c.args.day = to_z-of_z c.ranges.day in
-    let fields = rw plain at c.fields-fields.ensures.value in
-    let off : begins_on c.args.start.now (day_fields c.args.day) ≡ false =
-    rw fields at (sym c.begins_on.ensures ∙ c.if-begins_on.false) in
-    let fits : FitsSigned w64 c.next_in_month.result = search rules in
-    let back : to_z w64 (of_z w64 c.next_in_month.result) ≡ c.next_in_month.result = to_z-of_z fits in
-    let none = rw plain at c.next_in_month.ensures.none in
-    rw back (record {
-      missed = missed-from c.args.start.now c.args.day c.args.end c.next_in_month.result off
-          (rw plain at c.next_in_month.ensures.later) (λ n gt lt less. none n gt lt);
-    })
+    let off = begun-is c.args.start.now _ c.ranges.day c.fields-fields.ensures.value c.begins_on.ensures c.if-begins_on.false in
+    record {
+      missed = missed-up_to c.args.start.now _ _ c.next_in_month.result c.ranges.day (search rules) off
+          c.next_in_month.ensures.later (λ n gt lt less. c.next_in_month.ensures.none n gt lt);
+    }

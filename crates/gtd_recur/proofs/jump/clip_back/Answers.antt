@@ -1,6 +1,6 @@
-use Rattle.std.proofs.Common.{rules, arith, ◌≡◌, ◌≤ℤ◌, ◌<ℤ◌, FitsSigned, to_z, of_z, to_z-of_z, w64}
+use Rattle.std.proofs.Common.{rules, arith, ◌≡◌, ◌≤ℤ◌, FitsSigned, to_z, of_z, to_z-of_z, w64}
 use Rattle.gtd_calendar.specs.facts.Signed.{signed_arith}
-use Rattle.gtd_recur.proofs.BackLemmas.{clipped-back, clipped-none}
+use Rattle.gtd_recur.proofs.BackLemmas.{clipped-words, clipped-none}
 use Rattle.gtd_recur.proofs.jump.clip_back.Goals as goal
 
 pub returns-then-until-low : goal.returns-then-until-low
@@ -17,20 +17,8 @@ returns-then-until-low c =
     }
 
 pub returns : goal.returns
-returns c =
-    let fits_from : FitsSigned w64 c.later.result = search rules in
-    let fits_until : FitsSigned w64 c.earlier-until.result = search rules in
-    let from : to_z w64 (of_z w64 c.later.result) ≡ c.later.result = to_z-of_z fits_from in
-    let until : to_z w64 (of_z w64 c.earlier-until.result) ≡ c.earlier-until.result = to_z-of_z fits_until in
-    let fits_first : FitsSigned w64 c.args.days.from = search rules in
-    let fits_last : FitsSigned w64 c.args.days.until = search rules in
-    let first : to_z w64 (of_z w64 c.args.days.from) ≡ c.args.days.from = to_z-of_z fits_first in
-    let last : to_z w64 (of_z w64 c.args.days.until) ≡ c.args.days.until = to_z-of_z fits_last in
-    let low : to_z w64 (of_z w64 c.args.low) ≡ c.args.low = to_z-of_z c.ranges.low in
-    let end : to_z w64 (of_z w64 c.args.end) ≡ c.args.end = to_z-of_z c.ranges.end in
-    let far : c.args.low <ℤ c.earlier-until.result = omega (arith, signed_arith, c.if-until-low.false) in
-    record {
-      clipped = rw (from, until) (clipped-back c.args.days.from c.args.days.until c.args.low c.args.end c.later.result
-          c.earlier-until.result c.requires.some c.requires.open (rw (last, end) at c.earlier-until.ensures) far
-          (rw (first, low) at c.later.ensures));
-    }
+returns c = record {
+  clipped = clipped-words c.args.days.from c.args.days.until c.args.low c.args.end c.later.result c.earlier-until.result
+      (search rules) (search rules) c.ranges.low c.ranges.end (search rules) (search rules) c.requires.some c.requires.open
+      c.earlier-until.ensures (omega (arith, signed_arith, c.if-until-low.false)) c.later.ensures;
+}

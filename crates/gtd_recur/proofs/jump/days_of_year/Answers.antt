@@ -18,24 +18,17 @@ returns-then-year-lt1800 c =
     }
 
 pub returns-then-day-months : goal.returns-then-day-months
-returns-then-day-months c =
-    let year : to_z w64 (of_z w64 c.args.year) ≡ c.args.year = to_z-of_z c.ranges.year in
-    let day : to_z w64 (of_z w64 c.args.day) ≡ c.args.day = to_z-of_z c.ranges.day in
-    let end : to_z w64 (of_z w64 c.args.end) ≡ c.args.end = to_z-of_z c.ranges.end in
-    record {
-      run = year-run c.args.year c.args.month c.unwrap_or.result c.unwrap_or-2.result c.months-months.result.from
-          c.months-months.result.until c.args.day c.args.end c.clip.result.from c.clip.result.until c.unwrap_or.ensures
-          c.unwrap_or-2.ensures (rw year at c.months-months.ensures.months) (rw (day, end) at c.clip.ensures.clipped);
-    }
+returns-then-day-months c = record {
+  run = year-run c.args.year c.args.month _ _ _ _ _ _ _ _ c.unwrap_or.ensures c.unwrap_or-2.ensures
+      (rw (to_z-of_z c.ranges.year) at c.months-months.ensures.months)
+      (rw (to_z-of_z c.ranges.day, to_z-of_z c.ranges.end) at c.clip.ensures.clipped);
+}
 
 pub returns-else-day-months : goal.returns-else-day-months
 returns-else-day-months c =
-    let year : to_z w64 (of_z w64 c.args.year) ≡ c.args.year = to_z-of_z c.ranges.year in
-    let end : to_z w64 (of_z w64 c.args.end) ≡ c.args.end = to_z-of_z c.ranges.end in
     let fits : FitsSigned w64 c.months-months.result.until = search rules in
     let past : c.months-months.result.until ≤ℤ c.args.day = omega (arith, signed_arith, c.if-day-months.false) in
     record {
-      run = rw end (year-past c.args.year c.args.month c.unwrap_or.result c.unwrap_or-2.result c.months-months.result.from
-          c.months-months.result.until c.args.day c.args.end c.unwrap_or.ensures c.unwrap_or-2.ensures
-          (rw year at c.months-months.ensures.months) c.requires.order past);
+      run = rw (to_z-of_z c.ranges.end) (year-past c.args.year c.args.month _ _ _ _ _ _ c.unwrap_or.ensures c.unwrap_or-2.ensures
+          (rw (to_z-of_z c.ranges.year) at c.months-months.ensures.months) c.requires.order past);
     }

@@ -1,4 +1,4 @@
-use Rattle.std.proofs.Common.{◌≡◌, ◌-ℤ◌, to_z, of_z, w64, ◌∙◌, ap, sym, arith, ◌≤ℤ◌, ◌<ℤ◌, refl, pos, ◌+ℤ◌, ℤ, List, length}
+use Rattle.std.proofs.Common.{◌≡◌, ◌∙◌, ap, sym, arith, ◌≤ℤ◌, ◌<ℤ◌, refl, pos, ◌+ℤ◌, ℤ, List, length}
 use Rattle.gtd_calendar.specs.facts.Signed.{signed_arith}
 use Rattle.gtd_core.specs.Parts.{duration_parts}
 use Rattle.gtd_recur.proofs.AscendingLemmas.{after-weaken, before-weaken, ascending-after}
@@ -7,9 +7,7 @@ use Rattle.gtd_recur.proofs.StretchLemmas.{run-begun, gt-is, le-is}
 use Rattle.std.proofs.lemmas.List.{length-append}
 use Rattle.gtd_calendar.specs.ComputedEnds.{stop}
 use Rattle.gtd_recur.specs.Walking.{walk_to_come, walk_given}
-use Rattle.gtd_recur.proofs.PassLemmas.{run-day, after-rest, given-many, stepped-before, stepped-low, one-length, are-near}
-use Rattle.gtd_recur.proofs.PassLemmas.{near-epoch, plain-z}
-use Rattle.gtd_core.specs.Ranges.{bound_of}
+use Rattle.gtd_recur.proofs.PassLemmas.{run-day, after-rest, given-many, stepped-before, are-near, last-near}
 use Rattle.gtd_recur.proofs.runs.run_end.Goals as goal
 
 pub returns-then-gt-clause-after : goal.returns-then-gt-clause-after
@@ -32,36 +30,16 @@ loop-start-preserved c =
     let next = c.in-Some.ensures.same in
     let all = rw passed.split at asc in
     let stop_is : c.end_of-reached.result.0 ≡ stop q b = c.end_of-reached.ensures.value in
-    let later = c.later-end.ensures in
     let t = c.pass_day-last.new.self in
-    let near = are-near c.in-Some.start.0 c.end_of-reached.result.0
-    (bound_of (duration_parts c.args.duration.now)) c.in-Some.ensures.calendar c.end_of-reached.ensures.later
-    c.end_of-reached.ensures.within_bound c.args.duration.now.bounded.1 in
-    let a1 = near.low in let a2 = near.high in let a3 = near.order in let a4 = near.long in
-    let pb : to_z w64 (of_z w64 c.in-Some.start.0) ≡ c.in-Some.start.0 =
-    plain-z _ (omega (arith, signed_arith, a1)) (omega (arith, signed_arith, a2)) in
-    let pr : to_z w64 (of_z w64 c.end_of-reached.result.0) ≡ c.end_of-reached.result.0 =
-    plain-z _ (omega (arith, signed_arith, a1, a3)) (omega (arith, signed_arith, a2, a4)) in
-    let pd : to_z w64 (of_z w64 (c.end_of-reached.result.0 -ℤ c.in-Some.start.0))
-    ≡ c.end_of-reached.result.0 -ℤ c.in-Some.start.0 = plain-z _ (omega (arith, signed_arith, a3))
-    (omega (arith, signed_arith, a4)) in
-    let up = stepped-low passed.step c.in-Some.start.0 passed.list last passed.stepped in
-    let near_last = near-epoch last (rw (passed.day) c.in-Some.ensures.calendar) in
-    let a5 = near_last.1 in
-    let pl : to_z w64 (of_z w64 last) ≡ last = plain-z _ (omega (arith, signed_arith, a1, up))
-    (omega (arith, signed_arith, a5)) in
-    let pm : to_z w64 (of_z w64 (last -ℤ c.in-Some.start.0)) ≡ last -ℤ c.in-Some.start.0 =
-    plain-z _ (omega (arith, signed_arith, up)) (omega (arith, signed_arith, a5, a1)) in
-    let one = one-length q last b passed.day in
-    let end_is : to_z w64 (of_z w64 (to_z w64 (of_z w64 c.end_of-reached.result.0)
-    +ℤ to_z w64 (of_z w64 (to_z w64 (of_z w64 last) -ℤ to_z w64 (of_z w64 b))))) ≡ stop q last =
-    rw (pb, pl, pm, pr) (omega (arith, signed_arith, stop_is, one, a1, a2, a3, a4, a5, up)) in
-    let later2 = rw end_is at later in
-    let far = rw (pb, pr, pd) at passed.near in
+    let near = are-near c.args.duration.now _ _ c.in-Some.ensures.calendar c.end_of-reached.ensures.later
+    c.end_of-reached.ensures.within_bound in
+    let far = last-near q b _ last _ _ _ near c.end_of-reached.ensures.value passed in
+    let ends = rw (far.stop_is) at c.later-end.ensures in
+    let step_in = rw (near.start_is, near.end_is, near.length_is) at passed.near in
     record {
       run = run-day q _ (walk_to_come t) c.args.first.0 c.loop-start.end.0 b last c.later-end.result.0 passed.step passed.list
           (rw passed.split at run) (let z = asc.0.0 in omega (arith, signed_arith, z)) reached
-          (rw stop_is at far) passed.stepped passed.day later2;
+          (rw stop_is at step_in) passed.stepped passed.day ends;
       ascending = (
         after-rest c.args.first.0 passed.list (walk_to_come t) all.0.1,
         ascending-after passed.list (walk_to_come t) all.1.1,
@@ -70,11 +48,11 @@ loop-start-preserved c =
           let many = ap (λ (l : List ℤ). length l) passed.split in let both = length-append passed.list (walk_to_come t) in
           let most = c.loop-start.invariant.fewer in omega (arith, long, many, both, most));
       given = (let whole = given-many c.next.new.self t passed.list passed.same passed.split in
-          let l0 = later2.0 in let l1 = later2.1 in
+          let l0 = ends.0 in let l1 = ends.1 in let after = far.after in
           rw whole (before-append _ (walk_given c.next.new.self) passed.list
           (given-up_to c.loop-start.walk c.next.new.self c.loop-start.end.0 b next c.in-Some.ensures.takes
           c.loop-start.invariant.given c.later-end.result.0 l0 (omega (arith, signed_arith, reached, l0)))
-          (before-weaken (last +ℤ pos 1) _ passed.list (omega (arith, signed_arith, l1, one, stop_is, a3))
+          (before-weaken (last +ℤ pos 1) _ passed.list (omega (arith, signed_arith, l1, after))
           (stepped-before passed.step b passed.list last passed.stepped))));
       grows = (let a = c.loop-start.invariant.grows in let b = c.in-Some.ensures.grows in let d = passed.grows in
           omega (arith, a, b, d));
@@ -88,76 +66,28 @@ loop-start-preserved c =
 
 pub overflow_sub-reached : goal.overflow_sub-reached
 overflow_sub-reached c =
-    let near = are-near c.in-Some.start.0 c.end_of-reached.result.0
-    (bound_of (duration_parts c.args.duration.now)) c.in-Some.ensures.calendar c.end_of-reached.ensures.later
-    c.end_of-reached.ensures.within_bound c.args.duration.now.bounded.1 in
-    let a1 = near.low in let a2 = near.high in let a3 = near.order in let a4 = near.long in
-    let pb : to_z w64 (of_z w64 c.in-Some.start.0) ≡ c.in-Some.start.0 =
-    plain-z _ (omega (arith, signed_arith, a1)) (omega (arith, signed_arith, a2)) in
-    let pr : to_z w64 (of_z w64 c.end_of-reached.result.0) ≡ c.end_of-reached.result.0 =
-    plain-z _ (omega (arith, signed_arith, a1, a3)) (omega (arith, signed_arith, a2, a4)) in
-    omega (arith, signed_arith, pb, pr, a3, a4)
+    let near = are-near c.args.duration.now _ _ c.in-Some.ensures.calendar c.end_of-reached.ensures.later
+    c.end_of-reached.ensures.within_bound in
+    omega (arith, signed_arith, near)
 
 pub pass_day-last-requires-clause-length_in : goal.pass_day-last-requires-clause-length_in
 pass_day-last-requires-clause-length_in c =
-    let near = are-near c.in-Some.start.0 c.end_of-reached.result.0
-    (bound_of (duration_parts c.args.duration.now)) c.in-Some.ensures.calendar c.end_of-reached.ensures.later
-    c.end_of-reached.ensures.within_bound c.args.duration.now.bounded.1 in
-    let a1 = near.low in let a2 = near.high in let a3 = near.order in let a4 = near.long in
-    let pb : to_z w64 (of_z w64 c.in-Some.start.0) ≡ c.in-Some.start.0 =
-    plain-z _ (omega (arith, signed_arith, a1)) (omega (arith, signed_arith, a2)) in
-    let pr : to_z w64 (of_z w64 c.end_of-reached.result.0) ≡ c.end_of-reached.result.0 =
-    plain-z _ (omega (arith, signed_arith, a1, a3)) (omega (arith, signed_arith, a2, a4)) in
-    let pd : to_z w64 (of_z w64 (c.end_of-reached.result.0 -ℤ c.in-Some.start.0))
-    ≡ c.end_of-reached.result.0 -ℤ c.in-Some.start.0 = plain-z _ (omega (arith, signed_arith, a3))
-    (omega (arith, signed_arith, a4)) in
-    rw (pb, pr, pd) (omega (arith, signed_arith, a3))
+    let near = are-near c.args.duration.now _ _ c.in-Some.ensures.calendar c.end_of-reached.ensures.later
+    c.end_of-reached.ensures.within_bound in
+    let order = near.order in
+    rw (near.start_is, near.end_is, near.length_is) (omega (arith, signed_arith, order))
 
 pub overflow_sub-last : goal.overflow_sub-last
 overflow_sub-last c =
-    let near = are-near c.in-Some.start.0 c.end_of-reached.result.0
-    (bound_of (duration_parts c.args.duration.now)) c.in-Some.ensures.calendar c.end_of-reached.ensures.later
-    c.end_of-reached.ensures.within_bound c.args.duration.now.bounded.1 in
-    let a1 = near.low in let a2 = near.high in let a3 = near.order in let a4 = near.long in
-    let pb : to_z w64 (of_z w64 c.in-Some.start.0) ≡ c.in-Some.start.0 =
-    plain-z _ (omega (arith, signed_arith, a1)) (omega (arith, signed_arith, a2)) in
-    let pr : to_z w64 (of_z w64 c.end_of-reached.result.0) ≡ c.end_of-reached.result.0 =
-    plain-z _ (omega (arith, signed_arith, a1, a3)) (omega (arith, signed_arith, a2, a4)) in
-    let pd : to_z w64 (of_z w64 (c.end_of-reached.result.0 -ℤ c.in-Some.start.0))
-    ≡ c.end_of-reached.result.0 -ℤ c.in-Some.start.0 = plain-z _ (omega (arith, signed_arith, a3))
-    (omega (arith, signed_arith, a4)) in
-    let passed = c.pass_day-last.ensures.passed in
-    let last = c.pass_day-last.result.0 in
-    let up = stepped-low passed.step c.in-Some.start.0 passed.list last passed.stepped in
-    let near_last = near-epoch last (rw (passed.day) c.in-Some.ensures.calendar) in
-    let a5 = near_last.1 in
-    let pl : to_z w64 (of_z w64 last) ≡ last = plain-z _ (omega (arith, signed_arith, a1, up))
-    (omega (arith, signed_arith, a5)) in
-    omega (arith, signed_arith, pb, pl, up, a5, a1)
+    let far = last-near _ _ _ _ _ _ _ (are-near c.args.duration.now _ _ c.in-Some.ensures.calendar c.end_of-reached.ensures.later
+    c.end_of-reached.ensures.within_bound) c.end_of-reached.ensures.value c.pass_day-last.ensures.passed in
+    omega (arith, signed_arith, far)
 
 pub overflow_add-reached : goal.overflow_add-reached
 overflow_add-reached c =
-    let near = are-near c.in-Some.start.0 c.end_of-reached.result.0
-    (bound_of (duration_parts c.args.duration.now)) c.in-Some.ensures.calendar c.end_of-reached.ensures.later
-    c.end_of-reached.ensures.within_bound c.args.duration.now.bounded.1 in
-    let a1 = near.low in let a2 = near.high in let a3 = near.order in let a4 = near.long in
-    let pb : to_z w64 (of_z w64 c.in-Some.start.0) ≡ c.in-Some.start.0 =
-    plain-z _ (omega (arith, signed_arith, a1)) (omega (arith, signed_arith, a2)) in
-    let pr : to_z w64 (of_z w64 c.end_of-reached.result.0) ≡ c.end_of-reached.result.0 =
-    plain-z _ (omega (arith, signed_arith, a1, a3)) (omega (arith, signed_arith, a2, a4)) in
-    let pd : to_z w64 (of_z w64 (c.end_of-reached.result.0 -ℤ c.in-Some.start.0))
-    ≡ c.end_of-reached.result.0 -ℤ c.in-Some.start.0 = plain-z _ (omega (arith, signed_arith, a3))
-    (omega (arith, signed_arith, a4)) in
-    let passed = c.pass_day-last.ensures.passed in
-    let last = c.pass_day-last.result.0 in
-    let up = stepped-low passed.step c.in-Some.start.0 passed.list last passed.stepped in
-    let near_last = near-epoch last (rw (passed.day) c.in-Some.ensures.calendar) in
-    let a5 = near_last.1 in
-    let pl : to_z w64 (of_z w64 last) ≡ last = plain-z _ (omega (arith, signed_arith, a1, up))
-    (omega (arith, signed_arith, a5)) in
-    let pm : to_z w64 (of_z w64 (last -ℤ c.in-Some.start.0)) ≡ last -ℤ c.in-Some.start.0 =
-    plain-z _ (omega (arith, signed_arith, up)) (omega (arith, signed_arith, a5, a1)) in
-    omega (arith, signed_arith, pb, pr, pl, pm, up, a1, a2, a3, a4, a5)
+    let far = last-near _ _ _ _ _ _ _ (are-near c.args.duration.now _ _ c.in-Some.ensures.calendar c.end_of-reached.ensures.later
+    c.end_of-reached.ensures.within_bound) c.end_of-reached.ensures.value c.pass_day-last.ensures.passed in
+    omega (arith, signed_arith, far)
 
 pub loop-start-init : goal.loop-start-init
 loop-start-init c =

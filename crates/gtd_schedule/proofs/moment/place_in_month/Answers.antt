@@ -35,51 +35,40 @@ clock_is : (s eve since : ℤ) → since ≡ s -ℤ (pos 86400 *ℤ eve) → pos
 unfolding second_of_day
 clock_is s eve since is low high = let part = one_part since in omega (arith, signed_arith, part)
 
+-- the machine's numbers on the way to the seconds since the month's eve are those numbers
+exact : (s eve n : ℤ) (d : ℕ) → FitsSigned w64 s → FitsSigned w64 eve → IsCalendarDay (day_of_second s) → IsCalendarDay n
+    → eve +ℤ pos d ≡ n → d ≤ 31
+    → (to_z w64 (of_z w64 s) ≡ s) × (to_z w64 (of_z w64 eve) ≡ eve)
+    × (to_z w64 (of_z w64 (pos 86400 *ℤ eve)) ≡ pos 86400 *ℤ eve)
+    × (to_z w64 (of_z w64 (s -ℤ (pos 86400 *ℤ eve))) ≡ s -ℤ (pos 86400 *ℤ eve))
+exact s eve n d s_fits eve_in a b e f =
+    let same : to_z w64 (of_z w64 eve) ≡ eve = to_z-of_z eve_in in
+    let begins : FitsSigned w64 (pos 86400 *ℤ eve) = rw same at (eve_fits eve n d b e f) in
+    (to_z-of_z s_fits, same, to_z-of_z begins, to_z-of_z (since_fits s eve n d a b e f))
+
 pub overflow_mul-since : goal.overflow_mul-since
 overflow_mul-since c = let m = c.requires.eve in eve_fits c.args.month_eve m.0 (day_of_month m.0) m.1 m.2 (few m.0)
 
 pub overflow_sub-since : goal.overflow_sub-since
 overflow_sub-since c =
     let m = c.requires.eve in
-    let s_fits : FitsSigned w64 c.args.second.0 = search rules in
-    let second : to_z w64 (of_z w64 c.args.second.0) ≡ c.args.second.0 = to_z-of_z s_fits in
-    let eve : to_z w64 (of_z w64 c.args.month_eve) ≡ c.args.month_eve = to_z-of_z c.ranges.month_eve in
-    let e_fits : FitsSigned w64 (pos 86400 *ℤ c.args.month_eve) =
-    rw eve at (eve_fits c.args.month_eve m.0 (day_of_month m.0) m.1 m.2 (few m.0)) in
-    let begin : to_z w64 (of_z w64 (pos 86400 *ℤ c.args.month_eve)) ≡ pos 86400 *ℤ c.args.month_eve = to_z-of_z e_fits in
-    rw (second, eve, begin)
-    (since_fits c.args.second.0 c.args.month_eve m.0 (day_of_month m.0) c.requires.day m.1 m.2 (few m.0))
+    let x = exact c.args.second.0 _ m.0 _ (search rules) c.ranges.month_eve c.requires.day m.1 m.2 (few m.0) in
+    rw (x.0, x.1, x.2) (since_fits c.args.second.0 c.args.month_eve m.0 (day_of_month m.0) c.requires.day m.1 m.2 (few m.0))
 
 pub returns-then-since-clause-day : goal.returns-then-since-clause-day
 returns-then-since-clause-day c =
     let m = c.requires.eve in
-    let s_fits : FitsSigned w64 c.args.second.0 = search rules in
-    let second : to_z w64 (of_z w64 c.args.second.0) ≡ c.args.second.0 = to_z-of_z s_fits in
-    let eve : to_z w64 (of_z w64 c.args.month_eve) ≡ c.args.month_eve = to_z-of_z c.ranges.month_eve in
-    let e_fits : FitsSigned w64 (pos 86400 *ℤ c.args.month_eve) =
-    rw eve at (eve_fits c.args.month_eve m.0 (day_of_month m.0) m.1 m.2 (few m.0)) in
-    let begin : to_z w64 (of_z w64 (pos 86400 *ℤ c.args.month_eve)) ≡ pos 86400 *ℤ c.args.month_eve = to_z-of_z e_fits in
-    let d_fits = since_fits c.args.second.0 c.args.month_eve m.0 (day_of_month m.0) c.requires.day m.1 m.2 (few m.0) in
-    let since : to_z w64 (of_z w64 (c.args.second.0 -ℤ (pos 86400 *ℤ c.args.month_eve)))
-    ≡ c.args.second.0 -ℤ (pos 86400 *ℤ c.args.month_eve) = to_z-of_z d_fits in
-    let low = rw (second, eve, begin, since) at c.if-since-ge-DAY_SECONDS.true in
-    let high = rw (second, eve, begin, since) at c.if-since.true in
-    rw (second, eve, begin, since) (day_is c.args.second.0 c.args.month_eve _ refl (omega (arith, signed_arith, low))
-    (omega (arith, signed_arith, high)))
+    let x = exact c.args.second.0 _ m.0 _ (search rules) c.ranges.month_eve c.requires.day m.1 m.2 (few m.0) in
+    let low = rw (x.0, x.1, x.2, x.3) at c.if-since-ge-DAY_SECONDS.true in
+    let high = rw (x.0, x.1, x.2, x.3) at c.if-since.true in
+    rw (x.0, x.1, x.2, x.3) (day_is c.args.second.0 c.args.month_eve _ refl (omega (arith, signed_arith, low)) (omega
+    (arith, signed_arith, high)))
 
 pub returns-then-since-clause-clock : goal.returns-then-since-clause-clock
 returns-then-since-clause-clock c =
     let m = c.requires.eve in
-    let s_fits : FitsSigned w64 c.args.second.0 = search rules in
-    let second : to_z w64 (of_z w64 c.args.second.0) ≡ c.args.second.0 = to_z-of_z s_fits in
-    let eve : to_z w64 (of_z w64 c.args.month_eve) ≡ c.args.month_eve = to_z-of_z c.ranges.month_eve in
-    let e_fits : FitsSigned w64 (pos 86400 *ℤ c.args.month_eve) =
-    rw eve at (eve_fits c.args.month_eve m.0 (day_of_month m.0) m.1 m.2 (few m.0)) in
-    let begin : to_z w64 (of_z w64 (pos 86400 *ℤ c.args.month_eve)) ≡ pos 86400 *ℤ c.args.month_eve = to_z-of_z e_fits in
-    let d_fits = since_fits c.args.second.0 c.args.month_eve m.0 (day_of_month m.0) c.requires.day m.1 m.2 (few m.0) in
-    let since : to_z w64 (of_z w64 (c.args.second.0 -ℤ (pos 86400 *ℤ c.args.month_eve)))
-    ≡ c.args.second.0 -ℤ (pos 86400 *ℤ c.args.month_eve) = to_z-of_z d_fits in
-    let low = rw (second, eve, begin, since) at c.if-since-ge-DAY_SECONDS.true in
-    let high = rw (second, eve, begin, since) at c.if-since.true in
-    rw (second, eve, begin, since) (clock_is c.args.second.0 c.args.month_eve _ refl (omega (arith, signed_arith, low))
+    let x = exact c.args.second.0 _ m.0 _ (search rules) c.ranges.month_eve c.requires.day m.1 m.2 (few m.0) in
+    let low = rw (x.0, x.1, x.2, x.3) at c.if-since-ge-DAY_SECONDS.true in
+    let high = rw (x.0, x.1, x.2, x.3) at c.if-since.true in
+    rw (x.0, x.1, x.2, x.3) (clock_is c.args.second.0 c.args.month_eve _ refl (omega (arith, signed_arith, low))
     (omega (arith, signed_arith, high)))

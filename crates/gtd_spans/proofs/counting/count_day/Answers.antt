@@ -41,11 +41,12 @@ loop-part-preserved g c =
     let day = c.day_from-day.result in
     let n = c.seconds_of-count.result in
     let now = spans_to_come c.next_within.new.held (rest c.next_within.new.source) in
-    let all = part_within day (spans_to_come c.args.held.now (rest c.args.source.now)) in
     record {
       normal = c.in-Some.ensures.normal;
       counted = λ more q.
-          agree (Holds all) midnight 86400 (c.loop-part.count + (n + more)) (c.loop-part.count + n + more) (omega arith)
+          agree (Holds (part_within day (spans_to_come c.args.held.now (rest c.args.source.now)))) midnight 86400
+          (c.loop-part.count + (n + more))
+          (c.loop-part.count + n + more) (omega arith)
           (c.loop-part.invariant.counted (n + more)
           (part-first-count midnight day c.in-Some.part (spans_to_come c.loop-part.held (rest c.loop-part.source)) now n more
           c.day_from-day.ensures.value c.in-Some.ensures.takes c.seconds_of-count.ensures.count q));

@@ -18,45 +18,29 @@ returns-then-from-until-clause-takes g c =
     takes-from c.args.bounds (spans_to_come c.args.held.now (rest c.args.source.now)) here here None l.invariant.same
     (take-behind c.args.bounds l.held c.in-Some.span (rest l.source) c.in-Some.is l.invariant.normal behind)
 
-pub returns-then-until-clause-takes : goal.returns-then-until-clause-takes
-returns-then-until-clause-takes g c =
+pub returns-then-until : goal.returns-then-until
+returns-then-until g c =
     let l = c.loop-held in
     let rest = g.S.SpanSource.rest in
-    let from = ap (λ (i : Interval). i.from) c.between.ensures.value in
-    let until = ap (λ (i : Interval). i.until) c.between.ensures.value in
+    let from = ap (λ (i : Interval). i.from) c.between.ensures.value ∙ c.until-then-until.ensures.value in
+    let until = ap (λ (i : Interval). i.until) c.between.ensures.value ∙ c.until-then-until-2.ensures.value in
     let begins : c.in-Some.span.from <ℤ c.args.bounds.until = omega (arith, ints) in
     let ends : c.args.bounds.until <ℤ c.in-Some.span.until = omega (arith, ints) in
-    takes-from c.args.bounds (spans_to_come c.args.held.now (rest c.args.source.now)) (spans_to_come l.held (rest l.source))
-    (c.between.result ∷ rest l.source)
-    c.meet.result l.invariant.same
-    (take-last c.args.bounds l.held c.in-Some.span (rest l.source) c.in-Some.is l.invariant.normal c.between.result
-    (from ∙ c.until-then-until.ensures.value) (until ∙ c.until-then-until-2.ensures.value) begins ends c.meet.result
-    c.meet.ensures.seconds c.meet.ensures.ends)
-
-pub returns-then-until-clause-later : goal.returns-then-until-clause-later
-returns-then-until-clause-later g c =
-    let l = c.loop-held in
-    let rest = g.S.SpanSource.rest in
-    let from = ap (λ (i : Interval). i.from) c.between.ensures.value in
-    let until = ap (λ (i : Interval). i.until) c.between.ensures.value in
-    let begins : c.in-Some.span.from <ℤ c.args.bounds.until = omega (arith, ints) in
-    let ends : c.args.bounds.until <ℤ c.in-Some.span.until = omega (arith, ints) in
-    λ t h.
-    let a = l.invariant.later t h in
-    let b = left-later c.args.bounds l.held c.in-Some.span (rest l.source) c.in-Some.is l.invariant.normal c.between.result
-    (from ∙ c.until-then-until.ensures.value) (until ∙ c.until-then-until-2.ensures.value) begins ends t h in
-    ((λ k. b.0 (a.0 k)), (λ k. a.1 (b.1 k)))
-
-pub returns-then-until-clause-normal : goal.returns-then-until-clause-normal
-returns-then-until-clause-normal g c =
-    let l = c.loop-held in
-    let rest = g.S.SpanSource.rest in
-    let from = ap (λ (i : Interval). i.from) c.between.ensures.value in
-    let until = ap (λ (i : Interval). i.until) c.between.ensures.value in
-    let begins : c.in-Some.span.from <ℤ c.args.bounds.until = omega (arith, ints) in
-    let ends : c.args.bounds.until <ℤ c.in-Some.span.until = omega (arith, ints) in
-    left-normal c.args.bounds l.held c.in-Some.span (rest l.source) c.in-Some.is l.invariant.normal c.between.result
-    (from ∙ c.until-then-until.ensures.value) (until ∙ c.until-then-until-2.ensures.value) begins ends
+    record {
+      takes = takes-from c.args.bounds (spans_to_come c.args.held.now (rest c.args.source.now))
+          (spans_to_come l.held (rest l.source))
+          (c.between.result ∷ rest l.source)
+          c.meet.result l.invariant.same
+          (take-last c.args.bounds l.held c.in-Some.span (rest l.source) c.in-Some.is l.invariant.normal c.between.result
+          from until begins ends c.meet.result c.meet.ensures.seconds c.meet.ensures.ends);
+      later = λ t h.
+          let a = l.invariant.later t h in
+          let b = left-later c.args.bounds l.held c.in-Some.span (rest l.source) c.in-Some.is l.invariant.normal
+          c.between.result from until begins ends t h in
+          ((λ k. b.0 (a.0 k)), (λ k. a.1 (b.1 k)));
+      normal = left-normal c.args.bounds l.held c.in-Some.span (rest l.source) c.in-Some.is l.invariant.normal
+          c.between.result from until begins ends;
+    }
 
 pub returns-in-Some-meet-clause-takes : goal.returns-in-Some-meet-clause-takes
 returns-in-Some-meet-clause-takes g c =

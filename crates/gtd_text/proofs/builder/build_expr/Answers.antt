@@ -13,6 +13,8 @@ use Rattle.gtd_text.proofs.builder.build_expr.Goals as goal
 pub loop-token-init : goal.loop-token-init
 loop-token-init c =
     let r = c.requires in
+    let onward = front_state (kinds r.tokens) (opened c.new-outer.result.items) r.builds.tree
+    (ap opened c.new-outer.ensures.items ∙ opened_nil) r.builds.built in
     record {
       inside = omega arith;
       goes = record {
@@ -20,14 +22,7 @@ loop-token-init c =
         read = r.read;
         rest = r.tokens;
         reads = r.read;
-        goes = record {
-          tree = r.builds.tree;
-          valid = r.builds.valid;
-          whole = r.builds.built;
-          fields = [];
-          onward = front_state (kinds r.tokens) (opened c.new-outer.result.items) r.builds.tree
-              (ap opened c.new-outer.ensures.items ∙ opened_nil) r.builds.built;
-        };
+        goes = record { tree = r.builds.tree; valid = r.builds.valid; whole = r.builds.built; fields = []; onward = onward };
       };
     }
 

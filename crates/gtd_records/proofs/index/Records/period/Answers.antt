@@ -1,69 +1,36 @@
-use Rattle.std.proofs.Common.{◌≡◌, ◌∙◌, ◌+◌, ◌-◌, ◌<◌, ◌≤◌, sym, ap, subst, arith, rules, ℕ, List, length, take, drop, true}
-use Rattle.std.proofs.Common.{false}
+use Rattle.std.proofs.Common.{◌≡◌, ◌∙◌, ◌+◌, ◌-◌, ◌<◌, ◌≤◌, sym, ap, subst, arith, rules, ℕ, length, take, drop}
 use Rattle.std.specs.Prelude.{slice_index_or}
-use Rattle.gtd_eval.specs.Periods.{Period, period_seconds, RepeatsFrom}
+use Rattle.gtd_eval.specs.Periods.{RepeatsFrom}
 use Rattle.gtd_eval.specs.facts.PeriodFacts.{from-longer}
-use Rattle.gtd_records.specs.Closing.{Concerns, HoldsAt, IsClosed, Restriction}
-use Rattle.gtd_records.specs.Index.{ArePlaces}
+use Rattle.gtd_records.specs.Closing.{Concerns, HoldsAt, Restriction}
 use Rattle.gtd_records.specs.declared.index.Place.{Place}
 use Rattle.gtd_records.proofs.PeriodFacts.{all_repeat, so-far-longer}
-use Rattle.gtd_records.specs.facts.IndexFacts.{any_default, by_le, one_record, part_at, part_past, part_sound, row_placed}
+use Rattle.gtd_records.specs.facts.IndexFacts.{any_default, by_le, one_record, part_sound}
+use Rattle.gtd_records.proofs.FoundPlaces.{nowhere, seen_till_end, seen_till_other}
 use Rattle.gtd_records.proofs.index.Records.period.Goals as goal
 use Rattle.gtd_records.proofs.index.Records.period.Goals.{then-concerns+in_ok-period, else-concerns}
 
--- what stands past the end
-nowhere : Place
-nowhere = record { element = 0; row = 0 }
-
 pub index-restriction-requires : goal.index-restriction-requires
-unfolding nowhere
 index-restriction-requires c =
-    let p = part_sound c.self.inside.rows.items c.self.inside.places.items c.deref.result.now c.deref.ensures.value
-    c.self.invariant.placed c.places_below-from.result c.loop-place.place-index nowhere c.loop-place-test.true in
-    omega (arith, p.1)
+    let p = part_sound _ _ _ c.deref.ensures.value c.self.invariant.placed _ _ nowhere c.loop-place-test.true in omega
+    (arith, p.1)
 
 pub returns-then-place-element : goal.returns-then-place-element
-unfolding nowhere
-returns-then-place-element c =
-    let from = c.places_below-from.result in
-    let rows = c.self.inside.rows.items in
-    let places = c.as_slice.result.now in
-    let same = c.deref.ensures.value ∙ sym c.as_slice.ensures.value in
-    let placed = subst (ArePlaces rows) (sym c.as_slice.ensures.value) c.self.invariant.placed in
-    let all = c.deref.result.now in
-    let part = take (length all - from) (drop from all) in
-    let i = c.loop-place.place-index in
-    let is = all_repeat c.loop-place.longest rows part c.args.element c.args.direction c.args.vehicle i c.loop-place.invariant
-    (row_placed rows places all same placed c.args.element from c.places_below-from.ensures.below c.places_below-from.ensures.rest
-    i (λ d h e. c.if-place-element.true
-    (ap (λ (q : Place). q.element) (any_default part i nowhere d c.loop-place-test.true
-    ∙ part_at places all same from i d h) ∙ e))) in
-    record {
-      repeats = subst (λ (found : List Restriction).
-          RepeatsFrom c.loop-place.longest (IsClosed found c.args.element c.args.direction c.args.vehicle)) c.self.view_is is;
-    }
+returns-then-place-element c = record {
+  repeats = rw (sym c.self.view_is) (all_repeat _ _ _ _ _ _ _ c.loop-place.invariant
+      (seen_till_other _ _ _ _ c.deref.ensures.value c.as_slice.ensures.value c.self.invariant.placed _ _
+      c.places_below-from.ensures.below c.places_below-from.ensures.rest _ nowhere c.loop-place-test.true
+      c.if-place-element.true));
+}
 
 pub returns : goal.returns
-returns c =
-    let from = c.places_below-from.result in
-    let rows = c.self.inside.rows.items in
-    let places = c.as_slice.result.now in
-    let same = c.deref.ensures.value ∙ sym c.as_slice.ensures.value in
-    let placed = subst (ArePlaces rows) (sym c.as_slice.ensures.value) c.self.invariant.placed in
-    let all = c.deref.result.now in
-    let long = ap length same in
-    let part = take (length all - from) (drop from all) in
-    let i = c.loop-place.place-index in
-    let is = all_repeat c.loop-place.longest rows part c.args.element c.args.direction c.args.vehicle i c.loop-place.invariant
-    (row_placed rows places all same placed c.args.element from c.places_below-from.ensures.below c.places_below-from.ensures.rest
-    i (λ d h e. let past = part_past all from i (omega arith) in omega (arith, past, h, long))) in
-    record {
-      repeats = subst (λ (found : List Restriction).
-          RepeatsFrom c.loop-place.longest (IsClosed found c.args.element c.args.direction c.args.vehicle)) c.self.view_is is;
-    }
+returns c = record {
+  repeats = rw (sym c.self.view_is) (all_repeat _ _ _ _ _ _ _ c.loop-place.invariant
+      (seen_till_end _ _ _ _ c.deref.ensures.value c.as_slice.ensures.value c.self.invariant.placed _ _
+      c.places_below-from.ensures.below c.places_below-from.ensures.rest _ (omega arith)));
+}
 
 pub loop-place-preserved : goal.loop-place-preserved
-unfolding nowhere
 loop-place-preserved c =
     let i = c.loop-place.place-index in
     let rows = c.self.inside.rows.items in

@@ -1,55 +1,52 @@
-use Rattle.std.proofs.Common.{◌≡◌, ◌<◌, ◌<ℤ◌, ◌≤ℤ◌, ◌-ℤ◌, ℤ, arith, ◌∙◌, sym, refl, unsigned_abs}
+use Rattle.std.proofs.Common.{◌≡◌, ◌+◌, ◌<◌, ◌<ℤ◌, ◌≤ℤ◌, ◌-ℤ◌, ℤ, arith, ◌∙◌, sym, refl, rules, length, unsigned_abs}
+use Rattle.std.specs.Prelude.{count_by}
 use Rattle.std.proofs.lemmas.Int.{ints}
 use Rattle.gtd_calendar.specs.facts.Signed.{signed_arith}
 use Rattle.gtd_core.specs.Parts.{start_parts}
 use Rattle.gtd_core.specs.Whole.{to_day}
+use Rattle.gtd_recur.specs.Begins.{month_and_year_fit}
+use Rattle.gtd_recur.specs.Walking.{walk_all, walk_days, walk_ticks}
 use Rattle.gtd_recur.proofs.ExactLemmas.{exact-end}
 use Rattle.gtd_recur.specs.facts.StartsLemmas.{ended-left}
 use Rattle.gtd_recur.proofs.walk.Walk.next.Goals as goal
 
-pub returns-then-self-to_day-clause-takes : goal.returns-then-self-to_day-clause-takes
-returns-then-self-to_day-clause-takes c =
+pub returns-then-self-to_day : goal.returns-then-self-to_day
+returns-then-self-to_day c =
     let s = c.next_of_day.new.self in
+    let p = start_parts s.basic.start in
+    let w = s.in_window in
+    let end_in = w.end_in in
     let none = c.in_default.ensures.none refl in
     let past : to_day s.horizon ≤ℤ s.next_day = omega (
       arith,
       signed_arith,
       c.if-self-to_day.true,
       c.to_day.ensures.value,
-      s.in_window.first_in,
-      s.in_window.day_in,
-      s.in_window.next_in,
-      s.in_window.end_in,
-      s.in_window.last_in,
+      w.first_in,
+      w.day_in,
+      w.next_in,
+      w.end_in,
+      w.last_in,
     ) in
-    let ended = ended-left (start_parts s.basic.start) s.day s.next_day
-    (to_day s.horizon) s.clock past s.in_window.end_in none.1 in
-    (c.loop-start.invariant.left ∙ sym none.0 ∙ ended, ended)
-
-pub returns-then-self-to_day-clause-ended : goal.returns-then-self-to_day-clause-ended
-returns-then-self-to_day-clause-ended c =
-    let s = c.next_of_day.new.self in
-    let none = c.in_default.ensures.none refl in
-    let past : to_day s.horizon ≤ℤ s.next_day = omega (
-      arith,
-      signed_arith,
-      c.if-self-to_day.true,
-      c.to_day.ensures.value,
-      s.in_window.first_in,
-      s.in_window.day_in,
-      s.in_window.next_in,
-      s.in_window.end_in,
-      s.in_window.last_in,
-    ) in
-    let within = s.in_window.end_in in
-    let last : s.next_day ≡ to_day s.horizon = omega (arith, signed_arith, past, within) in
-    let ended = ended-left (start_parts s.basic.start) s.day s.next_day
-    (to_day s.horizon) s.clock past s.in_window.end_in none.1 in
+    let last : s.next_day ≡ to_day s.horizon = omega (arith, signed_arith, past, end_in) in
+    let ended = ended-left p s.day s.next_day (to_day s.horizon) s.clock past end_in none.1 in
     let same = c.in_default.ensures.same in
     let before = c.loop-start.invariant.same in
-    rw (← before.basic, ← before.horizon, ← before.first, ← same.basic, ← same.horizon, ← same.first)
-    (exact-end (start_parts s.basic.start) s.first s.seen s.day s.next_day
-    (to_day s.horizon) s.looked s.handed last s.counted (rw ended at s.left))
+    let all : walk_ticks s ≡ count_by (month_and_year_fit p) (walk_days s) + length (walk_all s) =
+    exact-end p s.first s.seen s.day s.next_day (to_day s.horizon) s.looked s.handed last s.counted (rw ended at s.left) in
+    record {
+      takes = (c.loop-start.invariant.left ∙ sym none.0 ∙ ended, ended);
+      same = search rules;
+      at_most = tt;
+      at_least = tt;
+      exact = tt;
+      begun = tt;
+      ended = rw (← before.basic, ← before.horizon, ← before.first, ← same.basic, ← same.horizon, ← same.first) all;
+      rises = tt;
+      grows = search rules;
+      calendar = tt;
+      «open» = tt;
+    }
 
 pub returns-in-Some-clause-at_most : goal.returns-in-Some-clause-at_most
 returns-in-Some-clause-at_most c = λ t le last.

@@ -1,10 +1,11 @@
-use Rattle.std.proofs.Common.{◌≡◌, arith, pos, ◌+ℤ◌, to_z, of_z, w64, refl, Some, ◌*ℤ◌}
+use Rattle.std.proofs.Common.{◌≡◌, arith, pos, ◌+ℤ◌, refl, rules, Some, ◌*ℤ◌}
 use Rattle.gtd_calendar.specs.facts.Signed.{signed_arith}
 use Rattle.gtd_core.specs.Parts.{start_parts}
 use Rattle.gtd_core.specs.Whole.{to_day}
 use Rattle.gtd_calendar.specs.facts.ClockLemmas.{second-only}
 use Rattle.gtd_recur.proofs.CountLemmas.{at_least}
 use Rattle.gtd_recur.proofs.ExactLemmas.{at_most, exact}
+use Rattle.gtd_recur.proofs.PassedDay.{open-second}
 use Rattle.gtd_recur.specs.facts.StartsLemmas.{taken-left, clock_starts-none, handed-one, small-counts}
 use Rattle.gtd_recur.specs.Begins.{begins_at}
 use Rattle.gtd_recur.proofs.StepLemmas.{behind-start}
@@ -36,79 +37,38 @@ invariant_of-self c =
       counted = s.counted;
     }
 
-pub returns-in-Some-clause-takes : goal.returns-in-Some-clause-takes
-returns-in-Some-clause-takes c =
-    let s = c.args.self.now in
-    let found = rw (c.in-Some.is) at c.next_clock.ensures.next in
-    let plain : to_z w64 (of_z w64 (to_z w64 (of_z w64 (pos 86400 *ℤ to_z w64 (of_z w64 s.day)))
-    +ℤ to_z w64 (of_z w64 c.from.result))) ≡ pos 86400 *ℤ s.day +ℤ pos c.in-Some.clock = omega (arith, signed_arith) in
-    rw plain (taken-left (start_parts s.basic.start) s.day s.next_day (to_day s.horizon) s.clock c.in-Some.clock found)
-
 pub returns-in-None-clause-none : goal.returns-in-None-clause-none
 returns-in-None-clause-none c =
     let s = c.args.self.now in
     let found = rw (c.in-None.is) at c.next_clock.ensures.next in
     λ none. (refl, clock_starts-none (start_parts s.basic.start) s.day s.clock s.clock_in found)
 
-pub returns-in-Some-clause-at_most : goal.returns-in-Some-clause-at_most
-returns-in-Some-clause-at_most c =
+pub returns-in-Some : goal.returns-in-Some
+returns-in-Some c =
     let s = c.args.self.now in
+    let p = start_parts s.basic.start in
+    let end = to_day s.horizon in
+    let k = c.in-Some.clock in
+    let w = s.in_window in
     let found = rw (c.in-Some.is) at c.next_clock.ensures.next in
-    let plain : to_z w64 (of_z w64 (to_z w64 (of_z w64 (pos 86400 *ℤ to_z w64 (of_z w64 s.day)))
-    +ℤ to_z w64 (of_z w64 c.from.result))) ≡ pos 86400 *ℤ s.day +ℤ pos c.in-Some.clock = omega (arith, signed_arith) in
-    let on = (second-only _ s.day c.in-Some.clock found.1 refl).0 in
-    rw plain (λ t le last. at_most (start_parts s.basic.start) s.first s.seen s.day s.next_day
-    (to_day s.horizon) _ t s.looked s.handed _ on s.in_window s.counted
-    (rw (taken-left (start_parts s.basic.start) s.day s.next_day (to_day s.horizon) s.clock c.in-Some.clock found) at s.left)
-    le last)
-
-pub returns-in-Some-clause-at_least : goal.returns-in-Some-clause-at_least
-returns-in-Some-clause-at_least c =
-    let s = c.args.self.now in
-    let found = rw (c.in-Some.is) at c.next_clock.ensures.next in
-    let plain : to_z w64 (of_z w64 (to_z w64 (of_z w64 (pos 86400 *ℤ to_z w64 (of_z w64 s.day)))
-    +ℤ to_z w64 (of_z w64 c.from.result))) ≡ pos 86400 *ℤ s.day +ℤ pos c.in-Some.clock = omega (arith, signed_arith) in
-    let on = (second-only _ s.day c.in-Some.clock found.1 refl).0 in
-    rw plain (at_least (start_parts s.basic.start) s.first s.seen s.day s.next_day
-    (to_day s.horizon) _ s.looked s.handed _ on s.in_window s.counted
-    (rw (taken-left (start_parts s.basic.start) s.day s.next_day (to_day s.horizon) s.clock c.in-Some.clock found) at s.left))
-
-pub returns-in-Some-clause-exact : goal.returns-in-Some-clause-exact
-returns-in-Some-clause-exact c =
-    let s = c.args.self.now in
-    let found = rw (c.in-Some.is) at c.next_clock.ensures.next in
-    let plain : to_z w64 (of_z w64 (to_z w64 (of_z w64 (pos 86400 *ℤ to_z w64 (of_z w64 s.day)))
-    +ℤ to_z w64 (of_z w64 c.from.result))) ≡ pos 86400 *ℤ s.day +ℤ pos c.in-Some.clock = omega (arith, signed_arith) in
-    let on = (second-only _ s.day c.in-Some.clock found.1 refl).0 in
-    rw plain (λ same. exact (start_parts s.basic.start) s.first s.day s.next_day
-    (to_day s.horizon) _ s.looked s.handed _ on s.in_window (rw same at s.counted)
-    (rw (taken-left (start_parts s.basic.start) s.day s.next_day (to_day s.horizon) s.clock c.in-Some.clock found) at s.left))
-
-pub returns-in-Some-clause-begun : goal.returns-in-Some-clause-begun
-returns-in-Some-clause-begun c =
-    let s = c.args.self.now in
-    let found = rw (c.in-Some.is) at c.next_clock.ensures.next in
-    let plain : to_z w64 (of_z w64 (to_z w64 (of_z w64 (pos 86400 *ℤ to_z w64 (of_z w64 s.day)))
-    +ℤ to_z w64 (of_z w64 c.from.result))) ≡ pos 86400 *ℤ s.day +ℤ pos c.in-Some.clock = omega (arith, signed_arith) in
-    let on = (second-only _ s.day c.in-Some.clock found.1 refl).0 in
-    rw (plain, on) s.in_window.day_in
-
-pub returns-in-Some-clause-calendar : goal.returns-in-Some-clause-calendar
-returns-in-Some-clause-calendar c =
-    let s = c.args.self.now in
-    let found = rw (c.in-Some.is) at c.next_clock.ensures.next in
-    let plain : to_z w64 (of_z w64 (to_z w64 (of_z w64 (pos 86400 *ℤ to_z w64 (of_z w64 s.day)))
-    +ℤ to_z w64 (of_z w64 c.from.result))) ≡ pos 86400 *ℤ s.day +ℤ pos c.in-Some.clock = omega (arith, signed_arith) in
-    let on = (second-only _ s.day c.in-Some.clock found.1 refl).0 in
-    rw (plain, on) (
-      omega (arith, signed_arith, s.in_window.first_in, s.in_window.day_in),
-      omega (arith, signed_arith, s.in_window.next_in, s.in_window.end_in, s.in_window.last_in),
-    )
-
-pub returns-in-Some-clause-open : goal.returns-in-Some-clause-open
-returns-in-Some-clause-open c =
-    let s = c.args.self.now in
-    let found = rw (c.in-Some.is) at c.next_clock.ensures.next in
-    let plain : to_z w64 (of_z w64 (to_z w64 (of_z w64 (pos 86400 *ℤ to_z w64 (of_z w64 s.day)))
-    +ℤ to_z w64 (of_z w64 c.from.result))) ≡ pos 86400 *ℤ s.day +ℤ pos c.in-Some.clock = omega (arith, signed_arith) in
-    record { clock = c.in-Some.clock; next = refl; low = found.1; is = plain; begins = found.2 }
+    let on = (second-only _ s.day k found.1 refl).0 in
+    let taken = taken-left p s.day s.next_day end s.clock k found in
+    let left = rw taken at s.left in
+    let plain = open-second s k c.from.result (omega (arith, signed_arith)) found.1 in
+    rw plain (record {
+      takes = taken;
+      none = search rules;
+      same = search rules;
+      at_most = λ t le last. at_most p s.first s.seen s.day s.next_day end _ t s.looked s.handed _ on w s.counted left le last;
+      at_least = at_least p s.first s.seen s.day s.next_day end _ s.looked s.handed _ on w s.counted left;
+      exact = λ same. exact p s.first s.day s.next_day end _ s.looked s.handed _ on w (rw same at s.counted) left;
+      begun = rw on w.day_in;
+      rises = omega arith;
+      grows = omega arith;
+      calendar = rw on (
+        omega (arith, signed_arith, w.first_in, w.day_in),
+        omega (arith, signed_arith, w.next_in, w.end_in, w.last_in),
+      );
+      next_day = refl;
+      «open» = record { clock = k; next = refl; low = found.1; is = refl; begins = found.2 };
+    })

@@ -2,8 +2,7 @@ use Rattle.std.proofs.Common.{◌≡◌, [], ◌∷◌, Some, None, refl}
 use Rattle.gtd_core.specs.declared.domain.Op.TheVariants.{Minus}
 use Rattle.gtd_spans.specs.Normal.{IsNormal}
 use Rattle.gtd_spans.specs.declared.merge.Side.TheVariants.{Open}
-use Rattle.gtd_spans.proofs.UnionSteps.{union-nil}
-use Rattle.gtd_spans.proofs.MeetSteps.{moved-on, minus-keeps, nothing-minus}
+use Rattle.gtd_spans.proofs.MeetSteps.{moved-on, nothing-more, minus-keeps, nothing-minus}
 use Rattle.gtd_spans.proofs.MinusSteps.{give-left}
 use Rattle.gtd_spans.proofs.merge.Merge.step_minus.Goals as goal
 
@@ -16,9 +15,5 @@ returns-in-Ended-right-clause-steps c = λ l r f.
     (rw (c.in-Held.is, c.in-Ended-right.is) (give-left c.in-Held.x l [] n tt))
 
 pub returns-in-Ended-clause-steps : goal.returns-in-Ended-clause-steps
-returns-in-Ended-clause-steps c = (
-  (λ l r f. (f, refl)),
-  (λ l r f.
-      let none : c.args.self.now.kept ≡ None = minus-keeps c.args.self.now.kept (rw c.requires.op at f.keeps) in
-      rw (none, c.requires.op, c.in-Ended.is, nothing-minus) (union-nil [] tt)),
-)
+returns-in-Ended-clause-steps c = nothing-more Minus c.args.self.now c.requires.op (minus-keeps c.args.self.now.kept)
+    (λ l r. rw (c.in-Ended.is, nothing-minus) refl)

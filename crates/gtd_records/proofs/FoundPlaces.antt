@@ -1,0 +1,66 @@
+-- What a search among the places of an element's records has seen.
+use Rattle.std.proofs.Common.{◌≡◌, ◌∙◌, sym, ap, subst, ◌<◌, ◌≤◌, ◌+◌, ◌-◌, ◌*◌, ℕ, List, length, take, drop, arith}
+use Rattle.std.specs.Prelude.{Any, slice_index_or, ℤ}
+use Rattle.std.specs.List.{AllWithin}
+use Rattle.gtd_records.specs.Closing.{Closes, Restriction}
+use Rattle.gtd_records.specs.Index.{ArePlaces}
+use Rattle.gtd_records.specs.declared.direction.Direction.{Direction}
+use Rattle.gtd_records.specs.declared.index.Place.{Place}
+use Rattle.gtd_records.specs.facts.IndexFacts.{any_default, few_nodes, fewer, part_at, part_past, row_placed}
+
+-- what stands past the end
+abbrev pub nowhere : Place
+nowhere = record { element = 0; row = 0 }
+
+-- each row of the element has its place among the first ones
+abbrev pub AllSeen : List Restriction → List Place → ℕ → ℕ → Type 0
+AllSeen rows part element stop =
+    (row : ℕ) (r : Restriction) → row < length rows → slice_index_or rows row r ≡ r → r.element ≡ element
+    → (j : ℕ) × (j < stop) × (slice_index_or part j (record { element = r.element; row = row })
+    ≡ record { element = r.element; row = row })
+
+-- The places are read twice from where they are kept: once to find the first of the element, once to go on from there.
+module _ (rows : List Restriction) (kept all asked : List Place) (same : all ≡ kept) (also : asked ≡ kept)
+    (placed : ArePlaces rows kept) (element from : ℕ)
+    (below : AllWithin (λ (p : Place). p.element < element) asked 0 from)
+    (rest : AllWithin (λ (p : Place). element ≤ p.element) asked from (length asked)) where
+  seen_before : (stop : ℕ) → ((d : Place) → from + stop < length asked → (slice_index_or asked (from + stop) d).element ≡ element
+      → ⊥)
+      → AllSeen rows (take (length all - from) (drop from all)) element stop
+  seen_before stop after =
+      row_placed rows asked all (same ∙ sym also) (subst (ArePlaces rows) (sym also) placed) element from below rest stop after
+
+  -- the search stopped at a place of another element
+  pub seen_till_other : (i : ℕ) (d : Place) → i < length (take (length all - from) (drop from all))
+      → ((slice_index_or (take (length all - from) (drop from all)) i d).element ≡ element → ⊥)
+      → AllSeen rows (take (length all - from) (drop from all)) element i
+  seen_till_other i d here other =
+      seen_before i (λ e h is. other (ap (λ (q : Place). q.element)
+      (any_default (take (length all - from) (drop from all)) i d e here ∙ part_at asked all (same ∙ sym also) from i e h) ∙ is))
+
+  -- it went to the end
+  pub seen_till_end : (i : ℕ) → length (take (length all - from) (drop from all)) ≤ i
+      → AllSeen rows (take (length all - from) (drop from all)) element i
+  seen_till_end i past =
+      seen_before i (λ e h is. let long = ap length (same ∙ sym also) in let far = part_past all from i past in omega (
+        arith,
+        far,
+        h,
+        long,
+      ))
+
+-- where no place seen closes the element, no row does
+pub none_of_seen : (rows : List Restriction) (part : List Place) (element : ℕ) (direction : Direction) (vehicle : ℕ) (second : ℤ)
+    (stop : ℕ) → AllSeen rows part element stop
+    → ((k : ℕ) (d : Place) (r : Restriction) → k < stop → slice_index_or rows (slice_index_or part k d).row r ≡ r
+    → Closes element direction vehicle second r → ⊥)
+    → Any (Closes element direction vehicle second) rows → ⊥
+none_of_seen rows part element direction vehicle second stop seen none a =
+    let p = seen a.0 a.1 a.2 a.3 a.4.names in
+    none p.0 (record { element = a.1.element; row = a.0 }) a.1 p.1
+    (subst (λ (q : Place). slice_index_or rows q.row a.1 ≡ a.1) (sym p.2) a.3) a.4
+
+-- so many cursors of at most 255 nodes are few enough to be united and complemented
+pub few_seen : (rows : List Restriction) (kept all : List Place) → all ≡ kept → length kept ≡ length rows → length rows ≤ 65536
+    → (from i n : ℕ) → i ≤ length (take (length all - from) (drop from all)) → n ≤ 256 * i → n ≤ 16777216
+few_seen rows kept all same many few from i n within nodes = few_nodes n i all from within (fewer all kept same many few) nodes
