@@ -1,10 +1,7 @@
 //! Lists of spans, by the ends of their spans.
 
-ghost use Rattle.gtd_spans.specs.Normal.{IsNormal};
-ghost use Rattle.gtd_spans.specs.facts.FitsProp.{IsNormal-prop};
-
 use gtd_core::{Sec, Span};
-use gtd_spans::{SpanList, SpanSource};
+use gtd_spans::SpanList;
 use std::alloc::{AllocError, Global};
 use std::process::Abort;
 
@@ -38,30 +35,4 @@ pub(crate) fn has_ends(list: &SpanList, ends: &[(i64, i64)]) -> bool {
         }
     }
     true
-}
-
-/// A source of the spans of a list.
-#[derive(Drop)]
-pub(crate) struct Listed<'a> {
-    spans: &'a [Span],
-    ghost normal: { IsNormal spans.now } by { IsNormal-prop spans.now },
-}
-
-impl SpanSource for Listed<'_> {
-    ghost rest = { λ s. s.spans.now };
-
-    fn next(&mut self) -> Option<Span> {
-        let (first, rest) = self.spans.split_first()?;
-        self.spans = rest;
-        Some(*first)
-    }
-
-    ghost is_normal = { λ s. s.normal };
-}
-
-/// The spans of the list, one after the other.
-pub(crate) fn source_of(list: &SpanList) -> Listed<'_> {
-    Listed {
-        spans: list.spans(),
-    }
 }

@@ -181,6 +181,7 @@ fn great_elements(rt: HostRuntime) {
     for element in elements {
         let closed = records.closed_at(element, Direction::Negative, 1, Sec(APRIL));
         assert!(rt; closed, "{element}");
+        assert!(rt; !records.closes_one_way(element, 1), "{element}");
     }
 }
 
@@ -205,6 +206,9 @@ fn what_closes(rt: HostRuntime) {
     ];
     for (element, direction, vehicle, second, closed) in table {
         assert!(rt; records.closed_at(element, direction, vehicle, second) == closed);
+    }
+    for (element, vehicle, one_way) in [(17u64, 11u8, true), (17, 12, true), (5, 11, false)] {
+        assert!(rt; records.closes_one_way(element, vehicle) == one_way);
     }
 }
 

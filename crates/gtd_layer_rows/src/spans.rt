@@ -1,6 +1,6 @@
 //! Worked examples, and each operation against its seconds one by one.
 
-use crate::lists::{has_ends, list_of, source_of};
+use crate::lists::{has_ends, list_of};
 use gtd_core::{Horizon, Op, Sec, Span};
 use gtd_spans::{
     Ask, Both, ByDay, Outside, SpanList, SpanSource, Sweep, Unite, Without, complement, meet,
@@ -27,8 +27,11 @@ fn lists_that_are_pushed(rt: HostRuntime) -> Result<(), Fail> {
     let alloc = rt.alloc();
     let pushed = list_of(&rt, alloc, &[(10, 20), (15, 18), (20, 30), (40, 41)])?;
     assert!(rt; has_ends(&pushed, &[(10, 30), (40, 41)]));
-    let copy = SpanList::collect(alloc, &mut source_of(&pushed))?;
+    let copy = SpanList::collect(alloc, &mut pushed.source())?;
     assert!(rt; same(&copy, &pushed));
+    let both = SpanList::collect_within(alloc, &mut pushed.source(), 2)?.expect(&rt, "two spans");
+    assert!(rt; same(&both, &pushed));
+    assert!(rt; SpanList::collect_within(alloc, &mut pushed.source(), 1)?.is_none());
     Ok(())
 }
 
@@ -82,20 +85,20 @@ fn changes_of_a_list(rt: HostRuntime) -> Result<(), Fail> {
 /// The sources over these three lists, of 0 to 10 and 20 to 30, of 10 to 20, and of 5 to 25, give their spans.
 pub(crate) fn expect_sources(rt: &impl Abort, a: &SpanList, b: &SpanList, c: &SpanList) {
     let day = Horizon::new(0, 1).expect(rt, "a horizon");
-    gives(rt, &mut Unite::new(source_of(a), source_of(b)), &[(0, 30)]);
+    gives(rt, &mut Unite::new(a.source(), b.source()), &[(0, 30)]);
     gives(
         rt,
-        &mut Both::new(source_of(a), source_of(c)),
+        &mut Both::new(a.source(), c.source()),
         &[(5, 10), (20, 25)],
     );
     gives(
         rt,
-        &mut Without::new(source_of(a), source_of(c)),
+        &mut Without::new(a.source(), c.source()),
         &[(0, 5), (25, 30)],
     );
     gives(
         rt,
-        &mut Outside::new(source_of(a), day),
+        &mut Outside::new(a.source(), day),
         &[(10, 20), (30, 86_400)],
     );
 }
@@ -155,7 +158,7 @@ fn days(rt: HostRuntime) -> Result<(), Fail> {
         alloc,
         &[(86_390, 86_410), (86_420, 86_421), (200_000, 300_000)],
     )?;
-    let mut seconds = ByDay::new(source_of(&list));
+    let mut seconds = ByDay::new(list.source());
     for (midnight, count) in [
         (0, 10),
         (86_400, 11),

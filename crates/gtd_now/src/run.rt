@@ -12,7 +12,7 @@ use gtd_core::Sec;
 use gtd_devices::{Input, Output};
 use gtd_records::{Direction, RecordFault, Records};
 use gtd_runs::{
-    ElementLines, Progress, Report, RunFault, Stop, Subject, put_by_element, run_report,
+    DirectionLines, ElementLines, Progress, Report, RunFault, Stop, Subject, put_both, put_by_element, run_report,
 };
 use std::alloc::Global;
 
@@ -25,7 +25,7 @@ struct State {
     ghost in_range: { IsHorizonSecond second.0 },
 }
 
-impl ElementLines for State {
+impl DirectionLines for State {
     ghost are_lines = { λ report found. AreLines found report.vehicle report.second.0 };
 
     fn put_direction<O: Output>(
@@ -49,6 +49,22 @@ impl ElementLines for State {
             self.vehicle,
             self.second,
         )
+    }
+}
+
+impl ElementLines for State {
+    ghost are_lines = { λ report found. AreLines found report.vehicle report.second.0 };
+
+    fn put_element<O: Output>(
+        &self,
+        alloc: Global,
+        output: &mut O,
+        progress: &mut Progress,
+        line: &mut Vec<u8>,
+        found: &Records,
+        element: u64,
+    ) -> Result<(), Stop> {
+        put_both(alloc, output, progress, line, found, element, self)
     }
 }
 

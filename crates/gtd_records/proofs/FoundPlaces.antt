@@ -1,12 +1,11 @@
 -- What a search among the places of an element's records has seen.
 use Rattle.std.proofs.Common.{◌≡◌, ◌∙◌, sym, ap, subst, ◌<◌, ◌≤◌, ◌+◌, ◌-◌, ◌*◌, ℕ, List, length, take, drop, arith}
-use Rattle.std.specs.Prelude.{Any, slice_index_or, ℤ}
+use Rattle.std.specs.Prelude.{Any, slice_index_or}
 use Rattle.std.specs.List.{AllWithin}
-use Rattle.gtd_records.specs.Closing.{Closes, Restriction}
+use Rattle.gtd_records.specs.Closing.{Restriction}
 use Rattle.gtd_records.specs.Index.{ArePlaces}
-use Rattle.gtd_records.specs.declared.direction.Direction.{Direction}
 use Rattle.gtd_records.specs.declared.index.Place.{Place}
-use Rattle.gtd_records.specs.facts.IndexFacts.{any_default, few_nodes, fewer, part_at, part_past, row_placed}
+use Rattle.gtd_records.specs.facts.IndexFacts.{any_default, by_le, few_nodes, fewer, one_record, part_at, part_past, row_placed}
 
 -- what stands past the end
 abbrev pub nowhere : Place
@@ -49,16 +48,31 @@ module _ (rows : List Restriction) (kept all asked : List Place) (same : all ≡
         long,
       ))
 
--- where no place seen closes the element, no row does
-pub none_of_seen : (rows : List Restriction) (part : List Place) (element : ℕ) (direction : Direction) (vehicle : ℕ) (second : ℤ)
-    (stop : ℕ) → AllSeen rows part element stop
-    → ((k : ℕ) (d : Place) (r : Restriction) → k < stop → slice_index_or rows (slice_index_or part k d).row r ≡ r
-    → Closes element direction vehicle second r → ⊥)
-    → Any (Closes element direction vehicle second) rows → ⊥
-none_of_seen rows part element direction vehicle second stop seen none a =
-    let p = seen a.0 a.1 a.2 a.3 a.4.names in
-    none p.0 (record { element = a.1.element; row = a.0 }) a.1 p.1
-    (subst (λ (q : Place). slice_index_or rows q.row a.1 ≡ a.1) (sym p.2) a.3) a.4
+-- What no place seen has, no row of the element has.
+module _ (rows : List Restriction) (part : List Place) (P : Restriction → Type 0) where
+  -- no restriction at the first places has it
+  abbrev pub NoneSoFar : ℕ → Type 0
+  NoneSoFar stop =
+      (k : ℕ) (d : Place) (r : Restriction) → k < stop → slice_index_or rows (slice_index_or part k d).row r ≡ r → P r → ⊥
+
+  pub none_more : (i : ℕ) (p : Place) (s : Restriction) → i < length part → (slice_index_or part i p).row < length rows
+      → s ≡ slice_index_or rows (slice_index_or part i p).row s → (P s → ⊥) → NoneSoFar i → NoneSoFar (i + 1)
+  none_more i p s here there at none before = λ k d r lt is has.
+      by_le {P = ⊥} i k
+      (λ ge.
+      let e : k ≡ i = omega arith in
+      let same_place = ap (λ (n : ℕ). slice_index_or part n d) e ∙ any_default part i d p here in
+      let same : r ≡ s = one_record rows (slice_index_or part i p).row r s there
+      (subst (λ (q : Place). slice_index_or rows q.row r ≡ r) same_place is) at in
+      none (subst P same has))
+      (λ less. before k d r less is has)
+
+  pub none_of_seen : (element : ℕ) (stop : ℕ) → ((r : Restriction) → P r → r.element ≡ element) → AllSeen rows part element stop
+      → NoneSoFar stop → Any P rows → ⊥
+  none_of_seen element stop names seen none a =
+      let p = seen a.0 a.1 a.2 a.3 (names a.1 a.4) in
+      none p.0 (record { element = a.1.element; row = a.0 }) a.1 p.1
+      (subst (λ (q : Place). slice_index_or rows q.row a.1 ≡ a.1) (sym p.2) a.3) a.4
 
 -- so many cursors of at most 255 nodes are few enough to be united and complemented
 pub few_seen : (rows : List Restriction) (kept all : List Place) → all ≡ kept → length kept ≡ length rows → length rows ≤ 65536

@@ -1,5 +1,5 @@
 -- The cursors of the restrictions that close an element.
-use Rattle.std.proofs.Common.{◌≡◌, ◌∙◌, sym, ap, subst, ◌<◌, ◌≤◌, ◌+◌, ◌⊎◌, inl, inr, ◌↔◌, ℕ, List, [], ◌∷◌, ◌++◌, length, arith}
+use Rattle.std.proofs.Common.{◌≡◌, sym, ◌<◌, ◌≤◌, ◌+◌, ◌⊎◌, inl, inr, ◌↔◌, ℕ, List, [], ◌∷◌, ◌++◌, length}
 use Rattle.std.specs.Prelude.{slice_index_or, ℤ, Result, Ok, Err, IfOk}
 use Rattle.gtd_core.specs.Seconds.{Interval, Within}
 use Rattle.gtd_core.specs.Whole.{whole}
@@ -9,10 +9,9 @@ use Rattle.gtd_eval.specs.Membership.{IsNormalOver}
 use Rattle.gtd_eval.specs.declared.cursor.Cursor.{Cursor}
 use Rattle.gtd_spans.specs.Normal.{Holds, IsNormal}
 use Rattle.gtd_spans.specs.facts.NormalFor.{normal-for}
-use Rattle.gtd_records.specs.facts.IndexFacts.{any_default, by_le, one_record}
 use Rattle.gtd_core.specs.Limits.{most_nodes}
 use Rattle.gtd_eval.specs.Cursors.{total_nodes}
-use Rattle.gtd_records.proofs.FoundPlaces.{AllSeen, none_of_seen}
+use Rattle.gtd_records.proofs.FoundPlaces.{AllSeen, NoneSoFar, none_more, none_of_seen}
 use Rattle.gtd_records.specs.Index.{AreClosing}
 use Rattle.gtd_records.specs.Closing.{Closes, Concerns, HoldsAt, IsClosed, IsOpen, Restriction}
 use Rattle.gtd_records.specs.declared.index.Place.{Place}
@@ -37,27 +36,12 @@ module _ (rows : List Restriction) (part : List Place) (element : ℕ) (directio
     (horizon : Horizon) where
   -- no restriction at the first places closes the element at the second
   abbrev pub NoneCloses : ℕ → ℤ → Type 0
-  NoneCloses stop t =
-      (k : ℕ) (d : Place) (r : Restriction) → k < stop → slice_index_or rows (slice_index_or part k d).row r ≡ r
-      → Closes element direction vehicle t r → ⊥
+  NoneCloses stop t = NoneSoFar rows part (Closes element direction vehicle t) stop
 
   -- the cursors are those of the restrictions at the first places that close the element
   pub record AreClosingSoFar (stop : ℕ) (cursors : List Cursor) : Type 0 where
     pub sound : (t : ℤ) → SomeHolds cursors t → IsClosed rows element direction vehicle t
     pub complete : (t : ℤ) → Within (whole horizon) t → (SomeHolds cursors t → ⊥) → NoneCloses stop t
-
-  none_more : (i : ℕ) (t : ℤ) (p : Place) (s : Restriction) → i < length part → (slice_index_or part i p).row < length rows → s
-      ≡ slice_index_or rows (slice_index_or part i p).row s
-      → (Closes element direction vehicle t s → ⊥) → NoneCloses i t → NoneCloses (i + 1) t
-  none_more i t p s here there at none before = λ k d r lt is c.
-      by_le {P = ⊥} i k
-      (λ ge.
-      let e : k ≡ i = omega arith in
-      let same_place = ap (λ (n : ℕ). slice_index_or part n d) e ∙ any_default part i d p here in
-      let same : r ≡ s = one_record rows (slice_index_or part i p).row r s there
-      (subst (λ (q : Place). slice_index_or rows q.row r ≡ r) same_place is) at in
-      none (subst (Closes element direction vehicle t) same c))
-      (λ less. before k d r less is c)
 
   -- a restriction that concerns nothing asked for adds none
   pub same_cursors : (i : ℕ) (cursors : List Cursor) (p : Place) (s : Restriction) → i < length part
@@ -66,7 +50,7 @@ module _ (rows : List Restriction) (part : List Place) (element : ℕ) (directio
       → AreClosingSoFar (i + 1) cursors
   same_cursors i cursors p s here there at none are = record {
     sound = are.sound;
-    complete = λ t within not. none_more i t p s here there at (λ c. none c.concerns) (are.complete t within not);
+    complete = λ t within not. none_more rows part _ i p s here there at (λ c. none c.concerns) (are.complete t within not);
   }
 
   -- one that does adds its cursor
@@ -86,7 +70,8 @@ module _ (rows : List Restriction) (part : List Place) (element : ℕ) (directio
         record { names = names; concerns = concerns; holds = ((is t).0 new).1 },
       )
     ];
-    complete = λ t within not. none_more i t p s here there at (λ q. not (push_new cursors c t ((is t).1 (within, q.holds))))
+    complete = λ t within not. none_more rows part _ i p s here there at
+        (λ q. not (push_new cursors c t ((is t).1 (within, q.holds))))
         (are.complete t within (λ old. not (push_old cursors c t old)));
   }
 
@@ -98,7 +83,7 @@ module _ (rows : List Restriction) (part : List Place) (element : ℕ) (directio
     few = few;
     sound = are.sound;
     complete = λ t within not.
-        none_of_seen rows part element direction vehicle t stop seen (are.complete t within not);
+        none_of_seen rows part _ element stop (λ r closes. closes.names) seen (are.complete t within not);
   }
 
 -- what lies outside of all that is closed is open

@@ -38,6 +38,12 @@ pub record Closes (element : ℕ) (direction : Direction) (vehicle : ℕ) (secon
   pub concerns : Concerns direction vehicle r
   pub holds : HoldsAt r.domain second
 
+-- the restriction closes the element for the vehicle type, whatever the second, in one direction alone
+pub record ClosesOneWay (element vehicle : ℕ) (r : Restriction) : Type 0 where
+  pub names : r.element ≡ element
+  pub serves : Serves r.vehicles vehicle
+  pub one : r.closed ≡ Both → ⊥
+
 -- some restriction closes it
 abbrev pub IsClosed : List Restriction → ℕ → Direction → ℕ → ℤ → Type 0
 IsClosed found element direction vehicle second = Any (Closes element direction vehicle second) found

@@ -3,6 +3,7 @@ pub mod RowsRead
 pub mod FileFacts
 pub mod IndexFacts
 pub mod NumberFacts
+pub mod OneWayFacts
 pub mod OneAnswer
 pub mod RestrictionCode
 pub mod Rising

@@ -1,6 +1,6 @@
 //! The records of a file in memory, found by their element.
 
-ghost use Rattle.std.specs.Prelude.{◌≡◌, ◌↔◌, ◌<◌, ◌≤◌, ℕ, ℤ, List, length, map, IfOk, IfSome, IsTrue};
+ghost use Rattle.std.specs.Prelude.{Any, ◌≡◌, ◌↔◌, ◌<◌, ◌≤◌, ℕ, ℤ, List, length, map, IfOk, IfSome, IsTrue};
 ghost use Rattle.std.specs.List.{AllWithin};
 ghost use Rattle.std.specs.List.Sorted.{IsNonDecreasingBy, IsStrictlyIncreasing};
 ghost use Rattle.gtd_core.specs.Limits.{most_rows};
@@ -8,7 +8,7 @@ ghost use Rattle.gtd_core.specs.Seconds.{IsHorizonSecond, Within};
 ghost use Rattle.gtd_core.specs.Whole.{whole};
 ghost use Rattle.gtd_eval.specs.Periods.{RepeatsFrom};
 ghost use Rattle.gtd_eval.specs.Stays.{IsStay};
-ghost use Rattle.gtd_records.specs.Closing.{AreElements, IsClosed};
+ghost use Rattle.gtd_records.specs.Closing.{AreElements, ClosesOneWay, IsClosed};
 ghost use Rattle.gtd_records.specs.ClosingRows.{AreClosingRows};
 ghost use Rattle.gtd_records.specs.Index.{AreClosing, ArePlaces};
 ghost use Rattle.gtd_records.specs.Columns.{IsSortedSet};
@@ -145,6 +145,23 @@ impl Records {
                 return false;
             }
             if self.rows[place.row].closes(direction, vehicle, second) {
+                return true;
+            }
+        }
+        false
+    }
+
+    /// Whether some record closes the element in one direction alone for the vehicle type. If none does, the element is open
+    /// in one direction at the seconds at which it is open in the other. Takes no memory.
+    pub fn closes_one_way(&self, element: u64, vehicle: u8) -> bool
+        ensures one_way { IsTrue result ↔ Any (ClosesOneWay element vehicle) self.now }
+    {
+        let from = places_below(self.places.as_slice(), element);
+        for place in &self.places[from..] {
+            if place.element != element {
+                return false;
+            }
+            if self.rows[place.row].closes_one_way(vehicle) {
                 return true;
             }
         }

@@ -4,7 +4,7 @@ ghost use Rattle.std.specs.Prelude.{◌↔◌, ◌≤◌, ℤ, IfOk, IfSome, IsT
 ghost use Rattle.gtd_core.specs.Seconds.{Within, IsHorizonSecond};
 ghost use Rattle.gtd_core.specs.Whole.{whole};
 ghost use Rattle.gtd_eval.specs.Cursors.{cursor_list, cursor_nodes};
-ghost use Rattle.gtd_records.specs.Closing.{Closes, Concerns, HoldsAt};
+ghost use Rattle.gtd_records.specs.Closing.{Closes, ClosesOneWay, Concerns, HoldsAt};
 ghost use Rattle.gtd_eval.specs.Periods.{RepeatsFrom};
 ghost use Rattle.gtd_eval.specs.Stays.{IsStay};
 ghost use Rattle.gtd_spans.specs.Normal.{Holds};
@@ -58,6 +58,16 @@ impl Record {
         match self.closed {
             Closed::One(closed) => closed == direction,
             Closed::Both => true,
+        }
+    }
+
+    // Whether the record closes its element for a vehicle type in one direction alone, whatever the second.
+    pub(crate) fn closes_one_way(&self, vehicle: u8) -> bool
+        ensures { IsTrue result ↔ ClosesOneWay self.now.element vehicle self.now }
+    {
+        match self.closed {
+            Closed::One(_) => self.vehicles.serves(vehicle),
+            Closed::Both => false,
         }
     }
 

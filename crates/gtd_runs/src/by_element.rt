@@ -12,8 +12,8 @@ use gtd_devices::Output;
 use gtd_records::{Direction, Records};
 use std::alloc::Global;
 
-/// The lines that a text by elements has for an element in a direction.
-pub trait ElementLines {
+/// The lines of an element in a direction.
+pub trait DirectionLines {
     /// Which lines an element has in a direction.
     ghost are_lines: { Self → List Restriction → ℕ → Direction → List (List ℕ) → Type 0 };
 
@@ -41,8 +41,39 @@ pub trait ElementLines {
             ≡ failures_after_stop result (O.failure_count output.old) };
 }
 
-// Puts the lines of an element, positive before negative.
-fn put_element<O: Output, L: ElementLines>(
+/// The lines that a text by elements has for an element.
+pub trait ElementLines {
+    /// Which lines an element has in a direction.
+    ghost are_lines: { Self → List Restriction → ℕ → Direction → List (List ℕ) → Type 0 };
+
+    /// Puts the lines of an element, positive before negative, as [`put_both`] does by a call for each direction. `line` is room
+    /// for a line: what it holds does not matter. The element must have at most one list of lines in a direction. Both counts
+    /// must stay within a `u64`. Before the call, the output's failures must be below `u64::MAX`.
+    fn put_element<O: Output>(
+        &self,
+        alloc: Global,
+        output: &mut O,
+        progress: &mut Progress,
+        line: &mut Vec<u8>,
+        found: &Records,
+        element: u64,
+    ) -> Result<(), Stop>
+        requires countable { O.failure_count output.old < u64.MAX }
+        requires few { length found.now ≤ most_rows }
+        requires written { progress.old.written + 2 * most_direction_bytes < 2 ^ 64 }
+        requires lines { progress.old.lines + 2 * most_direction_lines < 2 ^ 64 }
+        requires one { IsOneEach (are_lines self.now found.now) }
+        ensures puts { PutsText (AreElementLines (are_lines self.now found.now element)) result
+            (O.taken output.old) (O.taken output.new) progress.old progress.new }
+        ensures near { OnOk result ((progress.new.written ≤ progress.old.written + 2 * most_direction_bytes)
+            × (progress.new.lines ≤ progress.old.lines + 2 * most_direction_lines)) }
+        ensures failures { O.failure_count output.new
+            ≡ failures_after_stop result (O.failure_count output.old) };
+}
+
+/// Puts the lines of an element, positive before negative, by a call for each direction. The same must hold before the call as
+/// before [`ElementLines::put_element`].
+pub fn put_both<O: Output, L: DirectionLines>(
     alloc: Global,
     output: &mut O,
     progress: &mut Progress,
@@ -91,7 +122,7 @@ fn put_elements<O: Output, L: ElementLines>(
 {
     let mut line = Vec::new(alloc);
     for element in elements {
-        put_element(alloc, output, progress, &mut line, found, *element, text)?;
+        text.put_element(alloc, output, progress, &mut line, found, *element)?;
     }
     Ok(())
 }

@@ -25,10 +25,10 @@ day_zero : day_of_second (pos 0) ≡ pos 0
 unfolding day_of_second
 day_zero = refl
 
-pub first_kept : IsKeptOf (pos 0) record { month_eve = negsuc 0; clock = 0 }
+pub first_kept : IsKeptOf (pos 0) record { month = record { eve = negsuc 0; last_day = 31 }; clock = 0 }
 first_kept = let d = first_date in record {
   day = rw day_zero (search rules);
-  month = rw (day_zero, ← d.2) refl;
+  month = record { eve = rw (day_zero, ← d.2) refl; reached = rw (day_zero, ← d.1) (omega arith) };
   clock = sym first_clock;
 }
 

@@ -1,3 +1,4 @@
+pub mod BothWays
 pub mod SpanFacts
 pub mod MonthDays
 pub mod FirstMoments

@@ -1,21 +1,27 @@
 -- The moments of a line, and what is kept of them while the line is written over.
-use Rattle.std.specs.Prelude.{◌≡◌, ◌++◌, ℕ, ℤ, pos, ◌+ℤ◌, List, codes}
+use Rattle.std.specs.Prelude.{◌≡◌, ◌≤◌, ◌++◌, ℕ, ℤ, pos, ◌+ℤ◌, List, codes}
 use Rattle.gtd_core.specs.Seconds.{day_of_second}
-use Rattle.gtd_calendar.specs.Calendar.{IsCalendarDay}
+use Rattle.gtd_calendar.specs.Calendar.{IsCalendarDay, month_length}
 use Rattle.gtd_calendar.specs.Clock.{second_of_day}
-use Rattle.gtd_calendar.specs.ComputedDates.{day_of_month}
+use Rattle.gtd_calendar.specs.ComputedDates.{year_of, month_of, day_of_month}
 use Rattle.gtd_calendar.specs.Stamp.{stamp_text}
+use Rattle.gtd_schedule.specs.declared.moment.Month.{Month}
 use Rattle.gtd_schedule.specs.declared.moment.Shown.{Shown}
 use Rattle.gtd_schedule.specs.declared.line.ShownSpan.{ShownSpan}
 
--- the day before the month of some day of the calendar
-abbrev pub IsMonthEve : ℤ → Type 0
-IsMonthEve eve = (n : ℤ) × IsCalendarDay n × (eve +ℤ pos (day_of_month n) ≡ n)
+-- the month of the day: the day before its first day, and a last day that it has
+pub record IsMonthOf (day : ℤ) (month : Month) : Type 0 where
+  pub eve : month.eve +ℤ pos (day_of_month day) ≡ day
+  pub reached : month.last_day ≤ month_length (year_of day) (month_of day)
 
--- it is kept of this second: the day before its month, and its place in its day
+-- the month of some day of the calendar
+abbrev pub IsSomeMonth : Month → Type 0
+IsSomeMonth month = (n : ℤ) × IsCalendarDay n × IsMonthOf n month
+
+-- it is kept of this second: its month, and its place in its day
 pub record IsKeptOf (second : ℤ) (shown : Shown) : Type 0 where
   pub day : IsCalendarDay (day_of_second second)
-  pub month : shown.month_eve +ℤ pos (day_of_month (day_of_second second)) ≡ day_of_second second
+  pub month : IsMonthOf (day_of_second second) shown.month
   pub clock : shown.clock ≡ second_of_day second
 
 -- a text begins with a moment, of which it is kept

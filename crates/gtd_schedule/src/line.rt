@@ -6,7 +6,7 @@ ghost use Rattle.gtd_core.specs.Seconds.{day_of_second};
 ghost use Rattle.gtd_schedule.specs.Lines.{line_head, span_text};
 ghost use Rattle.gtd_schedule.specs.Moments.{AreMoments};
 
-use crate::moment::{Shown, write_moment};
+use crate::moment::{Month, Shown, write_moment};
 use gtd_core::Span;
 use gtd_records::Direction;
 use itoa::Buffer;
@@ -47,10 +47,11 @@ pub(crate) fn write_first_moments(line: &mut Vec<u8>) -> Result<ShownSpan, Alloc
         × (line.new.items ≡ line.old.items ++ moments) × AreMoments shown moments) }
 {
     line.extend_from_slice(FIRST_MOMENTS)?;
-    let shown = Shown {
-        month_eve: -1,
-        clock: 0,
+    let month = Month {
+        eve: -1,
+        last_day: 31,
     };
+    let shown = Shown { month, clock: 0 };
     Ok(ShownSpan {
         from: shown,
         until: shown,

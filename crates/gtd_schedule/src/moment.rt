@@ -1,25 +1,33 @@
 //! The text of a moment, written over the one of the line before.
 
 ghost use Rattle.std.specs.Prelude.{◌≡◌, ◌+◌, ◌*◌, ◌%◌, ◌<◌, ◌≤◌, ◌++◌, ℤ, ℕ, List, pos, ◌+ℤ◌, length, take, drop, IfSome};
-ghost use Rattle.gtd_calendar.specs.Calendar.{IsCalendarDay};
-ghost use Rattle.gtd_calendar.specs.ComputedDates.{day_of_month};
+ghost use Rattle.gtd_calendar.specs.Calendar.{IsCalendarDay, month_length};
 ghost use Rattle.gtd_calendar.specs.Clock.{second_of_day as clock_of};
 ghost use Rattle.gtd_calendar.specs.Stamp as spec;
 ghost use Rattle.gtd_calendar.specs.Stamp.{date_text, stamp_text};
 ghost use Rattle.gtd_core.specs.Limits.{day_seconds};
 ghost use Rattle.gtd_core.specs.Seconds.{day_of_second};
 ghost use Rattle.gtd_schedule.specs.Lines.{clock_bytes};
-ghost use Rattle.gtd_schedule.specs.Moments.{IsKeptOf, IsMonthEve, IsShown};
+ghost use Rattle.gtd_schedule.specs.Moments.{IsKeptOf, IsMonthOf, IsShown, IsSomeMonth};
 
 use gtd_calendar::{second_of_day, write_date};
 use gtd_core::Sec;
 use gtd_core::limits::DAY_SECONDS;
 
+/// The month of a day.
+#[derive(Clone, Copy)]
+pub(crate) struct Month {
+    /// The day before its first day.
+    pub(crate) eve: i64,
+    /// The last day that such a month has in every year.
+    pub(crate) last_day: u32,
+}
+
 /// What the text of a moment shows. Only what differs from it is written for the next moment.
 #[derive(Clone, Copy)]
 pub(crate) struct Shown {
-    /// The day before the first day of its month.
-    pub(crate) month_eve: i64,
+    /// The month of its day.
+    pub(crate) month: Month,
     /// The second of its day.
     pub(crate) clock: u32,
 }
@@ -42,56 +50,72 @@ fn write_two(text: &mut [u8], place: usize, value: u32)
     text[place + 1] = b'0' + (value - 10 * tens) as u8;
 }
 
-// Writes a day over the one that the text begins with, and answers the day before its month.
-fn write_whole_day(text: &mut [u8], day: i64) -> i64
+// The last day that a month of this number has in every year.
+fn last_day_of(month: u8) -> u32
+    ensures reached { (y : ℤ) → result ≤ month_length y month }
+{
+    match month {
+        2 => 28,
+        4 | 6 | 9 | 11 => 30,
+        _ => 31,
+    }
+}
+
+// Writes a day over the one that the text begins with, and answers its month.
+fn write_whole_day(text: &mut [u8], day: i64) -> Month
     requires day { IsCalendarDay day }
     requires inside { 10 ≤ length text.old }
     ensures text { text.new ≡ date_text day ++ drop 10 text.old }
-    ensures eve { result +ℤ pos (day_of_month day) ≡ day }
+    ensures month { IsMonthOf day result }
 {
     let date = write_date(day);
     let (front, _) = text.split_at_mut(10);
     front.copy_from_slice(&date);
-    let [_, _, _, _, _, _, _, _, tens, ones] = date;
-    day - i64::from(10 * (tens - b'0') + (ones - b'0'))
+    let [_, _, _, _, _, month_tens, month_ones, _, tens, ones] = date;
+    Month {
+        eve: day - i64::from(10 * (tens - b'0') + (ones - b'0')),
+        last_day: last_day_of(10 * (month_tens - b'0') + (month_ones - b'0')),
+    }
 }
 
-// The place of a second after the day before a month, if each month has such a day: from 1 to 28.
-fn place_in_month(month_eve: i64, second: Sec) -> Option<Place>
+// The place of a second in a month, if each year's has such a day.
+fn place_in_month(month: Month, second: Sec) -> Option<Place>
     requires day { IsCalendarDay (day_of_second second.0) }
-    requires eve { IsMonthEve month_eve }
-    ensures day { IfSome result (λ at. (month_eve +ℤ pos at.day ≡ day_of_second second.0) × (1 ≤ at.day) × (at.day ≤ 28)) }
+    requires month { IsSomeMonth month }
+    ensures day { IfSome result (λ at. (month.eve +ℤ pos at.day ≡ day_of_second second.0) × (1 ≤ at.day)
+        × (at.day ≤ month.last_day)) }
     ensures clock { IfSome result (λ at. at.clock ≡ clock_of second.0) }
 {
-    let since = second.0 - DAY_SECONDS * month_eve;
-    if DAY_SECONDS <= since && since < 29 * DAY_SECONDS {
-        let since = since as u32;
-        let day = since / 86_400;
-        let clock = since - 86_400 * day;
-        Some(Place { day, clock })
-    } else {
-        None
+    let since = second.0 - DAY_SECONDS * month.eve;
+    if since < DAY_SECONDS || 32 * DAY_SECONDS <= since {
+        return None;
     }
+    let since = since as u32;
+    let day = since / 86_400;
+    if month.last_day < day {
+        return None;
+    }
+    let clock = since - 86_400 * day;
+    Some(Place { day, clock })
 }
 
 // Writes the day of a second over the one of a known month that the text begins with: mostly the new day is in that month
-// too. Answers the day before its month, and the second of the day.
-fn write_day(text: &mut [u8], month_eve: i64, second: Sec) -> (i64, u32)
+// too. Answers its month, and the second of the day.
+fn write_day(text: &mut [u8], month: Month, second: Sec) -> (Month, u32)
     requires day { IsCalendarDay (day_of_second second.0) }
-    requires eve { IsMonthEve month_eve }
+    requires month { IsSomeMonth month }
     requires inside { 10 ≤ length text.old }
-    ensures text { (n : ℤ) (rest : List ℕ) → text.old ≡ date_text n ++ rest → month_eve +ℤ pos (day_of_month n) ≡ n
+    ensures text { (n : ℤ) (rest : List ℕ) → text.old ≡ date_text n ++ rest → IsMonthOf n month
         → text.new ≡ date_text (day_of_second second.0) ++ rest }
-    ensures eve { (n : ℤ) → month_eve +ℤ pos (day_of_month n) ≡ n
-        → result.0 +ℤ pos (day_of_month (day_of_second second.0)) ≡ day_of_second second.0 }
+    ensures month { (n : ℤ) → IsMonthOf n month → IsMonthOf (day_of_second second.0) result.0 }
     ensures clock { result.1 ≡ clock_of second.0 }
 {
-    if let Some(at) = place_in_month(month_eve, second) {
+    if let Some(at) = place_in_month(month, second) {
         write_two(text, 8, at.day);
-        return (month_eve, at.clock);
+        return (month, at.clock);
     }
-    let eve = write_whole_day(text, second.day());
-    (eve, second_of_day(second))
+    let month = write_whole_day(text, second.day());
+    (month, second_of_day(second))
 }
 
 // Writes a clock over the one after the day, if it is another one.
@@ -122,8 +146,8 @@ pub(crate) fn write_moment(text: &mut [u8], shown: &mut Shown, second: Sec)
     ensures text { text.new ≡ stamp_text second.0 ++ drop 19 text.old }
     ensures kept { IsKeptOf second.0 shown.new }
 {
-    let (month_eve, clock) = write_day(text, shown.month_eve, second);
-    shown.month_eve = month_eve;
+    let (month, clock) = write_day(text, shown.month, second);
+    shown.month = month;
     write_clock(text, shown.clock, clock);
     shown.clock = clock;
 }

@@ -6,12 +6,13 @@ ghost use Rattle.gtd_runs.specs.Run.{HasRun, failures_after_read, failures_after
 ghost use Rattle.gtd_schedule.specs.Schedule.{AreLines, IsSchedule};
 ghost use Rattle.gtd_schedule.specs.Theorem.{Headline};
 
-use crate::elements::put_open_spans;
+use crate::elements::{open_both_ways, put_alike, put_open_spans};
 use gtd_core::Horizon;
 use gtd_devices::{Input, Output};
 use gtd_records::{Direction, RecordFault, Records};
 use gtd_runs::{
-    ElementLines, Progress, Report, RunFault, Stop, Subject, put_by_element, run_report,
+    DirectionLines, ElementLines, Progress, Report, RunFault, Stop, Subject, put_both,
+    put_by_element, run_report,
 };
 use std::alloc::Global;
 
@@ -24,7 +25,7 @@ pub struct Schedule {
     pub vehicle: u8,
 }
 
-impl ElementLines for Schedule {
+impl DirectionLines for Schedule {
     ghost are_lines = { λ report found. AreLines found report.vehicle report.horizon };
 
     fn put_direction<O: Output>(
@@ -47,6 +48,34 @@ impl ElementLines for Schedule {
             direction,
             self.vehicle,
             self.horizon,
+        )
+    }
+}
+
+impl ElementLines for Schedule {
+    ghost are_lines = { λ report found. AreLines found report.vehicle report.horizon };
+
+    fn put_element<O: Output>(
+        &self,
+        alloc: Global,
+        output: &mut O,
+        progress: &mut Progress,
+        line: &mut Vec<u8>,
+        found: &Records,
+        element: u64,
+    ) -> Result<(), Stop> {
+        let Some(list) = open_both_ways(alloc, found, element, self.vehicle, self.horizon)? else {
+            return put_both(alloc, output, progress, line, found, element, self);
+        };
+        put_alike(
+            output,
+            progress,
+            line,
+            found,
+            element,
+            self.vehicle,
+            self.horizon,
+            &list,
         )
     }
 }

@@ -6,12 +6,13 @@
 //! A [`Sweep`] is a set operator without its sides. It asks for their spans one at a time, and hands out the spans of
 //! the result. [`Unite`], [`Both`], [`Without`] and [`Outside`] drive one over sources, and the list operations collect
 //! these over lists. [`first_of`], [`longer`], [`share`] and [`cut`] take the first spans of two sides. Only
-//! [`SpanList::push_start`] on a new span, [`SpanList::collect`] and the five list operations take memory.
+//! [`SpanList::push_start`] on a new span, [`SpanList::collect`], [`SpanList::collect_within`] and the five list operations
+//! take memory.
 #![tactic(auto)]
 
 pub use counting::ByDay;
 pub use gaps::Gaps;
-pub use list::SpanList;
+pub use list::{Listed, SpanList};
 pub use merge::{Ask, Side};
 pub use operations::{complement, meet, minus, same, union, within};
 pub use sides::{cut, first_of, longer, share};

@@ -1,6 +1,6 @@
 //! Normal lists of spans.
 
-ghost use Rattle.std.specs.Prelude.{◌≡◌, ◌⊎◌, ◌↔◌, ◌++◌, ℤ, [], ◌∷◌, OnOk, OnErr, IfOk, IsOk, IsTrue, IsFalse, MatchOption};
+ghost use Rattle.std.specs.Prelude.{◌≡◌, ◌⊎◌, ◌↔◌, ◌++◌, ℤ, [], ◌∷◌, OnOk, OnErr, IfOk, IsOk, IsTrue, IsFalse, MatchOption, ◌<◌, ◌≤◌, length};
 ghost use Rattle.gtd_spans.specs.Change.{NeverChanges, IsNextChange};
 ghost use Rattle.gtd_core.specs.Seconds.{Within};
 ghost use Rattle.gtd_core.specs.Whole.{whole};
@@ -124,7 +124,7 @@ impl SpanList {
 
 /// The spans of a list that are still to come, without a copy.
 #[derive(Drop)]
-pub(crate) struct Listed<'a> {
+pub struct Listed<'a> {
     pub(crate) spans: &'a [Span],
     ghost normal: { IsNormal spans.now } by { IsNormal-prop spans.now },
 }
@@ -142,9 +142,9 @@ impl SpanSource for Listed<'_> {
 }
 
 impl SpanList {
-    /// The spans, one after the other.
-    pub(crate) fn source(&self) -> Listed<'_>
-        ensures value { result.spans.now ≡ self.now }
+    /// The spans, one after the other. Takes no memory.
+    pub fn source<'a>(&'a self) -> Listed<'a>
+        ensures value { ⟦<Listed<'a> as SpanSource>⟧.rest result ≡ self.now }
     {
         Listed {
             spans: self.spans(),
@@ -170,5 +170,25 @@ impl SpanList {
             list.push_beyond(x)?;
         }
         Ok(list)
+    }
+
+    /// The list of the spans that a source still has to give, or `None` exactly if there are more than so many. What was
+    /// given to find this out is used up.
+    pub fn collect_within<S: SpanSource>(
+        alloc: Global,
+        source: &mut S,
+        most: usize,
+    ) -> Result<Option<SpanList>, AllocError>
+        ensures list { IfOk result (λ found. MatchOption found (most < length (S.rest source.old))
+            (λ r. (r ≡ S.rest source.old) × (length (S.rest source.old) ≤ most))) }
+    {
+        let mut list = SpanList::new(alloc);
+        while let Some(span) = source.next() {
+            if list.spans.len() == most {
+                return Ok(None);
+            }
+            list.push_beyond(span)?;
+        }
+        Ok(Some(list))
     }
 }

@@ -1,5 +1,6 @@
 -- A text by elements is one text, in parts.
-use Rattle.std.proofs.Common.{◌≡◌, ◌∙◌, ◌≤◌, sym, ap, refl, subst, arith, map, ℕ, List, [], ◌∷◌, ◌++◌, length}
+use Rattle.std.proofs.Common.{◌≡◌, ◌∙◌, ◌≤◌, sym, ap, refl, subst, arith, map, ℕ, List, [], ◌∷◌, ◌++◌, length, Option}
+use Rattle.std.specs.Prelude.{Result, Ok, Err}
 use Rattle.std.specs.Bool.{Decides}
 use Rattle.std.specs.Ordering.{eq_by_cmp, nat_cmp}
 use Rattle.std.proofs.lemmas.Bool.Decides.{nat_tests}
@@ -12,8 +13,10 @@ use Rattle.gtd_records.specs.facts.Rising.{one_list}
 use Rattle.gtd_records.specs.Closing.{AreElements, Restriction}
 use Rattle.gtd_records.specs.declared.direction.Direction.{Direction}
 use Rattle.gtd_records.specs.declared.direction.Direction.TheVariants.{Positive, Negative}
-use Rattle.gtd_runs.specs.facts.TextFacts.{Then}
-use Rattle.gtd_runs.specs.Putting.{AreElementLines, AreLinesOf, IsByElement, IsOne, IsOneEach}
+use Rattle.gtd_runs.specs.facts.TextFacts.{Then, texts_as, texts_cut, texts_then}
+use Rattle.gtd_runs.specs.Putting.{AreElementLines, AreLinesOf, IsByElement, IsOne, IsOneEach, PutsText}
+use Rattle.gtd_runs.specs.declared.putting.Progress.{Progress}
+use Rattle.gtd_runs.specs.declared.putting.Stop.{Stop}
 
 -- restrictions name one list of elements
 pub one_elements : (found : List Restriction) (a b : List ℕ) → AreElements found a → AreElements found b → a ≡ b
@@ -47,7 +50,24 @@ module _ (AreLines : ℕ → Direction → List (List ℕ) → Type 0) where
       → AreElementLines (AreLines element) lines → Then (AreLines element Positive) (AreLines element Negative) lines
   element_parts element lines are = (are.positive, are.negative, are.are_positive, are.are_negative, are.both)
 
+  -- the putting stopped within the lines of the first direction
+  pub both_cut : (element : ℕ) (x : Stop) (a b : Option (List ℕ)) (p q : Progress)
+      → PutsText (AreLines element Positive) (Err x) a b p q → PutsText (AreElementLines (AreLines element)) (Err x) a b p q
+  both_cut element x a b p q put =
+      texts_as (Then (AreLines element Positive) (AreLines element Negative)) (AreElementLines (AreLines element)) (Err x) a b p q
+      (element_lines element) (element_parts element)
+      (texts_cut (AreLines element Positive) (AreLines element Negative) x a b p q put)
+
   module _ (one : IsOneEach AreLines) where
+    -- the lines of the first direction were put, and then those of the second
+    pub both_put : (element : ℕ) (r : Result (Unit {0}) Stop) (a b c : Option (List ℕ)) (p q s : Progress)
+        → PutsText (AreLines element Positive) (Ok tt) a b p q → PutsText (AreLines element Negative) r b c q s
+        → PutsText (AreElementLines (AreLines element)) r a c p s
+    both_put element r a b c p q s put then =
+        texts_as (Then (AreLines element Positive) (AreLines element Negative)) (AreElementLines (AreLines element)) r a c p s
+        (element_lines element) (element_parts element)
+        (texts_then (AreLines element Positive) (AreLines element Negative) r a b c p q s (one element Positive) put then)
+
     -- an element has one list of lines
     pub one_element_lines : (element : ℕ) → IsOne (AreElementLines (AreLines element))
     one_element_lines element a b p q =

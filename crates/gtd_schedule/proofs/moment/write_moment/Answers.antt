@@ -1,4 +1,4 @@
-use Rattle.std.proofs.Common.{rules, arith, ap, ◌≡◌, ◌++◌, ◌<◌, ℤ, ℕ, List, drop, pos, FitsSigned, to_z, of_z, w64, to_z-of_z}
+use Rattle.std.proofs.Common.{rules, arith, ap, ◌≡◌, ◌++◌, ◌<◌, ℤ, ℕ, List, drop, pos}
 use Rattle.gtd_calendar.specs.Clock.{second_of_day}
 use Rattle.gtd_calendar.specs.Stamp.{clock_text, date_text, stamp_text}
 use Rattle.gtd_calendar.specs.facts.Signed.{signed_arith, one_part}
@@ -22,16 +22,14 @@ pub write_clock-requires-clause-shown : goal.write_clock-requires-clause-shown
 write_clock-requires-clause-shown c = let k = c.requires.shown in rw (k.kept.clock) (clock_in k.second)
 
 pub write_clock-requires-clause-clock : goal.write_clock-requires-clause-clock
-write_clock-requires-clause-clock c = rw (c.write_day-month_eve.ensures.clock) (clock_in c.args.second.0)
+write_clock-requires-clause-clock c = rw (c.write_day-clock.ensures.clock) (clock_in c.args.second.0)
 
 pub returns-clause-text : goal.returns-clause-text
 returns-clause-text c =
     let k = c.requires.shown in
-    let fits : FitsSigned w64 c.args.shown.now.month_eve = search rules in
-    let eve : to_z w64 (of_z w64 c.args.shown.now.month_eve) ≡ c.args.shown.now.month_eve = to_z-of_z fits in
-    let day : c.write_day-month_eve.new.text ≡ date_text (day_of_second c.args.second.0) ++ (clock_text k.second ++ k.rest) =
-    c.write_day-month_eve.ensures.text (day_of_second k.second) (clock_text k.second ++ k.rest) k.is
-    (rw eve k.kept.month) in
+    let day : c.write_day-clock.new.text ≡ date_text (day_of_second c.args.second.0) ++ (clock_text k.second ++ k.rest) =
+    c.write_day-clock.ensures.text (day_of_second k.second) (clock_text k.second ++ k.rest) k.is
+    k.kept.month in
     let clock = c.write_clock.ensures.text (day_of_second c.args.second.0) k.rest (rw (k.kept.clock) day) in
-    moment c.args.second.0 c.write_day-month_eve.result.1 (drop 19 c.args.text.now) c.write_clock.new.text k.rest
-    c.write_day-month_eve.ensures.clock (ap (drop 19) k.is) clock
+    moment c.args.second.0 c.write_day-clock.result.1 (drop 19 c.args.text.now) c.write_clock.new.text k.rest
+    c.write_day-clock.ensures.clock (ap (drop 19) k.is) clock

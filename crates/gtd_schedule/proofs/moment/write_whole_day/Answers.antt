@@ -14,8 +14,11 @@ eve_is : (day from : ℤ) (d : ℕ) → IsCalendarDay day → d ≤ 31 → from 
     → to_z w64 (of_z w64 (to_z w64 (of_z w64 day) -ℤ to_z w64 (of_z w64 from))) +ℤ pos d ≡ day
 eve_is day from d a few is = omega (arith, signed_arith, a.0, a.1)
 
-pub returns-clause-eve : goal.returns-clause-eve
-returns-clause-eve c =
+month_value : (m tens ones : ℕ) → m ≤ 12 → tens ≡ digit (m / 10) → ones ≡ digit m → 10 * (tens - 48) + (ones - 48) ≡ m
+month_value m tens ones high a b = omega arith
+
+pub returns-clause-month : goal.returns-clause-month
+returns-clause-month c =
     let n = c.args.day in
     let date = date_of-is n in
     let long = month_length_bounds (year_of n) (month_of n) in
@@ -25,4 +28,9 @@ returns-clause-eve c =
     let shown : l ≡ date_text n = rw same at c.write_date-date.ensures.value in
     let is = value (day_of_month n) (get_or l 8 0) (get_or l 9 0) few
     (ap (λ (l : List ℕ). get_or l 8 0) shown) (ap (λ (l : List ℕ). get_or l 9 0) shown) in
-    eve_is n c.from.result (day_of_month n) c.requires.day few (c.from.ensures ∙ ap pos is)
+    let month = month_value (month_of n) (get_or l 5 0) (get_or l 6 0) date.0.0.1
+    (ap (λ (l : List ℕ). get_or l 5 0) shown) (ap (λ (l : List ℕ). get_or l 6 0) shown) in
+    record {
+      eve = eve_is n c.from.result (day_of_month n) c.requires.day few (c.from.ensures ∙ ap pos is);
+      reached = rw (← month) (c.last_day_of.ensures.reached (year_of n));
+    }

@@ -1,7 +1,6 @@
 use Rattle.std.proofs.Common.{ap, arith, ◌<◌, ◌≤◌, ◌+◌, ◌^◌, ℕ, List, length, map, Option}
 use Rattle.std.specs.Prelude.{Ok, Err, OnOk, Result}
 use Rattle.std.proofs.lemmas.List.{length-map}
-use Rattle.gtd_eval.specs.Cursors.{cursor_list}
 use Rattle.gtd_core.specs.Seconds.{Interval}
 use Rattle.gtd_records.specs.Closing.{IsOpen}
 use Rattle.gtd_records.specs.declared.direction.Direction.{Direction}
@@ -16,7 +15,7 @@ use Rattle.gtd_schedule.specs.facts.LineFacts.{length-lines}
 use Rattle.gtd_schedule.specs.facts.SpansShown.{normal_few, normal_shown}
 use Rattle.gtd_schedule.specs.facts.ScheduleFacts.{one_lines}
 use Rattle.gtd_runs.specs.facts.TextFacts.{texts_of}
-use Rattle.gtd_schedule.proofs.elements.put_open_spans.Goals as goal
+use Rattle.gtd_schedule.proofs.elements.put_direction_spans.Goals as goal
 
 -- what was put of so few spans
 near : (e : ℕ) (d : Direction) (v : ℕ) (r : Result (Unit {0}) Stop) (a b : Option (List ℕ)) (p q : Progress)
@@ -33,37 +32,37 @@ near e d v (Err x) a b p q spans small type few puts = tt
 
 pub put_spans-requires-clause-shown : goal.put_spans-requires-clause-shown
 put_spans-requires-clause-shown g c =
-    normal_shown (IsOpen c.args.found.now c.args.element c.args.direction c.args.vehicle) c.args.horizon
-    (cursor_list c.in_ok-spans.spans) c.in_ok-spans.ensures.seconds
+    normal_shown (IsOpen c.args._found.now c.args.element c.args.direction c.args.vehicle) c.args._horizon
+    (g.S.SpanSource.rest c.args.spans.now) c.requires.seconds
 
 pub put_spans-requires-clause-written : goal.put_spans-requires-clause-written
 put_spans-requires-clause-written g c =
-    let few = normal_few (IsOpen c.args.found.now c.args.element c.args.direction c.args.vehicle) c.args.horizon
-    (cursor_list c.in_ok-spans.spans) c.in_ok-spans.ensures.seconds in
+    let few = normal_few (IsOpen c.args._found.now c.args.element c.args.direction c.args.vehicle) c.args._horizon
+    (g.S.SpanSource.rest c.args.spans.now) c.requires.seconds in
     let room = c.requires.written in
     omega arith
 
 pub put_spans-requires-clause-lines : goal.put_spans-requires-clause-lines
 put_spans-requires-clause-lines g c =
-    let few = normal_few (IsOpen c.args.found.now c.args.element c.args.direction c.args.vehicle) c.args.horizon
-    (cursor_list c.in_ok-spans.spans) c.in_ok-spans.ensures.seconds in
+    let few = normal_few (IsOpen c.args._found.now c.args.element c.args.direction c.args.vehicle) c.args._horizon
+    (g.S.SpanSource.rest c.args.spans.now) c.requires.seconds in
     let room = c.requires.lines in
     omega arith
 
 pub returns-clause-puts : goal.returns-clause-puts
 returns-clause-puts g c =
     let taken = g.O.Output.taken in
-    let spans = cursor_list c.in_ok-spans.spans in
-    texts_of (AreLines c.args.found.now c.args.vehicle c.args.horizon c.args.element c.args.direction) c.put_spans.result
+    let spans = g.S.SpanSource.rest c.args.spans.now in
+    texts_of (AreLines c.args._found.now c.args.vehicle c.args._horizon c.args.element c.args.direction) c.put_spans.result
     (taken c.args.output.now) (taken c.put_spans.new.output) c.args.progress.now c.put_spans.new.progress
     (map (span_line c.args.element c.args.direction c.args.vehicle) spans)
-    (one_lines c.args.found.now c.args.vehicle c.args.horizon c.args.element c.args.direction)
+    (one_lines c.args._found.now c.args.vehicle c.args._horizon c.args.element c.args.direction)
     (record {
       spans = spans;
-      normal = c.in_ok-spans.ensures.seconds;
+      normal = c.requires.seconds;
       each = lines_are c.args.element c.args.direction c.args.vehicle spans (
-          normal_shown (IsOpen c.args.found.now c.args.element c.args.direction c.args.vehicle) c.args.horizon
-          spans c.in_ok-spans.ensures.seconds
+          normal_shown (IsOpen c.args._found.now c.args.element c.args.direction c.args.vehicle) c.args._horizon
+          spans c.requires.seconds
           );
     })
     c.put_spans.ensures.puts
@@ -71,10 +70,10 @@ returns-clause-puts g c =
 pub returns-clause-near : goal.returns-clause-near
 returns-clause-near g c =
     let taken = g.O.Output.taken in
-    let spans = cursor_list c.in_ok-spans.spans in
+    let spans = g.S.SpanSource.rest c.args.spans.now in
     near c.args.element c.args.direction c.args.vehicle c.put_spans.result
     (taken c.args.output.now) (taken c.put_spans.new.output) c.args.progress.now c.put_spans.new.progress spans (omega arith)
     (omega arith)
-    (normal_few (IsOpen c.args.found.now c.args.element c.args.direction c.args.vehicle) c.args.horizon spans
-    c.in_ok-spans.ensures.seconds)
+    (normal_few (IsOpen c.args._found.now c.args.element c.args.direction c.args.vehicle) c.args._horizon spans
+    c.requires.seconds)
     c.put_spans.ensures.puts
