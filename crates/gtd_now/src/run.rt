@@ -12,7 +12,8 @@ use gtd_core::Sec;
 use gtd_devices::{Input, Output};
 use gtd_records::{Direction, RecordFault, Records};
 use gtd_runs::{
-    DirectionLines, ElementLines, Progress, Report, RunFault, Stop, Subject, put_both, put_by_element, run_report,
+    DirectionLines, ElementLines, Progress, Report, RunFault, Stop, Subject, put_both,
+    put_by_element, run_report,
 };
 use std::alloc::Global;
 
