@@ -1,6 +1,7 @@
 //! Normal lists of spans.
 
-ghost use Rattle.std.specs.Prelude.{◌≡◌, ◌⊎◌, ◌↔◌, ◌++◌, ℤ, [], ◌∷◌, OnOk, OnErr, IfOk, IsOk, IsTrue, IsFalse, MatchOption, ◌<◌, ◌≤◌, length};
+ghost use Rattle.std.specs.Prelude.{◌≡◌, ◌⊎◌, ◌↔◌, ◌<◌, ◌≤◌, ◌++◌, ℤ, [], ◌∷◌, length};
+ghost use Rattle.std.specs.Prelude.{OnOk, OnErr, IfOk, IsOk, IsTrue, IsFalse, MatchOption};
 ghost use Rattle.gtd_spans.specs.Change.{NeverChanges, IsNextChange};
 ghost use Rattle.gtd_core.specs.Seconds.{Within};
 ghost use Rattle.gtd_core.specs.Whole.{whole};

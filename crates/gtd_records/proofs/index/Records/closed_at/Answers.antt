@@ -15,7 +15,8 @@ returns-then-closes c =
     let p = part_sound _ _ _ c.deref.ensures.value c.self.invariant.placed _ _ nowhere c.loop-place-test.true in
     let r = c.index.result.now in
     let e = place_element c.self.inside.rows.items _ r p c.index.ensures ∙ c.if-place-element.false in
-    let closes = subst (λ (x : ℕ). Closes x c.args.direction c.args.vehicle c.args.second.0 r) e (c.if-closes.ensures.0 (search rules)) in
+    let closes = subst (λ (x : ℕ). Closes x c.args.direction c.args.vehicle c.args.second.0 r) e
+    (c.if-closes.ensures.0 (search rules)) in
     record {
       closed = (
         (λ _. subst (Any (Closes c.args.element c.args.direction c.args.vehicle c.args.second.0)) c.self.view_is
@@ -30,7 +31,9 @@ loop-place-preserved c =
     let r = c.index.result.now in
     let e = place_element c.self.inside.rows.items _ r p c.index.ensures ∙ c.if-place-element.false in
     none_more _ _ _ _ nowhere r c.loop-place-test.true p.1 c.index.ensures
-    (λ has. let t = c.if-closes.ensures.1 (subst (λ (x : ℕ). Closes x c.args.direction c.args.vehicle c.args.second.0 r) (sym e) has) in search (rules, t))
+    (λ has.
+    let t = c.if-closes.ensures.1 (subst (λ (x : ℕ). Closes x c.args.direction c.args.vehicle c.args.second.0 r) (sym e) has) in
+    search (rules, t))
     c.loop-place.invariant
 
 pub returns-then-place-element : goal.returns-then-place-element

@@ -30,7 +30,9 @@ loop-place-preserved c =
     let r = c.index.result.now in
     let e = place_element c.self.inside.rows.items _ r p c.index.ensures ∙ c.if-place-element.false in
     none_more _ _ _ _ nowhere r c.loop-place-test.true p.1 c.index.ensures
-    (λ has. let t = c.if-closes_one_way.ensures.1 (subst (λ (x : ℕ). ClosesOneWay x c.args.vehicle r) (sym e) has) in search (rules, t))
+    (λ has.
+    let t = c.if-closes_one_way.ensures.1 (subst (λ (x : ℕ). ClosesOneWay x c.args.vehicle r) (sym e) has) in
+    search (rules, t))
     c.loop-place.invariant
 
 pub returns-then-place-element : goal.returns-then-place-element
