@@ -59,6 +59,7 @@ pub(crate) fn write_first_moments(line: &mut Vec<u8>) -> Result<ShownSpan, Alloc
 }
 
 // Writes a span over the two moments after the head of its line, which has so many bytes.
+#[inline(always)]
 pub(crate) fn write_span(line: &mut Vec<u8>, head: usize, shown: &mut ShownSpan, span: Span)
     requires head { head ≤ length line.old.items }
     requires shown { AreMoments shown.old (drop head line.old.items) }

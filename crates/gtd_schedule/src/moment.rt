@@ -40,6 +40,7 @@ struct Place {
 }
 
 // Writes two decimal digits over the two bytes at a place.
+#[inline(always)]
 fn write_two(text: &mut [u8], place: usize, value: u32)
     requires small { value < 100 }
     requires inside { place + 2 ≤ length text.old }
@@ -62,6 +63,8 @@ fn last_day_of(month: u8) -> u32
 }
 
 // Writes a day over the one that the text begins with, and answers its month.
+#[cold]
+#[inline(never)]
 fn write_whole_day(text: &mut [u8], day: i64) -> Month
     requires day { IsCalendarDay day }
     requires inside { 10 ≤ length text.old }
@@ -79,6 +82,7 @@ fn write_whole_day(text: &mut [u8], day: i64) -> Month
 }
 
 // The place of a second in a month, if each year's has such a day.
+#[inline(always)]
 fn place_in_month(month: Month, second: Sec) -> Option<Place>
     requires day { IsCalendarDay (day_of_second second.0) }
     requires month { IsSomeMonth month }
@@ -101,6 +105,7 @@ fn place_in_month(month: Month, second: Sec) -> Option<Place>
 
 // Writes the day of a second over the one of a known month that the text begins with: mostly the new day is in that month
 // too. Answers its month, and the second of the day.
+#[inline(always)]
 fn write_day(text: &mut [u8], month: Month, second: Sec) -> (Month, u32)
     requires day { IsCalendarDay (day_of_second second.0) }
     requires month { IsSomeMonth month }
@@ -119,6 +124,7 @@ fn write_day(text: &mut [u8], month: Month, second: Sec) -> (Month, u32)
 }
 
 // Writes a clock over the one after the day, if it is another one.
+#[inline(always)]
 fn write_clock(text: &mut [u8], shown: u32, clock: u32)
     requires shown { shown < day_seconds }
     requires clock { clock < day_seconds }
@@ -140,6 +146,7 @@ fn write_clock(text: &mut [u8], shown: u32, clock: u32)
 }
 
 /// Writes the text of a moment over the one that a text begins with.
+#[inline(always)]
 pub(crate) fn write_moment(text: &mut [u8], shown: &mut Shown, second: Sec)
     requires day { IsCalendarDay (day_of_second second.0) }
     requires shown { IsShown shown.old text.old }
