@@ -1,11 +1,12 @@
 #!/usr/bin/env python3
-"""The inputs that cost most, each run once: `worst.py [PROGRAM [WORD]]`; with a word, only those whose name contains it.
+"""The inputs that cost most: `worst.py [PROGRAM [WORD]]`; with a word, only those whose name contains it.
 
 It needs a built `gtd` (`rt ci` builds it) and what `measuring.py` needs; the files are made in a temporary folder. Each
 run has 60 seconds, or its goal if that is longer. The goal is two seconds of the processor, which other work on the
 machine blurs less than the clock; if an input has more than 20 million lines, spans or days that are gone over one by
-one, it is two seconds for each 20 million. Prints both times and the peak memory of each. Ends with status 1 if one
-misses its goal, or ends without an answer."""
+one, it is two seconds for each 20 million. Each input is run once; one that is slow is run up to three times, and the run
+that took least counts, since other work on the machine only makes a run longer. Prints both times and the peak memory
+of each. Ends with status 1 if one misses its goal, or ends without an answer."""
 import sys
 import tempfile
 
@@ -15,6 +16,7 @@ from worst_inputs import cases
 GOAL = 2.0
 GOAL_COUNT = 20_000_000
 LIMIT = 60
+RUNS = 3  # of an input that is slow
 ANSWERS = (0, 1, 2)  # done, refused, usage
 
 
@@ -31,9 +33,20 @@ def ending(case, run):
     return "slow" if run.processor > goal(case) else ""
 
 
+def least(case, gtd, report):
+    """The run of a case that took least, of up to `RUNS` while it is slow."""
+    best = measuring.run([gtd, *case.words], max(LIMIT, goal(case)), report)
+    for _ in range(RUNS - 1):
+        if ending(case, best) != "slow":
+            break
+        again = measuring.run([gtd, *case.words], max(LIMIT, goal(case)), report)
+        best = min(best, again, key=lambda run: run.processor)
+    return best
+
+
 def measured(case, gtd, report):
     """Runs a case, prints its row, and returns whether it missed its goal."""
-    run = measuring.run([gtd, *case.words], max(LIMIT, goal(case)), report)
+    run = least(case, gtd, report)
     ended = ending(case, run)
     times = [f"{run.processor:.2f} s", f"{run.elapsed:.2f} s", f"{goal(case):.0f} s"]
     counted = f"{case.counted / 1e6:,.0f} million {case.what}" if case.counted > GOAL_COUNT else ""
