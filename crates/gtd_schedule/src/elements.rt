@@ -100,8 +100,8 @@ pub(crate) fn put_open_spans<O: Output>(
     )
 }
 
-// The most spans that are kept of an element.
-const MOST_KEPT_SPANS: usize = 16_384;
+// The most spans that are kept of an element: 1 MiB of them.
+const MOST_KEPT_SPANS: usize = 65_536;
 
 /// The spans in which an element is open in either direction, if no record closes it in one direction alone, and if they are
 /// few enough to be kept.

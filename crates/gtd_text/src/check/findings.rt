@@ -1,11 +1,12 @@
 //! What the check finds in one pass over the tokens.
 
 ghost use Rattle.std.specs.Prelude.{◌≡◌, ◌≤◌, ◌<◌, ◌+◌, ◌^◌};
+ghost use Rattle.std.specs.Option.{option_or};
 ghost use Rattle.gtd_text.specs.Findings.{no_findings, findings_with, misfit_at, incomplete_at, first_of};
 
 use crate::check::grammar::Seen;
 use crate::check::limits::{
-    OpenDuration, count_after, fault_of_opened, opened_after, too_deep_at, too_many_at,
+    OpenDuration, count_after, fault_of_opened, note_opened, too_deep_at, too_many_at,
 };
 use crate::token::{Token, TokenKind};
 use gtd_core::{Fault, TextFault};
@@ -44,15 +45,18 @@ impl Findings {
         requires count { self.old.count + 1 < 2 ^ 64 }
         ensures { self.new ≡ findings_with self.old token }
     {
-        self.misfit = self.misfit.or(misfit_at(self.seen, token));
-        self.seen = self.seen.with(token.kind);
+        keep_first(&mut self.misfit, misfit_at(self.seen, token));
+        self.seen.note(token.kind);
         self.count = count_after(self.count, token.kind);
-        self.too_deep = self.too_deep.or(too_deep_at(self.seen.depth(), token.from));
-        self.too_many = self.too_many.or(too_many_at(self.count, token.from));
+        keep_first(
+            &mut self.too_deep,
+            too_deep_at(self.seen.depth(), token.from),
+        );
+        keep_first(&mut self.too_many, too_many_at(self.count, token.from));
         if !matches!(token.kind, TokenKind::Field { .. }) {
-            self.too_long = self.too_long.or(fault_of_opened(self.opened));
+            keep_first(&mut self.too_long, fault_of_opened(self.opened));
         }
-        self.opened = opened_after(self.opened, token);
+        note_opened(&mut self.opened, token);
     }
 
     /// The first fault of a text that ends at this place: the limits come first, then the grammar, then the durations.
@@ -63,6 +67,16 @@ impl Findings {
         let grammar = self.misfit.or(incomplete_at(self.seen, end));
         let durations = self.too_long.or(fault_of_opened(self.opened));
         limits.or(grammar).or(durations)
+    }
+}
+
+// Keeps the first of the faults of a kind: the one that was found, or else this one. Nearly all tokens have none, so a fault
+// is written only where there is one.
+fn keep_first(found: &mut Option<TextFault>, fault: Option<TextFault>)
+    ensures { found.new ≡ option_or found.old fault }
+{
+    if fault.is_some() && found.is_none() {
+        *found = fault;
     }
 }
 

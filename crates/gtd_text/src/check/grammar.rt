@@ -36,26 +36,19 @@ impl Seen {
         }
     }
 
-    /// With one more token.
-    pub fn with(self, kind: TokenKind) -> Seen
-        requires { self.depth + 1 < 2 ^ 64 }
-        ensures { result ≡ seen_with self kind }
+    /// Reads one more token.
+    pub fn note(&mut self, kind: TokenKind)
+        requires { self.old.depth + 1 < 2 ^ 64 }
+        ensures { self.new ≡ seen_with self.old kind }
     {
-        let depth = depth_after(self.depth, kind);
-        match kind {
-            TokenKind::Field { letter, .. } => Seen {
-                last: Some(kind),
-                sign: self.sign,
-                depth,
-                letters: self.letters.with(letter),
-            },
-            _ => Seen {
-                last: Some(kind),
-                sign: Some(kind),
-                depth,
-                letters: Letters::none(),
-            },
+        self.last = Some(kind);
+        if let TokenKind::Field { letter, .. } = kind {
+            self.letters = self.letters.with(letter);
+            return;
         }
+        self.sign = Some(kind);
+        self.depth = depth_after(self.depth, kind);
+        self.letters = Letters::none();
     }
 
     /// How many brackets are open.

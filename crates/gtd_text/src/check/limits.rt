@@ -56,29 +56,27 @@ pub fn too_many_at(count: usize, place: usize) -> Option<TextFault>
     (usize::from(MOST_BASIC_DOMAINS) < count).then_some(TextFault { kind, place })
 }
 
-/// The duration that is open after one more token.
-pub fn opened_after(opened: Option<OpenDuration>, token: Token) -> Option<OpenDuration>
-    ensures { result ≡ opened_after opened token.kind token.from }
+/// Reads one more token, which may open a duration, add a field to it or close it.
+pub fn note_opened(opened: &mut Option<OpenDuration>, token: Token)
+    ensures { opened.new ≡ opened_after opened.old token.kind token.from }
 {
     match token.kind {
-        TokenKind::OpenBrace => Some(OpenDuration {
-            place: token.from,
-            parts: DurationParts::default(),
-        }),
-        TokenKind::Field { letter, value, .. } => with_field(opened, letter, value),
-        _ => None,
+        TokenKind::OpenBrace => {
+            *opened = Some(OpenDuration {
+                place: token.from,
+                parts: DurationParts::default(),
+            });
+        }
+        TokenKind::Field { letter, value, .. } => note_field(opened, letter, value),
+        _ => *opened = None,
     }
 }
 
-fn with_field(opened: Option<OpenDuration>, letter: u8, value: u32) -> Option<OpenDuration>
-    ensures { (digits : ℕ) → result ≡ with_field opened (Field letter value digits) }
+fn note_field(opened: &mut Option<OpenDuration>, letter: u8, value: u32)
+    ensures { (digits : ℕ) → opened.new ≡ with_field opened.old (Field letter value digits) }
 {
-    match opened {
-        None => None,
-        Some(OpenDuration { place, parts }) => Some(OpenDuration {
-            place,
-            parts: duration_with(parts, letter, value),
-        }),
+    if let Some(duration) = opened {
+        duration.parts = duration_with(duration.parts, letter, value);
     }
 }
 
