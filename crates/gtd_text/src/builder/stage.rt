@@ -3,23 +3,23 @@
 use gtd_core::{DurationParts, Expr, Op, Start, StartParts};
 
 /// What comes before an item in the same brackets: the left side of a sum, and that of a product.
-#[derive(Drop)]
+#[derive(Default, Drop)]
 pub struct Pending {
     pub sum: Option<(Op, Expr)>,
     pub product: Option<Expr>,
 }
 
-/// What the tokens so far have left open.
+/// What the tokens so far have left open, without what is pending.
 #[derive(Drop)]
-pub enum State {
+pub enum Stage {
     /// An item comes next.
-    Expecting(Pending),
+    Expecting,
     /// Fields of a start come next.
-    InStart(Pending, StartParts),
+    InStart(StartParts),
     /// A duration comes next.
-    AfterStart(Pending, Start),
+    AfterStart(Start),
     /// Fields of a duration come next.
-    InDuration(Pending, Start, DurationParts),
-    /// An item has ended, and is the last of the term.
-    AfterItem(Option<(Op, Expr)>, Expr),
+    InDuration(Start, DurationParts),
+    /// An item has ended. It has taken the left side of its product, and is the last of the term.
+    AfterItem(Expr),
 }
