@@ -23,7 +23,7 @@ node_list (Fixed span) = listed span
 node_list (Leaf leaf) = runs_to_come leaf
 node_list (Between' gaps p inner) = gaps_left gaps (node_list inner)
 node_list (Repeat' again p inner) = to_come again.stage (node_list inner)
-node_list (Two' op x p left y q right) = combine op (side_list x (node_list left)) (side_list y (node_list right))
+node_list (Two' op x y p left right) = combine op (side_list x (node_list left)) (side_list y (node_list right))
 
 -- what each side of an operator of the tree still has to hand out is normal, and kept spans fit what they are kept of
 abbrev pub IsSoundNode : Node → Type 0
@@ -31,7 +31,7 @@ IsSoundNode (Fixed span) = IsSingle span
 IsSoundNode (Leaf leaf) = Unit {0}
 IsSoundNode (Between' gaps p inner) = IsSoundNode inner
 IsSoundNode (Repeat' again p inner) = HasKept again (node_list inner) × IsSoundNode inner
-IsSoundNode (Two' op x p left y q right) =
+IsSoundNode (Two' op x y p left right) =
     IsNormal (side_list x (node_list left)) × IsNormal (side_list y (node_list right)) × IsSoundNode left × IsSoundNode right
 
 -- the shape of the tree
@@ -40,7 +40,7 @@ node_shape (Fixed span) = fixed
 node_shape (Leaf leaf) = runs (runs_basic leaf) (runs_horizon leaf)
 node_shape (Between' gaps p inner) = between (node_shape inner)
 node_shape (Repeat' again p inner) = repeated (node_shape inner)
-node_shape (Two' op x p left y q right) = two (node_shape left) (node_shape right)
+node_shape (Two' op x y p left right) = two (node_shape left) (node_shape right)
 
 -- how many nodes the tree has; how many the longest path down has; the sum of the work of its runs
 abbrev pub node_count : Node → ℕ
@@ -62,7 +62,7 @@ node_ticks (Fixed span) = 0
 node_ticks (Leaf leaf) = runs_ticks leaf
 node_ticks (Between' gaps p inner) = node_ticks inner
 node_ticks (Repeat' again p inner) = node_ticks inner
-node_ticks (Two' op x p left y q right) = node_ticks left + node_ticks right
+node_ticks (Two' op x y p left right) = node_ticks left + node_ticks right
 
 -- the second tree hands out what the first one does, and is as large
 pub record IsSameTree (n m : Node) : Type 0 where

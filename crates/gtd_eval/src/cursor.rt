@@ -260,9 +260,8 @@ impl Cursor {
         let half = count / 2;
         let right = Cursor::join_last(alloc, Cursor::right_of(op), cursors, half)?;
         let left = Cursor::join_last(alloc, op, cursors, count - half)?;
-        let left = Box::new(alloc, left)?;
-        let right = Box::new(alloc, right)?;
-        Ok(Node::Two(op, Side::Open, left, Side::Open, right))
+        let both = Box::new(alloc, (left, right))?;
+        Ok(Node::Two(op, Side::Open, Side::Open, both))
     }
 
     /// The cursor of the seconds of a horizon that are not in another cursor over it. It has one node more, and must

@@ -27,8 +27,9 @@ pub enum Node {
     Between(Gaps, Box<Node>),
     /// A tree that repeats after a period, and its spans of a period.
     Repeat(Repeat, Box<Node>),
-    /// An operator over a left and a right side: what is known of each, and its tree.
-    Two(Op, Side, Box<Node>, Side, Box<Node>),
+    /// An operator over a left and a right side: what is known of each, and their trees. These lie in one box, which takes
+    /// less memory, and less time to make, than a box for each.
+    Two(Op, Side, Side, Box<(Node, Node)>),
 }
 
 impl Node {
@@ -49,11 +50,14 @@ impl Node {
             Node::Leaf(runs) => runs.next(),
             Node::Between(gaps, inner) => next_gap(gaps, inner),
             Node::Repeat(again, inner) => next_repeated(again, inner),
-            Node::Two(op, x, left, y, right) => match *op {
-                Op::Union => next_of_either(x, left, y, right),
-                Op::Meet => next_of_both(x, left, y, right),
-                Op::Minus => next_of_left(x, left, y, right),
-            },
+            Node::Two(op, x, y, both) => {
+                let (left, right) = &mut **both;
+                match *op {
+                    Op::Union => next_of_either(x, left, y, right),
+                    Op::Meet => next_of_both(x, left, y, right),
+                    Op::Minus => next_of_left(x, left, y, right),
+                }
+            }
         }
     }
 
@@ -66,7 +70,7 @@ impl Node {
             Node::Fixed(_) | Node::Leaf(_) => 1,
             Node::Between(_, inner) => 1 + inner.count(),
             Node::Repeat(_, inner) => inner.count(),
-            Node::Two(_, _, left, _, right) => 1 + left.count() + right.count(),
+            Node::Two(_, _, _, both) => 1 + both.0.count() + both.1.count(),
         }
     }
 
@@ -81,7 +85,7 @@ impl Node {
             Node::Leaf(runs) => runs.ticks(),
             Node::Between(_, inner) => inner.ticks(),
             Node::Repeat(_, inner) => inner.ticks(),
-            Node::Two(_, _, left, _, right) => left.ticks() + right.ticks(),
+            Node::Two(_, _, _, both) => both.0.ticks() + both.1.ticks(),
         }
     }
 }

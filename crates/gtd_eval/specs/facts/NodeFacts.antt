@@ -17,7 +17,7 @@ node_list-normal (Fixed span) h = listed-normal span h
 node_list-normal (Leaf runs) h = runs_between-normal _ _ _ _
 node_list-normal (Between' gaps p inner) h = combine-normal Minus _ _
 node_list-normal (Repeat' again p inner) h = come-normal again.stage (node_list inner) (node_list-normal inner h.1)
-node_list-normal (Two' op x p left y q right) h = combine-normal op _ _
+node_list-normal (Two' op x y p left right) h = combine-normal op _ _
 
 pub IsSoundNode-prop : (n : Node) → IsProp (IsSoundNode n)
 IsSoundNode-prop (Fixed span) = IsSingle-prop span
@@ -29,7 +29,7 @@ IsSoundNode-prop (Repeat' again p inner) =
       AreKept-prop again.period again.stage again.horizon.until (kept_list again) (node_list inner),
       IsSoundNode-prop inner,
     )
-IsSoundNode-prop (Two' op x p left y q right) =
+IsSoundNode-prop (Two' op x y p left right) =
     hlevel (
       props,
       IsNormal-prop (side_list x (node_list left)),

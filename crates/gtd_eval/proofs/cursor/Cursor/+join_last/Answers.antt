@@ -15,10 +15,10 @@ returns t c =
     let rs : List Cursor = b.taken in
     let op : Op = c.args.op in
     let to : Op = right_of op in
-    let r : Node = c.in_ok-right-2.right.value in
-    let l : Node = c.in_ok-left-2.left.value in
-    let u : IsChainOf op ls l = rw c.in_ok-left-2.ensures.ok a.chain in
-    let v : IsChainOf to rs r = rw (c.in_ok-right-2.ensures.ok, ← c.right_of.ensures) b.chain in
+    let r : Node = c.in_ok-both.both.value.1 in
+    let l : Node = c.in_ok-both.both.value.0 in
+    let u : IsChainOf op ls l = rw c.in_ok-both.ensures.ok a.chain in
+    let v : IsChainOf to rs r = rw (c.in_ok-both.ensures.ok, ← c.right_of.ensures) b.chain in
     let gt : 1 < c.args.count = omega (arith, c.if-count-eq1.false, c.requires.some) in
     let some : 0 < length ls = omega (arith, a.many, gt) in
     record {

@@ -5,4 +5,4 @@ use Rattle.gtd_eval.proofs.node.Node.+ticks.Goals as goal
 
 pub overflow_add-result : goal.overflow_add-result
 overflow_add-result t c =
-    grind (arith, shape_work-le (node_shape c.in-Two.left.value), shape_work-le (node_shape c.in-Two.right.value))
+    grind (arith, shape_work-le (node_shape c.in-Two.both.value.0), shape_work-le (node_shape c.in-Two.both.value.1))
