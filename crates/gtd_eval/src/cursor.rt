@@ -6,8 +6,8 @@ ghost use Rattle.gtd_eval.specs.Nodes.{node_list, node_count, IsSoundNode};
 ghost use Rattle.gtd_eval.specs.facts.NodeFacts.{node_list-normal, IsSoundNode-prop};
 
 use crate::keeping::{is_long, kept_period, repeated, term_period};
-use crate::node::Node;
-use gtd_core::{Domain, Expr, Horizon, Op, Span};
+use crate::node::{Node, next_of};
+use gtd_core::{Basic, Domain, Expr, Horizon, Op, Span};
 use gtd_recur::{Period, Runs};
 use gtd_spans::{Gaps, Side, SpanSource};
 use std::alloc::{AllocError, Global};
@@ -33,18 +33,21 @@ impl SpanSource for Cursor {
         ensures height { cursor_height self.new ≡ cursor_height self.old }
         ensures work { cursor_work self.new ≡ cursor_work self.old }
     {
-        self.node.next()
+        next_of(&mut self.node)
     }
 
     ghost is_normal = { λ c. node_list-normal c.node c.sound };
 }
 
 impl Cursor {
-    ghost use Rattle.std.specs.Prelude.{◌+◌, ◌+ℤ◌, ◌*◌, ◌<◌, ◌^◌, ◌↔◌, [], ◌∷◌, ℕ, ℤ, IfOk, OnOk, vec_len};
+    ghost use Rattle.std.specs.Prelude.{◌+◌, ◌+ℤ◌, ◌*◌, ◌<◌, ◌^◌, ◌↔◌, [], ◌∷◌, ℕ, ℤ, IfOk, IfSome, OnOk, vec_len, length, List};
     ghost use Rattle.gtd_core.specs.Seconds.{Within};
     ghost use Rattle.gtd_core.specs.Parts.{domain_tree};
     ghost use Rattle.gtd_core.specs.Limits.{most_basic_domains};
-    ghost use Rattle.gtd_core.specs.Trees.{leaf_count, tree_of};
+    ghost use Rattle.gtd_core.specs.Trees.{Joined, leaf_count, tree_of};
+    ghost use Rattle.gtd_core.specs.declared.domain.Expr.TheVariants.{Leaf};
+    ghost use Rattle.gtd_eval.specs.Periods.{AllRepeat};
+    ghost use Rattle.gtd_recur.specs.Work.{work_of};
     ghost use Rattle.gtd_core.specs.Whole.{whole};
     ghost use Rattle.gtd_spans.specs.Normal.{Holds, IsNormal};
     ghost use Rattle.gtd_eval.specs.Membership.{InDomain, IsNormalOver};
@@ -154,12 +157,7 @@ impl Cursor {
     {
         let period = term_period(keep, op, expr, horizon);
         match expr {
-            Expr::Leaf(basic) => {
-                let node = Node::Leaf(Runs::new(*basic, horizon));
-                let node = repeated(alloc, node, period, horizon)?;
-                cursors.push(Cursor { node })?;
-                Ok(())
-            }
+            Expr::Leaf(basic) => Cursor::push_leaf(alloc, basic, period, horizon, cursors),
             Expr::Join(inner, left, right) => {
                 let before = cursors.len();
                 let keep = keep && period.is_none();
@@ -176,12 +174,60 @@ impl Cursor {
                     return Ok(());
                 }
                 let count = cursors.len() - before;
-                let node = Cursor::join_last(alloc, *inner, cursors, count)?;
-                let node = repeated(alloc, node, period, horizon)?;
-                cursors.push(Cursor { node })?;
-                Ok(())
+                Cursor::push_chain(alloc, *inner, left, right, count, period, horizon, cursors)
             }
         }
+    }
+
+    // Appends the cursor of a basic domain, which keeps its spans of a period if one is given. It stands alone, so that the
+    // walk down an expression needs little of the stack: what a function needs of it is cleared at each call.
+    #[inline(never)]
+    fn push_leaf(
+        alloc: Global,
+        basic: &Basic,
+        period: Option<Period>,
+        horizon: Horizon,
+        cursors: &mut Vec<Cursor>,
+    ) -> Result<(), AllocError>
+        requires repeats { IfSome period (λ x. AllRepeat (period_seconds x) (tree_of (Leaf basic.now))) }
+        ensures terms { (op : declared.Op) → OnOk result
+            (AreTerms op (tree_of (Leaf basic.now)) horizon (work_of basic.now horizon) cursors.old.items cursors.new.items) }
+    {
+        let node = Node::Leaf(Runs::new(*basic, horizon));
+        let node = repeated(alloc, node, period, horizon)?;
+        cursors.push(Cursor { node })?;
+        Ok(())
+    }
+
+    // Puts one cursor of the chain, by an operator, of the terms of a left and a right side in place of these terms, which
+    // are so many cursors at the end of the list. It keeps its spans of a period if one is given.
+    #[inline(never)]
+    fn push_chain(
+        alloc: Global,
+        inner: Op,
+        _left: &Expr,
+        _right: &Expr,
+        count: usize,
+        period: Option<Period>,
+        horizon: Horizon,
+        cursors: &mut Vec<Cursor>,
+    ) -> Result<(), AllocError>
+        requires few { leaf_count (Joined inner (tree_of _left.now) (tree_of _right.now)) ≤ most_basic_domains }
+        requires repeats { IfSome period
+            (λ x. AllRepeat (period_seconds x) (Joined inner (tree_of _left.now) (tree_of _right.now))) }
+        requires chain { (before : List Cursor) × (given : AreTerms inner (Joined inner (tree_of _left.now) (tree_of _right.now))
+            horizon (expr_work _left.now horizon + expr_work _right.now horizon) before cursors.old.items)
+            × (count ≡ length given.terms) }
+        ensures term { (op : declared.Op) → (inner ≡ op → ⊥) → (before : List Cursor)
+            → (given : AreTerms inner (Joined inner (tree_of _left.now) (tree_of _right.now)) horizon
+            (expr_work _left.now horizon + expr_work _right.now horizon) before cursors.old.items) → count ≡ length given.terms
+            → OnOk result (AreTerms op (Joined inner (tree_of _left.now) (tree_of _right.now)) horizon
+            (expr_work _left.now horizon + expr_work _right.now horizon) before cursors.new.items) }
+    {
+        let node = Cursor::join_last(alloc, inner, cursors, count)?;
+        let node = repeated(alloc, node, period, horizon)?;
+        cursors.push(Cursor { node })?;
+        Ok(())
     }
 
     /// The cursor of all seconds of a horizon, of one node.
@@ -240,6 +286,7 @@ impl Cursor {
 
     // The chain, by the operator, of so many cursors at the end of the list, which are taken off it. Its tree is
     // balanced.
+    #[cycle(joining)]
     fn join_last(
         alloc: Global,
         op: Op,
@@ -257,6 +304,23 @@ impl Cursor {
                 None => unreachable!(),
             };
         }
+        Cursor::join_halves(alloc, op, cursors, count)
+    }
+
+    // The same of two cursors or more.
+    #[cycle(joining)]
+    #[inline(never)]
+    fn join_halves(
+        alloc: Global,
+        op: Op,
+        cursors: &mut Vec<Cursor>,
+        count: usize,
+    ) -> Result<Node, AllocError>
+        requires some { 1 < count }
+        requires enough { count ≤ vec_len cursors.old }
+        ensures chain { IfOk result
+            (λ node. IsChainOfLast op count cursors.old.items node cursors.new.items) }
+    {
         let half = count / 2;
         let right = Cursor::join_last(alloc, Cursor::right_of(op), cursors, half)?;
         let left = Cursor::join_last(alloc, op, cursors, count - half)?;

@@ -6,7 +6,7 @@ ghost use Rattle.gtd_spans.specs.Gaps.{gaps_left};
 ghost use Rattle.gtd_core.specs.declared.domain.Op.TheVariants.{Union, Meet, Minus};
 ghost use Rattle.gtd_spans.specs.Normal.{IsNormal, combine};
 ghost use Rattle.gtd_spans.specs.Sides.{side_list, told_list, ComesFirst, Takes};
-ghost use Rattle.gtd_eval.specs.Repeating.{to_come};
+ghost use Rattle.gtd_eval.specs.Repeating.{IsRepeating, to_come};
 ghost use Rattle.gtd_eval.specs.Kept.{HasKept};
 ghost use Rattle.gtd_eval.specs.Nodes.{node_list, node_shape, IsSoundNode};
 
@@ -92,13 +92,14 @@ impl Node {
 
 // The next gap between the spans of a tree.
 #[cycle(next)]
+#[inline(always)]
 fn next_gap(gaps: &mut Gaps, inner: &mut Node) -> Option<Span>
     requires sound { IsSoundNode inner.old }
     ensures sound { IsSoundNode inner.new }
     ensures takes { Takes (gaps_left gaps.old (node_list inner.old)) result (gaps_left gaps.new (node_list inner.new)) }
     ensures shape { node_shape inner.new ≡ node_shape inner.old }
 {
-    while let Some(span) = inner.next() {
+    while let Some(span) = next_of(inner) {
         if let Some(gap) = gaps.before(span) {
             return Some(gap);
         }
@@ -106,8 +107,10 @@ fn next_gap(gaps: &mut Gaps, inner: &mut Node) -> Option<Span>
     gaps.last()
 }
 
-// The next span of a tree that repeats: from the kept spans, once all of a period are kept.
+// The next span of a tree that repeats: from the kept spans, once all of a period are kept. That is nearly always so: such a
+// span is then handed out without a call.
 #[cycle(next)]
+#[inline(always)]
 fn next_repeated(again: &mut Repeat, inner: &mut Node) -> Option<Span>
     requires sound { IsSoundNode inner.old }
     requires kept { HasKept again.old (node_list inner.old) }
@@ -119,6 +122,21 @@ fn next_repeated(again: &mut Repeat, inner: &mut Node) -> Option<Span>
     if again.is_repeating() {
         return again.turn();
     }
+    next_learnt(again, inner)
+}
+
+// The next span of a tree that repeats, of which not all spans of a period are kept yet.
+#[cycle(next)]
+#[inline(never)]
+fn next_learnt(again: &mut Repeat, inner: &mut Node) -> Option<Span>
+    requires learning { IsRepeating again.old.stage → ⊥ }
+    requires sound { IsSoundNode inner.old }
+    requires kept { HasKept again.old (node_list inner.old) }
+    ensures sound { IsSoundNode inner.new }
+    ensures kept { HasKept again.new (node_list inner.new) }
+    ensures takes { Takes (to_come again.old.stage (node_list inner.old)) result (to_come again.new.stage (node_list inner.new)) }
+    ensures shape { node_shape inner.new ≡ node_shape inner.old }
+{
     let Some(span) = inner.next() else {
         return None;
     };
@@ -126,8 +144,24 @@ fn next_repeated(again: &mut Repeat, inner: &mut Node) -> Option<Span>
     Some(span)
 }
 
+// The next span of a tree, without a call where a tree that repeats turns.
+#[cycle(next)]
+#[inline(always)]
+pub(crate) fn next_of(node: &mut Node) -> Option<Span>
+    requires sound { IsSoundNode node.old }
+    ensures sound { IsSoundNode node.new }
+    ensures takes { Takes (node_list node.old) result (node_list node.new) }
+    ensures shape { node_shape node.new ≡ node_shape node.old }
+{
+    if let Node::Repeat(again, inner) = node {
+        return next_repeated(again, inner);
+    }
+    node.next()
+}
+
 // The next span of a side, which is asked for if it is not known.
 #[cycle(next)]
+#[inline(always)]
 fn ahead(side: &mut Side, node: &mut Node) -> Option<Span>
     requires sound { IsSoundNode node.old }
     ensures sound { IsSoundNode node.new }
@@ -136,7 +170,7 @@ fn ahead(side: &mut Side, node: &mut Node) -> Option<Span>
     ensures list { told_list result (node_list node.new) ≡ side_list side.old (node_list node.old) }
 {
     if side.is_open() {
-        let told = node.next();
+        let told = next_of(node);
         *side = Side::told(told);
         return side.held();
     }
@@ -145,6 +179,7 @@ fn ahead(side: &mut Side, node: &mut Node) -> Option<Span>
 
 // The next span of the seconds on either side.
 #[cycle(next)]
+#[inline(always)]
 fn next_of_either(x: &mut Side, left: &mut Node, y: &mut Side, right: &mut Node) -> Option<Span>
     requires left_sound { IsSoundNode left.old }
     requires right_sound { IsSoundNode right.old }
@@ -165,11 +200,11 @@ fn next_of_either(x: &mut Side, left: &mut Node, y: &mut Side, right: &mut Node)
     loop {
         if let Some(span) = longer(joined, x.held()) {
             joined = span;
-            let told = left.next();
+            let told = next_of(left);
             *x = Side::told(told);
         } else if let Some(span) = longer(joined, y.held()) {
             joined = span;
-            let told = right.next();
+            let told = next_of(right);
             *y = Side::told(told);
         } else {
             return Some(joined);
@@ -179,6 +214,7 @@ fn next_of_either(x: &mut Side, left: &mut Node, y: &mut Side, right: &mut Node)
 
 // The next span of the seconds on both sides.
 #[cycle(next)]
+#[inline(always)]
 fn next_of_both(x: &mut Side, left: &mut Node, y: &mut Side, right: &mut Node) -> Option<Span>
     requires left_sound { IsSoundNode left.old }
     requires right_sound { IsSoundNode right.old }
@@ -204,6 +240,7 @@ fn next_of_both(x: &mut Side, left: &mut Node, y: &mut Side, right: &mut Node) -
 
 // The next span of the seconds on the left side and not on the right one.
 #[cycle(next)]
+#[inline(always)]
 fn next_of_left(x: &mut Side, left: &mut Node, y: &mut Side, right: &mut Node) -> Option<Span>
     requires left_sound { IsSoundNode left.old }
     requires right_sound { IsSoundNode right.old }

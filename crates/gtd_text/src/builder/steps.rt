@@ -1,67 +1,67 @@
-//! What each token does to what has been built.
+//! What each token does to the builder's state.
 
 ghost use Rattle.std.specs.Prelude.{◌≡◌, ℕ, List, IfOk, OnOk, MatchOption, Some, None, [], ◌∷◌};
 ghost use Rattle.gtd_core.specs.Trees.{tree_of};
 ghost use Rattle.gtd_core.specs.Parts.{start_parts};
 ghost use Rattle.gtd_text.specs.declared.token.TokenKind.{TokenKind};
-ghost use Rattle.gtd_text.specs.declared.builder.stage.Pending.{Pending};
-ghost use Rattle.gtd_text.specs.declared.builder.stage.Stage.TheVariants as stages;
+ghost use Rattle.gtd_text.specs.declared.builder.state.State.TheVariants as state;
 ghost use Rattle.gtd_text.specs.PendingParts.{sum_of, product_of};
 ghost use Rattle.gtd_text.specs.Building as building;
 ghost use Rattle.gtd_text.specs.BuilderStates.{TakesToken, fields_with, opened, pending_of, stage_of};
 
 use crate::builder::join::{times, total};
-use crate::builder::stage::{Pending, Stage};
+use crate::builder::state::{Pending, State};
 use crate::token::TokenKind;
 use gtd_core::fields::{duration_with, start_with};
 use gtd_core::{Basic, Duration, DurationParts, Expr, Op, Start, StartParts};
 use std::alloc::{AllocError, Global};
-use std::mem::take;
 
-/// The stage after one more token.
-///
-/// What is pending stays where it is, so that a field moves little more than itself.
-pub fn next_stage(
+/// The state after one more token.
+pub fn next_state(
     alloc: Global,
     outer: &mut Vec<Pending>,
-    pending: &mut Pending,
-    stage: Stage,
+    state: State,
     kind: TokenKind,
-) -> Result<Stage, AllocError>
-    requires { TakesToken (opened outer.old.items) pending.old stage kind }
+) -> Result<State, AllocError>
+    requires { TakesToken (opened outer.old.items) state kind }
     ensures { (fields : List TokenKind) (next : building.State) →
-        building.step (stage_of (opened outer.old.items) fields pending.old stage) kind ≡ Some next
+        building.step (stage_of (opened outer.old.items) fields state) kind ≡ Some next
         → IfOk result (λ after.
-        stage_of (opened outer.new.items) (fields_with kind fields) pending.new after ≡ next) }
+        stage_of (opened outer.new.items) (fields_with kind fields) after ≡ next) }
 {
-    match stage {
-        Stage::Expecting => expecting(outer, pending, kind),
-        Stage::InStart(parts) => Ok(in_start(parts, kind)),
-        Stage::AfterStart(start) => Ok(after_start(start, kind)),
-        Stage::InDuration(start, parts) => in_duration(alloc, pending, start, parts, kind),
-        Stage::AfterItem(term) => after_item(alloc, outer, pending, term, kind),
+    match state {
+        State::Expecting(pending) => expecting(outer, pending, kind),
+        State::InStart(pending, parts) => Ok(in_start(pending, parts, kind)),
+        State::AfterStart(pending, start) => Ok(after_start(pending, start, kind)),
+        State::InDuration(pending, start, parts) => {
+            in_duration(alloc, pending, start, parts, kind)
+        }
+        State::AfterItem(sum, term) => after_item(alloc, outer, sum, term, kind),
     }
 }
 
 /// An item begins, or more brackets open.
 fn expecting(
     outer: &mut Vec<Pending>,
-    pending: &mut Pending,
+    pending: Pending,
     kind: TokenKind,
-) -> Result<Stage, AllocError>
-    requires { TakesToken (opened outer.old.items) pending.old stages.Expecting kind }
+) -> Result<State, AllocError>
+    requires { TakesToken (opened outer.old.items) (state.Expecting pending) kind }
     ensures { (fields : List TokenKind) (next : building.State) →
-        building.step (building.Expecting (opened outer.old.items) (sum_of pending.old.sum)
-        (product_of pending.old.product)) kind ≡ Some next
+        building.step (building.Expecting (opened outer.old.items) (sum_of pending.sum)
+        (product_of pending.product)) kind ≡ Some next
         → IfOk result (λ after.
-        stage_of (opened outer.new.items) (fields_with kind fields) pending.new after ≡ next) }
+        stage_of (opened outer.new.items) (fields_with kind fields) after ≡ next) }
 {
     match kind {
         TokenKind::OpenBracket => {
-            push_pending(outer, take(pending))?;
-            Ok(Stage::Expecting)
+            push_pending(outer, pending)?;
+            Ok(State::Expecting(Pending {
+                sum: None,
+                product: None,
+            }))
         }
-        TokenKind::OpenParenthesis => Ok(Stage::InStart(StartParts::default())),
+        TokenKind::OpenParenthesis => Ok(State::InStart(pending, StartParts::default())),
         _ => unreachable!(),
     }
 }
@@ -83,19 +83,19 @@ fn pop_pending(outer: &mut Vec<Pending>) -> Option<Pending>
 }
 
 /// A field of a start, or the end of the start.
-fn in_start(parts: StartParts, kind: TokenKind) -> Stage
-    requires { (outer : List building.Pending) × (pending : Pending)
-        × TakesToken outer pending (stages.InStart parts) kind }
-    ensures { (outer : List building.Pending) (pending : Pending) (fields : List TokenKind)
-        (next : building.State) →
+fn in_start(pending: Pending, parts: StartParts, kind: TokenKind) -> State
+    requires { (outer : List building.Pending) × TakesToken outer (state.InStart pending parts) kind }
+    ensures { (outer : List building.Pending) (fields : List TokenKind) (next : building.State) →
         building.step (building.InStart outer (sum_of pending.sum) (product_of pending.product)
         fields parts) kind ≡ Some next
-        → stage_of outer (fields_with kind fields) pending result ≡ next }
+        → stage_of outer (fields_with kind fields) result ≡ next }
 {
     match kind {
-        TokenKind::Field { letter, value, .. } => Stage::InStart(start_with(parts, letter, value)),
+        TokenKind::Field { letter, value, .. } => {
+            State::InStart(pending, start_with(parts, letter, value))
+        }
         TokenKind::CloseParenthesis => match Start::new(parts) {
-            Some(start) => Stage::AfterStart(start),
+            Some(start) => State::AfterStart(pending, start),
             None => unreachable!(),
         },
         _ => unreachable!(),
@@ -103,17 +103,15 @@ fn in_start(parts: StartParts, kind: TokenKind) -> Stage
 }
 
 /// The brace of a duration.
-fn after_start(start: Start, kind: TokenKind) -> Stage
-    requires { (outer : List building.Pending) × (pending : Pending)
-        × TakesToken outer pending (stages.AfterStart start) kind }
-    ensures { (outer : List building.Pending) (pending : Pending) (fields : List TokenKind)
-        (next : building.State) →
+fn after_start(pending: Pending, start: Start, kind: TokenKind) -> State
+    requires { (outer : List building.Pending) × TakesToken outer (state.AfterStart pending start) kind }
+    ensures { (outer : List building.Pending) (fields : List TokenKind) (next : building.State) →
         building.step (building.AfterStart outer (sum_of pending.sum) (product_of pending.product)
         (start_parts start)) kind ≡ Some next
-        → stage_of outer (fields_with kind fields) pending result ≡ next }
+        → stage_of outer (fields_with kind fields) result ≡ next }
 {
     match kind {
-        TokenKind::OpenBrace => Stage::InDuration(start, DurationParts::default()),
+        TokenKind::OpenBrace => State::InDuration(pending, start, DurationParts::default()),
         _ => unreachable!(),
     }
 }
@@ -121,24 +119,30 @@ fn after_start(start: Start, kind: TokenKind) -> Stage
 /// A field of a duration, or the end of a basic domain.
 fn in_duration(
     alloc: Global,
-    pending: &mut Pending,
+    pending: Pending,
     start: Start,
     parts: DurationParts,
     kind: TokenKind,
-) -> Result<Stage, AllocError>
+) -> Result<State, AllocError>
     requires { (outer : List building.Pending)
-        × TakesToken outer pending.old (stages.InDuration start parts) kind }
+        × TakesToken outer (state.InDuration pending start parts) kind }
     ensures { (outer : List building.Pending) (fields : List TokenKind) (next : building.State) →
-        building.step (building.InDuration outer (sum_of pending.old.sum)
-        (product_of pending.old.product) (start_parts start) fields parts) kind ≡ Some next
-        → IfOk result (λ after. stage_of outer (fields_with kind fields) pending.new after ≡ next) }
+        building.step (building.InDuration outer (sum_of pending.sum) (product_of pending.product)
+        (start_parts start) fields parts) kind ≡ Some next
+        → IfOk result (λ after. stage_of outer (fields_with kind fields) after ≡ next) }
 {
     match kind {
-        TokenKind::Field { letter, value, .. } => {
-            Ok(Stage::InDuration(start, duration_with(parts, letter, value)))
-        }
+        TokenKind::Field { letter, value, .. } => Ok(State::InDuration(
+            pending,
+            start,
+            duration_with(parts, letter, value),
+        )),
         TokenKind::CloseBrace => match Duration::new(parts) {
-            Some(duration) => end_item(alloc, pending, Expr::Leaf(Basic { start, duration })),
+            Some(duration) => {
+                let Pending { sum, product } = pending;
+                let leaf = Expr::Leaf(Basic { start, duration });
+                Ok(State::AfterItem(sum, times(alloc, product, leaf)?))
+            }
             None => unreachable!(),
         },
         _ => unreachable!(),
@@ -149,30 +153,29 @@ fn in_duration(
 fn after_item(
     alloc: Global,
     outer: &mut Vec<Pending>,
-    pending: &mut Pending,
+    sum: Option<(Op, Expr)>,
     term: Expr,
     kind: TokenKind,
-) -> Result<Stage, AllocError>
-    requires { TakesToken (opened outer.old.items) pending.old (stages.AfterItem term) kind }
+) -> Result<State, AllocError>
+    requires { TakesToken (opened outer.old.items) (state.AfterItem sum term) kind }
     ensures { (fields : List TokenKind) (next : building.State) →
-        building.step (building.AfterItem (opened outer.old.items) (sum_of pending.old.sum)
-        (tree_of term)) kind ≡ Some next
+        building.step (building.AfterItem (opened outer.old.items) (sum_of sum) (tree_of term)) kind
+        ≡ Some next
         → IfOk result (λ after.
-        stage_of (opened outer.new.items) (fields_with kind fields) pending.new after ≡ next) }
+        stage_of (opened outer.new.items) (fields_with kind fields) after ≡ next) }
 {
     match kind {
         TokenKind::Star => {
-            pending.product = Some(term);
-            Ok(Stage::Expecting)
+            let product = Some(term);
+            Ok(State::Expecting(Pending { sum, product }))
         }
-        TokenKind::Plus => next_term(alloc, Op::Union, pending, term),
-        TokenKind::Minus => next_term(alloc, Op::Minus, pending, term),
+        TokenKind::Plus => next_term(alloc, Op::Union, sum, term),
+        TokenKind::Minus => next_term(alloc, Op::Minus, sum, term),
         TokenKind::CloseBracket => {
-            let whole = total(alloc, pending.sum.take(), term)?;
+            let whole = total(alloc, sum, term)?;
             match pop_pending(outer) {
-                Some(before) => {
-                    *pending = before;
-                    end_item(alloc, pending, whole)
+                Some(Pending { sum, product }) => {
+                    Ok(State::AfterItem(sum, times(alloc, product, whole)?))
                 }
                 None => unreachable!(),
             }
@@ -181,26 +184,19 @@ fn after_item(
     }
 }
 
-/// The item takes the left side of its product.
-fn end_item(alloc: Global, pending: &mut Pending, item: Expr) -> Result<Stage, AllocError>
-    ensures { IfOk result (λ after. (outer : List building.Pending) (fields : List TokenKind) →
-        stage_of outer fields pending.new after ≡ building.AfterItem outer (sum_of pending.old.sum)
-        (building.times (product_of pending.old.product) (tree_of item))) }
+fn next_term(
+    alloc: Global,
+    op: Op,
+    sum: Option<(Op, Expr)>,
+    term: Expr,
+) -> Result<State, AllocError>
+    ensures { IfOk result (λ state. (outer : List building.Pending) (fields : List TokenKind) →
+        stage_of outer fields state
+        ≡ building.Expecting outer (Some (op, building.total (sum_of sum) (tree_of term))) None) }
 {
-    let term = times(alloc, pending.product.take(), item)?;
-    Ok(Stage::AfterItem(term))
-}
-
-/// The sum so far becomes the left side of the next term.
-fn next_term(alloc: Global, op: Op, pending: &mut Pending, term: Expr) -> Result<Stage, AllocError>
-    ensures { IfOk result (λ after. (outer : List building.Pending) (fields : List TokenKind) →
-        stage_of outer fields pending.new after ≡ building.Expecting outer
-        (Some (op, building.total (sum_of pending.old.sum) (tree_of term))) None) }
-{
-    let left = total(alloc, pending.sum.take(), term)?;
-    *pending = Pending {
+    let left = total(alloc, sum, term)?;
+    Ok(State::Expecting(Pending {
         sum: Some((op, left)),
         product: None,
-    };
-    Ok(Stage::Expecting)
+    }))
 }

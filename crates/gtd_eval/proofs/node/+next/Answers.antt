@@ -17,7 +17,7 @@ next_gap-returns-in-Some-before-clause-takes t c =
     let taken = c.in-Some.ensures.takes in
     let normal = rw taken at (node_list-normal loop.inner loop.invariant.sound) in
     loop.invariant.same ∙ ap (gaps_left loop.gaps) taken
-    ∙ c.in-Some-before.ensures.passes (node_list c.next.new.self) normal
+    ∙ c.in-Some-before.ensures.passes (node_list c.next_of.new.node) normal
 
 pub next_gap-loop-span-preserved : goal.next_gap-loop-span-preserved
 next_gap-loop-span-preserved t c =
@@ -25,10 +25,10 @@ next_gap-loop-span-preserved t c =
     let taken = c.in-Some.ensures.takes in
     let normal = rw taken at (node_list-normal loop.inner loop.invariant.sound) in
     record {
-      sound = c.next.ensures.sound;
+      sound = c.next_of.ensures.sound;
       same = loop.invariant.same ∙ ap (gaps_left loop.gaps) taken
-          ∙ c.in_default-before.ensures.passes (node_list c.next.new.self) normal;
-      shape = c.next.ensures.shape ∙ loop.invariant.shape;
+          ∙ c.in_default-before.ensures.passes (node_list c.next_of.new.node) normal;
+      shape = c.next_of.ensures.shape ∙ loop.invariant.shape;
     }
 
 pub next_repeated-returns-then-is_repeating-clause-kept : goal.next_repeated-returns-then-is_repeating-clause-kept
@@ -39,18 +39,18 @@ pub next_repeated-returns-then-is_repeating-clause-takes : goal.next_repeated-re
 next_repeated-returns-then-is_repeating-clause-takes t c =
     c.turn.ensures.takes (node_list c.args.inner.now) (node_list-normal c.args.inner.now c.requires.sound) c.requires.kept
 
-pub next_repeated-returns-clause-kept : goal.next_repeated-returns-clause-kept
-next_repeated-returns-clause-kept t c =
+pub next_learnt-returns-clause-kept : goal.next_learnt-returns-clause-kept
+next_learnt-returns-clause-kept t c =
     let taken = c.in-Some.ensures.takes in
     let normal = rw taken at (node_list-normal c.args.inner.now c.requires.sound) in
     c.keep.ensures.kept (node_list c.next.new.self) normal (rw taken at c.requires.kept)
 
-pub next_repeated-returns-clause-takes : goal.next_repeated-returns-clause-takes
-next_repeated-returns-clause-takes t c =
+pub next_learnt-returns-clause-takes : goal.next_learnt-returns-clause-takes
+next_learnt-returns-clause-takes t c =
     let taken = c.in-Some.ensures.takes in
     let normal = rw taken at (node_list-normal c.args.inner.now c.requires.sound) in
     let all = c.keep.ensures.all (node_list c.next.new.self) normal (rw taken at c.requires.kept) in
-    come-all c.args.again.now.stage (node_list c.args.inner.now) (c.if-is_repeating.ensures.no refl) ∙ taken
+    come-all c.args.again.now.stage (node_list c.args.inner.now) c.requires.learning ∙ taken
     ∙ ap (λ (l : List Interval). c.in-Some.span ∷ l) (sym all)
 
 pub next_of_either-returns-in_err-joined-clause-takes : goal.next_of_either-returns-in_err-joined-clause-takes
@@ -80,13 +80,13 @@ next_of_either-loop-span-preserved-in-Some t c =
     let old = c.loop-span.invariant in
     let told = c.told.ensures.comes in
     record {
-      left_sound = c.next-told.ensures.sound;
+      left_sound = c.next_of-told.ensures.sound;
       right_sound = old.right_sound;
       left_known = comes-known _ _ told;
       right_known = old.right_known;
-      joining = joining-more _ _ _ _ c.held.result _ _ c.next-told.result _ _ old.joining
-          (c.held.ensures.comes old.left_known) c.in-Some.ensures.longer c.next-told.ensures.takes told;
-      left_shape = c.next-told.ensures.shape ∙ old.left_shape;
+      joining = joining-more _ _ _ _ c.held.result _ _ c.next_of-told.result _ _ old.joining
+          (c.held.ensures.comes old.left_known) c.in-Some.ensures.longer c.next_of-told.ensures.takes told;
+      left_shape = c.next_of-told.ensures.shape ∙ old.left_shape;
       right_shape = old.right_shape;
     }
 
@@ -96,14 +96,14 @@ next_of_either-loop-span-preserved t c =
     let told = c.told-in-Some-longer.ensures.comes in
     record {
       left_sound = old.left_sound;
-      right_sound = c.next-told-in-Some-longer.ensures.sound;
+      right_sound = c.next_of-told-in-Some-longer.ensures.sound;
       left_known = old.left_known;
       right_known = comes-known _ _ told;
-      joining = joining-turned _ _ _ _ (joining-more _ _ _ _ c.held-in_default.result _ _ c.next-told-in-Some-longer.result _ _
+      joining = joining-turned _ _ _ _ (joining-more _ _ _ _ c.held-in_default.result _ _ c.next_of-told-in-Some-longer.result _ _
           (joining-turned _ _ _ _ old.joining) (c.held-in_default.ensures.comes old.right_known)
-          c.in-Some-longer.ensures.longer c.next-told-in-Some-longer.ensures.takes told);
+          c.in-Some-longer.ensures.longer c.next_of-told-in-Some-longer.ensures.takes told);
       left_shape = old.left_shape;
-      right_shape = c.next-told-in-Some-longer.ensures.shape ∙ old.right_shape;
+      right_shape = c.next_of-told-in-Some-longer.ensures.shape ∙ old.right_shape;
     }
 
 pub next_of_either-returns-in_default-longer-clause-takes : goal.next_of_either-returns-in_default-longer-clause-takes

@@ -8,25 +8,31 @@ use Rattle.gtd_eval.specs.Nodes.{node_list, node_shape, node_size, IsSoundNode}
 use Rattle.gtd_eval.proofs.node.+next.Given as goal
 
 abbrev pub decreases-Node::next : goal.decreases-Node::next
-decreases-Node::next l = 3 * node_size l.self.now
+decreases-Node::next l = 4 * node_size l.self.now
 
 abbrev pub decreases-next_gap : goal.decreases-next_gap
-decreases-next_gap l = 3 * node_size l.inner.now + 1
+decreases-next_gap l = 4 * node_size l.inner.now + 2
 
 abbrev pub decreases-next_repeated : goal.decreases-next_repeated
-decreases-next_repeated l = 3 * node_size l.inner.now + 1
+decreases-next_repeated l = 4 * node_size l.inner.now + 2
+
+abbrev pub decreases-next_learnt : goal.decreases-next_learnt
+decreases-next_learnt l = 4 * node_size l.inner.now + 1
+
+abbrev pub decreases-next_of : goal.decreases-next_of
+decreases-next_of l = 4 * node_size l.node.now + 1
 
 abbrev pub decreases-ahead : goal.decreases-ahead
-decreases-ahead l = 3 * node_size l.node.now + 1
+decreases-ahead l = 4 * node_size l.node.now + 2
 
 abbrev pub decreases-next_of_either : goal.decreases-next_of_either
-decreases-next_of_either l = 3 * (node_size l.left.now + node_size l.right.now) + 2
+decreases-next_of_either l = 4 * (node_size l.left.now + node_size l.right.now) + 3
 
 abbrev pub decreases-next_of_both : goal.decreases-next_of_both
-decreases-next_of_both l = 3 * (node_size l.left.now + node_size l.right.now) + 2
+decreases-next_of_both l = 4 * (node_size l.left.now + node_size l.right.now) + 3
 
 abbrev pub decreases-next_of_left : goal.decreases-next_of_left
-decreases-next_of_left l = 3 * (node_size l.left.now + node_size l.right.now) + 2
+decreases-next_of_left l = 4 * (node_size l.left.now + node_size l.right.now) + 3
 
 abbrev pub invariant-next_gap-loop-span : goal.invariant-next_gap-loop-span
 invariant-next_gap-loop-span l = record {

@@ -6,15 +6,15 @@ use Rattle.gtd_text.specs.Lexing.{kinds}
 use Rattle.gtd_text.specs.BuilderStates.{fields_with, opened, stage_of}
 use Rattle.gtd_text.specs.facts.Unique.{one_list}
 use Rattle.gtd_text.proofs.StepLemmas.{opened_nil}
-use Rattle.gtd_text.proofs.BuildLemmas.{advance, front_stage, at_end}
+use Rattle.gtd_text.proofs.BuildLemmas.{advance, front_state, at_end}
 use Rattle.gtd_text.proofs.ValidBuilds.{ends_in_range}
 use Rattle.gtd_text.proofs.builder.build_expr.Goals as goal
 
 pub loop-token-init : goal.loop-token-init
 loop-token-init c =
     let r = c.requires in
-    let onward = front_stage (kinds r.tokens) (opened c.new-outer.result.items) c.default-pending.result r.builds.tree
-    (ap opened c.new-outer.ensures.items ∙ opened_nil) c.default-pending.ensures r.builds.built in
+    let onward = front_state (kinds r.tokens) (opened c.new-outer.result.items) r.builds.tree
+    (ap opened c.new-outer.ensures.items ∙ opened_nil) r.builds.built in
     record {
       inside = omega arith;
       goes = record {
@@ -26,13 +26,12 @@ loop-token-init c =
       };
     }
 
-pub next_stage-requires : goal.next_stage-requires
-next_stage-requires c =
+pub next_state-requires : goal.next_state-requires
+next_state-requires c =
     let at = c.loop-token.invariant.goes in
     let k = at.goes in
     let a = advance c.args.text.now c.loop-token.place c.in-Some.token at.rest
-    (stage_of (opened c.loop-token.outer.items) k.fields c.loop-token.pending c.loop-token.stage) k.tree
-    c.in-Some.ensures.next at.reads k.onward in
+    (stage_of (opened c.loop-token.outer.items) k.fields c.loop-token.state) k.tree c.in-Some.ensures.next at.reads k.onward in
     record {
       fields = k.fields;
       next = a.next;
@@ -45,8 +44,7 @@ loop-token-preserved c =
     let at = c.loop-token.invariant.goes in
     let k = at.goes in
     let a = advance c.args.text.now c.loop-token.place c.in-Some.token at.rest
-    (stage_of (opened c.loop-token.outer.items) k.fields c.loop-token.pending c.loop-token.stage) k.tree
-    c.in-Some.ensures.next at.reads k.onward in
+    (stage_of (opened c.loop-token.outer.items) k.fields c.loop-token.state) k.tree c.in-Some.ensures.next at.reads k.onward in
     record {
       inside = c.in-Some.ensures.inside;
       goes = record {
@@ -59,7 +57,7 @@ loop-token-preserved c =
           valid = k.valid;
           whole = k.whole;
           fields = fields_with c.in-Some.token.kind k.fields;
-          onward = ap (λ s. build s (kinds a.others)) (c.in_ok-stage.ensures k.fields a.next a.stepped) ∙ a.onward;
+          onward = ap (λ s. build s (kinds a.others)) (c.in_ok-state.ensures k.fields a.next a.stepped) ∙ a.onward;
         };
       };
     }
@@ -73,8 +71,8 @@ finish-requires c =
       fields = k.fields;
       tree = k.tree;
       ended = at_end c.args.text.now c.loop-token.place at.rest
-          (stage_of (opened c.loop-token.outer.items) k.fields c.loop-token.pending c.loop-token.stage) k.tree
-          c.in_default.ensures.next at.reads k.onward;
+          (stage_of (opened c.loop-token.outer.items) k.fields c.loop-token.state) k.tree c.in_default.ensures.next at.reads
+          k.onward;
     }
 
 pub returns : goal.returns
@@ -82,8 +80,7 @@ returns c tokens read =
     let at = c.loop-token.invariant.goes in
     let k = at.goes in
     let end = at_end c.args.text.now c.loop-token.place at.rest
-    (stage_of (opened c.loop-token.outer.items) k.fields c.loop-token.pending c.loop-token.stage) k.tree
-    c.in_default.ensures.next at.reads k.onward in
+    (stage_of (opened c.loop-token.outer.items) k.fields c.loop-token.state) k.tree c.in_default.ensures.next at.reads k.onward in
     let same = one_list c.args.text.now 0 tokens at.tokens (length c.args.text.now) read at.read in
     IfOk-weaker c.finish.result (λ expr. tree_of expr ≡ k.tree)
     (λ expr. build at_front (kinds tokens) ≡ Some (tree_of expr))

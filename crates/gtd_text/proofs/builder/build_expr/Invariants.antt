@@ -7,7 +7,7 @@ use Rattle.gtd_text.proofs.builder.build_expr.Given as goal
 abbrev pub invariant-loop-token : goal.invariant-loop-token
 invariant-loop-token l = record {
   inside : l.place ≤ length l.text;
-  goes : GoesFrom l.text l.place (opened l.outer.items) l.pending l.stage;
+  goes : GoesFrom l.text l.place (opened l.outer.items) l.state;
 }
 
 abbrev pub decreases-loop-token : goal.decreases-loop-token

@@ -6,9 +6,8 @@ use Rattle.gtd_text.proofs.builder.steps.in_duration.Goals as goal
 pub unreachable-requires : goal.unreachable-requires
 unreachable-requires c =
     let takes = c.requires.1 in
-    let in_range = closed_duration c.args.kind c.requires.0 (sum_of c.args.pending.now.sum)
-    (product_of c.args.pending.now.product) (start_parts c.args.start) takes.fields c.args.parts takes.next c.in-CloseBrace.is
-    takes.stepped takes.in_range in
+    let in_range = closed_duration c.args.kind c.requires.0 (sum_of c.args.pending.sum) (product_of c.args.pending.product)
+    (start_parts c.args.start) takes.fields c.args.parts takes.next c.in-CloseBrace.is takes.stepped takes.in_range in
     let accepted = c.in-None.ensures.accepted.1 in_range in
     absurd cc
 

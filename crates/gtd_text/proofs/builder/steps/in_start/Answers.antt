@@ -9,15 +9,15 @@ use Rattle.gtd_text.proofs.builder.steps.in_start.Goals as goal
 
 pub start_with-requires-clause-byte : goal.start_with-requires-clause-byte
 start_with-requires-clause-byte c other =
-    let pending = c.requires.1 in
-    let takes = c.requires.2 in
+    let takes = c.requires.1 in
     let field = start_field c.args.kind c.in-Field.letter c.in-Field.value c.in-Field.digits c.requires.0
-    (sum_of pending.sum) (product_of pending.product) takes.fields c.args.parts takes.next c.in-Field.is takes.stepped in
+    (sum_of c.args.pending.sum) (product_of c.args.pending.product) takes.fields c.args.parts takes.next c.in-Field.is
+    takes.stepped in
     byte_value c.in-Field.letter c.in-Field.value c.in-Field.digits other field.0
 
 pub returns-in-Field : goal.returns-in-Field
-returns-in-Field c outer pending fields next e =
-    let field = start_field c.args.kind c.in-Field.letter c.in-Field.value c.in-Field.digits outer (sum_of pending.sum)
-    (product_of pending.product) fields c.args.parts next c.in-Field.is e in
-    ap (λ (p : StartParts). InStart outer (sum_of pending.sum) (product_of pending.product) (fields_with c.args.kind fields) p)
-    c.start_with.ensures ∙ field.1
+returns-in-Field c outer fields next e =
+    let field = start_field c.args.kind c.in-Field.letter c.in-Field.value c.in-Field.digits outer (sum_of c.args.pending.sum)
+    (product_of c.args.pending.product) fields c.args.parts next c.in-Field.is e in
+    ap (λ (p : StartParts). InStart outer (sum_of c.args.pending.sum) (product_of c.args.pending.product)
+    (fields_with c.args.kind fields) p) c.start_with.ensures ∙ field.1

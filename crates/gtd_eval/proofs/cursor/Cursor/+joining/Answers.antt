@@ -5,10 +5,10 @@ use Rattle.gtd_eval.specs.Chains.{right_of, IsChainOf}
 use Rattle.gtd_eval.specs.declared.cursor.Cursor.{Cursor}
 use Rattle.gtd_eval.specs.declared.node.Node.{Node}
 use Rattle.gtd_eval.proofs.Unions.{two-seconds, two-nodes, two-work, two-height}
-use Rattle.gtd_eval.proofs.cursor.Cursor.+join_last.Goals as goal
+use Rattle.gtd_eval.proofs.cursor.Cursor.+joining.Goals as goal
 
-pub returns : goal.returns
-returns t c =
+pub join_halves-returns : goal.join_halves-returns
+join_halves-returns t c =
     let a = c.in_ok-left.ensures.chain in
     let b = c.in_ok-right.ensures.chain in
     let ls : List Cursor = a.taken in
@@ -19,7 +19,7 @@ returns t c =
     let l : Node = c.in_ok-both.both.value.0 in
     let u : IsChainOf op ls l = rw c.in_ok-both.ensures.ok a.chain in
     let v : IsChainOf to rs r = rw (c.in_ok-both.ensures.ok, ← c.right_of.ensures) b.chain in
-    let gt : 1 < c.args.count = omega (arith, c.if-count-eq1.false, c.requires.some) in
+    let gt : 1 < c.args.count = c.requires.some in
     let some : 0 < length ls = omega (arith, a.many, gt) in
     record {
       chain = record {

@@ -3,23 +3,23 @@
 use gtd_core::{DurationParts, Expr, Op, Start, StartParts};
 
 /// What comes before an item in the same brackets: the left side of a sum, and that of a product.
-#[derive(Default, Drop)]
+#[derive(Drop)]
 pub struct Pending {
     pub sum: Option<(Op, Expr)>,
     pub product: Option<Expr>,
 }
 
-/// What the tokens so far have left open, without what is pending.
+/// What the tokens so far have left open.
 #[derive(Drop)]
-pub enum Stage {
+pub enum State {
     /// An item comes next.
-    Expecting,
+    Expecting(Pending),
     /// Fields of a start come next.
-    InStart(StartParts),
+    InStart(Pending, StartParts),
     /// A duration comes next.
-    AfterStart(Start),
+    AfterStart(Pending, Start),
     /// Fields of a duration come next.
-    InDuration(Start, DurationParts),
-    /// An item has ended. It has taken the left side of its product, and is the last of the term.
-    AfterItem(Expr),
+    InDuration(Pending, Start, DurationParts),
+    /// An item has ended, and is the last of the term.
+    AfterItem(Option<(Op, Expr)>, Expr),
 }
