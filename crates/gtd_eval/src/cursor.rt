@@ -1,7 +1,8 @@
 //! The seconds of a domain, span by span.
 
 ghost use Rattle.std.specs.Prelude.{◌≡◌, ◌≤◌};
-ghost use Rattle.gtd_core.specs.Limits.{most_nodes};
+ghost use Rattle.gtd_core.specs.Limits.{most_basic_domains, most_nodes};
+ghost use Rattle.gtd_core.specs.Trees.{leaf_count, tree_of};
 ghost use Rattle.gtd_eval.specs.Nodes.{node_list, node_count, IsSoundNode};
 ghost use Rattle.gtd_eval.specs.facts.NodeFacts.{node_list-normal, IsSoundNode-prop};
 
@@ -19,6 +20,17 @@ pub struct Cursor {
     node: Node,
     ghost sound: { IsSoundNode node } by { IsSoundNode-prop node },
     ghost small: { node_count node ≤ most_nodes },
+}
+
+// How many basic domains an expression has.
+fn basic_domains(expr: &Expr) -> usize
+    requires few { leaf_count (tree_of expr.now) ≤ most_basic_domains }
+    ensures value { result ≡ leaf_count (tree_of expr.now) }
+{
+    match expr {
+        Expr::Leaf(_) => 1,
+        Expr::Join(_, left, right) => basic_domains(left) + basic_domains(right),
+    }
 }
 
 impl SpanSource for Cursor {
@@ -43,8 +55,7 @@ impl Cursor {
     ghost use Rattle.std.specs.Prelude.{◌+◌, ◌+ℤ◌, ◌*◌, ◌<◌, ◌^◌, ◌↔◌, [], ◌∷◌, ℕ, ℤ, IfOk, IfSome, OnOk, vec_len, length, List};
     ghost use Rattle.gtd_core.specs.Seconds.{Within};
     ghost use Rattle.gtd_core.specs.Parts.{domain_tree};
-    ghost use Rattle.gtd_core.specs.Limits.{most_basic_domains};
-    ghost use Rattle.gtd_core.specs.Trees.{Joined, leaf_count, tree_of};
+    ghost use Rattle.gtd_core.specs.Trees.{Joined};
     ghost use Rattle.gtd_core.specs.declared.domain.Expr.TheVariants.{Leaf};
     ghost use Rattle.gtd_eval.specs.Periods.{AllRepeat};
     ghost use Rattle.gtd_recur.specs.Work.{work_of};
@@ -109,8 +120,9 @@ impl Cursor {
     ) -> Result<Cursor, AllocError>
         ensures cursor { IfOk result (λ c. IsCursorOf domain.now horizon c) }
     {
-        let mut cursors = Vec::new(alloc);
-        Cursor::push_terms(alloc, Op::Union, domain.expr(), horizon, keep, &mut cursors)?;
+        let expr = domain.expr();
+        let mut cursors = Vec::with_capacity(alloc, basic_domains(expr))?;
+        Cursor::push_terms(alloc, Op::Union, expr, horizon, keep, &mut cursors)?;
         let count = cursors.len();
         let node = Cursor::join_last(alloc, Op::Union, &mut cursors, count)?;
         Ok(Cursor { node })
@@ -194,6 +206,10 @@ impl Cursor {
             (AreTerms op (tree_of (Leaf basic.now)) horizon (work_of basic.now horizon) cursors.old.items cursors.new.items) }
     {
         let node = Node::Leaf(Runs::new(*basic, horizon));
+        if period.is_none() {
+            cursors.push(Cursor { node })?;
+            return Ok(());
+        }
         let node = repeated(alloc, node, period, horizon)?;
         cursors.push(Cursor { node })?;
         Ok(())

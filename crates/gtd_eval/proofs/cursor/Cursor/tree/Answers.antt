@@ -14,9 +14,9 @@ use Rattle.gtd_eval.proofs.cursor.Cursor.tree.Goals as goal
 pub returns : goal.returns
 returns c =
     let given : AreTerms Union (domain_tree c.args.domain.now) c.args.horizon (domain_work c.args.domain.now c.args.horizon)
-    c.new-cursors.result.items c.push_terms.new.cursors.items =
-    rw c.expr.ensures.value at c.in_ok-push_terms.ensures.terms in
-    let none : 0 ≡ length c.new-cursors.result.items = sym (ap (λ (l : List Cursor). length l) c.new-cursors.ensures.items) in
+    c.in_ok-cursors.cursors.items c.push_terms.new.cursors.items =
+    rw c.expr-expr.ensures.value at c.in_ok-push_terms.ensures.terms in
+    let none : 0 ≡ length c.in_ok-cursors.cursors.items = sym (ap (λ (l : List Cursor). length l) c.in_ok-cursors.ensures.items) in
     let rest = count-of-terms _ _ _ _ _ _ c.len-count.result 0 given (omega (arith, c.len-count.ensures)) none in
     let many : c.len-count.result ≡ length given.terms = omega (arith, rest) in
     let chain = (chain-of-terms _ _ _ _ _ _ _ _ _ given many c.in_ok-node.ensures.chain).1 in
