@@ -1,4 +1,4 @@
-use Rattle.std.proofs.Common.{◌∙◌, ◌∷◌, List, ap, sym, refl}
+use Rattle.std.proofs.Common.{◌∙◌, ◌∷◌, List, ap, sym}
 use Rattle.gtd_core.specs.Seconds.{Interval}
 use Rattle.gtd_core.specs.declared.domain.Op.TheVariants.{Union, Meet, Minus}
 use Rattle.gtd_spans.specs.Gaps.{gaps_left}
