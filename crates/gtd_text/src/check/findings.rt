@@ -1,6 +1,6 @@
 //! What the check finds in one pass over the tokens.
 
-ghost use Rattle.std.specs.Prelude.{◌≡◌, ◌≤◌, ◌<◌, ◌+◌, ◌^◌};
+ghost use Rattle.std.specs.Prelude.{◌≡◌, ◌≤◌, ◌<◌, ◌+◌, ◌^◌, Some};
 ghost use Rattle.std.specs.Option.{option_or};
 ghost use Rattle.gtd_text.specs.Findings.{no_findings, findings_with, misfit_at, incomplete_at, first_of};
 
@@ -70,13 +70,25 @@ impl Findings {
     }
 }
 
-// Keeps the first of the faults of a kind: the one that was found, or else this one. Nearly all tokens have none, so a fault
-// is written only where there is one.
+// Keeps the first of the faults of a kind: the one that was found, or else this one.
 fn keep_first(found: &mut Option<TextFault>, fault: Option<TextFault>)
     ensures { found.new ≡ option_or found.old fault }
 {
-    if fault.is_some() && found.is_none() {
-        *found = fault;
+    if let Some(fault) = fault {
+        *found = first_of_two(*found, fault);
+    }
+}
+
+// The fault that was found, or else another of its kind. Nearly no token has one, so this stands alone: a compiler would work
+// out both answers for each token.
+#[cold]
+#[inline(never)]
+fn first_of_two(found: Option<TextFault>, fault: TextFault) -> Option<TextFault>
+    ensures { result ≡ option_or found (Some fault) }
+{
+    match found {
+        Some(_) => found,
+        None => Some(fault),
     }
 }
 

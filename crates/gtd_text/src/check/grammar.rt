@@ -132,6 +132,7 @@ fn fits_after_field(sign: Option<TokenKind>, letters: Letters, kind: TokenKind) 
 }
 
 // Whether a field of a start may follow fields with these letters.
+#[inline(always)]
 fn fits_start(letters: Letters, kind: TokenKind) -> bool
     ensures { result ≡ start_takes letters kind }
 {
