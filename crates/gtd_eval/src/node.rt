@@ -90,6 +90,16 @@ impl Node {
     }
 }
 
+// The same, put together from its two seconds. A call leaves them in memory as two words. Where such a span meets one of
+// inlined code, LLVM would copy either as one double word, for which a processor must wait until both words are there.
+#[inline(always)]
+fn by_parts(told: Option<Span>) -> Option<Span>
+    ensures same { result ≡ told }
+{
+    let span = told?;
+    Some(Span::between(span.from(), span.until()))
+}
+
 // The next gap between the spans of a tree.
 #[cycle(next)]
 #[inline(always)]
@@ -122,7 +132,7 @@ fn next_repeated(again: &mut Repeat, inner: &mut Node) -> Option<Span>
     if again.is_repeating() {
         return again.turn();
     }
-    next_learnt(again, inner)
+    by_parts(next_learnt(again, inner))
 }
 
 // The next span of a tree that repeats, of which not all spans of a period are kept yet.
@@ -156,7 +166,7 @@ pub(crate) fn next_of(node: &mut Node) -> Option<Span>
     if let Node::Repeat(again, inner) = node {
         return next_repeated(again, inner);
     }
-    node.next()
+    by_parts(node.next())
 }
 
 // The next span of a side, which is asked for if it is not known.
