@@ -1,9 +1,12 @@
 -- The fields of a start and of a duration, each once, in the order of canonical texts: its letter, the numbers that it may
--- have, what it gives, and what a canonical text shows of it. The ranges are this project's own; weeks are those of ISO 8601,
--- and weekdays run from 1, Sunday, to 7, Saturday.
+-- have, what it gives, its level, and what a canonical text shows of it. Letters and levels are those of GDF time domains
+-- (ISO 14825:2004), and the ranges this project's own; weeks are those of ISO 8601, and weekdays run from 1, Sunday, to 7,
+-- Saturday.
 use Rattle.std.specs.Prelude.{ℕ, ◌+◌, ◌-◌, ◌/◌, ◌%◌, ◌^◌, Bool, true, false, ◌&&◌, ◌==◌, nat_le, List, [], ◌∷◌, Option, Some}
-use Rattle.std.specs.Prelude.{None, bit_or, decimal, if◌then◌else◌}
+use Rattle.std.specs.Prelude.{None, bit_or, decimal, if◌then◌else◌, is_some, not}
 use Rattle.std.specs.List.{flat_map}
+use Rattle.gtd_core.specs.Limits.{most_year, most_month, most_week, most_day, most_weekday, most_place}
+use Rattle.gtd_core.specs.Limits.{most_hour, most_minute, most_second}
 use Rattle.gtd_core.specs.declared.start.StartParts.{StartParts}
 use Rattle.gtd_core.specs.declared.duration.DurationParts.{DurationParts}
 
@@ -21,26 +24,26 @@ field letter takes gives = record { letter = letter; takes = takes; gives = give
 abbrev pub is_from_to : ℕ → ℕ → ℕ → Bool
 is_from_to low high n = nat_le low n && nat_le n high
 
--- Two digits: a number n from 1 to 5, and a weekday.
+-- Two digits: a number n, and a weekday.
 abbrev pub is_place_value : ℕ → ℕ → Bool
-is_place_value value digits = digits == 2 && is_from_to 1 5 (value / 10) && is_from_to 1 7 (value % 10)
+is_place_value value digits = digits == 2 && is_from_to 1 most_place (value / 10) && is_from_to 1 most_weekday (value % 10)
 
 -- y 121 year, in four digits; M 77 month; w 119 week; f 102 and l 108 n-th weekday of the month, from its beginning and back
 -- from its end; d 100 day of the month; t 116 weekday, of which k sets bit k - 1; h 104 hour; m 109 minute; s 115 second.
 -- Leading zeros are free except for y, f and l.
 abbrev pub start_fields : List (FieldRow StartParts)
 start_fields =
-    field 121 (λ value digits. digits == 4 && nat_le value 9999) (λ parts n. record parts { year = Some n })
-    ∷ field 77 (λ value digits. is_from_to 1 12 value) (λ parts n. record parts { month = Some n })
-    ∷ field 119 (λ value digits. is_from_to 1 53 value) (λ parts n. record parts { week = Some n })
+    field 121 (λ value digits. digits == 4 && nat_le value most_year) (λ parts n. record parts { year = Some n })
+    ∷ field 77 (λ value digits. is_from_to 1 most_month value) (λ parts n. record parts { month = Some n })
+    ∷ field 119 (λ value digits. is_from_to 1 most_week value) (λ parts n. record parts { week = Some n })
     ∷ field 102 is_place_value (λ parts n. record parts { nth = Some (n / 10, n % 10) })
     ∷ field 108 is_place_value (λ parts n. record parts { nth_back = Some (n / 10, n % 10) })
-    ∷ field 100 (λ value digits. is_from_to 1 31 value) (λ parts n. record parts { day = Some n })
-    ∷ field 116 (λ value digits. is_from_to 1 7 value)
+    ∷ field 100 (λ value digits. is_from_to 1 most_day value) (λ parts n. record parts { day = Some n })
+    ∷ field 116 (λ value digits. is_from_to 1 most_weekday value)
     (λ parts n. record parts { weekdays = bit_or parts.weekdays (2 ^ (n - 1)) })
-    ∷ field 104 (λ value digits. nat_le value 23) (λ parts n. record parts { hour = Some n })
-    ∷ field 109 (λ value digits. nat_le value 59) (λ parts n. record parts { minute = Some n })
-    ∷ field 115 (λ value digits. nat_le value 59) (λ parts n. record parts { second = Some n })
+    ∷ field 104 (λ value digits. nat_le value most_hour) (λ parts n. record parts { hour = Some n })
+    ∷ field 109 (λ value digits. nat_le value most_minute) (λ parts n. record parts { minute = Some n })
+    ∷ field 115 (λ value digits. nat_le value most_second) (λ parts n. record parts { second = Some n })
     ∷ []
 
 -- The numbers of a duration, none of which has a range of its own.
@@ -59,6 +62,27 @@ duration_fields =
 abbrev pub at_letter : {Parts A : Type 0} → List (FieldRow Parts) → (FieldRow Parts → A) → A → ℕ → A
 at_letter [] value other letter = other
 at_letter (row ∷ rows) value other letter = if letter == row.letter then value row else at_letter rows value other letter
+
+-- ---- the levels of a start
+
+-- One column more of `start_fields`, row by row: the field's level, and whether a start gives it. The levels are numbered from
+-- the coarsest on: 0 the year, 1 the month and the week, 2 the day, 3 the hour, 4 the minute, 5 the second.
+abbrev pub start_levels : List (ℕ × (StartParts → Bool))
+start_levels =
+    (0, λ parts. is_some parts.year) ∷ (1, λ parts. is_some parts.month) ∷ (1, λ parts. is_some parts.week)
+    ∷ (2, λ parts. is_some parts.nth) ∷ (2, λ parts. is_some parts.nth_back) ∷ (2, λ parts. is_some parts.day)
+    ∷ (2, λ parts. not (parts.weekdays == 0))
+    ∷ (3, λ parts. is_some parts.hour) ∷ (4, λ parts. is_some parts.minute) ∷ (5, λ parts. is_some parts.second)
+    ∷ []
+
+-- The level of the last of these fields that is given, or else this level.
+abbrev pub last_level : ℕ → List (ℕ × (StartParts → Bool)) → StartParts → ℕ
+last_level level [] parts = level
+last_level level (row ∷ rows) parts = last_level (if row.1 parts then row.0 else level) rows parts
+
+-- The finest level at which a start gives a field: that of its last one, since no field is coarser than one before it.
+abbrev pub finest_level : StartParts → ℕ
+finest_level = last_level 0 start_levels
 
 -- ---- what a canonical text shows of a field: the digits of each of its numbers
 

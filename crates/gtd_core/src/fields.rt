@@ -1,9 +1,13 @@
 //! The fields of starts and durations: their letters, the numbers that they may have, and what they give.
 
 ghost use Rattle.std.specs.Prelude.{◌≡◌, ◌≢◌, ◌≤◌, true, false};
-ghost use Rattle.gtd_core.specs.FieldTable.{at_letter, start_fields, duration_fields, is_place_value};
+ghost use Rattle.gtd_core.specs.FieldTable.{at_letter, start_fields, duration_fields, is_from_to, is_place_value};
 
 use crate::duration::DurationParts;
+use crate::limits::{
+    MOST_DAY, MOST_HOUR, MOST_MINUTE, MOST_MONTH, MOST_PLACE, MOST_SECOND, MOST_WEEK, MOST_WEEKDAY,
+    MOST_YEAR,
+};
 use crate::start::StartParts;
 
 /// Whether a field of a start has this letter.
@@ -23,11 +27,17 @@ pub fn is_duration_letter(letter: u8) -> bool
     matches!(letter, b'y' | b'M' | b'w' | b'd' | b'h' | b'm' | b's')
 }
 
-// A number 1 to 5 and a weekday, one digit each.
+fn is_from_one(value: u32, most: u8) -> bool
+    ensures { result ≡ is_from_to 1 most value }
+{
+    1 <= value && value <= u32::from(most)
+}
+
+// A place in the month: a number and a weekday, one digit each.
 fn is_place_value(value: u32, digits: u8) -> bool
     ensures { result ≡ is_place_value value digits }
 {
-    digits == 2 && 1 <= value / 10 && value / 10 <= 5 && 1 <= value % 10 && value % 10 <= 7
+    digits == 2 && is_from_one(value / 10, MOST_PLACE) && is_from_one(value % 10, MOST_WEEKDAY)
 }
 
 /// Whether a field of a start with this letter may have this number, written in this many digits.
@@ -35,14 +45,15 @@ pub fn is_start_value(letter: u8, value: u32, digits: u8) -> bool
     ensures { result ≡ at_letter start_fields (λ row. row.takes value digits) false letter }
 {
     match letter {
-        b'y' => digits == 4 && value <= 9999,
-        b'M' => 1 <= value && value <= 12,
-        b'w' => 1 <= value && value <= 53,
+        b'y' => digits == 4 && value <= u32::from(MOST_YEAR),
+        b'M' => is_from_one(value, MOST_MONTH),
+        b'w' => is_from_one(value, MOST_WEEK),
         b'f' | b'l' => is_place_value(value, digits),
-        b'd' => 1 <= value && value <= 31,
-        b't' => 1 <= value && value <= 7,
-        b'h' => value <= 23,
-        b'm' | b's' => value <= 59,
+        b'd' => is_from_one(value, MOST_DAY),
+        b't' => is_from_one(value, MOST_WEEKDAY),
+        b'h' => value <= u32::from(MOST_HOUR),
+        b'm' => value <= u32::from(MOST_MINUTE),
+        b's' => value <= u32::from(MOST_SECOND),
         _ => false,
     }
 }

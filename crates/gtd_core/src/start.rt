@@ -4,6 +4,11 @@ ghost use Rattle.std.specs.Prelude.{◌≡◌, ◌≢◌, ◌↔◌, IfSome, IsS
 ghost use Rattle.gtd_core.specs.Ranges.{IsStart, IsWithin, IsPlace};
 ghost use Rattle.std.proofs.Props.{props};
 
+use crate::limits::{
+    MOST_DAY, MOST_HOUR, MOST_MINUTE, MOST_MONTH, MOST_PLACE, MOST_SECOND, MOST_WEEK, MOST_WEEKDAY,
+    MOST_YEAR,
+};
+
 /// The fields of a start, each if it is given. Letters are those of the texts.
 ///
 /// A weekday is 1 for Sunday to 7 for Saturday. A place is a number n and a weekday: the n-th such weekday of the
@@ -49,13 +54,13 @@ impl Start {
         ensures accepted { IsSome result ↔ IsStart parts }
     {
         if parts != StartParts::default()
-            && is_within(parts.year, 0, 9999)
-            && is_within_byte(parts.month, 1, 12)
-            && is_within_byte(parts.week, 1, 53)
-            && is_within_byte(parts.day, 1, 31)
-            && is_within_byte(parts.hour, 0, 23)
-            && is_within_byte(parts.minute, 0, 59)
-            && is_within_byte(parts.second, 0, 59)
+            && is_within(parts.year, 0, MOST_YEAR)
+            && is_within_byte(parts.month, 1, MOST_MONTH)
+            && is_within_byte(parts.week, 1, MOST_WEEK)
+            && is_within_byte(parts.day, 1, MOST_DAY)
+            && is_within_byte(parts.hour, 0, MOST_HOUR)
+            && is_within_byte(parts.minute, 0, MOST_MINUTE)
+            && is_within_byte(parts.second, 0, MOST_SECOND)
             && is_place(parts.nth)
             && is_place(parts.nth_back)
             && parts.weekdays < 128
@@ -104,6 +109,6 @@ fn is_place(nth: Option<(u8, u8)>) -> bool
 {
     match nth {
         None => true,
-        Some((n, weekday)) => 1 <= n && n <= 5 && 1 <= weekday && weekday <= 7,
+        Some((n, weekday)) => 1 <= n && n <= MOST_PLACE && 1 <= weekday && weekday <= MOST_WEEKDAY,
     }
 }

@@ -248,7 +248,7 @@ static NO_DOMAINS: [(&str, Fault, usize, &str); 12] = [
     ),
     ("[(h10)]", Fault::Unexpected, 6, "DOMAIN: Unexpected at 6"),
     ("-", Fault::Unexpected, 0, "DOMAIN: Unexpected at 0"),
-    ("(H1){h1}", Fault::BadToken, 1, "DOMAIN: BadToken at 1"),
+    ("(J1){h1}", Fault::BadToken, 1, "DOMAIN: BadToken at 1"),
     (
         "[(h1){h1}]\u{e9}",
         Fault::BadToken,

@@ -1,30 +1,16 @@
 -- Which seconds a start matches, level by level, and which a basic domain contains. Letters and levels are those of GDF
 -- time domains (ISO 14825:2004), weeks those of ISO 8601; what a missing field means is this project's own. The levels are
--- numbered from the coarsest on: 0 the year, 1 the month and the week, 2 the day, 3 the hour, 4 the minute, 5 the second.
+-- numbered as in the table of fields: 0 the year, 1 the month and the week, 2 the day, 3 the hour, 4 the minute, 5 the second.
 use Rattle.std.specs.Prelude.{◌≡◌, ◌⊎◌, ℕ, ◌-◌, ◌/◌, ◌%◌, ◌^◌, ◌<◌, Bool, true, false, not, ◌||◌, ◌==◌, if◌then◌else◌}
 use Rattle.std.specs.Prelude.{is_some, ℤ, pos, IfSome, ◌≤ℤ◌, ◌<ℤ◌}
 use Rattle.gtd_core.specs.declared.start.StartParts.{StartParts}
+use Rattle.gtd_core.specs.FieldTable.{finest_level}
 use Rattle.gtd_calendar.specs.declared.day.DayFields.{DayFields}
 use Rattle.gtd_calendar.specs.Clock.{IsTimeOf, IsStop}
 use Rattle.gtd_calendar.specs.Calendar.{AreFieldsOf}
 use Rattle.gtd_core.specs.declared.duration.DurationParts.{DurationParts}
 use Rattle.gtd_core.specs.declared.domain.Basic.{Basic}
 use Rattle.gtd_core.specs.Parts.{start_parts, duration_parts}
-
--- a field of the day's level is given: a day of the month, a place in the month from either end, or weekdays
-abbrev pub gives_day : StartParts → Bool
-gives_day p = is_some p.day || (is_some p.nth || (is_some p.nth_back || not (p.weekdays == 0)))
-
--- the finest of the levels at which a field is given, by whether one is given at each
-abbrev pub finest_of : Bool → Bool → Bool → Bool → Bool → ℕ
-finest_of second minute hour day month =
-    if second then 5 else (if minute then 4 else (if hour then 3 else (if day then 2 else (if month then 1 else 0))))
-
--- the finest level at which the start gives a field
-abbrev pub finest_level : StartParts → ℕ
-finest_level p =
-    finest_of (is_some p.second) (is_some p.minute) (is_some p.hour) (gives_day p)
-    (is_some p.month || is_some p.week)
 
 -- the weekday is one of those that are given, of which bit k - 1 stands for the weekday k
 abbrev pub IsGivenWeekday : ℕ → ℕ → Type 0

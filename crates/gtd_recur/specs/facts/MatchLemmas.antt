@@ -1,18 +1,19 @@
 -- A start matches exactly the seconds at which it begins.
 use Rattle.std.proofs.Common.{◌≡◌, ◌↔◌, ◌⊎◌, ℕ, ◌-◌, ◌/◌, ◌%◌, ◌^◌, ◌<◌, inl, inr, Bool, true, false, ◌||◌, ◌==◌, cond}
-use Rattle.std.proofs.Common.{Option, Some, None, is_some, refl, sym, subst, arith, ℤ, pos, IfSome}
+use Rattle.std.proofs.Common.{Option, Some, None, is_some, not, refl, sym, subst, ap, ◌∙◌, arith, ℤ, pos, IfSome}
 use Rattle.std.proofs.lemmas.Bool.{and_parts, and_from, eqb-true, eq-eqb}
 use Rattle.std.proofs.lemmas.Bool.Decides.{Decides-int_eq}
 use Rattle.gtd_core.specs.declared.start.StartParts.{StartParts}
 use Rattle.gtd_calendar.specs.declared.day.DayFields.{DayFields}
+use Rattle.gtd_core.specs.FieldTable.{finest_level}
 use Rattle.gtd_core.specs.Seconds.{day_of_second}
 use Rattle.gtd_calendar.specs.Clock.{second_of_day}
 use Rattle.gtd_calendar.specs.ComputedFields.{day_fields}
 use Rattle.gtd_calendar.specs.facts.FieldLemmas.{fields-are, fields-only}
 use Rattle.gtd_calendar.specs.facts.TimeLemmas.{time_of-is, time_of-only}
-use Rattle.gtd_recur.specs.Begins.{agrees, agrees_or_least, gives_clock, year_agrees_with, place_agrees, begins, begins_on}
-use Rattle.gtd_recur.specs.Begins.{begins_at}
-use Rattle.gtd_recur.specs.Membership.{finest_of, finest_level, gives_day, HoldsOnDay, HoldsOnClock, Matches}
+use Rattle.gtd_recur.specs.Begins.{agrees, agrees_or_least, gives_clock, gives_day, year_agrees_with, place_agrees, begins}
+use Rattle.gtd_recur.specs.Begins.{begins_at, begins_on}
+use Rattle.gtd_recur.specs.Membership.{HoldsOnDay, HoldsOnClock, Matches}
 
 -- a field alone
 agrees-to : (o : Option ℕ) (v : ℕ) → agrees o v ≡ true → IfSome o (λ x. x ≡ v)
@@ -59,6 +60,41 @@ level-from : (o : Option ℕ) (finer : Bool) (least v : ℕ) → IfSome o (λ x.
 level-from (Some x) finer least v e h = eq-eqb x v e
 level-from None true least v e h = refl
 level-from None false least v e h = eq-eqb least v (sym (h refl refl))
+
+-- the finest of the levels at which a field is given, by whether one is given at each
+abbrev finest_of : Bool → Bool → Bool → Bool → Bool → ℕ
+finest_of second minute hour day month = cond second 5 (cond minute 4 (cond hour 3 (cond day 2 (cond month 1 0))))
+
+abbrev level_of : StartParts → ℕ
+level_of p =
+    finest_of (is_some p.second) (is_some p.minute) (is_some p.hour) (gives_day p)
+    (is_some p.month || is_some p.week)
+
+of_month : (month week year : Bool) (one none : ℕ) → cond week one (cond month one (cond year none none))
+    ≡ cond (month || week) one none
+of_month true true year one none = refl
+of_month true false year one none = refl
+of_month false true year one none = refl
+of_month false false true one none = refl
+of_month false false false one none = refl
+
+of_day : (day nth nth_back weekdays : Bool) (level : ℕ) → cond weekdays 2 (cond day 2 (cond nth_back 2 (cond nth 2 level)))
+    ≡ cond (day || (nth || (nth_back || weekdays))) 2 level
+of_day true nth nth_back true level = refl
+of_day true nth nth_back false level = refl
+of_day false true nth_back true level = refl
+of_day false true true false level = refl
+of_day false true false false level = refl
+of_day false false true true level = refl
+of_day false false true false level = refl
+of_day false false false true level = refl
+of_day false false false false level = refl
+
+levels : (p : StartParts) → finest_level p ≡ level_of p
+levels p =
+    ap (λ n. cond (is_some p.second) 5 (cond (is_some p.minute) 4 (cond (is_some p.hour) 3 n)))
+    (of_day (is_some p.day) (is_some p.nth) (is_some p.nth_back) (not (p.weekdays == 0)) _
+    ∙ ap (λ n. cond (gives_day p) 2 n) (of_month (is_some p.month) (is_some p.week) (is_some p.year) 1 0))
 
 -- which levels are finer than all given ones
 below-5 : (s m h d w : Bool) → finest_of s m h d w < 5 → s ≡ false
@@ -109,8 +145,8 @@ is-4 false h d w = let lt = is-3 h d w in omega (arith, lt)
 
 -- the clock
 clock-to : (p : StartParts) (k : ℕ) → begins_at p k ≡ true
-    → HoldsOnClock p (k / 3600) (k / 60 % 60) (k % 60) × ((finest_level p < 5 → k % 60 ≡ 0)
-    × (finest_level p < 4 → k / 60 % 60 ≡ 0) × (finest_level p < 3 → k / 3600 ≡ 0))
+    → HoldsOnClock p (k / 3600) (k / 60 % 60) (k % 60) × ((level_of p < 5 → k % 60 ≡ 0)
+    × (level_of p < 4 → k / 60 % 60 ≡ 0) × (level_of p < 3 → k / 3600 ≡ 0))
 clock-to p k e =
     let outer = and_parts _ _ e in
     let inner = and_parts _ _ outer.1 in
@@ -147,8 +183,8 @@ from-2 s m h d w e f g i = rw (e, f, g, i) (is-1 w)
 from-1 : (s m h d w : Bool) → s ≡ false → m ≡ false → h ≡ false → d ≡ false → w ≡ false → finest_of s m h d w < 1
 from-1 s m h d w e f g i j = rw (e, f, g, i, j) (omega arith)
 
-clock-from : (p : StartParts) (k : ℕ) → HoldsOnClock p (k / 3600) (k / 60 % 60) (k % 60) → (finest_level p < 5 → k % 60 ≡ 0)
-    → (finest_level p < 4 → k / 60 % 60 ≡ 0) → (finest_level p < 3 → k / 3600 ≡ 0)
+clock-from : (p : StartParts) (k : ℕ) → HoldsOnClock p (k / 3600) (k / 60 % 60) (k % 60) → (level_of p < 5 → k % 60 ≡ 0)
+    → (level_of p < 4 → k / 60 % 60 ≡ 0) → (level_of p < 3 → k / 3600 ≡ 0)
     → begins_at p k ≡ true
 clock-from p k at second minute hour =
     and_from _ _ (level-from p.hour (is_some p.minute || is_some p.second) 0 (k / 3600) at.hour
@@ -182,8 +218,8 @@ rest-from false true r h = refl
 rest-from false false r h = h refl refl
 
 day-to : (p : StartParts) (n : DayFields) → begins_on p n ≡ true
-    → HoldsOnDay p n × ((finest_level p < 2 → (is_some p.week ≡ true → n.weekday ≡ 2) × (is_some p.week ≡ false → n.day ≡ 1))
-    × (finest_level p < 1 → n.month ≡ 1))
+    → HoldsOnDay p n × ((level_of p < 2 → (is_some p.week ≡ true → n.weekday ≡ 2) × (is_some p.week ≡ false → n.day ≡ 1))
+    × (level_of p < 1 → n.month ≡ 1))
 day-to p n e =
     let a = and_parts _ _ e in
     let b = and_parts _ _ a.1 in
@@ -217,9 +253,9 @@ day-to p n e =
       ),
     )
 
-day-from : (p : StartParts) (n : DayFields) → HoldsOnDay p n → (finest_level p < 2 → is_some p.week ≡ true → n.weekday ≡ 2)
-    → (finest_level p < 2 → is_some p.week ≡ false → n.day ≡ 1)
-    → (finest_level p < 1 → n.month ≡ 1) → begins_on p n ≡ true
+day-from : (p : StartParts) (n : DayFields) → HoldsOnDay p n → (level_of p < 2 → is_some p.week ≡ true → n.weekday ≡ 2)
+    → (level_of p < 2 → is_some p.week ≡ false → n.day ≡ 1)
+    → (level_of p < 1 → n.month ≡ 1) → begins_on p n ≡ true
 day-from p n on monday first month =
     and_from _ _ (year-from p.year (cond (is_some p.week) n.week_year n.year) on.year)
     (and_from _ _ (level-from p.month (is_some p.week || (gives_day p || gives_clock p)) 1 n.month on.month (λ none finer.
@@ -262,12 +298,12 @@ begins-to p s e =
       on = day.0;
       at = clock.0;
       least = record {
-        second = clock.1.0;
-        minute = clock.1.1;
-        hour = clock.1.2;
-        monday = λ lt. (day.1.0 lt).0;
-        first = λ lt. (day.1.0 lt).1;
-        january = day.1.1;
+        second = λ lt. clock.1.0 (rw (← levels p) lt);
+        minute = λ lt. clock.1.1 (rw (← levels p) lt);
+        hour = λ lt. clock.1.2 (rw (← levels p) lt);
+        monday = λ lt. (day.1.0 (rw (← levels p) lt)).0;
+        first = λ lt. (day.1.0 (rw (← levels p) lt)).1;
+        january = λ lt. day.1.1 (rw (← levels p) lt);
       };
     }
 
@@ -277,10 +313,12 @@ unfolding begins
 begins-from p s m =
     let time = time_of-only s m.day m.hour m.minute m.second m.time in
     let fields = rw time.0 at (fields-only m.day m.fields m.shown) in
-    let day = day-from p m.fields m.on m.least.monday m.least.first m.least.january in
+    let day = day-from p m.fields m.on (λ lt. m.least.monday (rw (levels p) lt)) (λ lt. m.least.first (rw (levels p) lt))
+    (λ lt. m.least.january (rw (levels p) lt)) in
     and_from _ _ (subst (λ (f : DayFields). begins_on p f ≡ true) fields day)
-    (clock-from p (second_of_day s) (rw (← time.1, ← time.2, ← time.3) m.at) (rw (← time.3) m.least.second)
-    (rw (← time.2) m.least.minute) (rw (← time.1) m.least.hour))
+    (clock-from p (second_of_day s) (rw (← time.1, ← time.2, ← time.3) m.at)
+    (λ lt. rw (← time.3) (m.least.second (rw (levels p) lt))) (λ lt. rw (← time.2) (m.least.minute (rw (levels p) lt)))
+    (λ lt. rw (← time.1) (m.least.hour (rw (levels p) lt))))
 
 pub begins-matches : (p : StartParts) (s : ℤ) → (begins p s ≡ true) ↔ Matches p s
 begins-matches p s = (begins-to p s, begins-from p s)
