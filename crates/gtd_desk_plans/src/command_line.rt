@@ -298,35 +298,28 @@ fn add_command<'a>(program: Command<'a>, command: Command<'a>) -> Result<Command
 fn first_three<'a>(alloc: Global) -> Result<Command<'a>, AllocError>
     ensures { IfOk result (λ c. app_of c ≡ first_three) }
 {
-    let now = now_command(alloc)?;
-    let faults = faults_command(alloc)?;
-    let words = words_command(alloc)?;
     let program = without_commands(alloc)?;
-    let program = add_command(program, now)?;
-    let program = add_command(program, faults)?;
-    add_command(program, words)
+    let program = add_command(program, now_command(alloc)?)?;
+    let program = add_command(program, faults_command(alloc)?)?;
+    add_command(program, words_command(alloc)?)
 }
 
 // The program with its commands that print no picture.
 fn without_pictures<'a>(alloc: Global) -> Result<Command<'a>, AllocError>
     ensures { IfOk result (λ c. app_of c ≡ no_pictures) }
 {
-    let hours = hours_command(alloc)?;
-    let records = records_command(alloc)?;
     let program = first_three(alloc)?;
-    let program = add_command(program, hours)?;
-    add_command(program, records)
+    let program = add_command(program, hours_command(alloc)?)?;
+    add_command(program, records_command(alloc)?)
 }
 
 // The program with all its commands.
 fn gtdesk<'a>(alloc: Global) -> Result<Command<'a>, AllocError>
     ensures { IfOk result (λ c. app_of c ≡ desk_app) }
 {
-    let picture = picture_command(alloc)?;
-    let domain = domain_command(alloc)?;
     let program = without_pictures(alloc)?;
-    let program = add_command(program, picture)?;
-    add_command(program, domain)
+    let program = add_command(program, picture_command(alloc)?)?;
+    add_command(program, domain_command(alloc)?)
 }
 
 /// What `clap` finds in the words, or its error.
