@@ -5,8 +5,6 @@
 use Rattle.std.specs.Prelude.{ℕ, ◌+◌, ◌-◌, ◌/◌, ◌%◌, ◌^◌, Bool, true, false, ◌&&◌, ◌==◌, nat_le, List, [], ◌∷◌, Option, Some}
 use Rattle.std.specs.Prelude.{None, bit_or, decimal, if◌then◌else◌, is_some, not}
 use Rattle.std.specs.List.{flat_map}
-use Rattle.gtd_core.specs.Limits.{most_year, most_month, most_week, most_day, most_weekday, most_place}
-use Rattle.gtd_core.specs.Limits.{most_hour, most_minute, most_second}
 use Rattle.gtd_core.specs.declared.start.StartParts.{StartParts}
 use Rattle.gtd_core.specs.declared.duration.DurationParts.{DurationParts}
 
@@ -19,6 +17,37 @@ pub record FieldRow (Parts : Type 0) : Type 0 where
 
 abbrev pub field : {Parts : Type 0} → ℕ → (ℕ → ℕ → Bool) → (Parts → ℕ → Parts) → FieldRow Parts
 field letter takes gives = record { letter = letter; takes = takes; gives = gives }
+
+-- The greatest numbers of a start's fields. The least is 0 for a year and the clock, and otherwise 1.
+abbrev pub most_year : ℕ
+most_year = 9999
+
+abbrev pub most_month : ℕ
+most_month = 12
+
+-- By ISO 8601.
+abbrev pub most_week : ℕ
+most_week = 53
+
+abbrev pub most_day : ℕ
+most_day = 31
+
+-- Saturday.
+abbrev pub most_weekday : ℕ
+most_weekday = 7
+
+-- No weekday comes more often in a month.
+abbrev pub most_place : ℕ
+most_place = 5
+
+abbrev pub most_hour : ℕ
+most_hour = 23
+
+abbrev pub most_minute : ℕ
+most_minute = 59
+
+abbrev pub most_second : ℕ
+most_second = 59
 
 -- The number is from one to another, both included.
 abbrev pub is_from_to : ℕ → ℕ → ℕ → Bool

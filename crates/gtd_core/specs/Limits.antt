@@ -9,37 +9,6 @@ day_seconds = 86_400
 abbrev pub last_second_of_day : ℕ
 last_second_of_day = 86_399
 
--- the greatest numbers of a start's fields; the least is 0 for a year and the clock, and otherwise 1
-abbrev pub most_year : ℕ
-most_year = 9999
-
-abbrev pub most_month : ℕ
-most_month = 12
-
--- by ISO 8601
-abbrev pub most_week : ℕ
-most_week = 53
-
-abbrev pub most_day : ℕ
-most_day = 31
-
--- Saturday
-abbrev pub most_weekday : ℕ
-most_weekday = 7
-
--- no weekday comes more often in a month
-abbrev pub most_place : ℕ
-most_place = 5
-
-abbrev pub most_hour : ℕ
-most_hour = 23
-
-abbrev pub most_minute : ℕ
-most_minute = 59
-
-abbrev pub most_second : ℕ
-most_second = 59
-
 -- the first day of horizons, of moments and of dates that are read: 1901-01-01
 abbrev pub first_horizon_day : ℤ
 first_horizon_day = neg_ℤ (pos 25_202)

@@ -2,8 +2,9 @@
 -- and fields are those of GDF time domains (ISO 14825:2004); their ranges are this project's own.
 use Rattle.std.specs.Prelude.{◌≢◌, ℕ, ◌<◌, ◌≤◌, Option, None, IfSome, ◌+◌, ◌-◌, ◌*◌, ◌/◌}
 use Rattle.gtd_core.specs.declared.start.StartParts.{StartParts}
-use Rattle.gtd_core.specs.Limits.{day_seconds, most_bound, most_year, most_month, most_week, most_day, most_weekday, most_place}
-use Rattle.gtd_core.specs.Limits.{most_hour, most_minute, most_second}
+use Rattle.gtd_core.specs.FieldTable.{most_year, most_month, most_week, most_day, most_weekday, most_place}
+use Rattle.gtd_core.specs.FieldTable.{most_hour, most_minute, most_second}
+use Rattle.gtd_core.specs.Limits.{day_seconds, most_bound}
 use Rattle.gtd_core.specs.declared.duration.DurationParts.{DurationParts}
 
 -- a number that is left out, or one from low to high

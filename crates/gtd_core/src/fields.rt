@@ -4,11 +4,34 @@ ghost use Rattle.std.specs.Prelude.{◌≡◌, ◌≢◌, ◌≤◌, true, false
 ghost use Rattle.gtd_core.specs.FieldTable.{at_letter, start_fields, duration_fields, is_from_to, is_place_value};
 
 use crate::duration::DurationParts;
-use crate::limits::{
-    MOST_DAY, MOST_HOUR, MOST_MINUTE, MOST_MONTH, MOST_PLACE, MOST_SECOND, MOST_WEEK, MOST_WEEKDAY,
-    MOST_YEAR,
-};
 use crate::start::StartParts;
+
+/// The greatest year of a start, of which the least is 0.
+pub const MOST_YEAR: u16 = 9999;
+
+/// The greatest month of a start, December. The least is 1.
+pub const MOST_MONTH: u8 = 12;
+
+/// The greatest week of a start, by ISO 8601. The least is 1.
+pub const MOST_WEEK: u8 = 53;
+
+/// The greatest day of the month of a start. The least is 1.
+pub const MOST_DAY: u8 = 31;
+
+/// The greatest weekday, Saturday. The least is 1, Sunday.
+pub const MOST_WEEKDAY: u8 = 7;
+
+/// The greatest number of a place in the month: no weekday comes more often. The least is 1.
+pub const MOST_PLACE: u8 = 5;
+
+/// The greatest hour of a start, of which the least is 0.
+pub const MOST_HOUR: u8 = 23;
+
+/// The greatest minute of a start, of which the least is 0.
+pub const MOST_MINUTE: u8 = 59;
+
+/// The greatest second of a start, of which the least is 0.
+pub const MOST_SECOND: u8 = 59;
 
 /// Whether a field of a start has this letter.
 pub fn is_start_letter(letter: u8) -> bool
@@ -30,7 +53,7 @@ pub fn is_duration_letter(letter: u8) -> bool
 fn is_from_one(value: u32, most: u8) -> bool
     ensures { result ≡ is_from_to 1 most value }
 {
-    1 <= value && value <= u32::from(most)
+    (1..=u32::from(most)).contains(&value)
 }
 
 // A place in the month: a number and a weekday, one digit each.

@@ -6,33 +6,6 @@ pub const DAY_SECONDS: i64 = 86_400;
 /// The last second of a day, of which the first is 0.
 pub const LAST_SECOND_OF_DAY: u32 = 86_399;
 
-/// The greatest year of a start, of which the least is 0.
-pub const MOST_YEAR: u16 = 9999;
-
-/// The greatest month of a start, December. The least is 1.
-pub const MOST_MONTH: u8 = 12;
-
-/// The greatest week of a start, by ISO 8601. The least is 1.
-pub const MOST_WEEK: u8 = 53;
-
-/// The greatest day of the month of a start. The least is 1.
-pub const MOST_DAY: u8 = 31;
-
-/// The greatest weekday, Saturday. The least is 1, Sunday.
-pub const MOST_WEEKDAY: u8 = 7;
-
-/// The greatest number of a place in the month: no weekday comes more often. The least is 1.
-pub const MOST_PLACE: u8 = 5;
-
-/// The greatest hour of a start, of which the least is 0.
-pub const MOST_HOUR: u8 = 23;
-
-/// The greatest minute of a start, of which the least is 0.
-pub const MOST_MINUTE: u8 = 59;
-
-/// The greatest second of a start, of which the least is 0.
-pub const MOST_SECOND: u8 = 59;
-
 /// The first day of horizons, of moments and of dates that are read: 1901-01-01.
 pub const FIRST_HORIZON_DAY: i64 = -25_202;
 

@@ -4,7 +4,7 @@ ghost use Rattle.std.specs.Prelude.{◌≡◌, ◌≢◌, ◌↔◌, IfSome, IsS
 ghost use Rattle.gtd_core.specs.Ranges.{IsStart, IsWithin, IsPlace};
 ghost use Rattle.std.proofs.Props.{props};
 
-use crate::limits::{
+use crate::fields::{
     MOST_DAY, MOST_HOUR, MOST_MINUTE, MOST_MONTH, MOST_PLACE, MOST_SECOND, MOST_WEEK, MOST_WEEKDAY,
     MOST_YEAR,
 };

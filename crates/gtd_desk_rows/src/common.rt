@@ -9,10 +9,6 @@ use std::test::Fail;
 /// The header of version 1: 33 bytes.
 pub(crate) const HEADER: &str = "element,direction,vehicle,domain\n";
 
-/// A file of two rows: 88 bytes.
-pub(crate) const R: &str =
-    "element,direction,vehicle,domain\n17,positive,0,[(M4d1){M3}]*[(h10){h4}]\n17,negative,11,\n";
-
 /// The words, as a program gets them.
 pub(crate) fn owned(alloc: Global, words: &[&str]) -> Result<Vec<String>, AllocError> {
     let mut owned = Vec::new(alloc);

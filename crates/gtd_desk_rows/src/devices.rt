@@ -2,13 +2,12 @@
 
 ghost use Rattle.std.specs.Prelude.{◌≡◌, ◌<◌};
 
-use crate::common::{R, performed, planned};
+use crate::common::{performed, planned};
 use gtd_desk::{Ending, Plan, Refusal, perform};
-use gtd_devices::{HostOut, Input, MemoryIn, MemoryOut, Output, Pull, Put};
+use gtd_devices::{HostOut, Input, MemoryIn, MemoryOut, Output};
 use gtd_records::RecordFault;
+use gtd_test_devices::{Busy, Counting, R, Slow, in_pieces};
 use std::alloc::Global;
-use std::io;
-use std::io::{Error, ErrorKind, Write};
 use std::process::Abort;
 
 // Commands that read a file.
@@ -29,7 +28,7 @@ static OTHER_COMMANDS: [&[&str]; 5] = [
 ];
 
 // The bytes of `R`, in pieces of 7 at most: 13 pieces, and the 14th pull finds the end.
-fn in_pieces(
+fn two_rows(
     rt: &impl Abort,
     alloc: Global,
     fail_call: Option<u64>,
@@ -37,8 +36,7 @@ fn in_pieces(
 ) -> MemoryIn
     ensures { ⟦<MemoryIn as Input>⟧.failure_count result ≡ 0 }
 {
-    let bytes = Vec::from_slice(alloc, R.as_bytes()).expect(rt, "memory");
-    MemoryIn::new(bytes, 7, fail_call, silent_from)
+    in_pieces(alloc, R.as_bytes(), fail_call, silent_from).expect(rt, "memory")
 }
 
 // What a plan answers over the input, and an output that takes all of what it puts.
@@ -68,7 +66,7 @@ fn perform_into(
 ) -> (Result<Ending, Refusal>, MemoryOut)
     requires some_byte { 0 < piece }
 {
-    let mut input = in_pieces(rt, alloc, None, None);
+    let mut input = two_rows(rt, alloc, None, None);
     let mut output = MemoryOut::new(alloc, room, piece, fail_call).expect(rt, "memory");
     let mut errors = MemoryOut::new(alloc, 100, 100, None).expect(rt, "memory");
     let done = perform(alloc, plan, &mut input, &mut output, &mut errors);
@@ -81,7 +79,7 @@ fn inputs_that_fail(rt: HostRuntime) {
     for words in FILE_COMMANDS {
         let plan = planned(&rt, alloc, words);
         for call in 1u64..15 {
-            let mut failing = in_pieces(&rt, alloc, Some(call), None);
+            let mut failing = two_rows(&rt, alloc, Some(call), None);
             let (done, output) = perform_over(&rt, alloc, &plan, &mut failing);
             assert!(rt; done == Err(Refusal::Records(RecordFault::ReadFault)));
             assert!(rt; failing.failures() == 1);
@@ -96,7 +94,7 @@ fn inputs_that_fall_silent(rt: HostRuntime) {
     for words in FILE_COMMANDS {
         let plan = planned(&rt, alloc, words);
         for call in 1u64..15 {
-            let mut silent = in_pieces(&rt, alloc, None, Some(call));
+            let mut silent = two_rows(&rt, alloc, None, Some(call));
             let (done, output) = perform_over(&rt, alloc, &plan, &mut silent);
             assert!(rt; done == Err(Refusal::Records(RecordFault::Endless)));
             assert!(rt; silent.failures() == 0);
@@ -112,42 +110,17 @@ fn inputs_that_would_fail_after_their_end(rt: HostRuntime) {
     for words in FILE_COMMANDS {
         let plan = planned(&rt, alloc, words);
         let (_, text) = performed(&rt, alloc, &plan, R.as_bytes());
-        let mut input = in_pieces(&rt, alloc, Some(15), None);
+        let mut input = two_rows(&rt, alloc, Some(15), None);
         let (done, output) = perform_over(&rt, alloc, &plan, &mut input);
         assert!(rt; done == Ok(Ending::Done), "{words:?}");
         assert!(rt; output.bytes() == text.as_slice(), "{words:?}");
     }
     for words in OTHER_COMMANDS {
         let plan = planned(&rt, alloc, words);
-        let mut input = in_pieces(&rt, alloc, Some(1), None);
+        let mut input = two_rows(&rt, alloc, Some(1), None);
         let (done, _) = perform_over(&rt, alloc, &plan, &mut input);
         assert!(rt; done == Ok(Ending::Done), "{words:?}");
         assert!(rt; input.failures() == 0);
-    }
-}
-
-// Silent for so many pulls before each pull that gives bytes or the end.
-#[derive(Drop)]
-struct Slow {
-    inner: MemoryIn,
-    silent: u32,
-    left: u32,
-}
-
-impl Input for Slow {
-    ghost failure_count = { λ slow. ⟦<MemoryIn as Input>⟧.failure_count slow.inner };
-
-    fn pull(&mut self, into: &mut [u8]) -> Pull {
-        if self.left > 0 {
-            self.left -= 1;
-            return Pull::Got(0);
-        }
-        self.left = self.silent;
-        self.inner.pull(into)
-    }
-
-    fn failures(&self) -> u64 {
-        self.inner.failures()
     }
 }
 
@@ -159,7 +132,7 @@ fn inputs_that_are_silent_for_a_while(rt: HostRuntime) {
         let plan = planned(&rt, alloc, words);
         let (_, text) = performed(&rt, alloc, &plan, R.as_bytes());
         for silent in [999, 1_000] {
-            let inner = in_pieces(&rt, alloc, None, None);
+            let inner = two_rows(&rt, alloc, None, None);
             let mut slow = Slow {
                 inner,
                 silent,
@@ -286,34 +259,6 @@ fn outputs_with_too_little_room(rt: HostRuntime) {
     }
 }
 
-// A writer that is interrupted so often before each write, takes no byte if told so, and fails at its flush if told so.
-#[derive(Drop)]
-struct Busy {
-    interruptions: u32,
-    left: u32,
-    takes: bool,
-    flushes: bool,
-}
-
-impl Write for Busy {
-    fn write(&mut self, bytes: &[u8]) -> io::Result<usize> {
-        if self.left > 0 {
-            self.left -= 1;
-            return Err(Error::from(ErrorKind::Interrupted));
-        }
-        self.left = self.interruptions;
-        if self.takes { Ok(bytes.len()) } else { Ok(0) }
-    }
-
-    fn flush(&mut self) -> io::Result<()> {
-        if self.flushes {
-            Ok(())
-        } else {
-            Err(Error::from(ErrorKind::Interrupted))
-        }
-    }
-}
-
 // What each command of the list answers over such a writer.
 fn expect_over_writer(
     rt: &impl Abort,
@@ -325,7 +270,7 @@ fn expect_over_writer(
     expected: Result<Ending, Refusal>,
 ) {
     let plan = planned(rt, alloc, words);
-    let mut input = in_pieces(rt, alloc, None, None);
+    let mut input = two_rows(rt, alloc, None, None);
     let mut output = HostOut::new(Busy {
         interruptions,
         left: interruptions,
@@ -366,36 +311,6 @@ fn writers_that_are_interrupted(rt: HostRuntime) {
     }
 }
 
-// An output that takes all that it is offered, and counts how often it is offered something and how often it is ended.
-#[derive(Drop)]
-struct Counting {
-    puts: u64,
-    ends: u64,
-    is_ended: bool,
-}
-
-impl Output for Counting {
-    ghost is_ended = { λ counting. counting.is_ended };
-
-    ghost failure_count = { λ _. 0 };
-
-    fn put(&mut self, bytes: &[u8]) -> Put {
-        self.puts = self.puts.saturating_add(1);
-        self.is_ended = false;
-        Put::Took(bytes.len())
-    }
-
-    fn finish(&mut self) -> Put {
-        self.ends = self.ends.saturating_add(1);
-        self.is_ended = true;
-        Put::Took(0)
-    }
-
-    fn failures(&self) -> u64 {
-        0
-    }
-}
-
 // An output is offered each line of a report once, where it takes all of it, and is ended once.
 #[test]
 fn lines_and_ends_of_outputs(rt: HostRuntime) {
@@ -413,7 +328,7 @@ fn lines_and_ends_of_outputs(rt: HostRuntime) {
     ];
     for (words, puts) in table {
         let plan = planned(&rt, alloc, words);
-        let mut input = in_pieces(&rt, alloc, None, None);
+        let mut input = two_rows(&rt, alloc, None, None);
         let mut output = Counting {
             puts: 0,
             ends: 0,

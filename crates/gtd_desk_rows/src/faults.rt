@@ -1,8 +1,9 @@
 //! Lists of the faults of record files.
 
-use crate::common::{HEADER, R, carried_out, expect_put, expect_refused, joined};
+use crate::common::{HEADER, carried_out, expect_put, expect_refused, joined};
 use gtd_desk::{Ending, Refusal};
 use gtd_records::RecordFault;
+use gtd_test_devices::R;
 use std::alloc::Global;
 use std::process::Abort;
 use std::test::Fail;

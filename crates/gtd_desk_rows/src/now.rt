@@ -1,9 +1,10 @@
 //! The state of record files at a moment.
 
-use crate::common::{HEADER, R, expect_put, expect_refused, joined};
+use crate::common::{HEADER, expect_put, expect_refused, joined};
 use gtd_core::{Fault, TextFault};
 use gtd_desk::{Ending, Refusal};
 use gtd_records::RecordFault;
+use gtd_test_devices::R;
 use std::alloc::Global;
 use std::process::Abort;
 use std::test::Fail;

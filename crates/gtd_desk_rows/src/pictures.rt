@@ -1,7 +1,8 @@
 //! Pictures of a year: the lines of days, what stands before them, and how many rectangles there are.
 
-use crate::common::{R, carried_out, expect_refused};
+use crate::common::{carried_out, expect_refused};
 use gtd_desk::{Ending, Refusal};
+use gtd_test_devices::R;
 use std::alloc::Global;
 use std::process::Abort;
 use std::test::Fail;

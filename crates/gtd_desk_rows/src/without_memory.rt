@@ -2,10 +2,11 @@
 //! the next such request. Each test asserts the same answers twice, first with ample memory. `tests/refusals.sh` refuses the
 //! growths, and checks that the first request was the only one.
 
-use crate::common::{R, planned};
+use crate::common::planned;
 use gtd_desk::{Ending, NoDomain, Plan, Refusal, WordFault, perform};
 use gtd_devices::{MemoryIn, MemoryOut};
 use gtd_records::RecordFault;
+use gtd_test_devices::R;
 use std::alloc::Global;
 use std::process::Abort;
 

@@ -2,10 +2,10 @@
 
 ghost use Rattle.std.specs.Prelude.{◌≡◌, ◌<◌};
 
-use crate::roads::R;
 use gtd_devices::{
     Host, HostOut, Input, InputFault, MemoryIn, MemoryOut, Output, Pull, Put, read_whole,
 };
+use gtd_test_devices::{Busy, Mute, R, Slow, in_pieces};
 use std::alloc::Global;
 use std::io::{Error, ErrorKind, Read, Result as IoResult, Write};
 use std::process::Abort;
@@ -14,8 +14,7 @@ use std::test::Fail;
 fn memory(rt: &impl Abort, alloc: Global, fail: Option<u64>, silent: Option<u64>) -> MemoryIn
     ensures { ⟦<MemoryIn as Input>⟧.failure_count result ≡ 0 }
 {
-    let bytes = Vec::from_slice(alloc, R.as_bytes()).expect(rt, "memory");
-    MemoryIn::new(bytes, 7, fail, silent)
+    in_pieces(alloc, R.as_bytes(), fail, silent).expect(rt, "memory")
 }
 
 fn whole<I: Input>(rt: &impl Abort, alloc: Global, input: &mut I)
@@ -87,50 +86,6 @@ fn pieces_failures_and_silence(rt: HostRuntime) {
     );
 }
 
-// Silent for so many pulls before each pull that gives bytes or the end.
-#[derive(Drop)]
-struct Slow {
-    inner: MemoryIn,
-    silent: u32,
-    left: u32,
-}
-
-impl Input for Slow {
-    ghost failure_count = { λ slow. ⟦<MemoryIn as Input>⟧.failure_count slow.inner };
-
-    fn pull(&mut self, into: &mut [u8]) -> Pull {
-        if self.left > 0 {
-            self.left -= 1;
-            return Pull::Got(0);
-        }
-        self.left = self.silent;
-        self.inner.pull(into)
-    }
-
-    fn failures(&self) -> u64 {
-        self.inner.failures()
-    }
-}
-
-// Silent for ever, and counts its pulls.
-#[derive(Drop)]
-struct Mute {
-    pulls: u64,
-}
-
-impl Input for Mute {
-    ghost failure_count = { λ _. 0 };
-
-    fn pull(&mut self, into: &mut [u8]) -> Pull {
-        self.pulls = self.pulls.saturating_add(1);
-        Pull::Got(0)
-    }
-
-    fn failures(&self) -> u64 {
-        0
-    }
-}
-
 #[test]
 fn silence_ends_at_its_thousandth_pull(rt: HostRuntime) {
     let alloc = rt.alloc();
@@ -162,38 +117,12 @@ fn silence_ends_at_its_thousandth_pull(rt: HostRuntime) {
     assert!(rt; mute.pulls == 1000);
 }
 
-// A writer that is interrupted so often before each write, and at its flush if told to.
-#[derive(Drop)]
-struct Busy {
-    interruptions: u32,
-    left: u32,
-    flushes: bool,
-}
-
-impl Write for Busy {
-    fn write(&mut self, buf: &[u8]) -> IoResult<usize> {
-        if self.left > 0 {
-            self.left -= 1;
-            return Err(Error::from(ErrorKind::Interrupted));
-        }
-        self.left = self.interruptions;
-        Ok(buf.len())
-    }
-
-    fn flush(&mut self) -> IoResult<()> {
-        if self.flushes {
-            Ok(())
-        } else {
-            Err(Error::from(ErrorKind::Interrupted))
-        }
-    }
-}
-
 #[test]
 fn interrupted_writes(rt: HostRuntime) {
     let mut output = HostOut::new(Busy {
         interruptions: 999,
         left: 999,
+        takes: true,
         flushes: true,
     });
     assert!(rt; output.put(b"17".as_slice()) == Put::Took(2));
@@ -207,6 +136,7 @@ fn writes_that_are_given_up(rt: HostRuntime) {
     let mut output = HostOut::new(Busy {
         interruptions: 1000,
         left: 1000,
+        takes: true,
         flushes: false,
     });
     assert!(rt; output.put(b"17".as_slice()) == Put::Failed);

@@ -2,11 +2,11 @@
 
 use gtd_core::{Domain, Sec};
 use gtd_eval::holds;
+use gtd_hours_text::read_hours;
 use gtd_osm::{
-    Dated, Dates, Hours, HoursFault, Kind, Link, Modifier, MonthDay, Months, Place, Rule, Selector,
-    TimeRange, Weekdays, Weeks, YearDate, Years, cost_of, domain_of, print_hours,
+    Dated, HoursFault, MonthDay, Months, Place, TimeRange, Weekdays, Weeks, YearDate, Years,
+    cost_of, domain_of, print_hours,
 };
-use std::alloc::{AllocError, Global};
 use std::process::Abort;
 use std::test::Fail;
 
@@ -20,87 +20,14 @@ const NEW_YEAR: i64 = 19_723;
 /// A day after the new year of 2024, an hour of it, and whether the hours are open then.
 type State = (i64, i64, bool);
 
-fn expect_states(rt: &impl Abort, domain: &Domain, states: &[State]) {
-    for (day, hour, is_open) in states {
-        let day = NEW_YEAR.wrapping_add(*day);
-        let second = Sec(day.wrapping_mul(DAY).wrapping_add(hour.wrapping_mul(HOUR)));
-        if second.0 < -25_202 * DAY || second.0 >= 266_627 * DAY {
-            panic!(rt; "outside");
-        }
-        assert_eq!(rt; holds(domain, second), *is_open, "at {}", second.0);
-    }
-}
+/// Opening hours; how many basic domains they cost; and states.
+type Row = (&'static str, u32, &'static [State]);
 
-fn kind(alloc: Global, selector: Selector) -> Result<Kind, AllocError> {
-    let mut selectors = Vec::new(alloc);
-    selectors.push(selector)?;
-    Ok(Kind { selectors })
-}
-
-fn rule(
-    alloc: Global,
-    link: Link,
-    selector: Selector,
-    time: TimeRange,
-    modifier: Modifier,
-) -> Result<Rule, AllocError> {
-    let mut kinds = Vec::new(alloc);
-    kinds.push(kind(alloc, selector)?)?;
-    let mut times = Vec::new(alloc);
-    times.push(time)?;
-    Ok(Rule {
-        link,
-        kinds,
-        times,
-        modifier,
-    })
-}
-
-fn weekdays(rt: &impl Abort, first: u8, last: u8) -> Selector {
-    Selector::Weekdays(Weekdays::new(first, last).expect(rt, "weekdays"))
-}
-
-fn time(rt: &impl Abort, begin: u16, last: u16) -> TimeRange {
-    TimeRange::new(begin, last).expect(rt, "a range of times")
-}
-
-fn date(rt: &impl Abort, month: u8, day: u8) -> MonthDay {
-    MonthDay::new(month, day).expect(rt, "a date")
-}
-
-// `Fr 22:00-04:00; Sa 10:00-12:00`: the later rule has Saturdays for itself, also their first hours.
-pub(crate) fn friday_night(rt: &impl Abort, alloc: Global) -> Result<Hours, AllocError> {
-    let friday = rule(
-        alloc,
-        Link::Instead,
-        weekdays(rt, 6, 6),
-        time(rt, 1_320, 240),
-        Modifier::Open,
-    )?;
-    let saturday = rule(
-        alloc,
-        Link::Instead,
-        weekdays(rt, 7, 7),
-        time(rt, 600, 720),
-        Modifier::Open,
-    )?;
-    let mut rules = Vec::new(alloc);
-    rules.push(friday)?;
-    rules.push(saturday)?;
-    Ok(Hours { rules })
-}
-
-#[test]
-fn later_rule(rt: HostRuntime) -> Result<(), Fail> {
-    let alloc = rt.alloc();
-    let hours = friday_night(&rt, alloc)?;
-    let text = print_hours(alloc, &hours)?;
-    assert_eq!(rt; text.as_str(), "Fr 22:00-04:00; Sa 10:00-12:00");
-    assert_eq!(rt; cost_of(&hours), 5);
-    let domain = domain_of(alloc, &hours).expect(&rt, "a domain");
-    expect_states(
-        &rt,
-        &domain,
+static ROWS: [Row; 7] = [
+    // The later rule has Saturdays for itself, also their first hours.
+    (
+        "Fr 22:00-04:00; Sa 10:00-12:00",
+        5,
         &[
             (4, 21, false),
             (4, 22, true),
@@ -111,52 +38,16 @@ fn later_rule(rt: HostRuntime) -> Result<(), Fail> {
             (5, 10, true),
             (5, 12, false),
         ],
-    );
-    Ok(())
-}
-
-// `Fr 22:00-04:00`: over midnight.
-#[test]
-fn over_midnight(rt: HostRuntime) -> Result<(), Fail> {
-    let alloc = rt.alloc();
-    let mut hours = friday_night(&rt, alloc)?;
-    let _ = hours.rules.pop();
-    let text = print_hours(alloc, &hours)?;
-    assert_eq!(rt; text.as_str(), "Fr 22:00-04:00");
-    assert_eq!(rt; cost_of(&hours), 2);
-    let domain = domain_of(alloc, &hours).expect(&rt, "a domain");
-    let states = [(4, 21, false), (4, 22, true), (5, 3, true), (5, 4, false)];
-    expect_states(&rt, &domain, &states);
-    Ok(())
-}
-
-// `Dec 20-Feb 29 week 1-53/2 08:00-12:00`
-#[test]
-fn winter(rt: HostRuntime) -> Result<(), Fail> {
-    let alloc = rt.alloc();
-    let dates = Selector::Dates(Dates {
-        first: date(&rt, 12, 20),
-        last: date(&rt, 2, 29),
-    });
-    let weeks = Selector::Weeks(Weeks::new(1, 53, 2).expect(&rt, "weeks"));
-    let mut winter = rule(
-        alloc,
-        Link::Instead,
-        dates,
-        time(&rt, 480, 720),
-        Modifier::Open,
-    )?;
-    winter.kinds.push(kind(alloc, weeks)?)?;
-    let mut rules = Vec::new(alloc);
-    rules.push(winter)?;
-    let hours = Hours { rules };
-    let text = print_hours(alloc, &hours)?;
-    assert_eq!(rt; text.as_str(), "Dec 20-Feb 29 week 1-53/2 08:00-12:00");
-    assert_eq!(rt; cost_of(&hours), 32);
-    let domain = domain_of(alloc, &hours).expect(&rt, "a domain");
-    expect_states(
-        &rt,
-        &domain,
+    ),
+    // Over midnight.
+    (
+        "Fr 22:00-04:00",
+        2,
+        &[(4, 21, false), (4, 22, true), (5, 3, true), (5, 4, false)],
+    ),
+    (
+        "Dec 20-Feb 29 week 1-53/2 08:00-12:00",
+        32,
         &[
             (0, 7, false),
             (0, 8, true),
@@ -169,39 +60,11 @@ fn winter(rt: HostRuntime) -> Result<(), Fail> {
             (355, 9, true),
             (357, 9, false),
         ],
-    );
-    Ok(())
-}
-
-// Each day of a range of dates from 06:00 to 07:00.
-fn mornings(
-    rt: &impl Abort,
-    alloc: Global,
-    first: MonthDay,
-    last: MonthDay,
-) -> Result<Hours, AllocError> {
-    let dates = Selector::Dates(Dates { first, last });
-    let mut rules = Vec::new(alloc);
-    rules.push(rule(
-        alloc,
-        Link::Instead,
-        dates,
-        time(rt, 360, 420),
-        Modifier::Open,
-    )?)?;
-    Ok(Hours { rules })
-}
-
-// `Nov 15-Mar 20`: one stretch of four months and six days.
-#[test]
-fn over_new_year(rt: HostRuntime) -> Result<(), Fail> {
-    let alloc = rt.alloc();
-    let hours = mornings(&rt, alloc, date(&rt, 11, 15), date(&rt, 3, 20))?;
-    assert_eq!(rt; cost_of(&hours), 2);
-    let domain = domain_of(alloc, &hours).expect(&rt, "a domain");
-    expect_states(
-        &rt,
-        &domain,
+    ),
+    // One stretch of four months and six days, over the new year.
+    (
+        "Nov 15-Mar 20 06:00-07:00",
+        2,
         &[
             (0, 6, true),
             (79, 6, true),
@@ -210,62 +73,21 @@ fn over_new_year(rt: HostRuntime) -> Result<(), Fail> {
             (319, 6, true),
             (366, 6, true),
         ],
-    );
-    Ok(())
-}
-
-// `Apr 20-Oct 10`: one stretch of five months and 21 days.
-#[test]
-fn season(rt: HostRuntime) -> Result<(), Fail> {
-    let alloc = rt.alloc();
-    let hours = mornings(&rt, alloc, date(&rt, 4, 20), date(&rt, 10, 10))?;
-    assert_eq!(rt; cost_of(&hours), 2);
-    let domain = domain_of(alloc, &hours).expect(&rt, "a domain");
-    expect_states(
-        &rt,
-        &domain,
+    ),
+    // One stretch of five months and 21 days.
+    (
+        "Apr 20-Oct 10 06:00-07:00",
+        2,
         &[
             (109, 6, false),
             (110, 6, true),
             (283, 6, true),
             (284, 6, false),
         ],
-    );
-    Ok(())
-}
-
-// `Apr-Sep 08:00-18:00, Sa[1] 10:00-20:00; May 1 00:00-12:00 off`
-#[test]
-fn summer(rt: HostRuntime) -> Result<(), Fail> {
-    let alloc = rt.alloc();
-    let months = Selector::Months(Months::new(4, 9).expect(&rt, "months"));
-    let first = Selector::Nth(Place::new(7, 1).expect(&rt, "a place"));
-    let may = Selector::Dates(Dates {
-        first: date(&rt, 5, 1),
-        last: date(&rt, 5, 1),
-    });
-    let open = Modifier::Open;
-    let mut rules = Vec::new(alloc);
-    rules.push(rule(alloc, Link::Instead, months, time(&rt, 480, 1_080), open)?)?;
-    rules.push(rule(alloc, Link::Also, first, time(&rt, 600, 1_200), open)?)?;
-    rules.push(rule(
-        alloc,
-        Link::Instead,
-        may,
-        time(&rt, 0, 720),
-        Modifier::Closed,
-    )?)?;
-    let hours = Hours { rules };
-    let text = print_hours(alloc, &hours)?;
-    assert_eq!(rt;
-        text.as_str(),
-        "Apr-Sep 08:00-18:00, Sa[1] 10:00-20:00; May 1 00:00-12:00 off"
-    );
-    assert_eq!(rt; cost_of(&hours), 6);
-    let domain = domain_of(alloc, &hours).expect(&rt, "a domain");
-    expect_states(
-        &rt,
-        &domain,
+    ),
+    (
+        "Apr-Sep 08:00-18:00, Sa[1] 10:00-20:00; May 1 00:00-12:00 off",
+        6,
         &[
             (5, 9, false),
             (5, 10, true),
@@ -278,35 +100,10 @@ fn summer(rt: HostRuntime) -> Result<(), Fail> {
             (273, 17, true),
             (274, 9, false),
         ],
-    );
-    Ok(())
-}
-
-// `2024-2030/2 00:00-06:00, 2024 Dec 30-2025 Jan 2 05:00-08:00, We[-1] 12:00-13:00`
-#[test]
-fn years(rt: HostRuntime) -> Result<(), Fail> {
-    let alloc = rt.alloc();
-    let even = Selector::Years(Years::new(2024, 2030, 2).expect(&rt, "years"));
-    let from = YearDate::new(2024, 12, 30).expect(&rt, "a date");
-    let to = YearDate::new(2025, 1, 2).expect(&rt, "a date");
-    let dated = Selector::Dated(Dated::new(from, to).expect(&rt, "dates"));
-    let last = Selector::NthBack(Place::new(4, 1).expect(&rt, "a place"));
-    let open = Modifier::Open;
-    let mut rules = Vec::new(alloc);
-    rules.push(rule(alloc, Link::Instead, even, time(&rt, 0, 360), open)?)?;
-    rules.push(rule(alloc, Link::Also, dated, time(&rt, 300, 480), open)?)?;
-    rules.push(rule(alloc, Link::Also, last, time(&rt, 720, 780), open)?)?;
-    let hours = Hours { rules };
-    let text = print_hours(alloc, &hours)?;
-    assert_eq!(rt;
-        text.as_str(),
-        "2024-2030/2 00:00-06:00, 2024 Dec 30-2025 Jan 2 05:00-08:00, We[-1] 12:00-13:00"
-    );
-    assert_eq!(rt; cost_of(&hours), 9);
-    let domain = domain_of(alloc, &hours).expect(&rt, "a domain");
-    expect_states(
-        &rt,
-        &domain,
+    ),
+    (
+        "2024-2030/2 00:00-06:00, 2024 Dec 30-2025 Jan 2 05:00-08:00, We[-1] 12:00-13:00",
+        9,
         &[
             (0, 0, true),
             (0, 6, false),
@@ -318,33 +115,55 @@ fn years(rt: HostRuntime) -> Result<(), Fail> {
             (368, 7, false),
             (731, 5, true),
         ],
-    );
-    Ok(())
-}
+    ),
+];
 
-// `week 1-53/2 00:00-01:00` as often as that.
-fn odd_weeks(rt: &impl Abort, alloc: Global, times: u8) -> Result<Hours, AllocError> {
-    let weeks = Selector::Weeks(Weeks::new(1, 53, 2).expect(rt, "weeks"));
-    let mut rules = Vec::new(alloc);
-    for _ in 0..times {
-        rules.push(rule(alloc, Link::Also, weeks, time(rt, 0, 60), Modifier::Open)?)?;
+fn expect_states(rt: &impl Abort, domain: &Domain, states: &[State]) {
+    for (day, hour, is_open) in states {
+        let day = NEW_YEAR.wrapping_add(*day);
+        let second = Sec(day.wrapping_mul(DAY).wrapping_add(hour.wrapping_mul(HOUR)));
+        if second.0 < -25_202 * DAY || second.0 >= 266_627 * DAY {
+            panic!(rt; "outside");
+        }
+        assert_eq!(rt; holds(domain, second), *is_open, "at {}", second.0);
     }
-    Ok(Hours { rules })
 }
 
 #[test]
-fn too_many(rt: HostRuntime) -> Result<(), Fail> {
+fn rows(rt: HostRuntime) -> Result<(), Fail> {
     let alloc = rt.alloc();
-    let four = odd_weeks(&rt, alloc, 4)?;
+    for &(text, cost, states) in &ROWS {
+        let hours = read_hours(alloc, text.as_bytes()).expect(&rt, "hours");
+        let printed = print_hours(alloc, &hours)?;
+        assert_eq!(rt; printed.as_str(), text);
+        assert_eq!(rt; cost_of(&hours), cost, "{text}");
+        let domain = domain_of(alloc, &hours).expect(&rt, "a domain");
+        expect_states(&rt, &domain, states);
+    }
+    Ok(())
+}
+
+/// Every second week, from 00:00 to 01:00: four times, and once more.
+const ODD_WEEKS: &str =
+    "week 1-53/2 00:00-01:00, week 1-53/2 00:00-01:00, week 1-53/2 00:00-01:00, \
+    week 1-53/2 00:00-01:00";
+
+const MORE_ODD_WEEKS: &str =
+    "week 1-53/2 00:00-01:00, week 1-53/2 00:00-01:00, week 1-53/2 00:00-01:00, \
+    week 1-53/2 00:00-01:00, week 1-53/2 00:00-01:00";
+
+#[test]
+fn too_many(rt: HostRuntime) {
+    let alloc = rt.alloc();
+    let four = read_hours(alloc, ODD_WEEKS.as_bytes()).expect(&rt, "hours");
     assert_eq!(rt; cost_of(&four), 112);
     assert!(rt; domain_of(alloc, &four).is_ok());
-    let five = odd_weeks(&rt, alloc, 5)?;
+    let five = read_hours(alloc, MORE_ODD_WEEKS.as_bytes()).expect(&rt, "hours");
     assert_eq!(rt; cost_of(&five), 140);
     match domain_of(alloc, &five) {
         Ok(_) => panic!(rt; "too many were accepted"),
         Err(fault) => assert_eq!(rt; fault, HoursFault::TooMany),
     }
-    Ok(())
 }
 
 #[test]

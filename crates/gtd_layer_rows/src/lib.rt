@@ -31,6 +31,8 @@ mod spans;
 #[cfg(test)]
 mod text;
 #[cfg(test)]
+mod texts;
+#[cfg(test)]
 mod values;
 #[cfg(test)]
 mod without_memory;

@@ -1,69 +1,17 @@
 //! Worked examples, and runs against single seconds.
 
-use gtd_core::{Basic, Duration, DurationParts, Horizon, Sec, Span, Start, StartParts};
+use crate::texts::{basic, horizon};
+use gtd_core::{Basic, Sec, Span};
 use gtd_recur::{Runs, Starts, covers, spans_of};
 use gtd_spans::SpanSource;
 use std::process::Abort;
 use std::test::Fail;
 
-/// The fields of a start or the numbers of a duration, by their letters. The weekdays of `t` are bits, the places of
-/// `f` and `l` are two digits.
-type Fields = &'static [(u8, u16)];
-
-struct Row {
-    start: Fields,
-    duration: Fields,
-    days: (i64, i64),
-    spans: &'static [(i64, i64)],
-    /// The most ticks: one for each day of the window that no month or year excludes, and one for each start on it.
-    /// Runs that begin later in the window, or pass starts of a day in one step, count no more.
-    ticks: u64,
-}
-
-fn start_of(fields: Fields) -> StartParts {
-    let mut parts = StartParts::default();
-    for &(letter, value) in fields {
-        let small = (value % 256) as u8;
-        let place = Some((small / 10, small % 10));
-        match letter {
-            b'y' => parts.year = Some(value),
-            b'M' => parts.month = Some(small),
-            b'w' => parts.week = Some(small),
-            b'd' => parts.day = Some(small),
-            b'h' => parts.hour = Some(small),
-            b'm' => parts.minute = Some(small),
-            b's' => parts.second = Some(small),
-            b'f' => parts.nth = place,
-            b'l' => parts.nth_back = place,
-            _ => parts.weekdays = small,
-        }
-    }
-    parts
-}
-
-fn duration_of(fields: Fields) -> DurationParts {
-    let mut parts = DurationParts::default();
-    for &(letter, value) in fields {
-        let value = u32::from(value);
-        match letter {
-            b'y' => parts.years = value,
-            b'M' => parts.months = value,
-            b'w' => parts.weeks = value,
-            b'd' => parts.days = value,
-            b'h' => parts.hours = value,
-            b'm' => parts.minutes = value,
-            _ => parts.seconds = value,
-        }
-    }
-    parts
-}
-
-fn basic_of(rt: &impl Abort, start: Fields, duration: Fields) -> Basic {
-    Basic {
-        start: Start::new(start_of(start)).expect(rt, "a start"),
-        duration: Duration::new(duration_of(duration)).expect(rt, "a duration"),
-    }
-}
+/// A basic domain; the days of a horizon; the most ticks; and the spans.
+///
+/// There is a tick for each day of the window that no month or year excludes, and one for each start on it. Runs that begin
+/// later in the window, or pass starts of a day in one step, count no more.
+type Row = (&'static str, (i64, i64), u64, &'static [(i64, i64)]);
 
 /// Whether the domain contains the second, which must be on a day that a horizon may have.
 fn contains(rt: &impl Abort, basic: &Basic, second: i64) -> bool {
@@ -72,207 +20,169 @@ fn contains(rt: &impl Abort, basic: &Basic, second: i64) -> bool {
     covers(basic, Sec(second))
 }
 
-const ROWS: &[Row] = &[
-    Row {
-        start: &[(b'h', 22)],
-        duration: &[(b'h', 8)],
-        days: (19_723, 19_724),
-        spans: &[
+static ROWS: [Row; 23] = [
+    (
+        "(h22){h8}",
+        (19_723, 19_724),
+        4,
+        &[
             (1_704_067_200, 1_704_088_800),
             (1_704_146_400, 1_704_153_600),
         ],
-        ticks: 4,
-    },
-    Row {
-        start: &[(b'h', 0)],
-        duration: &[(b'h', 24)],
-        days: (19_723, 19_730),
-        spans: &[(1_704_067_200, 1_704_672_000)],
-        ticks: 16,
-    },
-    Row {
-        start: &[(b'h', 10)],
-        duration: &[(b'd', 3)],
-        days: (19_723, 19_730),
-        spans: &[(1_704_067_200, 1_704_672_000)],
-        ticks: 20,
-    },
-    Row {
-        start: &[(b't', 64)],
-        duration: &[(b'd', 2)],
-        days: (19_723, 19_730),
-        spans: &[(1_704_499_200, 1_704_672_000)],
-        ticks: 11,
-    },
-    Row {
-        start: &[(b'y', 2020), (b'M', 1), (b'd', 1)],
-        duration: &[(b'y', 5)],
-        days: (19_723, 19_724),
-        spans: &[(1_704_067_200, 1_704_153_600)],
-        ticks: 32,
-    },
-    Row {
-        start: &[(b'y', 2020), (b'M', 1), (b'd', 1)],
-        duration: &[(b'y', 5)],
-        days: (20_089, 20_090),
-        spans: &[],
-        ticks: 32,
-    },
-    Row {
-        start: &[(b'M', 1), (b'd', 31)],
-        duration: &[(b'M', 1)],
-        days: (19_358, 20_089),
-        spans: &[
+    ),
+    (
+        "(h0){h24}",
+        (19_723, 19_730),
+        16,
+        &[(1_704_067_200, 1_704_672_000)],
+    ),
+    (
+        "(h10){d3}",
+        (19_723, 19_730),
+        20,
+        &[(1_704_067_200, 1_704_672_000)],
+    ),
+    (
+        "(t7){d2}",
+        (19_723, 19_730),
+        11,
+        &[(1_704_499_200, 1_704_672_000)],
+    ),
+    (
+        "(y2020M1d1){y5}",
+        (19_723, 19_724),
+        32,
+        &[(1_704_067_200, 1_704_153_600)],
+    ),
+    ("(y2020M1d1){y5}", (20_089, 20_090), 32, &[]),
+    (
+        "(M1d31){M1}",
+        (19_358, 20_089),
+        64,
+        &[
             (1_675_123_200, 1_677_542_400),
             (1_706_659_200, 1_709_164_800),
         ],
-        ticks: 64,
-    },
-    Row {
-        start: &[(b'M', 2), (b'd', 29)],
-        duration: &[(b'y', 1)],
-        days: (19_723, 20_454),
-        spans: &[(1_709_164_800, 1_740_700_800)],
-        ticks: 86,
-    },
-    Row {
-        start: &[(b'y', 2025), (b'w', 1)],
-        duration: &[(b'w', 1)],
-        days: (19_723, 20_454),
-        spans: &[(1_735_516_800, 1_736_121_600)],
-        ticks: 739,
-    },
-    Row {
-        start: &[(b'w', 53)],
-        duration: &[(b'w', 1)],
-        days: (18_262, 18_993),
-        spans: &[(1_609_113_600, 1_609_718_400)],
-        ticks: 739,
-    },
-    Row {
-        start: &[(b'M', 1), (b'w', 1)],
-        duration: &[(b'd', 1)],
-        days: (19_723, 20_454),
-        spans: &[(1_704_067_200, 1_704_153_600)],
-        ticks: 63,
-    },
-    Row {
-        start: &[(b'f', 52)],
-        duration: &[(b'd', 1)],
-        days: (19_723, 20_089),
-        spans: &[
+    ),
+    (
+        "(M2d29){y1}",
+        (19_723, 20_454),
+        86,
+        &[(1_709_164_800, 1_740_700_800)],
+    ),
+    (
+        "(y2025w1){w1}",
+        (19_723, 20_454),
+        739,
+        &[(1_735_516_800, 1_736_121_600)],
+    ),
+    (
+        "(w53){w1}",
+        (18_262, 18_993),
+        739,
+        &[(1_609_113_600, 1_609_718_400)],
+    ),
+    (
+        "(M1w1){d1}",
+        (19_723, 20_454),
+        63,
+        &[(1_704_067_200, 1_704_153_600)],
+    ),
+    (
+        "(f52){d1}",
+        (19_723, 20_089),
+        372,
+        &[
             (1_706_486_400, 1_706_572_800),
             (1_714_348_800, 1_714_435_200),
             (1_722_211_200, 1_722_297_600),
             (1_727_654_400, 1_727_740_800),
             (1_735_516_800, 1_735_603_200),
         ],
-        ticks: 372,
-    },
-    Row {
-        start: &[(b'h', 10)],
-        duration: &[(b'h', 4)],
-        days: (19_723, 19_724),
-        spans: &[(1_704_103_200, 1_704_117_600)],
-        ticks: 4,
-    },
-    Row {
-        start: &[(b'd', 13), (b't', 32)],
-        duration: &[(b'd', 1)],
-        days: (19_723, 19_997),
-        spans: &[(1_726_185_600, 1_726_272_000)],
-        ticks: 276,
-    },
-    Row {
-        start: &[(b'y', 1924), (b'M', 1), (b'd', 1)],
-        duration: &[(b'y', 100)],
-        days: (19_722, 19_724),
-        spans: &[(1_703_980_800, 1_704_067_200)],
-        ticks: 32,
-    },
-    Row {
-        start: &[(b'M', 1), (b'm', 0)],
-        duration: &[(b'M', 1)],
-        days: (19_358, 19_448),
-        spans: &[(1_672_531_200, 1_677_625_200)],
-        ticks: 775,
-    },
-    Row {
-        start: &[(b'y', 2024), (b'M', 1), (b'd', 1)],
-        duration: &[(b'y', 100)],
-        days: (19_723, 19_724),
-        spans: &[(1_704_067_200, 1_704_153_600)],
-        ticks: 2,
-    },
-    Row {
-        start: &[(b'l', 12)],
-        duration: &[(b'd', 1)],
-        days: (19_844, 19_875),
-        spans: &[(1_716_768_000, 1_716_854_400)],
-        ticks: 33,
-    },
-    Row {
-        start: &[(b'f', 42), (b'l', 12)],
-        duration: &[(b'd', 1)],
-        days: (19_844, 19_875),
-        spans: &[(1_716_768_000, 1_716_854_400)],
-        ticks: 33,
-    },
-    Row {
-        start: &[(b'f', 42), (b'l', 12)],
-        duration: &[(b'd', 1)],
-        days: (19_814, 19_844),
-        spans: &[],
-        ticks: 31,
-    },
-    Row {
-        start: &[(b'l', 52)],
-        duration: &[(b'd', 1)],
-        days: (19_723, 20_089),
-        spans: &[
+    ),
+    (
+        "(h10){h4}",
+        (19_723, 19_724),
+        4,
+        &[(1_704_103_200, 1_704_117_600)],
+    ),
+    (
+        "(d13t6){d1}",
+        (19_723, 19_997),
+        276,
+        &[(1_726_185_600, 1_726_272_000)],
+    ),
+    (
+        "(y1924M1d1){y100}",
+        (19_722, 19_724),
+        32,
+        &[(1_703_980_800, 1_704_067_200)],
+    ),
+    (
+        "(M1m0){M1}",
+        (19_358, 19_448),
+        775,
+        &[(1_672_531_200, 1_677_625_200)],
+    ),
+    (
+        "(y2024M1d1){y100}",
+        (19_723, 19_724),
+        2,
+        &[(1_704_067_200, 1_704_153_600)],
+    ),
+    (
+        "(l12){d1}",
+        (19_844, 19_875),
+        33,
+        &[(1_716_768_000, 1_716_854_400)],
+    ),
+    (
+        "(f42l12){d1}",
+        (19_844, 19_875),
+        33,
+        &[(1_716_768_000, 1_716_854_400)],
+    ),
+    ("(f42l12){d1}", (19_814, 19_844), 31, &[]),
+    (
+        "(l52){d1}",
+        (19_723, 20_089),
+        372,
+        &[
             (1_704_067_200, 1_704_153_600),
             (1_711_929_600, 1_712_016_000),
             (1_719_792_000, 1_719_878_400),
             (1_725_235_200, 1_725_321_600),
             (1_733_097_600, 1_733_184_000),
         ],
-        ticks: 372,
-    },
-    Row {
-        start: &[(b'h', 1)],
-        duration: &[],
-        days: (19_723, 19_730),
-        spans: &[],
-        ticks: 14,
-    },
-    Row {
-        start: &[(b'M', 2), (b'd', 29), (b't', 1)],
-        duration: &[(b'd', 1)],
-        days: (43_159, 57_768),
-        spans: &[(4_991_068_800, 4_991_155_200)],
-        ticks: 1_132,
-    },
+    ),
+    ("(h1){s0}", (19_723, 19_730), 14, &[]),
+    (
+        "(M2d29t1){d1}",
+        (43_159, 57_768),
+        1_132,
+        &[(4_991_068_800, 4_991_155_200)],
+    ),
 ];
 
 #[test]
 fn rows(rt: HostRuntime) -> Result<(), Fail> {
-    for row in ROWS {
-        let basic = basic_of(&rt, row.start, row.duration);
-        let horizon = Horizon::new(row.days.0, row.days.1).expect(&rt, "a horizon");
+    for &(text, (from_day, to_day), most_ticks, spans) in &ROWS {
+        let basic = basic(&rt, rt.alloc(), text);
+        let horizon = horizon(&rt, from_day, to_day);
         let list = spans_of(rt.alloc(), &basic, horizon)?;
-        assert!(rt; list.spans().len() == row.spans.len());
+        assert!(rt; list.spans().len() == spans.len(), "{text}");
         let mut runs = Runs::new(basic, horizon);
-        for &(from, until) in row.spans {
+        for &(from, until) in spans {
             assert!(rt;
                 runs.next() == Span::new(Sec(from), Sec(until)),
-                "from {from}"
+                "{text}, from {from}"
             );
             assert!(rt; list.contains(Sec(from)));
             assert!(rt; contains(&rt, &basic, from));
         }
         assert!(rt; runs.next() == None);
         assert!(rt; runs.next() == None);
-        assert!(rt; runs.ticks() <= row.ticks);
+        assert!(rt; runs.ticks() <= most_ticks, "{text}");
     }
     Ok(())
 }
@@ -281,8 +191,8 @@ fn rows(rt: HostRuntime) -> Result<(), Fail> {
 // October.
 #[test]
 fn days_are_counted(rt: HostRuntime) {
-    let basic = basic_of(&rt, &[(b'd', 13), (b't', 32)], &[(b'd', 1)]);
-    let horizon = Horizon::new(19_723, 19_997).expect(&rt, "a horizon");
+    let basic = basic(&rt, rt.alloc(), "(d13t6){d1}");
+    let horizon = horizon(&rt, 19_723, 19_997);
     let mut runs = Runs::new(basic, horizon);
     assert!(rt; runs.next() == Span::new(Sec(1_726_185_600), Sec(1_726_272_000)));
     assert!(rt; 256 <= runs.ticks() && runs.ticks() <= 276);
@@ -290,8 +200,8 @@ fn days_are_counted(rt: HostRuntime) {
 
 #[test]
 fn first_span_of_ten_years(rt: HostRuntime) {
-    let basic = basic_of(&rt, &[(b'h', 10)], &[(b'h', 4)]);
-    let horizon = Horizon::new(19_723, 23_376).expect(&rt, "a horizon");
+    let basic = basic(&rt, rt.alloc(), "(h10){h4}");
+    let horizon = horizon(&rt, 19_723, 23_376);
     let mut runs = Runs::new(basic, horizon);
     assert!(rt; runs.next() == Span::new(Sec(1_704_103_200), Sec(1_704_117_600)));
     assert!(rt; runs.ticks() <= 6);
@@ -299,8 +209,8 @@ fn first_span_of_ten_years(rt: HostRuntime) {
 
 #[test]
 fn starts(rt: HostRuntime) {
-    let basic = basic_of(&rt, &[(b'M', 2), (b'd', 29), (b'h', 6)], &[(b'd', 1)]);
-    let horizon = Horizon::new(-25_202, 120_896).expect(&rt, "a horizon");
+    let basic = basic(&rt, rt.alloc(), "(M2d29h6){d1}");
+    let horizon = horizon(&rt, -25_202, 120_896);
     let mut starts = Starts::new(basic, horizon);
     assert!(rt; starts.ticks() == 0);
     assert!(rt; starts.next() == Some(Sec(-2_077_725_600)));
@@ -318,39 +228,39 @@ fn starts(rt: HostRuntime) {
 
 #[test]
 fn single_seconds(rt: HostRuntime) {
-    let inside = basic_of(&rt, &[(b'M', 5), (b'h', 10)], &[(b'h', 1)]);
+    let inside = basic(&rt, rt.alloc(), "(M5h10){h1}");
     assert!(rt; covers(&inside, Sec(1_715_943_599)));
     assert!(rt; !covers(&inside, Sec(1_715_943_600)));
-    let friday = basic_of(&rt, &[(b'd', 13), (b't', 32)], &[(b'd', 1)]);
+    let friday = basic(&rt, rt.alloc(), "(d13t6){d1}");
     assert!(rt; covers(&friday, Sec(1_726_228_800)));
     assert!(rt; !covers(&friday, Sec(1_728_820_800)));
 }
 
 /// A domain for each letter of a start and each level, with durations that overlap, touch and leave gaps.
-const DOMAINS: &[(Fields, Fields)] = &[
-    (&[(b'y', 2024)], &[(b'd', 3)]),
-    (&[(b'M', 3)], &[(b'w', 1), (b'h', 5)]),
-    (&[(b'w', 9)], &[(b'd', 2), (b'm', 30)]),
-    (&[(b'y', 2024), (b'w', 10)], &[(b'd', 9)]),
-    (&[(b'M', 3), (b'w', 10), (b't', 8)], &[(b's', 1)]),
-    (&[(b'd', 29)], &[(b'M', 1)]),
-    (&[(b't', 62), (b'h', 8)], &[(b'h', 16)]),
-    (&[(b'f', 51)], &[(b'd', 1)]),
-    (&[(b'l', 11), (b'h', 2)], &[(b'h', 25)]),
-    (&[(b'h', 23), (b'm', 30)], &[(b'h', 1)]),
-    (&[(b'h', 12), (b's', 15)], &[(b's', 40)]),
-    (&[(b'm', 59)], &[(b'm', 1)]),
-    (&[(b'm', 20), (b's', 20)], &[(b'm', 55)]),
-    (&[(b's', 0)], &[(b's', 60)]),
-    (&[(b's', 30)], &[(b's', 29)]),
-    (&[(b'M', 2), (b'd', 29), (b'm', 0)], &[(b'M', 1), (b'd', 1)]),
+const DOMAINS: [&str; 16] = [
+    "(y2024){d3}",
+    "(M3){w1h5}",
+    "(w9){d2m30}",
+    "(y2024w10){d9}",
+    "(M3w10t4){s1}",
+    "(d29){M1}",
+    "(t2t3t4t5t6h8){h16}",
+    "(f51){d1}",
+    "(l11h2){h25}",
+    "(h23m30){h1}",
+    "(h12s15){s40}",
+    "(m59){m1}",
+    "(m20s20){m55}",
+    "(s0){s60}",
+    "(s30){s29}",
+    "(M2d29m0){M1d1}",
 ];
 
 #[test]
 fn runs_against_seconds(rt: HostRuntime) {
-    let horizon = Horizon::new(19_781, 19_784).expect(&rt, "a horizon");
-    for &(start, duration) in DOMAINS {
-        let basic = basic_of(&rt, start, duration);
+    let horizon = horizon(&rt, 19_781, 19_784);
+    for text in DOMAINS {
+        let basic = basic(&rt, rt.alloc(), text);
         let mut runs = Runs::new(basic, horizon);
         let mut span = runs.next();
         for second in horizon.from().0..horizon.until().0 {
@@ -367,7 +277,10 @@ fn runs_against_seconds(rt: HostRuntime) {
                 Some(run) => run.from().0 <= second,
                 None => false,
             };
-            assert!(rt; contains(&rt, &basic, second) == inside, "at {second}");
+            assert!(rt;
+                contains(&rt, &basic, second) == inside,
+                "{text} at {second}"
+            );
         }
     }
 }

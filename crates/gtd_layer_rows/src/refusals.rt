@@ -8,16 +8,17 @@ ghost use Rattle.std.specs.Prelude.{◌≡◌, ◌≤◌, vec_len, IfOk};
 ghost use Rattle.gtd_eval.specs.Cursors.{cursor_nodes, total_nodes};
 ghost use Rattle.gtd_spans.specs.Pushing.{NoneBeginsAfter};
 
-use crate::hours::friday_night;
 use crate::lists::{has_ends, list_of};
-use crate::roads::R;
+use crate::texts::horizon;
 use gtd_core::{Basic, Domain, Expr, Fault, Horizon, Op, Sec, Span, TextFault};
 use gtd_devices::{MemoryIn, MemoryOut};
 use gtd_eval::{Cursor, EverFault, next_change, next_change_ever, spans};
+use gtd_hours_text::read_hours;
 use gtd_osm::{HoursFault, domain_of};
 use gtd_records::{Direction, RecordFault, Records, open_seconds, read_records, schedule_of};
 use gtd_recur::spans_of;
 use gtd_spans::{SpanList, SpanSource, complement, meet, minus, union, within};
+use gtd_test_devices::R;
 use gtd_text::{TokenKind, print_domain, read_domain, tokens};
 use std::alloc::{AllocError, Global};
 use std::process::Abort;
@@ -50,10 +51,6 @@ pub(crate) fn gives(rt: &impl Abort, cursor: &mut Cursor, midnight: i64, ends: &
         assert!(rt; cursor.next() == Span::new(from, until));
     }
     assert!(rt; cursor.next() == None);
-}
-
-pub(crate) fn days(rt: &impl Abort, from_day: i64, to_day: i64) -> Horizon {
-    Horizon::new(from_day, to_day).expect(rt, "a horizon")
 }
 
 #[test]
@@ -175,8 +172,8 @@ fn done(
         Operation::Union => union(alloc, a, b),
         Operation::Meet => meet(alloc, a, b),
         Operation::Minus => minus(alloc, a, b),
-        Operation::Within => within(alloc, a, days(rt, 0, 1)),
-        Operation::Complement => complement(alloc, a, days(rt, 0, 1)),
+        Operation::Within => within(alloc, a, horizon(rt, 0, 1)),
+        Operation::Complement => complement(alloc, a, horizon(rt, 0, 1)),
     }
 }
 
@@ -266,7 +263,7 @@ fn spans_of_a_basic_domain(rt: HostRuntime) {
         return;
     };
     let basic = leaf(&rt, &night);
-    let horizon = days(&rt, NEW_YEAR, NEW_YEAR + 1);
+    let horizon = horizon(&rt, NEW_YEAR, NEW_YEAR + 1);
     let midnight = NEW_YEAR * DAY;
     let ends = [
         (midnight, midnight + 6 * HOUR),
@@ -286,7 +283,7 @@ fn spans_of_a_domain(rt: HostRuntime) {
     let Ok(morning) = read_domain(rt.alloc(), MORNING) else {
         return;
     };
-    let horizon = days(&rt, NEW_YEAR, NEW_YEAR + 1);
+    let horizon = horizon(&rt, NEW_YEAR, NEW_YEAR + 1);
     let midnight = NEW_YEAR * DAY;
     let ends = [
         (midnight + 8 * HOUR, midnight + 10 * HOUR),
@@ -302,14 +299,14 @@ fn spans_of_a_domain(rt: HostRuntime) {
 }
 
 // The next change over the horizon from the second's day on.
-fn change(
+pub(crate) fn change(
     rt: &impl Abort,
     alloc: Global,
     domain: &Domain,
     second: Sec,
     to_day: i64,
 ) -> Result<Option<Sec>, AllocError> {
-    let horizon = days(rt, second.day(), to_day);
+    let horizon = horizon(rt, second.day(), to_day);
     assert!(rt; horizon.from() <= second && second < horizon.until());
     next_change(alloc, domain, second, horizon)
 }
@@ -386,7 +383,7 @@ fn a_cursor(rt: HostRuntime) {
     let Ok(domain) = read_domain(rt.alloc(), TEXT) else {
         return;
     };
-    let horizon = days(&rt, 19_814, 19_815);
+    let horizon = horizon(&rt, 19_814, 19_815);
     for _ in 0..2 {
         if let Ok(mut cursor) = Cursor::open(rt.alloc(), &domain, horizon) {
             assert!(rt; cursor.nodes() == 3);
@@ -433,7 +430,7 @@ fn any_of_two_cursors(rt: HostRuntime) {
     let (Ok(night), Ok(morning)) = (read_domain(alloc, NIGHT), read_domain(alloc, MORNING)) else {
         return;
     };
-    let horizon = days(&rt, NEW_YEAR, NEW_YEAR + 1);
+    let horizon = horizon(&rt, NEW_YEAR, NEW_YEAR + 1);
     for _ in 0..2 {
         let Ok(cursors) = two_cursors(alloc, &night, &morning, horizon) else {
             return;
@@ -466,7 +463,7 @@ fn outside_a_cursor(rt: HostRuntime) {
     let (Ok(night), Ok(morning)) = (read_domain(alloc, NIGHT), read_domain(alloc, MORNING)) else {
         return;
     };
-    let horizon = days(&rt, NEW_YEAR, NEW_YEAR + 1);
+    let horizon = horizon(&rt, NEW_YEAR, NEW_YEAR + 1);
     for _ in 0..2 {
         let Ok(inner) = either(alloc, &night, &morning, horizon) else {
             return;
@@ -518,7 +515,7 @@ fn a_schedule_of_records(rt: HostRuntime) {
     let Ok(records) = records(alloc) else {
         return;
     };
-    let april = days(&rt, 19_814, 19_815);
+    let april = horizon(&rt, 19_814, 19_815);
     let midnight = 19_814 * DAY;
     let ends = [
         (midnight, midnight + 10 * HOUR),
@@ -539,7 +536,7 @@ fn open_seconds_of_records(rt: HostRuntime) {
     let Ok(records) = records(alloc) else {
         return;
     };
-    let april = days(&rt, 19_814, 19_815);
+    let april = horizon(&rt, 19_814, 19_815);
     let ends = [(0, 10 * HOUR), (14 * HOUR, DAY)];
     for _ in 0..2 {
         if let Ok(mut open) = open_seconds(alloc, &records, 17, Direction::Positive, 11, april) {
@@ -552,7 +549,7 @@ fn open_seconds_of_records(rt: HostRuntime) {
 
 #[test]
 fn hours_that_are_translated(rt: HostRuntime) {
-    let Ok(hours) = friday_night(&rt, rt.alloc()) else {
+    let Ok(hours) = read_hours(rt.alloc(), b"Fr 22:00-04:00; Sa 10:00-12:00") else {
         return;
     };
     for _ in 0..2 {

@@ -5,13 +5,10 @@ use gtd_devices::MemoryIn;
 use gtd_records::{
     Direction, RecordFault, Records, read_direction, read_number, read_records, schedule_of,
 };
+use gtd_test_devices::R;
 use std::alloc::Global;
 use std::process::Abort;
 use std::test::Fail;
-
-/// A file of two rows: 88 bytes.
-pub(crate) const R: &str =
-    "element,direction,vehicle,domain\n17,positive,0,[(M4d1){M3}]*[(h10){h4}]\n17,negative,11,\n";
 
 const HEADER: &str = "element,direction,vehicle,domain\n";
 

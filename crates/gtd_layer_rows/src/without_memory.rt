@@ -14,9 +14,9 @@ ghost use Rattle.gtd_spans.specs.Pushing.{NoneBeginsAfter};
 use crate::calendar::{end_text, known_stamp};
 use crate::devices::expect_one_failure;
 use crate::lists::{has_ends, list_of};
-use crate::refusals::{days, gives, leaf, two_cursors};
-use crate::roads::R;
+use crate::refusals::{gives, leaf, two_cursors};
 use crate::spans::{expect_sources, expect_sweep_of_two_sides, expect_sweep_outside};
+use crate::texts::horizon;
 use crate::values::{chain, field, number};
 use gtd_calendar::{StampFault, day_of, fields, read_date, read_stamp, write_date};
 use gtd_core::{
@@ -28,6 +28,7 @@ use gtd_eval::{Cursor, EverFault, holds};
 use gtd_records::{Direction, RecordFault, Records, read_direction, read_number, read_records};
 use gtd_recur::{Runs, Starts, covers};
 use gtd_spans::{SpanList, SpanSource, same, within};
+use gtd_test_devices::R;
 use gtd_text::read_domain;
 use std::alloc::Global;
 use std::io::ErrorKind;
@@ -69,7 +70,7 @@ fn expect_horizons(rt: &impl Abort) {
     assert!(rt; Horizon::new(-25_203, 0) == Err(HorizonFault::TooEarly));
     assert!(rt; Horizon::new(266_000, 266_628) == Err(HorizonFault::TooLate));
     assert!(rt; Horizon::new(-25_202, 120_897) == Err(HorizonFault::TooLong));
-    let day = days(rt, 19_723, 19_724);
+    let day = horizon(rt, 19_723, 19_724);
     assert!(rt; (day.from_day(), day.to_day()) == (19_723, 19_724));
     assert!(rt; day.from() == Sec(1_704_067_200));
     assert!(rt; day.until() == Sec(1_704_153_600));
@@ -192,7 +193,7 @@ fn expect_changes(rt: &impl Abort, list: &SpanList, day: Horizon)
 #[test]
 fn changes_of_a_list(rt: HostRuntime) -> Result<(), Fail> {
     let alloc = rt.alloc();
-    let day = days(&rt, 0, 1);
+    let day = horizon(&rt, 0, 1);
     let list = list_of(&rt, alloc, &[(10, 20)])?;
     let inner = within(alloc, &list, day)?;
     expect_changes(&rt, &inner, day);
@@ -263,7 +264,7 @@ fn sources_and_sweeps(rt: HostRuntime) -> Result<(), Fail> {
 fn expect_four_hours(rt: &impl Abort, basic: Basic) -> (u64, u64) {
     let ten = NEW_YEAR * DAY + 10 * HOUR;
     assert!(rt; covers(&basic, Sec(ten)) && !covers(&basic, Sec(ten - 1)));
-    let day = days(rt, NEW_YEAR, NEW_YEAR + 1);
+    let day = horizon(rt, NEW_YEAR, NEW_YEAR + 1);
     let mut starts = Starts::new(basic, day);
     assert!(rt; starts.next() == Some(Sec(ten - DAY)));
     assert!(rt; starts.next() == Some(Sec(ten)));
@@ -312,7 +313,7 @@ fn cursors(rt: HostRuntime) -> Result<(), Fail> {
     let alloc = rt.alloc();
     let night = read_domain(alloc, b"[(h22){h8}]".as_slice())?;
     let morning = read_domain(alloc, b"[(h8){h4}]-[(h10){h1}]".as_slice())?;
-    let day = days(&rt, NEW_YEAR, NEW_YEAR + 1);
+    let day = horizon(&rt, NEW_YEAR, NEW_YEAR + 1);
     let cursors = two_cursors(alloc, &night, &morning, day)?;
     let mut cursor = Cursor::any(alloc, cursors, day)?;
     let cursors = two_cursors(alloc, &night, &morning, day)?;

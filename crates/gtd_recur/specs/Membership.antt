@@ -1,7 +1,7 @@
 -- Which seconds a start matches, level by level, and which a basic domain contains. Letters and levels are those of GDF
 -- time domains (ISO 14825:2004), weeks those of ISO 8601; what a missing field means is this project's own. The levels are
 -- numbered as in the table of fields: 0 the year, 1 the month and the week, 2 the day, 3 the hour, 4 the minute, 5 the second.
-use Rattle.std.specs.Prelude.{◌≡◌, ◌⊎◌, ℕ, ◌-◌, ◌/◌, ◌%◌, ◌^◌, ◌<◌, Bool, true, false, not, ◌||◌, ◌==◌, if◌then◌else◌}
+use Rattle.std.specs.Prelude.{◌≡◌, ◌⊎◌, ℕ, ◌-◌, ◌/◌, ◌%◌, ◌^◌, ◌<◌, Bool, true, false, if◌then◌else◌}
 use Rattle.std.specs.Prelude.{is_some, ℤ, pos, IfSome, ◌≤ℤ◌, ◌<ℤ◌}
 use Rattle.gtd_core.specs.declared.start.StartParts.{StartParts}
 use Rattle.gtd_core.specs.FieldTable.{finest_level}

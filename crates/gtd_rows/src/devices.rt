@@ -2,15 +2,14 @@
 
 ghost use Rattle.std.specs.Prelude.{◌≡◌, ◌<◌};
 
-use crate::job::{APRIL, Job, LEAP_YEAR, R, input, run};
+use crate::job::{APRIL, Job, LEAP_YEAR, input, run};
 use crate::tests::owned;
-use gtd_devices::{HostOut, Input, MemoryIn, MemoryOut, Output, Pull, Put};
+use gtd_devices::{HostOut, Input, MemoryOut, Output};
 use gtd_records::RecordFault;
 use gtd_runs::RunFault;
+use gtd_test_devices::{Busy, Counting, Mute, R, Slow};
 use gtd_tool::{Refusal, perform, plan};
 use std::alloc::Global;
-use std::io;
-use std::io::{Error, ErrorKind, Write};
 use std::process::Abort;
 use std::test::Fail;
 
@@ -188,50 +187,6 @@ fn outputs_with_too_little_room(rt: HostRuntime) {
     }
 }
 
-// Silent for so many pulls before each pull that gives bytes or the end.
-#[derive(Drop)]
-struct Slow {
-    inner: MemoryIn,
-    silent: u32,
-    left: u32,
-}
-
-impl Input for Slow {
-    ghost failure_count = { λ slow. ⟦<MemoryIn as Input>⟧.failure_count slow.inner };
-
-    fn pull(&mut self, into: &mut [u8]) -> Pull {
-        if self.left > 0 {
-            self.left -= 1;
-            return Pull::Got(0);
-        }
-        self.left = self.silent;
-        self.inner.pull(into)
-    }
-
-    fn failures(&self) -> u64 {
-        self.inner.failures()
-    }
-}
-
-// Silent for ever, and counts its pulls.
-#[derive(Drop)]
-struct Mute {
-    pulls: u64,
-}
-
-impl Input for Mute {
-    ghost failure_count = { λ _. 0 };
-
-    fn pull(&mut self, into: &mut [u8]) -> Pull {
-        self.pulls = self.pulls.saturating_add(1);
-        Pull::Got(0)
-    }
-
-    fn failures(&self) -> u64 {
-        0
-    }
-}
-
 #[test]
 fn silence_of_999_pulls_is_waited_for(rt: HostRuntime) {
     let alloc = rt.alloc();
@@ -260,33 +215,6 @@ fn silence_for_ever_ends_at_its_thousandth_pull(rt: HostRuntime) {
     }
 }
 
-// A writer that is interrupted so often before each write, and at its flush if told to.
-#[derive(Drop)]
-struct Busy {
-    interruptions: u32,
-    left: u32,
-    flushes: bool,
-}
-
-impl Write for Busy {
-    fn write(&mut self, bytes: &[u8]) -> io::Result<usize> {
-        if self.left > 0 {
-            self.left -= 1;
-            return Err(Error::from(ErrorKind::Interrupted));
-        }
-        self.left = self.interruptions;
-        Ok(bytes.len())
-    }
-
-    fn flush(&mut self) -> io::Result<()> {
-        if self.flushes {
-            Ok(())
-        } else {
-            Err(Error::from(ErrorKind::Interrupted))
-        }
-    }
-}
-
 #[test]
 fn writers_that_are_interrupted(rt: HostRuntime) -> Result<(), Fail> {
     let alloc = rt.alloc();
@@ -300,41 +228,12 @@ fn writers_that_are_interrupted(rt: HostRuntime) -> Result<(), Fail> {
         let mut output = HostOut::new(Busy {
             interruptions,
             left: interruptions,
+            takes: true,
             flushes,
         });
         assert!(rt; run(&rt, alloc, APRIL, &mut input, &mut output) == expected);
     }
     Ok(())
-}
-
-// An output that takes all that it is offered, and counts how often it is offered something and how often it is ended.
-#[derive(Drop)]
-struct Counting {
-    puts: u64,
-    ends: u64,
-    is_ended: bool,
-}
-
-impl Output for Counting {
-    ghost is_ended = { λ counting. counting.is_ended };
-
-    ghost failure_count = { λ _. 0 };
-
-    fn put(&mut self, bytes: &[u8]) -> Put {
-        self.puts = self.puts.saturating_add(1);
-        self.is_ended = false;
-        Put::Took(bytes.len())
-    }
-
-    fn finish(&mut self) -> Put {
-        self.ends = self.ends.saturating_add(1);
-        self.is_ended = true;
-        Put::Took(0)
-    }
-
-    fn failures(&self) -> u64 {
-        0
-    }
 }
 
 // An output is offered each line once, where it takes all of it, and is ended once.
@@ -374,6 +273,7 @@ fn flushes_of_file_commands(rt: HostRuntime) -> Result<(), Fail> {
             let mut out = Busy {
                 interruptions: 0,
                 left: 0,
+                takes: true,
                 flushes,
             };
             assert!(rt;

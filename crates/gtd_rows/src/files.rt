@@ -1,9 +1,9 @@
 //! Worked command lines over record files, by `plan` and `perform`.
 
-use crate::job::R;
 use crate::runs::{has_line, lines_that_end_in};
 use crate::tests::owned;
 use gtd_devices::MemoryIn;
+use gtd_test_devices::R;
 use gtd_tool::{Refusal, perform, plan};
 use std::alloc::Global;
 use std::process::Abort;

@@ -1,11 +1,12 @@
 //! Texts and files that were cut short or made to break the program, and how they are refused.
 
-use crate::job::{APRIL, Job, LEAP_YEAR, R, run};
+use crate::job::{APRIL, Job, LEAP_YEAR, run};
 use crate::tests::{expect_refused, repeated};
 use gtd_core::{Fault, TextFault};
 use gtd_devices::{MemoryIn, MemoryOut};
 use gtd_records::{Direction, RecordFault};
 use gtd_runs::RunFault;
+use gtd_test_devices::R;
 use gtd_tool::Refusal;
 use std::alloc::Global;
 use std::process::Abort;

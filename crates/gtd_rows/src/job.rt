@@ -8,13 +8,10 @@ use gtd_migrate::run_migrate;
 use gtd_records::Direction;
 use gtd_runs::RunFault;
 use gtd_schedule::run_schedule;
+use gtd_test_devices::in_pieces;
 use gtd_year::run_year;
 use std::alloc::Global;
 use std::process::Abort;
-
-/// A file of two rows: 88 bytes.
-pub(crate) const R: &str =
-    "element,direction,vehicle,domain\n17,positive,0,[(M4d1){M3}]*[(h10){h4}]\n17,negative,11,\n";
 
 /// A run, and what it is asked for.
 #[derive(Clone, Copy)]
@@ -65,6 +62,5 @@ pub(crate) fn input(
 ) -> MemoryIn
     ensures { ⟦<MemoryIn as Input>⟧.failure_count result ≡ 0 }
 {
-    let bytes = Vec::from_slice(alloc, file).expect(rt, "memory");
-    MemoryIn::new(bytes, 7, fail_call, silent_from)
+    in_pieces(alloc, file, fail_call, silent_from).expect(rt, "memory")
 }

@@ -4,12 +4,13 @@
 //! A refused call is made once more, and must then succeed. So with ample memory it succeeds, and a refusal leaves nothing
 //! behind. A test that is refused the memory that it needs for itself ends.
 
-use crate::job::{APRIL, Job, LEAP_YEAR, R, run};
+use crate::job::{APRIL, Job, LEAP_YEAR, run};
 use crate::tests::owned;
 use gtd_core::{Expr, Op};
 use gtd_devices::{MemoryIn, MemoryOut};
 use gtd_records::RecordFault;
 use gtd_runs::RunFault;
+use gtd_test_devices::R;
 use gtd_tool::{Plan, Refusal, perform, plan};
 use std::alloc::{AllocError, Global};
 use std::process::Abort;

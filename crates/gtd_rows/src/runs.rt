@@ -1,10 +1,11 @@
 //! What the runs put for record files, and why they put nothing.
 
-use crate::job::{APRIL, Job, LEAP_YEAR, R, input, run};
+use crate::job::{APRIL, Job, LEAP_YEAR, input, run};
 use gtd_core::{Fault, TextFault};
 use gtd_devices::MemoryOut;
 use gtd_records::{Direction, RecordFault};
 use gtd_runs::RunFault;
+use gtd_test_devices::R;
 use std::alloc::Global;
 use std::process::Abort;
 use std::test::Fail;

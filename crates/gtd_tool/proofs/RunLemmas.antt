@@ -4,21 +4,18 @@ use Rattle.std.proofs.Common.{take-append-drop}
 use Rattle.std.specs.Prelude.{◌≢◌, ⊤, IfSome, IfErr, IsOk, MatchOption, OnErr, Result, Ok, Err}
 use Rattle.std.specs.Io.KnownBytes.{Keeps}
 use Rattle.std.proofs.KnownBytes.{Appends-kept, Appends-nil}
-use Rattle.gtd_roads.specs.facts.OneAnswer.{one_file}
 use Rattle.gtd_roads.specs.File.{IsFile}
 use Rattle.gtd_roads.specs.File.{IsOfFile}
 use Rattle.gtd_roads.specs.Closing.{Restriction}
 use Rattle.gtd_roads.specs.RecordFault.{RecordFault}
 use Rattle.gtd_roads.specs.RecordFault.TheVariants as records
-use Rattle.gtd_roads.specs.facts.RunFacts.{accepted_are_put, refused_put_nothing}
+use Rattle.gtd_roads.specs.facts.RunFacts.{accepted_are_put, apart, refused_put_nothing, same_found}
 use Rattle.gtd_roads.specs.Putting.{text_of}
 use Rattle.gtd_roads.specs.Run.{HasRun, TookFirst, IsUnhindered as IsRunUnhindered, failures_after_read}
 use Rattle.gtd_roads.specs.Run.{IsAccepted as IsAcceptedFor}
 use Rattle.gtd_roads.specs.RunFault.{RunFault}
 use Rattle.gtd_roads.specs.RunFault.TheVariants as run
 use Rattle.gtd_roads.specs.Subject.{Subject}
-use Rattle.gtd_roads.specs.facts.OneAnswer.{one_file}
-use Rattle.gtd_roads.specs.facts.RunFacts.{accepted_are_put, refused_put_nothing}
 use Rattle.gtd_tool.specs.Asked.{Asked}
 use Rattle.gtd_tool.specs.Running.{AppendsTextOf, IsAccepted, IsLacking, IsPartOfText, IsRefusedFile, IsText, IsUnhindered}
 use Rattle.gtd_tool.specs.Running.{IsVehicleInRange, IsYearInRange, Ran, failures_after, outcome_of, refusal_for}
@@ -44,17 +41,6 @@ if_none (Some x) P never = tt
 pub of_element : (subject : Subject) → (found : List Restriction) × (IsAcceptedFor subject found → ⊥)
     → MatchOption subject.element ⊥ (λ element. ⊤)
 of_element subject refused = if_none subject.element _ refused.1
-
--- ---- one answer of a file
-
-same_found : (bytes : List ℕ) (a b : List Restriction) → IsFile bytes (Ok a) → IsFile bytes (Ok b) → a ≡ b
-same_found bytes a b p q = ok_same (one_file bytes (Ok a) (Ok b) p q)
-  where
-    ok_same : {x y : List Restriction} → ◌≡◌ {A = Result (List Restriction) RecordFault} (Ok x) (Ok y) → x ≡ y
-    ok_same e = cc
-
-apart : (bytes : List ℕ) (found : List Restriction) (why : RecordFault) → IsFile bytes (Ok found) → IsFile bytes (Err why) → ⊥
-apart bytes found why p q = let e = one_file bytes (Ok found) (Err why) p q in cc
 
 -- ---- a first part
 

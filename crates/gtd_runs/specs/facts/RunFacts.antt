@@ -98,14 +98,14 @@ answer_ended (Err Output) progress ended h = tt
 answer_ended (Err Memory) progress ended h = tt
 
 -- two lists of restrictions of one file are one
-same_found : (bytes : List ℕ) (a b : List Restriction) → IsFile bytes (Ok a) → IsFile bytes (Ok b) → a ≡ b
+pub same_found : (bytes : List ℕ) (a b : List Restriction) → IsFile bytes (Ok a) → IsFile bytes (Ok b) → a ≡ b
 same_found bytes a b p q = ok_same (one_file bytes (Ok a) (Ok b) p q)
   where
     ok_same : {x y : List Restriction} → ◌≡◌ {A = Result (List Restriction) RecordFault} (Ok x) (Ok y) → x ≡ y
     ok_same e = cc
 
 -- a file has no fault
-apart : (bytes : List ℕ) (found : List Restriction) (why : RecordFault) → IsFile bytes (Ok found) → IsFile bytes (Err why) → ⊥
+pub apart : (bytes : List ℕ) (found : List Restriction) (why : RecordFault) → IsFile bytes (Ok found) → IsFile bytes (Err why) → ⊥
 apart bytes found why p q = let e = one_file bytes (Ok found) (Err why) p q in cc
 
 module _ (IsAccepted : List Restriction → Type 0) (IsText : List Restriction → List (List ℕ) → Type 0) where

@@ -1,0 +1,24 @@
+//! Values of the tests, by their texts and numbers.
+
+use gtd_core::{Basic, Domain, Expr, Horizon};
+use gtd_text::read_domain;
+use std::alloc::Global;
+use std::process::Abort;
+
+/// The domain that this text is.
+pub(crate) fn domain(rt: &impl Abort, alloc: Global, text: &str) -> Domain {
+    read_domain(alloc, text.as_bytes()).expect(rt, "a domain")
+}
+
+/// The basic domain that this text is.
+pub(crate) fn basic(rt: &impl Abort, alloc: Global, text: &str) -> Basic {
+    match domain(rt, alloc, text).expr() {
+        Expr::Leaf(basic) => *basic,
+        Expr::Join(..) => panic!(rt; "{text} is a join"),
+    }
+}
+
+/// The days from one up to but not including another.
+pub(crate) fn horizon(rt: &impl Abort, from_day: i64, to_day: i64) -> Horizon {
+    Horizon::new(from_day, to_day).expect(rt, "a horizon")
+}
