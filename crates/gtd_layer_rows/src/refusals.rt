@@ -9,8 +9,8 @@ ghost use Rattle.gtd_eval.specs.Cursors.{cursor_nodes, total_nodes};
 ghost use Rattle.gtd_spans.specs.Pushing.{NoneBeginsAfter};
 
 use crate::lists::{has_ends, list_of};
-use crate::texts::horizon;
-use gtd_core::{Basic, Domain, Expr, Fault, Horizon, Op, Sec, Span, TextFault};
+use crate::texts::{horizon, leaf};
+use gtd_core::{Domain, Expr, Fault, Horizon, Op, Sec, Span, TextFault};
 use gtd_devices::{MemoryIn, MemoryOut};
 use gtd_eval::{Cursor, EverFault, next_change, next_change_ever, spans};
 use gtd_hours_text::read_hours;
@@ -248,13 +248,6 @@ fn complements_in_a_day(rt: HostRuntime) {
     expect_list(&rt, alloc, complement, &[(10, 20)], &[], &ends);
     let gaps = [(1, 2), (3, 4), (5, 6), (7, 8), (9, 86_400)];
     expect_list(&rt, alloc, complement, &HOURS, &[], &gaps);
-}
-
-pub(crate) fn leaf(rt: &impl Abort, domain: &Domain) -> Basic {
-    match domain.expr() {
-        Expr::Leaf(basic) => *basic,
-        Expr::Join(..) => panic!(rt; "not basic"),
-    }
 }
 
 #[test]

@@ -10,12 +10,17 @@ pub(crate) fn domain(rt: &impl Abort, alloc: Global, text: &str) -> Domain {
     read_domain(alloc, text.as_bytes()).expect(rt, "a domain")
 }
 
+/// The basic domain that the domain is.
+pub(crate) fn leaf(rt: &impl Abort, domain: &Domain) -> Basic {
+    match domain.expr() {
+        Expr::Leaf(basic) => *basic,
+        Expr::Join(..) => panic!(rt; "not basic"),
+    }
+}
+
 /// The basic domain that this text is.
 pub(crate) fn basic(rt: &impl Abort, alloc: Global, text: &str) -> Basic {
-    match domain(rt, alloc, text).expr() {
-        Expr::Leaf(basic) => *basic,
-        Expr::Join(..) => panic!(rt; "{text} is a join"),
-    }
+    leaf(rt, &domain(rt, alloc, text))
 }
 
 /// The days from one up to but not including another.

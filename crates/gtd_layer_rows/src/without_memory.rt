@@ -14,7 +14,7 @@ ghost use Rattle.gtd_spans.specs.Pushing.{NoneBeginsAfter};
 use crate::calendar::{end_text, known_stamp};
 use crate::devices::expect_one_failure;
 use crate::lists::{has_ends, list_of};
-use crate::refusals::{gives, leaf, two_cursors};
+use crate::refusals::{gives, two_cursors};
 use crate::spans::{expect_sources, expect_sweep_of_two_sides, expect_sweep_outside};
 use crate::texts::horizon;
 use crate::values::{chain, field, number};
