@@ -25,9 +25,9 @@ A text has a name in capitals, and is used as `$NAME` in rows and in the lines o
     text NAME:
         each line of it indented by four spaces; it may have none
 
-In texts, rows and what is wanted, `\t`, `\n`, `\r`, `\\`, `\uXXXX` and `\xXX` (a byte) stand for what they name, and
-`\39{{TEXT}}` for 39 times the text, also before a column is split. It ends at the first `}}` that no brace follows. Empty lines,
-and lines that begin with `#`, are left out.
+In texts, rows, names of files and what is wanted, `\t`, `\n`, `\r`, `\\`, `\uXXXX` and `\xXX` (a byte) stand for what they
+name, and `\39{{TEXT}}` for 39 times the text, also before a column is split. It ends at the first `}}` that no brace follows.
+Empty lines, and lines that begin with `#`, are left out.
 
 Run it after `rt ci`, which builds the programs. GTD and GTDESK in the environment name others. Usage: tests/rows.py [FILE..]
 """
@@ -93,7 +93,7 @@ def filled(word, columns, texts, room):
     made = b""
     for plain, number, times, is_file, name in re.findall(r"([^{]+|\{(?!\d))|\{(\d+)(?:\*(\d+)|(\^)([^}]*))?\}", word):
         content = unescaped(columns[int(number)] if number else plain, texts) * int(times or 1)
-        made += keep(room, name or "r.csv", content) if is_file else content
+        made += keep(room, unescaped(name, texts).decode() or "r.csv", content) if is_file else content
     return [made]
 
 
