@@ -1,117 +1,173 @@
 #!/usr/bin/env bash
 # Runs each test of refused memory with its first growth refused, then with its second, and so on to its last. Does the same
-# for each command of the program. Runs each test of calls that take no memory with all growths in those calls refused. Run
-# it after `rt ci`, which proves and builds what it runs. It needs a C compiler.
+# for each command of the programs. Runs each test of calls that take no memory with all growths in those calls refused. Run
+# it after `rt ci`, which proves and builds what it runs; GTD and GTDESK in the environment name other programs. It needs a C
+# compiler.
 set -u
 ulimit -c 0
 here=$(cd "$(dirname "$0")" && pwd)
-layer_tests=$here/../crates/gtd_layer_rows/out/gtd_layer_rows_tests
-command_tests=$here/../crates/gtd_rows/out/gtd_rows_tests
-desk_tests=$here/../crates/gtd_desk_rows/out/gtd_desk_rows_tests
-program=$here/../crates/gtd/out/gtd
-for built in "$layer_tests" "$command_tests" "$desk_tests" "$program"; do
+crates=$here/../crates
+tests=$crates/gtd_layer_rows/out/gtd_layer_rows_tests
+gtd=$(realpath -m "${GTD:-$crates/gtd/out/gtd}")
+gtdesk=$(realpath -m "${GTDESK:-$crates/gtdesk/out/gtdesk}")
+for built in "$tests" "$gtd" "$gtdesk"; do
     [ -x "$built" ] || { echo "nothing at $built: run rt ci first" >&2; exit 1; }
 done
 room=$(mktemp -d)
 trap 'rm -rf "$room"' EXIT
 "${CC:-cc}" -O2 -shared -fPIC -o "$room/refuse.so" "$here/refuse_growth.c" || exit 1
 
-refused=0 failed=0
+passed=0 failed=0
 
-# tests_refused TESTS: this program's tests of refused memory, with their growths refused in turn.
-tests_refused() {
-    local names name
-    names=$("$1" --list | sed -n 's/^\(refusals::.*\): test$/\1/p')
-    [ -n "$names" ] || { echo "no tests of memory refused in $1" >&2; exit 1; }
-    for name in $names; do
-        for ((growth = 1; ; growth++)); do
-            LD_PRELOAD=$room/refuse.so REFUSE_GROWTH=$growth "$1" "$name" > "$room/out" 2> "$room/err"
-            status=$?
-            said=$(< "$room/out") told=$(< "$room/err")
-            if [ "$status" != 0 ] || [[ $said != *'test result: ok'* ]]; then
-                failed=$((failed + 1))
-                echo "FAILED $name, growth $growth: status $status, said '$said$told'"
-            fi
-            # A success does not end the loop: a call can do without some growths.
-            [[ $told == *'growth refused'* ]] || break
-            refused=$((refused + 1))
-        done
-        echo "${name#refusals::}: $((growth - 1))"
-        # Each test takes memory: if no growth was refused, nothing was tested.
-        [ "$growth" != 1 ] || failed=$((failed + 1))
-    done
+# judge NAME CHECK: the last run is as it must be if the check holds.
+judge() {
+    if "$2"; then
+        passed=$((passed + 1))
+    else
+        failed=$((failed + 1))
+        echo "FAILED $1: status $status, said '$(head -c 1000 "$room/out")', told '$(head -c 1000 "$room/err")'"
+    fi
 }
 
-tests_refused "$layer_tests"
-tests_refused "$command_tests"
-tests_refused "$desk_tests"
-
-# The number of bytes that a test asks for before and after the calls that must take no memory.
-switch=7654321
-
-# tests_without TESTS: this program's tests of calls that take no memory. The request before the calls is refused, and must be
-# the only growth up to the next such request.
-tests_without() {
-    local names name
-    names=$("$1" --list | sed -n 's/^\(without_memory::.*\): test$/\1/p')
-    [ -n "$names" ] || { echo "no tests without memory in $1" >&2; exit 1; }
-    for name in $names; do
-        LD_PRELOAD=$room/refuse.so REFUSE_BETWEEN=$switch "$1" "$name" > "$room/out" 2> "$room/err"
-        status=$?
-        said=$(< "$room/out") told=$(< "$room/err")
-        if [ "$status" != 0 ] || [[ $said != *'test result: ok'* ]] || [ "$told" != 'growth refused' ]; then
-            failed=$((failed + 1))
-            echo "FAILED $name, without memory: status $status, said '$said$told'"
-        fi
-        refused=$((refused + 1))
-    done
-    echo "without memory: $(wc -w <<< "$names") tests"
+# run VARIABLE=NUMBER PROGRAM WORDS..: the program, with the growths refused that the variable names.
+run() {
+    env LD_PRELOAD="$room/refuse.so" "$@" < "$file" > "$room/out" 2> "$room/err"
+    status=$?
 }
 
-tests_without "$layer_tests"
-tests_without "$command_tests"
-tests_without "$desk_tests"
-
-# as_before: the last run of the program ended as it does with all its memory, though it may report a refused growth.
-as_before() {
-    [ "$status" = 0 ] && [ "${told#growth refused}" = '' ] && cmp -s "$room/out" "$room/whole"
+# refused: some growth of the last run was refused.
+refused() {
+    grep -qx 'growth refused' "$room/err"
 }
 
-# in_want: the last run reported refused memory, and had printed a first part of what it prints.
-in_want() {
-    [ "$status" = 3 ] && [ "$told" = $'growth refused\nfault NoMemory' ] \
-        && cmp -s -n "$(stat -c %s "$room/out")" "$room/out" "$room/whole"
+# names_of MODULE: the tests in modules of this name.
+names_of() {
+    local names
+    names=$("$tests" --list | sed -n "s/^\(\([a-z_]*::\)*$1::.*\): test$/\1/p")
+    [ -n "$names" ] || { echo "no tests in modules $1" >&2; exit 1; }
+    echo "$names"
 }
 
-# program_refused WORDS..: the command, with its growths refused in turn.
-program_refused() {
-    "$program" "$@" > "$room/whole" || failed=$((failed + 1))
+test_passed() {
+    [ "$status" = 0 ] && grep -q 'test result: ok' "$room/out"
+}
+
+# in_turn NAME CHECK PROGRAM WORDS..: the program, with its growths refused in turn. A success does not end the loop: a call can
+# do without some growths.
+in_turn() {
+    local name=$1 check=$2 growth
+    shift 2
     for ((growth = 1; ; growth++)); do
-        LD_PRELOAD=$room/refuse.so REFUSE_GROWTH=$growth "$program" "$@" > "$room/out" 2> "$room/err"
-        status=$?
-        told=$(< "$room/err")
-        as_before || in_want || {
-            failed=$((failed + 1))
-            echo "FAILED gtd $1, growth $growth: status $status, told '$told'"
-        }
-        [[ $told == *'growth refused'* ]] || break
-        refused=$((refused + 1))
+        run REFUSE_GROWTH=$growth "$@"
+        judge "$name, growth $growth" "$check"
+        refused || break
     done
-    echo "gtd $1: $((growth - 1))"
-    [ "$growth" != 1 ] || failed=$((failed + 1))
+    echo "$name: $((growth - 1))"
+    # Each of them takes memory: if no growth was refused, nothing was tested.
+    [ "$growth" != 1 ] || { failed=$((failed + 1)); echo "FAILED $name: it takes no memory"; }
 }
 
-domain='[(M4d1){M3}]*[(h10){h4}]'
-file=$room/r.csv
-printf '%s\n' element,direction,vehicle,domain "17,positive,0,$domain" 17,negative,11, > "$file"
-program_refused check "$domain"
-program_refused canon "$domain"
-program_refused at "$domain" 2024-04-01T10:00:00
-program_refused next "$domain" 2024-04-01T10:00:00 2024-05-01
-program_refused ever "$domain" 2024-04-01T10:00:00
-program_refused schedule "$file" 2024-04-01 2024-05-01 11
-program_refused year "$file" 17 positive 11 2024
-program_refused migrate "$file"
+file=/dev/null
+names=$(names_of refusals) || exit 1
+for name in $names; do
+    in_turn "${name/refusals::/}" test_passed "$tests" "$name"
+done
 
-echo "refusals: $refused growths refused, $failed failed"
+# The number of bytes that a test asks for before and after the calls that must take no memory. The request before them is
+# refused, and must be the only growth up to the next such request.
+switch=7654321
+only_the_first() {
+    test_passed && [ "$(< "$room/err")" = 'growth refused' ]
+}
+names=$(names_of without_memory) || exit 1
+for name in $names; do
+    run REFUSE_BETWEEN=$switch "$tests" "$name"
+    judge "${name/without_memory::/}, without memory" only_the_first
+done
+echo "without memory: $(wc -w <<< "$names") tests"
+
+# as_before: the last run of the program ended as it does with all its memory.
+as_before() {
+    [ "$status" = "$whole_status" ] && cmp -s "$room/out" "$room/whole" && cmp -s "$room/told" "$room/whole_err"
+}
+
+# is_start A B: the file A is a first part of B.
+is_start() {
+    cmp -s -n "$(stat -c %s "$1")" "$1" "$2"
+}
+
+# in_want: the last run reported refused memory, and had written a first part of what it writes.
+in_want() {
+    [ "$status" = 3 ] && [ "$(tail -n 1 "$room/told")" = "$no_memory" ] || return 1
+    sed '$d' "$room/told" > "$room/rest"
+    is_start "$room/out" "$room/whole" && is_start "$room/rest" "$room/whole_err"
+}
+
+as_before_or_in_want() {
+    grep -vx 'growth refused' "$room/err" > "$room/told"
+    as_before || { refused && in_want; }
+}
+
+# program_refused STATUS WORDS..: the command of `program`, which ends so with all its memory, with its growths refused in turn.
+# The record file is standard input, too.
+program_refused() {
+    local name="${program##*/} ${*:2}"
+    "$program" "${@:2}" < "$file" > "$room/whole" 2> "$room/whole_err"
+    whole_status=$?
+    [ "$whole_status" = "$1" ] || { failed=$((failed + 1)); echo "FAILED $name: status $whole_status"; }
+    in_turn "$name" as_before_or_in_want "$program" "${@:2}"
+}
+
+cd "$room" || exit 1
+domain='[(M4d1){M3}]*[(h10){h4}]'
+moment=2024-04-01T10:00:00
+file=$room/r.csv
+printf '%s\n' element,direction,vehicle,domain "17,positive,0,$domain" 17,negative,11, > r.csv
+printf '%s\n' element,direction,vehicle,domain 17,up,0, '17,both,0,(h25)' '17,both,0,(h0){h24}' > faulty.csv
+printf '%s\n' element,direction,vehicles,hours '1,both,0,Fr 22:00-04:00' '2,positive,11;12,' > hours.csv
+printf '%s\n' element,direction,vehicles,hours '1,both,0,Apr 10-31' 1,up,0, > faulty_hours.csv
+
+program=$gtd no_memory='fault NoMemory'
+program_refused 0 check "$domain"
+program_refused 1 check '[(h25){h1}]'
+program_refused 0 canon "$domain"
+program_refused 0 at "$domain" $moment
+program_refused 1 at "$domain" now
+program_refused 0 next "$domain" $moment 2024-05-01
+program_refused 0 ever "$domain" $moment
+program_refused 1 ever '(y2024){d1}' $moment
+program_refused 2 canon
+program_refused 0 schedule r.csv 2024-04-01 2024-05-01 11
+program_refused 1 schedule faulty.csv 2024-04-01 2024-05-01 11
+program_refused 3 schedule gone.csv 2024-04-01 2024-05-01 11
+program_refused 0 year r.csv 17 positive 11 2024
+program_refused 1 year r.csv 18 positive 11 2024
+program_refused 0 migrate r.csv
+program_refused 1 migrate faulty.csv
+
+program=$gtdesk no_memory='gtdesk: memory: refused by the system'
+program_refused 0 now r.csv $moment 11
+program_refused 0 now - $moment 11
+program_refused 1 now faulty.csv $moment 11
+program_refused 3 now gone.csv $moment 11
+program_refused 1 now r.csv now 11
+program_refused 0 faults r.csv
+program_refused 1 faults faulty.csv
+program_refused 1 faults --warn faulty.csv
+program_refused 0 words "$domain"
+program_refused 1 words '[(h25){h1}]'
+program_refused 0 hours 'Mo-Fr 07:00-09:00,16:00-18:00; Dec 25 off'
+program_refused 1 hours 'Mo-Fr PH off'
+program_refused 0 hours --of '(t2t3t4t5t6h0m0){d1}*[(h7m0){m120}+(h16m0){m120}]'
+program_refused 1 hours --of '(h7){h2}'
+program_refused 0 records hours.csv
+program_refused 1 records faulty_hours.csv
+program_refused 0 picture r.csv 17 positive 12 2024
+program_refused 1 picture r.csv 18 positive 12 2024
+program_refused 0 picture-domain "$domain" 2024
+program_refused 0 help now
+program_refused 0 --version
+program_refused 2 now r.csv
+
+echo "refusals: $passed passed, $failed failed"
 [ "$failed" = 0 ]

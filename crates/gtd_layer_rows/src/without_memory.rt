@@ -46,7 +46,7 @@ const NEW_YEAR: i64 = 19_723;
 const SWITCH: usize = 7_654_321;
 
 // If the script runs the test: the first call makes all growths fail from here on, and the second ends this.
-fn switch(alloc: Global) {
+pub(crate) fn switch(alloc: Global) {
     if let Ok(mut bytes) = Vec::<u8>::with_capacity(alloc, SWITCH) {
         let _ = bytes.push(1);
     }

@@ -1,24 +1,13 @@
-//! The calls that take no memory, while every growth is refused: a request for `SWITCH` bytes and all growths after it, up to
-//! the next such request. Each test asserts the same answers twice, first with ample memory. `tests/refusals.sh` refuses the
-//! growths, and checks that the first request was the only one.
+//! The calls of commands that take no memory, while every growth is refused. Each test asserts the same answers twice, first with
+//! ample memory, but for a text that is put once.
 
-use crate::common::planned;
+use crate::gtdesk::common::planned;
+use crate::without_memory::switch;
 use gtd_desk::{Ending, NoDomain, Plan, Refusal, WordFault, perform};
 use gtd_devices::{MemoryIn, MemoryOut};
 use gtd_records::RecordFault;
 use gtd_test_devices::R;
-use std::alloc::Global;
 use std::process::Abort;
-
-/// A number of bytes that nothing else asks for.
-const SWITCH: usize = 7_654_321;
-
-// If the script runs the test: the first call makes all growths fail from here on, and the second ends this.
-fn switch(alloc: Global) {
-    if let Ok(mut bytes) = Vec::<u8>::with_capacity(alloc, SWITCH) {
-        let _ = bytes.push(1);
-    }
-}
 
 fn expect_statuses(rt: &impl Abort) {
     assert!(rt; Ending::Done.status() == 0);

@@ -2,7 +2,7 @@
 
 ghost use Rattle.std.specs.Prelude.{◌≡◌, ◌<◌};
 
-use crate::common::{performed, planned};
+use crate::gtdesk::common::{performed, planned};
 use gtd_desk::{Ending, Plan, Refusal, perform};
 use gtd_devices::{HostOut, Input, MemoryIn, MemoryOut, Output};
 use gtd_records::RecordFault;

@@ -1,8 +1,9 @@
-//! Files of opening hours: the record file that is printed, and the lists of their faults.
+//! Files of opening hours over devices that fail or have too little room.
 
-use crate::common::{expect_put, planned, told};
-use gtd_desk::{Ending, Plan, Refusal, perform};
+use crate::gtdesk::common::planned;
+use gtd_desk::{Ending, Refusal, perform};
 use gtd_devices::{MemoryIn, MemoryOut};
+use gtd_records::RecordFault;
 
 const WORDS: [&str; 2] = ["records", "r.csv"];
 
@@ -16,24 +17,6 @@ const RECORDS: &str = "element,direction,vehicles,domain\n\
     17,positive,0,[[(t2t3t4t5t6h0m0){d1}]*[(h7m0){m120}]]\n\
     17,negative,11;12,\n\
     18,both,!11,[[[(t2t3t4t5t6h0m0){d1}]*[[(h7m0){m120}]+[(h16m0){m120}]]]-[(M12d25h0m0){d1}]]\n";
-
-// Files without faults, and their record files.
-static FILES: [(&str, &str); 4] = [
-    (HOURS, RECORDS),
-    (
-        "element,direction,vehicles,hours\n",
-        "element,direction,vehicles,domain\n",
-    ),
-    (
-        "\u{feff}element,direction,vehicles,hours\r\n1,both,05,off",
-        "element,direction,vehicles,domain\n1,both,5,[(h0m0){s0}]\n",
-    ),
-    (
-        "\"element\",direction,vehicles,hours\n\n2,both,0,\"24/7\"\n1,both,0,Fr 22:00-04:00\n",
-        "element,direction,vehicles,domain\n2,both,0,[(h0m0){d1}]\n\
-            1,both,0,[[(t6h22m0){d1}]*[(h22m0){m360}]]\n",
-    ),
-];
 
 const FAULTY: &str = "element,direction,vehicles,hours\n\
     x,both,0,24/7\n\
@@ -52,58 +35,6 @@ const LIST: &str = "r.csv:2: row 1: Element\n    x\n    ^\n\
     r.csv:7: row 6: FieldCount\n\
     r.csv:8: row 7: Hours TooMany at 0\n    1800-2056/2\n    ^\n\
     r.csv:9: row 8: Hours Unsupported at 19\n    Mo-Fr 08:00-18:00; PH off\n                       ^\n";
-
-// Faulty files, and the lists of their faults.
-static FAULTS: [(&str, &str); 4] = [
-    (FAULTY, LIST),
-    (
-        "element,direction,vehicle,hours\n1,both,0,24/7\n",
-        "r.csv:1: Header\n    found:    element,direction,vehicle,hours\n    \
-            expected: element,direction,vehicles,hours\n",
-    ),
-    (
-        "",
-        "r.csv:1: Header\n    found:    \n    expected: element,direction,vehicles,hours\n",
-    ),
-    (
-        "element,direction,vehicles,hours\n1,both,0,Mo-Fr[1]\n",
-        "r.csv:2: row 1: Hours Unexpected at 5\n    Mo-Fr[1]\n         ^\n",
-    ),
-];
-
-#[test]
-fn record_files(rt: HostRuntime) {
-    for &(file, text) in &FILES {
-        expect_put(&rt, rt.alloc(), &WORDS, file.as_bytes(), Ending::Done, text);
-    }
-}
-
-#[test]
-fn lists_of_faults(rt: HostRuntime) {
-    let alloc = rt.alloc();
-    let plan = planned(&rt, alloc, &WORDS);
-    for &(file, list) in &FAULTS {
-        let (done, put, errors) = told(&rt, alloc, &plan, file.as_bytes());
-        assert!(rt; done == Ok(Ending::FaultsListed));
-        assert!(rt; put.is_empty());
-        assert!(rt; errors.as_slice() == list.as_bytes(), "{list}");
-    }
-}
-
-#[test]
-fn plans_of_records(rt: HostRuntime) {
-    let table: [(&[&str], &str); 3] = [
-        (&["records", "r.csv"], "r.csv"),
-        (&["records", "-"], "-"),
-        (&["records", "--", "--of"], "--of"),
-    ];
-    for (words, path) in table {
-        match planned(&rt, rt.alloc(), words) {
-            Plan::Records { file } => assert!(rt; file.as_str() == path, "{words:?}"),
-            _ => panic!(rt; "another plan"),
-        }
-    }
-}
 
 // With less room than the record file takes, its first bytes stand. The list of faults does not ask for that room.
 #[test]
@@ -149,7 +80,7 @@ fn inputs_that_fail(rt: HostRuntime) {
         let mut output = MemoryOut::new(alloc, 1_000, 1_000, None).expect(&rt, "memory");
         let mut errors = MemoryOut::new(alloc, 1_000, 1_000, None).expect(&rt, "memory");
         let done = perform(alloc, &plan, &mut input, &mut output, &mut errors);
-        assert!(rt; done == Err(Refusal::Records(gtd_records::RecordFault::ReadFault)));
+        assert!(rt; done == Err(Refusal::Records(RecordFault::ReadFault)));
         assert!(rt; output.bytes().is_empty());
         assert!(rt; errors.bytes().is_empty());
     }

@@ -2,8 +2,8 @@
 
 ghost use Rattle.std.specs.Prelude.{◌≡◌, ◌<◌};
 
-use crate::job::{APRIL, Job, LEAP_YEAR, input, run};
-use crate::tests::owned;
+use crate::gtd::job::{APRIL, Job, LEAP_YEAR, input, run};
+use crate::texts::owned;
 use gtd_devices::{HostOut, Input, MemoryOut, Output};
 use gtd_records::RecordFault;
 use gtd_runs::RunFault;

@@ -4,7 +4,7 @@
 //! A refused call is made once more, and must then succeed. So with ample memory it succeeds, and a refusal leaves nothing
 //! behind. A test that is refused the memory that it needs for itself ends.
 
-use crate::common::owned;
+use crate::texts::owned;
 use gtd_desk::{Ending, Plan, Refusal, perform, plan};
 use gtd_devices::{MemoryIn, MemoryOut};
 use gtd_test_devices::R;

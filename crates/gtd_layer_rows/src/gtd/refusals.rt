@@ -4,8 +4,9 @@
 //! A refused call is made once more, and must then succeed. So with ample memory it succeeds, and a refusal leaves nothing
 //! behind. A test that is refused the memory that it needs for itself ends.
 
-use crate::job::{APRIL, Job, LEAP_YEAR, run};
-use crate::tests::owned;
+use crate::gtd::job::{APRIL, Job, LEAP_YEAR, run};
+use crate::gtd::plans::carry_out;
+use crate::texts::owned;
 use gtd_core::{Expr, Op};
 use gtd_devices::{MemoryIn, MemoryOut};
 use gtd_records::RecordFault;
@@ -179,6 +180,30 @@ fn expect_printed(rt: &impl Abort, alloc: Global, words: &[&str], text: &[u8]) {
         }
     }
     panic!(rt; "refused twice");
+}
+
+// If memory is refused, nothing of a canonical text is written.
+#[test]
+fn all_of_a_text_or_nothing(rt: HostRuntime) {
+    let alloc = rt.alloc();
+    for (text, canonical) in [
+        ("[(m30h07){m30h1}]", "[(h7m30){h1m30}]\n"),
+        (
+            "(h1){h1}+(h2){h1}*(h3){h1}",
+            "[[(h1){h1}]+[[(h2){h1}]*[(h3){h1}]]]\n",
+        ),
+    ] {
+        let Ok(mut out) = Vec::with_capacity(alloc, 100) else {
+            return;
+        };
+        match carry_out(alloc, &["canon", text], &mut out) {
+            Ok(()) => assert!(rt; out.as_slice() == canonical.as_bytes()),
+            Err(refusal) => {
+                assert!(rt; refusal == Refusal::Memory);
+                assert!(rt; out.is_empty());
+            }
+        }
+    }
 }
 
 // Other command lines, and what they print.

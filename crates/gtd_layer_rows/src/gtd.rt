@@ -1,0 +1,10 @@
+//! Commands and runs of `gtd`: plans and answers that no printed text shows, devices that fail, and refused memory.
+
+mod counts;
+mod devices;
+mod faults;
+mod job;
+mod plans;
+mod refusals;
+mod without_memory;
+mod writers;
