@@ -175,10 +175,14 @@ def main(files):
         for room in rooms:
             keep(room, "roads.csv", b"")
         for path in files:
-            for why in pool.map(lambda case: judged(rooms, case), cases(path)):
-                passed, failed = passed + (not why), failed + bool(why)
-                if why:
-                    print(why)
+            try:
+                for why in pool.map(lambda case: judged(rooms, case), cases(path)):
+                    passed, failed = passed + (not why), failed + bool(why)
+                    if why:
+                        print(why)
+            except Malformed as fault:
+                failed += 1
+                print(f"FAILED {os.path.basename(path)}: {fault}")
     print(f"rows: {passed} passed, {failed} failed")
     return 1 if failed or not passed else 0
 
