@@ -168,6 +168,9 @@ def judged(rooms, case):
 def main(files):
     """Tries all rows of these files, or of all."""
     files = files or sorted(glob.glob(os.path.join(HERE, "rows", "*.rows")))
+    for program in PROGRAMS.values():
+        if not os.path.exists(program):
+            sys.exit(f"no program at {program}: run rt ci first")
     lanes = len(os.sched_getaffinity(0))
     passed = failed = 0
     with tempfile.TemporaryDirectory() as top, concurrent.futures.ThreadPoolExecutor(lanes) as pool:
