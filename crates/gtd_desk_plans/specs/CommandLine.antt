@@ -1,13 +1,13 @@
 -- The command line as it is described to `clap`. The specification of that library says which of the given words is which
 -- word of a command.
-use Rattle.std.specs.Prelude.{◌≡◌, ℕ, Bool, true, false, List, [], Some, codes}
+use Rattle.std.specs.Prelude.{◌≡◌, ℕ, Bool, true, false, List, [], ◌∷◌, Some, Result, IfOk, codes, fold}
 use Rattle.clap.specs.Walk.{Rule}
-use Rattle.clap.specs.Simple.{App, new_app, new_rule, new_shape, subcommand_of, subcommand_rows_of, with_rule, with_subcommand}
+use Rattle.clap.specs.Simple.{App, app_of, new_app, new_rule, new_shape, subcommand_of, subcommand_rows_of, with_rule}
+use Rattle.clap.specs.Simple.{with_subcommand}
 use Rattle.clap.specs.Kinds.{IsAmong}
 use Rattle.clap.specs.Faults.{fault_of}
 use Rattle.clap.specs.declared.builder.action.ArgAction.TheVariants.{Set, SetTrue}
 use Rattle.clap.specs.declared.builder.command.Command.{Command}
-use Rattle.clap.specs.declared.builder.command.Command.TheViews.{out-Command}
 use Rattle.clap.specs.declared.error.kind.ErrorKind.{ErrorKind}
 use Rattle.clap.specs.declared.parser.matches.ArgMatches.{ArgMatches}
 use Rattle.clap.specs.declared.error.kind.ErrorKind.TheVariants.{DisplayHelp, DisplayVersion, OutOfMemory}
@@ -32,62 +32,44 @@ free_word_rule name = record (new_rule name) { action = Some Set }
 abbrev pub option_rule : Text → Rule
 option_rule name = record (new_rule name) { long = Some name; value_names = 1; action = Some Set }
 
--- The command has no argument that its subcommands share.
-abbrev pub IsLocal : Command → Type 0
-IsLocal command = (out-Command command).has_globals ≡ false
+-- The command is this one, unless memory was refused while it was built.
+abbrev pub Builds : {E : Type 0} → App → Result Command E → Type 0
+Builds app built = IfOk built (λ command. app_of command ≡ app)
+
+-- The command of this name that takes these words and options.
+abbrev pub command_of : Text → List Rule → App
+command_of name rules = fold with_rule (new_app name) rules
 
 -- `now FILE MOMENT VEHICLE`
-abbrev pub bare_now : App
-bare_now = new_app (codes "now")
-
 abbrev pub now_app : App
-now_app =
-    with_rule (with_rule (with_rule bare_now (word_rule (codes "FILE"))) (word_rule (codes "MOMENT")))
-    (word_rule (codes "VEHICLE"))
+now_app = command_of (codes "now") (word_rule (codes "FILE") ∷ word_rule (codes "MOMENT") ∷ word_rule (codes "VEHICLE") ∷ [])
 
 -- `faults [--warn] FILE`
-abbrev pub bare_faults : App
-bare_faults = new_app (codes "faults")
-
 abbrev pub faults_app : App
-faults_app = with_rule (with_rule bare_faults (flag_rule (codes "warn"))) (word_rule (codes "FILE"))
+faults_app = command_of (codes "faults") (flag_rule (codes "warn") ∷ word_rule (codes "FILE") ∷ [])
 
 -- `words DOMAIN`
-abbrev pub bare_words : App
-bare_words = new_app (codes "words")
-
 abbrev pub words_app : App
-words_app = with_rule bare_words (word_rule (codes "DOMAIN"))
+words_app = command_of (codes "words") (word_rule (codes "DOMAIN") ∷ [])
 
 -- `hours [TEXT] [--of DOMAIN]`, of which one is to be given
-abbrev pub bare_hours : App
-bare_hours = new_app (codes "hours")
-
 abbrev pub hours_app : App
-hours_app = with_rule (with_rule bare_hours (free_word_rule (codes "TEXT"))) (option_rule (codes "of"))
+hours_app = command_of (codes "hours") (free_word_rule (codes "TEXT") ∷ option_rule (codes "of") ∷ [])
 
 -- `records FILE`
-abbrev pub bare_records : App
-bare_records = new_app (codes "records")
-
 abbrev pub records_app : App
-records_app = with_rule bare_records (word_rule (codes "FILE"))
+records_app = command_of (codes "records") (word_rule (codes "FILE") ∷ [])
 
 -- `picture FILE ELEMENT DIRECTION VEHICLE YEAR`
-abbrev pub bare_picture : App
-bare_picture = new_app (codes "picture")
-
 abbrev pub picture_app : App
 picture_app =
-    with_rule (with_rule (with_rule (with_rule (with_rule bare_picture (word_rule (codes "FILE"))) (word_rule (codes "ELEMENT")))
-    (word_rule (codes "DIRECTION"))) (word_rule (codes "VEHICLE"))) (word_rule (codes "YEAR"))
+    command_of (codes "picture")
+    (word_rule (codes "FILE") ∷ word_rule (codes "ELEMENT") ∷ word_rule (codes "DIRECTION") ∷ word_rule (codes "VEHICLE")
+    ∷ word_rule (codes "YEAR") ∷ [])
 
 -- `picture-domain DOMAIN YEAR`
-abbrev pub bare_domain : App
-bare_domain = new_app (codes "picture-domain")
-
 abbrev pub domain_app : App
-domain_app = with_rule (with_rule bare_domain (word_rule (codes "DOMAIN"))) (word_rule (codes "YEAR"))
+domain_app = command_of (codes "picture-domain") (word_rule (codes "DOMAIN") ∷ word_rule (codes "YEAR") ∷ [])
 
 -- The program without its commands: one must be given, and there is a version to show.
 abbrev pub none_given : App
@@ -96,17 +78,11 @@ none_given = record {
   subs = [];
 }
 
--- The program with its first three commands.
-abbrev pub first_three : App
-first_three = with_subcommand (with_subcommand (with_subcommand none_given now_app.top) faults_app.top) words_app.top
-
--- The program with its commands that print no picture.
-abbrev pub no_pictures : App
-no_pictures = with_subcommand (with_subcommand first_three hours_app.top) records_app.top
-
 -- The program with all its commands.
 abbrev pub desk_app : App
-desk_app = with_subcommand (with_subcommand no_pictures picture_app.top) domain_app.top
+desk_app =
+    fold (λ program command. with_subcommand program command.top) none_given
+    (now_app ∷ faults_app ∷ words_app ∷ hours_app ∷ records_app ∷ picture_app ∷ domain_app ∷ [])
 
 -- The words have no fault, and the matches are theirs.
 pub record HasWords (words : List Text) (m : ArgMatches) : Type 0 where

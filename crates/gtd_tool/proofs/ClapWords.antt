@@ -8,27 +8,33 @@ use Rattle.std.specs.Str.{bytes_eq, chars, IsUtf8}
 use Rattle.clap.specs.Lexer.{long_of, short_of, name_and_value}
 use Rattle.clap.specs.Walk.{finished, rows_after, Held, Names, Row, Rule, Walk, Waiting, idle, positional, all_of, answers_to}
 use Rattle.clap.specs.Walk.{nothing_held, positional_held, reading_by, settled, walk_from, walked}
-use Rattle.clap.specs.Simple.{entered, Shape, built, built_leaf, filled, inherited, is_simple, label_of, subcommand_of}
-use Rattle.clap.specs.Simple.{with_index}
-use Rattle.clap.specs.Kinds.{Kinds, or_else}
+use Rattle.clap.specs.Simple.{App, HasMatchesOf, Shape, built, built_leaf, entered, filled, inherited, is_simple, label_of}
+use Rattle.clap.specs.Simple.{subcommand_of, subcommand_rows_of, with_index}
+use Rattle.clap.specs.Kinds.{HasKind, IsAmong, Kinds, or_else}
+use Rattle.clap.specs.Values.{kind_of}
 use Rattle.clap.specs.Faults.{bundle_fault, check_fault, defaults_fault, entered_fault, settle_fault, fault_of, flags_fault}
 use Rattle.clap.specs.Faults.{is_simple_and_free, level_fault, turn_fault, walk_fault}
-use Rattle.clap.specs.declared.error.kind.ErrorKind.TheVariants.{InvalidSubcommand, UnknownArgument}
+use Rattle.clap.specs.declared.error.Error.{Error}
+use Rattle.clap.specs.declared.error.kind.ErrorKind.{ErrorKind}
+use Rattle.clap.specs.declared.error.kind.ErrorKind.TheVariants.{InvalidSubcommand, OutOfMemory, UnknownArgument}
+use Rattle.clap.specs.declared.parser.matches.ArgMatches.{ArgMatches}
 use Rattle.clap.specs.declared.parser.matches.ValueSource.TheVariants.{CommandLine}
 use Rattle.clap.proofs.WalkLemmas.{walk_stopped}
 use Rattle.std.proofs.lemmas.Str.{chars_past_char, encode_ascii, encodes-chars}
 use Rattle.std.specs.Cmp.Lexicographic.{same_text}
-use Rattle.gtd_tool.specs.ClapCommand.{found_words, gtd_app, id, leaf_given, top_given, word_rule}
+use Rattle.gtd_tool.specs.ClapCommand.{HasGiven, found_words, gtd_app, id, is_memory, leaf_given, top_given, word_rule}
 use Rattle.gtd_tool.specs.CommandLines.{is_command, is_option, plain_words, named_in}
 use Rattle.gtd_tool.specs.Commands.{command_names}
 use Rattle.gtd_tool.specs.Asked.{Text}
+use Rattle.gtd_tool.specs.declared.refusal.Refusal.{Refusal}
+use Rattle.gtd_tool.specs.declared.refusal.Refusal.TheVariants.{Memory, Usage}
 
 -- ---- the command
 
-pub gtd_is_simple : is_simple gtd_app ≡ true
+gtd_is_simple : is_simple gtd_app ≡ true
 gtd_is_simple = refl
 
-pub gtd_is_free : is_simple_and_free gtd_app ≡ true
+gtd_is_free : is_simple_and_free gtd_app ≡ true
 gtd_is_free = refl
 
 -- ---- a subcommand's words
@@ -291,7 +297,7 @@ row_words (some (v ∷ vs) last) = refl
 abbrev leaf_fault : Text → List Text → Kinds
 leaf_fault name rest = level_fault (leaf name) [] nothing_held rest false []
 
-abbrev pub IsRefusedBy : Kinds → Type 0
+abbrev IsRefusedBy : Kinds → Type 0
 IsRefusedBy [] = ⊥
 IsRefusedBy (k ∷ ks) = ⊤
 
@@ -416,7 +422,7 @@ command_rows : (name : Text) (rest : List Text) → is_command name ≡ true →
 command_rows name rest e =
     ap (λ (w : Walk). entered (built gtd_app) w.stopped) (name_walks name rest e) ∙ entered_rows name rest e
 
-abbrev pub ClapReads : List Text → Option (Text × List Text) → Type 0
+abbrev ClapReads : List Text → Option (Text × List Text) → Type 0
 ClapReads words None = IsRefusedBy (fault_of gtd_app words)
 ClapReads words (Some p) = (fault_of gtd_app words ≡ []) × ((rows : List Row) × (subcommand_of gtd_app words ≡ Some (p.0, rows))
     × (all_of id rows ≡ found_words p.1))
@@ -468,7 +474,43 @@ by_command name rest true e texts =
 by_command name rest false e texts = no_command name rest (bytes_eq name dashes) e refl texts.0
 
 -- `clap` refuses the words that give no command, and finds the command and its words in the others
-pub clap_reads : (words : List Text) → AreTexts words → ClapReads words (named_in words)
+clap_reads : (words : List Text) → AreTexts words → ClapReads words (named_in words)
 unfolding walk_fault defaults_fault
 clap_reads [] texts = tt
 clap_reads (name ∷ rest) texts = by_command name rest (is_command name) refl texts
+
+-- ---- what a parse answers
+
+none_refuses : (k : Kinds) → IsRefusedBy k → k ≡ [] → ⊥
+none_refuses k h e = subst IsRefusedBy e h
+
+-- words that are taken give a command
+taken : (words : List Text) (m : ArgMatches) (o : Option (Text × List Text)) → named_in words ≡ o → ClapReads words o
+    → fault_of gtd_app words ≡ []
+    → subcommand_rows_of m ≡ subcommand_of gtd_app words → HasGiven words m
+taken words m None e h none rows = absurd (none_refuses _ h none)
+taken words m (Some p) e h none rows = (p, h.1.0, e, rows ∙ h.1.1, h.1.2)
+
+pub words_found : (a : App) → a ≡ gtd_app → (words : List Text) → AreTexts words → (m : ArgMatches)
+    → (is_simple_and_free a ≡ true → fault_of a words ≡ []) → HasMatchesOf a words m → HasGiven words m
+words_found a e words texts m none rows = taken words m (named_in words) refl (clap_reads words texts)
+    (subst (λ (x : App). fault_of x words ≡ []) e (none (ap is_simple_and_free e ∙ gtd_is_free)))
+    ((rows (ap is_simple e ∙ gtd_is_simple)).1 ∙ ap (λ (x : App). subcommand_of x words) e)
+
+-- an error that is not for want of memory comes from words that give no command
+refused : (words : List Text) (k : ErrorKind) (o : Option (Text × List Text)) → named_in words ≡ o → ClapReads words o
+    → (k ≡ OutOfMemory) ⊎ IsAmong k (fault_of gtd_app words) → (r : Refusal) → r ≡ cond (is_memory k) Memory Usage
+    → (r ≡ Memory) ⊎ ((r ≡ Usage) × (named_in words ≡ None))
+refused words k o e h (inl memory) r is = inl (rw memory at is)
+refused words k (Some p) e h (inr among) r is = absurd (subst (IsAmong k) h.0 among)
+refused words k None e h (inr among) r is = by_kind (is_memory k) is
+  where
+    by_kind : (b : Bool) → r ≡ cond b Memory Usage → (r ≡ Memory) ⊎ ((r ≡ Usage) × (named_in words ≡ None))
+    by_kind true f = inl f
+    by_kind false f = inr (f, e)
+
+pub words_refused : (a : App) → a ≡ gtd_app → (words : List Text) → AreTexts words → (error : Error)
+    → (is_simple_and_free a ≡ true → HasKind (fault_of a words) error) → (r : Refusal)
+    → r ≡ cond (is_memory (kind_of error)) Memory Usage → (r ≡ Memory) ⊎ ((r ≡ Usage) × (named_in words ≡ None))
+words_refused a e words texts error kinds r is = refused words (kind_of error) (named_in words) refl (clap_reads words texts)
+    (subst (λ (x : App). HasKind (fault_of x words) error) e (kinds (ap is_simple_and_free e ∙ gtd_is_free))) r is

@@ -7,11 +7,14 @@ use Rattle.gtd_core.specs.Whole.{from_day, to_day}
 use Rattle.gtd_core.specs.declared.horizon.Horizon.{Horizon}
 use Rattle.gtd_tool.specs.Commands.Next as next
 use Rattle.gtd_tool.specs.Commands.Schedule as schedule
+use Rattle.gtd_tool.specs.Commands.Year as table
+use Rattle.gtd_tool.specs.Commands.Year.{AreTableWords}
+use Rattle.gtd_roads.specs.Direction.{Direction}
 use Rattle.std.specs.Prelude.{Result, Ok, Err, IfOk, IfErr, MatchResult, ℤ}
 use Rattle.gtd_core.specs.Trees.{Tree}
 use Rattle.gtd_core.specs.declared.second.Sec.{Sec}
 use Rattle.gtd_calendar.specs.Read.{date_in}
-use Rattle.gtd_tool.specs.Asked.{Asked, Next, Schedule, Text}
+use Rattle.gtd_tool.specs.Asked.{Asked, Next, Schedule, Text, Year}
 use Rattle.gtd_tool.specs.CommandLines.{reading_in}
 use Rattle.gtd_tool.specs.Plans.{AsksFor, IsReadTo, asked_by}
 use Rattle.gtd_tool.specs.Readings.{AreDomainAndMoment, Gives, IsHorizonOf, IsHorizonTo, IsNumberUpTo, Reading}
@@ -70,6 +73,12 @@ pub schedule_read : (file from to vehicle path : Text) (h : Horizon) (n : ℕ) �
     → path ≡ file → Gives (schedule.reading (file ∷ from ∷ to ∷ vehicle ∷ [])) (Schedule path h n)
 schedule_read file from to vehicle path h n d v same =
     (n, v, (from_day h, d.from_read, (to_day h, d.to_read, (h, d, ap (λ (p : Text). Schedule p h n) same))))
+
+pub year_read : (file element direction vehicle year path : Text) (e : ℕ) (d : Direction) (v y : ℕ)
+    → AreTableWords element direction vehicle year e d v y → path ≡ file
+    → Gives (table.reading (file ∷ element ∷ direction ∷ vehicle ∷ year ∷ [])) (Year path e d v y)
+year_read file element direction vehicle year path e d v y are same =
+    (e, are.element_read, (d, are.direction_read, (v, are.vehicle_read, (y, are.year_read, ap (λ (p : Text). Year p e d v y) same))))
 
 pub read_ok : (reading : Option Reading) (r : Result Plan Refusal) → IsReadTo reading r
     → IfOk r (λ plan. Gives reading (asked_by plan))

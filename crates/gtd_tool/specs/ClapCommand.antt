@@ -35,9 +35,13 @@ top_given = record (new_shape (codes "gtd")) {
 abbrev pub none_given : App
 none_given = record { top = top_given; subs = [] }
 
+-- The program with a command more of each name.
+abbrev pub with_commands : App → List Text → App
+with_commands app names = fold (λ before name. with_subcommand before (leaf_given name)) app names
+
 -- The program with all its commands.
 abbrev pub gtd_app : App
-gtd_app = fold (λ app name. with_subcommand app (leaf_given name)) none_given command_names
+gtd_app = with_commands none_given command_names
 
 -- What is found in these words: nothing if there are none.
 abbrev pub found_words : List Text → Option (List Text)

@@ -3,8 +3,8 @@
 ghost use Rattle.std.specs.Prelude.{List, ◌≡◌, ◌⊎◌, if◌then◌else◌, [], None, false, IfErr, IfOk, MatchOption, map, string_bytes};
 ghost use Rattle.clap.specs.Simple.{app_of, with_subcommand};
 ghost use Rattle.clap.specs.Values.{kind_of};
-ghost use Rattle.gtd_tool.specs.Asked.{Text};
-ghost use Rattle.gtd_tool.specs.ClapCommand.{HasGiven, gtd_app, is_memory, leaf_given, none_given};
+ghost use Rattle.gtd_tool.specs.Asked.{Text, texts};
+ghost use Rattle.gtd_tool.specs.ClapCommand.{HasGiven, gtd_app, is_memory, leaf_given, none_given, with_commands};
 ghost use Rattle.gtd_tool.specs.CommandLines.{named_in, reading_in};
 ghost use Rattle.gtd_tool.specs.Plans.{AsksFor, IsReadTo, asked_by};
 ghost use Rattle.gtd_tool.specs.Refusals.{IsStoppedBy};
@@ -41,19 +41,33 @@ fn add_command<'a>(
     program.subcommand(command)
 }
 
+// Adds a command of each name.
+fn add_commands<'a>(
+    alloc: Global,
+    program: Command<'a>,
+    names: &[&'a str],
+) -> Result<Command<'a>, AllocError>
+    ensures { IfOk result (λ c.
+        app_of c ≡ with_commands (app_of program.entry) (texts names.now)) }
+{
+    let mut program = program;
+    for name in names {
+        program = add_command(alloc, program, name)?;
+    }
+    Ok(program)
+}
+
 // The program with all its commands.
 fn gtd<'a>(alloc: Global) -> Result<Command<'a>, AllocError>
     ensures { IfOk result (λ c. app_of c ≡ gtd_app) }
 {
-    let program = without_commands(alloc);
-    let program = add_command(alloc, program, "check")?;
-    let program = add_command(alloc, program, "canon")?;
-    let program = add_command(alloc, program, "at")?;
-    let program = add_command(alloc, program, "next")?;
-    let program = add_command(alloc, program, "ever")?;
-    let program = add_command(alloc, program, "schedule")?;
-    let program = add_command(alloc, program, "year")?;
-    add_command(alloc, program, "migrate")
+    add_commands(
+        alloc,
+        without_commands(alloc),
+        &[
+            "check", "canon", "at", "next", "ever", "schedule", "year", "migrate",
+        ],
+    )
 }
 
 // An error of `clap` is a refusal of memory or a fault of usage.
@@ -72,7 +86,9 @@ fn parse<'a>(alloc: Global, words: &'a [String]) -> Result<ArgMatches<'a>, Refus
     ensures refused { IfErr result (λ r. (r ≡ Refusal.Memory)
         ⊎ ((r ≡ Refusal.Usage) × (named_in (map string_bytes words.entry.now) ≡ None))) }
 {
-    let program = gtd(alloc).map_err(|_| Refusal::Memory)?;
+    let Ok(program) = gtd(alloc) else {
+        return Err(Refusal::Memory);
+    };
     match program.try_get_matches_from(words) {
         Ok(matches) => Ok(matches),
         Err(error) => Err(usage_refusal(&error)),

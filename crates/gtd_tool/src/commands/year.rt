@@ -1,12 +1,15 @@
 //! `year FILE ELEMENT DIRECTION VEHICLE YEAR`: the table of a year for an element of a record file.
 
-ghost use Rattle.gtd_tool.specs.Asked.{texts};
-ghost use Rattle.gtd_tool.specs.Commands.Year.{reading};
+ghost use Rattle.std.specs.Prelude.{[], ◌∷◌, IfErr, IfOk};
+ghost use Rattle.gtd_tool.specs.Asked.{Text, texts};
+ghost use Rattle.gtd_tool.specs.Commands.Year.{AreTableWords, reading, table_parts};
 ghost use Rattle.gtd_tool.specs.Plans.{IsReadTo};
+ghost use Rattle.gtd_tool.specs.Refusals.{IsStopped};
 
 use crate::plans::Plan;
 use crate::refusal::Refusal;
 use crate::words::{direction_in, number_in, owned, vehicle_in, year_in};
+use gtd_roads::YearTable;
 use std::alloc::Global;
 
 /// The plan of the words.
@@ -16,16 +19,41 @@ pub fn read(alloc: Global, words: &[&str]) -> Result<Plan, Refusal>
     let [file, element, direction, vehicle, year] = words else {
         return Err(Refusal::Usage);
     };
+    let table = table_of(element, direction, vehicle, year)?;
+    plan_of(alloc, file, table)
+}
+
+// The table that the words stand for.
+fn table_of(element: &str, direction: &str, vehicle: &str, year: &str) -> Result<YearTable, Refusal>
+    ensures read { IfOk result (λ t. AreTableWords element.now direction.now vehicle.now year.now
+        t.element t.direction t.vehicle t.year) }
+    ensures stopped { IfErr result
+        (IsStopped (table_parts element.now direction.now vehicle.now year.now)) }
+{
     let element = number_in(element)?;
     let direction = direction_in(direction)?;
     let vehicle = vehicle_in(vehicle)?;
     let year = year_in(year)?;
-    let file = owned(alloc, file)?;
-    Ok(Plan::Year {
-        file,
+    Ok(YearTable {
         element,
         direction,
         vehicle,
         year,
+    })
+}
+
+// The plan of a table that words stand for.
+fn plan_of(alloc: Global, file: &str, table: YearTable) -> Result<Plan, Refusal>
+    ensures { (element direction vehicle year : Text)
+        → AreTableWords element direction vehicle year table.element table.direction table.vehicle table.year
+        → IsReadTo (reading (file.now ∷ element ∷ direction ∷ vehicle ∷ year ∷ [])) result }
+{
+    let file = owned(alloc, file)?;
+    Ok(Plan::Year {
+        file,
+        element: table.element,
+        direction: table.direction,
+        vehicle: table.vehicle,
+        year: table.year,
     })
 }
