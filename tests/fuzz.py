@@ -320,10 +320,11 @@ def main():
                     check(maker)
                 except Failure as failure:
                     print(f"FAILED with seed {seed}, in round {rounds + 1}: {failure}")
-                    print(f"fuzz: {rounds} rounds of {len(checks)} checks passed, 1 failed")
+                    print(f"fuzz: {rounds * len(checks)} passed, 1 failed")
                     sys.exit(1)
             rounds += 1
-    print(f"fuzz: seed {seed}, {rounds} rounds of {len(checks)} checks passed, 0 failed")
+    print(f"seed {seed}, {rounds} rounds of {len(checks)} checks")
+    print(f"fuzz: {rounds * len(checks)} passed, 0 failed")
 
 
 if __name__ == "__main__":

@@ -249,7 +249,8 @@ def main():
         except (Failure, hours_model.Fault) as failure:
             print(f"FAILED with seed {seed}, in round {rounds + 1}: {failure}")
             failed += 1
-    print(f"hours: {len(texts)} texts, {len(faults)} faults and {rounds} random texts (seed {seed}), {failed} failed")
+    print(f"{len(texts)} texts, {len(faults)} faults and {rounds} random texts (seed {seed})")
+    print(f"hours: {max(0, len(checks) + rounds - failed)} passed, {failed} failed")
     sys.exit(1 if failed else 0)
 
 

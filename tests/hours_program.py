@@ -109,7 +109,8 @@ def main():
     if 2 * domains < rounds:
         print(f"FAILED only {domains} of {rounds} random texts have a domain")
         failed += 1
-    print(f"gtdesk hours: {len(texts)} texts, {len(faults)} faults and {rounds} random texts (seed {seed}), {failed} failed")
+    print(f"{len(texts)} texts, {len(faults)} faults and {rounds} random texts (seed {seed})")
+    print(f"hours_program: {max(0, len(checks) + rounds - failed)} passed, {failed} failed")
     sys.exit(1 if failed else 0)
 
 

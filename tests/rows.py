@@ -10,6 +10,7 @@ lines; tabs stand between its columns. In the lines
     {0^}        is the name of a file, `r.csv`, that holds column 0
     {0^NAME}    is the same for a file called NAME
     ^TEXT       is the name of a file that holds a text of that name
+    ^(WORD)     is the name of a file, `r.csv`, that holds WORD, which may have columns and texts in it
     | FILTER    before the `=>`: a command of the shell that the output is passed through. It is run in tests/
 
 An empty file `roads.csv` is there, too. What is wanted:
@@ -24,9 +25,9 @@ A text has a name in capitals, and is used as `$NAME` in rows and in the lines o
     text NAME:
         each line of it indented by four spaces; it may have none
 
-In texts, rows, names of files and what is wanted, `\t`, `\n`, `\\`, `\uXXXX` and `\xXX` (a byte) stand for what they name, and
-`\39{{TEXT}}` for 39 times the text. It ends at the first `}}` that no brace follows. Empty lines, and lines that begin with `#`,
-are left out.
+In texts, rows, names of files and what is wanted, `\t`, `\n`, `\r`, `\\`, `\uXXXX` and `\xXX` (a byte) stand for what they
+name, and `\39{{TEXT}}` for 39 times the text, also before a column is split. It ends at the first `}}` that no brace follows.
+Empty lines, and lines that begin with `#`, are left out.
 
 Run it after `rt ci`, which builds the programs. GTD and GTDESK in the environment name others. Usage: tests/rows.py [FILE..]
 """
@@ -42,7 +43,8 @@ import tempfile
 HERE = os.path.dirname(os.path.abspath(__file__))
 CRATES = os.path.join(os.path.dirname(HERE), "crates")
 PROGRAMS = {it: os.path.abspath(os.environ.get(it.upper(), os.path.join(CRATES, it, "out", it))) for it in ("gtd", "gtdesk")}
-LETTERS = {b"t": b"\t", b"n": b"\n", b"\\": b"\\"}
+LETTERS = {b"t": b"\t", b"n": b"\n", b"r": b"\r", b"\\": b"\\"}
+REPEATED = re.compile(r"\\(\d+)\{\{(.*?)\}\}(?!\})")
 
 
 class Malformed(Exception):
@@ -61,11 +63,15 @@ def unescaped(text, texts):
             return LETTERS[found[1]]
         return chr(int(found[2], 16)).encode() if found[2] else bytes([int(found[3], 16)])
 
-    raw = re.sub(rb"\\(\d+)\{\{(.*?)\}\}(?!\})", lambda found: int(found[1]) * found[2], text.encode())
-    # Odd pieces are names of texts.
-    pieces = re.split(rb"\$([A-Z][A-Z0-9_]*)", raw)
-    return b"".join(named(it) if at % 2 else re.sub(rb"\\(?:([tn\\])|u([0-9a-f]{4})|x([0-9a-f]{2}))", one, it)
-                    for at, it in enumerate(pieces))
+    def plain(part):
+        # Odd pieces are names of texts.
+        pieces = re.split(rb"\$([A-Z][A-Z0-9_]*)", part.encode())
+        return b"".join(named(it) if at % 2 else re.sub(rb"\\(?:([tnr\\])|u([0-9a-f]{4})|x([0-9a-f]{2}))", one, it)
+                        for at, it in enumerate(pieces))
+
+    first, *rest = REPEATED.split(text)
+    return plain(first) + b"".join(int(times) * plain(it) + plain(after)
+                                   for times, it, after in zip(rest[::3], rest[1::3], rest[2::3]))
 
 
 def keep(room, name, content):
@@ -78,9 +84,12 @@ def keep(room, name, content):
 def filled(word, columns, texts, room):
     """The words that a word of a table's line stands for."""
     if many := re.fullmatch(r"\{(\d+)\*\}", word):
-        return [unescaped(it, texts) for it in shlex.split(columns[int(many[1])])]
+        whole = REPEATED.sub(lambda found: int(found[1]) * found[2], columns[int(many[1])])
+        return [unescaped(it, texts) for it in shlex.split(whole)]
     if text := re.fullmatch(r"\^([A-Z][A-Z0-9_]*)", word):
         return [keep(room, text[1].lower() + ".csv", unescaped("$" + text[1], texts))]
+    if held := re.fullmatch(r"\^\((.*)\)", word):
+        return [keep(room, "r.csv", *filled(held[1], columns, texts, room))]
     made = b""
     for plain, number, times, is_file, name in re.findall(r"([^{]+|\{(?!\d))|\{(\d+)(?:\*(\d+)|(\^)([^}]*))?\}", word):
         content = unescaped(columns[int(number)] if number else plain, texts) * int(times or 1)

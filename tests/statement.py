@@ -299,7 +299,7 @@ def main():
     print("words of the kit's crates: " + words)
     print("statement: %d lines of %d definitions in %d files must be believed, and %d lines of the %d types and traits that"
           " they name" % (lines, count, len(texts), types, len(statement.reached) - count))
-    print("statement: %d rows as told, %d failed" % (len(wanted) - min(failed, len(wanted)), failed))
+    print("statement: %d passed, %d failed" % (len(wanted) - min(failed, len(wanted)), failed))
     return 1 if failed else 0
 
 

@@ -1,0 +1,79 @@
+#!/usr/bin/env bash
+# All tests, one part after another: proofs and wrong bodies, then the built programs and the documents. It installs what is missing,
+# goes on if a part fails, prints a line for each part with its time, and ends in the sums. `--anew` has `rt ci` prove all again, and
+# take nothing from what earlier runs on this machine kept.
+#
+# Usage: tests/all.sh [--anew]
+set -u
+cd "$(dirname "$0")/.." || exit 1
+anew=()
+case ${1-} in
+    '') ;;
+    --anew) anew=(--anew) ;;
+    *) echo 'usage: tests/all.sh [--anew]' >&2; exit 2 ;;
+esac
+export RT_JOBS=${RT_JOBS:-$(tests/jobs.sh)}
+
+# Programs and modules of Python that the parts need; each is in a package of tests/setup.sh.
+needed=(gcc python3 mandoc zsh openssl mount chromium rsvg-convert xmllint pngtopnm)
+[ "$(id -u)" = 0 ] || needed+=(fakeroot)
+modules='build, dask.dataframe, distributed, fiona, geopandas, mypy, pandas, pytest, setuptools, venv, wheel'
+
+# missing: what is not there, a line for each.
+missing() {
+    local it
+    for it in "${needed[@]}"; do
+        command -v "$it" > /dev/null || echo "$it"
+    done
+    /usr/bin/python3 -c "import $modules" 2> /dev/null || echo "modules of Python: $modules"
+}
+
+if [ -n "$(missing)" ]; then
+    echo 'all: installs what is missing'
+    tests/setup.sh || echo 'all: tests/setup.sh failed' >&2
+    if [ -n "$(missing)" ]; then
+        printf 'all: still missing (tests/setup.sh, run as root, installs it):\n%s\n' "$(missing)" >&2
+        exit 1
+    fi
+fi
+
+room=$(mktemp -d)
+trap 'rm -rf "$room"' EXIT
+passed=0 failed=0 lines=()
+
+# part COMMAND..: runs one part. Its last line gives its counts; without them its status counts as one.
+part() {
+    local name=$1 from=$SECONDS status=0 good=0 bad=0
+    echo "all: $*"
+    "$@" 2>&1 | tee "$room/said" || status=$?
+    if [[ $(tail -n 1 "$room/said") =~ ([0-9]+)\ passed,\ ([0-9]+)\ failed ]]; then
+        good=${BASH_REMATCH[1]} bad=${BASH_REMATCH[2]}
+    elif [ "$status" = 0 ]; then
+        good=1
+    fi
+    # A part that fails without a count, or that ran nothing, is a failure too.
+    if [ "$bad" = 0 ] && { [ "$status" != 0 ] || [ "$good" = 0 ]; }; then
+        bad=1
+    fi
+    passed=$((passed + good)) failed=$((failed + bad))
+    lines+=("$(printf '%-24s %6d passed %4d failed %6d s' "${name#tests/}" "$good" "$bad" $((SECONDS - from)))")
+}
+
+set -o pipefail
+part rt ci "${anew[@]}"
+part tests/statement.py
+part tests/rows.py
+part tests/program.sh
+part tests/desk.sh
+part tests/examples.sh
+part tests/failing.sh
+part tests/refusals.sh
+part tests/fuzz.py 60 1
+part tests/hours.py 10 1
+part tests/hours_program.py 10 1
+part tests/pictures.py
+part tests/packaging.sh
+part tests/python.sh
+printf '%s\n' "${lines[@]}"
+echo "$passed passed, $failed failed"
+[ "$failed" = 0 ]
