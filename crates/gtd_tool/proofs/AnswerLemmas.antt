@@ -137,6 +137,22 @@ pub next_part : (d : Tree) (m : Sec) (to : ℤ) (o : Option Sec) (old new : Opti
     → AppendsPartOfLine (IsChangeOr (codes "none") d o) old new → AppendsPartOfLine (IsAnswer (Next d m to)) old new
 next_part d m to o old new h (answer, is, part) = (answer, next_is d m to o answer h is, part)
 
+ever_is : (d : Tree) (m : Sec) (o : Option Sec) (answer : List ℕ)
+    → MatchOption o (NeverChangesAfter (InTree d) m.0) (λ c. IsFirstChange (InTree d) m.0 c.0)
+    → IsChangeOr (codes "never") d o answer → IsAnswer (Ever d m) answer
+ever_is d m None answer h is = inr (h, is)
+ever_is d m (Some c) answer h is = inl (c.0, h, is)
+
+pub ever_line : (d : Tree) (m : Sec) (o : Option Sec) (old new : Option (List ℕ))
+    → MatchOption o (NeverChangesAfter (InTree d) m.0) (λ c. IsFirstChange (InTree d) m.0 c.0)
+    → AppendsLine (IsChangeOr (codes "never") d o) old new → AppendsLine (IsAnswer (Ever d m)) old new
+ever_line d m o old new h (answer, is, all) = (answer, ever_is d m o answer h is, all)
+
+pub ever_part : (d : Tree) (m : Sec) (o : Option Sec) (old new : Option (List ℕ))
+    → MatchOption o (NeverChangesAfter (InTree d) m.0) (λ c. IsFirstChange (InTree d) m.0 c.0)
+    → AppendsPartOfLine (IsChangeOr (codes "never") d o) old new → AppendsPartOfLine (IsAnswer (Ever d m)) old new
+ever_part d m o old new h (answer, is, part) = (answer, ever_is d m o answer h is, part)
+
 pub stop_of_write : {A : Type 0} (asked : Asked) (old new : Option (List ℕ)) (unwritten : Type 0) (r : Result A Refusal)
     → OnErr r (AppendsPartOfLine (IsAnswer asked) old new) → IfErr r (λ e. e ≡ refusal.Write)
     → IfErr r (IsCutShort asked old new unwritten)

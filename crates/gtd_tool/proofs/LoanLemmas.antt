@@ -18,7 +18,7 @@ append_keeps None b h = tt
 append_keeps (Some x) None h = absurd h
 append_keeps (Some x) (Some y) h = h ∙ append-nil x
 
-passes_kept : (a b c d : Option (List ℕ)) → Passes a b c d → Keeps a b → Keeps c d
+pub passes_kept : (a b c d : Option (List ℕ)) → Passes a b c d → Keeps a b → Keeps c d
 passes_kept a b c d pass kept = append_keeps c d (pass [] (Appends-kept a a b [] (Appends-nil a) kept))
 
 -- ---- the loan
@@ -58,6 +58,10 @@ loan_passes contents n m began old v w is same bytes h =
 pub if_some : {A : Type 0} (o : Option A) (P Q : A → Type 0) → ((x : A) → P x → Q x) → IfSome o P → IfSome o Q
 if_some None P Q f h = tt
 if_some (Some x) P Q f h = f x h
+
+pub if_some_all : {A : Type 0} (o : Option A) (P : A → Type 0) → ((x : A) → P x) → IfSome o P
+if_some_all None P f = tt
+if_some_all (Some x) P f = f x
 
 module _ (IsAccepted : List Restriction → Type 0) (IsText : List Restriction → List (List ℕ) → Type 0) (a b c d : Option (List ℕ))
     (pass : Passes a b c d) where

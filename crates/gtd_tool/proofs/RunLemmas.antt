@@ -1,7 +1,7 @@
 -- What a command that reads a record file did, from what its run did.
 use Rattle.std.proofs.Common.{◌≡◌, ◌∙◌, inl, inr, ℕ, List, [], Bool, Option, Some, None, refl, sym, ap, subst, take, drop}
 use Rattle.std.proofs.Common.{take-append-drop}
-use Rattle.std.specs.Prelude.{◌≢◌, ⊤, IfSome, IfErr, IsOk, MatchOption, OnErr, Result, Ok, Err}
+use Rattle.std.specs.Prelude.{⊤, IfSome, IfErr, IsOk, MatchOption, OnErr, Result, Ok, Err}
 use Rattle.std.specs.Io.KnownBytes.{Keeps}
 use Rattle.std.proofs.KnownBytes.{Appends-kept, Appends-nil}
 use Rattle.gtd_roads.specs.File.{IsFile}
@@ -9,13 +9,11 @@ use Rattle.gtd_roads.specs.File.{IsOfFile}
 use Rattle.gtd_roads.specs.Closing.{Restriction}
 use Rattle.gtd_roads.specs.RecordFault.{RecordFault}
 use Rattle.gtd_roads.specs.RecordFault.TheVariants as records
-use Rattle.gtd_roads.specs.facts.RunFacts.{accepted_are_put, apart, refused_put_nothing, same_found}
+use Rattle.gtd_roads.specs.facts.RunFacts.{apart, same_found}
 use Rattle.gtd_roads.specs.Putting.{text_of}
 use Rattle.gtd_roads.specs.Run.{HasRun, TookFirst, IsUnhindered as IsRunUnhindered, failures_after_read}
-use Rattle.gtd_roads.specs.Run.{IsAccepted as IsAcceptedFor}
 use Rattle.gtd_roads.specs.RunFault.{RunFault}
 use Rattle.gtd_roads.specs.RunFault.TheVariants as run
-use Rattle.gtd_roads.specs.Subject.{Subject}
 use Rattle.gtd_tool.specs.Asked.{Asked}
 use Rattle.gtd_tool.specs.Running.{AppendsTextOf, IsAccepted, IsLacking, IsPartOfText, IsRefusedFile, IsText, IsUnhindered}
 use Rattle.gtd_tool.specs.Running.{IsVehicleInRange, IsYearInRange, Ran, failures_after, outcome_of, refusal_for}
@@ -23,24 +21,7 @@ use Rattle.gtd_tool.specs.CutShort.{IsCutShort}
 use Rattle.gtd_tool.specs.Writing.{AppendsPart}
 use Rattle.gtd_tool.specs.declared.refusal.Refusal.{Refusal}
 use Rattle.gtd_tool.specs.declared.refusal.Refusal.TheVariants as refusal
-use Rattle.gtd_tool.proofs.LoanLemmas.{if_some}
-
--- ---- options
-
-if_some_all : {A : Type 0} (o : Option A) (P : A → Type 0) → ((x : A) → P x) → IfSome o P
-if_some_all None P f = tt
-if_some_all (Some x) P f = f x
-
--- ---- what is asked of
-
-if_none : {A : Type 0} (o : Option A) (P : A → Type 0) → (IfSome o P → ⊥) → MatchOption o ⊥ (λ x. ⊤)
-if_none None P never = absurd (never tt)
-if_none (Some x) P never = tt
-
--- restrictions that a report refuses are refused for its element
-pub of_element : (subject : Subject) → (found : List Restriction) × (IsAcceptedFor subject found → ⊥)
-    → MatchOption subject.element ⊥ (λ element. ⊤)
-of_element subject refused = if_none subject.element _ refused.1
+use Rattle.gtd_tool.proofs.LoanLemmas.{if_some, if_some_all}
 
 -- ---- a first part
 
@@ -149,13 +130,6 @@ module _ (asked : Asked) (file old new : Option (List ℕ)) (silent : Bool) (bef
   ran_failures ran = ran.failures ∙ read_failures ran.answer before
       ∙ ap (λ (r : Result (Unit {0}) Refusal). failures_after r before) (sym ran.outcome)
 
-  vehicle_fits : (ran : Ran asked file old new silent before after result) → IsVehicleInRange asked
-      → ran.answer ≢ Err run.VehicleRange
-  vehicle_fits ran fits e = ran.vehicle.0 e fits
-
-  year_fits : (ran : Ran asked file old new silent before after result) → IsYearInRange asked → ran.answer ≢ Err run.YearRange
-  year_fits ran fits e = (ran.year.0 e).1 fits
-
   free : (ran : Ran asked file old new silent before after result) → IsUnhindered result → IsRunUnhindered ran.answer
   free ran h = unhindered_run ran.answer (subst IsUnhindered ran.outcome h)
 
@@ -167,8 +141,7 @@ module _ (asked : Asked) (file old new : Option (List ℕ)) (silent : Bool) (bef
       let whole = put found is accepted in
       let done : result ≡ Ok tt = ran.outcome ∙ ap outcome_of whole.count in
       (rw done refl, record { lines = whole.lines; is_text = whole.is_text; grown = whole.taken }))
-      (accepted_are_put (IsAccepted asked) (IsText asked) ran.answer file old new (vehicle_fits ran vehicle)
-      (year_fits ran year) ran.stands (free ran h))
+      (ran.accepted vehicle year (free ran h))
 
   pub ran_refused : Ran asked file old new silent before after result → IsVehicleInRange asked → IsYearInRange asked
       → IsUnhindered result
@@ -177,32 +150,12 @@ module _ (asked : Asked) (file old new : Option (List ℕ)) (silent : Bool) (bef
       let answer = (put why is).0 in
       let of_file : IsOfFile why = subst IsRunUnhindered answer (free ran h) in
       ran.outcome ∙ ap outcome_of answer ∙ ap (λ (r : Refusal). Err r) (refusal_of_file why of_file))
-      (refused_put_nothing (IsAccepted asked) (IsText asked) ran.answer file old new (vehicle_fits ran vehicle)
-      (year_fits ran year) ran.stands (free ran h))
+      (ran.refused vehicle year (free ran h))
 
-  lacking_at : (answer : Result ℕ RunFault) (bytes : List ℕ) → answer ≢ Err run.VehicleRange → answer ≢ Err run.YearRange
-      → IsRunUnhindered answer
-      → HasRun (IsAccepted asked) (IsText asked) (Some bytes) old new answer → IsLacking asked bytes → outcome_of answer
-      ≡ Err refusal.NoElement
-  lacking_at (Ok count) bytes v y h so lack =
-      absurd (lack.2 (subst (IsAccepted asked) (same_found bytes so.found lack.0 so.file lack.1) so.accepted))
-  lacking_at (Err run.VehicleRange) bytes v y h so lack = absurd (v refl)
-  lacking_at (Err run.YearRange) bytes v y h so lack = absurd (y refl)
-  lacking_at (Err (run.Records why)) bytes v y h so lack = absurd (apart bytes lack.0 why lack.1 (so.1 h))
-  lacking_at (Err run.NoElement) bytes v y h so lack = refl
-  lacking_at (Err (run.WriteFault n)) bytes v y h so lack = absurd h
-  lacking_at (Err (run.NoMemory n)) bytes v y h so lack = absurd h
-
-pub ran_lacking : (asked : Asked) (file old new : Option (List ℕ)) (silent : Bool) (before after : ℕ)
-    (result : Result (Unit {0}) Refusal)
-    → Ran asked file old new silent before after result → IsVehicleInRange asked → IsYearInRange asked → IsUnhindered result
-    → IfSome file (λ bytes. IsLacking asked bytes → result ≡ Err refusal.NoElement)
-ran_lacking asked None old new silent before after result ran vehicle year h = tt
-ran_lacking asked (Some bytes) old new silent before after result ran vehicle year h = λ lack.
-    ran.outcome ∙ lacking_at asked (Some bytes) old new silent before after result ran.answer bytes
-    (vehicle_fits asked (Some bytes) old new silent before after result ran vehicle)
-    (year_fits asked (Some bytes) old new silent before after result ran year)
-    (free asked (Some bytes) old new silent before after result ran h) ran.stands lack
+  pub ran_lacking : Ran asked file old new silent before after result → IsVehicleInRange asked → IsYearInRange asked
+      → IsUnhindered result → IfSome file (λ bytes. IsLacking asked bytes → result ≡ Err refusal.NoElement)
+  ran_lacking ran vehicle year h = if_some file _ _ (λ bytes put lack.
+      ran.outcome ∙ ap outcome_of (put lack.0 lack.1 lack.2).0) (ran.unnamed vehicle year (free ran h))
 
 module _ (asked : Asked) (old new : Option (List ℕ)) (bytes : List ℕ) where
   no_text : (found : List Restriction) → IsFile bytes (Ok found) → IsAccepted asked found → IsRefusedFile asked bytes → ⊥

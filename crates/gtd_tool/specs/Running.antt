@@ -8,7 +8,8 @@ use Rattle.gtd_roads.specs.Closing.{Restriction}
 use Rattle.gtd_roads.specs.RecordFault.{RecordFault}
 use Rattle.gtd_roads.specs.RecordFault.TheVariants as records
 use Rattle.gtd_roads.specs.Putting.{text_of}
-use Rattle.gtd_roads.specs.Run.{HasRun, failures_after_read}
+use Rattle.gtd_roads.specs.Run.{AcceptedFilesArePut, HasRun, RefusedFilesPutNothing, UnacceptedFilesPutNothing}
+use Rattle.gtd_roads.specs.Run.{failures_after_read}
 use Rattle.gtd_roads.specs.Run as subjects
 use Rattle.gtd_roads.specs.RunFault.{RunFault}
 use Rattle.gtd_roads.specs.RunFault.TheVariants as run
@@ -169,6 +170,12 @@ pub record RanReport (subject : Subject) (Text : List Restriction → List (List
     (silent : Bool) (before after : ℕ) (result : Result (Unit {0}) Refusal) : Type 0 where
   pub answer : Result ℕ RunFault
   pub outcome : result ≡ outcome_of answer
+  pub accepted : subjects.IsVehicleInRange subject → subjects.IsYearInRange subject
+      → AcceptedFilesArePut (subjects.IsAccepted subject) Text file old new answer
+  pub refused : subjects.IsVehicleInRange subject → subjects.IsYearInRange subject
+      → RefusedFilesPutNothing file old new answer
+  pub unnamed : subjects.IsVehicleInRange subject → subjects.IsYearInRange subject
+      → UnacceptedFilesPutNothing (subjects.IsAccepted subject) file old new answer
   pub stands : HasRun (subjects.IsAccepted subject) Text file old new answer
   pub vehicle : IsErrOf answer run.VehicleRange ↔ (subjects.IsVehicleInRange subject → ⊥)
   pub year : IsErrOf answer run.YearRange ↔ (subjects.IsVehicleInRange subject × (subjects.IsYearInRange subject → ⊥))

@@ -10,8 +10,7 @@ ghost use Rattle.gtd_tool.specs.Running.{IfAlone, IfFile, Ran};
 
 use crate::plans::Plan;
 use crate::refusal::Refusal;
-use crate::running::print_report;
-use gtd_roads::{Input, Migration, Schedule, YearTable};
+use gtd_roads::{Input, YearTable};
 use std::alloc::Global;
 use std::io::Write;
 
@@ -69,13 +68,7 @@ pub fn carry_out<I: Input, W: Write>(
             horizon,
             vehicle,
             ..
-        } => {
-            let report = Schedule {
-                horizon: *horizon,
-                vehicle: *vehicle,
-            };
-            print_report(alloc, input, out, &report)
-        }
+        } => schedule::print(alloc, input, out, *horizon, *vehicle),
         Plan::Year {
             element,
             direction,
@@ -83,14 +76,14 @@ pub fn carry_out<I: Input, W: Write>(
             year,
             ..
         } => {
-            let report = YearTable {
+            let table = YearTable {
                 element: *element,
                 direction: *direction,
                 vehicle: *vehicle,
                 year: *year,
             };
-            print_report(alloc, input, out, &report)
+            year::print(alloc, input, out, table)
         }
-        Plan::Migrate { .. } => print_report(alloc, input, out, &Migration),
+        Plan::Migrate { .. } => migrate::print(alloc, input, out),
     }
 }

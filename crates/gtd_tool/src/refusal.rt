@@ -154,10 +154,10 @@ fn put_records_fault<W: Write>(fault: RecordFault, err: &mut W) -> io::Result<()
         (refusal_line (Refusal.Records fault))) }
 {
     match fault {
-        RecordFault::FieldCount { row } => put_row_fault(row, " FieldCount\n", err),
-        RecordFault::Element { row } => put_row_fault(row, " Element\n", err),
-        RecordFault::Direction { row } => put_row_fault(row, " Direction\n", err),
-        RecordFault::Vehicle { row } => put_row_fault(row, " Vehicle\n", err),
+        RecordFault::FieldCount { row } => put_row_fault(row, " FieldCount", err),
+        RecordFault::Element { row } => put_row_fault(row, " Element", err),
+        RecordFault::Direction { row } => put_row_fault(row, " Direction", err),
+        RecordFault::Vehicle { row } => put_row_fault(row, " Vehicle", err),
         RecordFault::Domain { row, fault } => put_domain_fault(row, &fault, err),
         RecordFault::TooManyRows => put_texts(&["fault row 65537 TooManyRows\n"], err),
         _ => put_texts(&["fault ", fault.name(), "\n"], err),
@@ -165,15 +165,15 @@ fn put_records_fault<W: Write>(fault: RecordFault, err: &mut W) -> io::Result<()
 }
 
 // The line of a row's fault, given what follows the row's number.
-fn put_row_fault<W: Write>(row: u32, rest: &str, err: &mut W) -> io::Result<()>
+fn put_row_fault<W: Write>(row: u32, fault: &str, err: &mut W) -> io::Result<()>
     ensures line { OnOk result (Appends (W.contents err.old) (W.contents err.new)
-        (codes "fault row " ++ (decimal row ++ rest.now))) }
+        (codes "fault " ++ (codes "row " ++ decimal row ++ fault.now) ++ codes "\n")) }
     ensures part { OnErr result (AppendsPart (W.contents err.old) (W.contents err.new)
-        (codes "fault row " ++ (decimal row ++ rest.now))) }
+        (codes "fault " ++ (codes "row " ++ decimal row ++ fault.now) ++ codes "\n")) }
 {
     let mut number = Buffer::new();
     let number = number.format(row);
-    put_texts(&["fault row ", number, rest], err)
+    put_texts(&["fault row ", number, fault, "\n"], err)
 }
 
 // The line of a fault in a row's domain.

@@ -1,14 +1,20 @@
 //! `schedule FILE FROM TO VEHICLE`: the schedule of a record file.
 
-ghost use Rattle.std.specs.Prelude.{[], ◌∷◌};
-ghost use Rattle.gtd_tool.specs.Asked.{texts};
+ghost use Rattle.std.specs.Prelude.{◌<◌, [], ◌∷◌};
+ghost use Rattle.gtd_tool.specs.Asked as asked;
+ghost use Rattle.gtd_tool.specs.Asked.{Text, texts};
 ghost use Rattle.gtd_tool.specs.Commands.Schedule.{reading};
 ghost use Rattle.gtd_tool.specs.Plans.{IsReadTo};
+ghost use Rattle.gtd_tool.specs.Running.{Ran};
 
+use crate::lending::Lent;
 use crate::plans::Plan;
 use crate::refusal::Refusal;
+use crate::running::outcome;
 use crate::words::{days_in, owned, vehicle_in};
+use gtd_roads::{Horizon, HostOut, Input, run_schedule};
 use std::alloc::Global;
+use std::io::Write;
 
 /// The plan of the words.
 pub fn read(alloc: Global, words: &[&str]) -> Result<Plan, Refusal>
@@ -37,4 +43,21 @@ fn read_words(
         horizon,
         vehicle,
     })
+}
+
+/// Prints the schedule of the record file that the input brings.
+pub fn print<I: Input, W: Write>(
+    alloc: Global,
+    input: &mut I,
+    out: &mut W,
+    horizon: Horizon,
+    vehicle: u8,
+) -> Result<(), Refusal>
+    requires readable { I.failure_count input.old < u64.MAX }
+    ensures ran { (file : Text) → Ran (asked.Schedule file horizon vehicle)
+        (I.to_come input.old) (W.contents out.old) (W.contents out.new) (I.may_fall_silent input.old)
+        (I.failure_count input.old) (I.failure_count input.new) result }
+{
+    let mut output = HostOut::new(Lent { writer: &mut *out });
+    outcome(run_schedule(alloc, input, &mut output, horizon, vehicle))
 }

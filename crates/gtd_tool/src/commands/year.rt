@@ -1,16 +1,21 @@
 //! `year FILE ELEMENT DIRECTION VEHICLE YEAR`: the table of a year for an element of a record file.
 
-ghost use Rattle.std.specs.Prelude.{[], ◌∷◌, IfErr, IfOk};
+ghost use Rattle.std.specs.Prelude.{◌<◌, [], ◌∷◌, IfErr, IfOk};
+ghost use Rattle.gtd_tool.specs.Asked as asked;
 ghost use Rattle.gtd_tool.specs.Asked.{Text, texts};
 ghost use Rattle.gtd_tool.specs.Commands.Year.{AreTableWords, reading, table_parts};
 ghost use Rattle.gtd_tool.specs.Plans.{IsReadTo};
 ghost use Rattle.gtd_tool.specs.Refusals.{IsStopped};
+ghost use Rattle.gtd_tool.specs.Running.{Ran};
 
+use crate::lending::Lent;
 use crate::plans::Plan;
 use crate::refusal::Refusal;
+use crate::running::outcome;
 use crate::words::{direction_in, number_in, owned, vehicle_in, year_in};
-use gtd_roads::YearTable;
+use gtd_roads::{HostOut, Input, YearTable, run_year};
 use std::alloc::Global;
+use std::io::Write;
 
 /// The plan of the words.
 pub fn read(alloc: Global, words: &[&str]) -> Result<Plan, Refusal>
@@ -56,4 +61,28 @@ fn plan_of(alloc: Global, file: &str, table: YearTable) -> Result<Plan, Refusal>
         vehicle: table.vehicle,
         year: table.year,
     })
+}
+
+/// Prints the table for the record file that the input brings.
+pub fn print<I: Input, W: Write>(
+    alloc: Global,
+    input: &mut I,
+    out: &mut W,
+    table: YearTable,
+) -> Result<(), Refusal>
+    requires readable { I.failure_count input.old < u64.MAX }
+    ensures ran { (file : Text) → Ran (asked.Year file table.element table.direction table.vehicle table.year)
+        (I.to_come input.old) (W.contents out.old) (W.contents out.new) (I.may_fall_silent input.old)
+        (I.failure_count input.old) (I.failure_count input.new) result }
+{
+    let mut output = HostOut::new(Lent { writer: &mut *out });
+    outcome(run_year(
+        alloc,
+        input,
+        &mut output,
+        table.element,
+        table.direction,
+        table.vehicle,
+        table.year,
+    ))
 }

@@ -1,0 +1,25 @@
+use Rattle.std.proofs.Common.{rules}
+use Rattle.gtd_tool.proofs.ClaimLemmas.{accepted_passed, refused_passed, unnamed_passed}
+use Rattle.gtd_tool.proofs.LoanLemmas.{loan_passes, passed_run}
+use Rattle.gtd_tool.proofs.commands.year.print.Goals as goal
+
+pub returns : goal.returns
+returns g c =
+    let e = c.run_year.ensures in
+    let answer = c.run_year.result in
+    let pass = loan_passes g.W.Write.contents _ _ _ _ _ _ c.new-output.ensures.bytes (search rules) in
+    record {
+      ran = λ file. record {
+        answer = answer;
+        outcome = c.outcome.ensures.value;
+        accepted = λ vehicle year. accepted_passed _ _ _ _ pass _ answer _ _ (e.claim vehicle year).accepted;
+        refused = λ vehicle year. refused_passed _ _ _ _ pass _ answer (e.claim vehicle year).refused;
+        unnamed = λ vehicle year. unnamed_passed _ _ _ _ pass _ answer _ (e.claim vehicle year).unnamed;
+        stands = passed_run _ _ _ _ _ _ pass answer _ e.stands;
+        vehicle = e.vehicle;
+        year = e.year;
+        element = λ is. tt;
+        endless = e.endless;
+        failures = e.read_faults;
+      };
+    }
