@@ -43,7 +43,7 @@ passed=0 failed=0 lines=()
 
 # part COMMAND..: runs one part. Its last line gives its counts; without them its status counts as one.
 part() {
-    local name=$1 from=$SECONDS status=0 good=0 bad=0
+    local name=$* from=$SECONDS status=0 good=0 bad=0
     echo "all: $*"
     "$@" 2>&1 | tee "$room/said" || status=$?
     if [[ $(tail -n 1 "$room/said") =~ ([0-9]+)\ passed,\ ([0-9]+)\ failed ]]; then
