@@ -1,7 +1,7 @@
 #!/usr/bin/env bash
 # Installs what the tests need besides Rattle's kit, from Debian's packages:
-#   gcc, libc6-dev   tests/refusals.sh compiles the library that refuses growths of memory
-#   python3          tests/statement.py, tests/fuzz.py, tests/hours.py, tests/press_tab.py
+#   gcc, libc6-dev   tests/refusals.sh and tests/failing.sh compile the libraries that refuse memory and make calls fail
+#   python3          tests/statement.py, tests/rows.py, tests/fuzz.py, tests/hours.py, tests/press_tab.py
 #   mandoc           tests/packaging.sh lints the man pages
 #   zsh              tests/packaging.sh tries the completions; bash is already there
 #   fakeroot         tests/packaging.sh installs the package, if it is not run as root
@@ -12,7 +12,7 @@
 #   openssl, mount   tests/python.sh makes certificates, and a small disk
 #   chromium, librsvg2-bin, libxml2-utils, netpbm, fonts-dejavu-core
 #                    tests/pictures.py draws pictures, reads them as XML, and reads the drawn pixels
-# Run it as root, or as a user who may call sudo.
+# Run it as root, or as a user who may call sudo. tests/all.sh calls it where something is missing.
 set -eu
 packages=(gcc libc6-dev python3 mandoc zsh fakeroot
     python3-pandas python3-geopandas python3-dask python3-distributed
