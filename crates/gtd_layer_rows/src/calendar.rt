@@ -1,7 +1,7 @@
 //! Worked dates and texts, and every day of 400 years counted one by one.
 
 use gtd_calendar::{
-    DayFields, StampFault, day_of, end_of, fields, read_date, read_stamp, write_date, write_stamp,
+    DayFields, StampFault, day_of, end_of, fields, read_stamp, write_date, write_stamp,
 };
 use gtd_core::{Duration, DurationParts, Sec};
 
@@ -231,40 +231,6 @@ fn known_ends(rt: HostRuntime) {
 fn known_texts(rt: HostRuntime) {
     assert!(rt; &write_date(20_087) == b"2024-12-30");
     assert!(rt; known_stamp(Sec(-1)) == Some(*b"1969-12-31T23:59:59"));
-}
-
-#[test]
-fn dates_that_are_read(rt: HostRuntime) {
-    let dates = [
-        ("1901-01-01", Ok(-25_202)),
-        ("2200-01-01", Ok(84_006)),
-        ("2200-01-02", Ok(84_007)),
-        ("2700-01-01", Ok(266_627)),
-        ("2700-01-02", Err(StampFault::Range)),
-        ("1900-12-31", Err(StampFault::Range)),
-        ("2024-02-30", Err(StampFault::NoSuchDate)),
-        ("2024-2-30", Err(StampFault::Shape)),
-    ];
-    for (text, answer) in dates {
-        assert!(rt; read_date(text.as_bytes()) == answer, "date {text}");
-    }
-}
-
-#[test]
-fn moments_that_are_read(rt: HostRuntime) {
-    let moments = [
-        ("1901-01-01T00:00:00", Ok(Sec(-2_177_452_800))),
-        ("2199-12-31T23:59:59", Ok(Sec(7_258_118_399))),
-        ("2024-02-30T00:00:00", Err(StampFault::NoSuchDate)),
-        ("2024-02-01T24:00:00", Err(StampFault::NoSuchDate)),
-        ("2024-2-01T00:00:00", Err(StampFault::Shape)),
-        ("2024-02-30", Err(StampFault::Shape)),
-        ("1900-12-31T23:59:59", Err(StampFault::Range)),
-        ("2200-01-01T00:00:00", Err(StampFault::Range)),
-    ];
-    for (text, answer) in moments {
-        assert!(rt; read_stamp(text.as_bytes()) == answer, "moment {text}");
-    }
 }
 
 #[test]

@@ -17,8 +17,6 @@ mod hour_tokens;
 #[cfg(test)]
 mod hours;
 #[cfg(test)]
-mod hours_of;
-#[cfg(test)]
 mod hours_parts;
 #[cfg(test)]
 mod large;
