@@ -7,9 +7,8 @@ ghost use Rattle.clap.specs.Faults.{fault_of};
 ghost use Rattle.clap.specs.Kinds.{HasKind};
 ghost use Rattle.clap.specs.Simple.{App, new_app, with_rule, with_subcommand};
 ghost use Rattle.clap.specs.Walk.{rule_of};
-ghost use Rattle.gtd_desk_plans.specs.CommandLine.{Builds, HasWords, desk_app, domain_app, faults_app, flag_rule};
-ghost use Rattle.gtd_desk_plans.specs.CommandLine.{free_word_rule, hours_app, none_given, now_app, option_rule};
-ghost use Rattle.gtd_desk_plans.specs.CommandLine.{picture_app, records_app, word_rule, words_app};
+ghost use Rattle.gtd_desk_plans.specs.CommandLine.{Builds, HasWords, desk_app, domain_app, faults_app, hours_app};
+ghost use Rattle.gtd_desk_plans.specs.CommandLine.{none_given, now_app, picture_app, records_app, word_rule, words_app};
 
 use clap::{Arg, ArgAction, ArgMatches, Command};
 use std::alloc::{AllocError, Global};
@@ -47,56 +46,6 @@ fn add_word<'a>(
         .action(ArgAction::Set)
         .help(help);
     add(command, word)
-}
-
-// Adds an option without a value, of this long name.
-fn add_flag<'a>(
-    alloc: Global,
-    command: Result<Command<'a>, AllocError>,
-    name: &'a str,
-    help: &'a str,
-) -> Result<Command<'a>, AllocError>
-    ensures { (app : App) → Builds app command.entry
-        → Builds (with_rule app (flag_rule name.entry.now)) result }
-{
-    let flag = Arg::new(alloc, name)
-        .long(name)
-        .action(ArgAction::SetTrue)
-        .help(help);
-    add(command, flag)
-}
-
-// Adds a word that may be left out, under the name that help shows.
-fn add_free_word<'a>(
-    alloc: Global,
-    command: Result<Command<'a>, AllocError>,
-    name: &'a str,
-    help: &'a str,
-) -> Result<Command<'a>, AllocError>
-    ensures { (app : App) → Builds app command.entry
-        → Builds (with_rule app (free_word_rule name.entry.now)) result }
-{
-    let word = Arg::new(alloc, name).action(ArgAction::Set).help(help);
-    add(command, word)
-}
-
-// Adds an option with a value, of this long name, that may be left out. Help shows the value under its own name.
-fn add_option<'a>(
-    alloc: Global,
-    command: Result<Command<'a>, AllocError>,
-    name: &'a str,
-    value: &'a str,
-    help: &'a str,
-) -> Result<Command<'a>, AllocError>
-    ensures { (app : App) → Builds app command.entry
-        → Builds (with_rule app (option_rule name.entry.now)) result }
-{
-    let option = Arg::new(alloc, name)
-        .long(name)
-        .value_name(value)
-        .action(ArgAction::Set)
-        .help(help);
-    add(command, option)
 }
 
 // A command without words or options.
@@ -139,12 +88,11 @@ fn faults_command<'a>(alloc: Global) -> Result<Command<'a>, AllocError>
         "faults",
         "List each row of a record file that is at fault, with its first fault, or why the file is refused whole",
     );
-    let command = add_flag(
-        alloc,
-        command,
-        "warn",
-        "Name the rows whose domain never or always holds, too",
-    );
+    let warn = Arg::new(alloc, "warn")
+        .long("warn")
+        .action(ArgAction::SetTrue)
+        .help("Name the rows whose domain never or always holds, too");
+    let command = add(command, warn);
     add_word(
         alloc,
         command,
@@ -183,15 +131,16 @@ fn bare_hours<'a>(alloc: Global) -> Result<Command<'a>, AllocError>
 fn hours_command<'a>(alloc: Global) -> Result<Command<'a>, AllocError>
     ensures { Builds hours_app result }
 {
-    let command = bare_hours(alloc);
-    let command = add_free_word(alloc, command, "TEXT", "The opening hours");
-    add_option(
-        alloc,
-        command,
-        "of",
-        "DOMAIN",
-        "The time domain, made of days from midnight and ranges of times in minutes",
-    )
+    let text = Arg::new(alloc, "TEXT")
+        .action(ArgAction::Set)
+        .help("The opening hours");
+    let command = add(bare_hours(alloc), text);
+    let of = Arg::new(alloc, "of")
+        .long("of")
+        .value_name("DOMAIN")
+        .action(ArgAction::Set)
+        .help("The time domain, made of days from midnight and ranges of times in minutes");
+    add(command, of)
 }
 
 // The command `records`.
