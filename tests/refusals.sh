@@ -29,15 +29,18 @@ judge() {
     fi
 }
 
-# run VARIABLE=NUMBER PROGRAM WORDS..: the program, with the growths refused that the variable names.
-run() {
-    env LD_PRELOAD="$room/refuse.so" "$@" < "$file" > "$room/out" 2> "$room/err"
-    status=$?
-}
+report=$'\ngrowth refused\n'
 
-# refused: some growth of the last run was refused.
-refused() {
-    grep -qx 'growth refused' "$room/err"
+# run GROWTH BETWEEN PROGRAM WORDS..: the program, with the growth of this number refused, or those between two requests. The lines
+# that it told are kept after a line end, and without the report of a refusal.
+run() {
+    LD_PRELOAD=$room/refuse.so REFUSE_GROWTH=$1 REFUSE_BETWEEN=$2 "${@:3}" < "$file" > "$room/out" 2> "$room/err"
+    status=$?
+    told=$(< "$room/err") is_refused=false
+    told=$'\n'${told:+$told$'\n'}
+    if [[ $told == *"$report"* ]]; then
+        is_refused=true told=${told/"$report"/$'\n'}
+    fi
 }
 
 # names_of MODULE: the tests in modules of this name.
@@ -49,7 +52,7 @@ names_of() {
 }
 
 test_passed() {
-    [ "$status" = 0 ] && grep -q 'test result: ok' "$room/out"
+    [ "$status" = 0 ] && [[ $(< "$room/out") == *'test result: ok'* ]]
 }
 
 # in_turn NAME CHECK PROGRAM WORDS..: the program, with its growths refused in turn. A success does not end the loop: a call can
@@ -58,9 +61,9 @@ in_turn() {
     local name=$1 check=$2 growth
     shift 2
     for ((growth = 1; ; growth++)); do
-        run REFUSE_GROWTH=$growth "$@"
+        run "$growth" 0 "$@"
         judge "$name, growth $growth" "$check"
-        refused || break
+        "$is_refused" || break
     done
     echo "$name: $((growth - 1))"
     # Each of them takes memory: if no growth was refused, nothing was tested.
@@ -77,43 +80,37 @@ done
 # refused, and must be the only growth up to the next such request.
 switch=7654321
 only_the_first() {
-    test_passed && [ "$(< "$room/err")" = 'growth refused' ]
+    test_passed && "$is_refused" && [ "$(< "$room/err")" = 'growth refused' ]
 }
 names=$(names_of without_memory) || exit 1
 for name in $names; do
-    run REFUSE_BETWEEN=$switch "$tests" "$name"
+    run 0 "$switch" "$tests" "$name"
     judge "${name/without_memory::/}, without memory" only_the_first
 done
 echo "without memory: $(wc -w <<< "$names") tests"
 
 # as_before: the last run of the program ended as it does with all its memory.
 as_before() {
-    [ "$status" = "$whole_status" ] && cmp -s "$room/out" "$room/whole" && cmp -s "$room/told" "$room/whole_err"
-}
-
-# is_start A B: the file A is a first part of B.
-is_start() {
-    cmp -s -n "$(stat -c %s "$1")" "$1" "$2"
+    [ "$status" = "$whole_status" ] && [ "$told" = "$whole_told" ] && cmp -s "$room/out" "$room/whole"
 }
 
 # in_want: the last run reported refused memory, and had written a first part of what it writes.
 in_want() {
-    [ "$status" = 3 ] && [ "$(tail -n 1 "$room/told")" = "$no_memory" ] || return 1
-    sed '$d' "$room/told" > "$room/rest"
-    is_start "$room/out" "$room/whole" && is_start "$room/rest" "$room/whole_err"
+    [ "$status" = 3 ] && [[ $told == *$'\n'"$no_memory"$'\n' ]] && [[ $whole_told == "${told%"$no_memory"$'\n'}"* ]] \
+        && cmp -s -n "$(stat -c %s "$room/out")" "$room/out" "$room/whole"
 }
 
 as_before_or_in_want() {
-    grep -vx 'growth refused' "$room/err" > "$room/told"
-    as_before || { refused && in_want; }
+    as_before || { "$is_refused" && in_want; }
 }
 
 # program_refused STATUS WORDS..: the command of `program`, which ends so with all its memory, with its growths refused in turn.
 # The record file is standard input, too.
 program_refused() {
     local name="${program##*/} ${*:2}"
-    "$program" "${@:2}" < "$file" > "$room/whole" 2> "$room/whole_err"
-    whole_status=$?
+    run 0 0 "$program" "${@:2}"
+    mv "$room/out" "$room/whole"
+    whole_status=$status whole_told=$told
     [ "$whole_status" = "$1" ] || { failed=$((failed + 1)); echo "FAILED $name: status $whole_status"; }
     in_turn "$name" as_before_or_in_want "$program" "${@:2}"
 }
