@@ -151,13 +151,12 @@ complete_in() {
     tab "$1" 'gtdesk now town.csv restr' '<now><town.csv><restr>'
 }
 
-# The program does not list its commands, so they are taken from where it names them.
+# Not each program lists its commands, so they are taken from the definitions that the programs are proved to meet.
 know_commands() {
     gives "the program's commands" "$(tr ' ' '\n' <<< "$commands" | sort)" \
-        bash -c "sed -n 's/.*add_command(alloc, program, \"\([a-z]*\)\").*/\1/p' '$top/crates/gtd_tool/src/arguments.rt' | sort"
-    local source=$top/crates/gtd_desk_plans/src/command_line.rt
+        bash -c "sed -n 's/.*(codes \"\([a-z]*\)\", .*reading)/\1/p' '$top/crates/gtd_tool/specs/Commands.antt' | sort"
     gives "gtdesk's commands" "$(tr ' ' '\n' <<< "$desk_commands" | sort)" \
-        bash -c "sed -n 's/.*Command::new(alloc, \"\([a-z-]*\)\").*/\1/p' '$source' | grep -vx gtdesk | sort"
+        bash -c "sed -n 's/.*command_of (codes \"\([a-z-]*\)\").*/\1/p' '$top/crates/gtd_desk_plans/specs/CommandLine.antt' | sort"
 }
 
 complete_words() {
