@@ -155,8 +155,9 @@ complete_in() {
 know_commands() {
     gives "the program's commands" "$(tr ' ' '\n' <<< "$commands" | sort)" \
         bash -c "sed -n 's/.*(codes \"\([a-z]*\)\", .*reading)/\1/p' '$top/crates/gtd_tool/specs/Commands.antt' | sort"
+    local defined=$top/crates/gtd_desk_plans/specs/CommandLine.antt
     gives "gtdesk's commands" "$(tr ' ' '\n' <<< "$desk_commands" | sort)" \
-        bash -c "sed -n 's/.*command_of (codes \"\([a-z-]*\)\").*/\1/p' '$top/crates/gtd_desk_plans/specs/CommandLine.antt' | sort"
+        bash -c "sed -n 's/.*command_of (codes \"\([a-z-]*\)\").*/\1/p' '$defined' | sort"
 }
 
 complete_words() {
