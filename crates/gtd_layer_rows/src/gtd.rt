@@ -1,4 +1,4 @@
-//! Commands and runs of `gtd`: plans and answers that no printed text shows, devices that fail, and refused memory.
+//! Commands and runs of `gtd`: answers that no printed text shows, devices that fail, and refused memory.
 
 mod counts;
 mod devices;
