@@ -2,8 +2,8 @@
 # Tries the wrong bodies of planted/CRATE/*.edit: the prover must refuse each. They are not in the gate, since each costs a check.
 # Run this before a release, and for the crates that you name after a change of them; with no names it tries those of all crates.
 #
-# The crates are copied to a folder where these edits stand in place of those of the gate, and `rt ci CRATE..` tries them there. It
-# takes the proofs of the crates from what earlier runs on this machine kept, so it is quick after a whole `rt ci`.
+# The crates are copied to a folder where these edits stand in place of those of the gate, and `rt ci CRATE..` tries them there.
+# It takes the proofs of the crates from what earlier runs on this machine kept, so it is quick after a whole `rt ci`.
 #
 # Usage: tests/planted.sh [CRATE..]
 set -euo pipefail

@@ -31,8 +31,8 @@ judge() {
 
 report=$'\ngrowth refused\n'
 
-# run GROWTH BETWEEN PROGRAM WORDS..: the program, with the growth of this number refused, or those between two requests. The lines
-# that it told are kept after a line end, and without the report of a refusal.
+# run GROWTH BETWEEN PROGRAM WORDS..: the program, with the growth of this number refused, or those between two requests. The
+# lines that it told are kept after a line end, and without the report of a refusal.
 run() {
     LD_PRELOAD=$room/refuse.so REFUSE_GROWTH=$1 REFUSE_BETWEEN=$2 "${@:3}" < "$file" > "$room/out" 2> "$room/err"
     status=$?
