@@ -7,10 +7,11 @@ set -u
 ulimit -c 0
 here=$(cd "$(dirname "$0")" && pwd)
 crates=$here/../crates
-tests=$crates/gtd_layer_rows/out/gtd_layer_rows_tests
+layers=$crates/gtd_layer_rows/out/gtd_layer_rows_tests
+commands=$crates/gtd_command_rows/out/gtd_command_rows_tests
 gtd=$(realpath -m "${GTD:-$crates/gtd/out/gtd}")
 gtdesk=$(realpath -m "${GTDESK:-$crates/gtdesk/out/gtdesk}")
-for built in "$tests" "$gtd" "$gtdesk"; do
+for built in "$layers" "$commands" "$gtd" "$gtdesk"; do
     [ -x "$built" ] || { echo "nothing at $built: run rt ci first" >&2; exit 1; }
 done
 room=$(mktemp -d)
@@ -43,11 +44,11 @@ run() {
     fi
 }
 
-# names_of MODULE: the tests in modules of this name.
+# names_of TESTS MODULE: the tests of this program in modules of this name.
 names_of() {
     local names
-    names=$("$tests" --list | sed -n "s/^\(\([a-z_]*::\)*$1::.*\): test$/\1/p")
-    [ -n "$names" ] || { echo "no tests in modules $1" >&2; exit 1; }
+    names=$("$1" --list | sed -n "s/^\(\([a-z_]*::\)*$2::.*\): test$/\1/p")
+    [ -n "$names" ] || { echo "no tests in modules $2 of $1" >&2; exit 1; }
     echo "$names"
 }
 
@@ -71,9 +72,11 @@ in_turn() {
 }
 
 file=/dev/null
-names=$(names_of refusals) || exit 1
-for name in $names; do
-    in_turn "${name/refusals::/}" test_passed "$tests" "$name"
+for tests in "$layers" "$commands"; do
+    names=$(names_of "$tests" refusals) || exit 1
+    for name in $names; do
+        in_turn "${name/refusals::/}" test_passed "$tests" "$name"
+    done
 done
 
 # The number of bytes that a test asks for before and after the calls that must take no memory. The request before them is
@@ -82,22 +85,25 @@ switch=7654321
 only_the_first() {
     test_passed && "$is_refused" && [ "$(< "$room/err")" = 'growth refused' ]
 }
-names=$(names_of without_memory) || exit 1
-for name in $names; do
-    run 0 "$switch" "$tests" "$name"
-    judge "${name/without_memory::/}, without memory" only_the_first
+for tests in "$layers" "$commands"; do
+    names=$(names_of "$tests" without_memory) || exit 1
+    for name in $names; do
+        run 0 "$switch" "$tests" "$name"
+        judge "${name/without_memory::/}, without memory" only_the_first
+    done
+    echo "without memory: $(wc -w <<< "$names") tests"
 done
-echo "without memory: $(wc -w <<< "$names") tests"
 
 # as_before: the last run of the program ended as it does with all its memory.
 as_before() {
     [ "$status" = "$whole_status" ] && [ "$told" = "$whole_told" ] && cmp -s "$room/out" "$room/whole"
 }
 
-# in_want: the last run reported refused memory, and had written a first part of what it writes.
+# in_want: the last run reported refused memory, and had written a first part of what it writes, or nothing if it writes all at
+# once.
 in_want() {
     [ "$status" = 3 ] && [[ $told == *$'\n'"$no_memory"$'\n' ]] && [[ $whole_told == "${told%"$no_memory"$'\n'}"* ]] \
-        && cmp -s -n "$(stat -c %s "$room/out")" "$room/out" "$room/whole"
+        && cmp -s -n "$(stat -c %s "$room/out")" "$room/out" "$room/whole" && { "$has_parts" || [ ! -s "$room/out" ]; }
 }
 
 as_before_or_in_want() {
@@ -108,6 +114,8 @@ as_before_or_in_want() {
 # The record file is standard input, too.
 program_refused() {
     local name="${program##*/} ${*:2}"
+    has_parts=false
+    case $2 in schedule | year | migrate | now | records | picture | picture-domain) has_parts=true ;; esac
     run 0 0 "$program" "${@:2}"
     mv "$room/out" "$room/whole"
     whole_status=$status whole_told=$told

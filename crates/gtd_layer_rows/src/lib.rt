@@ -1,5 +1,5 @@
 //! Tests of the layers: worked examples; each call that takes memory, when memory is refused; and each call that takes none, when
-//! every growth is refused. Of the commands and runs, what no printed text shows.
+//! every growth is refused.
 #![tactic(auto)]
 
 #[cfg(test)]
@@ -8,10 +8,6 @@ mod calendar;
 mod devices;
 #[cfg(test)]
 mod eval;
-#[cfg(test)]
-mod gtd;
-#[cfg(test)]
-mod gtdesk;
 #[cfg(test)]
 mod hour_tokens;
 #[cfg(test)]

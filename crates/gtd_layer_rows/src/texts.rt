@@ -2,7 +2,7 @@
 
 use gtd_core::{Basic, Domain, Expr, Horizon};
 use gtd_text::read_domain;
-use std::alloc::{AllocError, Global};
+use std::alloc::Global;
 use std::process::Abort;
 
 /// The domain that this text is.
@@ -26,13 +26,4 @@ pub(crate) fn basic(rt: &impl Abort, alloc: Global, text: &str) -> Basic {
 /// The days from one up to but not including another.
 pub(crate) fn horizon(rt: &impl Abort, from_day: i64, to_day: i64) -> Horizon {
     Horizon::new(from_day, to_day).expect(rt, "a horizon")
-}
-
-/// The words, as a program gets them.
-pub(crate) fn owned(alloc: Global, words: &[&str]) -> Result<Vec<String>, AllocError> {
-    let mut owned = Vec::new(alloc);
-    for word in words {
-        owned.push(word.to_string(alloc)?)?;
-    }
-    Ok(owned)
 }

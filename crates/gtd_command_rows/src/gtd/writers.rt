@@ -5,7 +5,6 @@ use gtd_tool::Refusal;
 use std::alloc::Global;
 use std::io;
 use std::io::{Error, ErrorKind, Write};
-use std::test::Fail;
 
 // A writer that takes at most 3 bytes at once, is interrupted before each write, and fails once it is full.
 #[derive(Drop)]
@@ -51,7 +50,7 @@ impl Write for Narrow {
 }
 
 #[test]
-fn writes_that_fail_are_told(rt: HostRuntime) -> Result<(), Fail> {
+fn writes_that_fail_are_told(rt: HostRuntime) {
     let alloc = rt.alloc();
     let line = b"[(h7m30){h1m30}]\n";
     for room in 0..=line.len() {
@@ -73,10 +72,9 @@ fn writes_that_fail_are_told(rt: HostRuntime) -> Result<(), Fail> {
 
     assert!(rt; Refusal::Write.status() == 3);
     let mut err = Vec::new(alloc);
-    Refusal::Write.put_line(&mut err)?;
+    Refusal::Write.put_line(&mut err).expect(&rt, "memory");
     assert!(rt; err.as_slice() == b"fault WriteFault\n".as_slice());
     let mut err = Narrow::new(alloc, 12);
     assert!(rt; Refusal::Write.put_line(&mut err).is_err());
     assert!(rt; err.taken.as_slice() == b"fault WriteF".as_slice());
-    Ok(())
 }

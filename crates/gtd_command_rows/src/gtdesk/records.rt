@@ -1,9 +1,8 @@
-//! Files of opening hours over devices that fail or have too little room.
+//! Files of opening hours over devices that have too little room.
 
 use crate::gtdesk::common::planned;
 use gtd_desk::{Ending, Refusal, perform};
 use gtd_devices::{MemoryIn, MemoryOut};
-use gtd_records::RecordFault;
 
 const WORDS: [&str; 2] = ["records", "r.csv"];
 
@@ -67,21 +66,5 @@ fn lists_that_are_cut(rt: HostRuntime) {
         assert!(rt; done == Ok(Ending::FaultsListed));
         assert!(rt; LIST.as_bytes().starts_with(errors.bytes()));
         assert!(rt; errors.bytes().len() == room);
-    }
-}
-
-#[test]
-fn inputs_that_fail(rt: HostRuntime) {
-    let alloc = rt.alloc();
-    let plan = planned(&rt, alloc, &WORDS);
-    for call in 1..=5 {
-        let bytes = Vec::from_slice(alloc, HOURS.as_bytes()).expect(&rt, "memory");
-        let mut input = MemoryIn::new(bytes, 30, Some(call), None);
-        let mut output = MemoryOut::new(alloc, 1_000, 1_000, None).expect(&rt, "memory");
-        let mut errors = MemoryOut::new(alloc, 1_000, 1_000, None).expect(&rt, "memory");
-        let done = perform(alloc, &plan, &mut input, &mut output, &mut errors);
-        assert!(rt; done == Err(Refusal::Records(RecordFault::ReadFault)));
-        assert!(rt; output.bytes().is_empty());
-        assert!(rt; errors.bytes().is_empty());
     }
 }

@@ -21,7 +21,7 @@ const MIXED: &str =
 
 // What a run answers, and puts.
 fn done(rt: &impl Abort, alloc: Global, file: &str, job: Job) -> (Result<u64, RunFault>, Vec<u8>) {
-    let mut input = input(rt, alloc, file.as_bytes(), None, None);
+    let mut input = input(rt, alloc, file.as_bytes());
     let mut output = MemoryOut::new(alloc, 20_000, 1_000, None).expect(rt, "memory");
     let answer = run(rt, alloc, job, &mut input, &mut output);
     let put = Vec::from_slice(alloc, output.bytes()).expect(rt, "memory");

@@ -1,8 +1,8 @@
 //! The calls of commands and runs that take no memory, while every growth is refused. Each test asserts the same answers twice,
 //! first with ample memory.
 
+use crate::growth::switch;
 use crate::gtd::plans::planned;
-use crate::without_memory::switch;
 use gtd_records::RecordFault;
 use gtd_runs::RunFault;
 use gtd_tool::Refusal;

@@ -1,6 +1,6 @@
 //! Plans of command lines, and what carries them out.
 
-use crate::texts::owned;
+use crate::words::owned;
 use gtd_devices::MemoryIn;
 use gtd_tool::{Plan, Refusal, perform, plan};
 use std::alloc::Global;

@@ -1,6 +1,6 @@
 //! What the tests of commands share: command lines carried out over files in memory.
 
-use crate::texts::owned;
+use crate::words::owned;
 use gtd_desk::{Ending, Plan, Refusal, perform, plan};
 use gtd_devices::{MemoryIn, MemoryOut};
 use std::alloc::Global;

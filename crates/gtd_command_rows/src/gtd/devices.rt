@@ -1,33 +1,16 @@
 //! Runs over devices that fail, fall silent or take little at a time.
 
-ghost use Rattle.std.specs.Prelude.{◌≡◌, ◌<◌};
+ghost use Rattle.std.specs.Prelude.{◌<◌};
 
 use crate::gtd::job::{APRIL, Job, LEAP_YEAR, input, run};
-use crate::texts::owned;
-use gtd_devices::{HostOut, Input, MemoryOut, Output};
+use gtd_devices::{HostOut, MemoryOut};
 use gtd_records::RecordFault;
 use gtd_runs::RunFault;
-use gtd_test_devices::{Busy, Counting, Mute, R, Slow};
-use gtd_tool::{Refusal, perform, plan};
+use gtd_test_devices::{Busy, Counting, Mute, R};
 use std::alloc::Global;
 use std::process::Abort;
-use std::test::Fail;
 
 static JOBS: [Job; 3] = [APRIL, LEAP_YEAR, Job::Migrate];
-
-// What a run over the input answers, and an output that takes all of what it puts.
-fn run_over<I: Input>(
-    rt: &impl Abort,
-    alloc: Global,
-    job: Job,
-    input: &mut I,
-) -> (Result<u64, RunFault>, MemoryOut)
-    requires readable { I.failure_count input.old < u64.MAX }
-{
-    let mut output = MemoryOut::new(alloc, 10_000, 10_000, None).expect(rt, "memory");
-    let answer = run(rt, alloc, job, input, &mut output);
-    (answer, output)
-}
 
 // What a run over a sound file answers, and the output. The output has so much room, takes so many bytes at once, and
 // fails at the call with this number.
@@ -41,7 +24,7 @@ fn run_into(
 ) -> (Result<u64, RunFault>, MemoryOut)
     requires some_byte { 0 < piece }
 {
-    let mut input = input(rt, alloc, R.as_bytes(), None, None);
+    let mut input = input(rt, alloc, R.as_bytes());
     let mut output = MemoryOut::new(alloc, room, piece, fail_call).expect(rt, "memory");
     let answer = run(rt, alloc, job, &mut input, &mut output);
     (answer, output)
@@ -56,51 +39,6 @@ fn whole(rt: &impl Abort, alloc: Global, job: Job) -> (u64, Vec<u8>) {
             Vec::from_slice(alloc, output.bytes()).expect(rt, "memory"),
         ),
         Err(_) => panic!(rt; "refused"),
-    }
-}
-
-// 88 bytes come in 13 pieces of 7 at most, and the 14th pull finds the end.
-#[test]
-fn inputs_that_fail(rt: HostRuntime) {
-    let alloc = rt.alloc();
-    for job in JOBS {
-        for call in 1u64..15 {
-            let mut failing = input(&rt, alloc, R.as_bytes(), Some(call), None);
-            let (answer, output) = run_over(&rt, alloc, job, &mut failing);
-            assert!(rt; answer == Err(RunFault::Records(RecordFault::ReadFault)));
-            assert!(rt; failing.failures() == 1);
-            assert!(rt; output.bytes().is_empty());
-        }
-    }
-}
-
-#[test]
-fn inputs_that_fall_silent(rt: HostRuntime) {
-    let alloc = rt.alloc();
-    for job in JOBS {
-        for call in 1u64..15 {
-            let mut silent = input(&rt, alloc, R.as_bytes(), None, Some(call));
-            let (answer, output) = run_over(&rt, alloc, job, &mut silent);
-            assert!(rt; answer == Err(RunFault::Records(RecordFault::Endless)));
-            assert!(rt; silent.failures() == 0);
-            assert!(rt; output.bytes().is_empty());
-        }
-    }
-}
-
-// There is no 15th pull.
-#[test]
-fn inputs_that_would_fail_after_their_end(rt: HostRuntime) {
-    let alloc = rt.alloc();
-    for job in JOBS {
-        let (count, text) = whole(&rt, alloc, job);
-        for (fail, silent) in [(Some(15), None), (None, Some(15))] {
-            let mut input = input(&rt, alloc, R.as_bytes(), fail, silent);
-            let (answer, output) = run_over(&rt, alloc, job, &mut input);
-            assert!(rt; answer == Ok(count));
-            assert!(rt; input.failures() == 0);
-            assert!(rt; output.bytes() == text.as_slice());
-        }
     }
 }
 
@@ -171,44 +109,12 @@ fn each_run_stops_at_the_first_failure(rt: HostRuntime) {
 }
 
 #[test]
-fn outputs_with_too_little_room(rt: HostRuntime) {
-    let alloc = rt.alloc();
-    for job in JOBS {
-        let (count, text) = whole(&rt, alloc, job);
-        for room in 0..text.len().min(200) {
-            let (answer, output) = run_into(&rt, alloc, job, room, 10_000, None);
-            let written = room as u64;
-            assert!(rt; answer == Err(RunFault::WriteFault { written }));
-            assert!(rt; output.bytes() == &text[..room.min(text.len())]);
-        }
-        let (answer, output) = run_into(&rt, alloc, job, text.len(), 1, None);
-        assert!(rt; answer == Ok(count));
-        assert!(rt; output.bytes() == text.as_slice());
-    }
-}
-
-#[test]
-fn silence_of_999_pulls_is_waited_for(rt: HostRuntime) {
-    let alloc = rt.alloc();
-    for job in JOBS {
-        let (count, text) = whole(&rt, alloc, job);
-        let inner = input(&rt, alloc, R.as_bytes(), None, None);
-        let mut slow = Slow {
-            inner,
-            silent: 999,
-            left: 999,
-        };
-        let (answer, output) = run_over(&rt, alloc, job, &mut slow);
-        assert!(rt; answer == Ok(count));
-        assert!(rt; output.bytes() == text.as_slice());
-    }
-}
-
-#[test]
 fn silence_for_ever_ends_at_its_thousandth_pull(rt: HostRuntime) {
+    let alloc = rt.alloc();
     for job in JOBS {
         let mut mute = Mute { pulls: 0 };
-        let (answer, output) = run_over(&rt, rt.alloc(), job, &mut mute);
+        let mut output = MemoryOut::new(alloc, 10_000, 10_000, None).expect(&rt, "memory");
+        let answer = run(&rt, alloc, job, &mut mute, &mut output);
         assert!(rt; answer == Err(RunFault::Records(RecordFault::Endless)));
         assert!(rt; mute.pulls == 1000);
         assert!(rt; output.bytes().is_empty());
@@ -216,7 +122,7 @@ fn silence_for_ever_ends_at_its_thousandth_pull(rt: HostRuntime) {
 }
 
 #[test]
-fn writers_that_are_interrupted(rt: HostRuntime) -> Result<(), Fail> {
+fn writers_that_are_interrupted(rt: HostRuntime) {
     let alloc = rt.alloc();
     let table: [(u32, bool, Result<u64, RunFault>); 3] = [
         (999, true, Ok(3)),
@@ -224,7 +130,7 @@ fn writers_that_are_interrupted(rt: HostRuntime) -> Result<(), Fail> {
         (0, false, Err(RunFault::WriteFault { written: 147 })),
     ];
     for (interruptions, flushes, expected) in table {
-        let mut input = input(&rt, alloc, R.as_bytes(), None, None);
+        let mut input = input(&rt, alloc, R.as_bytes());
         let mut output = HostOut::new(Busy {
             interruptions,
             left: interruptions,
@@ -233,7 +139,6 @@ fn writers_that_are_interrupted(rt: HostRuntime) -> Result<(), Fail> {
         });
         assert!(rt; run(&rt, alloc, APRIL, &mut input, &mut output) == expected);
     }
-    Ok(())
 }
 
 // An output is offered each line once, where it takes all of it, and is ended once.
@@ -241,7 +146,7 @@ fn writers_that_are_interrupted(rt: HostRuntime) -> Result<(), Fail> {
 fn lines_and_ends_of_outputs(rt: HostRuntime) {
     let alloc = rt.alloc();
     for (job, lines) in [(APRIL, 3u64), (LEAP_YEAR, 366), (Job::Migrate, 3)] {
-        let mut input = input(&rt, alloc, R.as_bytes(), None, None);
+        let mut input = input(&rt, alloc, R.as_bytes());
         let mut output = Counting {
             puts: 0,
             ends: 0,
@@ -251,36 +156,4 @@ fn lines_and_ends_of_outputs(rt: HostRuntime) {
         assert!(rt; (output.puts, output.ends) == (lines, 1));
         assert!(rt; output.is_ended);
     }
-}
-
-// Commands over a record file.
-static FILE_COMMANDS: [&[&str]; 3] = [
-    &["schedule", "r.csv", "2024-04-01", "2024-04-02", "11"],
-    &["year", "r.csv", "17", "positive", "11", "2024"],
-    &["migrate", "r.csv"],
-];
-
-// A command fails if its writer takes all bytes but fails at its flush.
-#[test]
-fn flushes_of_file_commands(rt: HostRuntime) -> Result<(), Fail> {
-    let alloc = rt.alloc();
-    for words in &FILE_COMMANDS {
-        let Ok(plan) = plan(alloc, owned(alloc, words)?) else {
-            panic!(rt; "no plan of {words:?}");
-        };
-        for (flushes, expected) in [(true, Ok(())), (false, Err(Refusal::Write))] {
-            let mut input = input(&rt, alloc, R.as_bytes(), None, None);
-            let mut out = Busy {
-                interruptions: 0,
-                left: 0,
-                takes: true,
-                flushes,
-            };
-            assert!(rt;
-                perform(alloc, &plan, &mut input, &mut out) == expected,
-                "{words:?}"
-            );
-        }
-    }
-    Ok(())
 }

@@ -53,14 +53,8 @@ pub(crate) fn run<I: Input, O: Output>(
 }
 
 /// The bytes of a file, in pieces of at most 7.
-pub(crate) fn input(
-    rt: &impl Abort,
-    alloc: Global,
-    file: &[u8],
-    fail_call: Option<u64>,
-    silent_from: Option<u64>,
-) -> MemoryIn
+pub(crate) fn input(rt: &impl Abort, alloc: Global, file: &[u8]) -> MemoryIn
     ensures { ⟦<MemoryIn as Input>⟧.failure_count result ≡ 0 }
 {
-    in_pieces(alloc, file, fail_call, silent_from).expect(rt, "memory")
+    in_pieces(alloc, file, None, None).expect(rt, "memory")
 }

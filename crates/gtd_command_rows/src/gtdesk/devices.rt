@@ -1,12 +1,11 @@
-//! Commands over devices that fail, fall silent, are interrupted, or take little at a time.
+//! Commands over devices that fail, are interrupted, or take little at a time.
 
 ghost use Rattle.std.specs.Prelude.{◌≡◌, ◌<◌};
 
 use crate::gtdesk::common::{performed, planned};
 use gtd_desk::{Ending, Plan, Refusal, perform};
 use gtd_devices::{HostOut, Input, MemoryIn, MemoryOut, Output};
-use gtd_records::RecordFault;
-use gtd_test_devices::{Busy, Counting, R, Slow, in_pieces};
+use gtd_test_devices::{Busy, Counting, R, in_pieces};
 use std::alloc::Global;
 use std::process::Abort;
 
@@ -27,31 +26,11 @@ static OTHER_COMMANDS: [&[&str]; 5] = [
     &["hours", "Mo 07:00-09:00"],
 ];
 
-// The bytes of `R`, in pieces of 7 at most: 13 pieces, and the 14th pull finds the end.
-fn two_rows(
-    rt: &impl Abort,
-    alloc: Global,
-    fail_call: Option<u64>,
-    silent_from: Option<u64>,
-) -> MemoryIn
+// The bytes of `R`, in pieces of 7 at most.
+fn two_rows(rt: &impl Abort, alloc: Global) -> MemoryIn
     ensures { ⟦<MemoryIn as Input>⟧.failure_count result ≡ 0 }
 {
-    in_pieces(alloc, R.as_bytes(), fail_call, silent_from).expect(rt, "memory")
-}
-
-// What a plan answers over the input, and an output that takes all of what it puts.
-fn perform_over<I: Input>(
-    rt: &impl Abort,
-    alloc: Global,
-    plan: &Plan,
-    input: &mut I,
-) -> (Result<Ending, Refusal>, MemoryOut)
-    requires readable { I.failure_count input.old < u64.MAX }
-{
-    let mut output = MemoryOut::new(alloc, 100_000, 100_000, None).expect(rt, "memory");
-    let mut errors = MemoryOut::new(alloc, 100, 100, None).expect(rt, "memory");
-    let done = perform(alloc, plan, input, &mut output, &mut errors);
-    (done, output)
+    in_pieces(alloc, R.as_bytes(), None, None).expect(rt, "memory")
 }
 
 // What a plan answers for `R`, and the output. It has so much room, takes so many bytes at once, and fails at the call with
@@ -66,89 +45,11 @@ fn perform_into(
 ) -> (Result<Ending, Refusal>, MemoryOut)
     requires some_byte { 0 < piece }
 {
-    let mut input = two_rows(rt, alloc, None, None);
+    let mut input = two_rows(rt, alloc);
     let mut output = MemoryOut::new(alloc, room, piece, fail_call).expect(rt, "memory");
     let mut errors = MemoryOut::new(alloc, 100, 100, None).expect(rt, "memory");
     let done = perform(alloc, plan, &mut input, &mut output, &mut errors);
     (done, output)
-}
-
-#[test]
-fn inputs_that_fail(rt: HostRuntime) {
-    let alloc = rt.alloc();
-    for words in FILE_COMMANDS {
-        let plan = planned(&rt, alloc, words);
-        for call in 1u64..15 {
-            let mut failing = two_rows(&rt, alloc, Some(call), None);
-            let (done, output) = perform_over(&rt, alloc, &plan, &mut failing);
-            assert!(rt; done == Err(Refusal::Records(RecordFault::ReadFault)));
-            assert!(rt; failing.failures() == 1);
-            assert!(rt; output.bytes().is_empty());
-        }
-    }
-}
-
-#[test]
-fn inputs_that_fall_silent(rt: HostRuntime) {
-    let alloc = rt.alloc();
-    for words in FILE_COMMANDS {
-        let plan = planned(&rt, alloc, words);
-        for call in 1u64..15 {
-            let mut silent = two_rows(&rt, alloc, None, Some(call));
-            let (done, output) = perform_over(&rt, alloc, &plan, &mut silent);
-            assert!(rt; done == Err(Refusal::Records(RecordFault::Endless)));
-            assert!(rt; silent.failures() == 0);
-            assert!(rt; output.bytes().is_empty());
-        }
-    }
-}
-
-// There is no 15th pull. A plan that reads no file pulls nothing at all.
-#[test]
-fn inputs_that_would_fail_after_their_end(rt: HostRuntime) {
-    let alloc = rt.alloc();
-    for words in FILE_COMMANDS {
-        let plan = planned(&rt, alloc, words);
-        let (_, text) = performed(&rt, alloc, &plan, R.as_bytes());
-        let mut input = two_rows(&rt, alloc, Some(15), None);
-        let (done, output) = perform_over(&rt, alloc, &plan, &mut input);
-        assert!(rt; done == Ok(Ending::Done), "{words:?}");
-        assert!(rt; output.bytes() == text.as_slice(), "{words:?}");
-    }
-    for words in OTHER_COMMANDS {
-        let plan = planned(&rt, alloc, words);
-        let mut input = two_rows(&rt, alloc, Some(1), None);
-        let (done, _) = perform_over(&rt, alloc, &plan, &mut input);
-        assert!(rt; done == Ok(Ending::Done), "{words:?}");
-        assert!(rt; input.failures() == 0);
-    }
-}
-
-// Silence of 999 pulls is waited for, and that of 1,000 is not.
-#[test]
-fn inputs_that_are_silent_for_a_while(rt: HostRuntime) {
-    let alloc = rt.alloc();
-    for words in FILE_COMMANDS {
-        let plan = planned(&rt, alloc, words);
-        let (_, text) = performed(&rt, alloc, &plan, R.as_bytes());
-        for silent in [999, 1_000] {
-            let inner = two_rows(&rt, alloc, None, None);
-            let mut slow = Slow {
-                inner,
-                silent,
-                left: silent,
-            };
-            let (done, output) = perform_over(&rt, alloc, &plan, &mut slow);
-            if silent == 999 {
-                assert!(rt; done == Ok(Ending::Done), "{words:?}");
-                assert!(rt; output.bytes() == text.as_slice(), "{words:?}");
-            } else {
-                let endless = Refusal::Records(RecordFault::Endless);
-                assert!(rt; done == Err(endless), "{words:?}");
-                assert!(rt; output.bytes().is_empty(), "{words:?}");
-            }
-        }
-    }
 }
 
 // Whether a command puts its text whole, or line by line.
@@ -240,25 +141,6 @@ fn lists_with_too_little_room(rt: HostRuntime) {
     }
 }
 
-// With room for every byte but the last, all but the last are put; with room for all, all.
-#[test]
-fn outputs_with_too_little_room(rt: HostRuntime) {
-    let alloc = rt.alloc();
-    for words in FILE_COMMANDS {
-        let plan = planned(&rt, alloc, words);
-        let (_, text) = performed(&rt, alloc, &plan, R.as_bytes());
-        let rooms = [0, 1, text.len() / 2, text.len().saturating_sub(1)];
-        for room in rooms.into_iter().filter(|room| *room < text.len()) {
-            let (done, output) = perform_into(&rt, alloc, &plan, room, 10_000, None);
-            assert!(rt; done == Err(Refusal::Write), "{words:?}, room {room}");
-            assert!(rt; output.bytes() == &text[..room.min(text.len())]);
-        }
-        let (done, output) = perform_into(&rt, alloc, &plan, text.len(), 10_000, None);
-        assert!(rt; done == Ok(Ending::Done), "{words:?}");
-        assert!(rt; output.bytes() == text.as_slice(), "{words:?}");
-    }
-}
-
 // What each command of the list answers over such a writer.
 fn expect_over_writer(
     rt: &impl Abort,
@@ -270,7 +152,7 @@ fn expect_over_writer(
     expected: Result<Ending, Refusal>,
 ) {
     let plan = planned(rt, alloc, words);
-    let mut input = two_rows(rt, alloc, None, None);
+    let mut input = two_rows(rt, alloc);
     let mut output = HostOut::new(Busy {
         interruptions,
         left: interruptions,
@@ -328,7 +210,7 @@ fn lines_and_ends_of_outputs(rt: HostRuntime) {
     ];
     for (words, puts) in table {
         let plan = planned(&rt, alloc, words);
-        let mut input = two_rows(&rt, alloc, None, None);
+        let mut input = two_rows(&rt, alloc);
         let mut output = Counting {
             puts: 0,
             ends: 0,

@@ -1,8 +1,8 @@
 //! The calls of commands that take no memory, while every growth is refused. Each test asserts the same answers twice, first with
 //! ample memory, but for a text that is put once.
 
+use crate::growth::switch;
 use crate::gtdesk::common::planned;
-use crate::without_memory::switch;
 use gtd_desk::{Ending, NoDomain, Plan, Refusal, WordFault, perform};
 use gtd_devices::{MemoryIn, MemoryOut};
 use gtd_records::RecordFault;
