@@ -1,5 +1,5 @@
 pub mod ExtentLemmas
+pub mod Leaves
 pub mod RepeatLemmas
-pub mod Shapes
 pub mod StayDays
 pub mod Unions

@@ -1,8 +1,11 @@
 pub mod Chains
 pub mod Cursors
 pub mod Ever
+pub mod Exprs
 pub mod Extent
+pub mod Keeping
 pub mod Kept
+pub mod Leaves
 pub mod Membership
 pub mod Names
 pub mod Nodes

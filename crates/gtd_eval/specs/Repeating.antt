@@ -41,6 +41,12 @@ IsRepeating GivenUp = ⊥
 abbrev pub IsPlace : ℕ → ℕ → Stage → Type 0
 IsPlace place count stage = 0 < place → (place < count) × IsRepeating stage
 
+-- no intervals are kept once they are too many
+abbrev pub KeepsNone : Stage → ℕ → Type 0
+KeepsNone Learning count = Unit {0}
+KeepsNone (Repeating last) count = Unit {0}
+KeepsNone GivenUp count = count ≡ 0
+
 -- what is still to come of a tree's list, at that stage
 abbrev pub to_come : Stage → List Interval → List Interval
 to_come Learning xs = xs

@@ -1,46 +1,52 @@
--- The shape of a tree of operators. Handing out spans does not change it.
+-- The shape of a tree of sweeps. Handing out spans does not change it.
 use Rattle.std.specs.Prelude.{ℕ, ◌+◌, max}
-use Rattle.gtd_core.specs.declared.domain.Basic.{Basic}
-use Rattle.gtd_core.specs.declared.horizon.Horizon.{Horizon}
-use Rattle.gtd_recur.specs.Work.{work_of}
 
--- a fixed span or none; the runs of a basic domain in a horizon; what the spans of a tree leave; a tree of which the spans
--- of a period are kept; an operator over two sides
+-- How large a tree or a leaf is: how many nodes it has, and how many the longest way down; the days that its runs may look at and
+-- the starts that they may take; and how many periods it keeps the spans of.
+pub record Size : Type 0 where
+  pub nodes : ℕ
+  pub height : ℕ
+  pub work : ℕ
+  pub periods : ℕ
+
+-- a fixed span or none; a leaf of that size; a sweep over one tree, or over two
 pub data Shape : Type 0 where
   fixed : Shape
-  runs : (basic : Basic) → (horizon : Horizon) → Shape
-  between : (inner : Shape) → Shape
-  repeated : (inner : Shape) → Shape
+  leaf : (size : Size) → Shape
+  one : (inner : Shape) → Shape
   two : (left right : Shape) → Shape
 
--- how many nodes it has; what keeps the spans of a period is part of the node that it keeps them of
+-- how many nodes it has
 abbrev pub shape_nodes : Shape → ℕ
 shape_nodes fixed = 1
-shape_nodes (runs basic horizon) = 1
-shape_nodes (between inner) = 1 + shape_nodes inner
-shape_nodes (repeated inner) = shape_nodes inner
+shape_nodes (leaf size) = size.nodes
+shape_nodes (one inner) = 1 + shape_nodes inner
 shape_nodes (two left right) = 1 + shape_nodes left + shape_nodes right
 
--- how many nodes the longest path down has
+-- how many nodes the longest way down has
 abbrev pub shape_height : Shape → ℕ
 shape_height fixed = 1
-shape_height (runs basic horizon) = 1
-shape_height (between inner) = 1 + shape_height inner
-shape_height (repeated inner) = shape_height inner
+shape_height (leaf size) = size.height
+shape_height (one inner) = 1 + shape_height inner
 shape_height (two left right) = 1 + max (shape_height left) (shape_height right)
 
--- the sum of the work of its runs
+-- the sum of the work of its leaves
 abbrev pub shape_work : Shape → ℕ
 shape_work fixed = 0
-shape_work (runs basic horizon) = work_of basic horizon
-shape_work (between inner) = shape_work inner
-shape_work (repeated inner) = shape_work inner
+shape_work (leaf size) = size.work
+shape_work (one inner) = shape_work inner
 shape_work (two left right) = shape_work left + shape_work right
 
--- how many parts it has, also those that keep spans
-abbrev pub shape_size : Shape → ℕ
-shape_size fixed = 1
-shape_size (runs basic horizon) = 1
-shape_size (between inner) = 1 + shape_size inner
-shape_size (repeated inner) = 1 + shape_size inner
-shape_size (two left right) = 1 + shape_size left + shape_size right
+-- how many periods its leaves keep the spans of
+abbrev pub shape_periods : Shape → ℕ
+shape_periods fixed = 0
+shape_periods (leaf size) = size.periods
+shape_periods (one inner) = shape_periods inner
+shape_periods (two left right) = shape_periods left + shape_periods right
+
+-- how many parts it has, where a leaf is one
+abbrev pub shape_parts : Shape → ℕ
+shape_parts fixed = 1
+shape_parts (leaf size) = 1
+shape_parts (one inner) = 1 + shape_parts inner
+shape_parts (two left right) = 1 + shape_parts left + shape_parts right

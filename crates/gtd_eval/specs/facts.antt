@@ -1,8 +1,10 @@
 pub mod CursorFacts
 pub mod TreeDecisions
 pub mod NodeFacts
+pub mod PartFacts
 pub mod PeriodFacts
 pub mod RepeatProps
+pub mod RunsFacts
 pub mod Repeats
 pub mod SingleFacts
 pub mod StayFacts

@@ -1,26 +1,32 @@
-//! Which trees keep their spans of a period.
+//! Of which trees the spans of a period are kept.
 
-ghost use Rattle.std.specs.Prelude.{◌≡◌, ◌≤◌, ◌↔◌, ◌+ℤ◌, ◌*ℤ◌, ◌≤ℤ◌, pos, [], IfOk, IfSome, IsTrue};
-ghost use Rattle.gtd_core.specs.Limits.{most_nodes};
+ghost use Rattle.std.specs.Prelude.{◌≤◌, ◌↔◌, ◌+ℤ◌, ◌*ℤ◌, ◌≤ℤ◌, pos, IfSome, IsTrue};
 ghost use Rattle.gtd_core.specs.Trees.{tree_of};
 ghost use Rattle.gtd_core.specs.Whole.{whole};
 ghost use Rattle.gtd_recur.specs.Periods.{period_seconds};
-ghost use Rattle.gtd_eval.specs.Nodes.{node_list, node_count, IsSoundNode, IsSameTree};
 ghost use Rattle.gtd_eval.specs.Periods.{AllRepeat};
-ghost use Rattle.gtd_eval.specs.Repeating.{AreKept};
-ghost use Rattle.gtd_eval.specs.declared.repeat.Stage.TheVariants.{Learning};
 
-use crate::node::Node;
 use crate::period::period_of_all;
-use crate::repeat::Repeat;
 use gtd_core::limits::DAY_SECONDS;
-use gtd_core::{Expr, Horizon, Op};
+use gtd_core::{Expr, Horizon};
 use gtd_recur::Period;
-use std::alloc::{AllocError, Global};
 
-// The spans of a period for which a node makes room. A tree over k basic domains has 2k - 1 nodes, so that this is about 8
-// for each: most begin once a day, and those that begin each hour or minute repeat as often.
-const SPANS_OF_A_NODE: u64 = 4;
+// The spans of a period for which a node makes room. A tree over k basic domains has 2k - 1 nodes, so that this is some 32 for
+// each: most begin once a day, and those that begin each hour or minute repeat as often.
+const SPANS_OF_A_NODE: u64 = 16;
+
+// The spans of a period that are kept at most.
+const MOST_KEPT: u64 = 4_096;
+
+// For how many spans of a period there is room, in a tree of so many nodes.
+pub(crate) fn room_for(nodes: u64) -> usize
+    ensures few { result ≤ 4096 }
+{
+    if nodes < MOST_KEPT / SPANS_OF_A_NODE {
+        return (SPANS_OF_A_NODE * (nodes + 1)) as usize;
+    }
+    MOST_KEPT as usize
+}
 
 // Whether it pays to keep the spans of a period in the horizon, which has at least three: the spans are known after two at
 // most.
@@ -47,45 +53,4 @@ pub(crate) fn kept_period(expr: &Expr, horizon: Horizon) -> Option<Period>
         return Some(period);
     }
     None
-}
-
-// The same of an expression in a chain of the operator, if that is asked for, and if it is not a part of the chain but a
-// term of it.
-pub(crate) fn term_period(keep: bool, op: Op, expr: &Expr, horizon: Horizon) -> Option<Period>
-    ensures repeats { IfSome result (λ period. AllRepeat (period_seconds period) (tree_of expr.now)) }
-{
-    if !keep {
-        return None;
-    }
-    match expr {
-        Expr::Leaf(_) => kept_period(expr, horizon),
-        Expr::Join(inner, _, _) => {
-            if *inner == op {
-                None
-            } else {
-                kept_period(expr, horizon)
-            }
-        }
-    }
-}
-
-// The same tree. One that repeats after a period gets room for its spans of one.
-pub(crate) fn repeated(
-    alloc: Global,
-    node: Node,
-    period: Option<Period>,
-    horizon: Horizon,
-) -> Result<Node, AllocError>
-    requires sound { IsSoundNode node }
-    requires few { node_count node ≤ most_nodes }
-    requires kept { IfSome period (λ x. AreKept (period_seconds x) Learning (whole horizon).until [] (node_list node)) }
-    ensures same { IfOk result (λ n. IsSameTree node n) }
-{
-    let Some(period) = period else {
-        return Ok(node);
-    };
-    let room = SPANS_OF_A_NODE * (node.count() + 1);
-    let again = Repeat::new(alloc, period, horizon, room as usize)?;
-    let inner = Box::new(alloc, node)?;
-    Ok(Node::Repeat(again, inner))
 }

@@ -6,7 +6,7 @@ ghost use Rattle.gtd_core.specs.Whole.{whole};
 ghost use Rattle.gtd_spans.specs.Change.{NeverChanges, IsNextChange};
 ghost use Rattle.gtd_eval.specs.Membership.{InDomain, IsNormalOver};
 
-use crate::cursor::Cursor;
+use crate::kept::KeptCursor;
 use gtd_core::{Domain, Horizon, Sec};
 use gtd_spans::SpanList;
 use std::alloc::{AllocError, Global};
@@ -15,7 +15,7 @@ use std::alloc::{AllocError, Global};
 pub fn spans(alloc: Global, domain: &Domain, horizon: Horizon) -> Result<SpanList, AllocError>
     ensures normal { IfOk result (λ list. IsNormalOver (InDomain domain.now) horizon list) }
 {
-    let mut cursor = Cursor::open(alloc, domain, horizon)?;
+    let mut cursor = KeptCursor::open(alloc, domain, horizon)?;
     SpanList::collect(alloc, &mut cursor)
 }
 
@@ -32,6 +32,6 @@ pub fn next_change(
         (NeverChanges (InDomain domain.now) second.0 (whole horizon).until)
         (λ c. IsNextChange (InDomain domain.now) second.0 (whole horizon).until c.0)) }
 {
-    let mut cursor = Cursor::open(alloc, domain, horizon)?;
+    let mut cursor = KeptCursor::open(alloc, domain, horizon)?;
     Ok(gtd_spans::next_change(&mut cursor, second, horizon.until()))
 }

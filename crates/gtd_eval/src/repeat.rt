@@ -1,14 +1,17 @@
 //! The spans of a period, from which all later ones follow.
 
-ghost use Rattle.std.specs.Prelude.{◌*ℤ◌, ◌≤ℤ◌, ◌<ℤ◌, pos, length};
+ghost use Rattle.std.specs.Prelude.{◌≤◌, ◌*ℤ◌, ◌≤ℤ◌, ◌<ℤ◌, pos, length};
 ghost use Rattle.gtd_core.specs.Limits.{day_seconds, first_horizon_day};
 ghost use Rattle.gtd_eval.specs.Ever.{week};
-ghost use Rattle.gtd_eval.specs.Repeating.{IsPlace};
-ghost use Rattle.gtd_eval.specs.facts.RepeatProps.{IsPlace-prop};
+ghost use Rattle.gtd_eval.specs.Repeating.{IsPlace, KeepsNone};
+ghost use Rattle.gtd_eval.specs.facts.RepeatProps.{IsPlace-prop, KeepsNone-prop};
 
 use gtd_core::{Horizon, Sec, Span};
 use gtd_recur::Period;
 use std::alloc::{AllocError, Global};
+
+// The spans of a period that are kept at most.
+const MOST_KEPT: usize = 4_096;
 
 /// What is known of the spans of a period.
 #[derive(Clone, Copy, Debug)]
@@ -31,6 +34,8 @@ pub struct Repeat {
     // In seconds.
     pub(crate) period: i64,
     pub(crate) horizon: Span,
+    ghost few: { length kept.items ≤ 4096 },
+    ghost none: { KeepsNone stage (length kept.items) } by { KeepsNone-prop stage (length kept.items) },
     ghost among: { IsPlace place (length kept.items) stage } by { IsPlace-prop place (length kept.items) stage },
     ghost some: { pos 0 <ℤ period },
     ghost short: { period ≤ℤ week },
@@ -47,7 +52,27 @@ impl Repeat {
     ghost use Rattle.gtd_recur.specs.Periods.{period_seconds};
     ghost use Rattle.gtd_eval.specs.Repeating.{IsRepeating, later, to_come};
     ghost use Rattle.gtd_eval.specs.Kept.{kept_list, HasKept};
-    ghost use Rattle.gtd_eval.specs.declared.repeat.Stage.TheVariants.{Learning, Repeating};
+    ghost use Rattle.gtd_eval.specs.declared.repeat.Stage.TheVariants.{Learning, Repeating, GivenUp};
+
+    // No span is kept, now and later.
+    pub(crate) fn given_up(alloc: Global, period: Period, horizon: Horizon) -> Repeat
+        ensures stage { result.stage ≡ GivenUp }
+    {
+        Repeat {
+            kept: Vec::new(alloc),
+            place: 0,
+            stage: Stage::GivenUp,
+            period: period.seconds(),
+            horizon: horizon.whole(),
+        }
+    }
+
+    // How many spans are kept.
+    pub(crate) fn count(&self) -> usize
+        ensures value { result ≡ length self.now.kept.items }
+    {
+        self.kept.len()
+    }
 
     // Room for so many spans, none of which has been kept yet.
     pub(crate) fn new(
@@ -196,18 +221,27 @@ impl Repeat {
         }
     }
 
+    // The spans of a period are too many to be kept.
+    fn give_up(&mut self)
+        ensures stage { self.new.stage ≡ GivenUp }
+    {
+        self.kept.clear();
+        self.place = 0;
+        self.stage = Stage::GivenUp;
+    }
+
     // Puts a span behind the kept ones, if there is room.
     fn append(&mut self, span: Span)
         requires learning { self.old.stage ≡ Learning }
         ensures all { (xs : List Interval) → to_come self.new.stage xs ≡ xs }
         ensures kept { (xs : List Interval) → HasKept self.old (span ∷ xs) → HasKept self.new xs }
     {
-        if self.kept.len() == self.kept.capacity() {
-            self.stage = Stage::GivenUp;
+        if self.kept.len() >= MOST_KEPT || self.kept.len() == self.kept.capacity() {
+            self.give_up();
             return;
         }
         if self.kept.push(span).is_err() {
-            self.stage = Stage::GivenUp;
+            self.give_up();
         }
     }
 }

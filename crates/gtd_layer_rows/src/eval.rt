@@ -7,7 +7,9 @@ use crate::refusals::change;
 use crate::texts::{domain, horizon};
 use crate::values::chain;
 use gtd_core::{Domain, Horizon, Sec, Span};
-use gtd_eval::{Cursor, EverFault, Period, holds, next_change, next_change_ever, period_of, spans};
+use gtd_eval::{
+    Cursor, EverFault, KeptCursor, Period, holds, next_change, next_change_ever, period_of, spans,
+};
 use gtd_spans::{SpanList, SpanSource};
 use std::alloc::{AllocError, Global};
 use std::process::Abort;
@@ -175,7 +177,7 @@ fn periods(rt: HostRuntime) {
 }
 
 /// Both cursors hand out the same spans.
-fn check_same(rt: &impl Abort, kept: &mut Cursor, once: &mut Cursor) {
+fn check_same(rt: &impl Abort, kept: &mut KeptCursor, once: &mut Cursor) {
     for _ in 0..50_000u32 {
         let span = kept.next();
         assert!(rt; span == once.next());
@@ -198,10 +200,37 @@ fn spans_that_repeat(rt: HostRuntime) -> Result<(), Fail> {
     ];
     for text in table {
         let domain = domain(&rt, alloc, text);
-        let mut kept = Cursor::open(alloc, &domain, weeks)?;
-        let mut once = Cursor::open_once(alloc, &domain, weeks)?;
+        let mut kept = KeptCursor::open(alloc, &domain, weeks)?;
+        let mut once = Cursor::open(alloc, &domain, weeks)?;
         assert!(rt; kept.nodes() == once.nodes());
         check_same(&rt, &mut kept, &mut once);
+    }
+    Ok(())
+}
+
+/// A domain, and how many spans its cursor keeps once all are handed out: those of a period of each largest part that repeats, and
+/// none of a period with more of them than there is room for.
+static KEPT: [(&str, u64); 6] = [
+    (EACH_MINUTE, 1),
+    (BROKEN_MORNING, 2),
+    ("(t2){d1}+(h10){h4}", 7),
+    ("(h10){h4}*(M5){M1}", 1),
+    ("(t2){d1}*(s0){s10}", 0),
+    ("(M5d1){d1}", 0),
+];
+
+#[test]
+fn kept_spans(rt: HostRuntime) -> Result<(), Fail> {
+    let alloc = rt.alloc();
+    let weeks = horizon(&rt, MONDAY + 2, MONDAY + 30);
+    for &(text, wanted) in &KEPT {
+        let mut cursor = KeptCursor::open(alloc, &domain(&rt, alloc, text), weeks)?;
+        assert!(rt; cursor.kept() == 0, "{text}");
+        while cursor.next().is_some() {}
+        assert!(rt; cursor.kept() == wanted, "{text}");
+        let mut once = Cursor::open(alloc, &domain(&rt, alloc, text), weeks)?;
+        let _ = once.next();
+        assert!(rt; once.kept() == 0, "{text}");
     }
     Ok(())
 }

@@ -12,7 +12,7 @@ use crate::lists::{has_ends, list_of};
 use crate::texts::{horizon, leaf};
 use gtd_core::{Domain, Expr, Fault, Horizon, Op, Sec, Span, TextFault};
 use gtd_devices::{MemoryIn, MemoryOut};
-use gtd_eval::{Cursor, EverFault, next_change, next_change_ever, spans};
+use gtd_eval::{Cursor, EverFault, KeptCursor, next_change, next_change_ever, spans};
 use gtd_hours_text::read_hours;
 use gtd_osm::{HoursFault, domain_of};
 use gtd_records::{Direction, RecordFault, Records, open_seconds, read_records, schedule_of};
@@ -44,7 +44,12 @@ const NO_MEMORY: TextFault = TextFault {
 };
 
 // The cursor hands out spans with these ends, in seconds after a midnight, and nothing more.
-pub(crate) fn gives(rt: &impl Abort, cursor: &mut Cursor, midnight: i64, ends: &[(i64, i64)]) {
+pub(crate) fn gives<S: SpanSource>(
+    rt: &impl Abort,
+    cursor: &mut S,
+    midnight: i64,
+    ends: &[(i64, i64)],
+) {
     for (from, until) in ends {
         let from = Sec(midnight.wrapping_add(*from));
         let until = Sec(midnight.wrapping_add(*until));
@@ -381,6 +386,29 @@ fn a_cursor(rt: HostRuntime) {
         if let Ok(mut cursor) = Cursor::open(rt.alloc(), &domain, horizon) {
             assert!(rt; cursor.nodes() == 3);
             gives(&rt, &mut cursor, 19_814 * DAY, &[(10 * HOUR, 14 * HOUR)]);
+            return;
+        }
+    }
+    panic!(rt; "refused twice");
+}
+
+#[test]
+fn a_cursor_that_keeps_spans(rt: HostRuntime) {
+    let Ok(night) = read_domain(rt.alloc(), NIGHT) else {
+        return;
+    };
+    let horizon = horizon(&rt, NEW_YEAR, NEW_YEAR + 3);
+    let ends = [
+        (0, 6 * HOUR),
+        (22 * HOUR, 30 * HOUR),
+        (46 * HOUR, 54 * HOUR),
+        (70 * HOUR, 72 * HOUR),
+    ];
+    for _ in 0..2 {
+        if let Ok(mut cursor) = KeptCursor::open(rt.alloc(), &night, horizon) {
+            assert!(rt; (cursor.nodes(), cursor.kept()) == (1, 0));
+            gives(&rt, &mut cursor, NEW_YEAR * DAY, &ends);
+            assert!(rt; cursor.kept() == 1);
             return;
         }
     }

@@ -6,7 +6,8 @@ use Rattle.gtd_core.specs.Whole.{whole}
 use Rattle.gtd_core.specs.declared.horizon.Horizon.{Horizon}
 use Rattle.gtd_eval.specs.Cursors.{SomeHolds, cursor_list}
 use Rattle.gtd_eval.specs.Membership.{IsNormalOver}
-use Rattle.gtd_eval.specs.declared.cursor.Cursor.{Cursor}
+use Rattle.gtd_eval.specs.declared.leaf.Leaf.{Ghosts}
+use Rattle.gtd_eval.specs.declared.tree.SweepTree.{SweepTree}
 use Rattle.gtd_spans.specs.Normal.{Holds, IsNormal}
 use Rattle.gtd_spans.specs.facts.NormalFor.{normal-for}
 use Rattle.gtd_core.specs.Limits.{most_nodes}
@@ -17,34 +18,33 @@ use Rattle.gtd_records.specs.Closing.{Closes, Concerns, HoldsAt, IsClosed, IsOpe
 use Rattle.gtd_records.specs.declared.index.Place.{Place}
 use Rattle.gtd_records.specs.declared.direction.Direction.{Direction}
 
-some_push : (cs : List Cursor) (c : Cursor) (t : ℤ) → SomeHolds (cs ++ c ∷ []) t → SomeHolds cs t ⊎ Holds (cursor_list c) t
+some_push : {L : Type 0} {g : Ghosts L} (cs : List (SweepTree L g)) (c : SweepTree L g) (t : ℤ) → SomeHolds (cs ++ c ∷ []) t
+    → SomeHolds cs t ⊎ Holds (cursor_list c) t
 some_push [] c t (inl h) = inr h
 some_push [] c t (inr h) = absurd h
 some_push (d ∷ cs) c t (inl h) = inl (inl h)
 some_push (d ∷ cs) c t (inr h) = elim (some_push cs c t h) [ inl s ↦ inl (inr s) | inr l ↦ inr l ]
 
-push_old : (cs : List Cursor) (c : Cursor) (t : ℤ) → SomeHolds cs t → SomeHolds (cs ++ c ∷ []) t
+push_old : {L : Type 0} {g : Ghosts L} (cs : List (SweepTree L g)) (c : SweepTree L g) (t : ℤ) → SomeHolds cs t
+    → SomeHolds (cs ++ c ∷ []) t
 push_old [] c t h = absurd h
 push_old (d ∷ cs) c t (inl h) = inl h
 push_old (d ∷ cs) c t (inr h) = inr (push_old cs c t h)
 
-push_new : (cs : List Cursor) (c : Cursor) (t : ℤ) → Holds (cursor_list c) t → SomeHolds (cs ++ c ∷ []) t
+push_new : {L : Type 0} {g : Ghosts L} (cs : List (SweepTree L g)) (c : SweepTree L g) (t : ℤ) → Holds (cursor_list c) t
+    → SomeHolds (cs ++ c ∷ []) t
 push_new [] c t h = inl h
 push_new (d ∷ cs) c t h = inr (push_new cs c t h)
 
-module _ (rows : List Restriction) (part : List Place) (element : ℕ) (direction : Direction) (vehicle : ℕ)
+module _ {L : Type 0} {g : Ghosts L} (rows : List Restriction) (part : List Place) (element : ℕ) (direction : Direction) (vehicle : ℕ)
     (horizon : Horizon) where
-  -- no restriction at the first places closes the element at the second
-  abbrev pub NoneCloses : ℕ → ℤ → Type 0
-  NoneCloses stop t = NoneSoFar rows part (Closes element direction vehicle t) stop
-
   -- the cursors are those of the restrictions at the first places that close the element
-  pub record AreClosingSoFar (stop : ℕ) (cursors : List Cursor) : Type 0 where
+  pub record AreClosingSoFar (stop : ℕ) (cursors : List (SweepTree L g)) : Type 0 where
     pub sound : (t : ℤ) → SomeHolds cursors t → IsClosed rows element direction vehicle t
-    pub complete : (t : ℤ) → Within (whole horizon) t → (SomeHolds cursors t → ⊥) → NoneCloses stop t
+    pub complete : (t : ℤ) → Within (whole horizon) t → (SomeHolds cursors t → ⊥) → NoneSoFar rows part (Closes element direction vehicle t) stop
 
   -- a restriction that concerns nothing asked for adds none
-  pub same_cursors : (i : ℕ) (cursors : List Cursor) (p : Place) (s : Restriction) → i < length part
+  pub same_cursors : (i : ℕ) (cursors : List (SweepTree L g)) (p : Place) (s : Restriction) → i < length part
       → (slice_index_or part i p).row < length rows
       → s ≡ slice_index_or rows (slice_index_or part i p).row s → (Concerns direction vehicle s → ⊥) → AreClosingSoFar i cursors
       → AreClosingSoFar (i + 1) cursors
@@ -54,7 +54,7 @@ module _ (rows : List Restriction) (part : List Place) (element : ℕ) (directio
   }
 
   -- one that does adds its cursor
-  pub one_cursor : (i : ℕ) (cursors : List Cursor) (c : Cursor) (p : Place) (s : Restriction) → i < length part
+  pub one_cursor : (i : ℕ) (cursors : List (SweepTree L g)) (c : SweepTree L g) (p : Place) (s : Restriction) → i < length part
       → (slice_index_or part i p).row < length rows
       → s ≡ slice_index_or rows (slice_index_or part i p).row s → s.element ≡ element → Concerns direction vehicle s
       → ((t : ℤ) → Holds (cursor_list c) t ↔ (Within (whole horizon) t × HoldsAt s.domain t))
@@ -76,7 +76,7 @@ module _ (rows : List Restriction) (part : List Place) (element : ℕ) (directio
   }
 
   -- where the first places have all restrictions of the element, their cursors are those of all that close it
-  pub are_closing : (stop : ℕ) (cursors : List Cursor) → total_nodes cursors + length cursors ≤ most_nodes
+  pub are_closing : (stop : ℕ) (cursors : List (SweepTree L g)) → total_nodes cursors + length cursors ≤ most_nodes
       → AreClosingSoFar stop cursors → AllSeen rows part element stop
       → AreClosing rows element direction vehicle horizon cursors
   are_closing stop cursors few are seen = record {
@@ -87,8 +87,8 @@ module _ (rows : List Restriction) (part : List Place) (element : ℕ) (directio
   }
 
 -- what lies outside of all that is closed is open
-pub open_normal : (rows : List Restriction) (element : ℕ) (direction : Direction) (vehicle : ℕ) (horizon : Horizon)
-    (cursors : List Cursor) (closed spare : List Interval)
+pub open_normal : {L : Type 0} {g : Ghosts L} (rows : List Restriction) (element : ℕ) (direction : Direction)
+    (vehicle : ℕ) (horizon : Horizon) (cursors : List (SweepTree L g)) (closed spare : List Interval)
     → ((t : ℤ) → SomeHolds cursors t → IsClosed rows element direction vehicle t)
     → ((t : ℤ) → Within (whole horizon) t → (SomeHolds cursors t → ⊥) → IsOpen rows element direction vehicle t)
     → ((t : ℤ) → Holds closed t ↔ SomeHolds cursors t)

@@ -7,7 +7,8 @@ use Rattle.gtd_core.specs.Seconds.{Within}
 use Rattle.gtd_core.specs.Whole.{whole}
 use Rattle.gtd_core.specs.declared.horizon.Horizon.{Horizon}
 use Rattle.gtd_eval.specs.Cursors.{SomeHolds, total_nodes}
-use Rattle.gtd_eval.specs.declared.cursor.Cursor.{Cursor}
+use Rattle.gtd_eval.specs.declared.leaf.Leaf.{Ghosts}
+use Rattle.gtd_eval.specs.declared.tree.SweepTree.{SweepTree}
 use Rattle.gtd_records.specs.Closing.{AreElements, IsClosed, IsOpen, Restriction}
 use Rattle.gtd_records.specs.declared.direction.Direction.{Direction}
 use Rattle.gtd_records.specs.declared.index.Place.{Place}
@@ -32,8 +33,8 @@ pub record IsIndexed (rows : List Restriction) (places : List Place) (elements :
 
 -- The cursors have the seconds of the horizon at which a restriction closes the element in the direction for the vehicle
 -- type, and few enough nodes to be united and complemented.
-pub record AreClosing (rows : List Restriction) (element : ℕ) (direction : Direction) (vehicle : ℕ)
-    (horizon : Horizon) (cursors : List Cursor) : Type 0 where
+pub record AreClosing {L : Type 0} {g : Ghosts L} (rows : List Restriction) (element : ℕ) (direction : Direction) (vehicle : ℕ)
+    (horizon : Horizon) (cursors : List (SweepTree L g)) : Type 0 where
   pub few : total_nodes cursors + length cursors ≤ most_nodes
   pub sound : (t : ℤ) → SomeHolds cursors t → IsClosed rows element direction vehicle t
   pub complete : (t : ℤ) → Within (whole horizon) t → (SomeHolds cursors t → ⊥)

@@ -10,7 +10,7 @@ use crate::direction::Direction;
 use crate::index::Records;
 use crate::schedule::open_tree;
 use gtd_core::{Horizon, Sec};
-use gtd_eval::days_to_look;
+use gtd_eval::{Cursor, days_to_look};
 use std::alloc::{AllocError, Global};
 
 // How often the records are asked how long they stay as they are, before their seconds are gone over span by span.
@@ -34,7 +34,7 @@ fn change_by_spans(
 {
     let weekly = records.period(element, direction, vehicle).is_some();
     let days = days_to_look(weekly, second, horizon);
-    let mut open = open_tree(alloc, records, element, direction, vehicle, days, false)?;
+    let mut open: Cursor = open_tree(alloc, records, element, direction, vehicle, days)?;
     Ok(gtd_spans::next_change(&mut open, second, days.until()))
 }
 

@@ -16,7 +16,7 @@ ghost use Rattle.gtd_records.specs.Columns.{IsSortedSet};
 use crate::direction::Direction;
 use crate::record::Record;
 use gtd_core::{Horizon, Op, Sec};
-use gtd_eval::{Cursor, Period, Stay};
+use gtd_eval::{Leaf, Period, Stay, SweepTree};
 use std::alloc::{AllocError, Global};
 use std::marker::Model;
 
@@ -246,17 +246,15 @@ impl Records {
         Some(longest)
     }
 
-    // The cursors of the records that close the element in the direction for the vehicle type. If so told, they keep what
-    // repeats in them.
-    pub(crate) fn closing(
+    // The cursors of the records that close the element in the direction for the vehicle type.
+    pub(crate) fn closing<L: Leaf>(
         &self,
         alloc: Global,
         element: u64,
         direction: Direction,
         vehicle: u8,
         horizon: Horizon,
-        keep: bool,
-    ) -> Result<Vec<Cursor>, AllocError>
+    ) -> Result<Vec<SweepTree<L>>, AllocError>
         ensures { IfOk result (λ cursors. AreClosing self.now element direction vehicle horizon cursors.items) }
     {
         let from = places_below(self.places.as_slice(), element);
@@ -267,7 +265,7 @@ impl Records {
             }
             let restriction = &self.rows[place.row];
             if restriction.concerns(direction, vehicle) {
-                cursors.push(restriction.cursor(alloc, horizon, keep)?)?;
+                cursors.push(restriction.cursor::<L>(alloc, horizon)?)?;
             }
         }
         Ok(cursors)

@@ -12,7 +12,7 @@ ghost use Rattle.gtd_spans.specs.Normal.{Holds};
 use crate::direction::{Closed, Direction};
 use crate::vehicles::Vehicles;
 use gtd_core::{Domain, Horizon, Sec};
-use gtd_eval::{Cursor, Period, Stay, holds, period_of, stay_of};
+use gtd_eval::{Leaf, Period, Stay, SweepTree, holds, period_of, stay_of};
 use std::alloc::{AllocError, Global};
 use std::marker::Model;
 
@@ -115,26 +115,19 @@ impl Record {
         period_of(domain)
     }
 
-    // The seconds of a horizon at which the record closes what it concerns. If so told, what repeats in it is kept.
-    pub(crate) fn cursor(
+    // The seconds of a horizon at which the record closes what it concerns.
+    pub(crate) fn cursor<L: Leaf>(
         &self,
         alloc: Global,
         horizon: Horizon,
-        keep: bool,
-    ) -> Result<Cursor, AllocError>
+    ) -> Result<SweepTree<L>, AllocError>
         ensures seconds { IfOk result (λ c. (t : ℤ) → Holds (cursor_list c) t
             ↔ (Within (whole horizon) t × HoldsAt self.now.domain t)) }
         ensures nodes { IfOk result (λ c. cursor_nodes c ≤ 255) }
     {
         match &self.domain {
-            Some(domain) => {
-                if keep {
-                    Cursor::open(alloc, domain, horizon)
-                } else {
-                    Cursor::open_once(alloc, domain, horizon)
-                }
-            }
-            None => Ok(Cursor::whole(horizon)),
+            Some(domain) => SweepTree::<L>::open(alloc, domain, horizon),
+            None => Ok(SweepTree::<L>::whole(horizon)),
         }
     }
 }

@@ -9,31 +9,31 @@ ghost use Rattle.gtd_records.specs.Index.{AreClosing};
 use crate::direction::Direction;
 use crate::index::Records;
 use gtd_core::Horizon;
-use gtd_eval::Cursor;
+use gtd_eval::{Cursor, KeptCursor, Leaf, SweepTree};
 use gtd_spans::SpanList;
 use std::alloc::{AllocError, Global};
 
-// The same seconds as those of `open_seconds`, each span found anew. If so told, what repeats in the records is kept.
-pub(crate) fn open_tree(
+// The same seconds as those of `open_seconds`, by cursors of this kind.
+pub(crate) fn open_tree<L: Leaf>(
     alloc: Global,
     records: &Records,
     element: u64,
     direction: Direction,
     vehicle: u8,
     horizon: Horizon,
-    keep: bool,
-) -> Result<Cursor, AllocError>
+) -> Result<SweepTree<L>, AllocError>
     ensures seconds { IfOk result
         (λ c. IsNormalOver (IsOpen records.now element direction vehicle) horizon (cursor_list c)) }
 {
-    let closing = records.closing(alloc, element, direction, vehicle, horizon, keep)?;
-    let closed = Cursor::any(alloc, closing, horizon)?;
-    Cursor::outside(alloc, closed, horizon)
+    let closing = records.closing::<L>(alloc, element, direction, vehicle, horizon)?;
+    let closed = SweepTree::<L>::any(alloc, closing, horizon)?;
+    SweepTree::<L>::outside(alloc, closed, horizon)
 }
 
 /// The seconds of the horizon in which no record closes the element in the direction for the vehicle type, span by
-/// span. The vehicle type must be from 1 to 99. An element that no record names is open throughout. Where all its records
-/// repeat, the spans of a period are kept and handed out again. `AllocError` is answered only if memory was refused.
+/// span. The vehicle type must be from 1 to 99. An element that no record names is open throughout. The spans of a period are
+/// kept, at most 4,096, and handed out again: of the whole, if all its records repeat, and otherwise of what repeats in them.
+/// `AllocError` is answered only if memory was refused.
 pub fn open_seconds(
     alloc: Global,
     records: &Records,
@@ -41,15 +41,15 @@ pub fn open_seconds(
     direction: Direction,
     vehicle: u8,
     horizon: Horizon,
-) -> Result<Cursor, AllocError>
+) -> Result<KeptCursor, AllocError>
     ensures seconds { IfOk result
         (λ c. IsNormalOver (IsOpen records.now element direction vehicle) horizon (cursor_list c)) }
 {
     let Some(period) = records.period(element, direction, vehicle) else {
-        return open_tree(alloc, records, element, direction, vehicle, horizon, true);
+        return open_tree(alloc, records, element, direction, vehicle, horizon);
     };
-    let open = open_tree(alloc, records, element, direction, vehicle, horizon, false)?;
-    Cursor::repeating(alloc, open, period, horizon)
+    let open: Cursor = open_tree(alloc, records, element, direction, vehicle, horizon)?;
+    KeptCursor::repeating(alloc, open, period, horizon)
 }
 
 /// The seconds of the horizon in which no record closes the element in the direction for the vehicle type, which must

@@ -10,7 +10,7 @@ use Rattle.gtd_spans.specs.declared.merge.Merge.{Merge}
 use Rattle.gtd_spans.specs.Normal.{Holds, IsNormal, combine}
 use Rattle.gtd_spans.specs.Merging.{listed, side_list, still, AllBeginFrom, KeptFits, Fits}
 use Rattle.gtd_spans.specs.facts.OneList.{one-list}
-pub use Rattle.gtd_spans.specs.Sides.{Handed}
+pub use Rattle.gtd_spans.specs.Merging.{Handed}
 pub use Rattle.gtd_spans.specs.facts.Orders.{after-from-holds, from-after, from-weaken, from-holds, normal-begins}
 use Rattle.gtd_spans.specs.facts.Combining.{combine-normal, combine-holds}
 

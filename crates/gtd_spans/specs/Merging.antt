@@ -73,6 +73,16 @@ abbrev pub Takes : List Interval → Option Interval → List Interval → Type 
 Takes before None after = (before ≡ []) × (after ≡ [])
 Takes before (Some x) after = before ≡ x ∷ after
 
+-- what was handed out, if anything, and the list before and after it
+abbrev pub Handed : Option Interval → List Interval → List Interval → Type 0
+Handed None old new = old ≡ new
+Handed (Some x) old new = old ≡ x ∷ new
+
+-- the interval comes first on the side, or the side has ended
+abbrev pub ComesFirst : Option Interval → Side → Type 0
+ComesFirst None side = side ≡ Ended
+ComesFirst (Some x) side = side ≡ Held x
+
 -- 0 if the side has ended, otherwise 1
 abbrev pub unended : Side → ℕ
 unended Open = 1

@@ -4,12 +4,10 @@ pub mod CountFacts
 pub mod Ended
 pub mod Exists
 pub mod FitsProp
-pub mod Joining
 pub mod NormalFor
 pub mod OneList
 pub mod Orders
 pub mod PartFacts
-pub mod SideFacts
 pub mod SomeList
 pub mod SweepFacts
 pub mod Whole

@@ -5,26 +5,21 @@
 //!
 //! A [`Sweep`] is a set operator without its sides. It asks for their spans one at a time, and hands out the spans of
 //! the result. [`Unite`], [`Both`], [`Without`] and [`Outside`] drive one over sources, and the list operations collect
-//! these over lists. [`first_of`], [`longer`], [`share`] and [`cut`] take the first spans of two sides. Only
-//! [`SpanList::push_start`] on a new span, [`SpanList::collect`], [`SpanList::collect_within`] and the five list operations
-//! take memory.
+//! these over lists. Only [`SpanList::push_start`] on a new span, [`SpanList::collect`], [`SpanList::collect_within`] and the
+//! five list operations take memory.
 #![tactic(auto)]
 
 pub use counting::ByDay;
-pub use gaps::Gaps;
 pub use list::{Listed, SpanList};
-pub use merge::{Ask, Side};
+pub use merge::Ask;
 pub use operations::{complement, meet, minus, same, union, within};
-pub use sides::{cut, first_of, longer, share};
 pub use source::{Both, Outside, SpanSource, Unite, Without, next_change};
 pub use sweep::Sweep;
 
 mod counting;
-mod gaps;
 pub mod laws;
 mod list;
 mod merge;
 mod operations;
-mod sides;
 mod source;
 mod sweep;

@@ -11,7 +11,7 @@ use gtd_core::{Op, Span};
 
 /// What is known of one side of an operator.
 #[derive(Clone, Copy, Debug)]
-pub enum Side {
+pub(crate) enum Side {
     /// Its next span is not known.
     Open,
     /// Its next span.
@@ -21,41 +21,16 @@ pub enum Side {
 }
 
 impl Side {
-    ghost use Rattle.std.specs.Prelude.{◌≡◌, ◌≢◌, IsTrue, IsFalse, None};
-    ghost use Rattle.gtd_spans.specs.Sides.{ComesFirst};
-    ghost use Rattle.gtd_spans.specs.declared.merge.Side.TheVariants.{Open};
+    ghost use Rattle.gtd_spans.specs.Merging.{ComesFirst};
 
     /// A side that was told its next span, or that it has none.
-    pub fn told(told: Option<Span>) -> Side
+    #[inline(always)]
+    fn told(told: Option<Span>) -> Side
         ensures comes { ComesFirst told result }
     {
         match told {
             Some(x) => Side::Held(x),
             None => Side::Ended,
-        }
-    }
-
-    /// Whether its next span is not known.
-    pub fn is_open(&self) -> bool
-        ensures yes { IsTrue result → self.now ≡ Open }
-        ensures no { IsFalse result → self.now ≢ Open }
-    {
-        match self {
-            Side::Open => true,
-            Side::Held(_) => false,
-            Side::Ended => false,
-        }
-    }
-
-    /// Its next span, if that is known.
-    pub fn held(&self) -> Option<Span>
-        ensures comes { self.now ≢ Open → ComesFirst result self.now }
-        ensures open { self.now ≡ Open → result ≡ None }
-    {
-        match self {
-            Side::Held(x) => Some(*x),
-            Side::Open => None,
-            Side::Ended => None,
         }
     }
 }
@@ -84,6 +59,7 @@ pub(crate) struct Merge {
 }
 
 /// What is handed out and what is kept back when `next` comes after `kept`.
+#[inline(always)]
 fn joined(kept: Option<Span>, next: Span) -> (Option<Span>, Span)
     ensures seconds { IfSome kept (λ k. k.from ≤ℤ next.from) → (t : ℤ) →
         (Holds (listed kept) t ⊎ Within next t) ↔ (Holds (listed result.0) t ⊎ Within result.1 t) }
@@ -122,6 +98,7 @@ impl Merge {
     }
 
     /// What the merge asks for, or has to give.
+    #[inline(always)]
     pub fn step(&mut self) -> Ask
         ensures op { self.new.op ≡ self.old.op }
         ensures steps { Steps self.old result self.new }
@@ -135,6 +112,7 @@ impl Merge {
     }
 
     /// Gives the side that the last step asked for its first span, or `None` if it has none.
+    #[inline(always)]
     pub fn tell(&mut self, told: Option<Span>)
         ensures op { self.new.op ≡ self.old.op }
         ensures left { AwaitsLeft self.old → TellsLeft self.old told self.new }
@@ -157,6 +135,7 @@ impl Merge {
     }
 
     /// The next step of a union.
+    #[inline(always)]
     fn step_union(&mut self) -> Ask
         requires op { self.old.op ≡ Union }
         ensures op { self.new.op ≡ Union }
@@ -186,6 +165,7 @@ impl Merge {
     }
 
     /// What is kept back, once both sides have ended.
+    #[inline(always)]
     fn take_kept(&mut self) -> Ask
         requires op { self.old.op ≡ Union }
         requires left { self.old.left ≡ Ended }
@@ -201,6 +181,7 @@ impl Merge {
     }
 
     /// Takes the left span, which begins no later than the right one.
+    #[inline(always)]
     fn take_left(&mut self, x: Span) -> Ask
         requires op { self.old.op ≡ Union }
         requires held { self.old.left ≡ Held x }
@@ -221,6 +202,7 @@ impl Merge {
     }
 
     /// Takes the right span, which begins no later than the left one.
+    #[inline(always)]
     fn take_right(&mut self, x: Span) -> Ask
         requires op { self.old.op ≡ Union }
         requires other { self.old.left ≢ Open }
@@ -241,6 +223,7 @@ impl Merge {
     }
 
     /// The next step of an intersection.
+    #[inline(always)]
     fn step_meet(&mut self) -> Ask
         requires op { self.old.op ≡ Meet }
         ensures op { self.new.op ≡ Meet }
@@ -260,6 +243,7 @@ impl Merge {
     }
 
     /// What the two spans share. The one that ends first is used up.
+    #[inline(always)]
     fn meet(&mut self, x: Span, y: Span) -> Ask
         requires op { self.old.op ≡ Meet }
         requires left { self.old.left ≡ Held x }
@@ -285,6 +269,7 @@ impl Merge {
     }
 
     /// The next step of a difference.
+    #[inline(always)]
     fn step_minus(&mut self) -> Ask
         requires op { self.old.op ≡ Minus }
         ensures op { self.new.op ≡ Minus }
@@ -307,6 +292,7 @@ impl Merge {
     }
 
     /// What the right span leaves of the left one before its own end.
+    #[inline(always)]
     fn cut(&mut self, x: Span, y: Span) -> Ask
         requires op { self.old.op ≡ Minus }
         requires left { self.old.left ≡ Held x }
@@ -365,6 +351,7 @@ impl Merge {
 
     /// What a difference asks for, or has to give, if its left side gives nothing more. `Left` then asks for the right
     /// side.
+    #[inline(always)]
     pub fn step_beside(&mut self) -> Ask
         requires op { self.old.op ≡ Minus }
         ensures op { self.new.op ≡ self.old.op }

@@ -71,6 +71,7 @@ impl Sweep {
 
     /// What the sweep asks for, or has to give. `Give` takes the first span off what is still to come, `End` comes only
     /// if nothing is, and `Left` and `Right` change nothing.
+    #[inline(always)]
     pub fn step(&mut self) -> Ask
         ensures steps { Steps self.old result self.new }
         ensures sides { HasOneSide self.new ↔ HasOneSide self.old }
@@ -89,6 +90,7 @@ impl Sweep {
 
     /// Hands in the first span still to come of the side that the last step asked for, or `None` if it has none. What
     /// is still to come does not change.
+    #[inline(always)]
     pub fn tell(&mut self, told: Option<Span>)
         ensures left { AwaitsLeft self.old → TellsLeft self.old told self.new }
         ensures right { AwaitsRight self.old → TellsRight self.old told self.new }

@@ -6,7 +6,7 @@ use Rattle.std.proofs.Props.{props}
 use Rattle.gtd_core.specs.Seconds.{Interval}
 use Rattle.gtd_spans.specs.Normal.{IsNormal}
 use Rattle.gtd_spans.specs.facts.FitsProp.{IsNormal-prop}
-use Rattle.gtd_eval.specs.Repeating.{IsRepeating, IsPlace, begun_after, to_come, AreKept}
+use Rattle.gtd_eval.specs.Repeating.{IsRepeating, IsPlace, KeepsNone, begun_after, to_come, AreKept}
 use Rattle.gtd_eval.specs.declared.repeat.Stage.{Stage}
 use Rattle.gtd_eval.specs.declared.repeat.Stage.TheVariants.{Learning, Repeating, GivenUp}
 
@@ -17,6 +17,11 @@ IsRepeating-prop GivenUp = hlevel props
 
 pub IsPlace-prop : (place count : ℕ) (stage : Stage) → IsProp (IsPlace place count stage)
 IsPlace-prop place count stage = hlevel (props, IsRepeating-prop stage)
+
+pub KeepsNone-prop : (stage : Stage) (count : ℕ) → IsProp (KeepsNone stage count)
+KeepsNone-prop Learning count = hlevel props
+KeepsNone-prop (Repeating last) count = hlevel props
+KeepsNone-prop GivenUp count = hlevel props
 
 pub AreKept-prop : (w : ℤ) (s : Stage) (until : ℤ) (kept xs : List Interval) → IsProp (AreKept w s until kept xs)
 AreKept-prop w Learning until kept xs = hlevel (props, IsNormal-prop (kept ++ xs))

@@ -3,7 +3,7 @@ use Rattle.gtd_records.proofs.OpenFacts.{ok_both, open_normal}
 use Rattle.gtd_records.proofs.schedule.open_tree.Goals as goal
 
 pub returns : goal.returns
-returns c = record {
+returns g c = record {
   seconds = ok_both c.outside.result c.outside.ensures.seconds c.outside.ensures.normal
       (λ r seconds normal. open_normal c.args.records.now c.args.element c.args.direction c.args.vehicle c.args.horizon
       c.in_ok-closing.closing.items (cursor_list c.in_ok-closed.closed) (cursor_list r)

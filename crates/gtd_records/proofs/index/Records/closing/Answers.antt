@@ -8,12 +8,12 @@ use Rattle.gtd_records.proofs.index.Records.closing.Goals as goal
 use Rattle.gtd_records.proofs.index.Records.closing.Goals.{then-concerns+in_ok-cursor+in_ok-push, else-concerns}
 
 pub index-restriction-requires : goal.index-restriction-requires
-index-restriction-requires c =
+index-restriction-requires g c =
     let p = part_sound _ _ _ c.deref.ensures.value c.self.invariant.placed _ _ nowhere c.loop-place-test.true in omega
     (arith, p.1)
 
 pub returns-then-place-element : goal.returns-then-place-element
-returns-then-place-element c =
+returns-then-place-element g c =
     rw (sym c.self.view_is) (are_closing _ _ _ _ _ _ _ _
     (few_seen _ _ _ c.deref.ensures.value c.self.invariant.placed.many c.self.invariant.few c.places_below-from.result
     c.loop-place.place-index _
@@ -22,7 +22,7 @@ returns-then-place-element c =
     c.places_below-from.ensures.below c.places_below-from.ensures.rest _ nowhere c.loop-place-test.true c.if-place-element.true))
 
 pub returns : goal.returns
-returns c =
+returns g c =
     rw (sym c.self.view_is) (are_closing _ _ _ _ _ _ _ _
     (few_seen _ _ _ c.deref.ensures.value c.self.invariant.placed.many c.self.invariant.few c.places_below-from.result
     c.loop-place.place-index _
@@ -31,7 +31,7 @@ returns c =
     c.places_below-from.ensures.below c.places_below-from.ensures.rest _ (omega arith)))
 
 pub loop-place-preserved : goal.loop-place-preserved
-loop-place-preserved c =
+loop-place-preserved g c =
     let p = part_sound _ _ _ c.deref.ensures.value c.self.invariant.placed _ _ nowhere c.loop-place-test.true in
     let name = place_element _ _ _ p c.index-restriction.ensures ∙ c.if-place-element.false in
     let old = c.loop-place.invariant in

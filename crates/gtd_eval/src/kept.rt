@@ -1,0 +1,217 @@
+//! Cursors that keep the spans of a period, from which all later ones follow.
+
+ghost use Rattle.std.specs.Prelude.{◌≤◌};
+ghost use Rattle.gtd_eval.specs.Cursors.{cursor_list, cursor_nodes};
+ghost use Rattle.gtd_eval.specs.Kept.{HasKept};
+ghost use Rattle.gtd_eval.specs.facts.RepeatProps.{AreKept-prop};
+
+use crate::cursor::Cursor;
+use crate::keeping::{is_long, kept_period, room_for};
+use crate::leaf::Leaf;
+use crate::node::Node;
+use crate::repeat::Repeat;
+use crate::tree::SweepTree;
+use gtd_core::{Expr, Horizon, Span};
+use gtd_recur::{Period, Runs};
+use gtd_spans::SpanSource;
+use std::alloc::{AllocError, Global};
+
+/// A cursor that repeats after a period, and its spans of a period: at most 4,096, and none if there would be more.
+#[derive(Drop)]
+pub struct KeptPeriod {
+    pub(crate) inner: Cursor,
+    pub(crate) again: Repeat,
+    ghost kept: { HasKept again (cursor_list inner) } by { AreKept-prop _ _ _ _ _ },
+    ghost some: { 1 ≤ cursor_nodes inner },
+}
+
+impl KeptPeriod {
+    ghost use Rattle.std.specs.Prelude.{◌≡◌, ◌≤◌, [], IfOk};
+    ghost use Rattle.gtd_core.specs.Limits.{most_basic_domains};
+    ghost use Rattle.gtd_core.specs.Trees.{leaf_count, tree_of};
+    ghost use Rattle.gtd_core.specs.Whole.{whole};
+    ghost use Rattle.gtd_recur.specs.Periods.{period_seconds};
+    ghost use Rattle.gtd_spans.specs.Sweeping.{Takes};
+    ghost use Rattle.gtd_eval.specs.Cursors.{cursor_list, cursor_size};
+    ghost use Rattle.gtd_eval.specs.Exprs.{IsOfExpr};
+    ghost use Rattle.gtd_eval.specs.Kept.{HasKept};
+    ghost use Rattle.gtd_eval.specs.Keeping.{period_list, period_size};
+    ghost use Rattle.gtd_eval.specs.Periods.{AllRepeat};
+    ghost use Rattle.gtd_eval.specs.Repeating.{AreKept, IsRepeating, to_come};
+    ghost use Rattle.gtd_eval.specs.declared.repeat.Stage.TheVariants.{Learning};
+
+    // The same cursor, of which no span is kept yet. If the horizon has fewer than three periods, none will be.
+    fn new(
+        alloc: Global,
+        inner: Cursor,
+        period: Period,
+        horizon: Horizon,
+    ) -> Result<KeptPeriod, AllocError>
+        requires kept { AreKept (period_seconds period) Learning (whole horizon).until [] (cursor_list inner) }
+        ensures list { IfOk result (λ kept. period_list kept ≡ cursor_list inner) }
+        ensures inner { IfOk result (λ kept. kept.inner ≡ inner) }
+    {
+        if is_long(period, horizon) {
+            let again = Repeat::new(alloc, period, horizon, room_for(inner.nodes()))?;
+            return Ok(KeptPeriod { inner, again });
+        }
+        let again = Repeat::given_up(alloc, period, horizon);
+        Ok(KeptPeriod { inner, again })
+    }
+
+    // The cursor of an expression that repeats after the period.
+    fn of_expr(
+        alloc: Global,
+        expr: &Expr,
+        period: Period,
+        horizon: Horizon,
+    ) -> Result<KeptPeriod, AllocError>
+        requires few { leaf_count (tree_of expr.now) ≤ most_basic_domains }
+        requires repeats { AllRepeat (period_seconds period) (tree_of expr.now) }
+        ensures whole { IfOk result (λ kept. IsOfExpr expr.now horizon (period_list kept) (period_size kept)) }
+    {
+        let inner = SweepTree::<Runs>::of_expr(alloc, expr, horizon)?;
+        KeptPeriod::new(alloc, inner, period, horizon)
+    }
+
+    // The next span, of which not all spans of a period are kept yet.
+    #[inline(never)]
+    fn next_learnt(inner: &mut Cursor, again: &mut Repeat) -> Option<Span>
+        requires learning { IsRepeating again.old.stage → ⊥ }
+        requires kept { HasKept again.old (cursor_list inner.old) }
+        ensures kept { HasKept again.new (cursor_list inner.new) }
+        ensures takes { Takes (to_come again.old.stage (cursor_list inner.old)) result
+            (to_come again.new.stage (cursor_list inner.new)) }
+        ensures size { cursor_size inner.new ≡ cursor_size inner.old }
+    {
+        let Some(span) = inner.next() else {
+            return None;
+        };
+        again.keep(span);
+        Some(span)
+    }
+
+    // The next span: from the kept spans, once all of a period are kept. That is nearly always so: such a span is then handed
+    // out without a call.
+    #[inline(always)]
+    fn next_kept(inner: &mut Cursor, again: &mut Repeat) -> Option<Span>
+        requires kept { HasKept again.old (cursor_list inner.old) }
+        ensures kept { HasKept again.new (cursor_list inner.new) }
+        ensures takes { Takes (to_come again.old.stage (cursor_list inner.old)) result
+            (to_come again.new.stage (cursor_list inner.new)) }
+        ensures size { cursor_size inner.new ≡ cursor_size inner.old }
+    {
+        if again.is_repeating() {
+            return again.turn();
+        }
+        KeptPeriod::next_learnt(inner, again)
+    }
+}
+
+/// A leaf of a cursor that keeps spans: the runs of a basic domain, or a whole cursor with its kept period.
+#[derive(Drop)]
+pub enum Part {
+    /// The runs of a basic domain.
+    Basic(Runs),
+    /// A cursor that repeats, and its spans of a period.
+    Repeating(KeptPeriod),
+}
+
+/// A cursor that hands out the same spans as a [`Cursor`]. Of each largest part that repeats after a minute, an hour, a day or a
+/// week, it keeps the spans of such a period, at most 4,096, and hands them out again, each a period later. A period with more
+/// spans keeps none. Once made, it takes no memory.
+pub type KeptCursor = SweepTree<Part>;
+
+impl Leaf for Part {
+    ghost use Rattle.gtd_eval.specs.Keeping.{part_list, part_size, part_ticks, part_kept};
+    ghost use Rattle.gtd_eval.specs.facts.PartFacts.{part-normal, part-small, part-few, part-kept-few};
+
+    ghost leaf_list = { part_list };
+
+    ghost leaf_size = { part_size };
+
+    ghost leaf_ticks = { part_ticks };
+
+    ghost leaf_kept = { part_kept };
+
+    fn of_expr(alloc: Global, expr: &Expr, horizon: Horizon) -> Result<Option<Part>, AllocError> {
+        if let Some(period) = kept_period(expr, horizon) {
+            let kept = KeptPeriod::of_expr(alloc, expr, period, horizon)?;
+            return Ok(Some(Part::Repeating(kept)));
+        }
+        match expr {
+            Expr::Leaf(basic) => Ok(Some(Part::Basic(Runs::new(*basic, horizon)))),
+            Expr::Join(..) => Ok(None),
+        }
+    }
+
+    #[inline(always)]
+    fn next_span(&mut self) -> Option<Span> {
+        match self {
+            Part::Basic(runs) => runs.next(),
+            Part::Repeating(kept) => KeptPeriod::next_kept(&mut kept.inner, &mut kept.again),
+        }
+    }
+
+    fn nodes(&self) -> u64 {
+        match self {
+            Part::Basic(_) => 1,
+            Part::Repeating(kept) => kept.inner.nodes(),
+        }
+    }
+
+    fn ticks(&self) -> u64 {
+        match self {
+            Part::Basic(runs) => runs.ticks(),
+            Part::Repeating(kept) => kept.inner.ticks(),
+        }
+    }
+
+    fn kept(&self) -> u64 {
+        match self {
+            Part::Basic(_) => 0,
+            Part::Repeating(kept) => kept.again.count() as u64,
+        }
+    }
+
+    ghost is_normal = { part-normal };
+
+    ghost is_small = { part-small };
+
+    ghost keeps_few = { part-kept-few };
+
+    ghost has_few = { part-few };
+}
+
+impl SweepTree<Part> {
+    ghost use Rattle.std.specs.Prelude.{◌≡◌, ◌↔◌, ◌+ℤ◌, ℤ, IfOk};
+    ghost use Rattle.gtd_core.specs.Seconds.{Within};
+    ghost use Rattle.gtd_core.specs.Whole.{whole};
+    ghost use Rattle.gtd_recur.specs.Periods.{period_seconds};
+    ghost use Rattle.gtd_spans.specs.Normal.{Holds};
+    ghost use Rattle.gtd_eval.specs.Cursors.{cursor_list, cursor_nodes, cursor_height, cursor_work};
+
+    /// The cursor that keeps the spans of a period of another cursor. The seconds that that one still hands out must be in the
+    /// horizon, and repeat after the period as far as the horizon reaches. If there are more spans in a period than there is
+    /// room for, or if the horizon has fewer than three periods, it finds each span anew. After a refusal of memory the cursor
+    /// is gone.
+    pub fn repeating(
+        alloc: Global,
+        cursor: Cursor,
+        period: Period,
+        horizon: Horizon,
+    ) -> Result<KeptCursor, AllocError>
+        requires inside { (t : ℤ) → Holds (cursor_list cursor) t → Within (whole horizon) t }
+        requires repeats { (t : ℤ) → Within (whole horizon) t → Within (whole horizon) (t +ℤ period_seconds period)
+            → Holds (cursor_list cursor) t ↔ Holds (cursor_list cursor) (t +ℤ period_seconds period) }
+        ensures list { IfOk result (λ c. cursor_list c ≡ cursor_list cursor) }
+        ensures nodes { IfOk result (λ c. cursor_nodes c ≡ cursor_nodes cursor) }
+        ensures height { IfOk result (λ c. cursor_height c ≡ cursor_height cursor) }
+        ensures work { IfOk result (λ c. cursor_work c ≡ cursor_work cursor) }
+    {
+        let kept = KeptPeriod::new(alloc, cursor, period, horizon)?;
+        Ok(SweepTree {
+            node: Node::Leaf(Part::Repeating(kept)),
+        })
+    }
+}
