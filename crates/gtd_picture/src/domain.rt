@@ -9,7 +9,7 @@ use crate::picture::put_picture;
 use gtd_calendar::days_of_year;
 use gtd_core::Domain;
 use gtd_devices::Output;
-use gtd_eval::Cursor;
+use gtd_eval::KeptCursor;
 use gtd_runs::{Progress, RunFault, Stop, finish};
 use std::alloc::Global;
 
@@ -31,7 +31,7 @@ fn put_seconds<O: Output>(
     ensures failures { O.failure_count output.new
         ≡ failures_after_stop result (O.failure_count output.old) }
 {
-    let seconds = Cursor::open(alloc, domain, days_of_year(year))?;
+    let seconds = KeptCursor::open(alloc, domain, days_of_year(year))?;
     put_picture(
         alloc,
         output,

@@ -1,4 +1,3 @@
-pub mod BothWays
 pub mod SpanFacts
 pub mod MonthDays
 pub mod FirstMoments

@@ -1,11 +1,10 @@
 //! The lines of an element in a direction, put one after the other.
 
-ghost use Rattle.std.specs.Prelude.{◌≡◌, ◌+◌, ◌*◌, ◌<◌, ◌≤◌, ◌^◌, length, map, IfOk, IfSome, OnOk};
-ghost use Rattle.gtd_runs.specs.Putting.{AreElementLines, Puts, PutsText, failures_after_stop};
+ghost use Rattle.std.specs.Prelude.{◌≡◌, ◌+◌, ◌*◌, ◌<◌, ◌≤◌, ◌^◌, length, map, OnOk};
+ghost use Rattle.gtd_runs.specs.Putting.{Puts, PutsText, failures_after_stop};
 ghost use Rattle.gtd_runs.specs.Putting.{most_direction_bytes, most_direction_lines};
 ghost use Rattle.gtd_eval.specs.Membership.{IsNormalOver};
 ghost use Rattle.gtd_records.specs.Closing.{IsOpen};
-ghost use Rattle.gtd_records.specs.declared.direction.Direction.{Direction as declared};
 ghost use Rattle.gtd_schedule.specs.Lines.{AreShown, span_line};
 ghost use Rattle.gtd_schedule.specs.Schedule.{AreLines};
 
@@ -14,8 +13,8 @@ use gtd_core::Horizon;
 use gtd_devices::Output;
 use gtd_records::{Direction, Records, open_seconds};
 use gtd_runs::{Progress, Stop, put_line};
-use gtd_spans::{SpanList, SpanSource};
-use std::alloc::{AllocError, Global};
+use gtd_spans::SpanSource;
+use std::alloc::Global;
 
 // Puts a line for each span that a source hands out.
 fn put_spans<O: Output, S: SpanSource>(
@@ -95,63 +94,6 @@ pub(crate) fn put_open_spans<O: Output>(
         ≡ failures_after_stop result (O.failure_count output.old) }
 {
     let mut spans = open_seconds(alloc, found, element, direction, vehicle, horizon)?;
-    put_direction_spans(
-        output, progress, line, found, element, direction, vehicle, horizon, &mut spans,
-    )
-}
-
-// The most spans that are kept of an element: 1 MiB of them.
-const MOST_KEPT_SPANS: usize = 65_536;
-
-/// The spans in which an element is open in either direction, if no record closes it in one direction alone, and if they are
-/// few enough to be kept.
-pub(crate) fn open_both_ways(
-    alloc: Global,
-    found: &Records,
-    element: u64,
-    vehicle: u8,
-    horizon: Horizon,
-) -> Result<Option<SpanList>, AllocError>
-    ensures seconds { IfOk result (λ kept. IfSome kept (λ list. (direction : declared)
-        → IsNormalOver (IsOpen found.now element direction vehicle) horizon list)) }
-{
-    if found.closes_one_way(element, vehicle) {
-        return Ok(None);
-    }
-    let positive = Direction::Positive;
-    let mut open = open_seconds(alloc, found, element, positive, vehicle, horizon)?;
-    SpanList::collect_within(alloc, &mut open, MOST_KEPT_SPANS)
-}
-
-/// Puts the lines of an element that is open in both directions in the spans of a list.
-pub(crate) fn put_alike<O: Output>(
-    output: &mut O,
-    progress: &mut Progress,
-    line: &mut Vec<u8>,
-    found: &Records,
-    element: u64,
-    vehicle: u8,
-    horizon: Horizon,
-    list: &SpanList,
-) -> Result<(), Stop>
-    requires countable { O.failure_count output.old < u64.MAX }
-    requires written { progress.old.written + 2 * most_direction_bytes < 2 ^ 64 }
-    requires lines { progress.old.lines + 2 * most_direction_lines < 2 ^ 64 }
-    requires seconds { (direction : declared) → IsNormalOver (IsOpen found.now element direction vehicle) horizon list.now }
-    ensures puts { PutsText (AreElementLines (AreLines found.now vehicle horizon element)) result
-        (O.taken output.old) (O.taken output.new) progress.old progress.new }
-    ensures near { OnOk result ((progress.new.written ≤ progress.old.written + 2 * most_direction_bytes)
-        × (progress.new.lines ≤ progress.old.lines + 2 * most_direction_lines)) }
-    ensures failures { O.failure_count output.new
-        ≡ failures_after_stop result (O.failure_count output.old) }
-{
-    let direction = Direction::Positive;
-    let mut spans = list.source();
-    put_direction_spans(
-        output, progress, line, found, element, direction, vehicle, horizon, &mut spans,
-    )?;
-    let direction = Direction::Negative;
-    let mut spans = list.source();
     put_direction_spans(
         output, progress, line, found, element, direction, vehicle, horizon, &mut spans,
     )

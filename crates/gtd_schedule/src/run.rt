@@ -6,7 +6,7 @@ ghost use Rattle.gtd_runs.specs.Run.{HasRun, failures_after_read, failures_after
 ghost use Rattle.gtd_schedule.specs.Schedule.{AreLines, IsSchedule};
 ghost use Rattle.gtd_schedule.specs.Theorem.{Headline};
 
-use crate::elements::{open_both_ways, put_alike, put_open_spans};
+use crate::elements::put_open_spans;
 use gtd_core::Horizon;
 use gtd_devices::{Input, Output};
 use gtd_records::{Direction, RecordFault, Records};
@@ -64,19 +64,7 @@ impl ElementLines for Schedule {
         found: &Records,
         element: u64,
     ) -> Result<(), Stop> {
-        let Some(list) = open_both_ways(alloc, found, element, self.vehicle, self.horizon)? else {
-            return put_both(alloc, output, progress, line, found, element, self);
-        };
-        put_alike(
-            output,
-            progress,
-            line,
-            found,
-            element,
-            self.vehicle,
-            self.horizon,
-            &list,
-        )
+        put_both(alloc, output, progress, line, found, element, self)
     }
 }
 
@@ -110,7 +98,8 @@ impl Report for Schedule {
 ///
 /// In order: `VehicleRange`; then the first fault of reading the file (`Records`); then `WriteFault` or `NoMemory`,
 /// whichever happens first. Nothing is put until the whole file has been read and accepted. Each span is put as it is
-/// found: no list of spans is kept. Before the call, the failures of both devices must be below `u64::MAX`.
+/// found. No list of an element's spans is kept, but at most 4,096 spans of each period that repeats in the rows of an element
+/// and a direction. Before the call, the failures of both devices must be below `u64::MAX`.
 ///
 /// ```
 /// let file = b"element,direction,vehicle,domain\n17,negative,11,\n";
