@@ -109,8 +109,9 @@ impl Report for Schedule {
 /// 99. Answers the number of its lines, the header included.
 ///
 /// In order: `VehicleRange`; then the first fault of reading the file (`Records`); then `WriteFault` or `NoMemory`,
-/// whichever happens first. Nothing is put until the whole file has been read and accepted. Each span is put as it is
-/// found: no list of spans is kept. Before the call, the failures of both devices must be below `u64::MAX`.
+/// whichever happens first. Nothing is put until the whole file has been read and accepted. Of an element that no record
+/// closes in one direction alone, the spans are kept, if they are at most 65,536, and put for both directions; every
+/// other span is put as it is found. Before the call, the failures of both devices must be below `u64::MAX`.
 ///
 /// ```
 /// let file = b"element,direction,vehicle,domain\n17,negative,11,\n";
