@@ -1,9 +1,8 @@
 //! Which seconds a time domain contains: at one moment, over a horizon as a source of spans, and for ever.
 //!
-//! A `Cursor` hands out the seconds of a domain span by span: it is a tree of operators over the runs of the basic
-//! domains, which is made once. Of what repeats after a minute, an hour, a day or a week it keeps the spans of that
-//! period, if they are few, and hands them out again; it keeps no list of the others. `spans` and `next_change` ask a
-//! cursor. Calls that take memory answer `AllocError` (or `NoMemory`) only if the allocator refused it.
+//! A `Cursor` hands out the seconds of a domain span by span: it is a tree of operators over the runs of the basic domains,
+//! which is made once. It keeps only the spans of one period of what repeats, if they are few. `spans` and `next_change` ask
+//! a cursor. Calls that take memory answer `AllocError` (or `NoMemory`) only if the allocator refused it.
 #![tactic(auto)]
 
 pub use cursor::Cursor;

@@ -108,10 +108,9 @@ impl Report for Schedule {
 /// Puts the schedule of the record file that an input brings: over the days of the horizon, for a vehicle type from 1 to
 /// 99. Answers the number of its lines, the header included.
 ///
-/// In order: `VehicleRange`; then the first fault of reading the file (`Records`); then `WriteFault` or `NoMemory`,
-/// whichever happens first. Nothing is put until the whole file has been read and accepted. Of an element that no record
-/// closes in one direction alone, the spans are kept, if they are at most 65,536, and put for both directions; every
-/// other span is put as it is found. Before the call, the failures of both devices must be below `u64::MAX`.
+/// In order: `VehicleRange`; then the first fault of reading the file (`Records`); then `WriteFault` or `NoMemory`, whichever
+/// happens first. Nothing is put until the whole file has been accepted. Up to 65,536 spans of an element that no record closes
+/// in one direction alone are kept, to be put for both. Before the call, the failures of both devices must be below `u64::MAX`.
 ///
 /// ```
 /// let file = b"element,direction,vehicle,domain\n17,negative,11,\n";
