@@ -10,9 +10,14 @@ trap 'rm -rf "$room"' EXIT
 cd "$room" || exit 1
 passed=0 failed=0
 
+# holds FILE TEXT: the file holds this text and one line end, byte for byte; or nothing, if the text is empty.
+holds() {
+    printf '%s' "${2:+$2$'\n'}" | cmp -s - "$1"
+}
+
 # expect NAME STATUS OUT ERR: the last run's status and what it wrote.
 expect() {
-    if [ "$status" = "$2" ] && [ "$(cat out)" = "$3" ] && [ "$(cat err)" = "$4" ]; then
+    if [ "$status" = "$2" ] && holds out "$3" && holds err "$4"; then
         passed=$((passed + 1))
     else
         failed=$((failed + 1))

@@ -8,9 +8,14 @@ room=$(mktemp -d)
 trap 'rm -rf "$room"' EXIT
 passed=0 failed=0
 
+# holds FILE TEXT: the file holds this text and one line end, byte for byte; or nothing, if the text is empty.
+holds() {
+    printf '%s' "${2:+$2$'\n'}" | cmp -s - "$1"
+}
+
 # expect NAME STATUS OUT ERR: the last run's status and what it wrote.
 expect() {
-    if [ "$status" = "$2" ] && [ "$(cat "$room/out")" = "$3" ] && [ "$(cat "$room/err")" = "$4" ]; then
+    if [ "$status" = "$2" ] && holds "$room/out" "$3" && holds "$room/err" "$4"; then
         passed=$((passed + 1))
     else
         failed=$((failed + 1))

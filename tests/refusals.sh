@@ -1,8 +1,8 @@
 #!/usr/bin/env bash
 # Runs each test of refused memory with its first growth refused, then with its second, and so on to its last. Does the same
-# for each command of the programs. Runs each test of calls that take no memory with all growths in those calls refused. Run
-# it after `rt ci`, which proves and builds what it runs; GTD and GTDESK in the environment name other programs. It needs a C
-# compiler.
+# for each command of the programs, and once more with all growths after that one refused, too: some calls try again without a
+# growth that was refused. Runs each test of calls that take no memory with all growths in those calls refused. Run it after
+# `rt ci`, which proves and builds what it runs; GTD and GTDESK in the environment name other programs. It needs a C compiler.
 set -u
 ulimit -c 0
 here=$(cd "$(dirname "$0")" && pwd)
@@ -31,11 +31,14 @@ judge() {
 }
 
 report=$'\ngrowth refused\n'
+# 1 if all growths after a refused one are refused, too.
+rest=0
 
 # run GROWTH BETWEEN PROGRAM WORDS..: the program, with the growth of this number refused, or those between two requests. The
 # lines that it told are kept after a line end, and without the report of a refusal.
 run() {
-    LD_PRELOAD=$room/refuse.so REFUSE_GROWTH=$1 REFUSE_BETWEEN=$2 "${@:3}" < "$file" > "$room/out" 2> "$room/err"
+    LD_PRELOAD=$room/refuse.so REFUSE_GROWTH=$1 REFUSE_REST=$rest REFUSE_BETWEEN=$2 "${@:3}" \
+        < "$file" > "$room/out" 2> "$room/err"
     status=$?
     told=$(< "$room/err") is_refused=false
     told=$'\n'${told:+$told$'\n'}
@@ -110,8 +113,8 @@ as_before_or_in_want() {
     as_before || { "$is_refused" && in_want; }
 }
 
-# program_refused STATUS WORDS..: the command of `program`, which ends so with all its memory, with its growths refused in turn.
-# The record file is standard input, too.
+# program_refused STATUS WORDS..: the command of `program`, which ends so with all its memory, with its growths refused in turn,
+# each alone and then each with all after it. The record file is standard input, too.
 program_refused() {
     local name="${program##*/} ${*:2}"
     has_parts=false
@@ -121,6 +124,9 @@ program_refused() {
     whole_status=$status whole_told=$told
     [ "$whole_status" = "$1" ] || { failed=$((failed + 1)); echo "FAILED $name: status $whole_status"; }
     in_turn "$name" as_before_or_in_want "$program" "${@:2}"
+    rest=1
+    in_turn "$name, with all after it" as_before_or_in_want "$program" "${@:2}"
+    rest=0
 }
 
 cd "$room" || exit 1

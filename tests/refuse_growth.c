@@ -1,7 +1,7 @@
 // Refuses growths of memory of a process that it is loaded into by LD_PRELOAD: the one whose number, from 1, is in the variable
-// REFUSE_GROWTH; or, if REFUSE_BETWEEN gives a number of bytes, a request for exactly that many and all growths after it, up
-// to the next such request, which is granted. Reports each refusal on standard error. Growths are calls of malloc, calloc
-// and realloc.
+// REFUSE_GROWTH, and all after it if REFUSE_REST is 1; or, if REFUSE_BETWEEN gives a number of bytes, a request for exactly
+// that many and all growths after it, up to the next such request, which is granted. Reports each refusal on standard error,
+// but of growths that are refused as the rest only the first. Growths are calls of malloc, calloc and realloc.
 #include <errno.h>
 #include <stddef.h>
 #include <stdlib.h>
@@ -20,16 +20,19 @@ static long given(const char *variable) {
 
 static int is_refused(size_t size) {
     static const char told[] = "growth refused\n";
-    static long count = 0, refused = -1, between = 0, is_between = 0;
+    static long count = 0, refused = -1, rest = 0, between = 0, is_between = 0;
     if (refused < 0) {
         refused = given("REFUSE_GROWTH");
+        rest = given("REFUSE_REST");
         between = given("REFUSE_BETWEEN");
     }
     if (between && size == (size_t)between)
         is_between = !is_between;
-    if (++count != refused && !is_between)
+    count++;
+    int is_rest = rest && count > refused;
+    if (count != refused && !is_rest && !is_between)
         return 0;
-    if (write(2, told, sizeof told - 1) < 0)
+    if (!is_rest && write(2, told, sizeof told - 1) < 0)
         _exit(99);
     errno = ENOMEM;
     return 1;

@@ -2,11 +2,12 @@
 """The definitions that the headline rests on, from its clause down, with their files and lines.
 
 Starts at the clause `headline` of `run_schedule` and the traits of its devices, and follows each name that a definition uses
-to where that name is defined: in a crate's specs/, or as a type or trait of its sources. Prints every definition with its
-place, and how many lines a reader must believe: those of the definitions, without comments and blank lines, and those of the
-types and traits that they name. Fails if the table of docs/THEOREM.md misses one of these definitions, or names one that is
-not among them; if README.md gives other numbers; if a definition is among the lemmas, in specs/facts/; or if a file of specs/
-cites a lemma.
+to where that name is defined: in a crate's specs/, or as a type or trait of its sources. From a type it goes on to the types of
+its fields, and to its model: what a value of it is in contracts. Prints every definition with its place, and how many lines a
+reader must believe: those of the definitions, without comments and blank lines, and those of the types, models and traits that
+they name. Fails if the table of docs/THEOREM.md misses one of these definitions, or names one that is not among them; if
+README.md gives other numbers; if a name is not found; if a definition is among the lemmas, in specs/facts/; or if a file of
+specs/ cites a lemma.
 
 Usage: tests/statement.py [--table]    (--table prints the rows that the table of docs/THEOREM.md must have)
 """
@@ -49,6 +50,12 @@ class Module:
     def __init__(self, path):
         self.path = path
         self.definitions, self.names, self.modules = {}, {}, {}
+
+    def defined(self, name):
+        """The definition of this name, or the one that has a variant of this name, or None."""
+        variant = re.compile(r"^\s+%s :" % re.escape(name), re.M)
+        having = (it for it in self.definitions.values() if " data " in " " + it.lines[0] and variant.search(it.text()))
+        return self.definitions.get(name) or next(having, None)
 
 
 def imports(text):
@@ -122,30 +129,72 @@ def module_file(name):
     return path if parts[1].startswith("gtd_") and os.path.exists(path) else None
 
 
+def declared_in(path, name, head):
+    """The item of a source file that begins with a line like this, as a definition, or None."""
+    lines = open(path, encoding="utf-8").read().split("\n")
+    for first, line in enumerate(lines):
+        if re.match(head, line):
+            last = first
+            while not re.match(r"^(\}|\S.*[;}]$)", lines[last]):
+                last += 1
+            return Definition(name, os.path.relpath(path, TOP), first + 1, lines[first:last + 1])
+    return None
+
+
+def type_in(path, name):
+    """The struct or enum of this name that a source file declares, or None."""
+    return declared_in(path, name, r"^pub(\(crate\))? (struct|enum) %s\b" % name)
+
+
 def declared_type(name):
-    """The struct, enum or trait that a generated module is made from, as a definition of its source file, or None."""
+    """The struct or enum that a generated module is made from, as a definition of its source file, or None."""
     found = re.match(r"^Rattle\.(gtd_\w+)\.specs\.declared\.(?P<path>.*?)(?:\.TheVariants)?$", name)
     if not found:
         return None
     parts = found.group("path").split(".")
     path = os.path.join(CRATES, found.group(1), "src", *parts[:-1]) + ".rt"
-    if not os.path.exists(path):
-        return None
-    lines = open(path, encoding="utf-8").read().split("\n")
-    for first, line in enumerate(lines):
-        if re.match(r"^pub(\(crate\))? (struct|enum) %s\b" % parts[-1], line):
-            last = first
-            while not re.match(r"^(\}|.*;$)", lines[last]):
-                last += 1
-            return Definition(parts[-1], os.path.relpath(path, TOP), first + 1, lines[first:last + 1])
-    return None
+    return type_in(path, parts[-1]) if os.path.exists(path) else None
+
+
+def crate_of(path):
+    """The crate that a file is of."""
+    return os.path.relpath(path, CRATES).split(os.sep)[0]
+
+
+def used_types(path):
+    """The names that a source file takes from the crates of this repository, each with its crate."""
+    text = open(path, encoding="utf-8").read()
+    for crate, names in re.findall(r"^(?:pub )?use (crate|gtd_\w+)::(?:\w+::)*(\w+|\{[^}]*\});", text, re.M):
+        for name in re.findall(r"\w+", names):
+            yield name, crate_of(path) if crate == "crate" else crate
+
+
+def types_named(definition):
+    """The types of this repository that a declared type names, each as a definition of its source file."""
+    path = os.path.join(TOP, definition.path)
+    used = dict(used_types(path))
+    code = "\n".join(line for line in definition.lines if not line.strip().startswith(("//", "#[")))
+    for name in set(re.findall(r"\b[A-Z]\w*", code)) - {definition.name}:
+        files = [path]
+        if name in used:
+            files += sorted(glob.glob(os.path.join(CRATES, used[name], "src", "**", "*.rt"), recursive=True))
+        found = next(filter(None, (type_in(file, name) for file in files)), None)
+        if found:
+            yield found
+
+
+def model_of(definition):
+    """What says which value stands for one of a declared type in contracts, if the type has such a model of its own."""
+    head = r"^impl(<.*>)? Model for %s\b" % definition.name
+    return declared_in(os.path.join(TOP, definition.path), "Model for " + definition.name, head)
 
 
 class Statement:
-    """The definitions that are reached, and the names of std and of the kit's crates at which the walk ends."""
+    """The definitions that are reached, the names of std and of the kit's crates at which the walk ends, and the names of this
+    repository that it did not find."""
 
     def __init__(self):
-        self.modules, self.reached, self.ends, self.todo = {}, {}, {}, []
+        self.modules, self.reached, self.ends, self.todo, self.unfound = {}, {}, {}, [], set()
 
     def module(self, name):
         if name not in self.modules:
@@ -162,13 +211,18 @@ class Statement:
         module = self.module(target)
         if module is None:
             crate = target.split(".")[1]
-            if not crate.startswith("gtd_"):
+            if crate.startswith("gtd_"):
+                self.unfound.add("%s.%s" % (target, name))
+            else:
                 self.ends.setdefault(crate, set()).add(name)
             return
-        if name in module.definitions:
-            self.add(module.definitions[name], module)
+        definition = module.defined(name)
+        if definition:
+            self.add(definition, module)
         elif name in module.names:
             self.reach(*module.names[name])
+        else:
+            self.unfound.add("%s.%s" % (target, name))
 
     def add(self, definition, module):
         key = (definition.path, definition.name)
@@ -197,7 +251,13 @@ class Statement:
                 self.follow_type(definition)
 
     def follow_type(self, definition):
-        """What a type or a trait says in its ghost fields and clauses, over the imports of its file."""
+        """The types of a type's fields and its model; and what a type, a model or a trait says in its ghost fields and clauses,
+        over the imports of its file."""
+        for named in types_named(definition):
+            self.add(named, None)
+        model = model_of(definition)
+        if model:
+            self.add(model, None)
         ghost = "\n".join(line for line in definition.lines if not line.strip().startswith("//"))
         if "ghost" in ghost:
             self.follow(ghost, read_source(os.path.join(TOP, definition.path)))
@@ -288,6 +348,9 @@ def main():
         if "/specs/facts/" in path:
             failed += 1
             print("FAILED a definition stands among lemmas: " + path)
+    for name in sorted(statement.unfound):
+        failed += 1
+        print("FAILED not found: " + name)
     for path in citing_lemmas():
         failed += 1
         print("FAILED a file of definitions cites lemmas: " + path)
@@ -297,8 +360,8 @@ def main():
         print("FAILED README.md does not say: " + told_count)
     words = "; ".join("%s: %d" % (crate, len(names)) for crate, names in sorted(statement.ends.items()))
     print("words of the kit's crates: " + words)
-    print("statement: %d lines of %d definitions in %d files must be believed, and %d lines of the %d types and traits that"
-          " they name" % (lines, count, len(texts), types, len(statement.reached) - count))
+    print("statement: %d lines of %d definitions in %d files must be believed, and %d lines of the %d types, models and"
+          " traits that they name" % (lines, count, len(texts), types, len(statement.reached) - count))
     print("statement: %d passed, %d failed" % (len(wanted) - min(failed, len(wanted)), failed))
     return 1 if failed else 0
 
