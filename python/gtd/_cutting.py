@@ -1,9 +1,10 @@
 """Record sets that are larger than a file may be, cut into files.
 
 Two things make this right. First, no field of an accepted file holds a line end. So each line of such a file is a row, or empty,
-and means the same wherever it is: a file may be cut at any line end. It is accepted exactly if each piece is accepted under the
-file's header, and its first fault is that of the first piece at fault. Second, an element's own rows alone decide its schedule:
-the schedules of ascending ranges of elements, one after another, are the schedule of all.
+and means the same wherever it is: a file may be cut at any line end, and quotes need not be counted. It is accepted exactly if
+each piece is accepted under the file's header, and its first fault is that of the first piece at fault. Second, an element's own
+rows alone decide its schedule, in whatever order they come: the schedules of ascending ranges of elements, one after another, are
+the schedule of all. docs/COUNTRY.md names the laws that are proved of this.
 
 The program says whether a piece is accepted and what its rows mean: ``gtd migrate`` prints each row in one form, without quotes,
 whatever the file's version, line ends and quotes were.

@@ -30,6 +30,7 @@ def made(rng):
     lines = [rng.choice(BAD) if rng.random() < 0.03 else rng.choice(HEADS)] + lines
     mixed, one = rng.random() < 0.3, rng.choice(ENDS)
     text = rng.choice(["", "", "\ufeff"]) + rng.choice(["", "", "\n", "\r\n", "\r", "\n\r\n"])
+    text += rng.choice([""] * 19 + ["\ufeff"])
     for line in lines:
         text += line + (rng.choice(ENDS) if mixed else one)
     return (text.rstrip("\r\n") if rng.random() < 0.3 else text).encode()
@@ -85,6 +86,17 @@ def test_any_cut_means_the_same(seed, tmp_path):
         assert found.file == str(path)
         if expected.row is not None:
             assert found.line == line_of(text, expected.row), text
+
+
+@pytest.mark.parametrize("front", ["\ufeff\ufeff", "\n\ufeff", "\ufeff\r\n\ufeff"])
+def test_a_mark_that_is_not_in_front_belongs_to_the_header(front, tmp_path):
+    text = (front + HEADS[0] + "\n" + "".join(line + "\n" for line in GOOD)).encode()
+    path = tmp_path / "file.csv"
+    path.write_bytes(text)
+    assert whole(text).kind == "Header"
+    for size in [7, 1000]:
+        found = by_blocks(path, size)
+        assert isinstance(found, gtd.Fault) and found.kind == "Header", found
 
 
 def test_stretches():

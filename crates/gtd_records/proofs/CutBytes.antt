@@ -14,11 +14,11 @@ use Rattle.gtd_records.specs.Cut.{state_after}
 use Rattle.gtd_records.specs.Table.{IsBetween, records_after}
 use Rattle.gtd_records.specs.Columns.{Fields}
 
-abbrev IsComment : State → Type 0
+abbrev pub IsComment : State → Type 0
 IsComment s = s ≡ st.InComment
 
 -- no byte leads into a comment
-no_comment : (s : State) (c : ℕ) → (IsComment s → ⊥) → IsComment (step default_config s c).0 → ⊥
+pub no_comment : (s : State) (c : ℕ) → (IsComment s → ⊥) → IsComment (step default_config s c).0 → ⊥
 no_comment st.StartRecord c n h = grind (arith, nat_tests)
 no_comment st.StartField c n h = grind (arith, nat_tests)
 no_comment st.InField c n h = grind (arith, nat_tests)
@@ -29,7 +29,7 @@ no_comment st.InComment c n h = n refl
 no_comment st.AfterCr c n h = grind (arith, nat_tests)
 
 -- a byte that ends no record leads between two records only from there, and does nothing
-stays : (s : State) (c : ℕ) → (IsComment s → ⊥) → is_end (step default_config s c).1 ≡ false
+pub stays : (s : State) (c : ℕ) → (IsComment s → ⊥) → is_end (step default_config s c).1 ≡ false
     → IsBetween (step default_config s c).0
     → IsBetween s × ((step default_config s c).1 ≡ act.Skip)
 stays st.StartRecord c n e h = (inl refl, grind (arith, nat_tests))

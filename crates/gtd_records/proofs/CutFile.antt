@@ -27,16 +27,22 @@ strips (a ∷ b ∷ c ∷ more) rest long = elim (cases_Bool (is_bom a b c)) [ i
 module _ (v : Version) (head : List ℕ) (long : 3 ≤ length head)
     (is_head : records default_config (strip_bom head) ≡ header v ∷ [])
     (ends : IsBetween (state_after st.StartRecord (strip_bom head))) where
-  under : (rest : List ℕ) → records default_config (strip_bom (head ++ rest)) ≡ header v ∷ records default_config rest
+  pub under : (rest : List ℕ) → records default_config (strip_bom (head ++ rest)) ≡ header v ∷ records default_config rest
   under rest =
       ap (λ (l : List ℕ). records default_config l) (strips head rest long)
       ∙ cut_records (strip_bom head) rest ends
       ∙ ap (λ (l : List Fields). l ++ records default_config rest) is_head
 
-  part : (rest : List ℕ) (found : List Restriction) → length (head ++ rest) ≤ most_file_bytes
+  -- what the rows under the header say is what the file says
+  pub file_under : (rest : List ℕ) (answer : Result (List Restriction) RecordFault) → length (head ++ rest) ≤ most_file_bytes
+      → IsTable (header v ∷ records default_config rest) answer → IsFile (head ++ rest) answer
+  file_under rest answer few is = inl (few, subst (λ (t : List Fields). IsTable t answer) (sym (under rest)) is)
+
+  -- and so for an accepted file
+  pub table_under : (rest : List ℕ) (found : List Restriction) → IsFile (head ++ rest) (Ok found)
       → IsTable (header v ∷ records default_config rest) (Ok found)
-      → IsFile (head ++ rest) (Ok found)
-  part rest found few is = inl (few, subst (λ (t : List Fields). IsTable t (Ok found)) (sym (under rest)) is)
+  table_under rest found (inl p) = subst (λ (t : List Fields). IsTable t (Ok found)) (under rest) p.1
+  table_under rest found (inr p) = absurd (cc (p.1))
 
   pub cut_file : (one two : List ℕ) (found : List Restriction) → IsBetween (state_after st.StartRecord one)
       → IsFile (head ++ (one ++ two)) (Ok found)
@@ -54,8 +60,8 @@ module _ (v : Version) (head : List ℕ) (long : 3 ≤ length head)
       let b = length-append head two in (
         c.0,
         c.1,
-        part one c.0 (omega (arith, few, l, m, a)) c.2,
-        part two c.1 (omega (arith, few, l, m, b)) c.3,
+        file_under one (Ok c.0) (omega (arith, few, l, m, a)) c.2,
+        file_under two (Ok c.1) (omega (arith, few, l, m, b)) c.3,
         c.4,
       )
   cut_file one two found between (inr p) = absurd (cc (p.1))
@@ -63,7 +69,7 @@ module _ (v : Version) (head : List ℕ) (long : 3 ≤ length head)
   -- ---- parts make a whole
 
   -- what a part stands for, or its first fault, is that of its rows under the header
-  table_of : (rest : List ℕ) (answer : Result (List Restriction) RecordFault) → length (head ++ rest) ≤ most_file_bytes
+  pub table_of : (rest : List ℕ) (answer : Result (List Restriction) RecordFault) → length (head ++ rest) ≤ most_file_bytes
       → IsFile (head ++ rest) answer → IsTable (header v ∷ records default_config rest) answer
   table_of rest answer few (inl p) = subst (λ (t : List Fields). IsTable t answer) (under rest) p.1
   table_of rest answer few (inr p) = absurd (let l = p.0 in omega arith)

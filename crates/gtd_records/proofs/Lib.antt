@@ -17,3 +17,8 @@ pub mod EachFile
 pub mod StayFacts
 pub mod FoundPlaces
 pub mod SortedSets
+pub mod LineEnds
+pub mod DomainLines
+pub mod PlainRows
+pub mod LineParts
+pub mod AnyOrder

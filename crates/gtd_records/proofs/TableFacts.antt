@@ -17,7 +17,7 @@ use Rattle.gtd_records.specs.Columns.{Fields}
 ends_field : (c : ℕ) → is_end (in_field default_config c).1 ≡ true → IsBetween (in_field default_config c).0
 ends_field c h = grind (arith, nat_tests)
 
-ends : (s : State) (c : ℕ) → is_end (step default_config s c).1 ≡ true → IsBetween (step default_config s c).0
+pub ends : (s : State) (c : ℕ) → is_end (step default_config s c).1 ≡ true → IsBetween (step default_config s c).0
 ends st.StartRecord c h = grind (arith, nat_tests)
 ends st.StartField c h = grind (arith, nat_tests)
 ends st.InField c h = ends_field c h
@@ -28,7 +28,7 @@ ends st.InComment c h = grind (arith, nat_tests)
 ends st.AfterCr c h = grind (arith, nat_tests)
 
 -- which way a test went
-chosen : {A : Type 0} (b : Bool) (x y z : A) → cond b x y ≡ z → ((b ≡ true) × (x ≡ z)) ⊎ ((b ≡ false) × (y ≡ z))
+pub chosen : {A : Type 0} (b : Bool) (x y z : A) → cond b x y ≡ z → ((b ≡ true) × (x ≡ z)) ⊎ ((b ≡ false) × (y ≡ z))
 chosen true x y z h = inl (refl, h)
 chosen false x y z h = inr (refl, h)
 

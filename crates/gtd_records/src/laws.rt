@@ -1,10 +1,11 @@
 //! Laws of the definitions: calls that do nothing, whose contracts are what is proved.
 
-ghost use Rattle.std.specs.Prelude.{◌≡◌, ◌≤◌, ◌++◌, ◌∷◌, ◌↔◌, [], ℕ, List, Result, Ok, Err, length, map};
-ghost use Rattle.std.specs.List.{Contains};
+ghost use Rattle.std.specs.Prelude.{◌≡◌, ◌<◌, ◌≤◌, ◌+◌, ◌++◌, ◌∷◌, ◌↔◌, [], ℕ, true, List, Result, Ok, Err, length, map};
+ghost use Rattle.std.specs.List.{Contains, list_all};
+ghost use Rattle.std.specs.List.Sorted.{IsPermutation};
 ghost use Rattle.csv.specs.Reading.{default_config, records, strip_bom};
 ghost use Rattle.csv.specs.declared.parser.State.TheVariants.{StartRecord};
-ghost use Rattle.gtd_records.specs.Cut.{counted_on, state_after};
+ghost use Rattle.gtd_records.specs.Cut.{IsFront, IsOnOneLine, counted_on, is_line_end, state_after};
 ghost use Rattle.gtd_records.specs.Faults.{AreFileFaults, AreRowFaults, IsFaultyRow, row_number};
 ghost use Rattle.gtd_core.specs.Limits.{most_file_bytes, most_rows};
 ghost use Rattle.gtd_records.specs.File.{IsFile, IsTable, header};
@@ -91,6 +92,49 @@ pub fn parts_make_a_file()
         → length (records default_config one ++ records default_config two) ≤ most_rows
         → IsFile (head ++ one) (Ok found) → IsFile (head ++ two) (Err why)
         → IsFile (head ++ (one ++ two)) (Err (counted_on (length (records default_config one)) why)) }
+{}
+
+/// No field of an accepted file holds a line end, so quotes need not be counted: each of its line ends, CR or LF, lies
+/// between two of its records. A line is one record, whatever line ends follow it; an empty line is none.
+pub fn lines_are_rows()
+    ensures between { (front rest : List ℕ) (byte : ℕ) (found : List Restriction) → is_line_end byte ≡ true
+        → IsFile (front ++ byte ∷ rest) (Ok found)
+        → IsBetween (state_after StartRecord (strip_bom (front ++ byte ∷ []))) }
+    ensures row { (line end : List ℕ) → 0 < length line → IsOnOneLine line → list_all is_line_end end ≡ true
+        → (row : Fields) × (records default_config (line ++ end) ≡ row ∷ []) }
+    ensures empty { (end : List ℕ) → list_all is_line_end end ≡ true → records default_config end ≡ [] }
+{}
+
+/// An accepted file can be cut after any line end of its rows, quoted or not: the lines up to there, and those after it, are
+/// accepted under the header's line, and the restrictions of the first and then of the second are those of the whole.
+/// Accepted parts of which the first ends with a line end make a file, within the limits of bytes and rows. The first fault
+/// of a part after such an accepted one is that of the whole, with its row counted on. Here `head` is all that comes before
+/// the rows, and `line` the header's line under which the parts are read, such as the same without its mark.
+pub fn parts_by_lines()
+    ensures cut { (v : Version) (head line one two : List ℕ) (byte : ℕ) (found : List Restriction) → IsFront v head
+        → IsFront v line → length line ≤ length head → is_line_end byte ≡ true
+        → IsFile (head ++ (one ++ byte ∷ two)) (Ok found)
+        → (first : List Restriction) × (second : List Restriction) × IsFile (line ++ (one ++ byte ∷ [])) (Ok first)
+        × IsFile (line ++ two) (Ok second) × (found ≡ first ++ second) }
+    ensures joined { (v : Version) (head line one two : List ℕ) (byte : ℕ) (first second : List Restriction) → IsFront v head
+        → IsFront v line → length line ≤ length head → is_line_end byte ≡ true
+        → length (head ++ (one ++ byte ∷ two)) ≤ most_file_bytes → length (first ++ second) ≤ most_rows
+        → IsFile (line ++ (one ++ byte ∷ [])) (Ok first) → IsFile (line ++ two) (Ok second)
+        → IsFile (head ++ (one ++ byte ∷ two)) (Ok (first ++ second)) }
+    ensures later { (v : Version) (head line one two : List ℕ) (byte : ℕ) (first : List Restriction) (why : RecordFault)
+        → IsFront v head → IsFront v line → length line ≤ length head → is_line_end byte ≡ true
+        → length (head ++ (one ++ byte ∷ two)) ≤ most_file_bytes
+        → length first + length (records default_config two) ≤ most_rows
+        → IsFile (line ++ (one ++ byte ∷ [])) (Ok first) → IsFile (line ++ two) (Err why)
+        → IsFile (head ++ (one ++ byte ∷ two)) (Err (counted_on (length first) why)) }
+{}
+
+/// The rows of an accepted table in another order are accepted too, and stand for the same restrictions.
+pub fn rows_in_any_order()
+    ensures same { (v : Version) (rows other : List Fields) (found : List Restriction) → IsPermutation rows other
+        → IsTable (header v ∷ rows) (Ok found)
+        → (again : List Restriction) × IsTable (header v ∷ other) (Ok again)
+        × ((r : Restriction) → Contains again r ↔ Contains found r) }
 {}
 
 /// Each file has an answer: its restrictions, or a fault.

@@ -3,4 +3,5 @@ pub mod MonthDays
 pub mod FirstMoments
 pub mod ShortLines
 pub mod SplitFacts
+pub mod OrderFacts
 pub mod HeadlineFacts

@@ -25,7 +25,7 @@ use Rattle.gtd_eval.specs.Membership.{IsNormalOver}
 use Rattle.gtd_spans.specs.facts.NormalFor.{normal-for, normal-of}
 
 -- two sets of the same seconds have the same normal list
-same_normal : (P Q : ℤ → Type 0) (horizon : Horizon) (xs : List Interval)
+pub same_normal : (P Q : ℤ → Type 0) (horizon : Horizon) (xs : List Interval)
     → ((t : ℤ) → P t ↔ Q t) → IsNormalOver P horizon xs → IsNormalOver Q horizon xs
 same_normal P Q horizon xs same n =
     normal-for Q (whole horizon).from (whole horizon).until xs (normal-of P (whole horizon).from (whole horizon).until xs n)
@@ -49,11 +49,11 @@ any_from P r rs kept true more a = elim (any_split P r kept a) [ inl p ↦ any_f
 any_from P r rs kept false more a = any_later P r rs (more a)
 
 module _ (test : Restriction → Bool) (P : Restriction → Type 0) where
-  of_kept : (rs : List Restriction) → Any P (filter test rs) → Any P rs
+  pub of_kept : (rs : List Restriction) → Any P (filter test rs) → Any P rs
   of_kept [] a = a
   of_kept (r ∷ rs) a = any_from P r rs (filter test rs) (test r) (of_kept rs) a
 
-  to_kept : ((r : Restriction) → P r → test r ≡ true) → (rs : List Restriction) → Any P rs → Any P (filter test rs)
+  pub to_kept : ((r : Restriction) → P r → test r ≡ true) → (rs : List Restriction) → Any P rs → Any P (filter test rs)
   to_kept pass [] a = a
   to_kept pass (r ∷ rs) a = any_to P r rs (filter test rs) (test r) (pass r) (to_kept pass rs) a
 
@@ -112,16 +112,16 @@ in_of n xs c = to_in n xs c.0 c.1 c.2
 
 -- ---- the parts
 
-low_passes : (k n m : ℕ) → m ≡ n → n < k → nat_lt m k ≡ true
+pub low_passes : (k n m : ℕ) → m ≡ n → n < k → nat_lt m k ≡ true
 low_passes k n m e lt = grind (arith, nat_tests)
 
-high_passes : (k n m : ℕ) → m ≡ n → k ≤ n → nat_le k m ≡ true
+pub high_passes : (k n m : ℕ) → m ≡ n → k ≤ n → nat_le k m ≡ true
 high_passes k n m e le = grind (arith, nat_tests)
 
-passes_low : (k n m : ℕ) → nat_lt m k ≡ true → m ≡ n → n < k
+pub passes_low : (k n m : ℕ) → nat_lt m k ≡ true → m ≡ n → n < k
 passes_low k n m t e = grind (arith, nat_tests)
 
-passes_high : (k n m : ℕ) → nat_le k m ≡ true → m ≡ n → k ≤ n
+pub passes_high : (k n m : ℕ) → nat_le k m ≡ true → m ≡ n → k ≤ n
 passes_high k n m t e = grind (arith, nat_tests)
 
 module _ (found : List Restriction) (vehicle : ℕ) (horizon : Horizon) where

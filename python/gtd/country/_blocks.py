@@ -36,7 +36,7 @@ class Accepted:
 def read_rows(block: Block) -> Union[BlockRows, Refused]:
     """The rows of a block, if the program accepts it."""
     lines = block.read().splitlines(keepends=True)  # of bytes: at LF, CR and CR LF, as the program
-    migrated = migrate_lines(block.file.head, lines)
+    migrated = migrate_lines(block.file.front, lines)
     if isinstance(migrated, Refused):
         return migrated
     return BlockRows(sort_rows(migrated), len(lines), fingerprint(program()))
@@ -60,7 +60,7 @@ def fault_at(block: Block, refused: Refused, lines_before: int, rows_before: int
     file = block.file
     lines = block.read(further=LARGEST_FILE).splitlines(keepends=True)[refused.line :]
     line, row = lines_before + refused.line + 1, rows_before + refused.row + 1
-    fault = fault_of(file.head, lines, row, file=file.name, line=line)
+    fault = fault_of(file.front, lines, row, file=file.name, line=line)
     if fault is None:
         raise RuntimeError(f"{file.name} was changed while it was read")
     if fault.kind == "Header":
@@ -89,7 +89,7 @@ def fault_beyond(
         Lines and rows of the file before the block.
     """
     lines = block.read().splitlines(keepends=True)
-    migrated = migrate_lines(block.file.head, lines)
+    migrated = migrate_lines(block.file.front, lines)
     if isinstance(migrated, Refused):
         raise RuntimeError(f"{block.file.name} was changed while it was read")
     rows, size = before

@@ -51,6 +51,8 @@ class File:
     """Bytes."""
     head: bytes
     """The header, with its line end."""
+    front: bytes
+    """What the program reads before the lines of a block: the header, read as it is in the file."""
     empty: int
     """How many empty lines come before the header."""
     begin: int
@@ -140,8 +142,13 @@ def open_file(source: Source, unpacked: Optional[Path] = None) -> File:
     with fs.open(path, "rb") as opened:
         front, found = _front(opened.read)
     if found is None:  # a header and nothing else, or nothing at all, or no header
-        return File(fs, path, source.path, size, front[:LARGEST_FILE], 0, size)
-    return File(fs, path, source.path, size, found["head"], _count_lines(found["empty"]), found.end())
+        head = front[:LARGEST_FILE]
+        return File(fs, path, source.path, size, head, head, 0, size)
+    head = found["head"]
+    # The program skips one mark at the front of what it reads. The file's own was skipped here, so another one is part of the
+    # header, which is no header then.
+    front = _MARK + head if head.startswith(_MARK) else head
+    return File(fs, path, source.path, size, head, front, _count_lines(found["empty"]), found.end())
 
 
 def _front(read: Callable[[int], bytes]) -> Tuple[bytes, Optional[re.Match[bytes]]]:
