@@ -7,3 +7,6 @@ pub mod Clocks
 pub mod StartLaw
 pub mod DurationLaw
 pub mod WordsLaw
+pub mod EndWords
+pub mod PlainWords
+pub mod EndTimes

@@ -45,7 +45,7 @@ abbrev pub NoDigit : List ℕ → Type 0
 NoDigit [] = Unit {0}
 NoDigit (c ∷ r) = is_ascii_digit c ≡ false
 
-abbrev AreDigits : List ℕ → Type 0
+abbrev pub AreDigits : List ℕ → Type 0
 AreDigits [] = Unit {0}
 AreDigits (c ∷ ds) = (is_ascii_digit c ≡ true) × AreDigits ds
 
@@ -53,7 +53,7 @@ digits_more : (ds : List ℕ) (d : ℕ) → d < 10 → AreDigits ds → AreDigit
 digits_more [] d small h = (digit d small, tt)
 digits_more (c ∷ ds) d small h = (h.0, digits_more ds d small h.1)
 
-are_digits : (n : ℕ) → n < 2 ^ 64 → AreDigits (decimal n)
+pub are_digits : (n : ℕ) → n < 2 ^ 64 → AreDigits (decimal n)
 are_digits n small = decimal_by_steps (λ m ds. AreDigits ds) (λ m h. (digit m h, tt))
     (λ m ds large h. digits_more ds (m % 10) (omega arith) h) n small
 

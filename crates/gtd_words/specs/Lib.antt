@@ -1,9 +1,16 @@
 pub mod Durations
+pub mod Ends
 pub mod Joins
 pub mod Names
 pub mod Starts
 pub mod Words
 pub use Rattle.gtd_core.specs.Equality
 pub use Rattle.gtd_core.specs.Parts
+pub use Rattle.gtd_core.specs.Ranges
+pub use Rattle.gtd_core.specs.Seconds
 pub use Rattle.gtd_core.specs.Trees
 pub use Rattle.gtd_core.specs.declared.domain.Domain
+pub use Rattle.gtd_core.specs.declared.duration.DurationParts
+pub use Rattle.gtd_core.specs.declared.start.StartParts
+pub use Rattle.gtd_calendar.specs.Clock
+pub use Rattle.gtd_recur.specs.Membership
