@@ -1,5 +1,5 @@
 -- What a command line asks for, and why it is refused.
-use Rattle.std.specs.Prelude.{◌≡◌, Bool, List, Option, Some, None, Ok, Err, string_bytes}
+use Rattle.std.specs.Prelude.{◌≡◌, ◌++◌, Bool, List, Option, Some, None, Ok, Err, codes, string_bytes}
 use Rattle.gtd_calendar.specs.Read.{stamp_in}
 use Rattle.gtd_desk_plans.specs.CommandLine.{AskForText, Text}
 use Rattle.gtd_desk_plans.specs.Given.{AreMistaken, Give, Given, PictureTexts}
@@ -37,8 +37,16 @@ abbrev pub IsRecordsPlan : Text → Plan → Type 0
 IsRecordsPlan file (plan.Records f) = string_bytes f ≡ file
 IsRecordsPlan file other = ⊥
 
+-- The title of the picture of an element: `Element 17, positive, vehicle type 12, 2024 (town.csv)`. Each word is shown as it was
+-- given.
+abbrev pub picture_title : PictureTexts → Text
+picture_title texts =
+    codes "Element " ++ texts.element ++ codes ", " ++ texts.direction ++ codes ", vehicle type " ++ texts.vehicle ++ codes ", "
+    ++ texts.year ++ codes " (" ++ texts.file ++ codes ")"
+
 abbrev pub IsPicturePlan : PictureTexts → Plan → Type 0
-IsPicturePlan texts (plan.Picture f title subject) = (string_bytes f ≡ texts.file) × AreSubjectWords texts subject
+IsPicturePlan texts (plan.Picture f title subject) =
+    (string_bytes f ≡ texts.file) × AreSubjectWords texts subject × (string_bytes title ≡ picture_title texts)
 IsPicturePlan texts other = ⊥
 
 abbrev pub IsDomainPlan : Text → Text → Plan → Type 0

@@ -6,7 +6,7 @@ ghost use Rattle.clap.specs.Kinds.{HasKind};
 ghost use Rattle.gtd_desk_plans.specs.CommandLine as spec;
 ghost use Rattle.gtd_desk_plans.specs.CommandLine.{AskForText, Text, desk_app};
 ghost use Rattle.gtd_desk_plans.specs.Given.{Give, Given, picture_texts, texts_of};
-ghost use Rattle.gtd_desk_plans.specs.Plans.{AreRefused, AskFor, Asks, IsRefused, IsWordFault};
+ghost use Rattle.gtd_desk_plans.specs.Plans.{AreRefused, AskFor, Asks, IsRefused, IsWordFault, picture_title};
 ghost use Rattle.gtd_desk_plans.specs.declared.refusal.Refusal.{Refusal};
 
 use crate::command_line::parse;
@@ -141,7 +141,9 @@ fn plan_records(alloc: Global, file: &str) -> Result<Plan, Refusal>
 }
 
 // The title of a picture.
-fn title_of(alloc: Global, given: PictureWords<'_>) -> Result<String, AllocError> {
+fn title_of(alloc: Global, given: PictureWords<'_>) -> Result<String, AllocError>
+    ensures { IfOk result (λ title. string_bytes title ≡ picture_title (picture_texts given.entry)) }
+{
     format!(in alloc;
         "Element {}, {}, vehicle type {}, {} ({})",
         given.element, given.direction, given.vehicle, given.year, given.file

@@ -1,9 +1,11 @@
 pub mod ColumnFacts
 pub mod LabelFacts
 pub mod Made
+pub mod PathFacts
 pub mod PictureFacts
 pub mod RectFacts
 pub mod RectsFacts
 pub mod SomePicture
 pub mod TextFacts
+pub mod TitleFacts
 pub mod WordFacts

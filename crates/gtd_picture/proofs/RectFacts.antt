@@ -148,16 +148,20 @@ module _ (set : ℤ → Type 0) where
       rw (are.4) (from-append place are.0 (rects_of are.1) (rw (are.2.each) (from-column place (day *ℤ pos 86400) are.2.spans))
       (from-weaken place (place + 1) (rects_of are.1) (omega arith) rest))
 
+  -- the rectangles of a column are inside the columns up to any later one
+  pub column_inside : (day : ℤ) (place all : ℕ) (column : List Rect) → place < all → IsColumn set day place column
+      → AreInside all column
+  column_inside day place all column few is =
+      rw (is.each) (inside-column place all (day *ℤ pos 86400) is.spans few (column_on day place column is))
+
   pub columns_inside : (day : ℤ) (place n all : ℕ) (columns : List (List Rect)) → place + n ≤ all
       → AreColumns set day place n columns
       → AreInside all (rects_of columns)
   unfolding AreColumns
   columns_inside day place zero all columns few are = rw are tt
   columns_inside day place (suc n) all columns few are =
-      let on = column_on day place are.0 are.2 in
       let rest = columns_inside (day +ℤ pos 1) (place + 1) n all are.1 (omega (arith, few)) are.3 in
-      rw (are.4) (inside-append all are.0 (rects_of are.1)
-      (rw (are.2.each) (inside-column place all (day *ℤ pos 86400) are.2.spans (omega (arith, few)) on)) rest)
+      rw (are.4) (inside-append all are.0 (rects_of are.1) (column_inside day place all are.0 (omega (arith, few)) are.2) rest)
 
   pub columns_apart : (day : ℤ) (place n : ℕ) (columns : List (List Rect)) → AreColumns set day place n columns
       → AreApart (rects_of columns)

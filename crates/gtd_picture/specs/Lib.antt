@@ -1,8 +1,10 @@
 pub mod Domain
 pub mod Open
+pub mod Paths
 pub mod Picture
 pub mod Reading
 pub mod Rects
+pub mod Titles
 pub mod Words
 pub use Rattle.gtd_core.specs.Seconds
 pub use Rattle.gtd_records.specs.Closing

@@ -1,14 +1,16 @@
 //! Laws of the definitions: calls that do nothing, whose contracts are what is proved.
 
-ghost use Rattle.std.specs.Prelude.{◌≡◌, ◌<◌, ◌≤◌, ◌+◌, ◌-◌, ◌*◌, ◌⊎◌, ◌↔◌, ◌+ℤ◌, ◌*ℤ◌, All, flat_map, ℕ, ℤ, List, pos};
+ghost use Rattle.std.specs.Prelude.{◌≡◌, ◌<◌, ◌≤◌, ◌+◌, ◌-◌, ◌*◌, ◌⊎◌, ◌↔◌, ◌+ℤ◌, ◌*ℤ◌, ◌∷◌, [], All, flat_map, ℕ, ℤ, List, pos};
 ghost use Rattle.std.specs.Int.{IsInRange};
 ghost use Rattle.gtd_calendar.specs.Calendar.{AreFieldsOf, IsCalendarDay, IsDateOf, days_of_months, first_day, weekday_of};
 ghost use Rattle.gtd_calendar.specs.Stamp.{IsDateText, date_text};
 ghost use Rattle.gtd_calendar.specs.declared.day.DayFields.{DayFields};
 ghost use Rattle.gtd_core.specs.Limits.{day_seconds};
-ghost use Rattle.gtd_picture.specs.Picture.{AreColumns, IsPicture, Rect};
+ghost use Rattle.gtd_picture.specs.Paths.{HasNoQuote, IsPathOf};
+ghost use Rattle.gtd_picture.specs.Picture.{AreColumns, IsColumn, IsPicture, Rect, rect_text, whole_column};
 ghost use Rattle.gtd_picture.specs.Reading.{IsReadAs};
 ghost use Rattle.gtd_picture.specs.Rects.{AreApart, AreInside, SomeCovers, rects_of};
+ghost use Rattle.gtd_picture.specs.Titles.{IsTitled};
 ghost use Rattle.gtd_picture.specs.Words.{escape, shown_byte, weekday_name};
 
 use gtd_spans::laws::SecondSet;
@@ -44,6 +46,22 @@ pub fn words_read_back()
         → IsReadAs (flat_map escape words) (flat_map shown_byte words) }
     ensures back { (a b : List ℕ) → All (λ (x : ℕ). x < 256) a → All (λ (x : ℕ). x < 256) b
         → flat_map shown_byte a ≡ flat_map shown_byte b → a ≡ b }
+{}
+
+/// A picture has its title in the element `title`: XML reads there the title as people see it, however long it is.
+pub fn title_read_back<S: SecondSet>()
+    ensures title { (title inside outside : List ℕ) (year : ℕ) (lines : List (List ℕ)) → All (λ (b : ℕ). b < 256) title
+        → IsPicture S.contains title inside outside year lines → IsTitled lines title }
+{}
+
+/// The path of a day is read back: SVG reads its text as the rectangles of the day's column, and the path below it as the whole
+/// of the column. A text is read as one list of rectangles at most. It has no quote, so that the attribute holds all of it.
+pub fn paths_read_back<S: SecondSet>()
+    ensures read { (day : ℤ) (place : ℕ) (column : List Rect) → place < 366 → IsColumn S.contains day place column
+        → IsPathOf (flat_map rect_text column) column }
+    ensures whole { (place : ℕ) → place < 366 → IsPathOf (rect_text (whole_column place)) (whole_column place ∷ []) }
+    ensures back { (text : List ℕ) (a b : List Rect) → IsPathOf text a → IsPathOf text b → a ≡ b }
+    ensures unquoted { (text : List ℕ) (rects : List Rect) → IsPathOf text rects → HasNoQuote text }
 {}
 
 /// The labels are right. A day's line has the text of its date and the name of its weekday. A month's name stands at the

@@ -1,0 +1,5 @@
+use Rattle.gtd_picture.proofs.TitleFacts.{titled}
+use Rattle.gtd_picture.proofs.laws.title_read_back.Goals as goal
+
+pub returns : goal.returns
+returns g c = record { title = titled g.S.SecondSet.contains }
