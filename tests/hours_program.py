@@ -3,12 +3,18 @@
 
 For each row of tests/hours/texts.csv, the domain that is printed contains the same minutes of four years as the hours by the
 model of hours, and as the domain beside them. For each row of tests/hours/faults.csv, that fault is printed, and nothing else.
-Then, for SECONDS, random texts of the grammar, whose domains are compared at random seconds and around each change, and damaged
-ones, whose faults are compared. Run it after `rt ci`, which builds the programs.
+For these texts, for those of tests/rows/desk_hour*.rows that have a domain, and for texts of each form (every range of weekdays,
+months, weeks and so on that differs in how it is translated), `gtdesk hours --of DOMAIN` answers hours, whose domain is the same
+again. Then, for SECONDS, random texts of the grammar, whose domains are compared at random seconds and around each change and
+lead back to hours, and damaged ones, whose faults are compared. Run it after `rt ci`, which builds the programs; GTDESK in the
+environment names another one.
 
 Usage: tests/hours_program.py [SECONDS [SEED]]    (without SECONDS no random texts; the same seed makes the same texts)
 """
+import calendar
+import concurrent.futures
 import datetime
+import glob
 import os
 import random
 import subprocess
@@ -18,10 +24,13 @@ import time
 import hours
 import hours_model
 import model
+import rows
 from hours import Failure, expect
 
-PROGRAM = os.path.join(hours.TOP, "..", "crates", "gtdesk", "out", "gtdesk")
+PROGRAM = rows.PROGRAMS["gtdesk"]
 NO_DOMAIN = "gtdesk: TEXT: "
+LEAP_YEAR = 2000
+FEWEST_ROWS, FEWEST_FORMS = 100, 1000
 DAYS, CHANGES, SAMPLES = 120, 60, 60
 
 
@@ -43,6 +52,7 @@ def check_text(row):
     expect(fault is None, f"{text}: {fault}")
     opened = hours_model.open_minutes(hours_model.read(text.encode()), hours.FIRST, hours.DAYS)
     printed, beside = model.read(domain.encode()), model.read(row["domain"].encode())
+    check_back(text, domain)
     for offset in (0, 59):
         minutes = hours.domain_minutes(printed, offset)
         expect(minutes == hours.domain_minutes(beside, offset), f"{text}: {domain} and {row['domain']} differ")
@@ -52,6 +62,100 @@ def check_text(row):
 def check_fault(row):
     domain, fault = run(row["text"])
     expect((domain, fault) == (None, f"{row['kind']} at {row['place']}"), f"{row['text']!r}: {domain}, {fault}")
+
+
+def check_back(text, domain):
+    """Hours are answered for the domain of a text, and they have this domain."""
+    done = subprocess.run([PROGRAM, "hours", "--of", domain], capture_output=True, text=True, check=False)
+    expect(done.returncode == 0 and done.stderr == "", f"{text}: no hours for {domain}: {done.stderr!r}")
+    again, fault = run(done.stdout[:-1])
+    expect(again == domain, f"{text}: {domain} gives {done.stdout!r}, which gives {again} {fault or ''}")
+
+
+def check_round(text):
+    domain, fault = run(text)
+    expect(fault is None, f"{text}: {fault}")
+    check_back(text, domain)
+
+
+def row_texts():
+    """The first columns of the rows of hours that have a domain."""
+    for path in sorted(glob.glob(os.path.join(hours.TOP, "rows", "desk_hour*.rows"))):
+        for case in rows.cases(path):
+            text = rows.unescaped(case.columns[0], case.texts).decode(errors="replace")
+            if hours.fault_of(text.encode()) is None and run(text)[1] is None:
+                yield text
+
+
+def date_texts():
+    """Ranges from each month to each, whose days are translated in one stretch, by months and days, or in pieces."""
+    last = [calendar.monthrange(LEAP_YEAR, month)[1] for month in range(1, 13)]
+    for first, begin in enumerate(hours_model.MONTHS):
+        for second, end in enumerate(hours_model.MONTHS):
+            yield f"{begin}-{end}"
+            for days in ((20, 4), (10, 9), (5, 25), (1, last[second]), (last[first], 1), (last[first], last[second])):
+                yield f"{begin} {days[0]}-{end} {days[1]}"
+        for day in {1, 28, 29, 30, 31} & set(range(1, last[first] + 1)):
+            yield f"{begin} {day}"
+
+
+def number_texts():
+    """Years and weeks, by themselves and of every so many, and dates with years."""
+    for count in (1, 2, 3, 4, 5, 7, 100, 101, 250):
+        for step in (1, 2, 3, 9, 100):
+            if count // step < 100:
+                yield f"{2001}-{2000 + count}/{step}"
+    for first, last in ((1, 1), (1, 10), (10, 20), (7, 52), (52, 53), (1, 53), (53, 53)):
+        for step in (1, 2, 5, 52):
+            yield f"week {first}-{last}/{step}"
+    for last in ("2024 Feb 29", "2024 Mar 1", "2024 Dec 31", "2025 Jan 1", "2026 Feb 28", "2123 Jan 1"):
+        yield f"2024 Feb 29-{last}"
+    yield from ("1800 Jan 1", "2799 Dec 31", "2799 Dec 1-31", "1800", "2799", "1900-1999", "1800-1999")
+
+
+def list_texts():
+    """Lists in which a selector that is translated in pieces stands first, last, or between others."""
+    lists = ("2020", "2030-2040/2", "1800-2000"), ("Mar 3", "Feb 20-Feb 29", "Jan 30-Mar 5", "2024 Dec 24"), ("1-53", "10-20/5", "3")
+    for number, names in enumerate(lists):
+        before, after = ("Mo; week " if number == 2 else "Mo; ", " Su" if number == 2 else "")
+        for first in names:
+            yield from (f"{before}{first},{second}{after}" for second in names)
+            yield f"{before}{names[-1]},{first},{names[0]}{after} 08:00-12:00"
+
+
+def weekday_texts():
+    for first in hours_model.WEEKDAYS:
+        yield from (f"{first}-{last}" for last in hours_model.WEEKDAYS)
+        yield from (f"{first}[{sign}{place}]" for sign in ("", "-") for place in range(1, 6))
+
+
+def time_texts():
+    """Times that end on their day and later ones, and lists of both."""
+    ends = ("00:00-00:00", "00:00-24:00", "00:00-00:01", "10:00-10:00", "20:00-24:00", "20:00-00:00", "22:00-04:00", "22:00-28:00",
+            "23:59-47:59", "00:01-24:01", "00:01-00:01", "08:30-09:15")
+    for first in ends:
+        yield first
+        yield f"Mo {first}"
+        yield from (f"Mo-Fr,Su[1] {first},{second}" for second in ends)
+
+
+def rule_texts():
+    """Up to seven rules, each after a semicolon or a comma, open or off, and one more after them."""
+    rules = ["Mo-Fr 08:00-12:00,22:00-02:00", "Sa,Su 10:00-12:00", "Dec 24-26 10:00-13:00", "week 1-53/2 We", "2024-2030", "Apr-Sep",
+             "Fr 22:00-04:00"]
+    yield from ("off", "Mo off", "Mo off; Tu off", "off; 24/7", "Mo off, Tu 08:00-12:00", "24/7 off; Mo 08:00-12:00 off")
+    for count in range(1, len(rules) + 1):
+        for link in ("; ", ", "):
+            for last in ("Mo off", "Mo 09:00-10:00 off", "off", "Mo", "Mo,Tu 23:00-01:00,08:00-09:00", "Jan 1 off, Jan 1 08:00-09:00"):
+                yield "; ".join(rules[:count]) + link + last
+    yield "2024-2026 Dec 20-Feb 29 week 1-10 Mo-Fr,Su[-1] 08:00-09:00,10:00-11:00,23:00-01:00"
+
+
+def form_texts():
+    for texts in (date_texts, number_texts, list_texts, weekday_texts, time_texts, rule_texts):
+        yield from texts()
+    for text in ("Nov 20-Dec 4", "2024-2030/2", "2024-2030", "week 10-20", "week 53", "Nov 29-30", "Feb 29", "Mo", "We[-1]"):
+        yield from (f"{text} 08:00-12:00", f"{text} 22:00-04:00", f"24/7; {text} off", f"Su 08:00-09:00; {text} 10:00-11:00,22:00-04:00")
 
 
 def changes(opened):
@@ -78,7 +182,17 @@ def check_random(maker):
     for second in seconds:
         same = hours_model.is_open(rules, second) == model.contains(expression, second)
         expect(same, f"{text}: {domain} differs at second {second}")
+    check_back(text, domain)
     return True
+
+
+def judged(check):
+    """What is wrong, if a check fails."""
+    try:
+        check()
+    except (Failure, hours_model.Fault, model.Fault) as failure:
+        return failure
+    return None
 
 
 def main():
@@ -90,14 +204,18 @@ def main():
     seed = int(sys.argv[2]) if len(sys.argv) == 3 else random.SystemRandom().randrange(10**9)
     maker = hours.Maker(seed)
     texts, faults = hours.rows_of("texts.csv"), hours.rows_of("faults.csv")
+    worked, forms = list(row_texts()), list(form_texts())
     checks = [lambda row=row: check_text(row) for row in texts] + [lambda row=row: check_fault(row) for row in faults]
+    checks += [lambda text=text: check_round(text) for text in worked + forms]
     failed = 0
-    for check in checks:
-        try:
-            check()
-        except (Failure, hours_model.Fault, model.Fault) as failure:
-            print(f"FAILED {failure}")
-            failed += 1
+    with concurrent.futures.ThreadPoolExecutor(len(os.sched_getaffinity(0))) as pool:
+        for failure in pool.map(judged, checks):
+            if failure:
+                print(f"FAILED {failure}")
+                failed += 1
+    if len(worked) < FEWEST_ROWS or len(forms) < FEWEST_FORMS:
+        print(f"FAILED {len(worked)} texts of rows and {len(forms)} of forms are too few")
+        failed += 1
     end, rounds, domains = time.monotonic() + seconds, 0, 0
     while time.monotonic() < end and not failed:
         try:
@@ -109,7 +227,8 @@ def main():
     if 2 * domains < rounds:
         print(f"FAILED only {domains} of {rounds} random texts have a domain")
         failed += 1
-    print(f"{len(texts)} texts, {len(faults)} faults and {rounds} random texts (seed {seed})")
+    known = f"{len(texts)} texts, {len(faults)} faults, {len(worked)} texts of rows and {len(forms)} of forms"
+    print(f"{known}, and {rounds} random texts (seed {seed})")
     print(f"hours_program: {max(0, len(checks) + rounds - failed)} passed, {failed} failed")
     sys.exit(1 if failed else 0)
 

@@ -1,3 +1,4 @@
+pub mod Forms
 pub mod Order
 pub use Rattle.gtd_core.specs.Parts
 pub use Rattle.gtd_eval.specs.Membership

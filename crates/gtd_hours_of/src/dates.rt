@@ -1,6 +1,10 @@
 //! Where a stretch of months and days ends, as a date of each year.
 
-ghost use Rattle.std.specs.Prelude.{◌≤◌};
+ghost use Rattle.std.specs.Prelude.{◌≡◌, ◌⊎◌, ◌+◌, ◌<◌, ◌≤◌, ℕ};
+ghost use Rattle.std.specs.Option.{IsSomeAnd};
+ghost use Rattle.gtd_osm.specs.Cost.{common_length, month_after};
+ghost use Rattle.gtd_osm.specs.Ranges.{IsMonth};
+ghost use Rattle.gtd_hours_of.specs.Forms.{IsMonthCount};
 
 use gtd_osm::{Dates, MonthDay, Months};
 
@@ -13,14 +17,16 @@ const MOST_DAYS: u32 = 100;
 fn month_later(month: u8, months: u8) -> u8
     requires month_in { (1 ≤ month) × (month ≤ 12) }
     requires few { months ≤ 12 }
-    ensures { (1 ≤ result) × (result ≤ 12) }
+    ensures range { (1 ≤ result) × (result ≤ 12) }
+    ensures value { (result ≡ month + months) ⊎ (result + 12 ≡ month + months) }
 {
     (month - 1 + months) % MONTHS_OF_YEAR + 1
 }
 
 // How many days each month of that number has at least.
 fn shortest(month: u8) -> u8
-    ensures { (28 ≤ result) × (result ≤ 31) }
+    ensures range { (28 ≤ result) × (result ≤ 31) }
+    ensures value { result ≡ common_length month }
 {
     match month {
         2 => 28,
@@ -30,7 +36,10 @@ fn shortest(month: u8) -> u8
 }
 
 /// So many months from one on.
-pub fn months_from(month: u8, count: u32) -> Option<Months> {
+pub fn months_from(month: u8, count: u32) -> Option<Months>
+    ensures { (last : ℕ) → IsMonth month → IsMonth last → IsMonthCount month last count
+        → IsSomeAnd result (λ x. (x.first ≡ month) × (x.last ≡ last)) }
+{
     if month == 0 || month > MONTHS_OF_YEAR || count == 0 || count > 12 {
         return None;
     }
@@ -54,6 +63,10 @@ pub fn dates_from(month: u8, day: u8, months: u32, days: u32) -> Option<Dates> {
 fn last_date(month: u8, end: u32) -> Option<MonthDay>
     requires month_in { (1 ≤ month) × (month ≤ 12) }
     requires small { end ≤ 400 }
+    ensures within { 2 ≤ end → end ≤ common_length month + 1
+        → IsSomeAnd result (λ x. (x.month ≡ month) × (x.day + 1 ≡ end)) }
+    ensures later { common_length month + 1 < end → end ≤ common_length month + common_length (month_after month) + 1
+        → IsSomeAnd result (λ x. (x.month ≡ month_after month) × (common_length month + x.day + 1 ≡ end)) }
 {
     let length = u32::from(shortest(month));
     if end <= 1 {

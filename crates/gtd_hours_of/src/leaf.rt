@@ -1,5 +1,10 @@
 //! What a basic domain says, as a selector of days.
 
+ghost use Rattle.std.specs.Prelude.{◌≡◌, ◌+◌, ◌≤◌, ℕ, IfSome, IsSome};
+ghost use Rattle.std.specs.Option.{IsSomeAnd};
+ghost use Rattle.gtd_osm.specs.Ranges.{IsWeeks, IsYears};
+ghost use Rattle.gtd_hours_of.specs.Forms.{AreWeeks, AreYears};
+
 use crate::dates::{dates_from, months_from};
 use crate::weekdays::weekdays_of;
 use gtd_calendar::{day_of, fields};
@@ -29,7 +34,10 @@ pub fn selector_of(basic: &Basic) -> Option<Selector> {
 }
 
 // Years from one on, or days from a date on.
-fn in_year(year: u16, parts: StartParts, lasts: DurationParts) -> Option<Selector> {
+fn in_year(year: u16, parts: StartParts, lasts: DurationParts) -> Option<Selector>
+    ensures { (last : ℕ) → IsYears year last 1 → year + lasts.years ≡ last + 1
+        → IsSomeAnd result (AreYears year last 1) }
+{
     if lasts.years == 0 {
         return from_date(year, parts.month?, parts.day?, lasts.days);
     }
@@ -38,14 +46,20 @@ fn in_year(year: u16, parts: StartParts, lasts: DurationParts) -> Option<Selecto
     Some(Selector::Years(years))
 }
 
-fn from_week(week: u16, lasts: DurationParts) -> Option<Selector> {
+fn from_week(week: u16, lasts: DurationParts) -> Option<Selector>
+    ensures { (last : ℕ) → IsWeeks week last 1 → week + lasts.weeks ≡ last + 1
+        → IsSomeAnd result (AreWeeks week last 1) }
+{
     let last = last_number(week, lasts.weeks)?;
     let weeks = Weeks::new(week, last, 1)?;
     Some(Selector::Weeks(weeks))
 }
 
 // The last of so many numbers from the first on.
-fn last_number(first: u16, count: u32) -> Option<u16> {
+fn last_number(first: u16, count: u32) -> Option<u16>
+    ensures found { first ≤ 9999 → 1 ≤ count → count ≤ 9999 → IsSome result }
+    ensures value { IfSome result (λ last. last + 1 ≡ first + count) }
+{
     if first > 9_999 || count == 0 || count > 9_999 {
         return None;
     }

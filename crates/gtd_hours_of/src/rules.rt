@@ -1,8 +1,12 @@
 //! Rules, one after another.
 
+ghost use Rattle.std.specs.Prelude.{◌≡◌, IfOk, IsSome, IsTrue};
+ghost use Rattle.gtd_core.specs.Parts.{duration_parts};
+ghost use Rattle.gtd_core.specs.Ranges.{bound_of};
+
 use crate::kinds::{are_same_kinds, kinds_of};
 use crate::times::{Time, single_time, times_of};
-use gtd_core::{Expr, Op};
+use gtd_core::{Basic, Expr, Op};
 use gtd_osm::{Kind, Link, Modifier, Rule, TimeRange};
 use std::alloc::{AllocError, Global};
 
@@ -74,7 +78,9 @@ fn spans_of(alloc: Global, expr: &Expr) -> Result<Option<Spans>, AllocError> {
     }
 }
 
-fn with_time(spans: Option<Spans>, time: Time) -> Result<Option<Spans>, AllocError> {
+fn with_time(spans: Option<Spans>, time: Time) -> Result<Option<Spans>, AllocError>
+    ensures { IsSome spans → IfOk result IsSome }
+{
     let Some(spans) = spans else {
         return Ok(None);
     };
@@ -86,7 +92,9 @@ fn with_time(spans: Option<Spans>, time: Time) -> Result<Option<Spans>, AllocErr
     }))
 }
 
-fn with_rule(rules: Vec<Rule>, rule: Rule) -> Result<Option<Vec<Rule>>, AllocError> {
+fn with_rule(rules: Vec<Rule>, rule: Rule) -> Result<Option<Vec<Rule>>, AllocError>
+    ensures { IfOk result IsSome }
+{
     let mut more = rules;
     more.push(rule)?;
     Ok(Some(more))
@@ -100,7 +108,9 @@ fn takes_days(rule: &Rule, kinds: &[Kind]) -> bool {
 }
 
 // The rules, and one that adds spans. If the rule before it takes all of their days away, the two are one rule.
-fn with_open(rules: Vec<Rule>, spans: Spans) -> Result<Option<Vec<Rule>>, AllocError> {
+fn with_open(rules: Vec<Rule>, spans: Spans) -> Result<Option<Vec<Rule>>, AllocError>
+    ensures { IfOk result IsSome }
+{
     let mut more = rules;
     match more.pop() {
         None => with_rule(more, spans.rule(Link::Instead, Modifier::Open)),
@@ -112,6 +122,31 @@ fn with_open(rules: Vec<Rule>, spans: Spans) -> Result<Option<Vec<Rule>>, AllocE
             with_rule(more, spans.rule(Link::Also, Modifier::Open))
         }
     }
+}
+
+// Whether a basic domain contains no second, as that of hours that are never open.
+fn is_nothing(basic: &Basic) -> bool
+    ensures { bound_of (duration_parts basic.now.duration) ≡ 0 → IsTrue result }
+{
+    basic.duration.bound() == 0
+}
+
+// A rule before which nothing is open, and after which nothing is.
+fn never(alloc: Global) -> Rule {
+    Rule {
+        link: Link::Instead,
+        kinds: Vec::new(alloc),
+        times: Vec::new(alloc),
+        modifier: Modifier::Closed,
+    }
+}
+
+// The rule of an expression that is the spans of one.
+fn first_rule(alloc: Global, expr: &Expr) -> Result<Option<Vec<Rule>>, AllocError> {
+    let Some(spans) = spans_of(alloc, expr)? else {
+        return Ok(None);
+    };
+    with_open(Vec::new(alloc), spans)
 }
 
 /// The rules of an expression, if it has the form of their translation.
@@ -135,11 +170,12 @@ pub fn rules_of(alloc: Global, expr: &Expr) -> Result<Option<Vec<Rule>>, AllocEr
             };
             with_rule(rules, spans.rule(Link::Instead, Modifier::Closed))
         }
-        _ => {
-            let Some(spans) = spans_of(alloc, expr)? else {
-                return Ok(None);
-            };
-            with_open(Vec::new(alloc), spans)
+        Expr::Leaf(basic) => {
+            if is_nothing(basic) {
+                return with_rule(Vec::new(alloc), never(alloc));
+            }
+            first_rule(alloc, expr)
         }
+        _ => first_rule(alloc, expr),
     }
 }

@@ -1,5 +1,12 @@
 //! Ranges of times.
 
+ghost use Rattle.std.specs.Prelude.{◌≡◌, ◌↔◌, ◌<◌, IfOk, IsSome, IsTrue, None};
+ghost use Rattle.std.specs.Option.{IsSomeAnd};
+ghost use Rattle.gtd_core.specs.Parts.{duration_parts, start_parts};
+ghost use Rattle.gtd_osm.specs.Ranges.{end_of};
+ghost use Rattle.gtd_osm.specs.declared.hours.TimeRange.{TimeRange};
+ghost use Rattle.gtd_hours_of.specs.Forms.{IsClockOf, NamesNoDay};
+
 use gtd_core::{Basic, Expr, Op, StartParts};
 use gtd_osm::TimeRange;
 use std::alloc::{AllocError, Global};
@@ -14,7 +21,9 @@ pub struct Time {
 }
 
 // Whether a start names no day.
-fn is_daily(parts: StartParts) -> bool {
+fn is_daily(parts: StartParts) -> bool
+    ensures { NamesNoDay parts → parts.day ≡ None → IsTrue result }
+{
     parts.year.is_none()
         && parts.month.is_none()
         && parts.week.is_none()
@@ -25,7 +34,12 @@ fn is_daily(parts: StartParts) -> bool {
 }
 
 /// The range of times of a basic domain, if it lasts some minutes from a clock of each day on.
-pub fn time_of(basic: &Basic) -> Option<Time> {
+pub fn time_of(basic: &Basic) -> Option<Time>
+    ensures { (time : TimeRange) → IsClockOf time (start_parts basic.now.start) (duration_parts basic.now.duration)
+        → IsSomeAnd result (λ x. (x.range.begin ≡ time.begin)
+        × (end_of x.range.begin x.range.last ≡ end_of time.begin time.last)
+        × (IsTrue x.is_late ↔ (1440 < end_of time.begin time.last))) }
+{
     let parts = basic.start.parts();
     let minutes = basic.duration.parts().minutes;
     if !is_daily(parts) || minutes == 0 || minutes > u32::from(DAY_MINUTES) {
@@ -66,7 +80,9 @@ pub fn times_of(alloc: Global, expr: &Expr) -> Result<Option<Vec<TimeRange>>, Al
 fn push_time(
     times: Vec<TimeRange>,
     time: Option<Time>,
-) -> Result<Option<Vec<TimeRange>>, AllocError> {
+) -> Result<Option<Vec<TimeRange>>, AllocError>
+    ensures { IsSome time → IfOk result IsSome }
+{
     let Some(time) = time else {
         return Ok(None);
     };

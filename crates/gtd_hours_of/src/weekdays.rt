@@ -1,31 +1,38 @@
 //! Weekdays, as a range.
 
-ghost use Rattle.std.specs.Prelude.{◌≤◌};
+ghost use Rattle.std.specs.Prelude.{◌≡◌, ◌↔◌, ◌≤◌, ℕ, IsTrue};
+ghost use Rattle.gtd_hours_of.specs.Forms.{Begins, Ends, HasWeekday, weekday_after, weekday_before};
 
 use gtd_osm::Weekdays;
 
 fn has(bits: u8, weekday: u8) -> bool
     requires { (1 ≤ weekday) × (weekday ≤ 7) }
+    ensures { IsTrue result ↔ HasWeekday bits weekday }
 {
-    bits >> (weekday - 1) & 1 == 1
+    (bits >> (weekday - 1)) % 2 == 1
 }
 
 fn before(weekday: u8) -> u8
     requires { (1 ≤ weekday) × (weekday ≤ 7) }
-    ensures { (1 ≤ result) × (result ≤ 7) }
+    ensures range { (1 ≤ result) × (result ≤ 7) }
+    ensures value { result ≡ weekday_before weekday }
 {
     if weekday == 1 { 7 } else { weekday - 1 }
 }
 
 fn after(weekday: u8) -> u8
     requires { (1 ≤ weekday) × (weekday ≤ 7) }
-    ensures { (1 ≤ result) × (result ≤ 7) }
+    ensures range { (1 ≤ result) × (result ≤ 7) }
+    ensures value { result ≡ weekday_after weekday }
 {
     if weekday == 7 { 1 } else { weekday + 1 }
 }
 
 // The first weekday that the day before has not.
-fn first_of(bits: u8) -> u8 {
+fn first_of(bits: u8) -> u8
+    ensures found { (k : ℕ) → 1 ≤ k → k ≤ 7 → Begins bits k → 1 ≤ result }
+    ensures most { result ≤ 7 }
+{
     for weekday in 1..8 {
         if has(bits, weekday) && !has(bits, before(weekday)) {
             return weekday;
@@ -35,7 +42,10 @@ fn first_of(bits: u8) -> u8 {
 }
 
 // The first weekday that the day after has not.
-fn last_of(bits: u8) -> u8 {
+fn last_of(bits: u8) -> u8
+    ensures found { (k : ℕ) → 1 ≤ k → k ≤ 7 → Ends bits k → 1 ≤ result }
+    ensures most { result ≤ 7 }
+{
     for weekday in 1..8 {
         if has(bits, weekday) && !has(bits, after(weekday)) {
             return weekday;
