@@ -1,5 +1,5 @@
 -- What the list of a file's faults says.
-use Rattle.std.proofs.Common.{◌≡◌, ◌∙◌, ◌≤◌, ◌↔◌, sym, ap, refl, arith, inl, inr, ℕ, List, [], ◌∷◌, ◌++◌, length}
+use Rattle.std.proofs.Common.{◌≡◌, ◌∙◌, ◌≤◌, ◌↔◌, sym, ap, refl, subst, arith, inl, inr, ℕ, List, [], ◌∷◌, ◌++◌, length}
 use Rattle.std.proofs.Common.{append-nil, append_assoc, decimal, length-append, map}
 use Rattle.std.specs.Prelude.{Result, Ok, Err, codes}
 use Rattle.std.specs.List.{Contains}
@@ -14,7 +14,8 @@ use Rattle.gtd_records.specs.declared.fault.RecordFault.{RecordFault}
 use Rattle.gtd_records.specs.declared.vehicles.Version.{Version}
 use Rattle.gtd_records.specs.declared.warnings.Warning.{Warning}
 use Rattle.gtd_faults.specs.Below.{IsBelow, below_text}
-use Rattle.gtd_faults.specs.Listing.{AreLines, AreWarningLines, fault_line, fault_text, warning_line}
+use Rattle.gtd_faults.specs.Listing.{AreLines, AreWarningLines, fault_line, fault_text, row_of, warned_row, warning_line}
+use Rattle.gtd_faults.specs.Places.{IsLine, IsLineAt}
 use Rattle.gtd_faults.specs.Printable.{printable}
 use Rattle.gtd_faults.specs.declared.below.Below.{Below}
 
@@ -30,30 +31,33 @@ some_line path line why below after e =
 
 -- the line of one fault more
 pub lines_more : (path bytes : List ℕ) (faults : List RecordFault) (why : RecordFault) (text : List ℕ) (line : ℕ)
-    (below : Below) → IsBelow bytes why below → AreLines path bytes faults text
+    (below : Below) → IsLineAt bytes (row_of why) line → IsBelow bytes why below → AreLines path bytes faults text
     → AreLines path bytes (faults ++ why ∷ []) (text ++ (fault_line path line why ++ below_text below))
-lines_more path bytes [] why text line below at is =
-    (line, below, at, [], refl, rw is (sym (append-nil (fault_line path line why ++ below_text below))))
-lines_more path bytes (x ∷ faults) why text line below at is =
+lines_more path bytes [] why text line below on at is =
+    (line, on, below, at, [], refl, rw is (sym (append-nil (fault_line path line why ++ below_text below))))
+lines_more path bytes (x ∷ faults) why text line below on at is =
     let more = fault_line path line why ++ below_text below in (
       is.0,
       is.1,
       is.2,
-      is.3 ++ more,
-      lines_more path bytes faults why is.3 line below at is.4,
-      rw (is.5) (append_assoc (fault_line path is.0 x ++ below_text is.1) is.3 more),
+      is.3,
+      is.4 ++ more,
+      lines_more path bytes faults why is.4 line below on at is.5,
+      rw (is.6) (append_assoc (fault_line path is.0 x ++ below_text is.2) is.4 more),
     )
 
 -- the line of one warning more
-pub warning_lines_more : (path : List ℕ) (warnings : List Warning) (said : Warning) (text : List ℕ) (line : ℕ)
-    → AreWarningLines path warnings text → AreWarningLines path (warnings ++ said ∷ []) (text ++ warning_line path line said)
-warning_lines_more path [] said text line is =
-    (line, [], refl, rw is (sym (append-nil (warning_line path line said))))
-warning_lines_more path (x ∷ warnings) said text line is = (
+pub warning_lines_more : (path bytes : List ℕ) (warnings : List Warning) (said : Warning) (text : List ℕ) (line : ℕ)
+    → IsLine bytes (warned_row said) line → AreWarningLines path bytes warnings text
+    → AreWarningLines path bytes (warnings ++ said ∷ []) (text ++ warning_line path line said)
+warning_lines_more path bytes [] said text line on is =
+    (line, on, [], refl, rw is (sym (append-nil (warning_line path line said))))
+warning_lines_more path bytes (x ∷ warnings) said text line on is = (
   is.0,
-  is.1 ++ warning_line path line said,
-  warning_lines_more path warnings said is.1 line is.2,
-  rw (is.3) (append_assoc (warning_line path is.0 x) is.1 (warning_line path line said)),
+  is.1,
+  is.2 ++ warning_line path line said,
+  warning_lines_more path bytes warnings said is.2 line on is.3,
+  rw (is.4) (append_assoc (warning_line path is.0 x) is.2 (warning_line path line said)),
 )
 
 abbrev Accepted : List ℕ → Type 0
@@ -70,7 +74,7 @@ module _ (accepted : (bytes : List ℕ) → AreFileFaults bytes [] ↔ Accepted 
       → AreLines path bytes faults text → (text ≡ []) ↔ Accepted bytes
   nothing_listed path bytes [] text are lines = (λ e. (accepted bytes).0 are, λ is. lines)
   nothing_listed path bytes (why ∷ rest) text are lines = (
-    (λ e. absurd (some_line path lines.0 why (below_text lines.1) lines.3 (sym (lines.5) ∙ e))),
+    (λ e. absurd (some_line path lines.0 why (below_text lines.2) lines.4 (sym (lines.6) ∙ e))),
     (λ is. absurd (apart is.0 why (one bytes (Ok is.0) (Err why) is.1 (first bytes why rest are)))),
   )
 
@@ -79,17 +83,18 @@ module _ (accepted : (bytes : List ℕ) → AreFileFaults bytes [] ↔ Accepted 
 
   pub first_line : (path bytes : List ℕ) (faults : List RecordFault) (text : List ℕ) (why : RecordFault)
       → AreFileFaults bytes faults → AreLines path bytes faults text → IsFile bytes (Err why)
-      → (line : ℕ) × (after : List ℕ) × (text ≡ fault_line path line why ++ after)
+      → (line : ℕ) × IsLineAt bytes (row_of why) line × (after : List ℕ) × (text ≡ fault_line path line why ++ after)
   first_line path bytes [] text why are lines is =
       let file = (accepted bytes).0 are in
       absurd (apart file.0 why (one bytes (Ok file.0) (Err why) file.1 is))
   first_line path bytes (x ∷ rest) text why are lines is =
       let same = same_fault x why (one bytes (Err x) (Err why) (first bytes x rest are) is) in
-      let below = below_text lines.1 in (
+      let below = below_text lines.2 in (
         lines.0,
-        below ++ lines.3,
-        lines.5 ∙ append_assoc (fault_line path lines.0 x) below lines.3
-            ∙ ap (λ w. fault_line path lines.0 w ++ (below ++ lines.3)) same,
+        subst (λ (w : RecordFault). IsLineAt bytes (row_of w) lines.0) same lines.1,
+        below ++ lines.4,
+        lines.6 ∙ append_assoc (fault_line path lines.0 x) below lines.4
+            ∙ ap (λ w. fault_line path lines.0 w ++ (below ++ lines.4)) same,
       )
 
 module _ (each : (v : Version) (rows : List Fields) (faults : List RecordFault) → AreRowFaults v 1 rows faults

@@ -8,11 +8,8 @@ use Rattle.gtd_records.specs.Warnings.{AreFileWarnings}
 use Rattle.gtd_records.specs.declared.fault.RecordFault.{RecordFault}
 use Rattle.gtd_records.specs.declared.fault.RecordFault.TheVariants as records
 use Rattle.gtd_records.specs.declared.warnings.Warning.{Warning}
-use Rattle.gtd_faults.specs.Below.{IsBelow}
 use Rattle.gtd_faults.specs.Listing.{AreLines, AreWarningLines, IsList, IsWarned}
 use Rattle.gtd_faults.specs.Run.{HasListed, HasPut}
-use Rattle.gtd_faults.specs.declared.below.Below.{Below}
-use Rattle.gtd_faults.specs.declared.below.Below.TheVariants as below
 use Rattle.gtd_faults.specs.declared.list_fault.ListFault.{ListFault}
 use Rattle.gtd_faults.specs.declared.list_fault.ListFault.TheVariants as fault
 
@@ -28,16 +25,7 @@ unwarned : (warn : Bool) (path bytes : List ℕ) → most_file_bytes < length by
 unwarned true path bytes more = ([], inr (more, refl), refl)
 unwarned false path bytes more = refl
 
-not_header : records.TooLarge ≡ records.Header → ⊥
-not_header e = cc
-
--- what is shown below the line of a file that is too large is not taken from its bytes
-of_any : (bytes : List ℕ) (below : Below) → IsBelow [] records.TooLarge below → IsBelow bytes records.TooLarge below
-of_any bytes below.Nothing is = is
-of_any bytes (below.Field stretch) is = is
-of_any bytes (below.Header found expected hint) is = absurd (not_header is.0)
-
--- the list of a file that is too large
+-- the list of a file that is too large: neither its line nor what is shown below it is taken from the bytes
 pub large_list : (path bytes text : List ℕ) (warn : Bool) → most_file_bytes < length bytes
     → AreLines path [] (records.TooLarge ∷ []) text → IsList path bytes warn 1 text
 large_list path bytes text warn more lines = record {
@@ -45,7 +33,7 @@ large_list path bytes text warn more lines = record {
   all = inr (more, refl);
   counted = refl;
   first = text;
-  lines = (lines.0, lines.1, of_any bytes lines.1 lines.2, lines.3, lines.4, lines.5);
+  lines = lines;
   last = [];
   warned = unwarned warn path bytes more;
   whole = sym (append-nil text);
@@ -75,7 +63,7 @@ plain_list path bytes text warn faults off all lines = rw off (record {
 -- the list with its warnings
 pub warned_list : (path bytes first last text : List ℕ) (warn : Bool) (faults : List RecordFault) (warnings : List Warning)
     → warn ≡ true → AreFileFaults bytes faults → AreLines path bytes faults first → AreFileWarnings bytes warnings
-    → AreWarningLines path warnings last → text ≡ first ++ last → IsList path bytes warn (length faults) text
+    → AreWarningLines path bytes warnings last → text ≡ first ++ last → IsList path bytes warn (length faults) text
 warned_list path bytes first last text warn faults warnings on all lines are added whole = rw on (record {
   faults = faults;
   all = all;

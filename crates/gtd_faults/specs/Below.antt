@@ -1,12 +1,15 @@
 -- What is shown below the line of a fault: indented lines.
-use Rattle.std.specs.Prelude.{◌≡◌, ◌≢◌, ◌+◌, ◌-◌, ◌++◌, ℕ, suc, zero, Bool, true, false, List, [], ◌∷◌, codes}
-use Rattle.std.specs.Prelude.{drop, get_or, length, map, take, flat_map, if◌then◌else◌, nat_eq, nat_le, nat_lt, ⊤}
+use Rattle.std.specs.Prelude.{◌≡◌, ◌<◌, ◌≤◌, ◌+◌, ◌-◌, ◌++◌, ℕ, suc, zero, Bool, true, false, List, [], ◌∷◌, codes}
+use Rattle.std.specs.Prelude.{drop, get_or, length, map, take, flat_map, if◌then◌else◌, nat_eq, nat_le, nat_lt}
+use Rattle.std.specs.Prelude.{Option, Some, None}
 use Rattle.gtd_records.specs.declared.fault.RecordFault.{RecordFault}
 use Rattle.gtd_records.specs.declared.fault.RecordFault.TheVariants as fault
 use Rattle.gtd_faults.specs.Hints.{first_line, hint_line, hint_of}
+use Rattle.gtd_faults.specs.Places.{field_of}
 use Rattle.gtd_faults.specs.Printable.{printable, shown_byte}
 use Rattle.gtd_faults.specs.declared.below.Below.{Below}
 use Rattle.gtd_faults.specs.declared.below.Below.TheVariants as below
+use Rattle.gtd_faults.specs.declared.hint.Hint.{Hint}
 use Rattle.gtd_faults.specs.declared.stretch.Stretch.{Stretch}
 
 -- A text that takes more columns than these is cut: before the place and from it on, no more than these are left.
@@ -81,20 +84,25 @@ below_text (below.Header found expected hint) =
     codes "    found:    "
     ++ (stretch_text found ++ (codes "\n    expected: " ++ (expected.now ++ (codes "\n" ++ hint_line hint))))
 
--- where the field of a fault is at fault: the place in a domain's text, or its first byte
-abbrev pub fault_place : RecordFault → ℕ
-fault_place (fault.Domain row why) = why.place
-fault_place why = 0
+-- What is shown of a field is the stretch around a place; nothing, if there is no such field or it ends before the place.
+abbrev pub IsOfField : Option (List ℕ) → ℕ → Below → Type 0
+IsOfField None place shown = shown ≡ below.Nothing
+IsOfField (Some field) place below.Nothing = length field < place
+IsOfField (Some field) place (below.Field stretch) = (place ≤ length field) × IsAround field place stretch
+IsOfField (Some field) place (below.Header found expected hint) = ⊥
 
--- what is shown of a row is the stretch of a field around this place, or nothing
-abbrev pub IsOfRow : ℕ → Below → Type 0
-IsOfRow place below.Nothing = ⊤
-IsOfRow place (below.Field stretch) = (field : List ℕ) × IsAround field place stretch
-IsOfRow place (below.Header found expected hint) = ⊥
+-- what is shown of a first line that is no header: its stretch from its first byte on, the header that is expected, and a hint
+abbrev pub IsOfHeader : List ℕ → List ℕ → Option Hint → Below → Type 0
+IsOfHeader line text told (below.Header found expected hint) =
+    IsAround line 0 found × (expected.now ≡ text) × (hint ≡ told)
+IsOfHeader line text told shown = ⊥
 
--- What is shown below the line of a fault of a file with these bytes. If it has no header: its first line, and the hint for it.
+-- What is shown below the line of a fault of a file with these bytes: the field in the column at fault, around the place in
+-- a domain or from its first byte on; if the file has no header, its first line, and the hint for it; otherwise nothing.
 abbrev pub IsBelow : List ℕ → RecordFault → Below → Type 0
-IsBelow bytes why (below.Header found expected hint) =
-    (why ≡ fault.Header) × IsAround (first_line bytes) 0 found × (expected.now ≡ expected_text)
-    × (hint ≡ hint_of (first_line bytes))
-IsBelow bytes why of_row = (why ≢ fault.Header) × IsOfRow (fault_place why) of_row
+IsBelow bytes (fault.Element row) shown = IsOfField (field_of bytes row 0) 0 shown
+IsBelow bytes (fault.Direction row) shown = IsOfField (field_of bytes row 1) 0 shown
+IsBelow bytes (fault.Vehicle row) shown = IsOfField (field_of bytes row 2) 0 shown
+IsBelow bytes (fault.Domain row why) shown = IsOfField (field_of bytes row 3) why.place shown
+IsBelow bytes fault.Header shown = IsOfHeader (first_line bytes) expected_text (hint_of (first_line bytes)) shown
+IsBelow bytes why shown = shown ≡ below.Nothing

@@ -1,6 +1,9 @@
 pub mod Below
+pub mod Cut
 pub mod Hints
 pub mod Listing
+pub mod Places
 pub mod Printable
 pub mod Run
+pub mod Standing
 pub use Rattle.gtd_records.specs.Faults

@@ -1,5 +1,7 @@
 -- The list of a file's faults and warnings, in words.
-use Rattle.std.specs.Prelude.{◌≡◌, ◌++◌, ℕ, Bool, false, true, List, [], ◌∷◌, codes, decimal, length}
+use Rattle.std.specs.Prelude.{◌≡◌, ◌+◌, ◌++◌, ℕ, Bool, false, true, List, [], ◌∷◌, codes, decimal, length}
+use Rattle.std.specs.Prelude.{Option, Some, None}
+use Rattle.gtd_core.specs.Limits.{most_rows}
 use Rattle.gtd_core.specs.Names.{fault_name}
 use Rattle.gtd_records.specs.declared.fault.RecordFault.{RecordFault}
 use Rattle.gtd_records.specs.declared.fault.RecordFault.TheVariants as fault
@@ -8,6 +10,7 @@ use Rattle.gtd_records.specs.Warnings.{AreFileWarnings}
 use Rattle.gtd_records.specs.declared.warnings.Warning.{Warning}
 use Rattle.gtd_records.specs.declared.warnings.Warning.TheVariants as warning
 use Rattle.gtd_faults.specs.Below.{IsBelow, below_text}
+use Rattle.gtd_faults.specs.Places.{IsLine, IsLineAt}
 use Rattle.gtd_faults.specs.Printable.{printable}
 use Rattle.gtd_faults.specs.declared.below.Below.{Below}
 
@@ -34,11 +37,21 @@ line_text path line words = printable path ++ codes ":" ++ decimal line ++ codes
 abbrev pub fault_line : List ℕ → ℕ → RecordFault → List ℕ
 fault_line path line why = line_text path line (fault_text why)
 
+-- the row that a fault is of, if it is of one; `TooManyRows` is of the first row too many
+abbrev pub row_of : RecordFault → Option ℕ
+row_of (fault.FieldCount row) = Some row
+row_of (fault.Element row) = Some row
+row_of (fault.Direction row) = Some row
+row_of (fault.Vehicle row) = Some row
+row_of (fault.Domain row why) = Some row
+row_of fault.TooManyRows = Some (most_rows + 1)
+row_of why = None
+
 -- The lines of the faults of a file with these bytes, in order: for each its line, and what is shown below it.
 abbrev pub AreLines : List ℕ → List ℕ → List RecordFault → List ℕ → Type 0
 AreLines path bytes [] text = text ≡ []
 AreLines path bytes (why ∷ rest) text =
-    (line : ℕ) × (below : Below) × IsBelow bytes why below × (after : List ℕ)
+    (line : ℕ) × IsLineAt bytes (row_of why) line × (below : Below) × IsBelow bytes why below × (after : List ℕ)
     × AreLines path bytes rest after × (text ≡ fault_line path line why ++ below_text below ++ after)
 
 -- the words of a warning: its row, and what is said of its domain
@@ -50,16 +63,23 @@ warning_text (warning.AlwaysHolds row) = codes "row " ++ decimal row ++ codes ":
 abbrev pub warning_line : List ℕ → ℕ → Warning → List ℕ
 warning_line path line said = line_text path line (warning_text said)
 
--- the lines of warnings, in order
-abbrev pub AreWarningLines : List ℕ → List Warning → List ℕ → Type 0
-AreWarningLines path [] text = text ≡ []
-AreWarningLines path (said ∷ rest) text =
-    (line : ℕ) × (after : List ℕ) × AreWarningLines path rest after × (text ≡ warning_line path line said ++ after)
+-- the row that a warning is of
+abbrev pub warned_row : Warning → ℕ
+warned_row (warning.NeverHolds row) = row
+warned_row (warning.AlwaysHolds row) = row
+
+-- the lines of the warnings of a file with these bytes, in order, each with the line on which its row begins
+abbrev pub AreWarningLines : List ℕ → List ℕ → List Warning → List ℕ → Type 0
+AreWarningLines path bytes [] text = text ≡ []
+AreWarningLines path bytes (said ∷ rest) text =
+    (line : ℕ) × IsLine bytes (warned_row said) line × (after : List ℕ)
+    × AreWarningLines path bytes rest after × (text ≡ warning_line path line said ++ after)
 
 -- what is added for a file's warnings: their lines if they are asked for, otherwise nothing
 abbrev pub IsWarned : Bool → List ℕ → List ℕ → List ℕ → Type 0
 IsWarned false path bytes text = text ≡ []
-IsWarned true path bytes text = (warnings : List Warning) × AreFileWarnings bytes warnings × AreWarningLines path warnings text
+IsWarned true path bytes text =
+    (warnings : List Warning) × AreFileWarnings bytes warnings × AreWarningLines path bytes warnings text
 
 -- the list of a file with these bytes: the lines of all its faults, of which there are so many, and then of its warnings
 pub record IsList (path bytes : List ℕ) (warn : Bool) (count : ℕ) (text : List ℕ) : Type 0 where

@@ -10,19 +10,20 @@ ghost use Rattle.gtd_records.specs.Faults.{AreFileFaults, IsFaultyRow, row_numbe
 ghost use Rattle.gtd_records.specs.File.{IsFile, header};
 ghost use Rattle.gtd_records.specs.declared.fault.RecordFault.{RecordFault};
 ghost use Rattle.gtd_records.specs.declared.vehicles.Version.{Version};
-ghost use Rattle.gtd_faults.specs.Listing.{AreLines, fault_line};
+ghost use Rattle.gtd_faults.specs.Listing.{AreLines, fault_line, row_of};
+ghost use Rattle.gtd_faults.specs.Places.{IsLine, IsLineAt};
 
 use gtd_records::laws::{listed_faults, one_answer};
 
 /// What the list of a file's faults says. Nothing is listed exactly if the file is accepted. The first line names the fault
-/// for which the file is refused. For a file with a header and within the limits of bytes and rows, a row is listed exactly
-/// if its record of text stands for no restriction.
+/// for which the file is refused, and the line on which its row begins. For a file with a header and within the limits of
+/// bytes and rows, a row is listed exactly if its record of text stands for no restriction.
 pub fn listed_lines()
     ensures nothing { (path bytes : List ℕ) (faults : List RecordFault) (text : List ℕ) → AreFileFaults bytes faults
         → AreLines path bytes faults text → (text ≡ []) ↔ ((found : List Restriction) × IsFile bytes (Ok found)) }
     ensures first { (path bytes : List ℕ) (faults : List RecordFault) (text : List ℕ) (why : RecordFault)
         → AreFileFaults bytes faults → AreLines path bytes faults text → IsFile bytes (Err why)
-        → (line : ℕ) × (after : List ℕ) × (text ≡ fault_line path line why ++ after) }
+        → (line : ℕ) × IsLineAt bytes (row_of why) line × (after : List ℕ) × (text ≡ fault_line path line why ++ after) }
     ensures rows { (bytes : List ℕ) (faults : List RecordFault) (v : Version) (rows : List Fields) → AreFileFaults bytes faults
         → length bytes ≤ most_file_bytes → records default_config (strip_bom bytes) ≡ header v ∷ rows
         → length rows ≤ most_rows
@@ -31,3 +32,8 @@ pub fn listed_lines()
     listed_faults();
     one_answer();
 }
+
+/// A row of a file begins on one line.
+pub fn one_line()
+    ensures one { (bytes : List ℕ) (row line other : ℕ) → IsLine bytes row line → IsLine bytes row other → line ≡ other }
+{}

@@ -12,6 +12,7 @@ pub use stretch::Stretch;
 pub use words::{FaultText, WarningText};
 
 mod below;
+mod cut;
 mod hint;
 pub mod laws;
 mod lines;

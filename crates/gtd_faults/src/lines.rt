@@ -1,10 +1,12 @@
 //! The lines of faults and of warnings.
 
-ghost use Rattle.std.specs.Prelude.{◌≡◌, ◌++◌, IfOk, OnOk, length, string_bytes};
+ghost use Rattle.std.specs.Prelude.{◌≡◌, ◌++◌, ℕ, IfOk, IfSome, OnOk, length, string_bytes};
 ghost use Rattle.gtd_faults.specs.Below.{IsBelow, below_text};
 ghost use Rattle.gtd_records.specs.Faults.{AreFileFaults};
 ghost use Rattle.gtd_faults.specs.Hints as spec;
+ghost use Rattle.gtd_faults.specs.Listing as list;
 ghost use Rattle.gtd_faults.specs.Listing.{AreLines, AreWarningLines, IsList, fault_line, warning_line};
+ghost use Rattle.gtd_faults.specs.Standing.{StandsAt};
 
 use crate::below::Below;
 use crate::hint::hint_of;
@@ -12,6 +14,7 @@ use crate::places::Rows;
 use crate::printable::Printable;
 use crate::stretch::Stretch;
 use crate::words::{FaultText, WarningText};
+use gtd_core::limits::MOST_ROWS;
 use gtd_records::{RecordFault, Warning, warnings_of};
 use std::alloc::{AllocError, Global};
 
@@ -43,9 +46,26 @@ pub fn first_line(bytes: &[u8]) -> &[u8]
     bytes
 }
 
-// What is shown below the line of a fault: of the file's first line if it is no header, and otherwise of the row.
+// The row of a fault, if it has one.
+fn row_of(fault: RecordFault) -> Option<u32>
+    ensures { result ≡ list.row_of fault }
+{
+    match fault {
+        RecordFault::FieldCount { row } => Some(row),
+        RecordFault::Element { row } => Some(row),
+        RecordFault::Direction { row } => Some(row),
+        RecordFault::Vehicle { row } => Some(row),
+        RecordFault::Domain { row, .. } => Some(row),
+        RecordFault::TooManyRows => Some(MOST_ROWS + 1),
+        _ => None,
+    }
+}
+
+// What is shown below the line of a fault, if the rows stand at its row: of a field in it, or of the file's first line if
+// that is no header.
 fn below_fault<'a>(bytes: &'a [u8], rows: &'a Rows<'_>, fault: RecordFault) -> Below<'a>
-    ensures below { IsBelow bytes.now fault result }
+    ensures below { (number : ℕ) → StandsAt bytes.now number rows.now → IfSome (list.row_of fault) (λ row. number ≡ row)
+        → IsBelow bytes.now fault result }
 {
     match fault {
         RecordFault::Header => {
@@ -56,7 +76,11 @@ fn below_fault<'a>(bytes: &'a [u8], rows: &'a Rows<'_>, fault: RecordFault) -> B
                 hint: hint_of(line),
             }
         }
-        _ => rows.below(fault),
+        RecordFault::Element { .. } => rows.field(0, 0),
+        RecordFault::Direction { .. } => rows.field(1, 0),
+        RecordFault::Vehicle { .. } => rows.field(2, 0),
+        RecordFault::Domain { fault, .. } => rows.field(3, fault.place),
+        _ => Below::Nothing,
     }
 }
 
@@ -70,13 +94,23 @@ pub(crate) fn lines_of(
     ensures { IfOk result (λ text. AreLines path.now bytes.now faults.now (string_bytes text)) }
 {
     let mut text = String::new(alloc);
-    let mut rows = Rows::new(alloc, bytes);
+    let mut rows = Rows::new(alloc, bytes)?;
     for fault in faults {
-        rows.go_to_fault(*fault)?;
+        let line = rows.line_at(row_of(*fault))?;
         let below = below_fault(bytes, &rows, *fault);
-        push_fault(&mut text, path, rows.line(), *fault, below)?;
+        push_fault(&mut text, path, line, *fault, below)?;
     }
     Ok(text)
+}
+
+// The row of a warning.
+fn warned_row(warning: Warning) -> u32
+    ensures { result ≡ list.warned_row warning }
+{
+    match warning {
+        Warning::NeverHolds { row } => row,
+        Warning::AlwaysHolds { row } => row,
+    }
 }
 
 // Appends the line of a warning to the text.
@@ -100,13 +134,13 @@ fn warning_lines(
     bytes: &[u8],
     warnings: &[Warning],
 ) -> Result<String, AllocError>
-    ensures { IfOk result (λ text. AreWarningLines path.now warnings.now (string_bytes text)) }
+    ensures { IfOk result (λ text. AreWarningLines path.now bytes.now warnings.now (string_bytes text)) }
 {
     let mut text = String::new(alloc);
-    let mut rows = Rows::new(alloc, bytes);
+    let mut rows = Rows::new(alloc, bytes)?;
     for warning in warnings {
-        rows.go_to_warning(*warning)?;
-        push_warning(&mut text, path, rows.line(), *warning)?;
+        let line = rows.line_at(Some(warned_row(*warning)))?;
+        push_warning(&mut text, path, line, *warning)?;
     }
     Ok(text)
 }

@@ -1,134 +1,152 @@
-//! Where the rows of a file are, and what is shown of them.
+//! The rows of a file: where each begins, and what is shown of its fields.
 
-ghost use Rattle.gtd_faults.specs.Below.{IsOfRow, fault_place};
+ghost use Rattle.std.specs.Prelude.{◌≡◌, ◌≤◌, ◌+◌, ℕ, List, IfOk, IfSome, OnOk, option_map};
+ghost use Rattle.csv.specs.Records.{fields_of};
+ghost use Rattle.gtd_records.specs.Columns.{Fields};
+ghost use Rattle.gtd_faults.specs.Below.{IsOfField};
+ghost use Rattle.gtd_faults.specs.Places.{IsLine, IsLineAt, field_of};
+ghost use Rattle.gtd_faults.specs.Standing.{HasGiven, StandsAt};
 
 use crate::below::Below;
+use crate::cut::Place;
 use crate::stretch::Stretch;
-use csv::{ByteRecord, Reader, ReaderBuilder};
-use gtd_records::{RecordFault, Warning};
+use csv::{ByteRecord, Reader};
+use gtd_records::{next_row, table};
 use std::alloc::{AllocError, Global};
 
-/// The rows of a file's bytes, read in order. The header is row 0.
+/// The rows of a file's bytes. It stands at one of them; the header is row 0.
 #[derive(Drop)]
 pub struct Rows<'a> {
+    alloc: Global,
     bytes: &'a [u8],
     reader: Reader<&'a [u8]>,
     row: ByteRecord,
-    passed: u32,
-    counted: usize,
-    line: u64,
+    // Whether there is a row with this number.
+    found: bool,
+    number: u32,
+    place: Place,
+}
+
+// Takes the next record, if the last one was not the end, and says whether there was one.
+fn read_on(
+    found: bool,
+    reader: &mut Reader<&[u8]>,
+    row: &mut ByteRecord,
+) -> Result<bool, AllocError>
+    ensures { (number : ℕ) (text : List Fields) → HasGiven found reader.old (fields_of row.old) number text
+        → IfOk result (λ more. HasGiven more reader.new (fields_of row.new) (number + 1) text) }
+{
+    if !found {
+        return Ok(false);
+    }
+    next_row(reader, row)
+}
+
+// What is shown of a field, if there is one.
+fn shown_of(field: Option<&[u8]>, place: usize) -> Below<'_>
+    ensures { IsOfField (option_map (λ f. f.now) field.entry) place result }
+{
+    let Some(field) = field else {
+        return Below::Nothing;
+    };
+    if place > field.len() {
+        return Below::Nothing;
+    }
+    Below::Field(Stretch::around(field, place))
 }
 
 impl<'a> Rows<'a> {
-    /// The rows of these bytes.
-    pub fn new(alloc: Global, bytes: &'a [u8]) -> Rows<'a> {
-        let reader = ReaderBuilder::new()
-            .has_headers(false)
-            .flexible(true)
-            .from_reader(alloc, bytes);
-        Rows {
+    /// The rows of these bytes, at the header. `AllocError` is answered only if memory was refused.
+    pub fn new(alloc: Global, bytes: &'a [u8]) -> Result<Rows<'a>, AllocError>
+        ensures at { IfOk result (StandsAt bytes.now 0) }
+    {
+        let mut reader = table(alloc, bytes);
+        let mut row = ByteRecord::new(alloc);
+        let found = next_row(&mut reader, &mut row)?;
+        Ok(Rows {
+            alloc,
             bytes,
             reader,
-            row: ByteRecord::new(alloc),
-            passed: 0,
-            counted: 0,
-            line: 1,
-        }
+            row,
+            found,
+            number: 0,
+            place: Place::first(bytes),
+        })
     }
 
-    // Moves forward to the row of a fault; it never goes back.
-    pub(crate) fn go_to_fault(&mut self, fault: RecordFault) -> Result<(), AllocError> {
-        self.go_to(row_of(fault))
-    }
-
-    // Moves forward to the row of a warning; it never goes back.
-    pub(crate) fn go_to_warning(&mut self, warning: Warning) -> Result<(), AllocError> {
-        match warning {
-            Warning::NeverHolds { row } | Warning::AlwaysHolds { row } => self.go_to(row),
-        }
-    }
-
-    /// Moves forward to the row with this number; it never goes back. `AllocError` is answered only if memory was refused.
-    pub fn go_to(&mut self, row: u32) -> Result<(), AllocError> {
-        let end = row.saturating_add(1);
-        for _row in self.passed..end {
-            if self.reader.read_byte_record(&mut self.row).is_err() {
-                return Err(AllocError);
-            }
-        }
-        self.passed = self.passed.max(end);
-        self.count_lines();
+    // Moves on to the next row, which has this number.
+    fn step(&mut self, number: u32) -> Result<(), AllocError>
+        ensures at { (bytes : List ℕ) (before : ℕ) → number ≡ before + 1 → StandsAt bytes before self.old
+            → OnOk result (StandsAt bytes number self.new) }
+    {
+        self.found = read_on(self.found, &mut self.reader, &mut self.row)?;
+        self.place = self.place.next(self.bytes);
+        self.number = number;
         Ok(())
     }
 
-    // Counts the lines before the row's place in the reader.
-    fn count_lines(&mut self) {
-        let start = match self.row.position() {
-            Some(position) => position.byte() as usize,
-            None => 0,
-        };
-        let Some(before) = self.bytes.get(self.counted..start) else {
-            return;
-        };
-        for byte in before {
-            if *byte == 10 {
-                self.line = self.line.saturating_add(1);
-            }
+    // Goes back to the header if it stands at a later row than this.
+    fn go_back(&mut self, row: u32) -> Result<(), AllocError>
+        ensures at { (bytes : List ℕ) (number : ℕ) → StandsAt bytes number self.old
+            → OnOk result ((before : ℕ) × (before ≤ row) × StandsAt bytes before self.new) }
+    {
+        if row >= self.number {
+            return Ok(());
         }
-        self.counted = start;
+        *self = Rows::new(self.alloc, self.bytes)?;
+        Ok(())
+    }
+
+    // Moves on to the row with this number.
+    fn go_on(&mut self, row: u32) -> Result<(), AllocError>
+        ensures at { (bytes : List ℕ) (number : ℕ) → number ≤ row → StandsAt bytes number self.old
+            → OnOk result (StandsAt bytes row self.new) }
+    {
+        for before in self.number..row {
+            self.step(before + 1)?;
+        }
+        Ok(())
+    }
+
+    /// Goes to the row with this number. `AllocError` is answered only if memory was refused.
+    pub fn go_to(&mut self, row: u32) -> Result<(), AllocError>
+        ensures at { (bytes : List ℕ) (number : ℕ) → StandsAt bytes number self.old
+            → OnOk result (StandsAt bytes row self.new) }
+    {
+        self.go_back(row)?;
+        self.go_on(row)
     }
 
     /// The line on which the row begins, from 1.
-    pub fn line(&self) -> u64 {
-        let mut line = self.line;
-        let Some(rest) = self.bytes.get(self.counted..) else {
-            return line;
+    pub fn line(&self) -> u64
+        ensures line { (bytes : List ℕ) (number : ℕ) → StandsAt bytes number self.now → IsLine bytes number result }
+    {
+        self.place.line
+    }
+
+    /// Goes to the row with this number, if one is given, and answers the line on which it begins; without a row, it stays
+    /// where it is, and answers the first line. `AllocError` is answered only if memory was refused.
+    pub fn line_at(&mut self, row: Option<u32>) -> Result<u64, AllocError>
+        ensures line { (bytes : List ℕ) (number : ℕ) → StandsAt bytes number self.old → IfOk result (IsLineAt bytes row) }
+        ensures at { (bytes : List ℕ) (number : ℕ) → StandsAt bytes number self.old
+            → OnOk result ((here : ℕ) × IfSome row (λ given. here ≡ given) × StandsAt bytes here self.new) }
+    {
+        let Some(row) = row else {
+            return Ok(1);
         };
-        // The reader may place a row before the line feed that ends the previous row, and before empty lines.
-        for byte in rest {
-            match *byte {
-                10 => line = line.saturating_add(1),
-                13 => {}
-                _ => break,
-            }
-        }
-        line
+        self.go_to(row)?;
+        Ok(self.line())
     }
 
-    // What is shown of the row, below the line of its fault.
-    pub(crate) fn below(&self, fault: RecordFault) -> Below<'_>
-        ensures at { IsOfRow (fault_place fault) result }
-    {
-        match fault {
-            RecordFault::Element { .. } => self.field(0, 0),
-            RecordFault::Direction { .. } => self.field(1, 0),
-            RecordFault::Vehicle { .. } => self.field(2, 0),
-            RecordFault::Domain { fault, .. } => self.field(3, fault.place),
-            _ => Below::Nothing,
-        }
-    }
-
-    /// A field of the row, which has this index from 0 on, with a caret below its byte at this place. It is nothing if there
-    /// is no such field or place.
+    /// What is shown of the field with this index, from 0 on: its stretch around the place, with a caret below the byte
+    /// there. It is nothing if the row has no such field, or the field ends before the place.
     pub fn field(&self, index: usize, place: usize) -> Below<'_>
-        ensures at { IsOfRow place result }
+        ensures field { (bytes : List ℕ) (number : ℕ) → StandsAt bytes number self.now
+            → IsOfField (field_of bytes number index) place result }
     {
-        match self.row.get(index) {
-            Some(field) if place <= field.len() => Below::Field(Stretch::around(field, place)),
-            _ => Below::Nothing,
+        if !self.found {
+            return Below::Nothing;
         }
-    }
-}
-
-// The row of a fault, or 0 if it has none.
-fn row_of(fault: RecordFault) -> u32 {
-    match fault {
-        RecordFault::FieldCount { row } => row,
-        RecordFault::Element { row } => row,
-        RecordFault::Direction { row } => row,
-        RecordFault::Vehicle { row } => row,
-        RecordFault::Domain { row, .. } => row,
-        RecordFault::TooManyRows => 65_537,
-        _ => 0,
+        shown_of(self.row.get(index), place)
     }
 }

@@ -96,9 +96,9 @@ fn put_too_large<O: Output>(alloc: Global, output: &mut O, path: &str) -> Result
 /// fault with a caret at the place, or the first line of a file that has no header.
 ///
 /// Each row that stands for no restriction is listed, in order; `TooManyRows` follows the faults of the first 65,536 rows;
-/// `TooLarge` or `Header` is listed alone. Nothing is listed exactly if the file is accepted, and the first line names the
-/// fault for which [`gtd_records::read_records`] refuses it. Nothing is put before the whole file has been read. Before the
-/// call, the failures of both devices must be below `u64::MAX`.
+/// `TooLarge` or `Header` is listed alone, with line 1. No fault is listed exactly if the file is accepted, and the first line
+/// names the fault for which [`gtd_records::read_records`] refuses it. Nothing is put before the whole file has been read.
+/// Before the call, the failures of both devices must be below `u64::MAX`.
 pub fn run_faults<I: Input, O: Output>(
     alloc: Global,
     input: &mut I,

@@ -3,8 +3,6 @@ use Rattle.std.proofs.Common.{◌≡◌, ◌∙◌, ◌<◌, ◌+◌, ap, refl, 
 use Rattle.std.specs.Prelude.{IfSome, Result, Ok, Err, string_bytes}
 use Rattle.std.proofs.KnownBytes.{Keeps-refl}
 use Rattle.gtd_core.specs.Limits.{most_file_bytes}
-use Rattle.gtd_faults.specs.declared.below.Below.{Below}
-use Rattle.gtd_faults.specs.declared.below.Below.TheVariants as below
 use Rattle.gtd_migrate.specs.Migrated.{migrated}
 use Rattle.gtd_runs.specs.Putting.{Puts, nothing_put, text_of}
 use Rattle.gtd_runs.specs.Run.{TookFirst}
@@ -12,7 +10,7 @@ use Rattle.gtd_runs.specs.declared.putting.Progress.{Progress}
 use Rattle.gtd_runs.specs.declared.putting.Stop.{Stop}
 use Rattle.gtd_runs.specs.declared.putting.Stop.TheVariants.{Output, Memory}
 use Rattle.gtd_hours_records.specs.HoursFile.{AreOfFile}
-use Rattle.gtd_hours_records.specs.Listing.{AreLines, IsBelow}
+use Rattle.gtd_hours_records.specs.Listing.{AreLines}
 use Rattle.gtd_hours_records.specs.PuttingRows.{PutsRows, answer_of}
 use Rattle.gtd_hours_records.specs.Run.{HasTranslated, IsFaultList, IsRefusal, TookFirstRecords}
 use Rattle.gtd_hours_records.specs.declared.fault.HoursFileFault.{HoursFileFault}
@@ -62,25 +60,17 @@ has_translated (Err Memory) path bytes old new q rows file put = inr (stopped Me
 
 -- ---- a file that is too large
 
-not_header : fault.TooLarge ≡ fault.Header → ⊥
-not_header e = cc
-
 some_fault : (x : HoursFileFault) → x ∷ [] ≡ [] → ⊥
 some_fault x e = cc
 
--- what is shown below the line of a file that is too large is not taken from its bytes
-of_any : (bytes : List ℕ) (shown : Below) → IsBelow [] fault.TooLarge shown → IsBelow bytes fault.TooLarge shown
-of_any bytes below.Nothing is = is
-of_any bytes (below.Field stretch) is = is
-of_any bytes (below.Header found expected hint) is = absurd (not_header is.0)
-
+-- neither the line nor what is shown below it is taken from the bytes
 large_list : (path text : List ℕ) (file : Option (List ℕ)) → IfSome file (λ all. most_file_bytes < length all)
     → AreLines path [] (fault.TooLarge ∷ []) text → IfSome file (λ bytes. IsFaultList path bytes text)
 large_list path text None more lines = tt
 large_list path text (Some bytes) more lines = record {
   faults = fault.TooLarge ∷ [];
   all = ([], inr (more, refl, refl), some_fault fault.TooLarge);
-  lines = (lines.0, lines.1, of_any bytes lines.1 lines.2, lines.3, lines.4, lines.5);
+  lines = lines;
 }
 
 pub large_refused : (path : List ℕ) (file taken : Option (List ℕ)) (answer : Untranslated)

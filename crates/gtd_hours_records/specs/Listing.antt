@@ -1,10 +1,12 @@
 -- The list of all faults of a file of hours, in words.
-use Rattle.std.specs.Prelude.{◌≡◌, ◌≢◌, ◌++◌, ℕ, List, [], ◌∷◌, codes, decimal, None}
+use Rattle.std.specs.Prelude.{◌≡◌, ◌+◌, ◌++◌, ℕ, List, [], ◌∷◌, codes, decimal, Option, Some, None}
+use Rattle.gtd_core.specs.Limits.{most_rows}
 use Rattle.gtd_hours_syntax.specs.declared.fault.FaultKind.{FaultKind}
 use Rattle.gtd_hours_syntax.specs.declared.fault.FaultKind.TheVariants as kind
-use Rattle.gtd_faults.specs.Below.{IsAround, IsOfRow, below_text}
+use Rattle.gtd_faults.specs.Below.{IsOfField, IsOfHeader, below_text}
 use Rattle.gtd_faults.specs.Hints.{first_line}
 use Rattle.gtd_faults.specs.Listing.{line_text}
+use Rattle.gtd_faults.specs.Places.{IsLineAt, field_of}
 use Rattle.gtd_faults.specs.declared.below.Below.{Below}
 use Rattle.gtd_faults.specs.declared.below.Below.TheVariants as below
 use Rattle.gtd_hours_records.specs.declared.fault.HoursFileFault.{HoursFileFault}
@@ -31,25 +33,36 @@ fault_text (fault.Hours row why) =
 fault_text (fault.TooMany row) = codes "row " ++ decimal row ++ codes ": Hours TooMany at 0"
 fault_text fault.TooManyRows = codes "row 65537: TooManyRows"
 
--- where the field of a fault is at fault: the place in a text of hours, or its first byte
-abbrev pub fault_place : HoursFileFault → ℕ
-fault_place (fault.Hours row why) = why.place
-fault_place why = 0
-
 -- the header that is expected
 abbrev pub expected_text : List ℕ
 expected_text = codes "element,direction,vehicles,hours"
 
--- What is shown below the line of a fault of a file with these bytes. If it has no header: its first line, and the header
--- that is expected.
+-- What is shown below the line of a fault of a file with these bytes: the field in the column at fault, around the place in
+-- a text of hours or from its first byte on; if the file has no header, its first line, and the header that is expected;
+-- otherwise nothing.
 abbrev pub IsBelow : List ℕ → HoursFileFault → Below → Type 0
-IsBelow bytes why (below.Header found expected hint) =
-    (why ≡ fault.Header) × IsAround (first_line bytes) 0 found × (expected.now ≡ expected_text) × (hint ≡ None)
-IsBelow bytes why of_row = (why ≢ fault.Header) × IsOfRow (fault_place why) of_row
+IsBelow bytes (fault.Element row) shown = IsOfField (field_of bytes row 0) 0 shown
+IsBelow bytes (fault.Direction row) shown = IsOfField (field_of bytes row 1) 0 shown
+IsBelow bytes (fault.Vehicle row) shown = IsOfField (field_of bytes row 2) 0 shown
+IsBelow bytes (fault.Hours row why) shown = IsOfField (field_of bytes row 3) why.place shown
+IsBelow bytes (fault.TooMany row) shown = IsOfField (field_of bytes row 3) 0 shown
+IsBelow bytes fault.Header shown = IsOfHeader (first_line bytes) expected_text None shown
+IsBelow bytes why shown = shown ≡ below.Nothing
+
+-- the row that a fault is of, if it is of one; `TooManyRows` is of the first row too many
+abbrev pub row_of : HoursFileFault → Option ℕ
+row_of (fault.FieldCount row) = Some row
+row_of (fault.Element row) = Some row
+row_of (fault.Direction row) = Some row
+row_of (fault.Vehicle row) = Some row
+row_of (fault.Hours row why) = Some row
+row_of (fault.TooMany row) = Some row
+row_of fault.TooManyRows = Some (most_rows + 1)
+row_of why = None
 
 -- the lines of the faults of a file with these bytes, in order: for each its line, and what is shown below it
 abbrev pub AreLines : List ℕ → List ℕ → List HoursFileFault → List ℕ → Type 0
 AreLines path bytes [] text = text ≡ []
 AreLines path bytes (why ∷ rest) text =
-    (line : ℕ) × (below : Below) × IsBelow bytes why below × (after : List ℕ)
+    (line : ℕ) × IsLineAt bytes (row_of why) line × (below : Below) × IsBelow bytes why below × (after : List ℕ)
     × AreLines path bytes rest after × (text ≡ line_text path line (fault_text why) ++ below_text below ++ after)

@@ -1,47 +1,40 @@
 //! The list of all faults of a file of hours.
 
-ghost use Rattle.std.specs.Prelude.{◌≡◌, ◌++◌, IfOk, OnOk, string_bytes};
-ghost use Rattle.gtd_faults.specs.Below.{IsOfRow, below_text};
+ghost use Rattle.std.specs.Prelude.{◌≡◌, ◌++◌, ℕ, IfOk, IfSome, OnOk, string_bytes};
+ghost use Rattle.gtd_faults.specs.Below.{below_text};
 ghost use Rattle.gtd_faults.specs.Listing.{line_text};
-ghost use Rattle.gtd_hours_records.specs.Listing.{AreLines, IsBelow, fault_place, fault_text};
+ghost use Rattle.gtd_faults.specs.Standing.{StandsAt};
+ghost use Rattle.gtd_hours_records.specs.Listing as list;
+ghost use Rattle.gtd_hours_records.specs.Listing.{AreLines, IsBelow, fault_text};
 
 use crate::fault::HoursFileFault;
 use crate::words::HoursFaultText;
+use gtd_core::limits::MOST_ROWS;
 use gtd_faults::{Below, Printable, Rows, Stretch, first_line};
 use std::alloc::{AllocError, Global};
 
-// The row of a fault, or 0 if it has none.
-fn row_of(fault: HoursFileFault) -> u32 {
-    match fault {
-        HoursFileFault::TooLarge => 0,
-        HoursFileFault::Header => 0,
-        HoursFileFault::FieldCount { row } => row,
-        HoursFileFault::Element { row } => row,
-        HoursFileFault::Direction { row } => row,
-        HoursFileFault::Vehicle { row } => row,
-        HoursFileFault::Hours { row, .. } => row,
-        HoursFileFault::TooMany { row } => row,
-        HoursFileFault::TooManyRows => 65_537,
-    }
-}
-
-// What is shown of the row of a fault.
-fn below_row<'a>(rows: &'a Rows<'_>, fault: HoursFileFault) -> Below<'a>
-    ensures at { IsOfRow (fault_place fault) result }
+// The row of a fault, if it has one.
+fn row_of(fault: HoursFileFault) -> Option<u32>
+    ensures { result ≡ list.row_of fault }
 {
     match fault {
-        HoursFileFault::Element { .. } => rows.field(0, 0),
-        HoursFileFault::Direction { .. } => rows.field(1, 0),
-        HoursFileFault::Vehicle { .. } => rows.field(2, 0),
-        HoursFileFault::Hours { fault, .. } => rows.field(3, fault.place),
-        HoursFileFault::TooMany { .. } => rows.field(3, 0),
-        _ => Below::Nothing,
+        HoursFileFault::TooLarge => None,
+        HoursFileFault::Header => None,
+        HoursFileFault::FieldCount { row } => Some(row),
+        HoursFileFault::Element { row } => Some(row),
+        HoursFileFault::Direction { row } => Some(row),
+        HoursFileFault::Vehicle { row } => Some(row),
+        HoursFileFault::Hours { row, .. } => Some(row),
+        HoursFileFault::TooMany { row } => Some(row),
+        HoursFileFault::TooManyRows => Some(MOST_ROWS + 1),
     }
 }
 
-// What is shown below the line of a fault: of the file's first line if it is no header, and otherwise of the row.
+// What is shown below the line of a fault, if the rows stand at its row: of a field in it, or of the file's first line if
+// that is no header.
 fn below_fault<'a>(bytes: &'a [u8], rows: &'a Rows<'_>, fault: HoursFileFault) -> Below<'a>
-    ensures below { IsBelow bytes.now fault result }
+    ensures below { (number : ℕ) → StandsAt bytes.now number rows.now → IfSome (list.row_of fault) (λ row. number ≡ row)
+        → IsBelow bytes.now fault result }
 {
     match fault {
         HoursFileFault::Header => Below::Header {
@@ -49,7 +42,12 @@ fn below_fault<'a>(bytes: &'a [u8], rows: &'a Rows<'_>, fault: HoursFileFault) -
             expected: "element,direction,vehicles,hours",
             hint: None,
         },
-        _ => below_row(rows, fault),
+        HoursFileFault::Element { .. } => rows.field(0, 0),
+        HoursFileFault::Direction { .. } => rows.field(1, 0),
+        HoursFileFault::Vehicle { .. } => rows.field(2, 0),
+        HoursFileFault::Hours { fault, .. } => rows.field(3, fault.place),
+        HoursFileFault::TooMany { .. } => rows.field(3, 0),
+        _ => Below::Nothing,
     }
 }
 
@@ -79,11 +77,11 @@ pub(crate) fn lines_of(
     ensures { IfOk result (λ text. AreLines path.now bytes.now faults.now (string_bytes text)) }
 {
     let mut text = String::new(alloc);
-    let mut rows = Rows::new(alloc, bytes);
+    let mut rows = Rows::new(alloc, bytes)?;
     for fault in faults {
-        rows.go_to(row_of(*fault))?;
+        let line = rows.line_at(row_of(*fault))?;
         let below = below_fault(bytes, &rows, *fault);
-        push_fault(&mut text, path, rows.line(), *fault, below)?;
+        push_fault(&mut text, path, line, *fault, below)?;
     }
     Ok(text)
 }

@@ -1,0 +1,23 @@
+-- At which record of a file its rows stand.
+use Rattle.std.specs.Prelude.{◌≡◌, ℕ, Bool, true, false, List, [], ◌∷◌, Some, drop}
+use Rattle.std.specs.Borrow.{Bor}
+use Rattle.csv.specs.Reading.{default_config, records, strip_bom}
+use Rattle.csv.specs.Records.{fields_of}
+use Rattle.csv.specs.declared.reader.Reader.{Reader}
+use Rattle.gtd_records.specs.Columns.{Fields}
+use Rattle.gtd_records.specs.Table.{HasLeft}
+use Rattle.gtd_faults.specs.Cut.{IsPlace}
+use Rattle.gtd_faults.specs.declared.places.Rows.{Rows}
+
+-- a reader gave the record with this number, which has these fields, and has those after it left; or there is none
+abbrev pub HasGiven : Bool → Reader (Bor (List ℕ)) → Fields → ℕ → List Fields → Type 0
+HasGiven true reader fields number text =
+    (rest : List Fields) × (drop number text ≡ fields ∷ rest) × HasLeft (λ (source : Bor (List ℕ)). Some source.now) reader rest
+HasGiven false reader fields number text = drop number text ≡ []
+
+-- the rows are those of these bytes, and stand at the record with this number, whether there is one or not
+pub record StandsAt (bytes : List ℕ) (number : ℕ) (rows : Rows) : Type 0 where
+  pub text : rows.bytes.now ≡ bytes
+  pub at : rows.number ≡ number
+  pub given : HasGiven rows.found rows.reader (fields_of rows.row) number (records default_config (strip_bom bytes))
+  pub place : IsPlace bytes number rows.place
