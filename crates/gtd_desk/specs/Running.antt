@@ -1,10 +1,9 @@
 -- What a plan prints, and how it ends.
-use Rattle.std.specs.Prelude.{◌≡◌, ◌≢◌, ◌↔◌, ◌⊎◌, ⊤, ℕ, zero, suc, ℤ, Bool, List, Option, Result, Ok, Err, IsErrOf, IsTrue, OnOk}
-use Rattle.std.specs.Prelude.{Any, IfErr, IfOk, IfSome, string_bytes}
+use Rattle.std.specs.Prelude.{◌≡◌, ◌≢◌, ◌↔◌, ◌⊎◌, ⊤, ℕ, ◌+◌, zero, suc, ℤ, Bool, List, Option, Result, Ok, Err, IsErrOf, IsTrue}
+use Rattle.std.specs.Prelude.{Any, IfErr, IfOk, IfSome, OnOk, string_bytes}
 use Rattle.std.specs.Io.KnownBytes.{Appends, Keeps}
 use Rattle.gtd_core.specs.Parts.{domain_tree}
 use Rattle.gtd_words.specs.Words.{words}
-use Rattle.gtd_records.specs.declared.fault.RecordFault.{RecordFault}
 use Rattle.gtd_records.specs.declared.fault.RecordFault.TheVariants as records
 use Rattle.gtd_core.specs.declared.domain.Domain.{Domain}
 use Rattle.gtd_records.specs.Closing.{Restriction}
@@ -112,30 +111,23 @@ pub record RanFaults (path : List ℕ) (warn : Bool) (file old new : Option (Lis
   pub whole : OnOk answer (IsTrue ended)
   pub endless : IsErrOf answer list.Endless → IsTrue silent
 
--- The words of a domain were put whole, and then the output was ended. If memory was refused, nothing was put.
-pub record PutWords (text : List ℕ) (old new : Option (List ℕ)) (ended : Bool) (result : Result Ending Refusal) : Type 0 where
-  pub put : IfOk result (λ e. (e ≡ ending.Done) × Appends old new text × IsTrue ended)
-  pub cause : IfErr result (λ r. (r ≡ refusal.Write) ⊎ ((r ≡ refusal.Memory) × Keeps old new))
+-- A text of this kind was put whole, and then the output was ended. If the output failed, it had taken a first part of such a
+-- text, which may be none or all of it. Any other refusal has its cause, and nothing was put.
+pub record PutText (IsText : List ℕ → Type 0) (IsCause : Refusal → Type 0) (old new : Option (List ℕ)) (ended : Bool)
+    (result : Result Ending Refusal) : Type 0 where
+  pub whole : IfOk result (λ e. (e ≡ ending.Done) × ((text : List ℕ) × IsText text × Appends old new text) × IsTrue ended)
+  pub refused : IfErr result (λ r. ((r ≡ refusal.Write) × ((text : List ℕ) × IsText text × TookSome old new text))
+      ⊎ (IsCause r × Keeps old new))
 
--- A line of hours that are open at exactly the seconds of the domain was put whole, and then the output was ended. If no hours
--- were found, or memory was refused, nothing was put.
-pub record PutHours (domain : Domain) (old new : Option (List ℕ)) (ended : Bool) (result : Result Ending Refusal) : Type 0 where
-  pub put : IfOk result (λ e.
-      (e ≡ ending.Done) × ((line : List ℕ) × IsHoursLine domain line × Appends old new line) × IsTrue ended)
-  pub cause : IfErr result (λ r. (r ≡ refusal.Write) ⊎ (((r ≡ refusal.NoHours) ⊎ (r ≡ refusal.Memory)) × Keeps old new))
+-- The refusal is of memory, or says that no hours are found.
+abbrev pub IsHoursRefusal : Refusal → Type 0
+IsHoursRefusal r = (r ≡ refusal.NoHours) ⊎ (r ≡ refusal.Memory)
 
 -- The refusal is of memory, or says why the text has no domain.
 abbrev pub IsTextRefusal : List ℕ → Refusal → Type 0
 IsTextRefusal text (refusal.NoDomain why) = IsNoDomainOf text why
 IsTextRefusal text refusal.Memory = Unit {0}
 IsTextRefusal text other = ⊥
-
--- The line of the domain of hours was put whole, and then the output was ended. If the text has no domain, or memory was
--- refused, nothing was put.
-pub record PutDomain (text : List ℕ) (old new : Option (List ℕ)) (ended : Bool) (result : Result Ending Refusal) : Type 0 where
-  pub put : IfOk result (λ e.
-      (e ≡ ending.Done) × ((line : List ℕ) × IsDomainLine text line × Appends old new line) × IsTrue ended)
-  pub cause : IfErr result (λ r. (r ≡ refusal.Write) ⊎ (IsTextRefusal text r × Keeps old new))
 
 -- What the output for errors took: before and after, and how often it had failed.
 pub record Telling : Type 0 where
@@ -144,15 +136,20 @@ pub record Telling : Type 0 where
   pub failed_before : ℕ
   pub failed_after : ℕ
 
--- It took a text: all of it or, if it failed, a first part.
-pub record Told (errors : Telling) (text : List ℕ) : Type 0 where
-  pub some : TookSome errors.before errors.after text
-  pub all : errors.failed_after ≡ errors.failed_before → Appends errors.before errors.after text
+-- It took a text whole; or it failed once, and had taken a first part, which may be none or all of it.
+abbrev pub Told : Telling → List ℕ → Type 0
+Told errors text =
+    (Appends errors.before errors.after text × (errors.failed_after ≡ errors.failed_before))
+    ⊎ (TookSome errors.before errors.after text × (errors.failed_after ≡ errors.failed_before + 1))
+
+-- It took nothing, and did not fail.
+abbrev pub IsUntold : Telling → Type 0
+IsUntold errors = Keeps errors.before errors.after × (errors.failed_after ≡ errors.failed_before)
 
 -- What it took for the answer of a run that translates a file of hours: the list of the faults, if there are any.
 abbrev pub IsToldOf : Telling → Result ℕ Untranslated → Type 0
 IsToldOf errors (Err (hours.Faults list)) = Told errors (string_bytes list)
-IsToldOf errors other = Keeps errors.before errors.after
+IsToldOf errors other = IsUntold errors
 
 -- The answer of `records`, from that of its run.
 abbrev pub records_outcome : Result ℕ Untranslated → Result Ending Refusal
@@ -178,7 +175,7 @@ abbrev pub IsQuiet : Plan → Type 0
 IsQuiet (plan.Records path) = ⊥
 IsQuiet other = ⊤
 
--- What a plan did to the output, by its answer. A text that was asked for is taken whole, and then the output is ended.
+-- What a plan did to the output, by its answer.
 abbrev pub HasRunPlan : Plan → Option (List ℕ) → Option (List ℕ) → Option (List ℕ) → Bool → Bool → Telling
     → Result Ending Refusal → Type 0
 HasRunPlan (plan.Now path moment vehicle) file old new silent ended errors result =
@@ -190,14 +187,25 @@ HasRunPlan (plan.Picture path title subject) file old new silent ended errors re
 HasRunPlan (plan.DomainPicture domain title year) file old new silent ended errors result =
     RanDomainPicture domain (string_bytes title) year old new ended result
 HasRunPlan (plan.Words domain) file old new silent ended errors result =
-    PutWords (words (domain_tree domain)) old new ended result
-HasRunPlan (plan.HoursOf domain) file old new silent ended errors result = PutHours domain old new ended result
-HasRunPlan (plan.DomainOf text) file old new silent ended errors result = PutDomain (string_bytes text) old new ended result
+    PutText (λ text. text ≡ words (domain_tree domain)) (λ r. r ≡ refusal.Memory) old new ended result
+HasRunPlan (plan.HoursOf domain) file old new silent ended errors result =
+    PutText (IsHoursLine domain) IsHoursRefusal old new ended result
+HasRunPlan (plan.DomainOf text) file old new silent ended errors result =
+    PutText (IsDomainLine (string_bytes text)) (IsTextRefusal (string_bytes text)) old new ended result
 HasRunPlan (plan.Records path) file old new silent ended errors result =
     RanRecords (string_bytes path) file old new silent ended errors result
 HasRunPlan (plan.Show text) file old new silent ended errors result =
-    IfOk result (λ e. (e ≡ ending.Done) × Appends old new (string_bytes text) × IsTrue ended)
-    × IfErr result (λ r. r ≡ refusal.Write)
+    PutText (λ t. t ≡ string_bytes text) (λ r. ⊥) old new ended result
+
+-- one more failure of the input exactly if the refusal is that it failed
+abbrev pub failures_after_read : Result Ending Refusal → ℕ → ℕ
+failures_after_read (Err (refusal.Records records.ReadFault)) count = count + 1
+failures_after_read result count = count
+
+-- one more failure of the output exactly if the refusal is that it failed
+abbrev pub failures_after_write : Result Ending Refusal → ℕ → ℕ
+failures_after_write (Err refusal.Write) count = count + 1
+failures_after_write result count = count
 
 -- The exit status of a plan that was carried out: 1 if faults were listed.
 abbrev pub ending_status : Ending → ℕ

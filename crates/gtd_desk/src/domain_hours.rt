@@ -1,9 +1,9 @@
 //! The command `hours --of`: opening hours that are open at exactly the seconds of a time domain.
 
-ghost use Rattle.std.specs.Prelude.{◌≡◌, ◌⊎◌, ◌++◌, ◌<◌, IfErr, IfOk, codes, string_bytes};
+ghost use Rattle.std.specs.Prelude.{◌≡◌, ◌++◌, ◌<◌, IfErr, IfOk, codes, string_bytes};
 ghost use Rattle.gtd_osm.specs.Written.{hours_text};
 ghost use Rattle.gtd_desk.specs.Hours.{IsHoursLine};
-ghost use Rattle.gtd_desk.specs.Running.{PutHours};
+ghost use Rattle.gtd_desk.specs.Running.{IsHoursRefusal, PutText, failures_after_write};
 
 use crate::ending::Ending;
 use crate::performing::print_text;
@@ -27,7 +27,7 @@ fn line_of(alloc: Global, hours: &Hours) -> Result<String, AllocError>
 // The line of hours that are open at exactly the seconds of the domain. It reads as these hours, which is a law.
 fn hours_line(alloc: Global, domain: &Domain) -> Result<String, Refusal>
     ensures line { IfOk result (λ line. IsHoursLine domain.now (string_bytes line)) }
-    ensures cause { IfErr result (λ r. (r ≡ Refusal.NoHours) ⊎ (r ≡ Refusal.Memory)) }
+    ensures refused { IfErr result IsHoursRefusal }
 {
     printed_hours_read_back();
     match hours_of(alloc, domain) {
@@ -47,7 +47,10 @@ pub(crate) fn print_hours_of<O: Output>(
     domain: &Domain,
 ) -> Result<Ending, Refusal>
     requires writable { O.failure_count output.old < u64.MAX }
-    ensures put { PutHours domain.now (O.taken output.old) (O.taken output.new) (O.is_ended output.new) result }
+    ensures put { PutText (IsHoursLine domain.now) IsHoursRefusal (O.taken output.old) (O.taken output.new)
+        (O.is_ended output.new) result }
+    ensures write_faults { O.failure_count output.new
+        ≡ failures_after_write result (O.failure_count output.old) }
 {
     match hours_line(alloc, domain) {
         Ok(line) => print_text(output, line.as_str()),

@@ -9,7 +9,7 @@ ghost use Rattle.gtd_osm.specs.Cost.{hours_cost};
 ghost use Rattle.gtd_osm.specs.Opening.{IsOpen};
 ghost use Rattle.gtd_text.specs.Canonical.{canonical};
 ghost use Rattle.gtd_desk.specs.Hours.{IsDomainLine};
-ghost use Rattle.gtd_desk.specs.Running.{IsTextRefusal, PutDomain};
+ghost use Rattle.gtd_desk.specs.Running.{IsTextRefusal, PutText, failures_after_write};
 
 use crate::ending::Ending;
 use crate::performing::print_text;
@@ -81,7 +81,10 @@ pub(crate) fn print_domain_of<O: Output>(
     text: &str,
 ) -> Result<Ending, Refusal>
     requires writable { O.failure_count output.old < u64.MAX }
-    ensures put { PutDomain text.now (O.taken output.old) (O.taken output.new) (O.is_ended output.new) result }
+    ensures put { PutText (IsDomainLine text.now) (IsTextRefusal text.now) (O.taken output.old) (O.taken output.new)
+        (O.is_ended output.new) result }
+    ensures write_faults { O.failure_count output.new
+        ≡ failures_after_write result (O.failure_count output.old) }
 {
     match domain_line(alloc, text) {
         Ok(line) => print_text(output, line.as_str()),

@@ -1,9 +1,7 @@
 //! The command `records`: the record file of a file of opening hours.
 
 ghost use Rattle.std.specs.Prelude.{◌≡◌, ◌<◌};
-ghost use Rattle.std.specs.Io.KnownBytes.{Appends};
-ghost use Rattle.gtd_faults.specs.Run.{TookSome};
-ghost use Rattle.gtd_desk.specs.Running.{RanRecords, records_outcome};
+ghost use Rattle.gtd_desk.specs.Running.{RanRecords, Told, failures_after_read, failures_after_write, records_outcome};
 
 use crate::ending::Ending;
 use gtd_desk_plans::Refusal;
@@ -30,9 +28,12 @@ fn records_outcome(answer: &Result<u64, Untranslated>) -> Result<Ending, Refusal
 // Puts a list of faults. If that fails, a first part of it stands, and nobody is told.
 fn tell<E: Output>(errors: &mut E, list: &str)
     requires tellable { E.failure_count errors.old < u64.MAX }
-    ensures some { TookSome (E.taken errors.old) (E.taken errors.new) list.now }
-    ensures whole { E.failure_count errors.new ≡ E.failure_count errors.old
-        → Appends (E.taken errors.old) (E.taken errors.new) list.now }
+    ensures told { Told (record {
+      before = E.taken errors.old;
+      after = E.taken errors.new;
+      failed_before = E.failure_count errors.old;
+      failed_after = E.failure_count errors.new;
+    }) list.now }
 {
     let mut progress = Progress::new();
     let _ = put_line(errors, &mut progress, list.as_bytes());
@@ -57,6 +58,10 @@ pub(crate) fn print_records<I: Input, O: Output, E: Output>(
           failed_before = E.failure_count errors.old;
           failed_after = E.failure_count errors.new;
         }) result }
+    ensures read_faults { I.failure_count input.new
+        ≡ failures_after_read result (I.failure_count input.old) }
+    ensures write_faults { O.failure_count output.new
+        ≡ failures_after_write result (O.failure_count output.old) }
 {
     let answer = run_hours_records(alloc, input, output, path);
     if let Err(Untranslated::Faults(list)) = &answer {

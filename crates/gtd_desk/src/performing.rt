@@ -1,11 +1,11 @@
 //! Carrying a plan out.
 
-ghost use Rattle.std.specs.Prelude.{◌≡◌, ◌<◌, IfErr, IfOk, IsTrue, OnOk};
-ghost use Rattle.std.specs.Io.KnownBytes.{Appends, Keeps};
+ghost use Rattle.std.specs.Prelude.{◌≡◌, ◌<◌, None};
 ghost use Rattle.gtd_core.specs.Parts.{domain_tree};
 ghost use Rattle.gtd_words.specs.Words.{words};
-ghost use Rattle.gtd_desk.specs.Running.{HasRunPlan, IsQuiet, PutWords, RanFaults, RanNow};
-ghost use Rattle.gtd_desk.specs.Running.{listing_outcome, outcome_of, refusal_for};
+ghost use Rattle.gtd_desk_plans.specs.Plans.{file_of};
+ghost use Rattle.gtd_desk.specs.Running.{HasRunPlan, IsQuiet, PutText, RanFaults, RanNow, failures_after_read};
+ghost use Rattle.gtd_desk.specs.Running.{failures_after_write, listing_outcome, outcome_of, refusal_for};
 
 use crate::domain_hours::print_hours_of;
 use crate::ending::Ending;
@@ -61,6 +61,10 @@ fn print_now<I: Input, O: Output>(
     requires writable { O.failure_count output.old < u64.MAX }
     ensures ran { RanNow vehicle moment.second.0 (I.to_come input.old) (O.taken output.old) (O.taken output.new)
         (I.may_fall_silent input.old) (O.is_ended output.new) result }
+    ensures read_faults { I.failure_count input.new
+        ≡ failures_after_read result (I.failure_count input.old) }
+    ensures write_faults { O.failure_count output.new
+        ≡ failures_after_write result (O.failure_count output.old) }
 {
     outcome(run_now(alloc, input, output, vehicle, moment.second))
 }
@@ -91,6 +95,10 @@ fn list_faults<I: Input, O: Output>(
     requires writable { O.failure_count output.old < u64.MAX }
     ensures ran { RanFaults path.now warn (I.to_come input.old) (O.taken output.old) (O.taken output.new)
         (I.may_fall_silent input.old) (O.is_ended output.new) result }
+    ensures read_faults { I.failure_count input.new
+        ≡ failures_after_read result (I.failure_count input.old) }
+    ensures write_faults { O.failure_count output.new
+        ≡ failures_after_write result (O.failure_count output.old) }
 {
     listing_outcome(run_faults(alloc, input, output, path, warn))
 }
@@ -98,27 +106,17 @@ fn list_faults<I: Input, O: Output>(
 /// Puts a text, and ends the output.
 pub(crate) fn print_text<O: Output>(output: &mut O, text: &str) -> Result<Ending, Refusal>
     requires writable { O.failure_count output.old < u64.MAX }
-    ensures whole { OnOk result (Appends (O.taken output.old) (O.taken output.new) text.now) }
-    ensures ended { OnOk result (IsTrue (O.is_ended output.new)) }
-    ensures done { IfOk result (λ ending. ending ≡ Ending.Done) }
-    ensures cause { IfErr result (λ r. r ≡ Refusal.Write) }
+    ensures put { PutText (λ t. t ≡ text.now) (λ r. ⊥) (O.taken output.old) (O.taken output.new)
+        (O.is_ended output.new) result }
+    ensures write_faults { O.failure_count output.new
+        ≡ failures_after_write result (O.failure_count output.old) }
 {
     let mut progress = Progress::new();
     match put_line(output, &mut progress, text.as_bytes()) {
-        Ok(()) => end(output),
-        Err(_) => Err(Refusal::Write),
-    }
-}
-
-fn end<O: Output>(output: &mut O) -> Result<Ending, Refusal>
-    requires writable { O.failure_count output.old < u64.MAX }
-    ensures whole { Keeps (O.taken output.old) (O.taken output.new) }
-    ensures ended { OnOk result (IsTrue (O.is_ended output.new)) }
-    ensures done { IfOk result (λ ending. ending ≡ Ending.Done) }
-    ensures cause { IfErr result (λ r. r ≡ Refusal.Write) }
-{
-    match finish(output) {
-        Ok(()) => Ok(Ending::Done),
+        Ok(()) => match finish(output) {
+            Ok(()) => Ok(Ending::Done),
+            Err(_) => Err(Refusal::Write),
+        },
         Err(_) => Err(Refusal::Write),
     }
 }
@@ -126,8 +124,10 @@ fn end<O: Output>(output: &mut O) -> Result<Ending, Refusal>
 // Puts the words of a domain, and ends the output.
 fn print_words<O: Output>(alloc: Global, output: &mut O, domain: &Domain) -> Result<Ending, Refusal>
     requires writable { O.failure_count output.old < u64.MAX }
-    ensures put { PutWords (words (domain_tree domain.now)) (O.taken output.old) (O.taken output.new)
-        (O.is_ended output.new) result }
+    ensures put { PutText (λ t. t ≡ words (domain_tree domain.now)) (λ r. r ≡ Refusal.Memory)
+        (O.taken output.old) (O.taken output.new) (O.is_ended output.new) result }
+    ensures write_faults { O.failure_count output.new
+        ≡ failures_after_write result (O.failure_count output.old) }
 {
     match write_words(alloc, domain) {
         Ok(text) => print_text(output, text.as_str()),
@@ -140,8 +140,9 @@ fn print_words<O: Output>(alloc: Global, output: &mut O, domain: &Domain) -> Res
 /// any. If that output fails, a first part of the list stands, and the answer is the same.
 ///
 /// `Records` is the file's first fault, or why the input failed; `NoHours` is answered if no opening hours are found for a
-/// domain, `NoDomain` if a text is no opening hours or the domain of these is too large, and `Write` and `Memory` if the output
-/// failed and if memory was refused. Before the call, the failures of each device must be below `u64::MAX`.
+/// domain, and `NoDomain` if a text is no opening hours or the domain of these is too large. `Write` is answered exactly if the
+/// output failed, which has then taken a first part of what was to be put; `Memory` if memory was refused. Before the call, the
+/// failures of each device must be below `u64::MAX`.
 pub fn perform<I: Input, O: Output, E: Output>(
     alloc: Global,
     plan: &Plan,
@@ -152,6 +153,7 @@ pub fn perform<I: Input, O: Output, E: Output>(
     requires readable { I.failure_count input.old < u64.MAX }
     requires writable { O.failure_count output.old < u64.MAX }
     requires tellable { E.failure_count errors.old < u64.MAX }
+    // What the output took, by the answer; of `records`, what the output for errors took, too.
     ensures ran { HasRunPlan plan.now (I.to_come input.old) (O.taken output.old) (O.taken output.new)
         (I.may_fall_silent input.old) (O.is_ended output.new)
         (record {
@@ -160,7 +162,14 @@ pub fn perform<I: Input, O: Output, E: Output>(
           failed_before = E.failure_count errors.old;
           failed_after = E.failure_count errors.new;
         }) result }
-    ensures quiet { IsQuiet plan.now → Keeps (E.taken errors.old) (E.taken errors.new) }
+    // Each failure of the input or of the output is told, and nothing else is told as one.
+    ensures read_faults { I.failure_count input.new
+        ≡ failures_after_read result (I.failure_count input.old) }
+    ensures write_faults { O.failure_count output.new
+        ≡ failures_after_write result (O.failure_count output.old) }
+    // A plan without a file leaves the input as it was, and a plan other than `records` the output for errors.
+    ensures untouched { file_of plan.now ≡ None → input.new ≡ input.old }
+    ensures quiet { IsQuiet plan.now → errors.new ≡ errors.old }
 {
     match plan {
         Plan::Now {

@@ -1,7 +1,7 @@
 //! The commands `picture` and `picture-domain`: the picture of an element of a record file, and that of a time domain.
 
 ghost use Rattle.std.specs.Prelude.{◌≡◌, ◌<◌};
-ghost use Rattle.gtd_desk.specs.Running.{RanDomainPicture, RanPicture};
+ghost use Rattle.gtd_desk.specs.Running.{RanDomainPicture, RanPicture, failures_after_read, failures_after_write};
 
 use crate::ending::Ending;
 use crate::performing::outcome;
@@ -23,6 +23,10 @@ pub(crate) fn print_picture<I: Input, O: Output>(
     requires writable { O.failure_count output.old < u64.MAX }
     ensures ran { RanPicture subject title.now (I.to_come input.old) (O.taken output.old) (O.taken output.new)
         (I.may_fall_silent input.old) (O.is_ended output.new) result }
+    ensures read_faults { I.failure_count input.new
+        ≡ failures_after_read result (I.failure_count input.old) }
+    ensures write_faults { O.failure_count output.new
+        ≡ failures_after_write result (O.failure_count output.old) }
 {
     outcome(run_picture(
         alloc,
@@ -47,6 +51,8 @@ pub(crate) fn print_domain<O: Output>(
     requires writable { O.failure_count output.old < u64.MAX }
     ensures ran { RanDomainPicture domain.now title.now year (O.taken output.old) (O.taken output.new)
         (O.is_ended output.new) result }
+    ensures write_faults { O.failure_count output.new
+        ≡ failures_after_write result (O.failure_count output.old) }
 {
     outcome(put_domain_picture(alloc, output, domain, title, year))
 }
