@@ -2,8 +2,8 @@
 //!
 //! A [`Cursor`] hands out the seconds of a domain span by span and keeps no list of them: it is a tree of sweeps over the runs of
 //! the basic domains, which is made once. A [`KeptCursor`] hands out the same spans, and keeps a bounded number of those of a
-//! period, from which all later ones follow. [`spans`] and [`next_change`] ask one. Calls that take memory answer `AllocError` (or
-//! `NoMemory`) only if the allocator refused it.
+//! period, from which all later ones follow. [`spans`] and [`next_change`] ask one. Calls that take memory answer `AllocError`
+//! (or `NoMemory`) only if the allocator refused it.
 #![tactic(auto)]
 
 pub use cursor::Cursor;

@@ -208,8 +208,8 @@ fn spans_that_repeat(rt: HostRuntime) -> Result<(), Fail> {
     Ok(())
 }
 
-/// A domain, and how many spans its cursor keeps once all are handed out: those of a period of each largest part that repeats, and
-/// none of a period with more of them than there is room for.
+/// A domain, and how many spans its cursor keeps once all are handed out: those of a period of each largest part that repeats,
+/// and none of a period with more of them than there is room for.
 static KEPT: [(&str, u64); 6] = [
     (EACH_MINUTE, 1),
     (BROKEN_MORNING, 2),

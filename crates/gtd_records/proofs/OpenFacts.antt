@@ -18,8 +18,8 @@ use Rattle.gtd_records.specs.Closing.{Closes, Concerns, HoldsAt, IsClosed, IsOpe
 use Rattle.gtd_records.specs.declared.index.Place.{Place}
 use Rattle.gtd_records.specs.declared.direction.Direction.{Direction}
 
-some_push : {L : Type 0} {g : Ghosts L} (cs : List (SweepTree L g)) (c : SweepTree L g) (t : ℤ) → SomeHolds (cs ++ c ∷ []) t
-    → SomeHolds cs t ⊎ Holds (cursor_list c) t
+some_push : {L : Type 0} {g : Ghosts L} (cs : List (SweepTree L g)) (c : SweepTree L g) (t : ℤ)
+    → SomeHolds (cs ++ c ∷ []) t → SomeHolds cs t ⊎ Holds (cursor_list c) t
 some_push [] c t (inl h) = inr h
 some_push [] c t (inr h) = absurd h
 some_push (d ∷ cs) c t (inl h) = inl (inl h)
@@ -36,12 +36,13 @@ push_new : {L : Type 0} {g : Ghosts L} (cs : List (SweepTree L g)) (c : SweepTre
 push_new [] c t h = inl h
 push_new (d ∷ cs) c t h = inr (push_new cs c t h)
 
-module _ {L : Type 0} {g : Ghosts L} (rows : List Restriction) (part : List Place) (element : ℕ) (direction : Direction) (vehicle : ℕ)
-    (horizon : Horizon) where
+module _ {L : Type 0} {g : Ghosts L} (rows : List Restriction) (part : List Place) (element : ℕ) (direction : Direction)
+    (vehicle : ℕ) (horizon : Horizon) where
   -- the cursors are those of the restrictions at the first places that close the element
   pub record AreClosingSoFar (stop : ℕ) (cursors : List (SweepTree L g)) : Type 0 where
     pub sound : (t : ℤ) → SomeHolds cursors t → IsClosed rows element direction vehicle t
-    pub complete : (t : ℤ) → Within (whole horizon) t → (SomeHolds cursors t → ⊥) → NoneSoFar rows part (Closes element direction vehicle t) stop
+    pub complete : (t : ℤ) → Within (whole horizon) t → (SomeHolds cursors t → ⊥)
+        → NoneSoFar rows part (Closes element direction vehicle t) stop
 
   -- a restriction that concerns nothing asked for adds none
   pub same_cursors : (i : ℕ) (cursors : List (SweepTree L g)) (p : Place) (s : Restriction) → i < length part

@@ -8,7 +8,8 @@ use Rattle.gtd_eval.proofs.tree.SweepTree.+push_terms.Goals as goal
 pub returns-then-eq : goal.returns-then-eq
 returns-then-eq g t c =
     let l : AreTerms c.in-Join.inner (tree_of c.in-Join.left.value) c.args.horizon (expr_work c.in-Join.left.value c.args.horizon)
-    c.push_term.new.cursors.items c.push_terms.new.cursors.items = rw (← c.deref.ensures) c.in_ok-push_terms-in-Join.ensures.terms in
+    c.push_term.new.cursors.items c.push_terms.new.cursors.items =
+    rw (← c.deref.ensures) c.in_ok-push_terms-in-Join.ensures.terms in
     let r : AreTerms (right_of c.in-Join.inner) (tree_of c.in-Join.right.value) c.args.horizon
     (expr_work c.in-Join.right.value c.args.horizon) c.push_terms.new.cursors.items c.push_terms-in-Join.new.cursors.items =
     rw (← c.deref-in-Join.ensures, ← c.right_of.ensures) c.in_ok-push_terms-in-Join-2.ensures.terms in
@@ -19,7 +20,8 @@ returns-then-eq g t c =
 pub push_chain-requires-clause-chain : goal.push_chain-requires-clause-chain
 push_chain-requires-clause-chain g t c =
     let l : AreTerms c.in-Join.inner (tree_of c.in-Join.left.value) c.args.horizon (expr_work c.in-Join.left.value c.args.horizon)
-    c.push_term.new.cursors.items c.push_terms.new.cursors.items = rw (← c.deref.ensures) c.in_ok-push_terms-in-Join.ensures.terms in
+    c.push_term.new.cursors.items c.push_terms.new.cursors.items =
+    rw (← c.deref.ensures) c.in_ok-push_terms-in-Join.ensures.terms in
     let r : AreTerms (right_of c.in-Join.inner) (tree_of c.in-Join.right.value) c.args.horizon
     (expr_work c.in-Join.right.value c.args.horizon) c.push_terms.new.cursors.items c.push_terms-in-Join.new.cursors.items =
     rw (← c.deref-in-Join.ensures, ← c.right_of.ensures) c.in_ok-push_terms-in-Join-2.ensures.terms in
@@ -35,7 +37,8 @@ push_chain-requires-clause-chain g t c =
 pub returns : goal.returns
 returns g t c =
     let l : AreTerms c.in-Join.inner (tree_of c.in-Join.left.value) c.args.horizon (expr_work c.in-Join.left.value c.args.horizon)
-    c.push_term.new.cursors.items c.push_terms.new.cursors.items = rw (← c.deref.ensures) c.in_ok-push_terms-in-Join.ensures.terms in
+    c.push_term.new.cursors.items c.push_terms.new.cursors.items =
+    rw (← c.deref.ensures) c.in_ok-push_terms-in-Join.ensures.terms in
     let r : AreTerms (right_of c.in-Join.inner) (tree_of c.in-Join.right.value) c.args.horizon
     (expr_work c.in-Join.right.value c.args.horizon) c.push_terms.new.cursors.items c.push_terms-in-Join.new.cursors.items =
     rw (← c.deref-in-Join.ensures, ← c.right_of.ensures) c.in_ok-push_terms-in-Join-2.ensures.terms in
