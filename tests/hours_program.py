@@ -115,9 +115,9 @@ def number_texts():
 
 def list_texts():
     """Lists in which a selector that is translated in pieces stands first, last, or between others."""
-    lists = ("2020", "2030-2040/2", "1800-2000"), ("Mar 3", "Feb 20-Feb 29", "Jan 30-Mar 5", "2024 Dec 24"), ("1-53", "10-20/5", "3")
-    for number, names in enumerate(lists):
-        before, after = ("Mo; week " if number == 2 else "Mo; ", " Su" if number == 2 else "")
+    lists = [("Mo; ", "", ("2020", "2030-2040/2", "1800-2000")), ("Mo; week ", " Su", ("1-53", "10-20/5", "3"))]
+    lists += [("Mo; ", "", ("Mar 3", "Feb 20-Feb 29", "Jan 30-Mar 5", "2024 Dec 24"))]
+    for before, after, names in lists:
         for first in names:
             yield from (f"{before}{first},{second}{after}" for second in names)
             yield f"{before}{names[-1]},{first},{names[0]}{after} 08:00-12:00"
@@ -131,8 +131,8 @@ def weekday_texts():
 
 def time_texts():
     """Times that end on their day and later ones, and lists of both."""
-    ends = ("00:00-00:00", "00:00-24:00", "00:00-00:01", "10:00-10:00", "20:00-24:00", "20:00-00:00", "22:00-04:00", "22:00-28:00",
-            "23:59-47:59", "00:01-24:01", "00:01-00:01", "08:30-09:15")
+    ends = "00:00-00:00 00:00-24:00 00:00-00:01 10:00-10:00 20:00-24:00 20:00-00:00 22:00-04:00 22:00-28:00".split()
+    ends += "23:59-47:59 00:01-24:01 00:01-00:01 08:30-09:15".split()
     for first in ends:
         yield first
         yield f"Mo {first}"
@@ -141,13 +141,13 @@ def time_texts():
 
 def rule_texts():
     """Up to seven rules, each after a semicolon or a comma, open or off, and one more after them."""
-    rules = ["Mo-Fr 08:00-12:00,22:00-02:00", "Sa,Su 10:00-12:00", "Dec 24-26 10:00-13:00", "week 1-53/2 We", "2024-2030", "Apr-Sep",
-             "Fr 22:00-04:00"]
+    rules = ["Mo-Fr 08:00-12:00,22:00-02:00", "Sa,Su 10:00-12:00", "Dec 24-26 10:00-13:00", "week 1-53/2 We", "2024-2030"]
+    rules += ["Apr-Sep", "Fr 22:00-04:00"]
+    ends = ["Mo off", "Mo 09:00-10:00 off", "off", "Mo", "Mo,Tu 23:00-01:00,08:00-09:00", "Jan 1 off, Jan 1 08:00-09:00"]
     yield from ("off", "Mo off", "Mo off; Tu off", "off; 24/7", "Mo off, Tu 08:00-12:00", "24/7 off; Mo 08:00-12:00 off")
     for count in range(1, len(rules) + 1):
         for link in ("; ", ", "):
-            for last in ("Mo off", "Mo 09:00-10:00 off", "off", "Mo", "Mo,Tu 23:00-01:00,08:00-09:00", "Jan 1 off, Jan 1 08:00-09:00"):
-                yield "; ".join(rules[:count]) + link + last
+            yield from ("; ".join(rules[:count]) + link + last for last in ends)
     yield "2024-2026 Dec 20-Feb 29 week 1-10 Mo-Fr,Su[-1] 08:00-09:00,10:00-11:00,23:00-01:00"
 
 
@@ -155,7 +155,8 @@ def form_texts():
     for texts in (date_texts, number_texts, list_texts, weekday_texts, time_texts, rule_texts):
         yield from texts()
     for text in ("Nov 20-Dec 4", "2024-2030/2", "2024-2030", "week 10-20", "week 53", "Nov 29-30", "Feb 29", "Mo", "We[-1]"):
-        yield from (f"{text} 08:00-12:00", f"{text} 22:00-04:00", f"24/7; {text} off", f"Su 08:00-09:00; {text} 10:00-11:00,22:00-04:00")
+        yield from (f"{text} 08:00-12:00", f"{text} 22:00-04:00", f"24/7; {text} off")
+        yield f"Su 08:00-09:00; {text} 10:00-11:00,22:00-04:00"
 
 
 def changes(opened):

@@ -2,9 +2,10 @@
 
 ghost use Rattle.std.specs.Prelude.{◌≡◌, ◌⊎◌, ◌+◌, ◌<◌, ◌≤◌, ℕ};
 ghost use Rattle.std.specs.Option.{IsSomeAnd};
-ghost use Rattle.gtd_osm.specs.Cost.{common_length, month_after};
+ghost use Rattle.gtd_osm.specs.Cost.{IsOneStretch, common_length, month_after};
 ghost use Rattle.gtd_osm.specs.Ranges.{IsMonth};
-ghost use Rattle.gtd_hours_of.specs.Forms.{IsMonthCount};
+ghost use Rattle.gtd_osm.specs.declared.hours.MonthDay.{MonthDay};
+ghost use Rattle.gtd_hours_of.specs.Forms.{IsMonthCount, IsStretch};
 
 use gtd_osm::{Dates, MonthDay, Months};
 
@@ -47,7 +48,12 @@ pub fn months_from(month: u8, count: u32) -> Option<Months>
 }
 
 /// The dates from one on, for some months and then some days.
-pub fn dates_from(month: u8, day: u8, months: u32, days: u32) -> Option<Dates> {
+pub fn dates_from(month: u8, day: u8, months: u32, days: u32) -> Option<Dates>
+    ensures { (first last : MonthDay) → month ≡ first.month → day ≡ first.day → months ≤ 12
+        → IsOneStretch first last → IsStretch first last months days
+        → IsSomeAnd result (λ x. (x.first.month ≡ first.month) × (x.first.day ≡ first.day)
+        × (x.last.month ≡ last.month) × (x.last.day ≡ last.day)) }
+{
     if month == 0 || month > MONTHS_OF_YEAR || months > 12 || days > MOST_DAYS {
         return None;
     }

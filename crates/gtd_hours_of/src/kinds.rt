@@ -1,13 +1,21 @@
 //! Kinds of selectors, each of which must hold.
 
+ghost use Rattle.std.specs.Prelude.{IfOk, IsSome, IsTrue};
+ghost use Rattle.gtd_core.specs.Parts.{duration_parts, start_parts};
+ghost use Rattle.gtd_core.specs.Trees.{tree_of};
+ghost use Rattle.gtd_hours_of.specs.Forms.{AreDays, AreKinds, IsEachDay};
+
 use crate::alike::is_translated_to;
+use crate::leaf::selector_of;
 use crate::pieces::selector_of_expr;
 use gtd_core::{Basic, Expr, Op};
 use gtd_osm::{Kind, Selector};
 use std::alloc::{AllocError, Global};
 
 // Whether a basic domain is every day.
-fn is_each_day(basic: &Basic) -> bool {
+fn is_each_day(basic: &Basic) -> bool
+    ensures { IsEachDay (start_parts basic.now.start) (duration_parts basic.now.duration) → IsTrue result }
+{
     let parts = basic.start.parts();
     let names_a_day = parts.year.is_some()
         || parts.month.is_some()
@@ -18,7 +26,9 @@ fn is_each_day(basic: &Basic) -> bool {
 }
 
 /// The kinds of selectors whose days are those of an expression.
-pub fn kinds_of(alloc: Global, expr: &Expr) -> Result<Option<Vec<Kind>>, AllocError> {
+pub fn kinds_of(alloc: Global, expr: &Expr) -> Result<Option<Vec<Kind>>, AllocError>
+    ensures { AreKinds (tree_of expr.now) → IfOk result IsSome }
+{
     match expr {
         Expr::Leaf(basic) => {
             if is_each_day(basic) {
@@ -34,7 +44,9 @@ pub fn kinds_of(alloc: Global, expr: &Expr) -> Result<Option<Vec<Kind>>, AllocEr
     }
 }
 
-fn push_kind(kinds: Vec<Kind>, kind: Option<Kind>) -> Result<Option<Vec<Kind>>, AllocError> {
+fn push_kind(kinds: Vec<Kind>, kind: Option<Kind>) -> Result<Option<Vec<Kind>>, AllocError>
+    ensures { IsSome kind → IfOk result IsSome }
+{
     let Some(kind) = kind else {
         return Ok(None);
     };
@@ -44,25 +56,47 @@ fn push_kind(kinds: Vec<Kind>, kind: Option<Kind>) -> Result<Option<Vec<Kind>>, 
 }
 
 // The selectors of one kind: one that has all of the expression, or else those of a chain.
-fn kind_of(alloc: Global, expr: &Expr) -> Result<Option<Kind>, AllocError> {
-    if let Some(selector) = selector_of_expr(expr) {
-        if is_translated_to(alloc, selector, expr)? {
-            let none = Kind {
-                selectors: Vec::new(alloc),
-            };
-            return push_selector(none, Some(selector));
-        }
-    }
+fn kind_of(alloc: Global, expr: &Expr) -> Result<Option<Kind>, AllocError>
+    ensures { AreDays (tree_of expr.now) → IfOk result IsSome }
+{
     match expr {
-        Expr::Join(Op::Union, left, right) => match kind_of(alloc, left)? {
-            Some(kind) => push_selector(kind, selector_of_expr(right)),
-            None => Ok(None),
-        },
-        _ => Ok(None),
+        Expr::Leaf(basic) => push_selector(no_selectors(alloc), selector_of(basic)),
+        Expr::Join(op, left, right) => {
+            let whole = whole_kind(alloc, expr)?;
+            if whole.is_some() {
+                return Ok(whole);
+            }
+            if *op != Op::Union {
+                return Ok(None);
+            }
+            match kind_of(alloc, left)? {
+                Some(kind) => push_selector(kind, selector_of_expr(right)),
+                None => Ok(None),
+            }
+        }
     }
 }
 
-fn push_selector(kind: Kind, selector: Option<Selector>) -> Result<Option<Kind>, AllocError> {
+fn no_selectors(alloc: Global) -> Kind {
+    Kind {
+        selectors: Vec::new(alloc),
+    }
+}
+
+// The kind of one selector whose days are all of those of an expression.
+fn whole_kind(alloc: Global, expr: &Expr) -> Result<Option<Kind>, AllocError> {
+    let Some(selector) = selector_of_expr(expr) else {
+        return Ok(None);
+    };
+    if !is_translated_to(alloc, selector, expr)? {
+        return Ok(None);
+    }
+    push_selector(no_selectors(alloc), Some(selector))
+}
+
+fn push_selector(kind: Kind, selector: Option<Selector>) -> Result<Option<Kind>, AllocError>
+    ensures { IsSome selector → IfOk result IsSome }
+{
     let Some(selector) = selector else {
         return Ok(None);
     };

@@ -1,9 +1,14 @@
 //! What a basic domain says, as a selector of days.
 
-ghost use Rattle.std.specs.Prelude.{◌≡◌, ◌+◌, ◌≤◌, ℕ, IfSome, IsSome};
+ghost use Rattle.std.specs.Prelude.{◌≡◌, ◌+◌, ◌≤◌, ℕ, Some, None, IfSome, IsSome};
 ghost use Rattle.std.specs.Option.{IsSomeAnd};
-ghost use Rattle.gtd_osm.specs.Ranges.{IsWeeks, IsYears};
-ghost use Rattle.gtd_hours_of.specs.Forms.{AreWeeks, AreYears};
+ghost use Rattle.gtd_core.specs.Parts.{duration_parts, start_parts};
+ghost use Rattle.gtd_core.specs.Trees.Tree.{Single};
+ghost use Rattle.gtd_osm.specs.Cost.{IsOneStretch};
+ghost use Rattle.gtd_osm.specs.Ranges.{IsMonth, IsWeeks, IsYears};
+ghost use Rattle.gtd_osm.specs.declared.hours.MonthDay.{MonthDay};
+ghost use Rattle.gtd_osm.specs.declared.hours.Place.{Place};
+ghost use Rattle.gtd_hours_of.specs.Forms.{AreWeeks, AreYears, IsDayLeaf, IsMonthCount, IsStretch};
 
 use crate::dates::{dates_from, months_from};
 use crate::weekdays::weekdays_of;
@@ -18,7 +23,9 @@ const LAST_CALENDAR_DAY: i64 = 303_150;
 const FIRST_CALENDAR_DAY: i64 = -62_091;
 
 /// The selector of the days of a basic domain, if it has the form of one. The clock is not looked at.
-pub fn selector_of(basic: &Basic) -> Option<Selector> {
+pub fn selector_of(basic: &Basic) -> Option<Selector>
+    ensures { IsDayLeaf (Single (start_parts basic.now.start) (duration_parts basic.now.duration)) → IsSome result }
+{
     let parts = basic.start.parts();
     let lasts = basic.duration.parts();
     if let Some(year) = parts.year {
@@ -95,7 +102,12 @@ fn last_date(begin: i64, days: u32) -> Option<YearDate> {
 }
 
 // Months of each year, or dates of each year.
-fn from_month(month: u8, day: u8, lasts: DurationParts) -> Option<Selector> {
+fn from_month(month: u8, day: u8, lasts: DurationParts) -> Option<Selector>
+    ensures months { (last : ℕ) → IsMonth month → IsMonth last → day ≡ 1 → lasts.days ≡ 0
+        → IsMonthCount month last lasts.months → IsSome result }
+    ensures dates { (first last : MonthDay) → month ≡ first.month → day ≡ first.day → lasts.months ≤ 12
+        → IsOneStretch first last → IsStretch first last lasts.months lasts.days → IsSome result }
+{
     if day == 1 && lasts.days == 0 {
         let months = months_from(month, lasts.months)?;
         return Some(Selector::Months(months));
@@ -105,7 +117,11 @@ fn from_month(month: u8, day: u8, lasts: DurationParts) -> Option<Selector> {
 }
 
 // A place in the month, or weekdays.
-fn on_weekday(parts: StartParts) -> Option<Selector> {
+fn on_weekday(parts: StartParts) -> Option<Selector>
+    ensures nth { (x : Place) → parts.nth ≡ Some (x.number, x.weekday) → IsSome result }
+    ensures nth_back { (x : Place) → parts.nth ≡ None → parts.nth_back ≡ Some (x.number, x.weekday) → IsSome result }
+    ensures weekdays { parts.nth ≡ None → parts.nth_back ≡ None → IsSome result }
+{
     if let Some((number, weekday)) = parts.nth {
         let place = Place::new(weekday, number)?;
         return Some(Selector::Nth(place));

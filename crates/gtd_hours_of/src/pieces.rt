@@ -1,5 +1,9 @@
 //! A selector that takes several basic domains, such as every second year.
 
+ghost use Rattle.std.specs.Prelude.{IsSome};
+ghost use Rattle.gtd_core.specs.Trees.{tree_of};
+ghost use Rattle.gtd_hours_of.specs.Forms.{IsDayLeaf};
+
 use crate::leaf::selector_of;
 use gtd_core::{Basic, Expr, Op};
 use gtd_osm::{Dates, MonthDay, Selector, Weeks, Years};
@@ -90,7 +94,9 @@ fn dates_of(pieces: &Pieces) -> Option<Selector> {
 }
 
 /// The selector of an expression, if it has the form of one.
-pub fn selector_of_expr(expr: &Expr) -> Option<Selector> {
+pub fn selector_of_expr(expr: &Expr) -> Option<Selector>
+    ensures { IsDayLeaf (tree_of expr.now) → IsSome result }
+{
     match expr {
         Expr::Leaf(basic) => selector_of(basic),
         Expr::Join(_, left, right) => {

@@ -1,8 +1,10 @@
 //! Rules, one after another.
 
-ghost use Rattle.std.specs.Prelude.{◌≡◌, IfOk, IsSome, IsTrue};
+ghost use Rattle.std.specs.Prelude.{◌≡◌, IfOk, IsSome, IsTrue, None};
 ghost use Rattle.gtd_core.specs.Parts.{duration_parts};
 ghost use Rattle.gtd_core.specs.Ranges.{bound_of};
+ghost use Rattle.gtd_core.specs.Trees.{tree_of};
+ghost use Rattle.gtd_hours_of.specs.Forms.{AreKinds, AreRules, AreSpans, IsDayLeaf, IsLate};
 
 use crate::kinds::{are_same_kinds, kinds_of};
 use crate::times::{Time, single_time, times_of};
@@ -29,7 +31,10 @@ impl Spans {
 }
 
 // A range of times that ends on a later day, on days of its own.
-fn late_time(expr: &Expr) -> Option<Time> {
+fn late_time(expr: &Expr) -> Option<Time>
+    ensures found { IsLate (tree_of expr.now) → IsSome result }
+    ensures none { IsDayLeaf (tree_of expr.now) → result ≡ None }
+{
     match expr {
         Expr::Join(Op::Meet, _, clock) => {
             let time = single_time(clock)?;
@@ -39,7 +44,9 @@ fn late_time(expr: &Expr) -> Option<Time> {
     }
 }
 
-fn whole_days(alloc: Global, expr: &Expr) -> Result<Option<Spans>, AllocError> {
+fn whole_days(alloc: Global, expr: &Expr) -> Result<Option<Spans>, AllocError>
+    ensures { AreKinds (tree_of expr.now) → IfOk result IsSome }
+{
     let Some(kinds) = kinds_of(alloc, expr)? else {
         return Ok(None);
     };
@@ -53,7 +60,9 @@ fn days_with_times(
     alloc: Global,
     days: &Expr,
     times: Vec<TimeRange>,
-) -> Result<Option<Spans>, AllocError> {
+) -> Result<Option<Spans>, AllocError>
+    ensures { AreKinds (tree_of days.now) → IfOk result IsSome }
+{
     let Some(kinds) = kinds_of(alloc, days)? else {
         return Ok(None);
     };
@@ -61,7 +70,9 @@ fn days_with_times(
 }
 
 // The spans of a rule, if the expression has their form.
-fn spans_of(alloc: Global, expr: &Expr) -> Result<Option<Spans>, AllocError> {
+fn spans_of(alloc: Global, expr: &Expr) -> Result<Option<Spans>, AllocError>
+    ensures { AreSpans (tree_of expr.now) → IfOk result IsSome }
+{
     match expr {
         Expr::Join(Op::Meet, days, clocks) => match times_of(alloc, clocks)? {
             Some(times) => days_with_times(alloc, days, times),
@@ -142,7 +153,9 @@ fn never(alloc: Global) -> Rule {
 }
 
 // The rule of an expression that is the spans of one.
-fn first_rule(alloc: Global, expr: &Expr) -> Result<Option<Vec<Rule>>, AllocError> {
+fn first_rule(alloc: Global, expr: &Expr) -> Result<Option<Vec<Rule>>, AllocError>
+    ensures { AreSpans (tree_of expr.now) → IfOk result IsSome }
+{
     let Some(spans) = spans_of(alloc, expr)? else {
         return Ok(None);
     };
@@ -150,7 +163,9 @@ fn first_rule(alloc: Global, expr: &Expr) -> Result<Option<Vec<Rule>>, AllocErro
 }
 
 /// The rules of an expression, if it has the form of their translation.
-pub fn rules_of(alloc: Global, expr: &Expr) -> Result<Option<Vec<Rule>>, AllocError> {
+pub fn rules_of(alloc: Global, expr: &Expr) -> Result<Option<Vec<Rule>>, AllocError>
+    ensures { AreRules (tree_of expr.now) → IfOk result IsSome }
+{
     match expr {
         Expr::Join(Op::Union, before, last) => {
             let Some(rules) = rules_of(alloc, before)? else {

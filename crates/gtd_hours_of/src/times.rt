@@ -3,9 +3,10 @@
 ghost use Rattle.std.specs.Prelude.{◌≡◌, ◌↔◌, ◌<◌, IfOk, IsSome, IsTrue, None};
 ghost use Rattle.std.specs.Option.{IsSomeAnd};
 ghost use Rattle.gtd_core.specs.Parts.{duration_parts, start_parts};
+ghost use Rattle.gtd_core.specs.Trees.{tree_of};
 ghost use Rattle.gtd_osm.specs.Ranges.{end_of};
 ghost use Rattle.gtd_osm.specs.declared.hours.TimeRange.{TimeRange};
-ghost use Rattle.gtd_hours_of.specs.Forms.{IsClockOf, NamesNoDay};
+ghost use Rattle.gtd_hours_of.specs.Forms.{AreClocks, IsClock, IsClockOf, IsLateClock, NamesNoDay};
 
 use gtd_core::{Basic, Expr, Op, StartParts};
 use gtd_osm::TimeRange;
@@ -54,7 +55,10 @@ pub fn time_of(basic: &Basic) -> Option<Time>
 }
 
 /// The time of an expression that is such a basic domain.
-pub fn single_time(expr: &Expr) -> Option<Time> {
+pub fn single_time(expr: &Expr) -> Option<Time>
+    ensures found { IsClock (tree_of expr.now) → IsSome result }
+    ensures late { IsLateClock (tree_of expr.now) → IsSomeAnd result (λ x. IsTrue x.is_late) }
+{
     match expr {
         Expr::Leaf(basic) => time_of(basic),
         Expr::Join(_, _, _) => None,
@@ -62,9 +66,11 @@ pub fn single_time(expr: &Expr) -> Option<Time> {
 }
 
 /// The ranges of times of a chain of such basic domains.
-pub fn times_of(alloc: Global, expr: &Expr) -> Result<Option<Vec<TimeRange>>, AllocError> {
+pub fn times_of(alloc: Global, expr: &Expr) -> Result<Option<Vec<TimeRange>>, AllocError>
+    ensures { AreClocks (tree_of expr.now) → IfOk result IsSome }
+{
     match expr {
-        Expr::Leaf(basic) => push_time(Vec::new(alloc), time_of(basic)),
+        Expr::Leaf(_) => push_time(Vec::new(alloc), single_time(expr)),
         Expr::Join(op, left, right) => {
             if *op != Op::Union {
                 return Ok(None);

@@ -1,6 +1,6 @@
 //! Weekdays, as a range.
 
-ghost use Rattle.std.specs.Prelude.{◌≡◌, ◌↔◌, ◌≤◌, ℕ, IsTrue};
+ghost use Rattle.std.specs.Prelude.{◌≡◌, ◌↔◌, ◌≤◌, ℕ, IsSome, IsTrue};
 ghost use Rattle.gtd_hours_of.specs.Forms.{Begins, Ends, HasWeekday, weekday_after, weekday_before};
 
 use gtd_osm::Weekdays;
@@ -54,10 +54,15 @@ fn last_of(bits: u8) -> u8
     0
 }
 
-/// The range of weekdays with these bits, from Sunday on, if they are one. All of them are from Monday to Sunday.
-pub fn weekdays_of(bits: u8) -> Option<Weekdays> {
-    if bits == 127 {
+/// The range of weekdays with these bits, from Sunday on, if they are one. Where none begins or ends a range, all of them are
+/// given: from Monday to Sunday.
+pub fn weekdays_of(bits: u8) -> Option<Weekdays>
+    ensures { IsSome result }
+{
+    let first = first_of(bits);
+    let last = last_of(bits);
+    if first == 0 || last == 0 {
         return Weekdays::new(2, 1);
     }
-    Weekdays::new(first_of(bits), last_of(bits))
+    Weekdays::new(first, last)
 }
