@@ -16,7 +16,7 @@ use Rattle.gtd_text.specs.facts.ReadingLaws.{one_fault}
 use Rattle.clap.specs.Walk.{Row}
 use Rattle.clap.specs.Simple.{subcommand_rows_of}
 use Rattle.clap.specs.declared.parser.matches.ArgMatches.{ArgMatches}
-use Rattle.gtd_desk_plans.specs.CommandLine.{AskForText, HasWords, Text, desk_app, is_memory, is_request}
+use Rattle.gtd_desk_plans.specs.CommandLine.{HasWords, Text, desk_app, is_memory, is_request, neither_or_both}
 use Rattle.gtd_desk_plans.specs.Given.{AreMistaken, Give, Given, PictureTexts, given_by, given_in, texts_of}
 use Rattle.gtd_desk_plans.specs.declared.given.Words.{Words}
 use Rattle.gtd_desk_plans.specs.Plans.{AreRefused, AskFor, Asks, IsDomainPlan, IsHoursPlan, IsNowFault, IsNowPlan, IsOfWord}
@@ -339,9 +339,9 @@ none_among : (words : List Text) (given : Given) → Give words given → (kind 
     → IsAmong kind (fault_of desk_app words) → ⊥
 none_among words given give kind among = subst (λ kinds. IsAmong kind kinds) give.faultless among
 
-not_mistaken : (words : List Text) (given : Given) → Give words given → AreMistaken words → ⊥
-not_mistaken words given give (inl x) = none_among words given give x.0 x.1
-not_mistaken words given give (inr x) = none_read (given_by words) given give.is x.1
+not_mistaken : (words : List Text) (told : Text) (given : Given) → Give words given → AreMistaken words told → ⊥
+not_mistaken words told given give (inl x) = none_among words given give x.0 x.1
+not_mistaken words told given give (inr x) = none_read (given_by words) given give.is x.1
 
 refused_word : (words : List Text) (given : Given) (r : Refusal) → Give words given
     → ((g : Given) × Give words g × IsWordFault g r) → IsWordFault given r
@@ -351,8 +351,8 @@ pub only_asked : (words : List Text) (result : Result Plan Refusal) → MatchRes
     → (given : Given) → Give words given → MatchResult result (Asks given) (IsRefused given)
 only_asked words (Ok p) (AskFor.command g gives asks) given give =
     subst (λ (x : Given). Asks x p) (one_given words g given gives give) asks
-only_asked words (Ok p) (AskFor.text asks shown) given give = absurd (none_among words given give asks.0 asks.1)
-only_asked words (Err (refusal.Usage why)) is given give = absurd (not_mistaken words given give is)
+only_asked words (Ok p) (AskFor.text kind asks shown) given give = absurd (none_among words given give kind asks.0)
+only_asked words (Err (refusal.Usage why)) is given give = absurd (not_mistaken words why.now given give is)
 only_asked words (Err (refusal.Moment why)) is given give = refused_word words given (refusal.Moment why) give is
 only_asked words (Err refusal.Vehicle) is given give = refused_word words given refusal.Vehicle give is
 only_asked words (Err (refusal.Word why)) is given give = refused_word words given (refusal.Word why) give is
@@ -407,10 +407,10 @@ give_of words m w has e = record {
   is = ap (λ (o : Option (Text × List Row)). option_and_then given_in o) (sym has.entered) ∙ sym e;
 }
 
-pub none_given_by : (words : List Text) (m : ArgMatches) → HasWords words m
-    → None ≡ option_and_then given_in (subcommand_rows_of m) → AreMistaken words
-none_given_by words m has e =
-    inr (has.faultless, ap (λ (o : Option (Text × List Row)). option_and_then given_in o) (sym has.entered) ∙ sym e)
+pub none_given_by : (words : List Text) (told : Text) (m : ArgMatches) → HasWords words m
+    → None ≡ option_and_then given_in (subcommand_rows_of m) → told ≡ neither_or_both → AreMistaken words told
+none_given_by words told m has e is =
+    inr (has.faultless, ap (λ (o : Option (Text × List Row)). option_and_then given_in o) (sym has.entered) ∙ sym e, is)
 
 no_usage : (given : Given) → (told : _) → IsWordFault given (refusal.Usage told) → ⊥
 no_usage (Given.for_now file moment vehicle) told h = h
@@ -449,7 +449,7 @@ among_of words e (inr among) none = among
 
 pub shown : (words : List Text) (e : Error) (result : Result Plan Refusal) → HasKind (fault_of desk_app words) e
     → is_memory (kind_of e) ≡ false → is_request (kind_of e) ≡ true
-    → MatchResult result (λ p. (ws : List Text) → AskForText ws → AskFor ws p) (λ r. r ≡ refusal.Memory)
+    → MatchResult result (IsShown (kind_of e)) (λ r. r ≡ refusal.Memory)
     → MatchResult result (AskFor words) (AreRefused words)
-shown words e (Ok p) has none is asked = asked words (kind_of e, among_of words e has none, is)
+shown words e (Ok p) has none is asked = AskFor.text (kind_of e) (among_of words e has none, is) asked
 shown words e (Err r) has none is memory = subst (λ (x : Refusal). AreRefused words x) (sym memory) tt

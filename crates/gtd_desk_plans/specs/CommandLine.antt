@@ -1,11 +1,12 @@
 -- The command line as it is described to `clap`. The specification of that library says which of the given words is which
 -- word of a command.
-use Rattle.std.specs.Prelude.{◌≡◌, ℕ, Bool, true, false, List, [], ◌∷◌, Some, Result, IfOk, codes, fold}
+use Rattle.std.specs.Prelude.{◌≡◌, ℕ, Bool, true, false, List, [], ◌∷◌, Some, Result, IfOk, codes, fold, unwrap_or}
 use Rattle.clap.specs.Walk.{Rule}
 use Rattle.clap.specs.Simple.{App, app_of, new_app, new_rule, new_shape, subcommand_of, subcommand_rows_of, with_rule}
 use Rattle.clap.specs.Simple.{with_subcommand}
 use Rattle.clap.specs.Kinds.{IsAmong}
 use Rattle.clap.specs.Faults.{fault_of}
+use Rattle.clap.specs.Values.{kind_text}
 use Rattle.clap.specs.declared.builder.action.ArgAction.TheVariants.{Set, SetTrue}
 use Rattle.clap.specs.declared.builder.command.Command.{Command}
 use Rattle.clap.specs.declared.error.kind.ErrorKind.{ErrorKind}
@@ -100,6 +101,18 @@ is_request DisplayHelp = true
 is_request DisplayVersion = true
 is_request _ = false
 
--- The words ask for help or for the version.
-abbrev pub AskForText : List Text → Type 0
-AskForText words = (kind : ErrorKind) × IsAmong kind (fault_of desk_app words) × (is_request kind ≡ true)
+-- The words ask for help or for the version, as the kind says.
+abbrev pub AskForText : List Text → ErrorKind → Type 0
+AskForText words kind = IsAmong kind (fault_of desk_app words) × (is_request kind ≡ true)
+
+-- The line of the version. The text of help is what the library makes of the program, which has no definition here.
+abbrev pub version_line : Text
+version_line = codes "gtdesk 0.1.0\n"
+
+-- What is wrong with words that have a fault of this kind, as the library names it.
+abbrev pub usage_text : ErrorKind → Text
+usage_text kind = unwrap_or (kind_text kind) (codes "the words are not understood")
+
+-- What is wrong with words that have no fault and give no command with all of its words.
+abbrev pub neither_or_both : Text
+neither_or_both = codes "hours takes either TEXT or --of DOMAIN"

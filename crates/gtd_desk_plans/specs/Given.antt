@@ -7,7 +7,7 @@ use Rattle.clap.specs.Simple.{subcommand_of}
 use Rattle.clap.specs.Kinds.{IsAmong}
 use Rattle.clap.specs.Faults.{fault_of}
 use Rattle.clap.specs.declared.error.kind.ErrorKind.{ErrorKind}
-use Rattle.gtd_desk_plans.specs.CommandLine.{Text, desk_app, is_request}
+use Rattle.gtd_desk_plans.specs.CommandLine.{Text, desk_app, is_request, neither_or_both, usage_text}
 use Rattle.gtd_desk_plans.specs.declared.given.Words.{Words}
 use Rattle.gtd_desk_plans.specs.declared.given.Words.TheVariants as words
 use Rattle.gtd_desk_plans.specs.declared.given.PictureWords.{PictureWords}
@@ -106,11 +106,12 @@ pub record Give (words : List Text) (given : Given) : Type 0 where
   pub faultless : fault_of desk_app words ≡ []
   pub is : given_by words ≡ Some given
 
--- The words have a fault that is not a request for help; or they have none, and do not give a command with all of its words.
-abbrev pub AreMistaken : List Text → Type 0
-AreMistaken words =
-    ((kind : ErrorKind) × IsAmong kind (fault_of desk_app words) × (is_request kind ≡ false))
-    ⊎ ((fault_of desk_app words ≡ []) × (given_by words ≡ None))
+-- The words have a fault that is not a request for help; or they have none, and do not give a command with all of its words. The
+-- text says which fault it is.
+abbrev pub AreMistaken : List Text → Text → Type 0
+AreMistaken words told =
+    ((kind : ErrorKind) × IsAmong kind (fault_of desk_app words) × (is_request kind ≡ false) × (told ≡ usage_text kind))
+    ⊎ ((fault_of desk_app words ≡ []) × (given_by words ≡ None) × (told ≡ neither_or_both))
 
 -- Words as they were read, without where they lie in memory.
 abbrev pub picture_texts : PictureWords → PictureTexts

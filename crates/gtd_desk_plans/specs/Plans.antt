@@ -1,7 +1,9 @@
 -- What a command line asks for, and why it is refused.
 use Rattle.std.specs.Prelude.{◌≡◌, ◌++◌, Bool, List, Option, Some, None, Ok, Err, codes, string_bytes}
 use Rattle.gtd_calendar.specs.Read.{stamp_in}
-use Rattle.gtd_desk_plans.specs.CommandLine.{AskForText, Text}
+use Rattle.clap.specs.declared.error.kind.ErrorKind.{ErrorKind}
+use Rattle.clap.specs.declared.error.kind.ErrorKind.TheVariants.{DisplayVersion}
+use Rattle.gtd_desk_plans.specs.CommandLine.{AskForText, Text, version_line}
 use Rattle.gtd_desk_plans.specs.Given.{AreMistaken, Give, Given, PictureTexts}
 use Rattle.gtd_desk_plans.specs.Words.{AreSubjectWords, IsDomainFault, IsMomentWord, IsNoVehicle, IsReadDomain, IsSubjectFault}
 use Rattle.gtd_desk_plans.specs.Words.{IsVehicleWord, IsWordOfDomainFault, IsYearWord}
@@ -92,19 +94,20 @@ abbrev pub IsRefused : Given → Refusal → Type 0
 IsRefused given refusal.Memory = Unit {0}
 IsRefused given other = IsWordFault given other
 
--- The plan shows a text: help, or the version.
-abbrev pub IsShown : Plan → Type 0
-IsShown (plan.Show text) = Unit {0}
-IsShown other = ⊥
+-- The plan shows a text: that of help, which is not said here, or the line of the version.
+abbrev pub IsShown : ErrorKind → Plan → Type 0
+IsShown kind (plan.Show text) = kind ≡ DisplayVersion → string_bytes text ≡ version_line
+IsShown kind other = ⊥
 
 -- The words ask for what the plan carries out: they give a command that asks for it, or they ask for a text.
 pub data AskFor (words : List Text) (wanted : Plan) : Type 0 where
   command : (given : Given) → Give words given → Asks given wanted → AskFor words wanted
-  text : AskForText words → IsShown wanted → AskFor words wanted
+  text : (kind : ErrorKind) → AskForText words kind → IsShown kind wanted → AskFor words wanted
 
--- Why words are refused: they give no command, or a word of the command stands for nothing, or memory was refused.
+-- Why words are refused: they give no command, as the refusal says; or a word of the command stands for nothing; or memory was
+-- refused.
 abbrev pub AreRefused : List Text → Refusal → Type 0
-AreRefused words (refusal.Usage told) = AreMistaken words
+AreRefused words (refusal.Usage told) = AreMistaken words told.now
 AreRefused words refusal.Memory = Unit {0}
 AreRefused words other = (given : Given) × Give words given × IsWordFault given other
 

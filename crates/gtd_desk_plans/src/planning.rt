@@ -3,10 +3,11 @@
 ghost use Rattle.std.specs.Prelude.{◌≡◌, ◌⊎◌, IfErr, IfOk, List, MatchResult, map, string_bytes};
 ghost use Rattle.clap.specs.Faults.{fault_of};
 ghost use Rattle.clap.specs.Kinds.{HasKind};
+ghost use Rattle.clap.specs.declared.error.kind.ErrorKind.TheVariants.{DisplayVersion};
 ghost use Rattle.gtd_desk_plans.specs.CommandLine as spec;
-ghost use Rattle.gtd_desk_plans.specs.CommandLine.{AskForText, Text, desk_app};
+ghost use Rattle.gtd_desk_plans.specs.CommandLine.{Text, desk_app, version_line};
 ghost use Rattle.gtd_desk_plans.specs.Given.{Give, Given, picture_texts, texts_of};
-ghost use Rattle.gtd_desk_plans.specs.Plans.{AreRefused, AskFor, Asks, IsRefused, IsWordFault, picture_title};
+ghost use Rattle.gtd_desk_plans.specs.Plans.{AreRefused, AskFor, Asks, IsRefused, IsShown, IsWordFault, picture_title};
 ghost use Rattle.gtd_desk_plans.specs.declared.refusal.Refusal.{Refusal};
 
 use crate::command_line::parse;
@@ -19,6 +20,9 @@ use std::alloc::{AllocError, Global};
 
 // Why the words of a command are refused that the library takes: it leaves nothing to see to but this.
 const NEITHER_OR_BOTH: &str = "hours takes either TEXT or --of DOMAIN";
+
+// The line of the version.
+const VERSION_LINE: &str = "gtdesk 0.1.0\n";
 
 // Whether the words ask for help or the version.
 fn is_request(kind: ErrorKind) -> bool
@@ -41,14 +45,33 @@ fn is_memory(kind: ErrorKind) -> bool
     }
 }
 
-// The plan that shows the text asked for.
-fn show(alloc: Global, error: &clap::Error) -> Result<Plan, Refusal>
-    ensures { MatchResult result (λ plan. (words : List Text) → AskForText words → AskFor words plan)
-        (λ r. r ≡ Refusal.Memory) }
+// The text asked for: the line of the version, or help as the library makes it.
+fn text_of(alloc: Global, error: &clap::Error, kind: ErrorKind) -> Result<String, AllocError>
+    ensures { IfOk result (λ text. kind ≡ DisplayVersion → string_bytes text ≡ version_line) }
 {
-    match format!(in alloc; "{error}") {
+    match kind {
+        ErrorKind::DisplayVersion => String::from_str(alloc, VERSION_LINE),
+        _ => format!(in alloc; "{error}"),
+    }
+}
+
+// The plan that shows the text asked for.
+fn show(alloc: Global, error: &clap::Error, kind: ErrorKind) -> Result<Plan, Refusal>
+    ensures { MatchResult result (IsShown kind) (λ r. r ≡ Refusal.Memory) }
+{
+    match text_of(alloc, error, kind) {
         Ok(text) => Ok(Plan::Show { text }),
         Err(_) => Err(Refusal::Memory),
+    }
+}
+
+// What is wrong with words that have a fault of this kind.
+fn usage_text(kind: ErrorKind) -> &'static str
+    ensures { result.now ≡ spec.usage_text kind }
+{
+    match kind.as_str() {
+        Some(text) => text,
+        None => "the words are not understood",
     }
 }
 
@@ -62,9 +85,9 @@ fn plan_error(alloc: Global, error: &clap::Error) -> Result<Plan, Refusal>
         return Err(Refusal::Memory);
     }
     if is_request(kind) {
-        return show(alloc, error);
+        return show(alloc, error, kind);
     }
-    Err(Refusal::Usage(kind.as_str().unwrap_or("the words are not understood")))
+    Err(Refusal::Usage(usage_text(kind)))
 }
 
 // The plan of `now`.

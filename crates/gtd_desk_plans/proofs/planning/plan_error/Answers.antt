@@ -8,4 +8,4 @@ returns-then-is_request c = λ words has.
     shown words c.args.error.now c.show.result has
     (sym (ap is_memory c.kind-kind.ensures) ∙ sym c.is_memory.ensures ∙ c.if-is_memory.false)
     (sym (ap is_request c.kind-kind.ensures) ∙ sym c.is_request.ensures ∙ c.if-is_request.true)
-    c.show.ensures
+    (rw (c.kind-kind.ensures) at c.show.ensures)
