@@ -226,7 +226,9 @@ fn kept_spans(rt: HostRuntime) -> Result<(), Fail> {
     for &(text, wanted) in &KEPT {
         let mut cursor = KeptCursor::open(alloc, &domain(&rt, alloc, text), weeks)?;
         assert!(rt; cursor.kept() == 0, "{text}");
-        while cursor.next().is_some() {}
+        for _ in 0..50_000u32 {
+            let _ = cursor.next();
+        }
         assert!(rt; cursor.kept() == wanted, "{text}");
         let mut once = Cursor::open(alloc, &domain(&rt, alloc, text), weeks)?;
         let _ = once.next();
