@@ -79,7 +79,7 @@ of_tokens text tokens are None e =
     let r = readable text tokens (length text) are e in
     inl (r.tree, record { tokens = tokens; read = are; stand = r.stand }, no_fault text tokens are e)
 of_tokens text tokens are (Some fault) e =
-    inr (fault, inr (record { tokens = tokens; read = are; first = found_first (length text) tokens fault e }))
+    inr (fault, inr (tokens, are, found_first (length text) tokens fault e))
 
 pub each_text : (text : List ℕ) → Answers text
 each_text text =

@@ -152,7 +152,7 @@ answer : (text : List ℕ) (tokens : List Token) (result : Option TextFault) →
     → result ≡ fault_of_tokens (length text) tokens → MatchOption result (IsReadable text) (λ fault. IsFault text fault)
 answer text tokens None are e = record { tokens = tokens; read = are; faultless = sym e }
 answer text tokens (Some fault) are e =
-    inr (record { tokens = tokens; read = are; first = found_first (length text) tokens fault (sym e) })
+    inr (tokens, are, found_first (length text) tokens fault (sym e))
 
 pub finds_all : (text : List ℕ) (tokens : List Token) (now : Findings) (result : Option TextFault) → AreTokens text tokens
     → Finds (length text) tokens now → result ≡ first_of (length text) now

@@ -9,6 +9,7 @@ pub mod OneMeaning
 pub mod Printable
 pub mod Ranges
 pub mod ReadingLaws
+pub mod Readings
 pub mod Scanned
 pub mod ShortNumbers
 pub mod ShownFields

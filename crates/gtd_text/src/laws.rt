@@ -1,6 +1,6 @@
 //! Laws of the definitions: calls that do nothing, whose contracts are what is proved.
 
-ghost use Rattle.std.specs.Prelude.{◌≡◌, ◌≤◌, ◌↔◌, ◌⊎◌, ℕ, List, Some, None, drop, true};
+ghost use Rattle.std.specs.Prelude.{◌≡◌, ◌≤◌, ◌↔◌, ◌⊎◌, ℕ, List, Some, None, Ok, drop, true};
 ghost use Rattle.gtd_core.specs.Limits.{most_basic_domains};
 ghost use Rattle.gtd_core.specs.Equality.{same_tree};
 ghost use Rattle.gtd_core.specs.Parts.{domain_tree};
@@ -13,17 +13,20 @@ ghost use Rattle.gtd_text.specs.FirstFault.{IsClean, GoesOn};
 ghost use Rattle.gtd_text.specs.Fitting.{grammar_fault, may_end};
 ghost use Rattle.gtd_text.specs.Grammar.{Stands, Sum};
 ghost use Rattle.gtd_text.specs.Lexing.{IsToken, BeginsNoToken, IsFaultAt, kinds, newest_first};
-ghost use Rattle.gtd_text.specs.Reading.{StandsFor, HasNoFault, IsFault};
+ghost use Rattle.gtd_text.specs.Reading.{IsReading, StandsFor, HasNoFault, IsFault};
 ghost use Rattle.gtd_text.specs.TokenAt.{token_at, fault_at_front};
 ghost use Rattle.gtd_text.specs.declared.token.Token.{Token};
 
 use gtd_core::laws::{equality_of_trees, leaves_are_valid};
 
-/// A text stands for at most one expression, and has at most one fault.
+/// A text stands for at most one expression, and has at most one fault. It is read as an expression exactly if it stands for
+/// it and has no fault.
 pub fn one_meaning()
     ensures expression { (text : List ℕ) (e f : Tree) →
         StandsFor text e → StandsFor text f → e ≡ f }
     ensures fault { (text : List ℕ) (f g : TextFault) → IsFault text f → IsFault text g → f ≡ g }
+    ensures reading { (text : List ℕ) (e : Tree) →
+        IsReading text (Ok e) ↔ (StandsFor text e × HasNoFault text) }
 {}
 
 /// The canonical text of an expression in its ranges stands for it and for nothing else. With at most 128 basic

@@ -22,7 +22,7 @@ tokens_fit text tokens are none = by_fault (fault_of_tokens (length text) tokens
     by_fault : (o : Option TextFault) → fault_of_tokens (length text) tokens ≡ o → fault_of_tokens (length text) tokens ≡ None
     by_fault None e = e
     by_fault (Some fault) e =
-        absurd (none fault (inr (record { tokens = tokens; read = are; first = found_first (length text) tokens fault e })))
+        absurd (none fault (inr (tokens, are, found_first (length text) tokens fault e)))
 
 pub read_is_printable : (text : List ℕ) (tree : Tree) → StandsFor text tree → HasNoFault text → IsPrintableTree tree
 read_is_printable text tree stands none =

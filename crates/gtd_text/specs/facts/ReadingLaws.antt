@@ -82,8 +82,8 @@ pub no_fault : (text : List ℕ) (tokens : List Token) → AreTokens text tokens
 no_fault text tokens are none fault (inl bad) = stuck text 0 bad.before fault.place tokens bad.reads bad.inside bad.no_space
     bad.no_token are
 no_fault text tokens are none fault (inr bad) =
-    let same = one_list text 0 bad.tokens tokens (length text) bad.read are in
-    let both : Some fault ≡ None = sym (first_found (length text) bad.tokens fault bad.first)
+    let same = one_list text 0 bad.0 tokens (length text) bad.1 are in
+    let both : Some fault ≡ None = sym (first_found (length text) bad.0 fault bad.2)
     ∙ ap (fault_of_tokens (length text)) same ∙ none in
     absurd cc
 
@@ -105,12 +105,12 @@ one_fault text f g (inl a) (inl b) =
     a.no_token b.no_token in
     same_fault f g (one_fault_at text f.place f.kind g.kind a.kind
     (subst (λ (n : ℕ). IsFaultAt text n g.kind) (sym place) b.kind)) place
-one_fault text f g (inl a) (inr b) = absurd (stuck text 0 a.before f.place b.tokens a.reads a.inside a.no_space a.no_token b.read)
-one_fault text f g (inr a) (inl b) = absurd (stuck text 0 b.before g.place a.tokens b.reads b.inside b.no_space b.no_token a.read)
+one_fault text f g (inl a) (inr b) = absurd (stuck text 0 a.before f.place b.0 a.reads a.inside a.no_space a.no_token b.1)
+one_fault text f g (inr a) (inl b) = absurd (stuck text 0 b.before g.place a.0 b.reads b.inside b.no_space b.no_token a.1)
 one_fault text f g (inr a) (inr b) =
-    let same = one_list text 0 a.tokens b.tokens (length text) a.read b.read in
-    let both : Some f ≡ Some g = sym (first_found (length text) a.tokens f a.first) ∙ ap (fault_of_tokens (length text)) same
-    ∙ first_found (length text) b.tokens g b.first in
+    let same = one_list text 0 a.0 b.0 (length text) a.1 b.1 in
+    let both : Some f ≡ Some g = sym (first_found (length text) a.0 f a.2) ∙ ap (fault_of_tokens (length text)) same
+    ∙ first_found (length text) b.0 g b.2 in
     cc
 
 -- ---- what follows for an answer
