@@ -9,7 +9,7 @@ use Rattle.std.proofs.lemmas.Bool.{cases_Bool, eqb-true}
 use Rattle.std.proofs.lemmas.Bool.Decides.{nat_tests}
 use Rattle.std.proofs.lemmas.List.{get_or-drop}
 use Rattle.gtd_core.specs.Trees.{Tree}
-use Rattle.gtd_text.specs.Grammar.{is_start_letter}
+use Rattle.gtd_text.specs.ComputedFields.{is_start_letter}
 use Rattle.gtd_text.specs.Lexing.{AreSpaces, IsSign, IsToken, Reads, field, sign}
 use Rattle.gtd_text.specs.Reading.{StandsFor}
 use Rattle.gtd_text.specs.declared.token.Token.{Token}

@@ -12,7 +12,7 @@ use Rattle.gtd_text.specs.declared.check.limits.OpenDuration.{OpenDuration}
 use Rattle.gtd_text.specs.declared.token.Token.{Token}
 use Rattle.gtd_text.specs.declared.token.TokenKind.{TokenKind}
 use Rattle.gtd_text.specs.declared.token.TokenKind.TheVariants.{OpenBracket, CloseBracket, OpenParenthesis, OpenBrace, Field}
-use Rattle.gtd_text.specs.Grammar.{with_duration_fields}
+use Rattle.gtd_text.specs.ComputedFields.{with_duration_fields}
 use Rattle.gtd_text.specs.Findings.{too_deep_at, too_many_at, misfit_at, fault_of_opened, opened_after, too_long_with}
 use Rattle.gtd_text.specs.Findings.{findings_with, no_findings, first_of}
 use Rattle.gtd_text.specs.FirstFault.{fields_at_front, is_too_long}

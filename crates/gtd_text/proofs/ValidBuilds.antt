@@ -8,7 +8,7 @@ use Rattle.gtd_core.specs.Ranges.{IsStart}
 use Rattle.gtd_text.specs.declared.token.TokenKind.{TokenKind}
 use Rattle.gtd_text.specs.declared.token.TokenKind.TheVariants.{OpenBracket, CloseBracket, OpenParenthesis, CloseParenthesis}
 use Rattle.gtd_text.specs.declared.token.TokenKind.TheVariants.{OpenBrace, CloseBrace, Plus, Star, Minus}
-use Rattle.gtd_text.specs.Grammar.{fits_start, fits_duration, with_start_field, with_duration_field}
+use Rattle.gtd_text.specs.ComputedFields.{fits_start, fits_duration, with_start_field, with_duration_field}
 use Rattle.gtd_text.specs.Building.{Sums, Pending, State, Expecting, InStart, AfterStart, InDuration, AfterItem, EndsInRange}
 use Rattle.gtd_text.specs.Building.{total, times, close_start, close_duration, close_bracket, step, finish, build}
 

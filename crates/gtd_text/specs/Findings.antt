@@ -12,7 +12,8 @@ use Rattle.gtd_text.specs.declared.token.TokenKind.TheVariants.{OpenBrace, Field
 use Rattle.gtd_text.specs.declared.check.findings.Findings.{Findings}
 use Rattle.gtd_text.specs.declared.check.grammar.Seen.{Seen}
 use Rattle.gtd_text.specs.declared.check.limits.OpenDuration.{OpenDuration}
-use Rattle.gtd_text.specs.Grammar.{with_duration_field, zero_parts}
+use Rattle.gtd_text.specs.Grammar.{zero_parts}
+use Rattle.gtd_text.specs.ComputedFields.{with_duration_field}
 use Rattle.gtd_text.specs.Found.{count_after, depth_after}
 use Rattle.gtd_text.specs.Summary.{seen, seen_with, takes, misfit, ends}
 

@@ -6,8 +6,9 @@ use Rattle.std.specs.Prelude.{if◌then◌else◌, ◌≡◌, ◌==◌, fold}
 use Rattle.std.specs.List.{take_while}
 use Rattle.gtd_core.specs.Trees.{Tree}
 use Rattle.gtd_text.specs.declared.token.TokenKind.{TokenKind}
-use Rattle.gtd_text.specs.Grammar.{Stands, Sum, with_duration_field, zero_parts, has_letter, is_start_letter, is_duration_letter}
-use Rattle.gtd_text.specs.Grammar.{is_repeated_in_start}
+use Rattle.gtd_text.specs.Grammar.{Stands, Sum, zero_parts}
+use Rattle.gtd_text.specs.ComputedFields.{with_duration_field, has_letter, is_start_letter, is_duration_letter}
+use Rattle.gtd_text.specs.ComputedFields.{is_repeated_in_start}
 use Rattle.gtd_core.specs.Limits.{most_bound, most_basic_domains, most_depth}
 use Rattle.gtd_core.specs.Ranges.{bound_of}
 use Rattle.gtd_text.specs.declared.token.TokenKind.TheVariants.{OpenBrace, Field, OpenBracket, CloseBracket, OpenParenthesis}

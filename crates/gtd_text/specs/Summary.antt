@@ -9,7 +9,7 @@ use Rattle.gtd_text.specs.declared.token.TokenKind.TheVariants.{OpenBracket, Clo
 use Rattle.gtd_text.specs.declared.token.TokenKind.TheVariants.{OpenBrace, CloseBrace, Plus, Star, Minus, Field}
 use Rattle.gtd_text.specs.declared.check.grammar.Seen.{Seen}
 use Rattle.gtd_text.specs.declared.check.letters.Letters.{Letters}
-use Rattle.gtd_text.specs.Grammar.{is_start_letter, is_duration_letter, is_start_value}
+use Rattle.gtd_text.specs.ComputedFields.{is_start_letter, is_duration_letter, is_start_value}
 use Rattle.gtd_text.specs.Fitting.{begins_item, follows_item, is_open_brace, is_close_parenthesis, is_close_brace}
 use Rattle.gtd_text.specs.Fitting.{may_end_after}
 use Rattle.gtd_text.specs.Found.{depth_after}

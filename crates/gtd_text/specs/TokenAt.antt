@@ -10,7 +10,7 @@ use Rattle.gtd_text.specs.declared.token.TokenKind.{TokenKind}
 use Rattle.gtd_text.specs.declared.token.TokenKind.TheVariants.{OpenBracket, CloseBracket, OpenParenthesis, CloseParenthesis}
 use Rattle.gtd_text.specs.declared.token.TokenKind.TheVariants.{OpenBrace, CloseBrace, Plus, Star, Minus, Field}
 use Rattle.gtd_core.specs.FieldTable.{is_from_to}
-use Rattle.gtd_text.specs.Grammar.{is_start_letter}
+use Rattle.gtd_text.specs.ComputedFields.{is_start_letter}
 
 -- The number that decimal digits stand for.
 abbrev pub field_number : List ℕ → ℕ

@@ -3,6 +3,7 @@ pub mod ByTable
 pub mod CanonicalFields
 pub mod CanonicalText
 pub mod Faultless
+pub mod FieldForms
 pub mod Lexed
 pub mod Linked
 pub mod OneMeaning

@@ -12,11 +12,14 @@ use Rattle.gtd_core.specs.Ranges.{no_parts}
 use Rattle.gtd_text.specs.declared.token.TokenKind.{TokenKind}
 use Rattle.gtd_text.specs.declared.token.TokenKind.TheVariants.{CloseBracket, CloseParenthesis, OpenBrace, CloseBrace, Plus}
 use Rattle.gtd_text.specs.declared.token.TokenKind.TheVariants.{Star, Minus}
-use Rattle.gtd_text.specs.Grammar.{fits_start, fits_duration, all_fit_start, all_fit_duration, with_start_field}
-use Rattle.gtd_text.specs.Grammar.{with_start_fields, with_duration_field, with_duration_fields, zero_parts, Level, Sum, Product}
-use Rattle.gtd_text.specs.Grammar.{Item, Stands, basic, bracketed, item, meet, product, union, minus, basic_tokens}
+use Rattle.gtd_text.specs.ComputedFields.{fits_start, fits_duration, all_fit_start, all_fit_duration, with_start_field}
+use Rattle.gtd_text.specs.Grammar.{zero_parts, Level, Sum, Product}
+use Rattle.gtd_text.specs.ComputedFields.{with_start_fields, with_duration_field, with_duration_fields}
+use Rattle.gtd_text.specs.Grammar.{Item, Stands, basic, bracketed, item, meet, product, union, minus}
+use Rattle.gtd_text.specs.ComputedFields.{basic_tokens}
 use Rattle.gtd_text.specs.Building.{Sums, Pending, Expecting, InStart, AfterStart, InDuration, AfterItem, total, times, step}
 use Rattle.gtd_text.specs.Building.{build, at_front}
+use Rattle.gtd_text.specs.facts.FieldForms.{durations_as_computed, starts_as_computed}
 
 -- both sides of a conjunction
 pub and_left : (a b : Bool) → (a && b) ≡ true → a ≡ true
@@ -122,7 +125,8 @@ builds_sign op sign left right a b goes h k outer =
 
 pub builds : (level : Level) (tokens : List TokenKind) (e : Tree) → Stands level tokens e → Builds level tokens e
 unfolding build
-builds level tokens e (basic start duration some fit some' fit') = builds_basic start duration some fit some' fit'
+builds level tokens e (basic start duration some fit some' fit') =
+    builds_basic start duration some (starts_as_computed start fit) some' (durations_as_computed duration fit')
 builds level tokens e (bracketed inner f d) = λ outer sum prod rest.
     let h = builds Sum inner f d ((sum, prod) ∷ outer) in
     ap (build (Expecting ((sum, prod) ∷ outer) None None)) (append_assoc inner (CloseBracket ∷ []) rest)

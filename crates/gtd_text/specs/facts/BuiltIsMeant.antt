@@ -12,9 +12,12 @@ use Rattle.gtd_core.specs.Ranges.{no_parts}
 use Rattle.gtd_text.specs.declared.token.TokenKind.{TokenKind}
 use Rattle.gtd_text.specs.declared.token.TokenKind.TheVariants.{OpenBracket, CloseBracket, OpenParenthesis, CloseParenthesis}
 use Rattle.gtd_text.specs.declared.token.TokenKind.TheVariants.{OpenBrace, CloseBrace, Plus, Star, Minus}
-use Rattle.gtd_text.specs.Grammar.{fits_start, fits_duration, all_fit_start, all_fit_duration, with_start_field}
-use Rattle.gtd_text.specs.Grammar.{with_start_fields, with_duration_field, with_duration_fields, zero_parts, Sum, Product, Item}
-use Rattle.gtd_text.specs.Grammar.{Stands, basic, bracketed, item, meet, product, union, minus, basic_tokens, each_fits}
+use Rattle.gtd_text.specs.ComputedFields.{fits_start, fits_duration, all_fit_start, all_fit_duration, with_start_field}
+use Rattle.gtd_text.specs.facts.FieldForms.{computed_durations, computed_starts}
+use Rattle.gtd_text.specs.Grammar.{zero_parts, Sum, Product, Item}
+use Rattle.gtd_text.specs.ComputedFields.{with_start_fields, with_duration_field, with_duration_fields}
+use Rattle.gtd_text.specs.Grammar.{Stands, basic, bracketed, item, meet, product, union, minus, each_fits}
+use Rattle.gtd_text.specs.ComputedFields.{basic_tokens}
 use Rattle.gtd_text.specs.Building.{Sums, Pending, State, Expecting, InStart, AfterStart, InDuration, AfterItem, total, times}
 use Rattle.gtd_text.specs.Building.{close_start, close_duration, close_bracket, step, finish, build, at_front}
 use Rattle.gtd_text.specs.facts.Builds.{turned, and_left, and_right}
@@ -171,7 +174,8 @@ closes_duration outer sum prod start (field ∷ before) parts CloseBrace tokens 
     let first = h.0 in
     let fields = h.4 in
     let whole : Stands Item (basic_tokens first fields) (Single start parts) =
-    rw (h.3, h.7) (basic first fields h.1 h.2 (nonempty_turned field before fields h.6) h.5) in
+    rw (h.3, h.7) (basic first fields h.1 (computed_starts first h.2) (nonempty_turned field before fields h.6)
+    (computed_durations fields h.5)) in
     let around = grown outer sum prod (OpenParenthesis ∷ (first ++ CloseParenthesis ∷ OpenBrace ∷ fields)) tokens CloseBrace
     h.8 in
     let own : (OpenParenthesis ∷ (first ++ CloseParenthesis ∷ OpenBrace ∷ fields)) ++ CloseBrace ∷ []

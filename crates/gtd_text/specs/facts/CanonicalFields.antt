@@ -14,8 +14,10 @@ use Rattle.gtd_core.specs.Ranges.{IsStart, IsWithin, IsPlace, no_parts, HasSixDi
 use Rattle.gtd_text.specs.declared.token.TokenKind.{TokenKind}
 use Rattle.gtd_text.specs.declared.token.TokenKind.TheVariants.{Field}
 use Rattle.gtd_text.specs.Canonical.{start_shown, start_text, duration_shown, duration_text, or_zero}
-use Rattle.gtd_text.specs.Grammar.{is_start_letter, is_duration_letter, is_start_value, has_letter, each_fits, fits_start}
-use Rattle.gtd_text.specs.Grammar.{fits_duration, with_start_field, with_duration_field, zero_parts}
+use Rattle.gtd_text.specs.Grammar.{each_fits}
+use Rattle.gtd_text.specs.ComputedFields.{is_start_letter, is_duration_letter, is_start_value, has_letter, fits_start}
+use Rattle.gtd_text.specs.Grammar.{zero_parts}
+use Rattle.gtd_text.specs.ComputedFields.{fits_duration, with_start_field, with_duration_field}
 use Rattle.gtd_text.specs.TokenAt.{field_number}
 use Rattle.gtd_text.specs.facts.Builds.{and_left, and_right}
 use Rattle.gtd_text.specs.facts.Ranges.{from_to}

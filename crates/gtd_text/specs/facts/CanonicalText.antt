@@ -11,8 +11,10 @@ use Rattle.gtd_text.specs.declared.token.TokenKind.{TokenKind}
 use Rattle.gtd_text.specs.declared.token.TokenKind.TheVariants.{OpenBracket, CloseBracket, OpenParenthesis, CloseParenthesis}
 use Rattle.gtd_text.specs.declared.token.TokenKind.TheVariants.{OpenBrace, CloseBrace, Plus, Star, Minus}
 use Rattle.gtd_text.specs.Canonical.{canonical, start_text, duration_shown, sign_text}
-use Rattle.gtd_text.specs.Grammar.{with_start_fields, Sum, Item, Stands, basic, bracketed, item, meet, product, union, minus}
-use Rattle.gtd_text.specs.Grammar.{basic_tokens}
+use Rattle.gtd_text.specs.Grammar.{Sum, Item, Stands, basic, bracketed, item, meet, product, union, minus}
+use Rattle.gtd_text.specs.ComputedFields.{with_start_fields}
+use Rattle.gtd_text.specs.facts.FieldForms.{computed_durations, computed_starts}
+use Rattle.gtd_text.specs.ComputedFields.{basic_tokens}
 use Rattle.gtd_text.specs.Lexing.{AreTokens, kinds}
 use Rattle.gtd_text.specs.Reading.{StandsFor}
 use Rattle.gtd_text.specs.facts.TokenWords.{Word, text_of, kinds_of, text_of-append, kinds_of-append, IsWord, AreWords}
@@ -140,7 +142,8 @@ basic_stands start duration h k =
     let long = kinds_of (duration_words duration) in
     subst (λ (p : StartParts). Stands Item (basic_tokens from long) (Single p duration)) s.same
     (subst (λ (p : DurationParts). Stands Item (basic_tokens from long) (Single (with_start_fields no_parts from) p)) n.same
-    (basic from long (start_some start h) s.fit (or_zero_some (shown_words (duration_shown duration))) n.fit))
+    (basic from long (start_some start h) (computed_starts from s.fit) (or_zero_some (shown_words (duration_shown duration)))
+    (computed_durations long n.fit)))
 
 op_stands : (op : Op) (left right : List TokenKind) (a b : Tree) → Stands Item left a → Stands Item right b
     → Stands Sum (left ++ (op_word op).0 ∷ right) (Joined op a b)

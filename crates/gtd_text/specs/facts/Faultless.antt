@@ -14,9 +14,11 @@ use Rattle.gtd_text.specs.declared.token.TokenKind.{TokenKind}
 use Rattle.gtd_text.specs.declared.token.TokenKind.TheVariants.{OpenBracket, CloseBracket, OpenParenthesis, CloseParenthesis}
 use Rattle.gtd_text.specs.declared.token.TokenKind.TheVariants.{OpenBrace, CloseBrace, Plus, Star, Minus, Field}
 use Rattle.gtd_text.specs.Canonical.{canonical}
-use Rattle.gtd_text.specs.Grammar.{fits_start, fits_duration, all_fit_start, all_fit_duration, with_duration_fields, zero_parts}
+use Rattle.gtd_text.specs.Grammar.{zero_parts}
+use Rattle.gtd_text.specs.ComputedFields.{fits_start, fits_duration, all_fit_start, all_fit_duration, with_duration_fields}
+use Rattle.gtd_text.specs.facts.FieldForms.{durations_as_computed, starts_as_computed}
 use Rattle.gtd_text.specs.Grammar.{Level, Sum, Product, Item, Stands, basic, bracketed, item, meet, product, union, minus}
-use Rattle.gtd_text.specs.Grammar.{basic_tokens}
+use Rattle.gtd_text.specs.ComputedFields.{basic_tokens}
 use Rattle.gtd_text.specs.Fitting.{fits, may_end}
 use Rattle.gtd_text.specs.Found.{fault_after, depth_after, too_deep_after, count_after, too_many_after, too_long}
 use Rattle.gtd_text.specs.Found.{fault_of_tokens}
@@ -88,7 +90,8 @@ none_long_basic start duration fit fit' small =
     )
 
 none_long : (level : Level) (tokens : List TokenKind) (e : Tree) → Stands level tokens e → AreValid e → NoneLong tokens
-none_long level tokens e (basic start duration some fit some' fit') h = none_long_basic start duration fit fit' h.1.1
+none_long level tokens e (basic start duration some fit some' fit') h =
+    none_long_basic start duration (starts_as_computed start fit) (durations_as_computed duration fit') h.1.1
 none_long level tokens e (bracketed inner f d) h = (
   refl,
   none_long_join inner CloseBracket [] tt (none_long Sum inner f d h)

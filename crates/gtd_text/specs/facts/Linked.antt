@@ -12,8 +12,10 @@ use Rattle.gtd_core.specs.Trees.{Tree, Single}
 use Rattle.gtd_text.specs.declared.token.TokenKind.{TokenKind}
 use Rattle.gtd_text.specs.declared.token.TokenKind.TheVariants.{OpenBracket, CloseBracket, OpenParenthesis, CloseParenthesis}
 use Rattle.gtd_text.specs.declared.token.TokenKind.TheVariants.{OpenBrace, CloseBrace, Plus, Star, Minus, Field}
-use Rattle.gtd_text.specs.Grammar.{has_letter, is_start_letter, is_duration_letter, is_start_value, fits_start, fits_duration}
-use Rattle.gtd_text.specs.Grammar.{with_start_field, with_duration_field, zero_parts}
+use Rattle.gtd_text.specs.ComputedFields.{has_letter, is_start_letter, is_duration_letter, is_start_value, fits_start}
+use Rattle.gtd_text.specs.ComputedFields.{fits_duration}
+use Rattle.gtd_text.specs.Grammar.{zero_parts}
+use Rattle.gtd_text.specs.ComputedFields.{with_start_field, with_duration_field}
 use Rattle.gtd_text.specs.Fitting.{begins_item, follows_item, is_open_brace, is_close_parenthesis, is_close_brace, fits}
 use Rattle.gtd_text.specs.Fitting.{may_end}
 use Rattle.gtd_text.specs.FirstFault.{depth, last_sign}

@@ -11,8 +11,9 @@ use Rattle.gtd_core.specs.Ranges.{IsStart, IsWithin, IsPlace, no_parts, HasSixDi
 use Rattle.gtd_text.specs.declared.token.TokenKind.{TokenKind}
 use Rattle.gtd_text.specs.declared.token.TokenKind.TheVariants.{Field}
 use Rattle.gtd_core.specs.FieldTable.{FieldRow, is_from_to, is_place_value, start_fields, duration_fields}
-use Rattle.gtd_text.specs.Grammar.{is_start_letter, is_start_value, is_repeated_in_start, fits_start, all_fit_start}
-use Rattle.gtd_text.specs.Grammar.{with_start_field, with_start_fields, with_duration_field, with_duration_fields, zero_parts}
+use Rattle.gtd_text.specs.ComputedFields.{is_start_letter, is_start_value, is_repeated_in_start, fits_start, all_fit_start}
+use Rattle.gtd_text.specs.Grammar.{zero_parts}
+use Rattle.gtd_text.specs.ComputedFields.{with_start_field, with_start_fields, with_duration_field, with_duration_fields}
 use Rattle.gtd_text.specs.facts.Builds.{and_left, and_right}
 use Rattle.gtd_text.specs.facts.ByTable.{AreAll, also, taken, given}
 

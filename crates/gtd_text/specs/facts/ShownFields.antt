@@ -6,7 +6,8 @@ use Rattle.std.proofs.lemmas.List.Sums.{fold-append}
 use Rattle.gtd_text.specs.declared.token.TokenKind.{TokenKind}
 use Rattle.gtd_text.specs.declared.token.TokenKind.TheVariants.{Field}
 use Rattle.gtd_text.specs.Canonical.{field_text, fields_text, or_zero}
-use Rattle.gtd_text.specs.Grammar.{is_start_letter, has_letter, each_fits}
+use Rattle.gtd_text.specs.Grammar.{each_fits}
+use Rattle.gtd_text.specs.ComputedFields.{is_start_letter, has_letter}
 use Rattle.gtd_text.specs.facts.Builds.{and_left, and_right, turned}
 use Rattle.gtd_text.specs.facts.TokenWords.{Word, text_of, kinds_of, text_of-append, kinds_of-append, AreWords, AreWords-append}
 use Rattle.gtd_text.specs.facts.TokenWords.{AreDigits, field_kind, field_word, is_field_word}

@@ -17,7 +17,7 @@ use Rattle.gtd_text.specs.declared.token.TokenKind.{TokenKind}
 use Rattle.gtd_text.specs.declared.token.TokenKind.TheVariants.{OpenBracket, CloseBracket, OpenParenthesis, CloseParenthesis}
 use Rattle.gtd_text.specs.declared.token.TokenKind.TheVariants.{OpenBrace, CloseBrace, Plus, Star, Minus, Field}
 use Rattle.gtd_core.specs.FieldTable.{is_from_to}
-use Rattle.gtd_text.specs.Grammar.{is_start_letter}
+use Rattle.gtd_text.specs.ComputedFields.{is_start_letter}
 use Rattle.gtd_text.specs.Lexing.{IsSign, BeginsNoDigit, HasDigits, IsToken, sign, field, BeginsNoToken, IsFaultAt, fuzzy, bad}
 use Rattle.gtd_text.specs.TokenAt.{field_number, sign_of, field_of, kind_at_front, length_of, token_from, token_at}
 use Rattle.gtd_text.specs.TokenAt.{fault_at_front}

@@ -8,7 +8,7 @@ use Rattle.std.proofs.lemmas.List.{append-nil}
 use Rattle.gtd_text.specs.declared.token.Token.{Token}
 use Rattle.gtd_text.specs.declared.token.TokenKind.{TokenKind}
 use Rattle.gtd_text.specs.declared.token.TokenKind.TheVariants.{Field}
-use Rattle.gtd_text.specs.Grammar.{is_start_letter}
+use Rattle.gtd_text.specs.ComputedFields.{is_start_letter}
 use Rattle.gtd_text.specs.Lexing.{BeginsNoDigit, Reads, AreTokens, kinds}
 use Rattle.gtd_text.specs.TokenAt.{field_number, sign_of, field_of, kind_at_front, length_of}
 use Rattle.gtd_text.specs.facts.TokenForms.{digits_front, few_digits, stands_by_kind}

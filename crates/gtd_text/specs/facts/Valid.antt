@@ -10,9 +10,12 @@ use Rattle.gtd_text.specs.declared.token.Token.{Token}
 use Rattle.gtd_text.specs.declared.token.TokenKind.{TokenKind}
 use Rattle.gtd_text.specs.declared.token.TokenKind.TheVariants.{CloseBracket, CloseParenthesis, OpenBrace, CloseBrace, Plus}
 use Rattle.gtd_text.specs.declared.token.TokenKind.TheVariants.{Star, Minus, Field}
-use Rattle.gtd_text.specs.Grammar.{fits_start, fits_duration, all_fit_start, all_fit_duration, with_start_fields}
-use Rattle.gtd_text.specs.Grammar.{with_duration_fields, zero_parts, Level, Sum, Product, Item, Stands, basic, bracketed, item}
-use Rattle.gtd_text.specs.Grammar.{meet, product, union, minus, basic_tokens}
+use Rattle.gtd_text.specs.ComputedFields.{fits_start, fits_duration, all_fit_start, all_fit_duration, with_start_fields}
+use Rattle.gtd_text.specs.facts.FieldForms.{durations_as_computed, starts_as_computed}
+use Rattle.gtd_text.specs.Grammar.{zero_parts, Level, Sum, Product, Item, Stands, basic, bracketed, item}
+use Rattle.gtd_text.specs.ComputedFields.{with_duration_fields}
+use Rattle.gtd_text.specs.Grammar.{meet, product, union, minus}
+use Rattle.gtd_text.specs.ComputedFields.{basic_tokens}
 use Rattle.gtd_text.specs.Found.{too_long, count_after, too_many_after}
 use Rattle.gtd_text.specs.FirstFault.{fields_at_front, is_too_long, opens_too_long, is_field}
 use Rattle.std.proofs.lemmas.List.Sums.{take_while-cons}
@@ -89,7 +92,8 @@ valid_basic start duration some fit fit' h =
     )
 
 pub valid : (level : Level) (tokens : List TokenKind) (e : Tree) → Stands level tokens e → AreFine tokens → AreValid e
-valid level tokens e (basic start duration some fit some' fit') h = valid_basic start duration some fit fit' h
+valid level tokens e (basic start duration some fit some' fit') h =
+    valid_basic start duration some (starts_as_computed start fit) (durations_as_computed duration fit') h
 valid level tokens e (bracketed inner f d) h = valid Sum inner f d (fine_left inner CloseBracket [] tt h.2)
 valid level tokens e (item inner f d) h = valid Item inner f d h
 valid level tokens e (meet left right a b d k) h = (
@@ -152,7 +156,8 @@ leaves_sides count left right sign a b none h k =
 
 pub leaves : (level : Level) (tokens : List TokenKind) (e : Tree) → Stands level tokens e → (count : ℕ) → opens_from count tokens
     ≡ count + leaf_count e
-leaves level tokens e (basic start duration some fit some' fit') count = leaves_basic count start duration fit fit'
+leaves level tokens e (basic start duration some fit some' fit') count =
+    leaves_basic count start duration (starts_as_computed start fit) (durations_as_computed duration fit')
 leaves level tokens e (bracketed inner f d) count = opens_from-append count inner (CloseBracket ∷ []) ∙ leaves Sum inner f d count
 leaves level tokens e (item inner f d) count = leaves Item inner f d count
 leaves level tokens e (meet left right a b d k) count = leaves_sides count left right Star a b (λ n. refl)
