@@ -10,12 +10,14 @@ use Rattle.std.proofs.lemmas.Bool.Decides.{nat_tests}
 use Rattle.std.proofs.lemmas.List.{get_or-drop}
 use Rattle.gtd_core.specs.Trees.{Tree}
 use Rattle.gtd_text.specs.ComputedFields.{is_start_letter}
-use Rattle.gtd_text.specs.Lexing.{AreSpaces, IsSign, IsToken, Reads, field, sign}
+use Rattle.gtd_text.specs.Lexing.{AreSpaces}
+use Rattle.gtd_text.specs.ComputedLexing.{IsSign, IsToken, Reads, field, sign}
 use Rattle.gtd_text.specs.Reading.{StandsFor}
 use Rattle.gtd_text.specs.declared.token.Token.{Token}
 use Rattle.gtd_text.specs.declared.token.TokenKind.{TokenKind}
 use Rattle.gtd_text.specs.declared.token.TokenKind.TheVariants.{OpenBracket, CloseBracket, OpenParenthesis, CloseParenthesis}
 use Rattle.gtd_text.specs.declared.token.TokenKind.TheVariants.{OpenBrace, CloseBrace, Plus, Star, Minus, Field}
+use Rattle.gtd_text.specs.facts.LexingForms.{tokens_in_parts}
 use Rattle.gtd_records.specs.Cut.{is_line_end}
 use Rattle.gtd_records.specs.facts.IndexFacts.{by_le}
 
@@ -105,4 +107,5 @@ all_clear (b ∷ text) h =
 -- a text that stands for an expression is on one line
 pub domain_line : (text : List ℕ) (tree : Tree) → StandsFor text tree → list_any is_line_end text ≡ false
 domain_line text tree is =
-    all_clear text (λ place lt. reads_clear text 0 is.tokens (length text) is.read place (omega arith) lt)
+    all_clear text (λ place lt. reads_clear text 0 is.tokens (length text) (tokens_in_parts text is.tokens is.read)
+    place (omega arith) lt)

@@ -7,10 +7,11 @@ use Rattle.gtd_core.specs.Trees.{Tree}
 use Rattle.gtd_core.specs.declared.fault.TextFault.{TextFault}
 use Rattle.gtd_text.specs.declared.token.Token.{Token}
 use Rattle.gtd_text.specs.Found.{fault_of_tokens}
-use Rattle.gtd_text.specs.Lexing.{AreTokens, IsTokenFault, Reads}
+use Rattle.gtd_text.specs.ComputedLexing.{AreTokens, IsTokenFault, Reads}
 use Rattle.gtd_text.specs.Reading.{HasNoFault, IsFault, StandsFor}
 use Rattle.gtd_text.specs.TokenAt.{fault_at_front, token_at}
 use Rattle.gtd_text.specs.facts.Lexed.{HasRead, all_read, found, read_more, read_space}
+use Rattle.gtd_text.specs.facts.LexingForms.{fault_of_parts, tokens_of_parts}
 use Rattle.gtd_text.specs.facts.ReadingLaws.{no_fault, readable}
 use Rattle.gtd_text.specs.facts.Scanned.{found_first}
 use Rattle.gtd_text.specs.facts.TokenForms.{fault_agrees, no_token}
@@ -77,13 +78,13 @@ of_tokens : (text : List ℕ) (tokens : List Token) → AreTokens text tokens �
     → fault_of_tokens (length text) tokens ≡ o → Answers text
 of_tokens text tokens are None e =
     let r = readable text tokens (length text) are e in
-    inl (r.tree, record { tokens = tokens; read = are; stand = r.stand }, no_fault text tokens are e)
+    inl (r.tree, record { tokens = tokens; read = tokens_of_parts text tokens are; stand = r.stand }, no_fault text tokens are e)
 of_tokens text tokens are (Some fault) e =
-    inr (fault, inr (tokens, are, found_first (length text) tokens fault e))
+    inr (fault, inr (tokens, tokens_of_parts text tokens are, found_first (length text) tokens fault e))
 
 pub each_text : (text : List ℕ) → Answers text
 each_text text =
     elim (lexed text (length text) [] 0 (omega arith) (omega arith) (λ more to r. r)) [
       | inl is ↦ of_tokens text is.tokens is.read (fault_of_tokens (length text) is.tokens) refl
-      | inr bad ↦ inr (bad.0, inl bad.1)
+      | inr bad ↦ inr (bad.0, inl (fault_of_parts text bad.0 bad.1))
     ]

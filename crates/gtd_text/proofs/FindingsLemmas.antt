@@ -19,8 +19,10 @@ use Rattle.gtd_text.specs.FirstFault.{fields_at_front, is_too_long}
 use Rattle.gtd_text.specs.Fitting.{fits}
 use Rattle.gtd_text.specs.Found.{IsReadable, depth_after, count_after, too_deep_after, too_many_after, fault_after, too_long}
 use Rattle.gtd_text.specs.Found.{fault_of_tokens}
-use Rattle.gtd_text.specs.Lexing.{AreTokens, kinds}
+use Rattle.gtd_text.specs.Lexing.{kinds}
+use Rattle.gtd_text.specs.ComputedLexing.{AreTokens}
 use Rattle.gtd_text.specs.Reading.{IsFault}
+use Rattle.gtd_text.specs.facts.LexingForms.{tokens_of_parts}
 use Rattle.gtd_text.specs.Summary.{seen, seen_with, takes, misfit}
 use Rattle.gtd_text.specs.facts.Scanned.{found_first}
 use Rattle.gtd_text.specs.facts.Valid.{fields_more}
@@ -152,7 +154,7 @@ answer : (text : List ℕ) (tokens : List Token) (result : Option TextFault) →
     → result ≡ fault_of_tokens (length text) tokens → MatchOption result (IsReadable text) (λ fault. IsFault text fault)
 answer text tokens None are e = record { tokens = tokens; read = are; faultless = sym e }
 answer text tokens (Some fault) are e =
-    inr (tokens, are, found_first (length text) tokens fault (sym e))
+    inr (tokens, tokens_of_parts text tokens are, found_first (length text) tokens fault (sym e))
 
 pub finds_all : (text : List ℕ) (tokens : List Token) (now : Findings) (result : Option TextFault) → AreTokens text tokens
     → Finds (length text) tokens now → result ≡ first_of (length text) now

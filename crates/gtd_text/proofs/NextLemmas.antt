@@ -6,7 +6,8 @@ use Rattle.std.specs.Prelude.{slice_index, IfSome}
 use Rattle.std.proofs.lemmas.Bool.{cases_order}
 use Rattle.gtd_text.specs.declared.token.Token.{Token}
 use Rattle.gtd_core.specs.declared.fault.TextFault.{TextFault}
-use Rattle.gtd_text.specs.Lexing.{AreSpaces, BeginsNoToken, IsFaultAt, IsTokenFault, Reads}
+use Rattle.gtd_text.specs.Lexing.{AreSpaces}
+use Rattle.gtd_text.specs.ComputedLexing.{BeginsNoToken, IsFaultAt, IsTokenFault, Reads}
 use Rattle.gtd_text.specs.TokenAt.{token_at, fault_at_front}
 use Rattle.gtd_text.specs.ToCome.{IsNextFrom}
 use Rattle.gtd_text.specs.facts.Lexed.{found}

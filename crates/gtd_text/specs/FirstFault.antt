@@ -17,7 +17,8 @@ use Rattle.gtd_core.specs.declared.fault.Fault.{Fault}
 use Rattle.gtd_core.specs.declared.fault.Fault.TheVariants as faults
 use Rattle.gtd_core.specs.declared.fault.TextFault.{TextFault}
 use Rattle.gtd_text.specs.declared.token.Token.{Token}
-use Rattle.gtd_text.specs.Lexing.{kinds, newest_first}
+use Rattle.gtd_text.specs.Lexing.{kinds}
+use Rattle.gtd_text.specs.ComputedLexing.{newest_first}
 
 -- More tokens can follow these, or none, so that all together stand for an expression.
 pub record GoesOn (tokens : List TokenKind) : Type 0 where

@@ -2,7 +2,8 @@
 use Rattle.std.specs.Prelude.{◌≡◌, ℕ, List, [], ◌∷◌, length, Option, Some, None}
 use Rattle.gtd_text.specs.declared.token.Token.{Token}
 use Rattle.gtd_text.specs.Building.{AreBuildable}
-use Rattle.gtd_text.specs.Lexing.{AreTokens, Reads, kinds}
+use Rattle.gtd_text.specs.Lexing.{kinds}
+use Rattle.gtd_text.specs.ComputedLexing.{AreTokens, Reads}
 
 -- The text is made of tokens, and they build an expression in its ranges.
 pub record IsBuildable (text : List ℕ) : Type 0 where

@@ -5,6 +5,7 @@ pub mod CanonicalText
 pub mod Faultless
 pub mod FieldForms
 pub mod Lexed
+pub mod LexingForms
 pub mod Linked
 pub mod OneMeaning
 pub mod Printable

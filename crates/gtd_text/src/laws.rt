@@ -1,6 +1,6 @@
 //! Laws of the definitions: calls that do nothing, whose contracts are what is proved.
 
-ghost use Rattle.std.specs.Prelude.{◌≡◌, ◌≤◌, ◌↔◌, ◌⊎◌, ℕ, List, Some, None, Ok, drop, true};
+ghost use Rattle.std.specs.Prelude.{◌≡◌, ◌≢◌, ◌≤◌, ◌↔◌, ◌⊎◌, ℕ, List, Some, None, Ok, drop, true};
 ghost use Rattle.gtd_core.specs.Limits.{most_basic_domains};
 ghost use Rattle.gtd_core.specs.Equality.{same_tree};
 ghost use Rattle.gtd_core.specs.Parts.{domain_tree};
@@ -12,7 +12,8 @@ ghost use Rattle.gtd_text.specs.Canonical.{canonical};
 ghost use Rattle.gtd_text.specs.FirstFault.{IsClean, GoesOn};
 ghost use Rattle.gtd_text.specs.Fitting.{grammar_fault, may_end};
 ghost use Rattle.gtd_text.specs.Grammar.{Stands, Sum};
-ghost use Rattle.gtd_text.specs.Lexing.{IsToken, BeginsNoToken, IsFaultAt, kinds, newest_first};
+ghost use Rattle.gtd_text.specs.Lexing.{IsToken, kinds};
+ghost use Rattle.gtd_text.specs.ComputedLexing.{IsFaultAt, newest_first};
 ghost use Rattle.gtd_text.specs.Reading.{IsReading, StandsFor, HasNoFault, IsFault};
 ghost use Rattle.gtd_text.specs.TokenAt.{token_at, fault_at_front};
 ghost use Rattle.gtd_text.specs.declared.token.Token.{Token};
@@ -72,7 +73,7 @@ pub fn tokens_as_computed()
     ensures token { (text : List ℕ) (token : Token) →
         IsToken text token ↔ (token_at text token.from ≡ Some token) }
     ensures none { (text : List ℕ) (place : ℕ) →
-        BeginsNoToken text place ↔ (token_at text place ≡ None) }
+        ((token : Token) → IsToken text token → token.from ≢ place) ↔ (token_at text place ≡ None) }
     ensures fault { (text : List ℕ) (place : ℕ) (fault : Fault) →
         IsFaultAt text place fault ↔ (fault ≡ fault_at_front (drop place text)) }
 {}

@@ -15,8 +15,10 @@ use Rattle.gtd_text.specs.Grammar.{Sum, Item, Stands, basic, bracketed, item, me
 use Rattle.gtd_text.specs.ComputedFields.{with_start_fields}
 use Rattle.gtd_text.specs.facts.FieldForms.{computed_durations, computed_starts}
 use Rattle.gtd_text.specs.ComputedFields.{basic_tokens}
-use Rattle.gtd_text.specs.Lexing.{AreTokens, kinds}
+use Rattle.gtd_text.specs.Lexing.{kinds}
+use Rattle.gtd_text.specs.ComputedLexing.{AreTokens}
 use Rattle.gtd_text.specs.Reading.{StandsFor}
+use Rattle.gtd_text.specs.facts.LexingForms.{tokens_of_parts}
 use Rattle.gtd_text.specs.facts.TokenWords.{Word, text_of, kinds_of, text_of-append, kinds_of-append, IsWord, AreWords}
 use Rattle.gtd_text.specs.facts.TokenWords.{AreWords-append, placed, kinds-placed, are_tokens}
 use Rattle.gtd_text.specs.facts.ShownFields.{shown_words, or_zero_some}
@@ -199,4 +201,8 @@ canonical_stand e h =
     (product own e (item own e (item_stands e h)))
 
 pub canonical_stands : (e : Tree) → AreValid e → StandsFor (canonical e) e
-canonical_stands e h = record { tokens = canonical_tokens e; read = canonical_read e h; stand = canonical_stand e h }
+canonical_stands e h = record {
+  tokens = canonical_tokens e;
+  read = tokens_of_parts (canonical e) (canonical_tokens e) (canonical_read e h);
+  stand = canonical_stand e h;
+}

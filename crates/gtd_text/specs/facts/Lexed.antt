@@ -13,7 +13,8 @@ use Rattle.gtd_text.specs.declared.token.TokenKind.TheVariants.{OpenBracket, Clo
 use Rattle.gtd_text.specs.declared.token.TokenKind.TheVariants.{OpenBrace, CloseBrace, Plus, Star, Minus, Field}
 use Rattle.gtd_core.specs.FieldTable.{is_from_to}
 use Rattle.gtd_text.specs.ComputedFields.{is_start_letter}
-use Rattle.gtd_text.specs.Lexing.{IsToken, AreSpaces, Reads}
+use Rattle.gtd_text.specs.Lexing.{AreSpaces}
+use Rattle.gtd_text.specs.ComputedLexing.{IsToken, Reads}
 use Rattle.gtd_text.specs.TokenAt.{sign_of, field_of, kind_at_front, length_of, token_from, token_at}
 use Rattle.gtd_text.specs.facts.TokenForms.{stands}
 

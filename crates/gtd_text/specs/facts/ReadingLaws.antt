@@ -11,7 +11,8 @@ use Rattle.gtd_text.specs.declared.token.TokenKind.{TokenKind}
 use Rattle.gtd_text.specs.Fitting.{fits, may_end}
 use Rattle.gtd_text.specs.Found.{fault_after, fault_of_tokens, too_deep_after, too_many_after, too_long}
 use Rattle.gtd_text.specs.facts.Linked.{all_fit, all_fit_builds}
-use Rattle.gtd_text.specs.Lexing.{AreTokens, IsFaultAt, IsTokenFault, kinds}
+use Rattle.gtd_text.specs.Lexing.{kinds}
+use Rattle.gtd_text.specs.ComputedLexing.{AreTokens, IsFaultAt, IsTokenFault}
 use Rattle.gtd_text.specs.Grammar.{Stands, Sum}
 use Rattle.gtd_text.specs.Building.{build, at_front}
 use Rattle.gtd_text.specs.Reading.{StandsFor, IsFault, HasNoFault}
@@ -23,6 +24,7 @@ use Rattle.gtd_text.specs.facts.Valid.{valid, leaves, few_open, fine}
 use Rattle.gtd_text.specs.facts.Unique.{one_list, stuck, one_stop}
 use Rattle.gtd_text.specs.facts.OneMeaning.{one_meaning}
 use Rattle.gtd_text.specs.facts.TokenForms.{one_fault_at}
+use Rattle.gtd_text.specs.facts.LexingForms.{fault_in_parts, fault_of_parts, tokens_in_parts}
 
 ends_well : (b : Bool) (fault : TextFault) → cond b None (Some fault) ≡ None → b ≡ true
 ends_well true fault e = refl
@@ -79,10 +81,11 @@ readable text tokens len are none =
 
 pub no_fault : (text : List ℕ) (tokens : List Token) → AreTokens text tokens → fault_of_tokens (length text) tokens ≡ None
     → HasNoFault text
-no_fault text tokens are none fault (inl bad) = stuck text 0 bad.before fault.place tokens bad.reads bad.inside bad.no_space
-    bad.no_token are
+no_fault text tokens are none fault (inl is) =
+    let bad = fault_in_parts text fault is in
+    stuck text 0 bad.before fault.place tokens bad.reads bad.inside bad.no_space bad.no_token are
 no_fault text tokens are none fault (inr bad) =
-    let same = one_list text 0 bad.0 tokens (length text) bad.1 are in
+    let same = one_list text 0 bad.0 tokens (length text) (tokens_in_parts text bad.0 bad.1) are in
     let both : Some fault ≡ None = sym (first_found (length text) bad.0 fault bad.2)
     ∙ ap (fault_of_tokens (length text)) same ∙ none in
     absurd cc
@@ -100,15 +103,21 @@ same_fault f g kind place =
     ap (λ (k : Fault). make k f.place) kind ∙ ap (make g.kind) place
 
 pub one_fault : (text : List ℕ) (f g : TextFault) → IsFault text f → IsFault text g → f ≡ g
-one_fault text f g (inl a) (inl b) =
+one_fault text f g (inl is) (inl also) =
+    let a = fault_in_parts text f is in
+    let b = fault_in_parts text g also in
     let place = one_stop text 0 a.before b.before f.place g.place a.reads b.reads a.inside b.inside a.no_space b.no_space
     a.no_token b.no_token in
     same_fault f g (one_fault_at text f.place f.kind g.kind a.kind
     (subst (λ (n : ℕ). IsFaultAt text n g.kind) (sym place) b.kind)) place
-one_fault text f g (inl a) (inr b) = absurd (stuck text 0 a.before f.place b.0 a.reads a.inside a.no_space a.no_token b.1)
-one_fault text f g (inr a) (inl b) = absurd (stuck text 0 b.before g.place a.0 b.reads b.inside b.no_space b.no_token a.1)
+one_fault text f g (inl is) (inr b) =
+    let a = fault_in_parts text f is in
+    absurd (stuck text 0 a.before f.place b.0 a.reads a.inside a.no_space a.no_token (tokens_in_parts text b.0 b.1))
+one_fault text f g (inr a) (inl is) =
+    let b = fault_in_parts text g is in
+    absurd (stuck text 0 b.before g.place a.0 b.reads b.inside b.no_space b.no_token (tokens_in_parts text a.0 a.1))
 one_fault text f g (inr a) (inr b) =
-    let same = one_list text 0 a.0 b.0 (length text) a.1 b.1 in
+    let same = one_list text 0 a.0 b.0 (length text) (tokens_in_parts text a.0 a.1) (tokens_in_parts text b.0 b.1) in
     let both : Some f ≡ Some g = sym (first_found (length text) a.0 f a.2) ∙ ap (fault_of_tokens (length text)) same
     ∙ first_found (length text) b.0 g b.2 in
     cc
@@ -140,5 +149,5 @@ first_token_fault items text (Ok v) h k first bad = stuck text 0 bad.before firs
     (items v) bad.reads bad.inside bad.no_space bad.no_token h
 first_token_fault items text (Err fault) h k first bad = elim k [
   | inl memory ↦ inl memory
-  | inr other ↦ inr (one_fault text fault first (inl other) (inl bad))
+  | inr other ↦ inr (one_fault text fault first (inl (fault_of_parts text fault other)) (inl (fault_of_parts text first bad)))
 ]

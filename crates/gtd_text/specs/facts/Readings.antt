@@ -7,6 +7,7 @@ use Rattle.gtd_text.specs.declared.token.Token.{Token}
 use Rattle.gtd_text.specs.FirstFault.{IsFirstFault}
 use Rattle.gtd_text.specs.Lexing.{AreTokens}
 use Rattle.gtd_text.specs.Reading.{HasNoFault, IsReading, StandsFor}
+use Rattle.gtd_text.specs.facts.LexingForms.{fault_in_parts, tokens_in_parts}
 use Rattle.gtd_text.specs.facts.Unique.{one_list, stuck}
 
 pub is_reading : (text : List ℕ) (e : Tree) → StandsFor text e → HasNoFault text → IsReading text (Ok e)
@@ -18,10 +19,13 @@ stands_for text e is = record { tokens = is.0; read = is.1; stand = is.2 }
 -- tokens without a fault are those of a text without a fault
 faultless_tokens : (text : List ℕ) (tokens : List Token) → AreTokens text tokens
     → ((fault : TextFault) → IsFirstFault (length text) tokens fault → ⊥) → HasNoFault text
-faultless_tokens text tokens are none fault (inl bad) =
-    stuck text 0 bad.before fault.place tokens bad.reads bad.inside bad.no_space bad.no_token are
+faultless_tokens text tokens are none fault (inl is) =
+    let bad = fault_in_parts text fault is in
+    stuck text 0 bad.before fault.place tokens bad.reads bad.inside bad.no_space bad.no_token
+    (tokens_in_parts text tokens are)
 faultless_tokens text tokens are none fault (inr bad) =
-    let same = one_list text 0 bad.0 tokens (length text) bad.1 are in
+    let same = one_list text 0 bad.0 tokens (length text) (tokens_in_parts text bad.0 bad.1)
+    (tokens_in_parts text tokens are) in
     none fault (subst (λ (l : List Token). IsFirstFault (length text) l fault) same bad.2)
 
 pub faultless : (text : List ℕ) (e : Tree) → IsReading text (Ok e) → HasNoFault text

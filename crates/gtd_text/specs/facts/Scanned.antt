@@ -17,7 +17,8 @@ use Rattle.gtd_text.specs.FirstFault.{depth, fault_of, opens_too_long, GoesOn}
 use Rattle.gtd_text.specs.Fitting.{grammar_fault, fits, may_end}
 use Rattle.gtd_text.specs.Found.{fault_after, depth_after, count_after, too_deep_after, too_many_after, too_long as long_of}
 use Rattle.gtd_text.specs.Found.{fault_of_tokens}
-use Rattle.gtd_text.specs.Lexing.{kinds, newest_first}
+use Rattle.gtd_text.specs.Lexing.{kinds}
+use Rattle.gtd_text.specs.ComputedLexing.{newest_first}
 use Rattle.gtd_text.specs.facts.Builds.{turned, and_left, and_right, builds_whole}
 use Rattle.gtd_text.specs.Grammar.{Stands, Sum}
 use Rattle.gtd_text.specs.Building.{build, at_front}

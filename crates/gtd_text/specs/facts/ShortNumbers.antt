@@ -12,7 +12,8 @@ use Rattle.gtd_text.specs.declared.token.TokenKind.{TokenKind}
 use Rattle.gtd_text.specs.declared.token.TokenKind.TheVariants.{Field}
 use Rattle.gtd_core.specs.FieldTable.{is_from_to}
 use Rattle.gtd_text.specs.ComputedFields.{is_start_letter}
-use Rattle.gtd_text.specs.Lexing.{Reads, AreTokens, kinds}
+use Rattle.gtd_text.specs.Lexing.{kinds}
+use Rattle.gtd_text.specs.ComputedLexing.{Reads, AreTokens}
 use Rattle.gtd_text.specs.TokenAt.{field_number, sign_of, field_of, kind_at_front, length_of, token_from}
 use Rattle.gtd_text.specs.facts.Builds.{and_right}
 use Rattle.gtd_text.specs.facts.TokenForms.{own, front_digits, computed}

@@ -18,7 +18,8 @@ use Rattle.gtd_text.specs.declared.token.TokenKind.TheVariants.{OpenBracket, Clo
 use Rattle.gtd_text.specs.declared.token.TokenKind.TheVariants.{OpenBrace, CloseBrace, Plus, Star, Minus, Field}
 use Rattle.gtd_core.specs.FieldTable.{is_from_to}
 use Rattle.gtd_text.specs.ComputedFields.{is_start_letter}
-use Rattle.gtd_text.specs.Lexing.{IsSign, BeginsNoDigit, HasDigits, IsToken, sign, field, BeginsNoToken, IsFaultAt, fuzzy, bad}
+use Rattle.gtd_text.specs.ComputedLexing.{IsSign, BeginsNoDigit, HasDigits, IsToken, sign, field, BeginsNoToken, IsFaultAt, fuzzy}
+use Rattle.gtd_text.specs.ComputedLexing.{bad}
 use Rattle.gtd_text.specs.TokenAt.{field_number, sign_of, field_of, kind_at_front, length_of, token_from, token_at}
 use Rattle.gtd_text.specs.TokenAt.{fault_at_front}
 use Rattle.gtd_text.specs.facts.Builds.{and_left, and_right}
@@ -81,11 +82,11 @@ few_digits digits some few = rw (le-leb 1 (length digits) some) (le-leb (length 
 
 -- ---- a letter and its digits
 
-front_of : (text : List ℕ) (place letter : ℕ) (digits : List ℕ) (h : HasDigits text place letter digits)
+pub front_of : (text : List ℕ) (place letter : ℕ) (digits : List ℕ) (h : HasDigits text place letter digits)
     → take_while is_ascii_digit (digits ++ h.rest) ≡ digits
 front_of text place letter digits h = digits_front digits h.rest h.all h.no_more
 
-has_digits : (text : List ℕ) (place byte : ℕ) (bytes : List ℕ) → drop place text ≡ byte ∷ bytes
+pub has_digits : (text : List ℕ) (place byte : ℕ) (bytes : List ℕ) → drop place text ≡ byte ∷ bytes
     → is_from_to 1 6 (length (take_while is_ascii_digit bytes)) ≡ true
     → HasDigits text place byte (take_while is_ascii_digit bytes)
 has_digits text place byte bytes e few = record {

@@ -9,7 +9,8 @@ use Rattle.gtd_text.specs.declared.token.Token.{Token}
 use Rattle.gtd_text.specs.declared.token.TokenKind.{TokenKind}
 use Rattle.gtd_text.specs.declared.token.TokenKind.TheVariants.{Field}
 use Rattle.gtd_text.specs.ComputedFields.{is_start_letter}
-use Rattle.gtd_text.specs.Lexing.{BeginsNoDigit, Reads, AreTokens, kinds}
+use Rattle.gtd_text.specs.Lexing.{kinds}
+use Rattle.gtd_text.specs.ComputedLexing.{BeginsNoDigit, Reads, AreTokens}
 use Rattle.gtd_text.specs.TokenAt.{field_number, sign_of, field_of, kind_at_front, length_of}
 use Rattle.gtd_text.specs.facts.TokenForms.{digits_front, few_digits, stands_by_kind}
 

@@ -5,7 +5,8 @@ use Rattle.std.specs.Prelude.{slice_index}
 use Rattle.std.proofs.lemmas.List.{drop_all}
 use Rattle.std.proofs.lemmas.Bool.{cases_order, cases_lt}
 use Rattle.gtd_text.specs.declared.token.Token.{Token}
-use Rattle.gtd_text.specs.Lexing.{IsToken, BeginsNoToken, AreSpaces, Reads, AreTokens, IsTokenFault}
+use Rattle.gtd_text.specs.Lexing.{AreSpaces}
+use Rattle.gtd_text.specs.ComputedLexing.{IsToken, BeginsNoToken, Reads, AreTokens, IsTokenFault}
 use Rattle.gtd_text.specs.TokenAt.{kind_at_front, token_from, token_at}
 use Rattle.std.proofs.Common.{Result, Ok, Err, ◌⊎◌}
 use Rattle.std.specs.Prelude.{IfOk, IfErr, MatchResult}

@@ -1,7 +1,8 @@
 use Rattle.std.proofs.Common.{◌≡◌, ◌++◌, ◌∷◌, [], length, sym, ap, subst, inl, arith}
 use Rattle.gtd_text.specs.declared.check.findings.Findings.{Findings}
-use Rattle.gtd_text.specs.Lexing.{Reads}
+use Rattle.gtd_text.specs.ComputedLexing.{Reads}
 use Rattle.gtd_text.specs.facts.Lexed.{Found, found, all_read, read_more, read_space}
+use Rattle.gtd_text.specs.facts.LexingForms.{fault_of_parts}
 use Rattle.gtd_text.proofs.FindingsLemmas.{count_le, depth_le, finds_all, finds_more}
 use Rattle.gtd_text.proofs.NextLemmas.{none_begins}
 use Rattle.gtd_text.proofs.check.first_fault.Goals as goal
@@ -42,9 +43,9 @@ loop-place-preserved c =
 pub returns-in-None : goal.returns-in-None
 returns-in-None c =
     let before = c.loop-place.invariant.has_read in
-    inl (none_begins c.args.text.now before.0 c.loop-place.place c.token_fault_at.result
-    (all_read c.args.text.now before.0 c.loop-place.place before.1) c.loop-place-test.true c.if-text-place-eq32.false
-    (sym c.in-None.ensures) c.token_fault_at.ensures.kind c.token_fault_at.ensures.place)
+    inl (fault_of_parts c.args.text.now c.token_fault_at.result (none_begins c.args.text.now before.0 c.loop-place.place
+    c.token_fault_at.result (all_read c.args.text.now before.0 c.loop-place.place before.1) c.loop-place-test.true
+    c.if-text-place-eq32.false (sym c.in-None.ensures) c.token_fault_at.ensures.kind c.token_fault_at.ensures.place))
 
 pub returns : goal.returns
 returns c =

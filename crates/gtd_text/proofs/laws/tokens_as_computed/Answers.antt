@@ -1,5 +1,6 @@
-use Rattle.gtd_text.specs.facts.TokenForms.{token_agrees, none_agrees, fault_agrees}
+use Rattle.gtd_text.specs.facts.LexingForms.{none_computed, token_computed}
+use Rattle.gtd_text.specs.facts.TokenForms.{fault_agrees}
 use Rattle.gtd_text.proofs.laws.tokens_as_computed.Goals as goal
 
 pub returns : goal.returns
-returns c = record { token = token_agrees; none = none_agrees; fault = fault_agrees }
+returns c = record { token = token_computed; none = none_computed; fault = fault_agrees }
