@@ -13,7 +13,7 @@ use Rattle.gtd_text.specs.TokenAt.{fault_at_front, token_at}
 use Rattle.gtd_text.specs.facts.Lexed.{HasRead, all_read, found, read_more, read_space}
 use Rattle.gtd_text.specs.facts.LexingForms.{fault_of_parts, tokens_of_parts}
 use Rattle.gtd_text.specs.facts.ReadingLaws.{no_fault, readable}
-use Rattle.gtd_text.specs.facts.Scanned.{found_first}
+use Rattle.gtd_text.specs.facts.Phases.{found_first}
 use Rattle.gtd_text.specs.facts.TokenForms.{fault_agrees, no_token}
 
 -- the text is spaces and tokens

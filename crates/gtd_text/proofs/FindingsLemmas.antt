@@ -15,7 +15,7 @@ use Rattle.gtd_text.specs.declared.token.TokenKind.TheVariants.{OpenBracket, Clo
 use Rattle.gtd_text.specs.ComputedFields.{with_duration_fields}
 use Rattle.gtd_text.specs.Findings.{too_deep_at, too_many_at, misfit_at, fault_of_opened, opened_after, too_long_with}
 use Rattle.gtd_text.specs.Findings.{findings_with, no_findings, first_of}
-use Rattle.gtd_text.specs.FirstFault.{fields_at_front, is_too_long}
+use Rattle.gtd_text.specs.ComputedFaults.{fields_at_front, is_too_long}
 use Rattle.gtd_text.specs.Fitting.{fits}
 use Rattle.gtd_text.specs.Found.{IsReadable, depth_after, count_after, too_deep_after, too_many_after, fault_after, too_long}
 use Rattle.gtd_text.specs.Found.{fault_of_tokens}
@@ -24,7 +24,7 @@ use Rattle.gtd_text.specs.ComputedLexing.{AreTokens}
 use Rattle.gtd_text.specs.Reading.{IsFault}
 use Rattle.gtd_text.specs.facts.LexingForms.{tokens_of_parts}
 use Rattle.gtd_text.specs.Summary.{seen, seen_with, takes, misfit}
-use Rattle.gtd_text.specs.facts.Scanned.{found_first}
+use Rattle.gtd_text.specs.facts.Phases.{found_first}
 use Rattle.gtd_text.specs.facts.Valid.{fields_more}
 use Rattle.gtd_text.proofs.SeenLemmas.{takes_agrees, misfit_agrees, seen_more}
 

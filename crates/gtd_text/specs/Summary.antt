@@ -13,7 +13,8 @@ use Rattle.gtd_text.specs.ComputedFields.{is_start_letter, is_duration_letter, i
 use Rattle.gtd_text.specs.Fitting.{begins_item, follows_item, is_open_brace, is_close_parenthesis, is_close_brace}
 use Rattle.gtd_text.specs.Fitting.{may_end_after}
 use Rattle.gtd_text.specs.Found.{depth_after}
-use Rattle.gtd_text.specs.FirstFault.{last_token, last_sign, depth, minus_fault}
+use Rattle.gtd_text.specs.FirstFault.{depth}
+use Rattle.gtd_text.specs.ComputedFaults.{last_token, last_sign, minus_fault}
 
 -- The letters of a set with one more: bit k stands for the letter that is k in ASCII.
 abbrev pub with_letter : Letters → ℕ → Letters

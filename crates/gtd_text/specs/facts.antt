@@ -8,6 +8,7 @@ pub mod Lexed
 pub mod LexingForms
 pub mod Linked
 pub mod OneMeaning
+pub mod Phases
 pub mod Printable
 pub mod Ranges
 pub mod ReadingLaws

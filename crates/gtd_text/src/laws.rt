@@ -9,8 +9,10 @@ ghost use Rattle.gtd_core.specs.declared.domain.Domain.{Domain};
 ghost use Rattle.gtd_core.specs.declared.fault.Fault.{Fault};
 ghost use Rattle.gtd_core.specs.declared.fault.TextFault.{TextFault};
 ghost use Rattle.gtd_text.specs.Canonical.{canonical};
-ghost use Rattle.gtd_text.specs.FirstFault.{IsClean, GoesOn};
+ghost use Rattle.gtd_text.specs.FirstFault.{GoesOn, IsFirstFault};
+ghost use Rattle.gtd_text.specs.ComputedFaults.{IsClean};
 ghost use Rattle.gtd_text.specs.Fitting.{grammar_fault, may_end};
+ghost use Rattle.gtd_text.specs.Found.{fault_of_tokens};
 ghost use Rattle.gtd_text.specs.Grammar.{Stands, Sum};
 ghost use Rattle.gtd_text.specs.Lexing.{IsToken, kinds};
 ghost use Rattle.gtd_text.specs.ComputedLexing.{IsFaultAt, newest_first};
@@ -65,6 +67,12 @@ pub fn grammar_and_faults()
 pub fn tokens_go_on()
     ensures agree { (tokens : List Token) →
         IsClean grammar_fault tokens ↔ GoesOn (kinds tokens) }
+{}
+
+/// The first fault of the tokens of a text of this length is the one that is computed, phase by phase.
+pub fn faults_as_computed()
+    ensures first { (len : ℕ) (tokens : List Token) (fault : TextFault) →
+        IsFirstFault len tokens fault ↔ (fault_of_tokens len tokens ≡ Some fault) }
 {}
 
 /// A token is in a text exactly if it is the one that is computed from the bytes at its place. None begins exactly

@@ -23,7 +23,7 @@ use Rattle.gtd_text.specs.Fitting.{fits, may_end}
 use Rattle.gtd_text.specs.Found.{fault_after, depth_after, too_deep_after, count_after, too_many_after, too_long}
 use Rattle.gtd_text.specs.Found.{fault_of_tokens}
 use Rattle.gtd_text.specs.facts.Linked.{all_fit, all_fit_builds}
-use Rattle.gtd_text.specs.FirstFault.{is_too_long, opens_too_long}
+use Rattle.gtd_text.specs.ComputedFaults.{is_too_long, opens_too_long}
 use Rattle.gtd_text.specs.Lexing.{kinds}
 use Rattle.gtd_text.specs.Reading.{HasNoFault}
 use Rattle.gtd_text.specs.facts.Builds.{and_left, and_right, builds_whole}

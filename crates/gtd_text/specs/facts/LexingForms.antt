@@ -1,5 +1,5 @@
 -- A text is made of tokens, or has a fault of its bytes, exactly if it is so in the form that proofs take apart.
-use Rattle.std.proofs.Common.{◌≡◌, ◌≢◌, ◌∙◌, ◌<◌, ◌↔◌, ◌⊎◌, refl, sym, ap, subst, arith, inl, inr, ℕ, zero, suc, ◌+◌}
+use Rattle.std.proofs.Common.{◌≡◌, ◌≢◌, ◌∙◌, ◌<◌, ◌↔◌, ◌⊎◌, refl, sym, ap, subst, arith, inl, inr, ℕ, zero, suc}
 use Rattle.std.proofs.Common.{List, [], ◌∷◌, ◌++◌, length, true, Some, None}
 use Rattle.std.specs.Prelude.{Contains, slice_index_or}
 use Rattle.gtd_core.specs.FieldTable.{is_from_to}

@@ -18,7 +18,8 @@ use Rattle.gtd_text.specs.Grammar.{zero_parts}
 use Rattle.gtd_text.specs.ComputedFields.{with_start_field, with_duration_field}
 use Rattle.gtd_text.specs.Fitting.{begins_item, follows_item, is_open_brace, is_close_parenthesis, is_close_brace, fits}
 use Rattle.gtd_text.specs.Fitting.{may_end}
-use Rattle.gtd_text.specs.FirstFault.{depth, last_sign}
+use Rattle.gtd_text.specs.FirstFault.{depth}
+use Rattle.gtd_text.specs.ComputedFaults.{last_sign}
 use Rattle.gtd_text.specs.Building.{Sums, Pending, State, Expecting, InStart, AfterStart, InDuration, AfterItem, total, times}
 use Rattle.gtd_text.specs.Building.{close_start, close_duration, close_bracket, step, finish, build, at_front}
 use Rattle.gtd_text.specs.facts.Builds.{and_left, and_right}

@@ -9,7 +9,7 @@ use Rattle.gtd_text.specs.Reading.{HasNoFault, StandsFor}
 use Rattle.gtd_text.specs.facts.LexingForms.{tokens_in_parts, tokens_of_parts}
 use Rattle.gtd_text.specs.facts.OneMeaning.{one_meaning}
 use Rattle.gtd_text.specs.facts.ReadingLaws.{readable}
-use Rattle.gtd_text.specs.facts.Scanned.{found_first}
+use Rattle.gtd_text.specs.facts.Phases.{found_first}
 
 -- its numbers are in their ranges, and there are few enough basic domains
 pub record IsPrintableTree (tree : Tree) : Type 0 where

@@ -17,7 +17,7 @@ use Rattle.gtd_text.specs.Grammar.{Stands, Sum}
 use Rattle.gtd_text.specs.Building.{build, at_front}
 use Rattle.gtd_text.specs.Reading.{StandsFor, IsFault, HasNoFault}
 use Rattle.gtd_text.specs.Faults.{no_memory}
-use Rattle.gtd_text.specs.facts.Scanned.{first_found}
+use Rattle.gtd_text.specs.facts.Phases.{first_found}
 use Rattle.gtd_text.specs.facts.BuiltIsMeant.{stood_whole}
 use Rattle.gtd_text.specs.facts.ShortNumbers.{are_short}
 use Rattle.gtd_text.specs.facts.Valid.{valid, leaves, few_open, fine}

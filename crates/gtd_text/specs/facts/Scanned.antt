@@ -11,9 +11,9 @@ use Rattle.gtd_core.specs.declared.fault.TextFault.{TextFault}
 use Rattle.gtd_text.specs.declared.token.Token.{Token}
 use Rattle.gtd_text.specs.declared.token.TokenKind.{TokenKind}
 use Rattle.gtd_text.specs.declared.token.TokenKind.TheVariants.{OpenBracket, CloseBracket, OpenParenthesis}
-use Rattle.gtd_text.specs.FirstFault.{Phase, bracket_fault, parenthesis_count, parenthesis_fault, brace_fault, IsClean}
-use Rattle.gtd_text.specs.FirstFault.{IsFirst, IsMisfit, IsFirstFault, too_deep, too_many, misfit, incomplete, too_long}
-use Rattle.gtd_text.specs.FirstFault.{depth, fault_of, opens_too_long, GoesOn}
+use Rattle.gtd_text.specs.ComputedFaults.{Phase, bracket_fault, parenthesis_fault, brace_fault, fault_of, opens_too_long}
+use Rattle.gtd_text.specs.ComputedFaults.{IsClean}
+use Rattle.gtd_text.specs.FirstFault.{GoesOn, depth, parenthesis_count}
 use Rattle.gtd_text.specs.Fitting.{grammar_fault, fits, may_end}
 use Rattle.gtd_text.specs.Found.{fault_after, depth_after, count_after, too_deep_after, too_many_after, too_long as long_of}
 use Rattle.gtd_text.specs.Found.{fault_of_tokens}
@@ -26,7 +26,7 @@ use Rattle.gtd_core.specs.Trees.{Tree}
 use Rattle.gtd_text.specs.facts.Linked.{all_fit, all_fit_so_far, fit_goes_on, fit_first, all_fit_builds}
 use Rattle.gtd_text.specs.facts.BuiltIsMeant.{stood_whole}
 
-abbrev at : Token → Option Fault → Option TextFault → Option TextFault
+abbrev pub at : Token → Option Fault → Option TextFault → Option TextFault
 at token None later = later
 at token (Some kind) later = Some (record { kind = kind; place = token.from })
 
@@ -78,85 +78,12 @@ scan_clean phase b (t ∷ ts) h =
     none_there t (phase b t.kind (kinds ts)) (scan phase (t.kind ∷ b) ts) (h [] t ts refl)
     (scan_clean phase (t.kind ∷ b) ts (λ before token after s. h (t ∷ before) token after (ap (λ (l : List Token). t ∷ l) s)))
 
--- ---- the first token at fault
-
-record FirstFrom (phase : Phase) (b : List TokenKind) (tokens : List Token) (fault : TextFault) : Type 0 where
-  before : List Token
-  token : Token
-  after : List Token
-  split : tokens ≡ before ++ token ∷ after
-  kind : phase (turned b (kinds before)) token.kind (kinds after) ≡ Some fault.kind
-  place : fault.place ≡ token.from
-  first : (earlier : List Token) (other : Token) (later : List Token) → before ≡ earlier ++ other ∷ later
-      → phase (turned b (kinds earlier)) other.kind (kinds (later ++ token ∷ after)) ≡ None
-
-no_split : (earlier : List Token) (other : Token) (later : List Token) → [] ≡ earlier ++ other ∷ later → ⊥
-no_split [] other later e = absurd cc
-no_split (x ∷ earlier) other later e = absurd cc
-
-none_before : (phase : Phase) (b : List TokenKind) (t : Token) (ts : List Token) (fault : TextFault)
-    (r : FirstFrom phase (t.kind ∷ b) ts fault) → phase b t.kind (kinds ts) ≡ None
-    → (earlier : List Token) (other : Token) (later : List Token) → t ∷ r.before ≡ earlier ++ other ∷ later
-    → phase (turned b (kinds earlier)) other.kind (kinds (later ++ r.token ∷ r.after)) ≡ None
-none_before phase b t ts fault r h [] other later e =
-    moved phase b t other ts (later ++ r.token ∷ r.after) None
-    (ap (λ (l : List Token). t ∷ l) r.split ∙ ap (λ (l : List Token). l ++ r.token ∷ r.after) e) h
-none_before phase b t ts fault r h (x ∷ earlier) other later e =
-    ap (λ (z : Token). phase (turned (z.kind ∷ b) (kinds earlier)) other.kind (kinds (later ++ r.token ∷ r.after)))
-    (sym (head_same t x r.before (earlier ++ other ∷ later) e))
-    ∙ r.first earlier other later (tail_same t x r.before (earlier ++ other ∷ later) e)
-
-first_here : (phase : Phase) (b : List TokenKind) (t : Token) (ts : List Token) (fault : TextFault) (o : Option Fault)
-    (later : Option TextFault) → phase b t.kind (kinds ts) ≡ o → (later ≡ Some fault → FirstFrom phase (t.kind ∷ b) ts fault)
-    → at t o later ≡ Some fault → FirstFrom phase b (t ∷ ts) fault
-first_here phase b t ts fault (Some kind) later is more e =
-    let made : record { kind = kind; place = t.from } ≡ fault = cc in
-    record {
-      before = [];
-      token = t;
-      after = ts;
-      split = refl;
-      kind = is ∙ ap (λ (f : TextFault). Some f.kind) made;
-      place = sym (ap (λ (f : TextFault). f.place) made);
-      first = λ earlier other later s. absurd (no_split earlier other later s);
-    }
-first_here phase b t ts fault None later is more e =
-    let r = more e in
-    record {
-      before = t ∷ r.before;
-      token = r.token;
-      after = r.after;
-      split = ap (λ (l : List Token). t ∷ l) r.split;
-      kind = r.kind;
-      place = r.place;
-      first = none_before phase b t ts fault r is;
-    }
-
-first_scan : (phase : Phase) (b : List TokenKind) (tokens : List Token) (fault : TextFault) → scan phase b tokens ≡ Some fault
-    → FirstFrom phase b tokens fault
-first_scan phase b [] fault e = absurd cc
-first_scan phase b (t ∷ ts) fault e =
-    first_here phase b t ts fault (phase b t.kind (kinds ts)) (scan phase (t.kind ∷ b) ts) refl
-    (first_scan phase (t.kind ∷ b) ts fault) e
-
-same_parts : (fault : TextFault) (place : ℕ) → fault.place ≡ place → record { kind = fault.kind; place = place } ≡ fault
+pub same_parts : (fault : TextFault) (place : ℕ) → fault.place ≡ place → record { kind = fault.kind; place = place } ≡ fault
 same_parts fault place e = let make : ℕ → TextFault = λ n. record { kind = fault.kind; place = n } in ap make (sym e)
-
-scan_at : (phase : Phase) (b : List TokenKind) (before : List Token) (token : Token) (after : List Token) (fault : TextFault)
-    → phase (turned b (kinds before)) token.kind (kinds after) ≡ Some fault.kind → fault.place ≡ token.from
-    → ((earlier : List Token) (other : Token) (later : List Token) → before ≡ earlier ++ other ∷ later
-    → phase (turned b (kinds earlier)) other.kind (kinds (later ++ token ∷ after)) ≡ None)
-    → scan phase b (before ++ token ∷ after) ≡ Some fault
-scan_at phase b [] token after fault kind place first =
-    ap (λ (o : Option Fault). at token o (scan phase (token.kind ∷ b) after)) kind ∙ ap Some (same_parts fault token.from place)
-scan_at phase b (x ∷ before) token after fault kind place first =
-    ap (λ (o : Option Fault). at x o (scan phase (x.kind ∷ b) (before ++ token ∷ after))) (first [] x before refl)
-    ∙ scan_at phase (x.kind ∷ b) before token after fault kind place
-    (λ earlier other later s. first (x ∷ earlier) other later (ap (λ (l : List Token). x ∷ l) s))
 
 -- ---- tokens listed the newest first
 
-turned_is : (b tokens : List TokenKind) → turned b tokens ≡ reverse tokens ++ b
+pub turned_is : (b tokens : List TokenKind) → turned b tokens ≡ reverse tokens ++ b
 turned_is b [] = refl
 turned_is b (token ∷ tokens) =
     turned_is (token ∷ b) tokens ∙ sym (append_assoc (reverse tokens) (token ∷ []) b)
@@ -181,27 +108,6 @@ clean phase tokens e before token after s = at_newest phase before token after N
 pub scans_clean : (phase : Phase) (tokens : List Token) → IsClean phase tokens → scan phase [] tokens ≡ None
 scans_clean phase tokens h = scan_clean phase [] tokens (λ before token after s.
     at_turned phase before token after None (h before token after s))
-
-first : (phase : Phase) (tokens : List Token) (fault : TextFault) → scan phase [] tokens ≡ Some fault → IsFirst phase tokens fault
-first phase tokens fault e =
-    let r = first_scan phase [] tokens fault e in
-    record {
-      before = r.before;
-      token = r.token;
-      after = r.after;
-      split = r.split;
-      kind = at_newest phase r.before r.token r.after (Some fault.kind) r.kind;
-      place = r.place;
-      first = λ earlier other later s. at_newest phase earlier other (later ++ r.token ∷ r.after) None
-          (r.first earlier other later s);
-    }
-
-scans_first : (phase : Phase) (tokens : List Token) (fault : TextFault) → IsFirst phase tokens fault → scan phase [] tokens
-    ≡ Some fault
-scans_first phase tokens fault r =
-    ap (scan phase []) r.split
-    ∙ scan_at phase [] r.before r.token r.after fault (at_turned phase r.before r.token r.after (Some fault.kind) r.kind) r.place
-    (λ earlier other later s. at_turned phase earlier other (later ++ r.token ∷ r.after) None (r.first earlier other later s))
 
 -- ---- the check's functions scan
 
@@ -308,7 +214,7 @@ fit_none : (fit : Bool) (kind : Fault) → fit ≡ true → cond fit None (Some 
 fit_none true kind e = refl
 fit_none false kind e = absurd cc
 
-none_fit : (fit : Bool) (kind : Fault) → cond fit None (Some kind) ≡ None → fit ≡ true
+pub none_fit : (fit : Bool) (kind : Fault) → cond fit None (Some kind) ≡ None → fit ≡ true
 none_fit true kind e = refl
 none_fit false kind e = absurd cc
 
@@ -328,73 +234,20 @@ scans_fit b (t ∷ ts) h =
     ap (λ c. c && all_fit_so_far (t.kind ∷ b) (kinds ts)) (none_fit (fits b t.kind) (fault_of b t.kind) parts.0)
     ∙ scans_fit (t.kind ∷ b) ts parts.1
 
-fit_goes : (tokens : List Token) → all_fit_so_far [] (kinds tokens) ≡ true → GoesOn (kinds tokens)
+pub fit_goes : (tokens : List TokenKind) → all_fit_so_far [] tokens ≡ true → GoesOn tokens
 fit_goes tokens fit =
-    let rest = fit_goes_on (kinds tokens) fit in
-    record { after = rest.after; tree = rest.tree; stand = stood_whole (kinds tokens ++ rest.after) rest.tree rest.built }
+    let rest = fit_goes_on tokens fit in
+    (rest.after, rest.tree, stood_whole (tokens ++ rest.after) rest.tree rest.built)
 
 pub clean_goes_on : (tokens : List Token) → IsClean grammar_fault tokens → GoesOn (kinds tokens)
-clean_goes_on tokens h = fit_goes tokens (scans_fit [] tokens (scans_clean grammar_fault tokens h))
+clean_goes_on tokens h = fit_goes (kinds tokens) (scans_fit [] tokens (scans_clean grammar_fault tokens h))
 
-goes_on_fit : (tokens : List Token) → GoesOn (kinds tokens) → all_fit_so_far [] (kinds tokens) ≡ true
+pub goes_on_fit : (tokens : List TokenKind) → GoesOn tokens → all_fit_so_far [] tokens ≡ true
 goes_on_fit tokens h =
-    fit_first [] (kinds tokens) h.after
-    (all_fit_builds (kinds tokens ++ h.after) ∙ ap is_some (builds_whole (kinds tokens ++ h.after) h.tree h.stand))
+    fit_first [] tokens h.0 (all_fit_builds (tokens ++ h.0) ∙ ap is_some (builds_whole (tokens ++ h.0) h.1 h.2))
 
 pub goes_on_clean : (tokens : List Token) → GoesOn (kinds tokens) → IsClean grammar_fault tokens
-goes_on_clean tokens h = clean grammar_fault tokens (fit_scans [] tokens (goes_on_fit tokens h))
-
--- tokens that fit, and one more
-fit_more : (b : List TokenKind) (tokens : List Token) (token : Token) → all_fit_so_far b (kinds tokens) ≡ true
-    → fits (turned b (kinds tokens)) token.kind ≡ true → all_fit_so_far b (kinds (tokens ++ token ∷ [])) ≡ true
-fit_more b [] token h e = ap (λ c. c && true) e
-fit_more b (t ∷ ts) token h e =
-    ap (λ c. c && all_fit_so_far (t.kind ∷ b) (kinds (ts ++ token ∷ [])))
-    (and_left (fits b t.kind) (all_fit_so_far (t.kind ∷ b) (kinds ts)) h)
-    ∙ fit_more (t.kind ∷ b) ts token (and_right (fits b t.kind) _ h) e
-
-fault_named : (fit : Bool) (kind other : Fault) → cond fit None (Some kind) ≡ Some other → other ≡ kind
-fault_named true kind other e = absurd cc
-fault_named false kind other e = cc
-
--- the first token that does not fit is the first with which no expression goes on
-first_misfit : (tokens : List Token) (fault : TextFault) → IsFirst grammar_fault tokens fault → IsMisfit tokens fault
-first_misfit tokens fault h = record {
-  before = h.before;
-  token = h.token;
-  after = h.after;
-  split = h.split;
-  so_far = clean_goes_on h.before (λ earlier other later s. h.first earlier other later s);
-  no_further = stuck;
-  kind = fault_named (fits (newest_first h.before) h.token.kind)
-      (fault_of (newest_first h.before) h.token.kind) fault.kind h.kind;
-  place = h.place;
-}
-  where
-    stuck : GoesOn (kinds (h.before ++ h.token ∷ [])) → ⊥
-    stuck on =
-        let both : None ≡ Some fault.kind = sym (goes_on_clean (h.before ++ h.token ∷ []) on h.before h.token [] refl) ∙ h.kind in
-        cc
-
-misfit_kind : (tokens : List Token) (fault : TextFault) (h : IsMisfit tokens fault) (fit : Bool)
-    → fits (newest_first h.before) h.token.kind ≡ fit → cond fit None (Some (fault_of (newest_first h.before) h.token.kind))
-    ≡ Some fault.kind
-misfit_kind tokens fault h true e =
-    absurd (h.no_further (fit_goes (h.before ++ h.token ∷ [])
-    (fit_more [] h.before h.token (goes_on_fit h.before h.so_far)
-    (ap (λ (l : List TokenKind). fits l h.token.kind) (newest h.before) ∙ e))))
-misfit_kind tokens fault h false e = ap Some (sym h.kind)
-
-misfit_first : (tokens : List Token) (fault : TextFault) → IsMisfit tokens fault → IsFirst grammar_fault tokens fault
-misfit_first tokens fault h = record {
-  before = h.before;
-  token = h.token;
-  after = h.after;
-  split = h.split;
-  kind = misfit_kind tokens fault h (fits (newest_first h.before) h.token.kind) refl;
-  place = h.place;
-  first = λ earlier other later s. goes_on_clean h.before h.so_far earlier other later s;
-}
+goes_on_clean tokens h = clean grammar_fault tokens (fit_scans [] tokens (goes_on_fit (kinds tokens) h))
 
 -- ---- tokens may end exactly if they stand for an expression
 
@@ -412,7 +265,7 @@ built_some : (o : Option Tree) → is_some o ≡ true → (e : Tree) × (o ≡ S
 built_some (Some e) h = (e, refl)
 built_some None h = absurd cc
 
-whole : (tokens : List Token) → IsClean grammar_fault tokens → may_end (newest_first tokens) ≡ true → (e : Tree)
+pub whole : (tokens : List Token) → IsClean grammar_fault tokens → may_end (newest_first tokens) ≡ true → (e : Tree)
     × Stands Sum (kinds tokens) e
 whole tokens h end =
     let fit = all_of [] (kinds tokens) (scans_fit [] tokens (scans_clean grammar_fault tokens h))
@@ -426,16 +279,13 @@ whole_ends tokens e stand =
     (all_fit_builds (kinds tokens) ∙ ap is_some (builds_whole (kinds tokens) e stand))
 
 whole_clean : (tokens : List Token) (e : Tree) → Stands Sum (kinds tokens) e → IsClean grammar_fault tokens
-whole_clean tokens e stand = goes_on_clean tokens (record {
-  after = [];
-  tree = e;
-  stand = subst (λ (l : List TokenKind). Stands Sum l e) (sym (append-nil (kinds tokens))) stand;
-})
+whole_clean tokens e stand = goes_on_clean tokens
+    ([], e, subst (λ (l : List TokenKind). Stands Sum l e) (sym (append-nil (kinds tokens))) stand)
 
-not_whole : (tokens : List Token) → may_end (newest_first tokens) ≡ false → (e : Tree) → Stands Sum (kinds tokens) e → ⊥
+pub not_whole : (tokens : List Token) → may_end (newest_first tokens) ≡ false → (e : Tree) → Stands Sum (kinds tokens) e → ⊥
 not_whole tokens early e stand = let both : true ≡ false = sym (whole_ends tokens e stand) ∙ early in cc
 
-ends_not : (tokens : List Token) (end : Bool) → IsClean grammar_fault tokens → ((e : Tree) → Stands Sum (kinds tokens) e → ⊥)
+pub ends_not : (tokens : List Token) (end : Bool) → IsClean grammar_fault tokens → ((e : Tree) → Stands Sum (kinds tokens) e → ⊥)
     → may_end (newest_first tokens) ≡ end → end ≡ false
 ends_not tokens false h none e = refl
 ends_not tokens true h none e = let found = whole tokens h e in absurd (none found.0 found.1)
@@ -446,33 +296,18 @@ may_of : (len : ℕ) (b : Bool) → ended len b ≡ None → b ≡ true
 may_of len true e = refl
 may_of len false e = absurd cc
 
-may : (len : ℕ) (before : List TokenKind) → ending len before ≡ None → may_end before ≡ true
+pub may : (len : ℕ) (before : List TokenKind) → ending len before ≡ None → may_end before ≡ true
 may len before e = may_of len (may_end before) e
 
-ends_early : (len : ℕ) (fault : TextFault) (b : Bool) → ended len b ≡ Some fault → (b ≡ false)
+pub ends_early : (len : ℕ) (fault : TextFault) (b : Bool) → ended len b ≡ Some fault → (b ≡ false)
     × (fault ≡ record { kind = faults.Incomplete; place = len })
 ends_early len fault false e = (refl, cc)
 ends_early len fault true e = absurd cc
 
-data Deciding (a b c d e : Option TextFault) (fault : TextFault) : Type 0 where
-  by_a : a ≡ Some fault → Deciding a b c d e fault
-  by_b : a ≡ None → b ≡ Some fault → Deciding a b c d e fault
-  by_c : a ≡ None → b ≡ None → c ≡ Some fault → Deciding a b c d e fault
-  by_d : a ≡ None → b ≡ None → c ≡ None → d ≡ Some fault → Deciding a b c d e fault
-  by_e : a ≡ None → b ≡ None → c ≡ None → d ≡ None → e ≡ Some fault → Deciding a b c d e fault
-
-deciding : (a b c d e : Option TextFault) (fault : TextFault)
-    → option_or (option_or (option_or a b) (option_or c d)) e ≡ Some fault → Deciding a b c d e fault
-deciding (Some f) b c d e fault h = by_a h
-deciding None (Some f) c d e fault h = by_b refl h
-deciding None None (Some f) d e fault h = by_c refl refl h
-deciding None None None (Some f) e fault h = by_d refl refl refl h
-deciding None None None None e fault h = by_e refl refl refl refl h
-
-abbrev chain : Option TextFault → Option TextFault → Option TextFault → Option TextFault → Option TextFault → Option TextFault
+abbrev pub chain : Option TextFault → Option TextFault → Option TextFault → Option TextFault → Option TextFault → Option TextFault
 chain a b c d e = option_or (option_or (option_or a b) (option_or c d)) e
 
-phases : (len : ℕ) (tokens : List Token) → fault_of_tokens len tokens
+pub phases : (len : ℕ) (tokens : List Token) → fault_of_tokens len tokens
     ≡ chain (scan bracket_fault [] tokens) (scan parenthesis_fault [] tokens) (scan grammar_fault [] tokens)
     (ending len (newest_first tokens)) (scan brace_fault [] tokens)
 phases len tokens =
@@ -486,69 +321,14 @@ phases len tokens =
     ∙ ap (λ (o : Option TextFault). chain (scan bracket_fault [] tokens) (scan parenthesis_fault [] tokens)
     (scan grammar_fault [] tokens) (ending len (newest_first tokens)) o) (long_scan [] tokens)
 
-decided : (len : ℕ) (tokens : List Token) (fault : TextFault)
-    → Deciding (scan bracket_fault [] tokens) (scan parenthesis_fault [] tokens) (scan grammar_fault [] tokens)
-    (ending len (newest_first tokens)) (scan brace_fault [] tokens) fault → IsFirstFault len tokens fault
-decided len tokens fault (by_a a) = too_deep (first bracket_fault tokens fault a)
-decided len tokens fault (by_b a b) = too_many (clean bracket_fault tokens a) (first parenthesis_fault tokens fault b)
-decided len tokens fault (by_c a b c) = misfit (clean bracket_fault tokens a) (clean parenthesis_fault tokens b)
-    (first_misfit tokens fault (first grammar_fault tokens fault c))
-decided len tokens fault (by_d a b c d) =
-    let early = ends_early len fault (may_end (newest_first tokens)) d in
-    incomplete (clean bracket_fault tokens a) (clean parenthesis_fault tokens b)
-    (clean_goes_on tokens (clean grammar_fault tokens c)) (not_whole tokens early.0) early.1
-decided len tokens fault (by_e a b c d e) =
-    let found = whole tokens (clean grammar_fault tokens c) (may len (newest_first tokens) d) in
-    too_long (clean bracket_fault tokens a) (clean parenthesis_fault tokens b) found.0 found.1 (first brace_fault tokens fault e)
-
--- what the check finds is the first fault
-pub found_first : (len : ℕ) (tokens : List Token) (fault : TextFault) → fault_of_tokens len tokens ≡ Some fault
-    → IsFirstFault len tokens fault
-found_first len tokens fault e = decided len tokens fault (deciding _ _ _ _ _ fault (sym (phases len tokens) ∙ e))
-
-chosen : (a b c d e : Option TextFault) (fault : TextFault) → Deciding a b c d e fault → chain a b c d e ≡ Some fault
-chosen a b c d e fault (by_a p) = ap (λ (o : Option TextFault). chain o b c d e) p
-chosen a b c d e fault (by_b p q) = ap (λ (o : Option TextFault). chain o b c d e) p
-    ∙ ap (λ (o : Option TextFault). chain None o c d e) q
-chosen a b c d e fault (by_c p q r) = ap (λ (o : Option TextFault). chain o b c d e) p
-    ∙ ap (λ (o : Option TextFault). chain None o c d e) q ∙ ap (λ (o : Option TextFault). chain None None o d e) r
-chosen a b c d e fault (by_d p q r s) = ap (λ (o : Option TextFault). chain o b c d e) p
-    ∙ ap (λ (o : Option TextFault). chain None o c d e) q ∙ ap (λ (o : Option TextFault). chain None None o d e) r
-    ∙ ap (λ (o : Option TextFault). chain None None None o e) s
-chosen a b c d e fault (by_e p q r s t) = ap (λ (o : Option TextFault). chain o b c d e) p
-    ∙ ap (λ (o : Option TextFault). chain None o c d e) q ∙ ap (λ (o : Option TextFault). chain None None o d e) r
-    ∙ ap (λ (o : Option TextFault). chain None None None o e) s ∙ t
-
-ending_none : (len : ℕ) (b : Bool) → b ≡ true → ended len b ≡ None
+pub ending_none : (len : ℕ) (b : Bool) → b ≡ true → ended len b ≡ None
 ending_none len true e = refl
 ending_none len false e = absurd cc
 
-ending_some : (len : ℕ) (fault : TextFault) (b : Bool) → b ≡ false → fault ≡ record { kind = faults.Incomplete; place = len }
+pub ending_some : (len : ℕ) (fault : TextFault) (b : Bool) → b ≡ false → fault ≡ record { kind = faults.Incomplete; place = len }
     → ended len b ≡ Some fault
 ending_some len fault false e h = ap Some (sym h)
 ending_some len fault true e h = absurd cc
-
-deciding_of : (len : ℕ) (tokens : List Token) (fault : TextFault) → IsFirstFault len tokens fault
-    → Deciding (scan bracket_fault [] tokens) (scan parenthesis_fault [] tokens) (scan grammar_fault [] tokens)
-    (ending len (newest_first tokens)) (scan brace_fault [] tokens) fault
-deciding_of len tokens fault (too_deep a) = by_a (scans_first bracket_fault tokens fault a)
-deciding_of len tokens fault (too_many a b) = by_b (scans_clean bracket_fault tokens a)
-    (scans_first parenthesis_fault tokens fault b)
-deciding_of len tokens fault (misfit a b c) = by_c (scans_clean bracket_fault tokens a) (scans_clean parenthesis_fault tokens b)
-    (scans_first grammar_fault tokens fault (misfit_first tokens fault c))
-deciding_of len tokens fault (incomplete a b c none e) =
-    let h = goes_on_clean tokens c in
-    by_d (scans_clean bracket_fault tokens a) (scans_clean parenthesis_fault tokens b) (scans_clean grammar_fault tokens h)
-    (ending_some len fault (may_end (newest_first tokens)) (ends_not tokens (may_end (newest_first tokens)) h none refl) e)
-deciding_of len tokens fault (too_long a b tree stand e) =
-    by_e (scans_clean bracket_fault tokens a) (scans_clean parenthesis_fault tokens b)
-    (scans_clean grammar_fault tokens (whole_clean tokens tree stand))
-    (ending_none len (may_end (newest_first tokens)) (whole_ends tokens tree stand)) (scans_first brace_fault tokens fault e)
-
--- the first fault is what the check finds
-pub first_found : (len : ℕ) (tokens : List Token) (fault : TextFault) → IsFirstFault len tokens fault → fault_of_tokens len tokens
-    ≡ Some fault
-first_found len tokens fault h = phases len tokens ∙ chosen _ _ _ _ _ fault (deciding_of len tokens fault h)
 
 -- no token is at fault by the grammar, and the tokens may end, exactly if the grammar's check finds nothing
 pub no_misfit : (len : ℕ) (tokens : List Token) → IsClean grammar_fault tokens → may_end (newest_first tokens) ≡ true

@@ -17,7 +17,7 @@ use Rattle.gtd_text.specs.ComputedFields.{with_duration_fields}
 use Rattle.gtd_text.specs.Grammar.{meet, product, union, minus}
 use Rattle.gtd_text.specs.ComputedFields.{basic_tokens}
 use Rattle.gtd_text.specs.Found.{too_long, count_after, too_many_after}
-use Rattle.gtd_text.specs.FirstFault.{fields_at_front, is_too_long, opens_too_long, is_field}
+use Rattle.gtd_text.specs.ComputedFaults.{fields_at_front, is_too_long, opens_too_long, is_field}
 use Rattle.std.proofs.lemmas.List.Sums.{take_while-cons}
 use Rattle.gtd_text.specs.Lexing.{kinds}
 use Rattle.gtd_text.specs.facts.Builds.{and_right}
