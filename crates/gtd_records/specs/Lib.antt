@@ -1,6 +1,8 @@
 pub mod Closing
 pub mod ClosingRows
 pub mod Columns
+pub mod ComputedFile
+pub mod ComputedRow
 pub mod Cut
 pub mod Faults
 pub mod File

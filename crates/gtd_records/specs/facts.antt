@@ -1,6 +1,7 @@
 pub mod OpenDecisions
 pub mod RowsRead
 pub mod FileFacts
+pub mod FileForms
 pub mod IndexFacts
 pub mod NumberFacts
 pub mod OneWayFacts
