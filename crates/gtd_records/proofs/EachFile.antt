@@ -21,7 +21,7 @@ use Rattle.gtd_records.specs.declared.vehicles.Vehicles.{Vehicles}
 use Rattle.gtd_records.specs.declared.vehicles.Vehicles.TheVariants.{Every, Only, AllBut}
 use Rattle.gtd_records.specs.declared.vehicles.Version.{Version}
 use Rattle.gtd_records.specs.declared.vehicles.Version.TheVariants as version
-use Rattle.gtd_records.proofs.SortedCodes.{ascending}
+use Rattle.gtd_records.specs.facts.SortedCodes.{ascending}
 
 types_of : (named : Vehicles) → (types : Vehicles) × IsOrdered named types
 types_of Every = (Every, refl)

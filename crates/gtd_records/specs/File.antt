@@ -3,7 +3,7 @@ use Rattle.std.specs.Prelude.{◌≡◌, ◌<◌, ◌≤◌, ◌⊎◌, ℕ, ◌
 use Rattle.gtd_core.specs.Limits.{most_rows, most_file_bytes}
 use Rattle.csv.specs.Reading.{default_config, records, strip_bom}
 use Rattle.gtd_records.specs.Closing.{Restriction}
-use Rattle.gtd_records.specs.ComputedRow.{IsRow}
+use Rattle.gtd_records.specs.Row.{IsRow}
 use Rattle.gtd_records.specs.declared.fault.RecordFault.{RecordFault}
 use Rattle.gtd_records.specs.declared.fault.RecordFault.TheVariants as fault
 use Rattle.gtd_records.specs.declared.vehicles.Version.{Version}

@@ -9,6 +9,7 @@ pub mod File
 pub mod Index
 pub mod Reading
 pub mod RecordFaultNames
+pub mod Row
 pub mod Table
 pub mod Warnings
 pub mod facts

@@ -8,4 +8,6 @@ pub mod OneWayFacts
 pub mod OneAnswer
 pub mod RestrictionCode
 pub mod Rising
+pub mod SortedCodes
 pub mod RowFacts
+pub mod RowForms

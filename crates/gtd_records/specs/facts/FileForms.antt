@@ -1,14 +1,15 @@
 -- What a file is and what reading it computes are the same.
-use Rattle.std.proofs.Common.{◌≡◌, ◌∙◌, sym, ap, refl, ◌<◌, ◌≤◌, ◌+◌, ◌⊎◌, inl, inr, ℕ, List, [], ◌∷◌, ◌++◌, length, arith}
+use Rattle.std.proofs.Common.{◌≡◌, ap, refl, ◌<◌, ◌≤◌, ◌+◌, ◌⊎◌, inl, inr, ℕ, List, [], ◌∷◌, ◌++◌, length, arith}
 use Rattle.std.proofs.Common.{add-zero}
 use Rattle.std.specs.Prelude.{Result, Ok, Err}
 use Rattle.csv.specs.Reading.{default_config, records, strip_bom}
 use Rattle.gtd_core.specs.Limits.{most_rows}
 use Rattle.gtd_records.specs.Closing.{Restriction}
 use Rattle.gtd_records.specs.Columns.{Fields}
-use Rattle.gtd_records.specs.ComputedFile.{AreRecords, AreSoundRows, FirstFault}
+use Rattle.gtd_records.specs.ComputedFile.{AreRecords}
 use Rattle.gtd_records.specs.ComputedFile as computed
 use Rattle.gtd_records.specs.ComputedRow.{IsRow}
+use Rattle.gtd_records.specs.facts.RowForms.{computed_row, row_of}
 use Rattle.gtd_records.specs.File.{AreRows, IsFile, IsTable}
 use Rattle.gtd_records.specs.declared.fault.RecordFault.{RecordFault}
 use Rattle.gtd_records.specs.declared.fault.RecordFault.TheVariants as fault
@@ -23,7 +24,7 @@ sound_rows : (v : Version) (k : ℕ) (rows : List Fields) (found : List Restrict
     → AreRecords v k rows found → AreRows v k rows (Ok found)
 sound_rows v k [] found few are = ap Ok are
 sound_rows v k (row ∷ rows) found few are =
-    (omega (arith, few), are.0, are.1, are.2, sound_rows v (k + 1) rows are.1 (omega (arith, few)) are.3, are.4)
+    (omega (arith, few), are.0, are.1, row_of v k row (Ok are.0) are.2, sound_rows v (k + 1) rows are.1 (omega (arith, few)) are.3, are.4)
 
 -- the row with this number is one too many, or has this fault
 abbrev IsAtFault : Version → ℕ → Fields → RecordFault → Type 0
@@ -33,7 +34,7 @@ IsAtFault v k row why =
 at_fault : (v : Version) (k : ℕ) (row : Fields) (after : List Fields) (why : RecordFault) → IsAtFault v k row why
     → AreRows v k (row ∷ after) (Err why)
 at_fault v k row after why (inl many) = let n = many.0 in inl (omega (arith, n), many.1)
-at_fault v k row after why (inr bad) = inr (bad.0, inl bad.1)
+at_fault v k row after why (inr bad) = inr (bad.0, inl (row_of v k row (Err why) bad.1))
 
 first_fault : (v : Version) (k : ℕ) (before : List Fields) (row : Fields) (after : List Fields) (found : List Restriction)
     (why : RecordFault)
@@ -47,7 +48,7 @@ first_fault v k (b ∷ before) row after found why few are bad =
       omega (arith, few),
       inr (
         are.0,
-        are.2,
+        row_of v k b (Ok are.0) are.2,
         first_fault v (k + 1) before row after are.1 why (omega (arith, few)) are.3 (rw n at bad),
       ),
     )
@@ -72,7 +73,7 @@ rows_of v rows (Err why) are =
 records_of : (v : Version) (k : ℕ) (rows : List Fields) (found : List Restriction) → AreRows v k rows (Ok found)
     → AreRecords v k rows found
 records_of v k [] found are = ok_is found [] are
-records_of v k (row ∷ rows) found are = (are.1, are.2, are.3, records_of v (k + 1) rows are.2 are.4, are.5)
+records_of v k (row ∷ rows) found are = (are.1, are.2, computed_row v k row (Ok are.1) are.3, records_of v (k + 1) rows are.2 are.4, are.5)
 
 few_rows : (v : Version) (k : ℕ) (rows : List Fields) (found : List Restriction) → k ≤ most_rows + 1
     → AreRows v k rows (Ok found) → k + length rows ≤ most_rows + 1
@@ -127,9 +128,11 @@ fault_from : (v : Version) (k : ℕ) (rows : List Fields) (why : RecordFault) �
 fault_from v k [] why few are = absurd cc
 fault_from v k (row ∷ rows) why few (inl many) =
     let n = many.0 in here_first v k row rows why few (inl (omega (arith, few, n), many.1))
-fault_from v k (row ∷ rows) why few (inr (l, inl bad)) = here_first v k row rows why few (inr (l, bad))
+fault_from v k (row ∷ rows) why few (inr (l, inl bad)) =
+    here_first v k row rows why few (inr (l, computed_row v k row (Err why) bad))
 fault_from v k (row ∷ rows) why few (inr (l, inr more)) =
-    later_first v k row rows why more.0 more.1 (fault_from v (k + 1) rows why (omega (arith, l)) more.2)
+    later_first v k row rows why more.0 (computed_row v k row (Ok more.0) more.1)
+    (fault_from v (k + 1) rows why (omega (arith, l)) more.2)
 
 as_cause : (v : Version) (n : ℕ) (row : Fields) (why : RecordFault) → IsAtFault v (n + 1) row why
     → ((n ≡ most_rows) × (why ≡ fault.TooManyRows)) ⊎ ((n < most_rows) × IsRow v (n + 1) row (Err why))
