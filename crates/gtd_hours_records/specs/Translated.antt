@@ -6,8 +6,7 @@ use Rattle.gtd_core.specs.declared.domain.Domain.{Domain}
 use Rattle.gtd_eval.specs.Membership.{InDomain}
 use Rattle.gtd_osm.specs.Opening.{IsOpen}
 use Rattle.gtd_osm.specs.declared.hours.Hours.{Hours}
-use Rattle.gtd_records.specs.Closing.{ClosesDirection, Restriction}
-use Rattle.gtd_records.specs.Columns.{Serves}
+use Rattle.gtd_records.specs.Closing.{ClosesDirection, Restriction, Serves}
 use Rattle.gtd_records.specs.declared.direction.Direction.{Direction}
 use Rattle.gtd_hours_records.specs.declared.row.HoursRow.{HoursRow}
 

@@ -22,8 +22,11 @@ use Rattle.gtd_records.specs.facts.OneAnswer.{one_file}
 use Rattle.gtd_records.specs.facts.RowFacts.{full_row}
 use Rattle.gtd_records.specs.Columns.{closed_of, number_of, Fields, IsOrdered, AreTypesRead, vehicles_of}
 use Rattle.gtd_core.specs.Limits.{most_file_bytes, most_rows}
-use Rattle.gtd_records.specs.File.{AreRecords, AreSoundRows, IsFile, IsTable, header, IsDomainColumn, IsFullRow, IsRow}
-use Rattle.gtd_records.specs.File.{with_domain}
+use Rattle.gtd_records.specs.facts.FileForms.{computed_table, table_of}
+use Rattle.gtd_records.specs.ComputedFile.{AreRecords, AreSoundRows, IsTable}
+use Rattle.gtd_records.specs.ComputedRow.{IsDomainColumn, IsFullRow, IsRow}
+use Rattle.gtd_records.specs.File.{IsFile, header}
+use Rattle.gtd_records.specs.ComputedRow.{with_domain}
 use Rattle.gtd_records.specs.Closing.{Restriction}
 use Rattle.gtd_records.specs.declared.direction.Closed.{Closed}
 use Rattle.gtd_records.specs.declared.direction.Closed.TheVariants.{One, Both}
@@ -118,7 +121,7 @@ table_printable text found (inl t) = records_printable t.0 1 t.1 found t.3.1
 table_printable text found (inr t) = absurd (cc (t.1))
 
 pub file_printable : (bytes : List ℕ) (found : List Restriction) → IsFile bytes (Ok found) → ArePrintable found
-file_printable bytes found (inl f) = table_printable _ found f.1
+file_printable bytes found (inl f) = table_printable _ found (computed_table _ _ f.1)
 file_printable bytes found (inr f) = absurd (cc (f.1))
 
 table_few : (text : List Fields) (found : List Restriction) → IsTable text (Ok found) → length found ≤ most_rows
@@ -129,7 +132,7 @@ table_few text found (inl t) =
 table_few text found (inr t) = absurd (cc (t.1))
 
 pub file_few : (bytes : List ℕ) (found : List Restriction) → IsFile bytes (Ok found) → length found ≤ most_rows
-file_few bytes found (inl f) = table_few _ found f.1
+file_few bytes found (inl f) = table_few _ found (computed_table _ _ f.1)
 file_few bytes found (inr f) = absurd (cc (f.1))
 
 -- ---- a row is read as its restriction
@@ -244,7 +247,7 @@ written_is_file found few p fits =
     let rows : length (map columns_of found) ≡ length found = simp length-map in
     let all : records default_config (strip_bom (header_line ++ lines)) ≡ header version.Two ∷ map columns_of found =
     rw (no_mark lines) (all_read found (length (header_line ++ lines) + 1) (omega arith) p) in
-    inl (fits, inl (version.Two, map columns_of found, all, (omega arith, rows_read 1 found p)))
+    inl (fits, table_of _ _ (inl (version.Two, map columns_of found, all, (omega arith, rows_read 1 found p))))
 
 printed_is_file : (found : List Restriction) → length found ≤ most_rows → ArePrintable found
     → length (text_of (migrated found)) ≤ most_file_bytes → IsFile (text_of (migrated found)) (Ok found)

@@ -14,7 +14,7 @@ use Rattle.gtd_text.specs.facts.Faultless.{canonical_faultless}
 use Rattle.gtd_text.specs.facts.Printable.{IsPrintableTree}
 use Rattle.gtd_text.specs.facts.TextBytes.{is_apart, canonical_plain}
 use Rattle.gtd_text.specs.Canonical.{canonical}
-use Rattle.gtd_records.specs.File.{IsDomainColumn, IsReading}
+use Rattle.gtd_records.specs.ComputedRow.{IsDomainColumn, IsReading}
 
 -- ---- the text of an expression is read again
 

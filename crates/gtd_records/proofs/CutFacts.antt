@@ -7,7 +7,9 @@ use Rattle.gtd_core.specs.declared.fault.TextFault.{TextFault}
 use Rattle.gtd_records.specs.facts.OneAnswer.{one_version}
 use Rattle.gtd_records.specs.Columns.{closed_of, number_of, Fields, IsOrdered, vehicles_of}
 use Rattle.gtd_core.specs.Limits.{most_rows}
-use Rattle.gtd_records.specs.File.{AreRecords, AreSoundRows, IsTable, header, IsDomainColumn, IsRow, with_domain}
+use Rattle.gtd_records.specs.ComputedFile.{AreRecords, AreSoundRows, IsTable}
+use Rattle.gtd_records.specs.ComputedRow.{IsDomainColumn, IsRow, with_domain}
+use Rattle.gtd_records.specs.File.{header}
 use Rattle.gtd_records.specs.Closing.{Restriction}
 use Rattle.gtd_records.specs.declared.direction.Closed.{Closed}
 use Rattle.gtd_records.specs.declared.fault.RecordFault.{RecordFault}

@@ -10,7 +10,8 @@ use Rattle.gtd_records.proofs.CutFacts.{cut, joined}
 use Rattle.gtd_records.proofs.CutFaults.{first_part, second_part}
 use Rattle.gtd_records.specs.Cut.{counted_on, state_after}
 use Rattle.gtd_core.specs.Limits.{most_file_bytes, most_rows}
-use Rattle.gtd_records.specs.File.{IsFile, IsTable, header}
+use Rattle.gtd_records.specs.ComputedFile.{IsFile, IsTable}
+use Rattle.gtd_records.specs.File.{header}
 use Rattle.gtd_records.specs.Closing.{Restriction}
 use Rattle.gtd_records.specs.Table.{IsBetween}
 use Rattle.gtd_records.specs.Columns.{Fields}

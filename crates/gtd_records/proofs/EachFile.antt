@@ -10,8 +10,10 @@ use Rattle.gtd_core.specs.declared.fault.TextFault.{TextFault}
 use Rattle.gtd_text.specs.Reading.{HasNoFault, IsFault, StandsFor}
 use Rattle.gtd_records.specs.Closing.{Restriction}
 use Rattle.gtd_records.specs.Columns.{closed_of, Fields, IsOrdered, number_of, vehicles_of}
-use Rattle.gtd_records.specs.File.{AreRecords, AreRows, IsFile, IsTable, header, IsDomainColumn}
-use Rattle.gtd_records.specs.File.{IsRow, with_domain}
+use Rattle.gtd_records.specs.ComputedFile.{AreRecords, AreRows, IsFile, IsTable}
+use Rattle.gtd_records.specs.ComputedRow.{IsDomainColumn}
+use Rattle.gtd_records.specs.File.{header}
+use Rattle.gtd_records.specs.ComputedRow.{IsRow, with_domain}
 use Rattle.gtd_records.specs.declared.direction.Closed.{Closed}
 use Rattle.gtd_records.specs.declared.fault.RecordFault.{RecordFault}
 use Rattle.gtd_records.specs.declared.fault.RecordFault.TheVariants as fault
@@ -19,7 +21,7 @@ use Rattle.gtd_records.specs.declared.vehicles.Vehicles.{Vehicles}
 use Rattle.gtd_records.specs.declared.vehicles.Vehicles.TheVariants.{Every, Only, AllBut}
 use Rattle.gtd_records.specs.declared.vehicles.Version.{Version}
 use Rattle.gtd_records.specs.declared.vehicles.Version.TheVariants as version
-use Rattle.gtd_records.proofs.SortedCodes.{ascending}
+use Rattle.gtd_records.specs.facts.SortedCodes.{ascending}
 
 types_of : (named : Vehicles) → (types : Vehicles) × IsOrdered named types
 types_of Every = (Every, refl)

@@ -7,7 +7,9 @@ use Rattle.csv.specs.Reading.{default_config, records, strip_bom}
 use Rattle.csv.specs.declared.reader.Reader.{Reader}
 use Rattle.gtd_records.specs.Faults.{AreFaults, AreFileFaults, AreRowFaults, AreTableFaults, with_fault}
 use Rattle.gtd_core.specs.Limits.{most_file_bytes, most_rows}
-use Rattle.gtd_records.specs.File.{AreRecords, FirstFault, IsFile, AreSoundRows, IsTable, header, IsRow}
+use Rattle.gtd_records.specs.ComputedFile.{AreRecords, FirstFault, IsFile, AreSoundRows, IsTable}
+use Rattle.gtd_records.specs.ComputedRow.{IsRow}
+use Rattle.gtd_records.specs.File.{header}
 use Rattle.gtd_records.specs.Closing.{Restriction}
 use Rattle.gtd_records.specs.facts.RowsRead.{IsListing, RowsRead, all_read, none_read, row_left, row_read}
 use Rattle.gtd_records.specs.Table.{HasLeft, TakesFirst}

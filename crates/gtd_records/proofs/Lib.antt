@@ -12,7 +12,6 @@ pub mod CutBytes
 pub mod CutFile
 pub mod CutFaults
 pub mod DomainTexts
-pub mod SortedCodes
 pub mod EachFile
 pub mod StayFacts
 pub mod FoundPlaces

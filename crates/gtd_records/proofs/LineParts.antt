@@ -16,7 +16,8 @@ use Rattle.gtd_records.proofs.PlainRows.{table_clear}
 use Rattle.gtd_records.specs.Closing.{Restriction}
 use Rattle.gtd_records.specs.Columns.{Fields}
 use Rattle.gtd_records.specs.Cut.{IsFront, counted_on, is_line_end, state_after}
-use Rattle.gtd_records.specs.File.{AreRecords, IsFile, IsTable, header}
+use Rattle.gtd_records.specs.ComputedFile.{AreRecords, IsFile, IsTable}
+use Rattle.gtd_records.specs.File.{header}
 use Rattle.gtd_records.specs.Table.{IsBetween}
 use Rattle.gtd_records.specs.declared.fault.RecordFault.{RecordFault}
 use Rattle.gtd_records.specs.declared.vehicles.Version.{Version}

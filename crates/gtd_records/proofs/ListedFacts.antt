@@ -12,7 +12,7 @@ use Rattle.gtd_records.specs.facts.Rising.{In, from_in, to_in}
 use Rattle.gtd_records.specs.Columns.{closed_of, number_of, Fields, IsOrdered, vehicles_of}
 use Rattle.gtd_records.specs.Faults.{AreRowFaults, IsFaultyRow, row_number, with_fault}
 use Rattle.gtd_records.specs.Closing.{Restriction}
-use Rattle.gtd_records.specs.File.{IsDomainColumn, IsRow, with_domain}
+use Rattle.gtd_records.specs.ComputedRow.{IsDomainColumn, IsRow, with_domain}
 use Rattle.gtd_records.specs.declared.direction.Closed.{Closed}
 use Rattle.gtd_records.specs.declared.fault.RecordFault.{RecordFault}
 use Rattle.gtd_records.specs.declared.fault.RecordFault.TheVariants as fault

@@ -16,7 +16,9 @@ use Rattle.gtd_records.specs.Closing.{Restriction}
 use Rattle.gtd_records.specs.Columns.{Fields, IsOrdered, and_code, closed_of, code_of, codes_of, direction_of, is_word, is_zero}
 use Rattle.gtd_records.specs.Columns.{items_of, named, number_of, type_of, types_listed, vehicles_of}
 use Rattle.gtd_records.specs.Cut.{is_line_end}
-use Rattle.gtd_records.specs.File.{AreRecords, IsDomainColumn, IsRow, IsTable, header, with_domain}
+use Rattle.gtd_records.specs.ComputedFile.{AreRecords, IsTable}
+use Rattle.gtd_records.specs.ComputedRow.{IsDomainColumn, IsRow, with_domain}
+use Rattle.gtd_records.specs.File.{header}
 use Rattle.gtd_records.specs.declared.direction.Closed.{Closed}
 use Rattle.gtd_records.specs.declared.direction.Closed.TheVariants.{One}
 use Rattle.gtd_records.specs.declared.direction.Direction.{Direction}

@@ -2,7 +2,9 @@
 use Rattle.std.proofs.Common.{◌≡◌, ◌≢◌, ◌≤◌, inl, subst, ℕ, List, length}
 use Rattle.std.specs.Prelude.{Option, Some, None, IfSome, Result, Ok, Err, MatchResult}
 use Rattle.csv.specs.Reading.{default_config, records, strip_bom}
-use Rattle.gtd_records.specs.File.{IsFile, IsTable, IsOfFile}
+use Rattle.gtd_records.specs.ComputedFile.{IsTable}
+use Rattle.gtd_records.specs.File.{IsFile, IsOfFile}
+use Rattle.gtd_records.specs.facts.FileForms.{table_of}
 use Rattle.gtd_records.specs.Closing.{Restriction}
 use Rattle.gtd_records.specs.declared.fault.RecordFault.{RecordFault}
 use Rattle.gtd_records.specs.declared.fault.RecordFault.TheVariants as fault
@@ -16,5 +18,5 @@ pub of_table : (bytes : List ℕ) (told : Option (List ℕ)) (r : Result (List R
     (λ why. why ≢ fault.NoMemory → IsTable (records default_config (strip_bom bytes)) (Err why))
     → IfSome told (λ all. MatchResult r (λ found. IsFile all (Ok found)) (λ why. IsOfFile why → IsFile all (Err why)))
 of_table bytes None r few is t = tt
-of_table bytes (Some all) (Ok found) few is t = subst (λ b. IsFile b (Ok found)) is (inl (few, t))
-of_table bytes (Some all) (Err why) few is t = λ of. subst (λ b. IsFile b (Err why)) is (inl (few, t (not_memory why of)))
+of_table bytes (Some all) (Ok found) few is t = subst (λ b. IsFile b (Ok found)) is (inl (few, table_of _ _ t))
+of_table bytes (Some all) (Err why) few is t = λ of. subst (λ b. IsFile b (Err why)) is (inl (few, table_of _ _ (t (not_memory why of))))

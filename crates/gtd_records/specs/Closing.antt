@@ -6,7 +6,7 @@ use Rattle.gtd_records.specs.declared.vehicles.Vehicles.{Vehicles}
 use Rattle.std.specs.List.{Contains}
 use Rattle.std.specs.List.Sorted.{IsStrictlyIncreasing}
 use Rattle.gtd_eval.specs.Membership.{InTree}
-use Rattle.gtd_records.specs.Columns.{Serves}
+use Rattle.gtd_records.specs.declared.vehicles.Vehicles.TheVariants.{Every, Only, AllBut}
 use Rattle.gtd_records.specs.declared.direction.Closed.TheVariants.{One, Both}
 use Rattle.gtd_records.specs.declared.direction.Direction.{Direction}
 
@@ -17,6 +17,12 @@ pub record Restriction : Type 0 where
   pub closed : Closed
   pub vehicles : Vehicles
   pub domain : Option Tree
+
+-- the type is one of them
+abbrev pub Serves : Vehicles → ℕ → Type 0
+Serves Every vehicle = ⊤
+Serves (Only types) vehicle = Contains types vehicle
+Serves (AllBut types) vehicle = Contains types vehicle → ⊥
 
 -- what is closed has this direction
 abbrev pub ClosesDirection : Closed → Direction → Type 0
@@ -35,7 +41,7 @@ Concerns direction vehicle r = ClosesDirection r.closed direction × Serves r.ve
 -- the restriction closes the element in the direction for the vehicle type at the second
 pub record Closes (element : ℕ) (direction : Direction) (vehicle : ℕ) (second : ℤ) (r : Restriction) : Type 0 where
   pub names : r.element ≡ element
-  pub concerns : Concerns direction vehicle r
+  pub concerns : ClosesDirection r.closed direction × Serves r.vehicles vehicle
   pub holds : HoldsAt r.domain second
 
 -- the restriction closes the element for the vehicle type, whatever the second, in one direction alone
@@ -50,7 +56,7 @@ IsClosed found element direction vehicle second = Any (Closes element direction 
 
 -- no restriction closes it
 abbrev pub IsOpen : List Restriction → ℕ → Direction → ℕ → ℤ → Type 0
-IsOpen found element direction vehicle second = IsClosed found element direction vehicle second → ⊥
+IsOpen found element direction vehicle second = Any (Closes element direction vehicle second) found → ⊥
 
 -- the elements that the restrictions name, in ascending order, each once
 pub record AreElements (found : List Restriction) (elements : List ℕ) : Type 0 where

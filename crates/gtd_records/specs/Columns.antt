@@ -1,4 +1,4 @@
--- What the columns of a row hold: numbers, directions, and vehicle types.
+-- What reading the columns of a row computes: numbers, directions, and vehicle types.
 use Rattle.std.specs.Prelude.{ℕ, ◌&&◌, Bool, if◌then◌else◌, nat_le, nat_eq, List, length, codes, Option, Some, None}
 use Rattle.std.specs.Prelude.{option_map, ◌≡◌, false, [], ◌∷◌, ◌==◌, ◌↔◌}
 use Rattle.std.specs.Char.{is_ascii_digit}
@@ -44,12 +44,6 @@ closed_of text = if is_word text (codes "both") then Some Both else option_map O
 -- the code that 1 or 2 ASCII digits stand for
 abbrev pub code_of : List ℕ → Option ℕ
 code_of text = if nat_le (length text) 2 then number_of text else None
-
--- the type is one of them
-abbrev pub Serves : Vehicles → ℕ → Type 0
-Serves Every vehicle = Unit {0}
-Serves (Only types) vehicle = Contains types vehicle
-Serves (AllBut types) vehicle = Contains types vehicle → ⊥
 
 -- the code 0
 abbrev pub is_zero : Option ℕ → Bool

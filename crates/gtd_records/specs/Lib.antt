@@ -1,12 +1,15 @@
 pub mod Closing
 pub mod ClosingRows
 pub mod Columns
+pub mod ComputedFile
+pub mod ComputedRow
 pub mod Cut
 pub mod Faults
 pub mod File
 pub mod Index
 pub mod Reading
 pub mod RecordFaultNames
+pub mod Row
 pub mod Table
 pub mod Warnings
 pub mod facts

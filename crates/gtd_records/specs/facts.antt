@@ -1,10 +1,13 @@
 pub mod OpenDecisions
 pub mod RowsRead
 pub mod FileFacts
+pub mod FileForms
 pub mod IndexFacts
 pub mod NumberFacts
 pub mod OneWayFacts
 pub mod OneAnswer
 pub mod RestrictionCode
 pub mod Rising
+pub mod SortedCodes
 pub mod RowFacts
+pub mod RowForms

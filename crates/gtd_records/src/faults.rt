@@ -7,7 +7,7 @@ ghost use Rattle.csv.specs.Records.{fields_of};
 ghost use Rattle.gtd_records.specs.Faults.{AreFaults, AreFileFaults, AreTableFaults};
 ghost use Rattle.gtd_devices.specs.WholeInput.{failures_after_whole};
 ghost use Rattle.gtd_records.specs.Closing.{Restriction};
-ghost use Rattle.gtd_records.specs.File.{IsRow};
+ghost use Rattle.gtd_records.specs.ComputedRow.{IsRow};
 ghost use Rattle.gtd_records.specs.Table.{HasLeft};
 ghost use Rattle.gtd_records.specs.Columns.{Fields};
 

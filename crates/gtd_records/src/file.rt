@@ -4,7 +4,8 @@ ghost use Rattle.std.specs.Prelude.{◌≡◌, ◌≢◌, ◌≤◌, List, Ok, E
 ghost use Rattle.gtd_core.specs.Limits.{most_rows};
 ghost use Rattle.csv.specs.Reading.{default_config, strip_bom, records};
 ghost use Rattle.csv.specs.Records.{fields_of};
-ghost use Rattle.gtd_records.specs.File.{AreRows, IsTable, header};
+ghost use Rattle.gtd_records.specs.ComputedFile.{AreRows, IsTable};
+ghost use Rattle.gtd_records.specs.File.{header};
 ghost use Rattle.gtd_records.specs.Table.{HasLeft};
 ghost use Rattle.gtd_records.specs.Columns.{Fields};
 ghost use Rattle.gtd_records.specs.declared.vehicles.Version.{Version};

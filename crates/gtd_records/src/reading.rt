@@ -3,7 +3,8 @@
 ghost use Rattle.std.specs.Prelude.{◌≡◌, ◌<◌, ◌≤◌, ◌≢◌, length, Ok, Err, IfOk, MatchResult, IfSome, IsErrOf, IsTrue};
 ghost use Rattle.gtd_core.specs.Limits.{most_rows};
 ghost use Rattle.csv.specs.Reading.{default_config, strip_bom, records};
-ghost use Rattle.gtd_records.specs.File.{IsFile, IsTable, IsOfFile};
+ghost use Rattle.gtd_records.specs.ComputedFile.{IsTable};
+ghost use Rattle.gtd_records.specs.File.{IsFile, IsOfFile};
 ghost use Rattle.gtd_records.specs.Reading.{failures_after_records};
 
 use crate::fault::RecordFault;

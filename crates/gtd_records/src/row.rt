@@ -2,7 +2,7 @@
 
 ghost use Rattle.std.specs.Prelude.{◌≡◌, ◌≢◌, [], ◌∷◌, length, IfSome, IfNone, Err};
 ghost use Rattle.csv.specs.Records.{fields_of};
-ghost use Rattle.gtd_records.specs.File.{IsRow, IsDomainRead};
+ghost use Rattle.gtd_records.specs.ComputedRow.{IsRow, IsDomainRead};
 
 use crate::column::{read_closed, read_number};
 use crate::fault::RecordFault;

@@ -3,7 +3,8 @@
 ghost use Rattle.std.specs.Prelude.{◌≡◌, ◌↔◌, IsTrue, IfOk, option_map};
 ghost use Rattle.std.specs.List.{Contains};
 ghost use Rattle.std.specs.List.Sorted.{IsStrictlyIncreasing};
-ghost use Rattle.gtd_records.specs.Columns.{code_of, IsSortedSet, IsCodes, AreTypesRead, Serves, codes_of, is_zero, items_of};
+ghost use Rattle.gtd_records.specs.Columns.{code_of, IsSortedSet, IsCodes, AreTypesRead, codes_of, is_zero, items_of};
+ghost use Rattle.gtd_records.specs.Closing.{Serves};
 ghost use Rattle.gtd_records.specs.Columns.{types_listed, single, type_of, vehicles_of};
 
 use crate::column::read_code;

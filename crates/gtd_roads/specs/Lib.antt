@@ -20,6 +20,8 @@ pub use Rattle.gtd_devices.specs.declared.whole.InputFault
 pub use Rattle.gtd_records.specs.Closing
 pub use Rattle.gtd_records.specs.ClosingRows
 pub use Rattle.gtd_records.specs.Columns
+pub use Rattle.gtd_records.specs.ComputedFile
+pub use Rattle.gtd_records.specs.ComputedRow
 pub use Rattle.gtd_records.specs.Faults
 pub use Rattle.gtd_records.specs.File
 pub use Rattle.gtd_records.specs.Reading

@@ -15,7 +15,10 @@ use Rattle.gtd_records.specs.facts.IndexFacts.{any_default}
 use Rattle.gtd_records.specs.facts.NumberFacts.{number_below}
 use Rattle.gtd_records.specs.Closing.{AreElements, Restriction}
 use Rattle.gtd_records.specs.Columns.{closed_of, number_of, Fields, IsOrdered, vehicles_of}
-use Rattle.gtd_records.specs.File.{AreRecords, IsFile, IsTable, IsDomainColumn, IsRow, with_domain}
+use Rattle.gtd_records.specs.facts.FileForms.{computed_table}
+use Rattle.gtd_records.specs.ComputedFile.{AreRecords, IsTable}
+use Rattle.gtd_records.specs.ComputedRow.{IsDomainColumn, IsRow, with_domain}
+use Rattle.gtd_records.specs.File.{IsFile}
 use Rattle.gtd_records.specs.declared.direction.Closed.{Closed}
 use Rattle.gtd_records.specs.declared.direction.Direction.{Direction}
 use Rattle.gtd_records.specs.declared.direction.Direction.TheVariants.{Positive, Negative}
@@ -108,7 +111,7 @@ table_small text found (inr t) = absurd (cc (t.1))
 
 file_small : (bytes : List ℕ) (found : List Restriction) → IsFile bytes (Ok found)
     → All (λ (r : Restriction). IsSmall r.element) found
-file_small bytes found (inl p) = table_small _ found p.1
+file_small bytes found (inl p) = table_small _ found (computed_table _ _ p.1)
 file_small bytes found (inr p) = absurd (cc (p.1))
 
 elements_small : (found : List Restriction) (elements : List ℕ) → All (λ (r : Restriction). IsSmall r.element) found

@@ -40,4 +40,4 @@ module _ (found : List Restriction) (vehicle : ℕ) (horizon : Horizon) where
   -- The header, and the lines of each element that the restrictions name, in ascending order and positive before
   -- negative.
   abbrev pub IsSchedule : List (List ℕ) → Type 0
-  IsSchedule = IsByElement found header_line AreLines
+  IsSchedule = IsByElement found (codes "element,direction,vehicle,from,until\n") AreLines

@@ -4,7 +4,8 @@ use Rattle.std.proofs.Common.{Option, Vec, Global}
 use Rattle.std.specs.Prelude.{Result, Ok, Err, MatchResult, IfOk}
 use Rattle.csv.specs.declared.reader.Reader.{Reader}
 use Rattle.gtd_core.specs.Limits.{most_rows}
-use Rattle.gtd_records.specs.File.{AreRecords, FirstFault, AreSoundRows, IsTable, IsRow}
+use Rattle.gtd_records.specs.ComputedFile.{AreRecords, FirstFault, AreSoundRows, IsTable}
+use Rattle.gtd_records.specs.ComputedRow.{IsRow}
 use Rattle.gtd_records.specs.Table.{HasLeft, TakesFirst}
 use Rattle.gtd_records.specs.Columns.{Fields}
 use Rattle.gtd_records.specs.Closing.{Restriction}

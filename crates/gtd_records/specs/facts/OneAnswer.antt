@@ -8,11 +8,15 @@ use Rattle.gtd_core.specs.declared.fault.TextFault.{TextFault}
 use Rattle.gtd_text.specs.facts.OneMeaning.{one_meaning}
 use Rattle.gtd_text.specs.facts.ReadingLaws.{one_fault}
 use Rattle.gtd_text.specs.Reading.{StandsFor, IsFault}
+use Rattle.gtd_records.specs.facts.FileForms.{computed_file}
 use Rattle.gtd_records.specs.facts.Rising.{one_list}
+use Rattle.gtd_records.specs.File as file
 use Rattle.gtd_records.specs.Columns.{number_of, closed_of, Fields, IsSortedSet, IsOrdered, vehicles_of}
 use Rattle.gtd_core.specs.Limits.{most_rows}
-use Rattle.gtd_records.specs.File.{AreRecords, AreRows, FirstFault, IsFile, AreSoundRows, IsTable, header, IsDomainColumn}
-use Rattle.gtd_records.specs.File.{IsFullRow, IsRow, with_domain}
+use Rattle.gtd_records.specs.ComputedFile.{AreRecords, AreRows, FirstFault, IsFile, AreSoundRows, IsTable}
+use Rattle.gtd_records.specs.ComputedRow.{IsDomainColumn}
+use Rattle.gtd_records.specs.File.{header}
+use Rattle.gtd_records.specs.ComputedRow.{IsFullRow, IsRow, with_domain}
 use Rattle.gtd_records.specs.Closing.{Restriction}
 use Rattle.gtd_records.specs.declared.fault.RecordFault.{RecordFault}
 use Rattle.gtd_records.specs.declared.fault.RecordFault.TheVariants as fault
@@ -210,5 +214,7 @@ module _ (one_tree : (text : List ℕ) (e f : Tree) → StandsFor text e → Sta
   one_of_file bytes a b (inr p) (inr q) = p.1 ∙ sym q.1
 
 -- the bytes of a file have one answer
-pub one_file : (bytes : List ℕ) (a b : Result (List Restriction) RecordFault) → IsFile bytes a → IsFile bytes b → a ≡ b
-one_file = one_of_file one_meaning one_fault
+pub one_file : (bytes : List ℕ) (a b : Result (List Restriction) RecordFault) → file.IsFile bytes a → file.IsFile bytes b
+    → a ≡ b
+one_file bytes a b p q =
+    one_of_file one_meaning one_fault bytes a b (computed_file bytes a p) (computed_file bytes b q)

@@ -9,8 +9,7 @@ use Rattle.std.proofs.lemmas.Map.Views.{Contains-from_any, list_any-from_Contain
 use Rattle.gtd_core.specs.Trees.{Tree}
 use Rattle.gtd_eval.specs.facts.TreeDecisions.{in_tree}
 use Rattle.gtd_core.specs.facts.Deciding.{Decided, both, is_true, not}
-use Rattle.gtd_records.specs.Closing.{Closes, ClosesDirection, HoldsAt, IsOpen, Restriction}
-use Rattle.gtd_records.specs.Columns.{Serves}
+use Rattle.gtd_records.specs.Closing.{Closes, ClosesDirection, HoldsAt, IsOpen, Restriction, Serves}
 use Rattle.gtd_records.specs.declared.direction.Closed.{Closed}
 use Rattle.gtd_records.specs.declared.direction.Closed.TheVariants.{One, Both}
 use Rattle.gtd_records.specs.declared.direction.Direction.{Direction}

@@ -9,7 +9,7 @@ use Rattle.gtd_core.specs.declared.fault.TextFault.{TextFault}
 use Rattle.gtd_text.specs.Faults.{no_memory}
 use Rattle.gtd_text.specs.Reading.{IsFault}
 use Rattle.gtd_records.specs.Columns.{number_of, closed_of, Fields, IsOrdered, AreTypesRead, vehicles_of}
-use Rattle.gtd_records.specs.File.{IsDomainColumn, IsReading, IsRow, with_domain}
+use Rattle.gtd_records.specs.ComputedRow.{IsDomainColumn, IsReading, IsRow, with_domain}
 use Rattle.gtd_records.specs.declared.direction.Closed.{Closed}
 use Rattle.gtd_records.specs.declared.vehicles.Vehicles.{Vehicles}
 use Rattle.gtd_records.specs.declared.fault.RecordFault.TheVariants as fault
