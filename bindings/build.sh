@@ -1,5 +1,6 @@
 #!/usr/bin/env bash
-# Makes the library of bindings/c/gtd.h in bindings/out from the proved crate gtd_c, which it proves and builds if that is not done:
+# Makes the library of bindings/c/gtd.h in bindings/out from the proved crate gtd_c, which it first proves and builds where that
+# is not done:
 #   libgtd.a       one object that needs nothing but the C library
 #   libgtd.so.0    the shared library, and libgtd.so, a link to it
 #   gtd.pc         for pkg-config, to use them where they are
@@ -21,7 +22,7 @@ sed -n 's/^\(uint32_t\|void\) \(gtd_[a-z_]*\)(.*/\2/p' "$top/bindings/c/gtd.h" |
 
 # exported NM-WORDS..: the names that a library exports must be those calls.
 exported() {
-    nm --defined-only --format=posix "$@" | awk '$2 ~ /^[TDBRVW]$/ && !/^GTD_0 / { sub(/@.*/, "", $1); print $1 }' | sort > "$work/exported"
+    nm --defined-only --format=posix "$@" | sed -n 's/^\([^ @]*\)[^ ]* [BDRTVW] .*/\1/p' | sort > "$work/exported"
     diff "$work/calls" "$work/exported" >&2 || { echo "build.sh: ${*: -1} does not export the calls of gtd.h" >&2; exit 1; }
 }
 
