@@ -3,8 +3,9 @@
    Link with -lgtd (pkg-config gtd). docs/LIBRARY.md begins with a first program.
 
    Handles. A handle begins as GTD_NONE. A call that opens one puts there what it made, and ends what was there before;
-   gtd_close ends it. A handle is used by one call at a time, and never copied while it is in use. A call that is given an
-   empty handle, or one of another kind, answers GTD_KIND, and nothing happens.
+   gtd_close ends it. A handle is used by one call at a time, and never copied while it is in use; the handles and buffers of
+   one call do not overlap. A call that is given an empty handle, or one of another kind, answers GTD_KIND, and nothing
+   happens. A program that keeps to this shares no state between threads but the records behind gtd_share.
 
    Numbers. Seconds are of the local civil clock: 86,400 times the day number (1970-01-01 is day 0) plus the second of the
    day. Days and seconds that are asked about lie from 1901-01-01 up to 2700-01-01, and horizons have at least one day and

@@ -1,10 +1,10 @@
 // Earliest arrival in a road network whose edges are elements of a record file, where a vehicle may wait until a street opens.
 // Usage: planner NETWORK RESTRICTIONS FROM TO MOMENT VEHICLE
 //
-// NETWORK has the header from,to,element,direction,seconds: an edge passes its element in the direction, in so many seconds. It may
-// be entered at a second if its element is open for all of those seconds; otherwise the vehicle waits in front of it. Who enters
-// later never arrives earlier (waiting keeps the order), so Dijkstra's search over arrivals finds the earliest one. It looks at the
-// seven days from that of MOMENT on: with no way in them it prints "no way", and ends with status 1.
+// NETWORK has the header from,to,element,direction,seconds: an edge passes its element in the direction, in so many seconds. It
+// may be entered at a second if its element is open for all of those seconds; otherwise the vehicle waits in front of it. Who
+// comes later never arrives earlier, since waiting keeps the order, so Dijkstra's search over arrivals finds the earliest one. It
+// looks at the seven days from that of MOMENT on: with no way in them it prints "no way", and ends with status 1.
 #include "gtd.hpp"
 
 #include <algorithm>

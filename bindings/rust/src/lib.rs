@@ -1,7 +1,7 @@
 //! Timed road restrictions and GDF time domains, by the proved library `libgtd`.
 //!
-//! A [`Domain`] contains some seconds and not others; the [`Records`] of a file say which road elements are closed when. Seconds are
-//! of the local civil clock: 86,400 times the day number (1970-01-01 is day 0) plus the second of the day.
+//! A [`Domain`] contains some seconds and not others; the [`Records`] of a file say which road elements are closed when. Seconds
+//! are of the local civil clock: 86,400 times the day number (1970-01-01 is day 0) plus the second of the day.
 //!
 //! ```
 //! use gtd::{day_of, second_of, stamp, Direction, Records};
