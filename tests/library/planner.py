@@ -1,6 +1,6 @@
 #!/usr/bin/env python3
-"""The planner of bindings/cpp/planner.cpp against a search by brute force: with the plain model of tests/model.py it knows of each
-second whether an edge is open, and tries to enter every edge at every second from the departure on.
+"""The planner of bindings/cpp/planner.cpp against a search by brute force, which knows from the plain model of tests/model.py at
+which seconds an edge is open, and tries to enter every edge at every second from the departure on.
 
 Usage: tests/library/planner.py PLANNER [MOMENTS [SEED]]    (the two mornings of the example, and as many random moments)
 """
@@ -27,9 +27,10 @@ WANTED = {
     "2024-03-19T06:50:00": """\
 2024-03-19T06:50:00 depot: drive on 201 to bridge, 300 s
 2024-03-19T06:55:00 bridge: wait 300 s
-2024-03-19T07:00:00 bridge: drive on 202 to market, 600 s
-2024-03-19T07:10:00 market: drive on 205 to works, 240 s
-2024-03-19T07:14:00 works
+2024-03-19T07:00:00 bridge: drive on 203 to school, 240 s
+2024-03-19T07:04:00 school: drive on 207 to market, 60 s
+2024-03-19T07:05:00 market: drive on 205 to works, 240 s
+2024-03-19T07:09:00 works
 """,
     "2024-03-19T09:10:00": """\
 2024-03-19T09:10:00 depot: drive on 201 to bridge, 300 s

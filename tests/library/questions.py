@@ -9,7 +9,8 @@ environment name other programs.
 A domain or a file is given as x and the hexadecimal digits of its bytes. An answer is the name of what the call answers, and what
 it found: `no 6 2` is the fault FieldRange at 2.
 
-Usage: tests/library/questions.py QUESTIONS ANSWERS [COUNT [SEED]]    (COUNT domains and as many files; 1000 by default)
+Usage: tests/library/questions.py [--random] QUESTIONS ANSWERS COUNT [SEED]
+       COUNT domains and as many files; with --random these alone, and no examples
 """
 import csv
 import datetime
@@ -345,17 +346,18 @@ def names_case():
 
 
 def main():
-    if len(sys.argv) not in (3, 4, 5):
-        sys.exit("usage: tests/library/questions.py QUESTIONS ANSWERS [COUNT [SEED]]")
-    count = int(sys.argv[3]) if len(sys.argv) > 3 else 1000
-    seed = sys.argv[4] if len(sys.argv) > 4 else "1"
+    is_random = sys.argv[1:2] == ["--random"]
+    words = sys.argv[1 + is_random:]
+    if len(words) not in (3, 4):
+        sys.exit("usage: tests/library/questions.py [--random] QUESTIONS ANSWERS COUNT [SEED]")
+    count, seed = int(words[2]), words[3] if len(words) > 3 else "1"
     examples = [path for path in sorted(glob.glob(os.path.join(TOP, "examples", "*.csv")))
-                if not re.search(r"\.(schedule|hours)\.csv$", path)]
+                if not is_random and not re.search(r"\.(schedule|hours)\.csv$", path)]
     with ThreadPoolExecutor(os.cpu_count()) as pool:
         cases = [names_case(), *pool.map(example_case, examples)]
         cases += pool.map(domain_case, (f"domain {seed} {number}" for number in range(count)))
         cases += pool.map(file_case, (f"file {seed} {number}" for number in range(count)))
-    with open(sys.argv[1], "w", encoding="ascii") as questions, open(sys.argv[2], "w", encoding="ascii") as answers:
+    with open(words[0], "w", encoding="ascii") as questions, open(words[1], "w", encoding="ascii") as answers:
         for case in cases:
             questions.writelines(f"{line}\n" for line in case.questions)
             answers.writelines(f"{line}\n" for line in case.answers)
