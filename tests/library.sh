@@ -140,21 +140,63 @@ for file in "$top/examples/town.csv" "$room/made.csv"; do
     succeeds "threads over ${file##*/}, sanitized" "$room/threads.asan" "$file" 5000
 done
 
-# The examples say the same in C, C++ and Rust; and the planner.
-cat > "$room/wanted" << 'END'
-closed at 2024-03-15T06:50:00, which changes at 2024-03-15T07:00:00
-END
-counted 'planner' "$tests/planner.py" "$room/planner"
-
 # Rust. Its tests are those of its documents, too.
 export GTD_LIB_DIR=$out CARGO_TARGET_DIR=$room/target
-(cd "$top/bindings/rust" && cargo test --offline --all-targets && cargo test --offline --doc) > "$room/said" 2>&1
+crate=(--offline --quiet --manifest-path "$top/bindings/rust/Cargo.toml")
+cargo test "${crate[@]}" --lib --tests --examples > "$room/said" 2>&1 && cargo test "${crate[@]}" --doc >> "$room/said" 2>&1
 status=$?
-good=$(sed -n 's/^test result: .* \([0-9]*\) passed; .*/\1/p' "$room/said" | paste -sd + | bc)
-if [ "$status" = 0 ] && [ "${good:-0}" -gt 20 ]; then pass "$good"; else fail 'cargo test' "$room/said"; fi
+good=$(sed -n 's/^test result: .* \([0-9]*\) passed; .*/\1/p' "$room/said" | awk '{ sum += $1 } END { print sum + 0 }')
+if [ "$status" = 0 ] && [ "$good" -gt 30 ]; then pass "$good"; else fail "cargo test, $good passed" "$room/said"; fi
 if command -v cargo-clippy > /dev/null; then
-    succeeds 'clippy' cargo clippy --offline --all-targets --manifest-path "$top/bindings/rust/Cargo.toml" -- -D warnings
+    succeeds 'clippy' cargo clippy "${crate[@]}" --all-targets -- -D warnings
 fi
+
+# prints NAME FILE COMMAND..: the command prints exactly what the file holds.
+prints() {
+    local name=$1 file=$2
+    shift 2
+    "$@" > "$room/said" 2>&1
+    if cmp -s "$file" "$room/said"; then pass; else fail "$name" "$room/said"; fi
+}
+
+# The examples: the street in front of a school, closed from Monday to Friday between 7:30 and 16:00; the first program of the
+# document prints what it shows; and the planner.
+cat > "$room/week" << 'END'
+open at 2024-03-15T06:50:00, which changes at 2024-03-15T07:30:00
+open from 2024-03-15T00:00:00 until 2024-03-15T07:30:00
+open from 2024-03-15T16:00:00 until 2024-03-18T07:30:00
+open from 2024-03-18T16:00:00 until 2024-03-19T07:30:00
+open from 2024-03-19T16:00:00 until 2024-03-20T07:30:00
+open from 2024-03-20T16:00:00 until 2024-03-21T07:30:00
+open from 2024-03-21T16:00:00 until 2024-03-22T00:00:00
+END
+cat > "$room/day" << 'END'
+103 Positive:
+  open from 2024-03-15T00:00:00 until 2024-03-15T07:30:00
+  open from 2024-03-15T16:00:00 until 2024-03-16T00:00:00
+  rows that close it at noon: [3]
+103 Negative:
+  open from 2024-03-15T00:00:00 until 2024-03-16T00:00:00
+  rows that close it at noon: []
+END
+cat > "$room/text" << 'END'
+[(h25){h1}]
+  ^ FieldRange
+END
+prints 'example.c' "$room/week" "$room/example" "$top/examples/town.csv" 103 11
+prints 'example.cpp' "$room/week" "$room/example_cpp" "$top/examples/town.csv" 103 11
+prints 'examples/closed.rs' "$room/day" cargo run "${crate[@]}" --example closed -- "$top/examples/town.csv" 103 11 2024 3 15
+prints 'examples/domain.rs' "$room/text" cargo run "${crate[@]}" --example domain -- '[(h25){h1}]'
+# block N: what the document shows in its N-th fenced block.
+block() {
+    awk -v wanted="$1" '/^```/ { if (is_in) is_in = 0; else { is_in = 1; count++ } next } is_in && count == wanted' \
+        "$top/docs/LIBRARY.md"
+}
+block 1 > "$room/first.cpp"
+block 3 > "$room/shown"
+succeeds 'the first program' cpp -o "$room/first" "$room/first.cpp" "${flags[@]}" -Wl,-rpath,"$out"
+prints 'what the first program prints' "$room/shown" "$room/first"
+counted 'planner' "$tests/planner.py" "$room/planner"
 
 echo "library: $passed passed, $failed failed"
 [ "$failed" = 0 ]
