@@ -44,7 +44,7 @@ static void print_text(size_t length) {
 }
 
 /* Puts a question, and prints its answer and what it has found. */
-typedef uint32_t question(void);
+typedef void question(void);
 
 static bool is_refused(const gtd_handle *handle) {
     static int refusals = 0;
@@ -68,50 +68,45 @@ static uint32_t say(uint32_t answer) {
     while (answer == GTD_MEMORY && is_refused(opened)); \
     say(answer)
 
-static uint32_t print_number(uint32_t answer, int64_t found) {
+static void print_number(uint32_t answer, int64_t found) {
     if (answer == GTD_YES) printf(" %" PRId64, found);
-    return answer;
 }
 
 /* The text of `made`, in two steps: its length, then its bytes. */
-static uint32_t print_made(uint32_t answer) {
+static void print_made(uint32_t answer) {
     size_t length = 0;
-    if (answer != GTD_YES) return answer;
+    if (answer != GTD_YES) return;
     uint32_t none = gtd_text_bytes(&made, bytes, 0, &length);
     if (length > BYTES) fail("a text is too long");
     if (none != (length ? GTD_SHORT : GTD_YES)) fail("the length of a text is not told");
     if (length && gtd_text_bytes(&made, bytes, length - 1, &length) != GTD_SHORT) fail("a text fits into one byte less");
     if (gtd_text_bytes(&made, bytes, length, &length) != GTD_YES) fail("a text is not given");
     print_text(length);
-    return answer;
 }
 
-static uint32_t print_spans(uint32_t answer) {
+static void print_spans(uint32_t answer) {
     int64_t from, until;
-    if (answer != GTD_YES) return answer;
+    if (answer != GTD_YES) return;
     while (gtd_spans_next(&made, &from, &until) == GTD_YES) printf(" %" PRId64 " %" PRId64, from, until);
     if (gtd_spans_next(&made, &from, &until) != GTD_NO) fail("the end of the spans is not their end");
-    return answer;
 }
 
-static uint32_t print_answers(uint32_t answer, const uint8_t *answers, size_t done) {
-    if (answer != GTD_YES && answer != GTD_RANGE) return answer;
+static void print_answers(uint32_t answer, const uint8_t *answers, size_t done) {
+    if (answer != GTD_YES && answer != GTD_RANGE) return;
     putchar(' ');
     for (size_t at = 0; at < done; at++) printf("%u", answers[at]);
-    return answer;
 }
 
-static uint32_t open_domain(void) {
+static void open_domain(void) {
     gtd_fault fault = {0, 0};
     const size_t length = hex();
     PUT(&domain, gtd_domain_open(&domain, bytes, length, &fault));
     if (answer == GTD_NO) printf(" %" PRIu32 " %zu", fault.kind, fault.place);
-    return answer;
 }
 
-static uint32_t holds(void) { return say(gtd_domain_holds(&domain, number())); }
+static void holds(void) { say(gtd_domain_holds(&domain, number())); }
 
-static uint32_t holds_many(void) {
+static void holds_many(void) {
     static int64_t seconds[MANY];
     static uint8_t answers[MANY];
     const size_t count = (size_t)number();
@@ -120,75 +115,74 @@ static uint32_t holds_many(void) {
     if (count && gtd_domain_holds_many(&domain, seconds, count, answers, count - 1, &done) == GTD_YES)
         fail("the answers fit into one less");
     PUT(NULL, gtd_domain_holds_many(&domain, seconds, count, answers, count, &done));
-    return print_answers(answer, answers, done);
+    print_answers(answer, answers, done);
 }
 
-static uint32_t next(void) {
+static void next(void) {
     const int64_t second = number(), day = number();
     int64_t change = 0;
     PUT(NULL, gtd_domain_next(&domain, second, day, &change));
-    return print_number(answer, change);
+    print_number(answer, change);
 }
 
-static uint32_t ever(void) {
+static void ever(void) {
     const int64_t second = number();
     int64_t change = 0;
     PUT(NULL, gtd_domain_ever(&domain, second, &change));
-    return print_number(answer, change);
+    print_number(answer, change);
 }
 
-static uint32_t spans(void) {
+static void spans(void) {
     const int64_t from = number(), until = number();
     PUT(&made, gtd_domain_spans(&domain, from, until, &made));
-    return print_spans(answer);
+    print_spans(answer);
 }
 
-static uint32_t canon(void) {
+static void canon(void) {
     PUT(&made, gtd_domain_canon(&domain, &made));
-    return print_made(answer);
+    print_made(answer);
 }
 
-static uint32_t words(void) {
+static void words(void) {
     PUT(&made, gtd_domain_words(&domain, &made));
-    return print_made(answer);
+    print_made(answer);
 }
 
-static uint32_t picture(void) {
+static void picture(void) {
     const uint32_t year = (uint32_t)number();
     PUT(&made, gtd_domain_picture(&domain, year, &made));
-    return print_made(answer);
+    print_made(answer);
 }
 
-static uint32_t open_records(void) {
+static void open_records(void) {
     gtd_record_fault fault = {0, 0, {0, 0}};
     const size_t length = hex();
     PUT(&records, gtd_records_open(&records, bytes, length, &fault));
     if (answer == GTD_NO)
         printf(" %" PRIu32 " %" PRIu32 " %" PRIu32 " %zu", fault.kind, fault.row, fault.text.kind, fault.text.place);
-    return answer;
 }
 
-static uint32_t count(void) {
+static void count(void) {
     size_t elements = 0;
     PUT(NULL, gtd_records_count(&records, &elements));
-    return print_number(answer, (int64_t)elements);
+    print_number(answer, (int64_t)elements);
 }
 
-static uint32_t element_at(void) {
+static void element_at(void) {
     const size_t place = (size_t)number();
     uint64_t found = 0;
     PUT(NULL, gtd_records_element(&records, place, &found));
-    return print_number(answer, (int64_t)found);
+    print_number(answer, (int64_t)found);
 }
 
-static uint32_t closed(void) {
+static void closed(void) {
     const uint64_t asked = element();
     const bool negative = number() != 0;
     const uint8_t vehicle = (uint8_t)number();
-    return say(gtd_records_closed_at(&records, asked, negative, vehicle, number()));
+    say(gtd_records_closed_at(&records, asked, negative, vehicle, number()));
 }
 
-static uint32_t closed_many(void) {
+static void closed_many(void) {
     static gtd_question questions[MANY];
     static uint8_t answers[MANY];
     const size_t count = (size_t)number();
@@ -200,20 +194,20 @@ static uint32_t closed_many(void) {
         questions[at].second = number();
     }
     PUT(NULL, gtd_records_closed_many(&records, questions, count, answers, count, &done));
-    return print_answers(answer, answers, done);
+    print_answers(answer, answers, done);
 }
 
-static uint32_t records_next(void) {
+static void records_next(void) {
     const uint64_t asked = element();
     const bool negative = number() != 0;
     const uint8_t vehicle = (uint8_t)number();
     const int64_t second = number(), day = number();
     int64_t change = 0;
     PUT(NULL, gtd_records_next(&records, asked, negative, vehicle, second, day, &change));
-    return print_number(answer, change);
+    print_number(answer, change);
 }
 
-static uint32_t closers(void) {
+static void closers(void) {
     static uint32_t rows[MANY];
     const uint64_t asked = element();
     const bool negative = number() != 0;
@@ -221,82 +215,78 @@ static uint32_t closers(void) {
     const int64_t second = number();
     size_t found = 0;
     PUT(NULL, gtd_records_closers(&records, asked, negative, vehicle, second, rows, MANY, &found));
-    if (answer != GTD_YES) return answer;
+    if (answer != GTD_YES) return;
     for (size_t at = 0; at < found; at++) printf(" %" PRIu32, rows[at]);
     size_t again = 0;
     if (found && gtd_records_closers(&records, asked, negative, vehicle, second, rows, found - 1, &again) == GTD_YES)
         fail("the rows fit into one less");
-    return answer;
 }
 
-static uint32_t records_spans(void) {
+static void records_spans(void) {
     const uint64_t asked = element();
     const bool negative = number() != 0;
     const uint8_t vehicle = (uint8_t)number();
     const int64_t from = number(), until = number();
     PUT(&made, gtd_records_spans(&records, asked, negative, vehicle, from, until, &made));
-    return print_spans(answer);
+    print_spans(answer);
 }
 
-static uint32_t schedule(void) {
+static void schedule(void) {
     const int64_t from = number(), until = number();
     const uint8_t vehicle = (uint8_t)number();
     PUT(&made, gtd_records_schedule(&records, from, until, vehicle, &made));
-    return print_made(answer);
+    print_made(answer);
 }
 
 /* From here on the second handle is asked, and the first is closed. */
-static uint32_t share(void) {
+static void share(void) {
     gtd_handle other = GTD_NONE;
     PUT(&other, gtd_share(&records, &other));
-    if (answer != GTD_YES) return answer;
+    if (answer != GTD_YES) return;
     gtd_close(&records);
     records = other;
-    return answer;
 }
 
-static uint32_t second(void) {
+static void second(void) {
     int64_t given[6], found = 0;
     for (size_t at = 0; at < 6; at++) given[at] = number();
     const uint32_t month = (uint32_t)given[1], day = (uint32_t)given[2];
     const uint32_t answer =
         gtd_second(given[0], month, day, (uint32_t)given[3], (uint32_t)given[4], (uint32_t)given[5], &found);
-    return print_number(say(answer), found);
+    print_number(say(answer), found);
 }
 
-static uint32_t stamp(void) {
+static void stamp(void) {
     const int64_t asked = number();
     const uint32_t answer = say(gtd_stamp(asked, bytes, 19));
     if (answer == GTD_YES) print_text(19);
     if (answer == GTD_YES && gtd_stamp(asked, bytes, 18) != GTD_SHORT) fail("a stamp fits into 18 bytes");
-    return answer;
 }
 
-static uint32_t print_name(uint32_t answer, size_t length) {
+static void print_name(uint32_t answer, size_t length) {
     if (answer == GTD_YES) print_text(length);
-    return answer;
 }
 
-static uint32_t fault_name(void) {
+static void fault_name(void) {
     size_t length = 0;
-    return print_name(say(gtd_fault_name((uint32_t)number(), bytes, 32, &length)), length);
+    print_name(say(gtd_fault_name((uint32_t)number(), bytes, 32, &length)), length);
 }
 
-static uint32_t record_fault_name(void) {
+static void record_fault_name(void) {
     size_t length = 0;
-    return print_name(say(gtd_record_fault_name((uint32_t)number(), bytes, 32, &length)), length);
+    print_name(say(gtd_record_fault_name((uint32_t)number(), bytes, 32, &length)), length);
 }
 
-static uint32_t version(void) {
+static void version(void) {
     size_t length = 0;
-    return print_name(say(gtd_version(bytes, 32, &length)), length);
+    print_name(say(gtd_version(bytes, 32, &length)), length);
 }
 
-static uint32_t close_all(void) {
+static void close_all(void) {
     gtd_close(&domain);
     gtd_close(&records);
     gtd_close(&made);
-    return say(GTD_YES);
+    say(GTD_YES);
 }
 
 static const struct { const char *name; question *put; } known[] = {
@@ -321,7 +311,8 @@ int main(void) {
         known[at].put();
         putchar('\n');
     }
-    close_all();
-    putchar('\n');
+    gtd_close(&domain);
+    gtd_close(&records);
+    gtd_close(&made);
     return fflush(stdout) ? 99 : 0;
 }
