@@ -48,7 +48,7 @@ typedef void question(void);
 
 static bool is_refused(const gtd_handle *handle) {
     static int refusals = 0;
-    if (handle && (handle->full || handle->at)) fail("the handle of a refused call is not empty");
+    if (handle && handle->full) fail("the handle of a refused call is not empty");
     fputs("refused\n", stderr);
     if (++refusals > REFUSALS) exit(3);
     return true;
@@ -269,17 +269,20 @@ static void print_name(uint32_t answer, size_t length) {
 
 static void fault_name(void) {
     size_t length = 0;
-    print_name(say(gtd_fault_name((uint32_t)number(), bytes, 32, &length)), length);
+    const uint32_t answer = say(gtd_fault_name((uint32_t)number(), bytes, 32, &length));
+    print_name(answer, length);
 }
 
 static void record_fault_name(void) {
     size_t length = 0;
-    print_name(say(gtd_record_fault_name((uint32_t)number(), bytes, 32, &length)), length);
+    const uint32_t answer = say(gtd_record_fault_name((uint32_t)number(), bytes, 32, &length));
+    print_name(answer, length);
 }
 
 static void version(void) {
     size_t length = 0;
-    print_name(say(gtd_version(bytes, 32, &length)), length);
+    const uint32_t answer = say(gtd_version(bytes, 32, &length));
+    print_name(answer, length);
 }
 
 static void close_all(void) {
