@@ -154,7 +154,7 @@ def ask_texts(asked, maker, text):
     canonical = canonical.rstrip(b"\n")
     asked.ask("canon", f"yes {hexed(canonical)}")
     _, words = gtd("words", text, program=GTDESK)
-    asked.ask("words", f"yes {hexed(words.rstrip(b'%c' % 10))}")
+    asked.ask("words", f"yes {hexed(words)}")
     if maker.random.random() < 0.03:
         year = maker.random.choice([1901, 2199, 2024, maker.random.randint(1990, 2030)])
         _, picture = gtd("picture-domain", canonical.decode(), year, program=GTDESK)

@@ -149,7 +149,7 @@ impl Domain {
     /// `Memory`.
     ///
     /// ```
-    /// assert!(gtd::Domain::new("(h10){h4}")?.words()?.ends_with("until 14:00"));
+    /// assert!(gtd::Domain::new("(h10){h4}")?.words()?.ends_with("until 14:00\n"));
     /// # Ok::<(), Box<dyn std::error::Error>>(())
     /// ```
     pub fn words(&self) -> Result<String, AskError> {
