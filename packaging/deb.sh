@@ -1,8 +1,9 @@
 #!/usr/bin/env bash
-# Makes gtd_VERSION_amd64.deb from the proved programs, in the folder given (by default the current one). Run it after `rt ci`, or
-# `rt run` in crates/gtd and in crates/gtdesk, which proves and builds them. Version and date are those of the newest release in
-# CHANGELOG.md, and the same programs and files give the same bytes. Packagers set the maintainer in the environment variable
-# GTD_MAINTAINER.
+# Makes three packages in the folder given (by default the current one): gtd, of the proved programs; libgtd0, the library; and
+# libgtd-dev, what programs that use it are built with. Run it after `rt ci`, or `rt run` in crates/gtd and in crates/gtdesk,
+# which proves and builds the programs; bindings/build.sh makes the library if it is missing. Version and date are those of the
+# newest release in CHANGELOG.md, and the same programs and files give the same bytes. Packagers set the maintainer in the
+# environment variable GTD_MAINTAINER.
 # Usage: packaging/deb.sh [FOLDER]
 set -eu
 into=$(cd "${1:-.}" && pwd)
@@ -11,12 +12,19 @@ programs=("$top/crates/gtd/out/gtd" "$top/crates/gtdesk/out/gtdesk")
 for program in "${programs[@]}"; do
     [ -x "$program" ] || { echo "no program at $program: run rt ci first" >&2; exit 1; }
 done
+out=$top/bindings/out
+[ -e "$out/libgtd.so.0" ] || "$top/bindings/build.sh"
 read -r version released < <(sed -n 's/^## \[\([0-9.]*\)\] - \([0-9-]*\)$/\1 \2/p' "$top/CHANGELOG.md")
 umask 022
-root=$(mktemp -d)
-trap 'rm -rf "$root"' EXIT
-chmod 755 "$root"
-doc=$root/usr/share/doc/gtd
+work=$(mktemp -d)
+trap 'rm -rf "$work"' EXIT
+libraries=usr/lib/x86_64-linux-gnu
+
+# begin PACKAGE: what follows is put into this package.
+begin() {
+    package=$1 root=$work/$1 doc=$work/$1/usr/share/doc/$1
+    mkdir -m 755 "$root"
+}
 
 # put MODE FOLDER FILE..: the files, in a folder of the package.
 put() {
@@ -47,10 +55,36 @@ put_pages() {
 put_documents() {
     put 644 usr/share/doc/gtd "$top/README.md" "$top/CHANGELOG.md"
     put 644 usr/share/doc/gtd/docs "$top"/docs/*.md
-    put 644 usr/share/doc/gtd/examples "$top"/examples/*
-    gzip -9n < "$doc/CHANGELOG.md" > "$doc/changelog.gz"
+    put 644 usr/share/doc/gtd/examples "$top"/examples/*.*
+    put 644 usr/share/doc/gtd/examples/planner "$top"/examples/planner/*
     rm "$doc/CHANGELOG.md"
+    put_notes
+}
+
+# What each package must have.
+put_notes() {
+    mkdir -p "$doc"
+    gzip -9n < "$top/CHANGELOG.md" > "$doc/changelog.gz"
     put_licence > "$doc/copyright"
+}
+
+put_library() {
+    put 644 "$libraries" "$out/libgtd.so.0"
+    strip --strip-unneeded "$root/$libraries/libgtd.so.0"
+    put_notes
+}
+
+put_headers() {
+    put 644 usr/include "$top/bindings/c/gtd.h" "$top/bindings/cpp/gtd.hpp"
+    put 644 "$libraries" "$out/libgtd.a"
+    strip --strip-debug --enable-deterministic-archives "$root/$libraries/libgtd.a"
+    ln -s libgtd.so.0 "$root/$libraries/libgtd.so"
+    mkdir -p "$root/$libraries/pkgconfig"
+    sed "s|@libdir@|/$libraries|; s|@includedir@|/usr/include|; s|@version@|$version|" "$top/bindings/c/gtd.pc.in" \
+        > "$root/$libraries/pkgconfig/gtd.pc"
+    put 644 usr/share/doc/libgtd-dev "$top/docs/LIBRARY.md"
+    put 644 usr/share/doc/libgtd-dev/examples "$top"/bindings/c/*.c "$top"/bindings/cpp/*.cpp
+    put_notes
 }
 
 put_licence() {
@@ -61,23 +95,43 @@ put_licence() {
     cat "$top/LICENSE-APACHE"
 }
 
-# The C library must be at least as new as the newest of its symbols that the programs name.
-libc_version() {
-    grep -aoh 'GLIBC_[0-9.]*[0-9]' "${programs[@]}" | sort -uV | tail -n 1 | cut -d _ -f 2
+# libc FILE..: the C library must be at least as new as the newest of its symbols that these name.
+libc() {
+    echo "libc6 (>= $(grep -aoh 'GLIBC_[0-9.]*[0-9]' "$@" | sort -uV | tail -n 1 | cut -d _ -f 2))"
 }
 
+# put_control SECTION DEPENDS [FIELD]: its description is standard input.
 put_control() {
     mkdir "$root/DEBIAN"
     (cd "$root" && find usr -type f -print0 | LC_ALL=C sort -z | xargs -0 md5sum > DEBIAN/md5sums)
     cat > "$root/DEBIAN/control" << END
-Package: gtd
+Package: $package
 Version: $version
 Architecture: amd64
 Maintainer: ${GTD_MAINTAINER:-Julepwadi <maintainers@julepwadi.example>}
 Installed-Size: $(find "$root/usr" -type f -printf '%s\n' | awk '{ kib += int(($1 + 1023) / 1024) } END { print kib }')
-Depends: libc6 (>= $(libc_version))
-Section: utils
+Depends: $2
+Section: $1
 Priority: optional
+${3:+$3
+}$(cat)
+END
+}
+
+# Every file in the package has the time of the release, unless the caller names another.
+build() {
+    find "$root" -exec touch -h -d "@$SOURCE_DATE_EPOCH" {} +
+    dpkg-deb --root-owner-group -Zxz --threads-max=1 --build "$root" "$into/${package}_${version}_amd64.deb" > /dev/null
+    echo "$into/${package}_${version}_amd64.deb"
+}
+
+export SOURCE_DATE_EPOCH=${SOURCE_DATE_EPOCH:-$(date -u -d "$released" +%s)}
+
+begin gtd
+put_programs
+put_pages
+put_documents
+put_control utils "$(libc "${programs[@]}")" << END
 Description: check and evaluate timed road restrictions
  gtd reads files of timed road restrictions, whose times are time domains of
  GDF (ISO 14825:2004), and prints when each road element is open. It also
@@ -88,18 +142,30 @@ Description: check and evaluate timed road restrictions
  .
  It needs a processor of the level x86-64-v2.
 END
-}
+build
 
-# Every file in the package has the time of the release, unless the caller names another.
-set_times() {
-    export SOURCE_DATE_EPOCH=${SOURCE_DATE_EPOCH:-$(date -u -d "$released" +%s)}
-    find "$root" -exec touch -h -d "@$SOURCE_DATE_EPOCH" {} +
-}
+begin libgtd0
+put_library
+put_control libs "$(libc "$out/libgtd.so.0")" 'Multi-Arch: same' << END
+Description: evaluate timed road restrictions in process
+ libgtd answers when road elements are open, by files of timed road restrictions
+ whose times are time domains of GDF (ISO 14825:2004), and when single time
+ domains hold.
+ .
+ This is the shared library. It needs a processor of the level x86-64-v2.
+END
+echo "libgtd 0 libgtd0 (>= $version)" > "$root/DEBIAN/shlibs"
+echo 'activate-noawait ldconfig' > "$root/DEBIAN/triggers"
+build
 
-put_programs
-put_pages
-put_documents
-put_control
-set_times
-dpkg-deb --root-owner-group -Zxz --threads-max=1 --build "$root" "$into/gtd_${version}_amd64.deb" > /dev/null
-echo "$into/gtd_${version}_amd64.deb"
+begin libgtd-dev
+put_headers
+put_control libdevel "libgtd0 (= $version)" 'Multi-Arch: same' << END
+Description: evaluate timed road restrictions in process (development files)
+ libgtd answers when road elements are open, by files of timed road restrictions
+ whose times are time domains of GDF (ISO 14825:2004), and when single time
+ domains hold.
+ .
+ These are its headers for C and C++, and the static library.
+END
+build

@@ -15,7 +15,7 @@ esac
 export RT_JOBS=${RT_JOBS:-$(tests/jobs.sh)}
 
 # Programs and modules of Python that the parts need; each is in a package of tests/setup.sh.
-needed=(gcc python3 mandoc zsh openssl mount chromium rsvg-convert xmllint pngtopnm)
+needed=(gcc g++ ld cargo valgrind pkg-config python3 mandoc zsh openssl mount chromium rsvg-convert xmllint pngtopnm)
 [ "$(id -u)" = 0 ] || needed+=(fakeroot)
 modules='build, dask.dataframe, distributed, fiona, geopandas, mypy, pandas, pytest, setuptools, venv, wheel'
 
@@ -72,6 +72,7 @@ part tests/fuzz.py 60 1
 part tests/hours.py 10 1
 part tests/hours_program.py 10 1
 part tests/pictures.py
+part tests/library.sh
 part tests/packaging.sh
 part tests/python.sh
 printf '%s\n' "${lines[@]}"

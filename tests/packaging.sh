@@ -1,7 +1,8 @@
 #!/usr/bin/env bash
-# The Debian package: builds it twice and compares the bytes, installs it in a scratch root, lints the installed man pages,
-# presses Tab in real shells with the installed completions, runs the main job from it on examples/, and removes it.
-# Run it after `rt ci`, which builds the programs. It needs Debian's dpkg, and calls tests/setup.sh if a tool is missing.
+# The Debian packages: builds them twice and compares the bytes, installs them in a scratch root, lints the installed man pages,
+# presses Tab in real shells with the installed completions, runs the main job from it on examples/, builds programs with the
+# installed library, and removes all. Run it after `rt ci`, which builds what they hold. It needs Debian's dpkg, and calls
+# tests/setup.sh if a tool is missing.
 #
 # It installs with `dpkg --root` and not with `dpkg -x`, which only unpacks: so dpkg's own list of files decides what a removal
 # takes away, and the test sees what is left.
@@ -11,7 +12,7 @@ for name in gtd gtdesk; do
     [ -x "$top/crates/$name/out/$name" ] || { echo "no program in crates/$name/out: run rt ci first" >&2; exit 1; }
 done
 PATH=$PATH:/usr/sbin:/sbin
-for tool in dpkg dpkg-deb mandoc zsh python3 fakeroot; do
+for tool in dpkg dpkg-deb mandoc zsh python3 fakeroot gcc g++ pkg-config; do
     command -v "$tool" > /dev/null && continue
     "$top/tests/setup.sh" > /dev/null || { echo "no $tool, and tests/setup.sh failed" >&2; exit 1; }
 done
@@ -47,20 +48,24 @@ gives() {
     if [ "$(cat "$room/said")" = "$expected" ]; then pass; else fail "$name" "$room/said"; fi
 }
 
-# The package: the same bytes from another folder, under another umask, at another time.
+# The packages: the same bytes from another folder, under another umask, at another time.
 build_twice() {
     mkdir "$room/first" "$room/second"
-    succeeds 'the package is built' "$top/packaging/deb.sh" "$room/first"
+    succeeds 'the packages are built' "$top/packaging/deb.sh" "$room/first"
     [ "$failed" = 0 ] || exit 1
     (cd "$room/second" && umask 077 && TMPDIR=$room "$top/packaging/deb.sh") > "$room/said" 2>&1
-    deb=$(echo "$room"/first/gtd_*_amd64.deb)
-    succeeds 'the package is built again, byte for byte' cmp "$deb" "$room/second/${deb##*/}"
-    gives 'its fields' 'gtd amd64' dpkg-deb --show --showformat '${Package} ${Architecture}' "$deb"
-    gives 'its name has its version' "gtd_$(dpkg-deb --field "$deb" Version)_amd64.deb" echo "${deb##*/}"
-    succeeds 'the change log has its version' grep -q "^## \[$(dpkg-deb --field "$deb" Version)\] - " "$top/CHANGELOG.md"
-    dpkg-deb --contents "$deb" > "$room/contents"
-    gives 'all files belong to root' 'root/root' awk '!seen[$2]++ { print $2 }' "$room/contents"
-    gives 'all files may be read' '' grep -v '^[-d]r[-w][-x]r-[-x]r-[-x] ' "$room/contents"
+    local name
+    for name in $packages; do
+        deb=$(echo "$room/first/${name}"_*_amd64.deb)
+        succeeds "$name is built again, byte for byte" cmp "$deb" "$room/second/${deb##*/}"
+        gives "the fields of $name" "$name amd64" dpkg-deb --show --showformat '${Package} ${Architecture}' "$deb"
+        gives "the name of $name has its version" "${name}_$(dpkg-deb --field "$deb" Version)_amd64.deb" echo "${deb##*/}"
+        succeeds "the change log has the version of $name" \
+            grep -q "^## \[$(dpkg-deb --field "$deb" Version)\] - " "$top/CHANGELOG.md"
+        dpkg-deb --contents "$deb" > "$room/contents"
+        gives "all files of $name belong to root" 'root/root' awk '!seen[$2]++ { print $2 }' "$room/contents"
+        gives "all files of $name may be read" '' grep -v '^[-d]r[-w][-x]r-[-x]r-[-x] \|^lrwx' "$room/contents"
+    done
 }
 
 # dpkg_in ARGUMENTS..: dpkg over the scratch root. The root has no C library of its own, so dependencies only warn. The documents
@@ -83,17 +88,20 @@ files_in_root() {
 
 install_it() {
     make_root
-    succeeds 'the package is installed' dpkg_in --install "$deb"
-    gives 'dpkg knows it' 'install ok installed' dpkg-query --admindir="$root/var/lib/dpkg" -W -f '${Status}' gtd
+    succeeds 'the packages are installed' dpkg_in --install "$room"/first/*.deb
     local name
+    for name in $packages; do
+        gives "dpkg knows $name" 'install ok installed' dpkg-query --admindir="$root/var/lib/dpkg" -W -f '${Status}' "$name"
+        succeeds "the sums of $name agree" bash -c "cd '$root' && md5sum --quiet -c var/lib/dpkg/info/$name[.:]*md5sums"
+        succeeds "the licence of $name says which" grep -q 'MIT OR Apache-2.0' "$root/usr/share/doc/$name/copyright"
+        succeeds "the change log of $name" test -s "$root/usr/share/doc/$name/changelog.gz"
+    done
     for name in gtd gtdesk; do
         succeeds "$name is the proved one" cmp "$root/usr/bin/$name" "$top/crates/$name/out/$name"
     done
-    succeeds 'the sums agree' bash -c "cd '$root' && md5sum --quiet -c var/lib/dpkg/info/gtd.md5sums"
-    for file in README.md docs/LANGUAGE.md docs/FILES.md examples/restrictions.csv changelog.gz copyright; do
+    for file in README.md docs/LANGUAGE.md docs/FILES.md examples/restrictions.csv examples/planner/network.csv; do
         succeeds "documents: $file" test -s "$root/usr/share/doc/gtd/$file"
     done
-    succeeds 'the licence says which' grep -q 'MIT OR Apache-2.0' "$root/usr/share/doc/gtd/copyright"
     for licence in MIT APACHE; do
         succeeds "the text of LICENSE-$licence" python3 -c 'import sys
 assert open(sys.argv[1]).read() in open(sys.argv[2]).read()' "$top/LICENSE-$licence" "$root/usr/share/doc/gtd/copyright"
@@ -202,11 +210,36 @@ run_it() {
     cd "$top/examples" || exit 1
 }
 
+# Programs built with what is installed, by pkg-config, and run with the installed library.
+use_library() {
+    local libraries=$root/usr/lib/x86_64-linux-gnu examples=$root/usr/share/doc/libgtd-dev/examples flags name
+    gives 'the name of the library' 'libgtd.so.0' \
+        bash -c "objdump -p '$libraries/libgtd.so.0' | sed -n 's/.*SONAME *//p'"
+    gives 'its link' 'libgtd.so.0' readlink "$libraries/libgtd.so"
+    succeeds 'its calls are those of the header' cmp \
+        <(nm -D --defined-only "$libraries/libgtd.so.0" | sed -n 's/.* T \([^@]*\).*/\1/p' | sort) \
+        <(sed -n 's/^[a-z0-9_]* \(gtd_[a-z_]*\)(.*/\1/p' "$root/usr/include/gtd.h" | sort)
+    gives 'what depends on it' 'libgtd 0 libgtd0 (>= '"$(dpkg-deb --field "$deb" Version)"')' \
+        bash -c "cat '$root'/var/lib/dpkg/info/libgtd0*.shlibs"
+    read -ra flags <<< "$(PKG_CONFIG_SYSROOT_DIR=$root PKG_CONFIG_PATH=$libraries/pkgconfig pkg-config --cflags --libs gtd)"
+    succeeds 'a program in C' gcc -std=c11 -o "$room/example_c" "$examples/example.c" "${flags[@]}"
+    succeeds 'a program in C++' g++ -std=c++17 -o "$room/example_cpp" "$examples/example.cpp" "${flags[@]}"
+    succeeds 'a program in C, static' gcc -std=c11 -o "$room/example_static" "$examples/example.c" \
+        -I "$root/usr/include" "$libraries/libgtd.a"
+    for name in example_c example_cpp example_static; do
+        LD_LIBRARY_PATH=$libraries "$room/$name" "$top/examples/town.csv" 103 11 > "$room/$name.out" 2>&1
+        gives "$name: its first line" 'open at 2024-03-15T06:50:00, which changes at 2024-03-15T07:30:00' \
+            head -n 1 "$room/$name.out"
+    done
+}
+
 remove_it() {
-    succeeds 'the package is removed' dpkg_in --purge gtd
+    # shellcheck disable=SC2086 # names without spaces
+    succeeds 'the packages are removed' dpkg_in --purge $packages
     gives 'nothing is left' '' files_in_root
 }
 
+packages='gtd libgtd0 libgtd-dev'
 # The commands, in the order of the completions.
 commands='schedule year migrate check canon at next ever'
 desk_commands='now faults words hours records picture picture-domain'
@@ -217,6 +250,7 @@ know_commands
 lint_pages
 complete_words
 run_it
+use_library
 remove_it
 
 echo "packaging: $passed passed, $failed failed"

@@ -1,0 +1,41 @@
+#!/usr/bin/env bash
+# Makes the library of bindings/c/gtd.h in bindings/out from the proved crate gtd_c, which it first proves and builds where that
+# is not done:
+#   libgtd.a       one object that needs nothing but the C library
+#   libgtd.so.0    the shared library, and libgtd.so, a link to it
+#   gtd.pc         for pkg-config, to use them where they are
+# Both export exactly the calls of the header. It needs gcc and the GNU linker.
+# Usage: bindings/build.sh
+set -eu
+top=$(cd "$(dirname "$0")/.." && pwd)
+proved=$top/crates/gtd_c/out/libgtd_c.a
+out=$top/bindings/out
+[ -e "$proved" ] || (cd "$top/crates/gtd_c" && rt lib)
+heap=$(dirname "$(rt doc)")/c/liblibc_c.a
+version=$(sed -n 's/^## \[\([0-9.]*\)\] - .*/\1/p' "$top/CHANGELOG.md" | head -n 1)
+mkdir -p "$out"
+work=$(mktemp -d)
+trap 'rm -rf "$work"' EXIT
+
+# The calls of the header, a line for each.
+sed -n 's/^\(uint32_t\|void\) \(gtd_[a-z_]*\)(.*/\2/p' "$top/bindings/c/gtd.h" | sort > "$work/calls"
+
+# exported NM-WORDS..: the names that a library exports must be those calls.
+exported() {
+    nm --defined-only --format=posix "$@" | sed -n 's/^\([^ @]*\)[^ ]* [BDRTVW] .*/\1/p' | sort > "$work/exported"
+    diff "$work/calls" "$work/exported" >&2 || { echo "build.sh: ${*: -1} does not export the calls of gtd.h" >&2; exit 1; }
+}
+
+ld -r -o "$work/gtd.o" --whole-archive "$proved" --no-whole-archive "$heap"
+objcopy --keep-global-symbols="$work/calls" "$work/gtd.o"
+rm -f "$out/libgtd.a"
+ar rcsD "$out/libgtd.a" "$work/gtd.o"
+exported --extern-only "$out/libgtd.a"
+
+{ echo 'GTD_0 { global:'; sed 's/$/;/' "$work/calls"; echo 'local: *; };'; } > "$work/gtd.map"
+gcc -shared -Wl,-soname,libgtd.so.0 -Wl,-z,defs -Wl,-z,relro,-z,now -Wl,--version-script="$work/gtd.map" \
+    -o "$out/libgtd.so.0" "$work/gtd.o"
+exported --dynamic "$out/libgtd.so.0"
+ln -sf libgtd.so.0 "$out/libgtd.so"
+
+sed -e "s|@libdir@|$out|; s|@includedir@|$top/bindings/c|; s|@version@|$version|" "$top/bindings/c/gtd.pc.in" > "$out/gtd.pc"
