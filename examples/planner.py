@@ -71,8 +71,10 @@ def entry(streets: gtd.Records, way: Way, vehicle: int, ready: datetime) -> Opti
 def plan(
     network: Network, streets: gtd.Records, vehicle: int, ends: Tuple[str, str], start: datetime
 ) -> Optional[List[Drive]]:
-    """The drives of a way that arrives earliest, or None if none arrives within a week. Since waiting is allowed, who is at a node
-    earlier is never later at the next one: Dijkstra's search over moments is right."""
+    """The drives of a way that arrives earliest, or None if none arrives within a week.
+
+    Since waiting is allowed, who is at a node earlier is never later at the next one. So Dijkstra's search over moments is right.
+    """
     begin, end = ends
     arrival: Dict[str, datetime] = {begin: start}
     drive_to: Dict[str, Drive] = {}

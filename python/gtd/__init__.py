@@ -1,8 +1,8 @@
 """Time domains of GDF (ISO 14825:2004) and timed road restrictions, for pandas.
 
-The proved library ``libgtd`` computes everything, in this process; where there is none, the proved programs ``gtd`` and ``gtdesk``
-do, which are started for each call. A wheel of this package holds all three (see :func:`gtd.library` and :func:`gtd.program`).
-Moments are seconds of the local civil clock, without time zones or daylight saving.
+The proved library ``libgtd`` computes everything, in this process; where there is none, the proved programs ``gtd`` and
+``gtdesk`` do, which are started for each call. A wheel of this package holds all three (see :func:`gtd.library` and
+:func:`gtd.program`). Moments are seconds of the local civil clock, without time zones or daylight saving.
 
 >>> from datetime import datetime
 >>> import gtd
@@ -11,8 +11,8 @@ Moments are seconds of the local civil clock, without time zones or daylight sav
 >>> gtd.Domain("[(M5h10){h1}]").contains(datetime(2024, 5, 17, 10, 59, 59))
 True
 
-:class:`gtd.Domain` is one domain and :class:`gtd.Records` the records of one file; a column of domains has the accessor ``gtd``: see
-:class:`gtd.Domains`. For record sets that are too large for one file, see
+:class:`gtd.Domain` is one domain and :class:`gtd.Records` the records of one file; a column of domains has the accessor
+``gtd``: see :class:`gtd.Domains`. For record sets that are too large for one file, see
 :mod:`gtd.country`.
 """
 

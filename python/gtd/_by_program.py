@@ -31,7 +31,8 @@ class DomainByProgram:
 
     def ask(self, command: str, *words: str) -> str:
         """What ``gtd`` prints of the domain."""
-        # After "--", a text that begins with "-" is a word like any other. A lone surrogate becomes "?", which is no token either.
+        # After "--", a text that begins with "-" is a word like any other. A lone surrogate becomes "?", which is no token
+        # either.
         word = _short(self.text) if "\0" in self.text or len(self.text) > _LONGEST_WORD else self.text
         return run(command, "--", word.encode("utf-8", "replace").decode(), *words).decode().rstrip("\n")
 

@@ -1,7 +1,7 @@
 """The library: where it is, and its calls (``gtd.h``) by ctypes.
 
-A handle is used by one call at a time. The calls in :attr:`Library.held` keep the interpreter's lock while they run, so any thread
-may ask by a handle that others use, too; long ones are made in pieces, between which other threads run. Those in
+A handle is used by one call at a time. The calls in :attr:`Library.held` keep the interpreter's lock while they run, so any
+thread may ask by a handle that others use, too; long ones are made in pieces, between which other threads run. Those in
 :attr:`Library.free` let other threads run, and are for handles that no other thread can reach.
 """
 

@@ -1,6 +1,7 @@
 """Moments and days: what is taken for one, and its number.
 
-A second is counted on the local civil clock: 86,400 times the number of its day (1970-01-01 is day 0) plus the second of that day.
+A second is counted on the local civil clock: 86,400 times the number of its day (1970-01-01 is day 0) plus the second of that
+day.
 """
 
 from __future__ import annotations

@@ -197,14 +197,15 @@ class Records:
         vehicle, second = vehicle_of(vehicle), second_of(moment)
         last = min(END_DAY, second // DAY + LONGEST)
         places = [Place(element, negative, vehicle) for element in self.elements.tolist() for negative in (False, True)]
-        rows, changes = self._engine.now(places, second, last)
+        closers, changes = self._engine.now(places, second, last)
+        rows = [tuple(row) for row in closers]
         until = numpy.array([_NEVER if change is None else change for change in changes], dtype="int64")
         return pandas.DataFrame(
             {
                 "element": numpy.array([place.element for place in places], dtype="int64"),
                 "direction": pandas.Categorical.from_codes([int(place.negative) for place in places], dtype=DIRECTION),
                 "vehicle": numpy.full(len(places), vehicle, dtype="int64"),
-                "state": pandas.Categorical.from_codes([int(bool(closers)) for closers in rows], dtype=_STATE),
+                "state": pandas.Categorical.from_codes([int(bool(row)) for row in rows], dtype=_STATE),
                 "until": until.view("datetime64[s]"),
                 "rows": pandas.Series(rows, dtype=object),
             }

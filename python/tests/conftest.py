@@ -22,10 +22,10 @@ FIRST, UNTIL, VEHICLE = "2024-01-01", "2024-04-01", 11
 def pytest_configure(config):
     try:
         gtd.program()
-        os.environ.get("NOLIB") or gtd.program("gtdesk")
+        gtd.program("gtdesk")
     except gtd.ProgramNotFound as missing:
         pytest.exit(str(missing), 2)
-    if gtd.library() is None and not os.environ.get("NOLIB"):
+    if gtd.library() is None:
         pytest.exit("no library libgtd.so.0: set the environment variable LIBGTD to its path", 2)
 
 
@@ -53,7 +53,7 @@ def no_program(monkeypatch):
 
 
 def model_of(name):
-    """A module of the repository's own tests: ``model``, a plain model of the documents, or ``fuzz``, which makes random inputs."""
+    """A module of the repository's own tests: ``model``, a plain model of the documents, or ``fuzz``, a maker of inputs."""
     folder = str(Path(gtd.__file__).parents[2] / "tests")
     if folder not in sys.path:
         sys.path.append(folder)

@@ -42,12 +42,12 @@ def made(maker):
 @pytest.mark.parametrize("seed", range(20))
 def test_random_files(answering, seed):
     maker = Maker(seed)
+    randint = maker.random.randint
     for _ in range(10 if answering == "library" else 1):
         given, restrictions, version = made(maker)
         records = gtd.Records(given)
         asked = [
-            (maker.random.randint(1, 4), maker.random.choice(["positive", "negative"]), maker.random.randint(1, 16), maker.moment())
-            for _ in range(8)
+            (randint(1, 4), maker.random.choice(["positive", "negative"]), randint(1, 16), maker.moment()) for _ in range(8)
         ]
         expected = [not model.is_open(restrictions, version, *question) for question in asked]
         columns = [list(column) for column in zip(*asked)]
@@ -100,7 +100,8 @@ def test_columns_of_questions(answering):
     for column in (frame["direction"], frame["direction"].astype("category"), frame["direction"].astype("string")):
         found = records.closed_at(frame["element"], column, frame["type"], frame["at"])
         pandas.testing.assert_series_equal(found, expected)
-    found = records.closed_at(frame["element"].to_numpy(), list(frame["direction"]), frame["type"].to_numpy(), frame["at"].tolist())
+    plain = frame["element"].to_numpy(), list(frame["direction"]), frame["type"].to_numpy(), frame["at"].tolist()
+    found = records.closed_at(*plain)
     assert isinstance(found, numpy.ndarray) and found.tolist() == expected.tolist()
     found = records.closed_at(frame["element"].convert_dtypes(), "positive", 11, "2024-03-18T07:00:00")
     assert found.tolist() == [False, False, True, True, False]
@@ -146,12 +147,14 @@ def test_closers_and_changes(answering):
     records = gtd.Records(TOWN)
     assert records.closers(104, "negative", 11, "2024-03-18T07:00:00") == [4]
     assert records.closers(104, "positive", 11, datetime(2024, 3, 18, 7)) == [5]
-    assert records.closers(104, "positive", 12, datetime(2024, 3, 18, 7)) == [] == records.closers(7, "positive", 1, "2024-01-01T00:00:00")
-    assert records.next_change(103, "positive", 11, "2024-03-16T08:00:00", "2024-04-01") == (datetime(2024, 3, 18, 7, 30), False)
-    assert records.next_change(105, "negative", 11, "2024-03-16T08:00:00", date(2024, 9, 1)) == (datetime(2024, 8, 1), True)
-    assert records.next_change(104, "negative", 11, "2024-03-16T08:00:00", "2424-03-15") is None
-    assert records.next_change(999, "negative", 11, "2024-03-16T08:00:00", "2424-03-15") is None
-    for until, kind in [("2024-03-16", "horizon Empty"), ("2424-03-17", "horizon TooLong"), ("2424-03-32", "date NoSuchDate")]:
+    assert records.closers(104, "positive", 12, datetime(2024, 3, 18, 7)) == []
+    assert records.closers(7, "positive", 1, "2024-01-01T00:00:00") == []
+    now = "2024-03-16T08:00:00"
+    assert records.next_change(103, "positive", 11, now, "2024-04-01") == (datetime(2024, 3, 18, 7, 30), False)
+    assert records.next_change(105, "negative", 11, now, date(2024, 9, 1)) == (datetime(2024, 8, 1), True)
+    assert records.next_change(104, "negative", 11, now, "2424-03-15") is None
+    assert records.next_change(999, "negative", 11, now, "2424-03-15") is None
+    for until, kind in [("2024-03-16", "horizon Empty"), ("2424-03-18", "horizon TooLong"), ("2424-03-32", "date NoSuchDate")]:
         with pytest.raises(gtd.Fault) as caught:
             records.next_change(101, "negative", 11, "2024-03-16T08:00:00", until)
         assert caught.value.kind == kind
@@ -181,7 +184,8 @@ def test_the_state_now(answering):
 
 def test_schedules(answering):
     records = gtd.Records(TOWN)
-    pandas.testing.assert_frame_equal(records.schedule("2024-03-15", "2024-03-18", 11), gtd.schedule(TOWN, "2024-03-15", "2024-03-18", 11))
+    days = "2024-03-15", "2024-03-18", 11
+    pandas.testing.assert_frame_equal(records.schedule(*days), gtd.schedule(TOWN, *days))
     for words, kind in [(("2024-03-15", "2024-03-15", 11), "horizon Empty"), (("2024-03-15", "2024-03-18", 100), "VehicleRange")]:
         with pytest.raises(gtd.Fault) as caught:
             records.schedule(*words)
@@ -192,7 +196,8 @@ def test_open_seconds(answering):
     records = gtd.Records(TOWN)
     found = records.open_seconds("2024-03-16", "2024-03-18", 11)
     expected = pandas.DataFrame(
-        {"positive": [38, 32, 48, 48, 0], "negative": [38, 32, 48, 0, 0]}, index=pandas.Index([101, 102, 103, 104, 105], name="element")
+        {"positive": [38, 32, 48, 48, 0], "negative": [38, 32, 48, 0, 0]},
+        index=pandas.Index([101, 102, 103, 104, 105], name="element"),
     )
     pandas.testing.assert_frame_equal(found, expected * 3600)
     found = records.open_seconds("2024-03-16", "2024-03-18", 11, [106, 105, 101, 7])
@@ -271,7 +276,7 @@ def test_a_call_that_the_library_lacks(monkeypatch):
         "records_count": lambda records: records.elements.tolist(),
         "records_closed_at": lambda records: records.closed_at(*where, "2024-03-18T07:00:00"),
         "records_closed_many": lambda records: records.closed_at([101, 104], *where[1:], "2024-03-18T07:00:00").tolist(),
-        "records_closers": lambda records: (records.closers(*where, "2024-03-18T07:00:00"), len(records.now("2024-03-18T07:00:00", 11))),
+        "records_closers": lambda records: records.closers(*where, "2024-03-18T07:00:00"),
         "records_next": lambda records: records.next_change(*where, "2024-03-18T07:00:00", "2025-01-01"),
         "records_spans": lambda records: records.spans(*where, "2024-03-18", "2024-03-20").to_numpy().tolist(),
         "records_schedule": lambda records: records.schedule("2024-03-18", "2024-03-20", 11).to_numpy().tolist(),

@@ -92,9 +92,15 @@ def test_random_networks(planner, seed, tmp_path):
         (*rng.sample(nodes, 2), rng.randint(1, 6), rng.choice(["positive", "negative"]), rng.choice([1, 30, 60, 200, 400]))
         for _ in range(12)
     ]
-    shapes = [lambda: f"(h7m{rng.randint(0, 40)}){{m{rng.randint(1, 20)}}}", lambda: f"(m{rng.randint(0, 59)}){{m{rng.randint(1, 9)}}}"]
-    shapes += [lambda: f"(h6m{rng.randint(0, 59)}s{rng.randint(0, 59)}){{h1}}", lambda: "(h0){h24}", lambda: "(t3h7){m20}"]
-    rows = [(rng.randint(1, 6), rng.choice(["positive", "negative", "both"]), rng.choice([0, 11]), rng.choice(shapes)()) for _ in range(8)]
+    shapes = [
+        lambda: f"(h7m{rng.randint(0, 40)}){{m{rng.randint(1, 20)}}}",
+        lambda: f"(m{rng.randint(0, 59)}){{m{rng.randint(1, 9)}}}",
+        lambda: f"(h6m{rng.randint(0, 59)}s{rng.randint(0, 59)}){{h1}}",
+        lambda: "(h0){h24}",
+        lambda: "(t3h7){m20}",
+    ]
+    directions = ["positive", "negative", "both"]
+    rows = [(rng.randint(1, 6), rng.choice(directions), rng.choice([0, 11]), rng.choice(shapes)()) for _ in range(8)]
     (tmp_path / "network.csv").write_text(
         "from,to,element,direction,seconds\n" + "".join(",".join(map(str, way)) + "\n" for way in ways)
     )
