@@ -19,6 +19,7 @@ from gtd._program import run, run_desk
 from gtd._questions import Place
 
 _LONGEST_WORD = 100_000  # bytes; Linux takes words of at most 131,071
+_FAR = 100  # days
 
 Spans = Callable[[int, int], Seconds]
 
@@ -180,12 +181,21 @@ def _second(text: str) -> int:
 
 
 def _horizons(seconds: Seconds) -> Iterator[Tuple[int, int, NDArray[numpy.intp]]]:
-    """Horizons that together contain all seconds, each with the places of those that it contains."""
-    days = seconds // DAY
-    pieces = (days - days.min(initial=0)) // LONGEST
-    for piece in numpy.unique(pieces):
-        among = numpy.flatnonzero(pieces == piece)
-        yield int(days[among].min()), int(days[among].max()) + 1, among
+    """Horizons that together contain all seconds, each with the places of those that it contains.
+
+    Days that lie far apart are asked about by themselves: a program starts faster than it goes over the days between.
+    """
+    days, places = numpy.unique(seconds // DAY, return_inverse=True)
+    begins: List[int] = []
+    first, before = 0, 0
+    for at, day in enumerate(days.tolist()):
+        if not begins or day - before > _FAR or day - first >= LONGEST:
+            begins.append(at)
+            first = day
+        before = day
+    pieces = numpy.searchsorted(begins, places, side="right") - 1
+    for piece, (begin, end) in enumerate(zip(begins, [*begins[1:], len(days)])):
+        yield int(days[begin]), int(days[end - 1]) + 1, numpy.flatnonzero(pieces == piece)
 
 
 def _in_spans(spans: Spans, seconds: Seconds) -> NDArray[numpy.bool_]:

@@ -31,7 +31,7 @@ def in_domain(text, seconds):
 @pytest.mark.parametrize("seed", range(20))
 def test_random_domains(answering, seed):
     maker = Maker(seed)
-    for _ in range(20 if answering == "library" else 1):
+    for _ in range(20 if answering == "library" else seed < 4):
         text = maker.domain()
         seconds = [maker.moment(text) for _ in range(10)]
         domain, moments = gtd.Domain(text), [moment_of(second) for second in seconds]
