@@ -1,13 +1,18 @@
 #!/usr/bin/env bash
 # The Python package: its types, its tests, and its wheel in a fresh virtual environment. Run it after `rt ci`, which builds the
-# program. It needs Debian's Python packages, and calls tests/setup.sh if one is missing. The tests mount a small disk: if this is
-# not run as root, they run as root of their own namespace.
+# programs and the library's archive; bindings/build.sh links the library, if it is not there. LIBGTD, GTD and GTDESK name others.
+# It needs Debian's Python packages, and calls tests/setup.sh if one is missing. The tests mount a small disk: if this is not run as
+# root, they run as root of their own namespace.
 #
 # Three groups of tests run side by side, since they mostly wait for processes to start.
 set -u
 top=$(cd "$(dirname "$0")/.." && pwd)
-export GTD=$top/crates/gtd/out/gtd
-[ -x "$GTD" ] || { echo "no program at $GTD: run rt ci first" >&2; exit 1; }
+export GTD=${GTD:-$top/crates/gtd/out/gtd} GTDESK=${GTDESK:-$top/crates/gtdesk/out/gtdesk}
+export LIBGTD=${LIBGTD:-$top/bindings/out/libgtd.so.0}
+for program in "$GTD" "$GTDESK"; do
+    [ -x "$program" ] || { echo "no program at $program: run rt ci first" >&2; exit 1; }
+done
+[ -e "$LIBGTD" ] || "$top/bindings/build.sh" > /dev/null || { echo "no library at $LIBGTD" >&2; exit 1; }
 python=${PYTHON:-/usr/bin/python3}
 needed='import build, dask.dataframe, distributed, fiona, geopandas, mypy, pandas, pytest, setuptools, venv, wheel'
 { "$python" -c "$needed" && command -v openssl; } > /dev/null 2>&1 || "$top/tests/setup.sh" > /dev/null || {
@@ -54,7 +59,7 @@ end() {
 }
 
 # The wheel is built and installed with the commands of docs/PYTHON.md, from a copy: nothing is written into the repository, and
-# nothing is fetched.
+# nothing is fetched. Another Python stands first on the path, which has none of the packages.
 install_wheel() {
     local line
     mkdir "$room/copy"
@@ -63,25 +68,38 @@ install_wheel() {
     sed -n '/^## Install/,/^## /p' "$top/docs/PYTHON.md" | sed -n '/^```sh/,/^```$/p' |
         grep -v -e '^```' -e '^apt-get ' > "$room/install"
     succeeds 'the commands that install are shown' [ "$(wc -l < "$room/install")" = 3 ]
+    mkdir "$room/other"
+    printf '#!/bin/sh\nexec "%s" -I -S "$@"\n' "$python" > "$room/other/python3"
+    chmod +x "$room/other/python3"
     while IFS= read -r line; do
-        succeeds "$line" bash -c "python3() { '$python' \"\$@\"; }; $line"
+        succeeds "$line" env PATH="$room/other:$PATH" bash -c "${line//\/usr\/bin\/python3/$python}"
     done < "$room/install"
+    succeeds 'the wheel holds the library and both programs' bash -c \
+        "[ \"\$('$python' -m zipfile -l gtd-*.whl | grep -c -E '^gtd/native/(libgtd.so.0|gtd|gtdesk) ')\" = 3 ]"
 }
 
-# The installed package, from a folder in which Python does not find the repository's.
+# The installed package, from a folder in which Python does not find the repository's, with nothing but what the wheel holds.
 use_wheel() {
+    local alone=(env -u GTD -u GTDESK -u LIBGTD PATH=/nowhere)
     mkdir "$room/elsewhere"
     cd "$room/elsewhere" || exit 1
     cat > user.py << 'end'
 from datetime import datetime
+from typing import List
 import gtd
 inside: bool = gtd.contains("[(M5h10){h1}]", datetime(2024, 5, 17, 10))
 assert inside and "/venv/" in gtd.__file__
+domain: gtd.Domain = gtd.Domain("(t7h5){h10}")
+assert domain.contains(datetime(2024, 3, 16, 8)) and domain.words().startswith("every Saturday")
+rows: List[int] = gtd.Records(b"element,direction,vehicle,domain\n7,both,0,\n").closers(7, "positive", 1, "2024-03-16T08:00:00")
+assert rows == [1]
+for path in (gtd.library(), gtd.program(), gtd.program("gtdesk")):
+    assert path is not None and "/venv/" in path and "/gtd/native/" in path, path
 end
-    succeeds 'the installed package is used' "$room/copy/venv/bin/python" user.py
+    succeeds 'the installed package is used' "${alone[@]}" "$room/copy/venv/bin/python" user.py
     succeeds 'its types are known to its users' "$python" -m mypy --strict --cache-dir "$room/types" \
         --python-executable "$room/copy/venv/bin/python" user.py
-    succeeds 'the installed command' "$room/copy/venv/bin/gtd-country" "$top/examples/town.csv" \
+    succeeds 'the installed command' "${alone[@]}" "$room/copy/venv/bin/gtd-country" "$top/examples/town.csv" \
         --from 2024-03-15 --to 2024-03-18 --vehicle 11 --workers 1 --join --out town.csv
     succeeds 'what it has written' cmp town.csv "$top/examples/town.schedule.csv"
 }
@@ -90,10 +108,13 @@ start failures tests/test_failures.py
 failures=$!
 start country tests/test_country.py tests/test_large.py tests/test_documents.py
 country=$!
-start package tests/test_domain.py tests/test_records.py tests/test_series.py tests/test_roads.py tests/test_blocks.py
+start package tests/test_domain.py tests/test_records.py tests/test_series.py tests/test_roads.py tests/test_blocks.py \
+    tests/test_asked_domain.py tests/test_asked_records.py tests/test_planner.py
 package=$!
 (cd "$top/python" && "$python" -m mypy --strict --cache-dir "$room/types") > "$room/mypy" 2>&1
 succeeds 'mypy --strict' grep -q '^Success' "$room/mypy"
+(cd "$top/python" && "$python" -m mypy --strict --cache-dir "$room/types" ../examples/planner.py) > "$room/mypy" 2>&1
+succeeds 'mypy --strict of the planner' grep -q '^Success' "$room/mypy"
 install_wheel
 use_wheel
 end failures $failures

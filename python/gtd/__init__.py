@@ -1,33 +1,42 @@
 """Time domains of GDF (ISO 14825:2004) and timed road restrictions, for pandas.
 
-The proved program ``gtd`` computes everything, and is run for each call: the program at the path in the environment variable
-``GTD``, or otherwise ``gtd`` on ``PATH``. Moments are seconds of the local civil clock, without time zones or daylight saving.
+The proved library ``libgtd`` computes everything, in this process; where there is none, the proved programs ``gtd`` and
+``gtdesk`` do, which are started for each call. A wheel of this package holds all three (see :func:`gtd.library` and
+:func:`gtd.program`). Moments are seconds of the local civil clock, without time zones or daylight saving.
 
 >>> from datetime import datetime
 >>> import gtd
 >>> gtd.canon("[(m30h07){m30h1}]")
 '[(h7m30){h1m30}]'
->>> gtd.contains("[(M5h10){h1}]", datetime(2024, 5, 17, 10, 59, 59))
+>>> gtd.Domain("[(M5h10){h1}]").contains(datetime(2024, 5, 17, 10, 59, 59))
 True
 
-A column of domains has the accessor ``gtd``: see :class:`gtd.Domains`. For record sets that are too large for one file, see
+:class:`gtd.Domain` is one domain and :class:`gtd.Records` the records of one file; a column of domains has the accessor
+``gtd``: see :class:`gtd.Domains`. For record sets that are too large for one file, see
 :mod:`gtd.country`.
 """
 
-from gtd._domain import Change, canon, check, contains, next_change, next_change_ever
+from gtd._domain import Change, Domain, canon, check, contains, next_change, next_change_ever
 from gtd._fault import Fault
+from gtd._library import LibraryNotFound, library
 from gtd._program import ProgramNotFound, program
+from gtd._record_set import ElementChange, Records
 from gtd._records import migrate, schedule, year
 from gtd._series import Domains
 
 __all__ = [
     "Change",
+    "Domain",
     "Domains",
+    "ElementChange",
     "Fault",
+    "LibraryNotFound",
     "ProgramNotFound",
+    "Records",
     "canon",
     "check",
     "contains",
+    "library",
     "migrate",
     "next_change",
     "next_change_ever",

@@ -3,17 +3,36 @@
 from __future__ import annotations
 
 from datetime import date, datetime
-from typing import NamedTuple, Optional, Union
+from typing import Any, Callable, NamedTuple, Optional, Tuple, Type, Union, overload
 
 import numpy
+import pandas
+from numpy.typing import NDArray
 
+from gtd._by_program import DomainByProgram
 from gtd._fault import Fault, in_domain
-from gtd._program import run
+from gtd._in_process import DomainInProcess
+from gtd._library import load
+from gtd._moments import (
+    END_OF_WORDS,
+    Day,
+    Moment,
+    Moments,
+    Seconds,
+    day,
+    day_of,
+    days,
+    horizon,
+    is_column,
+    moment_at,
+    second_of,
+    seconds_of,
+    stamp,
+)
 
-Moment = Union[datetime, numpy.datetime64, str]
-Day = Union[date, numpy.datetime64, str]
-
-_LONGEST_WORD = 100_000  # bytes; Linux takes words of at most 131,071
+_EPOCH = datetime(1970, 1, 1).toordinal()
+_FIRST_YEAR, _LAST_YEAR = 1901, 2199  # of pictures
+_Engine = Union[DomainInProcess, DomainByProgram]
 
 
 class Change(NamedTuple):
@@ -25,6 +44,181 @@ class Change(NamedTuple):
     """Whether the domain holds from then on."""
 
 
+class Domain:
+    """A time domain that is read once and asked many times.
+
+    Seconds are of the local civil clock, without a time zone. Moments are ``datetime.datetime``, ``pandas.Timestamp`` or
+    ``numpy.datetime64``, or texts ``YYYY-MM-DDThh:mm:ss``; days are dates, moments at midnight, or texts ``YYYY-MM-DD``. They lie
+    from 1901-01-01 up to and not including 2700-01-01, where nothing else is said. In a notebook a domain shows as the picture of
+    the current year.
+
+    Parameters
+    ----------
+    text : str
+        A time domain.
+
+    Raises
+    ------
+    Fault
+        The text is not one; ``kind`` and ``place`` (in bytes) are those of its first fault.
+
+    Examples
+    --------
+    >>> import gtd
+    >>> market = gtd.Domain("(t7h5){h10}")
+    >>> market.contains("2024-03-16T08:00:00")
+    True
+    >>> market.words()
+    "every Saturday from 5 o'clock for 10 hours, until 15:00"
+    """
+
+    __slots__ = ("_text", "_engine", "_at", "_holds", "_canonical", "__weakref__")
+
+    def __init__(self, text: str) -> None:
+        self._text, self._canonical = text, ""
+        self._engine = _engine_of(text)
+        self._at = 0
+        self._holds: Optional[Callable[[int, int], int]] = None
+        if isinstance(self._engine, DomainInProcess):
+            self._at, self._holds = self._engine.at, self._engine.call_holds
+
+    @property
+    def text(self) -> str:
+        """The text, as it was given."""
+        return self._text
+
+    @overload
+    def contains(self, moment: Moment) -> bool: ...
+
+    @overload
+    def contains(self, moment: Moments) -> Any: ...
+
+    def contains(self, moment: Union[Moment, Moments]) -> Any:
+        """Whether the domain contains a second, or each of many.
+
+        Parameters
+        ----------
+        moment
+            A moment; or an array, a list, an index or a column of moments. Fractions of a second are dropped, since they lie
+            within their second.
+
+        Returns
+        -------
+        bool, or an array or pandas.Series of bool
+            Of a Series, a Series with its index and name.
+
+        Raises
+        ------
+        Fault
+            ``'moment Shape'``, ``'moment NoSuchDate'`` or ``'moment Range'``; of many, ``row`` is the place of the first at
+            fault, from 1.
+        ValueError
+            A moment has a time zone, or is not a time (NaT).
+        """
+        if type(moment) is datetime and moment.tzinfo is None and self._holds is not None:
+            second = (
+                (moment.toordinal() - _EPOCH) * 86_400 + moment.hour * 3600 + moment.minute * 60 + moment.second
+            )
+            answer = self._holds(self._at, second)
+            if answer < 2:
+                return answer == 1
+        if not is_column(moment):
+            return self._engine.holds(second_of(moment))  # type: ignore[arg-type]
+        held = self._engine.holds_many(seconds_of(moment))
+        return pandas.Series(held, moment.index, name=moment.name) if isinstance(moment, pandas.Series) else held
+
+    def next_change(self, moment: Moment, until: Optional[Day] = None) -> Optional[Change]:
+        """The first second later than ``moment`` at which the domain's state changes.
+
+        Parameters
+        ----------
+        until : day, optional
+            The change lies before it; it is at most 146,098 days after the moment's day. Without it, the change may come however
+            late, and the moment lies before the year 2200.
+
+        Returns
+        -------
+        Change or None
+            None if the state does not change.
+
+        Raises
+        ------
+        Fault
+            As for :meth:`contains`; also ``'date ...'`` and ``'horizon ...'``. Without ``until``, ``'HasYear'`` for a domain that
+            gives a year.
+        """
+        if until is None:
+            second = second_of(moment, END_OF_WORDS)
+            return self._change(second, self._engine.change_ever(second))
+        word = day(until)
+        second = second_of(moment)
+        _, last = horizon(second // 86_400, day_of(word))
+        return self._change(second, self._engine.next_change(second, last))
+
+    def spans(self, first: Day, until: Day) -> "pandas.DataFrame":
+        """The spans of the seconds that the domain contains, from the day ``first`` up to and not including ``until``.
+
+        Returns
+        -------
+        pandas.DataFrame
+            ``from`` and ``until`` (datetime64[s]; with pandas 1, datetime64[ns]): each maximal span, in order; ``until`` is the
+            first second after it.
+
+        Raises
+        ------
+        Fault
+            ``'date ...'`` or ``'horizon ...'``: there are 1 to 146,098 days.
+        pandas.errors.OutOfBoundsDatetime
+            With pandas 1, a span ends after 2262-04-11.
+        """
+        return frame_of(self._engine.spans(*days(first, until)))
+
+    def words(self) -> str:
+        """What the domain says, in plain English."""
+        return self._engine.words()
+
+    def canon(self) -> str:
+        """Its canonical text; two domains are the same expression exactly if theirs are equal."""
+        if not self._canonical:
+            self._canonical = self._engine.canon()
+        return self._canonical
+
+    def picture(self, year: int) -> str:
+        """A picture of a year, 1901 to 2199, in SVG: a column for each day, midnight at the top, the domain's seconds dark.
+
+        Raises
+        ------
+        Fault
+            ``'YearRange'``.
+        """
+        if not _FIRST_YEAR <= year <= _LAST_YEAR:
+            raise Fault("YearRange", text=str(year))
+        return self._engine.picture(year)
+
+    def _repr_svg_(self) -> str:
+        return self.picture(date.today().year)
+
+    def _change(self, second: int, change: Optional[int]) -> Optional[Change]:
+        return None if change is None else Change(moment_at(change), not self._engine.holds(second))
+
+    def __repr__(self) -> str:
+        return f"gtd.Domain({self._text!r})"
+
+    def __str__(self) -> str:
+        return self._text
+
+    def __eq__(self, other: object) -> bool:
+        if not isinstance(other, Domain):
+            return NotImplemented
+        return self.canon() == other.canon()
+
+    def __hash__(self) -> int:
+        return hash(self.canon())
+
+    def __reduce__(self) -> Tuple[Type[Domain], Tuple[str]]:
+        return Domain, (self._text,)
+
+
 def check(text: str) -> None:
     """Return nothing if a text is a time domain.
 
@@ -33,7 +227,7 @@ def check(text: str) -> None:
     Fault
         The text is not one; ``kind`` and ``place`` (in bytes) are those of its first fault.
     """
-    _ask("check", text)
+    _engine_of(text)
 
 
 def canon(text: str) -> str:
@@ -44,7 +238,8 @@ def canon(text: str) -> str:
     Fault
         The text is not a time domain.
     """
-    return _ask("canon", text)
+    library = load("domain_open", "domain_canon", "text_bytes")
+    return _ask("canon", text) if library is None else Domain(text).canon()
 
 
 def contains(text: str, moment: Moment) -> bool:
@@ -66,7 +261,11 @@ def contains(text: str, moment: Moment) -> bool:
     ValueError
         The moment has a time zone, or is not a time (NaT).
     """
-    return _ask("at", text, stamp(moment)) == "in"
+    word = stamp(moment)
+    if load("domain_open", "domain_holds") is None:
+        return _ask("at", text, word) == "in"
+    domain = _engine_of(text)
+    return domain.holds(second_of(word, END_OF_WORDS))
 
 
 def next_change(text: str, moment: Moment, until: Day) -> Optional[Change]:
@@ -89,7 +288,12 @@ def next_change(text: str, moment: Moment, until: Day) -> Optional[Change]:
     Fault, ValueError
         As for :func:`contains`; also ``'date ...'`` and ``'horizon ...'``.
     """
-    return _change(_ask("next", text, stamp(moment), day(until)))
+    words = stamp(moment), day(until)
+    if load("domain_open", "domain_holds", "domain_next") is None:
+        return _read_change(_ask("next", text, *words))
+    domain = Domain(text)
+    second_of(words[0], END_OF_WORDS)
+    return domain.next_change(*words)
 
 
 def next_change_ever(text: str, moment: Moment) -> Optional[Change]:
@@ -100,67 +304,47 @@ def next_change_ever(text: str, moment: Moment) -> Optional[Change]:
     Fault, ValueError
         As for :func:`contains`; also ``'HasYear'`` for a domain that gives a year.
     """
-    return _change(_ask("ever", text, stamp(moment)))
+    word = stamp(moment)
+    if load("domain_open", "domain_holds", "domain_ever") is None:
+        return _read_change(_ask("ever", text, word))
+    return Domain(text).next_change(word)
+
+
+def frame_of(spans: Seconds) -> "pandas.DataFrame":
+    """Spans as a frame with the columns ``from`` and ``until``."""
+    ends: NDArray[Any] = numpy.ascontiguousarray(spans).view("datetime64[s]")
+    return pandas.DataFrame({"from": ends[:, 0], "until": ends[:, 1]})
+
+
+def _engine_of(text: str) -> _Engine:
+    """What answers for the domain of a text."""
+    if not isinstance(text, str):
+        raise TypeError(f"a time domain is a str, not {type(text).__name__}")
+    library = load("domain_open", "domain_holds")
+    try:
+        if library is not None:
+            return DomainInProcess(library, text)
+        program = DomainByProgram(text)
+        program.ask("check")
+        return program
+    except Fault as fault:
+        raise in_domain(fault, text) from None
 
 
 def _ask(command: str, text: str, *words: str) -> str:
+    """What the program prints of a text that need not be a domain."""
     if not isinstance(text, str):
         raise TypeError(f"a time domain is a str, not {type(text).__name__}")
     try:
-        if "\0" in text or len(text) > _LONGEST_WORD:
-            text = _short(text)
-        # After "--", a text that begins with "-" is a word like any other. A lone surrogate becomes "?", which is not a
-        # token either.
-        return run(command, "--", text.encode("utf-8", "replace").decode(), *words).decode().rstrip("\n")
+        return DomainByProgram(text).ask(command, *words)
     except Fault as fault:
         if fault.kind.startswith(("moment ", "date ", "horizon ")):
             raise
         raise in_domain(fault, text) from None
 
 
-def _short(text: str) -> str:
-    """The canonical text of a domain that cannot be a word of a command line, by way of a record file."""
-    quoted = text.encode("utf-8", "replace").replace(b'"', b'""')
-    try:
-        migrated = run("migrate", "/dev/stdin", given=b'element,direction,vehicles,domain\n1,both,0,"' + quoted + b'"\n')
-    except Fault as fault:
-        raise Fault(fault.kind.removeprefix("Domain "), place=fault.place) from None
-    return migrated.decode().splitlines()[1].split(",", 3)[3]
-
-
-def _change(line: str) -> Optional[Change]:
+def _read_change(line: str) -> Optional[Change]:
     if line in ("none", "never"):
         return None
     moment, state = line.split(" ")
     return Change(datetime.fromisoformat(moment), state == "in")
-
-
-def stamp(moment: Moment) -> str:
-    """``YYYY-MM-DDThh:mm:ss``."""
-    if isinstance(moment, str):
-        return moment
-    if isinstance(moment, numpy.datetime64):
-        if numpy.isnat(moment):
-            raise ValueError("the moment is NaT")
-        return str(moment.astype("datetime64[s]"))
-    if not isinstance(moment, datetime):
-        raise TypeError(f"a moment is a datetime, not {type(moment).__name__}")
-    if moment != moment:
-        raise ValueError("the moment is NaT")
-    if moment.tzinfo is not None:
-        raise ValueError("a moment is of the local civil clock and has no time zone: take moment.replace(tzinfo=None)")
-    return moment.replace(microsecond=0).isoformat()[:19]
-
-
-def day(given: Day) -> str:
-    """``YYYY-MM-DD``."""
-    if isinstance(given, str):
-        return given
-    if isinstance(given, (datetime, numpy.datetime64)):
-        second = stamp(given)
-        if second[10:] != "T00:00:00":
-            raise ValueError(f"a day is asked for, and {second} is a moment in one")
-        return second[:10]
-    if not isinstance(given, date):
-        raise TypeError(f"a day is a date, not {type(given).__name__}")
-    return given.isoformat()

@@ -1,4 +1,4 @@
-"""The program: where it is, and one run of it."""
+"""The programs: where they are, and one run of one."""
 
 from __future__ import annotations
 
@@ -8,32 +8,42 @@ import shutil
 import subprocess
 import tempfile
 from functools import lru_cache
-from typing import IO, Optional
+from typing import IO, Optional, Sequence
 
 from gtd._fault import read_fault
+from gtd._library import BUNDLED
 
 LARGEST_FILE = 16_777_216  # bytes of a record file
 MOST_ROWS = 65_536  # rows of a record file
 
 
 class ProgramNotFound(FileNotFoundError):
-    """The program ``gtd`` was not found."""
+    """The program ``gtd``, or ``gtdesk``, was not found."""
 
 
-def program() -> str:
-    """The path of the program: the environment variable ``GTD``, or otherwise ``gtd`` on ``PATH``.
+def program(name: str = "gtd") -> str:
+    """The path of a program: the environment variable ``GTD`` (or ``GTDESK``), the one that the package's wheel holds, or
+    otherwise the one on ``PATH``.
+
+    Parameters
+    ----------
+    name : {'gtd', 'gtdesk'}
 
     Raises
     ------
     ProgramNotFound
-        ``GTD`` does not name a file that can be run; or it is not set, and there is no ``gtd`` on ``PATH``.
+        The environment variable does not name a file that can be run; or it is not set, and there is no such program.
     """
-    named = os.environ.get("GTD")
-    found = shutil.which(named or "gtd")
+    variable = name.upper()
+    named = os.environ.get(variable)
+    bundled = BUNDLED / name
+    if not named and bundled.exists():
+        return str(bundled)
+    found = shutil.which(named or name)
     if found is None and named:
-        raise ProgramNotFound(f"the environment variable GTD names {named!r}, which is no program that can be run")
+        raise ProgramNotFound(f"the environment variable {variable} names {named!r}, which is no program that can be run")
     if found is None:
-        raise ProgramNotFound("no program gtd: put it on PATH, or set the environment variable GTD to its path")
+        raise ProgramNotFound(f"no program {name}: put it on PATH, or set the environment variable {variable} to its path")
     return os.path.abspath(found)
 
 
@@ -45,7 +55,7 @@ def fingerprint(path: str) -> str:
 
 
 def run(*words: str, given: bytes = b"", into: Optional[IO[bytes]] = None) -> bytes:
-    """What the program prints when it reads ``given`` from ``/dev/stdin``.
+    """What ``gtd`` prints when it reads ``given`` from ``/dev/stdin``.
 
     Parameters
     ----------
@@ -63,30 +73,39 @@ def run(*words: str, given: bytes = b"", into: Optional[IO[bytes]] = None) -> by
     RuntimeError
         What ran is not this program, or it was killed.
     """
+    return _run(program(), words, given, into)
+
+
+def run_desk(*words: str, given: bytes = b"") -> bytes:
+    """What ``gtdesk`` prints when it reads ``given`` from ``/dev/stdin``; raises what :func:`run` raises."""
+    return _run(program("gtdesk"), words, given, None)
+
+
+def _run(path: str, words: Sequence[str], given: bytes, into: Optional[IO[bytes]]) -> bytes:
     # Files in memory and not pipes: Python feeds a pipe in pieces of 4 KiB, and the processes would wait for each other
     # each time.
     with _memory() as source, _memory() as printed:
         source.write(given)
         source.seek(0)  # what is buffered is written, too
         output = printed if into is None else into
-        done = subprocess.run([program(), *words], stdin=source, stdout=output, stderr=subprocess.PIPE)
+        done = subprocess.run([path, *words], stdin=source, stdout=output, stderr=subprocess.PIPE)
         if done.returncode == 0:
             printed.seek(0)
             return printed.read()
     said = done.stderr.decode("utf-8", "replace").strip()
-    raise _failure(words[0], done.returncode, said)
+    raise _failure(path, words[0], done.returncode, said)
 
 
-def _failure(command: str, status: int, said: str) -> Exception:
+def _failure(path: str, command: str, status: int, said: str) -> Exception:
     """The exception for a run that ended with a status other than 0."""
     fault = read_fault(said)
     if fault is not None and status == 1:
         return fault
     if fault is not None and status == 3:
         kinds = {"NoMemory": MemoryError}
-        return kinds.get(fault.kind, OSError)(f"gtd {command}: {fault.kind}")
+        return kinds.get(fault.kind, OSError)(f"{os.path.basename(path)} {command}: {fault.kind}")
     ended = f"ended with status {status}" if status >= 0 else f"was ended by signal {-status}"
-    return RuntimeError(f"{program()} {command} {ended}: {said or 'it said nothing'}")
+    return RuntimeError(f"{path} {command} {ended}: {said or 'it said nothing'}")
 
 
 def _memory() -> IO[bytes]:

@@ -2,32 +2,26 @@
 
 from __future__ import annotations
 
-import csv
-import gzip
 import io
-import operator
-import os
 import tempfile
-from typing import IO, List, Optional, Union
+from typing import IO, List, Optional, Tuple
 
 import numpy
 import pandas
 
 from gtd._cutting import HEADER, Beyond, Refused, count, cut, fault_of, migrate_lines, sort_rows, texts_of
-from gtd._domain import Day, day
-from gtd._fault import Fault, in_row
-from gtd._program import LARGEST_FILE, MOST_ROWS, run
+from gtd._fault import Fault
+from gtd._library import load
+from gtd._moments import DAY, Day, Seconds, day, day_of, horizon
+from gtd._program import run
+from gtd._questions import Place, vehicle_of
+from gtd._reading import RecordsLike, as_bytes, check_last, engine_of, is_large, number, read_schedule, with_row
 
-Path = Union[str, "os.PathLike[str]"]
-Records = Union[Path, bytes, IO[bytes], pandas.DataFrame]
-
-_DIRECTION = pandas.CategoricalDtype(["positive", "negative"])
+_FIRST_YEAR, _LAST_YEAR = 1901, 2199  # of tables
 _CLOSES = pandas.CategoricalDtype(["positive", "negative", "both"])
-_LAST_NANOSECOND = "2262-04-11"
-_HAS_SECONDS = bool(pandas.Series(numpy.zeros(1, "datetime64[s]")).dtype == "datetime64[s]")
 
 
-def schedule(records: Records, first: Day, until: Day, vehicle: int) -> pandas.DataFrame:
+def schedule(records: RecordsLike, first: Day, until: Day, vehicle: int) -> pandas.DataFrame:
     """When each road element is open.
 
     Parameters
@@ -62,13 +56,12 @@ def schedule(records: Records, first: Day, until: Day, vehicle: int) -> pandas.D
         With pandas 1, ``until`` is after 2262-04-11, the last day that it can hold.
     """
     last = day(until)
-    if not _HAS_SECONDS and len(last) == 10 and last > _LAST_NANOSECOND:
-        raise pandas.errors.OutOfBoundsDatetime(f"until {last}: moments after {_LAST_NANOSECOND} need pandas 2")
+    check_last(last)
     words = (day(first), last, number(vehicle, "VehicleRange"))
     given = as_bytes(records)
-    if not _is_large(records, given):
+    if not is_large(records, given):
         return _scheduled(given, *words)
-    run("schedule", "/dev/stdin", *words, given=HEADER)  # the days and the type are looked at before the records
+    _asked(*words)  # the days and the type are looked at before the records
     rows = sort_rows(_migrated(given))
     cuts = cut(count(rows).set_index("element"))
     if isinstance(cuts, Beyond):
@@ -77,19 +70,7 @@ def schedule(records: Records, first: Day, until: Day, vehicle: int) -> pandas.D
     return pandas.concat(parts, ignore_index=True)
 
 
-def read_schedule(file: Union[Path, IO[bytes]]) -> pandas.DataFrame:
-    """A schedule that the program printed, as :func:`schedule` gives it."""
-    frame = pandas.read_csv(
-        file,
-        dtype={"element": "int64", "direction": _DIRECTION, "vehicle": "int64", "from": "category", "until": "category"},
-    )
-    for name in ("from", "until"):
-        moments = frame[name].cat
-        frame[name] = moments.categories.to_numpy(dtype="datetime64[s]")[moments.codes]
-    return frame
-
-
-def year(records: Records, element: int, direction: str, vehicle: int, year: int) -> pandas.Series:
+def year(records: RecordsLike, element: int, direction: str, vehicle: int, year: int) -> pandas.Series:
     """In how many seconds of each day of a year an element is open in a direction.
 
     Parameters
@@ -121,17 +102,17 @@ def year(records: Records, element: int, direction: str, vehicle: int, year: int
     asked = number(element, "Element")
     words = (asked, direction, number(vehicle, "VehicleRange"), number(year, "YearRange"))
     given = as_bytes(records)
-    if _is_large(records, given):
-        _check_year(*words)
+    _check_year(*words[2:])
+    if is_large(records, given):
         mine = asked.encode() + b","
         given = HEADER + b"".join(row for row in _migrated(given) if row.startswith(mine))
-    printed = _run(given, "year", "/dev/stdin", *words)
-    frame = pandas.read_csv(io.BytesIO(printed), sep=r"\s+", header=None, names=["date", "open_seconds"])
-    index = pandas.date_range(frame["date"].iloc[0], periods=len(frame), freq="D", name="date")
-    return pandas.Series(frame["open_seconds"].to_numpy(dtype="int64"), index=index, name="open_seconds")
+    place = Place(int(asked), direction == "negative", int(vehicle))
+    days = day_of(f"{year:04}-01-01"), day_of(f"{year + 1:04}-01-01")
+    index = pandas.date_range(f"{year:04}-01-01", f"{year:04}-12-31", freq="D", name="date")
+    return pandas.Series(_open_by_day(given, place, days), index=index, name="open_seconds")
 
 
-def migrate(records: Records) -> pandas.DataFrame:
+def migrate(records: RecordsLike) -> pandas.DataFrame:
     """The records as those of a file of version 2: each in its canonical form, in the same order, repeated ones included.
 
     ``migrate(records).to_csv(path, index=False, lineterminator="\\n")`` writes exactly the file that the program prints.
@@ -150,56 +131,12 @@ def migrate(records: Records) -> pandas.DataFrame:
         The file cannot be opened or read.
     """
     given = as_bytes(records)
-    if _is_large(records, given):
+    if is_large(records, given):
         printed = HEADER + b"".join(_migrated(given))
     else:
         printed = _run(given, "migrate", "/dev/stdin")
     types = {"element": "int64", "direction": _CLOSES, "vehicles": "str", "domain": "str"}
     return pandas.read_csv(io.BytesIO(printed), dtype=types, keep_default_na=False)
-
-
-def as_bytes(records: Records) -> bytes:
-    """The bytes of a record file; if it is too large, one byte more than it may have. Of a frame, all bytes."""
-    if isinstance(records, pandas.DataFrame):
-        return _as_file(records)
-    if isinstance(records, (bytes, bytearray, memoryview)):
-        return bytes(records)
-    if isinstance(records, (str, os.PathLike)):
-        is_packed = os.fspath(records).endswith(".gz")
-        with gzip.open(records) if is_packed else open(records, "rb") as file:
-            return file.read(LARGEST_FILE + 1)
-    read = records.read(LARGEST_FILE + 1)
-    if not isinstance(read, bytes):
-        raise TypeError("a file of records is opened in binary mode: its bytes are what is read")
-    return read
-
-
-def number(given: int, kind: str) -> str:
-    """The word for a number; a number that has no word is out of range."""
-    value = operator.index(given)
-    if not 0 <= value <= 9_999_999_999:
-        raise Fault(kind, text=str(value))
-    return str(value)
-
-
-def _as_file(frame: pandas.DataFrame) -> bytes:
-    vehicles = [name for name in ("vehicle", "vehicles") if name in frame.columns]
-    missing = [name for name in ("element", "direction", "domain") if name not in frame.columns]
-    if missing or len(vehicles) != 1:
-        raise ValueError(
-            "records have the columns element, direction, domain and either vehicle or vehicles; "
-            f"there are {', '.join(map(str, frame.columns))}"
-        )
-    rows = pandas.DataFrame(frame.loc[:, ["element", "direction", vehicles[0], "domain"]])
-    text: str = rows.to_csv(index=False, lineterminator="\n")
-    if "\r" in text:  # an end of a line, too, which Python does not put in quotes by itself
-        text = rows.to_csv(index=False, lineterminator="\n", quoting=csv.QUOTE_ALL)
-    return text.encode("utf-8", "replace")
-
-
-def _is_large(records: Records, given: bytes) -> bool:
-    """Whether the records are a frame that no file can hold."""
-    return isinstance(records, pandas.DataFrame) and (len(records) > MOST_ROWS or len(given) > LARGEST_FILE)
 
 
 def _migrated(given: bytes) -> List[bytes]:
@@ -212,31 +149,48 @@ def _migrated(given: bytes) -> List[bytes]:
     return migrated
 
 
-def _check_year(element: str, direction: str, vehicle: str, year: str) -> None:
-    """Raise the fault of the type or the year, which are checked before the records."""
-    one = HEADER + element.encode() + b",both,0,\n"
-    run("year", "/dev/stdin", element, direction, vehicle, year, given=one)
+def _asked(first: str, until: str, vehicle: str) -> Tuple[int, int, int]:
+    """The numbers of the days and of the vehicle type that a schedule is asked for."""
+    days = horizon(day_of(first), day_of(until))
+    return (*days, vehicle_of(int(vehicle)))
 
 
 def _scheduled(given: bytes, *words: str) -> pandas.DataFrame:
+    asked = _asked(*words)
+    if load("records_open", "records_schedule", "text_bytes") is not None:
+        return read_schedule(io.BytesIO(engine_of(given).schedule(*asked)))
     with tempfile.TemporaryFile() as printed:  # a schedule may be many times as large as its records
         _run(given, "schedule", "/dev/stdin", *words, into=printed)
         printed.seek(0)
         return read_schedule(printed)
 
 
+def _check_year(vehicle: str, year: str) -> None:
+    """Raise the fault of the type or the year, which are checked before the records."""
+    vehicle_of(int(vehicle))
+    if not _FIRST_YEAR <= int(year) <= _LAST_YEAR:
+        raise Fault("YearRange")
+
+
+def _open_by_day(given: bytes, place: Place, days: Tuple[int, int]) -> Seconds:
+    """In how many seconds of each day an element is open that the records name."""
+    engine = engine_of(given)
+    if place.element not in engine.elements():
+        raise Fault("NoElement")
+    return open_by_day(engine.spans(place, *days), days)
+
+
+def open_by_day(spans: Seconds, days: Tuple[int, int]) -> Seconds:
+    """How many seconds of each day lie in spans, which are in order and disjoint."""
+    edges = numpy.arange(days[0], days[1] + 1) * DAY
+    begun = numpy.searchsorted(spans[:, 0], edges, side="right")
+    whole = numpy.insert(numpy.cumsum(spans[:, 1] - spans[:, 0]), 0, 0)[begun]
+    ends = numpy.insert(spans[:, 1], 0, edges[0])[begun]
+    return numpy.diff(whole - numpy.maximum(ends - edges, 0))
+
+
 def _run(given: bytes, *words: str, into: Optional[IO[bytes]] = None) -> bytes:
     try:
         return run(*words, given=given, into=into)
     except Fault as fault:
-        if fault.kind == "TooManyRows":
-            raise Fault(fault.kind, row=fault.row, note=f"a file has at most {MOST_ROWS:,} rows; see gtd.country") from None
-        if fault.row is None:
-            raise
-        raise in_row(fault, row_of(given, fault.row), fault.row) from None
-
-
-def row_of(file: bytes, row: int) -> bytes:
-    """The text of a row, if the rows before it are accepted: none of these runs over the end of its line."""
-    lines = [line for line in file.removeprefix(b"\xef\xbb\xbf").splitlines() if line]
-    return lines[row] if row < len(lines) else b""
+        raise with_row(fault, given) from None

@@ -3,24 +3,29 @@
 from __future__ import annotations
 
 from datetime import date, datetime, timedelta
-from typing import Callable, List, NoReturn, TypeVar
+from typing import Callable, Iterator, List, NoReturn, Tuple, TypeVar, Union
 
 import numpy
 import pandas
+from numpy.typing import NDArray
 
 from gtd._cutting import HEADER, stretches
-from gtd._domain import Moment, stamp
 from gtd._fault import Fault, in_domain
+from gtd._in_process import open_domain
+from gtd._library import Held, Library, answers_of, done, load, text_of
+from gtd._moments import END_OF_WORDS, Moment, Moments, Seconds, is_column, moment_at, second_of, seconds_of
 from gtd._program import LARGEST_FILE, run
 
 _Answer = TypeVar("_Answer")
+_FEW = 4  # seconds that are asked one by one: a call for many costs as much as these
 
 
 class Domains:
-    """What the program says about a column of time domains, as ``frame.domain.gtd``.
+    """A column of time domains, as ``frame.domain.gtd``.
 
-    The program is run once, and not once for each row: it gets the different texts as the rows of one record file, or of as
-    few files as can hold them. As in such a file, an empty text or a missing value is the domain that always holds.
+    Each different text is read once. As in a record file, an empty text or a missing value is the domain that always holds.
+    Without the library, the program is run once, and not once for each row: it gets the texts as the rows of one record file, or
+    of as few files as can hold them.
 
     >>> import pandas, gtd
     >>> domains = pandas.Series(["(h07){m30h1}", "[(t2){d5}]", None])
@@ -45,7 +50,12 @@ class Domains:
         Fault
             The first fault of the column: ``row`` is its place in the column, from 1, and the note gives its label.
         """
-        self._canonical()
+        library = load("domain_open")
+        if library is None:
+            self._canonical()
+        else:
+            for _ in self._opened(library):
+                pass
 
     def canon(self) -> pandas.Series:
         """The canonical texts.
@@ -64,13 +74,13 @@ class Domains:
         values = numpy.where(self._codes < 0, self._values, canonical[self._codes])
         return pandas.Series(values, index=self._column.index, name=self._column.name, dtype=object)
 
-    def contains(self, moment: Moment) -> pandas.Series:
+    def contains(self, moment: Union[Moment, Moments]) -> pandas.Series:
         """Whether each domain contains a second.
 
         Parameters
         ----------
         moment
-            As in :func:`gtd.contains`.
+            A moment, as in :func:`gtd.contains`; or a column or an array of moments, one for each domain, row by row.
 
         Returns
         -------
@@ -80,28 +90,94 @@ class Domains:
         Raises
         ------
         Fault
-            The moment is refused: ``'moment Shape'``, ``'moment NoSuchDate'``, ``'moment Range'``; then as for :meth:`check`.
+            A moment is refused: ``'moment Shape'``, ``'moment NoSuchDate'``, ``'moment Range'``; then as for :meth:`check`. Of a
+            column of moments, ``row`` is the place of the first at fault, from 1.
         ValueError
-            The moment has a time zone, or is not a time (NaT).
+            A moment has a time zone, or is not a time (NaT); there are not as many moments as domains, or their index is another.
         """
-        second = stamp(moment)
-        run("at", "--", "(h0){h24}", second)  # the moment is looked at before the texts
-        asked = datetime.fromisoformat(second)
+        if is_column(moment):
+            seconds = self._seconds(moment)
+        else:
+            seconds = numpy.full(len(self._codes), second_of(moment, END_OF_WORDS))  # type: ignore[arg-type]
+        library = load("domain_open", "domain_holds")
+        if library is not None:
+            held = self._held(library, seconds)
+        else:
+            held = self._held_by_program(seconds)
+        return pandas.Series(held, index=self._column.index, name=self._column.name, dtype=bool)
+
+    def _seconds(self, moments: Moments) -> Seconds:
+        """The seconds of moments, one for each row."""
+        if isinstance(moments, pandas.Series) and not moments.index.equals(self._column.index):
+            raise ValueError("the moments have another index than the domains: take moments.to_numpy() to go row by row")
+        seconds = seconds_of(moments, END_OF_WORDS)
+        if len(seconds) != len(self._codes):
+            raise ValueError(f"there are {len(self._codes):,} domains and {len(seconds):,} moments")
+        return seconds
+
+    def _opened(self, library: Library) -> Iterator[Tuple[int, int]]:
+        """The place of each text in the list of texts, and the address of a handle in which its domain is until the next one."""
+        held = Held(library)
+        for text, words in enumerate(self._texts):
+            if words:
+                try:
+                    open_domain(library, held.at, words)
+                except Fault as fault:
+                    self._refuse(fault, text)
+                yield text, held.at
+
+    def _held(self, library: Library, seconds: Seconds) -> NDArray[numpy.bool_]:
+        """Whether the domain of each row contains its second."""
+        order = numpy.argsort(self._codes, kind="stable")
+        begins = numpy.searchsorted(self._codes[order], numpy.arange(len(self._texts) + 1)).tolist()
+        ordered = seconds[order]
+        singly, held = ordered.tolist(), numpy.ones(len(ordered), dtype=bool)
+        holds, many = library.held.domain_holds, library.held.domain_holds_many
+        for text, at in self._opened(library):
+            begin, end = begins[text], begins[text + 1]
+            if end - begin < _FEW or many is None:
+                held[begin:end] = [done(holds(at, second)) for second in singly[begin:end]]
+            else:
+                held[begin:end] = answers_of(many, at, ordered[begin:end])
+        found = numpy.empty_like(held)
+        found[order] = held
+        return found
+
+    def _held_by_program(self, seconds: Seconds) -> NDArray[numpy.bool_]:
+        """The same: the program is run once for each second that differs."""
+        held = numpy.ones(len(seconds), dtype=bool)
+        for second in numpy.unique(seconds):
+            rows = seconds == second
+            held[rows] = self._held_at(moment_at(int(second)))[rows]
+        return held
+
+    def _held_at(self, asked: datetime) -> NDArray[numpy.bool_]:
+        """Whether each domain contains a second, by one run of the program."""
         rest = f',both,0,"{_rest_of_day(asked)}"\n'.encode()
-        until = (asked + timedelta(days=1)).date().isoformat()
+        first, until = asked.date().isoformat(), (asked + timedelta(days=1)).date().isoformat()
 
         def ask(texts: List[bytes]) -> List[bool]:
             # The second row of each element closes the day except for the second that is asked about. So the element is open
             # then, and has a line, exactly if the domain does not contain that second.
             rows = b"".join(b"%d,both,0,%s\n%d%s" % (at, text, at, rest) for at, text in enumerate(texts))
-            printed = run("schedule", "/dev/stdin", second[:10], until, "1", given=HEADER + rows)
+            printed = run("schedule", "/dev/stdin", first, until, "1", given=HEADER + rows)
             open_then = {int(line.split(b",", 1)[0]) for line in printed.splitlines()[1:]}
             return [at not in open_then for at in range(len(texts))]
 
-        held = numpy.array([*self._asked(ask, 2, len(rest) + 10), True], dtype=bool)
-        return pandas.Series(held[self._codes], index=self._column.index, name=self._column.name, dtype=bool)
+        held: NDArray[numpy.bool_] = numpy.array([*self._asked(ask, 2, len(rest) + 10), True], dtype=bool)[self._codes]
+        return held
 
     def _canonical(self) -> List[str]:
+        """The canonical text of each text, in the order of the texts."""
+        library = load("domain_open", "domain_canon", "text_bytes")
+        if library is not None:
+            canonical = ["" for _ in self._texts]
+            printed = Held(library)
+            for text, at in self._opened(library):
+                done(library.held.domain_canon(at, printed.at))
+                canonical[text] = text_of(printed).decode()
+            return canonical
+
         def ask(texts: List[bytes]) -> List[str]:
             rows = b"".join(b"1,both,0,%s\n" % text for text in texts)
             printed = run("migrate", "/dev/stdin", given=HEADER + rows).decode()

@@ -2,6 +2,7 @@
 
 import contextlib
 import csv
+import importlib
 import io
 import os
 import signal
@@ -13,6 +14,7 @@ from pathlib import Path
 import pytest
 
 import gtd
+from gtd import _library
 
 FIRST, UNTIL, VEHICLE = "2024-01-01", "2024-04-01", 11
 
@@ -20,8 +22,42 @@ FIRST, UNTIL, VEHICLE = "2024-01-01", "2024-04-01", 11
 def pytest_configure(config):
     try:
         gtd.program()
+        gtd.program("gtdesk")
     except gtd.ProgramNotFound as missing:
         pytest.exit(str(missing), 2)
+    if gtd.library() is None:
+        pytest.exit("no library libgtd.so.0: set the environment variable LIBGTD to its path", 2)
+
+
+def without_library(monkeypatch):
+    """From here on the programs answer."""
+    monkeypatch.setattr(_library, "_loaded", lambda named: None)
+
+
+@pytest.fixture(params=["library", "programs"])
+def answering(request, monkeypatch):
+    """Each test that names this fixture is run twice: the library answers, and then the programs do."""
+    if request.param == "programs":
+        without_library(monkeypatch)
+    return request.param
+
+
+@pytest.fixture
+def no_program(monkeypatch):
+    """No program may be started."""
+
+    def started(*words, **more):
+        raise AssertionError(f"a program is started: {words}")
+
+    monkeypatch.setattr(subprocess, "Popen", started)
+
+
+def model_of(name):
+    """A module of the repository's own tests: ``model``, a plain model of the documents, or ``fuzz``, a maker of inputs."""
+    folder = str(Path(gtd.__file__).parents[2] / "tests")
+    if folder not in sys.path:
+        sys.path.append(folder)
+    return importlib.import_module(name)
 
 
 def by_hand(paths, first, until, vehicle, size):

@@ -4,6 +4,7 @@ import contextlib
 import json
 import os
 import re
+import signal
 import subprocess
 import sys
 import threading
@@ -101,7 +102,9 @@ def started(many, tmp_path, *words, **more):
     code = f"import sys; from gtd import country; country.schedule.__kwdefaults__.update({SMALL})\n"
     code += "from gtd.country.__main__ import main; sys.exit(main())"
     words = [sys.executable, "-c", code, many / "plain.csv", *DAYS, "--out", tmp_path / "out", *words]
-    run = subprocess.Popen(list(map(str, words)), stderr=subprocess.PIPE, env=environment(**more), text=True)
+    run = subprocess.Popen(
+        list(map(str, words)), stderr=subprocess.PIPE, env=environment(**more), text=True, start_new_session=True
+    )
     until(lambda: run.poll() is not None or any(tmp_path.glob(f"{STAGED}/parts/*")))
     return run
 
@@ -149,6 +152,17 @@ def test_the_client_is_asked_to_end(cluster, many, tmp_path):
     run.terminate()
     said = run.communicate(timeout=300)[1]
     assert (run.returncode, said, os.listdir(tmp_path)) == (143, "", [])
+
+
+def test_an_interrupt(many, tmp_path):
+    """A terminal's Ctrl-C, which each process of the run gets, ends it in one line."""
+    scratch = tmp_path / "scratch"
+    scratch.mkdir()
+    run = started(many, tmp_path, "--workers", "2", TMPDIR=scratch)
+    os.killpg(run.pid, signal.SIGINT)
+    said = run.communicate(timeout=300)[1]
+    assert (run.returncode, said) == (130, "interrupted: nothing is kept\n")
+    assert os.listdir(tmp_path) == ["scratch"] and os.listdir(scratch) == []
 
 
 @contextlib.contextmanager

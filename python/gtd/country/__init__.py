@@ -25,9 +25,9 @@ from typing import Any, Dict, List, Optional, Sequence, Tuple, Union
 
 from distributed import Client
 
-from gtd._domain import Day, day
+from gtd._moments import Day, day
 from gtd._program import MOST_ROWS
-from gtd._records import number
+from gtd._reading import number
 from gtd.country import _parts
 from gtd.country._claims import LeftBehind
 from gtd.country._cluster import connect, local

@@ -5,9 +5,11 @@ from __future__ import annotations
 import contextlib
 import logging
 import os
+import signal
 import socket
 import ssl
 import tempfile
+from multiprocessing import resource_tracker
 from pathlib import Path
 from typing import Iterator, Optional
 
@@ -28,14 +30,34 @@ def local(workers: Optional[int] = None) -> Iterator[Client]:
     workers : int, optional
         How many worker processes; by default, one for each core.
     """
-    with _scratch() as folder, LocalCluster(
-        n_workers=workers,
-        threads_per_worker=1,
-        dashboard_address="127.0.0.1:0",
-        local_directory=str(folder),
-        silence_logs=logging.CRITICAL,  # what a worker meets is raised here
-    ) as cluster, Client(cluster) as client:
+    with _scratch() as folder, contextlib.ExitStack() as stack:
+        with _interrupts_put_off():
+            cluster = stack.enter_context(
+                LocalCluster(
+                    n_workers=workers,
+                    threads_per_worker=1,
+                    dashboard_address="127.0.0.1:0",
+                    local_directory=str(folder),
+                    silence_logs=logging.CRITICAL,  # what a worker meets is raised here
+                )
+            )
+            client = stack.enter_context(Client(cluster))
         yield client
+
+
+@contextlib.contextmanager
+def _interrupts_put_off() -> Iterator[None]:
+    """Put an interrupt (Ctrl-C) off until the context ends; what is started meanwhile never hears one.
+
+    A terminal interrupts each process of a command. Only the client may hear it: it ends the others, and says so in one line.
+    Threads and processes inherit which signals are blocked, so this holds for workers that a thread starts again later, too.
+    """
+    resource_tracker.ensure_running()  # of multiprocessing; it would let this thread be interrupted when it is first used
+    before = signal.pthread_sigmask(signal.SIG_BLOCK, {signal.SIGINT})
+    try:
+        yield
+    finally:
+        signal.pthread_sigmask(signal.SIG_SETMASK, before)
 
 
 @contextlib.contextmanager
