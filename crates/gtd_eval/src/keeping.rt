@@ -15,17 +15,17 @@ use gtd_recur::Period;
 // each: most begin once a day, and those that begin each hour or minute repeat as often.
 const SPANS_OF_A_NODE: u64 = 16;
 
-// The spans of a period that are kept at most.
-const MOST_KEPT: u64 = 4_096;
+/// The spans of a period that are kept at most.
+pub(crate) const MOST_KEPT: usize = 4_096;
 
 // For how many spans of a period there is room, in a tree of so many nodes.
 pub(crate) fn room_for(nodes: u64) -> usize
     ensures few { result ≤ 4096 }
 {
-    if nodes < MOST_KEPT / SPANS_OF_A_NODE {
+    if nodes < MOST_KEPT as u64 / SPANS_OF_A_NODE {
         return (SPANS_OF_A_NODE * (nodes + 1)) as usize;
     }
-    MOST_KEPT as usize
+    MOST_KEPT
 }
 
 // Whether it pays to keep the spans of a period in the horizon, which has at least three: the spans are known after two at

@@ -29,8 +29,9 @@ impl<L: Leaf> Node<L> {
     ghost use Rattle.gtd_eval.specs.Nodes.{node_list, node_shape, node_count, node_work, IsSoundNode, node_ticks};
     ghost use Rattle.gtd_eval.specs.Nodes.{node_kept, node_periods};
 
-    /// Takes the first span off the list that is still to come.
+    /// Takes the first span off the list that is still to come. Most spans come from leaves: these are handed out without a call.
     #[cycle(next)]
+    #[inline(always)]
     pub(crate) fn next(&mut self) -> Option<Span>
         requires sound { IsSoundNode L.Leaf self.old }
         ensures sound { IsSoundNode L.Leaf self.new }
@@ -91,7 +92,7 @@ impl<L: Leaf> Node<L> {
 
 // The next span of a sweep over one node.
 #[cycle(next)]
-#[inline(always)]
+#[inline(never)]
 fn next_of_one<L: Leaf>(sweep: &mut Sweep, inner: &mut Node<L>) -> Option<Span>
     requires sound { IsSoundNode L.Leaf inner.old }
     requires one_side { HasOneSide sweep.old }
@@ -118,7 +119,7 @@ fn next_of_one<L: Leaf>(sweep: &mut Sweep, inner: &mut Node<L>) -> Option<Span>
 
 // The next span of a sweep over two nodes.
 #[cycle(next)]
-#[inline(always)]
+#[inline(never)]
 fn next_of_two<L: Leaf>(sweep: &mut Sweep, left: &mut Node<L>, right: &mut Node<L>) -> Option<Span>
     requires left_sound { IsSoundNode L.Leaf left.old }
     requires right_sound { IsSoundNode L.Leaf right.old }

@@ -6,12 +6,10 @@ ghost use Rattle.gtd_eval.specs.Ever.{week};
 ghost use Rattle.gtd_eval.specs.Repeating.{IsPlace, KeepsNone};
 ghost use Rattle.gtd_eval.specs.facts.RepeatProps.{IsPlace-prop, KeepsNone-prop};
 
+use crate::keeping::MOST_KEPT;
 use gtd_core::{Horizon, Sec, Span};
 use gtd_recur::Period;
 use std::alloc::{AllocError, Global};
-
-// The spans of a period that are kept at most.
-const MOST_KEPT: usize = 4_096;
 
 /// What is known of the spans of a period.
 #[derive(Clone, Copy, Debug)]

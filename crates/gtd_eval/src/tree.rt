@@ -192,6 +192,7 @@ impl<L: Leaf> SweepTree<L> {
         ensures value { result ≡ cursor_kept self.now }
         ensures at_most { result ≤ 4096 * cursor_periods self.now }
         ensures periods { cursor_periods self.now ≤ cursor_nodes self.now }
+        ensures bounded { result ≤ 4096 * most_nodes }
     {
         self.node.kept()
     }

@@ -10,7 +10,7 @@ use Rattle.gtd_osm.specs.declared.hours.MonthDay.{MonthDay}
 use Rattle.gtd_osm.specs.declared.hours.Place.{Place}
 use Rattle.gtd_osm.specs.declared.hours.Selector.{Selector}
 use Rattle.gtd_osm.specs.declared.hours.Selector.TheVariants as selector
-use Rattle.gtd_hours_of.specs.Forms.{AreWeeks, AreYears, IsLeafOf, IsMonthCount, IsMonthsLater, IsStretch}
+use Rattle.gtd_hours_of.specs.Forms.{AreWeeks, AreYears, IsLeafOf, IsMonthCount, ReachesMonth, IsStretch}
 
 pub some : {T : Type 0} (o : Option T) (P : T → Type 0) → IsSomeAnd o P → IsSome o
 some (Some x) P h = refl
@@ -104,7 +104,7 @@ few-days first last months days one (inr next) =
 
 -- the month that is reached: m is so many months later
 reached : (first months m last : ℕ) → (1 ≤ m) × (m ≤ 12) → (1 ≤ last) × (last ≤ 12)
-    → (m ≡ first + months) ⊎ (m + 12 ≡ first + months) → IsMonthsLater first last months → m ≡ last
+    → (m ≡ first + months) ⊎ (m + 12 ≡ first + months) → ReachesMonth first last months → m ≡ last
 reached first months m last low high (inl a) (inl b) = omega (arith, low, high, a, b)
 reached first months m last low high (inl a) (inr b) = omega (arith, low, high, a, b)
 reached first months m last low high (inr a) (inl b) = omega (arith, low, high, a, b)

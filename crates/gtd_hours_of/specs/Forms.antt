@@ -35,15 +35,15 @@ IsMonthCount first last count =
     ((first ≤ last) × (count + first ≡ last + 1)) ⊎ ((last < first) × (count + first ≡ last + 13))
 
 -- a month that comes so many months later, in the same year or the next
-abbrev pub IsMonthsLater : ℕ → ℕ → ℕ → Type 0
-IsMonthsLater first last months = (first + months ≡ last) ⊎ (first + months ≡ last + 12)
+abbrev pub ReachesMonth : ℕ → ℕ → ℕ → Type 0
+ReachesMonth first last months = (first + months ≡ last) ⊎ (first + months ≡ last + 12)
 
 -- So many months and then days from a date on end with a later one: in the month that they reach, or in the one after it.
 abbrev pub IsStretch : MonthDay → MonthDay → ℕ → ℕ → Type 0
 IsStretch first last months days =
-    (IsMonthsLater first.month last.month months × (first.day + days ≡ last.day + 1))
+    (ReachesMonth first.month last.month months × (first.day + days ≡ last.day + 1))
     ⊎ ((before : ℕ) × (1 ≤ before) × (before ≤ 12) × (month_after before ≡ last.month)
-    × IsMonthsLater first.month before months × (first.day + days ≡ common_length before + last.day + 1))
+    × ReachesMonth first.month before months × (first.day + days ≡ common_length before + last.day + 1))
 
 -- ---- weekdays
 

@@ -17,11 +17,6 @@ pub tested : {A : Type 0} (of : ℤ → A) (test : A → Bool) (n : ℤ) (x : A)
     → got ≡ test x → got ≡ value → test (of n) ≡ value
 tested of test n x got value fits is by same = let plain = rw (to_z-of_z fits) at is in rw plain at (sym by ∙ same)
 
--- so with the test whether a start begins on it
-pub begun-is : (p : StartParts) (n : ℤ) {f : DayFields} {got value : Bool} → FitsSigned w64 n → f ≡ day_fields (word n)
-    → got ≡ begins_on p f → got ≡ value → begins_on p (day_fields n) ≡ value
-begun-is p n {f} {got} {value} = tested day_fields (begins_on p) n f got value
-
 -- the start begins on no day from one on up to the day found
 pub record IsFirstSoFar (p : StartParts) (day end found : ℤ) : Type 0 where
   pub low : day ≤ℤ found

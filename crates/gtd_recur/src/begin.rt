@@ -1,6 +1,6 @@
 //! When a start begins: which days fit it, and at which seconds of a day its clock fits.
 
-ghost use Rattle.std.specs.Prelude.{◌≡◌, ◌<◌, ◌↔◌, IsTrue};
+ghost use Rattle.std.specs.Prelude.{◌≡◌, ◌<◌, ◌↔◌, true, false, IsTrue, MatchOption};
 ghost use Rattle.gtd_calendar.specs.Calendar.{IsCalendarDay};
 ghost use Rattle.gtd_calendar.specs.ComputedFields.{day_fields};
 ghost use Rattle.std.specs.Int.{IsInRange};
@@ -121,6 +121,21 @@ pub(crate) fn asks_no_date(start: &StartParts) -> bool
         && (start.weekdays != 0 || gives_clock(start))
 }
 
+/// The fields of a day that does not fit the start, or `None` if it fits. The fields of a day are read here and nowhere else;
+/// those who look for a day of a start count the days that they look at.
+#[inline(always)]
+pub(crate) fn unfit_fields(start: &StartParts, day: i64) -> Option<DayFields>
+    requires day { IsCalendarDay day }
+    ensures fields { MatchOption result (spec.begins_on start.now (day_fields day) ≡ true)
+        (λ found. (found ≡ day_fields day) × (spec.begins_on start.now (day_fields day) ≡ false)) }
+{
+    let fields = fields(day);
+    if begins_on(start, &fields) {
+        return None;
+    }
+    Some(fields)
+}
+
 /// Whether a day fits the start. Its date is computed only if its weekday does not decide that.
 pub(crate) fn begins_on_day(start: &StartParts, day: i64) -> bool
     requires { IsCalendarDay day }
@@ -129,7 +144,7 @@ pub(crate) fn begins_on_day(start: &StartParts, day: i64) -> bool
     if !is_weekday(start, weekday(day)) {
         return false;
     }
-    asks_no_date(start) || begins_on(start, &fields(day))
+    asks_no_date(start) || unfit_fields(start, day).is_none()
 }
 
 // The value that a level of the clock must have, unless it is free.

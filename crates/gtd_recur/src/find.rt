@@ -12,9 +12,9 @@ ghost use Rattle.gtd_recur.specs.Begins as spec;
 ghost use Rattle.gtd_recur.specs.Jumps as jumps;
 ghost use Rattle.gtd_recur.specs.Jumps.{IsFirstBegun, IsLastBegun, IsLastOfWeek, IsMissed, IsMissedBack, IsNextOfWeek};
 
-use crate::begin::{asks_no_date, begins_on, gives_clock, gives_day, is_weekday};
+use crate::begin::{asks_no_date, gives_clock, gives_day, is_weekday, unfit_fields};
 use crate::jump::{earlier, later};
-use gtd_calendar::{DayFields, day_of, fields, weekday};
+use gtd_calendar::{day_of, weekday};
 use gtd_core::StartParts;
 
 /// The first day on which the start begins, from a given day on and before an end; or the end. No date is computed of a
@@ -97,10 +97,10 @@ fn next_left(start: &StartParts, day: i64, end: i64) -> Option<i64>
     if !weekday_fits(start, weekday(day)) {
         return Some(day + 1);
     }
-    let fields = fields(day);
-    if begins_on(start, &fields) {
-        return None;
-    }
+    let fields = match unfit_fields(start, day) {
+        None => return None,
+        Some(fields) => fields,
+    };
     match start.week {
         Some(week) => Some(next_in_week(start, week, fields.week_year, day, end)),
         None => Some(next_in_month(start, fields.day, day)),
@@ -121,10 +121,10 @@ fn last_left(start: &StartParts, low: i64, day: i64) -> Option<i64>
     if asks_no_date(start) {
         return None;
     }
-    let fields = fields(day);
-    if begins_on(start, &fields) {
-        return None;
-    }
+    let fields = match unfit_fields(start, day) {
+        None => return None,
+        Some(fields) => fields,
+    };
     match start.week {
         Some(week) => Some(last_in_week(start, week, fields.week_year, low, day)),
         None => Some(last_in_month(start, fields.day, day)),

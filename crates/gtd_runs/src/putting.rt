@@ -105,6 +105,7 @@ fn put_all<O: Output>(output: &mut O, bytes: &[u8]) -> Result<(), ShortPut>
 /// Puts a line, its end included: offers it whole, and then the rest of it until all is taken. Counts the bytes that
 /// were taken, and the line if all of them were. Both counts must stay within a `u64`. Before the call, the output's
 /// failures must be below `u64::MAX`.
+#[inline(always)]
 pub fn put_line<O: Output>(
     output: &mut O,
     progress: &mut Progress,

@@ -6,7 +6,7 @@ use Rattle.gtd_calendar.specs.ComputedFields.{day_fields}
 use Rattle.gtd_recur.specs.Jumps.{weekday_fits}
 use Rattle.gtd_recur.specs.facts.WeekLemmas.{date-free}
 use Rattle.gtd_recur.proofs.FindLemmas.{off-weekday}
-use Rattle.gtd_recur.proofs.SearchLemmas.{begun-is, tested, missed-before, missed-down_to}
+use Rattle.gtd_recur.proofs.SearchLemmas.{tested, missed-before, missed-down_to}
 use Rattle.gtd_recur.proofs.SmallLemmas.{small-day}
 use Rattle.gtd_recur.proofs.find.last_left.Goals as goal
 
@@ -25,21 +25,19 @@ returns-then-asks_no_date c =
     let asks = c.asks_no_date.ensures.0 c.if-asks_no_date.true in
     record { missed = date-free c.args.start.now (day_fields c.args.day) asks ∙ (and_parts _ _ fits).0 }
 
-pub returns-in-Some : goal.returns-in-Some
-returns-in-Some c = record {
+pub returns-in-None : goal.returns-in-None
+returns-in-None c = record { missed = rw (to_z-of_z c.ranges.day) at c.in-None.ensures.fields; }
+
+pub returns-in-Some-week : goal.returns-in-Some-week
+returns-in-Some-week c = record {
   missed = missed-down_to c.args.start.now _ _ c.last_in_week.result c.ranges.day (search rules)
-      (begun-is c.args.start.now _ c.ranges.day c.fields-fields.ensures.value c.begins_on.ensures c.if-begins_on.false)
+      (rw (to_z-of_z c.ranges.day) at c.in-Some.ensures.fields.1)
       c.last_in_week.ensures.earlier (rw (to_z-of_z c.ranges.low) at c.last_in_week.ensures.none);
 }
 
-pub returns-in-None : goal.returns-in-None
-returns-in-None c = record {
+pub returns-in-None-week : goal.returns-in-None-week
+returns-in-None-week c = record {
   missed = missed-down_to c.args.start.now _ _ c.last_in_month.result c.ranges.day (search rules)
-      (begun-is c.args.start.now _ c.ranges.day c.fields-fields.ensures.value c.begins_on.ensures c.if-begins_on.false)
+      (rw (to_z-of_z c.ranges.day) at c.in-Some.ensures.fields.1)
       c.last_in_month.ensures.earlier (λ n from gt lt. c.last_in_month.ensures.none n gt lt);
-}
-
-pub returns-then-begins_on : goal.returns-then-begins_on
-returns-then-begins_on c = record {
-  missed = begun-is c.args.start.now _ c.ranges.day c.fields-fields.ensures.value c.begins_on.ensures c.if-begins_on.true;
 }

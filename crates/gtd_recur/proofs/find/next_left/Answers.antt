@@ -3,7 +3,7 @@ use Rattle.gtd_calendar.specs.facts.Signed.{signed_arith}
 use Rattle.gtd_calendar.specs.Calendar.{weekday_of}
 use Rattle.gtd_recur.specs.Jumps.{weekday_fits}
 use Rattle.gtd_recur.proofs.FindLemmas.{off-weekday}
-use Rattle.gtd_recur.proofs.SearchLemmas.{begun-is, tested, missed-next, missed-up_to}
+use Rattle.gtd_recur.proofs.SearchLemmas.{tested, missed-next, missed-up_to}
 use Rattle.gtd_recur.proofs.SmallLemmas.{small-day}
 use Rattle.gtd_recur.proofs.find.next_left.Goals as goal
 
@@ -17,22 +17,20 @@ returns-then-not-weekday_fits c =
           c.weekday_fits.ensures c.if-not-weekday_fits.true));
     })
 
-pub returns-then-begins_on : goal.returns-then-begins_on
-returns-then-begins_on c = record {
-  missed = begun-is c.args.start.now _ c.ranges.day c.fields-fields.ensures.value c.begins_on.ensures c.if-begins_on.true;
-}
+pub returns-in-None : goal.returns-in-None
+returns-in-None c = record { missed = rw (to_z-of_z c.ranges.day) at c.in-None.ensures.fields; }
 
-pub returns-in-Some : goal.returns-in-Some
-returns-in-Some c =
-    let off = begun-is c.args.start.now _ c.ranges.day c.fields-fields.ensures.value c.begins_on.ensures c.if-begins_on.false in
+pub returns-in-Some-week : goal.returns-in-Some-week
+returns-in-Some-week c =
+    let off = rw (to_z-of_z c.ranges.day) at c.in-Some.ensures.fields.1 in
     record {
       missed = missed-up_to c.args.start.now _ _ c.next_in_week.result c.ranges.day (search rules) off
           c.next_in_week.ensures.later (rw (to_z-of_z c.ranges.end) at c.next_in_week.ensures.none);
     }
 
-pub returns-in-None : goal.returns-in-None
-returns-in-None c =
-    let off = begun-is c.args.start.now _ c.ranges.day c.fields-fields.ensures.value c.begins_on.ensures c.if-begins_on.false in
+pub returns-in-None-week : goal.returns-in-None-week
+returns-in-None-week c =
+    let off = rw (to_z-of_z c.ranges.day) at c.in-Some.ensures.fields.1 in
     record {
       missed = missed-up_to c.args.start.now _ _ c.next_in_month.result c.ranges.day (search rules) off
           c.next_in_month.ensures.later (λ n gt lt less. c.next_in_month.ensures.none n gt lt);
