@@ -26,7 +26,7 @@ returns-then-asks_no_date c =
     record { missed = date-free c.args.start.now (day_fields c.args.day) asks ∙ (and_parts _ _ fits).0 }
 
 pub returns-in-None : goal.returns-in-None
-returns-in-None c = record { missed = rw (to_z-of_z c.ranges.day) at c.in-None.ensures.fields; }
+returns-in-None c = record { missed = rw (to_z-of_z c.ranges.day) at c.in-None.ensures.fields }
 
 pub returns-in-Some-week : goal.returns-in-Some-week
 returns-in-Some-week c = record {

@@ -18,7 +18,7 @@ returns-then-not-weekday_fits c =
     })
 
 pub returns-in-None : goal.returns-in-None
-returns-in-None c = record { missed = rw (to_z-of_z c.ranges.day) at c.in-None.ensures.fields; }
+returns-in-None c = record { missed = rw (to_z-of_z c.ranges.day) at c.in-None.ensures.fields }
 
 pub returns-in-Some-week : goal.returns-in-Some-week
 returns-in-Some-week c =
