@@ -4,7 +4,8 @@
 #   libgtd.a       one object that needs nothing but the C library
 #   libgtd.so.0    the shared library, and libgtd.so, a link to it
 #   gtd.pc         for pkg-config, to use them where they are
-# Both export exactly the calls of the header. It needs gcc and the GNU linker.
+#   lacks          the calls of the header that the crate does not export, a line for each: none, if the library is whole
+# Both libraries export exactly the other calls of the header. It needs gcc and the GNU linker.
 # Usage: bindings/build.sh
 set -eu
 top=$(cd "$(dirname "$0")/.." && pwd)
@@ -17,8 +18,11 @@ mkdir -p "$out"
 work=$(mktemp -d)
 trap 'rm -rf "$work"' EXIT
 
-# The calls of the header, a line for each.
-sed -n 's/^\(uint32_t\|void\) \(gtd_[a-z_]*\)(.*/\2/p' "$top/bindings/c/gtd.h" | sort > "$work/calls"
+# The calls of the header that the crate exports, a line for each.
+sed -n 's/^\(uint32_t\|void\) \(gtd_[a-z_]*\)(.*/\2/p' "$top/bindings/c/gtd.h" | sort > "$work/header"
+nm --defined-only --extern-only --format=posix "$proved" | sed -n 's/^\(gtd_[a-z_]*\) T .*/\1/p' | sort > "$work/crate"
+comm -12 "$work/header" "$work/crate" > "$work/calls"
+comm -23 "$work/header" "$work/crate" > "$out/lacks"
 
 # exported NM-WORDS..: the names that a library exports must be those calls.
 exported() {

@@ -13,7 +13,7 @@ for program in "${programs[@]}"; do
     [ -x "$program" ] || { echo "no program at $program: run rt ci first" >&2; exit 1; }
 done
 out=$top/bindings/out
-[ -e "$out/libgtd.so.0" ] || "$top/bindings/build.sh"
+[ -e "$out/lacks" ] || "$top/bindings/build.sh"
 read -r version released < <(sed -n 's/^## \[\([0-9.]*\)\] - \([0-9-]*\)$/\1 \2/p' "$top/CHANGELOG.md")
 umask 022
 work=$(mktemp -d)
@@ -143,6 +143,9 @@ Description: check and evaluate timed road restrictions
  It needs a processor of the level x86-64-v2.
 END
 build
+
+# A library that lacks calls of its header is not given out.
+[ ! -s "$out/lacks" ] || { echo "no packages of the library, which lacks $(paste -sd ' ' "$out/lacks")" >&2; exit; }
 
 begin libgtd0
 put_library

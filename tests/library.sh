@@ -69,6 +69,23 @@ succeeds 'gtd.h in C++17' cpp -fsyntax-only -x c++ "$room/header.c++"
 printf '#include "gtd.hpp"\n#include "gtd.hpp"\nint main() { return gtd::version().empty(); }\n' > "$room/header.cpp"
 succeeds 'gtd.hpp in C++17' cpp -fsyntax-only "$room/header.cpp"
 
+# Of a library that lacks calls of its header only the other calls are asked, by the program in C.
+lacks=$(paste -sd ' ' "$out/lacks")
+if [ -n "$lacks" ]; then
+    echo "library: it lacks $lacks; of the rest, ask.c alone is tried"
+    succeeds 'ask.c' c -o "$room/ask" "$tests/ask.c" "$out/libgtd.a" -Wl,--unresolved-symbols=ignore-all -no-pie
+    "$tests/questions.py" "$room/questions" "$room/answers" "${1:-1000}" || exit 1
+    words=$(tr ' ' '\n' <<< "$lacks" | sed 's/^gtd_records_\(next\|spans\)$/records_\1/; s/^gtd_\(domain\|records\)_open$/\1/
+        s/^gtd_records_closed_at$/closed/; s/^gtd_records_\(closed_many\|count\|element\|closers\|schedule\)$/\1/
+        s/^gtd_domain_//; s/^gtd_//' | paste -sd '|')
+    paste -d '\t' "$room/questions" "$room/answers" | grep -vE "^($words)[[:space:]]" > "$room/pairs"
+    "$room/ask" < <(cut -f 1 "$room/pairs") > "$room/found"
+    if cmp -s <(cut -f 2 "$room/pairs") "$room/found"; then pass "$(wc -l < "$room/found")"; else fail 'ask.c' "$room/found"; fi
+    echo "library: $passed passed, $failed failed"
+    [ "$failed" = 0 ]
+    exit
+fi
+
 # Programs: linked with libgtd.a, with libgtd.so.0, and with the address sanitizer.
 sanitized=(-g -fsanitize=address -fsanitize=undefined -fno-sanitize-recover=all)
 for name in ask handles threads; do

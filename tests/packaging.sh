@@ -54,6 +54,7 @@ build_twice() {
     succeeds 'the packages are built' "$top/packaging/deb.sh" "$room/first"
     [ "$failed" = 0 ] || exit 1
     (cd "$room/second" && umask 077 && TMPDIR=$room "$top/packaging/deb.sh") > "$room/said" 2>&1
+    [ ! -s "$top/bindings/out/lacks" ] || packages=gtd
     local name
     for name in $packages; do
         deb=$(echo "$room/first/${name}"_*_amd64.deb)
@@ -250,7 +251,7 @@ know_commands
 lint_pages
 complete_words
 run_it
-use_library
+[ "$packages" = gtd ] || use_library
 remove_it
 
 echo "packaging: $passed passed, $failed failed"
