@@ -97,7 +97,7 @@ class RecordsInProcess:
 
     def __init__(self, library: Library, given: bytes) -> None:
         self._library, self._calls, self._given = library, library.held, given
-        self._held = Held(library)
+        self._held, self._closed_at = Held(library), self._calls.records_closed_at
         self._elements: Optional[Seconds] = None
         fault = RecordFault()
         if not done(library.free.records_open(self._held.at, given, len(given), addressof(fault))):
@@ -126,9 +126,9 @@ class RecordsInProcess:
 
     def closed_at(self, place: Place, second: int) -> bool:
         """Whether some record closes an element at a second."""
-        if self._calls.records_closed_at is None:
+        if self._closed_at is None:
             return self._by_program.closed_at(place, second)
-        return done(self._calls.records_closed_at(self._held.at, *place, second))
+        return done(self._closed_at(self._held.at, *place, second))
 
     def closed_many(self, questions: NDArray[Any]) -> NDArray[numpy.bool_]:
         """Whether some record closes, for each question."""

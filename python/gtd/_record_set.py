@@ -109,7 +109,8 @@ class Records:
             The columns have different lengths; a moment has a time zone, or is not a time (NaT).
         """
         given = (element, direction, vehicle, moment)
-        if length_of(*given) is None:
+        is_one = type(element) is int and type(direction) is str and type(vehicle) is int and type(moment) is datetime
+        if is_one or length_of(*given) is None:
             place = place_of(element, direction, vehicle)  # type: ignore[arg-type]
             return self._engine.closed_at(place, second_of(moment))  # type: ignore[arg-type]
         closed = self._engine.closed_many(questions_of(*given))

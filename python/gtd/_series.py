@@ -2,6 +2,7 @@
 
 from __future__ import annotations
 
+import ctypes
 from datetime import date, datetime, timedelta
 from typing import Callable, Iterator, List, NoReturn, Tuple, TypeVar, Union
 
@@ -12,7 +13,7 @@ from numpy.typing import NDArray
 from gtd._cutting import HEADER, stretches
 from gtd._fault import Fault, in_domain
 from gtd._in_process import open_domain
-from gtd._library import Held, Library, answers_of, done, load, text_of
+from gtd._library import YES, Held, Library, TextFault, answers_of, done, load, text_of
 from gtd._moments import END_OF_WORDS, Moment, Moments, Seconds, is_column, moment_at, second_of, seconds_of
 from gtd._program import LARGEST_FILE, run
 
@@ -117,30 +118,39 @@ class Domains:
 
     def _opened(self, library: Library) -> Iterator[Tuple[int, int]]:
         """The place of each text in the list of texts, and the address of a handle in which its domain is until the next one."""
-        held = Held(library)
+        held, fault = Held(library), TextFault()
+        at, place, opens = held.at, ctypes.addressof(fault), library.held.domain_open
         for text, words in enumerate(self._texts):
             if words:
-                try:
-                    open_domain(library, held.at, words)
-                except Fault as fault:
-                    self._refuse(fault, text)
-                yield text, held.at
+                given = words.encode("utf-8", "replace")
+                if opens(at, given, len(given), place) != YES:
+                    self._refuse_opened(library, words, text)
+                yield text, at
+
+    def _refuse_opened(self, library: Library, words: str, text: int) -> None:
+        """Raise why a text cannot be opened."""
+        try:
+            open_domain(library, Held(library).at, words)
+        except Fault as fault:
+            self._refuse(fault, text)
 
     def _held(self, library: Library, seconds: Seconds) -> NDArray[numpy.bool_]:
         """Whether the domain of each row contains its second."""
         order = numpy.argsort(self._codes, kind="stable")
         begins = numpy.searchsorted(self._codes[order], numpy.arange(len(self._texts) + 1)).tolist()
         ordered = seconds[order]
-        singly, held = ordered.tolist(), numpy.ones(len(ordered), dtype=bool)
+        singly, answers = ordered.tolist(), bytearray(b"\1" * len(ordered))
         holds, many = library.held.domain_holds, library.held.domain_holds_many
         for text, at in self._opened(library):
             begin, end = begins[text], begins[text + 1]
             if end - begin < _FEW or many is None:
-                held[begin:end] = [done(holds(at, second)) for second in singly[begin:end]]
+                for row in range(begin, end):
+                    answer = holds(at, singly[row])
+                    answers[row] = answer if answer <= YES else done(answer)
             else:
-                held[begin:end] = answers_of(many, at, ordered[begin:end])
-        found = numpy.empty_like(held)
-        found[order] = held
+                answers[begin:end] = answers_of(many, at, ordered[begin:end]).tobytes()
+        found = numpy.empty(len(ordered), dtype=bool)
+        found[order] = numpy.frombuffer(answers, dtype=bool)
         return found
 
     def _held_by_program(self, seconds: Seconds) -> NDArray[numpy.bool_]:

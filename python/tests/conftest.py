@@ -16,6 +16,20 @@ import pytest
 import gtd
 from gtd import _library
 
+def is_within(ends, second):
+    """Whether a second lies in one of some spans."""
+    return any(begin <= second < end for begin, end in ends.tolist())
+
+
+def samples(maker, ends, first, last):
+    """Seconds from ``first`` up to ``last``: some at random, and those beside the ends of some spans, which are checked, too."""
+    flat = ends.reshape(-1)
+    assert (flat[1:] > flat[:-1]).all() and (flat >= first).all() and (flat <= last).all()
+    some = maker.random.sample(flat.tolist(), min(10, len(flat)))
+    beside = [second for end in some for second in (end - 1, end) if first <= second < last]
+    return [maker.random.randrange(first, last) for _ in range(20)] + beside
+
+
 FIRST, UNTIL, VEHICLE = "2024-01-01", "2024-04-01", 11
 
 

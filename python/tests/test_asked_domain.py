@@ -12,7 +12,7 @@ import pytest
 
 import gtd
 from gtd import _library
-from tests.conftest import model_of, without_library
+from tests.conftest import is_within, model_of, samples, without_library
 
 model, Maker = model_of("model"), model_of("fuzz").Maker
 EPOCH = datetime(1970, 1, 1)
@@ -46,25 +46,14 @@ def test_random_spans_and_changes(answering, seed):
     maker = Maker(100 + seed)
     text = maker.domain()
     first = maker.moment(text) // 86_400
-    last = first + 3
-    expected = numpy.array(in_domain(text, range(first * 86_400, last * 86_400)))
+    days = moment_of(first * 86_400), moment_of((first + 3) * 86_400)
     domain = gtd.Domain(text)
-    spans = domain.spans(moment_of(first * 86_400), moment_of(last * 86_400))
-    held = numpy.zeros(len(expected), dtype=bool)
-    ends = spans.to_numpy(dtype="datetime64[s]").astype("int64") - first * 86_400
-    for begin, end in ends:
-        assert 0 <= begin < end <= len(held)
-        held[begin:end] = True
-    assert (held == expected).all(), text
-    assert (ends[1:, 0] > ends[:-1, 1]).all()
-    asked = first * 86_400 + maker.random.randrange(2 * 86_400)
-    change = domain.next_change(moment_of(asked), moment_of(last * 86_400))
-    later = expected[asked - first * 86_400 :]
-    turned = numpy.flatnonzero(later != later[0])
-    if len(turned):
-        assert change == (moment_of(asked + int(turned[0])), not later[0])
-    else:
-        assert change is None
+    ends = domain.spans(*days).to_numpy(dtype="datetime64[s]").astype("int64")
+    asked = samples(maker, ends, first * 86_400, (first + 3) * 86_400)
+    assert [is_within(ends, second) for second in asked] == in_domain(text, asked), text
+    change = domain.next_change(moment_of(asked[0]), days[1])
+    later = [end for end in ends.reshape(-1).tolist() if asked[0] < end < (first + 3) * 86_400]
+    assert change == ((moment_of(later[0]), not is_within(ends, asked[0])) if later else None), text
 
 
 FORMS = [

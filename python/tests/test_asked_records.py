@@ -12,7 +12,7 @@ import pytest
 
 import gtd
 from gtd import _library
-from tests.conftest import model_of, without_library
+from tests.conftest import is_within, model_of, samples, without_library
 from tests.make_records import rows
 
 model, Maker = model_of("model"), model_of("fuzz").Maker
@@ -69,20 +69,16 @@ def test_random_spans_and_changes(answering, seed):
     maker = Maker(200 + seed)
     given, restrictions, version = made(maker)
     first = maker.moment() // 86_400
-    seconds = range(first * 86_400, (first + 2) * 86_400)
-    for element, direction in [(1, "positive"), (2, "negative"), (4, "positive")]:
-        expected = numpy.array([model.is_open(restrictions, version, element, direction, 5, second) for second in seconds])
-        days = moment_of(seconds[0]), moment_of(seconds[-1] + 1)
-        spans = gtd.Records(given).spans(element, direction, 5, *days)
-        held = numpy.zeros(len(expected), dtype=bool)
-        for begin, end in spans.to_numpy(dtype="datetime64[s]").astype("int64") - seconds[0]:
-            held[begin:end] = True
-        assert (held == expected).all(), given
-        asked = 40_000
-        change = gtd.Records(given).next_change(element, direction, 5, moment_of(seconds[asked]), days[1])
-        turned = numpy.flatnonzero(expected[asked:] != expected[asked])
-        wanted = (moment_of(seconds[asked + int(turned[0])]), not expected[asked]) if len(turned) else None
-        assert change == wanted, given
+    days = moment_of(first * 86_400), moment_of((first + 3) * 86_400)
+    records = gtd.Records(given)
+    for place in [(1, "positive", 5), (2, "negative", 5), (4, "positive", 5)]:
+        ends = records.spans(*place, *days).to_numpy(dtype="datetime64[s]").astype("int64")
+        asked = samples(maker, ends, first * 86_400, (first + 3) * 86_400)
+        expected = [model.is_open(restrictions, version, *place, second) for second in asked]
+        assert [is_within(ends, second) for second in asked] == expected, given
+        change = records.next_change(*place, moment_of(asked[0]), days[1])
+        later = [end for end in ends.reshape(-1).tolist() if asked[0] < end < (first + 3) * 86_400]
+        assert change == ((moment_of(later[0]), not expected[0]) if later else None), given
 
 
 def test_columns_of_questions(answering):
@@ -152,8 +148,8 @@ def test_closers_and_changes(answering):
     now = "2024-03-16T08:00:00"
     assert records.next_change(103, "positive", 11, now, "2024-04-01") == (datetime(2024, 3, 18, 7, 30), False)
     assert records.next_change(105, "negative", 11, now, date(2024, 9, 1)) == (datetime(2024, 8, 1), True)
-    assert records.next_change(104, "negative", 11, now, "2424-03-15") is None
-    assert records.next_change(999, "negative", 11, now, "2424-03-15") is None
+    assert records.next_change(104, "negative", 11, now, "2034-03-15") is None
+    assert records.next_change(999, "negative", 11, now, "2034-03-15") is None
     for until, kind in [("2024-03-16", "horizon Empty"), ("2424-03-18", "horizon TooLong"), ("2424-03-32", "date NoSuchDate")]:
         with pytest.raises(gtd.Fault) as caught:
             records.next_change(101, "negative", 11, "2024-03-16T08:00:00", until)
@@ -220,7 +216,7 @@ def test_a_year_of_each_day(answering):
             words = [gtd.program(), "year", "/dev/stdin", str(element), direction, "11", "2024"]
             printed = subprocess.run(words, input=given, stdout=subprocess.PIPE, check=True).stdout.decode()
             seconds = gtd.year(given, int(element), direction, 11, 2024)
-            assert "".join(f"{day:%Y-%m-%d} {number}\n" for day, number in seconds.items()) == printed
+            assert "".join(f"{day:%Y-%m-%d} {number:5}\n" for day, number in seconds.items()) == printed
 
 
 def test_frames_and_files(answering, tmp_path):

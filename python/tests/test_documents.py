@@ -11,7 +11,7 @@ from pathlib import Path
 import pytest
 
 import gtd
-from gtd import _series
+from gtd import _domain, _record_set, _series
 from tests.conftest import environment
 from tests.make_records import rows
 
@@ -58,7 +58,7 @@ def test_commands_of_a_page(folder, page):
         (shutil.rmtree if out.is_dir() else Path.unlink)(out)
 
 
-@pytest.mark.parametrize("module", [gtd, _series])
+@pytest.mark.parametrize("module", [gtd, _domain, _record_set, _series])
 def test_examples_of_the_code(module):
     found = doctest.testmod(module)
     assert found.attempted and not found.failed

@@ -9,6 +9,7 @@ import pandas
 import pytest
 
 import gtd
+from tests.conftest import without_library
 
 
 def test_rows_of_the_language():
@@ -112,6 +113,7 @@ def test_a_year_is_refused_for_ever():
 
 
 def test_where_the_program_is(monkeypatch, tmp_path):
+    without_library(monkeypatch)
     path = gtd.program()
     monkeypatch.setenv("PATH", os.path.dirname(path) if os.path.basename(path) == "gtd" else "")
     monkeypatch.delenv("GTD")

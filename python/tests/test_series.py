@@ -8,7 +8,10 @@ import pytest
 
 import gtd
 from gtd import _series
+from tests.conftest import model_of, without_library
 from tests.make_records import rows
+
+model, Maker = model_of("model"), model_of("fuzz").Maker
 
 SHAPES = sorted({line.rstrip("\n").split(",", 3)[3] for line in rows(300, 5)} - {"", "domain"})
 MOMENTS = ["2024-01-06T00:00:00", "2024-03-31T23:59:59", "2024-06-03T08:15:59", "2199-12-31T12:00:00", "1901-01-01T00:00:01"]
@@ -48,7 +51,39 @@ def test_empty_and_missing_texts_always_hold():
         assert len(column.gtd.canon()) == len(column)
 
 
+def test_row_by_row(answering):
+    """A column of domains with a column of moments, against the model."""
+    maker = Maker(11)
+    texts = [maker.domain() for _ in range(8)] * 5 + ["", None]
+    seconds = [maker.moment(text or "") for text in texts[: 10 if answering == "programs" else 40]]
+    texts = texts[: len(seconds)] + ["", None]
+    seconds += [0, 0]
+    expected = [not text or model.contains(model.read(text.encode()), second) for text, second in zip(texts, seconds)]
+    column = pandas.Series(texts, index=[f"road {at}" for at in range(len(texts))], name="domain")
+    moments = numpy.array(seconds).astype("datetime64[s]")
+    for given in (moments, pandas.Series(moments, index=column.index), moments.tolist()):
+        found = column.gtd.contains(given)
+        pandas.testing.assert_series_equal(found, pandas.Series(expected, column.index, name="domain"))
+
+
+def test_moments_of_a_column_that_are_refused(answering):
+    column = pandas.Series(["(h1){h1}", "(h25){h1}"])
+    with pytest.raises(ValueError, match="2 domains and 1 moments"):
+        column.gtd.contains(["2024-01-01T00:00:00"])
+    with pytest.raises(ValueError, match="another index"):
+        column.gtd.contains(pandas.Series(["2024-01-01T00:00:00"] * 2, index=[1, 2]))
+    for moments, kind, row in [
+        (["2024-01-01T00:00:00", "2200-01-01T00:00:00"], "moment Range", 2),
+        (["2024-01-01T00:00:00", "2199-12-31T23:59:59"], "FieldRange", 2),
+    ]:
+        with pytest.raises(gtd.Fault) as caught:
+            column.gtd.contains(moments)
+        assert (caught.value.kind, caught.value.row) == (kind, row)
+
+
 def test_the_program_is_asked_once(monkeypatch):
+    """Where there is no library."""
+    without_library(monkeypatch)
     asked = []
 
     def run(*words, **more):
