@@ -7,7 +7,7 @@ use Rattle.std.specs.List.Sorted.{IsStrictlyIncreasing}
 use Rattle.std.specs.Str.Parse.{digits_value}
 use Rattle.gtd_core.specs.Trees.{Tree}
 use Rattle.gtd_core.specs.declared.fault.TextFault.{TextFault}
-use Rattle.gtd_text.specs.Reading.{StandsFor, HasNoFault, IsFault}
+use Rattle.gtd_text.specs.Reading.{IsReading}
 use Rattle.gtd_records.specs.Closing.{Restriction}
 use Rattle.gtd_records.specs.declared.direction.Direction.TheVariants.{Positive, Negative}
 use Rattle.gtd_records.specs.declared.direction.Closed.{Closed}
@@ -49,11 +49,11 @@ AreTypes version.One text (AllBut types) = ⊥
 AreTypes version.Two text (Only types) = AreCodes (items text) types
 AreTypes version.Two text (AllBut types) = (list : List ℕ) × (text ≡ 33 ∷ list) × AreCodes (items list) types
 
--- The last column: no domain if it is empty, otherwise the expression that its text stands for, or the text's fault.
+-- The last column: no domain if it is empty, otherwise what its text is read as: an expression, or a fault.
 abbrev pub IsDomain : List ℕ → Result (Option Tree) TextFault → Type 0
 IsDomain text (Ok None) = text ≡ []
-IsDomain text (Ok (Some tree)) = (text ≢ []) × StandsFor text tree × HasNoFault text
-IsDomain text (Err why) = (text ≢ []) × IsFault text why
+IsDomain text (Ok (Some tree)) = (text ≢ []) × IsReading text (Ok tree)
+IsDomain text (Err why) = (text ≢ []) × IsReading text (Err why)
 
 -- The column gives a value, with which the row goes on; or it gives none, and is at fault.
 abbrev pub Column : {T : Type 0} → (T → Type 0) → Type 0 → (T → Type 0) → Type 0

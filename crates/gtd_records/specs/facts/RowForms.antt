@@ -12,6 +12,7 @@ use Rattle.std.proofs.lemmas.List.Elements.{All-cons, All-head, All-tail}
 use Rattle.std.proofs.lemmas.List.Splits.{slice_split_none}
 use Rattle.gtd_core.specs.Trees.{Tree}
 use Rattle.gtd_core.specs.declared.fault.TextFault.{TextFault}
+use Rattle.gtd_text.specs.facts.Readings.{is_reading, stands_for, faultless}
 use Rattle.gtd_records.specs.Closing.{Restriction}
 use Rattle.gtd_records.specs.Columns.{Fields, IsOrdered, IsSortedSet, and_code, closed_of, code_of, codes_of, direction_of, is_word}
 use Rattle.gtd_records.specs.Columns.{is_zero, items_of, named, number_of, single, type_of, types_listed, vehicles_of}
@@ -411,7 +412,7 @@ domain_is [] (Ok None) is = refl
 domain_is [] (Ok (Some tree)) is = absurd cc
 domain_is [] (Err why) is = absurd is
 domain_is (b ∷ text) (Ok None) is = absurd is
-domain_is (b ∷ text) (Ok (Some tree)) is = ((λ e. cc), is.0, is.1)
+domain_is (b ∷ text) (Ok (Some tree)) is = ((λ e. cc), is_reading (b ∷ text) tree is.0 is.1)
 domain_is (b ∷ text) (Err why) is = ((λ e. cc), is)
 
 as_domain : (text : List ℕ) (read : Result (Option Tree) TextFault) → IsDomain text read → IsDomainColumn text read
@@ -419,7 +420,7 @@ as_domain [] (Ok None) is = refl
 as_domain [] (Ok (Some tree)) is = absurd (is.0 refl)
 as_domain [] (Err why) is = absurd (is.0 refl)
 as_domain (b ∷ text) (Ok None) is = absurd cc
-as_domain (b ∷ text) (Ok (Some tree)) is = (is.1, is.2)
+as_domain (b ∷ text) (Ok (Some tree)) is = (stands_for (b ∷ text) tree is.1, faultless (b ∷ text) tree is.1)
 as_domain (b ∷ text) (Err why) is = is.1
 
 -- ---- rows
