@@ -13,7 +13,7 @@ domain='[(M4d1){M3}]*[(h10){h4}]'
 python3 "$top/python/tests/make_records.py" 65536 1 > "$work/made.csv"
 gcc -std=c11 -O2 -Wall -Wextra -Werror -I "$top/bindings/c" -o "$work/main" "$top/bench/library/main.c" "$out/libgtd.a"
 export GTD_LIB_DIR=$out CARGO_TARGET_DIR=$work/target
-(cd "$top/bindings/rust" && cargo bench --offline --quiet --no-run 2> /dev/null)
+(cd "$top/bindings/rust" && cargo bench --offline --quiet --bench library --no-run 2> /dev/null)
 
 # processes TIMES COMMAND..: the least time of one of so many runs, in nanoseconds.
 processes() {
@@ -29,7 +29,7 @@ processes() {
 }
 
 "$work/main" "$domain" "$work/made.csv" > "$work/c" 2> /dev/null
-(cd "$top/bindings/rust" && cargo bench --offline --quiet -- "$domain" "$work/made.csv") > "$work/rust"
+(cd "$top/bindings/rust" && cargo bench --offline --quiet --bench library -- "$domain" "$work/made.csv") > "$work/rust"
 moment=2024-03-15T06:50:00
 {
     at=$(processes 100 "$gtd" at "$domain" $moment)
