@@ -71,7 +71,8 @@ class DomainInProcess:
 
     def words(self) -> str:
         """What it says, in plain English."""
-        return self._by_program.words() if self._calls.domain_words is None else self._text("domain_words")
+        found = self._by_program.words() if self._calls.domain_words is None else self._text("domain_words")
+        return found.rstrip("\n")
 
     def picture(self, year: int) -> str:
         """The picture of a year."""
