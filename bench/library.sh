@@ -53,4 +53,4 @@ paste -d ' ' "$work/c" "$work/rust" "$work/process" | awk '
         said["week"] = "`gtd_records_spans`, a week of each element and direction"
     }
     function time(ns) { return ns < 1e6 ? sprintf("%.0f ns", ns) : sprintf("%.1f ms", ns / 1e6) }
-    { printf "| %s | %s | %s | %s | %.1f |\n", said[$1], time($2), time($4), time($6), $6 / $2 }'
+    { printf "| %s | %s | %s | %s | %.3g |\n", said[$1], time($2), time($4), time($6), $6 / $2 }'

@@ -65,13 +65,14 @@ uint32_t gtd_domain_ever(gtd_handle *domain, int64_t second, int64_t *change);
 /* The spans of the domain's seconds from one day up to another, which is not included: GTD_YES and *spans. */
 uint32_t gtd_domain_spans(gtd_handle *domain, int64_t from_day, int64_t until_day, gtd_handle *spans);
 
-/* The canonical text of the domain, its text in plain English, and the SVG picture of a year: GTD_YES and *text. */
+/* The canonical text of the domain, its words in plain English (lines, each with a line end), and the picture of a year from
+   1901 to 2199 as SVG: GTD_YES and *text. */
 uint32_t gtd_domain_canon(gtd_handle *domain, gtd_handle *text);
 uint32_t gtd_domain_words(gtd_handle *domain, gtd_handle *text);
 uint32_t gtd_domain_picture(gtd_handle *domain, uint32_t year, gtd_handle *text);
 
 /* One answer, 0 or 1, for each second, in order; GTD_RANGE at the first that is out of range. *done: how many were
-   answered. */
+   answered, after either. GTD_SHORT: there is room for fewer answers than seconds, and none is written. */
 uint32_t gtd_domain_holds_many(gtd_handle *domain, const int64_t *seconds, size_t count, uint8_t *answers, size_t room,
                                size_t *done);
 

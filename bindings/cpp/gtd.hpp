@@ -290,7 +290,7 @@ public:
         return detail::text_of(std::move(text));
     }
 
-    // What it says, in plain English.
+    // What it says, in plain English: lines, each with a line end.
     std::string words() {
         detail::Handle text;
         detail::done(gtd_domain_words(handle_.get(), text.get()));

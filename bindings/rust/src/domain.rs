@@ -142,7 +142,7 @@ impl Domain {
         Handle::opened(|text| unsafe { sys::gtd_domain_canon(self.0.get(), text) })?.into_text()
     }
 
-    /// What the domain says, in plain English.
+    /// What the domain says, in plain English: lines, each with a line end.
     ///
     /// # Errors
     ///
