@@ -1,0 +1,10 @@
+pub mod Owned
+pub mod Answers
+pub mod Batches
+pub mod Changes
+pub mod Dates
+pub mod Faults
+pub mod Handles
+pub mod Names
+pub mod Pictures
+pub mod Writing

@@ -1,0 +1,21 @@
+//! Time domains and record files for programs in C, and in every language that can call C.
+#![tactic(auto)]
+
+mod answers;
+mod batches;
+mod dates;
+mod domains;
+mod faults;
+mod handle;
+mod horizons;
+mod loose;
+mod names;
+mod opening;
+mod output;
+mod parts;
+mod pictures;
+mod records;
+mod shared_records;
+mod sharing;
+mod spans;
+mod texts;
