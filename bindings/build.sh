@@ -1,6 +1,6 @@
 #!/usr/bin/env bash
-# Makes the library of bindings/c/gtd.h in bindings/out from the proved crate gtd_c, which it first proves and builds where that
-# is not done:
+# Makes the library of bindings/c/gtd.h in bindings/out from the proved crate gtd_c, which bindings/archive.py first proves and
+# compiles where that is not done. Run it after `rt ci`:
 #   libgtd.a       one object that needs nothing but the C library
 #   libgtd.so.0    the shared library, and libgtd.so, a link to it
 #   gtd.pc         for pkg-config, to use them where they are
@@ -11,7 +11,7 @@ set -eu
 top=$(cd "$(dirname "$0")/.." && pwd)
 proved=$top/crates/gtd_c/out/libgtd_c.a
 out=$top/bindings/out
-[ -e "$proved" ] || (cd "$top/crates/gtd_c" && rt lib)
+[ -e "$proved" ] || "$top/bindings/archive.py"
 heap=$(dirname "$(rt doc)")/c/liblibc_c.a
 version=$(sed -n 's/^## \[\([0-9.]*\)\] - .*/\1/p' "$top/CHANGELOG.md" | head -n 1)
 mkdir -p "$out"
