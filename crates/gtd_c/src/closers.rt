@@ -90,6 +90,8 @@ pub extern "C" fn gtd_records_closers(
         AreClosersWritten found element (direction_of negative) vehicle second result rows.old rows.new count.new) }
     ensures range { OfRecords records.old.loose.value result
         (λ found. IsRange (IsVehicleType vehicle × IsHorizonSecond second) result) }
+    ensures answers { OfRecords records.old.loose.value result
+        (λ found. ((result ≡ gtd_yes) ⊎ (result ≡ gtd_short)) ⊎ ((result ≡ gtd_range) ⊎ (result ≡ gtd_memory))) }
     ensures untouched { ((result ≡ gtd_yes) → ⊥) → rows.new ≡ rows.old }
     ensures uncounted { ((result ≡ gtd_yes) → ⊥) → ((result ≡ gtd_short) → ⊥) → count.new ≡ count.old }
 {
