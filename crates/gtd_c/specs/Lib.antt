@@ -7,4 +7,5 @@ pub mod Faults
 pub mod Handles
 pub mod Names
 pub mod Pictures
+pub mod Rows
 pub mod Writing

@@ -3,6 +3,8 @@
 
 mod answers;
 mod batches;
+mod changes;
+mod closers;
 mod dates;
 mod domains;
 mod faults;
@@ -18,4 +20,5 @@ mod records;
 mod shared_records;
 mod sharing;
 mod spans;
+mod stamps;
 mod texts;
