@@ -7,4 +7,6 @@ pub mod Faults
 pub mod Handles
 pub mod Names
 pub mod Pictures
+pub mod Questions
+pub mod Schedules
 pub mod Writing
