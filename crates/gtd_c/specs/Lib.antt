@@ -7,5 +7,7 @@ pub mod Faults
 pub mod Handles
 pub mod Names
 pub mod Pictures
+pub mod Questions
 pub mod Rows
+pub mod Schedules
 pub mod Writing
