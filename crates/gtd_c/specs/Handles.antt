@@ -1,5 +1,5 @@
 -- What handles stand for, and what calls do to them.
-use Rattle.std.specs.Prelude.{◌≡◌, ◌≤◌, ◌∷◌, [], ℕ, ℤ, List, Option, None, Some, Ok, length, slice_get}
+use Rattle.std.specs.Prelude.{◌≡◌, ◌≤◌, ◌∷◌, [], ℕ, ℤ, List, Option, Some, Ok, length, slice_get}
 use Rattle.gtd_core.specs.declared.domain.Domain.{Domain}
 use Rattle.gtd_records.specs.Closing.{AreElements, Restriction}
 use Rattle.gtd_core.specs.Parts.{domain_tree}
