@@ -9,7 +9,10 @@ use crate::handle::{Handle, Thing};
 use crate::opening::open;
 use std::alloc::Global;
 
-/// Opens another handle of the same records.
+// Does nothing. A call of it is proved only if the type is `Send`: if its values may go to another thread.
+fn assert_send<T: Send>(_: &T) {}
+
+/// Opens another handle of the same records, which another thread may use.
 #[unsafe(no_mangle)]
 pub extern "C" fn gtd_share(alloc: Global, records: &mut Handle, other: &mut Handle) -> u32
     ensures kept { records.new.loose.value ≡ records.old.loose.value }
@@ -30,6 +33,7 @@ pub extern "C" fn gtd_share(alloc: Global, records: &mut Handle, other: &mut Han
         _ => Err(KIND),
     };
     *records = Handle::of(thing);
+    assert_send(records);
     match shared {
         Ok(another) => open(alloc, other, Thing::Records(another)),
         Err(why) => {
