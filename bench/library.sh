@@ -53,4 +53,5 @@ paste -d ' ' "$work/c" "$work/rust" "$work/process" | awk '
         said["week"] = "`gtd_records_spans`, a week of each element and direction"
     }
     function time(ns) { return ns < 1e6 ? sprintf("%.0f ns", ns) : sprintf("%.1f ms", ns / 1e6) }
-    { printf "| %s | %s | %s | %s | %.3g |\n", said[$1], time($2), time($4), time($6), $6 / $2 }'
+    function ratio(x) { return sprintf(x < 10 ? "%.1f" : "%.0f", x) }
+    { printf "| %s | %s | %s | %s | %s |\n", said[$1], time($2), time($4), time($6), ratio($6 / $2) }'

@@ -97,13 +97,23 @@ def test_the_command_on_a_cluster(cluster, many, tmp_path):
     assert (tmp_path / "all.csv").read_bytes() == by_hand([many / "plain.csv"], FIRST, "2024-04-01", VEHICLE, 65_536)
 
 
+def _hears_interrupts():
+    """A shell has what it starts in the background ignore interrupts, and so would all that these tests start."""
+    signal.signal(signal.SIGINT, signal.SIG_DFL)
+
+
 def started(many, tmp_path, *words, **more):
     """A run of the command that has written its first part."""
     code = f"import sys; from gtd import country; country.schedule.__kwdefaults__.update({SMALL})\n"
     code += "from gtd.country.__main__ import main; sys.exit(main())"
     words = [sys.executable, "-c", code, many / "plain.csv", *DAYS, "--out", tmp_path / "out", *words]
     run = subprocess.Popen(
-        list(map(str, words)), stderr=subprocess.PIPE, env=environment(**more), text=True, start_new_session=True
+        list(map(str, words)),
+        stderr=subprocess.PIPE,
+        env=environment(**more),
+        text=True,
+        start_new_session=True,
+        preexec_fn=_hears_interrupts,
     )
     until(lambda: run.poll() is not None or any(tmp_path.glob(f"{STAGED}/parts/*")))
     return run
