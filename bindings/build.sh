@@ -2,7 +2,7 @@
 # Makes the library of bindings/c/gtd.h in bindings/out from the proved crate gtd_c, which bindings/archive.py first proves and
 # compiles where that is not done. Run it after `rt ci`:
 #   libgtd.a       one object that needs nothing but the C library
-#   libgtd.so.0    the shared library, and libgtd.so, a link to it
+#   libgtd.so.0    the shared library, and libgtd.so, a copy of it for the linker
 #   gtd.pc         for pkg-config, to use them where they are
 #   lacks          the calls of the header that the crate does not export, a line for each: none, if the library is whole
 # Both libraries export exactly the other calls of the header. It needs gcc and the GNU linker.
@@ -40,6 +40,8 @@ exported --extern-only "$out/libgtd.a"
 gcc -shared -Wl,-soname,libgtd.so.0 -Wl,-z,defs -Wl,-z,relro,-z,now -Wl,--version-script="$work/gtd.map" \
     -o "$out/libgtd.so.0" "$work/gtd.o"
 exported --dynamic "$out/libgtd.so.0"
-ln -sf libgtd.so.0 "$out/libgtd.so"
+# A copy: `rt ci` takes no links in the repository.
+rm -f "$out/libgtd.so"
+cp "$out/libgtd.so.0" "$out/libgtd.so"
 
 sed -e "s|@libdir@|$out|; s|@includedir@|$top/bindings/c|; s|@version@|$version|" "$top/bindings/c/gtd.pc.in" > "$out/gtd.pc"
