@@ -10,7 +10,8 @@ use Rattle.gtd_calendar.specs.declared.stamp.StampFault.{StampFault}
 use Rattle.gtd_calendar.specs.declared.stamp.StampFault.TheVariants.{Shape, NoSuchDate, Range}
 use Rattle.gtd_calendar.specs.Calendar.{IsDate, day_number, IsCalendarDay}
 use Rattle.gtd_calendar.specs.Clock.{IsClock}
-use Rattle.gtd_calendar.specs.Stamp.{IsYmdText, IsHmsText, IsMomentText, IsStampText, stamp_text}
+use Rattle.gtd_calendar.specs.Stamp.{IsYmdText, IsHmsText, IsMomentText, IsStampText, stamp_text, ymd_text, hms_text}
+use Rattle.gtd_calendar.specs.facts.DateLemmas.{month_length_bounds}
 use Rattle.gtd_calendar.specs.Read.{IsReadStamp, is_date, is_clock, second_in_range, second_if_any, second_number, ymd_in}
 use Rattle.gtd_calendar.specs.Read.{hms_in, stamp_in}
 use Rattle.gtd_calendar.specs.ReadParts.{IsYmd, IsHms, IsMoment}
@@ -87,13 +88,21 @@ shapeless text h = unshaped text (ymd_in (take 10 text)) (hms_in (drop 10 text))
 
 -- what a text that shows a second is read as
 shown-as : (text : List ℕ) (s : ℤ) → IsStampText s text → stamp_in text ≡ second_in_range s
-shown-as text s is =
+shown-as text s (number, year, month, day, hour, minute, second, year_in, date, time, shown) =
+    let long = month_length_bounds (pos year) month in
+    let parts : IsMomentText text year month day hour minute second = record {
+      front = ymd_text year month day;
+      back = 84 ∷ hms_text hour minute second;
+      date = record { year_in = year_in; month_in = omega arith; day_in = omega arith; is = refl };
+      clock = record { hour_in = omega arith; minute_in = omega arith; second_in = omega arith; is = refl };
+      is = shown;
+    } in
     rw (
-      numbered text is.year is.month is.day is.hour is.minute is.second is.shown,
-      is_date-true (pos is.year) is.month is.day is.date.0,
-      is_clock-true is.hour is.minute is.second is.clock,
-      ← is.date.1,
-      ← is.is,
+      numbered text year month day hour minute second parts,
+      is_date-true (pos year) month day date.0,
+      is_clock-true hour minute second time.clock,
+      ← date.1,
+      ← time.is,
     )
     refl
 
@@ -120,19 +129,19 @@ stamp_in-is text =
         → IsReadStamp text (second_in_range (second_number (y, m, d) (h, min, s)))
     ranged text y m d h min s shown date clock =
         let n = second_number (y, m, d) (h, min, s) in
-        let is : IsStampText n text = record {
-          number = day_number (pos y) m d;
-          year = y;
-          month = m;
-          day = d;
-          hour = h;
-          minute = min;
-          second = s;
-          date = (date, refl);
-          clock = clock;
-          is = refl;
-          shown = shown;
-        } in
+        let is : IsStampText n text = (
+          day_number (pos y) m d,
+          y,
+          m,
+          d,
+          h,
+          min,
+          s,
+          shown.date.year_in,
+          (date, refl),
+          record { clock = clock; is = refl },
+          rw (shown.is, shown.date.is, shown.clock.is) refl,
+        ) in
         cond_both (int_lt n (neg_ℤ (pos 2_177_452_800)) || int_lt (pos 7_258_118_399) n) (Err Range)
         (Ok (record { 0 = n })) (IsReadStamp text)
         (λ e. (n, is, second-outside n e))

@@ -1,15 +1,13 @@
 -- The clock and the end of a stretch.
 use Rattle.std.specs.Prelude.{◌≡◌, ◌<◌, ℕ, ◌+◌, ◌*◌, min, ℤ, pos, ◌+ℤ◌, ◌*ℤ◌, unsigned_abs}
 use Rattle.std.specs.Int.{int_rem_euclid}
-use Rattle.gtd_core.specs.Limits.{day_seconds}
 use Rattle.gtd_core.specs.declared.duration.DurationParts.{DurationParts}
 use Rattle.gtd_core.specs.Seconds.{day_of_second}
-use Rattle.gtd_core.specs.Ranges.{clock_seconds}
 use Rattle.gtd_calendar.specs.Calendar.{IsDateOf, month_length}
 
--- the place of a second in its day
+-- the place of a second in its day, which has 86,400
 unfoldable pub second_of_day : ℤ → ℕ
-second_of_day s = unsigned_abs (int_rem_euclid s (pos day_seconds))
+second_of_day s = unsigned_abs (int_rem_euclid s (pos 86_400))
 
 -- the hours, minutes and seconds of a day
 abbrev pub IsClock : ℕ → ℕ → ℕ → Type 0
@@ -17,23 +15,19 @@ IsClock h m s = (h < 24) × (m < 60) × (s < 60)
 
 -- Second s is at this hour, minute and second of day n. A law of this crate says that each second is at exactly one.
 pub record IsTimeOf (s n : ℤ) (hour minute second : ℕ) : Type 0 where
-  pub clock : IsClock hour minute second
-  pub is : s ≡ pos day_seconds *ℤ n +ℤ pos (3600 * hour + 60 * minute + second)
+  pub clock : (hour < 24) × (minute < 60) × (second < 60)
+  pub is : s ≡ pos 86_400 *ℤ n +ℤ pos (3600 * hour + 60 * minute + second)
 
 -- Day r is day n moved by k months: the day of the month stays, or is cut to the last one of the month that is reached.
-pub record IsMonthsLater (n : ℤ) (k : ℕ) (r : ℤ) : Type 0 where
-  pub year : ℤ
-  pub month : ℕ
-  pub day : ℕ
-  pub date : IsDateOf n year month day
-  pub later_year : ℤ
-  pub later_month : ℕ
-  pub moved : pos 12 *ℤ later_year +ℤ pos later_month ≡ pos 12 *ℤ year +ℤ pos (month + k)
-  pub reached : IsDateOf r later_year later_month (min day (month_length later_year later_month))
+abbrev pub IsMonthsLater : ℤ → ℕ → ℤ → Type 0
+IsMonthsLater n k r = (year later_year : ℤ) × (month later_month day : ℕ) × IsDateOf n year month day
+    × (pos 12 *ℤ later_year +ℤ pos later_month ≡ pos 12 *ℤ year +ℤ pos (month + k))
+    × IsDateOf r later_year later_month (min day (month_length later_year later_month))
 
 -- The stretch of duration p that begins at second b ends at second e: the day of b is moved by the years and months in
 -- one step, and then by the weeks and days; the clock is kept, and hours, minutes and seconds are added.
 pub record IsStop (p : DurationParts) (b e : ℤ) : Type 0 where
   pub reached : ℤ
   pub months : IsMonthsLater (day_of_second b) (12 * p.years + p.months) reached
-  pub is : e ≡ pos day_seconds *ℤ (reached +ℤ pos (7 * p.weeks + p.days)) +ℤ pos (second_of_day b + clock_seconds p)
+  pub is : e ≡ pos 86_400 *ℤ (reached +ℤ pos (7 * p.weeks + p.days))
+      +ℤ pos (second_of_day b + (3600 * p.hours + 60 * p.minutes + p.seconds))

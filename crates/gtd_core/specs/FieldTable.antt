@@ -18,62 +18,29 @@ pub record FieldRow (Parts : Type 0) : Type 0 where
 abbrev pub field : {Parts : Type 0} → ℕ → (ℕ → ℕ → Bool) → (Parts → ℕ → Parts) → FieldRow Parts
 field letter takes gives = record { letter = letter; takes = takes; gives = gives }
 
--- The greatest numbers of a start's fields. The least is 0 for a year and the clock, and otherwise 1.
-abbrev pub most_year : ℕ
-most_year = 9999
-
-abbrev pub most_month : ℕ
-most_month = 12
-
--- By ISO 8601.
-abbrev pub most_week : ℕ
-most_week = 53
-
-abbrev pub most_day : ℕ
-most_day = 31
-
--- Saturday.
-abbrev pub most_weekday : ℕ
-most_weekday = 7
-
--- No weekday comes more often in a month.
-abbrev pub most_place : ℕ
-most_place = 5
-
-abbrev pub most_hour : ℕ
-most_hour = 23
-
-abbrev pub most_minute : ℕ
-most_minute = 59
-
-abbrev pub most_second : ℕ
-most_second = 59
-
 -- The number is from one to another, both included.
 abbrev pub is_from_to : ℕ → ℕ → ℕ → Bool
 is_from_to low high n = nat_le low n && nat_le n high
 
--- Two digits: a number n, and a weekday.
+-- Two digits: a number n, up to 5 since no weekday comes more often in a month, and a weekday.
 abbrev pub is_place_value : ℕ → ℕ → Bool
-is_place_value value digits = digits == 2 && is_from_to 1 most_place (value / 10) && is_from_to 1 most_weekday (value % 10)
+is_place_value value digits = digits == 2 && is_from_to 1 5 (value / 10) && is_from_to 1 7 (value % 10)
 
 -- y 121 year, in four digits; M 77 month; w 119 week; f 102 and l 108 n-th weekday of the month, from its beginning and back
 -- from its end; d 100 day of the month; t 116 weekday, of which k sets bit k - 1; h 104 hour; m 109 minute; s 115 second.
 -- Leading zeros are free except for y, f and l.
 abbrev pub start_fields : List (FieldRow StartParts)
 start_fields =
-    field 121 (λ value digits. digits == 4 && nat_le value most_year) (λ parts n. record parts { year = Some n })
-    ∷ field 77 (λ value digits. is_from_to 1 most_month value) (λ parts n. record parts { month = Some n })
-    ∷ field 119 (λ value digits. is_from_to 1 most_week value) (λ parts n. record parts { week = Some n })
+    field 121 (λ value digits. digits == 4 && nat_le value 9999) (λ parts n. record parts { year = Some n })
+    ∷ field 77 (λ value digits. is_from_to 1 12 value) (λ parts n. record parts { month = Some n })
+    ∷ field 119 (λ value digits. is_from_to 1 53 value) (λ parts n. record parts { week = Some n })
     ∷ field 102 is_place_value (λ parts n. record parts { nth = Some (n / 10, n % 10) })
     ∷ field 108 is_place_value (λ parts n. record parts { nth_back = Some (n / 10, n % 10) })
-    ∷ field 100 (λ value digits. is_from_to 1 most_day value) (λ parts n. record parts { day = Some n })
-    ∷ field 116 (λ value digits. is_from_to 1 most_weekday value)
-    (λ parts n. record parts { weekdays = bit_or parts.weekdays (2 ^ (n - 1)) })
-    ∷ field 104 (λ value digits. nat_le value most_hour) (λ parts n. record parts { hour = Some n })
-    ∷ field 109 (λ value digits. nat_le value most_minute) (λ parts n. record parts { minute = Some n })
-    ∷ field 115 (λ value digits. nat_le value most_second) (λ parts n. record parts { second = Some n })
-    ∷ []
+    ∷ field 100 (λ value digits. is_from_to 1 31 value) (λ parts n. record parts { day = Some n })
+    ∷ field 116 (λ value digits. is_from_to 1 7 value) (λ parts n. record parts { weekdays = bit_or parts.weekdays (2 ^ (n - 1)) })
+    ∷ field 104 (λ value digits. nat_le value 23) (λ parts n. record parts { hour = Some n })
+    ∷ field 109 (λ value digits. nat_le value 59) (λ parts n. record parts { minute = Some n })
+    ∷ field 115 (λ value digits. nat_le value 59) (λ parts n. record parts { second = Some n }) ∷ []
 
 -- The numbers of a duration, none of which has a range of its own.
 abbrev pub duration_fields : List (FieldRow DurationParts)
@@ -84,8 +51,7 @@ duration_fields =
     ∷ field 100 (λ value digits. true) (λ parts n. record parts { days = n })
     ∷ field 104 (λ value digits. true) (λ parts n. record parts { hours = n })
     ∷ field 109 (λ value digits. true) (λ parts n. record parts { minutes = n })
-    ∷ field 115 (λ value digits. true) (λ parts n. record parts { seconds = n })
-    ∷ []
+    ∷ field 115 (λ value digits. true) (λ parts n. record parts { seconds = n }) ∷ []
 
 -- What the table says of a letter, or the other value if no field has it.
 abbrev pub at_letter : {Parts A : Type 0} → List (FieldRow Parts) → (FieldRow Parts → A) → A → ℕ → A

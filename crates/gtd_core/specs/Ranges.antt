@@ -2,8 +2,6 @@
 -- and fields are those of GDF time domains (ISO 14825:2004); their ranges are this project's own.
 use Rattle.std.specs.Prelude.{◌≢◌, ℕ, ◌<◌, ◌≤◌, Option, None, IfSome, ◌+◌, ◌-◌, ◌*◌, ◌/◌}
 use Rattle.gtd_core.specs.declared.start.StartParts.{StartParts}
-use Rattle.gtd_core.specs.FieldTable.{most_year, most_month, most_week, most_day, most_weekday, most_place}
-use Rattle.gtd_core.specs.FieldTable.{most_hour, most_minute, most_second}
 use Rattle.gtd_core.specs.Limits.{day_seconds, most_bound}
 use Rattle.gtd_core.specs.declared.duration.DurationParts.{DurationParts}
 
@@ -13,7 +11,7 @@ IsWithin low high field = IfSome field (λ n. (low ≤ n) × (n ≤ high))
 
 -- left out, or the first to fifth of a weekday
 abbrev pub IsPlace : Option (ℕ × ℕ) → Type 0
-IsPlace nth = IfSome nth (λ place. (1 ≤ place.0) × (place.0 ≤ most_place) × (1 ≤ place.1) × (place.1 ≤ most_weekday))
+IsPlace nth = IfSome nth (λ place. (1 ≤ place.0) × (place.0 ≤ 5) × (1 ≤ place.1) × (place.1 ≤ 7))
 
 -- no field is given
 abbrev pub no_parts : StartParts
@@ -21,25 +19,25 @@ no_parts = record {
   year = None;
   month = None;
   week = None;
+  nth = None;
+  nth_back = None;
   day = None;
+  weekdays = 0;
   hour = None;
   minute = None;
   second = None;
-  nth = None;
-  nth_back = None;
-  weekdays = 0;
 }
 
 -- a field is given, and each is in its range
 pub record IsStart (parts : StartParts) : Type 0 where
   pub given : parts ≢ no_parts
-  pub year : IsWithin 0 most_year parts.year
-  pub month : IsWithin 1 most_month parts.month
-  pub week : IsWithin 1 most_week parts.week
-  pub day : IsWithin 1 most_day parts.day
-  pub hour : IsWithin 0 most_hour parts.hour
-  pub minute : IsWithin 0 most_minute parts.minute
-  pub second : IsWithin 0 most_second parts.second
+  pub year : IsWithin 0 9999 parts.year
+  pub month : IsWithin 1 12 parts.month
+  pub week : IsWithin 1 53 parts.week
+  pub day : IsWithin 1 31 parts.day
+  pub hour : IsWithin 0 23 parts.hour
+  pub minute : IsWithin 0 59 parts.minute
+  pub second : IsWithin 0 59 parts.second
   pub nth : IsPlace parts.nth
   pub nth_back : IsPlace parts.nth_back
   pub weekdays : parts.weekdays < 128
@@ -52,9 +50,11 @@ day_bound parts = 366 * parts.years + 31 * parts.months + 7 * parts.weeks + part
 abbrev pub clock_seconds : DurationParts → ℕ
 clock_seconds parts = 3600 * parts.hours + 60 * parts.minutes + parts.seconds
 
--- the bound: a number of seconds that no stretch exceeds
+-- The bound: a number of seconds that no stretch exceeds, since a year has at most 366 days, a month at most 31, and a day
+-- 86,400 seconds.
 abbrev pub bound_of : DurationParts → ℕ
-bound_of parts = day_seconds * day_bound parts + clock_seconds parts
+bound_of parts = 86_400 * (366 * parts.years + 31 * parts.months + 7 * parts.weeks + parts.days)
+    + (3600 * parts.hours + 60 * parts.minutes + parts.seconds)
 
 -- the lookback: the bound in days, rounded up
 abbrev pub lookback_of : DurationParts → ℕ

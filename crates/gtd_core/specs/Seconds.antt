@@ -18,7 +18,7 @@ IsOnDay t day = ((day *ℤ pos day_seconds) ≤ℤ t) × (t <ℤ ((day +ℤ pos 
 
 -- that day, computed
 unfoldable pub day_of_second : ℤ → ℤ
-day_of_second t = int_div_euclid t (pos day_seconds)
+day_of_second t = int_div_euclid t (pos 86_400)
 
 -- A moment: a second from 1901-01-01T00:00:00 to 2199-12-31T23:59:59. Day -25,202 is 1901-01-01, and day 84,006 is
 -- 2200-01-01.

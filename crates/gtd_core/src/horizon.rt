@@ -1,7 +1,6 @@
 //! The days over which a question is asked.
 
-ghost use Rattle.std.specs.Prelude.{◌≡◌, ◌<ℤ◌, ◌≤ℤ◌, ◌-ℤ◌, ◌*ℤ◌, pos, MatchResult, codes};
-ghost use Rattle.gtd_core.specs.Limits.{first_horizon_day, horizons_end, most_horizon_days};
+ghost use Rattle.std.specs.Prelude.{◌≡◌, ◌<ℤ◌, ◌≤ℤ◌, ◌-ℤ◌, ◌*ℤ◌, pos, neg_ℤ, MatchResult, codes};
 ghost use Rattle.gtd_core.specs.Horizons.{IsHorizon, IsHorizonFault};
 ghost use Rattle.gtd_core.specs.Names.{horizon_fault_name};
 
@@ -18,9 +17,9 @@ pub struct Horizon {
     from_day: i64,
     to_day: i64,
     pub ghost not_empty: { from_day <ℤ to_day },
-    pub ghost not_early: { first_horizon_day ≤ℤ from_day },
-    pub ghost not_late: { to_day ≤ℤ horizons_end },
-    pub ghost not_long: { (to_day -ℤ from_day) ≤ℤ pos most_horizon_days },
+    pub ghost not_early: { neg_ℤ (pos 25_202) ≤ℤ from_day },
+    pub ghost not_late: { to_day ≤ℤ pos 266_627 },
+    pub ghost not_long: { (to_day -ℤ from_day) ≤ℤ pos 146_098 },
 }
 
 /// Why two days do not make a horizon.
@@ -55,7 +54,7 @@ impl HorizonFault {
 }
 
 impl Horizon {
-    ghost use Rattle.gtd_core.specs.Whole.{whole, from_day, to_day};
+    ghost use Rattle.gtd_core.specs.Whole.{whole};
     ghost use Rattle.gtd_core.specs.Whole as days;
 
     /// The horizon from one day up to but not including another, or the first of its faults: `Empty`, `TooEarly`,
@@ -82,14 +81,14 @@ impl Horizon {
 
     /// The number of the first day.
     pub fn from_day(self) -> i64
-        ensures value { result ≡ from_day self }
+        ensures value { result ≡ days.from_day self }
     {
         self.from_day
     }
 
     /// The number of the day after the last one.
     pub fn to_day(self) -> i64
-        ensures value { result ≡ to_day self }
+        ensures value { result ≡ days.to_day self }
     {
         self.to_day
     }

@@ -22,17 +22,16 @@ months_later-is n k =
     (min (day_of_month n) (month_length (counted_year t) (counted_month t))) = (
       ((parts.1, parts.2), within (day_of_month n) (month_length (counted_year t) (counted_month t)) date.0.1.0 long.1),
       refl,
-    ) in
-    record {
-      year = year_of n;
-      month = month_of n;
-      day = day_of_month n;
-      date = date;
-      later_year = counted_year t;
-      later_month = counted_month t;
-      moved = moved (year_of n) (counted_year t) (month_of n) (counted_month t) k date.0.0.0 parts.1 parts.0;
-      reached = reached;
-    }
+    ) in (
+      year_of n,
+      counted_year t,
+      month_of n,
+      counted_month t,
+      day_of_month n,
+      date,
+      moved (year_of n) (counted_year t) (month_of n) (counted_month t) k date.0.0.0 parts.1 parts.0,
+      reached,
+    )
   where
     moved : (y z : ℤ) (m l k : ℕ) → 1 ≤ m → 1 ≤ l → (pos 12 *ℤ y +ℤ pos (m - 1)) +ℤ pos k ≡ pos 12 *ℤ z +ℤ pos (l - 1)
         → pos 12 *ℤ z +ℤ pos l ≡ pos 12 *ℤ y +ℤ pos (m + k)
@@ -43,16 +42,16 @@ months_later-is n k =
 
 months_later-only : (n : ℤ) (k : ℕ) (r : ℤ) → IsMonthsLater n k r → r ≡ months_later n k
 unfolding months_later day_in_month
-months_later-only n k r h =
-    let only = date_of-only n h.year h.month h.day h.date in
+months_later-only n k r (year, later_year, month, later_month, day, date, later, reached) =
+    let only = date_of-only n year month day date in
     let t = month_count (year_of n) (month_of n) +ℤ pos k in
-    let month = h.reached.0.0 in
-    let first = h.date.0.0 in
-    let at = counted-is t h.later_year (h.later_month - 1) (omega arith)
-    (rw (← only.0, ← only.1) (counted h.year h.later_year h.month h.later_month k first.0 month.0 h.moved)) in
-    let back : h.later_month - 1 + 1 ≡ h.later_month = omega arith in
-    let last : counted_month t ≡ h.later_month = at.1 ∙ back in
-    rw (at.0, last, ← only.2) h.reached.1
+    let in_year = reached.0.0 in
+    let first = date.0.0 in
+    let at = counted-is t later_year (later_month - 1) (omega arith)
+    (rw (← only.0, ← only.1) (counted year later_year month later_month k first.0 in_year.0 later)) in
+    let back : later_month - 1 + 1 ≡ later_month = omega arith in
+    let last : counted_month t ≡ later_month = at.1 ∙ back in
+    rw (at.0, last, ← only.2) reached.1
   where
     counted : (y z : ℤ) (m l k : ℕ) → 1 ≤ m → 1 ≤ l → pos 12 *ℤ z +ℤ pos l ≡ pos 12 *ℤ y +ℤ pos (m + k)
         → (pos 12 *ℤ y +ℤ pos (m - 1)) +ℤ pos k ≡ pos 12 *ℤ z +ℤ pos (l - 1)

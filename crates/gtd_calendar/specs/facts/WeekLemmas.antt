@@ -32,10 +32,10 @@ year-only n y k low e =
 pub week_of-is : (n : ℤ) → IsWeekOf n (week_year_of n) (week_of n)
 week_of-is n =
     let place = place_in_year-is (thursday_of n) in
-    record { k = place_in_year (thursday_of n); in_year = place.1; thursday = place.0; number = refl }
+    (place_in_year (thursday_of n), place.1, place.0, refl)
 
 -- and there is no other
 pub week_of-only : (n y : ℤ) (w : ℕ) → IsWeekOf n y w → (y ≡ week_year_of n) × (w ≡ week_of n)
 week_of-only n y w h =
-    let only = year-only (thursday_of n) y h.k h.in_year h.thursday in
-    (only.0, rw only.1 at h.number)
+    let only = year-only (thursday_of n) y h.0 h.1 h.2 in
+    (only.0, rw only.1 at h.3)
