@@ -1,5 +1,5 @@
 -- The shapes of moments, and what reading one answers.
-use Rattle.std.proofs.Common.{◌≡◌, ℕ, ◌<◌, true, false, ◌&&◌, ◌||◌, int_lt, List, take, drop, Option, Some, None, Result, Ok}
+use Rattle.std.proofs.Common.{◌≡◌, ℕ, ◌<◌, true, false, ◌&&◌, ◌||◌, int_lt, List, ◌∷◌, take, drop, Option, Some, None, Result, Ok}
 use Rattle.std.proofs.Common.{Err, refl, sym, ◌∙◌, arith, ℤ, pos, neg_ℤ, ◌+ℤ◌, ◌*ℤ◌}
 use Rattle.std.proofs.lemmas.Bool.Decides.{nat_tests}
 use Rattle.std.proofs.lemmas.Bool.{false_from_ne_true, true_from_ne_false, cond_both, and_parts, and_from, true≢false}
@@ -14,7 +14,7 @@ use Rattle.gtd_calendar.specs.Stamp.{IsYmdText, IsHmsText, IsMomentText, IsStamp
 use Rattle.gtd_calendar.specs.facts.DateLemmas.{month_length_bounds}
 use Rattle.gtd_calendar.specs.Read.{IsReadStamp, is_date, is_clock, second_in_range, second_if_any, second_number, ymd_in}
 use Rattle.gtd_calendar.specs.Read.{hms_in, stamp_in}
-use Rattle.gtd_calendar.specs.ReadParts.{IsYmd, IsHms, IsMoment}
+use Rattle.gtd_calendar.specs.ReadParts.{IsYmd, IsHms, IsMoment, HasStampParts, IsReadByParts}
 use Rattle.gtd_calendar.proofs.ShapeLemmas.{ymd_in-is, ymd_in-shape, hms_in-is, hms_in-shape}
 use Rattle.gtd_core.specs.Seconds.{IsMomentSecond, day_of_second}
 use Rattle.gtd_calendar.specs.facts.ClockLemmas.{second-parts}
@@ -86,23 +86,63 @@ unfolding stamp_in
 shapeless text h = unshaped text (ymd_in (take 10 text)) (hms_in (drop 10 text)) (ymd_in-shape (take 10 text))
     (hms_in-shape (drop 10 text)) h
 
+-- the text of a second has its parts
+stamp-parts : (s : ℤ) (text : List ℕ) → IsStampText s text → HasStampParts s text
+stamp-parts s text (number, year, month, day, hour, minute, second, year_in, date, time, shown) =
+    let long = month_length_bounds (pos year) month in
+    record {
+      number = number;
+      year = year;
+      month = month;
+      day = day;
+      hour = hour;
+      minute = minute;
+      second = second;
+      date = date;
+      clock = time.clock;
+      is = time.is;
+      shown = record {
+        front = ymd_text year month day;
+        back = 84 ∷ hms_text hour minute second;
+        date = record { year_in = year_in; month_in = omega arith; day_in = omega arith; is = refl };
+        clock = record { hour_in = omega arith; minute_in = omega arith; second_in = omega arith; is = refl };
+        is = shown;
+      };
+    }
+
+-- and the parts make it
+stamp-from : (s : ℤ) (text : List ℕ) → HasStampParts s text → IsStampText s text
+stamp-from s text h = (
+  h.number,
+  h.year,
+  h.month,
+  h.day,
+  h.hour,
+  h.minute,
+  h.second,
+  h.shown.date.year_in,
+  h.date,
+  record { clock = h.clock; is = h.is },
+  rw (h.shown.is, h.shown.date.is, h.shown.clock.is) refl,
+)
+
+-- what is read by its parts is read
+read-from : (text : List ℕ) (r : Result Sec StampFault) → IsReadByParts text r → IsReadStamp text r
+read-from text (Ok x) h = (stamp-from x.0 text h.0, h.1)
+read-from text (Err Shape) h = h
+read-from text (Err NoSuchDate) h = h
+read-from text (Err Range) (s, h, never) = (s, stamp-from s text h, never)
+
 -- what a text that shows a second is read as
 shown-as : (text : List ℕ) (s : ℤ) → IsStampText s text → stamp_in text ≡ second_in_range s
-shown-as text s (number, year, month, day, hour, minute, second, year_in, date, time, shown) =
-    let long = month_length_bounds (pos year) month in
-    let parts : IsMomentText text year month day hour minute second = record {
-      front = ymd_text year month day;
-      back = 84 ∷ hms_text hour minute second;
-      date = record { year_in = year_in; month_in = omega arith; day_in = omega arith; is = refl };
-      clock = record { hour_in = omega arith; minute_in = omega arith; second_in = omega arith; is = refl };
-      is = shown;
-    } in
+shown-as text s h =
+    let is = stamp-parts s text h in
     rw (
-      numbered text year month day hour minute second parts,
-      is_date-true (pos year) month day date.0,
-      is_clock-true hour minute second time.clock,
-      ← date.1,
-      ← time.is,
+      numbered text is.year is.month is.day is.hour is.minute is.second is.shown,
+      is_date-true (pos is.year) is.month is.day is.date.0,
+      is_clock-true is.hour is.minute is.second is.clock,
+      ← is.date.1,
+      ← is.is,
     )
     refl
 
@@ -116,6 +156,10 @@ stamp_in-only text (Err NoSuchDate) (y, m, d, h, min, s, shape, never) =
     (is_clock h min s) e in never (is_date-parts (pos y) m d both.0) (is_clock-parts h min s both.1)) in
     rw (numbered text y m d h min s shape, none) refl
 stamp_in-only text (Err Range) (s, is, never) = sym (shown-as text s is ∙ second_in_range-err s never)
+
+-- nor by its parts
+pub parts_in-only : (text : List ℕ) (r : Result Sec StampFault) → IsReadByParts text r → r ≡ stamp_in text
+parts_in-only text r h = stamp_in-only text r (read-from text r h)
 
 -- and it is read in that way
 pub stamp_in-is : (text : List ℕ) → IsReadStamp text (stamp_in text)

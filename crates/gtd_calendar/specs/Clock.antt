@@ -2,12 +2,7 @@
 use Rattle.std.specs.Prelude.{◌≡◌, ◌<◌, ℕ, ◌+◌, ◌*◌, min, ℤ, pos, ◌+ℤ◌, ◌*ℤ◌, unsigned_abs}
 use Rattle.std.specs.Int.{int_rem_euclid}
 use Rattle.gtd_core.specs.declared.duration.DurationParts.{DurationParts}
-use Rattle.gtd_core.specs.Seconds.{day_of_second}
 use Rattle.gtd_calendar.specs.Calendar.{IsDateOf, month_length}
-
--- the place of a second in its day, which has 86,400
-unfoldable pub second_of_day : ℤ → ℕ
-second_of_day s = unsigned_abs (int_rem_euclid s (pos 86_400))
 
 -- the hours, minutes and seconds of a day
 abbrev pub IsClock : ℕ → ℕ → ℕ → Type 0
@@ -26,8 +21,12 @@ IsMonthsLater n k r = (year later_year : ℤ) × (month later_month day : ℕ) �
 
 -- The stretch of duration p that begins at second b ends at second e: the day of b is moved by the years and months in
 -- one step, and then by the weeks and days; the clock is kept, and hours, minutes and seconds are added.
-pub record IsStop (p : DurationParts) (b e : ℤ) : Type 0 where
-  pub reached : ℤ
-  pub months : IsMonthsLater (day_of_second b) (12 * p.years + p.months) reached
-  pub is : e ≡ pos 86_400 *ℤ (reached +ℤ pos (7 * p.weeks + p.days))
-      +ℤ pos (second_of_day b + (3600 * p.hours + 60 * p.minutes + p.seconds))
+abbrev pub IsStop : DurationParts → ℤ → ℤ → Type 0
+IsStop p b e = (day reached : ℤ) × (hour minute second : ℕ) × IsTimeOf b day hour minute second
+    × IsMonthsLater day (12 * p.years + p.months) reached
+    × (e ≡ pos 86_400 *ℤ (reached +ℤ pos (7 * p.weeks + p.days))
+    +ℤ pos (3600 * (hour + p.hours) + 60 * (minute + p.minutes) + (second + p.seconds)))
+
+-- the place of a second in its day, which has 86,400
+unfoldable pub second_of_day : ℤ → ℕ
+second_of_day s = unsigned_abs (int_rem_euclid s (pos 86_400))

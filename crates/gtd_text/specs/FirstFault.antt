@@ -4,7 +4,6 @@
 use Rattle.std.specs.Prelude.{List, ◌++◌, [], ◌∷◌, Bool, true, false, ℕ, ◌+◌, ◌-◌, ◌<◌, ◌≡◌, ◌⊎◌, not, reverse, fold}
 use Rattle.std.specs.Prelude.{if◌then◌else◌}
 use Rattle.gtd_core.specs.FieldTable.{start_fields, duration_fields}
-use Rattle.gtd_core.specs.Limits.{most_bound, most_basic_domains, most_depth}
 use Rattle.gtd_core.specs.Ranges.{bound_of}
 use Rattle.gtd_core.specs.Trees.{Tree}
 use Rattle.gtd_core.specs.declared.fault.Fault.{Fault}
@@ -56,12 +55,11 @@ Phase = List TokenKind → TokenKind → List TokenKind → Fault → Type 0
 
 -- A bracket opens when 128 are open, and makes the depth 129.
 abbrev pub IsTooDeep : Phase
-IsTooDeep before token after kind = (token ≡ OpenBracket) × (depth before ≡ most_depth) × (kind ≡ faults.TooDeep)
+IsTooDeep before token after kind = (token ≡ OpenBracket) × (depth before ≡ 128) × (kind ≡ faults.TooDeep)
 
 -- The 129th parenthesis opens.
 abbrev pub IsTooMany : Phase
-IsTooMany before token after kind =
-    (token ≡ OpenParenthesis) × (parenthesis_count before ≡ most_basic_domains) × (kind ≡ faults.TooMany)
+IsTooMany before token after kind = (token ≡ OpenParenthesis) × (parenthesis_count before ≡ 128) × (kind ≡ faults.TooMany)
 
 -- No expression goes on with the token.
 abbrev pub IsMisfit : Phase
@@ -71,7 +69,7 @@ IsMisfit before token after kind = (GoesOn (reverse (token ∷ before)) → ⊥)
 abbrev pub IsTooLong : Phase
 IsTooLong before token after kind = (fields : List TokenKind) × (rest : List TokenKind)
     × (token ≡ OpenBrace) × (after ≡ fields ++ CloseBrace ∷ rest) × (each_fits (fits duration_fields) [] fields ≡ true)
-    × (most_bound < bound_of (fold (with_field duration_fields) zero_parts fields)) × (kind ≡ faults.TooLongDuration)
+    × (3_162_240_000 < bound_of (fold (with_field duration_fields) zero_parts fields)) × (kind ≡ faults.TooLongDuration)
 
 -- The fault that the first of two finds, if it finds one, and otherwise one that the other finds.
 abbrev pub OrElse : (TextFault → Type 0) → (TextFault → Type 0) → TextFault → Type 0
