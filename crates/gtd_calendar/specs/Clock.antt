@@ -1,5 +1,6 @@
--- The clock and the end of a stretch.
-use Rattle.std.specs.Prelude.{◌≡◌, ◌<◌, ℕ, ◌+◌, ◌*◌, min, ℤ, pos, ◌+ℤ◌, ◌*ℤ◌, unsigned_abs}
+-- The clock, the end of a stretch, and the text of a second: an extended format of ISO 8601 for a local date and time of day,
+-- as bytes of ASCII.
+use Rattle.std.specs.Prelude.{◌≡◌, ◌<◌, ℕ, ◌+◌, ◌*◌, min, ℤ, pos, ◌+ℤ◌, ◌*ℤ◌, unsigned_abs, List, [], ◌∷◌, ◌++◌, codes, ◌/◌, ◌%◌}
 use Rattle.std.specs.Int.{int_rem_euclid}
 use Rattle.gtd_core.specs.declared.duration.DurationParts.{DurationParts}
 use Rattle.gtd_calendar.specs.Calendar.{IsDateOf, month_length}
@@ -26,6 +27,23 @@ IsStop p b e = (day reached : ℤ) × (hour minute second : ℕ) × IsTimeOf b d
     × IsMonthsLater day (12 * p.years + p.months) reached
     × (e ≡ pos 86_400 *ℤ (reached +ℤ pos (7 * p.weeks + p.days))
     +ℤ pos (3600 * (hour + p.hours) + 60 * (minute + p.minutes) + (second + p.seconds)))
+
+-- the last decimal digit of n
+abbrev pub digit : ℕ → ℕ
+digit n = 48 + n % 10
+
+abbrev pub two_digits : ℕ → List ℕ
+two_digits n = digit (n / 10) ∷ digit n ∷ []
+
+abbrev pub four_digits : ℕ → List ℕ
+four_digits n = digit (n / 1000) ∷ digit (n / 100) ∷ digit (n / 10) ∷ digit n ∷ []
+
+-- The text is that of second s: the date of its day and its clock, YYYY-MM-DDThh:mm:ss.
+abbrev pub IsStampText : ℤ → List ℕ → Type 0
+IsStampText s text = (number : ℤ) × (year month day hour minute second : ℕ) × (year < 10000)
+    × IsDateOf number (pos year) month day × IsTimeOf s number hour minute second
+    × (text ≡ four_digits year ++ codes "-" ++ two_digits month ++ codes "-" ++ two_digits day ++ codes "T"
+    ++ two_digits hour ++ codes ":" ++ two_digits minute ++ codes ":" ++ two_digits second)
 
 -- the place of a second in its day, which has 86,400
 unfoldable pub second_of_day : ℤ → ℕ

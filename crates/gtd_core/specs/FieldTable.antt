@@ -58,6 +58,27 @@ abbrev pub at_letter : {Parts A : Type 0} → List (FieldRow Parts) → (FieldRo
 at_letter [] value other letter = other
 at_letter (row ∷ rows) value other letter = if letter == row.letter then value row else at_letter rows value other letter
 
+-- No field of a start is given.
+abbrev pub no_parts : StartParts
+no_parts = record {
+  year = None;
+  month = None;
+  week = None;
+  nth = None;
+  nth_back = None;
+  day = None;
+  weekdays = 0;
+  hour = None;
+  minute = None;
+  second = None;
+}
+
+-- The bound: a number of seconds that no stretch exceeds, since a year has at most 366 days, a month at most 31, and a day
+-- 86,400 seconds.
+abbrev pub bound_of : DurationParts → ℕ
+bound_of parts = 86_400 * (366 * parts.years + 31 * parts.months + 7 * parts.weeks + parts.days)
+    + (3600 * parts.hours + 60 * parts.minutes + parts.seconds)
+
 -- ---- the levels of a start
 
 -- One column more of `start_fields`, row by row: the field's level, and whether a start gives it. The levels are numbered from

@@ -4,6 +4,7 @@ use Rattle.std.specs.Prelude.{◌≢◌, ℕ, ◌<◌, ◌≤◌, Option, None, 
 use Rattle.gtd_core.specs.declared.start.StartParts.{StartParts}
 use Rattle.gtd_core.specs.Limits.{day_seconds, most_bound}
 use Rattle.gtd_core.specs.declared.duration.DurationParts.{DurationParts}
+pub use Rattle.gtd_core.specs.FieldTable.{no_parts, bound_of}
 
 -- a number that is left out, or one from low to high
 abbrev pub IsWithin : ℕ → ℕ → Option ℕ → Type 0
@@ -12,21 +13,6 @@ IsWithin low high field = IfSome field (λ n. (low ≤ n) × (n ≤ high))
 -- left out, or the first to fifth of a weekday
 abbrev pub IsPlace : Option (ℕ × ℕ) → Type 0
 IsPlace nth = IfSome nth (λ place. (1 ≤ place.0) × (place.0 ≤ 5) × (1 ≤ place.1) × (place.1 ≤ 7))
-
--- no field is given
-abbrev pub no_parts : StartParts
-no_parts = record {
-  year = None;
-  month = None;
-  week = None;
-  nth = None;
-  nth_back = None;
-  day = None;
-  weekdays = 0;
-  hour = None;
-  minute = None;
-  second = None;
-}
 
 -- a field is given, and each is in its range
 pub record IsStart (parts : StartParts) : Type 0 where
@@ -49,12 +35,6 @@ day_bound parts = 366 * parts.years + 31 * parts.months + 7 * parts.weeks + part
 -- the seconds of the clock part
 abbrev pub clock_seconds : DurationParts → ℕ
 clock_seconds parts = 3600 * parts.hours + 60 * parts.minutes + parts.seconds
-
--- The bound: a number of seconds that no stretch exceeds, since a year has at most 366 days, a month at most 31, and a day
--- 86,400 seconds.
-abbrev pub bound_of : DurationParts → ℕ
-bound_of parts = 86_400 * (366 * parts.years + 31 * parts.months + 7 * parts.weeks + parts.days)
-    + (3600 * parts.hours + 60 * parts.minutes + parts.seconds)
 
 -- the lookback: the bound in days, rounded up
 abbrev pub lookback_of : DurationParts → ℕ

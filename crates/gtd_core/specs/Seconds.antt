@@ -1,6 +1,7 @@
 -- Seconds of the local civil clock: spans of them, their days, and those that may be asked for.
 use Rattle.std.specs.Prelude.{ℤ, ◌≤ℤ◌, ◌<ℤ◌, pos, ◌+ℤ◌, ◌*ℤ◌}
 use Rattle.std.specs.Int.{int_div_euclid}
+use Rattle.gtd_core.specs.declared.horizon.Horizon.{Horizon}
 use Rattle.gtd_core.specs.Limits.{day_seconds, first_horizon_day, horizons_end, moments_end}
 
 -- the seconds from `from` up to but not including `until`
@@ -11,6 +12,10 @@ pub record Interval : Type 0 where
 -- the interval holds the second
 abbrev pub Within : Interval → ℤ → Type 0
 Within x t = (x.from ≤ℤ t) × (t <ℤ x.until)
+
+-- all seconds of the days of a horizon, of which each has 86,400
+abbrev pub whole : Horizon → Interval
+whole horizon = record { from = horizon.from_day *ℤ pos 86_400; until = horizon.to_day *ℤ pos 86_400 }
 
 -- The second is on the day. Each day has 86,400 seconds, and 1970-01-01 is day 0.
 abbrev pub IsOnDay : ℤ → ℤ → Type 0

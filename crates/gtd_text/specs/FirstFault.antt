@@ -1,8 +1,9 @@
--- Which fault the tokens of a text have: the first phase that has one decides, and in it the first token at fault.
+-- What a text of a domain says, and which fault its tokens have: the first phase that has one decides, and in it the first
+-- token at fault.
 -- The phases are the depth of brackets, the count of parentheses, the grammar, and the durations. The limits and the
 -- order of the phases are this project's own.
 use Rattle.std.specs.Prelude.{List, ◌++◌, [], ◌∷◌, Bool, true, false, ℕ, ◌+◌, ◌-◌, ◌<◌, ◌≡◌, ◌⊎◌, not, reverse, fold}
-use Rattle.std.specs.Prelude.{if◌then◌else◌}
+use Rattle.std.specs.Prelude.{if◌then◌else◌, length, Result, Ok, Err}
 use Rattle.gtd_core.specs.FieldTable.{start_fields, duration_fields}
 use Rattle.gtd_core.specs.Ranges.{bound_of}
 use Rattle.gtd_core.specs.Trees.{Tree}
@@ -14,7 +15,7 @@ use Rattle.gtd_text.specs.declared.token.TokenKind.{TokenKind}
 use Rattle.gtd_text.specs.declared.token.TokenKind.TheVariants.{OpenBracket, CloseBracket, OpenParenthesis, OpenBrace, CloseBrace}
 use Rattle.gtd_text.specs.declared.token.TokenKind.TheVariants.{Field, Minus}
 use Rattle.gtd_text.specs.Grammar.{Stands, Sum, each_fits, fits, is_letter_of, is_repeated, with_field, zero_parts}
-use Rattle.gtd_text.specs.Lexing.{kinds}
+use Rattle.gtd_text.specs.Lexing.{IsTokenFault, Reads, kinds}
 
 -- More tokens can follow these, or none, so that all together stand for an expression.
 abbrev pub GoesOn : List TokenKind → Type 0
@@ -92,3 +93,11 @@ abbrev pub IsFirstFault : ℕ → List Token → TextFault → Type 0
 IsFirstFault length tokens =
     OrElse (IsFirst IsTooDeep [] tokens) (OrElse (IsFirst IsTooMany [] tokens) (OrElse (IsFirst IsMisfit [] tokens)
     (OrElse (IsIncomplete length (kinds tokens)) (IsFirst IsTooLong [] tokens))))
+
+-- The text is made of tokens that stand for the expression and have no fault; or the fault is that of its bytes, or that of
+-- its tokens if it is made of tokens. A refusal of memory is not a fault of a text.
+abbrev pub IsReading : List ℕ → Result Tree TextFault → Type 0
+IsReading text (Ok e) = (tokens : List Token) × Reads text 0 tokens (length text) × Stands Sum (kinds tokens) e
+    × ((fault : TextFault) → IsFirstFault (length text) tokens fault → ⊥)
+IsReading text (Err fault) = IsTokenFault text fault
+    ⊎ ((tokens : List Token) × Reads text 0 tokens (length text) × IsFirstFault (length text) tokens fault)

@@ -1,5 +1,5 @@
 -- Four hundred years are 146,097 days, which is a whole number of weeks, and the calendar repeats after them.
-use Rattle.std.proofs.Common.{◌≡◌, ℕ, zero, suc, ◌+◌, ◌-◌, ◌*◌, ◌<◌, refl, sym, ap, ◌∙◌, arith, ℤ, pos, ◌+ℤ◌, ◌*ℤ◌}
+use Rattle.std.proofs.Common.{◌≡◌, ℕ, zero, suc, ◌+◌, ◌-◌, ◌*◌, refl, sym, ap, ◌∙◌, arith, ℤ, pos, ◌+ℤ◌, ◌*ℤ◌}
 use Rattle.std.proofs.lemmas.Bool.Decides.{nat_tests}
 use Rattle.jiff_core.proofs.SignedLemmas.{signed_arith, one_part}
 use Rattle.gtd_core.specs.declared.duration.DurationParts.{DurationParts}
@@ -9,7 +9,6 @@ use Rattle.gtd_calendar.specs.Calendar.{day_number, IsDateOf, weekday_of, thursd
 use Rattle.gtd_calendar.specs.ComputedDates.{year_of, month_of, day_of_month, place_in_year, week_of, week_year_of}
 use Rattle.gtd_core.specs.Seconds.{day_of_second}
 use Rattle.gtd_calendar.specs.facts.YearLemmas.{first_day-cycle}
-use Rattle.gtd_calendar.specs.facts.WeekLemmas.{year_end}
 use Rattle.gtd_calendar.specs.facts.DateLemmas.{date_of-is, date_of-only, place_in_year-is}
 use Rattle.gtd_calendar.specs.facts.MonthLemmas.{counted-is, counted-parts}
 use Rattle.gtd_calendar.specs.facts.ClockLemmas.{second-parts, second-only}
@@ -85,11 +84,13 @@ year_length-cycle y = rw (is_leap_year-cycle y) refl
 
 -- the same week, four hundred years later
 pub week-cycle : (n y : ℤ) (w : ℕ) → IsWeekOf n y w → IsWeekOf (n +ℤ pos 146_097) (y +ℤ pos 400) w
-week-cycle n y w (k, thursday, in_year, number) =
-    let later : thursday_of (n +ℤ pos 146_097) ≡ first_day (y +ℤ pos 400) +ℤ pos k =
-    rw (thursday_of-cycle n, first_day-cycle y) (moved (thursday_of n) (first_day y) k thursday) in
-    let low : k < year_length (y +ℤ pos 400) = rw (year_length-cycle y) ((year_end (thursday_of n) y k thursday).0 in_year) in
-    (k, later, (year_end (thursday_of (n +ℤ pos 146_097)) (y +ℤ pos 400) k later).1 low, number)
+week-cycle n y w h =
+    record {
+      k = h.k;
+      in_year = rw (year_length-cycle y) h.in_year;
+      thursday = rw (thursday_of-cycle n, first_day-cycle y) (moved (thursday_of n) (first_day y) h.k h.thursday);
+      number = h.number;
+    }
   where
     moved : (n a : ℤ) (k : ℕ) → n ≡ a +ℤ pos k → n +ℤ pos 146_097 ≡ (a +ℤ pos 146_097) +ℤ pos k
     moved n a k e = omega (arith, signed_arith)

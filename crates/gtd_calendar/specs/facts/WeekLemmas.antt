@@ -1,8 +1,8 @@
 -- Each day is in one week, and in one year.
-use Rattle.std.proofs.Common.{◌≡◌, ℕ, ◌<◌, ◌↔◌, refl, arith, ℤ, pos, ◌+ℤ◌, ◌≤ℤ◌, ◌<ℤ◌}
+use Rattle.std.proofs.Common.{◌≡◌, ℕ, ◌<◌, refl, arith, ℤ, pos, ◌+ℤ◌, ◌≤ℤ◌}
 use Rattle.std.proofs.lemmas.Int.{by_lt_z}
 use Rattle.jiff_core.proofs.SignedLemmas.{signed_arith}
-use Rattle.gtd_calendar.specs.facts.YearLemmas.{first_day-later, first_day-next}
+use Rattle.gtd_calendar.specs.facts.YearLemmas.{first_day-later}
 use Rattle.gtd_calendar.specs.facts.DateLemmas.{place_in_year-is}
 use Rattle.gtd_calendar.specs.Calendar.{year_length, first_day, thursday_of}
 use Rattle.gtd_calendar.specs.ComputedDates.{year_of, place_in_year, week_of, week_year_of}
@@ -28,23 +28,14 @@ year-only n y k low e =
     place : (n a : ℤ) (k l : ℕ) → n ≡ a +ℤ pos k → n ≡ a +ℤ pos l → k ≡ l
     place n a k l e f = omega (arith, signed_arith)
 
--- a day that is k days after the first of a year is before the next year exactly if the year has more than k days
-pub year_end : (n y : ℤ) (k : ℕ) → n ≡ first_day y +ℤ pos k → (n <ℤ first_day (y +ℤ pos 1)) ↔ (k < year_length y)
-year_end n y k e = ends n (first_day y) (first_day (y +ℤ pos 1)) k (year_length y) e (first_day-next y)
-  where
-    ends : (n a b : ℤ) (k long : ℕ) → n ≡ a +ℤ pos k → b ≡ a +ℤ pos long → (n <ℤ b) ↔ (k < long)
-    ends n a b k long e f = (λ h. omega (arith, signed_arith), λ h. omega (arith, signed_arith))
-
 -- the week that is computed is the day's week
 pub week_of-is : (n : ℤ) → IsWeekOf n (week_year_of n) (week_of n)
 week_of-is n =
     let place = place_in_year-is (thursday_of n) in
-    let k = place_in_year (thursday_of n) in
-    (k, place.0, (year_end (thursday_of n) (week_year_of n) k place.0).1 place.1, refl)
+    record { k = place_in_year (thursday_of n); in_year = place.1; thursday = place.0; number = refl }
 
 -- and there is no other
 pub week_of-only : (n y : ℤ) (w : ℕ) → IsWeekOf n y w → (y ≡ week_year_of n) × (w ≡ week_of n)
 week_of-only n y w h =
-    let low = (year_end (thursday_of n) y h.0 h.1).0 h.2 in
-    let only = year-only (thursday_of n) y h.0 low h.1 in
-    (only.0, rw only.1 at h.3)
+    let only = year-only (thursday_of n) y h.k h.in_year h.thursday in
+    (only.0, rw only.1 at h.number)
