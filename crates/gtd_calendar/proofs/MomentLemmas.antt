@@ -18,7 +18,8 @@ use Rattle.gtd_calendar.specs.ReadParts.{IsYmd, IsHms, IsMoment, HasStampParts, 
 use Rattle.gtd_calendar.proofs.ShapeLemmas.{ymd_in-is, ymd_in-shape, hms_in-is, hms_in-shape}
 use Rattle.gtd_core.specs.Seconds.{IsMomentSecond, day_of_second}
 use Rattle.gtd_calendar.specs.facts.ClockLemmas.{second-parts}
-use Rattle.gtd_calendar.proofs.StampLemmas.{is_date-true, is_date-parts, stamp_text-is}
+use Rattle.gtd_calendar.specs.facts.StampTexts.{stamp_text-is}
+use Rattle.gtd_calendar.proofs.StampLemmas.{is_date-true, is_date-parts}
 
 -- a moment's first ten bytes are its date, and the others its clock
 pub moment-parts : (text : List ℕ) (y m d h min s : ℕ) → IsMomentText text y m d h min s

@@ -1,40 +1,18 @@
 -- The texts of days and seconds, and what reading them answers.
-use Rattle.std.proofs.Common.{◌≡◌, ℕ, ◌+◌, ◌*◌, ◌/◌, ◌%◌, ◌≤◌, true, false, ◌&&◌, ◌||◌, nat_le, int_lt, List, ◌∷◌}
-use Rattle.std.proofs.Common.{Option, Some, None, Result, Ok, Err, refl, sym, ap, ◌∙◌, ◌++◌, arith, ℤ, pos}
+use Rattle.std.proofs.Common.{◌≡◌, ℕ, ◌≤◌, true, false, ◌&&◌, ◌||◌, nat_le, int_lt, List}
+use Rattle.std.proofs.Common.{Option, Some, None, Result, Ok, Err, refl, sym, ◌∙◌, arith, ℤ, pos}
 use Rattle.std.proofs.lemmas.Bool.Decides.{nat_tests}
 use Rattle.std.proofs.lemmas.Bool.{false_from_ne_true, true_from_ne_false, cond_both, true≢false}
 use Rattle.gtd_core.specs.Limits.{first_horizon_day, horizons_end}
 use Rattle.jiff_core.proofs.SignedLemmas.{signed_arith}
 use Rattle.gtd_calendar.specs.declared.stamp.StampFault.{StampFault}
 use Rattle.gtd_calendar.specs.declared.stamp.StampFault.TheVariants.{Shape, NoSuchDate, Range}
-use Rattle.gtd_calendar.specs.Calendar.{IsDate, IsCalendarDay, month_length, day_number}
-use Rattle.gtd_core.specs.Seconds.{day_of_second}
-use Rattle.gtd_calendar.specs.Clock.{second_of_day}
-use Rattle.gtd_calendar.specs.Stamp.{date_text, clock_text, stamp_text, IsYmdText, IsDateText, IsStampText}
+use Rattle.gtd_calendar.specs.Calendar.{IsDate, month_length, day_number}
+use Rattle.gtd_calendar.specs.Stamp.{date_text, IsYmdText, IsDateText}
 use Rattle.gtd_calendar.specs.Read.{IsReadableDay, IsReadDate, is_date, day_in_range, day_if_any, ymd_in, date_in}
 use Rattle.gtd_calendar.specs.ReadParts.{IsYmd}
-use Rattle.gtd_calendar.specs.facts.DateLemmas.{date_of-only}
-use Rattle.gtd_calendar.specs.facts.TimeLemmas.{time_of-is, time_of-only}
 use Rattle.gtd_calendar.specs.facts.DateTexts.{date_text-is}
 use Rattle.gtd_calendar.proofs.ShapeLemmas.{ymd_in-is, ymd_in-shape, ymd-only}
-
--- the text that is computed of a second is the text of its date and clock
-pub stamp_text-is : (s : ℤ) → IsCalendarDay (day_of_second s) → IsStampText s (stamp_text s)
-stamp_text-is s h =
-    let text = date_text-is (day_of_second s) h in
-    let k = second_of_day s in (
-      day_of_second s,
-      text.year,
-      text.month,
-      text.day,
-      k / 3600,
-      k / 60 % 60,
-      k % 60,
-      text.shown.year_in,
-      text.date,
-      time_of-is s,
-      ap (λ date. date ++ clock_text s) text.shown.is,
-    )
 
 pub is_date-true : (y : ℤ) (m d : ℕ) → IsDate y m d → is_date y m d ≡ true
 is_date-true y m d h = true-at m d (month_length y m) h
@@ -115,10 +93,3 @@ date_in-is text = answered text (ymd_in text) (ymd_in-shape text)
 pub date_in-again : (n : ℤ) → IsReadableDay n → date_in (date_text n) ≡ Ok n
 date_in-again n h = sym (date_in-only (date_text n) (Ok n)
     (date_text-is n (omega (arith, signed_arith), omega (arith, signed_arith)), h))
-
--- a second has one text
-pub stamp_text-only : (s : ℤ) (text : List ℕ) → IsStampText s text → text ≡ stamp_text s
-stamp_text-only s text (number, year, month, day, hour, minute, second, year_in, date, time, shown) =
-    let at = time_of-only s number hour minute second time in
-    let only = date_of-only (day_of_second s) (pos year) month day (rw (← at.0) date) in
-    rw (shown, ← only.0, ← only.1, ← only.2, ← at.1, ← at.2, ← at.3) refl

@@ -2,6 +2,7 @@ pub mod ClockLemmas
 pub mod CycleLemmas
 pub mod DateLemmas
 pub mod DateTexts
+pub mod StampTexts
 pub mod JiffLemmas
 pub mod MonthLemmas
 pub mod OrderLemmas

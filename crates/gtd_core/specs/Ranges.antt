@@ -1,6 +1,6 @@
 -- Which fields make a start, which numbers a duration, and how long a stretch of a duration can be at most. The letters
 -- and fields are those of GDF time domains (ISO 14825:2004); their ranges are this project's own.
-use Rattle.std.specs.Prelude.{◌≢◌, ℕ, ◌<◌, ◌≤◌, Option, None, IfSome, ◌+◌, ◌-◌, ◌*◌, ◌/◌}
+use Rattle.std.specs.Prelude.{◌≢◌, ℕ, ◌<◌, ◌≤◌, Option, IfSome, ◌+◌, ◌-◌, ◌*◌, ◌/◌}
 use Rattle.gtd_core.specs.declared.start.StartParts.{StartParts}
 use Rattle.gtd_core.specs.Limits.{day_seconds, most_bound}
 use Rattle.gtd_core.specs.declared.duration.DurationParts.{DurationParts}

@@ -1,5 +1,5 @@
 use Rattle.gtd_calendar.specs.facts.DateTexts.{date_text-is, date_text-only}
-use Rattle.gtd_calendar.proofs.StampLemmas.{stamp_text-is, stamp_text-only}
+use Rattle.gtd_calendar.specs.facts.StampTexts.{stamp_text-is, stamp_text-only}
 use Rattle.gtd_calendar.proofs.laws.one_text.Goals as goal
 
 pub returns : goal.returns

@@ -1,5 +1,5 @@
 use Rattle.std.proofs.Common.{rules}
-use Rattle.gtd_calendar.proofs.StampLemmas.{stamp_text-is}
+use Rattle.gtd_calendar.specs.facts.StampTexts.{stamp_text-is}
 use Rattle.gtd_calendar.proofs.stamp.write_stamp.Goals as goal
 
 pub returns-clause-value : goal.returns-clause-value
