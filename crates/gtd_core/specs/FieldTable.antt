@@ -2,7 +2,7 @@
 -- have, what it gives, its level, and what a canonical text shows of it. Letters and levels are those of GDF time domains
 -- (ISO 14825:2004), and the ranges this project's own; weeks are those of ISO 8601, and weekdays run from 1, Sunday, to 7,
 -- Saturday.
-use Rattle.std.specs.Prelude.{ℕ, ◌+◌, ◌-◌, ◌/◌, ◌%◌, ◌^◌, Bool, true, ◌&&◌, ◌==◌, nat_le, List, [], ◌∷◌, Option, Some}
+use Rattle.std.specs.Prelude.{ℕ, ◌+◌, ◌-◌, ◌*◌, ◌/◌, ◌%◌, ◌^◌, Bool, true, ◌&&◌, ◌==◌, nat_le, List, [], ◌∷◌, Option, Some}
 use Rattle.std.specs.Prelude.{None, bit_or, decimal, if◌then◌else◌, is_some, not}
 use Rattle.std.specs.List.{flat_map}
 use Rattle.gtd_core.specs.declared.start.StartParts.{StartParts}
