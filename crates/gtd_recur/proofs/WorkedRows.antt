@@ -1,14 +1,14 @@
--- Worked rows, computed by the definitions themselves: dates, weekdays and weeks; ends of stretches; seconds that a start matches,
--- and that a basic domain contains. Days are given by their numbers, and a second by its day and its clock.
-use Rattle.std.proofs.Common.{◌≡◌, ◌+◌, ◌*◌, ◌<◌, ℕ, ℤ, pos, neg_ℤ, ◌+ℤ◌, ◌*ℤ◌, true, false, inl, inr, refl, arith, Some, None}
+-- Worked rows, computed by the definitions themselves: dates, weekdays and weeks; ends of stretches; seconds that a start
+-- matches, and that a basic domain contains. Days are given by their numbers, and a second by its day and its clock.
+use Rattle.std.proofs.Common.{◌≡◌, ◌+◌, ◌*◌, ◌<◌, ℕ, ℤ, pos, neg_ℤ, ◌+ℤ◌, ◌*ℤ◌, inl, inr, refl, arith, Some}
 use Rattle.gtd_core.specs.Ranges.{no_parts}
 use Rattle.gtd_core.specs.Seconds.{day_of_second}
-use Rattle.gtd_core.specs.declared.start.StartParts.{StartParts}
 use Rattle.gtd_core.specs.declared.duration.DurationParts.{DurationParts}
-use Rattle.gtd_calendar.specs.Calendar.{IsDate, IsDateOf, IsWeekOf, day_number, days_of_months, first_day, thursday_of, weekday_of}
-use Rattle.gtd_calendar.specs.Clock.{IsMonthsLater, IsStop, IsTimeOf, second_of_day}
+use Rattle.gtd_calendar.specs.Calendar.{IsDate, IsDateOf, IsWeekOf, day_number, days_of_months, first_day, thursday_of}
+use Rattle.gtd_calendar.specs.Calendar.{weekday_of}
+use Rattle.gtd_calendar.specs.Clock.{IsStop, IsTimeOf, second_of_day}
 use Rattle.gtd_calendar.specs.facts.Signed.{signed_arith}
-use Rattle.gtd_recur.specs.Membership.{HoldsOn, InStretches, Matches}
+use Rattle.gtd_recur.specs.Membership.{InStretches, Matches}
 
 -- ---- days
 

@@ -1,7 +1,7 @@
 -- When a start begins, computed: its fields against the date, the week and the clock of a second, level by level. A law
 -- of this crate says that it begins exactly at the seconds that it matches.
 use Rattle.std.specs.Prelude.{ℕ, ◌-◌, ◌/◌, ◌%◌, ◌^◌, Bool, true, false, ◌&&◌, ◌||◌, ◌==◌, if◌then◌else◌, Option, Some, None}
-use Rattle.std.specs.Prelude.{is_some, not, ℤ, pos}
+use Rattle.std.specs.Prelude.{is_some, ℤ, pos}
 use Rattle.std.specs.Ordering.{int_eq}
 use Rattle.gtd_core.specs.declared.start.StartParts.{StartParts}
 use Rattle.gtd_calendar.specs.declared.day.DayFields.{DayFields}

@@ -1,6 +1,6 @@
 -- Which seconds a start matches, by the fields that the calendar gives of a day and by the levels of the table of fields: 0 the
--- year, 1 the month and the week, 2 the day, 3 the hour, 4 the minute, 5 the second. What is computed is compared with this. A law
--- of this crate says that these are the seconds of `Matches`.
+-- year, 1 the month and the week, 2 the day, 3 the hour, 4 the minute, 5 the second. What is computed is compared with this. A
+-- law of this crate says that these are the seconds of `Matches`.
 use Rattle.std.specs.Prelude.{◌≡◌, ◌⊎◌, ℕ, ◌-◌, ◌/◌, ◌%◌, ◌^◌, ◌<◌, Bool, true, false, if◌then◌else◌, is_some, ℤ, pos, IfSome}
 use Rattle.gtd_core.specs.declared.start.StartParts.{StartParts}
 use Rattle.gtd_core.specs.FieldTable.{finest_level}

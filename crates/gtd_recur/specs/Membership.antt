@@ -1,8 +1,8 @@
 -- Which seconds a start matches, and which a basic domain contains. Letters and levels are those of GDF time domains
--- (ISO 14825:2004), weeks those of ISO 8601; what a missing field means is this project's own. From the coarsest to the finest the
--- levels are the year, the month and the week, the day, the hour, the minute, the second.
-use Rattle.std.specs.Prelude.{◌≡◌, ◌⊎◌, ℕ, ◌+◌, ◌-◌, ◌/◌, ◌%◌, ◌^◌, ◌==◌, Bool, true, false, not, ◌||◌, if◌then◌else◌, Option, Some}
-use Rattle.std.specs.Prelude.{None, is_some, ℤ, pos, IfSome, ◌≤ℤ◌, ◌<ℤ◌}
+-- (ISO 14825:2004), weeks those of ISO 8601; what a missing field means is this project's own. From the coarsest to the finest
+-- the levels are the year, the month and the week, the day, the hour, the minute, the second.
+use Rattle.std.specs.Prelude.{◌≡◌, ◌⊎◌, ℕ, ◌+◌, ◌-◌, ◌/◌, ◌%◌, ◌^◌, ◌==◌, Bool, true, false, not, ◌||◌, if◌then◌else◌, Option}
+use Rattle.std.specs.Prelude.{Some, None, is_some, ℤ, pos, IfSome, ◌≤ℤ◌, ◌<ℤ◌}
 use Rattle.gtd_core.specs.declared.start.StartParts.{StartParts}
 use Rattle.gtd_calendar.specs.Clock.{IsTimeOf, IsStop}
 use Rattle.gtd_calendar.specs.Calendar.{IsDateOf, IsWeekOf, month_length, weekday_of}

@@ -11,7 +11,8 @@ use Rattle.gtd_calendar.specs.ComputedFields.{day_fields}
 use Rattle.gtd_calendar.specs.facts.DateLemmas.{date_of-is, date_of-only}
 use Rattle.gtd_calendar.specs.facts.TimeLemmas.{time_of-is, time_of-only}
 use Rattle.gtd_calendar.specs.facts.WeekLemmas.{week_of-is, week_of-only}
-use Rattle.gtd_recur.specs.Begins.{agrees, agrees_or_least, begins, begins_at, begins_on, gives_clock, gives_day, year_agrees_with}
+use Rattle.gtd_recur.specs.Begins.{agrees, agrees_or_least, begins, begins_at, begins_on, gives_clock, gives_day}
+use Rattle.gtd_recur.specs.Begins.{year_agrees_with}
 use Rattle.gtd_recur.specs.FieldMatches.{MatchesFields}
 use Rattle.gtd_recur.specs.Membership.{HasNumber, HoldsOn, Matches}
 use Rattle.gtd_recur.specs.facts.MatchLemmas.{agrees-from, agrees-to, begins-matches_fields, or-from, or-to, place-from, place-to}
