@@ -10,7 +10,7 @@ use Rattle.gtd_calendar.specs.Calendar.{IsDate, IsDateOf, day_number, first_day,
 use Rattle.gtd_calendar.specs.ComputedDates.{year_of, month_of, day_of_month}
 use Rattle.gtd_calendar.specs.ComputedFields.{day_fields}
 use Rattle.gtd_calendar.specs.facts.DateLemmas.{date_of-is, date_of-only, day_number-in_year, month_length_bounds}
-use Rattle.gtd_recur.specs.Membership.{HoldsOnDay}
+use Rattle.gtd_recur.specs.FieldMatches.{HoldsOnDay}
 use Rattle.gtd_osm.specs.Opening.{IsRound, date_key}
 use Rattle.gtd_osm.specs.Ranges.{IsMonth, IsMonthDay}
 use Rattle.gtd_osm.specs.Translation.{IsMonthBetween}

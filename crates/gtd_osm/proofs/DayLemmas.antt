@@ -7,7 +7,7 @@ use Rattle.gtd_calendar.specs.declared.day.DayFields.{DayFields}
 use Rattle.gtd_calendar.specs.Calendar.{weekday_of}
 use Rattle.gtd_calendar.specs.ComputedFields.{day_fields}
 use Rattle.gtd_calendar.specs.facts.FieldLemmas.{fields-are, fields-only}
-use Rattle.gtd_recur.specs.Membership.{HoldsOnDay}
+use Rattle.gtd_recur.specs.FieldMatches.{HoldsOnDay}
 use Rattle.gtd_osm.specs.Translation.{AreDayParts, EachHoldsAt}
 use Rattle.gtd_osm.specs.Opening.{EachHolds, IsRound, Matches}
 use Rattle.gtd_osm.specs.Ranges.{IsWeekday}

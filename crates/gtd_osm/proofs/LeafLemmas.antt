@@ -18,8 +18,9 @@ use Rattle.gtd_calendar.specs.facts.FieldLemmas.{fields-are, fields-only}
 use Rattle.gtd_calendar.specs.facts.MonthLemmas.{months_later-none}
 use Rattle.gtd_calendar.specs.facts.TimeLemmas.{time_of-is, time_of-only}
 use Rattle.gtd_recur.specs.Begins.{begins}
-use Rattle.gtd_recur.specs.Membership.{HoldsOnDay, InStretches, Matches}
-use Rattle.gtd_recur.specs.facts.MatchLemmas.{begins-matches}
+use Rattle.gtd_recur.specs.FieldMatches.{HoldsOnDay, MatchesFields}
+use Rattle.gtd_recur.specs.Membership.{InStretches}
+use Rattle.gtd_recur.specs.facts.MatchLemmas.{begins-matches_fields}
 use Rattle.gtd_recur.specs.facts.MembershipLemmas.{in_stretches-computed}
 use Rattle.gtd_eval.specs.Membership.{InTree}
 use Rattle.gtd_osm.specs.Translation.{AreDayParts, clocked, minutes_of, moved_day, moved_place, no_duration}
@@ -73,7 +74,7 @@ days-without p c f x = record {
   weekdays = x.weekdays;
 }
 
-clocked-to : (p : StartParts) (c : Clock) (b : ℤ) → Matches (clocked p c) b
+clocked-to : (p : StartParts) (c : Clock) (b : ℤ) → MatchesFields (clocked p c) b
     → HoldsOnDay p (day_fields (day_of_second b)) × (second_of_day b ≡ 60 * minutes_of c)
 clocked-to p c b x =
     let time = time_of-only b x.day x.hour x.minute x.second x.time in
@@ -84,7 +85,7 @@ clocked-to p c b x =
     (on, clock-to (second_of_day b) c.hour c.minute (x.at.hour ∙ time.1) (x.at.minute ∙ time.2) second)
 
 clocked-from : (p : StartParts) (c : Clock) (b : ℤ) → HoldsOnDay p (day_fields (day_of_second b))
-    → second_of_day b ≡ 60 * minutes_of c → Matches (clocked p c) b
+    → second_of_day b ≡ 60 * minutes_of c → MatchesFields (clocked p c) b
 clocked-from p c b on at =
     let k = clock-from (second_of_day b) c.hour c.minute c.in_range.0 c.in_range.1 at in
     record {
@@ -114,7 +115,7 @@ clocked-from p c b on at =
 pub clocked-begins : (p : StartParts) (c : Clock) (b : ℤ)
     → (begins (clocked p c) b ≡ true) ↔ (HoldsOnDay p (day_fields (day_of_second b)) × (second_of_day b ≡ 60 * minutes_of c))
 clocked-begins p c b =
-    let same = begins-matches (clocked p c) b in (
+    let same = begins-matches_fields (clocked p c) b in (
       (λ e. clocked-to p c b (same.0 e)),
       (λ y. same.1 (clocked-from p c b y.0 y.1)),
     )

@@ -13,7 +13,7 @@ use Rattle.gtd_calendar.specs.ComputedEnds.{counted_year, counted_month, day_in_
 use Rattle.gtd_calendar.specs.ComputedFields.{day_fields}
 use Rattle.gtd_calendar.specs.facts.DateLemmas.{date_of-is, date_of-only, month_length_bounds}
 use Rattle.gtd_calendar.specs.facts.MonthLemmas.{month_first, month_first-later, month_first-next, counted-is}
-use Rattle.gtd_recur.specs.Membership.{HoldsOnDay}
+use Rattle.gtd_recur.specs.FieldMatches.{HoldsOnDay}
 use Rattle.gtd_eval.specs.Membership.{InTree}
 use Rattle.gtd_osm.specs.Ranges.{IsMonth}
 use Rattle.gtd_osm.specs.Translation.{HasNumberWithin, clocked, minutes_of, moved_day, no_duration}

@@ -11,7 +11,7 @@ use Rattle.gtd_calendar.specs.ComputedEnds.{counted_year, counted_month, day_in_
 use Rattle.gtd_calendar.specs.ComputedFields.{day_fields}
 use Rattle.gtd_calendar.specs.facts.DateLemmas.{date_of-only, month_length_bounds}
 use Rattle.gtd_calendar.specs.facts.MonthLemmas.{month_first, month_first-next, counted-is}
-use Rattle.gtd_recur.specs.Membership.{HoldsOnDay}
+use Rattle.gtd_recur.specs.FieldMatches.{HoldsOnDay}
 use Rattle.gtd_eval.specs.Membership.{InTree}
 use Rattle.gtd_osm.specs.Cost.{common_length}
 use Rattle.gtd_osm.specs.Opening.{IsRound, date_key}

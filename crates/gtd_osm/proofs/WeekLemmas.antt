@@ -11,7 +11,7 @@ use Rattle.gtd_calendar.specs.Calendar.{first_day, thursday_of, weekday_of, year
 use Rattle.gtd_calendar.specs.ComputedDates.{week_of, week_year_of}
 use Rattle.gtd_calendar.specs.ComputedFields.{day_fields}
 use Rattle.gtd_calendar.specs.facts.WeekLemmas.{week_of-is, week_of-only}
-use Rattle.gtd_recur.specs.Membership.{HoldsOnDay}
+use Rattle.gtd_recur.specs.FieldMatches.{HoldsOnDay}
 use Rattle.gtd_eval.specs.Membership.{InTree}
 use Rattle.gtd_osm.specs.Translation.{HasNumberWithin, IsRun, clocked, minutes_of, moved_day, no_duration}
 use Rattle.gtd_osm.specs.declared.clock.Clock.{Clock}

@@ -4,7 +4,7 @@ ghost use Rattle.std.specs.Prelude.{◌≡◌, ◌↔◌, ◌⊎◌, ◌+◌, �
 ghost use Rattle.gtd_core.specs.Ranges.{IsDuration};
 ghost use Rattle.gtd_core.specs.Trees.{Single, leaf_count, tree_of};
 ghost use Rattle.gtd_calendar.specs.ComputedFields.{day_fields};
-ghost use Rattle.gtd_recur.specs.Membership.{HoldsOnDay};
+ghost use Rattle.gtd_recur.specs.FieldMatches.{HoldsOnDay};
 ghost use Rattle.gtd_spans.specs.Normal.{Combined};
 ghost use Rattle.gtd_eval.specs.Membership.{InTree};
 ghost use Rattle.gtd_osm.specs.Translation.{AreDayParts, AreDays, InMaybe, IsSet, clocked, maybe_leaves, minutes_of, moved_place};

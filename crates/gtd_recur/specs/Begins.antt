@@ -1,7 +1,7 @@
 -- When a start begins, computed: its fields against the date, the week and the clock of a second, level by level. A law
 -- of this crate says that it begins exactly at the seconds that it matches.
 use Rattle.std.specs.Prelude.{ℕ, ◌-◌, ◌/◌, ◌%◌, ◌^◌, Bool, true, false, ◌&&◌, ◌||◌, ◌==◌, if◌then◌else◌, Option, Some, None}
-use Rattle.std.specs.Prelude.{is_some, not, ℤ, pos}
+use Rattle.std.specs.Prelude.{is_some, ℤ, pos}
 use Rattle.std.specs.Ordering.{int_eq}
 use Rattle.gtd_core.specs.declared.start.StartParts.{StartParts}
 use Rattle.gtd_calendar.specs.declared.day.DayFields.{DayFields}
@@ -9,6 +9,7 @@ use Rattle.gtd_calendar.specs.ComputedDates.{year_of, month_of}
 use Rattle.gtd_calendar.specs.ComputedFields.{day_fields}
 use Rattle.gtd_core.specs.Seconds.{day_of_second}
 use Rattle.gtd_calendar.specs.Clock.{second_of_day}
+pub use Rattle.gtd_recur.specs.Membership.{gives_day, gives_clock}
 
 -- a field that is given has this value
 abbrev pub agrees : Option ℕ → ℕ → Bool
@@ -19,14 +20,6 @@ agrees None v = true
 abbrev pub agrees_or_least : Option ℕ → Bool → ℕ → ℕ → Bool
 agrees_or_least (Some x) finer least v = x == v
 agrees_or_least None finer least v = finer || (least == v)
-
--- a field of the day's level is given: a day of the month, a place in the month from either end, or weekdays
-abbrev pub gives_day : StartParts → Bool
-gives_day p = is_some p.day || (is_some p.nth || (is_some p.nth_back || not (p.weekdays == 0)))
-
--- a field of the hour, the minute or the second is given
-abbrev pub gives_clock : StartParts → Bool
-gives_clock p = is_some p.hour || (is_some p.minute || is_some p.second)
 
 -- a year that is given is this one
 abbrev pub year_agrees_with : Option ℕ → ℤ → Bool

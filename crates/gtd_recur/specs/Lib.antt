@@ -3,6 +3,7 @@ pub mod Asked
 pub mod Begins
 pub mod ClockSearch
 pub mod ComputedStretches
+pub mod FieldMatches
 pub mod Jumps
 pub mod Look
 pub mod Membership

@@ -1,74 +1,56 @@
--- Which seconds a start matches, level by level, and which a basic domain contains. Letters and levels are those of GDF
--- time domains (ISO 14825:2004), weeks those of ISO 8601; what a missing field means is this project's own. The levels are
--- numbered as in the table of fields: 0 the year, 1 the month and the week, 2 the day, 3 the hour, 4 the minute, 5 the second.
-use Rattle.std.specs.Prelude.{◌≡◌, ◌⊎◌, ℕ, ◌-◌, ◌/◌, ◌%◌, ◌^◌, ◌<◌, Bool, true, false, if◌then◌else◌}
-use Rattle.std.specs.Prelude.{is_some, ℤ, pos, IfSome, ◌≤ℤ◌, ◌<ℤ◌}
+-- Which seconds a start matches, and which a basic domain contains. Letters and levels are those of GDF time domains
+-- (ISO 14825:2004), weeks those of ISO 8601; what a missing field means is this project's own. From the coarsest to the finest
+-- the levels are the year, the month and the week, the day, the hour, the minute, the second.
+use Rattle.std.specs.Prelude.{◌≡◌, ◌⊎◌, ℕ, ◌+◌, ◌-◌, ◌/◌, ◌%◌, ◌^◌, ◌==◌, Bool, true, false, not, ◌||◌, if◌then◌else◌, Option}
+use Rattle.std.specs.Prelude.{Some, None, is_some, ℤ, pos, IfSome, ◌≤ℤ◌, ◌<ℤ◌}
 use Rattle.gtd_core.specs.declared.start.StartParts.{StartParts}
-use Rattle.gtd_core.specs.FieldTable.{finest_level}
-use Rattle.gtd_calendar.specs.declared.day.DayFields.{DayFields}
 use Rattle.gtd_calendar.specs.Clock.{IsTimeOf, IsStop}
-use Rattle.gtd_calendar.specs.Calendar.{AreFieldsOf}
+use Rattle.gtd_calendar.specs.Calendar.{IsDateOf, IsWeekOf, month_length, weekday_of}
 use Rattle.gtd_core.specs.declared.duration.DurationParts.{DurationParts}
 use Rattle.gtd_core.specs.declared.domain.Basic.{Basic}
 use Rattle.gtd_core.specs.Parts.{start_parts, duration_parts}
 
--- the weekday is one of those that are given, of which bit k - 1 stands for the weekday k
-abbrev pub IsGivenWeekday : ℕ → ℕ → Type 0
-IsGivenWeekday weekdays weekday = weekdays / 2 ^ (weekday - 1) % 2 ≡ 1
+-- A field of the day's level is given: a day of the month, a place in the month from either end, or weekdays.
+abbrev pub gives_day : StartParts → Bool
+gives_day p = is_some p.day || (is_some p.nth || (is_some p.nth_back || not (p.weekdays == 0)))
 
--- Each given field of the levels down to the day holds on a day with the fields f. A year is that of the week if a week
--- is given; a place in the month is a number and a weekday; several weekdays are alternatives.
-pub record HoldsOnDay (p : StartParts) (f : DayFields) : Type 0 where
-  pub year : IfSome p.year (λ y. pos y ≡ (if is_some p.week then f.week_year else f.year))
-  pub month : IfSome p.month (λ m. m ≡ f.month)
-  pub week : IfSome p.week (λ w. w ≡ f.week)
-  pub day : IfSome p.day (λ d. d ≡ f.day)
-  pub nth : IfSome p.nth (λ x. (x.0 ≡ f.nth) × (x.1 ≡ f.weekday))
-  pub nth_back : IfSome p.nth_back (λ x. (x.0 ≡ f.nth_back) × (x.1 ≡ f.weekday))
-  pub weekdays : (p.weekdays ≡ 0) ⊎ IsGivenWeekday p.weekdays f.weekday
+-- A field of the hour, the minute or the second is given.
+abbrev pub gives_clock : StartParts → Bool
+gives_clock p = is_some p.hour || (is_some p.minute || is_some p.second)
 
--- each given field of the clock holds at hour h, minute m and second s
-pub record HoldsOnClock (p : StartParts) (h m s : ℕ) : Type 0 where
-  pub hour : IfSome p.hour (λ x. x ≡ h)
-  pub minute : IfSome p.minute (λ x. x ≡ m)
-  pub second : IfSome p.second (λ x. x ≡ s)
+-- The number of a level is the one that is given. If none is, it is the least, or any number if a finer level is given.
+abbrev pub HasNumber : Option ℕ → Bool → ℕ → ℕ → Type 0
+HasNumber (Some given) finer least number = number ≡ given
+HasNumber None finer least number = finer ≡ false → number ≡ least
 
--- Each level finer than a given one is at its least, on a day with the fields f, at hour h, minute m and second s. The
--- day's least is the Monday, weekday 2, if a week is given, and otherwise the first of the month; the month's is January.
-pub record IsLeastBelow (level : ℕ) (week : Bool) (f : DayFields) (h m s : ℕ) : Type 0 where
-  pub second : level < 5 → s ≡ 0
-  pub minute : level < 4 → m ≡ 0
-  pub hour : level < 3 → h ≡ 0
-  pub monday : level < 2 → week ≡ true → f.weekday ≡ 2
-  pub first : level < 2 → week ≡ false → f.day ≡ 1
-  pub january : level < 1 → f.month ≡ 1
+-- Each level down to the day holds on day n, which has this date. A year is that of the week if a week is given. A place is a
+-- number and a weekday: the n-th such weekday of the month, from its beginning or back from its end. Several weekdays are
+-- alternatives; bit k - 1 stands for weekday k. The day's least is the Monday, weekday 2, of a given week, and otherwise the
+-- first of the month.
+pub record HoldsOn (p : StartParts) (n : ℤ) : Type 0 where
+  pub year : ℤ
+  pub month : ℕ
+  pub day : ℕ
+  pub date : IsDateOf n year month day
+  pub in_year : is_some p.week ≡ false → IfSome p.year (λ y. pos y ≡ year)
+  pub in_week : IfSome p.week (λ w. (of : ℤ) × IsWeekOf n of w × IfSome p.year (λ y. pos y ≡ of))
+  pub in_month : HasNumber p.month (is_some p.week || (gives_day p || gives_clock p)) 1 month
+  pub on_day : IfSome p.day (λ d. d ≡ day)
+  pub nth : IfSome p.nth (λ x. (x.0 ≡ (day - 1) / 7 + 1) × (x.1 ≡ weekday_of n))
+  pub nth_back : IfSome p.nth_back (λ x. (x.0 ≡ (month_length year month - day) / 7 + 1) × (x.1 ≡ weekday_of n))
+  pub weekdays : (p.weekdays ≡ 0) ⊎ (p.weekdays / 2 ^ (weekday_of n - 1) % 2 ≡ 1)
+  pub least : gives_day p ≡ false → gives_clock p ≡ false → (if is_some p.week then weekday_of n == 2 else day == 1) ≡ true
 
--- The start matches the second, which is at some hour, minute and second of some day: each given field holds, and each
--- level finer than all given ones is at its least. A coarser level without a field is free.
-pub record Matches (p : StartParts) (s : ℤ) : Type 0 where
-  pub day : ℤ
-  pub hour : ℕ
-  pub minute : ℕ
-  pub second : ℕ
-  pub time : IsTimeOf s day hour minute second
-  pub fields : DayFields
-  pub shown : AreFieldsOf day fields
-  pub on : HoldsOnDay p fields
-  pub at : HoldsOnClock p hour minute second
-  pub least : IsLeastBelow (finest_level p) (is_some p.week) fields hour minute second
+-- The start matches the second, which is at some hour, minute and second of some day: each level holds there.
+abbrev pub Matches : StartParts → ℤ → Type 0
+Matches p s = (n : ℤ) × (hour : ℕ) × (minute : ℕ) × (second : ℕ) × IsTimeOf s n hour minute second × HoldsOn p n
+    × HasNumber p.hour (is_some p.minute || is_some p.second) 0 hour
+    × HasNumber p.minute (is_some p.second) 0 minute × HasNumber p.second false 0 second
 
--- The start matches second b, and the stretch of the duration from b holds second s. The end of the stretch does not
+-- The start matches a second from which the stretch holds this one, however far back it begins. The end of the stretch does not
 -- belong to it.
-pub record IsHeldFrom (p : StartParts) (q : DurationParts) (b s : ℤ) : Type 0 where
-  pub matches : Matches p b
-  pub end : ℤ
-  pub stop : IsStop q b end
-  pub begun : b ≤ℤ s
-  pub lasts : s <ℤ end
-
--- the stretch of some start holds the second, however far back it begins
 unfoldable pub InStretches : StartParts → DurationParts → ℤ → Type 0
-InStretches p q s = (b : ℤ) × IsHeldFrom p q b s
+InStretches p q s = (b : ℤ) × (end : ℤ) × Matches p b × IsStop q b end × (b ≤ℤ s) × (s <ℤ end)
 
 -- the basic domain contains the second
 abbrev pub InBasic : Basic → ℤ → Type 0

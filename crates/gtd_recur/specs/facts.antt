@@ -11,5 +11,6 @@ pub mod WalkProps
 pub mod WeekLemmas
 pub mod WindowProps
 pub mod WorkLemmas
+pub mod DateMatches
 pub mod MatchLemmas
 pub mod MembershipLemmas

@@ -11,6 +11,7 @@ ghost use Rattle.gtd_core.specs.Seconds.{day_of_second};
 ghost use Rattle.gtd_recur.specs.Ascending.{IsAscending, Has};
 ghost use Rattle.gtd_recur.specs.Begins.{begins};
 ghost use Rattle.gtd_recur.specs.ComputedStretches.{InComputedStretches};
+ghost use Rattle.gtd_recur.specs.FieldMatches.{MatchesFields};
 ghost use Rattle.gtd_recur.specs.Membership.{Matches, InStretches};
 ghost use Rattle.gtd_recur.specs.Periods.{period_seconds, RepeatsAfter};
 ghost use Rattle.gtd_recur.specs.declared.period.Period.{Period};
@@ -51,9 +52,10 @@ pub fn work_is_bounded()
 {}
 
 /// A start matches a second exactly if each given field holds at it, and each level finer than all given ones is at its
-/// least.
+/// least: by dates, and by the fields that the calendar gives of days.
 pub fn matching()
     ensures matches { (p : StartParts) (s : ℤ) → IsTrue (begins p s) ↔ Matches p s }
+    ensures fields { (p : StartParts) (s : ℤ) → Matches p s ↔ MatchesFields p s }
 {}
 
 /// A second is in a basic domain exactly if the start begins at that second or an earlier one from which the stretch

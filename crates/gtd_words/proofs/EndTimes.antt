@@ -14,6 +14,7 @@ use Rattle.gtd_calendar.specs.facts.ClockLemmas.{stop-without_months}
 use Rattle.gtd_calendar.specs.facts.StopLemmas.{stop-only}
 use Rattle.gtd_calendar.specs.facts.TimeLemmas.{time_of-only}
 use Rattle.gtd_recur.specs.Membership.{Matches}
+use Rattle.gtd_recur.specs.facts.DateMatches.{matches-fields}
 use Rattle.gtd_words.specs.Durations.{clock_end, clock_start, duration_words, end_after, is_of_clock, until_words}
 use Rattle.gtd_words.specs.Ends.{AllEndAt, SayAnEnd, SayEnd}
 use Rattle.gtd_words.specs.Starts.{start_words}
@@ -76,7 +77,8 @@ is_end start duration end e =
 
 begins_at : (start : StartParts) (b : ℤ) (second : ℕ) → clock_start start.hour start.minute start.second ≡ Some second
     → Matches start b → b ≡ pos 86400 *ℤ day_of_second b +ℤ pos second
-begins_at start b second e h =
+begins_at start b second e matches =
+    let h = (matches-fields start b).0 matches in
     let day = (time_of-only b h.day h.hour h.minute h.second h.time).0 in
     let at = begin_is start.hour start.minute start.second _ h.hour h.minute h.second second e h.at.hour h.at.minute h.at.second
     h.least.second h.least.minute in

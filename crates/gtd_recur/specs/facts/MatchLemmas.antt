@@ -1,4 +1,4 @@
--- A start matches exactly the seconds at which it begins.
+-- A start begins exactly at the seconds that it matches by the fields of days and the levels of the table.
 use Rattle.std.proofs.Common.{◌≡◌, ◌↔◌, ◌⊎◌, ℕ, ◌-◌, ◌/◌, ◌%◌, ◌^◌, ◌<◌, inl, inr, Bool, true, false, ◌||◌, ◌==◌, cond}
 use Rattle.std.proofs.Common.{Option, Some, None, is_some, not, refl, sym, subst, ap, ◌∙◌, arith, ℤ, pos, IfSome}
 use Rattle.std.proofs.lemmas.Bool.{and_parts, and_from, eqb-true, eq-eqb}
@@ -13,38 +13,38 @@ use Rattle.gtd_calendar.specs.facts.FieldLemmas.{fields-are, fields-only}
 use Rattle.gtd_calendar.specs.facts.TimeLemmas.{time_of-is, time_of-only}
 use Rattle.gtd_recur.specs.Begins.{agrees, agrees_or_least, gives_clock, gives_day, year_agrees_with, place_agrees, begins}
 use Rattle.gtd_recur.specs.Begins.{begins_at, begins_on}
-use Rattle.gtd_recur.specs.Membership.{HoldsOnDay, HoldsOnClock, Matches}
+use Rattle.gtd_recur.specs.FieldMatches.{HoldsOnDay, HoldsOnClock, MatchesFields}
 
 -- a field alone
-agrees-to : (o : Option ℕ) (v : ℕ) → agrees o v ≡ true → IfSome o (λ x. x ≡ v)
+pub agrees-to : (o : Option ℕ) (v : ℕ) → agrees o v ≡ true → IfSome o (λ x. x ≡ v)
 agrees-to None v e = tt
 agrees-to (Some x) v e = eqb-true x v e
 
-agrees-from : (o : Option ℕ) (v : ℕ) → IfSome o (λ x. x ≡ v) → agrees o v ≡ true
+pub agrees-from : (o : Option ℕ) (v : ℕ) → IfSome o (λ x. x ≡ v) → agrees o v ≡ true
 agrees-from None v e = refl
 agrees-from (Some x) v e = eq-eqb x v e
 
-year-to : (o : Option ℕ) (v : ℤ) → year_agrees_with o v ≡ true → IfSome o (λ y. pos y ≡ v)
+pub year-to : (o : Option ℕ) (v : ℤ) → year_agrees_with o v ≡ true → IfSome o (λ y. pos y ≡ v)
 year-to None v e = tt
 year-to (Some y) v e = (Decides-int_eq (pos y) v).0 e
 
-year-from : (o : Option ℕ) (v : ℤ) → IfSome o (λ y. pos y ≡ v) → year_agrees_with o v ≡ true
+pub year-from : (o : Option ℕ) (v : ℤ) → IfSome o (λ y. pos y ≡ v) → year_agrees_with o v ≡ true
 year-from None v e = refl
 year-from (Some y) v e = (Decides-int_eq (pos y) v).1 e
 
-place-to : (o : Option (ℕ × ℕ)) (n w : ℕ) → place_agrees o n w ≡ true → IfSome o (λ x. (x.0 ≡ n) × (x.1 ≡ w))
+pub place-to : (o : Option (ℕ × ℕ)) (n w : ℕ) → place_agrees o n w ≡ true → IfSome o (λ x. (x.0 ≡ n) × (x.1 ≡ w))
 place-to None n w e = tt
 place-to (Some x) n w e = let parts = and_parts (x.0 == n) (x.1 == w) e in (eqb-true x.0 n parts.0, eqb-true x.1 w parts.1)
 
-place-from : (o : Option (ℕ × ℕ)) (n w : ℕ) → IfSome o (λ x. (x.0 ≡ n) × (x.1 ≡ w)) → place_agrees o n w ≡ true
+pub place-from : (o : Option (ℕ × ℕ)) (n w : ℕ) → IfSome o (λ x. (x.0 ≡ n) × (x.1 ≡ w)) → place_agrees o n w ≡ true
 place-from None n w e = refl
 place-from (Some x) n w e = and_from (x.0 == n) (x.1 == w) (eq-eqb x.0 n e.0) (eq-eqb x.1 w e.1)
 
-or-to : (a b : Bool) → (a || b) ≡ true → (a ≡ true) ⊎ (b ≡ true)
+pub or-to : (a b : Bool) → (a || b) ≡ true → (a ≡ true) ⊎ (b ≡ true)
 or-to true b e = inl refl
 or-to false b e = inr e
 
-or-from : (a b : Bool) → (a ≡ true) ⊎ (b ≡ true) → (a || b) ≡ true
+pub or-from : (a b : Bool) → (a ≡ true) ⊎ (b ≡ true) → (a || b) ≡ true
 or-from true b h = refl
 or-from false b h = elim h [ inl e ↦ cc | inr e ↦ e ]
 
@@ -207,12 +207,12 @@ least-from : (week : Bool) (a b : ℕ) → (week ≡ true → a ≡ 2) → (week
 least-from true a b monday first = eq-eqb a 2 (monday refl)
 least-from false a b monday first = eq-eqb b 1 (first refl)
 
-rest-to : (g c r : Bool) → (g || (c || r)) ≡ true → g ≡ false → c ≡ false → r ≡ true
+pub rest-to : (g c r : Bool) → (g || (c || r)) ≡ true → g ≡ false → c ≡ false → r ≡ true
 rest-to true c r e none f = cc
 rest-to false true r e none f = cc
 rest-to false false r e none f = e
 
-rest-from : (g c r : Bool) → (g ≡ false → c ≡ false → r ≡ true) → (g || (c || r)) ≡ true
+pub rest-from : (g c r : Bool) → (g ≡ false → c ≡ false → r ≡ true) → (g || (c || r)) ≡ true
 rest-from true c r h = refl
 rest-from false true r h = refl
 rest-from false false r h = h refl refl
@@ -281,7 +281,7 @@ day-from p n on monday first month =
     least-from (is_some p.week) n.weekday n.day (monday low) (first low)))))))))
 
 -- a start that begins at a second matches it
-begins-to : (p : StartParts) (s : ℤ) → begins p s ≡ true → Matches p s
+begins-to : (p : StartParts) (s : ℤ) → begins p s ≡ true → MatchesFields p s
 unfolding begins
 begins-to p s e =
     let parts = and_parts _ _ e in
@@ -308,7 +308,7 @@ begins-to p s e =
     }
 
 -- and one that matches it begins at it
-begins-from : (p : StartParts) (s : ℤ) → Matches p s → begins p s ≡ true
+begins-from : (p : StartParts) (s : ℤ) → MatchesFields p s → begins p s ≡ true
 unfolding begins
 begins-from p s m =
     let time = time_of-only s m.day m.hour m.minute m.second m.time in
@@ -320,5 +320,5 @@ begins-from p s m =
     (λ lt. rw (← time.3) (m.least.second (rw (levels p) lt))) (λ lt. rw (← time.2) (m.least.minute (rw (levels p) lt)))
     (λ lt. rw (← time.1) (m.least.hour (rw (levels p) lt))))
 
-pub begins-matches : (p : StartParts) (s : ℤ) → (begins p s ≡ true) ↔ Matches p s
-begins-matches p s = (begins-to p s, begins-from p s)
+pub begins-matches_fields : (p : StartParts) (s : ℤ) → (begins p s ≡ true) ↔ MatchesFields p s
+begins-matches_fields p s = (begins-to p s, begins-from p s)
