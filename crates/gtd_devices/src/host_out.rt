@@ -1,9 +1,10 @@
 //! The output over any writer.
 
-ghost use Rattle.std.specs.Prelude.{◌≡◌, false};
+ghost use Rattle.std.specs.Prelude.{◌≡◌, ◌+◌, ◌<◌, false, length};
+ghost use Rattle.gtd_devices.specs.Device.{AddsFront, IsWithinOffer, failures_after_put};
 
 use crate::device::{Output, Put};
-use std::io::{ErrorKind, Write};
+use std::io::{Error, ErrorKind, Write};
 
 /// How often an interrupted write is tried.
 const TRIES: u32 = 1000;
@@ -30,6 +31,46 @@ impl<W: Write> HostOut<W> {
             failures: 0,
         }
     }
+
+    // Counts a failure.
+    #[cold]
+    #[inline(never)]
+    fn fail(&mut self) -> Put
+        requires countable { self.old.failures < u64.MAX }
+        ensures failed { result ≡ Put.Failed }
+        ensures writer { self.new.writer ≡ self.old.writer }
+        ensures ended { self.new.ended ≡ self.old.ended }
+        ensures failures { self.new.failures ≡ self.old.failures + 1 }
+    {
+        self.failures += 1;
+        Put::Failed
+    }
+
+    // What an offer of bytes did of which a write ended in an error: if it was interrupted, they are offered again. It stands
+    // apart, so that a write that takes bytes is put without room for what an error needs.
+    #[cold]
+    #[inline(never)]
+    fn put_again(&mut self, error: Error, bytes: &[u8]) -> Put
+        requires offered { 0 < length bytes.now }
+        requires countable { self.old.failures < u64.MAX }
+        ensures within { IsWithinOffer result (length bytes.now) }
+        ensures bytes { AddsFront (W.contents self.old.writer) (W.contents self.new.writer) result bytes.now }
+        ensures ended { self.new.ended ≡ self.old.ended }
+        ensures failures { self.new.failures ≡ failures_after_put result self.old.failures }
+    {
+        if error.kind() != ErrorKind::Interrupted {
+            return self.fail();
+        }
+        for _ in 1..TRIES {
+            match self.writer.write(bytes) {
+                Ok(0) => break,
+                Ok(n) => return Put::Took(n),
+                Err(e) if e.kind() == ErrorKind::Interrupted => {}
+                Err(_) => break,
+            }
+        }
+        self.fail()
+    }
 }
 
 impl<W: Write> Output for HostOut<W> {
@@ -39,18 +80,14 @@ impl<W: Write> Output for HostOut<W> {
 
     ghost failure_count = { λ host. host.failures };
 
+    #[inline(always)]
     fn put(&mut self, bytes: &[u8]) -> Put {
         self.ended = false;
-        for _ in 0..TRIES {
-            match self.writer.write(bytes) {
-                Ok(0) => break,
-                Ok(n) => return Put::Took(n),
-                Err(e) if e.kind() == ErrorKind::Interrupted => {}
-                Err(_) => break,
-            }
+        match self.writer.write(bytes) {
+            Ok(0) => self.fail(),
+            Ok(n) => Put::Took(n),
+            Err(error) => self.put_again(error, bytes),
         }
-        self.failures += 1;
-        Put::Failed
     }
 
     fn finish(&mut self) -> Put {
@@ -58,8 +95,7 @@ impl<W: Write> Output for HostOut<W> {
         if self.ended {
             return Put::Took(0);
         }
-        self.failures += 1;
-        Put::Failed
+        self.fail()
     }
 
     fn failures(&self) -> u64 {

@@ -1,5 +1,6 @@
 pub mod SpanFacts
 pub mod MonthDays
+pub mod Pairs
 pub mod FirstMoments
 pub mod ShortLines
 pub mod SplitFacts

@@ -1,5 +1,6 @@
 pub mod Lines
 pub mod Moments
+pub mod Months
 pub mod Schedule
 pub mod Split
 pub mod Theorem

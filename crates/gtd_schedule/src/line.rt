@@ -70,6 +70,8 @@ pub(crate) fn write_span(line: &mut Vec<u8>, head: usize, shown: &mut ShownSpan,
 {
     let (_, moments) = line.as_mut_slice().split_at_mut(head);
     let (from, until) = moments.split_at_mut(20);
-    write_moment(from, &mut shown.from, span.from());
-    write_moment(until, &mut shown.until, span.until());
+    let month = shown.until.month;
+    write_moment(from, &mut shown.from, until, month, span.from());
+    let month = shown.from.month;
+    write_moment(until, &mut shown.until, from, month, span.until());
 }

@@ -1,6 +1,6 @@
 //! The text of a moment, written over the one of the line before.
 
-ghost use Rattle.std.specs.Prelude.{◌≡◌, ◌+◌, ◌*◌, ◌%◌, ◌<◌, ◌≤◌, ◌++◌, ℤ, ℕ, List, pos, ◌+ℤ◌, length, take, drop, IfSome};
+ghost use Rattle.std.specs.Prelude.{◌≡◌, ◌+◌, ◌*◌, ◌/◌, ◌%◌, ◌<◌, ◌≤◌, ◌++◌, ℤ, ℕ, List, pos, ◌+ℤ◌, length, take, drop, IfSome};
 ghost use Rattle.gtd_calendar.specs.Calendar.{IsCalendarDay, month_length};
 ghost use Rattle.gtd_calendar.specs.Clock.{second_of_day as clock_of};
 ghost use Rattle.gtd_calendar.specs.Stamp as spec;
@@ -8,11 +8,18 @@ ghost use Rattle.gtd_calendar.specs.Stamp.{date_text, stamp_text};
 ghost use Rattle.gtd_core.specs.Limits.{day_seconds};
 ghost use Rattle.gtd_core.specs.Seconds.{day_of_second};
 ghost use Rattle.gtd_schedule.specs.Lines.{clock_bytes};
+ghost use Rattle.gtd_schedule.specs.Months.{IsDated};
 ghost use Rattle.gtd_schedule.specs.Moments.{IsKeptOf, IsMonthOf, IsShown, IsSomeMonth};
 
 use gtd_calendar::{second_of_day, write_date};
 use gtd_core::Sec;
 use gtd_core::limits::DAY_SECONDS;
+
+/// The two digits of each number below 100.
+static PAIRS: [u8; 200] = *b"\
+    0001020304050607080910111213141516171819202122232425262728293031323334353637383940414243444546474849\
+    5051525354555657585960616263646566676869707172737475767778798081828384858687888990919293949596979899\
+";
 
 /// The month of a day.
 #[derive(Clone, Copy)]
@@ -39,6 +46,17 @@ struct Place {
     clock: u32,
 }
 
+// The two decimal digits of a number.
+#[inline(always)]
+fn digits_of(value: u32) -> (u8, u8)
+    requires small { value < 100 }
+    ensures tens { result.0 ≡ spec.digit (value / 10) }
+    ensures ones { result.1 ≡ spec.digit value }
+{
+    let at = 2 * value as usize;
+    (PAIRS[at], PAIRS[at + 1])
+}
+
 // Writes two decimal digits over the two bytes at a place.
 #[inline(always)]
 fn write_two(text: &mut [u8], place: usize, value: u32)
@@ -46,9 +64,9 @@ fn write_two(text: &mut [u8], place: usize, value: u32)
     requires inside { place + 2 ≤ length text.old }
     ensures text { text.new ≡ take place text.old ++ (spec.two_digits value ++ drop (place + 2) text.old) }
 {
-    let tens = value / 10;
-    text[place] = b'0' + tens as u8;
-    text[place + 1] = b'0' + (value - 10 * tens) as u8;
+    let (tens, ones) = digits_of(value);
+    text[place] = tens;
+    text[place + 1] = ones;
 }
 
 // The last day that a month of this number has in every year.
@@ -103,24 +121,58 @@ fn place_in_month(month: Month, second: Sec) -> Option<Place>
     Some(Place { day, clock })
 }
 
-// Writes the day of a second over the one of a known month that the text begins with: mostly the new day is in that month
-// too. Answers its month, and the second of the day.
-#[inline(always)]
-fn write_day(text: &mut [u8], month: Month, second: Sec) -> (Month, u32)
+// Writes the day of a second over the one that the text begins with, where the known month does not have it: another text
+// may show a day of its month. Answers the second of the day.
+#[cold]
+#[inline(never)]
+fn write_other_month(
+    text: &mut [u8],
+    month: &mut Month,
+    other: &[u8],
+    month_of_other: Month,
+    second: Sec,
+) -> u32
     requires day { IsCalendarDay (day_of_second second.0) }
-    requires month { IsSomeMonth month }
     requires inside { 10 ≤ length text.old }
-    ensures text { (n : ℤ) (rest : List ℕ) → text.old ≡ date_text n ++ rest → IsMonthOf n month
-        → text.new ≡ date_text (day_of_second second.0) ++ rest }
-    ensures month { (n : ℤ) → IsMonthOf n month → IsMonthOf (day_of_second second.0) result.0 }
-    ensures clock { result.1 ≡ clock_of second.0 }
+    requires other { IsDated month_of_other other.now }
+    ensures text { text.new ≡ date_text (day_of_second second.0) ++ drop 10 text.old }
+    ensures month { IsMonthOf (day_of_second second.0) month.new }
+    ensures clock { result ≡ clock_of second.0 }
 {
-    if let Some(at) = place_in_month(month, second) {
+    if let Some(at) = place_in_month(month_of_other, second) {
+        let (front, _) = text.split_at_mut(8);
+        let (same, _) = other.split_at(8);
+        front.copy_from_slice(same);
         write_two(text, 8, at.day);
-        return (month, at.clock);
+        *month = month_of_other;
+        return at.clock;
     }
-    let month = write_whole_day(text, second.day());
-    (month, second_of_day(second))
+    *month = write_whole_day(text, second.day());
+    second_of_day(second)
+}
+
+// Writes the day of a second over the one of a known month that the text begins with: mostly the new day is in that month
+// too. Another text shows a day, too, whose month is known. Answers the second of the day.
+#[inline(always)]
+fn write_day(
+    text: &mut [u8],
+    month: &mut Month,
+    other: &[u8],
+    month_of_other: Month,
+    second: Sec,
+) -> u32
+    requires day { IsCalendarDay (day_of_second second.0) }
+    requires month { IsDated month.old text.old }
+    requires other { IsDated month_of_other other.now }
+    ensures text { text.new ≡ date_text (day_of_second second.0) ++ drop 10 text.old }
+    ensures month { IsMonthOf (day_of_second second.0) month.new }
+    ensures clock { result ≡ clock_of second.0 }
+{
+    if let Some(at) = place_in_month(*month, second) {
+        write_two(text, 8, at.day);
+        return at.clock;
+    }
+    write_other_month(text, month, other, month_of_other, second)
 }
 
 // Writes a clock over the one after the day, if it is another one.
@@ -145,16 +197,22 @@ fn write_clock(text: &mut [u8], shown: u32, clock: u32)
     }
 }
 
-/// Writes the text of a moment over the one that a text begins with.
+/// Writes the text of a moment over the one that a text begins with. Another text shows a moment, too.
 #[inline(always)]
-pub(crate) fn write_moment(text: &mut [u8], shown: &mut Shown, second: Sec)
+pub(crate) fn write_moment(
+    text: &mut [u8],
+    shown: &mut Shown,
+    other: &[u8],
+    month_of_other: Month,
+    second: Sec,
+)
     requires day { IsCalendarDay (day_of_second second.0) }
     requires shown { IsShown shown.old text.old }
+    requires other { IsDated month_of_other other.now }
     ensures text { text.new ≡ stamp_text second.0 ++ drop 19 text.old }
     ensures kept { IsKeptOf second.0 shown.new }
 {
-    let (month, clock) = write_day(text, shown.month, second);
-    shown.month = month;
+    let clock = write_day(text, &mut shown.month, other, month_of_other, second);
     write_clock(text, shown.clock, clock);
     shown.clock = clock;
 }

@@ -1,8 +1,11 @@
 use Rattle.std.proofs.Common.{◌≡◌, ◌∙◌, sym, ap, refl, arith, ℕ, ℤ, List, [], ◌∷◌, ◌++◌, length, length-append, take, drop}
 use Rattle.std.proofs.lemmas.List.{take_at, take-append-drop}
-use Rattle.gtd_calendar.specs.Stamp.{stamp_text}
+use Rattle.gtd_calendar.specs.Stamp.{clock_text, stamp_text}
+use Rattle.gtd_core.specs.Seconds.{day_of_second}
 use Rattle.gtd_schedule.specs.Lines.{span_text}
-use Rattle.gtd_schedule.specs.Moments.{AreMoments, IsShown}
+use Rattle.gtd_schedule.specs.Months.{IsDated}
+use Rattle.gtd_schedule.specs.Moments.{AreMoments, IsKeptOf, IsShown}
+use Rattle.gtd_schedule.specs.declared.moment.Shown.{Shown}
 use Rattle.gtd_schedule.specs.declared.line.ShownSpan.{ShownSpan}
 use Rattle.gtd_schedule.proofs.line.write_span.Goals as goal
 
@@ -20,6 +23,17 @@ module _ (shown : ShownSpan) (bytes : List ℕ) (are : AreMoments shown bytes) (
   until_is : (second : ℤ) (new : List ℕ) → part ≡ drop 20 bytes → new ≡ stamp_text second ++ drop 19 part
       → new ≡ stamp_text second ++ (10 ∷ [])
   until_is second new is written = written ∙ ap (λ (l : List ℕ). stamp_text second ++ drop 19 l) (is ∙ ap (drop 20) are.is)
+
+-- a text that begins with the moment of a second shows its day
+dated : (second : ℤ) (shown : Shown) (text rest : List ℕ) → IsKeptOf second shown → text ≡ stamp_text second ++ rest
+    → IsDated shown.month text
+dated second shown text rest kept is = record {
+  day = day_of_second second;
+  rest = clock_text second ++ rest;
+  in_calendar = kept.day;
+  of = kept.month;
+  is = is;
+}
 
 -- the whole buffer, once its last bytes were written over by as many
 whole_is : (items front a b text : List ℕ) (head len : ℕ) → length items ≡ len → front ≡ take head items
@@ -43,6 +57,19 @@ write_moment-requires-2-clause-shown c =
     until_shown c.args.shown.now (drop c.args.head c.args.line.now.items) c.requires.shown c.split_at_mut-from.result.1.now
     (c.split_at_mut-from.ensures.back ∙ ap (drop 20) (c.split_at_mut-moments.ensures.back
     ∙ ap (drop c.args.head) c.as_mut_slice.ensures.value))
+
+pub write_moment-requires-clause-other : goal.write_moment-requires-clause-other
+write_moment-requires-clause-other c =
+    let k = until_shown c.args.shown.now (drop c.args.head c.args.line.now.items) c.requires.shown c.split_at_mut-from.result.1.now
+    (c.split_at_mut-from.ensures.back ∙ ap (drop 20) (c.split_at_mut-moments.ensures.back
+    ∙ ap (drop c.args.head) c.as_mut_slice.ensures.value)) in
+    dated k.second c.args.shown.now.until c.split_at_mut-from.result.1.now k.rest k.kept k.is
+
+pub write_moment-requires-2-clause-other : goal.write_moment-requires-2-clause-other
+write_moment-requires-2-clause-other c =
+    dated c.args.span.from c.write_moment.new.shown c.write_moment.new.text _
+    (rw (c.from.ensures.value) at c.write_moment.ensures.kept)
+    (rw (c.from.ensures.value) at c.write_moment.ensures.text)
 
 pub returns-clause-line : goal.returns-clause-line
 returns-clause-line c =
