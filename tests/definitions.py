@@ -50,7 +50,7 @@ class Module:
 
     def defined(self, name):
         """The definition of this name, or the one that has a variant of this name, or None."""
-        variant = re.compile(r"^\s+%s :" % re.escape(name), re.M)
+        variant = re.compile(r"^\s+(?:[^\s:()]+ )*%s(?: [^\s:()]+)* :" % re.escape(name), re.M)
         having = (it for it in self.definitions.values() if " data " in " " + it.lines[0] and variant.search(it.text()))
         return self.definitions.get(name) or next(having, None)
 
