@@ -2,11 +2,10 @@
 -- matches, and that a basic domain contains. Days are given by their numbers, and a second by its day and its clock.
 use Rattle.std.proofs.Common.{◌≡◌, ◌+◌, ◌*◌, ◌<◌, ℕ, ℤ, pos, neg_ℤ, ◌+ℤ◌, ◌*ℤ◌, inl, inr, refl, arith, Some}
 use Rattle.gtd_core.specs.Ranges.{no_parts}
-use Rattle.gtd_core.specs.Seconds.{day_of_second}
 use Rattle.gtd_core.specs.declared.duration.DurationParts.{DurationParts}
 use Rattle.gtd_calendar.specs.Calendar.{IsDate, IsDateOf, IsWeekOf, day_number, days_of_months, first_day, thursday_of}
 use Rattle.gtd_calendar.specs.Calendar.{weekday_of}
-use Rattle.gtd_calendar.specs.Clock.{IsStop, IsTimeOf, second_of_day}
+use Rattle.gtd_calendar.specs.Clock.{IsStop, IsTimeOf}
 use Rattle.gtd_calendar.specs.facts.Signed.{signed_arith}
 use Rattle.gtd_recur.specs.Membership.{InStretches, Matches}
 
@@ -60,65 +59,81 @@ abbrev for : ℕ → ℕ → ℕ → DurationParts
 for years months hours =
     record { years = years; months = months; weeks = 0; days = 0; hours = hours; minutes = 0; seconds = 0 }
 
--- One month from 31 January 2024 on ends on 29 February.
-pub one_month : IsStop (for 0 1 0) (at 19753 0 0 0) (at 19782 0 0 0)
-unfolding day_of_second second_of_day day_number first_day days_of_months
-one_month = record {
-  reached = pos 19782;
-  months = record {
-    year = pos 2024;
-    month = 1;
-    day = 31;
-    date = (((omega arith, omega arith), (omega arith, omega arith)), refl);
-    later_year = pos 2024;
-    later_month = 2;
-    moved = refl;
-    reached = (((omega arith, omega arith), (omega arith, omega arith)), refl);
-  };
-  is = refl;
-}
-
--- A year and a month from 29 February 2024 on end on 29 March 2025.
-pub year_and_month : IsStop (for 1 1 0) (at 19782 0 0 0) (at 20176 0 0 0)
-unfolding day_of_second second_of_day day_number first_day days_of_months
-year_and_month = record {
-  reached = pos 20176;
-  months = record {
-    year = pos 2024;
-    month = 2;
-    day = 29;
-    date = (((omega arith, omega arith), (omega arith, omega arith)), refl);
-    later_year = pos 2025;
-    later_month = 3;
-    moved = refl;
-    reached = (((omega arith, omega arith), (omega arith, omega arith)), refl);
-  };
-  is = refl;
-}
-
--- A month and 24 hours from noon of 31 January 2023 on end at noon of 1 March.
-pub month_and_day : IsStop (for 0 1 24) (at 19388 12 0 0) (at 19417 12 0 0)
-unfolding day_of_second second_of_day day_number first_day days_of_months
-month_and_day = record {
-  reached = pos 19416;
-  months = record {
-    year = pos 2023;
-    month = 1;
-    day = 31;
-    date = (((omega arith, omega arith), (omega arith, omega arith)), refl);
-    later_year = pos 2023;
-    later_month = 2;
-    moved = refl;
-    reached = (((omega arith, omega arith), (omega arith, omega arith)), refl);
-  };
-  is = refl;
-}
-
--- ---- seconds that a start matches
-
+-- a second is at the hour, the minute and the second by which it is written
 pub time_at : (day hour minute second : ℕ) → hour < 24 → minute < 60 → second < 60
     → IsTimeOf (at day hour minute second) (pos day) hour minute second
 time_at day hour minute second h m s = record { clock = (h, m, s); is = refl }
+
+-- One month from 31 January 2024 on ends on 29 February.
+pub one_month : IsStop (for 0 1 0) (at 19753 0 0 0) (at 19782 0 0 0)
+unfolding day_number first_day days_of_months
+one_month = (
+  pos 19753,
+  pos 19782,
+  0,
+  0,
+  0,
+  time_at 19753 0 0 0 (omega arith) (omega arith) (omega arith),
+  (
+    pos 2024,
+    pos 2024,
+    1,
+    2,
+    31,
+    (((omega arith, omega arith), (omega arith, omega arith)), refl),
+    refl,
+    (((omega arith, omega arith), (omega arith, omega arith)), refl),
+  ),
+  refl,
+)
+
+-- A year and a month from 29 February 2024 on end on 29 March 2025.
+pub year_and_month : IsStop (for 1 1 0) (at 19782 0 0 0) (at 20176 0 0 0)
+unfolding day_number first_day days_of_months
+year_and_month = (
+  pos 19782,
+  pos 20176,
+  0,
+  0,
+  0,
+  time_at 19782 0 0 0 (omega arith) (omega arith) (omega arith),
+  (
+    pos 2024,
+    pos 2025,
+    2,
+    3,
+    29,
+    (((omega arith, omega arith), (omega arith, omega arith)), refl),
+    refl,
+    (((omega arith, omega arith), (omega arith, omega arith)), refl),
+  ),
+  refl,
+)
+
+-- A month and 24 hours from noon of 31 January 2023 on end at noon of 1 March.
+pub month_and_day : IsStop (for 0 1 24) (at 19388 12 0 0) (at 19417 12 0 0)
+unfolding day_number first_day days_of_months
+month_and_day = (
+  pos 19388,
+  pos 19416,
+  12,
+  0,
+  0,
+  time_at 19388 12 0 0 (omega arith) (omega arith) (omega arith),
+  (
+    pos 2023,
+    pos 2023,
+    1,
+    2,
+    31,
+    (((omega arith, omega arith), (omega arith, omega arith)), refl),
+    refl,
+    (((omega arith, omega arith), (omega arith, omega arith)), refl),
+  ),
+  refl,
+)
+
+-- ---- seconds that a start matches
 
 -- `(f52)`: the fifth Monday of January 2024, the 29th.
 pub fifth_monday : Matches (record no_parts { nth = Some (5, 2) }) (at 19751 0 0 0)
@@ -264,25 +279,30 @@ on_the_hour month hour day y m d date h is = (
 
 -- `(M5h10){h1}`: 17 May 2024 at 10:59:59.
 pub last_second : InStretches (record no_parts { month = Some 5; hour = Some 10 }) (for 0 0 1) (at 19860 10 59 59)
-unfolding InStretches day_of_second second_of_day day_number first_day days_of_months
+unfolding InStretches day_number first_day days_of_months
 last_second = (
   at 19860 10 0 0,
   at 19860 11 0 0,
   on_the_hour 5 10 19860 2024 5 17 (((omega arith, omega arith), (omega arith, omega arith)), refl) (omega arith) refl,
-  record {
-    reached = pos 19860;
-    months = record {
-      year = pos 2024;
-      month = 5;
-      day = 17;
-      date = (((omega arith, omega arith), (omega arith, omega arith)), refl);
-      later_year = pos 2024;
-      later_month = 5;
-      moved = refl;
-      reached = (((omega arith, omega arith), (omega arith, omega arith)), refl);
-    };
-    is = refl;
-  },
+  (
+    pos 19860,
+    pos 19860,
+    10,
+    0,
+    0,
+    time_at 19860 10 0 0 (omega arith) (omega arith) (omega arith),
+    (
+      pos 2024,
+      pos 2024,
+      5,
+      5,
+      17,
+      (((omega arith, omega arith), (omega arith, omega arith)), refl),
+      refl,
+      (((omega arith, omega arith), (omega arith, omega arith)), refl),
+    ),
+    refl,
+  ),
   omega (arith, signed_arith),
   omega (arith, signed_arith),
 )
