@@ -1,6 +1,7 @@
 pub mod Lines
 pub mod Moments
 pub mod Schedule
+pub mod Shown
 pub mod Split
 pub mod Theorem
 pub mod facts
