@@ -270,7 +270,7 @@ class Statement:
 
     def follow_type(self, definition):
         """The types of a type's fields and its model; and what a type, a model or a trait says in its ghost fields and clauses,
-        over the imports of its file."""
+        over the imports of its file, where the names of its own fields come first."""
         for named in types_named(definition):
             self.add(named, None)
         model = model_of(definition)
@@ -278,7 +278,10 @@ class Statement:
             self.add(model, None)
         ghost = "\n".join(line for line in definition.lines if not line.strip().startswith("//"))
         if "ghost" in ghost:
-            self.follow(ghost, read_source(os.path.join(TOP, definition.path)))
+            module = read_source(os.path.join(TOP, definition.path))
+            for field in re.findall(r"^\s+(?:pub(?:\(crate\))? )?(?:ghost )?(\w+):", ghost, re.M):
+                module.names.pop(field, None)
+            self.follow(ghost, module)
 
 
 def clause(path, function, name):

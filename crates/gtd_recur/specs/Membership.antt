@@ -23,10 +23,10 @@ abbrev pub HasNumber : Option ℕ → Bool → ℕ → ℕ → Type 0
 HasNumber (Some given) finer least number = number ≡ given
 HasNumber None finer least number = finer ≡ false → number ≡ least
 
--- Each level down to the day holds on day n, which has this date. A year is that of the week if a week is given. A place is a
--- number and a weekday: the n-th such weekday of the month, from its beginning or back from its end. Several weekdays are
--- alternatives; bit k - 1 stands for weekday k. The day's least is the Monday, weekday 2, of a given week, and otherwise the
--- first of the month.
+-- Each level down to the day holds on day n, which has this date. A year is that of the week if a week is given, which leaves
+-- the month free. A place is a number and a weekday: the n-th such weekday of the month, from its beginning or back from its end.
+-- Several weekdays are alternatives; bit k - 1 stands for weekday k. The day's least is the Monday, weekday 2, of a given week,
+-- and otherwise the first of the month.
 pub record HoldsOn (p : StartParts) (n : ℤ) : Type 0 where
   pub year : ℤ
   pub month : ℕ

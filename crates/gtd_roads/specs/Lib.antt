@@ -39,6 +39,7 @@ pub use Rattle.gtd_runs.specs.declared.fault.RunFault
 pub use Rattle.gtd_runs.specs.declared.putting.Stop
 pub use Rattle.gtd_runs.specs.declared.subject.Subject
 pub use Rattle.gtd_schedule.specs.Schedule
+pub use Rattle.gtd_schedule.specs.Shown
 pub use Rattle.gtd_schedule.specs.Split
 pub use Rattle.gtd_year.specs.YearTable
 pub use Rattle.gtd_migrate.specs.Migrated

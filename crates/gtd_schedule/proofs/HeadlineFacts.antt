@@ -5,13 +5,15 @@ use Rattle.gtd_runs.specs.Run.{AcceptedFilesArePut, RefusedFilesPutNothing}
 use Rattle.gtd_runs.specs.declared.fault.RunFault.{RunFault}
 use Rattle.gtd_schedule.specs.Schedule.{IsSchedule}
 use Rattle.gtd_schedule.specs.Theorem.{Headline}
+use Rattle.gtd_schedule.specs.facts.ShownFacts.{puts-schedule}
 
 pub headline : (vehicle : ℕ) (horizon : Horizon) (file before after : Option (List ℕ)) (answer : Result ℕ RunFault)
     → AcceptedFilesArePut (λ found. ⊤) (λ found lines. IsSchedule found vehicle horizon lines) file before after answer
     → RefusedFilesPutNothing file before after answer
     → Headline vehicle horizon file before after answer
-headline vehicle horizon None before after answer accepted refused = record { accepted = accepted; refused = refused }
+headline vehicle horizon None before after answer accepted refused = record { accepted = λ unhindered. tt; refused = refused }
 headline vehicle horizon (Some bytes) before after answer accepted refused = record {
-  accepted = λ unhindered found file. accepted unhindered found file tt;
+  accepted = λ unhindered found file.
+      (puts-schedule found vehicle horizon before after answer).1 (accepted unhindered found file tt);
   refused = refused;
 }

@@ -5,7 +5,7 @@
 --   closes it, in ordered, disjoint, maximal intervals; any other file prints nothing and is refused by its first fault.
 --
 -- `file` holds the bytes that the input still had to give, `before` and `after` those that the output had taken, if the
--- devices tell them; `answer` is that of the run. What closes an element is `Closes`; how it is shown is `IsSchedule`.
+-- devices tell them; `answer` is that of the run. What closes an element is `Closes`; how it is shown is `ShowsOpen`.
 use Rattle.std.specs.Prelude.{◌≡◌, ℕ, List, Option, IfSome, Result, Ok, Err}
 use Rattle.std.specs.Io.KnownBytes.{Keeps}
 use Rattle.gtd_core.specs.declared.horizon.Horizon.{Horizon}
@@ -15,13 +15,13 @@ use Rattle.gtd_records.specs.declared.fault.RecordFault.{RecordFault}
 use Rattle.gtd_runs.specs.Run.{IsUnhindered, PutsWhole}
 use Rattle.gtd_runs.specs.declared.fault.RunFault.{RunFault}
 use Rattle.gtd_runs.specs.declared.fault.RunFault.TheVariants as fault
-use Rattle.gtd_schedule.specs.Schedule.{IsSchedule}
+use Rattle.gtd_schedule.specs.Shown.{ShowsOpen}
 
 -- If neither device failed, no memory was refused and the input did not fall silent: of a restriction file its schedule is
 -- printed, whole; any other file prints nothing, and the answer is its first fault.
 pub record Headline (vehicle : ℕ) (horizon : Horizon)
     (file before after : Option (List ℕ)) (answer : Result ℕ RunFault) : Type 0 where
   pub accepted : IsUnhindered answer → IfSome file (λ bytes. (found : List Restriction) → IsFile bytes (Ok found)
-      → PutsWhole (IsSchedule found vehicle horizon) before after answer)
+      → PutsWhole (ShowsOpen found vehicle horizon) before after answer)
   pub refused : IsUnhindered answer → IfSome file (λ bytes. (why : RecordFault) → IsFile bytes (Err why)
       → (answer ≡ Err (fault.Records why)) × Keeps before after)

@@ -8,6 +8,7 @@ ghost use Rattle.gtd_records.specs.File.{IsFile};
 ghost use Rattle.gtd_records.specs.Closing.{Restriction};
 ghost use Rattle.gtd_runs.specs.Run.{IsVehicleType};
 ghost use Rattle.gtd_schedule.specs.Schedule.{IsSchedule, header_line};
+ghost use Rattle.gtd_schedule.specs.Shown.{ShowsOpen};
 ghost use Rattle.gtd_schedule.specs.Split.{AreRanges, AreSchedules, HaveSameRows, IsSplitAt, below, not_below, of_parts};
 
 /// Restrictions have at most one schedule for a vehicle type and a horizon.
@@ -20,6 +21,12 @@ pub fn one_schedule()
 pub fn some_schedule()
     ensures some { (found : List Restriction) (vehicle : ℕ) (horizon : Horizon) →
         (lines : List (List ℕ)) × IsSchedule found vehicle horizon lines }
+{}
+
+/// Lines show when each element is open, as the headline says it, exactly if they are a schedule.
+pub fn shown_lines()
+    ensures same { (found : List Restriction) (vehicle : ℕ) (horizon : Horizon) (lines : List (List ℕ)) →
+        ShowsOpen found vehicle horizon lines ↔ IsSchedule found vehicle horizon lines }
 {}
 
 /// Each line of the schedule of a record file has at most 63 bytes, its end included.

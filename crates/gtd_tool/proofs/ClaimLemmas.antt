@@ -8,6 +8,7 @@ use Rattle.gtd_roads.specs.Run.{AcceptedFilesArePut, PutsWhole, RefusedFilesPutN
 use Rattle.gtd_roads.specs.RunFault.{RunFault}
 use Rattle.gtd_roads.specs.Schedule.{IsSchedule}
 use Rattle.gtd_roads.specs.Theorem.{Headline, MigrationClaim}
+use Rattle.gtd_roads.specs.facts.ShownFacts.{puts-schedule}
 use Rattle.gtd_tool.proofs.LoanLemmas.{Passes, if_some, if_some_all, passes_kept}
 
 module _ (a b c d : Option (List ℕ)) (pass : Passes a b c d) (file : Option (List ℕ)) (answer : Result ℕ RunFault) where
@@ -37,7 +38,8 @@ module _ (file a b : Option (List ℕ)) (answer : Result ℕ RunFault) where
   pub of_headline : (vehicle : ℕ) (horizon : Horizon) → Headline vehicle horizon file a b answer
       → AcceptedFilesArePut (λ found. ⊤) (λ found. IsSchedule found vehicle horizon) file a b answer
   of_headline vehicle horizon claim free =
-      if_some file _ _ (λ bytes put found is accepted. put found is) (claim.accepted free)
+      if_some file _ _
+      (λ bytes put found is accepted. (puts-schedule found vehicle horizon a b answer).0 (put found is)) (claim.accepted free)
 
   pub of_migration : MigrationClaim file a b answer
       → AcceptedFilesArePut (λ found. ⊤) (λ found lines. lines ≡ migrated found) file a b answer
