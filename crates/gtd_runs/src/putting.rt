@@ -84,6 +84,7 @@ impl Progress {
 }
 
 // Offers the bytes, and then the rest of them until all are taken.
+#[inline(always)]
 fn put_all<O: Output>(output: &mut O, bytes: &[u8]) -> Result<(), ShortPut>
     requires countable { O.failure_count output.old < u64.MAX }
     ensures all { OnOk result (Appends (O.taken output.old) (O.taken output.new) bytes.now) }

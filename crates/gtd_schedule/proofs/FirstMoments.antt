@@ -8,7 +8,8 @@ use Rattle.gtd_calendar.specs.Stamp.{stamp_text}
 use Rattle.gtd_calendar.specs.facts.DateLemmas.{date_of-only}
 use Rattle.gtd_calendar.specs.facts.YearLemmas.{first_day-1970}
 use Rattle.gtd_core.specs.Seconds.{day_of_second}
-use Rattle.gtd_schedule.specs.Moments.{IsKeptOf}
+use Rattle.gtd_schedule.specs.Moments.{AreMoments, IsKeptOf}
+use Rattle.gtd_schedule.specs.declared.moment.Shown.{Shown}
 
 first_day : pos 0 ≡ day_number (pos 1970) 1 1
 unfolding day_number days_of_months
@@ -42,3 +43,16 @@ first_moments = both (stamp_text (pos 0)) first_stamp
     both : (a : List ℕ) → a ≡ codes "1970-01-01T00:00:00"
         → codes "1970-01-01T00:00:00,1970-01-01T00:00:00\n" ≡ a ++ codes "," ++ a ++ codes "\n"
     both a e = rw e refl
+
+-- what they show
+abbrev pub shown_first : Shown
+shown_first = record { month = record { eve = negsuc 0; last_day = 31 }; clock = 0 }
+
+pub are_first : AreMoments (record { from = shown_first; until = shown_first }) (codes "1970-01-01T00:00:00,1970-01-01T00:00:00\n")
+are_first = record {
+  from = pos 0;
+  until = pos 0;
+  from_kept = first_kept;
+  until_kept = first_kept;
+  is = first_moments;
+}

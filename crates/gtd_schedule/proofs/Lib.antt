@@ -1,6 +1,7 @@
 pub mod SpanFacts
 pub mod MonthDays
 pub mod Pairs
+pub mod MomentParts
 pub mod FirstMoments
 pub mod ShortLines
 pub mod SplitFacts

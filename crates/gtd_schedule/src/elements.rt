@@ -8,7 +8,7 @@ ghost use Rattle.gtd_records.specs.Closing.{IsOpen};
 ghost use Rattle.gtd_schedule.specs.Lines.{AreShown, span_line};
 ghost use Rattle.gtd_schedule.specs.Schedule.{AreLines};
 
-use crate::line::{write_first_moments, write_head, write_span};
+use crate::line::{FirstMoments, write_first_moments, write_head, write_span};
 use gtd_core::Horizon;
 use gtd_devices::Output;
 use gtd_records::{Direction, Records, open_seconds};
@@ -24,6 +24,7 @@ fn put_spans<O: Output, S: SpanSource>(
     element: u64,
     direction: Direction,
     vehicle: u8,
+    first: &FirstMoments,
     spans: &mut S,
 ) -> Result<(), Stop>
     requires countable { O.failure_count output.old < u64.MAX }
@@ -37,7 +38,7 @@ fn put_spans<O: Output, S: SpanSource>(
 {
     write_head(line, element, direction, vehicle)?;
     let head = line.len();
-    let mut shown = write_first_moments(line)?;
+    let mut shown = write_first_moments(line, first)?;
     while let Some(span) = spans.next() {
         write_span(line, head, &mut shown, span);
         put_line(output, progress, line.as_slice())?;
@@ -55,6 +56,7 @@ fn put_direction_spans<O: Output, S: SpanSource>(
     direction: Direction,
     vehicle: u8,
     _horizon: Horizon,
+    first: &FirstMoments,
     spans: &mut S,
 ) -> Result<(), Stop>
     requires countable { O.failure_count output.old < u64.MAX }
@@ -68,7 +70,9 @@ fn put_direction_spans<O: Output, S: SpanSource>(
     ensures failures { O.failure_count output.new
         ≡ failures_after_stop result (O.failure_count output.old) }
 {
-    put_spans(output, progress, line, element, direction, vehicle, spans)
+    put_spans(
+        output, progress, line, element, direction, vehicle, first, spans,
+    )
 }
 
 /// Puts the lines of an element in a direction: at most one for each second of the longest horizon.
@@ -82,6 +86,7 @@ pub(crate) fn put_open_spans<O: Output>(
     direction: Direction,
     vehicle: u8,
     horizon: Horizon,
+    first: &FirstMoments,
 ) -> Result<(), Stop>
     requires countable { O.failure_count output.old < u64.MAX }
     requires written { progress.old.written + most_direction_bytes < 2 ^ 64 }
@@ -95,6 +100,6 @@ pub(crate) fn put_open_spans<O: Output>(
 {
     let mut spans = open_seconds(alloc, found, element, direction, vehicle, horizon)?;
     put_direction_spans(
-        output, progress, line, found, element, direction, vehicle, horizon, &mut spans,
+        output, progress, line, found, element, direction, vehicle, horizon, first, &mut spans,
     )
 }

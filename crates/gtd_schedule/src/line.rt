@@ -1,13 +1,16 @@
 //! The lines of a schedule.
 
-ghost use Rattle.std.specs.Prelude.{◌≡◌, ◌++◌, ◌≤◌, ℕ, List, length, take, drop, OnOk, IfOk};
-ghost use Rattle.gtd_calendar.specs.Calendar.{IsCalendarDay};
+ghost use Rattle.std.specs.Prelude.{◌≡◌, ◌++◌, ◌≤◌, ℕ, List, pos, ◌+ℤ◌, codes, length, take, drop, OnOk, IfOk};
+ghost use Rattle.gtd_calendar.specs.Calendar.{IsCalendarDay, month_length};
+ghost use Rattle.gtd_calendar.specs.Clock.{second_of_day};
+ghost use Rattle.gtd_calendar.specs.ComputedDates.{day_of_month, month_of, year_of};
+ghost use Rattle.gtd_calendar.specs.Stamp.{stamp_text};
 ghost use Rattle.gtd_core.specs.Seconds.{day_of_second};
 ghost use Rattle.gtd_schedule.specs.Lines.{line_head, span_text};
 ghost use Rattle.gtd_schedule.specs.Moments.{AreMoments};
 
 use crate::moment::{Month, Shown, write_moment};
-use gtd_core::Span;
+use gtd_core::{Sec, Span};
 use gtd_records::Direction;
 use itoa::Buffer;
 use std::alloc::AllocError;
@@ -31,9 +34,6 @@ pub(crate) fn write_head(
     line.extend_from_slice(b",")
 }
 
-/// The bytes of two moments, of second 0, after the head of a line.
-const FIRST_MOMENTS: &[u8] = b"1970-01-01T00:00:00,1970-01-01T00:00:00\n";
-
 /// What the two moments of a line show.
 #[derive(Clone, Copy)]
 pub(crate) struct ShownSpan {
@@ -41,20 +41,55 @@ pub(crate) struct ShownSpan {
     pub(crate) until: Shown,
 }
 
-// Writes the two moments of second 0 after the head of a line.
-pub(crate) fn write_first_moments(line: &mut Vec<u8>) -> Result<ShownSpan, AllocError>
+/// The two moments over which the first line of an element in a direction is written. Both are of one second: mostly lines
+/// begin in its month, of which the date is then not computed.
+#[derive(Drop)]
+pub(crate) struct FirstMoments {
+    pub(crate) bytes: [u8; 40],
+    pub(crate) shown: Shown,
+    pub(crate) second: Sec,
+    ghost day: { IsCalendarDay (day_of_second second.0) },
+    ghost eve: { shown.month.eve +ℤ pos (day_of_month (day_of_second second.0)) ≡ day_of_second second.0 },
+    ghost reached: { shown.month.last_day
+        ≤ month_length (year_of (day_of_second second.0)) (month_of (day_of_second second.0)) },
+    ghost clock: { shown.clock ≡ second_of_day second.0 },
+    ghost is: { bytes ≡ stamp_text second.0 ++ codes "," ++ stamp_text second.0 ++ codes "\n" },
+}
+
+impl FirstMoments {
+    // Those of a second.
+    pub(crate) fn of(second: Sec) -> FirstMoments
+        requires day { IsCalendarDay (day_of_second second.0) }
+    {
+        let mut bytes = *b"1970-01-01T00:00:00,1970-01-01T00:00:00\n";
+        let month = Month {
+            eve: -1,
+            last_day: 31,
+        };
+        let (mut shown, mut same) = (Shown { month, clock: 0 }, Shown { month, clock: 0 });
+        let (from, until) = bytes.split_at_mut(20);
+        write_moment(from, &mut shown, until, month, second);
+        write_moment(until, &mut same, from, shown.month, second);
+        FirstMoments {
+            bytes,
+            shown,
+            second,
+        }
+    }
+}
+
+// Writes the first moments after the head of a line.
+pub(crate) fn write_first_moments(
+    line: &mut Vec<u8>,
+    first: &FirstMoments,
+) -> Result<ShownSpan, AllocError>
     ensures line { IfOk result (λ shown. (moments : List ℕ)
         × (line.new.items ≡ line.old.items ++ moments) × AreMoments shown moments) }
 {
-    line.extend_from_slice(FIRST_MOMENTS)?;
-    let month = Month {
-        eve: -1,
-        last_day: 31,
-    };
-    let shown = Shown { month, clock: 0 };
+    line.extend_from_slice(&first.bytes)?;
     Ok(ShownSpan {
-        from: shown,
-        until: shown,
+        from: first.shown,
+        until: first.shown,
     })
 }
 

@@ -7,6 +7,7 @@ ghost use Rattle.gtd_schedule.specs.Schedule.{AreLines, IsSchedule};
 ghost use Rattle.gtd_schedule.specs.Theorem.{Headline};
 
 use crate::elements::put_open_spans;
+use crate::line::FirstMoments;
 use gtd_core::Horizon;
 use gtd_devices::{Input, Output};
 use gtd_records::{Direction, RecordFault, Records};
@@ -25,8 +26,16 @@ pub struct Schedule {
     pub vehicle: u8,
 }
 
-impl DirectionLines for Schedule {
-    ghost are_lines = { λ report found. AreLines found report.vehicle report.horizon };
+// The lines of a schedule, and the moments over which the first of an element in a direction is written.
+#[derive(Drop)]
+struct ScheduleLines {
+    horizon: Horizon,
+    vehicle: u8,
+    first: FirstMoments,
+}
+
+impl DirectionLines for ScheduleLines {
+    ghost are_lines = { λ text found. AreLines found text.vehicle text.horizon };
 
     fn put_direction<O: Output>(
         &self,
@@ -48,12 +57,13 @@ impl DirectionLines for Schedule {
             direction,
             self.vehicle,
             self.horizon,
+            &self.first,
         )
     }
 }
 
-impl ElementLines for Schedule {
-    ghost are_lines = { λ report found. AreLines found report.vehicle report.horizon };
+impl ElementLines for ScheduleLines {
+    ghost are_lines = { λ text found. AreLines found text.vehicle text.horizon };
 
     fn put_element<O: Output>(
         &self,
@@ -89,7 +99,13 @@ impl Report for Schedule {
         found: &Records,
     ) -> Result<(), Stop> {
         let header = b"element,direction,vehicle,from,until\n";
-        put_by_element(alloc, output, progress, found, header, self)
+        let first = FirstMoments::of(self.horizon.from());
+        let lines = ScheduleLines {
+            horizon: self.horizon,
+            vehicle: self.vehicle,
+            first,
+        };
+        put_by_element(alloc, output, progress, found, header, &lines)
     }
 }
 

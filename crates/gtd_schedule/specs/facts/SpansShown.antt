@@ -74,3 +74,9 @@ module _ (set : ℤ → Type 0) (horizon : Horizon) (spans : List Interval) (nor
   normal_few =
       let few = fit_few (whole horizon).from (whole horizon).until spans normal_fit in
       omega (arith, ints, few, horizon.not_long)
+
+-- the first day of a horizon has a text
+pub first_shown : (horizon : Horizon) → IsCalendarDay (day_of_second (whole horizon).from)
+first_shown horizon =
+    calendar_day (whole horizon).from (omega (arith, ints, horizon.not_early))
+    (omega (arith, ints, horizon.not_empty, horizon.not_late))
