@@ -1,3 +1,5 @@
+pub mod Asked
+pub mod Basics
 pub mod Chains
 pub mod Cursors
 pub mod Ever
@@ -9,6 +11,7 @@ pub mod Leaves
 pub mod Membership
 pub mod Names
 pub mod Nodes
+pub mod Onward
 pub mod Periods
 pub mod Repeating
 pub mod Shape

@@ -19,8 +19,10 @@ pub use queries::{next_change, spans};
 pub use stay::{Stay, days_to_look, stay_of};
 pub use tree::SweepTree;
 
+mod basic_stays;
 mod cursor;
 mod ever;
+mod expr_stays;
 mod extent;
 mod keeping;
 mod kept;

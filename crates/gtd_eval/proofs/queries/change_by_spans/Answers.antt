@@ -2,7 +2,7 @@ use Rattle.gtd_core.specs.Whole.{whole}
 use Rattle.gtd_eval.specs.Cursors.{cursor_list}
 use Rattle.gtd_eval.specs.Membership.{InDomain}
 use Rattle.gtd_eval.specs.facts.Repeats.{changes-in}
-use Rattle.gtd_eval.proofs.queries.next_change.Goals as goal
+use Rattle.gtd_eval.proofs.queries.change_by_spans.Goals as goal
 
 pub returns : goal.returns
 returns c = record {
