@@ -3,7 +3,6 @@ use Rattle.std.proofs.Common.{◌≡◌, ◌↔◌, ◌∙◌, arith, refl, ap, 
 use Rattle.std.specs.Prelude.{ℤ, ◌≤ℤ◌, ◌<ℤ◌}
 use Rattle.std.proofs.lemmas.Int.{ints, by_lt_z}
 use Rattle.gtd_core.specs.declared.domain.Domain.{Domain}
-use Rattle.gtd_core.specs.declared.second.Sec.{Sec}
 use Rattle.gtd_eval.specs.Membership.{InDomain}
 use Rattle.gtd_difference.specs.Difference.{AgreeFrom, IsAlone, IsApart, IsComparison, last_end}
 use Rattle.gtd_difference.specs.declared.comparison.Apart.{Apart}
