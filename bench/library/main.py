@@ -5,28 +5,20 @@ Usage: main.py DOMAIN FILE
 The columns of a million questions are there before they are asked; the week is a schedule, which is one frame.
 """
 import sys
-import time
 from datetime import datetime, timedelta
 from pathlib import Path
 
 import numpy
 
-sys.path.insert(0, str(Path(__file__).resolve().parents[2] / "python"))
+TOP = Path(__file__).resolve().parents[2]
+sys.path[:0] = [str(TOP / "bench"), str(TOP / "python")]
 
 import gtd  # noqa: E402
+from measuring import nanoseconds  # noqa: E402
 
 ROUNDS, CALLS, SINGLES = 7, 1_000_000, 100_000
 MONDAY = datetime(2024, 3, 11)
 DIRECTIONS = numpy.array(["positive", "negative"], dtype=object)
-
-
-def measure(name, number, calls):
-    least = float("inf")
-    for _ in range(ROUNDS):
-        begun = time.perf_counter_ns()
-        calls()
-        least = min(least, time.perf_counter_ns() - begun)
-    print(f"{name} {least / number:.1f}", flush=True)
 
 
 def main():
@@ -50,12 +42,12 @@ def main():
         for words in asked:
             closed_at(*words)
 
-    measure("holds", SINGLES, singly)
-    measure("holds_many", CALLS, lambda: domain.contains(moments))
-    measure("closed_at", SINGLES, closed)
-    measure("closed_many", CALLS, lambda: records.closed_at(*columns))
-    measure("open", 1, lambda: gtd.Records(given))
-    measure("week", 1, lambda: records.schedule("2024-03-11", "2024-03-18", 11))
+    nanoseconds(ROUNDS, "holds", SINGLES, singly)
+    nanoseconds(ROUNDS, "holds_many", CALLS, lambda: domain.contains(moments))
+    nanoseconds(ROUNDS, "closed_at", SINGLES, closed)
+    nanoseconds(ROUNDS, "closed_many", CALLS, lambda: records.closed_at(*columns))
+    nanoseconds(ROUNDS, "open", 1, lambda: gtd.Records(given))
+    nanoseconds(ROUNDS, "week", 1, lambda: records.schedule("2024-03-11", "2024-03-18", 11))
 
 
 if __name__ == "__main__":

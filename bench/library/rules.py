@@ -6,14 +6,18 @@ Usage: rules.py FILE    (a record file of python/tests/make_records.py)
 A row is two lists of rules, each with the time for which it holds from each of its moments: those that close, and those that do
 not.
 """
+import os
 import re
 import sys
-import time
 from collections import defaultdict
 from datetime import datetime, timedelta
 
 from dateutil.relativedelta import relativedelta
 from dateutil.rrule import DAILY, FR, MO, MONTHLY, SA, SU, TH, TU, WE, WEEKLY, YEARLY, rrule
+
+sys.path.insert(0, os.path.dirname(os.path.dirname(os.path.abspath(__file__))))
+
+from measuring import nanoseconds  # noqa: E402
 
 ROUNDS, SINGLES, QUESTIONS, EACH = 3, 20_000, 2_000, 256
 EVERY_TYPE, LORRY = 0, 11
@@ -100,15 +104,6 @@ def stretches(rules, until):
     return [(begin, begin + length) for rule, length in rules[0] for begin in rule.between(MONDAY, until, inc=True)]
 
 
-def measure(name, number, calls):
-    least = float("inf")
-    for _ in range(ROUNDS):
-        begun = time.perf_counter_ns()
-        calls()
-        least = min(least, time.perf_counter_ns() - begun)
-    print(f"{name} {least / number:.1f}", flush=True)
-
-
 def main():
     with open(sys.argv[1], encoding="ascii") as file:
         lines = file.read().splitlines()[1:]
@@ -130,10 +125,10 @@ def main():
                     if vehicle in (EVERY_TYPE, LORRY):
                         stretches(rules, MONDAY + timedelta(days=7))
 
-    measure("holds", SINGLES, lambda: [holds(domain, moment) for moment in moments])
-    measure("closed_at", QUESTIONS, closed)
-    measure("open", 1, lambda: rows_of(lines))
-    measure("week", 1 / EACH, week)
+    nanoseconds(ROUNDS, "holds", SINGLES, lambda: [holds(domain, moment) for moment in moments])
+    nanoseconds(ROUNDS, "closed_at", QUESTIONS, closed)
+    nanoseconds(ROUNDS, "open", 1, lambda: rows_of(lines))
+    nanoseconds(ROUNDS, "week", 1 / EACH, week)
 
 
 if __name__ == "__main__":
