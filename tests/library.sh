@@ -88,7 +88,7 @@ fi
 
 # Programs: linked with libgtd.a, with libgtd.so.0, and with the address sanitizer.
 sanitized=(-g -fsanitize=address -fsanitize=undefined -fno-sanitize-recover=all)
-for name in ask handles threads; do
+for name in ask handles threads growth; do
     succeeds "$name.c" c -pthread -o "$room/$name" "$tests/$name.c" "$out/libgtd.a"
     succeeds "$name.c, sanitized" c -pthread "${sanitized[@]}" -o "$room/$name.asan" "$tests/$name.c" "$out/libgtd.a"
 done
@@ -148,6 +148,12 @@ for ((growth = 1; ; growth++)); do
 done
 echo "growths refused: $((growth - 1))"
 [ "$growth" -gt 100 ] || fail "only $growth growths were refused"
+
+# Two million spans, between two requests that begin and end a time in which every growth is refused: the first of these requests
+# is the only one.
+border=4271
+counted 'spans without memory' env LD_PRELOAD="$room/refuse.so" REFUSE_BETWEEN=$border "$room/growth" $border
+[ "$(grep -c 'growth refused' "$room/said")" = 1 ] || fail 'gtd_spans_next takes memory' "$room/said"
 
 # Threads.
 python3 "$top/python/tests/make_records.py" 4000 1 > "$room/made.csv"
