@@ -51,12 +51,12 @@ counted() {
     fi
 }
 
-strict=(-Wall -Wextra -Werror -pedantic -I "$top/bindings/c")
+strict=(-Wall -Wextra -Wshadow -Wconversion -Wsign-conversion -Wcast-qual -Wundef -Werror -pedantic -I "$top/bindings/c")
 c() {
     "${CC:-gcc}" -std=c11 -O2 "${strict[@]}" "$@"
 }
 cpp() {
-    "${CXX:-g++}" -std=c++17 -O2 "${strict[@]}" -I "$top/bindings/cpp" "$@"
+    "${CXX:-g++}" -std=c++17 -O2 "${strict[@]}" -Wold-style-cast -I "$top/bindings/cpp" "$@"
 }
 
 # The headers alone, and twice in one file.
