@@ -214,10 +214,13 @@ block() {
     awk -v wanted="$1" '/^```/ { if (is_in) is_in = 0; else { is_in = 1; count++ } next } is_in && count == wanted' \
         "$top/docs/LIBRARY.md"
 }
-block 1 > "$room/first.cpp"
-block 3 > "$room/shown"
-succeeds 'the first program' cpp -o "$room/first" "$room/first.cpp" "${flags[@]}" -Wl,-rpath,"$out"
-prints 'what the first program prints' "$room/shown" "$room/first"
+mkdir "$room/first"
+block 1 > "$room/where"
+block 2 > "$room/first/first.cpp"
+block 3 > "$room/commands"
+block 4 > "$room/shown"
+prints 'the first program' "$room/shown" bash -euc 'cd "$1" && source "$3" && cd "$2" && source "$4"' - \
+    "$top" "$room/first" "$room/where" "$room/commands"
 counted 'planner' "$tests/planner.py" "$room/planner"
 
 echo "library: $passed passed, $failed failed"

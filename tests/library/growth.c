@@ -1,7 +1,7 @@
-/* Two million spans, one by one, while every growth of memory is refused: `gtd_spans_next` takes none. tests/refuse_growth.c, loaded
-   by LD_PRELOAD, refuses those between two requests for so many bytes as the variable REFUSE_BETWEEN gives, and tells each on
-   standard error: there must be one, which is the first of these requests. The spans must be those that come with ample memory.
-   Prints its counts.
+/* Two million spans, one by one, while every growth of memory is refused: `gtd_spans_next` takes none. tests/refuse_growth.c,
+   loaded by LD_PRELOAD, refuses those between two requests for so many bytes as the variable REFUSE_BETWEEN gives, and tells each
+   on standard error: there must be one, which is the first of these requests. The spans must be those that come with ample
+   memory. Prints its counts.
    Usage: growth BYTES */
 #include "gtd.h"
 
