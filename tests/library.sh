@@ -169,6 +169,7 @@ cargo test "${crate[@]}" --lib --tests --examples > "$room/said" 2>&1 && cargo t
 status=$?
 good=$(sed -n 's/^test result: .* \([0-9]*\) passed; .*/\1/p' "$room/said" | awk '{ sum += $1 } END { print sum + 0 }')
 if [ "$status" = 0 ] && [ "$good" -gt 30 ]; then pass "$good"; else fail "cargo test, $good passed" "$room/said"; fi
+succeeds 'cargo doc' env RUSTDOCFLAGS='-D warnings' cargo doc "${crate[@]}" --no-deps
 if command -v cargo-clippy > /dev/null; then
     succeeds 'clippy' cargo clippy "${crate[@]}" --all-targets -- -D warnings
 fi
