@@ -4,6 +4,7 @@ written."""
 import random
 
 import numpy
+import pandas
 import pytest
 
 import gtd
@@ -136,11 +137,10 @@ def migrated(given):
 
 
 @pytest.mark.parametrize("vehicles", [("11",), ("1", "11")])
-def test_the_library_writes_what_the_program_writes(vehicles, tmp_path, monkeypatch, request):
+def test_the_library_writes_what_the_program_writes(vehicles, tmp_path, monkeypatch):
     """A part of short schedules by the library, by the program where they may be long, and where there is no library."""
     rows = migrated("".join(made_rows(3_000, 1)).encode())
-    count, frame = rows.count(b"\n"), _parts.PIECES.copy()
-    frame.loc[0] = [0, 0, rows]
+    frame = pandas.DataFrame({"bundle": [0], "part": [0], "rows": [rows]})
     written = {}
     for name in ("short", "long", "no library"):
         plan = _parts.Plan("2024-03-11", "2024-03-18", vehicles, tmp_path / name / "attempts", tmp_path / name / "parts", 1)
@@ -153,7 +153,7 @@ def test_the_library_writes_what_the_program_writes(vehicles, tmp_path, monkeypa
                 changed.setattr(_parts, "_LARGEST_TEXT", 0)
             else:
                 without_library(changed)
-            done = _parts.write_bundle(frame, 0, [count], plan)
+            done = _parts.write_bundle(frame, 0, [rows.count(b"\n")], plan)
         assert not list(plan.attempts.iterdir())
         written[name] = [(part.name, part.size, (plan.parts / part.name).read_bytes()) for part in done]
         assert all(len(text) == size for _, size, text in written[name])
