@@ -63,6 +63,16 @@ def seconds(command):
     return time.perf_counter() - begun
 
 
+def nanoseconds(rounds, name, number, calls):
+    """Prints what a call takes, by the shortest of some rounds, each of so many calls."""
+    least = float("inf")
+    for _ in range(rounds):
+        begun = time.perf_counter_ns()
+        calls()
+        least = min(least, time.perf_counter_ns() - begun)
+    print(f"{name} {least / number:.1f}", flush=True)
+
+
 def written(command, path):
     """The path, once the command's output has been written there."""
     with open(path, "wb") as file:

@@ -3,6 +3,7 @@
 # compiles where that is not done. Run it after `rt ci`:
 #   libgtd.a       one object that needs nothing but the C library
 #   libgtd.so.0    the shared library, and libgtd.so, a copy of it for the linker
+#   include        the headers for C and C++
 #   gtd.pc         for pkg-config, to use them where they are
 #   lacks          the calls of the header that the crate does not export, a line for each: none, if the library is whole
 # Both libraries export exactly the other calls of the header. It needs gcc and the GNU linker.
@@ -44,4 +45,6 @@ exported --dynamic "$out/libgtd.so.0"
 rm -f "$out/libgtd.so"
 cp "$out/libgtd.so.0" "$out/libgtd.so"
 
-sed -e "s|@libdir@|$out|; s|@includedir@|$top/bindings/c|; s|@version@|$version|" "$top/bindings/c/gtd.pc.in" > "$out/gtd.pc"
+mkdir -p "$out/include"
+cp "$top/bindings/c/gtd.h" "$top/bindings/cpp/gtd.hpp" "$out/include"
+sed -e "s|@libdir@|$out|; s|@includedir@|$out/include|; s|@version@|$version|" "$top/bindings/c/gtd.pc.in" > "$out/gtd.pc"

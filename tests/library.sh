@@ -51,12 +51,12 @@ counted() {
     fi
 }
 
-strict=(-Wall -Wextra -Werror -pedantic -I "$top/bindings/c")
+strict=(-Wall -Wextra -Wshadow -Wconversion -Wsign-conversion -Wcast-qual -Wundef -Werror -pedantic -I "$top/bindings/c")
 c() {
     "${CC:-gcc}" -std=c11 -O2 "${strict[@]}" "$@"
 }
 cpp() {
-    "${CXX:-g++}" -std=c++17 -O2 "${strict[@]}" -I "$top/bindings/cpp" "$@"
+    "${CXX:-g++}" -std=c++17 -O2 "${strict[@]}" -Wold-style-cast -I "$top/bindings/cpp" "$@"
 }
 
 # The headers alone, and twice in one file.
@@ -88,7 +88,7 @@ fi
 
 # Programs: linked with libgtd.a, with libgtd.so.0, and with the address sanitizer.
 sanitized=(-g -fsanitize=address -fsanitize=undefined -fno-sanitize-recover=all)
-for name in ask handles threads; do
+for name in ask handles threads growth; do
     succeeds "$name.c" c -pthread -o "$room/$name" "$tests/$name.c" "$out/libgtd.a"
     succeeds "$name.c, sanitized" c -pthread "${sanitized[@]}" -o "$room/$name.asan" "$tests/$name.c" "$out/libgtd.a"
 done
@@ -149,6 +149,12 @@ done
 echo "growths refused: $((growth - 1))"
 [ "$growth" -gt 100 ] || fail "only $growth growths were refused"
 
+# Two million spans, between two requests that begin and end a time in which every growth is refused: the first of these requests
+# is the only one.
+border=4271
+counted 'spans without memory' env LD_PRELOAD="$room/refuse.so" REFUSE_BETWEEN=$border "$room/growth" $border
+[ "$(grep -c 'growth refused' "$room/said")" = 1 ] || fail 'gtd_spans_next takes memory' "$room/said"
+
 # Threads.
 python3 "$top/python/tests/make_records.py" 4000 1 > "$room/made.csv"
 for file in "$top/examples/town.csv" "$room/made.csv"; do
@@ -163,6 +169,7 @@ cargo test "${crate[@]}" --lib --tests --examples > "$room/said" 2>&1 && cargo t
 status=$?
 good=$(sed -n 's/^test result: .* \([0-9]*\) passed; .*/\1/p' "$room/said" | awk '{ sum += $1 } END { print sum + 0 }')
 if [ "$status" = 0 ] && [ "$good" -gt 30 ]; then pass "$good"; else fail "cargo test, $good passed" "$room/said"; fi
+succeeds 'cargo doc' env RUSTDOCFLAGS='-D warnings' cargo doc "${crate[@]}" --no-deps
 if command -v cargo-clippy > /dev/null; then
     succeeds 'clippy' cargo clippy "${crate[@]}" --all-targets -- -D warnings
 fi
@@ -208,10 +215,13 @@ block() {
     awk -v wanted="$1" '/^```/ { if (is_in) is_in = 0; else { is_in = 1; count++ } next } is_in && count == wanted' \
         "$top/docs/LIBRARY.md"
 }
-block 1 > "$room/first.cpp"
-block 3 > "$room/shown"
-succeeds 'the first program' cpp -o "$room/first" "$room/first.cpp" "${flags[@]}" -Wl,-rpath,"$out"
-prints 'what the first program prints' "$room/shown" "$room/first"
+mkdir "$room/first"
+block 1 > "$room/where"
+block 2 > "$room/first/first.cpp"
+block 3 > "$room/commands"
+block 4 > "$room/shown"
+prints 'the first program' "$room/shown" bash -euc 'cd "$1" && source "$3" && cd "$2" && source "$4"' - \
+    "$top" "$room/first" "$room/where" "$room/commands"
 counted 'planner' "$tests/planner.py" "$room/planner"
 
 echo "library: $passed passed, $failed failed"

@@ -13,22 +13,8 @@ from gtd._by_program import DomainByProgram
 from gtd._fault import Fault, in_domain
 from gtd._in_process import DomainInProcess
 from gtd._library import load
-from gtd._moments import (
-    END_OF_WORDS,
-    Day,
-    Moment,
-    Moments,
-    Seconds,
-    day,
-    day_of,
-    days,
-    horizon,
-    is_column,
-    moment_at,
-    second_of,
-    seconds_of,
-    stamp,
-)
+from gtd._moments import END_OF_WORDS, Day, Moment, Moments, Seconds
+from gtd._moments import day, days, is_column, moment_at, search, second_of, seconds_of, stamp
 
 _EPOCH = datetime(1970, 1, 1).toordinal()
 _FIRST_YEAR, _LAST_YEAR = 1901, 2199  # of pictures
@@ -150,9 +136,7 @@ class Domain:
         if until is None:
             second = second_of(moment, END_OF_WORDS)
             return self._change(second, self._engine.change_ever(second))
-        word = day(until)
-        second = second_of(moment)
-        _, last = horizon(second // 86_400, day_of(word))
+        second, last = search(moment, until)
         return self._change(second, self._engine.next_change(second, last))
 
     def spans(self, first: Day, until: Day) -> "pandas.DataFrame":
@@ -220,46 +204,19 @@ class Domain:
 
 
 def check(text: str) -> None:
-    """Return nothing if a text is a time domain.
-
-    Raises
-    ------
-    Fault
-        The text is not one; ``kind`` and ``place`` (in bytes) are those of its first fault.
-    """
+    """Return nothing if a text is a time domain, and raise its first fault otherwise, as :class:`Domain` does."""
     _engine_of(text)
 
 
 def canon(text: str) -> str:
-    """The canonical text of a time domain; two domains are the same expression exactly if theirs are equal.
-
-    Raises
-    ------
-    Fault
-        The text is not a time domain.
-    """
+    """The canonical text of a time domain, as :meth:`Domain.canon` gives it of one that is read once."""
     library = load("domain_open", "domain_canon", "text_bytes")
     return _ask("canon", text) if library is None else Domain(text).canon()
 
 
 def contains(text: str, moment: Moment) -> bool:
-    """Whether a time domain contains a second.
-
-    Parameters
-    ----------
-    text : str
-        A time domain.
-    moment : datetime.datetime, numpy.datetime64 or str
-        From 1901 to 2199, of the local civil clock and so without a time zone. Fractions of a second are dropped, since
-        they lie within their second. A str has the form ``YYYY-MM-DDThh:mm:ss``.
-
-    Raises
-    ------
-    Fault
-        The text is not a time domain, or the moment is refused: ``'moment Shape'``, ``'moment NoSuchDate'``,
-        ``'moment Range'``.
-    ValueError
-        The moment has a time zone, or is not a time (NaT).
+    """Whether a time domain contains a second, as :meth:`Domain.contains` of one that is read once. The moment is from 1901 to
+    2199, as one that the program is given.
     """
     word = stamp(moment)
     if load("domain_open", "domain_holds") is None:
@@ -269,24 +226,8 @@ def contains(text: str, moment: Moment) -> bool:
 
 
 def next_change(text: str, moment: Moment, until: Day) -> Optional[Change]:
-    """The first second later than ``moment`` and before the day ``until`` at which a domain's state changes.
-
-    Parameters
-    ----------
-    text, moment
-        As in :func:`contains`.
-    until : datetime.date, datetime.datetime at midnight, numpy.datetime64 at midnight or str
-        At most 2700-01-01, and at most 146,098 days after the moment's day. A str has the form ``YYYY-MM-DD``.
-
-    Returns
-    -------
-    Change or None
-        None if the state does not change.
-
-    Raises
-    ------
-    Fault, ValueError
-        As for :func:`contains`; also ``'date ...'`` and ``'horizon ...'``.
+    """The first second later than ``moment`` and before the day ``until`` at which a domain's state changes, as
+    :meth:`Domain.next_change` of one that is read once. The moment is from 1901 to 2199.
     """
     words = stamp(moment), day(until)
     if load("domain_open", "domain_holds", "domain_next") is None:
@@ -297,13 +238,7 @@ def next_change(text: str, moment: Moment, until: Day) -> Optional[Change]:
 
 
 def next_change_ever(text: str, moment: Moment) -> Optional[Change]:
-    """The first second later than ``moment`` at which a domain's state changes, however late.
-
-    Raises
-    ------
-    Fault, ValueError
-        As for :func:`contains`; also ``'HasYear'`` for a domain that gives a year.
-    """
+    """The same of all later seconds, as :meth:`Domain.next_change` without ``until``."""
     word = stamp(moment)
     if load("domain_open", "domain_holds", "domain_ever") is None:
         return _read_change(_ask("ever", text, word))

@@ -123,6 +123,12 @@ class Calls:
         raise AttributeError(name)
 
 
+class _Place(ctypes.Structure):
+    """``Dl_info``: where an address belongs."""
+
+    _fields_ = [("path", ctypes.c_char_p), ("base", c_void_p), ("name", ctypes.c_char_p), ("at", c_void_p)]
+
+
 class Library:
     """A loaded library."""
 
@@ -133,6 +139,12 @@ class Library:
     def has(self, *names: str) -> bool:
         """Whether it has these calls."""
         return all(getattr(self.held, name) is not None for name in names)
+
+    def file(self) -> str:
+        """The path of the file that it was loaded from, also if the system has found it by its name."""
+        place = _Place()
+        found = ctypes.CDLL(None).dladdr(ctypes.cast(self.held.close, c_void_p), ctypes.byref(place))
+        return os.fsdecode(place.path) if found and place.path else self.path
 
 
 def library() -> Optional[str]:

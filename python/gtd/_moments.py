@@ -155,6 +155,21 @@ def days(first: Day, until: Day) -> Tuple[int, int]:
     return horizon(day_of(words[0]), day_of(words[1]))
 
 
+def search(moment: Moment, until: Day) -> Tuple[int, int]:
+    """The second from which on a change is looked for, and the day before which it is, by their numbers.
+
+    Raises
+    ------
+    Fault
+        As for :func:`second_of`; ``'date ...'``, ``'horizon ...'``.
+    ValueError, TypeError
+        As for :func:`second_of`.
+    """
+    word = day(until)
+    second = second_of(moment)
+    return second, horizon(second // DAY, day_of(word))[1]
+
+
 def moment_at(second: int) -> datetime:
     """The moment with a number."""
     return _EPOCH_MOMENT + timedelta(seconds=second)

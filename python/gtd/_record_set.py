@@ -11,21 +11,7 @@ import pandas
 from numpy.typing import NDArray
 
 from gtd._domain import frame_of
-from gtd._moments import (
-    DAY,
-    END_DAY,
-    LONGEST,
-    Day,
-    Moment,
-    Moments,
-    Seconds,
-    day,
-    day_of,
-    days,
-    horizon,
-    moment_at,
-    second_of,
-)
+from gtd._moments import DAY, END_DAY, LONGEST, Day, Moment, Moments, Seconds, day, days, moment_at, search, second_of
 from gtd._questions import Column, Place, element_of, index_of, length_of, place_of, questions_of, vehicle_of
 from gtd._reading import DIRECTION, RecordsLike, as_bytes, check_last, engine_of, read_schedule
 
@@ -57,10 +43,8 @@ class Records:
 
     Raises
     ------
-    Fault
-        The first fault of the records.
-    OSError
-        The file cannot be opened or read.
+    Fault, OSError
+        As for :func:`gtd.migrate`.
 
     Examples
     --------
@@ -149,9 +133,8 @@ class Records:
         Fault, ValueError
             As for :meth:`closed_at`; also ``'date ...'`` and ``'horizon ...'``.
         """
-        place, word = place_of(element, direction, vehicle), day(until)
-        second = second_of(moment)
-        _, last = horizon(second // DAY, day_of(word))
+        place = place_of(element, direction, vehicle)
+        second, last = search(moment, until)
         change = self._engine.next_change(place, second, last)
         return None if change is None else ElementChange(moment_at(change), self._engine.closed_at(place, second))
 

@@ -61,7 +61,7 @@ def schedule(records: RecordsLike, first: Day, until: Day, vehicle: int) -> pand
     given = as_bytes(records)
     if not is_large(records, given):
         return _scheduled(given, *words)
-    _asked(*words)  # the days and the type are looked at before the records
+    asked(*words)  # the days and the type are looked at before the records
     rows = sort_rows(_migrated(given))
     cuts = cut(count(rows).set_index("element"))
     if isinstance(cuts, Beyond):
@@ -99,14 +99,14 @@ def year(records: RecordsLike, element: int, direction: str, vehicle: int, year:
     """
     if direction not in ("positive", "negative"):
         raise Fault("Direction", text=str(direction))
-    asked = number(element, "Element")
-    words = (asked, direction, number(vehicle, "VehicleRange"), number(year, "YearRange"))
+    named = number(element, "Element")
+    words = (named, direction, number(vehicle, "VehicleRange"), number(year, "YearRange"))
     given = as_bytes(records)
     _check_year(*words[2:])
     if is_large(records, given):
-        mine = asked.encode() + b","
+        mine = named.encode() + b","
         given = HEADER + b"".join(row for row in _migrated(given) if row.startswith(mine))
-    place = Place(int(asked), direction == "negative", int(vehicle))
+    place = Place(int(named), direction == "negative", int(vehicle))
     days = day_of(f"{year:04}-01-01"), day_of(f"{year + 1:04}-01-01")
     index = pandas.date_range(f"{year:04}-01-01", f"{year:04}-12-31", freq="D", name="date")
     return pandas.Series(_open_by_day(given, place, days), index=index, name="open_seconds")
@@ -149,16 +149,22 @@ def _migrated(given: bytes) -> List[bytes]:
     return migrated
 
 
-def _asked(first: str, until: str, vehicle: str) -> Tuple[int, int, int]:
-    """The numbers of the days and of the vehicle type that a schedule is asked for."""
+def asked(first: str, until: str, vehicle: str) -> Tuple[int, int, int]:
+    """The numbers of the days and of the vehicle type that a schedule is asked for.
+
+    Raises
+    ------
+    Fault
+        The first fault of these words, as the program reports it.
+    """
     days = horizon(day_of(first), day_of(until))
     return (*days, vehicle_of(int(vehicle)))
 
 
 def _scheduled(given: bytes, *words: str) -> pandas.DataFrame:
-    asked = _asked(*words)
+    numbers = asked(*words)
     if load("records_open", "records_schedule", "text_bytes") is not None:
-        return read_schedule(io.BytesIO(engine_of(given).schedule(*asked)))
+        return read_schedule(io.BytesIO(engine_of(given).schedule(*numbers)))
     with tempfile.TemporaryFile() as printed:  # a schedule may be many times as large as its records
         _run(given, "schedule", "/dev/stdin", *words, into=printed)
         printed.seek(0)

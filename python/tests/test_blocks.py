@@ -1,14 +1,18 @@
-"""Files cut into blocks, against the program on the whole file: the same rows, or the same first fault."""
+"""Files cut into blocks, against the program on the whole file: the same rows, or the same first fault; and parts as they are
+written."""
 
 import random
 
 import numpy
+import pandas
 import pytest
 
 import gtd
 from gtd import _cutting
 from gtd._program import run
 from gtd.country import _blocks, _files, _parts
+from tests.conftest import model_of, without_library
+from tests.make_records import rows as made_rows
 
 HEADS = [
     "element,direction,vehicle,domain",
@@ -126,3 +130,59 @@ def test_parts_are_ascending_ranges(tmp_path):
         elements = [int(line.split(b",")[0]) for text in group["rows"] for line in text.splitlines()]
         assert len(elements) == cuts.rows[part] and min(elements) == cuts.firsts[part]
         assert part + 1 == len(cuts.firsts) or max(elements) < cuts.firsts[part + 1]
+
+
+def migrated(given):
+    return b"".join(run("migrate", "/dev/stdin", given=given).splitlines(keepends=True)[1:])
+
+
+@pytest.mark.parametrize("vehicles", [("11",), ("1", "11")])
+def test_the_library_writes_what_the_program_writes(vehicles, tmp_path, monkeypatch):
+    """A part of short schedules by the library, by the program where they may be long, and where there is no library."""
+    rows = migrated("".join(made_rows(3_000, 1)).encode())
+    frame = pandas.DataFrame({"bundle": [0], "part": [0], "rows": [rows]})
+    written = {}
+    for name in ("short", "long", "no library"):
+        plan = _parts.Plan("2024-03-11", "2024-03-18", vehicles, tmp_path / name / "attempts", tmp_path / name / "parts", 1)
+        for folder in (plan.attempts, *((plan.parts / plan.name(vehicle, 0)).parent for vehicle in vehicles)):
+            folder.mkdir(parents=True, exist_ok=True)
+        with monkeypatch.context() as changed:
+            if name == "short":
+                changed.setattr(_parts, "_run_into", None)
+            elif name == "long":
+                changed.setattr(_parts, "_LARGEST_TEXT", 0)
+            else:
+                without_library(changed)
+            done = _parts.write_bundle(frame, 0, [rows.count(b"\n")], plan)
+        assert not list(plan.attempts.iterdir())
+        written[name] = [(part.name, part.size, (plan.parts / part.name).read_bytes()) for part in done]
+        assert all(len(text) == size for _, size, text in written[name])
+    assert written["short"] == written["long"] == written["no library"]
+    words = ("2024-03-11", "2024-03-18")
+    by_program = [run("schedule", "/dev/stdin", *words, vehicle, given=_cutting.HEADER + rows) for vehicle in vehicles]
+    assert [text for _, _, text in written["short"]] == by_program
+
+
+@pytest.mark.parametrize("seed", range(10))
+def test_short_schedules_are_as_short_as_is_said(seed, monkeypatch):
+    """The bound of their length holds for rows whose starts match at most once a day, and others have none."""
+    maker = model_of("fuzz").Maker(seed)
+    for _ in range(5):
+        rows = b"".join(
+            row
+            for row in (migrated(f"{HEADS[0]}\n{n % 3},both,0,{maker.domain()}\n".encode()) for n in range(8))
+            if not _parts._OFTEN.search(row)
+        )
+        days = maker.random.choice([1, 40, 400])
+        first = maker.random.randrange(-25_202, 266_627 - days)
+        dates = [str(numpy.datetime64(day, "D")) for day in (first, first + days)]
+        length = len(run("schedule", "/dev/stdin", *dates, "1", given=_cutting.HEADER + rows))
+        monkeypatch.setattr(_parts, "_LARGEST_TEXT", length - 1)
+        assert not _parts.is_short(_cutting.HEADER + rows, days), rows
+
+
+def test_which_starts_match_more_than_once_a_day():
+    for text in (b"[(m0){m5}]", b"[(s7){s1}]", b"[(t2m30){h1}]", b"[(h5s7){s1}]", b"[(h1){h1}]+[(M4m1s2){m1}]"):
+        assert _parts._OFTEN.search(text) and not _parts.is_short(_cutting.HEADER + b"1,both,0," + text + b"\n", 1)
+    for text in (b"", b"[(M4d1){M3}]*[(h10){h4}]", b"[(t2t3h7m30){h8m30}]", b"[(h7m30s1){m8s30}]", b"[(f11h8){m4}]"):
+        assert not _parts._OFTEN.search(text) and _parts.is_short(_cutting.HEADER + b"1,both,0," + text + b"\n", 1)

@@ -12,11 +12,15 @@ import time
 from pathlib import Path
 
 import dask
+import pandas
 import pytest
 from distributed import Client
 
+import gtd
 from gtd import country
+from gtd.country import _parts
 from tests.conftest import FIRST, VEHICLE, Cluster, by_hand, command, environment, joined, kill, until
+from tests.make_records import rows
 
 LAST = "2025-01-01"
 DAYS = ["--from", FIRST, "--to", LAST, "--vehicle", VEHICLE]
@@ -197,6 +201,19 @@ def test_a_full_disk(packed, many, tmp_path):
         assert os.listdir(disk) == []
     assert done.returncode == 3
     assert done.stderr.startswith("[Errno 28] No space left on device") and done.stderr.count("\n") == 1, done.stderr
+
+
+def test_a_full_disk_while_the_library_answers(tmp_path, monkeypatch):
+    monkeypatch.setattr(_parts, "_run_into", None)
+    migrated = gtd.migrate("".join(rows(400, 1)).encode()).to_csv(index=False, header=False, lineterminator="\n").encode()
+    frame = pandas.DataFrame({"bundle": [0], "part": [0], "rows": [migrated]})
+    with small_disk(tmp_path / "disk", "64k") as disk:
+        plan = _parts.Plan(FIRST, "2024-04-01", ("11",), disk / "attempts", disk / "parts", 1)
+        plan.attempts.mkdir()
+        plan.parts.mkdir()
+        with pytest.raises(OSError, match="No space left on device: .*part-00000.csv"):
+            _parts.write_bundle(frame, 0, [400], plan)
+        assert not list(plan.attempts.iterdir()) and not list(plan.parts.iterdir())
 
 
 def certificate(folder, name):

@@ -16,21 +16,7 @@ model = model_of("model")
 TOP = Path(gtd.__file__).parents[2]
 FOLDER = TOP / "examples" / "planner"
 EPOCH = datetime(1970, 1, 1)
-MORNING = """\
-2024-03-19T06:50:00 depot: drive on 201 to bridge, 300 s
-2024-03-19T06:55:00 bridge: wait 300 s
-2024-03-19T07:00:00 bridge: drive on 203 to school, 240 s
-2024-03-19T07:04:00 school: drive on 207 to market, 60 s
-2024-03-19T07:05:00 market: drive on 205 to works, 240 s
-2024-03-19T07:09:00 works
-"""
-LATER = """\
-2024-03-19T09:10:00 depot: drive on 201 to bridge, 300 s
-2024-03-19T09:15:00 bridge: drive on 203 to school, 240 s
-2024-03-19T09:19:00 school: wait 60 s
-2024-03-19T09:20:00 school: drive on 204 to works, 420 s
-2024-03-19T09:27:00 works
-"""
+WAYS = (FOLDER / "ways.txt").read_text().split("\n\n")  # of a lorry, from the depot to the works
 
 
 @pytest.fixture(scope="module")
@@ -47,10 +33,11 @@ def command(*words):
     return subprocess.run(run, env=environment(), stdout=subprocess.PIPE, stderr=subprocess.PIPE, text=True)
 
 
-@pytest.mark.parametrize("start, printed", [("2024-03-19T06:50:00", MORNING), ("2024-03-19T09:10:00", LATER)])
-def test_what_it_prints(start, printed):
+@pytest.mark.parametrize("printed", WAYS, ids=[way.split(" ")[0] for way in WAYS])
+def test_what_it_prints(printed):
+    start = printed.split(" ")[0]
     done = command(FOLDER / "network.csv", FOLDER / "restrictions.csv", "depot", "works", start, "11")
-    assert (done.returncode, done.stdout, done.stderr) == (0, printed, "")
+    assert (done.returncode, done.stdout, done.stderr) == (0, printed.rstrip("\n") + "\n", "")
 
 
 def test_no_way_and_usage(tmp_path):

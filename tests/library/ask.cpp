@@ -34,7 +34,8 @@ std::string bytes() {
 std::string hex(const std::string &text) {
     static const char digits[] = "0123456789abcdef";
     std::string found = "x";
-    for (const unsigned char byte : text) {
+    for (const char sign : text) {
+        const auto byte = static_cast<unsigned char>(sign);
         found.push_back(digits[byte >> 4]);
         found.push_back(digits[byte & 15]);
     }

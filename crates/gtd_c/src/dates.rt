@@ -1,6 +1,6 @@
 //! Dates and moments.
 
-ghost use Rattle.std.specs.Prelude.{◌≡◌, ◌≤◌, ◌<◌, ◌↔◌, ◌⊎◌, ◌+◌, ◌*◌, IfSome, IsSome};
+ghost use Rattle.std.specs.Prelude.{◌≡◌, ◌<◌, ◌↔◌, ◌⊎◌, ◌+◌, ◌*◌, IfSome, IsSome};
 ghost use Rattle.gtd_calendar.specs.Calendar.{day_number};
 ghost use Rattle.gtd_calendar.specs.Clock.{IsClock, IsTimeOf};
 ghost use Rattle.gtd_c.specs.Answers.{IsRange, gtd_range, gtd_yes};

@@ -2,7 +2,7 @@
 
 ghost use Rattle.std.specs.Prelude.{◌≡◌, ◌≤◌, ◌↔◌, ◌⊎◌, IfOk, IfErr, None, Some};
 ghost use Rattle.gtd_core.specs.Horizons.{IsHorizon};
-ghost use Rattle.gtd_core.specs.Seconds.{IsHorizonSecond, IsMomentSecond, day_of_second};
+ghost use Rattle.gtd_core.specs.Seconds.{IsHorizonSecond, IsMomentSecond};
 ghost use Rattle.gtd_core.specs.Parts.{domain_tree};
 ghost use Rattle.gtd_eval.specs.Ever.{IsFirstChange};
 ghost use Rattle.gtd_eval.specs.Cursors.{cursor_list};

@@ -8,6 +8,7 @@ mod closers;
 mod dates;
 mod domains;
 mod faults;
+mod given;
 mod handle;
 mod horizons;
 mod loose;

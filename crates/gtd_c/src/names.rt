@@ -1,6 +1,6 @@
 //! Names of faults, and the version.
 
-ghost use Rattle.std.specs.Prelude.{◌≡◌, ◌≤◌, IfSome, IsSome, codes};
+ghost use Rattle.std.specs.Prelude.{◌≡◌, IfSome, IsSome, codes};
 ghost use Rattle.std.specs.Prelude.{◌↔◌};
 ghost use Rattle.gtd_c.specs.Answers.{IsRange, gtd_range};
 ghost use Rattle.gtd_c.specs.Faults.{IsFaultKind, IsRecordFaultKind, fault_number, record_fault_numbers};

@@ -1,13 +1,12 @@
 //! The records of a file.
 
-ghost use Rattle.std.specs.Prelude.{◌≡◌, ◌≤◌, ◌<◌, ◌↔◌, ◌⊎◌, Ok, Err, IfOk};
-ghost use Rattle.std.specs.Prelude.{IfErr, IsTrue, MatchResult, None, Some, List, ℕ, length, slice_get};
+ghost use Rattle.std.specs.Prelude.{◌≡◌, ◌≤◌, ◌<◌, ◌⊎◌, Ok, Err, IfOk};
+ghost use Rattle.std.specs.Prelude.{IfErr, MatchResult, None, Some, length};
 ghost use Rattle.gtd_core.specs.Horizons.{IsHorizon};
 ghost use Rattle.gtd_core.specs.Limits.{most_rows};
-ghost use Rattle.gtd_core.specs.Seconds.{IsHorizonSecond, day_of_second};
 ghost use Rattle.gtd_eval.specs.Cursors.{cursor_list};
 ghost use Rattle.gtd_spans.specs.Normal.{IsNormalFor};
-ghost use Rattle.gtd_records.specs.Closing.{AreElements, IsClosed, IsOpen};
+ghost use Rattle.gtd_records.specs.Closing.{IsOpen};
 ghost use Rattle.gtd_records.specs.File.{IsFile, IsOfFile};
 ghost use Rattle.gtd_runs.specs.Run.{IsVehicleType};
 ghost use Rattle.gtd_c.specs.Answers.{IsRange, day_begin, direction_of, gtd_kind, gtd_memory, gtd_no, gtd_range, gtd_yes};
@@ -18,42 +17,26 @@ ghost use Rattle.gtd_c.specs.Handles.{AreRecordsOf, AreSpansOf, IsElementAt, IsE
 use crate::answers::{KIND, MEMORY, NO, RANGE, YES};
 use crate::domains::open_spans;
 use crate::faults::{RecordFaultNumbers, numbers_of_record_fault};
+use crate::given::Given;
 use crate::handle::{Handle, Thing};
 use crate::horizons::{direction_of, is_second, is_vehicle};
 use crate::opening::open;
 use crate::shared_records::SharedRecords;
 use gtd_core::{Horizon, Sec};
-use gtd_devices::MemoryIn;
 use gtd_eval::KeptCursor;
 use gtd_records::{Direction, RecordFault, Records, open_seconds, read_records};
 use std::alloc::Global;
 
-// The records of a file of these bytes, or its first fault.
+// The records of a file of these bytes, or its first fault; or memory was refused.
 fn read(alloc: Global, bytes: &[u8]) -> Result<Records, RecordFault>
-    ensures file { MatchResult result (λ found. IsFile bytes.now (Ok found)) (λ why. IsOfFile why
-        → IsFile bytes.now (Err why)) }
+    ensures file { MatchResult result (λ found. IsFile bytes.now (Ok found)) (λ why. (why ≡ RecordFault.NoMemory)
+        ⊎ (IsOfFile why × IsFile bytes.now (Err why))) }
     ensures few { IfOk result (λ found. length found ≤ most_rows) }
 {
     let Ok(copy) = Vec::from_slice(alloc, bytes) else {
         return Err(RecordFault::NoMemory);
     };
-    let mut input = MemoryIn::new(copy, 65_536, None, None);
-    match read_records(alloc, &mut input) {
-        Ok(found) => Ok(found),
-        Err(why) => Err(why),
-    }
-}
-
-// Whether a fault is of the file, and not of memory.
-fn is_of_file(fault: RecordFault) -> bool
-    ensures of_file { IsTrue result ↔ IsOfFile fault }
-{
-    match fault {
-        RecordFault::ReadFault => false,
-        RecordFault::NoMemory => false,
-        RecordFault::Endless => false,
-        _ => true,
-    }
+    read_records(alloc, &mut Given::new(copy))
 }
 
 /// Opens the records of a whole file: yes; or no, with the first fault of the file, and the handle is left as it was.
@@ -79,13 +62,13 @@ pub extern "C" fn gtd_records_open(
                 MEMORY
             }
         },
-        Err(why) => {
-            if is_of_file(why) {
-                *fault = numbers_of_record_fault(why);
-                return NO;
-            }
+        Err(RecordFault::NoMemory) => {
             *records = Handle::none(alloc);
             MEMORY
+        }
+        Err(why) => {
+            *fault = numbers_of_record_fault(why);
+            NO
         }
     }
 }

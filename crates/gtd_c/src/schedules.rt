@@ -1,9 +1,9 @@
 //! Schedules.
 
-ghost use Rattle.std.specs.Prelude.{◌≡◌, ◌≤◌, ◌⊎◌, IfOk, IfErr, None, Some, List, ℕ};
+ghost use Rattle.std.specs.Prelude.{◌≡◌, ◌≤◌, ◌⊎◌, IfOk, IfErr, None, Some};
 ghost use Rattle.gtd_core.specs.Horizons.{IsHorizon};
 ghost use Rattle.gtd_runs.specs.Run.{IsVehicleType};
-ghost use Rattle.gtd_c.specs.Answers.{IsRange, gtd_kind, gtd_memory, gtd_no, gtd_range, gtd_yes};
+ghost use Rattle.gtd_c.specs.Answers.{IsRange, gtd_memory, gtd_no, gtd_range, gtd_yes};
 ghost use Rattle.gtd_c.specs.Handles.{IsTextOf, OfRecords};
 ghost use Rattle.gtd_c.specs.Schedules.{IsScheduleText};
 

@@ -1,7 +1,7 @@
 //! Another handle of the same records.
 
 ghost use Rattle.std.specs.Prelude.{◌≡◌, ◌⊎◌, None};
-ghost use Rattle.gtd_c.specs.Answers.{gtd_kind, gtd_memory, gtd_no, gtd_yes};
+ghost use Rattle.gtd_c.specs.Answers.{gtd_kind, gtd_memory, gtd_yes};
 ghost use Rattle.gtd_c.specs.Handles.{OfRecords, StandsForRecords};
 
 use crate::answers::{KIND, MEMORY};

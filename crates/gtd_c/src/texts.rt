@@ -1,10 +1,10 @@
 //! Texts.
 
-ghost use Rattle.std.specs.Prelude.{◌≡◌, ◌≤◌, ◌⊎◌, IfOk, IfErr, None, Some, List, ℕ};
+ghost use Rattle.std.specs.Prelude.{◌≡◌, ◌⊎◌, IfOk, IfErr, None, Some};
 ghost use Rattle.gtd_core.specs.Parts.{domain_tree};
 ghost use Rattle.gtd_text.specs.Canonical.{canonical};
 ghost use Rattle.gtd_words.specs.Words.{words};
-ghost use Rattle.gtd_c.specs.Answers.{gtd_kind, gtd_memory, gtd_no, gtd_range, gtd_yes};
+ghost use Rattle.gtd_c.specs.Answers.{gtd_kind, gtd_memory, gtd_yes};
 ghost use Rattle.gtd_c.specs.Handles.{IsTextOf, OfDomain, OfText};
 ghost use Rattle.gtd_c.specs.Writing.{IsWritten};
 

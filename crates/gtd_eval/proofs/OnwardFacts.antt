@@ -15,9 +15,10 @@ use Rattle.gtd_spans.specs.facts.SomeList.{some-normal-list}
 use Rattle.gtd_recur.specs.Membership.{InBasic}
 use Rattle.gtd_recur.specs.facts.StretchDecisions.{in_stretches}
 use Rattle.gtd_eval.specs.Asked.{HaveCome}
-use Rattle.gtd_eval.specs.Basics.{ahead_list, basic_list}
+use Rattle.gtd_eval.specs.Basics.{ahead_list}
 use Rattle.gtd_eval.specs.Onward.{IsReached, IsSameBasic}
 use Rattle.gtd_eval.specs.Stays.{IsStay}
+use Rattle.gtd_eval.specs.facts.BasicLists.{basic_list}
 use Rattle.gtd_eval.specs.declared.basic_stays.BasicStays.{BasicStays}
 use Rattle.gtd_eval.specs.declared.expr_stays.ExprStays.{ExprStays}
 use Rattle.gtd_eval.specs.declared.expr_stays.ExprStays.TheVariants.{Basic, Join'}

@@ -1,3 +1,4 @@
+pub mod BasicLists
 pub mod CursorFacts
 pub mod TreeDecisions
 pub mod NodeFacts

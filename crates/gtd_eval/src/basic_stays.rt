@@ -3,7 +3,8 @@
 ghost use Rattle.std.specs.Prelude.{◌≡◌, ◌≤ℤ◌, ◌<ℤ◌, false, true};
 ghost use Rattle.gtd_core.specs.Whole.{whole};
 ghost use Rattle.gtd_recur.specs.RunsToCome.{runs_to_come};
-ghost use Rattle.gtd_eval.specs.Basics.{ahead_list, basic_list};
+ghost use Rattle.gtd_eval.specs.Basics.{ahead_list};
+ghost use Rattle.gtd_eval.specs.facts.BasicLists.{basic_list};
 
 use crate::stay::Stay;
 use gtd_core::{Basic, Horizon, Sec, Span};

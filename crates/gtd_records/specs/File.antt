@@ -1,6 +1,5 @@
 -- What a record file is: its restrictions, or its first fault.
 use Rattle.std.specs.Prelude.{◌≡◌, ◌<◌, ◌≤◌, ◌⊎◌, ℕ, ◌+◌, List, [], ◌∷◌, length, codes, Result, Ok, Err, ⊤}
-use Rattle.gtd_core.specs.Limits.{most_rows, most_file_bytes}
 use Rattle.csv.specs.Reading.{default_config, records, strip_bom}
 use Rattle.gtd_records.specs.Closing.{Restriction}
 use Rattle.gtd_records.specs.Row.{IsRow}
@@ -25,11 +24,11 @@ header version.Two = codes "element" ∷ codes "direction" ∷ codes "vehicles" 
 abbrev pub AreRows : Version → ℕ → List (List (List ℕ)) → Result (List Restriction) RecordFault → Type 0
 AreRows v number [] answer = answer ≡ Ok []
 AreRows v number (row ∷ rows) (Ok found) =
-    (number ≤ most_rows) × (first : Restriction) × (rest : List Restriction)
+    (number ≤ 65_536) × (first : Restriction) × (rest : List Restriction)
     × IsRow v number row (Ok first) × AreRows v (number + 1) rows (Ok rest) × (found ≡ first ∷ rest)
 AreRows v number (row ∷ rows) (Err why) =
-    ((most_rows < number) × (why ≡ fault.TooManyRows))
-    ⊎ ((number ≤ most_rows) × (IsRow v number row (Err why)
+    ((65_536 < number) × (why ≡ fault.TooManyRows))
+    ⊎ ((number ≤ 65_536) × (IsRow v number row (Err why)
     ⊎ ((first : Restriction) × IsRow v number row (Ok first) × AreRows v (number + 1) rows (Err why))))
 
 -- The records of comma-separated text (RFC 4180): the first is a header of either version, and the others are rows.
@@ -42,5 +41,5 @@ IsTable text answer =
 -- the text.
 abbrev pub IsFile : List ℕ → Result (List Restriction) RecordFault → Type 0
 IsFile bytes answer =
-    ((length bytes ≤ most_file_bytes) × IsTable (records default_config (strip_bom bytes)) answer)
-    ⊎ ((most_file_bytes < length bytes) × (answer ≡ Err fault.TooLarge))
+    ((length bytes ≤ 16_777_216) × IsTable (records default_config (strip_bom bytes)) answer)
+    ⊎ ((16_777_216 < length bytes) × (answer ≡ Err fault.TooLarge))

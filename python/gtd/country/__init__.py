@@ -2,7 +2,7 @@
 
 A record file has at most 65,536 rows and 16 MiB. A set of records is one or many CSV files of any size, each with a header of
 either version. Its rows are divided into parts, each a range of element numbers within these limits, and the workers of a Dask
-cluster run the program on each part.
+cluster ask the library for the schedule of each part, or run the program if it may be long.
 
 An element's own records alone decide its schedule. So the schedule of all rows is the header, and then the parts' schedules
 without their headers, in ascending order of elements.
@@ -97,7 +97,7 @@ def schedule(
         A file cannot be opened, read or unpacked; or the output exists already, is being written by another run, or cannot
         be written; or the scheduler has gone away (ConnectionError). Nothing is kept.
     RuntimeError
-        A file was changed while it was read, or workers have different programs. Nothing is kept.
+        A file was changed while it was read, or workers have different programs or libraries. Nothing is kept.
 
     Warns
     -----
@@ -121,10 +121,7 @@ def schedule(
 def _write(
     client: Client, asked: Asked, paths: List[str], out: Path, show: bool, storage_options: Optional[Dict[str, Any]]
 ) -> Done:
-    # The days and the vehicle types are checked before any file.
-    refused = client.submit(_parts.refusal, asked.first, asked.until, asked.vehicles, pure=False).result()
-    if refused is not None:
-        raise refused
+    _parts.check(asked.first, asked.until, asked.vehicles)  # before any file
     files = sources(paths, storage_options)
     with Staging(out.absolute(), asked.joined and len(asked.vehicles) == 1) as staging:
         done = Run(client, asked, staging, show).whole(files)

@@ -9,6 +9,7 @@ import numpy
 
 from gtd._cutting import Beyond, Refused, Rows, fault_of, is_empty, migrate_lines, sort_rows
 from gtd._fault import Fault
+from gtd._library import load
 from gtd._program import LARGEST_FILE, fingerprint, program
 from gtd.country._files import Block
 
@@ -20,8 +21,8 @@ class BlockRows:
     rows: Rows
     lines: int
     """How many lines the block has, including empty ones."""
-    program: str
-    """The fingerprint of the program that read them."""
+    engine: str
+    """The fingerprint of what read them."""
 
 
 @dataclass(frozen=True)
@@ -30,7 +31,13 @@ class Accepted:
 
     lines: int
     rows: int
-    program: str
+    engine: str
+
+
+def engine() -> str:
+    """The fingerprint of this worker's program, and of its library, if it has one."""
+    library = load()
+    return fingerprint(program()) + ("" if library is None else fingerprint(library.file()))
 
 
 def read_rows(block: Block) -> Union[BlockRows, Refused]:
@@ -39,14 +46,14 @@ def read_rows(block: Block) -> Union[BlockRows, Refused]:
     migrated = migrate_lines(block.file.front, lines)
     if isinstance(migrated, Refused):
         return migrated
-    return BlockRows(sort_rows(migrated), len(lines), fingerprint(program()))
+    return BlockRows(sort_rows(migrated), len(lines), engine())
 
 
 def report(read: Union[BlockRows, Refused]) -> Union[Accepted, Refused]:
     """What the client is told about a block."""
     if isinstance(read, Refused):
         return read
-    return Accepted(read.lines, len(read.rows.elements), read.program)
+    return Accepted(read.lines, len(read.rows.elements), read.engine)
 
 
 def fault_at(block: Block, refused: Refused, lines_before: int, rows_before: int) -> Fault:

@@ -3,18 +3,22 @@
 from __future__ import annotations
 
 import os
+import re
 import uuid
 from dataclasses import dataclass
 from pathlib import Path
-from typing import List, Optional, Sequence, Tuple, Union
+from typing import IO, List, Optional, Sequence, Tuple, Union
 
 import numpy
 import pandas
 
 from gtd._cutting import HEADER, Beyond, Cuts, Numbers, Refused, count, cut, stretches, texts_of
 from gtd._fault import Fault
-from gtd._program import fingerprint, program, run
-from gtd.country._blocks import BlockRows
+from gtd._in_process import RecordsInProcess
+from gtd._library import load
+from gtd._program import run
+from gtd._records import asked
+from gtd.country._blocks import BlockRows, engine
 from gtd.country._files import named
 
 PRINTED = b"element,direction,vehicle,from,until\n"  # the header of a schedule
@@ -25,6 +29,9 @@ PIECES = pandas.DataFrame({"bundle": [], "part": [], "rows": []}).astype(
     {"bundle": "int64", "part": "int64", "rows": "object"}
 )
 _BIN = 14  # bits of an element's number
+_LARGEST_TEXT = 1 << 25  # bytes of a schedule that a worker may hold in memory
+_LONGEST_LINE = 64  # bytes of a line of a schedule
+_OFTEN = re.compile(rb"\([^h)]*[ms]|h\d+s")  # in migrated rows: a start that may match more than once a day
 
 
 @dataclass(frozen=True)
@@ -54,8 +61,8 @@ class Written:
     name: str
     size: int
     """How many bytes, including its header."""
-    program: str
-    """The fingerprint of the program that wrote it."""
+    engine: str
+    """The fingerprint of what wrote it."""
 
 
 def vehicle_name(vehicle: str) -> str:
@@ -130,14 +137,25 @@ def _piece(read: BlockRows, cuts: Cuts, bundle_size: int) -> pandas.DataFrame:
     return pandas.DataFrame({"bundle": parts // bundle_size, "part": parts, "rows": rows})
 
 
-def refusal(first: str, until: str, vehicles: Sequence[str]) -> Optional[Fault]:
-    """The fault of the days or of a vehicle type, if they have one."""
+def check(first: str, until: str, vehicles: Sequence[str]) -> None:
+    """Raise the fault of the days or of a vehicle type, if they have one."""
     for vehicle in vehicles:
         try:
-            run("schedule", "/dev/stdin", first, until, vehicle, given=HEADER)
+            asked(first, until, vehicle)
         except Fault as fault:
-            return fault if len(vehicles) == 1 else Fault(fault.kind, note=f"vehicle type {vehicle}")
-    return None
+            note = None if len(vehicles) == 1 else f"vehicle type {vehicle}"
+            raise Fault(fault.kind, note=note) from None
+
+
+def is_short(given: bytes, days: int) -> bool:
+    """Whether the schedule of migrated rows over so many days may be held in memory, for any vehicle type.
+
+    Where no start matches more than once a day, the stretches of a basic domain are at most one for each day, and one from
+    before. The spans of what is joined are at most those of both sides together. An element is open in a direction in at most
+    one span more than its rows close it in. So the length of a schedule is known before it is made.
+    """
+    closed, elements = given.count(b"(") * (days + 1), given.count(b"\n")
+    return 2 * (closed + elements) * _LONGEST_LINE <= _LARGEST_TEXT and not _OFTEN.search(given)
 
 
 def write_bundle(frame: pandas.DataFrame, first_part: int, rows: Sequence[int], plan: Plan) -> List[Written]:
@@ -159,25 +177,45 @@ def write_bundle(frame: pandas.DataFrame, first_part: int, rows: Sequence[int], 
         given = b"".join([HEADER, *texts[at]])
         if given.count(b"\n") != number + 1:
             raise RuntimeError(f"part {part} has other rows than were counted: was a file changed while it was read?")
-        written += [_write(given, vehicle, plan.name(vehicle, part), plan) for vehicle in plan.vehicles]
+        records = _records_of(given, plan)
+        for vehicle in plan.vehicles:
+            name = plan.name(vehicle, part)
+            written.append(Written(name, _write(given, records, vehicle, name, plan), engine()))
     return written
 
 
-def _write(given: bytes, vehicle: str, name: str, plan: Plan) -> Written:
+def _records_of(given: bytes, plan: Plan) -> Optional[RecordsInProcess]:
+    """The records of a part, if the library makes its schedules: there is one, and they are short."""
+    library = load("records_open", "records_schedule", "text_bytes")
+    first, until, _ = asked(plan.first, plan.until, plan.vehicles[0])
+    return None if library is None or not is_short(given, until - first) else RecordsInProcess(library, given)
+
+
+def _write(given: bytes, records: Optional[RecordsInProcess], vehicle: str, name: str, plan: Plan) -> int:
+    """Write a part for one vehicle type, and return its size."""
     attempt = plan.attempts / uuid.uuid4().hex
+    words = plan.first, plan.until, vehicle
     try:
         with open(attempt, "xb") as file:
-            try:
-                run("schedule", "/dev/stdin", plan.first, plan.until, vehicle, given=given, into=file)
-            except OSError:
-                # The program does not say why it could not write. Another write makes the system say it.
-                os.lseek(file.fileno(), 0, os.SEEK_END)
-                for _ in range(2):
-                    os.write(file.fileno(), bytes(1 << 16))
-                raise
+            if records is None:
+                _run_into(file, given, *words)
+            else:
+                file.write(records.schedule(*asked(*words)))
             size = file.seek(0, os.SEEK_END)
         os.replace(attempt, plan.parts / name)
     except OSError as failure:
         attempt.unlink(missing_ok=True)
         raise named(failure, plan.parts / name) from None
-    return Written(name, size, fingerprint(program()))
+    return size
+
+
+def _run_into(file: IO[bytes], given: bytes, *words: str) -> None:
+    """Have the program write a schedule as it makes it, of whatever length."""
+    try:
+        run("schedule", "/dev/stdin", *words, given=given, into=file)
+    except OSError:
+        # The program does not say why it could not write. Another write makes the system say it.
+        os.lseek(file.fileno(), 0, os.SEEK_END)
+        for _ in range(2):
+            os.write(file.fileno(), bytes(1 << 16))
+        raise

@@ -76,8 +76,8 @@ class Run:
         bundles = self._bundles(read, cuts, plan)
         del read  # from here on the scheduler keeps what the parts need
         written = [part for bundle in self._gathered("scheduling", bundles) for part in bundle]
-        if len({report.program for report in accepted} | {part.program for part in written}) > 1:
-            raise RuntimeError("the workers have different programs gtd")
+        if len({report.engine for report in accepted} | {part.engine for part in written}) > 1:
+            raise RuntimeError("the workers have different programs gtd, or different libraries")
         changed = [source.path for source in sources if source.is_changed()]
         if changed:
             raise RuntimeError(f"changed while they were read: {', '.join(changed)}")

@@ -1,7 +1,7 @@
 use Rattle.std.proofs.Common.{◌≡◌, ◌∷◌}
 use Rattle.gtd_core.specs.Whole.{whole}
 use Rattle.gtd_recur.specs.RunsToCome.{runs_to_come}
-use Rattle.gtd_eval.specs.Basics.{basic_list}
+use Rattle.gtd_eval.specs.facts.BasicLists.{basic_list}
 use Rattle.gtd_eval.proofs.OnwardFacts.{basic-taken}
 use Rattle.gtd_eval.proofs.basic_stays.BasicStays.pass.Goals as goal
 
