@@ -51,10 +51,14 @@ put_pages() {
     gzip -9n "$root"/usr/share/man/man?/*
 }
 
-# The documents keep their folders, so that their links hold.
+# The documents keep their folders, so that their links hold, and come with the pictures that they show.
 put_documents() {
+    local folder
     put 644 usr/share/doc/gtd "$top/README.md" "$top/CHANGELOG.md"
     put 644 usr/share/doc/gtd/docs "$top"/docs/*.md
+    for folder in pictures pictures/words pictures/hours; do
+        put 644 "usr/share/doc/gtd/docs/$folder" "$top/docs/$folder"/*.svg
+    done
     put 644 usr/share/doc/gtd/examples "$top"/examples/*.*
     put 644 usr/share/doc/gtd/examples/planner "$top"/examples/planner/*
     rm "$doc/CHANGELOG.md"

@@ -87,6 +87,14 @@ files_in_root() {
     (cd "$root" && find . -path ./var/lib/dpkg -prune -o ! -type d -print | LC_ALL=C sort)
 }
 
+# missing_pictures: those that a document shows and that are not installed beside it.
+missing_pictures() {
+    local doc=$root/usr/share/doc/gtd picture
+    grep -oh 'pictures/[a-zA-Z0-9_/]*\.svg' "$doc/README.md" "$doc"/docs/*.md | sort -u | while read -r picture; do
+        [ -s "$doc/docs/$picture" ] || echo "$picture"
+    done
+}
+
 install_it() {
     make_root
     succeeds 'the packages are installed' dpkg_in --install "$room"/first/*.deb
@@ -100,9 +108,10 @@ install_it() {
     for name in gtd gtdesk; do
         succeeds "$name is the proved one" cmp "$root/usr/bin/$name" "$top/crates/$name/out/$name"
     done
-    for file in README.md docs/LANGUAGE.md docs/FILES.md examples/restrictions.csv examples/planner/network.csv; do
+    for file in README.md docs/TUTORIAL.md docs/COMMANDS.md examples/restrictions.csv examples/planner/network.csv; do
         succeeds "documents: $file" test -s "$root/usr/share/doc/gtd/$file"
     done
+    gives 'the pictures that the documents show' '' missing_pictures
     for licence in MIT APACHE; do
         succeeds "the text of LICENSE-$licence" python3 -c 'import sys
 assert open(sys.argv[1]).read() in open(sys.argv[2]).read()' "$top/LICENSE-$licence" "$root/usr/share/doc/gtd/copyright"
