@@ -176,6 +176,7 @@ know_commands() {
     local defined=$top/crates/gtd_desk_plans/specs/CommandLine.antt
     gives "gtdesk's commands" "$(tr ' ' '\n' <<< "$desk_commands" | sort)" \
         bash -c "sed -n 's/.*command_of (codes \"\([a-z-]*\)\").*/\1/p' '$defined' | sort"
+    gives "gtdesk's commands and their words, as its help says them" '' "$top/packaging/pages.py" --help-of "$root/usr/bin/gtdesk"
 }
 
 complete_words() {
@@ -250,9 +251,9 @@ remove_it() {
 }
 
 packages='gtd libgtd0 libgtd-dev'
-# The commands, in the order of the completions.
-commands='schedule year migrate check canon at next ever'
-desk_commands='now faults words hours records picture picture-domain'
+# The commands of packaging/commands.txt, in its order.
+commands=$("$top/packaging/pages.py" --commands gtd)
+desk_commands=$("$top/packaging/pages.py" --commands gtdesk)
 cd "$top/examples" || exit 1
 build_twice
 install_it
