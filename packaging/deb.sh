@@ -2,9 +2,8 @@
 # Makes three packages in the folder given (by default the current one): gtd, of the proved programs; libgtd0, the library; and
 # libgtd-dev, what programs that use it are built with. Run it after `rt ci`, or `rt run` in crates/gtd and in crates/gtdesk,
 # which proves and builds the programs; bindings/build.sh makes the library if it is missing. Version and date are those of the
-# newest release in CHANGELOG.md, and the same programs and files give the same bytes. packaging/pages.py makes the man pages of the
-# programs and their completions. Packagers set the maintainer in the
-# environment variable GTD_MAINTAINER.
+# newest release in CHANGELOG.md, and the same programs and files give the same bytes. packaging/pages.py makes the man pages of
+# the programs and their completions. Packagers set the maintainer in the environment variable GTD_MAINTAINER.
 # Usage: packaging/deb.sh [FOLDER]
 set -eu
 into=$(cd "${1:-.}" && pwd)
