@@ -13,7 +13,7 @@ import sys
 import hours
 
 TOP = os.path.dirname(os.path.dirname(os.path.abspath(__file__)))
-DESK = os.path.join(TOP, "crates", "gtdesk", "out", "gtdesk")
+DESK = os.environ.get("GTDESK", os.path.join(TOP, "crates", "gtdesk", "out", "gtdesk"))
 DOCUMENT = os.path.join(TOP, "docs", "GALLERY.md")
 PICTURES = os.path.join(TOP, "docs", "pictures")
 BEGIN, END = "<!-- the texts of tests/hours/texts.csv -->\n", "<!-- the end of the texts -->\n"
