@@ -1,6 +1,6 @@
 #!/usr/bin/env bash
 # The opening hours of tests/hours/texts.csv by KOpeningHours, a library of KDE, beside the plain model of tests/hours_model.py.
-# docs/HOURS.md explains what differs. It is no test of this project, and the gate does not run it.
+# bench/kopeninghours/README.md explains what differs. It is no test of this project, and the gate does not run it.
 #
 # Needs g++, pkg-config, python3, and Debian's packages libkopeninghours-dev (22.12) and qtbase5-dev.
 # Usage: bench/kopeninghours.sh              builds the driver in a scratch folder, and compares

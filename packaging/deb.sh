@@ -2,8 +2,8 @@
 # Makes three packages in the folder given (by default the current one): gtd, of the proved programs; libgtd0, the library; and
 # libgtd-dev, what programs that use it are built with. Run it after `rt ci`, or `rt run` in crates/gtd and in crates/gtdesk,
 # which proves and builds the programs; bindings/build.sh makes the library if it is missing. Version and date are those of the
-# newest release in CHANGELOG.md, and the same programs and files give the same bytes. Packagers set the maintainer in the
-# environment variable GTD_MAINTAINER.
+# newest release in CHANGELOG.md, and the same programs and files give the same bytes. packaging/pages.py makes the man pages of
+# the programs and their completions. Packagers set the maintainer in the environment variable GTD_MAINTAINER.
 # Usage: packaging/deb.sh [FOLDER]
 set -eu
 into=$(cd "${1:-.}" && pwd)
@@ -18,6 +18,8 @@ read -r version released < <(sed -n 's/^## \[\([0-9.]*\)\] - \([0-9-]*\)$/\1 \2/
 umask 022
 work=$(mktemp -d)
 trap 'rm -rf "$work"' EXIT
+mkdir "$work/pages"
+"$top/packaging/pages.py" "$work/pages"
 libraries=usr/lib/x86_64-linux-gnu
 
 # begin PACKAGE: what follows is put into this package.
@@ -38,23 +40,27 @@ put_programs() {
     local name completions=usr/share/bash-completion/completions
     put 755 usr/bin "${programs[@]}"
     for name in gtd gtdesk; do
-        put 644 "$completions" "$top/packaging/$name.bash"
+        put 644 "$completions" "$work/pages/$name.bash"
         mv "$root/$completions/$name.bash" "$root/$completions/$name"
-        put 644 usr/share/zsh/vendor-completions "$top/packaging/_$name"
+        put 644 usr/share/zsh/vendor-completions "$work/pages/_$name"
     done
 }
 
 put_pages() {
-    put 644 usr/share/man/man1 "$top/packaging/gtd.1" "$top/packaging/gtdesk.1"
+    put 644 usr/share/man/man1 "$work/pages/gtd.1" "$work/pages/gtdesk.1"
     put 644 usr/share/man/man5 "$top/packaging/gtd-files.5"
     put 644 usr/share/man/man7 "$top/packaging/gtd-domain.7"
     gzip -9n "$root"/usr/share/man/man?/*
 }
 
-# The documents keep their folders, so that their links hold.
+# The documents keep their folders, so that their links hold, and come with the pictures that they show.
 put_documents() {
+    local folder
     put 644 usr/share/doc/gtd "$top/README.md" "$top/CHANGELOG.md"
     put 644 usr/share/doc/gtd/docs "$top"/docs/*.md
+    for folder in pictures pictures/words pictures/hours; do
+        put 644 "usr/share/doc/gtd/docs/$folder" "$top/docs/$folder"/*.svg
+    done
     put 644 usr/share/doc/gtd/examples "$top"/examples/*.*
     put 644 usr/share/doc/gtd/examples/planner "$top"/examples/planner/*
     rm "$doc/CHANGELOG.md"

@@ -62,6 +62,7 @@ part() {
 set -o pipefail
 part rt ci "${anew[@]}"
 part tests/statement.py
+part tests/measures.py
 part tests/rows.py
 part tests/program.sh
 part tests/desk.sh

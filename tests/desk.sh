@@ -313,9 +313,8 @@ run faults warn.csv --warn
 expect 'warnings alone' 0 $'warn.csv:2: row 1: never holds\nwarn.csv:3: row 2: always holds
 warn.csv:6: row 5: never holds\nwarn.csv:7: row 6: never holds' ''
 
-# Scripts of their own: a long file that is mended by what is printed of it, and the tables of words and of opening hours beside
-# pictures.
-for script in mend.py words.py hours_table.py; do
+# Scripts of their own: a long file that is mended by what is printed of it, and the words and pictures of the gallery.
+for script in mend.py gallery.py; do
     if "$top/tests/$script" > out 2>&1; then
         passed=$((passed + 1))
     else

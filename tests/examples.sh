@@ -1,23 +1,27 @@
 #!/usr/bin/env bash
 # The examples, byte for byte: each command shown in the documents against the lines under it, and each command of the table
-# in examples/README.md against the file it names. All commands run in examples/. Run it after `rt ci`, which builds the program.
+# in examples/README.md against the file it names. Commands run in examples/, and those of docs/TUTORIAL.md one after another in a
+# folder of their own. Run it after `rt ci`, which builds the programs; GTD and GTDESK in the environment name others.
 set -u
 top=$(cd "$(dirname "$0")/.." && pwd)
-program=$top/crates/gtd/out/gtd
-[ -x "$program" ] || { echo "no program at $program: run rt ci first" >&2; exit 1; }
+programs=("${GTD:-$top/crates/gtd/out/gtd}" "${GTDESK:-$top/crates/gtdesk/out/gtdesk}")
+for program in "${programs[@]}"; do
+    [ -x "$program" ] || { echo "no program at $program: run rt ci first" >&2; exit 1; }
+done
 cd "$top/examples" || exit 1
 room=$(mktemp -d)
 trap 'rm -rf "$room"' EXIT
 passed=0 failed=0
 
 # The programs come first on the path, alone in their folder.
-mkdir "$room/bin"
-ln -s "$program" "$room/bin/gtd"
-ln -s "$top/crates/gtdesk/out/gtdesk" "$room/bin/gtdesk"
+mkdir "$room/bin" "$room/tutorial"
+ln -s "$(realpath "${programs[0]}")" "$room/bin/gtd"
+ln -s "$(realpath "${programs[1]}")" "$room/bin/gtdesk"
+folder=$top/examples
 
 # compare WHERE COMMAND FILE: what the command writes, its faults included, is exactly the file.
 compare() {
-    PATH=$room/bin:$PATH bash -c "$2" > "$room/out" 2>&1 < /dev/null
+    (cd "$folder" && PATH=$room/bin:$PATH bash -c "$2" > "$room/out" 2>&1 < /dev/null)
     if cmp -s "$room/out" "$3"; then
         passed=$((passed + 1))
     else
@@ -34,49 +38,63 @@ must_show() {
     echo "FAILED $1: it shows no command"
 }
 
-# document FILE: in fenced blocks, each line `$ COMMAND`, and the lines up to the next `$ ` or the block's end.
+# document FILE: in fenced blocks, each line `$ COMMAND`, and the lines up to the next `$ ` or the block's end. Lines `> TEXT` right
+# below a command go on with it.
 document() {
-    local line command='' fenced=0 number=0 at=0 shown=0
+    local line command='' fenced=0 number=0 at=0 shown=0 more=0
     while IFS= read -r line || [ -n "$line" ]; do
         number=$((number + 1))
         case $line in
             '```'* | '$ '*)
                 [ -n "$command" ] && compare "$1:$at" "$command" "$room/expected"
-                command='' at=$number
+                command='' at=$number more=0
                 ;;
-            *) [ -n "$command" ] && printf '%s\n' "$line" >> "$room/expected" ;;
+            '> '*)
+                if [ $more = 1 ]; then
+                    command+=$'\n'${line#'> '}
+                elif [ -n "$command" ]; then
+                    printf '%s\n' "$line" >> "$room/expected"
+                fi
+                ;;
+            *)
+                more=0
+                [ -n "$command" ] && printf '%s\n' "$line" >> "$room/expected"
+                ;;
         esac
         case $fenced$line in
             ?'```'*) fenced=$((1 - fenced)) ;;
             1'$ '*)
-                command=${line#'$ '} shown=$((shown + 1))
+                command=${line#'$ '} shown=$((shown + 1)) more=1
                 : > "$room/expected"
                 ;;
         esac
     done < "$top/$1"
     [ -n "$command" ] && compare "$1:$at" "$command" "$room/expected"
-    case $1 in README.md | docs/DESK.md | docs/LANGUAGE.md | docs/RESTRICTIONS.md) must_show "$1" $shown ;; esac
+    case $1 in README.md | docs/TUTORIAL.md | docs/COMMANDS.md | docs/LANGUAGE.md | docs/FILES.md) must_show "$1" $shown ;; esac
 }
 
 document README.md
 for path in "$top"/CONTRIBUTING.md "$top"/docs/*.md "$top"/crates/*/README.md; do
+    case $path in */TUTORIAL.md) folder=$room/tutorial ;; *) folder=$top/examples ;; esac
     document "${path#"$top/"}"
 done
+folder=$top/examples
 
-# Each picture of the documents is one that a command shown there prints.
+# Each picture of the documents is one that a command shown there prints, or that the tutorial makes.
 for picture in "$top"/docs/pictures/*.svg; do
-    grep -qF "cmp - ../docs/pictures/${picture##*/} &&" "$top"/README.md "$top"/docs/*.md && continue
+    grep -qF "cmp - ../docs/pictures/${picture##*/} &&" "$top"/docs/*.md && continue
+    cmp -s "$room/tutorial/${picture##*/}" "$picture" && continue
     failed=$((failed + 1))
     echo "FAILED ${picture#"$top/"}: no document shows its command"
 done
 
-# shown PAGE: each domain that was found on a page occurs in a command of that page.
-shown() {
+# asked PAGE ROWS: each domain that was found on a page occurs in a command of that page, or of the rows.
+asked() {
     local domain
     while IFS= read -r domain; do
-        grep -qF "'$domain'" "$top/$1" && continue
+        grep -qF "'$domain'" "$top/$1" "$top/$2" && continue
         failed=$((failed + 1))
-        echo "FAILED $1: no command shows $domain"
+        echo "FAILED $1: neither the page nor $2 asks about $domain"
     done < "$room/domains"
     must_show "$1" "$(wc -l < "$room/domains")"
 }
@@ -87,9 +105,9 @@ page=$top/docs/LANGUAGE.md
     sed -n '/^## From A until B/,/^## Easily/s/^|.* | `\([^`]*\)` |$/\1/p' "$page"
     sed -n '/^## Easily mistaken/,/^## /s/^| [^|]* | `\([^`]*\)` |.*/\1/p' "$page"
 } > "$room/domains"
-shown docs/LANGUAGE.md
-sed -n 's/^|.* | `\([^`]*\)` |$/\1/p' "$top/docs/RESTRICTIONS.md" > "$room/domains"
-shown docs/RESTRICTIONS.md
+asked docs/LANGUAGE.md tests/rows/language.rows
+sed -n '/^## Restrictions/,/^## Words/s/^|.* | `\([^`]*\)` |$/\1/p' "$top/docs/GALLERY.md" > "$room/domains"
+asked docs/GALLERY.md tests/rows/restrictions.rows
 
 # The table: a row holds a command and the file that it makes. A file that no row names fails.
 sed -n 's/^| `\(gtd[a-z]* [^`]*\)` | `\([^`]*\)` |$/\1\t\2/p' README.md > "$room/table"

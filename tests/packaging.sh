@@ -87,6 +87,14 @@ files_in_root() {
     (cd "$root" && find . -path ./var/lib/dpkg -prune -o ! -type d -print | LC_ALL=C sort)
 }
 
+# missing_pictures: those that a document shows and that are not installed beside it.
+missing_pictures() {
+    local doc=$root/usr/share/doc/gtd picture
+    grep -oh 'pictures/[a-zA-Z0-9_/]*\.svg' "$doc/README.md" "$doc"/docs/*.md | sort -u | while read -r picture; do
+        [ -s "$doc/docs/$picture" ] || echo "$picture"
+    done
+}
+
 install_it() {
     make_root
     succeeds 'the packages are installed' dpkg_in --install "$room"/first/*.deb
@@ -100,9 +108,10 @@ install_it() {
     for name in gtd gtdesk; do
         succeeds "$name is the proved one" cmp "$root/usr/bin/$name" "$top/crates/$name/out/$name"
     done
-    for file in README.md docs/LANGUAGE.md docs/FILES.md examples/restrictions.csv examples/planner/network.csv; do
+    for file in README.md docs/TUTORIAL.md docs/COMMANDS.md examples/restrictions.csv examples/planner/network.csv; do
         succeeds "documents: $file" test -s "$root/usr/share/doc/gtd/$file"
     done
+    gives 'the pictures that the documents show' '' missing_pictures
     for licence in MIT APACHE; do
         succeeds "the text of LICENSE-$licence" python3 -c 'import sys
 assert open(sys.argv[1]).read() in open(sys.argv[2]).read()' "$top/LICENSE-$licence" "$root/usr/share/doc/gtd/copyright"
@@ -167,6 +176,7 @@ know_commands() {
     local defined=$top/crates/gtd_desk_plans/specs/CommandLine.antt
     gives "gtdesk's commands" "$(tr ' ' '\n' <<< "$desk_commands" | sort)" \
         bash -c "sed -n 's/.*command_of (codes \"\([a-z-]*\)\").*/\1/p' '$defined' | sort"
+    gives "gtdesk's commands and their words, as its help says them" '' "$top/packaging/pages.py" --help-of "$root/usr/bin/gtdesk"
 }
 
 complete_words() {
@@ -241,9 +251,9 @@ remove_it() {
 }
 
 packages='gtd libgtd0 libgtd-dev'
-# The commands, in the order of the completions.
-commands='schedule year migrate check canon at next ever'
-desk_commands='now faults words hours records picture picture-domain'
+# The commands of packaging/commands.txt, in its order.
+commands=$("$top/packaging/pages.py" --commands gtd)
+desk_commands=$("$top/packaging/pages.py" --commands gtdesk)
 cd "$top/examples" || exit 1
 build_twice
 install_it

@@ -16,7 +16,7 @@ class Fault(ValueError):
     ----------
     kind : str
         As in the program's line: ``'FieldRange'``, ``'moment Range'``, ``'horizon Empty'``, ``'Header'``,
-        ``'Direction'``, ``'Domain FieldRange'``. The README of ``gtd``, docs/LANGUAGE.md and docs/FILES.md list them all.
+        ``'Direction'``, ``'Domain FieldRange'``. docs/COMMANDS.md, docs/LANGUAGE.md and docs/FILES.md list them all.
     place : int or None
         For a time domain: the number of bytes of the domain's text before the fault.
     row : int or None

@@ -16,7 +16,7 @@ from tests.conftest import environment
 from tests.make_records import rows
 
 TOP = Path(gtd.__file__).parents[2]
-PAGES = [TOP / "docs" / "PYTHON.md", TOP / "docs" / "COUNTRY.md", TOP / "README.md", TOP / "python" / "README.md"]
+PAGES = [TOP / "docs" / "PYTHON.md", TOP / "docs" / "COUNTRY.md", TOP / "python" / "README.md"]
 
 
 @pytest.fixture
