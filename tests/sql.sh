@@ -1,8 +1,8 @@
 #!/usr/bin/env bash
-# The library in SQL: the extensions of SQLite and of PostgreSQL, built without a warning, against the plain model and the programs;
-# a GeoPackage read by GDAL; memory watched and refused; the examples of docs/LIBRARY.md. PostgreSQL is started by the tests
-# themselves, and ends with them. Run it after `rt ci`, which proves and builds what it asks; GTD and GTDESK in the environment
-# name other programs. It needs what tests/setup.sh installs.
+# The library in SQL: the extensions of SQLite and of PostgreSQL, built without a warning, against the plain model and the
+# programs; a GeoPackage read by GDAL; memory watched and refused; the examples of docs/LIBRARY.md. PostgreSQL is started by the
+# tests themselves, and ends with them. Run it after `rt ci`, which proves and builds what it asks; GTD and GTDESK in the
+# environment name other programs. It needs what tests/setup.sh installs.
 # Usage: tests/sql.sh [DOMAINS]    (so many random domains, and a fourth as many files; 1000 by default)
 set -u
 ulimit -c 0
@@ -54,7 +54,8 @@ counted() {
 make=(make -s -C "$top/bindings/sqlite")
 succeeds 'the extension of SQLite' "${make[@]}" -B
 succeeds 'its installation' "${make[@]}" install DESTDIR="$room/root" PREFIX=/usr
-succeeds 'the installed extension' sqlite3 :memory: ".load $room/root/usr/lib/$(gcc -print-multiarch)/mod_gtd" "SELECT gtd_canon('(h1){h1}')"
+installed=$room/root/usr/lib/$(gcc -print-multiarch)/mod_gtd
+succeeds 'the installed extension' sqlite3 :memory: ".load $installed" "SELECT gtd_canon('(h1){h1}')"
 extension=$out/mod_gtd.so
 nm -D --defined-only "$extension" | sed 's/.* //' > "$room/said"
 if [ "$(cat "$room/said")" = sqlite3_modgtd_init ]; then passed=$((passed + 1)); else fail 'what the extension exports'; fi

@@ -40,17 +40,20 @@ COMMENT ON FUNCTION gtd_holds(text, text) IS 'whether a time domain contains a m
 CREATE FUNCTION gtd_next(domain text, moment timestamp, until timestamp) RETURNS timestamp
 AS 'MODULE_PATHNAME', 'gtd_pg_next_timestamp'
 LANGUAGE C IMMUTABLE STRICT PARALLEL SAFE COST 100;
-COMMENT ON FUNCTION gtd_next(text, timestamp, timestamp) IS 'first later moment before another one at which a time domain begins or ends, or NULL';
+COMMENT ON FUNCTION gtd_next(text, timestamp, timestamp) IS
+'first later moment before another one at which a time domain begins or ends, or NULL';
 
 CREATE FUNCTION gtd_next(domain text, moment bigint, until bigint) RETURNS bigint
 AS 'MODULE_PATHNAME', 'gtd_pg_next_seconds'
 LANGUAGE C IMMUTABLE STRICT PARALLEL SAFE COST 100;
-COMMENT ON FUNCTION gtd_next(text, bigint, bigint) IS 'first later moment before another one at which a time domain begins or ends, or NULL';
+COMMENT ON FUNCTION gtd_next(text, bigint, bigint) IS
+'first later moment before another one at which a time domain begins or ends, or NULL';
 
 CREATE FUNCTION gtd_next(domain text, moment text, until text) RETURNS text
 AS 'MODULE_PATHNAME', 'gtd_pg_next_text'
 LANGUAGE C IMMUTABLE STRICT PARALLEL SAFE COST 100;
-COMMENT ON FUNCTION gtd_next(text, text, text) IS 'first later moment before another one at which a time domain begins or ends, or NULL';
+COMMENT ON FUNCTION gtd_next(text, text, text) IS
+'first later moment before another one at which a time domain begins or ends, or NULL';
 
 CREATE FUNCTION gtd_ever(domain text, moment timestamp) RETURNS timestamp
 AS 'MODULE_PATHNAME', 'gtd_pg_ever_timestamp'
@@ -82,7 +85,7 @@ AS 'MODULE_PATHNAME', 'gtd_pg_spans_text'
 LANGUAGE C IMMUTABLE STRICT PARALLEL SAFE COST 1000 ROWS 100;
 COMMENT ON FUNCTION gtd_spans(text, text, text) IS 'spans of a time domain from one moment up to another';
 
--- gtd_closed: the columns of a row, which may be NULL, and the question. The third column is a number or a list of vehicle types.
+-- gtd_closed: the columns of a row, which may be NULL, and the question. Vehicle types are a number, or a text as in files.
 
 CREATE FUNCTION gtd_closed_or(boolean, boolean) RETURNS boolean
 AS 'MODULE_PATHNAME', 'gtd_pg_closed_or'
@@ -92,7 +95,8 @@ COMMENT ON FUNCTION gtd_closed_or(boolean, boolean) IS 'combine function of gtd_
 CREATE FUNCTION gtd_closed_step(boolean, text, integer, text, text, integer, timestamp) RETURNS boolean
 AS 'MODULE_PATHNAME', 'gtd_pg_closed_number_timestamp'
 LANGUAGE C IMMUTABLE PARALLEL SAFE COST 20;
-COMMENT ON FUNCTION gtd_closed_step(boolean, text, integer, text, text, integer, timestamp) IS 'transition function of gtd_closed';
+COMMENT ON FUNCTION gtd_closed_step(boolean, text, integer, text, text, integer, timestamp) IS
+'transition function of gtd_closed';
 CREATE AGGREGATE gtd_closed(direction text, vehicle integer, domain text, asked_direction text,
                             asked_vehicle integer, moment timestamp) (
     SFUNC = gtd_closed_step, STYPE = boolean, INITCOND = 'false', COMBINEFUNC = gtd_closed_or, PARALLEL = SAFE
@@ -102,7 +106,8 @@ COMMENT ON AGGREGATE gtd_closed(text, integer, text, text, integer, timestamp) I
 CREATE FUNCTION gtd_closed_step(boolean, text, integer, text, text, integer, bigint) RETURNS boolean
 AS 'MODULE_PATHNAME', 'gtd_pg_closed_number_seconds'
 LANGUAGE C IMMUTABLE PARALLEL SAFE COST 20;
-COMMENT ON FUNCTION gtd_closed_step(boolean, text, integer, text, text, integer, bigint) IS 'transition function of gtd_closed';
+COMMENT ON FUNCTION gtd_closed_step(boolean, text, integer, text, text, integer, bigint) IS
+'transition function of gtd_closed';
 CREATE AGGREGATE gtd_closed(direction text, vehicle integer, domain text, asked_direction text,
                             asked_vehicle integer, moment bigint) (
     SFUNC = gtd_closed_step, STYPE = boolean, INITCOND = 'false', COMBINEFUNC = gtd_closed_or, PARALLEL = SAFE
@@ -112,7 +117,8 @@ COMMENT ON AGGREGATE gtd_closed(text, integer, text, text, integer, bigint) IS '
 CREATE FUNCTION gtd_closed_step(boolean, text, integer, text, text, integer, text) RETURNS boolean
 AS 'MODULE_PATHNAME', 'gtd_pg_closed_number_text'
 LANGUAGE C IMMUTABLE PARALLEL SAFE COST 20;
-COMMENT ON FUNCTION gtd_closed_step(boolean, text, integer, text, text, integer, text) IS 'transition function of gtd_closed';
+COMMENT ON FUNCTION gtd_closed_step(boolean, text, integer, text, text, integer, text) IS
+'transition function of gtd_closed';
 CREATE AGGREGATE gtd_closed(direction text, vehicle integer, domain text, asked_direction text,
                             asked_vehicle integer, moment text) (
     SFUNC = gtd_closed_step, STYPE = boolean, INITCOND = 'false', COMBINEFUNC = gtd_closed_or, PARALLEL = SAFE
@@ -122,7 +128,8 @@ COMMENT ON AGGREGATE gtd_closed(text, integer, text, text, integer, text) IS 'wh
 CREATE FUNCTION gtd_closed_step(boolean, text, text, text, text, integer, timestamp) RETURNS boolean
 AS 'MODULE_PATHNAME', 'gtd_pg_closed_list_timestamp'
 LANGUAGE C IMMUTABLE PARALLEL SAFE COST 20;
-COMMENT ON FUNCTION gtd_closed_step(boolean, text, text, text, text, integer, timestamp) IS 'transition function of gtd_closed';
+COMMENT ON FUNCTION gtd_closed_step(boolean, text, text, text, text, integer, timestamp) IS
+'transition function of gtd_closed';
 CREATE AGGREGATE gtd_closed(direction text, vehicles text, domain text, asked_direction text,
                             asked_vehicle integer, moment timestamp) (
     SFUNC = gtd_closed_step, STYPE = boolean, INITCOND = 'false', COMBINEFUNC = gtd_closed_or, PARALLEL = SAFE
@@ -132,7 +139,8 @@ COMMENT ON AGGREGATE gtd_closed(text, text, text, text, integer, timestamp) IS '
 CREATE FUNCTION gtd_closed_step(boolean, text, text, text, text, integer, bigint) RETURNS boolean
 AS 'MODULE_PATHNAME', 'gtd_pg_closed_list_seconds'
 LANGUAGE C IMMUTABLE PARALLEL SAFE COST 20;
-COMMENT ON FUNCTION gtd_closed_step(boolean, text, text, text, text, integer, bigint) IS 'transition function of gtd_closed';
+COMMENT ON FUNCTION gtd_closed_step(boolean, text, text, text, text, integer, bigint) IS
+'transition function of gtd_closed';
 CREATE AGGREGATE gtd_closed(direction text, vehicles text, domain text, asked_direction text,
                             asked_vehicle integer, moment bigint) (
     SFUNC = gtd_closed_step, STYPE = boolean, INITCOND = 'false', COMBINEFUNC = gtd_closed_or, PARALLEL = SAFE
@@ -142,7 +150,8 @@ COMMENT ON AGGREGATE gtd_closed(text, text, text, text, integer, bigint) IS 'whe
 CREATE FUNCTION gtd_closed_step(boolean, text, text, text, text, integer, text) RETURNS boolean
 AS 'MODULE_PATHNAME', 'gtd_pg_closed_list_text'
 LANGUAGE C IMMUTABLE PARALLEL SAFE COST 20;
-COMMENT ON FUNCTION gtd_closed_step(boolean, text, text, text, text, integer, text) IS 'transition function of gtd_closed';
+COMMENT ON FUNCTION gtd_closed_step(boolean, text, text, text, text, integer, text) IS
+'transition function of gtd_closed';
 CREATE AGGREGATE gtd_closed(direction text, vehicles text, domain text, asked_direction text,
                             asked_vehicle integer, moment text) (
     SFUNC = gtd_closed_step, STYPE = boolean, INITCOND = 'false', COMBINEFUNC = gtd_closed_or, PARALLEL = SAFE

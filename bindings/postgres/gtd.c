@@ -329,7 +329,8 @@ static Datum closed_step(FunctionCallInfo fcinfo, bool is_number, type as)
         } else {
             part direction = part_of(PG_GETARG_TEXT_PP(4));
             int32 vehicle = PG_GETARG_INT32(5);
-            if (!read_direction(direction, &is_negative)) text_error(ERRCODE_INVALID_TEXT_REPRESENTATION, "direction", direction, ASKED_DIRECTIONS);
+            if (!read_direction(direction, &is_negative))
+                text_error(ERRCODE_INVALID_TEXT_REPRESENTATION, "direction", direction, ASKED_DIRECTIONS);
             if (vehicle < 1 || vehicle > 99)
                 ereport(ERROR, (errcode(ERRCODE_INVALID_PARAMETER_VALUE), errmsg("vehicle type out of range: %d", vehicle),
                                 errdetail("%c%s.", pg_toupper(ASKED_VEHICLES[0]), &ASKED_VEHICLES[1])));

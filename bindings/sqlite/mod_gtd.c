@@ -15,11 +15,12 @@ typedef struct {
     uint8_t text[];
 } kept;
 
-/* What a connection keeps: for each remainder of a hash, the text that was read last. Where a text is a constant of the query
-   SQLite keeps it, as auxiliary data; this is for texts that vary and come again. */
+/* What a connection keeps: for each remainder of a hash the text that was read last, and the one of these that was asked last.
+   Where a text is a constant of the query, SQLite keeps it as auxiliary data; this is for texts that vary and come again. */
 enum { SLOTS = 256 };
 typedef struct {
     unsigned holders;
+    kept *last;
     kept *slots[SLOTS];
 } shelf;
 
@@ -46,25 +47,46 @@ static void release_shelf(void *given)
     sqlite3_free(it);
 }
 
-/* What a text stands for, which the shelf keeps until another text takes its slot; or NULL and why. */
-static kept *keep(shelf *on, const uint8_t *text, size_t length, bool is_row, reading *why)
+static bool is_of(const kept *it, part text, bool is_row)
 {
-    uint32_t hash = hash_of(text, length);
-    kept **slot = &on->slots[hash % SLOTS], *it = *slot;
-    if (it && it->hash == hash && it->is_row == is_row && it->length == length && !memcmp(it->text, text, length)) return it;
+    return it && it->is_row == is_row && it->length == text.length && !memcmp(it->text, text.bytes, text.length);
+}
+
+/* What a text stands for if the shelf has it; otherwise NULL and the text's hash. */
+static kept *find(shelf *on, part text, bool is_row, uint32_t *hash)
+{
+    if (is_of(on->last, text, is_row)) return on->last;
+    *hash = hash_of(text.bytes, text.length);
+    kept *it = on->slots[*hash % SLOTS];
+    return it && it->hash == *hash && is_of(it, text, is_row) ? on->last = it : NULL;
+}
+
+/* Reads a text, which the shelf keeps until another one takes its slot; or NULL and why. */
+static kept *read_text(shelf *on, part text, bool is_row, uint32_t hash, reading *why)
+{
+    kept *it = sqlite3_malloc64(sizeof *it + text.length), **slot = &on->slots[hash % SLOTS];
     *why = (reading){ .answer = GTD_MEMORY };
-    it = sqlite3_malloc64(sizeof *it + length);
     if (!it) return NULL;
-    *it = (kept){ .holders = 1, .is_row = is_row, .hash = hash, .length = length, .handle = GTD_NONE };
-    if (length) memcpy(it->text, text, length);
-    why->answer = is_row ? gtd_records_open(&it->handle, it->text, length, &why->fault)
-                         : gtd_domain_open(&it->handle, it->text, length, &why->fault.text);
+    *it = (kept){ .holders = 1, .is_row = is_row, .hash = hash, .length = text.length, .handle = GTD_NONE };
+    memcpy(it->text, text.bytes, text.length);
+    why->answer = is_row ? gtd_records_open(&it->handle, it->text, text.length, &why->fault)
+                         : gtd_domain_open(&it->handle, it->text, text.length, &why->fault.text);
     if (why->answer != GTD_YES) {
         release_kept(it);
         return NULL;
     }
     if (*slot) release_kept(*slot);
-    return *slot = it;
+    return on->last = *slot = it;
+}
+
+/* The same for a text that the shelf may have; one without bytes is one for which SQLite refused memory. */
+static kept *keep(shelf *on, part text, bool is_row, reading *why)
+{
+    uint32_t hash;
+    *why = (reading){ .answer = GTD_MEMORY };
+    if (!text.bytes) return NULL;
+    kept *it = find(on, text, is_row, &hash);
+    return it ? it : read_text(on, text, is_row, hash, why);
 }
 
 /* Messages are taken from SQLite's memory; where it gives none, they are NULL. */
@@ -130,16 +152,19 @@ static gtd_handle *domain_of(sqlite3_context *context, sqlite3_value *value)
 {
     kept *it = sqlite3_get_auxdata(context, 0);
     if (it) return &it->handle;
+    shelf *on = sqlite3_user_data(context);
     part text = text_of(value);
     reading why = { .answer = GTD_MEMORY };
-    if (text.bytes) it = keep(sqlite3_user_data(context), text.bytes, text.length, false, &why);
+    uint32_t hash;
+    if (text.bytes && (it = find(on, text, false, &hash))) return &it->handle;
+    if (text.bytes) it = read_text(on, text, false, hash, &why);
     if (!it) {
         refuse(context, why.answer == GTD_NO ? domain_error(&why.fault.text, text) : NULL);
         return NULL;
     }
     it->holders++;
     sqlite3_set_auxdata(context, 0, it, release_kept);
-    return &it->handle; /* the shelf holds it, even if SQLite has let go of it at once */
+    return &it->handle; /* the shelf holds it, even if SQLite has let it go at once, since the text is no constant */
 }
 
 static void result_moment(sqlite3_context *context, int64_t second, form as)
@@ -166,9 +191,9 @@ static void sql_check(sqlite3_context *context, int count, sqlite3_value **value
 {
     if (any_null(count, values)) return;
     part text = text_of(values[0]);
-    reading why = { .answer = GTD_MEMORY };
+    reading why;
     char name[NAME_ROOM];
-    if (text.bytes && keep(sqlite3_user_data(context), text.bytes, text.length, false, &why)) return;
+    if (keep(sqlite3_user_data(context), text, false, &why)) return;
     if (why.answer != GTD_NO) {
         sqlite3_result_error_nomem(context);
         return;
@@ -279,7 +304,7 @@ static kept *row_of(sqlite3_context *context, sqlite3_value **values)
         }
     }
     uint8_t *file = sqlite3_malloc64(row_room(fields));
-    kept *it = file ? keep(sqlite3_user_data(context), file, write_row(fields, file), true, &why) : NULL;
+    kept *it = file ? keep(sqlite3_user_data(context), (part){ file, write_row(fields, file) }, true, &why) : NULL;
     sqlite3_free(file);
     if (it) return it;
     if (why.answer != GTD_NO) refuse(context, NULL);
@@ -353,7 +378,8 @@ static int connect_spans(sqlite3 *db, void *shelf, int count, const char *const 
 {
     (void)count, (void)words, (void)error;
     /* Names that a table of domains will hardly have, since they would hide its columns in the arguments. */
-    int status = sqlite3_declare_vtab(db, "CREATE TABLE x(begins, ends, of_domain HIDDEN, since_moment HIDDEN, until_moment HIDDEN)");
+    int status = sqlite3_declare_vtab(
+        db, "CREATE TABLE x(begins, ends, of_domain HIDDEN, since_moment HIDDEN, until_moment HIDDEN)");
     if (status != SQLITE_OK) return status;
     spans_table *table = sqlite3_malloc64(sizeof *table);
     if (!table) return SQLITE_NOMEM;
@@ -455,8 +481,8 @@ static int filter_spans(sqlite3_vtab_cursor *given, int number, const char *text
         if (!(cursor->given[at] = sqlite3_value_dup(values[at]))) return SQLITE_NOMEM;
     if (any_null(count, values)) return SQLITE_OK;
     part domain = text_of(values[0]);
-    reading why = { .answer = GTD_MEMORY };
-    kept *it = domain.bytes ? keep(((spans_table *)given->pVtab)->shelf, domain.bytes, domain.length, false, &why) : NULL;
+    reading why;
+    kept *it = keep(((spans_table *)given->pVtab)->shelf, domain, false, &why);
     if (!it) return fail_spans(cursor, why.answer == GTD_NO ? domain_error(&why.fault.text, domain) : NULL);
     moment since, until;
     char *error;

@@ -30,8 +30,9 @@ def blocks(section):
     """The fenced blocks of a section of the document."""
     with open(os.path.join(TOP, "docs", "LIBRARY.md"), encoding="utf-8") as file:
         text = file.read()
-    found = re.search(rf"^#+ {section}\n(.*?)(?=^#)", re.sub(r"(?s)```.*?```", lambda block: block[0].replace("\n#", "\n\0"), text),
-                      re.MULTILINE | re.DOTALL)
+    # A line of a block may begin with the sign of a heading.
+    text = re.sub(r"(?s)```.*?```", lambda block: block[0].replace("\n#", "\n\0"), text)
+    found = re.search(rf"^#+ {section}\n(.*?)(?=^#)", text, re.MULTILINE | re.DOTALL)
     return [block.replace("\0", "#") for block in re.findall(r"```\w*\n(.*?)```", found[1], re.DOTALL)]
 
 

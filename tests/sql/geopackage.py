@@ -1,6 +1,6 @@
 #!/usr/bin/env python3
-"""Makes a GeoPackage of a town's roads and its record file with ogr2ogr, and the view of bindings/sqlite/example; then reads the view
-as a layer with ogr2ogr and ogrinfo, at several hours of the day, which are those of time zones. The plain model of
+"""Makes a GeoPackage of a town's roads and its record file with ogr2ogr, and the view of bindings/sqlite/example; then reads the
+view as a layer with ogr2ogr and ogrinfo, at several hours of the day, which are those of time zones. The plain model of
 tests/model.py says which roads are open.
 
 Usage: tests/sql/geopackage.py EXTENSION

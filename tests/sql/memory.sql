@@ -1,15 +1,16 @@
 -- Each function of the extension of SQLite, with what it answers and what it refuses, for runs in which memory is watched or
 -- refused. Errors are on standard error.
 CREATE TABLE r(element, direction, vehicles, domain);
-INSERT INTO r VALUES (1, 'both', 0, '(h10){h4}'), (1, 'positive', '11;12', NULL), (2, 'negative', '!11', '[(t7h5){h10}]*[(M3){M2}]'),
-    (3, 'both', 0, '(h25){h1}'), (4, NULL, NULL, NULL);
+INSERT INTO r VALUES (1, 'both', 0, '(h10){h4}'), (1, 'positive', '11;12', NULL),
+    (2, 'negative', '!11', '[(t7h5){h10}]*[(M3){M2}]'), (3, 'both', 0, '(h25){h1}'), (4, NULL, NULL, NULL);
 SELECT element, gtd_check(domain) FROM r;
 SELECT element, gtd_canon(domain), gtd_words(domain) FROM r WHERE gtd_check(domain) IS NULL;
 SELECT element, gtd_holds(domain, '2024-03-16T10:00:00'), gtd_holds(domain, 0) FROM r WHERE gtd_check(domain) IS NULL;
 SELECT gtd_next(domain, '2024-03-16 10:00:00', '2024-03-17'), gtd_ever(domain, 0) FROM r WHERE gtd_check(domain) IS NULL;
 SELECT element, begins, ends FROM r, gtd_spans(domain, '2024-03-15', '2024-03-17 12:00:00') WHERE gtd_check(domain) IS NULL;
 SELECT begins FROM gtd_spans('(h10){h1}', 0, 864000) LIMIT 3;
-SELECT element, gtd_closed(direction, vehicles, domain, 'negative', 12, '2024-03-16T10:00:00') FROM r WHERE element <> 3 GROUP BY element;
+SELECT element, gtd_closed(direction, vehicles, domain, 'negative', 12, '2024-03-16T10:00:00') FROM r
+WHERE element <> 3 GROUP BY element;
 SELECT gtd_closed(direction, vehicles, domain, 'positive', NULL, 0) FROM r WHERE element = 2;
 WITH RECURSIVE n(i) AS (SELECT 1 UNION ALL SELECT i + 1 FROM n WHERE i < 20)
 SELECT count(gtd_canon('(h1){m' || i || '}')), sum(gtd_holds('(h1){m' || (i % 7) || '}', 3600)) FROM n;

@@ -1,7 +1,7 @@
 #!/usr/bin/env python3
-"""Starts a PostgreSQL by tests/sql/server.py, and asks it the cases of tests/sql/cases.py; then what they do not ask: NULL, errors
-and what they say, columns, parallel plans, indexes, constraints, the type gtd_domain, a backend that is killed, queries that are
-stopped, memory, dump and restore.
+"""Starts a PostgreSQL by tests/sql/server.py, and asks it the cases of tests/sql/cases.py; then what they do not ask: NULL,
+errors and what they say, columns, parallel plans, indexes, constraints, the type gtd_domain, a backend that is killed, queries
+that are stopped, memory, dump and restore.
 
 Usage: tests/sql/postgres.py CASES
 """
@@ -33,8 +33,11 @@ def check(holds, what):
 
 
 def stamp(second, form="space"):
-    text = (EPOCH + datetime.timedelta(seconds=second)).isoformat() if second < 23036572800 else "2700-01-01T00:00:00"
-    return {"T": text, "date": text[:10], "seconds": str(second)}.get(form, text.replace("T", " "))
+    """A moment as a text, which may be asked for the end of the last day, too."""
+    if form == "seconds":
+        return str(second)
+    text = (EPOCH + datetime.timedelta(seconds=second)).isoformat()
+    return {"T": text, "date": text[:10]}.get(form, text.replace("T", " "))
 
 
 def literal(form, second):
@@ -110,8 +113,10 @@ def check_columns(server, cases):
     held = [case for case in cases if case["call"] == "holds" and isinstance(case["answer"], bool)]
     rows = [f"({quoted(bytes.fromhex(case['domain']).decode())}, {case['moments'][0][1]}, {answer_of(case)})" for case in held]
     server.psql("CREATE TABLE asked_of(domain text, second bigint, answer boolean);"
-                f"INSERT INTO asked_of VALUES {', '.join(rows)}; ALTER TABLE asked_of SET (parallel_workers = 2); ANALYZE asked_of")
-    wrong = server.psql("SELECT count(*) FROM (SELECT * FROM asked_of ORDER BY random()) r WHERE gtd_holds(domain, second) <> answer")
+                f"INSERT INTO asked_of VALUES {', '.join(rows)}; ALTER TABLE asked_of SET (parallel_workers = 2);"
+                "ANALYZE asked_of")
+    wrong = server.psql("SELECT count(*) FROM (SELECT * FROM asked_of ORDER BY random()) r "
+                        "WHERE gtd_holds(domain, second) <> answer")
     check(wrong == "0" and len(held) > 1000, f"{wrong} of {len(held)} answers of a table are wrong")
     parallel = ("SET parallel_setup_cost = 0; SET parallel_tuple_cost = 0; SET min_parallel_table_scan_size = 0;"
                 "SET max_parallel_workers_per_gather = 2;")
@@ -140,8 +145,8 @@ def check_null(server):
     for kind in ["bigint", "text", "timestamp"]:
         null = f"NULL::{kind}"
         moment = {"bigint": "0", "text": "'1970-01-01T00:00:00'", "timestamp": "timestamp '1970-01-01'"}[kind]
-        calls += [f"holds(NULL, {moment})", f"holds('x', {null})", f"next(NULL, {moment}, {moment})", f"next('x', {null}, {moment})",
-                  f"next('x', {moment}, {null})", f"ever(NULL, {moment})", f"ever('x', {null})"]
+        calls += [f"holds(NULL, {moment})", f"holds('x', {null})", f"next(NULL, {moment}, {moment})",
+                  f"next('x', {null}, {moment})", f"next('x', {moment}, {null})", f"ever(NULL, {moment})", f"ever('x', {null})"]
         for words in [f"NULL, {moment}, {moment}", f"'x', {null}, {moment}", f"'x', {moment}, {null}"]:
             check_answers(server, [(f"SELECT count(*) FROM gtd_spans({words})", "0")])
     check_answers(server, [(f"SELECT gtd_{call}", None) for call in calls])
@@ -170,16 +175,19 @@ def check_errors(server):
     check_answers(server, [(f"SELECT gtd_next('(h1){{h1}}', '1999-01-01T00:00:00', '{text}')",
                             f"error 22007|invalid moment: \"{text}\"||It must be YYYY-MM-DD, {MOMENTS}.") for text in wrong])
     moments = ["timestamp '1900-12-31 23:59:59'", "timestamp '2700-01-01'", "timestamp 'infinity'", "timestamp '-infinity'",
-               "timestamp '4000-01-01 BC'", "timestamp '200000-01-01'", "'9223372036854775807'::bigint", "'-9223372036854775808'::bigint"]
-    check_answers(server, [(f"SELECT gtd_holds('(h1){{h1}}', {moment})",
-                            "error 22008|moment out of range|Moments lie from 1901-01-01 up to 2700-01-01.|") for moment in moments])
+               "timestamp '4000-01-01 BC'", "timestamp '200000-01-01'", "'9223372036854775807'::bigint",
+               "'-9223372036854775808'::bigint"]
+    right = "error 22008|moment out of range|Moments lie from 1901-01-01 up to 2700-01-01.|"
+    check_answers(server, [(f"SELECT gtd_holds('(h1){{h1}}', {moment})", right) for moment in moments])
     days = [("2024-01-01", "2024-01-01"), ("2024-01-02", "2024-01-01"), ("1901-01-01", "2302-01-01")]
-    check_answers(server, [(f"SELECT count(*) FROM gtd_spans('(h1){{h1}}', date '{since}', date '{until}')",
-                            "error 22008|second moment out of range|The second moment must come after the first, by 146,098 days at most.|")
+    right = "error 22008|second moment out of range|The second moment must come after the first, by 146,098 days at most.|"
+    check_answers(server, [(f"SELECT count(*) FROM gtd_spans('(h1){{h1}}', date '{since}', date '{until}')", right)
                            for since, until in days])
     check_answers(server, [
-        ("SELECT gtd_ever('(y2024){d1}', 0)", "error 22023|the domain gives a year||gtd_next asks up to a moment, gtd_ever about all years."),
-        ("SELECT gtd_ever('(h1){h1}', timestamp '2200-01-01')", "error 22008|moment out of range|Moments of gtd_ever lie from 1901 to 2199.|"),
+        ("SELECT gtd_ever('(y2024){d1}', 0)",
+         "error 22023|the domain gives a year||gtd_next asks up to a moment, gtd_ever about all years."),
+        ("SELECT gtd_ever('(h1){h1}', timestamp '2200-01-01')",
+         "error 22008|moment out of range|Moments of gtd_ever lie from 1901 to 2199.|"),
     ])
     said = server.ask(["SELECT gtd_holds('(h1){h1}', now())"])[0]
     check(said.startswith("error 42883|"), f"a moment with a time zone: {said}")
@@ -198,9 +206,11 @@ def check_forms(server):
         ("SELECT gtd_holds('(h10){h4}', timestamp '2024-03-01 13:59:59.999999')", "true"),
         ("SELECT gtd_holds('(h10){h4}', timestamp '1924-03-01 13:59:59.999999')", "true"),
         ("SELECT gtd_holds('(h10){h4}', timestamp '1924-03-01 09:59:59.999999')", "false"),
-        ("SELECT (gtd_spans('(h10){h14}', date '2699-12-31', date '2700-01-01'))::text", '("2699-12-31 10:00:00","2700-01-01 00:00:00")'),
+        ("SELECT (gtd_spans('(h10){h14}', date '2699-12-31', date '2700-01-01'))::text",
+         '("2699-12-31 10:00:00","2700-01-01 00:00:00")'),
         ("SELECT ends FROM gtd_spans('(h10){h14}', '2699-12-31', '2700-01-01')", "2700-01-01T00:00:00"),
-        ("SELECT range_agg(tsrange(begins, ends)) FROM gtd_spans('(h10){h4}', date '2024-03-01', date '2024-03-02' + time '11:00')",
+        ("SELECT range_agg(tsrange(begins, ends)) "
+         "FROM gtd_spans('(h10){h4}', date '2024-03-01', date '2024-03-02' + time '11:00')",
          '{["2024-03-01 10:00:00","2024-03-01 14:00:00"),["2024-03-02 10:00:00","2024-03-02 11:00:00")}'),
     ])
 
@@ -223,7 +233,8 @@ def check_closed(server):
     check_answers(server, [
         (closed(["'both', 11, ''"], kind="integer"), "true"), (closed(["'both', 12, ''"], kind="integer"), "false"),
         (closed(["'both', 0, ''"], "'positive', 11, 1704110400", "integer"), "true"),
-        (closed(["'both', '0', ''"], f"NULL, 11, {noon}"), None), (closed(["'both', '0', ''"], f"'positive', NULL, {noon}"), None),
+        (closed(["'both', '0', ''"], f"NULL, 11, {noon}"), None),
+        (closed(["'both', '0', ''"], f"'positive', NULL, {noon}"), None),
         (closed(["'both', '0', ''"], "'positive', 11, NULL::timestamp"), None),
         (closed(["'up', '0', ''"]), "error 22P02|invalid direction: \"up\"||It must be positive, negative or both."),
         (closed(["NULL, '0', ''"]), "error 22P02|invalid direction: \"\"||It must be positive, negative or both."),
@@ -233,7 +244,8 @@ def check_closed(server):
          "error 22P02|invalid vehicle types: \"-1\"||It must be 0, or codes 1 to 99 joined by ;, or ! and such codes."),
         (closed(["'both', '0', '(h25){h1}'"]), fault_error("(h25){h1}", "FieldRange", 1)),
         (closed(["'both', '0', '(h1)\"{h1}'"]), fault_error('(h1)"{h1}', "BadToken", 4)),
-        (closed(["'both', '0', ''"], f"'both', 11, {noon}"), "error 22P02|invalid direction: \"both\"||It must be positive or negative."),
+        (closed(["'both', '0', ''"], f"'both', 11, {noon}"),
+         "error 22P02|invalid direction: \"both\"||It must be positive or negative."),
         (closed(["'both', '0', ''"], f"'positive', 0, {noon}"),
          "error 22023|vehicle type out of range: 0|The vehicle type that is asked about must be a number from 1 to 99.|"),
         (closed(["'both', '0', ''"], f"'positive', 267, {noon}"),
@@ -265,10 +277,10 @@ ANALYZE r;
     ])
     said = server.ask(["INSERT INTO plain VALUES ('(h25){h1}')"])[0]
     check(said.startswith('error 23514|new row for relation "plain" violates check constraint'), f"a constraint: {said}")
-    done = subprocess.run(server.client("psql", "roads", "-Xc", "COPY r(element, domain) FROM STDIN"), input="7\t(h1){h1}\n8\t(h25){h1}\n",
-                          capture_output=True, text=True)
-    check(done.returncode == 1 and "  ^" not in done.stderr and "\n ^\n" in done.stderr and "COPY r, line 2, column domain" in done.stderr,
-          f"COPY: {done.stderr}")
+    done = subprocess.run(server.client("psql", "roads", "-Xc", "COPY r(element, domain) FROM STDIN"),
+                          input="7\t(h1){h1}\n8\t(h25){h1}\n", capture_output=True, text=True)
+    shown = "\n(h25){h1}\n ^\n" in done.stderr and "COPY r, line 2, column domain" in done.stderr
+    check(done.returncode == 1 and shown, f"COPY: {done.stderr}")
     check_kept(server, "roads")
 
 
@@ -277,10 +289,11 @@ def check_kept(server, base):
     for query, right, index in [
             ("SELECT element FROM r WHERE gtd_canon(domain) = '[(h7m30){h1m30}]'", "1", "by_canon"),
             ("SELECT element FROM r WHERE element < 9 AND gtd_holds(domain, timestamp '2024-01-01 03:00')", "2", "at_night"),
-            ("SELECT canonical FROM r WHERE element = 1", "[(h7m30){h1m30}]", None), ("SELECT element FROM night", "2", None),
+            ("SELECT canonical FROM r WHERE element = 1", "[(h7m30){h1m30}]", None),
+            ("SELECT element FROM night", "2", None),
             ("SELECT count(*) FROM days", str(2 * 2903), None), ("SELECT count(*) FROM r", "2904", None),
-            ("SELECT string_agg(element::text, ',') FROM r WHERE gtd_holds(domain, timestamp '2024-01-01 03:30') OR domain IS NULL",
-             "2,3", None)]:
+            ("SELECT string_agg(element::text, ',') FROM r "
+             "WHERE gtd_holds(domain, timestamp '2024-01-01 03:30') OR domain IS NULL", "2,3", None)]:
         found = server.psql(query, base)
         check(found == right, f"{query} in {base}: {found}")
         if index:
@@ -333,7 +346,7 @@ CREATE FUNCTION pg_temp.resident() RETURNS bigint LANGUAGE sql AS
 $$ SELECT (regexp_match(pg_read_file('/proc/self/status'), 'VmRSS:\\s+(\\d+)'))[1]::bigint $$;
 CREATE FUNCTION pg_temp.work(n integer) RETURNS void LANGUAGE plpgsql AS $$ BEGIN
     PERFORM count(gtd_words('(h1){m' || i || '}')), count(gtd_next('(h1){m' || i || '}', i, 86400 * 400)),
-        count(gtd_closed('both', i % 99, '(h1){m' || i || '}', 'positive', 1, i)) FROM generate_series(1, n) i GROUP BY i % 7;
+        gtd_closed('both', i % 99, '(h1){m' || i || '}', 'positive', 1, i) FROM generate_series(1, n) i GROUP BY i % 7;
     FOR i IN 1..n / 10 LOOP
         BEGIN PERFORM count(*), gtd_canon('(h1)') FROM gtd_spans('(h1){m' || i || '}', 0, 864000); EXCEPTION WHEN OTHERS THEN END;
     END LOOP;
@@ -353,7 +366,8 @@ def check_dump(server):
         done = subprocess.run(words, capture_output=True, text=True)
         check(done.returncode == 0, f"{words[0]}: {done.stderr}")
     check_kept(server, "again")
-    both = [server.psql("SELECT md5(string_agg(t::text, E'\\n' ORDER BY t::text)) FROM (TABLE r) t", base) for base in ("roads", "again")]
+    sums = "SELECT md5(string_agg(t::text, E'\\n' ORDER BY t::text)) FROM (TABLE r) t"
+    both = [server.psql(sums, base) for base in ("roads", "again")]
     check(both[0] == both[1], "the restored table differs")
     said = server.psql("DROP EXTENSION gtd CASCADE; SELECT count(*) FROM pg_proc WHERE proname LIKE 'gtd%'", "again")
     check(said == "0", f"{said} functions are left")

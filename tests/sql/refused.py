@@ -1,6 +1,6 @@
 #!/usr/bin/env python3
-"""Refuses each growth of memory of `sqlite3` in turn, while it runs tests/sql/memory.sql with the extension. Whatever is refused, it
-must end by itself, and print nothing but lines of the full run, in their order.
+"""Refuses each growth of memory of `sqlite3` in turn, while it runs tests/sql/memory.sql with the extension. Whatever is refused,
+it must end by itself, and print nothing but lines of the full run, in their order.
 
 Usage: tests/sql/refused.py EXTENSION REFUSE.SO
 """

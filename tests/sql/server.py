@@ -1,5 +1,5 @@
-"""A PostgreSQL of its own, with the extension gtd. It is a copy of Debian's in a folder of /tmp, so nothing is installed; as root it
-is run by the user nobody. It listens on a socket in that folder alone."""
+"""A PostgreSQL of its own, with the extension gtd. It is a copy of Debian's in a folder of /tmp, so nothing is installed; as root
+it is run by the user nobody. It listens on a socket in that folder alone."""
 import json
 import os
 import shutil
@@ -64,7 +64,8 @@ class Server:
     def run(self, program, *words):
         """Runs a program of the server, as a user who is not root."""
         as_nobody = {"user": NOBODY, "group": NOBODY, "extra_groups": []} if os.getuid() == 0 else {}
-        done = subprocess.run([os.path.join(self.bins, program), *words], cwd=self.room, capture_output=True, text=True, **as_nobody)
+        done = subprocess.run([os.path.join(self.bins, program), *words], cwd=self.room, capture_output=True, text=True,
+                              **as_nobody)
         if done.returncode:
             with open(self.log, encoding="utf-8") as file:
                 print(file.read()[-2000:])

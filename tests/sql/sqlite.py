@@ -41,7 +41,7 @@ def written(form, second):
     """A moment as it is given: timestamps are texts here."""
     if form == "seconds":
         return second
-    stamp = (EPOCH + datetime.timedelta(seconds=second)).isoformat() if second < 23036572800 else "2700-01-01T00:00:00"
+    stamp = (EPOCH + datetime.timedelta(seconds=second)).isoformat()
     return {"T": stamp, "date": stamp[:10]}.get(form, stamp.replace("T", " "))
 
 
@@ -96,8 +96,8 @@ def ask(base, case):
         if len(domain) > 100:
             right, found = right.split("\n")[0], found.split("\n")[0]
     elif isinstance(right, dict):
-        return check(isinstance(found, str) and found in (HORIZON, EVER, YEAR) or re.match("not a moment: '-?[0-9]+' ", str(found)),
-                     f"{case}: {found}")
+        is_told = found in (HORIZON, EVER, YEAR) or re.match("not a moment: '-?[0-9]+' ", str(found))
+        return check(is_told, f"{case}: {found}")
     elif case["call"] in ("next", "ever") and right is not None:
         right = written(form, right)
     return check(found == right, f"{case}: {found}")
@@ -114,8 +114,8 @@ def check_columns(base, cases):
     wrong = one(base, "SELECT count(*) FROM asked a, (SELECT DISTINCT domain FROM asked LIMIT 200) d "
                       "WHERE a.domain = d.domain AND gtd_holds(d.domain, a.moment) <> a.answer")
     check(wrong == 0, f"{wrong} answers of a join are wrong")
-    wrong = one(base, "SELECT count(*) FROM (SELECT domain, moment, answer, (SELECT count(*) FROM gtd_spans(domain, moment, moment + 1)) "
-                      "AS spans FROM asked WHERE typeof(moment) = 'integer') WHERE spans <> answer")
+    spans = "(SELECT count(*) FROM gtd_spans(domain, moment, moment + 1))"
+    wrong = one(base, f"SELECT count(*) FROM asked WHERE typeof(moment) = 'integer' AND {spans} <> answer")
     check(wrong == 0, f"{wrong} spans of one second are wrong")
 
 
@@ -142,11 +142,13 @@ def check_errors(base):
     found = one(base, "SELECT gtd_canon(?)", long)
     check(found == right, f"a long text: {found}")
     for domain, right in [("", "Incomplete at 0\n\n^"), ("(h1)\n{h1}", "BadToken at 4\n(h1)?{h1}\n    ^"),
-                          ("(h1)ä", "BadToken at 4\n(h1)??\n    ^"), (5, "BadToken at 0\n5\n^"), (b"(h1)\0", "BadToken at 4\n(h1)?\n    ^")]:
+                          ("(h1)ä", "BadToken at 4\n(h1)??\n    ^"), (5, "BadToken at 0\n5\n^"),
+                          (b"(h1)\0", "BadToken at 4\n(h1)?\n    ^")]:
         found = one(base, "SELECT gtd_canon(?)", domain)
         check(found == f"not a time domain: {right}", f"{domain!r}: {found}")
     for moment in ["", "2024-02-30T00:00:00", "2024-01-01", "2024-01-01T24:00:00", "2024-01-01T00:60:00", "2024-01-01T00:00:60",
-                   "2024-01-01T00:00:00Z", "2024-01-01T00:00", "2024-01-01t00:00:00", "1900-12-31T23:59:59", "2700-01-01T00:00:00",
+                   "2024-01-01T00:00:00Z", "2024-01-01T00:00", "2024-01-01t00:00:00", "1900-12-31T23:59:59",
+                   "2700-01-01T00:00:00",
                    "2024-13-01T00:00:00", "2024/01/01T00:00:00", "2024-01-01T00:00:0x", "-024-01-01T00:00:00", "1711929600", 1.5,
                    1711929600.0, 2**62, -2**63, "now"]:
         found = one(base, "SELECT gtd_holds('(h1){h1}', ?)", moment)
@@ -194,13 +196,15 @@ def check_spans(base):
                         ("WHERE begins > '2024-03-14'", right[3:]), ("WHERE since_moment = '2024-03-11'", right)]:
         found = answer_of(base, f"SELECT * FROM gtd_spans(?, ?, ?) {order}", [SCHOOL, *week])
         check(found == rows, f"spans {order}: {found}")
-    found = answer_of(base, "SELECT rowid, begins FROM gtd_spans WHERE until_moment = ? AND of_domain = ? AND since_moment = ?", [week[1], SCHOOL, week[0]])
+    found = answer_of(base, "SELECT rowid, begins FROM gtd_spans WHERE until_moment = ? AND of_domain = ? AND since_moment = ?",
+                      [week[1], SCHOOL, week[0]])
     check(found == [(at, span[0]) for at, span in enumerate(right, 1)], f"spans by WHERE: {found}")
     base.execute("CREATE TABLE streets(name, domain)")
     base.execute("INSERT INTO streets VALUES ('school', ?), ('none', NULL), ('market', '(t7h5){h10}')", [SCHOOL])
-    found = answer_of(base, "SELECT name, count(*), min(begins) FROM streets JOIN gtd_spans(streets.domain, ?, ?) GROUP BY name", week)
+    found = answer_of(base, "SELECT name, count(*), min(begins) FROM streets JOIN gtd_spans(domain, ?, ?) GROUP BY name", week)
     check(found == [("market", 1, "2024-03-16T05:00:00"), ("school", 5, "2024-03-11T07:30:00")], f"a join: {found}")
-    found = answer_of(base, "SELECT name, ends FROM streets LEFT JOIN gtd_spans(domain, '2024-03-16', '2024-03-17') ORDER BY name")
+    found = answer_of(base, "SELECT name, ends FROM streets LEFT JOIN gtd_spans(domain, '2024-03-16', '2024-03-17') "
+                            "ORDER BY name")
     check(found == [("market", "2024-03-16T15:00:00"), ("none", None), ("school", None)], f"an outer join: {found}")
 
 
@@ -228,8 +232,8 @@ def check_schema(base):
     check("at_night" in str(answer_of(base, f"EXPLAIN QUERY PLAN {query}")), "a partial index is not used")
     check(answer_of(base, "SELECT * FROM night") == [(2,)], "a view")
     found = answer_of(base, "SELECT element, begins FROM days ORDER BY 1, 2")
-    check(found == [(1, "2024-01-01T07:30:00"), (1, "2024-01-02T07:30:00"), (2, "2024-01-01T03:00:00"), (2, "2024-01-02T03:00:00")],
-          f"a view of spans: {found}")
+    right = [(element, f"2024-01-0{day}T{clock}:00") for element, clock in [(1, "07:30"), (2, "03:00")] for day in (1, 2)]
+    check(found == right, f"a view of spans: {found}")
     check(one(base, "PRAGMA integrity_check") == "ok", "the integrity of indexes")
 
 
@@ -239,7 +243,8 @@ def check_closed(base):
 
     def closed(rows, question=asked):
         values = " UNION ALL ".join(f"SELECT {row}" for row in rows) or "SELECT 1, 2, 3 WHERE 0"
-        return one(base, f"SELECT gtd_closed(a, b, c, {question}) FROM (SELECT * FROM (SELECT 0 a, 0 b, 0 c WHERE 0) UNION ALL {values})")
+        table = f"SELECT * FROM (SELECT 0 a, 0 b, 0 c WHERE 0) UNION ALL {values}"
+        return one(base, f"SELECT gtd_closed(a, b, c, {question}) FROM ({table})")
 
     cases = [([], 0), (["'both', 0, ''"], 1), (["'both', 0, NULL"], 1), (["'negative', 0, NULL"], 0), (["'both', 12, ''"], 0),
              (["'both', '12;11', ''"], 1), (["'both', '!11', ''"], 0), (["'both', '!12', '(h12){h1}'"], 1),
@@ -265,9 +270,10 @@ def check_closed(base):
                             (f"'positive', 267, '{noon}'", vehicle), (f"'positive', -1, '{noon}'", vehicle),
                             (f"'positive', 'x', '{noon}'", vehicle), (f"'positive', 1.5, '{noon}'", vehicle),
                             ("'positive', 11, '2024'", f"not a moment: '2024' ({MOMENTS})")]:
-        check(closed(["'both', 0, ''"], question) == right, f"closed {question}: {closed([chr(39) + 'both' + chr(39) + ', 0, ' + chr(39) * 2], question)}")
-    found = answer_of(base, f"WITH r(e, d, v, t) AS (VALUES (1, 'both', 0, '(h12){{h1}}'), (2, 'both', 0, '(h1){{h1}}'), (1, 'both', 0, '(h2){{h1}}')) "
-                            f"SELECT e, gtd_closed(d, v, t, {asked}) FROM r GROUP BY e")
+        found = closed(["'both', 0, ''"], question)
+        check(found == right, f"closed {question}: {found}")
+    found = answer_of(base, "WITH r(e, t) AS (VALUES (1, '(h12){h1}'), (2, '(h1){h1}'), (1, '(h2){h1}')) "
+                            f"SELECT e, gtd_closed('both', 0, t, {asked}) FROM r GROUP BY e")
     check(found == [(1, 1), (2, 0)], f"closed by groups: {found}")
 
 
