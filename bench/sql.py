@@ -1,7 +1,7 @@
 #!/usr/bin/python3
-"""Questions in SQL, in one run: Markdown tables, and status 1 if a goal is missed. A million rows of one domain may take four times
-as long as a bare scan of the same table, and a column of 100,000 different texts 0.3 s in SQLite. Each time is the least of several
-runs. Run it after bindings/build.sh; it needs what tests/setup.sh installs.
+"""Questions in SQL, in one run: Markdown tables, and status 1 if a goal is missed. A million rows of one domain may take four
+times as long as a bare scan of the same table, and a column of 100,000 different texts 0.3 s in SQLite. Each time is the least of
+several runs. Run it after bindings/build.sh; it needs what tests/setup.sh installs.
 
 Usage: bench/sql.py
 """
@@ -40,7 +40,8 @@ def sqlite():
     base.load_extension(os.path.join(TOP, "bindings", "out", "mod_gtd"))
     base.execute("CREATE TABLE m(domain TEXT, second INTEGER, stamp TEXT)")
     base.execute("WITH RECURSIVE n(i) AS (SELECT 0 UNION ALL SELECT i + 1 FROM n WHERE i < ?) INSERT INTO m "
-                 "SELECT ?, ? + i * 37, strftime('%Y-%m-%dT%H:%M:%S', ? + i * 37, 'unixepoch') FROM n", (ROWS - 1, DOMAIN, FIRST, FIRST))
+                 "SELECT ?, ? + i * 37, strftime('%Y-%m-%dT%H:%M:%S', ? + i * 37, 'unixepoch') FROM n",
+                 (ROWS - 1, DOMAIN, FIRST, FIRST))
     base.execute("CREATE TABLE texts(domain TEXT)")
     base.executemany("INSERT INTO texts VALUES (?)", ((text,) for text in different()))
 
@@ -73,8 +74,8 @@ INSERT INTO texts VALUES {', '.join(f"('{text}')" for text in different())};
 VACUUM ANALYZE m; VACUUM ANALYZE texts;""", "postgres", "postgres")
 
         def seconds(query):
-            script = "SET max_parallel_workers_per_gather = 0; SET jit = off;\n" + f"EXPLAIN (ANALYZE, TIMING OFF) {query};\n" * RUNS
-            said = server.psql(script, "postgres", "postgres")
+            explained = f"EXPLAIN (ANALYZE, TIMING OFF) {query};\n" * RUNS
+            said = server.psql(f"SET max_parallel_workers_per_gather = 0; SET jit = off; {explained}", "postgres", "postgres")
             return min(float(took) for took in re.findall(r"Execution Time: ([0-9.]+) ms", said)) / 1000
 
         return {
@@ -93,7 +94,8 @@ def main():
     print("| A million rows | SQLite | to a bare scan | PostgreSQL | to a bare scan | Goal |")
     print("|---|---|---|---|---|---|")
     for name, said in [("scan", "a bare scan, `second % 2`"), ("constant", "`gtd_holds`, one domain, numbers"),
-                       ("column", "`gtd_holds`, a column of one domain, numbers"), ("stamps", "`gtd_holds`, one domain, texts or timestamps")]:
+                       ("column", "`gtd_holds`, a column of one domain, numbers"),
+                       ("stamps", "`gtd_holds`, one domain, texts or timestamps")]:
         cells = []
         for base, took in found.items():
             ratio = took[name] / took["scan"]
@@ -104,7 +106,8 @@ def main():
     print(f"\n| A column of {TEXTS:,} different texts | SQLite | Goal | PostgreSQL |")
     print("|---|---|---|---|")
     for name, said in [("texts", "`gtd_holds` of one moment"), ("canon", "`gtd_canon`")]:
-        print(f"| {said} | {found['SQLite'][name]:.2f} s | {f'{SECONDS} s' if name == 'texts' else ''} | {found['PostgreSQL'][name]:.2f} s |")
+        goal = f"{SECONDS} s" if name == "texts" else ""
+        print(f"| {said} | {found['SQLite'][name]:.2f} s | {goal} | {found['PostgreSQL'][name]:.2f} s |")
     if found["SQLite"]["texts"] > SECONDS:
         missed.append(f"SQLite, texts: {found['SQLite']['texts']:.2f} s")
     if missed:
