@@ -101,8 +101,8 @@ put_sqlite() {
 # Without debugging symbols, which name the folder that it was built in.
 put_postgres() {
     mkdir "$work/postgres"
-    make -s -C "$work/postgres" -f "$top/bindings/postgres/Makefile" PG_CONFIG=/usr/lib/postgresql/15/bin/pg_config COPT=-g0 \
-        install DESTDIR="$root"
+    make -s -C "$work/postgres" -f "$top/bindings/postgres/Makefile" PG_CONFIG="$server" COPT=-g0 install \
+        DESTDIR="$root"
     strip --strip-unneeded "$root"/usr/lib/postgresql/15/lib/gtd.so
     put 644 "usr/share/doc/$package" "$top/docs/LIBRARY.md"
     put_notes
@@ -193,6 +193,12 @@ Description: evaluate timed road restrictions in process (development files)
  These are its headers for C and C++, and the static library.
 END
 build
+
+server=/usr/lib/postgresql/15/bin/pg_config
+if [ ! -e /usr/include/sqlite3ext.h ] || [ ! -e "$("$server" --includedir-server 2> /dev/null)/postgres.h" ]; then
+    echo 'no packages of the extensions: libsqlite3-dev or postgresql-server-dev-15 is not installed' >&2
+    exit
+fi
 
 begin libsqlite3-mod-gtd
 put_sqlite
