@@ -54,7 +54,7 @@ static inline int digits(const char *text, int count)
 /* Reads a moment; with is_bound also a date, which is its midnight, and the end of the last day. */
 static inline bool read_moment(const char *text, size_t length, bool is_bound, moment *out)
 {
-    char given[STAMP] = "YYYY-MM-DDT00:00:00";
+    char given[STAMP + 1] = "YYYY-MM-DDT00:00:00";
     if (length != STAMP && !(is_bound && length == 10)) return false;
     memcpy(given, text, length);
     if (given[10] != 'T' && given[10] != ' ') return false;
