@@ -112,7 +112,8 @@ static inline char shown(uint8_t byte)
 /* A text, or what is around the place in a long one, and a caret below the place. */
 static inline void show_place(const uint8_t *text, size_t length, size_t place, char out[SHOWN_ROOM])
 {
-    size_t from = place > SHOWN / 2 ? place - SHOWN / 2 : 0, until = length - from > SHOWN ? from + SHOWN : length;
+    size_t from = length > SHOWN && place > SHOWN / 2 ? place - SHOWN / 2 : 0;
+    size_t until = length - from > SHOWN ? from + SHOWN : length;
     const char *front = from ? "..." : "";
     char *end = out + sprintf(out, "%s", front);
     for (size_t at = from; at < until; at++) *end++ = shown(text[at]);
