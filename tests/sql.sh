@@ -73,9 +73,11 @@ succeeds 'the extension, sanitized' "${make[@]}" out="$room/watched" library="$o
     CFLAGS='-g -fsanitize=address -fsanitize=undefined -fno-sanitize-recover=all' "$room/watched/mod_gtd.so"
 counted 'sqlite, sanitized' env LD_PRELOAD="$(gcc -print-file-name=libasan.so) $(gcc -print-file-name=libubsan.so)" \
     ASAN_OPTIONS=detect_leaks=0 "$tests/sqlite.py" "$room/watched/mod_gtd.so" "$room/few"
-sqlite3 -cmd ".load $extension" < "$tests/memory.sql" > "$room/right" 2> /dev/null
+asked=(sqlite3 -readonly -cmd ".load $extension" "$room/rows.db")
+sqlite3 -cmd ".load $extension" "$room/rows.db" < "$tests/rows.sql"
+"${asked[@]}" < "$tests/memory.sql" > "$room/right" 2> /dev/null
 valgrind -q --error-exitcode=9 --leak-check=full --errors-for-leak-kinds=definite,indirect,possible \
-    sqlite3 -cmd ".load $extension" < "$tests/memory.sql" > "$room/found" 2> "$room/said"
+    "${asked[@]}" < "$tests/memory.sql" > "$room/found" 2> "$room/said"
 status=$?
 if [ "$status" != 9 ] && cmp -s "$room/right" "$room/found" && ! grep -q '^==' "$room/said"; then
     passed=$((passed + 1))
@@ -83,7 +85,7 @@ else
     fail "memory.sql in valgrind: status $status"
 fi
 "${CC:-gcc}" -O2 -shared -fPIC -o "$room/refuse.so" "$top/tests/refuse_growth.c" || exit 1
-counted 'refused memory' "$tests/refused.py" "$extension" "$room/refuse.so"
+counted 'refused memory' "$tests/refused.py" "$extension" "$room/refuse.so" "$room/rows.db"
 
 echo "sql: $passed passed, $failed failed"
 [ "$failed" = 0 ]

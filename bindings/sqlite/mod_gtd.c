@@ -531,6 +531,7 @@ static sqlite3_module spans_module = {
     .xRowid = spans_row,
 };
 
+enum { FLAGS = SQLITE_UTF8 | SQLITE_DETERMINISTIC | SQLITE_INNOCUOUS };
 static const struct {
     const char *name;
     int arguments;
@@ -555,16 +556,21 @@ __attribute__((visibility("default"))) int sqlite3_modgtd_init(sqlite3 *db, char
     shelf *on = sqlite3_malloc64(sizeof *on);
     if (!on) return SQLITE_NOMEM;
     *on = (shelf){ .holders = 1 };
-    int status = SQLITE_OK, flags = SQLITE_UTF8 | SQLITE_DETERMINISTIC | SQLITE_INNOCUOUS;
-    for (size_t at = 0; at < sizeof functions / sizeof *functions && status == SQLITE_OK; at++) {
+    int status = SQLITE_OK;
+    size_t count = sizeof functions / sizeof *functions, made = 0;
+    while (made < count && status == SQLITE_OK) {
         on->holders++; /* SQLite releases it, even where it refuses the function */
-        status = sqlite3_create_function_v2(db, functions[at].name, functions[at].arguments, flags, on, functions[at].call,
-                                            functions[at].step, functions[at].end, release_shelf);
+        status = sqlite3_create_function_v2(db, functions[made].name, functions[made].arguments, FLAGS, on, functions[made].call,
+                                            functions[made].step, functions[made].end, release_shelf);
+        made += status == SQLITE_OK;
     }
     if (status == SQLITE_OK) {
         on->holders++;
         status = sqlite3_create_module_v2(db, "gtd_spans", &spans_module, on, release_shelf);
     }
+    /* An extension that fails is unloaded, so no function of it may stay. */
+    while (status != SQLITE_OK && made--)
+        sqlite3_create_function_v2(db, functions[made].name, functions[made].arguments, FLAGS, NULL, NULL, NULL, NULL, NULL);
     release_shelf(on);
     return status;
 }

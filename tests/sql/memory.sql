@@ -1,8 +1,5 @@
--- Each function of the extension of SQLite, with what it answers and what it refuses, for runs in which memory is watched or
--- refused. Errors are on standard error.
-CREATE TABLE r(element, direction, vehicles, domain);
-INSERT INTO r VALUES (1, 'both', 0, '(h10){h4}'), (1, 'positive', '11;12', NULL),
-    (2, 'negative', '!11', '[(t7h5){h10}]*[(M3){M2}]'), (3, 'both', 0, '(h25){h1}'), (4, NULL, NULL, NULL);
+-- Each function of the extension of SQLite, with what it answers and what it refuses, over the table of tests/sql/rows.sql, for runs
+-- in which memory is watched or refused. Errors are on standard error.
 SELECT element, gtd_check(domain) FROM r;
 SELECT element, gtd_canon(domain), gtd_words(domain) FROM r WHERE gtd_check(domain) IS NULL;
 SELECT element, gtd_holds(domain, '2024-03-16T10:00:00'), gtd_holds(domain, 0) FROM r WHERE gtd_check(domain) IS NULL;
@@ -29,5 +26,4 @@ SELECT gtd_closed('both', 0, '(h1', 'positive', 11, 0);
 SELECT gtd_closed('both', 0, '', 'both', 11, 0);
 SELECT gtd_closed('both', 0, '', 'positive', 0, 0);
 SELECT gtd_closed('both', 0, '', 'positive', 11, 'x');
-CREATE INDEX i ON r(gtd_canon(domain)) WHERE element < 3;
 SELECT element FROM r INDEXED BY i WHERE element < 3 AND gtd_canon(domain) = '[(h10){h4}]';
