@@ -1,6 +1,7 @@
 #!/usr/bin/env bash
-# Makes three packages in the folder given (by default the current one): gtd, of the proved programs; libgtd0, the library; and
-# libgtd-dev, what programs that use it are built with. Run it after `rt ci`, or `rt run` in crates/gtd and in crates/gtdesk,
+# Makes five packages in the folder given (by default the current one): gtd, of the proved programs; libgtd0, the library;
+# libgtd-dev, what programs that use it are built with; libsqlite3-mod-gtd and postgresql-15-gtd, the extensions of databases, which
+# need libsqlite3-dev and postgresql-server-dev-15 to be built. Run it after `rt ci`, or `rt run` in crates/gtd and in crates/gtdesk,
 # which proves and builds the programs; bindings/build.sh makes the library if it is missing. Version and date are those of the
 # newest release in CHANGELOG.md, and the same programs and files give the same bytes. packaging/pages.py makes the man pages of
 # the programs and their completions. Packagers set the maintainer in the environment variable GTD_MAINTAINER.
@@ -93,6 +94,26 @@ put_headers() {
     put_notes
 }
 
+put_sqlite() {
+    mkdir "$work/sqlite"
+    make -s -C "$top/bindings/sqlite" out="$work/sqlite" library="$out/libgtd.a" CFLAGS=-O2 "$work/sqlite/mod_gtd.so"
+    put 644 "$libraries" "$work/sqlite/mod_gtd.so"
+    strip --strip-unneeded "$root/$libraries/mod_gtd.so"
+    put 644 "usr/share/doc/$package" "$top/docs/LIBRARY.md"
+    put 644 "usr/share/doc/$package/examples" "$top"/bindings/sqlite/example/*
+    put_notes
+}
+
+# Without debugging symbols, which name the folder that it was built in.
+put_postgres() {
+    mkdir "$work/postgres"
+    make -s -C "$work/postgres" -f "$top/bindings/postgres/Makefile" PG_CONFIG="$server" COPT=-g0 install \
+        DESTDIR="$root"
+    strip --strip-unneeded "$root"/usr/lib/postgresql/15/lib/gtd.so
+    put 644 "usr/share/doc/$package" "$top/docs/LIBRARY.md"
+    put_notes
+}
+
 put_licence() {
     echo 'gtd is licensed under the MIT license or the Apache License, Version 2.0, at your choice (MIT OR Apache-2.0).'
     printf '\n%s\n\n' '== LICENSE-MIT'
@@ -176,5 +197,34 @@ Description: evaluate timed road restrictions in process (development files)
  domains hold.
  .
  These are its headers for C and C++, and the static library.
+END
+build
+
+server=/usr/lib/postgresql/15/bin/pg_config
+if [ ! -e /usr/include/sqlite3ext.h ] || [ ! -e "$("$server" --includedir-server 2> /dev/null)/postgres.h" ]; then
+    echo 'no packages of the extensions: libsqlite3-dev or postgresql-server-dev-15 is not installed' >&2
+    exit
+fi
+
+begin libsqlite3-mod-gtd
+put_sqlite
+put_control database "$(libc "$root/$libraries/mod_gtd.so"), libsqlite3-0 (>= 3.31)" 'Enhances: sqlite3, gdal-bin' << END
+Description: timed road restrictions in SQL of SQLite
+ With this extension SQLite answers when time domains of GDF (ISO 14825:2004)
+ hold and change, and whether rows of timed road restrictions close a road.
+ .
+ It is loaded by ".load mod_gtd", and by GDAL for views of a GeoPackage.
+END
+build
+
+begin postgresql-15-gtd
+put_postgres
+put_control database "$(libc "$root/usr/lib/postgresql/15/lib/gtd.so"), postgresql-15" << END
+Description: timed road restrictions in SQL of PostgreSQL
+ With this extension PostgreSQL answers when time domains of GDF (ISO
+ 14825:2004) hold and change, and whether rows of timed road restrictions close
+ a road. It has a type of texts that must be time domains.
+ .
+ It is made part of a database by "CREATE EXTENSION gtd".
 END
 build

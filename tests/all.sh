@@ -15,7 +15,8 @@ esac
 export RT_JOBS=${RT_JOBS:-$(tests/jobs.sh)}
 
 # Programs and modules of Python that the parts need; each is in a package of tests/setup.sh.
-needed=(gcc g++ ld cargo valgrind pkg-config python3 mandoc zsh openssl mount chromium rsvg-convert xmllint pngtopnm)
+needed=(gcc g++ ld cargo valgrind pkg-config python3 mandoc zsh openssl mount chromium rsvg-convert xmllint pngtopnm
+    make sqlite3 ogr2ogr pg_config)
 [ "$(id -u)" = 0 ] || needed+=(fakeroot)
 modules='build, dask.dataframe, distributed, fiona, geopandas, mypy, pandas, pytest, setuptools, venv, wheel'
 
@@ -26,6 +27,9 @@ missing() {
         command -v "$it" > /dev/null || echo "$it"
     done
     /usr/bin/python3 -c "import $modules" 2> /dev/null || echo "modules of Python: $modules"
+    [ -e /usr/include/sqlite3ext.h ] || echo 'headers of SQLite'
+    [ -e "$(pg_config --includedir-server 2> /dev/null)/postgres.h" ] || echo 'headers of the server PostgreSQL'
+    [ -x "$(pg_config --bindir 2> /dev/null)/initdb" ] || echo 'the server PostgreSQL'
 }
 
 if [ -n "$(missing)" ]; then
@@ -74,6 +78,7 @@ part tests/hours.py 10 1
 part tests/hours_program.py 10 1
 part tests/pictures.py
 part tests/library.sh
+part tests/sql.sh
 part tests/packaging.sh
 part tests/python.sh
 printf '%s\n' "${lines[@]}"

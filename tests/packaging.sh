@@ -244,13 +244,23 @@ use_library() {
     done
 }
 
+# The extensions, as they are installed; tests/sql.sh starts a server with one.
+use_extensions() {
+    gives 'the extension of SQLite' '[(h7m30){h1m30}]' sqlite3 :memory: ".load $root/usr/lib/x86_64-linux-gnu/mod_gtd" \
+        "SELECT gtd_canon('[(m30h07){m30h1}]')"
+    gives 'the extension of PostgreSQL' "default_version = '0.1'" grep version "$root/usr/share/postgresql/15/extension/gtd.control"
+    succeeds 'its functions' cmp "$root/usr/share/postgresql/15/extension/gtd--0.1.sql" "$top/bindings/postgres/gtd--0.1.sql"
+    gives 'its module needs the C library alone' '' \
+        bash -c "objdump -p '$root/usr/lib/postgresql/15/lib/gtd.so' | grep NEEDED | grep -v 'libc\.so\.6'"
+}
+
 remove_it() {
     # shellcheck disable=SC2086 # names without spaces
     succeeds 'the packages are removed' dpkg_in --purge $packages
     gives 'nothing is left' '' files_in_root
 }
 
-packages='gtd libgtd0 libgtd-dev'
+packages='gtd libsqlite3-mod-gtd postgresql-15-gtd libgtd0 libgtd-dev'
 # The commands of packaging/commands.txt, in its order.
 commands=$("$top/packaging/pages.py" --commands gtd)
 desk_commands=$("$top/packaging/pages.py" --commands gtdesk)
@@ -261,7 +271,10 @@ know_commands
 lint_pages
 complete_words
 run_it
-[ "$packages" = gtd ] || use_library
+if [ "$packages" != gtd ]; then
+    use_library
+    use_extensions
+fi
 remove_it
 
 echo "packaging: $passed passed, $failed failed"
