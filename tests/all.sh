@@ -73,6 +73,7 @@ part tests/hours.py 10 1
 part tests/hours_program.py 10 1
 part tests/pictures.py
 part tests/library.sh
+part tests/page.py
 part tests/packaging.sh
 part tests/python.sh
 printf '%s\n' "${lines[@]}"

@@ -13,7 +13,8 @@
 #                    tests/python.sh tests the package, its types, and its wheel in a fresh environment
 #   openssl, mount   tests/python.sh makes certificates, and a small disk
 #   chromium, librsvg2-bin, libxml2-utils, netpbm, fonts-dejavu-core
-#                    tests/pictures.py draws pictures, reads them as XML, and reads the drawn pixels
+#                    tests/pictures.py draws pictures, reads them as XML, and reads the drawn pixels; tests/page.py opens the
+#                    page in the same browser
 # Run it as root, or as a user who may call sudo. tests/all.sh calls it where something is missing.
 set -eu
 packages=(gcc libc6-dev g++ binutils cargo valgrind pkgconf python3 mandoc zsh fakeroot

@@ -35,8 +35,7 @@ if [ -z "$linker" ]; then
         missing "there is no wasm-ld: install Debian's package lld, or name one in WASM_LD"
 fi
 target=(--target=wasm64-unknown-unknown -mbulk-memory)
-mkdir -p "$out/examples" "$here/out/made"
-made=$here/out/made
+mkdir -p "$out/examples"
 
 # module CRATE: the LLVM module of the proved crate is there, and no older than the code that it comes from.
 module() {
@@ -49,18 +48,18 @@ module() {
 
 # compiled CRATE LEVEL: the crate's object for wasm64, from its LLVM module as text, for another processor.
 compiled() {
-    local kept=$top/crates/$1/out/$1.bc
-    local sum; sum=$({ cat "$kept" "$here/build.sh"; "$clang" --version; } | sha256sum)
-    [ -e "$made/$1.o" ] && [ "$(cat "$made/$1.sum" 2> /dev/null)" = "$sum" ] && return
-    rm -f "$made/$1.sum"
+    local kept=$top/crates/$1/out/$1.bc sum made=$top/crates/$1/out/$1.wasm64
+    sum=$({ cat "$kept" "$here/build.sh"; "$clang" --version; } | sha256sum)
+    [ -e "$made.o" ] && [ "$(cat "$made.sum" 2> /dev/null)" = "$sum" ] && return
+    rm -f "$made.sum"
     "$clang" --target=x86_64-unknown-linux-gnu -x ir "$kept" -S -emit-llvm -O0 -Xclang -disable-llvm-passes -o "$work/$1.x86.ll"
     # Where data lies is left to the target; a program's `main` is called by web/host/system.c under another name.
     sed -e '/^target datalayout/d; s/^target triple.*/target triple = "wasm64-unknown-unknown"/' \
         -e '/^attributes/s/"\(probe-stack\|stack-probe-size\|target-cpu\|target-features\|tune-cpu\)"="[^"]*"//g' \
         -e 's/@main(/@gtdesk_main(/' "$work/$1.x86.ll" > "$work/$1.ll"
     "$clang" "${target[@]}" "$2" -x ir -c "$work/$1.ll" -o "$work/$1.o"
-    mv "$work/$1.o" "$made/$1.o"
-    echo "$sum" > "$made/$1.sum"
+    mv "$work/$1.o" "$made.o"
+    echo "$sum" > "$made.sum"
 }
 
 # linked MODULE WORDS..: a module of objects and the names that it exports. A name that nothing defines is told.
@@ -82,10 +81,10 @@ exports=()
 for name in $(sed -n 's/^\(uint32_t\|void\) \(gtd_[a-z_]*\)(.*/\2/p' "$top/bindings/c/gtd.h") gtd_malloc gtd_free; do
     exports+=("--export=$name")
 done
-linked gtd.wasm "${exports[@]}" "$made/gtd_c.o" "$work/memory.o"
-linked gtdesk.wasm --export=gtdesk "$made/gtdesk.o" "$work/memory.o" "$work/system.o"
+linked gtd.wasm "${exports[@]}" "$top/crates/gtd_c/out/gtd_c.wasm64.o" "$work/memory.o"
+linked gtdesk.wasm --export=gtdesk "$top/crates/gtdesk/out/gtdesk.wasm64.o" "$work/memory.o" "$work/system.o"
 
-# The other files. Objects stay behind in a folder that need not be published.
+# The other files.
 cp "$here"/*.html "$here"/*.css "$here"/*.js "$out/"
 cp "$top"/examples/{town,pass,works}.csv "$here/faults.csv" "$out/examples/"
 echo "web/build.sh: $out is ready: $(du -bc "$out"/*.* "$out"/examples/* | tail -n 1 | cut -f 1) bytes"

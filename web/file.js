@@ -12,7 +12,8 @@ const MOST_BYTES = 16777216;
 const LINES = 50;
 
 let library, program, years;
-let records = null, file = { name: "", bytes: new Uint8Array() }, sides = [], shown = [], first = 0, chosen = null, asked = null;
+let records = null, file = { name: "", bytes: new Uint8Array() }, looker = null;
+let sides = [], shown = [], first = 0, chosen = null, asked = null;
 
 const direction = (side) => (side.negative ? "negative" : "positive");
 const number = (count) => count.toLocaleString("en");
@@ -75,35 +76,53 @@ function turnPage(by) {
 // A word of a command line for the file: a lone `-` would be standard input, which is the file too.
 const fileWord = () => file.name || "file";
 
-async function showFaults(warn) {
-  const { output } = await program.run(["faults", ...(warn ? ["--warn"] : []), "--", fileWord()], file.bytes);
-  return output;
-}
-
 async function refused(fault) {
-  const listed = await showFaults(false);
-  const count = listed.split("\n").filter((line) => line && !line.startsWith(" ")).length;
+  const { output } = await program.run(["faults", "--", fileWord()], file.bytes);
+  const count = output.split("\n").filter((line) => line && !line.startsWith(" ")).length;
   at("faults").replaceChildren(
     make("p", {}, make("strong", {}, `${file.name} is refused`), `: it has ${plural(count, "fault")}. `
       + `The first: ${MEANINGS.file[fault.name] ?? fault.name}`),
-    make("pre", { className: "list", tabIndex: 0 }, listed));
+    make("pre", { className: "list", tabIndex: 0 }, output));
   at("read").textContent = "";
 }
 
-async function accepted() {
+function accepted() {
   const elements = records.elements();
   sides = elements.flatMap((element) => [{ element, negative: false }, { element, negative: true }]);
   at("records").hidden = false;
   choose();
-  const warned = await showFaults(true);
-  if (warned) at("faults").replaceChildren(make("p", {}, make("strong", {}, "Accepted, but these rows look like mistakes:")),
-    make("pre", { className: "list", tabIndex: 0 }, warned));
+}
+
+function showWarnings({ output, failure }) {
+  stopLooking();
+  if (failure) at("looked").textContent = `This could not be done: ${failure}`;
+  else if (!output) at("looked").textContent = "Each row holds at some moments, and at others not.";
+  else at("looked").replaceChildren("These rows look like mistakes:", make("pre", { className: "list", tabIndex: 0 }, output));
+}
+
+// The worker that looks for warnings ends with its answer, or when another file is read.
+function stopLooking() {
+  looker?.terminate();
+  looker = null;
+  at("look").disabled = false;
+  at("looked").replaceChildren();
+}
+
+function look() {
+  stopLooking();
+  at("look").disabled = true;
+  at("looked").textContent = "Looking. A large file takes some minutes …";
+  looker = new Worker("warnings.js", { type: "module" });
+  looker.onmessage = ({ data }) => showWarnings(data);
+  looker.onerror = (event) => showWarnings({ failure: event.message ?? "the worker stopped" });
+  looker.postMessage({ name: fileWord(), bytes: file.bytes });
 }
 
 /** Reads a file: its name and its bytes. */
 async function read(name, bytes) {
   records?.close();
   records = null;
+  stopLooking();
   file = { name, bytes };
   at("records").hidden = true;
   at("faults").replaceChildren();
@@ -213,13 +232,15 @@ export function fileRoom(givenLibrary, givenProgram) {
   at("file-moment").value = clock();
   const year = Number(clock().slice(0, 4));
   [at("from").value, at("until").value] = [`${year}-01-01`, `${year + 1}-01-01`];
-  years = yearControl(at("element-of-year"), at("element-earlier"), at("element-later"), guarded("element-said", showElementYear));
+  const moved = guarded("element-said", showElementYear);
+  years = yearControl(at("element-of-year"), at("element-earlier"), at("element-later"), moved);
   listenToFiles();
   const ask = guarded("counted", choose);
   for (const id of ["file-moment", "vehicle", "element", "closed"]) at(id).addEventListener("input", ask);
   at("page-before").addEventListener("click", () => turnPage(-LINES));
   at("page-after").addEventListener("click", () => turnPage(LINES));
   at("save").addEventListener("click", guarded("saved", saveSchedule));
+  at("look").addEventListener("click", guarded("looked", look));
   at("element-save").addEventListener("click", guarded("element-said", saveElement));
   at("element-close").addEventListener("click", () => at("element-year").close());
 }
