@@ -69,7 +69,8 @@ def words(kit, known, toolchain):
     own = [it for it in known[CRATE] if it in known]
     of_kit = ["std", *(it for it in known[CRATE] if it not in known)]
     yield from ("build", "--crate-name", CRATE)
-    yield from ("src/main.rt",) if IS_PROGRAM else ("src/lib.rt", "--crate-type", "staticlib")
+    # A program for any other processor would begin by asking what its processor can do.
+    yield from ("src/main.rt", "--cpu", "x86-64") if IS_PROGRAM else ("src/lib.rt", "--crate-type", "staticlib")
     for it in of_kit:
         yield from ("--extern", f"{it}={kit}/rlibs/{it}.rlib")
     for it in own:

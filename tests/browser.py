@@ -28,7 +28,7 @@ def served(folder):
             pass
 
     server = http.server.ThreadingHTTPServer(("127.0.0.1", 0), functools.partial(Quiet, directory=folder))
-    threading.Thread(target=server.serve_forever, daemon=True).start()
+    threading.Thread(target=server.serve_forever, args=(0.05,), daemon=True).start()
     try:
         yield f"http://127.0.0.1:{server.server_port}/"
     finally:
@@ -117,6 +117,8 @@ class Browser:
             time.sleep(0.02)
 
     def go(self, address, condition="true"):
+        """Loads a page, also if only its last part differs from where the browser is."""
+        self.send("Page.navigate", url="about:blank")
         self.send("Page.navigate", url=address)
         self.wait(f"document.readyState === 'complete' && ({condition})")
 

@@ -19,8 +19,8 @@ const EXAMPLES = [
 
 let library, program, domain = null, years, turn = 0;
 
-/** Whether the text is read as a time domain: opening hours have none of its brackets, and do not begin with a parenthesis. */
-const isDomain = (text) => /[[\]{}]/.test(text) || /^\s*\(/.test(text);
+/** Whether the text is read as a time domain: opening hours have no braces, and begin with no bracket. */
+const isDomain = (text) => /[{}]/.test(text) || /^\s*[[(]/.test(text);
 
 // The first fault in what the program says of a text of hours.
 function hoursFault(errors) {

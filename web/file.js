@@ -160,12 +160,10 @@ function openElement(side, button) {
   chosen = side;
   at("element-title").textContent = `Element ${side.element}, ${direction(side)}, vehicle type ${asked.vehicle}`;
   at("element-said").textContent = "";
+  // What has the focus now has it again when the dialog ends.
+  button.focus();
   at("element-year").showModal();
   at("element-title").focus();
-  at("element-year").onclose = () => {
-    chosen = null;
-    button.focus();
-  };
   years.set(Number(at("file-moment").value.slice(0, 4)));
 }
 
@@ -211,6 +209,8 @@ const guarded = (place, work) => async (...given) => {
 function listenToFiles() {
   const drop = at("drop"), take = guarded("read", readFile);
   at("chosen").addEventListener("change", () => at("chosen").files[0] && take(at("chosen").files[0]));
+  // The same file may be chosen again, after it was mended.
+  at("chosen").addEventListener("click", () => (at("chosen").value = ""));
   for (const kind of ["dragenter", "dragover"])
     drop.addEventListener(kind, (event) => {
       event.preventDefault();
