@@ -11,9 +11,10 @@ DARK = {"page": "16181c", "in": "56b4e9", "out": "3a3d44", "room": "6cc1ee"}
 LEAST = {"page": 0.3, "in": 0.01, "out": 0.01, "room": 0.0005}  # of all pixels
 STEP = 7  # between the pixels that are looked at
 
-# The words that are shown, and what stands in fields. The time that reading took is left out, as it differs.
+# The words that are shown, and what stands in fields. The time that reading took and the version are left out, as they differ.
 WORDS = r"""[...(document.querySelector("dialog[open]") ?? document.body).querySelectorAll("*")]
-    .filter((it) => it.checkVisibility({ checkVisibilityCSS: true }) && !it.matches(".skip, [type=file]"))
+    .filter((it) => it.checkVisibility({ checkVisibilityCSS: true }))
+    .filter((it) => !it.matches(".skip, [type=file], [type=checkbox], #version"))
     .map((it) => it.matches("input, textarea") ? it.value : [...it.childNodes].filter((node) => node.nodeType === Node.TEXT_NODE)
       .map((node) => node.data.replace(/\s+/g, " ").trim()).filter(Boolean).join(" "))
     .filter(Boolean).join("\n").replace(/read in \d+ ms/, "read in some ms") + "\n" """

@@ -2,7 +2,8 @@
 // width. It is run in the page by tests/page.py.
 (() => {
   const wrong = [];
-  const tell = (what, element) => wrong.push(`${what}: ${element?.id || element?.textContent?.trim().slice(0, 40) || element?.tagName}`);
+  const named = (element) => element?.id || element?.textContent?.trim().slice(0, 40) || element?.tagName;
+  const tell = (what, element) => wrong.push(`${what}: ${named(element)}`);
   const shown = (element) => element.checkVisibility({ checkVisibilityCSS: true, checkOpacity: true });
   const scope = document.querySelector("dialog[open]") ?? document.body;
   const all = [...scope.querySelectorAll("*")].filter(shown);
@@ -69,7 +70,8 @@
   if (!document.querySelector("main")) tell("no main part");
   // A telephone shows a page that is too wide in a smaller scale, so its own width is not asked.
   const room = document.documentElement.clientWidth, width = document.scrollingElement.scrollWidth;
-  const wide = all.filter((it) => it.getBoundingClientRect().right > room + 0.5 && !it.closest(".picture, .list, thead"));
+  const wide = all.filter((it) =>
+    it.getBoundingClientRect().right > room + 0.5 && !it.closest(".picture, .list, .examples, thead"));
   if (width > room || wide.length) tell(`${width} wide in ${room}`, wide.at(-1));
   return { wrong, texts, least, controls: controls.length };
 })();
