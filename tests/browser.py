@@ -138,7 +138,8 @@ class Browser:
             self.send("Input.dispatchKeyEvent", type="char", text=character)
 
     def picture(self, clip=None):
-        """What is seen, or one rectangle of the page, as PNG."""
+        """What is seen, or one rectangle of the page, as PNG, once all is drawn that was changed."""
+        self.run("new Promise((done) => requestAnimationFrame(() => requestAnimationFrame(() => setTimeout(done, 50))))")
         given = {"format": "png", "captureBeyondViewport": clip is not None}
         if clip:
             given["clip"] = {**clip, "scale": 1}

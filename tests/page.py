@@ -142,14 +142,14 @@ def check_domain(browser, text, domain):
     return picture
 
 
-def pixels_of(browser, address, room, text):
-    """How the browser draws the text of a picture by itself."""
-    with open(os.path.join(room, "alone.svg"), "w", encoding="utf-8") as file:
+def pixels_of(browser, address, room, number, text):
+    """How the browser draws the text of a picture by itself. Each has a name of its own, since a browser keeps files."""
+    with open(os.path.join(room, f"alone{number}.svg"), "w", encoding="utf-8") as file:
         file.write(text)
-    with open(os.path.join(room, "alone.html"), "w", encoding="utf-8") as file:
+    with open(os.path.join(room, f"alone{number}.html"), "w", encoding="utf-8") as file:
         file.write('<!doctype html><link rel="icon" href="data:,"><meta name="color-scheme" content="light dark">'
-                   f'<style>body{{margin:0}}img{{display:block;width:{PLACE["width"]}px}}</style><img src="alone.svg">')
-    browser.go(address + "alone.html", "document.images[0].complete && document.images[0].naturalWidth")
+                   f'<style>body{{margin:0}}img{{display:block;width:{PLACE["width"]}px}}</style><img src="alone{number}.svg">')
+    browser.go(f"{address}alone{number}.html", "document.images[0].complete && document.images[0].naturalWidth")
     return browser.picture(PLACE)
 
 
@@ -170,9 +170,9 @@ def check_pixels(browser, address, room):
             drawn.append((name, at % 2, picture_text(browser), browser.picture(PLACE)))
         browser.run("document.getElementById('said').textContent = ''; document.getElementById('hours').textContent = ''")
     with served(room) as alone:
-        for name, dark, text, picture in drawn:
+        for number, (name, dark, text, picture) in enumerate(drawn):
             browser.scheme("dark" if dark else "light")
-            check(pixels_of(browser, alone, room, text) == picture, f"{name}: pixels of the picture")
+            check(pixels_of(browser, alone, room, number, text) == picture, f"{name}: pixels of the picture")
     browser.scheme("light")
     check(len(drawn) >= 7, f"{len(drawn)} examples are drawn")
 
@@ -580,7 +580,7 @@ def check_requests(browser, address):
     asked = {it["params"]["request"]["url"] for it in browser.events if it["method"] == "Network.requestWillBeSent"}
     own = [it for it in asked if it.startswith(address)]
     check(len(own) > 8, f"only {len(own)} requests")
-    alone = [it for it in asked if it.endswith(("alone.html", "alone.svg"))]
+    alone = [it for it in asked if re.search(r"/alone\d+\.(html|svg)$", it)]
     others = [it for it in asked if it not in own + alone and not it.startswith(("blob:", "data:", "about:"))]
     same(others, [], "requests elsewhere")
     thrown = [it["params"]["exceptionDetails"] for it in browser.events if it["method"] == "Runtime.exceptionThrown"]

@@ -38,8 +38,6 @@ class View:
         tests.settle_domain(browser)
         self.do(browser, tests)
         browser.run("document.activeElement.blur()")
-        # Two frames, so that what was done is drawn.
-        browser.run("new Promise((done) => requestAnimationFrame(() => requestAnimationFrame(() => setTimeout(done, 150))))")
         in_dialog = browser.run("document.querySelector('dialog[open]') !== null")
         picture, words = (browser.picture() if in_dialog else browser.whole()), browser.run(WORDS)
         browser.scheme("light")
