@@ -532,8 +532,12 @@ def check_people(browser, address):
     browser.wait("document.getElementById('faults').textContent")
     looks(browser, None, "a file with faults")
     live = browser.run("""[...document.querySelectorAll("[role=status], [role=alert]")].map((it) => it.id)""")
-    for place in ("said", "state", "fault", "read", "faults", "counted", "saved", "looked", "element-said", "lacks"):
+    for place in ("spoken", "read", "faults", "counted", "saved", "looked", "element-said", "lacks"):
         check(place in live, f"{place} is not read out")
+    enter(browser, "domain")
+    for text, part in (("[(h25){h1}]", "FieldRange at 2"), ("(h22){h8}", "every day from 22 o'clock")):
+        type_text(browser, text)
+        browser.wait(f"document.getElementById('spoken').textContent.includes({part!r})")
 
 
 def check_keyboard(browser, address):

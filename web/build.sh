@@ -25,13 +25,13 @@ doc=$(rt doc 2> /dev/null) || missing "there is no Rattle kit here: its command 
 kit=$(dirname "$doc")
 clang=${CLANG:-$kit/toolchain/bin/clang}
 [ -x "$(command -v "$clang")" ] || missing "there is no $clang: name a clang in CLANG that reads the kit's LLVM modules"
-"$clang" --print-targets | grep -q '^ *wasm64 ' || missing "$clang cannot compile for wasm64: name another in CLANG"
+"$clang" --print-targets | grep '^ *wasm64 ' > /dev/null || missing "$clang cannot compile for wasm64: name another in CLANG"
 linker=${WASM_LD:-}
 if [ -z "$linker" ]; then
     # The kit's clang is its linker too, under this name.
-    ln -s "$clang" "$work/wasm-ld"
+    ln -s "$(command -v "$clang")" "$work/wasm-ld"
     linker=$work/wasm-ld
-    "$linker" --version 2> /dev/null | grep -q '^LLD' || linker=$(command -v wasm-ld) ||
+    "$linker" --version 2> /dev/null | grep '^LLD' > /dev/null || linker=$(command -v wasm-ld) ||
         missing "there is no wasm-ld: install Debian's package lld, or name one in WASM_LD"
 fi
 target=(--target=wasm64-unknown-unknown -mbulk-memory)
@@ -84,7 +84,8 @@ done
 linked gtd.wasm "${exports[@]}" "$top/crates/gtd_c/out/gtd_c.wasm64.o" "$work/memory.o"
 linked gtdesk.wasm --export=gtdesk "$top/crates/gtdesk/out/gtdesk.wasm64.o" "$work/memory.o" "$work/system.o"
 
-# The other files.
+# The other files. What is no longer made is not left there.
+rm -f "$out"/*.{html,css,js} "$out"/examples/*
 cp "$here"/*.html "$here"/*.css "$here"/*.js "$out/"
 cp "$top"/examples/{town,pass,works}.csv "$here/faults.csv" "$out/examples/"
 echo "web/build.sh: $out is ready: $(du -bc "$out"/*.* "$out"/examples/* | tail -n 1 | cut -f 1) bytes"

@@ -15,7 +15,9 @@ const EXAMPLES = [
   ["A fault", "[(h25){h4}]"],
 ];
 
-let library, program, domain = null, years, turn = 0;
+const PAUSE = 800; // milliseconds without a change, before what is shown is read out
+
+let library, program, domain = null, years, turn = 0, pause = 0;
 
 /** Whether the text is read as a time domain: opening hours have no braces, and begin with no bracket. */
 const isDomain = (text) => /[{}]/.test(text) || /^\s*[[(]/.test(text);
@@ -24,6 +26,15 @@ const isDomain = (text) => /[{}]/.test(text) || /^\s*[[(]/.test(text);
 function hoursFault(errors) {
   const said = /^gtdesk: TEXT: (\w+) at (\d+)$/m.exec(errors);
   return said ? { name: said[1], place: Number(said[2]) } : { name: errors.trim(), place: 0 };
+}
+
+// Has a screen reader say what is shown, once nobody types any more.
+function speak() {
+  clearTimeout(pause);
+  pause = setTimeout(() => {
+    const told = domain ? ["said", "words", "state"] : ["said", "fault"];
+    at("spoken").textContent = told.map((id) => at(id).textContent.trim()).join(" ");
+  }, PAUSE);
 }
 
 // What the text stands for: a domain, or a fault, and how it was read.
@@ -102,7 +113,7 @@ const tell = (error) => {
   const stopped = `The library stopped: ${error.message}. Load the page again.`;
   at("said").textContent = error instanceof NoMemory ? OUT_OF_MEMORY : stopped;
 };
-const changed = () => show().catch(tell);
+const changed = () => show().catch(tell).finally(speak);
 
 // The field is as high as its text.
 function fit() {
@@ -138,7 +149,10 @@ export async function domainRoom(givenLibrary, givenProgram) {
   at("text").addEventListener("input", changed);
   at("text").addEventListener("fit", fit);
   at("text").addEventListener("keydown", (event) => event.key === "Enter" && event.preventDefault());
-  at("moment").addEventListener("input", showState);
+  at("moment").addEventListener("input", () => {
+    showState();
+    speak();
+  });
   at("copy").addEventListener("click", () => copy().catch(tell));
   addEventListener("resize", fit);
   const given = new URLSearchParams(location.search).get("domain");
