@@ -198,6 +198,10 @@ def check_domains(browser, address):
     for text in word_rows():
         type_text(browser, text)
         check_domain(browser, text, text)
+    for moment in ("", "1900-12-31T23:59:59", "2200-01-01T00:00:00"):
+        fill(browser, "moment", moment)
+        same(text_of(browser, "state"), "There is no such moment from 1901 to 2199.", f"state at {moment}")
+    fill(browser, "moment", MOMENT)
     for text in ("Sa 05:00-15:00", "Apr-Sep 08:00-18:00", "24/7; Aug off", "We[-1] 10:00-12:00", "22:00-06:00"):
         type_text(browser, text)
         check_domain(browser, text, told(DESK, "hours", "--", text).rstrip("\n"))
@@ -340,7 +344,8 @@ def check_filters(browser):
     press(browser, "#closed")
     same(lines_of(browser), [it for it in lines if it[2] == "closed"], "only closed ones")
     press(browser, "#closed")
-    for place, value in (("vehicle", 0), ("vehicle", 100), ("vehicle", ""), ("file-moment", "")):
+    for place, value in (("vehicle", 0), ("vehicle", 100), ("vehicle", ""), ("file-moment", ""),
+                         ("file-moment", "2200-01-01T00:00:00")):
         ask_file(browser)
         fill(browser, place, value)
         same(lines_of(browser), [], f"{place} {value}")

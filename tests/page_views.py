@@ -14,7 +14,7 @@ STEP = 7  # between the pixels that are looked at
 # The words that are shown, and what stands in fields. The time that reading took and the version are left out, as they differ.
 WORDS = r"""[...(document.querySelector("dialog[open]") ?? document.body).querySelectorAll("*")]
     .filter((it) => it.checkVisibility({ checkVisibilityCSS: true }))
-    .filter((it) => !it.matches(".skip, [type=file], [type=checkbox], #version"))
+    .filter((it) => !it.matches(".skip, [type=file], [type=checkbox], #version, #spoken"))
     .map((it) => it.matches("input, textarea") ? it.value : [...it.childNodes].filter((node) => node.nodeType === Node.TEXT_NODE)
       .map((node) => node.data.replace(/\s+/g, " ").trim()).filter(Boolean).join(" "))
     .filter(Boolean).join("\n").replace(/read in \d+ ms/, "read in some ms") + "\n" """

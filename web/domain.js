@@ -53,7 +53,7 @@ function showFault(text, kind, fault) {
 }
 
 function showState() {
-  const second = library.second(at("moment").value);
+  const second = library.moment(at("moment").value);
   if (!domain) return;
   if (second === null) {
     at("state").textContent = "There is no such moment from 1901 to 2199.";

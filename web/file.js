@@ -21,7 +21,7 @@ const plural = (count, one, many = `${one}s`) => `${number(count)} ${count === 1
 
 // The moment and the vehicle type that are asked about; nothing if one of them is out of range.
 function asking() {
-  const second = library.second(at("file-moment").value), vehicle = at("vehicle").valueAsNumber;
+  const second = library.moment(at("file-moment").value), vehicle = at("vehicle").valueAsNumber;
   if (second === null || !Number.isInteger(vehicle) || vehicle < 1 || vehicle > 99) return null;
   return { second, vehicle };
 }

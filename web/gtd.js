@@ -126,6 +126,12 @@ export class Library {
     return this.number(signed, "second", BigInt(year), ...rest);
   }
 
+  /** The same, from 1901 to 2199, as the programs ask about moments. */
+  moment(text) {
+    const second = this.second(text);
+    return second === null || dayOf(second) >= AFTER_2199 ? null : second;
+  }
+
   /** The second as `YYYY-MM-DDThh:mm:ss`. */
   stamp(second) {
     const out = this.scratch;
@@ -284,6 +290,7 @@ class Records {
 }
 
 export const DAY = 86400;
+const AFTER_2199 = 84006; // 2200-01-01
 const LAST_DAY = 266627; // 2700-01-01
 const LONGEST = 146098;
 
