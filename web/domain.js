@@ -5,12 +5,12 @@ import { MEANINGS, OUT_OF_MEMORY, make, marked } from "./words.js";
 
 const at = (id) => document.getElementById(id);
 const EXAMPLES = [
-  ["Spring mornings", "[(M4d1){M3}]*[(h10){h4}]"],
+  ["Spring", "[(M4d1){M3}]*[(h10){h4}]"],
   ["Nights", "(h22){h8}"],
   ["Rush hours", "[(h7){h2}+(h16){h3}]*[(t2){d5}]"],
   ["Friday the 13th", "(d13t6){d1}"],
   ["Summer time", "[(M3l11h2){M8}]-[(M10l11h3){M2}]"],
-  ["Works in 2026", "(y2026M9d7){w4}*(t2t3t4t5h21){h8}"],
+  ["Works", "(y2026M9d7){w4}*(t2t3t4t5h21){h8}"],
   ["Opening hours", "Mo-Fr 07:00-09:00,16:00-18:00; Dec 25 off"],
   ["A fault", "[(h25){h4}]"],
 ];
