@@ -79,6 +79,7 @@ part tests/hours_program.py 10 1
 part tests/pictures.py
 part tests/library.sh
 part tests/sql.sh
+part tests/page.py
 part tests/packaging.sh
 part tests/python.sh
 printf '%s\n' "${lines[@]}"

@@ -13,7 +13,8 @@
 #                    tests/python.sh tests the package, its types, and its wheel in a fresh environment
 #   openssl, mount   tests/python.sh makes certificates, and a small disk
 #   chromium, librsvg2-bin, libxml2-utils, netpbm, fonts-dejavu-core
-#                    tests/pictures.py draws pictures, reads them as XML, and reads the drawn pixels
+#                    tests/pictures.py draws pictures, reads them as XML, and reads the drawn pixels; tests/page.py opens the
+#                    page in the same browser
 #   make, sqlite3, libsqlite3-dev, gdal-bin, postgresql-15, postgresql-server-dev-15
 #                    tests/sql.sh builds the extensions of databases and asks them; bench/sql.py
 # Run it as root, or as a user who may call sudo. tests/all.sh calls it where something is missing.
