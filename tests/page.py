@@ -178,9 +178,10 @@ def check_pixels(browser, address, room):
 
 
 def word_rows():
-    """The domains of docs/WORDS.md."""
-    with open(os.path.join(TOP, "docs", "WORDS.md"), encoding="utf-8") as file:
-        return re.findall(r"^\| `([^`]+)` \|", file.read(), re.M)
+    """The domains that docs/GALLERY.md shows with their words."""
+    with open(os.path.join(TOP, "docs", "GALLERY.md"), encoding="utf-8") as file:
+        part = file.read().split("\n## Words beside pictures\n")[1].split("\n## ")[0]
+    return re.findall(r"^\| `([^`]+)` \|", part, re.M)
 
 
 def check_domains(browser, address):
