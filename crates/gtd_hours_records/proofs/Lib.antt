@@ -4,3 +4,4 @@ pub mod ReadFacts
 pub mod RowFacts
 pub mod RunFacts
 pub mod TranslatedFacts
+pub mod OneAnswer

@@ -1,6 +1,6 @@
 //! Laws of the definitions: calls that do nothing, whose contracts are what is proved.
 
-ghost use Rattle.std.specs.Prelude.{◌≡◌, ◌≤◌, ◌↔◌, ℕ, ℤ, List, Ok, length};
+ghost use Rattle.std.specs.Prelude.{◌≡◌, ◌≤◌, ◌↔◌, ℕ, ℤ, List, Ok, Result, length};
 ghost use Rattle.gtd_core.specs.Limits.{most_file_bytes};
 ghost use Rattle.gtd_migrate.specs.Migrated.{migrated};
 ghost use Rattle.gtd_records.specs.Closing.{Closes, Restriction};
@@ -8,9 +8,13 @@ ghost use Rattle.gtd_records.specs.File.{IsFile};
 ghost use Rattle.gtd_records.specs.declared.direction.Direction.{Direction};
 ghost use Rattle.gtd_runs.specs.Putting.{text_of};
 ghost use Rattle.gtd_hours_records.specs.HoursFile.{IsHoursFile};
+ghost use Rattle.gtd_hours_records.specs.SameAnswers.{AreSameRestrictions, AreSameRows, IsSameAnswer};
+ghost use Rattle.gtd_hours_records.specs.declared.fault.HoursFileFault.{HoursFileFault};
 ghost use Rattle.gtd_hours_records.specs.Translated.{IsTranslated, IsTranslation, RowCloses};
 ghost use Rattle.gtd_hours_records.specs.declared.row.HoursRow.{HoursRow};
 
+use gtd_hours_syntax::laws::one_first_fault;
+use gtd_hours_text::laws::one_meaning;
 use gtd_migrate::laws::migrated_is_accepted;
 use gtd_text::laws::canonical_text_of_domain;
 
@@ -33,4 +37,17 @@ pub fn text_is_a_record_file()
 {
     migrated_is_accepted();
     canonical_text_of_domain();
+}
+
+/// The bytes of a file of hours have one answer: all that have one are at fault in the same way, or have the same rows, whose
+/// hours are open at the same seconds. Such rows are translated to restrictions of the same elements, directions and vehicle
+/// types, whose domains contain the same seconds.
+pub fn one_answer()
+    ensures answer { (bytes : List ℕ) (one other : Result (List HoursRow) (List HoursFileFault)) →
+        IsHoursFile bytes one → IsHoursFile bytes other → IsSameAnswer one other }
+    ensures restrictions { (ones others : List HoursRow) (found also : List Restriction) → AreSameRows ones others
+        → IsTranslation ones found → IsTranslation others also → AreSameRestrictions found also }
+{
+    one_meaning();
+    one_first_fault();
 }

@@ -48,7 +48,8 @@ first_moments = both (stamp_text (pos 0)) first_stamp
 abbrev pub shown_first : Shown
 shown_first = record { month = record { eve = negsuc 0; last_day = 31 }; clock = 0 }
 
-pub are_first : AreMoments (record { from = shown_first; until = shown_first }) (codes "1970-01-01T00:00:00,1970-01-01T00:00:00\n")
+pub are_first : AreMoments (record { from = shown_first; until = shown_first })
+    (codes "1970-01-01T00:00:00,1970-01-01T00:00:00\n")
 are_first = record {
   from = pos 0;
   until = pos 0;

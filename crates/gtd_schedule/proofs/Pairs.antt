@@ -1,5 +1,6 @@
 -- The table of the two digits of each number below 100.
-use Rattle.std.proofs.Common.{◌≡◌, ℕ, zero, suc, ◌+◌, ◌-◌, ◌*◌, ◌/◌, ◌<◌, Bool, true, ◌&&◌, T, eqb, get_or, inl, inr, arith, eq-zero-or-pos, eqb→eq}
+use Rattle.std.proofs.Common.{◌≡◌, ℕ, zero, suc, ◌+◌, ◌-◌, ◌*◌, ◌/◌, ◌<◌, Bool, true, ◌&&◌, T, eqb, get_or, inl, inr, arith}
+use Rattle.std.proofs.Common.{eq-zero-or-pos, eqb→eq}
 use lib.Ieee.Fits.{and_l, and_r}
 use Rattle.gtd_calendar.specs.Stamp.{digit}
 use Rattle.gtd_schedule.specs.declared.moment.TheConstants.{PAIRS}
@@ -12,7 +13,8 @@ below : (n p : ℕ) → T (are_pairs n) → p < n → (get_or PAIRS (2 * p) 0 �
 below zero p t h = absurd (omega arith)
 below (suc n) p t h =
     elim (eq-zero-or-pos (n - p)) [
-      | inl z ↦ let e : p ≡ n = omega arith in let a = and_l _ (are_pairs n) t in rw e (eqb→eq _ _ (and_l _ _ a), eqb→eq _ _ (and_r _ _ a))
+      | inl z ↦ (let e : p ≡ n = omega arith in let a = and_l _ (are_pairs n) t in
+          rw e (eqb→eq _ _ (and_l _ _ a), eqb→eq _ _ (and_r _ _ a)))
       | inr g ↦ below n p (and_r _ (are_pairs n) t) (omega arith)
     ]
 

@@ -35,7 +35,8 @@ write_moment-requires-2-clause-shown c =
 
 pub write_moment-requires-clause-other : goal.write_moment-requires-clause-other
 write_moment-requires-clause-other c =
-    let k = until_shown c.args.shown.now (drop c.args.head c.args.line.now.items) c.requires.shown c.split_at_mut-from.result.1.now
+    let k = until_shown c.args.shown.now (drop c.args.head c.args.line.now.items) c.requires.shown
+    c.split_at_mut-from.result.1.now
     (c.split_at_mut-from.ensures.back ∙ ap (drop 20) (c.split_at_mut-moments.ensures.back
     ∙ ap (drop c.args.head) c.as_mut_slice.ensures.value)) in
     dated k.second c.args.shown.now.until c.split_at_mut-from.result.1.now k.rest k.kept k.is
