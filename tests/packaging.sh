@@ -154,6 +154,7 @@ complete_in() {
     tab "$1" 'gtdesk faults --w' '<faults><--warn>'
     tab "$1" 'gtdesk faults --warn restr' '<faults><--warn><restrictions.csv>'
     tab "$1" 'gtdesk hours --o' '<hours><--of>'
+    tab "$1" 'gtdesk same --f' '<same><--from>'
     tab "$1" 'gtdesk records town.hours' '<records><town.hours.csv>'
     tab "$1" 'gtdesk picture town.csv 103 p' '<picture><town.csv><103><positive>'
     tab "$1" 'gtdesk words restr' '<words><restr>'
@@ -243,7 +244,7 @@ remove_it() {
 packages='gtd libgtd0 libgtd-dev'
 # The commands, in the order of the completions.
 commands='schedule year migrate check canon at next ever'
-desk_commands='now faults words hours records picture picture-domain'
+desk_commands='now faults words hours same records picture picture-domain'
 cd "$top/examples" || exit 1
 build_twice
 install_it
