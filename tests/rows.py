@@ -19,6 +19,7 @@ An empty file `roads.csv` is there, too. What is wanted:
     =>                  the same, and nothing on standard output
     =>1 LINE            the status 1, nothing on standard output, and this line on standard error
     =>1 TEXT !! LINE    the status 1, the text on standard output, and the line on standard error
+    =>4 TEXT !!         the status 4, the text on standard output, and nothing on standard error
 
 A text has a name in capitals, and is used as `$NAME` in rows and in the lines of tables:
 
@@ -102,10 +103,11 @@ class Case:
 
     def __init__(self, place, line, columns, texts):
         self.place, self.columns, self.texts = place, columns, texts
-        found = re.fullmatch(r"(gtd|gtdesk)(?: (.*?))?(?: \| (.*))? =>(\d?)(?: (.*?))?(?: !! (.*))?", line)
+        found = re.fullmatch(r"(gtd|gtdesk)(?: (.*?))?(?: \| (.*))? =>(\d?)(?: (.*?))?(?: (!!.*))?", line)
         if not found:
             raise Malformed(f"no line of a table: {line}")
         self.program, self.words, self.filter, status, text, told = found.groups()
+        told = told and told[len("!!"):].strip()
         self.status = int(status or 0)
         self.out, self.err = (None, text) if self.status and told is None else (text or None, told)
 

@@ -1,3 +1,4 @@
+pub mod Comparing
 pub mod Hours
 pub mod Lines
 pub mod Running
@@ -7,6 +8,7 @@ pub use Rattle.gtd_desk_plans.specs.Given
 pub use Rattle.gtd_desk_plans.specs.Plans
 pub use Rattle.gtd_desk_plans.specs.Statuses
 pub use Rattle.gtd_desk_plans.specs.Words
+pub use Rattle.gtd_difference.specs.Difference
 pub use Rattle.gtd_hours_of.specs.Membership
 pub use Rattle.gtd_osm.specs.Opening
 pub use Rattle.gtd_osm.specs.Written

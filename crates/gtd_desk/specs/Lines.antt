@@ -9,6 +9,8 @@ use Rattle.gtd_hours_syntax.specs.declared.fault.FaultKind.{FaultKind}
 use Rattle.gtd_hours_syntax.specs.declared.fault.FaultKind.TheVariants as kind
 use Rattle.gtd_desk_plans.specs.declared.refusal.NoDomain.{NoDomain}
 use Rattle.gtd_desk_plans.specs.declared.refusal.NoDomain.TheVariants as none
+use Rattle.gtd_desk_plans.specs.declared.refusal.PairFault.{PairFault}
+use Rattle.gtd_desk_plans.specs.declared.refusal.PairFault.TheVariants as pair
 use Rattle.gtd_desk_plans.specs.declared.refusal.Refusal.{Refusal}
 use Rattle.gtd_desk_plans.specs.declared.refusal.Refusal.TheVariants as refusal
 use Rattle.gtd_desk_plans.specs.declared.refusal.WordFault.{WordFault}
@@ -27,6 +29,12 @@ word_text word.Direction = codes "DIRECTION: neither positive nor negative"
 word_text word.Vehicle = codes "VEHICLE: not a number from 1 to 99"
 word_text word.Year = codes "YEAR: not a number from 1901 to 2199"
 word_text (word.Domain why) = codes "DOMAIN: " ++ fault_name why.kind ++ codes " at " ++ decimal why.place
+
+-- the same for the words of `same`
+abbrev pub pair_text : PairFault → List ℕ
+pair_text (pair.First why) = codes "FIRST: " ++ fault_name why.kind ++ codes " at " ++ decimal why.place
+pair_text (pair.Second why) = codes "SECOND: " ++ fault_name why.kind ++ codes " at " ++ decimal why.place
+pair_text (pair.From why) = codes "MOMENT: " ++ moment_reason why
 
 -- what is wrong with a text of opening hours
 abbrev pub kind_name : FaultKind → List ℕ
@@ -52,6 +60,7 @@ refusal_line file (refusal.Usage why) = codes "gtdesk: command line: " ++ why.no
 refusal_line file (refusal.Moment why) = codes "gtdesk: MOMENT: " ++ moment_reason why
 refusal_line file refusal.Vehicle = codes "gtdesk: VEHICLE: not a number from 1 to 99"
 refusal_line file (refusal.Word why) = codes "gtdesk: " ++ word_text why
+refusal_line file (refusal.Pair why) = codes "gtdesk: " ++ pair_text why
 refusal_line file refusal.NoHours = codes "gtdesk: " ++ no_hours
 refusal_line file (refusal.NoDomain why) = codes "gtdesk: " ++ no_domain_text why
 refusal_line file refusal.NoElement = codes "gtdesk: " ++ printable file ++ codes ": no row names the element"

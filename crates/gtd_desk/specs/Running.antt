@@ -12,6 +12,7 @@ use Rattle.gtd_runs.specs.Run.{UnacceptedFilesPutNothing}
 use Rattle.gtd_picture.specs.Domain.{HasPut, IsDomainPicture}
 use Rattle.gtd_picture.specs.Open.{IsOpenPicture}
 use Rattle.gtd_desk.specs.Hours.{IsDomainLine, IsHoursLine, IsNoDomainOf}
+use Rattle.gtd_desk.specs.Comparing.{HasCompared}
 use Rattle.gtd_desk_plans.specs.declared.plans.PictureSubject.{PictureSubject}
 use Rattle.gtd_desk_plans.specs.declared.refusal.WordFault.TheVariants as fault
 use Rattle.gtd_runs.specs.declared.fault.RunFault.{RunFault}
@@ -192,6 +193,8 @@ HasRunPlan (plan.HoursOf domain) file old new silent ended errors result =
     PutText (IsHoursLine domain) IsHoursRefusal old new ended result
 HasRunPlan (plan.DomainOf text) file old new silent ended errors result =
     PutText (IsDomainLine (string_bytes text)) (IsTextRefusal (string_bytes text)) old new ended result
+HasRunPlan (plan.Same first second from) file old new silent ended errors result =
+    HasCompared first second from.second.0 old new ended result
 HasRunPlan (plan.Records path) file old new silent ended errors result =
     RanRecords (string_bytes path) file old new silent ended errors result
 HasRunPlan (plan.Show text) file old new silent ended errors result =
@@ -207,7 +210,8 @@ abbrev pub failures_after_write : Result Ending Refusal → ℕ → ℕ
 failures_after_write (Err refusal.Write) count = count + 1
 failures_after_write result count = count
 
--- The exit status of a plan that was carried out: 1 if faults were listed.
+-- The exit status of a plan that was carried out: 1 if faults were listed, 4 if there is a difference.
 abbrev pub ending_status : Ending → ℕ
 ending_status ending.Done = 0
 ending_status ending.FaultsListed = 1
+ending_status ending.Differ = 4

@@ -10,16 +10,19 @@ pub enum Ending {
     Done,
     /// A file's faults were put.
     FaultsListed,
+    /// A difference was put.
+    Differ,
 }
 
 impl Ending {
-    /// The exit status: 1 if faults were listed, otherwise 0.
+    /// The exit status: 1 if faults were listed, 4 if there is a difference, otherwise 0.
     pub fn status(&self) -> u8
         ensures value { result ≡ ending_status self.now }
     {
         match self {
             Ending::Done => 0,
             Ending::FaultsListed => 1,
+            Ending::Differ => 4,
         }
     }
 }

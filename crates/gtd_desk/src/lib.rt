@@ -10,8 +10,11 @@ mod hours_records;
 mod line;
 mod performing;
 mod picture;
+mod same;
 
 pub use ending::Ending;
-pub use gtd_desk_plans::{Moment, NoDomain, PictureSubject, Plan, Refusal, WordFault, plan};
+pub use gtd_desk_plans::{
+    Moment, NoDomain, PairFault, PictureSubject, Plan, Refusal, WordFault, plan,
+};
 pub use line::RefusalLine;
 pub use performing::perform;

@@ -2,10 +2,10 @@
 
 ghost use Rattle.std.specs.Prelude.{◌≡◌, Some};
 ghost use Rattle.gtd_desk.specs.Lines as spec;
-ghost use Rattle.gtd_desk.specs.Lines.{kind_name, no_domain_text, refusal_line, word_text};
+ghost use Rattle.gtd_desk.specs.Lines.{kind_name, no_domain_text, pair_text, refusal_line, word_text};
 
 use gtd_calendar::StampFault;
-use gtd_desk_plans::{NoDomain, Refusal, WordFault};
+use gtd_desk_plans::{NoDomain, PairFault, Refusal, WordFault};
 use gtd_faults::{FaultText, Printable};
 use gtd_hours_syntax::FaultKind;
 use std::fmt;
@@ -44,6 +44,30 @@ impl Display for WordLine {
                 let place = fault.place;
                 write!(f, "DOMAIN: {kind} at {place}")
             }
+        }
+    }
+}
+
+/// Which word of `same` stands for nothing, and why.
+#[derive(Drop)]
+struct PairLine(PairFault);
+
+impl Display for PairLine {
+    ghost output = { λ shown. Some (pair_text shown.0) };
+
+    fn fmt<W: fmt::Write>(&self, f: &mut Formatter<W>) -> fmt::Result {
+        match self.0 {
+            PairFault::First(fault) => {
+                let kind = fault.kind.name();
+                let place = fault.place;
+                write!(f, "FIRST: {kind} at {place}")
+            }
+            PairFault::Second(fault) => {
+                let kind = fault.kind.name();
+                let place = fault.place;
+                write!(f, "SECOND: {kind} at {place}")
+            }
+            PairFault::From(fault) => write!(f, "MOMENT: {}", moment_reason(fault)),
         }
     }
 }
@@ -99,6 +123,7 @@ impl Display for RefusalLine<'_> {
             Refusal::Moment(fault) => write!(f, "gtdesk: MOMENT: {}", moment_reason(fault)),
             Refusal::Vehicle => write!(f, "gtdesk: VEHICLE: not a number from 1 to 99"),
             Refusal::Word(fault) => write!(f, "gtdesk: {}", WordLine(fault)),
+            Refusal::Pair(fault) => write!(f, "gtdesk: {}", PairLine(fault)),
             Refusal::NoHours => write!(f, "gtdesk: {NO_HOURS}"),
             Refusal::NoDomain(why) => write!(f, "gtdesk: {}", TextLine(why)),
             Refusal::NoElement => write!(f, "gtdesk: {file}: no row names the element"),

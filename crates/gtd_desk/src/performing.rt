@@ -12,6 +12,7 @@ use crate::ending::Ending;
 use crate::hours_domain::print_domain_of;
 use crate::hours_records::print_records;
 use crate::picture::{print_domain, print_picture};
+use crate::same::print_comparison;
 use gtd_core::Domain;
 use gtd_desk_plans::{Moment, Plan, Refusal, WordFault};
 use gtd_devices::{Input, Output};
@@ -111,8 +112,19 @@ pub(crate) fn print_text<O: Output>(output: &mut O, text: &str) -> Result<Ending
     ensures write_faults { O.failure_count output.new
         ≡ failures_after_write result (O.failure_count output.old) }
 {
+    print_bytes(output, text.as_bytes())
+}
+
+/// The same of the bytes of a text.
+pub(crate) fn print_bytes<O: Output>(output: &mut O, text: &[u8]) -> Result<Ending, Refusal>
+    requires writable { O.failure_count output.old < u64.MAX }
+    ensures put { PutText (λ t. t ≡ text.now) (λ r. ⊥) (O.taken output.old) (O.taken output.new)
+        (O.is_ended output.new) result }
+    ensures write_faults { O.failure_count output.new
+        ≡ failures_after_write result (O.failure_count output.old) }
+{
     let mut progress = Progress::new();
-    match put_line(output, &mut progress, text.as_bytes()) {
+    match put_line(output, &mut progress, text) {
         Ok(()) => match finish(output) {
             Ok(()) => Ok(Ending::Done),
             Err(_) => Err(Refusal::Write),
@@ -193,6 +205,11 @@ pub fn perform<I: Input, O: Output, E: Output>(
         Plan::Words { domain } => print_words(alloc, output, domain),
         Plan::HoursOf { domain } => print_hours_of(alloc, output, domain),
         Plan::DomainOf { text } => print_domain_of(alloc, output, text.as_str()),
+        Plan::Same {
+            first,
+            second,
+            from,
+        } => print_comparison(alloc, output, first, second, *from),
         Plan::Records { file } => print_records(alloc, input, output, errors, file.as_str()),
         Plan::Show { text } => print_text(output, text.as_str()),
     }

@@ -1,5 +1,5 @@
 -- Words give one command at most, and a command has one plan or one first fault.
-use Rattle.std.proofs.Common.{◌≡◌, ◌∙◌, ◌⊎◌, inl, inr, ap, sym, subst, refl, true, false, Bool, true≢false, List, []}
+use Rattle.std.proofs.Common.{◌≡◌, ◌∙◌, ◌⊎◌, inl, inr, ap, sym, subst, refl, true, false, Bool, true≢false, List}
 use Rattle.std.proofs.Common.{Option, Some, None, is_some}
 use Rattle.std.specs.Prelude.{Result, Ok, Err, IsSome, MatchResult, option_and_then, option_map, unwrap_or, ℕ}
 use Rattle.clap.specs.Faults.{fault_of}
@@ -8,6 +8,7 @@ use Rattle.clap.specs.Values.{kind_of}
 use Rattle.clap.specs.declared.error.Error.{Error}
 use Rattle.clap.specs.declared.error.kind.ErrorKind.{ErrorKind}
 use Rattle.clap.specs.declared.error.kind.ErrorKind.TheVariants as error
+use Rattle.gtd_core.specs.declared.second.Sec.{Sec}
 use Rattle.gtd_calendar.specs.Read.{stamp_in}
 use Rattle.gtd_calendar.specs.declared.stamp.StampFault.{StampFault}
 use Rattle.gtd_records.specs.Columns.{direction_of, number_of}
@@ -19,13 +20,15 @@ use Rattle.clap.specs.declared.parser.matches.ArgMatches.{ArgMatches}
 use Rattle.gtd_desk_plans.specs.CommandLine.{HasWords, Text, desk_app, is_memory, is_request, neither_or_both}
 use Rattle.gtd_desk_plans.specs.Given.{AreMistaken, Give, Given, PictureTexts, given_by, given_in, texts_of}
 use Rattle.gtd_desk_plans.specs.declared.given.Words.{Words}
-use Rattle.gtd_desk_plans.specs.Plans.{AreRefused, AskFor, Asks, IsDomainPlan, IsHoursPlan, IsNowFault, IsNowPlan, IsOfWord}
-use Rattle.gtd_desk_plans.specs.Plans.{IsPicturePlan, IsRefused, IsShown, IsWordFault, IsWordsPlan}
-use Rattle.gtd_desk_plans.specs.Words.{AreSubjectWords, IsDomainFault, IsMomentWord, IsSubjectFault, IsVehicleWord}
-use Rattle.gtd_desk_plans.specs.Words.{IsWordOfDomainFault, IsYearWord}
+use Rattle.gtd_desk_plans.specs.Plans.{AreRefused, AskFor, Asks, IsDomainPlan, IsHoursPlan, IsNowFault, IsNowPlan, IsOfPair}
+use Rattle.gtd_desk_plans.specs.Plans.{IsOfWord, IsPicturePlan, IsRefused, IsSamePlan, IsShown, IsWordFault, IsWordsPlan}
+use Rattle.gtd_desk_plans.specs.Words.{AreSubjectWords, IsDomainFault, IsFromFault, IsFromWord, IsMomentWord, IsPairFault}
+use Rattle.gtd_desk_plans.specs.Words.{IsSubjectFault, IsVehicleWord, IsWordOfDomainFault, IsYearWord}
 use Rattle.gtd_desk_plans.specs.declared.plans.PictureSubject.{PictureSubject}
 use Rattle.gtd_desk_plans.specs.declared.plans.Plan.{Plan}
 use Rattle.gtd_desk_plans.specs.declared.plans.Plan.TheVariants as plan
+use Rattle.gtd_desk_plans.specs.declared.refusal.PairFault.{PairFault}
+use Rattle.gtd_desk_plans.specs.declared.refusal.PairFault.TheVariants as pair
 use Rattle.gtd_desk_plans.specs.declared.refusal.Refusal.{Refusal}
 use Rattle.gtd_desk_plans.specs.declared.refusal.Refusal.TheVariants as refusal
 use Rattle.gtd_desk_plans.specs.declared.refusal.WordFault.{WordFault}
@@ -63,6 +66,7 @@ IsSound (Given.for_now file moment vehicle) = IsMomentWord moment × ((v : ℕ) 
 IsSound (Given.for_faults file warn) = Unit {0}
 IsSound (Given.for_words text) = HasNoFault text
 IsSound (Given.for_hours text) = Unit {0}
+IsSound (Given.for_same first second from) = HasNoFault first × HasNoFault second × ((s : Sec) × IsFromWord from s)
 IsSound (Given.for_hours_of text) = HasNoFault text
 IsSound (Given.for_records file) = Unit {0}
 IsSound (Given.for_picture texts) = (s : PictureSubject) × AreSubjectWords texts s
@@ -77,6 +81,7 @@ now_sound file moment vehicle (plan.DomainPicture d t y) h = absurd h
 now_sound file moment vehicle (plan.Words d) h = absurd h
 now_sound file moment vehicle (plan.HoursOf d) h = absurd h
 now_sound file moment vehicle (plan.DomainOf t) h = absurd h
+now_sound file moment vehicle (plan.Same a b m) h = absurd h
 now_sound file moment vehicle (plan.Records f) h = absurd h
 now_sound file moment vehicle (plan.Show t) h = absurd h
 
@@ -88,6 +93,7 @@ words_sound text (plan.DomainPicture d t y) h = absurd h
 words_sound text (plan.Words d) h = h.faultless
 words_sound text (plan.HoursOf d) h = absurd h
 words_sound text (plan.DomainOf t) h = absurd h
+words_sound text (plan.Same a b m) h = absurd h
 words_sound text (plan.Records f) h = absurd h
 words_sound text (plan.Show t) h = absurd h
 
@@ -99,6 +105,7 @@ hours_sound text (plan.DomainPicture d t y) h = absurd h
 hours_sound text (plan.Words d) h = absurd h
 hours_sound text (plan.HoursOf d) h = h.faultless
 hours_sound text (plan.DomainOf t) h = absurd h
+hours_sound text (plan.Same a b m) h = absurd h
 hours_sound text (plan.Records f) h = absurd h
 hours_sound text (plan.Show t) h = absurd h
 
@@ -110,6 +117,7 @@ picture_sound texts (plan.DomainPicture d t y) h = absurd h
 picture_sound texts (plan.Words d) h = absurd h
 picture_sound texts (plan.HoursOf d) h = absurd h
 picture_sound texts (plan.DomainOf t) h = absurd h
+picture_sound texts (plan.Same a b m) h = absurd h
 picture_sound texts (plan.Records f) h = absurd h
 picture_sound texts (plan.Show t) h = absurd h
 
@@ -121,14 +129,29 @@ domain_sound text year (plan.DomainPicture d t y) h = (h.1.faultless, (y, h.2))
 domain_sound text year (plan.Words d) h = absurd h
 domain_sound text year (plan.HoursOf d) h = absurd h
 domain_sound text year (plan.DomainOf t) h = absurd h
+domain_sound text year (plan.Same a b m) h = absurd h
 domain_sound text year (plan.Records f) h = absurd h
 domain_sound text year (plan.Show t) h = absurd h
+
+same_sound : (first second : Text) (from : Option Text) (p : Plan) → IsSamePlan first second from p
+    → IsSound (Given.for_same first second from)
+same_sound first second from (plan.Now f m v) h = absurd h
+same_sound first second from (plan.Faults f w) h = absurd h
+same_sound first second from (plan.Picture f t s) h = absurd h
+same_sound first second from (plan.DomainPicture d t y) h = absurd h
+same_sound first second from (plan.Words d) h = absurd h
+same_sound first second from (plan.HoursOf d) h = absurd h
+same_sound first second from (plan.DomainOf t) h = absurd h
+same_sound first second from (plan.Same a b m) h = (h.0.faultless, h.1.faultless, (m.second, h.2))
+same_sound first second from (plan.Records f) h = absurd h
+same_sound first second from (plan.Show t) h = absurd h
 
 sound : (given : Given) (p : Plan) → Asks given p → IsSound given
 sound (Given.for_now file moment vehicle) p h = now_sound file moment vehicle p h
 sound (Given.for_faults file warn) p h = tt
 sound (Given.for_words text) p h = words_sound text p h
 sound (Given.for_hours text) p h = tt
+sound (Given.for_same first second from) p h = same_sound first second from p h
 sound (Given.for_hours_of text) p h = hours_sound text p h
 sound (Given.for_records file) p h = tt
 sound (Given.for_picture texts) p h = picture_sound texts p h
@@ -142,6 +165,7 @@ now_apart file moment vehicle (refusal.Usage why) s h = h
 now_apart file moment vehicle (refusal.Moment why) s h = ok_or_err (stamp_in moment) s.0.0 why s.0.1 h
 now_apart file moment vehicle refusal.Vehicle s h = h.1 s.1.0 s.1.1.0 s.1.1.1
 now_apart file moment vehicle (refusal.Word why) s h = h
+now_apart file moment vehicle (refusal.Pair why) s h = h
 now_apart file moment vehicle refusal.NoHours s h = h
 now_apart file moment vehicle (refusal.NoDomain why) s h = h
 now_apart file moment vehicle refusal.NoElement s h = h
@@ -155,6 +179,7 @@ of_word_apart is none (refusal.Usage why) h = h
 of_word_apart is none (refusal.Moment why) h = h
 of_word_apart is none refusal.Vehicle h = h
 of_word_apart is none (refusal.Word why) h = none why h
+of_word_apart is none (refusal.Pair why) h = h
 of_word_apart is none refusal.NoHours h = h
 of_word_apart is none (refusal.NoDomain why) h = h
 of_word_apart is none refusal.NoElement h = h
@@ -186,11 +211,37 @@ no_picture_fault text year none y is word.Element h = h
 no_picture_fault text year none y is word.Direction h = h
 no_picture_fault text year none y is word.Vehicle h = h
 
+of_pair_apart : (is : PairFault → Type 0) → ((why : PairFault) → is why → ⊥) → (r : Refusal) → IsOfPair is r → ⊥
+of_pair_apart is none (refusal.Usage why) h = h
+of_pair_apart is none (refusal.Moment why) h = h
+of_pair_apart is none refusal.Vehicle h = h
+of_pair_apart is none (refusal.Word why) h = h
+of_pair_apart is none (refusal.Pair why) h = none why h
+of_pair_apart is none refusal.NoHours h = h
+of_pair_apart is none (refusal.NoDomain why) h = h
+of_pair_apart is none refusal.NoElement h = h
+of_pair_apart is none (refusal.Records why) h = h
+of_pair_apart is none refusal.Open h = h
+of_pair_apart is none refusal.Write h = h
+of_pair_apart is none refusal.Memory h = h
+
+no_from_fault : (from : Option Text) (s : Sec) → IsFromWord from s → (why : StampFault) → IsFromFault from why → ⊥
+no_from_fault None s is why h = h
+no_from_fault (Some text) s is why h = ok_or_err (stamp_in text) s why is h
+
+no_pair_fault : (first second : Text) (from : Option Text) → IsSound (Given.for_same first second from) → (why : PairFault)
+    → IsPairFault first second from why → ⊥
+no_pair_fault first second from s (pair.First why) h = s.0 why h
+no_pair_fault first second from s (pair.Second why) h = s.1 why h.1
+no_pair_fault first second from s (pair.From why) h = no_from_fault from s.2.0 s.2.1 why h.2
+
 apart : (given : Given) (r : Refusal) → IsSound given → IsWordFault given r → ⊥
 apart (Given.for_now file moment vehicle) r s h = now_apart file moment vehicle r s h
 apart (Given.for_faults file warn) r s h = h
 apart (Given.for_words text) r s h = of_word_apart (IsWordOfDomainFault text) (no_domain_fault text s) r h
 apart (Given.for_hours text) r s h = h
+apart (Given.for_same first second from) r s h =
+    of_pair_apart (IsPairFault first second from) (no_pair_fault first second from s) r h
 apart (Given.for_hours_of text) r s h = of_word_apart (IsWordOfDomainFault text) (no_domain_fault text s) r h
 apart (Given.for_records file) r s h = h
 apart (Given.for_picture texts) r s h = of_word_apart (IsSubjectFault texts) (no_subject_fault texts s.0 s.1) r h
@@ -205,6 +256,7 @@ one_moment moment vehicle a (refusal.Usage why) h k = absurd k
 one_moment moment vehicle a (refusal.Moment why) h k = ap refusal.Moment (one_err (stamp_in moment) why a k h)
 one_moment moment vehicle a refusal.Vehicle h k = absurd (ok_or_err (stamp_in moment) k.0.0 a k.0.1 h)
 one_moment moment vehicle a (refusal.Word why) h k = absurd k
+one_moment moment vehicle a (refusal.Pair why) h k = absurd k
 one_moment moment vehicle a refusal.NoHours h k = absurd k
 one_moment moment vehicle a (refusal.NoDomain why) h k = absurd k
 one_moment moment vehicle a refusal.NoElement h k = absurd k
@@ -218,6 +270,7 @@ one_vehicle moment vehicle (refusal.Usage why) h k = absurd k
 one_vehicle moment vehicle (refusal.Moment why) h k = absurd (ok_or_err (stamp_in moment) h.0 why h.1 k)
 one_vehicle moment vehicle refusal.Vehicle h k = refl
 one_vehicle moment vehicle (refusal.Word why) h k = absurd k
+one_vehicle moment vehicle (refusal.Pair why) h k = absurd k
 one_vehicle moment vehicle refusal.NoHours h k = absurd k
 one_vehicle moment vehicle (refusal.NoDomain why) h k = absurd k
 one_vehicle moment vehicle refusal.NoElement h k = absurd k
@@ -231,6 +284,7 @@ one_now moment vehicle (refusal.Usage why) s h k = absurd h
 one_now moment vehicle (refusal.Moment why) s h k = one_moment moment vehicle why s h k
 one_now moment vehicle refusal.Vehicle s h k = one_vehicle moment vehicle s h.0 k
 one_now moment vehicle (refusal.Word why) s h k = absurd h
+one_now moment vehicle (refusal.Pair why) s h k = absurd h
 one_now moment vehicle refusal.NoHours s h k = absurd h
 one_now moment vehicle (refusal.NoDomain why) s h k = absurd h
 one_now moment vehicle refusal.NoElement s h k = absurd h
@@ -245,6 +299,7 @@ same_word is one a (refusal.Usage why) h k = absurd k
 same_word is one a (refusal.Moment why) h k = absurd k
 same_word is one a refusal.Vehicle h k = absurd k
 same_word is one a (refusal.Word why) h k = ap refusal.Word (one why a k h)
+same_word is one a (refusal.Pair why) h k = absurd k
 same_word is one a refusal.NoHours h k = absurd k
 same_word is one a (refusal.NoDomain why) h k = absurd k
 same_word is one a refusal.NoElement h k = absurd k
@@ -259,6 +314,7 @@ one_of_word is one (refusal.Usage why) s h k = absurd h
 one_of_word is one (refusal.Moment why) s h k = absurd h
 one_of_word is one refusal.Vehicle s h k = absurd h
 one_of_word is one (refusal.Word why) s h k = same_word is one why s h k
+one_of_word is one (refusal.Pair why) s h k = absurd h
 one_of_word is one refusal.NoHours s h k = absurd h
 one_of_word is one (refusal.NoDomain why) s h k = absurd h
 one_of_word is one refusal.NoElement s h k = absurd h
@@ -319,11 +375,60 @@ one_domain_fault text word.Element y h k = absurd h
 one_domain_fault text word.Direction y h k = absurd h
 one_domain_fault text word.Vehicle y h k = absurd h
 
+-- one word of `same` is the first that stands for nothing
+same_pair : (is : PairFault → Type 0) → ((a b : PairFault) → is a → is b → a ≡ b) → (a : PairFault) (s : Refusal) → is a
+    → IsOfPair is s → s ≡ refusal.Pair a
+same_pair is one a (refusal.Usage why) h k = absurd k
+same_pair is one a (refusal.Moment why) h k = absurd k
+same_pair is one a refusal.Vehicle h k = absurd k
+same_pair is one a (refusal.Word why) h k = absurd k
+same_pair is one a (refusal.Pair why) h k = ap refusal.Pair (one why a k h)
+same_pair is one a refusal.NoHours h k = absurd k
+same_pair is one a (refusal.NoDomain why) h k = absurd k
+same_pair is one a refusal.NoElement h k = absurd k
+same_pair is one a (refusal.Records why) h k = absurd k
+same_pair is one a refusal.Open h k = absurd k
+same_pair is one a refusal.Write h k = absurd k
+same_pair is one a refusal.Memory h k = absurd k
+
+one_of_pair : (is : PairFault → Type 0) → ((a b : PairFault) → is a → is b → a ≡ b) → (r s : Refusal) → IsOfPair is r
+    → IsOfPair is s → s ≡ r
+one_of_pair is one (refusal.Usage why) s h k = absurd h
+one_of_pair is one (refusal.Moment why) s h k = absurd h
+one_of_pair is one refusal.Vehicle s h k = absurd h
+one_of_pair is one (refusal.Word why) s h k = absurd h
+one_of_pair is one (refusal.Pair why) s h k = same_pair is one why s h k
+one_of_pair is one refusal.NoHours s h k = absurd h
+one_of_pair is one (refusal.NoDomain why) s h k = absurd h
+one_of_pair is one refusal.NoElement s h k = absurd h
+one_of_pair is one (refusal.Records why) s h k = absurd h
+one_of_pair is one refusal.Open s h k = absurd h
+one_of_pair is one refusal.Write s h k = absurd h
+one_of_pair is one refusal.Memory s h k = absurd h
+
+one_from_fault : (from : Option Text) (a b : StampFault) → IsFromFault from a → IsFromFault from b → a ≡ b
+one_from_fault None a b h k = absurd h
+one_from_fault (Some text) a b h k = one_err (stamp_in text) a b h k
+
+one_pair_fault : (first second : Text) (from : Option Text) (x y : PairFault) → IsPairFault first second from x
+    → IsPairFault first second from y → x ≡ y
+one_pair_fault first second from (pair.First a) (pair.First b) h k = ap pair.First (one_fault first a b h k)
+one_pair_fault first second from (pair.First a) (pair.Second b) h k = absurd (k.0 a h)
+one_pair_fault first second from (pair.First a) (pair.From b) h k = absurd (k.0 a h)
+one_pair_fault first second from (pair.Second a) (pair.First b) h k = absurd (h.0 b k)
+one_pair_fault first second from (pair.Second a) (pair.Second b) h k = ap pair.Second (one_fault second a b h.1 k.1)
+one_pair_fault first second from (pair.Second a) (pair.From b) h k = absurd (k.1 a h.1)
+one_pair_fault first second from (pair.From a) (pair.First b) h k = absurd (h.0 b k)
+one_pair_fault first second from (pair.From a) (pair.Second b) h k = absurd (h.1 b k.1)
+one_pair_fault first second from (pair.From a) (pair.From b) h k = ap pair.From (one_from_fault from a b h.2 k.2)
+
 one_word : (given : Given) (r s : Refusal) → IsWordFault given r → IsWordFault given s → s ≡ r
 one_word (Given.for_now file moment vehicle) r s h k = one_now moment vehicle r s h k
 one_word (Given.for_faults file warn) r s h k = absurd h
 one_word (Given.for_words text) r s h k = one_of_word (IsWordOfDomainFault text) (one_domain_fault text) r s h k
 one_word (Given.for_hours text) r s h k = absurd h
+one_word (Given.for_same first second from) r s h k =
+    one_of_pair (IsPairFault first second from) (one_pair_fault first second from) r s h k
 one_word (Given.for_hours_of text) r s h k = one_of_word (IsWordOfDomainFault text) (one_domain_fault text) r s h k
 one_word (Given.for_records file) r s h k = absurd h
 one_word (Given.for_picture texts) r s h k = one_of_word (IsSubjectFault texts) (one_subject_fault texts) r s h k
@@ -356,6 +461,7 @@ only_asked words (Err (refusal.Usage why)) is given give = absurd (not_mistaken 
 only_asked words (Err (refusal.Moment why)) is given give = refused_word words given (refusal.Moment why) give is
 only_asked words (Err refusal.Vehicle) is given give = refused_word words given refusal.Vehicle give is
 only_asked words (Err (refusal.Word why)) is given give = refused_word words given (refusal.Word why) give is
+only_asked words (Err (refusal.Pair why)) is given give = refused_word words given (refusal.Pair why) give is
 only_asked words (Err refusal.NoHours) is given give = refused_word words given refusal.NoHours give is
 only_asked words (Err (refusal.NoDomain why)) is given give = refused_word words given (refusal.NoDomain why) give is
 only_asked words (Err refusal.NoElement) is given give = refused_word words given refusal.NoElement give is
@@ -370,6 +476,7 @@ of_memory_or_word given (refusal.Usage why) h = inr h
 of_memory_or_word given (refusal.Moment why) h = inr h
 of_memory_or_word given refusal.Vehicle h = inr h
 of_memory_or_word given (refusal.Word why) h = inr h
+of_memory_or_word given (refusal.Pair why) h = inr h
 of_memory_or_word given refusal.NoHours h = inr h
 of_memory_or_word given (refusal.NoDomain why) h = inr h
 of_memory_or_word given refusal.NoElement h = inr h
@@ -417,6 +524,7 @@ no_usage (Given.for_now file moment vehicle) told h = h
 no_usage (Given.for_faults file warn) told h = h
 no_usage (Given.for_words text) told h = h
 no_usage (Given.for_hours text) told h = h
+no_usage (Given.for_same first second from) told h = h
 no_usage (Given.for_hours_of text) told h = h
 no_usage (Given.for_records file) told h = h
 no_usage (Given.for_picture texts) told h = h
@@ -429,6 +537,7 @@ answered words given (Err (refusal.Usage why)) give h = absurd (no_usage given w
 answered words given (Err (refusal.Moment why)) give h = (given, give, h)
 answered words given (Err refusal.Vehicle) give h = (given, give, h)
 answered words given (Err (refusal.Word why)) give h = (given, give, h)
+answered words given (Err (refusal.Pair why)) give h = (given, give, h)
 answered words given (Err refusal.NoHours) give h = (given, give, h)
 answered words given (Err (refusal.NoDomain why)) give h = (given, give, h)
 answered words given (Err refusal.NoElement) give h = (given, give, h)

@@ -1,5 +1,5 @@
 -- Which words of a command are given.
-use Rattle.std.specs.Prelude.{◌≡◌, ◌⊎◌, Bool, true, false, List, [], Option, Some, None, codes, option_and_then, option_map}
+use Rattle.std.specs.Prelude.{◌≡◌, ◌⊎◌, Bool, false, List, [], Option, Some, None, codes, option_and_then, option_map}
 use Rattle.std.specs.Prelude.{if◌then◌else◌}
 use Rattle.std.specs.Str.{bytes_eq}
 use Rattle.clap.specs.Walk.{Row, first_of}
@@ -27,6 +27,7 @@ pub data Given : Type 0 where
   for_words : (domain : Text) → Given
   for_hours : (text : Text) → Given
   for_hours_of : (domain : Text) → Given
+  for_same : (first second : Text) → (from : Option Text) → Given
   for_records : (file : Text) → Given
   for_picture : (texts : PictureTexts) → Given
   for_picture_domain : (domain year : Text) → Given
@@ -44,6 +45,11 @@ all_of_picture file element direction vehicle year = None
 abbrev pub all_of_domain : Option Text → Option Text → Option Given
 all_of_domain (Some domain) (Some year) = Some (Given.for_picture_domain domain year)
 all_of_domain domain year = None
+
+-- The option may be left out.
+abbrev pub all_of_same : Option Text → Option Text → Option Text → Option Given
+all_of_same (Some first) (Some second) from = Some (Given.for_same first second from)
+all_of_same first second from = None
 
 -- One of two, if the other is not there.
 abbrev pub either_of_hours : Option Text → Option Text → Option Given
@@ -70,6 +76,9 @@ words_in rows = option_map Given.for_words (first_of (codes "DOMAIN") rows)
 abbrev pub hours_in : List Row → Option Given
 hours_in rows = either_of_hours (first_of (codes "TEXT") rows) (first_of (codes "of") rows)
 
+abbrev pub same_in : List Row → Option Given
+same_in rows = all_of_same (first_of (codes "FIRST") rows) (first_of (codes "SECOND") rows) (first_of (codes "from") rows)
+
 abbrev pub records_in : List Row → Option Given
 records_in rows = option_map Given.for_records (first_of (codes "FILE") rows)
 
@@ -94,6 +103,7 @@ given_in found =
     else if bytes_eq found.0 (codes "faults") then faults_in found.1
     else if bytes_eq found.0 (codes "words") then words_in found.1
     else if bytes_eq found.0 (codes "hours") then hours_in found.1
+    else if bytes_eq found.0 (codes "same") then same_in found.1
     else if bytes_eq found.0 (codes "records") then records_in found.1
     else pictures_in found
 
@@ -129,6 +139,7 @@ texts_of (words.Faults file warn) = Given.for_faults file.now warn
 texts_of (words.Words domain) = Given.for_words domain.now
 texts_of (words.Hours text) = Given.for_hours text.now
 texts_of (words.HoursOf domain) = Given.for_hours_of domain.now
+texts_of (words.Same first second from) = Given.for_same first.now second.now (option_map (λ text. text.now) from)
 texts_of (words.Records file) = Given.for_records file.now
 texts_of (words.Picture given) = Given.for_picture (picture_texts given)
 texts_of (words.PictureDomain domain year) = Given.for_picture_domain domain.now year.now

@@ -6,9 +6,10 @@ use Rattle.clap.specs.declared.error.kind.ErrorKind.TheVariants.{DisplayVersion}
 use Rattle.gtd_desk_plans.specs.CommandLine.{AskForText, Text, version_line}
 use Rattle.gtd_desk_plans.specs.Given.{AreMistaken, Give, Given, PictureTexts}
 use Rattle.gtd_desk_plans.specs.Words.{AreSubjectWords, IsDomainFault, IsMomentWord, IsNoVehicle, IsReadDomain, IsSubjectFault}
-use Rattle.gtd_desk_plans.specs.Words.{IsVehicleWord, IsWordOfDomainFault, IsYearWord}
+use Rattle.gtd_desk_plans.specs.Words.{IsFromWord, IsPairFault, IsVehicleWord, IsWordOfDomainFault, IsYearWord}
 use Rattle.gtd_desk_plans.specs.declared.plans.Plan.{Plan}
 use Rattle.gtd_desk_plans.specs.declared.plans.Plan.TheVariants as plan
+use Rattle.gtd_desk_plans.specs.declared.refusal.PairFault.{PairFault}
 use Rattle.gtd_desk_plans.specs.declared.refusal.Refusal.{Refusal}
 use Rattle.gtd_desk_plans.specs.declared.refusal.Refusal.TheVariants as refusal
 use Rattle.gtd_desk_plans.specs.declared.refusal.WordFault.{WordFault}
@@ -34,6 +35,11 @@ IsTextPlan text other = ⊥
 abbrev pub IsHoursPlan : Text → Plan → Type 0
 IsHoursPlan text (plan.HoursOf domain) = IsReadDomain text domain
 IsHoursPlan text other = ⊥
+
+abbrev pub IsSamePlan : Text → Text → Option Text → Plan → Type 0
+IsSamePlan first second from (plan.Same a b moment) =
+    IsReadDomain first a × IsReadDomain second b × IsFromWord from moment.second
+IsSamePlan first second from other = ⊥
 
 abbrev pub IsRecordsPlan : Text → Plan → Type 0
 IsRecordsPlan file (plan.Records f) = string_bytes f ≡ file
@@ -63,6 +69,7 @@ Asks (Given.for_faults file warn) p = IsFaultsPlan file warn p
 Asks (Given.for_words text) p = IsWordsPlan text p
 Asks (Given.for_hours text) p = IsTextPlan text p
 Asks (Given.for_hours_of text) p = IsHoursPlan text p
+Asks (Given.for_same first second from) p = IsSamePlan first second from p
 Asks (Given.for_records file) p = IsRecordsPlan file p
 Asks (Given.for_picture texts) p = IsPicturePlan texts p
 Asks (Given.for_picture_domain text year) p = IsDomainPlan text year p
@@ -77,6 +84,10 @@ abbrev pub IsOfWord : (WordFault → Type 0) → Refusal → Type 0
 IsOfWord is (refusal.Word why) = is why
 IsOfWord is other = ⊥
 
+abbrev pub IsOfPair : (PairFault → Type 0) → Refusal → Type 0
+IsOfPair is (refusal.Pair why) = is why
+IsOfPair is other = ⊥
+
 -- The refusal is for the first word of the command that stands for nothing. The text of `hours` is read when the plan is carried
 -- out.
 abbrev pub IsWordFault : Given → Refusal → Type 0
@@ -85,6 +96,7 @@ IsWordFault (Given.for_faults file warn) r = ⊥
 IsWordFault (Given.for_words text) r = IsOfWord (IsWordOfDomainFault text) r
 IsWordFault (Given.for_hours text) r = ⊥
 IsWordFault (Given.for_hours_of text) r = IsOfWord (IsWordOfDomainFault text) r
+IsWordFault (Given.for_same first second from) r = IsOfPair (IsPairFault first second from) r
 IsWordFault (Given.for_records file) r = ⊥
 IsWordFault (Given.for_picture texts) r = IsOfWord (IsSubjectFault texts) r
 IsWordFault (Given.for_picture_domain text year) r = IsOfWord (IsDomainFault text year) r

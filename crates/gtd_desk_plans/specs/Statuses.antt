@@ -16,6 +16,7 @@ status_of (refusal.Usage why) = 2
 status_of (refusal.Moment why) = 1
 status_of refusal.Vehicle = 1
 status_of (refusal.Word why) = 1
+status_of (refusal.Pair why) = 1
 status_of refusal.NoHours = 1
 status_of (refusal.NoDomain why) = 1
 status_of refusal.NoElement = 1

@@ -1,6 +1,8 @@
 -- What the single words of a command stand for.
-use Rattle.std.specs.Prelude.{◌≡◌, ℕ, Some, None, Ok, IsSome}
+use Rattle.std.specs.Prelude.{◌≡◌, ◌*ℤ◌, ℕ, pos, Option, Some, None, Ok, Err, IsSome}
 use Rattle.gtd_calendar.specs.Read.{stamp_in}
+use Rattle.gtd_calendar.specs.declared.stamp.StampFault.{StampFault}
+use Rattle.gtd_core.specs.Limits.{day_seconds, first_horizon_day}
 use Rattle.gtd_core.specs.Parts.{domain_tree}
 use Rattle.gtd_core.specs.declared.domain.Domain.{Domain}
 use Rattle.gtd_core.specs.declared.second.Sec.{Sec}
@@ -10,6 +12,8 @@ use Rattle.gtd_text.specs.Reading.{HasNoFault, IsFault, StandsFor}
 use Rattle.gtd_desk_plans.specs.CommandLine.{Text}
 use Rattle.gtd_desk_plans.specs.Given.{PictureTexts}
 use Rattle.gtd_desk_plans.specs.declared.plans.PictureSubject.{PictureSubject}
+use Rattle.gtd_desk_plans.specs.declared.refusal.PairFault.{PairFault}
+use Rattle.gtd_desk_plans.specs.declared.refusal.PairFault.TheVariants as pair
 use Rattle.gtd_desk_plans.specs.declared.refusal.Refusal.{Refusal}
 use Rattle.gtd_desk_plans.specs.declared.refusal.Refusal.TheVariants as refusal
 use Rattle.gtd_desk_plans.specs.declared.refusal.WordFault.{WordFault}
@@ -74,3 +78,18 @@ IsDomainFault domain year other = ⊥
 abbrev pub IsWordOfDomainFault : Text → WordFault → Type 0
 IsWordOfDomainFault domain (fault.Domain why) = IsFault domain why
 IsWordOfDomainFault domain other = ⊥
+
+-- The word, which may be left out, stands for the second: without it, that is 1901-01-01T00:00:00.
+abbrev pub IsFromWord : Option Text → Sec → Type 0
+IsFromWord None second = second.0 ≡ first_horizon_day *ℤ pos day_seconds
+IsFromWord (Some text) second = stamp_in text ≡ Ok second
+
+abbrev pub IsFromFault : Option Text → StampFault → Type 0
+IsFromFault None why = ⊥
+IsFromFault (Some text) why = stamp_in text ≡ Err why
+
+-- The first of the words of `same` that stands for nothing.
+abbrev pub IsPairFault : Text → Text → Option Text → PairFault → Type 0
+IsPairFault first second from (pair.First why) = IsFault first why
+IsPairFault first second from (pair.Second why) = HasNoFault first × IsFault second why
+IsPairFault first second from (pair.From why) = HasNoFault first × HasNoFault second × IsFromFault from why

@@ -8,7 +8,7 @@ ghost use Rattle.clap.specs.Kinds.{HasKind};
 ghost use Rattle.clap.specs.Simple.{App, new_app, with_rule, with_subcommand};
 ghost use Rattle.clap.specs.Walk.{rule_of};
 ghost use Rattle.gtd_desk_plans.specs.CommandLine.{Builds, HasWords, desk_app, domain_app, faults_app, hours_app};
-ghost use Rattle.gtd_desk_plans.specs.CommandLine.{none_given, now_app, picture_app, records_app, word_rule, words_app};
+ghost use Rattle.gtd_desk_plans.specs.CommandLine.{none_given, now_app, picture_app, records_app, same_app, word_rule, words_app};
 
 use clap::{Arg, ArgAction, ArgMatches, Command};
 use std::alloc::{AllocError, Global};
@@ -143,6 +143,27 @@ fn hours_command<'a>(alloc: Global) -> Result<Command<'a>, AllocError>
     add(command, of)
 }
 
+// The command `same`.
+fn same_command<'a>(alloc: Global) -> Result<Command<'a>, AllocError>
+    ensures { Builds same_app result }
+{
+    let command = bare(
+        alloc,
+        "same",
+        "Print whether two time domains have the same seconds, or the first second that one of them has alone",
+    );
+    let command = add_word(alloc, command, "FIRST", "A time domain");
+    let command = add_word(alloc, command, "SECOND", "Another time domain");
+    let from = Arg::new(alloc, "from")
+        .long("from")
+        .value_name("MOMENT")
+        .action(ArgAction::Set)
+        .help(
+            "The second, YYYY-MM-DDThh:mm:ss, to compare from; 1901-01-01T00:00:00 if none is given",
+        );
+    add(command, from)
+}
+
 // The command `records`.
 fn records_command<'a>(alloc: Global) -> Result<Command<'a>, AllocError>
     ensures { Builds records_app result }
@@ -233,6 +254,7 @@ fn gtdesk<'a>(alloc: Global) -> Result<Command<'a>, AllocError>
     let program = add_command(program, faults_command(alloc));
     let program = add_command(program, words_command(alloc));
     let program = add_command(program, hours_command(alloc));
+    let program = add_command(program, same_command(alloc));
     let program = add_command(program, records_command(alloc));
     let program = add_command(program, picture_command(alloc));
     add_command(program, domain_command(alloc))

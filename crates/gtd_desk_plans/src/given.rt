@@ -4,7 +4,8 @@ ghost use Rattle.std.specs.Prelude.{◌≡◌, option_and_then, option_map};
 ghost use Rattle.clap.specs.Matches.{found_of};
 ghost use Rattle.clap.specs.Simple.{subcommand_rows_of};
 ghost use Rattle.clap.specs.Walk.{first_of, rows_of};
-ghost use Rattle.gtd_desk_plans.specs.Given.{all_of_domain, all_of_now, all_of_picture, domain_in, either_of_hours, faults_in};
+ghost use Rattle.gtd_desk_plans.specs.Given.{all_of_domain, all_of_now, all_of_picture, all_of_same, domain_in, either_of_hours};
+ghost use Rattle.gtd_desk_plans.specs.Given.{faults_in, same_in};
 ghost use Rattle.gtd_desk_plans.specs.Given.{given_in, hours_in, is_set, now_in, picture_in, pictures_in, records_in, texts_of};
 ghost use Rattle.gtd_desk_plans.specs.Given.{words_in};
 
@@ -45,6 +46,12 @@ pub(crate) enum Words<'a> {
     /// `hours --of DOMAIN`
     HoursOf {
         domain: &'a str,
+    },
+    /// `same FIRST SECOND [--from MOMENT]`
+    Same {
+        first: &'a str,
+        second: &'a str,
+        from: Option<&'a str>,
     },
     /// `records FILE`
     Records {
@@ -141,6 +148,31 @@ fn hours_words<'a>(given: &ArgMatches<'a>) -> Option<Words<'a>>
     either_of_hours(text, domain)
 }
 
+// The words of `same`, if both domains are given.
+fn all_of_same<'a>(
+    first: Option<&'a str>,
+    second: Option<&'a str>,
+    from: Option<&'a str>,
+) -> Option<Words<'a>>
+    ensures { option_map texts_of result ≡ all_of_same (option_map (λ s. s.now) first.entry)
+        (option_map (λ s. s.now) second.entry) (option_map (λ s. s.now) from.entry) }
+{
+    Some(Words::Same {
+        first: first?,
+        second: second?,
+        from,
+    })
+}
+
+fn same_words<'a>(given: &ArgMatches<'a>) -> Option<Words<'a>>
+    ensures { option_map texts_of result ≡ same_in (rows_of (found_of given.now)) }
+{
+    let first = value(given, "FIRST");
+    let second = value(given, "SECOND");
+    let from = value(given, "from");
+    all_of_same(first, second, from)
+}
+
 fn records_words<'a>(given: &ArgMatches<'a>) -> Option<Words<'a>>
     ensures { option_map texts_of result ≡ records_in (rows_of (found_of given.now)) }
 {
@@ -219,6 +251,7 @@ fn words_of<'a>(name: &str, given: &ArgMatches<'a>) -> Option<Words<'a>>
         "faults" => faults_words(given),
         "words" => words_words(given),
         "hours" => hours_words(given),
+        "same" => same_words(given),
         "records" => records_words(given),
         _ => pictures_words(name, given),
     }

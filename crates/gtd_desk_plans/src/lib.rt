@@ -13,4 +13,4 @@ mod words;
 
 pub use planning::plan;
 pub use plans::{Moment, PictureSubject, Plan};
-pub use refusal::{NoDomain, Refusal, WordFault};
+pub use refusal::{NoDomain, PairFault, Refusal, WordFault};

@@ -1,6 +1,6 @@
 //! From the words of a command line to a plan.
 
-ghost use Rattle.std.specs.Prelude.{◌≡◌, ◌⊎◌, IfErr, IfOk, List, MatchResult, map, string_bytes};
+ghost use Rattle.std.specs.Prelude.{◌≡◌, ◌⊎◌, IfErr, IfOk, List, MatchResult, map, option_map, string_bytes};
 ghost use Rattle.clap.specs.Faults.{fault_of};
 ghost use Rattle.clap.specs.Kinds.{HasKind};
 ghost use Rattle.clap.specs.declared.error.kind.ErrorKind.TheVariants.{DisplayVersion};
@@ -13,8 +13,10 @@ ghost use Rattle.gtd_desk_plans.specs.declared.refusal.Refusal.{Refusal};
 use crate::command_line::parse;
 use crate::given::{PictureWords, Words, given};
 use crate::plans::Plan;
-use crate::refusal::{Refusal, WordFault};
-use crate::words::{domain_of, moment_of, subject_of, vehicle_of, year_of};
+use crate::refusal::{PairFault, Refusal, WordFault};
+use crate::words::{
+    domain_of, domain_or_fault, from_of, moment_of, subject_of, vehicle_of, year_of,
+};
 use clap::error::ErrorKind;
 use std::alloc::{AllocError, Global};
 
@@ -153,6 +155,31 @@ fn plan_hours_of(alloc: Global, domain: &str) -> Result<Plan, Refusal>
     }
 }
 
+// The plan of `same`.
+fn plan_same(alloc: Global, first: &str, second: &str, from: Option<&str>) -> Result<Plan, Refusal>
+    ensures { MatchResult result (Asks (Given.for_same first.now second.now (option_map (λ s. s.now) from.entry)))
+        (IsRefused (Given.for_same first.now second.now (option_map (λ s. s.now) from.entry))) }
+{
+    let first = match domain_or_fault(alloc, first) {
+        Ok(first) => first,
+        Err(Some(fault)) => return Err(Refusal::Pair(PairFault::First(fault))),
+        Err(None) => return Err(Refusal::Memory),
+    };
+    let second = match domain_or_fault(alloc, second) {
+        Ok(second) => second,
+        Err(Some(fault)) => return Err(Refusal::Pair(PairFault::Second(fault))),
+        Err(None) => return Err(Refusal::Memory),
+    };
+    match from_of(from) {
+        Ok(from) => Ok(Plan::Same {
+            first,
+            second,
+            from,
+        }),
+        Err(fault) => Err(Refusal::Pair(PairFault::From(fault))),
+    }
+}
+
 // The plan of `records`.
 fn plan_records(alloc: Global, file: &str) -> Result<Plan, Refusal>
     ensures { MatchResult result (Asks (Given.for_records file.now)) (IsRefused (Given.for_records file.now)) }
@@ -233,6 +260,11 @@ fn plan_given(alloc: Global, given: Words<'_>) -> Result<Plan, Refusal>
         Words::Words { domain } => plan_words(alloc, domain),
         Words::Hours { text } => plan_hours(alloc, text),
         Words::HoursOf { domain } => plan_hours_of(alloc, domain),
+        Words::Same {
+            first,
+            second,
+            from,
+        } => plan_same(alloc, first, second, from),
         Words::Records { file } => plan_records(alloc, file),
         Words::Picture(words) => plan_picture(alloc, words),
         Words::PictureDomain { domain, year } => plan_domain(alloc, domain, year),
@@ -255,8 +287,8 @@ fn plan_line(alloc: Global, words: &[String]) -> Result<Plan, Refusal>
 /// What the words after the program's name ask for, or why they are refused.
 ///
 /// In order: `Usage` if they neither give a command with its words nor ask for help; then the refusal for the first of the
-/// command's words that stands for nothing, from left to right: `Moment` or `Vehicle` for `now`, and `Word` for `words`,
-/// `hours --of`, `picture` and `picture-domain`. If memory was refused, `Memory` is the answer in place of these.
+/// command's words that stands for nothing, from left to right: `Moment` or `Vehicle` for `now`, `Pair` for `same`, and `Word` for
+/// `words`, `hours --of`, `picture` and `picture-domain`. If memory was refused, `Memory` is the answer in place of these.
 pub fn plan(alloc: Global, words: Vec<String>) -> Result<Plan, Refusal>
     // The plan is what the words ask for.
     ensures asked { IfOk result (AskFor (map string_bytes words.items)) }

@@ -78,6 +78,15 @@ pub enum Plan {
         /// The text of the hours.
         text: String,
     },
+    /// To print how the seconds of two time domains compare.
+    Same {
+        /// The first domain.
+        first: Domain,
+        /// The second domain.
+        second: Domain,
+        /// The second to compare from.
+        from: Moment,
+    },
     /// To print the record file of a file of opening hours.
     Records {
         /// The file's path, or `-` for standard input.
@@ -107,6 +116,7 @@ impl Plan {
             Plan::Words { .. } => None,
             Plan::HoursOf { .. } => None,
             Plan::DomainOf { .. } => None,
+            Plan::Same { .. } => None,
             Plan::Show { .. } => None,
         }
     }

@@ -23,6 +23,17 @@ pub enum WordFault {
     Domain(TextFault),
 }
 
+/// Which word of `same` stands for nothing.
+#[derive(Clone, Copy, Debug, PartialEq, Eq)]
+pub enum PairFault {
+    /// The first word for a domain. This is its first fault.
+    First(TextFault),
+    /// The second word for a domain.
+    Second(TextFault),
+    /// The word for a moment.
+    From(StampFault),
+}
+
 /// Why a text of opening hours has no time domain.
 #[derive(Clone, Copy, Debug, PartialEq, Eq)]
 pub enum NoDomain {
@@ -43,6 +54,8 @@ pub enum Refusal {
     Vehicle,
     /// A word of a picture's command, or that of `words` or `hours --of`, stands for nothing.
     Word(WordFault),
+    /// A word of `same` stands for nothing.
+    Pair(PairFault),
     /// No opening hours are found for a time domain. That none have its seconds is not said.
     NoHours,
     /// The text of `hours` has no time domain.
@@ -65,7 +78,7 @@ impl Refusal {
         ensures value { result ≡ status_of self.now }
     {
         match self {
-            Refusal::Moment(_) | Refusal::Vehicle | Refusal::Word(_) => 1,
+            Refusal::Moment(_) | Refusal::Vehicle | Refusal::Word(_) | Refusal::Pair(_) => 1,
             Refusal::NoHours | Refusal::NoDomain(_) | Refusal::NoElement => 1,
             Refusal::Records(fault) => records_status(*fault),
             Refusal::Usage(_) => 2,

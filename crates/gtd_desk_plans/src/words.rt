@@ -1,18 +1,20 @@
 //! What the single words of a command stand for.
 
-ghost use Rattle.std.specs.Prelude.{◌≡◌, ◌≢◌, ◌⊎◌, Err, IfSome, MatchResult, None, Ok, Some};
+ghost use Rattle.std.specs.Prelude.{◌≡◌, ◌≢◌, ◌⊎◌, Err, IfSome, MatchResult, None, Ok, Some, option_map};
 ghost use Rattle.gtd_calendar.specs.Read.{stamp_in};
 ghost use Rattle.gtd_records.specs.Columns.{number_of};
 ghost use Rattle.gtd_runs.specs.Run.{IsVehicleType};
 ghost use Rattle.gtd_desk_plans.specs.Given.{picture_texts};
 ghost use Rattle.gtd_desk_plans.specs.Words.{AreSubjectWords, IsNoDomain, IsNoVehicle, IsNoYear, IsReadDomain, IsSubjectFault};
-ghost use Rattle.gtd_desk_plans.specs.Words.{IsYearWord};
+ghost use Rattle.gtd_desk_plans.specs.Words.{IsFromFault, IsFromWord, IsYearWord};
+ghost use Rattle.gtd_text.specs.Reading.{IsFault};
 
 use crate::given::PictureWords;
 use crate::plans::{Moment, PictureSubject};
 use crate::refusal::{Refusal, WordFault};
 use gtd_calendar::{StampFault, read_stamp};
-use gtd_core::{Domain, Fault, TextFault};
+use gtd_core::limits::FIRST_MOMENT;
+use gtd_core::{Domain, Fault, Sec, TextFault};
 use gtd_records::{read_direction, read_number};
 use gtd_text::read_domain;
 use std::alloc::Global;
@@ -25,6 +27,19 @@ pub(crate) fn moment_of(text: &str) -> Result<Moment, StampFault>
     match read_stamp(text.as_bytes()) {
         Ok(second) => Ok(Moment { second }),
         Err(fault) => Err(fault),
+    }
+}
+
+/// The moment that a word stands for, which may be left out: then it is the first one.
+pub(crate) fn from_of(text: Option<&str>) -> Result<Moment, StampFault>
+    ensures { MatchResult result (λ moment. IsFromWord (option_map (λ s. s.now) text.entry) moment.second)
+        (IsFromFault (option_map (λ s. s.now) text.entry)) }
+{
+    match text {
+        Some(text) => moment_of(text),
+        None => Ok(Moment {
+            second: Sec(FIRST_MOMENT),
+        }),
     }
 }
 
@@ -107,5 +122,16 @@ pub(crate) fn domain_of(alloc: Global, text: &str) -> Result<Domain, Refusal>
     match read_domain(alloc, text.as_bytes()) {
         Ok(domain) => Ok(domain),
         Err(fault) => Err(text_refusal(fault)),
+    }
+}
+
+/// The domain that a word of `same` stands for, or its first fault. No fault is answered if memory was refused.
+pub(crate) fn domain_or_fault(alloc: Global, text: &str) -> Result<Domain, Option<TextFault>>
+    ensures { MatchResult result (IsReadDomain text.now) (λ fault. IfSome fault (IsFault text.now)) }
+{
+    match domain_of(alloc, text) {
+        Ok(domain) => Ok(domain),
+        Err(Refusal::Word(WordFault::Domain(fault))) => Err(Some(fault)),
+        Err(_) => Err(None),
     }
 }

@@ -1,4 +1,5 @@
 use Rattle.gtd_desk.proofs.RunningFacts.{of_domain, of_hours, of_memory, of_none, unread_picture, unread_text}
+use Rattle.gtd_desk.proofs.ComparingFacts.{unread_comparison}
 use Rattle.gtd_desk.proofs.performing.perform.Goals as goal
 
 pub returns-in-DomainPicture-clause-read_faults : goal.returns-in-DomainPicture-clause-read_faults
@@ -12,6 +13,9 @@ returns-in-HoursOf-clause-read_faults g c = unread_text _ _ _ _ _ _ (of_hours _)
 
 pub returns-in-DomainOf-clause-read_faults : goal.returns-in-DomainOf-clause-read_faults
 returns-in-DomainOf-clause-read_faults g c = unread_text _ _ _ _ _ _ (of_domain _ _) _ c.print_domain_of.ensures.put
+
+pub returns-in-Same-clause-read_faults : goal.returns-in-Same-clause-read_faults
+returns-in-Same-clause-read_faults g c = unread_comparison _ _ _ _ _ _ _ _ c.print_comparison.ensures.compared
 
 pub returns-in-Show-clause-read_faults : goal.returns-in-Show-clause-read_faults
 returns-in-Show-clause-read_faults g c = unread_text _ _ _ _ _ _ (of_none _) _ c.print_text.ensures.put

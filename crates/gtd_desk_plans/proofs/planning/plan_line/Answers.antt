@@ -1,8 +1,6 @@
-use Rattle.std.proofs.Common.{map, sym, subst, ◌≡◌}
-use Rattle.std.specs.Prelude.{Option, option_and_then, option_map, string_bytes}
-use Rattle.clap.specs.Simple.{subcommand_rows_of}
-use Rattle.gtd_desk_plans.specs.Given.{given_in, texts_of}
-use Rattle.gtd_desk_plans.specs.declared.given.Words.{Words}
+use Rattle.std.proofs.Common.{map}
+use Rattle.std.specs.Prelude.{string_bytes}
+use Rattle.gtd_desk_plans.specs.Given.{texts_of}
 use Rattle.gtd_desk_plans.proofs.PlanFacts.{answered, give_of}
 use Rattle.gtd_desk_plans.proofs.planning.plan_line.Goals as goal
 

@@ -13,8 +13,9 @@ returns-then-from-until g c =
     let rest : List Interval = g.S.SpanSource.rest c.next.new.self in
     let e : ys ≡ c.in-Some.x ∷ rest = c.in-Some.ensures.takes in
     let ends : c.args.from.0 <ℤ c.in-Some.x.until = omega (arith, ints, c.if-from-until.true, c.until.ensures.value) in
+    let normal : IsNormal (c.in-Some.x ∷ rest) = subst IsNormal e (g.met.S.SpanSource.is_normal c.loop-x.source) in
     record {
-      first = first-of xs rest c.in-Some.x c.args.from.0 c.later.result.0 (subst IsNormal e (g.met.S.SpanSource.is_normal c.loop-x.source))
+      first = first-of xs rest c.in-Some.x c.args.from.0 c.later.result.0 normal
           (λ t later. subst (λ (zs : List Interval). Holds xs t ↔ Holds zs t) e (c.loop-x.invariant t later)) ends
           (omega (arith, ints, c.later.ensures.not_earlier, c.from.ensures.value))
           (elim c.later.ensures.either [ inl a ↦ inl a | inr b ↦ inr (b ∙ c.from.ensures.value) ]);

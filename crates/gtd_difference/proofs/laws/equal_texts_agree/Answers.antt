@@ -9,8 +9,8 @@ pub returns : goal.returns
 returns c = record {
   agree = λ a b same t.
       let law = c.canonical_text_of_domain.ensures in
-      let e : domain_tree a ≡ domain_tree b = law.only b (domain_tree a) (subst (λ (text : List ℕ). StandsFor text (domain_tree a))
-      same (law.stands a)) in (
+      let stands = subst (λ (text : List ℕ). StandsFor text (domain_tree a)) same (law.stands a) in
+      let e : domain_tree a ≡ domain_tree b = law.only b (domain_tree a) stands in (
         (λ h. subst (λ (tree : Tree). InTree tree t) e h),
         (λ h. subst (λ (tree : Tree). InTree tree t) (sym e) h),
       );
