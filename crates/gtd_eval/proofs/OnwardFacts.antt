@@ -67,9 +67,10 @@ module _ (d : BasicDomain) (a b : ℤ) (x : Interval) (xs : List Interval) (e : 
       holds = rw holds ((λ h. absurd (cc)), (λ h. absurd (out s le lt h)));
       later = omega (arith, ints, until, lt);
       within = (let i = begins.1 in omega (arith, ints, until, i));
-      same = λ t after before.
-          ((λ h. absurd (out s le lt h)),
-          (λ h. absurd (out t (omega (arith, ints, le, after)) (omega (arith, ints, until, before)) h)));
+      same = λ t after before. (
+        (λ h. absurd (out s le lt h)),
+        (λ h. absurd (out t (omega (arith, ints, le, after)) (omega (arith, ints, until, before)) h)),
+      );
     }
       where
         out : (t : ℤ) → a ≤ℤ t → t <ℤ x.from → InBasic d t → ⊥
