@@ -138,6 +138,12 @@ def taken_on_few_days():
         ("and its second one", "[(s0){s1}]*[(s1){s1}]*[(M2d29){d1}]"),
     ):
         yield Case(f"ever, each minute's first second {name}, on 29 February", ["ever", text, MOMENT], spans, "spans")
+    for name, text in (
+        ("even seconds", joined(minute_starts(30))),
+        ("two hours of each day", "(h5){h1}+(h7){h1}"),
+    ):
+        never = f"[{text}]*[(M2d29){{d1}}]*[(M3d1){{d1}}]"
+        yield Case(f"ever, {name} of a 29 February that is 1 March", ["ever", never, MOMENT])
 
 
 def words():
