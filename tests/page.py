@@ -6,7 +6,7 @@ use it: by keyboard, in both colour schemes, at 320 pixels, with files at fault,
 memory of 64 bits. The pictures of the page in docs/pictures/page are compared by what is in them: the words that stand beside
 each, its size and its colours. Run it after `rt ci`, which builds the programs; it calls web/build.sh.
 
-Usage: tests/page.py             tests the page
+Usage: tests/page.py             tests the page; with PAGE_BUILT=1 as it was built before
        tests/page.py --write     makes the pictures in docs/pictures/page, and the words beside them, anew
 """
 import json
@@ -33,6 +33,7 @@ SAMPLES = {"A town": "town.csv", "A mountain pass": "pass.csv", "A works office"
 ROOMS = {"domain": "A domain", "file": "A file", "about": "About"}
 PLACE = {"x": 0, "y": 0, "width": 1242, "height": 600}  # of a picture in its own size
 LARGEST, MOST_SECONDS = 65536, 3
+MEMORY64 = 133  # the first version of Chromium with it
 NAMED = {"button", "link", "textbox", "spinbutton", "checkbox", "combobox", "Date", "DateTime", "InputTime", "dialog",
          "navigation", "image", "img", "table", "searchbox"}
 
@@ -196,7 +197,10 @@ def check_domains(browser, address):
         same(browser.run("document.getElementById('text').value"), text, f"{name}: the text in the field")
         if not browser.run("document.getElementById('answers').hidden"):
             check_domain(browser, text, text if text[0] in "[(" else told(DESK, "hours", "--", text).rstrip("\n"))
-    for text in word_rows():
+    # The deepest that is read, on either side.
+    right = "[(M5h1){h2}-" * 127 + "(M5h1){h1}" + "]" * 127
+    left = "[" * 128 + "(h1){h1}]" + "-(h2){h1}]" * 127
+    for text in word_rows() + [right, left]:
         type_text(browser, text)
         check_domain(browser, text, text)
     for moment in ("", "1900-12-31T23:59:59", "2200-01-01T00:00:00"):
@@ -421,9 +425,17 @@ def check_largest(browser, room):
             element, vehicle = choose.randint(1, 30000), choose.choice([0, 11, 12])
             file.write(f"{element},{choose.choice(ways)},{vehicle},{choose.choice(domains)}\n")
     ask_file(browser)
-    begun = time.monotonic()
-    choose_file(browser, path)
-    took = time.monotonic() - begun
+    took = []
+    for attempt in range(3):
+        # A busy machine may be slow once.
+        again = f"{path}{attempt}"
+        shutil.copy(path, again)
+        begun = time.monotonic()
+        choose_file(browser, again)
+        took.append(time.monotonic() - begun)
+        if took[-1] < MOST_SECONDS / 2:
+            break
+    took = min(took)
     check(took < MOST_SECONDS, f"a file of {LARGEST} rows took {took:.1f} s")
     print(f"page: {LARGEST} rows in {took:.2f} s: {text_of(browser, 'read')}")
     wanted = list(now_lines(path, MOMENT, VEHICLE, room))
@@ -597,6 +609,13 @@ def check_requests(browser, address):
     same(thrown, [], "errors in the console")
 
 
+def check_browser(browser):
+    """The browser has a memory of 64 bits in WebAssembly, as it has from this version on."""
+    product = browser.send("Browser.getVersion")["product"]
+    print(f"page: {product}")
+    check(int(re.search(r"/(\d+)", product)[1]) >= MEMORY64, f"{product} has no memory64")
+
+
 def check_views(browser, address, write):
     """The kept pictures of the page show what the page shows now."""
     for view in VIEWS:
@@ -621,7 +640,7 @@ def main():
         os.mkdir(os.path.join(room, "browser"))
         os.mkdir(os.path.join(room, "files"))
         browser = Browser(os.path.join(room, "browser"))
-        parts = [lambda: check_views(browser, address, write)]
+        parts = [lambda: check_browser(browser), lambda: check_views(browser, address, write)]
         if not write:
             parts += [lambda one=one: one(browser, address) for one in (check_domains, check_typing, check_faults)]
             parts += [lambda: check_files(browser, address, os.path.join(room, "files"))]

@@ -49,7 +49,7 @@ module() {
 # compiled CRATE LEVEL: the crate's object for wasm64, from its LLVM module as text, for another processor.
 compiled() {
     local kept=$top/crates/$1/out/$1.bc sum made=$top/crates/$1/out/$1.wasm64
-    sum=$({ cat "$kept" "$here/build.sh"; "$clang" --version; } | sha256sum)
+    sum=$({ cat "$kept"; declare -f compiled; echo "${target[@]}" "$2"; "$clang" --version; } | sha256sum)
     [ -e "$made.o" ] && [ "$(cat "$made.sum" 2> /dev/null)" = "$sum" ] && return
     rm -f "$made.sum"
     "$clang" --target=x86_64-unknown-linux-gnu -x ir "$kept" -S -emit-llvm -O0 -Xclang -disable-llvm-passes -o "$work/$1.x86.ll"
@@ -62,9 +62,10 @@ compiled() {
     echo "$sum" > "$made.sum"
 }
 
-# linked MODULE WORDS..: a module of objects and the names that it exports. A name that nothing defines is told.
+# linked MODULE WORDS..: a module of objects and the names that it exports. A name that nothing defines is told. The stack comes
+# first, so that the module stops where it is too deep, and writes over nothing.
 linked() {
-    "$linker" -m wasm64 --no-entry --gc-sections --strip-all -z stack-size=1048576 "${@:2}" -o "$work/$1" ||
+    "$linker" -m wasm64 --no-entry --gc-sections --strip-all --stack-first -z stack-size=8388608 "${@:2}" -o "$work/$1" ||
         missing "$1 could not be linked"
     mv "$work/$1" "$out/$1"
 }
