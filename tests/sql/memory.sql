@@ -1,5 +1,5 @@
--- Each function of the extension of SQLite, with what it answers and what it refuses, over the table of tests/sql/rows.sql, for runs
--- in which memory is watched or refused. Errors are on standard error.
+-- Each function of the extension of SQLite, with what it answers and what it refuses, over the table of tests/sql/rows.sql, for
+-- runs in which memory is watched or refused. Errors are on standard error.
 SELECT element, gtd_check(domain) FROM r;
 SELECT element, gtd_canon(domain), gtd_words(domain) FROM r WHERE gtd_check(domain) IS NULL;
 SELECT element, gtd_holds(domain, '2024-03-16T10:00:00'), gtd_holds(domain, 0) FROM r WHERE gtd_check(domain) IS NULL;

@@ -17,8 +17,8 @@ MOST = 20_000
 def run(extension, base, **variables):
     """The status of a run, the lines that it printed, and what it wrote to standard error."""
     with open(SCRIPT, encoding="ascii") as script:
-        done = subprocess.run(["sqlite3", "-readonly", "-init", "/dev/null", "-cmd", f".load {extension}", base], stdin=script, capture_output=True,
-                              text=True, timeout=60, env={**os.environ, **variables})
+        done = subprocess.run(["sqlite3", "-readonly", "-init", "/dev/null", "-cmd", f".load {extension}", base], stdin=script,
+                              capture_output=True, text=True, timeout=60, env={**os.environ, **variables})
     return done.returncode, done.stdout.splitlines(), done.stderr
 
 
