@@ -1,10 +1,11 @@
 #!/usr/bin/env bash
 # Makes five packages in the folder given (by default the current one): gtd, of the proved programs; libgtd0, the library;
-# libgtd-dev, what programs that use it are built with; libsqlite3-mod-gtd and postgresql-15-gtd, the extensions of databases, which
-# need libsqlite3-dev and postgresql-server-dev-15 to be built. Run it after `rt ci`, or `rt run` in crates/gtd and in crates/gtdesk,
-# which proves and builds the programs; bindings/build.sh makes the library if it is missing. Version and date are those of the
-# newest release in CHANGELOG.md, and the same programs and files give the same bytes. packaging/pages.py makes the man pages of
-# the programs and their completions. Packagers set the maintainer in the environment variable GTD_MAINTAINER.
+# libgtd-dev, what programs that use it are built with; libsqlite3-mod-gtd and postgresql-15-gtd, the extensions of databases,
+# which need libsqlite3-dev and postgresql-server-dev-15 to be built. Run it after `rt ci`, or `rt run` in crates/gtd and in
+# crates/gtdesk, which proves and builds the programs; bindings/build.sh makes the library if it is missing. Version and date
+# are those of the newest release in CHANGELOG.md, and the same programs and files give the same bytes. packaging/pages.py
+# makes the man pages of the programs and their completions. Packagers set the maintainer in the environment variable
+# GTD_MAINTAINER.
 # Usage: packaging/deb.sh [FOLDER]
 set -eu
 into=$(cd "${1:-.}" && pwd)
