@@ -54,7 +54,7 @@ def programs():
             elif kind == "list":
                 heading = rest
             elif kind == "command":
-                name, *words = rest.split()
+                name, *words = re.findall(r"\[[^]]*\]|\S+", rest)
                 below = []
                 now.command(name, heading).ways.append((words, below))
             elif kind == "word":
@@ -66,14 +66,21 @@ def programs():
     return made
 
 
+def parts_of(word):
+    """The words that a word of a command stands for: two for an option that is given with a word."""
+    return word.strip("[]").split()
+
+
 def mdoc(words):
     """Words in the language of man pages, as `Oo Fl Fl warn Oc Ar file`."""
     made, in_words = [], False
     for word in words:
-        name = word.strip("[]")
-        shown = f"Fl Fl {name[2:]}" if name.startswith("--") else name.lower() if in_words and word == name else f"Ar {name.lower()}"
-        in_words = not name.startswith("--") and word == name
-        made.append(f"Oo {shown} Oc" if word != name else shown)
+        shown = []
+        for name in parts_of(word):
+            is_option, follows = name.startswith("--"), in_words and word == name
+            shown.append(f"Fl Fl {name[2:]}" if is_option else name.lower() if follows else f"Ar {name.lower()}")
+            in_words = not is_option and word == name
+        made.append(" ".join(["Oo", *shown, "Oc"] if word[0] == "[" else shown))
     return " ".join(made)
 
 
@@ -115,19 +122,23 @@ def man_page(program):
 
 
 def places(program):
-    """What may stand where: triples of a command, the number of a word after it, from 1, and the word."""
+    """What may stand where: triples of a command, the number of a word after it, from 1, and the word. An option that is given
+    with a word may stand before any other."""
     for command in program.commands:
         for words, _ in command.ways:
-            left_out = 0
-            for at, word in enumerate(words, 1):
-                for place in range(at - left_out, at + 1):
-                    yield command.name, place, word.strip("[]")
-                left_out += word.startswith("[--")
+            left_out, at = 0, 1
+            for word in words:
+                name, *given = parts_of(word)
+                for place in range(1 if given else at - left_out, at + 1):
+                    yield command.name, place, name
+                yield from ((command.name, at + 1, it) for it in given)
+                left_out += word.startswith("[--") and not given
+                at += 1 + len(given)
 
 
 def patterns(program, first, kinds):
-    """What a shell completes: for each kind of what is due, the patterns of the places where it is. Options come first, since they
-    begin with a sign of their own."""
+    """What a shell completes: for each kind of what is due, the patterns of the places where it is. Options come first, since
+    they begin with a sign of their own."""
     found = {}
     for command, place, word in places(program):
         kind = word if word.startswith("--") else program.words[word][0]
@@ -237,7 +248,7 @@ def compare_help(program, path):
         if usage != usage_of(program, command):
             failed.append(f"help says {usage!r}, and commands.txt {usage_of(program, command)!r}")
         options = {it for it in re.findall(r"(--[a-z-]+)", text.partition("Options:\n")[2]) if it not in ("--help",)}
-        given = {word.strip("[]") for words, _ in command.ways for word in words if "--" in word}
+        given = {parts_of(word)[0] for words, _ in command.ways for word in words if "--" in word}
         if options - {"--"} != given:
             failed.append(f"{command.name}: help has the options {options}, and commands.txt {given}")
     return failed
