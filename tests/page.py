@@ -239,9 +239,9 @@ def check_typing(browser, address):
 
 
 def documented_faults():
-    """The texts with faults that docs/LANGUAGE.md checks, and those of hours in docs/HOURS.md."""
-    with open(os.path.join(TOP, "docs", "LANGUAGE.md"), encoding="utf-8") as file:
-        texts = re.findall(r"^\$ gtd check '([^']*)'\nfault", file.read(), re.M)
+    """The texts with faults of tests/rows/language.rows, and those of hours in docs/HOURS.md."""
+    with open(os.path.join(TOP, "tests", "rows", "language.rows"), encoding="utf-8") as file:
+        texts = re.findall(r"^check '([^'\\]*)'\tfault", file.read(), re.M)
     with open(os.path.join(TOP, "docs", "HOURS.md"), encoding="utf-8") as file:
         hours = re.findall(r"^\| `([^`]+)` \| `\w+` at \d+ \|", file.read(), re.M)
     many = "(h1){h1}" + "+(h1){h1}" * 128
