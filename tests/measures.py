@@ -20,7 +20,7 @@ SHARED = 6
 LONG = 7
 # A command of each program, as its crates write it, and the report that is smallest.
 COMMAND = ("gtd", r"\b[Mm]igrate\b", ["gtd_tool"])
-DESK_COMMAND = ("gtdesk", r"DomainPicture|picture-domain|domain_picture", ["gtd_desk_plans", "gtd_desk"])
+DESK_COMMAND = ("gtdesk", r"DomainPicture|picture-domain|domain_picture", ["gtdesk_plans", "gtdesk_tool"])
 REPORT = "gtd_year"
 
 

@@ -7,8 +7,8 @@ set -u
 ulimit -c 0
 here=$(cd "$(dirname "$0")" && pwd)
 crates=$here/../crates
-layers=$crates/gtd_layer_rows/out/gtd_layer_rows_tests
-commands=$crates/gtd_command_rows/out/gtd_command_rows_tests
+layers=$crates/gtd_test_layers/out/gtd_test_layers_tests
+commands=$crates/gtd_test_commands/out/gtd_test_commands_tests
 gtd=$(realpath -m "${GTD:-$crates/gtd/out/gtd}")
 gtdesk=$(realpath -m "${GTDESK:-$crates/gtdesk/out/gtdesk}")
 for built in "$layers" "$commands" "$gtd" "$gtdesk"; do

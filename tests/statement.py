@@ -26,8 +26,8 @@ CLAIMS = [
     ("the state now", ("gtd_now", "src/run.rt", "run_now", ("accepted", "refused"))),
     ("the list of faults", ("gtd_faults", "src/run.rt", "run_faults", ("listed",))),
     ("the picture of a year", ("gtd_picture", "src/run.rt", "run_picture", ("accepted", "refused", "unnamed"))),
-    ("the domain of opening hours", ("gtd_desk", "src/hours_domain.rt", "print_domain_of", ("put",))),
-    ("a file of opening hours", ("gtd_hours_records", "src/run.rt", "run_hours_records", ("stands",))),
+    ("the domain of opening hours", ("gtdesk_tool", "src/hours_domain.rt", "print_domain_of", ("put",))),
+    ("a file of opening hours", ("gtd_hours_file", "src/run.rt", "run_hours_records", ("stands",))),
 ]
 MOST_LINES, MOST_FILES, MOST_WITH_TYPES = 420, 20, 600
 # A page of A4 takes 105 lines of 130 characters in a print of 7 points.

@@ -5,7 +5,7 @@ use Rattle.gtd_core.specs.Seconds.{IsHorizonSecond, day_of_second}
 use Rattle.gtd_eval.specs.Ever.{NeverChangesAfter}
 use Rattle.gtd_records.specs.Closing.{IsClosed, Restriction}
 use Rattle.gtd_spans.specs.Change.{NeverChanges}
-use Rattle.gtd_runs.specs.Run.{IsVehicleType}
+use Rattle.gtd_report.specs.Run.{IsVehicleType}
 use Rattle.gtd_c.specs.Answers.{IsRange, IsWhether, direction_of}
 
 -- membership in the set never changes after the second

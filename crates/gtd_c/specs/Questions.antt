@@ -2,7 +2,7 @@
 use Rattle.std.specs.Prelude.{List, false, pos}
 use Rattle.gtd_core.specs.Seconds.{IsHorizonSecond}
 use Rattle.gtd_records.specs.Closing.{IsClosed, Restriction}
-use Rattle.gtd_runs.specs.Run.{IsVehicleType}
+use Rattle.gtd_report.specs.Run.{IsVehicleType}
 use Rattle.gtd_c.specs.Answers.{direction_of}
 use Rattle.gtd_c.specs.declared.questions.Question.{Question}
 

@@ -3,7 +3,7 @@ use Rattle.std.specs.Prelude.{◌≡◌, ℕ, ℤ, List}
 use Rattle.gtd_core.specs.Whole.{from_day, to_day}
 use Rattle.gtd_core.specs.declared.horizon.Horizon.{Horizon}
 use Rattle.gtd_records.specs.Closing.{Restriction}
-use Rattle.gtd_runs.specs.Putting.{text_of}
+use Rattle.gtd_report.specs.Putting.{text_of}
 use Rattle.gtd_schedule.specs.Schedule.{IsSchedule}
 
 -- the bytes are the schedule of the records for the vehicle type, from the one day up to the other

@@ -4,7 +4,7 @@ ghost use Rattle.std.specs.Prelude.{◌≡◌, ◌≤◌, ◌⊎◌, IfErr, IfOk
 ghost use Rattle.gtd_core.specs.Limits.{most_rows};
 ghost use Rattle.gtd_core.specs.Seconds.{IsHorizonSecond};
 ghost use Rattle.gtd_records.specs.ClosingRows.{AreClosingRows};
-ghost use Rattle.gtd_runs.specs.Run.{IsVehicleType};
+ghost use Rattle.gtd_report.specs.Run.{IsVehicleType};
 ghost use Rattle.gtd_c.specs.Answers.{IsRange, direction_of, gtd_memory, gtd_range, gtd_short, gtd_yes};
 ghost use Rattle.gtd_c.specs.Handles.{OfRecords};
 ghost use Rattle.gtd_c.specs.Rows.{AreClosersWritten, AreRowNumbers};

@@ -2,7 +2,7 @@
 
 ghost use Rattle.std.specs.Prelude.{◌↔◌, IsTrue};
 ghost use Rattle.gtd_core.specs.Seconds.{IsHorizonSecond, IsMomentSecond};
-ghost use Rattle.gtd_runs.specs.Run.{IsVehicleType};
+ghost use Rattle.gtd_report.specs.Run.{IsVehicleType};
 ghost use Rattle.gtd_c.specs.Answers.{direction_of};
 ghost use Rattle.std.specs.Prelude.{◌≡◌};
 

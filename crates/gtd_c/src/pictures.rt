@@ -1,7 +1,7 @@
 //! Pictures.
 
 ghost use Rattle.std.specs.Prelude.{◌≡◌, ◌≤◌, ◌⊎◌, IfErr, IfOk, None};
-ghost use Rattle.gtd_runs.specs.Run.{IsTableYear};
+ghost use Rattle.gtd_report.specs.Run.{IsTableYear};
 ghost use Rattle.gtd_c.specs.Answers.{IsRange, gtd_memory, gtd_no, gtd_range, gtd_yes};
 ghost use Rattle.gtd_c.specs.Handles.{IsTextOf, OfDomain};
 ghost use Rattle.gtd_c.specs.Pictures.{IsPictureText};

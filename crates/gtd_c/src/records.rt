@@ -8,7 +8,7 @@ ghost use Rattle.gtd_eval.specs.Cursors.{cursor_list};
 ghost use Rattle.gtd_spans.specs.Normal.{IsNormalFor};
 ghost use Rattle.gtd_records.specs.Closing.{IsOpen};
 ghost use Rattle.gtd_records.specs.File.{IsFile, IsOfFile};
-ghost use Rattle.gtd_runs.specs.Run.{IsVehicleType};
+ghost use Rattle.gtd_report.specs.Run.{IsVehicleType};
 ghost use Rattle.gtd_c.specs.Answers.{IsRange, day_begin, direction_of, gtd_kind, gtd_memory, gtd_no, gtd_range, gtd_yes};
 ghost use Rattle.gtd_c.specs.Changes.{IsClosedAnswer};
 ghost use Rattle.gtd_c.specs.Faults.{IsFirstRecordFault};

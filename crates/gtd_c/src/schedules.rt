@@ -2,7 +2,7 @@
 
 ghost use Rattle.std.specs.Prelude.{◌≡◌, ◌≤◌, ◌⊎◌, IfOk, IfErr, None, Some};
 ghost use Rattle.gtd_core.specs.Horizons.{IsHorizon};
-ghost use Rattle.gtd_runs.specs.Run.{IsVehicleType};
+ghost use Rattle.gtd_report.specs.Run.{IsVehicleType};
 ghost use Rattle.gtd_c.specs.Answers.{IsRange, gtd_memory, gtd_no, gtd_range, gtd_yes};
 ghost use Rattle.gtd_c.specs.Handles.{IsTextOf, OfRecords};
 ghost use Rattle.gtd_c.specs.Schedules.{IsScheduleText};
@@ -14,7 +14,7 @@ use crate::output::Collected;
 use crate::shared_records::SharedRecords;
 use crate::texts::open_text;
 use gtd_core::Horizon;
-use gtd_runs::{Progress, Report};
+use gtd_report::{Progress, Report};
 use gtd_schedule::Schedule;
 use std::alloc::Global;
 

@@ -10,7 +10,7 @@ use crate::list_fault::{ListFault, fault_of_input};
 use gtd_core::limits::MOST_FILE_BYTES;
 use gtd_devices::{Input, InputFault, Output, read_whole};
 use gtd_records::{RecordFault, faults_of};
-use gtd_runs::{Progress, finish, put_line};
+use gtd_report::{Progress, finish, put_line};
 use std::alloc::Global;
 
 // Puts a text, and ends the output.

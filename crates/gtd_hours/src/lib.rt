@@ -1,17 +1,28 @@
-//! Opening hours of OpenStreetMap as texts: their tokens.
+//! Opening hours of OpenStreetMap, as time domains.
 //!
-//! Which tokens a text is made of is a relation in `specs/Lexing.antt`, apart from the code. [`next_token`] hands out one token
-//! after another and keeps no list of them, so that it takes no memory. The laws in [`laws`] say that a text has one token at
-//! most at each place, and one answer.
+//! Hours are values: rules with selectors of days, ranges of times and a modifier. `domain_of` answers the domain with exactly
+//! their open seconds, `cost_of` how many basic domains that takes, and `print_hours` their text. A weekday is 1 for Sunday to
+//! 7 for Saturday, and times are minutes from the beginning of a day of the local civil clock.
 #![tactic(auto)]
 
-pub mod laws;
-mod lexer;
-mod numbers;
-mod runs;
-mod signs;
-mod token;
-mod words;
+pub use cost::cost_of;
+pub use hours::{
+    Dated, Dates, Hours, Kind, Link, Modifier, MonthDay, Months, Place, Rule, Selector, TimeRange,
+    Weekdays, Weeks, YearDate, Years,
+};
+pub use printer::print_hours;
+pub use translate::{HoursFault, domain_of};
 
-pub use lexer::{check_tokens, next_token};
-pub use token::{BadToken, Token, TokenKind};
+mod clock;
+mod cost;
+mod dated;
+mod dates;
+mod days;
+mod hours;
+mod leaf;
+mod level;
+mod making;
+mod numbers;
+mod printer;
+mod spans;
+mod translate;

@@ -1,91 +1,176 @@
-//! Numbers and times.
+//! The days of years and of weeks.
 
-ghost use Rattle.std.specs.Prelude.{◌≡◌, ◌<◌, ◌≤◌, ◌^◌, length, true};
-ghost use Rattle.std.specs.Char.{is_ascii_digit};
-ghost use Rattle.std.specs.List.{list_all};
-ghost use Rattle.std.specs.Str.Parse.{digits_value};
-ghost use Rattle.gtd_hours.specs.Lexing.{begins_minutes};
-ghost use Rattle.gtd_hours.specs.TokenAt.{number, number_front, time, time_front};
+ghost use Rattle.std.specs.Prelude.{◌≡◌, ◌↔◌, ◌⊎◌, ◌+◌, ◌-◌, ◌*◌, ◌<◌, ◌≤◌, ◌/◌, ◌%◌, min, ℕ, ℤ, IfOk};
+ghost use Rattle.gtd_core.specs.Trees.{leaf_count, tree_of};
+ghost use Rattle.gtd_hours.specs.Cost.{steps_cost, weeks_cost, years_cost};
+ghost use Rattle.gtd_hours.specs.Translation.{AreDays, HasNumber, HasNumberWithin, HoldsAt, InMaybe, IsRun};
+ghost use Rattle.gtd_hours.specs.Translation.{maybe_leaves, minutes_of, moved_day};
+ghost use Rattle.gtd_hours.specs.declared.hours.Selector.TheVariants as selector;
 
-use crate::runs::{after_digits, digits_at_front};
-use crate::token::TokenKind;
+use crate::clock::Clock;
+use crate::hours::{Weeks, Years};
+use crate::leaf::{NO_DURATION, NO_PARTS, leaf, or_nothing, unite};
+use crate::level::Level;
+use gtd_core::{DurationParts, Expr, StartParts};
+use std::alloc::{AllocError, Global};
 
-/// The number or the time that begins with this longest run of digits and goes on with these bytes, and its length.
-pub fn number_front(digits: &[u8], rest: &[u8]) -> Option<(TokenKind, usize)>
-    requires { list_all is_ascii_digit digits.now ≡ true }
-    ensures { result ≡ number_front digits.now rest.now }
+/// The most years that a stretch can hold.
+pub(crate) const MOST_YEARS: u16 = 100;
+
+/// The bit of Monday among weekdays.
+const MONDAY: u8 = 2;
+
+fn year_run(first: u16, last: u16, clock: Clock) -> Expr
+    requires { IsRun Level.Year first last }
+    ensures days { AreDays (minutes_of clock) (HasNumberWithin Level.Year first last) result }
+    ensures leaves { leaf_count (tree_of result) ≡ 1 }
 {
-    if begins_minutes(rest) {
-        time_front(digits, &rest[1..])
-    } else {
-        number(digits)
+    leaf(
+        StartParts {
+            year: Some(first),
+            month: Some(1),
+            day: Some(1),
+            ..NO_PARTS
+        },
+        DurationParts {
+            years: u32::from(last + 1 - first),
+            ..NO_DURATION
+        },
+        clock,
+    )
+}
+
+fn week_run(first: u16, last: u16, clock: Clock) -> Expr
+    requires { IsRun Level.Week first last }
+    ensures days { AreDays (minutes_of clock) (HasNumberWithin Level.Week first last) result }
+    ensures leaves { leaf_count (tree_of result) ≡ 1 }
+{
+    leaf(
+        StartParts {
+            week: Some(first as u8),
+            weekdays: MONDAY,
+            ..NO_PARTS
+        },
+        DurationParts {
+            weeks: u32::from(last + 1 - first),
+            ..NO_DURATION
+        },
+        clock,
+    )
+}
+
+// The days of the numbers from one to another, in one stretch.
+fn run(level: Level, first: u16, last: u16, clock: Clock) -> Expr
+    requires { IsRun level first last }
+    ensures days { AreDays (minutes_of clock) (HasNumberWithin level first last) result }
+    ensures leaves { leaf_count (tree_of result) ≡ 1 }
+{
+    match level {
+        Level::Year => year_run(first, last, clock),
+        Level::Week => week_run(first, last, clock),
     }
 }
 
-// Whether there is a colon with a digit behind it.
-fn begins_minutes(bytes: &[u8]) -> bool
-    ensures { result ≡ begins_minutes bytes.now }
+fn lesser(a: u16, b: u16) -> u16
+    ensures { result ≡ min a b }
 {
-    match bytes {
-        [b':', digit, ..] => digit.is_ascii_digit(),
-        _ => false,
+    if a < b { a } else { b }
+}
+
+// The number at which a piece begins.
+fn begin_of(first: u16, last: u16, stride: u16, piece: u16) -> u16
+    requires order { first ≤ last }
+    requires some { 0 < stride }
+    requires within { piece ≤ (last - first) / stride }
+    ensures value { result ≡ first + piece * stride }
+    ensures most { result ≤ last }
+{
+    first + piece * stride
+}
+
+// The numbers of each piece: so many from its beginning on, of every so many from the first to the last.
+fn pieces(
+    alloc: Global,
+    level: Level,
+    first: u16,
+    last: u16,
+    stride: u16,
+    width: u16,
+    clock: Clock,
+) -> Result<Expr, AllocError>
+    requires order { first ≤ last }
+    requires small { (last ≤ 9999) × (width ≤ 9999) }
+    requires some { (1 ≤ width) × (width ≤ stride) }
+    requires runs { (k : ℕ) → first ≤ k → k ≤ last → IsRun level k (min (k + width - 1) last) }
+    ensures days { IfOk result (AreDays (minutes_of clock) (λ n. (k : ℕ) × (first ≤ k) × (k ≤ last)
+        × ((k - first) % stride < width) × HasNumber level k n)) }
+    ensures leaves { IfOk result (λ e. leaf_count (tree_of e) ≡ steps_cost first last stride) }
+{
+    let mut so_far = None;
+    for piece in 0..(last - first) / stride + 1 {
+        let begin = begin_of(first, last, stride, piece);
+        let days = run(level, begin, lesser(begin + width - 1, last), clock);
+        let union = unite(alloc, so_far, days)?;
+        so_far = Some(union);
     }
+    Ok(or_nothing(so_far))
 }
 
-fn number(digits: &[u8]) -> Option<(TokenKind, usize)>
-    requires { list_all is_ascii_digit digits.now ≡ true }
-    ensures { result ≡ number digits.now }
+/// The days of the years.
+pub fn year_days(alloc: Global, years: Years, clock: Clock) -> Result<Expr, AllocError>
+    ensures days { IfOk result (AreDays (minutes_of clock) (HoldsAt (selector.Years years))) }
+    ensures leaves { IfOk result (λ e. leaf_count (tree_of e) ≡ years_cost years.first years.last years.step) }
 {
-    if digits.len() > 4 {
-        return None;
+    if years.step == 1 {
+        return pieces(
+            alloc,
+            Level::Year,
+            years.first,
+            years.last,
+            MOST_YEARS,
+            MOST_YEARS,
+            clock,
+        );
     }
-    let value = digits_value(digits);
-    let kind = TokenKind::Number {
-        value,
-        digits: digits.len() as u8,
-    };
-    Some((kind, digits.len()))
+    pieces(
+        alloc,
+        Level::Year,
+        years.first,
+        years.last,
+        years.step,
+        1,
+        clock,
+    )
 }
 
-fn time_front(hour: &[u8], bytes: &[u8]) -> Option<(TokenKind, usize)>
-    requires { list_all is_ascii_digit hour.now ≡ true }
-    ensures { result ≡ time_front hour.now bytes.now }
+// The days of weeks one after another. Not each year has a week 53, so it is a stretch by itself.
+fn straight_weeks(alloc: Global, first: u16, last: u16, clock: Clock) -> Result<Expr, AllocError>
+    requires { (1 ≤ first) × (first ≤ last) × (last ≤ 53) }
+    ensures days { IfOk result (AreDays (minutes_of clock) (HasNumberWithin Level.Week first last)) }
+    ensures leaves { IfOk result (λ e. leaf_count (tree_of e) ≡ weeks_cost first last 1) }
 {
-    time(hour, digits_at_front(bytes), after_digits(bytes))
-}
-
-fn time(hour: &[u8], minute: &[u8], rest: &[u8]) -> Option<(TokenKind, usize)>
-    requires hours { list_all is_ascii_digit hour.now ≡ true }
-    requires minutes { list_all is_ascii_digit minute.now ≡ true }
-    ensures { result ≡ time hour.now minute.now rest.now }
-{
-    if hour.len() != 2 || minute.len() != 2 || begins_minutes(rest) {
-        return None;
+    if first == 53 || last < 53 {
+        return Ok(week_run(first, last, clock));
     }
-    let kind = TokenKind::Time {
-        hour: two_digits(hour),
-        minute: two_digits(minute),
-    };
-    Some((kind, 5))
+    let before = week_run(first, 52, clock);
+    unite(alloc, Some(before), week_run(53, 53, clock))
 }
 
-fn two_digits(digits: &[u8]) -> u8
-    requires two { length digits.now ≡ 2 }
-    requires all { list_all is_ascii_digit digits.now ≡ true }
-    ensures { result ≡ digits_value 10 digits.now }
+/// The days of the weeks.
+pub fn week_days(alloc: Global, weeks: Weeks, clock: Clock) -> Result<Expr, AllocError>
+    ensures days { IfOk result (AreDays (minutes_of clock) (HoldsAt (selector.Weeks weeks))) }
+    ensures leaves { IfOk result (λ e. leaf_count (tree_of e) ≡ weeks_cost weeks.first weeks.last weeks.step) }
 {
-    digits_value(digits) as u8
-}
-
-fn digits_value(digits: &[u8]) -> u16
-    requires few { length digits.now ≤ 4 }
-    requires all { list_all is_ascii_digit digits.now ≡ true }
-    ensures value { result ≡ digits_value 10 digits.now }
-    ensures small { result < 10 ^ length digits.now }
-{
-    let mut number = 0;
-    for digit in digits {
-        number = number * 10 + u16::from(*digit - b'0');
+    if weeks.step == 1 {
+        return straight_weeks(alloc, weeks.first, weeks.last, clock);
     }
-    number
+    pieces(
+        alloc,
+        Level::Week,
+        weeks.first,
+        weeks.last,
+        weeks.step,
+        1,
+        clock,
+    )
 }

@@ -1,7 +1,7 @@
 -- Dates, and which year the last date of a range has.
 use Rattle.std.specs.Prelude.{ℕ, ◌+◌, nat_lt, if◌then◌else◌}
-use Rattle.gtd_osm.specs.Opening.{date_key}
-use Rattle.gtd_osm.specs.Ranges.{IsDatedRange, IsMonthDay, IsYearDate}
+use Rattle.gtd_hours.specs.Opening.{date_key}
+use Rattle.gtd_hours.specs.Ranges.{IsDatedRange, IsMonthDay, IsYearDate}
 use Rattle.gtd_hours_parts.specs.declared.digits.Digits.{Digits}
 use Rattle.gtd_hours_parts.specs.Numbers.{IsDayNumber}
 

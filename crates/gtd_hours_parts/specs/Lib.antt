@@ -1,5 +1,5 @@
 pub mod Dates
 pub mod Numbers
 pub mod Times
-pub use Rattle.gtd_osm.specs.Opening
-pub use Rattle.gtd_osm.specs.Ranges
+pub use Rattle.gtd_hours.specs.Opening
+pub use Rattle.gtd_hours.specs.Ranges

@@ -1,10 +1,10 @@
 //! Times of a clock, and ranges of them.
 
 ghost use Rattle.std.specs.Prelude.{◌≡◌, ◌↔◌, IfSome, IsSome};
-ghost use Rattle.gtd_osm.specs.Ranges.{IsTimeRange};
+ghost use Rattle.gtd_hours.specs.Ranges.{IsTimeRange};
 ghost use Rattle.gtd_hours_parts.specs.Times.{IsBegin, IsEnd, minute_of};
 
-use gtd_osm::TimeRange;
+use gtd_hours::TimeRange;
 
 /// The two numbers of a time as it is written, `HH:MM`. They may be any.
 #[derive(Clone, Copy, Debug, PartialEq, Eq)]

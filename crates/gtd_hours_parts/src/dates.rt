@@ -5,7 +5,7 @@ ghost use Rattle.gtd_hours_parts.specs.Dates.{EndsOn, IsDayOfYear, IsWrittenDay,
 ghost use Rattle.gtd_hours_parts.specs.Numbers.{IsYearNumber};
 
 use crate::digits::Digits;
-use gtd_osm::{Dated, Dates, MonthDay, YearDate};
+use gtd_hours::{Dated, Dates, MonthDay, YearDate};
 
 /// `Apr 10`: a month and a day. `None` exactly if the number is no day or the month never has it.
 pub fn month_day(month: u8, day: Digits) -> Option<MonthDay>

@@ -1,6 +1,6 @@
 //! The parts of opening hours that numbers, months, weekdays and clock times of a text stand for.
 //!
-//! A reader of texts hands over what its tokens give. Each call answers a part of `gtd_osm`, or `None` exactly if a number
+//! A reader of texts hands over what its tokens give. Each call answers a part of `gtd_hours`, or `None` exactly if a number
 //! does not fit by its digits or its value, there is no such date, or a range goes back or is too long. No call takes memory.
 #![tactic(auto)]
 

@@ -1,13 +1,13 @@
 //! Places of a weekday in the month.
 
 ghost use Rattle.std.specs.Prelude.{◌≡◌, ◌↔◌, IfSome, IsSome};
-ghost use Rattle.gtd_osm.specs.Ranges.{IsWeekday};
-ghost use Rattle.gtd_osm.specs.declared.hours.Place.{Place};
-ghost use Rattle.gtd_osm.specs.declared.hours.Selector.TheVariants as selector;
+ghost use Rattle.gtd_hours.specs.Ranges.{IsWeekday};
+ghost use Rattle.gtd_hours.specs.declared.hours.Place.{Place};
+ghost use Rattle.gtd_hours.specs.declared.hours.Selector.TheVariants as selector;
 ghost use Rattle.gtd_hours_parts.specs.Numbers.{IsPlaceNumber};
 
 use crate::digits::Digits;
-use gtd_osm::{Place, Selector};
+use gtd_hours::{Place, Selector};
 
 fn place(weekday: u8, number: Digits) -> Option<Place>
     ensures kept { IfSome result (λ x. (x.weekday ≡ weekday) × (x.number ≡ number.value)) }

@@ -1,11 +1,11 @@
 //! Ranges of years, weeks, months and weekdays.
 
 ghost use Rattle.std.specs.Prelude.{◌≡◌, ◌↔◌, ◌≤◌, IfSome, IsSome};
-ghost use Rattle.gtd_osm.specs.Ranges.{IsMonth, IsWeekday};
+ghost use Rattle.gtd_hours.specs.Ranges.{IsMonth, IsWeekday};
 ghost use Rattle.gtd_hours_parts.specs.Numbers.{IsStepNumber, IsWeekNumber, IsYearNumber, last_of, step_of};
 
 use crate::digits::Digits;
-use gtd_osm::{Months, Weekdays, Weeks, Years};
+use gtd_hours::{Months, Weekdays, Weeks, Years};
 
 // The step of a range: 1 if none is written.
 fn step_of(step: Option<Digits>) -> Option<u16>

@@ -1,11 +1,11 @@
 -- One piece more in a draft.
 use Rattle.std.proofs.Common.{Vec, Global, ◌≡◌, Bool, true, false, List, [], ◌∷◌, ◌++◌, refl, sym, ap, subst, ◌∙◌}
 use Rattle.std.specs.List.{filter}
-use Rattle.gtd_osm.specs.declared.hours.Selector.{Selector}
-use Rattle.gtd_osm.specs.declared.hours.TimeRange.{TimeRange}
+use Rattle.gtd_hours.specs.declared.hours.Selector.{Selector}
+use Rattle.gtd_hours.specs.declared.hours.TimeRange.{TimeRange}
 use Rattle.gtd_hours_parts.specs.declared.clock.ClockTime.{ClockTime}
-use Rattle.gtd_hours_syntax.specs.declared.piece.Piece.{Piece}
-use Rattle.gtd_hours_syntax.specs.declared.piece.Piece.TheVariants as piece
+use Rattle.gtd_hours_grammar.specs.declared.piece.Piece.{Piece}
+use Rattle.gtd_hours_grammar.specs.declared.piece.Piece.TheVariants as piece
 use Rattle.gtd_hours_text.specs.declared.draft.Draft.{Draft}
 use Rattle.gtd_hours_text.specs.Adding.{AddsSelectors, AddsTimes}
 use Rattle.gtd_hours_text.specs.Drafts.{IsAdded}

@@ -1,10 +1,10 @@
 -- Hours that are being read.
 use Rattle.std.proofs.Common.{◌≡◌, false, List, [], ◌∷◌, ◌++◌, refl, sym, ap, subst, ◌∙◌, append_assoc}
-use Rattle.gtd_osm.specs.declared.hours.Link.{Link}
-use Rattle.gtd_osm.specs.declared.hours.Link.TheVariants as link
-use Rattle.gtd_osm.specs.declared.hours.Rule.{Rule}
-use Rattle.gtd_hours_syntax.specs.declared.piece.Piece.{Piece}
-use Rattle.gtd_hours_syntax.specs.declared.piece.Piece.TheVariants as piece
+use Rattle.gtd_hours.specs.declared.hours.Link.{Link}
+use Rattle.gtd_hours.specs.declared.hours.Link.TheVariants as link
+use Rattle.gtd_hours.specs.declared.hours.Rule.{Rule}
+use Rattle.gtd_hours_grammar.specs.declared.piece.Piece.{Piece}
+use Rattle.gtd_hours_grammar.specs.declared.piece.Piece.TheVariants as piece
 use Rattle.gtd_hours_text.specs.declared.building.Building.{Building}
 use Rattle.gtd_hours_text.specs.Drafts.{Builds, Drafted, IsAdded, IsBuilding, IsDraft}
 use Rattle.gtd_hours_text.specs.Standing.{AreRules, IsRule, begins_rule, is_one_rule}

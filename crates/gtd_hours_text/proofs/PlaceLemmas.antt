@@ -1,9 +1,9 @@
 -- A weekday at places of the month, one after another.
 use Rattle.std.proofs.Common.{◌≡◌, ℕ, ◌+◌, ◌≤◌, ◌<◌, List, [], ◌∷◌, ◌++◌, refl, sym, ap, subst, ◌∙◌, append_assoc, arith}
 use Rattle.std.proofs.lemmas.List.{append-nil}
-use Rattle.gtd_osm.specs.declared.hours.Selector.{Selector}
-use Rattle.gtd_osm.specs.declared.hours.Selector.TheVariants as selector
-use Rattle.gtd_osm.specs.declared.hours.Place.{Place}
+use Rattle.gtd_hours.specs.declared.hours.Selector.{Selector}
+use Rattle.gtd_hours.specs.declared.hours.Selector.TheVariants as selector
+use Rattle.gtd_hours.specs.declared.hours.Place.{Place}
 use Rattle.gtd_hours_text.specs.Adding.{AddsPlace, AddsPlaces, AddsUpTo}
 use Rattle.gtd_hours_text.specs.Standing.{ArePlaces, IsPlace}
 

@@ -2,19 +2,19 @@
 use Rattle.std.proofs.Common.{◌≡◌, ℕ, ◌+◌, Bool, true, false, cond, List, [], ◌∷◌, Option, Some, None, refl, sym, subst, ◌∙◌}
 use Rattle.std.specs.List.{filter, list_all}
 use Rattle.std.proofs.lemmas.List.Folds.{list_all-append}
-use Rattle.gtd_osm.specs.declared.hours.Hours.{Hours}
-use Rattle.gtd_osm.specs.declared.hours.Link.{Link}
-use Rattle.gtd_osm.specs.declared.hours.Link.TheVariants as link
-use Rattle.gtd_osm.specs.declared.hours.Rule.{Rule}
-use Rattle.gtd_osm.specs.declared.hours.Selector.{Selector}
-use Rattle.gtd_osm.specs.declared.hours.Selector.TheVariants as selector
-use Rattle.gtd_osm.specs.Writable.{AreWritable, BeginAnew, IsWritable, IsWritableRule}
-use Rattle.gtd_osm.specs.Writable.{is_month_days, is_weekdays, is_weeks, is_years}
+use Rattle.gtd_hours.specs.declared.hours.Hours.{Hours}
+use Rattle.gtd_hours.specs.declared.hours.Link.{Link}
+use Rattle.gtd_hours.specs.declared.hours.Link.TheVariants as link
+use Rattle.gtd_hours.specs.declared.hours.Rule.{Rule}
+use Rattle.gtd_hours.specs.declared.hours.Selector.{Selector}
+use Rattle.gtd_hours.specs.declared.hours.Selector.TheVariants as selector
+use Rattle.gtd_hours.specs.Writable.{AreWritable, BeginAnew, IsWritable, IsWritableRule}
+use Rattle.gtd_hours.specs.Writable.{is_month_days, is_weekdays, is_weeks, is_years}
 use Rattle.gtd_hours_parts.specs.declared.digits.Digits.{Digits}
-use Rattle.gtd_hours_syntax.specs.declared.piece.LastDate.{LastDate}
-use Rattle.gtd_hours_syntax.specs.declared.piece.Piece.{Piece}
-use Rattle.gtd_hours_syntax.specs.declared.piece.Piece.TheVariants as piece
-use Rattle.gtd_hours_syntax.specs.declared.piece.WrittenDate.{WrittenDate}
+use Rattle.gtd_hours_grammar.specs.declared.piece.LastDate.{LastDate}
+use Rattle.gtd_hours_grammar.specs.declared.piece.Piece.{Piece}
+use Rattle.gtd_hours_grammar.specs.declared.piece.Piece.TheVariants as piece
+use Rattle.gtd_hours_grammar.specs.declared.piece.WrittenDate.{WrittenDate}
 use Rattle.gtd_hours_text.specs.Standing.{AllSelectors, AreDates, ArePlaces, AreRules, AreSelectors, IsPlace, IsRule, StandsFor}
 use Rattle.gtd_hours_text.specs.Standing.{names_month_days, names_weekdays, names_weeks, names_years}
 use Rattle.gtd_hours_text.proofs.WrittenSelectors.{and_both}

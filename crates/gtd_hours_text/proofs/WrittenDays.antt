@@ -5,30 +5,30 @@ use Rattle.std.specs.Prelude.{◌==◌, ◌&&◌, ◌||◌, codes, decimal, ℤ,
 use Rattle.std.proofs.lemmas.Bool.{eqb-true}
 use Rattle.std.proofs.lemmas.Bool.Decides.{nat_tests}
 use Rattle.std.proofs.lemmas.Int.{ints}
-use Rattle.gtd_osm.specs.declared.hours.Selector.{Selector}
-use Rattle.gtd_osm.specs.declared.hours.Selector.TheVariants as selector
-use Rattle.gtd_osm.specs.declared.hours.Months.{Months}
-use Rattle.gtd_osm.specs.declared.hours.MonthDay.{MonthDay}
-use Rattle.gtd_osm.specs.declared.hours.YearDate.{YearDate}
-use Rattle.gtd_osm.specs.declared.hours.Dates.{Dates}
-use Rattle.gtd_osm.specs.declared.hours.Dated.{Dated}
-use Rattle.gtd_osm.specs.declared.hours.Weekdays.{Weekdays}
-use Rattle.gtd_osm.specs.declared.hours.Place.{Place}
-use Rattle.gtd_osm.specs.declared.hours.TimeRange.{TimeRange}
-use Rattle.gtd_osm.specs.Calendar.{is_leap_year, month_length}
-use Rattle.gtd_osm.specs.Ranges.{IsTimeRange}
-use Rattle.gtd_osm.specs.Written.{clock_text, four_digits, month_day_text, month_name}
-use Rattle.gtd_osm.specs.Written.{selector_text, time_text, weekday_name, year_date_text}
-use Rattle.gtd_hours.specs.declared.token.TokenKind.{TokenKind}
-use Rattle.gtd_hours.specs.declared.token.TokenKind.TheVariants as token
+use Rattle.gtd_hours.specs.declared.hours.Selector.{Selector}
+use Rattle.gtd_hours.specs.declared.hours.Selector.TheVariants as selector
+use Rattle.gtd_hours.specs.declared.hours.Months.{Months}
+use Rattle.gtd_hours.specs.declared.hours.MonthDay.{MonthDay}
+use Rattle.gtd_hours.specs.declared.hours.YearDate.{YearDate}
+use Rattle.gtd_hours.specs.declared.hours.Dates.{Dates}
+use Rattle.gtd_hours.specs.declared.hours.Dated.{Dated}
+use Rattle.gtd_hours.specs.declared.hours.Weekdays.{Weekdays}
+use Rattle.gtd_hours.specs.declared.hours.Place.{Place}
+use Rattle.gtd_hours.specs.declared.hours.TimeRange.{TimeRange}
+use Rattle.gtd_hours.specs.Calendar.{is_leap_year, month_length}
+use Rattle.gtd_hours.specs.Ranges.{IsTimeRange}
+use Rattle.gtd_hours.specs.Written.{clock_text, four_digits, month_day_text, month_name}
+use Rattle.gtd_hours.specs.Written.{selector_text, time_text, weekday_name, year_date_text}
+use Rattle.gtd_hours_tokens.specs.declared.token.TokenKind.{TokenKind}
+use Rattle.gtd_hours_tokens.specs.declared.token.TokenKind.TheVariants as token
 use Rattle.gtd_hours_parts.specs.declared.clock.ClockTime.{ClockTime}
 use Rattle.gtd_hours_parts.specs.Times.{minute_of}
-use Rattle.gtd_hours_syntax.specs.declared.piece.Piece.TheVariants as piece
-use Rattle.gtd_hours_syntax.specs.declared.piece.LastDate.{LastDate}
-use Rattle.gtd_hours_syntax.specs.declared.piece.LastDate.TheVariants as last_date
-use Rattle.gtd_hours_syntax.specs.declared.piece.WrittenDate.{WrittenDate}
-use Rattle.gtd_hours_syntax.specs.Pieces.{AreWrittenTimes, IsWrittenDate}
-use Rattle.gtd_hours_syntax.specs.Grammar.{IsMonthDays, IsPlaces, IsTimes, IsWeekdays, in_full, none as no_more}
+use Rattle.gtd_hours_grammar.specs.declared.piece.Piece.TheVariants as piece
+use Rattle.gtd_hours_grammar.specs.declared.piece.LastDate.{LastDate}
+use Rattle.gtd_hours_grammar.specs.declared.piece.LastDate.TheVariants as last_date
+use Rattle.gtd_hours_grammar.specs.declared.piece.WrittenDate.{WrittenDate}
+use Rattle.gtd_hours_grammar.specs.Pieces.{AreWrittenTimes, IsWrittenDate}
+use Rattle.gtd_hours_grammar.specs.Grammar.{IsMonthDays, IsPlaces, IsTimes, IsWeekdays, in_full, none as no_more}
 use Rattle.gtd_hours_text.specs.Standing.{ArePlaces, AreSelectors}
 use Rattle.gtd_hours_text.proofs.WrittenTokens.{Anything, Apart, Spelt, decimal_spelt, joined, sign_spelt}
 use Rattle.gtd_hours_text.proofs.WrittenParts.{clock_spelt, dashed, month_spelt, spaced, weekday_spelt, year_spelt}

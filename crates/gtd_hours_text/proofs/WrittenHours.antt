@@ -2,23 +2,23 @@
 use Rattle.std.proofs.Common.{◌≡◌, ℕ, Bool, true, false, cond, List, [], ◌∷◌, ◌++◌, refl, sym, subst}
 use Rattle.std.specs.Prelude.{◌&&◌, not}
 use Rattle.std.proofs.lemmas.List.{append-nil}
-use Rattle.gtd_osm.specs.declared.hours.Hours.{Hours}
-use Rattle.gtd_osm.specs.declared.hours.Link.{Link}
-use Rattle.gtd_osm.specs.declared.hours.Link.TheVariants as link
-use Rattle.gtd_osm.specs.declared.hours.Modifier.{Modifier}
-use Rattle.gtd_osm.specs.declared.hours.Modifier.TheVariants as modifier
-use Rattle.gtd_osm.specs.declared.hours.Rule.{Rule}
-use Rattle.gtd_osm.specs.Writable.{AreWritable, BeginAnew, IsWritable}
-use Rattle.gtd_osm.specs.Written.{goes_into, hours_text, is_also, is_some_kind, is_some_time, link_text, more_rules_text}
-use Rattle.gtd_osm.specs.Written.{needs_word, rule_text, rules_text}
-use Rattle.gtd_hours.specs.declared.token.TokenKind.{TokenKind}
-use Rattle.gtd_hours.specs.declared.token.TokenKind.TheVariants as token
-use Rattle.gtd_hours_syntax.specs.declared.piece.Piece.{Piece}
-use Rattle.gtd_hours_syntax.specs.declared.piece.Piece.TheVariants as piece
-use Rattle.gtd_hours_syntax.specs.declared.stage.Stage.{Stage}
-use Rattle.gtd_hours_syntax.specs.declared.stage.Stage.TheVariants as stage
-use Rattle.gtd_hours_syntax.specs.Faults.{IsHoursText}
-use Rattle.gtd_hours_syntax.specs.Grammar.{Follow, in_full, list_goes_on, precedes}
+use Rattle.gtd_hours.specs.declared.hours.Hours.{Hours}
+use Rattle.gtd_hours.specs.declared.hours.Link.{Link}
+use Rattle.gtd_hours.specs.declared.hours.Link.TheVariants as link
+use Rattle.gtd_hours.specs.declared.hours.Modifier.{Modifier}
+use Rattle.gtd_hours.specs.declared.hours.Modifier.TheVariants as modifier
+use Rattle.gtd_hours.specs.declared.hours.Rule.{Rule}
+use Rattle.gtd_hours.specs.Writable.{AreWritable, BeginAnew, IsWritable}
+use Rattle.gtd_hours.specs.Written.{goes_into, hours_text, is_also, is_some_kind, is_some_time, link_text, more_rules_text}
+use Rattle.gtd_hours.specs.Written.{needs_word, rule_text, rules_text}
+use Rattle.gtd_hours_tokens.specs.declared.token.TokenKind.{TokenKind}
+use Rattle.gtd_hours_tokens.specs.declared.token.TokenKind.TheVariants as token
+use Rattle.gtd_hours_grammar.specs.declared.piece.Piece.{Piece}
+use Rattle.gtd_hours_grammar.specs.declared.piece.Piece.TheVariants as piece
+use Rattle.gtd_hours_grammar.specs.declared.stage.Stage.{Stage}
+use Rattle.gtd_hours_grammar.specs.declared.stage.Stage.TheVariants as stage
+use Rattle.gtd_hours_grammar.specs.Faults.{IsHoursText}
+use Rattle.gtd_hours_grammar.specs.Grammar.{Follow, in_full, list_goes_on, precedes}
 use Rattle.gtd_hours_text.specs.Standing.{AreRules, IsRule, StandsFor, is_one_rule}
 use Rattle.gtd_hours_text.proofs.WrittenTokens.{Anything, Apart, Spells, Spelt}
 use Rattle.gtd_hours_text.proofs.WrittenTokens.{all_placed, joined, loose, sign_spelt, space_spelt}

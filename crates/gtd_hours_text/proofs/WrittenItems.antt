@@ -4,14 +4,14 @@ use Rattle.std.specs.Prelude.{◌||◌}
 use Rattle.std.specs.List.{filter}
 use Rattle.std.proofs.lemmas.List.{append-nil}
 use Rattle.std.proofs.lemmas.List.Elements.{filter-append}
-use Rattle.gtd_osm.specs.declared.hours.Selector.{Selector}
-use Rattle.gtd_osm.specs.declared.hours.TimeRange.{TimeRange}
-use Rattle.gtd_hours.specs.declared.token.TokenKind.{TokenKind}
-use Rattle.gtd_hours.specs.declared.token.TokenKind.TheVariants as token
-use Rattle.gtd_hours_syntax.specs.declared.piece.Piece.{Piece}
-use Rattle.gtd_hours_syntax.specs.declared.piece.Piece.TheVariants as piece
-use Rattle.gtd_hours_syntax.specs.declared.stage.Stage.TheVariants as stage
-use Rattle.gtd_hours_syntax.specs.Grammar.{Listed, More, Text, list_goes_on, none as no_more, comma as one_more}
+use Rattle.gtd_hours.specs.declared.hours.Selector.{Selector}
+use Rattle.gtd_hours.specs.declared.hours.TimeRange.{TimeRange}
+use Rattle.gtd_hours_tokens.specs.declared.token.TokenKind.{TokenKind}
+use Rattle.gtd_hours_tokens.specs.declared.token.TokenKind.TheVariants as token
+use Rattle.gtd_hours_grammar.specs.declared.piece.Piece.{Piece}
+use Rattle.gtd_hours_grammar.specs.declared.piece.Piece.TheVariants as piece
+use Rattle.gtd_hours_grammar.specs.declared.stage.Stage.TheVariants as stage
+use Rattle.gtd_hours_grammar.specs.Grammar.{Listed, More, Text, list_goes_on, none as no_more, comma as one_more}
 use Rattle.gtd_hours_text.specs.Standing.{AllSelectors, AllTimes, AreSelectors, is_closed, is_one_rule}
 use Rattle.gtd_hours_text.specs.Standing.{names_month_days, names_times, names_weekdays, names_weeks, names_years}
 use Rattle.gtd_hours_text.proofs.WrittenTokens.{Apart, Spelt, empty_spelt, joined, loose, sign_spelt}

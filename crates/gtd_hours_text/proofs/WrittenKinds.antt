@@ -3,18 +3,18 @@ use Rattle.std.proofs.Common.{◌≡◌, ℕ, Bool, true, false, List, [], ◌�
 use Rattle.std.specs.Prelude.{codes}
 use Rattle.std.specs.List.{list_all}
 use Rattle.std.proofs.lemmas.List.{append-nil}
-use Rattle.gtd_osm.specs.declared.hours.Selector.{Selector}
-use Rattle.gtd_osm.specs.declared.hours.Selector.TheVariants as selector
-use Rattle.gtd_osm.specs.Writable.{is_month_days, is_weekdays, is_weeks, is_years}
-use Rattle.gtd_osm.specs.Written.{kind_text, more_selectors_text, selector_text}
-use Rattle.gtd_hours.specs.declared.token.TokenKind.{TokenKind}
-use Rattle.gtd_hours.specs.declared.token.TokenKind.TheVariants as token
-use Rattle.gtd_hours_syntax.specs.declared.piece.Piece.{Piece}
-use Rattle.gtd_hours_syntax.specs.declared.piece.Piece.TheVariants as piece
-use Rattle.gtd_hours_syntax.specs.declared.stage.Stage.{Stage}
-use Rattle.gtd_hours_syntax.specs.declared.stage.Stage.TheVariants as stage
-use Rattle.gtd_hours_syntax.specs.Grammar.{Follow, IsMonthDays, IsWeekdays, IsWeeks, IsYears, begins_with_date, in_full}
-use Rattle.gtd_hours_syntax.specs.Grammar.{list_goes_on, precedes}
+use Rattle.gtd_hours.specs.declared.hours.Selector.{Selector}
+use Rattle.gtd_hours.specs.declared.hours.Selector.TheVariants as selector
+use Rattle.gtd_hours.specs.Writable.{is_month_days, is_weekdays, is_weeks, is_years}
+use Rattle.gtd_hours.specs.Written.{kind_text, more_selectors_text, selector_text}
+use Rattle.gtd_hours_tokens.specs.declared.token.TokenKind.{TokenKind}
+use Rattle.gtd_hours_tokens.specs.declared.token.TokenKind.TheVariants as token
+use Rattle.gtd_hours_grammar.specs.declared.piece.Piece.{Piece}
+use Rattle.gtd_hours_grammar.specs.declared.piece.Piece.TheVariants as piece
+use Rattle.gtd_hours_grammar.specs.declared.stage.Stage.{Stage}
+use Rattle.gtd_hours_grammar.specs.declared.stage.Stage.TheVariants as stage
+use Rattle.gtd_hours_grammar.specs.Grammar.{Follow, IsMonthDays, IsWeekdays, IsWeeks, IsYears, begins_with_date, in_full}
+use Rattle.gtd_hours_grammar.specs.Grammar.{list_goes_on, precedes}
 use Rattle.gtd_hours_text.proofs.WrittenTokens.{Anything, Apart, IsName, Spelt, joined, loose, space_spelt, word_spelt}
 use Rattle.gtd_hours_text.proofs.WrittenItems.{Contents, Item, Items, MoreItems}
 use Rattle.gtd_hours_text.proofs.WrittenItems.{Says, items, more_items, no_items, only_month_days}

@@ -9,11 +9,11 @@ use Rattle.std.specs.Str.Parse.{digits_value}
 use Rattle.std.proofs.lemmas.Bool.{eqb-true}
 use Rattle.std.proofs.lemmas.Bool.Decides.{nat_tests}
 use Rattle.std.proofs.lemmas.Fmt.{decimal_is_IsNumeral, length-decimal-le}
-use Rattle.gtd_osm.specs.Ranges.{IsMonth, IsWeekday}
-use Rattle.gtd_osm.specs.Written.{clock_text, four_digits, month_name, step_text, weekday_name}
-use Rattle.gtd_hours.specs.declared.token.TokenKind.{TokenKind}
-use Rattle.gtd_hours.specs.declared.token.TokenKind.TheVariants as token
-use Rattle.gtd_hours.specs.Lexing.{time as is_time}
+use Rattle.gtd_hours.specs.Ranges.{IsMonth, IsWeekday}
+use Rattle.gtd_hours.specs.Written.{clock_text, four_digits, month_name, step_text, weekday_name}
+use Rattle.gtd_hours_tokens.specs.declared.token.TokenKind.{TokenKind}
+use Rattle.gtd_hours_tokens.specs.declared.token.TokenKind.TheVariants as token
+use Rattle.gtd_hours_tokens.specs.Lexing.{time as is_time}
 use Rattle.gtd_hours_text.proofs.WrittenTokens.{Anything, Apart, IsName, Spelt}
 use Rattle.gtd_hours_text.proofs.WrittenTokens.{both_true, decimal_spelt, empty_spelt, joined, loose}
 use Rattle.gtd_hours_text.proofs.WrittenTokens.{number_spelt, one, sign_spelt, space_spelt, word_spelt}

@@ -4,22 +4,22 @@ use Rattle.std.proofs.Common.{arith}
 use Rattle.std.specs.Prelude.{◌&&◌, not, codes}
 use Rattle.std.specs.List.{filter}
 use Rattle.std.proofs.lemmas.List.{append-nil}
-use Rattle.gtd_osm.specs.declared.hours.Kind.{Kind}
-use Rattle.gtd_osm.specs.declared.hours.Modifier.{Modifier}
-use Rattle.gtd_osm.specs.declared.hours.Modifier.TheVariants as modifier
-use Rattle.gtd_osm.specs.declared.hours.Rule.{Rule}
-use Rattle.gtd_osm.specs.declared.hours.Selector.{Selector}
-use Rattle.gtd_osm.specs.declared.hours.TimeRange.{TimeRange}
-use Rattle.gtd_osm.specs.Writable.{IsWritableRule, selectors}
-use Rattle.gtd_osm.specs.Written.{is_some_kind, is_some_time, kinds_text, modifier_text, more_times_text, spans_text, time_text}
-use Rattle.gtd_osm.specs.Written.{times_text}
-use Rattle.gtd_hours.specs.declared.token.TokenKind.{TokenKind}
-use Rattle.gtd_hours.specs.declared.token.TokenKind.TheVariants as token
-use Rattle.gtd_hours_syntax.specs.declared.piece.Piece.{Piece}
-use Rattle.gtd_hours_syntax.specs.declared.piece.Piece.TheVariants as piece
-use Rattle.gtd_hours_syntax.specs.declared.stage.Stage.{Stage}
-use Rattle.gtd_hours_syntax.specs.declared.stage.Stage.TheVariants as stage
-use Rattle.gtd_hours_syntax.specs.Grammar.{Follow, IsTimes, in_full, list_goes_on, precedes}
+use Rattle.gtd_hours.specs.declared.hours.Kind.{Kind}
+use Rattle.gtd_hours.specs.declared.hours.Modifier.{Modifier}
+use Rattle.gtd_hours.specs.declared.hours.Modifier.TheVariants as modifier
+use Rattle.gtd_hours.specs.declared.hours.Rule.{Rule}
+use Rattle.gtd_hours.specs.declared.hours.Selector.{Selector}
+use Rattle.gtd_hours.specs.declared.hours.TimeRange.{TimeRange}
+use Rattle.gtd_hours.specs.Writable.{IsWritableRule, selectors}
+use Rattle.gtd_hours.specs.Written.{is_some_kind, is_some_time, kinds_text, modifier_text, more_times_text, spans_text, time_text}
+use Rattle.gtd_hours.specs.Written.{times_text}
+use Rattle.gtd_hours_tokens.specs.declared.token.TokenKind.{TokenKind}
+use Rattle.gtd_hours_tokens.specs.declared.token.TokenKind.TheVariants as token
+use Rattle.gtd_hours_grammar.specs.declared.piece.Piece.{Piece}
+use Rattle.gtd_hours_grammar.specs.declared.piece.Piece.TheVariants as piece
+use Rattle.gtd_hours_grammar.specs.declared.stage.Stage.{Stage}
+use Rattle.gtd_hours_grammar.specs.declared.stage.Stage.TheVariants as stage
+use Rattle.gtd_hours_grammar.specs.Grammar.{Follow, IsTimes, in_full, list_goes_on, precedes}
 use Rattle.gtd_hours_text.specs.Standing.{AllSelectors, AllTimes, IsRule, is_one_rule, modifier_of, names_month_days}
 use Rattle.gtd_hours_text.specs.Standing.{names_times, names_weekdays, names_weeks, names_years}
 use Rattle.gtd_hours_text.proofs.WrittenTokens.{Anything, Apart, Spelt, empty_spelt, joined, loose, number_spelt, space_spelt}

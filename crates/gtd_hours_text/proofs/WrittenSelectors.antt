@@ -3,20 +3,20 @@ use Rattle.std.proofs.Common.{◌≡◌, ℕ, ◌≤◌, Bool, true, false, cond
 use Rattle.std.proofs.Common.{Option, Some, None, refl, sym, subst, arith}
 use Rattle.std.specs.Prelude.{◌==◌, ◌&&◌, not, codes, decimal}
 use Rattle.std.proofs.lemmas.Bool.{eqb-true}
-use Rattle.gtd_osm.specs.declared.hours.Selector.{Selector}
-use Rattle.gtd_osm.specs.declared.hours.Selector.TheVariants as selector
-use Rattle.gtd_osm.specs.declared.hours.Years.{Years}
-use Rattle.gtd_osm.specs.declared.hours.Weeks.{Weeks}
-use Rattle.gtd_osm.specs.Written.{four_digits, selector_text}
-use Rattle.gtd_osm.specs.Written.{step_text}
-use Rattle.gtd_hours.specs.declared.token.TokenKind.{TokenKind}
-use Rattle.gtd_hours.specs.declared.token.TokenKind.TheVariants as token
+use Rattle.gtd_hours.specs.declared.hours.Selector.{Selector}
+use Rattle.gtd_hours.specs.declared.hours.Selector.TheVariants as selector
+use Rattle.gtd_hours.specs.declared.hours.Years.{Years}
+use Rattle.gtd_hours.specs.declared.hours.Weeks.{Weeks}
+use Rattle.gtd_hours.specs.Written.{four_digits, selector_text}
+use Rattle.gtd_hours.specs.Written.{step_text}
+use Rattle.gtd_hours_tokens.specs.declared.token.TokenKind.{TokenKind}
+use Rattle.gtd_hours_tokens.specs.declared.token.TokenKind.TheVariants as token
 use Rattle.gtd_hours_parts.specs.declared.digits.Digits.{Digits}
 use Rattle.gtd_hours_parts.specs.Numbers.{IsDayNumber, IsPlaceNumber, IsStepNumber, IsWeekNumber, IsYearNumber, step_of}
-use Rattle.gtd_hours_syntax.specs.declared.piece.Piece.{Piece}
-use Rattle.gtd_hours_syntax.specs.declared.piece.Piece.TheVariants as piece
-use Rattle.gtd_hours_syntax.specs.Pieces.{IsRange}
-use Rattle.gtd_hours_syntax.specs.Grammar.{IsWeeks, IsYears, begins_with_date}
+use Rattle.gtd_hours_grammar.specs.declared.piece.Piece.{Piece}
+use Rattle.gtd_hours_grammar.specs.declared.piece.Piece.TheVariants as piece
+use Rattle.gtd_hours_grammar.specs.Pieces.{IsRange}
+use Rattle.gtd_hours_grammar.specs.Grammar.{IsWeeks, IsYears, begins_with_date}
 use Rattle.gtd_hours_text.specs.Standing.{AreSelectors}
 use Rattle.gtd_hours_text.proofs.WrittenTokens.{decimal_spelt}
 use Rattle.gtd_hours_text.proofs.WrittenParts.{length_of_decimal, ranged, step_kinds}

@@ -10,13 +10,13 @@ use Rattle.std.proofs.lemmas.Bool.{cases_order}
 use Rattle.std.proofs.lemmas.Bool.Decides.{nat_tests}
 use Rattle.std.proofs.lemmas.Fmt.{decimal_is_IsNumeral, length-decimal-le}
 use Rattle.std.proofs.lemmas.List.{append-nil}
-use Rattle.gtd_hours.specs.declared.token.Token.{Token}
-use Rattle.gtd_hours.specs.declared.token.TokenKind.{TokenKind}
-use Rattle.gtd_hours.specs.declared.token.TokenKind.TheVariants as token
-use Rattle.gtd_hours.specs.Lexing.{AreSpaces, IsSign, IsToken, IsTokenText, Reads, begins, begins_minutes}
-use Rattle.gtd_hours.specs.Lexing.{word as is_word, number as is_number, sign as is_sign}
-use Rattle.gtd_hours.specs.Words.{word_of}
-use Rattle.gtd_hours_syntax.specs.Faults.{kinds}
+use Rattle.gtd_hours_tokens.specs.declared.token.Token.{Token}
+use Rattle.gtd_hours_tokens.specs.declared.token.TokenKind.{TokenKind}
+use Rattle.gtd_hours_tokens.specs.declared.token.TokenKind.TheVariants as token
+use Rattle.gtd_hours_tokens.specs.Lexing.{AreSpaces, IsSign, IsToken, IsTokenText, Reads, begins, begins_minutes}
+use Rattle.gtd_hours_tokens.specs.Lexing.{word as is_word, number as is_number, sign as is_sign}
+use Rattle.gtd_hours_tokens.specs.Words.{word_of}
+use Rattle.gtd_hours_grammar.specs.Faults.{kinds}
 
 -- The bytes are tokens of these kinds, with spaces or none before, between and after them.
 pub data Spells : List ℕ → List TokenKind → Type 0 where

@@ -1,10 +1,10 @@
 -- What a list has after the selectors or the times of a piece are added.
 use Rattle.std.specs.Prelude.{◌≡◌, ℕ, ◌≤◌, Bool, ◌||◌, List, [], ◌∷◌, ◌++◌}
-use Rattle.gtd_osm.specs.declared.hours.Selector.{Selector}
-use Rattle.gtd_osm.specs.declared.hours.TimeRange.{TimeRange}
+use Rattle.gtd_hours.specs.declared.hours.Selector.{Selector}
+use Rattle.gtd_hours.specs.declared.hours.TimeRange.{TimeRange}
 use Rattle.gtd_hours_parts.specs.declared.clock.ClockTime.{ClockTime}
 use Rattle.gtd_hours_parts.specs.Times.{minute_of}
-use Rattle.gtd_hours_syntax.specs.declared.piece.Piece.{Piece}
+use Rattle.gtd_hours_grammar.specs.declared.piece.Piece.{Piece}
 use Rattle.gtd_hours_text.specs.Standing.{ArePlaces, AreSelectors, IsPlace, names_month_days, names_weekdays, names_weeks, names_years}
 
 -- the piece is selectors

@@ -1,10 +1,10 @@
 -- Dates as parts of a range.
 use Rattle.std.specs.Prelude.{ℕ, Option, Some, None}
-use Rattle.gtd_osm.specs.declared.hours.YearDate.{YearDate}
+use Rattle.gtd_hours.specs.declared.hours.YearDate.{YearDate}
 use Rattle.gtd_hours_parts.specs.declared.digits.Digits.{Digits}
 use Rattle.gtd_hours_parts.specs.Dates.{EndsOn, last_year}
 use Rattle.gtd_hours_parts.specs.Numbers.{IsYearNumber}
-use Rattle.gtd_hours_syntax.specs.declared.piece.WrittenDate.{WrittenDate}
+use Rattle.gtd_hours_grammar.specs.declared.piece.WrittenDate.{WrittenDate}
 use Rattle.gtd_hours_text.specs.Standing.{year_or}
 
 abbrev pub undated : ℕ → Digits → WrittenDate

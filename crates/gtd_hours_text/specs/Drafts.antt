@@ -1,11 +1,11 @@
 -- A rule that is being read.
 use Rattle.std.specs.Prelude.{◌≡◌, true, List, [], ◌∷◌, ◌++◌}
 use Rattle.std.specs.List.{filter}
-use Rattle.gtd_osm.specs.declared.hours.Link.{Link}
-use Rattle.gtd_osm.specs.declared.hours.Link.TheVariants as link
-use Rattle.gtd_osm.specs.declared.hours.Rule.{Rule}
-use Rattle.gtd_hours_syntax.specs.declared.piece.Piece.{Piece}
-use Rattle.gtd_hours_syntax.specs.declared.piece.Piece.TheVariants as piece
+use Rattle.gtd_hours.specs.declared.hours.Link.{Link}
+use Rattle.gtd_hours.specs.declared.hours.Link.TheVariants as link
+use Rattle.gtd_hours.specs.declared.hours.Rule.{Rule}
+use Rattle.gtd_hours_grammar.specs.declared.piece.Piece.{Piece}
+use Rattle.gtd_hours_grammar.specs.declared.piece.Piece.TheVariants as piece
 use Rattle.gtd_hours_text.specs.declared.draft.Draft.{Draft}
 use Rattle.gtd_hours_text.specs.declared.building.Building.{Building}
 use Rattle.gtd_hours_text.specs.Standing.{AllSelectors, AllTimes, IsRule, is_closed, is_one_rule, names_month_days, names_times}

@@ -3,5 +3,5 @@ pub mod Adding
 pub mod Dates
 pub mod Drafts
 pub mod Reading
-pub use Rattle.gtd_hours_syntax.specs.Faults
+pub use Rattle.gtd_hours_grammar.specs.Faults
 pub mod facts

@@ -1,9 +1,9 @@
 -- What is wrong with a text whose hours cannot be read.
 use Rattle.std.specs.Prelude.{List, ℕ}
-use Rattle.gtd_hours_syntax.specs.declared.piece.Piece.{Piece}
-use Rattle.gtd_hours_syntax.specs.Faults.{IsFirstFault, IsHoursText}
-use Rattle.gtd_hours_syntax.specs.declared.reading.Reading.{Reading}
-use Rattle.gtd_hours_syntax.specs.Steps.{IsReading}
+use Rattle.gtd_hours_grammar.specs.declared.piece.Piece.{Piece}
+use Rattle.gtd_hours_grammar.specs.Faults.{IsFirstFault, IsHoursText}
+use Rattle.gtd_hours_grammar.specs.declared.reading.Reading.{Reading}
+use Rattle.gtd_hours_grammar.specs.Steps.{IsReading}
 use Rattle.gtd_hours_text.specs.declared.building.Building.{Building}
 use Rattle.gtd_hours_text.specs.Drafts.{IsBuilding}
 use Rattle.gtd_hours_text.specs.declared.reader.TextFault.{TextFault}

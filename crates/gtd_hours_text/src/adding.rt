@@ -1,17 +1,17 @@
 //! Adding pieces to a rule that is being read.
 
 ghost use Rattle.std.specs.Prelude.{◌≡◌, ◌∷◌, ◌++◌, true, false, IfOk, List, []};
-ghost use Rattle.gtd_hours_syntax.specs.declared.piece.Piece.{Piece};
-ghost use Rattle.gtd_hours_syntax.specs.declared.piece.Piece.TheVariants as piece;
-ghost use Rattle.gtd_hours_syntax.specs.Pieces.{AreWrittenTimes};
-ghost use Rattle.gtd_hours_syntax.specs.SoundPieces.{IsPiece};
+ghost use Rattle.gtd_hours_grammar.specs.declared.piece.Piece.{Piece};
+ghost use Rattle.gtd_hours_grammar.specs.declared.piece.Piece.TheVariants as piece;
+ghost use Rattle.gtd_hours_grammar.specs.Pieces.{AreWrittenTimes};
+ghost use Rattle.gtd_hours_grammar.specs.SoundPieces.{IsPiece};
 ghost use Rattle.gtd_hours_text.specs.Drafts.{IsAdded};
 ghost use Rattle.gtd_hours_text.specs.Standing.{begins_rule, names_month_days, names_weekdays, names_weeks, names_years};
 
 use crate::draft::Draft;
 use crate::selectors::{with_selectors, with_times};
+use gtd_hours_grammar::Piece;
 use gtd_hours_parts::ClockTime;
-use gtd_hours_syntax::Piece;
 use std::alloc::AllocError;
 
 // Years more.

@@ -1,17 +1,17 @@
 //! Hours that are being read.
 
 ghost use Rattle.std.specs.Prelude.{◌≡◌, false, IfOk, List, []};
-ghost use Rattle.gtd_osm.specs.declared.hours.Link.TheVariants as link;
-ghost use Rattle.gtd_hours_syntax.specs.declared.piece.Piece.{Piece};
-ghost use Rattle.gtd_hours_syntax.specs.declared.piece.Piece.TheVariants as piece;
-ghost use Rattle.gtd_hours_syntax.specs.SoundPieces.{IsPiece};
+ghost use Rattle.gtd_hours.specs.declared.hours.Link.TheVariants as link;
+ghost use Rattle.gtd_hours_grammar.specs.declared.piece.Piece.{Piece};
+ghost use Rattle.gtd_hours_grammar.specs.declared.piece.Piece.TheVariants as piece;
+ghost use Rattle.gtd_hours_grammar.specs.SoundPieces.{IsPiece};
 ghost use Rattle.gtd_hours_text.specs.Drafts.{Builds, IsBuilding};
 ghost use Rattle.gtd_hours_text.specs.Standing.{AreRules, begins_rule};
 
 use crate::adding::with_piece;
 use crate::draft::{Draft, new_draft, rule_of};
-use gtd_hours_syntax::Piece;
-use gtd_osm::{Hours, Link, Rule};
+use gtd_hours::{Hours, Link, Rule};
+use gtd_hours_grammar::Piece;
 use std::alloc::{AllocError, Global};
 
 /// The rules that have been read, and the one that is being read.

@@ -3,18 +3,18 @@
 ghost use Rattle.std.specs.Prelude.{◌≡◌, IfSome, None, Some};
 ghost use Rattle.gtd_hours_parts.specs.Dates.{IsDayOfYear, IsWrittenDay};
 ghost use Rattle.gtd_hours_parts.specs.Numbers.{IsYearNumber};
-ghost use Rattle.gtd_hours_syntax.specs.declared.piece.Piece.TheVariants as piece;
-ghost use Rattle.gtd_hours_syntax.specs.Pieces.{EndsRange};
-ghost use Rattle.gtd_hours_syntax.specs.SoundPieces.{IsPiece};
+ghost use Rattle.gtd_hours_grammar.specs.declared.piece.Piece.TheVariants as piece;
+ghost use Rattle.gtd_hours_grammar.specs.Pieces.{EndsRange};
+ghost use Rattle.gtd_hours_grammar.specs.SoundPieces.{IsPiece};
 ghost use Rattle.gtd_hours_text.specs.Dates.{EndsDated, dated, end_of, undated};
 ghost use Rattle.gtd_hours_text.specs.Standing.{AreDates, IsSelector, IsYearDate};
 
+use gtd_hours::{Dated, Dates, Selector, YearDate};
+use gtd_hours_grammar::{LastDate, WrittenDate};
 use gtd_hours_parts::{
     Digits, month_day, one_day, one_year_day, to_day, to_month_day, to_year_date, to_year_day,
     year_date,
 };
-use gtd_hours_syntax::{LastDate, WrittenDate};
-use gtd_osm::{Dated, Dates, Selector, YearDate};
 
 /// `Apr 10`, `Apr 10-20`, `2024 Dec 24-2025 Jan 3`
 pub fn dates_of(first: WrittenDate, last: Option<LastDate>) -> Selector

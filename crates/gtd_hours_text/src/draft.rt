@@ -1,11 +1,11 @@
 //! A rule that is being read.
 
 ghost use Rattle.std.specs.Prelude.{◌≡◌, ◌++◌, IfOk, List, []};
-ghost use Rattle.gtd_hours_syntax.specs.declared.piece.Piece.{Piece};
+ghost use Rattle.gtd_hours_grammar.specs.declared.piece.Piece.{Piece};
 ghost use Rattle.gtd_hours_text.specs.Drafts.{IsDraft};
 ghost use Rattle.gtd_hours_text.specs.Standing.{IsRule, kind_if, modifier_of, selectors};
 
-use gtd_osm::{Kind, Link, Modifier, Rule, Selector, TimeRange};
+use gtd_hours::{Kind, Link, Modifier, Rule, Selector, TimeRange};
 use std::alloc::{AllocError, Global};
 
 /// The selectors of each kind, the times, and whether it is closed.

@@ -1,10 +1,10 @@
 //! Laws of the definitions: calls that do nothing, whose contracts are what is proved.
 
 ghost use Rattle.std.specs.Prelude.{◌≡◌, ◌↔◌, ℕ, ℤ, List};
-ghost use Rattle.gtd_osm.specs.Cost.{hours_cost};
-ghost use Rattle.gtd_osm.specs.Opening.{IsOpen};
-ghost use Rattle.gtd_osm.specs.Written.{hours_text};
-ghost use Rattle.gtd_osm.specs.declared.hours.Hours.{Hours};
+ghost use Rattle.gtd_hours.specs.Cost.{hours_cost};
+ghost use Rattle.gtd_hours.specs.Opening.{IsOpen};
+ghost use Rattle.gtd_hours.specs.Written.{hours_text};
+ghost use Rattle.gtd_hours.specs.declared.hours.Hours.{Hours};
 ghost use Rattle.gtd_hours_text.specs.Standing.{StandsFor};
 
 /// Hours that a text stands for are open at the same seconds, whichever of them are taken; they take as many basic domains,

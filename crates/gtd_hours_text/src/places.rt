@@ -1,13 +1,13 @@
 //! The selectors that places of a weekday in the month are.
 
 ghost use Rattle.std.specs.Prelude.{◌≤◌, IfOk};
-ghost use Rattle.gtd_osm.specs.Ranges.{IsWeekday};
-ghost use Rattle.gtd_hours_syntax.specs.declared.piece.Piece.TheVariants as piece;
-ghost use Rattle.gtd_hours_syntax.specs.SoundPieces.{IsPiece};
+ghost use Rattle.gtd_hours.specs.Ranges.{IsWeekday};
+ghost use Rattle.gtd_hours_grammar.specs.declared.piece.Piece.TheVariants as piece;
+ghost use Rattle.gtd_hours_grammar.specs.SoundPieces.{IsPiece};
 ghost use Rattle.gtd_hours_text.specs.Adding.{AddsPlace, AddsPlaces, AddsSelectors, AddsUpTo};
 
+use gtd_hours::Selector;
 use gtd_hours_parts::{Digits, place_from_front};
-use gtd_osm::Selector;
 use std::alloc::AllocError;
 
 /// The selectors of a list, and behind them those of `1`, `1-2`, in brackets after a weekday.

@@ -1,16 +1,16 @@
 //! The hours that a text stands for.
 
 ghost use Rattle.std.specs.Prelude.{◌≡◌, ◌<◌, ◌∷◌, ◌++◌, IfErr, IfOk, IfSome, List, None, []};
-ghost use Rattle.gtd_hours_syntax.specs.declared.piece.Piece.{Piece};
-ghost use Rattle.gtd_hours_syntax.specs.Faults.{IsHoursText};
-ghost use Rattle.gtd_hours_syntax.specs.SoundPieces.{IsPiece};
-ghost use Rattle.gtd_hours_syntax.specs.Steps.{IsReading, moves_left};
+ghost use Rattle.gtd_hours_grammar.specs.declared.piece.Piece.{Piece};
+ghost use Rattle.gtd_hours_grammar.specs.Faults.{IsHoursText};
+ghost use Rattle.gtd_hours_grammar.specs.SoundPieces.{IsPiece};
+ghost use Rattle.gtd_hours_grammar.specs.Steps.{IsReading, moves_left};
 ghost use Rattle.gtd_hours_text.specs.Reading.{IsFaultOf};
 ghost use Rattle.gtd_hours_text.specs.Standing.{StandsFor};
 
 use crate::building::{hours_of, nothing, with_next};
-use gtd_hours_syntax::{HoursFault, Piece, Reading, begin, check_hours, next_piece};
-use gtd_osm::Hours;
+use gtd_hours::Hours;
+use gtd_hours_grammar::{HoursFault, Piece, Reading, begin, check_hours, next_piece};
 use std::alloc::{AllocError, Global};
 use thiserror::Error;
 

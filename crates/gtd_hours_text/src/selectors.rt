@@ -1,19 +1,19 @@
 //! The selectors that pieces are.
 
 ghost use Rattle.std.specs.Prelude.{◌≡◌, ◌∷◌, [], true, IfOk};
-ghost use Rattle.gtd_hours_syntax.specs.declared.piece.Piece.TheVariants as piece;
-ghost use Rattle.gtd_hours_syntax.specs.Pieces.{AreWrittenTimes};
-ghost use Rattle.gtd_hours_syntax.specs.SoundPieces.{IsPiece};
+ghost use Rattle.gtd_hours_grammar.specs.declared.piece.Piece.TheVariants as piece;
+ghost use Rattle.gtd_hours_grammar.specs.Pieces.{AreWrittenTimes};
+ghost use Rattle.gtd_hours_grammar.specs.SoundPieces.{IsPiece};
 ghost use Rattle.gtd_hours_text.specs.Adding.{AddsSelectors, AddsTimes, names_selectors};
 ghost use Rattle.gtd_hours_text.specs.Standing.{AreSelectors, IsSelector};
 
 use crate::dates::dates_of;
 use crate::places::with_places;
+use gtd_hours::{Selector, TimeRange};
+use gtd_hours_grammar::Piece;
 use gtd_hours_parts::{
     ClockTime, Digits, months, one_week, one_year, place_from_back, times, weekdays, weeks, years,
 };
-use gtd_hours_syntax::Piece;
-use gtd_osm::{Selector, TimeRange};
 use std::alloc::AllocError;
 
 // `2024`, `2024-2030/2`

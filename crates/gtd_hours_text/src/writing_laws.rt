@@ -1,9 +1,9 @@
 //! Laws of written hours: calls that do nothing, whose contracts are what is proved.
 
 ghost use Rattle.std.specs.Prelude.{ℕ, List};
-ghost use Rattle.gtd_osm.specs.Writable.{IsWritable};
-ghost use Rattle.gtd_osm.specs.Written.{hours_text};
-ghost use Rattle.gtd_osm.specs.declared.hours.Hours.{Hours};
+ghost use Rattle.gtd_hours.specs.Writable.{IsWritable};
+ghost use Rattle.gtd_hours.specs.Written.{hours_text};
+ghost use Rattle.gtd_hours.specs.declared.hours.Hours.{Hours};
 ghost use Rattle.gtd_hours_text.specs.Standing.{StandsFor};
 
 /// The written text of hours stands for these hours. So hours have a canonical text, and hours that were read can be written and

@@ -2,8 +2,8 @@
 use Rattle.std.specs.Prelude.{◌≡◌, ℕ, List, Option, Some, None, Result, ⊤}
 use Rattle.gtd_migrate.specs.Migrated.{migrated}
 use Rattle.gtd_migrate.specs.Theorem.{MigrationClaim}
-use Rattle.gtd_runs.specs.Run.{AcceptedFilesArePut, RefusedFilesPutNothing}
-use Rattle.gtd_runs.specs.declared.fault.RunFault.{RunFault}
+use Rattle.gtd_report.specs.Run.{AcceptedFilesArePut, RefusedFilesPutNothing}
+use Rattle.gtd_report.specs.declared.fault.RunFault.{RunFault}
 
 pub migration_claim : (file before after : Option (List ℕ)) (answer : Result ℕ RunFault)
     → AcceptedFilesArePut (λ found. ⊤) (λ found lines. lines ≡ migrated found) file before after answer

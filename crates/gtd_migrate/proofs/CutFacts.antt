@@ -11,7 +11,7 @@ use Rattle.csv.specs.Writing.{default_writer}
 use Rattle.gtd_core.specs.Limits.{most_file_bytes, most_rows}
 use Rattle.gtd_records.specs.Closing.{Restriction}
 use Rattle.gtd_records.specs.File.{IsFile}
-use Rattle.gtd_runs.specs.Putting.{text_of}
+use Rattle.gtd_report.specs.Putting.{text_of}
 use Rattle.gtd_migrate.specs.Migrated.{IsPlainField, IsPlainRow, closed_word, domain_text, header_line, is_mark, migrated}
 use Rattle.gtd_migrate.specs.Migrated.{row_line, vehicles_text}
 use Rattle.gtd_migrate.proofs.CodesFacts.{vehicles_plain}

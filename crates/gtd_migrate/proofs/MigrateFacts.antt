@@ -36,7 +36,7 @@ use Rattle.gtd_records.specs.declared.fault.RecordFault.TheVariants as fault
 use Rattle.gtd_records.specs.declared.vehicles.Vehicles.{Vehicles}
 use Rattle.gtd_records.specs.declared.vehicles.Version.{Version}
 use Rattle.gtd_records.specs.declared.vehicles.Version.TheVariants as version
-use Rattle.gtd_runs.specs.Putting.{text_of}
+use Rattle.gtd_report.specs.Putting.{text_of}
 use Rattle.gtd_migrate.specs.Migrated.{closed_word, domain_text, header_line, migrated, row_line, vehicles_text}
 use Rattle.gtd_migrate.proofs.CodesFacts.{IsNamed, number_read, ordered_itself, vehicles_named, vehicles_plain, vehicles_read}
 use Rattle.gtd_migrate.proofs.TextFacts.{IsPlain, canonical_unquoted, decimal_plain, domain_read}

@@ -5,5 +5,5 @@ pub use Rattle.gtd_records.specs.Closing
 pub use Rattle.gtd_records.specs.ComputedFile
 pub use Rattle.gtd_records.specs.File
 pub use Rattle.gtd_records.specs.declared.direction.Direction
-pub use Rattle.gtd_runs.specs.Putting
-pub use Rattle.gtd_runs.specs.Run
+pub use Rattle.gtd_report.specs.Putting
+pub use Rattle.gtd_report.specs.Run

@@ -10,7 +10,7 @@ use Rattle.gtd_records.specs.declared.direction.Closed.{Closed}
 use Rattle.gtd_records.specs.declared.direction.Closed.TheVariants.{One, Both}
 use Rattle.gtd_records.specs.declared.vehicles.Vehicles.{Vehicles}
 use Rattle.gtd_records.specs.declared.vehicles.Vehicles.TheVariants.{Every, Only, AllBut}
-use Rattle.gtd_runs.specs.Putting.{direction_word}
+use Rattle.gtd_report.specs.Putting.{direction_word}
 
 -- the header line
 abbrev pub header_line : List ℕ

@@ -9,9 +9,9 @@ use Rattle.gtd_migrate.specs.Migrated.{migrated}
 use Rattle.gtd_records.specs.File.{IsFile}
 use Rattle.gtd_records.specs.Closing.{Restriction}
 use Rattle.gtd_records.specs.declared.fault.RecordFault.{RecordFault}
-use Rattle.gtd_runs.specs.Run.{IsUnhindered, PutsWhole}
-use Rattle.gtd_runs.specs.declared.fault.RunFault.{RunFault}
-use Rattle.gtd_runs.specs.declared.fault.RunFault.TheVariants as fault
+use Rattle.gtd_report.specs.Run.{IsUnhindered, PutsWhole}
+use Rattle.gtd_report.specs.declared.fault.RunFault.{RunFault}
+use Rattle.gtd_report.specs.declared.fault.RunFault.TheVariants as fault
 
 -- If neither device failed, no memory was refused and the input did not fall silent.
 pub record MigrationClaim (file before after : Option (List ℕ)) (answer : Result ℕ RunFault) : Type 0 where

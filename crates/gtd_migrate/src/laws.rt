@@ -9,7 +9,7 @@ ghost use Rattle.gtd_records.specs.ComputedFile.{AreSoundRows};
 ghost use Rattle.gtd_records.specs.File.{IsFile};
 ghost use Rattle.gtd_records.specs.declared.direction.Direction.{Direction};
 ghost use Rattle.gtd_records.specs.declared.vehicles.Version.{Version};
-ghost use Rattle.gtd_runs.specs.Putting.{text_of};
+ghost use Rattle.gtd_report.specs.Putting.{text_of};
 ghost use Rattle.gtd_migrate.specs.Migrated.{IsPlainRow, migrated, row_line};
 
 /// The migrated file of a record file is a record file of exactly the same restrictions, if it has no more bytes than a

@@ -3,15 +3,15 @@
 ghost use Rattle.std.specs.Prelude.{◌≡◌, ◌<◌, ◌≤◌, ⊤, None, length, map, IsErrOf, IsTrue, List, OnOk};
 ghost use Rattle.gtd_core.specs.Limits.{most_rows};
 ghost use Rattle.gtd_records.specs.Closing.{Restriction};
-ghost use Rattle.gtd_runs.specs.Putting.{Puts, failures_after_stop};
-ghost use Rattle.gtd_runs.specs.Run.{HasRun, failures_after_read, failures_after_write};
+ghost use Rattle.gtd_report.specs.Putting.{Puts, failures_after_stop};
+ghost use Rattle.gtd_report.specs.Run.{HasRun, failures_after_read, failures_after_write};
 ghost use Rattle.gtd_migrate.specs.Migrated.{migrated, row_line};
 ghost use Rattle.gtd_migrate.specs.Theorem.{MigrationClaim};
 
 use crate::line::write_line;
 use gtd_devices::{Input, Output};
 use gtd_records::{Record, RecordFault, Records};
-use gtd_runs::{Progress, Report, RunFault, Stop, Subject, finish, put_line, run_report};
+use gtd_report::{Progress, Report, RunFault, Stop, Subject, finish, put_line, run_report};
 use std::alloc::Global;
 
 // Puts the lines of records, in their order, after the header line.

@@ -8,8 +8,8 @@ use Rattle.gtd_records.specs.facts.Rising.{one_list}
 use Rattle.gtd_records.specs.Closing.{IsOpen, Restriction}
 use Rattle.gtd_records.specs.ClosingRows.{AreClosingRows}
 use Rattle.gtd_records.specs.declared.direction.Direction.{Direction}
-use Rattle.gtd_runs.specs.facts.ElementFacts.{one_by_element}
-use Rattle.gtd_runs.specs.Putting.{IsOne}
+use Rattle.gtd_report.specs.facts.ElementFacts.{one_by_element}
+use Rattle.gtd_report.specs.Putting.{IsOne}
 use Rattle.gtd_now.specs.Now.{AreLines, IsLine, IsLookEnd, IsNow, header_line, state_line}
 use Rattle.gtd_spans.specs.Change.{IsNextChange, NeverChanges}
 

@@ -13,7 +13,7 @@ use Rattle.gtd_core.specs.facts.Deciding.{Decided}
 use Rattle.gtd_records.specs.Closing.{Closes, IsOpen, Restriction}
 use Rattle.gtd_records.specs.ClosingRows.{AreClosingRows}
 use Rattle.gtd_records.specs.declared.direction.Direction.{Direction}
-use Rattle.gtd_runs.specs.facts.SomeElements.{some_by_element, sorted}
+use Rattle.gtd_report.specs.facts.SomeElements.{some_by_element, sorted}
 use Rattle.gtd_spans.specs.Change.{IsNextChange, NeverChanges, SameAt}
 use Rattle.gtd_now.proofs.LineFacts.{open_by_rows}
 use Rattle.gtd_now.specs.Lines.{none_closes}

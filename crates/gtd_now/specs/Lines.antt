@@ -2,7 +2,7 @@
 use Rattle.std.specs.Prelude.{◌++◌, ℕ, ℤ, List, [], ◌∷◌, Bool, true, false, Option, Some, None, codes, decimal}
 use Rattle.gtd_core.specs.declared.second.Sec.{Sec}
 use Rattle.gtd_records.specs.declared.direction.Direction.{Direction}
-use Rattle.gtd_runs.specs.Putting.{direction_word}
+use Rattle.gtd_report.specs.Putting.{direction_word}
 
 -- the element, the direction and the vehicle type, each with its comma
 abbrev pub state_head : ℕ → Direction → ℕ → List ℕ

@@ -8,7 +8,7 @@ use Rattle.gtd_core.specs.Seconds.{day_of_second}
 use Rattle.gtd_records.specs.Closing.{IsOpen, Restriction}
 use Rattle.gtd_records.specs.ClosingRows.{AreClosingRows}
 use Rattle.gtd_records.specs.declared.direction.Direction.{Direction}
-use Rattle.gtd_runs.specs.Putting.{IsByElement, direction_word}
+use Rattle.gtd_report.specs.Putting.{IsByElement, direction_word}
 use Rattle.gtd_spans.specs.Change.{IsNextChange, NeverChanges}
 
 -- the header line

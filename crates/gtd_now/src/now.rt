@@ -3,7 +3,7 @@
 ghost use Rattle.std.specs.Prelude.{◌≡◌, ◌+◌, ◌<◌, ◌≤◌, ◌^◌, length, OnOk};
 ghost use Rattle.gtd_core.specs.Limits.{most_rows};
 ghost use Rattle.gtd_core.specs.Seconds.{IsHorizonSecond};
-ghost use Rattle.gtd_runs.specs.Putting.{PutsText, failures_after_stop};
+ghost use Rattle.gtd_report.specs.Putting.{PutsText, failures_after_stop};
 ghost use Rattle.gtd_now.specs.Lines.{most_state_bytes};
 ghost use Rattle.gtd_now.specs.Now.{AreLines};
 
@@ -11,7 +11,7 @@ use crate::line::write_line;
 use gtd_core::Sec;
 use gtd_devices::Output;
 use gtd_records::{Direction, Records};
-use gtd_runs::{Progress, Stop, put_line};
+use gtd_report::{Progress, Stop, put_line};
 use std::alloc::Global;
 
 /// Puts the line of an element in a direction.

@@ -3,15 +3,15 @@
 ghost use Rattle.std.specs.Prelude.{◌≡◌, ◌<◌, ◌↔◌, ⊤, None, Some, IsErrOf, IsTrue, List, OnOk};
 ghost use Rattle.gtd_core.specs.Seconds.{IsHorizonSecond};
 ghost use Rattle.gtd_records.specs.Closing.{Restriction};
-ghost use Rattle.gtd_runs.specs.Run.{AcceptedFilesArePut, HasRun, RefusedFilesPutNothing, failures_after_read};
-ghost use Rattle.gtd_runs.specs.Run.{failures_after_write, IsVehicleType};
+ghost use Rattle.gtd_report.specs.Run.{AcceptedFilesArePut, HasRun, RefusedFilesPutNothing, failures_after_read};
+ghost use Rattle.gtd_report.specs.Run.{failures_after_write, IsVehicleType};
 ghost use Rattle.gtd_now.specs.Now.{AreLines, IsNow};
 
 use crate::now::put_state;
 use gtd_core::Sec;
 use gtd_devices::{Input, Output};
 use gtd_records::{Direction, RecordFault, Records};
-use gtd_runs::{
+use gtd_report::{
     DirectionLines, ElementLines, Progress, Report, RunFault, Stop, Subject, put_both,
     put_by_element, run_report,
 };

@@ -9,7 +9,7 @@ use Rattle.gtd_calendar.specs.facts.Signed.{signed_arith, one_part}
 use Rattle.gtd_calendar.specs.Calendar.{days_of_months, weekday_of}
 use Rattle.gtd_calendar.specs.Stamp.{date_text}
 use Rattle.gtd_core.specs.Seconds.{Interval}
-use Rattle.gtd_runs.specs.Putting.{text_of}
+use Rattle.gtd_report.specs.Putting.{text_of}
 use Rattle.gtd_spans.specs.Normal.{AllBeginFrom, AreInOrder, Holds}
 use Rattle.gtd_picture.specs.Picture.{AreColumns, IsColumn, Rect, day_head, day_line, day_lines, foot_text, group_text}
 use Rattle.gtd_picture.specs.Picture.{is_weekend}

@@ -3,10 +3,10 @@ use Rattle.std.specs.Prelude.{ℕ, List, Option, Result, Ok, Err, codes}
 use Rattle.std.specs.Io.KnownBytes.{Keeps}
 use Rattle.gtd_core.specs.declared.domain.Domain.{Domain}
 use Rattle.gtd_eval.specs.Membership.{InDomain}
-use Rattle.gtd_runs.specs.Putting.{text_of}
-use Rattle.gtd_runs.specs.Run.{PutsWhole, TookFirst}
-use Rattle.gtd_runs.specs.declared.fault.RunFault.{RunFault}
-use Rattle.gtd_runs.specs.declared.fault.RunFault.TheVariants as fault
+use Rattle.gtd_report.specs.Putting.{text_of}
+use Rattle.gtd_report.specs.Run.{PutsWhole, TookFirst}
+use Rattle.gtd_report.specs.declared.fault.RunFault.{RunFault}
+use Rattle.gtd_report.specs.declared.fault.RunFault.TheVariants as fault
 use Rattle.gtd_picture.specs.Picture.{IsPicture}
 
 -- The picture of the seconds of a year that the domain contains.

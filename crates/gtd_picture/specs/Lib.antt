@@ -8,4 +8,4 @@ pub mod Titles
 pub mod Words
 pub use Rattle.gtd_core.specs.Seconds
 pub use Rattle.gtd_records.specs.Closing
-pub use Rattle.gtd_runs.specs.Run
+pub use Rattle.gtd_report.specs.Run

@@ -2,15 +2,15 @@
 
 ghost use Rattle.std.specs.Prelude.{◌≡◌, ◌<◌, ◌↔◌, IsErrOf, IsTrue, OnOk};
 ghost use Rattle.gtd_picture.specs.Domain.{HasPut, IsDomainPicture};
-ghost use Rattle.gtd_runs.specs.Putting.{PutsText, failures_after_stop, nothing_put};
-ghost use Rattle.gtd_runs.specs.Run.{IsTableYear, failures_after_write};
+ghost use Rattle.gtd_report.specs.Putting.{PutsText, failures_after_stop, nothing_put};
+ghost use Rattle.gtd_report.specs.Run.{IsTableYear, failures_after_write};
 
 use crate::picture::put_picture;
 use gtd_calendar::days_of_year;
 use gtd_core::Domain;
 use gtd_devices::Output;
 use gtd_eval::KeptCursor;
-use gtd_runs::{Progress, RunFault, Stop, finish};
+use gtd_report::{Progress, RunFault, Stop, finish};
 use std::alloc::Global;
 
 // Puts the picture of a domain, and ends the output.

@@ -4,7 +4,7 @@ ghost use Rattle.std.specs.Prelude.{◌≡◌, ◌++◌, ◌≤◌, OnOk, pos};
 ghost use Rattle.std.specs.Int.{IsInRange};
 ghost use Rattle.gtd_picture.specs.Picture.{foot_text, head_text, hour_text, hours_text, key_text, month_text, plot_text};
 ghost use Rattle.gtd_picture.specs.Picture.{tick_text, ticks_text, top_text};
-ghost use Rattle.gtd_runs.specs.Run.{IsTableYear};
+ghost use Rattle.gtd_report.specs.Run.{IsTableYear};
 
 use crate::words::{month_name, write_label, write_number, write_title, write_two_digits};
 use gtd_calendar::days_before_month;

@@ -4,15 +4,15 @@ ghost use Rattle.std.specs.Prelude.{◌≡◌, ◌+◌, ◌<◌, ◌≤◌, ◌^
 ghost use Rattle.gtd_calendar.specs.Calendar.{first_day, year_length};
 ghost use Rattle.gtd_core.specs.Limits.{first_horizon_day, horizons_end};
 ghost use Rattle.gtd_picture.specs.Picture.{AreColumns, IsPicture, Rect, day_lines, foot_text, head_text};
-ghost use Rattle.gtd_runs.specs.Putting.{Puts, PutsText, failures_after_stop, nothing_put};
-ghost use Rattle.gtd_runs.specs.Run.{IsTableYear};
+ghost use Rattle.gtd_report.specs.Putting.{Puts, PutsText, failures_after_stop, nothing_put};
+ghost use Rattle.gtd_report.specs.Run.{IsTableYear};
 ghost use Rattle.gtd_spans.specs.Normal.{Holds};
 
 use crate::head::{write_foot, write_head};
 use crate::line::write_day;
 use gtd_calendar::{length_of_year, new_year};
 use gtd_devices::Output;
-use gtd_runs::{Progress, Stop, put_line};
+use gtd_report::{Progress, Stop, put_line};
 use gtd_spans::{ByDay, SpanSource};
 use std::alloc::Global;
 

@@ -3,15 +3,15 @@
 ghost use Rattle.std.specs.Prelude.{◌≡◌, ◌+◌, ◌<◌, ◌↔◌, Any, Some, OnOk, IfOk, IsErrOf, IsTrue, List, pos};
 ghost use Rattle.gtd_calendar.specs.Calendar.{year_length};
 ghost use Rattle.gtd_records.specs.Closing.{Restriction};
-ghost use Rattle.gtd_runs.specs.Run.{AcceptedFilesArePut, HasRun, IsTableYear, IsVehicleType, RefusedFilesPutNothing};
-ghost use Rattle.gtd_runs.specs.Run.{UnacceptedFilesPutNothing, failures_after_read, failures_after_write};
+ghost use Rattle.gtd_report.specs.Run.{AcceptedFilesArePut, HasRun, IsTableYear, IsVehicleType, RefusedFilesPutNothing};
+ghost use Rattle.gtd_report.specs.Run.{UnacceptedFilesPutNothing, failures_after_read, failures_after_write};
 ghost use Rattle.gtd_picture.specs.Open.{IsOpenPicture};
 
 use crate::picture::put_picture;
 use gtd_calendar::days_of_year;
 use gtd_devices::{Input, Output};
 use gtd_records::{Direction, RecordFault, Records, open_seconds};
-use gtd_runs::{Progress, Report, RunFault, Stop, Subject, finish, run_report};
+use gtd_report::{Progress, Report, RunFault, Stop, Subject, finish, run_report};
 use std::alloc::Global;
 
 /// The picture of a year, for an element in a direction and a vehicle type, under a title.

@@ -14,7 +14,7 @@ pub use gtd_records::{
     Closed, Codes, Direction, Record, RecordFault, Records, Vehicles, faults_of, open_seconds,
     read_direction, read_faults, read_number, read_records, schedule_of,
 };
-pub use gtd_runs::{Report, RunFault, Subject, run_report};
+pub use gtd_report::{Report, RunFault, Subject, run_report};
 pub use gtd_schedule::{Schedule, run_schedule};
 pub use gtd_spans::{SpanList, SpanSource};
 pub use gtd_year::{YearTable, run_year};

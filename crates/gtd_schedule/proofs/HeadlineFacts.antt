@@ -1,8 +1,8 @@
 -- The claims of a run that puts a schedule are the headline.
 use Rattle.std.specs.Prelude.{ℕ, List, Option, Some, None, Result, ⊤}
 use Rattle.gtd_core.specs.declared.horizon.Horizon.{Horizon}
-use Rattle.gtd_runs.specs.Run.{AcceptedFilesArePut, RefusedFilesPutNothing}
-use Rattle.gtd_runs.specs.declared.fault.RunFault.{RunFault}
+use Rattle.gtd_report.specs.Run.{AcceptedFilesArePut, RefusedFilesPutNothing}
+use Rattle.gtd_report.specs.declared.fault.RunFault.{RunFault}
 use Rattle.gtd_schedule.specs.Schedule.{IsSchedule}
 use Rattle.gtd_schedule.specs.Theorem.{Headline}
 use Rattle.gtd_schedule.specs.facts.ShownFacts.{puts-schedule}

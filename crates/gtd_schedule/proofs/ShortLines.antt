@@ -26,9 +26,9 @@ use Rattle.gtd_records.specs.declared.fault.RecordFault.{RecordFault}
 use Rattle.gtd_records.specs.declared.fault.RecordFault.TheVariants as fault
 use Rattle.gtd_records.specs.declared.vehicles.Vehicles.{Vehicles}
 use Rattle.gtd_records.specs.declared.vehicles.Version.{Version}
-use Rattle.gtd_runs.specs.Run.{IsVehicleType}
+use Rattle.gtd_report.specs.Run.{IsVehicleType}
 use Rattle.gtd_schedule.specs.facts.LineFacts.{length-line}
-use Rattle.gtd_runs.specs.Putting.{AreLinesOf}
+use Rattle.gtd_report.specs.Putting.{AreLinesOf}
 use Rattle.gtd_schedule.specs.Lines.{span_line}
 use Rattle.gtd_schedule.specs.Schedule.{AreLines, IsSchedule, header_line}
 use Rattle.gtd_schedule.specs.facts.SpanLines.{lines_only}

@@ -15,8 +15,8 @@ use Rattle.gtd_records.specs.facts.Rising.{AllAbove, In, Rises, from_in, to_in}
 use Rattle.gtd_records.specs.Closing.{AreElements, Closes, IsOpen, Restriction}
 use Rattle.gtd_records.specs.declared.direction.Direction.{Direction}
 use Rattle.gtd_records.specs.declared.direction.Direction.TheVariants.{Positive, Negative}
-use Rattle.gtd_runs.specs.facts.SomeElements.{any_first, any_later, any_split, sorted}
-use Rattle.gtd_runs.specs.Putting.{AreElementLines, AreLinesOf}
+use Rattle.gtd_report.specs.facts.SomeElements.{any_first, any_later, any_split, sorted}
+use Rattle.gtd_report.specs.Putting.{AreElementLines, AreLinesOf}
 use Rattle.gtd_schedule.specs.Schedule.{AreLines, IsSchedule, header_line}
 use Rattle.gtd_schedule.specs.Split.{below, not_below}
 use Rattle.gtd_core.specs.Seconds.{Interval}

@@ -9,4 +9,4 @@ pub mod facts
 pub use Rattle.gtd_core.specs.declared.horizon.Horizon
 pub use Rattle.gtd_records.specs.File
 pub use Rattle.gtd_records.specs.Closing
-pub use Rattle.gtd_runs.specs.Run
+pub use Rattle.gtd_report.specs.Run

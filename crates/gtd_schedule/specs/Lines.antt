@@ -4,7 +4,7 @@ use Rattle.gtd_core.specs.Seconds.{Interval, day_of_second}
 use Rattle.gtd_calendar.specs.Calendar.{IsCalendarDay}
 use Rattle.gtd_calendar.specs.Stamp.{hms_text, stamp_text}
 use Rattle.gtd_records.specs.declared.direction.Direction.{Direction}
-use Rattle.gtd_runs.specs.Putting.{direction_word}
+use Rattle.gtd_report.specs.Putting.{direction_word}
 
 -- the element, the direction and the vehicle type, each with its comma
 abbrev pub line_head : ℕ → Direction → ℕ → List ℕ

@@ -6,7 +6,7 @@ use Rattle.gtd_core.specs.declared.horizon.Horizon.{Horizon}
 use Rattle.gtd_eval.specs.Membership.{IsNormalOver}
 use Rattle.gtd_records.specs.Closing.{IsOpen, Restriction}
 use Rattle.gtd_records.specs.declared.direction.Direction.{Direction}
-use Rattle.gtd_runs.specs.Putting.{IsByElement}
+use Rattle.gtd_report.specs.Putting.{IsByElement}
 pub use Rattle.gtd_schedule.specs.Shown.{IsSpanLine}
 
 -- the header line

@@ -8,7 +8,7 @@ use Rattle.gtd_calendar.specs.Stamp.{IsDateText, clock_text}
 use Rattle.gtd_records.specs.Closing.{AreElements, IsOpen, Restriction}
 use Rattle.gtd_records.specs.declared.direction.Direction.{Direction}
 use Rattle.gtd_records.specs.declared.direction.Direction.TheVariants.{Positive, Negative}
-use Rattle.gtd_runs.specs.Putting.{direction_word}
+use Rattle.gtd_report.specs.Putting.{direction_word}
 
 -- The list is normal for the set of seconds from one second on: no such second comes before the first interval, which is not
 -- empty and holds such seconds alone; none is at its end; and the other intervals are normal from there on.

@@ -12,9 +12,9 @@ use Rattle.gtd_core.specs.declared.horizon.Horizon.{Horizon}
 use Rattle.gtd_records.specs.File.{IsFile}
 use Rattle.gtd_records.specs.Closing.{Restriction}
 use Rattle.gtd_records.specs.declared.fault.RecordFault.{RecordFault}
-use Rattle.gtd_runs.specs.Run.{IsUnhindered, PutsWhole}
-use Rattle.gtd_runs.specs.declared.fault.RunFault.{RunFault}
-use Rattle.gtd_runs.specs.declared.fault.RunFault.TheVariants as fault
+use Rattle.gtd_report.specs.Run.{IsUnhindered, PutsWhole}
+use Rattle.gtd_report.specs.declared.fault.RunFault.{RunFault}
+use Rattle.gtd_report.specs.declared.fault.RunFault.TheVariants as fault
 use Rattle.gtd_schedule.specs.Shown.{ShowsOpen}
 
 -- If neither device failed, no memory was refused and the input did not fall silent: of a restriction file its schedule is

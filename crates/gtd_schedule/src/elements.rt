@@ -1,8 +1,8 @@
 //! The lines of an element in a direction, put one after the other.
 
 ghost use Rattle.std.specs.Prelude.{◌≡◌, ◌+◌, ◌*◌, ◌<◌, ◌≤◌, ◌^◌, length, map, OnOk};
-ghost use Rattle.gtd_runs.specs.Putting.{Puts, PutsText, failures_after_stop};
-ghost use Rattle.gtd_runs.specs.Putting.{most_direction_bytes, most_direction_lines};
+ghost use Rattle.gtd_report.specs.Putting.{Puts, PutsText, failures_after_stop};
+ghost use Rattle.gtd_report.specs.Putting.{most_direction_bytes, most_direction_lines};
 ghost use Rattle.gtd_eval.specs.Membership.{IsNormalOver};
 ghost use Rattle.gtd_records.specs.Closing.{IsOpen};
 ghost use Rattle.gtd_schedule.specs.Lines.{AreShown, span_line};
@@ -12,7 +12,7 @@ use crate::line::{FirstMoments, write_first_moments, write_head, write_span};
 use gtd_core::Horizon;
 use gtd_devices::Output;
 use gtd_records::{Direction, Records, open_seconds};
-use gtd_runs::{Progress, Stop, put_line};
+use gtd_report::{Progress, Stop, put_line};
 use gtd_spans::SpanSource;
 use std::alloc::Global;
 

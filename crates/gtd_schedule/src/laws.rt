@@ -6,7 +6,7 @@ ghost use Rattle.std.specs.List.Sorted.{IsPermutation};
 ghost use Rattle.gtd_core.specs.declared.horizon.Horizon.{Horizon};
 ghost use Rattle.gtd_records.specs.File.{IsFile};
 ghost use Rattle.gtd_records.specs.Closing.{Restriction};
-ghost use Rattle.gtd_runs.specs.Run.{IsVehicleType};
+ghost use Rattle.gtd_report.specs.Run.{IsVehicleType};
 ghost use Rattle.gtd_schedule.specs.Schedule.{IsSchedule, header_line};
 ghost use Rattle.gtd_schedule.specs.Shown.{ShowsOpen};
 ghost use Rattle.gtd_schedule.specs.Split.{AreRanges, AreSchedules, HaveSameRows, IsSplitAt, below, not_below, of_parts};

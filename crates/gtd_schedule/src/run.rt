@@ -2,7 +2,7 @@
 
 ghost use Rattle.std.specs.Prelude.{◌≡◌, ◌<◌, ◌↔◌, ⊤, None, Some, IsErrOf, IsTrue, List, OnOk};
 ghost use Rattle.gtd_records.specs.Closing.{Restriction};
-ghost use Rattle.gtd_runs.specs.Run.{HasRun, failures_after_read, failures_after_write, IsVehicleType};
+ghost use Rattle.gtd_report.specs.Run.{HasRun, failures_after_read, failures_after_write, IsVehicleType};
 ghost use Rattle.gtd_schedule.specs.Schedule.{AreLines, IsSchedule};
 ghost use Rattle.gtd_schedule.specs.Theorem.{Headline};
 
@@ -11,7 +11,7 @@ use crate::line::FirstMoments;
 use gtd_core::Horizon;
 use gtd_devices::{Input, Output};
 use gtd_records::{Direction, RecordFault, Records};
-use gtd_runs::{
+use gtd_report::{
     DirectionLines, ElementLines, Progress, Report, RunFault, Stop, Subject, put_both,
     put_by_element, run_report,
 };

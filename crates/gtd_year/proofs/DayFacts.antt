@@ -11,7 +11,7 @@ use Rattle.gtd_core.specs.Seconds.{Interval}
 use Rattle.gtd_spans.specs.Counting.{IsCount}
 use Rattle.gtd_spans.specs.Normal.{Holds}
 use Rattle.gtd_spans.specs.facts.CountFacts.{count-few, count-held, count-same, one-count}
-use Rattle.gtd_runs.specs.Putting.{text_of}
+use Rattle.gtd_report.specs.Putting.{text_of}
 use Rattle.gtd_year.specs.YearTable.{AreDayLines, day_line, right_aligned}
 
 -- a date has ten bytes

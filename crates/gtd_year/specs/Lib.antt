@@ -3,4 +3,4 @@ pub mod Theorem
 pub use Rattle.gtd_calendar.specs.Calendar
 pub use Rattle.gtd_records.specs.Closing
 pub use Rattle.gtd_records.specs.declared.direction.Direction
-pub use Rattle.gtd_runs.specs.Run
+pub use Rattle.gtd_report.specs.Run

@@ -11,9 +11,9 @@ use Rattle.gtd_records.specs.File.{IsFile}
 use Rattle.gtd_records.specs.Closing.{Restriction}
 use Rattle.gtd_records.specs.declared.direction.Direction.{Direction}
 use Rattle.gtd_records.specs.declared.fault.RecordFault.{RecordFault}
-use Rattle.gtd_runs.specs.Run.{IsUnhindered, PutsWhole}
-use Rattle.gtd_runs.specs.declared.fault.RunFault.{RunFault}
-use Rattle.gtd_runs.specs.declared.fault.RunFault.TheVariants as fault
+use Rattle.gtd_report.specs.Run.{IsUnhindered, PutsWhole}
+use Rattle.gtd_report.specs.declared.fault.RunFault.{RunFault}
+use Rattle.gtd_report.specs.declared.fault.RunFault.TheVariants as fault
 use Rattle.gtd_year.specs.YearTable.{IsYearTable}
 
 -- some restriction names the element

@@ -3,7 +3,7 @@
 ghost use Rattle.std.specs.Prelude.{◌≡◌, ◌<◌, ◌↔◌, Any, Some, OnOk, IfOk, IsErrOf, IsTrue, List, pos};
 ghost use Rattle.gtd_calendar.specs.Calendar.{year_length};
 ghost use Rattle.gtd_records.specs.Closing.{Restriction};
-ghost use Rattle.gtd_runs.specs.Run.{HasRun, failures_after_read, failures_after_write, IsTableYear, IsVehicleType};
+ghost use Rattle.gtd_report.specs.Run.{HasRun, failures_after_read, failures_after_write, IsTableYear, IsVehicleType};
 ghost use Rattle.gtd_year.specs.Theorem.{YearClaim};
 ghost use Rattle.gtd_year.specs.YearTable.{IsYearTable};
 
@@ -11,7 +11,7 @@ use crate::table::put_days;
 use gtd_calendar::days_of_year;
 use gtd_devices::{Input, Output};
 use gtd_records::{Direction, RecordFault, Records, open_seconds};
-use gtd_runs::{Progress, Report, RunFault, Stop, Subject, finish, run_report};
+use gtd_report::{Progress, Report, RunFault, Stop, Subject, finish, run_report};
 use gtd_spans::ByDay;
 use std::alloc::Global;
 

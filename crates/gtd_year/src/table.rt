@@ -3,7 +3,7 @@
 ghost use Rattle.std.specs.Prelude.{◌≡◌, ◌<◌, ◌≤◌, ◌↔◌, ◌+ℤ◌, ◌*ℤ◌, ◌≤ℤ◌, ℤ, pos, ℕ, List, OnOk};
 ghost use Rattle.gtd_core.specs.Limits.{day_seconds, first_horizon_day, horizons_end};
 ghost use Rattle.gtd_calendar.specs.Calendar.{IsCalendarDay};
-ghost use Rattle.gtd_runs.specs.Putting.{Puts, failures_after_stop, nothing_put};
+ghost use Rattle.gtd_report.specs.Putting.{Puts, failures_after_stop, nothing_put};
 ghost use Rattle.gtd_spans.specs.Counting.{IsCount};
 ghost use Rattle.gtd_spans.specs.Normal.{Holds};
 ghost use Rattle.gtd_year.specs.YearTable.{AreDayLines, day_line};
@@ -12,7 +12,7 @@ use gtd_calendar::write_date;
 use gtd_core::Sec;
 use gtd_core::limits::DAY_SECONDS;
 use gtd_devices::Output;
-use gtd_runs::{Progress, Stop, put_line};
+use gtd_report::{Progress, Stop, put_line};
 use gtd_spans::{ByDay, SpanSource};
 use itoa::Buffer;
 use std::alloc::AllocError;

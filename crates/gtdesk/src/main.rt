@@ -7,8 +7,8 @@
 //! 2 for usage, 3 if opening, reading, writing or memory failed.
 #![tactic(auto)]
 
-use gtd_desk::{Ending, Plan, Refusal, RefusalLine, perform, plan};
 use gtd_devices::{Host, HostOut};
+use gtdesk_tool::{Ending, Plan, Refusal, RefusalLine, perform, plan};
 use std::fs::File;
 use std::io::{BufWriter, ErrorKind, Read};
 use std::process::ExitCode;

@@ -1,21 +1,21 @@
 -- The same rules mean the same: they are open at the same seconds, cost as many basic domains and are written the same.
 use Rattle.std.proofs.Common.{◌≡◌, ◌↔◌, ℕ, ◌+◌, ◌==◌, ℤ, List, [], ◌∷◌, ◌++◌, refl, sym, ap, subst, ◌∙◌, inl, inr}
 use Rattle.std.specs.Prelude.{◌&&◌, codes, if◌then◌else◌, max, not}
-use Rattle.gtd_osm.specs.Cost.{cost_after, cost_by, days_cost, hours_cost, kinds_cost, rule_cost, selectors_cost, spans_cost}
-use Rattle.gtd_osm.specs.Opening.{EachHolds, InSpans, IsOnMatch, IsOpen, IsOpenAfter, IsOpenBy, IsTimeOn, Matches, SomeHolds}
-use Rattle.gtd_osm.specs.Written.{hours_text, is_some_kind, kind_text, kinds_text, link_text, modifier_text, more_rules_text}
-use Rattle.gtd_osm.specs.Written.{goes_into, is_also, is_some_time, needs_word, rule_text, rules_text, spans_text, times_text}
-use Rattle.gtd_osm.specs.declared.hours.Hours.{Hours}
-use Rattle.gtd_osm.specs.declared.hours.Kind.{Kind}
-use Rattle.gtd_osm.specs.declared.hours.Link.{Link}
-use Rattle.gtd_osm.specs.declared.hours.Link.TheVariants as link
-use Rattle.gtd_osm.specs.declared.hours.Modifier.{Modifier}
-use Rattle.gtd_osm.specs.declared.hours.Modifier.TheVariants as modifier
-use Rattle.gtd_osm.specs.declared.hours.Rule.{Rule}
-use Rattle.gtd_osm.specs.declared.hours.Selector.{Selector}
-use Rattle.gtd_osm.specs.declared.hours.TimeRange.{TimeRange}
-use Rattle.gtd_hours_syntax.specs.declared.piece.Piece.{Piece}
-use Rattle.gtd_hours_syntax.specs.facts.OneReading.{one_reading}
+use Rattle.gtd_hours.specs.Cost.{cost_after, cost_by, days_cost, hours_cost, kinds_cost, rule_cost, selectors_cost, spans_cost}
+use Rattle.gtd_hours.specs.Opening.{EachHolds, InSpans, IsOnMatch, IsOpen, IsOpenAfter, IsOpenBy, IsTimeOn, Matches, SomeHolds}
+use Rattle.gtd_hours.specs.Written.{hours_text, is_some_kind, kind_text, kinds_text, link_text, modifier_text, more_rules_text}
+use Rattle.gtd_hours.specs.Written.{goes_into, is_also, is_some_time, needs_word, rule_text, rules_text, spans_text, times_text}
+use Rattle.gtd_hours.specs.declared.hours.Hours.{Hours}
+use Rattle.gtd_hours.specs.declared.hours.Kind.{Kind}
+use Rattle.gtd_hours.specs.declared.hours.Link.{Link}
+use Rattle.gtd_hours.specs.declared.hours.Link.TheVariants as link
+use Rattle.gtd_hours.specs.declared.hours.Modifier.{Modifier}
+use Rattle.gtd_hours.specs.declared.hours.Modifier.TheVariants as modifier
+use Rattle.gtd_hours.specs.declared.hours.Rule.{Rule}
+use Rattle.gtd_hours.specs.declared.hours.Selector.{Selector}
+use Rattle.gtd_hours.specs.declared.hours.TimeRange.{TimeRange}
+use Rattle.gtd_hours_grammar.specs.declared.piece.Piece.{Piece}
+use Rattle.gtd_hours_grammar.specs.facts.OneReading.{one_reading}
 use Rattle.gtd_hours_text.specs.Standing.{AreRules, StandsFor, selectors}
 use Rattle.gtd_hours_text.specs.facts.SameRules.{SameRule, SameRules, one_rules}
 

@@ -2,18 +2,18 @@
 use mathlib.Core.HLevel.{is_prop→PathP}
 use Rattle.std.proofs.Common.{◌≡◌}
 use Rattle.std.proofs.Props.{props}
-use Rattle.gtd_osm.specs.Ranges.{IsDatedRange, IsMonth, IsTimeRange, IsWeekday, IsWeekdayPlace, IsWeeks, IsYears}
-use Rattle.gtd_osm.specs.Ranges as ranges
-use Rattle.gtd_osm.specs.declared.hours.Dated.{Dated}
-use Rattle.gtd_osm.specs.declared.hours.Dates.{Dates}
-use Rattle.gtd_osm.specs.declared.hours.MonthDay.{MonthDay}
-use Rattle.gtd_osm.specs.declared.hours.Months.{Months}
-use Rattle.gtd_osm.specs.declared.hours.Place.{Place}
-use Rattle.gtd_osm.specs.declared.hours.TimeRange.{TimeRange}
-use Rattle.gtd_osm.specs.declared.hours.Weekdays.{Weekdays}
-use Rattle.gtd_osm.specs.declared.hours.Weeks.{Weeks}
-use Rattle.gtd_osm.specs.declared.hours.YearDate.{YearDate}
-use Rattle.gtd_osm.specs.declared.hours.Years.{Years}
+use Rattle.gtd_hours.specs.Ranges.{IsDatedRange, IsMonth, IsTimeRange, IsWeekday, IsWeekdayPlace, IsWeeks, IsYears}
+use Rattle.gtd_hours.specs.Ranges as ranges
+use Rattle.gtd_hours.specs.declared.hours.Dated.{Dated}
+use Rattle.gtd_hours.specs.declared.hours.Dates.{Dates}
+use Rattle.gtd_hours.specs.declared.hours.MonthDay.{MonthDay}
+use Rattle.gtd_hours.specs.declared.hours.Months.{Months}
+use Rattle.gtd_hours.specs.declared.hours.Place.{Place}
+use Rattle.gtd_hours.specs.declared.hours.TimeRange.{TimeRange}
+use Rattle.gtd_hours.specs.declared.hours.Weekdays.{Weekdays}
+use Rattle.gtd_hours.specs.declared.hours.Weeks.{Weeks}
+use Rattle.gtd_hours.specs.declared.hours.YearDate.{YearDate}
+use Rattle.gtd_hours.specs.declared.hours.Years.{Years}
 
 pub same_years : (x y : Years) → x.first ≡ y.first → x.last ≡ y.last → x.step ≡ y.step → x ≡ y
 same_years x y first last step = λ i. record {

@@ -6,7 +6,7 @@ use Rattle.std.proofs.lemmas.Fmt.{length-decimal-le}
 use Rattle.gtd_core.specs.Seconds.{Interval}
 use Rattle.gtd_records.specs.declared.direction.Direction.{Direction}
 use Rattle.gtd_records.specs.declared.direction.Direction.TheVariants.{Positive, Negative}
-use Rattle.gtd_runs.specs.Putting.{text_of, direction_word}
+use Rattle.gtd_report.specs.Putting.{text_of, direction_word}
 use Rattle.gtd_schedule.specs.Lines.{line_head, span_line, span_text}
 
 length-word : (d : Direction) → length (direction_word d) ≤ 8

@@ -5,8 +5,8 @@ use Rattle.gtd_core.specs.Whole.{whole}
 use Rattle.gtd_core.specs.declared.horizon.Horizon.{Horizon}
 use Rattle.gtd_records.specs.Closing.{IsOpen, Restriction}
 use Rattle.gtd_records.specs.declared.direction.Direction.{Direction}
-use Rattle.gtd_runs.specs.facts.ElementFacts.{one_by_element}
-use Rattle.gtd_runs.specs.Putting.{IsOne}
+use Rattle.gtd_report.specs.facts.ElementFacts.{one_by_element}
+use Rattle.gtd_report.specs.Putting.{IsOne}
 use Rattle.gtd_schedule.specs.Schedule.{AreLines, AreSpanLines, IsSchedule, header_line}
 use Rattle.gtd_schedule.specs.facts.SpanLines.{lines_only}
 use Rattle.gtd_spans.specs.facts.NormalFor.{one-normal-list}

@@ -8,9 +8,9 @@ use Rattle.gtd_core.specs.declared.horizon.Horizon.{Horizon}
 use Rattle.gtd_records.specs.Closing.{IsOpen, Restriction}
 use Rattle.gtd_records.specs.declared.direction.Direction.{Direction}
 use Rattle.gtd_records.specs.declared.direction.Direction.TheVariants.{Positive, Negative}
-use Rattle.gtd_runs.specs.Putting.{AreElementLines, AreLinesOf}
-use Rattle.gtd_runs.specs.Run.{PutsWhole}
-use Rattle.gtd_runs.specs.declared.fault.RunFault.{RunFault}
+use Rattle.gtd_report.specs.Putting.{AreElementLines, AreLinesOf}
+use Rattle.gtd_report.specs.Run.{PutsWhole}
+use Rattle.gtd_report.specs.declared.fault.RunFault.{RunFault}
 use Rattle.gtd_schedule.specs.Schedule.{AreLines, AreSpanLines, IsSchedule}
 use Rattle.gtd_schedule.specs.Shown.{AreInTurn, AreOpenLines, IsSpanLine, ShowsOpen}
 use Rattle.gtd_schedule.specs.facts.NormalLists.{normal-intervals}

@@ -7,7 +7,7 @@ use Rattle.gtd_eval.specs.Membership.{IsNormalOver}
 use Rattle.gtd_records.specs.Closing.{IsOpen, Restriction}
 use Rattle.gtd_records.specs.declared.direction.Direction.{Direction}
 use Rattle.gtd_records.specs.facts.OpenDecisions.{open_or_not}
-use Rattle.gtd_runs.specs.facts.SomeElements.{some_by_element}
+use Rattle.gtd_report.specs.facts.SomeElements.{some_by_element}
 use Rattle.gtd_schedule.specs.Schedule.{AreLines, IsSchedule, header_line}
 use Rattle.gtd_schedule.specs.Lines.{span_line}
 use Rattle.gtd_schedule.specs.facts.SpanLines.{lines_are}

@@ -9,7 +9,7 @@ use Rattle.gtd_calendar.specs.Clock.{second_of_day}
 use Rattle.gtd_core.specs.Whole.{whole}
 use Rattle.gtd_core.specs.declared.horizon.Horizon.{Horizon}
 use Rattle.gtd_eval.specs.Membership.{IsNormalOver}
-use Rattle.gtd_runs.specs.Putting.{most_direction_lines}
+use Rattle.gtd_report.specs.Putting.{most_direction_lines}
 use Rattle.gtd_schedule.specs.Lines.{AreShown}
 use Rattle.gtd_spans.specs.Normal.{AllBeginFrom, AreInOrder, Holds}
 

@@ -1,5 +1,5 @@
 use Rattle.std.proofs.Common.{refl}
-use Rattle.gtd_osm.specs.declared.hours.Rule.{Rule}
+use Rattle.gtd_hours.specs.declared.hours.Rule.{Rule}
 use Rattle.gtd_hours_text.specs.Standing.{kind_if}
 use Rattle.gtd_hours_text.proofs.DraftLemmas.{four_kinds, ruled}
 use Rattle.gtd_hours_text.proofs.draft.rule_of.Goals as goal

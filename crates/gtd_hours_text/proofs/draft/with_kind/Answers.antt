@@ -1,6 +1,6 @@
 use Rattle.std.proofs.Common.{sym, ◌≡◌, ◌∙◌, List, []}
-use Rattle.gtd_osm.specs.declared.hours.Kind.{Kind}
-use Rattle.gtd_osm.specs.declared.hours.Selector.{Selector}
+use Rattle.gtd_hours.specs.declared.hours.Kind.{Kind}
+use Rattle.gtd_hours.specs.declared.hours.Selector.{Selector}
 use Rattle.gtd_hours_text.proofs.DraftLemmas.{kind_more, not_empty}
 use Rattle.gtd_hours_text.proofs.draft.with_kind.Goals as goal
 

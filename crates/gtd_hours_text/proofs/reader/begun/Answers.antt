@@ -1,4 +1,4 @@
-use Rattle.gtd_hours_syntax.specs.facts.FirstFault.{hours_or_fault}
+use Rattle.gtd_hours_grammar.specs.facts.FirstFault.{hours_or_fault}
 use Rattle.gtd_hours_text.proofs.reader.begun.Goals as goal
 
 pub unreachable-requires : goal.unreachable-requires

@@ -1,9 +1,9 @@
 use Rattle.std.proofs.Common.{◌∷◌, ◌++◌, IfOk, List, Result, Ok, Err, [], ℕ, refl}
 use Rattle.std.specs.declared.alloc.AllocError.{AllocError}
-use Rattle.gtd_osm.specs.declared.hours.Hours.{Hours}
-use Rattle.gtd_osm.specs.declared.hours.Link.TheVariants as link
-use Rattle.gtd_hours_syntax.specs.declared.piece.Piece.{Piece}
-use Rattle.gtd_hours_syntax.specs.Faults.{IsHoursText}
+use Rattle.gtd_hours.specs.declared.hours.Hours.{Hours}
+use Rattle.gtd_hours.specs.declared.hours.Link.TheVariants as link
+use Rattle.gtd_hours_grammar.specs.declared.piece.Piece.{Piece}
+use Rattle.gtd_hours_grammar.specs.Faults.{IsHoursText}
 use Rattle.gtd_hours_text.specs.declared.building.Building.{Building}
 use Rattle.gtd_hours_text.specs.Drafts.{IsBuilding}
 use Rattle.gtd_hours_text.specs.Standing.{AreRules, StandsFor}

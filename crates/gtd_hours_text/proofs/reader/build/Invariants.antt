@@ -1,4 +1,4 @@
-use Rattle.gtd_hours_syntax.specs.Steps.{moves_left}
+use Rattle.gtd_hours_grammar.specs.Steps.{moves_left}
 use Rattle.gtd_hours_text.specs.Reading.{HasBuilt}
 use Rattle.gtd_hours_text.proofs.reader.build.Given as goal
 

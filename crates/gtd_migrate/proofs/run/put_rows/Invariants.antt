@@ -1,6 +1,6 @@
 use Rattle.std.proofs.Common.{◌≡◌, ◌≤◌, ◌+◌, ◌*◌, take, map}
 use Rattle.std.specs.Prelude.{Ok}
-use Rattle.gtd_runs.specs.Putting.{Puts}
+use Rattle.gtd_report.specs.Putting.{Puts}
 use Rattle.gtd_migrate.specs.Migrated.{row_line}
 use Rattle.gtd_migrate.proofs.run.put_rows.Given as goal
 

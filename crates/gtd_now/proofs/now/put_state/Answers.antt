@@ -1,8 +1,8 @@
 use Rattle.std.proofs.Common.{ap, refl, arith, [], ◌∷◌, length}
 use Rattle.std.specs.Prelude.{Err}
 use Rattle.std.proofs.lemmas.Result.{err_from_is_err_and}
-use Rattle.gtd_runs.specs.facts.PutFacts.{one_put, one_short, puts_nothing}
-use Rattle.gtd_runs.specs.facts.TextFacts.{texts_of}
+use Rattle.gtd_report.specs.facts.PutFacts.{one_put, one_short, puts_nothing}
+use Rattle.gtd_report.specs.facts.TextFacts.{texts_of}
 use Rattle.gtd_now.proofs.NowFacts.{one_lines}
 use Rattle.gtd_now.specs.Now.{AreLines}
 use Rattle.gtd_now.proofs.now.put_state.Goals as goal

@@ -1,7 +1,7 @@
 use Rattle.std.proofs.Common.{◌≡◌, ◌∙◌, ap, arith, [], ◌∷◌, length}
 use Rattle.std.specs.Prelude.{pos}
 use Rattle.std.proofs.lemmas.Result.{err_from_is_err_and}
-use Rattle.gtd_runs.specs.facts.PutFacts.{one_put, one_short, puts_nothing}
+use Rattle.gtd_report.specs.facts.PutFacts.{one_put, one_short, puts_nothing}
 use Rattle.gtd_picture.specs.Picture.{foot_text}
 use Rattle.gtd_picture.proofs.TextFacts.{foot_short}
 use Rattle.gtd_picture.proofs.picture.put_foot.Goals as goal

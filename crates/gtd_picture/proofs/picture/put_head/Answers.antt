@@ -2,7 +2,7 @@ use Rattle.std.proofs.Common.{◌≡◌, ◌∙◌, [], ◌∷◌}
 use Rattle.std.specs.Prelude.{pos}
 use Rattle.std.proofs.lemmas.Result.{err_from_is_err_and}
 use Rattle.gtd_calendar.specs.Calendar.{year_length}
-use Rattle.gtd_runs.specs.facts.PutFacts.{one_put, one_short, puts_nothing}
+use Rattle.gtd_report.specs.facts.PutFacts.{one_put, one_short, puts_nothing}
 use Rattle.gtd_picture.specs.Picture.{head_text}
 use Rattle.gtd_picture.proofs.PictureFacts.{head_is}
 use Rattle.gtd_picture.proofs.picture.put_head.Goals as goal

@@ -4,17 +4,17 @@ use Rattle.std.proofs.lemmas.List.{length-map}
 use Rattle.gtd_core.specs.Seconds.{Interval}
 use Rattle.gtd_records.specs.Closing.{IsOpen}
 use Rattle.gtd_records.specs.declared.direction.Direction.{Direction}
-use Rattle.gtd_runs.specs.Putting.{Puts}
-use Rattle.gtd_runs.specs.declared.putting.Progress.{Progress}
-use Rattle.gtd_runs.specs.declared.putting.Stop.{Stop}
-use Rattle.gtd_runs.specs.Putting.{most_direction_bytes, most_direction_lines}
+use Rattle.gtd_report.specs.Putting.{Puts}
+use Rattle.gtd_report.specs.declared.putting.Progress.{Progress}
+use Rattle.gtd_report.specs.declared.putting.Stop.{Stop}
+use Rattle.gtd_report.specs.Putting.{most_direction_bytes, most_direction_lines}
 use Rattle.gtd_schedule.specs.Lines.{span_line}
 use Rattle.gtd_schedule.specs.Schedule.{AreLines}
 use Rattle.gtd_schedule.specs.facts.SpanLines.{lines_are}
 use Rattle.gtd_schedule.specs.facts.LineFacts.{length-lines}
 use Rattle.gtd_schedule.specs.facts.SpansShown.{normal_few, normal_shown}
 use Rattle.gtd_schedule.specs.facts.ScheduleFacts.{one_lines}
-use Rattle.gtd_runs.specs.facts.TextFacts.{texts_of}
+use Rattle.gtd_report.specs.facts.TextFacts.{texts_of}
 use Rattle.gtd_schedule.proofs.elements.put_direction_spans.Goals as goal
 
 -- what was put of so few spans

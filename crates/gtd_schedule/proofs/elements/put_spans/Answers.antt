@@ -6,8 +6,8 @@ use Rattle.std.proofs.lemmas.List.{take_at, length-take-le}
 use Rattle.std.proofs.lemmas.Result.{err_from_is_err_and}
 use Rattle.gtd_core.specs.Seconds.{Interval}
 use Rattle.gtd_records.specs.declared.direction.Direction.{Direction}
-use Rattle.gtd_runs.specs.facts.PutFacts.{one_put, one_short}
-use Rattle.gtd_runs.specs.Putting.{Puts}
+use Rattle.gtd_report.specs.facts.PutFacts.{one_put, one_short}
+use Rattle.gtd_report.specs.Putting.{Puts}
 use Rattle.gtd_schedule.specs.Lines.{AreShown, line_head, span_text}
 use Rattle.gtd_schedule.specs.Lines.{span_line}
 use Rattle.gtd_schedule.specs.Moments.{AreMoments}

@@ -1,7 +1,7 @@
 use Rattle.std.proofs.Common.{◌≡◌, List, ℕ, ◌↔◌}
 use Rattle.std.specs.Prelude.{Ok, ℤ, pos, ◌+ℤ◌, ◌*ℤ◌, ◌≤ℤ◌}
 use Rattle.gtd_spans.specs.Normal.{Holds}
-use Rattle.gtd_runs.specs.Putting.{Puts}
+use Rattle.gtd_report.specs.Putting.{Puts}
 use Rattle.gtd_year.specs.YearTable.{AreDayLines}
 use Rattle.gtd_year.proofs.table.put_days.Given as goal
 

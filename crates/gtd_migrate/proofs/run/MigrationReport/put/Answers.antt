@@ -2,11 +2,11 @@ use Rattle.std.proofs.Common.{◌≡◌, ◌+◌, refl, ℕ, List, [], ◌∷◌
 use Rattle.std.specs.Prelude.{Ok, Err, Result}
 use Rattle.std.specs.Io.KnownBytes.{Appends}
 use Rattle.gtd_records.specs.Closing.{Restriction}
-use Rattle.gtd_runs.specs.Putting.{Puts}
-use Rattle.gtd_runs.specs.declared.putting.Progress.{Progress}
-use Rattle.gtd_runs.specs.declared.putting.Stop.{Stop}
+use Rattle.gtd_report.specs.Putting.{Puts}
+use Rattle.gtd_report.specs.declared.putting.Progress.{Progress}
+use Rattle.gtd_report.specs.declared.putting.Stop.{Stop}
 use Rattle.std.proofs.lemmas.Result.{err_from_is_err_and}
-use Rattle.gtd_runs.specs.facts.PutFacts.{one_put, one_short, puts_cut, puts_ended, puts_text, puts_then}
+use Rattle.gtd_report.specs.facts.PutFacts.{one_put, one_short, puts_cut, puts_ended, puts_text, puts_then}
 use Rattle.gtd_migrate.specs.Migrated.{header_line, migrated, row_line}
 use Rattle.gtd_migrate.proofs.run.MigrationReport.put.Goals as goal
 

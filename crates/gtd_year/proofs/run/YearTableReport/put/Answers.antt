@@ -2,7 +2,7 @@ use Rattle.std.proofs.Common.{rules, pos}
 use Rattle.std.proofs.lemmas.Result.{err_from_is_err_and}
 use Rattle.gtd_calendar.specs.Calendar.{first_day, year_length}
 use Rattle.gtd_records.specs.Closing.{IsOpen}
-use Rattle.gtd_runs.specs.facts.PutFacts.{puts_ended, puts_text}
+use Rattle.gtd_report.specs.facts.PutFacts.{puts_ended, puts_text}
 use Rattle.gtd_year.specs.YearTable.{IsYearTable}
 use Rattle.gtd_year.proofs.DayFacts.{one_table}
 use Rattle.gtd_year.proofs.YearFacts.{days_put}

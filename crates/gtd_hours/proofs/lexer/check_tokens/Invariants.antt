@@ -1,9 +1,0 @@
-use Rattle.std.proofs.Common.{◌≤◌, ◌-◌, length}
-use Rattle.gtd_hours.specs.facts.WholeText.{HasRead}
-use Rattle.gtd_hours.proofs.lexer.check_tokens.Given as goal
-
-abbrev pub invariant-loop-token : goal.invariant-loop-token
-invariant-loop-token l = record { inside : l.place ≤ length l.text; has_read : HasRead l.text l.place }
-
-abbrev pub decreases-loop-token : goal.decreases-loop-token
-decreases-loop-token l = length l.text - l.place

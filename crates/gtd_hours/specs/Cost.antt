@@ -1,0 +1,126 @@
+-- How many basic domains the translation of opening hours has.
+use Rattle.std.specs.Prelude.{ℕ, ◌+◌, ◌-◌, ◌/◌, ◌==◌, ◌&&◌, ◌||◌, ◌≤◌, ◌≢◌, ◌⊎◌, not, Bool, nat_lt, nat_le}
+use Rattle.std.specs.Prelude.{if◌then◌else◌, max, min}
+use Rattle.std.specs.Prelude.{List, [], ◌∷◌}
+use Rattle.gtd_hours.specs.Ranges.{end_of}
+use Rattle.gtd_hours.specs.declared.hours.Selector.{Selector}
+use Rattle.gtd_hours.specs.declared.hours.Selector.TheVariants.{Years, Months, Dates, Dated, Weeks, Weekdays, Nth, NthBack}
+use Rattle.gtd_hours.specs.declared.hours.MonthDay.{MonthDay}
+use Rattle.gtd_hours.specs.declared.hours.Kind.{Kind}
+use Rattle.gtd_hours.specs.declared.hours.TimeRange.{TimeRange}
+use Rattle.gtd_hours.specs.declared.hours.Link.{Link}
+use Rattle.gtd_hours.specs.declared.hours.Link.TheVariants.{Instead, Also}
+use Rattle.gtd_hours.specs.declared.hours.Modifier.{Modifier}
+use Rattle.gtd_hours.specs.declared.hours.Modifier.TheVariants.{Open, Closed}
+use Rattle.gtd_hours.specs.declared.hours.Rule.{Rule}
+use Rattle.gtd_hours.specs.declared.hours.Hours.{Hours}
+
+-- a count as it is computed: one that is greater than this stays at it
+abbrev pub most_counted : ℕ
+most_counted = 4_294_967_295
+
+abbrev pub counted : ℕ → ℕ
+counted n = min n most_counted
+
+-- every so many numbers, each by itself
+abbrev pub steps_cost : ℕ → ℕ → ℕ → ℕ
+steps_cost first last step = (last - first) / step + 1
+
+-- years: a stretch for each hundred years, or one for each of every so many
+abbrev pub years_cost : ℕ → ℕ → ℕ → ℕ
+years_cost first last step = steps_cost first last (if step == 1 then 100 else step)
+
+-- weeks: a stretch, and week 53 by itself; or one for each of every so many
+abbrev pub weeks_cost : ℕ → ℕ → ℕ → ℕ
+weeks_cost first last step =
+    if step == 1 then (if nat_lt first 53 && (last == 53) then 2 else 1) else steps_cost first last step
+
+-- days of one month: a stretch, and 29 February by itself
+abbrev pub month_cost : ℕ → ℕ → ℕ → ℕ
+month_cost month low high = if (month == 2) && (nat_lt low 29 && nat_lt 28 high) then 2 else 1
+
+-- the month after another
+abbrev pub month_after : ℕ → ℕ
+month_after month = if month == 12 then 1 else month + 1
+
+-- the days that a month has in each year
+abbrev pub common_length : ℕ → ℕ
+common_length month = if month == 2 then 28 else if (month == 4) || (month == 6) || (month == 9) || (month == 11) then 30 else 31
+
+-- One stretch of months and days reaches from the first date to the last one: each year has both, a move by months keeps
+-- the first day, and the last month, if it is reached by days, comes after one that is as long in each year.
+abbrev pub IsOneStretch : MonthDay → MonthDay → Type 0
+IsOneStretch first last =
+    (first.day ≤ 28) × (last.day ≤ common_length last.month) × ((first.day ≤ last.day + 1) ⊎ (last.month ≢ 3))
+
+abbrev pub is_one_stretch : MonthDay → MonthDay → Bool
+is_one_stretch first last =
+    nat_le first.day 28
+    && (nat_le last.day (common_length last.month)
+    && (nat_le first.day (last.day + 1) || not (last.month == 3)))
+
+-- a range of dates: one stretch; or days within one month; or the rest of the first month, the months between, and the
+-- beginning of the last month
+abbrev pub dates_cost : MonthDay → MonthDay → ℕ
+dates_cost first last =
+    if is_one_stretch first last then 1
+    else if (first.month == last.month) && nat_le first.day last.day then month_cost first.month first.day last.day
+    else
+    (month_cost first.month first.day 31 + (if month_after first.month == last.month then 0 else 1)
+    + month_cost last.month 1 last.day)
+
+abbrev pub selector_cost : Selector → ℕ
+selector_cost (Years years) = years_cost years.first years.last years.step
+selector_cost (Months months) = 1
+selector_cost (Dates dates) = dates_cost dates.first dates.last
+selector_cost (Dated dates) = 1
+selector_cost (Weeks weeks) = weeks_cost weeks.first weeks.last weeks.step
+selector_cost (Weekdays days) = 1
+selector_cost (Nth place) = 1
+selector_cost (NthBack place) = 1
+
+abbrev pub selectors_cost : List Selector → ℕ
+selectors_cost [] = 0
+selectors_cost (x ∷ xs) = selector_cost x + selectors_cost xs
+
+-- all that are given are met; nothing takes one basic domain, and so do all days
+abbrev pub kinds_cost : List Kind → ℕ
+kinds_cost [] = 0
+kinds_cost (kind ∷ kinds) = max 1 (selectors_cost kind.selectors.items) + kinds_cost kinds
+
+abbrev pub days_cost : List Kind → ℕ
+days_cost kinds = max 1 (kinds_cost kinds)
+
+-- ranges of times that end on their day take one each
+abbrev pub early_cost : List TimeRange → ℕ
+early_cost [] = 0
+early_cost (t ∷ ts) = (if nat_le (end_of t.begin t.last) 1440 then 1 else 0) + early_cost ts
+
+-- and share the days; each other one has the days for itself
+abbrev pub late_cost : ℕ → List TimeRange → ℕ
+late_cost days [] = 0
+late_cost days (t ∷ ts) = (if nat_le (end_of t.begin t.last) 1440 then 0 else days + 1) + late_cost days ts
+
+-- the spans of a rule
+abbrev pub spans_cost : ℕ → List TimeRange → ℕ
+spans_cost days [] = days
+spans_cost days (t ∷ ts) =
+    (if early_cost (t ∷ ts) == 0 then 0 else days + early_cost (t ∷ ts)) + late_cost days (t ∷ ts)
+
+abbrev pub rule_cost : Rule → ℕ
+rule_cost rule = spans_cost (days_cost rule.kinds.items) rule.times.items
+
+-- what is open after a rule, if what was open before it takes n: where nothing was open, nothing is taken away
+abbrev pub cost_by : Modifier → Link → Rule → ℕ → ℕ
+cost_by Closed link rule n = if n == 0 then 0 else n + rule_cost rule
+cost_by Open Also rule n = n + rule_cost rule
+cost_by Open Instead rule n = if n == 0 then rule_cost rule else n + days_cost rule.kinds.items + rule_cost rule
+
+-- and after rules one after another
+abbrev pub cost_after : List Rule → ℕ → ℕ
+cost_after [] n = n
+cost_after (rule ∷ rules) n = cost_after rules (cost_by rule.modifier rule.link rule n)
+
+-- hours that are never open take one
+abbrev pub hours_cost : Hours → ℕ
+hours_cost hours = max 1 (cost_after hours.rules.items 0)

@@ -1,0 +1,408 @@
+//! Opening hours, written in the syntax of OpenStreetMap.
+
+ghost use Rattle.std.specs.Prelude.{◌≡◌, ◌≤◌, ◌<◌, ◌+◌, ◌++◌, [], ◌∷◌, if◌then◌else◌, string_bytes, codes, decimal, IfOk, OnOk};
+ghost use Rattle.gtd_hours.specs.Ranges.{IsMonth, IsWeekday};
+ghost use Rattle.gtd_hours.specs.Written.{clock_text, dates_text, four_digits, goes_into, hours_text, is_some_kind, kind_text};
+ghost use Rattle.gtd_hours.specs.Written.{kind_word, kinds_text, link_text, modifier_text, month_day_text, month_name, months_text};
+ghost use Rattle.gtd_hours.specs.Written.{more_rules_text, more_selectors_text, more_times_text, needs_word, rule_text, rules_text};
+ghost use Rattle.gtd_hours.specs.Written.{selector_text, spans_text, step_text, time_text, times_text, two_digits};
+ghost use Rattle.gtd_hours.specs.Written.{weekday_name, weekdays_text, weeks_text, year_date_text, years_text};
+
+use crate::hours::{
+    Dated, Dates, Hours, Kind, Link, Modifier, MonthDay, Months, Place, Rule, Selector, TimeRange,
+    Weekdays, Weeks, YearDate, Years,
+};
+use itoa::Buffer;
+use std::alloc::{AllocError, Global};
+
+/// The text of the hours, or an error if memory was refused.
+///
+/// Rules have `; ` or `, ` before them, as their links say, kinds of selectors and times a space, and a closed rule ends in
+/// ` off`. An open rule ends in ` open` only where the comma of the next rule would else go on with its times or selectors. A
+/// rule without selectors and times begins with `24/7`.
+pub fn print_hours(alloc: Global, hours: &Hours) -> Result<String, AllocError>
+    ensures exact { IfOk result (λ text. string_bytes text ≡ hours_text hours.now) }
+{
+    let mut out = String::new(alloc);
+    push_rules(&mut out, hours.rules.as_slice())?;
+    Ok(out)
+}
+
+fn push_rules(out: &mut String, rules: &[Rule]) -> Result<(), AllocError>
+    ensures { OnOk result (string_bytes out.new ≡ string_bytes out.old ++ rules_text rules.now) }
+{
+    match rules.split_first() {
+        None => Ok(()),
+        Some((first, more)) => {
+            push_rule(out, first, more)?;
+            push_more_rules(out, more)
+        }
+    }
+}
+
+fn push_more_rules(out: &mut String, rules: &[Rule]) -> Result<(), AllocError>
+    ensures { OnOk result (string_bytes out.new ≡ string_bytes out.old ++ more_rules_text rules.now) }
+{
+    let mut rest = rules;
+    while let Some((rule, more)) = rest.split_first() {
+        push_link(out, rule.link)?;
+        push_rule(out, rule, more)?;
+        rest = more;
+    }
+    Ok(())
+}
+
+fn push_link(out: &mut String, link: Link) -> Result<(), AllocError>
+    ensures { OnOk result (string_bytes out.new ≡ string_bytes out.old ++ link_text link) }
+{
+    match link {
+        Link::Instead => out.push_str("; "),
+        Link::Also => out.push_str(", "),
+    }
+}
+
+// A rule, where these follow.
+fn push_rule(out: &mut String, rule: &Rule, more: &[Rule]) -> Result<(), AllocError>
+    ensures { OnOk result (string_bytes out.new ≡ string_bytes out.old ++ rule_text rule.now more.now) }
+{
+    push_spans(out, rule.kinds.as_slice(), rule.times.as_slice())?;
+    push_modifier(out, rule.modifier, needs_word(rule, more))
+}
+
+fn push_modifier(out: &mut String, modifier: Modifier, needed: bool) -> Result<(), AllocError>
+    ensures { OnOk result (string_bytes out.new ≡ string_bytes out.old ++ modifier_text modifier needed) }
+{
+    match modifier {
+        Modifier::Open => {
+            if needed {
+                return out.push_str(" open");
+            }
+            Ok(())
+        }
+        Modifier::Closed => out.push_str(" off"),
+    }
+}
+
+// Whether the comma of the next rule would go on with a list of this one.
+fn needs_word(rule: &Rule, more: &[Rule]) -> bool
+    ensures { result ≡ needs_word rule.now more.now }
+{
+    match more.first() {
+        None => false,
+        Some(next) => match next.link {
+            Link::Instead => false,
+            Link::Also => goes_into(rule, next),
+        },
+    }
+}
+
+fn goes_into(rule: &Rule, next: &Rule) -> bool
+    ensures { result ≡ goes_into rule.now next.now }
+{
+    if rule.times.is_empty() {
+        return !rule.kinds.is_empty();
+    }
+    !next.times.is_empty() && next.kinds.is_empty()
+}
+
+fn push_spans(out: &mut String, kinds: &[Kind], times: &[TimeRange]) -> Result<(), AllocError>
+    ensures { OnOk result (string_bytes out.new ≡ string_bytes out.old ++ spans_text kinds.now times.now) }
+{
+    if kinds.is_empty() {
+        if times.is_empty() {
+            return out.push_str("24/7");
+        }
+        return push_times(out, times);
+    }
+    push_kinds(out, kinds)?;
+    if times.is_empty() {
+        return Ok(());
+    }
+    out.push_str(" ")?;
+    push_times(out, times)
+}
+
+fn push_kinds(out: &mut String, kinds: &[Kind]) -> Result<(), AllocError>
+    ensures { OnOk result (string_bytes out.new ≡ string_bytes out.old ++ kinds_text kinds.now) }
+{
+    let mut rest = kinds;
+    while let Some((kind, more)) = rest.split_first() {
+        push_kind(out, kind.selectors.as_slice(), more)?;
+        rest = more;
+    }
+    Ok(())
+}
+
+// A kind, and a space if more follow.
+fn push_kind(out: &mut String, selectors: &[Selector], more: &[Kind]) -> Result<(), AllocError>
+    ensures { OnOk result (string_bytes out.new ≡ string_bytes out.old ++ kind_text (is_some_kind more.now) selectors.now
+        ++ (if is_some_kind more.now then codes " " else [])) }
+{
+    if more.is_empty() {
+        return push_selectors(out, false, selectors);
+    }
+    push_selectors(out, true, selectors)?;
+    out.push_str(" ")
+}
+
+fn push_selectors(out: &mut String, follows: bool, selectors: &[Selector]) -> Result<(), AllocError>
+    ensures { OnOk result (string_bytes out.new ≡ string_bytes out.old ++ kind_text follows selectors.now) }
+{
+    match selectors.split_first() {
+        None => Ok(()),
+        Some((first, more)) => {
+            push_word(out, *first)?;
+            push_selector(out, follows, *first)?;
+            push_more_selectors(out, follows, more)
+        }
+    }
+}
+
+fn push_word(out: &mut String, selector: Selector) -> Result<(), AllocError>
+    ensures { OnOk result (string_bytes out.new ≡ string_bytes out.old ++ kind_word selector) }
+{
+    match selector {
+        Selector::Weeks(_) => out.push_str("week "),
+        _ => Ok(()),
+    }
+}
+
+fn push_more_selectors(
+    out: &mut String,
+    follows: bool,
+    selectors: &[Selector],
+) -> Result<(), AllocError>
+    ensures { OnOk result (string_bytes out.new ≡ string_bytes out.old ++ more_selectors_text follows selectors.now) }
+{
+    let mut rest = selectors;
+    while let Some((selector, more)) = rest.split_first() {
+        out.push_str(",")?;
+        push_selector(out, follows, *selector)?;
+        rest = more;
+    }
+    Ok(())
+}
+
+fn push_selector(out: &mut String, follows: bool, selector: Selector) -> Result<(), AllocError>
+    ensures { OnOk result (string_bytes out.new ≡ string_bytes out.old ++ selector_text follows selector) }
+{
+    match selector {
+        Selector::Years(years) => push_years(out, follows, years),
+        Selector::Months(months) => push_months(out, months),
+        Selector::Dates(dates) => push_dates(out, dates),
+        Selector::Dated(dates) => push_dated(out, dates),
+        Selector::Weeks(weeks) => push_weeks(out, weeks),
+        Selector::Weekdays(days) => push_weekdays(out, days),
+        Selector::Nth(place) => push_place(out, "[", place),
+        Selector::NthBack(place) => push_place(out, "[-", place),
+    }
+}
+
+fn push_years(out: &mut String, follows: bool, years: Years) -> Result<(), AllocError>
+    ensures { OnOk result (string_bytes out.new
+        ≡ string_bytes out.old ++ years_text follows years.first years.last years.step) }
+{
+    push_four_digits(out, years.first)?;
+    if years.first == years.last && years.step == 1 && !follows {
+        return Ok(());
+    }
+    out.push_str("-")?;
+    push_four_digits(out, years.last)?;
+    push_step(out, years.step)
+}
+
+fn push_weeks(out: &mut String, weeks: Weeks) -> Result<(), AllocError>
+    ensures { OnOk result (string_bytes out.new
+        ≡ string_bytes out.old ++ weeks_text weeks.first weeks.last weeks.step) }
+{
+    out.push_str(Buffer::new().format(weeks.first))?;
+    if weeks.first == weeks.last && weeks.step == 1 {
+        return Ok(());
+    }
+    out.push_str("-")?;
+    out.push_str(Buffer::new().format(weeks.last))?;
+    push_step(out, weeks.step)
+}
+
+fn push_step(out: &mut String, step: u16) -> Result<(), AllocError>
+    ensures { OnOk result (string_bytes out.new ≡ string_bytes out.old ++ step_text step) }
+{
+    if step == 1 {
+        return Ok(());
+    }
+    out.push_str("/")?;
+    out.push_str(Buffer::new().format(step))
+}
+
+fn push_months(out: &mut String, months: Months) -> Result<(), AllocError>
+    ensures { OnOk result (string_bytes out.new ≡ string_bytes out.old ++ months_text months.first months.last) }
+{
+    out.push_str(month_name(months.first))?;
+    if months.first == months.last {
+        return Ok(());
+    }
+    out.push_str("-")?;
+    out.push_str(month_name(months.last))
+}
+
+fn push_dates(out: &mut String, dates: Dates) -> Result<(), AllocError>
+    ensures { OnOk result (string_bytes out.new ≡ string_bytes out.old ++ dates_text dates.first dates.last) }
+{
+    push_month_day(out, dates.first)?;
+    if dates.first.month == dates.last.month && dates.first.day == dates.last.day {
+        return Ok(());
+    }
+    out.push_str("-")?;
+    push_month_day(out, dates.last)
+}
+
+fn push_month_day(out: &mut String, date: MonthDay) -> Result<(), AllocError>
+    ensures { OnOk result (string_bytes out.new ≡ string_bytes out.old ++ month_day_text date) }
+{
+    out.push_str(month_name(date.month))?;
+    out.push_str(" ")?;
+    out.push_str(Buffer::new().format(date.day))
+}
+
+fn push_dated(out: &mut String, dates: Dated) -> Result<(), AllocError>
+    ensures { OnOk result (string_bytes out.new
+        ≡ string_bytes out.old ++ (year_date_text dates.first ++ codes "-" ++ year_date_text dates.last)) }
+{
+    push_year_date(out, dates.first)?;
+    out.push_str("-")?;
+    push_year_date(out, dates.last)
+}
+
+fn push_year_date(out: &mut String, date: YearDate) -> Result<(), AllocError>
+    ensures { OnOk result (string_bytes out.new ≡ string_bytes out.old ++ year_date_text date) }
+{
+    push_four_digits(out, date.year)?;
+    out.push_str(" ")?;
+    out.push_str(month_name(date.month))?;
+    out.push_str(" ")?;
+    out.push_str(Buffer::new().format(date.day))
+}
+
+fn push_weekdays(out: &mut String, days: Weekdays) -> Result<(), AllocError>
+    ensures { OnOk result (string_bytes out.new ≡ string_bytes out.old ++ weekdays_text days.first days.last) }
+{
+    out.push_str(weekday_name(days.first))?;
+    if days.first == days.last {
+        return Ok(());
+    }
+    out.push_str("-")?;
+    out.push_str(weekday_name(days.last))
+}
+
+fn push_place(out: &mut String, bracket: &str, place: Place) -> Result<(), AllocError>
+    ensures { OnOk result (string_bytes out.new ≡ string_bytes out.old
+        ++ (weekday_name place.weekday ++ bracket.now ++ decimal place.number ++ codes "]")) }
+{
+    out.push_str(weekday_name(place.weekday))?;
+    out.push_str(bracket)?;
+    out.push_str(Buffer::new().format(place.number))?;
+    out.push_str("]")
+}
+
+fn push_times(out: &mut String, times: &[TimeRange]) -> Result<(), AllocError>
+    ensures { OnOk result (string_bytes out.new ≡ string_bytes out.old ++ times_text times.now) }
+{
+    match times.split_first() {
+        None => Ok(()),
+        Some((first, more)) => {
+            push_time(out, *first)?;
+            push_more_times(out, more)
+        }
+    }
+}
+
+fn push_more_times(out: &mut String, times: &[TimeRange]) -> Result<(), AllocError>
+    ensures { OnOk result (string_bytes out.new ≡ string_bytes out.old ++ more_times_text times.now) }
+{
+    let mut rest = times;
+    while let Some((time, more)) = rest.split_first() {
+        out.push_str(",")?;
+        push_time(out, *time)?;
+        rest = more;
+    }
+    Ok(())
+}
+
+fn push_time(out: &mut String, time: TimeRange) -> Result<(), AllocError>
+    ensures { OnOk result (string_bytes out.new ≡ string_bytes out.old ++ time_text time) }
+{
+    push_clock(out, time.begin)?;
+    out.push_str("-")?;
+    push_clock(out, time.last)
+}
+
+#[tactic(auto, unfolding(crate::specs::Written::clock_text))]
+fn push_clock(out: &mut String, minutes: u16) -> Result<(), AllocError>
+    requires { minutes < 6000 }
+    ensures { OnOk result (string_bytes out.new ≡ string_bytes out.old ++ clock_text minutes) }
+{
+    push_two_digits(out, minutes / 60)?;
+    out.push_str(":")?;
+    push_two_digits(out, minutes % 60)
+}
+
+fn push_two_digits(out: &mut String, number: u16) -> Result<(), AllocError>
+    requires { number < 100 }
+    ensures { OnOk result (string_bytes out.new ≡ string_bytes out.old ++ two_digits number) }
+{
+    push_digit(out, number / 10)?;
+    push_digit(out, number % 10)
+}
+
+fn push_four_digits(out: &mut String, number: u16) -> Result<(), AllocError>
+    requires { number ≤ 9999 }
+    ensures { OnOk result (string_bytes out.new ≡ string_bytes out.old ++ four_digits number) }
+{
+    push_digit(out, number / 1000)?;
+    push_digit(out, number / 100 % 10)?;
+    push_digit(out, number / 10 % 10)?;
+    push_digit(out, number % 10)
+}
+
+#[tactic(auto, using(std::proofs::lemmas::Fmt::decimal_digit))]
+fn push_digit(out: &mut String, digit: u16) -> Result<(), AllocError>
+    requires { digit < 10 }
+    ensures { OnOk result (string_bytes out.new ≡ string_bytes out.old ++ (48 + digit) ∷ []) }
+{
+    out.push_str(Buffer::new().format(digit))
+}
+
+fn month_name(month: u8) -> &'static str
+    requires { IsMonth month }
+    ensures { result.now ≡ month_name month }
+{
+    match month {
+        1 => "Jan",
+        2 => "Feb",
+        3 => "Mar",
+        4 => "Apr",
+        5 => "May",
+        6 => "Jun",
+        7 => "Jul",
+        8 => "Aug",
+        9 => "Sep",
+        10 => "Oct",
+        11 => "Nov",
+        _ => "Dec",
+    }
+}
+
+fn weekday_name(weekday: u8) -> &'static str
+    requires { IsWeekday weekday }
+    ensures { result.now ≡ weekday_name weekday }
+{
+    match weekday {
+        1 => "Su",
+        2 => "Mo",
+        3 => "Tu",
+        4 => "We",
+        5 => "Th",
+        6 => "Fr",
+        _ => "Sa",
+    }
+}

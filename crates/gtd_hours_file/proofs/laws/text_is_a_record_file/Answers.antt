@@ -1,0 +1,7 @@
+use Rattle.gtd_hours_file.proofs.TranslatedFacts.{file_accepted}
+use Rattle.gtd_hours_file.proofs.laws.text_is_a_record_file.Goals as goal
+
+pub returns : goal.returns
+returns c =
+    let text = c.canonical_text_of_domain.ensures in
+    record { accepted = file_accepted text.stands text.faultless c.migrated_is_accepted.ensures.rows }

@@ -1,0 +1,10 @@
+pub mod HoursFile
+pub mod Listing
+pub mod PuttingRows
+pub mod Reading
+pub mod Run
+pub mod SameAnswers
+pub mod Translated
+pub use Rattle.gtd_migrate.specs.Migrated
+pub use Rattle.gtd_records.specs.Closing
+pub use Rattle.gtd_report.specs.Putting

@@ -1,0 +1,68 @@
+-- The list of all faults of a file of hours, in words.
+use Rattle.std.specs.Prelude.{◌≡◌, ◌+◌, ◌++◌, ℕ, List, [], ◌∷◌, codes, decimal, Option, Some, None}
+use Rattle.gtd_core.specs.Limits.{most_rows}
+use Rattle.gtd_hours_grammar.specs.declared.fault.FaultKind.{FaultKind}
+use Rattle.gtd_hours_grammar.specs.declared.fault.FaultKind.TheVariants as kind
+use Rattle.gtd_faults.specs.Below.{IsOfField, IsOfHeader, below_text}
+use Rattle.gtd_faults.specs.Hints.{first_line}
+use Rattle.gtd_faults.specs.Listing.{line_text}
+use Rattle.gtd_faults.specs.Places.{IsLineAt, field_of}
+use Rattle.gtd_faults.specs.declared.below.Below.{Below}
+use Rattle.gtd_faults.specs.declared.below.Below.TheVariants as below
+use Rattle.gtd_hours_file.specs.declared.fault.HoursFileFault.{HoursFileFault}
+use Rattle.gtd_hours_file.specs.declared.fault.HoursFileFault.TheVariants as fault
+
+-- what is wrong with a text of hours
+abbrev pub kind_name : FaultKind → List ℕ
+kind_name kind.BadToken = codes "BadToken"
+kind_name kind.Unsupported = codes "Unsupported"
+kind_name kind.Range = codes "Range"
+kind_name kind.Unexpected = codes "Unexpected"
+kind_name kind.Incomplete = codes "Incomplete"
+
+-- the words of a fault: its row, if it has one; its kind; and for a fault of hours, the place
+abbrev pub fault_text : HoursFileFault → List ℕ
+fault_text fault.TooLarge = codes "TooLarge"
+fault_text fault.Header = codes "Header"
+fault_text (fault.FieldCount row) = codes "row " ++ decimal row ++ codes ": FieldCount"
+fault_text (fault.Element row) = codes "row " ++ decimal row ++ codes ": Element"
+fault_text (fault.Direction row) = codes "row " ++ decimal row ++ codes ": Direction"
+fault_text (fault.Vehicle row) = codes "row " ++ decimal row ++ codes ": Vehicle"
+fault_text (fault.Hours row why) =
+    codes "row " ++ decimal row ++ codes ": Hours " ++ kind_name why.kind ++ codes " at " ++ decimal why.place
+fault_text (fault.TooMany row) = codes "row " ++ decimal row ++ codes ": Hours TooMany at 0"
+fault_text fault.TooManyRows = codes "row 65537: TooManyRows"
+
+-- the header that is expected
+abbrev pub expected_text : List ℕ
+expected_text = codes "element,direction,vehicles,hours"
+
+-- What is shown below the line of a fault of a file with these bytes: the field in the column at fault, around the place in
+-- a text of hours or from its first byte on; if the file has no header, its first line, and the header that is expected;
+-- otherwise nothing.
+abbrev pub IsBelow : List ℕ → HoursFileFault → Below → Type 0
+IsBelow bytes (fault.Element row) shown = IsOfField (field_of bytes row 0) 0 shown
+IsBelow bytes (fault.Direction row) shown = IsOfField (field_of bytes row 1) 0 shown
+IsBelow bytes (fault.Vehicle row) shown = IsOfField (field_of bytes row 2) 0 shown
+IsBelow bytes (fault.Hours row why) shown = IsOfField (field_of bytes row 3) why.place shown
+IsBelow bytes (fault.TooMany row) shown = IsOfField (field_of bytes row 3) 0 shown
+IsBelow bytes fault.Header shown = IsOfHeader (first_line bytes) expected_text None shown
+IsBelow bytes why shown = shown ≡ below.Nothing
+
+-- the row that a fault is of, if it is of one; `TooManyRows` is of the first row too many
+abbrev pub row_of : HoursFileFault → Option ℕ
+row_of (fault.FieldCount row) = Some row
+row_of (fault.Element row) = Some row
+row_of (fault.Direction row) = Some row
+row_of (fault.Vehicle row) = Some row
+row_of (fault.Hours row why) = Some row
+row_of (fault.TooMany row) = Some row
+row_of fault.TooManyRows = Some (most_rows + 1)
+row_of why = None
+
+-- the lines of the faults of a file with these bytes, in order: for each its line, and what is shown below it
+abbrev pub AreLines : List ℕ → List ℕ → List HoursFileFault → List ℕ → Type 0
+AreLines path bytes [] text = text ≡ []
+AreLines path bytes (why ∷ rest) text =
+    (line : ℕ) × IsLineAt bytes (row_of why) line × (below : Below) × IsBelow bytes why below × (after : List ℕ)
+    × AreLines path bytes rest after × (text ≡ line_text path line (fault_text why) ++ below_text below ++ after)

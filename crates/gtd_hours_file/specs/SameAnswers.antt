@@ -1,0 +1,45 @@
+-- Answers of files of hours that say the same. Hours are the same if they are open at the same seconds.
+use Rattle.std.specs.Prelude.{◌≡◌, ◌↔◌, ℤ, List, [], ◌∷◌, Option, Some, None, Result, Ok, Err, ⊤}
+use Rattle.gtd_hours.specs.Opening.{IsOpen}
+use Rattle.gtd_hours.specs.declared.hours.Hours.{Hours}
+use Rattle.gtd_records.specs.Closing.{HoldsAt, Restriction}
+use Rattle.gtd_hours_file.specs.declared.fault.HoursFileFault.{HoursFileFault}
+use Rattle.gtd_hours_file.specs.declared.row.HoursRow.{HoursRow}
+
+-- both rows have no hours, or both have some, which are open at the same seconds
+abbrev pub AreSameHours : Option Hours → Option Hours → Type 0
+AreSameHours None None = ⊤
+AreSameHours (Some one) (Some other) = (second : ℤ) → IsOpen one second ↔ IsOpen other second
+AreSameHours one other = ⊥
+
+-- the same element, directions and vehicle types, and the same hours
+pub record IsSameRow (one other : HoursRow) : Type 0 where
+  pub element : one.element ≡ other.element
+  pub closed : one.closed ≡ other.closed
+  pub vehicles : one.vehicles ≡ other.vehicles
+  pub hours : AreSameHours one.hours other.hours
+
+-- rows that are the same one for one
+abbrev pub AreSameRows : List HoursRow → List HoursRow → Type 0
+AreSameRows [] [] = ⊤
+AreSameRows (one ∷ ones) (other ∷ others) = IsSameRow one other × AreSameRows ones others
+AreSameRows ones others = ⊥
+
+-- the same rows, or the same list of faults
+abbrev pub IsSameAnswer : Result (List HoursRow) (List HoursFileFault) → Result (List HoursRow) (List HoursFileFault) → Type 0
+IsSameAnswer (Ok ones) (Ok others) = AreSameRows ones others
+IsSameAnswer (Err ones) (Err others) = ones ≡ others
+IsSameAnswer one other = ⊥
+
+-- the same element, directions and vehicle types, and a domain that contains the same seconds
+pub record IsSameRestriction (one other : Restriction) : Type 0 where
+  pub element : one.element ≡ other.element
+  pub closed : one.closed ≡ other.closed
+  pub vehicles : one.vehicles ≡ other.vehicles
+  pub seconds : (second : ℤ) → HoldsAt one.domain second ↔ HoldsAt other.domain second
+
+-- restrictions that are the same one for one
+abbrev pub AreSameRestrictions : List Restriction → List Restriction → Type 0
+AreSameRestrictions [] [] = ⊤
+AreSameRestrictions (one ∷ ones) (other ∷ others) = IsSameRestriction one other × AreSameRestrictions ones others
+AreSameRestrictions ones others = ⊥

@@ -1,0 +1,127 @@
+//! What a file of hours says: its sound rows, and all its faults.
+
+ghost use Rattle.std.specs.Prelude.{◌≡◌, ◌≢◌, ◌++◌, [], ◌∷◌, List, Result, Some, IfOk, IsTrue, OnOk, ◌↔◌};
+ghost use Rattle.csv.specs.Reading.{default_config, records, strip_bom};
+ghost use Rattle.csv.specs.Records.{fields_of};
+ghost use Rattle.gtd_records.specs.Columns.{Fields};
+ghost use Rattle.gtd_records.specs.Table.{HasLeft};
+ghost use Rattle.gtd_hours_file.specs.HoursFile.{AreOfFile, AreRows, AreTable, IsRow, faults_of, header, sound_of};
+ghost use Rattle.gtd_hours_file.specs.declared.fault.HoursFileFault.{HoursFileFault};
+ghost use Rattle.gtd_hours_file.specs.declared.row.HoursRow.{HoursRow};
+
+use crate::fault::HoursFileFault;
+use crate::row::{HoursRow, RowStop, read_row};
+use csv::{ByteRecord, Reader};
+use gtd_core::limits::{MOST_FILE_BYTES, MOST_ROWS};
+use gtd_records::{four_columns, next_row, table};
+use std::alloc::{AllocError, Global};
+
+/// What the rows of a file say.
+#[derive(Drop)]
+pub(crate) struct Found {
+    /// The rows that are sound.
+    pub(crate) sound: Vec<HoursRow>,
+    /// The faults of the others.
+    pub(crate) faults: Vec<HoursFileFault>,
+}
+
+// Nothing yet.
+fn nothing(alloc: Global) -> Found
+    ensures sound { result.sound.items ≡ [] }
+    ensures faults { result.faults.items ≡ [] }
+{
+    Found {
+        sound: Vec::new(alloc),
+        faults: Vec::new(alloc),
+    }
+}
+
+// A single fault.
+fn alone(alloc: Global, why: HoursFileFault) -> Result<Found, AllocError>
+    ensures sound { IfOk result (λ found. found.sound.items ≡ []) }
+    ensures faults { IfOk result (λ found. found.faults.items ≡ why ∷ []) }
+{
+    let mut found = nothing(alloc);
+    found.faults.push(why)?;
+    Ok(found)
+}
+
+// Adds what the row with this number says.
+fn add_row(
+    alloc: Global,
+    found: &mut Found,
+    number: u32,
+    row: &ByteRecord,
+) -> Result<(), AllocError>
+    ensures { OnOk result ((answer : Result HoursRow HoursFileFault) × IsRow number (fields_of row.now) answer
+        × (found.new.sound.items ≡ found.old.sound.items ++ sound_of answer)
+        × (found.new.faults.items ≡ found.old.faults.items ++ faults_of answer)) }
+{
+    match read_row(alloc, number, row) {
+        Ok(read) => found.sound.push(read)?,
+        Err(RowStop::Fault(why)) => found.faults.push(why)?,
+        Err(RowStop::NoMemory) => return Err(AllocError),
+    }
+    Ok(())
+}
+
+// Whether a row is the header.
+fn is_header(row: &ByteRecord) -> bool
+    ensures { IsTrue result ↔ (fields_of row.now ≡ header) }
+{
+    let Some(columns) = four_columns(row) else {
+        return false;
+    };
+    columns.element == b"element".as_slice()
+        && columns.closed == b"direction".as_slice()
+        && columns.vehicles == b"vehicles".as_slice()
+        && columns.last == b"hours".as_slice()
+}
+
+// What the rows say that a reader still has to give.
+fn read_rows(
+    alloc: Global,
+    reader: &mut Reader<&[u8]>,
+    row: &mut ByteRecord,
+) -> Result<Found, AllocError>
+    ensures { (rows : List Fields) → HasLeft (λ source. Some source.now) reader.old rows
+        → IfOk result (λ found. AreRows rows found.sound.items found.faults.items) }
+{
+    let mut found = nothing(alloc);
+    for number in 1..MOST_ROWS + 1 {
+        if !next_row(reader, row)? {
+            return Ok(found);
+        }
+        add_row(alloc, &mut found, number, row)?;
+    }
+    if next_row(reader, row)? {
+        found.faults.push(HoursFileFault::TooManyRows)?;
+    }
+    Ok(found)
+}
+
+// What the records of a file's bytes say, if there are not too many bytes.
+fn read_table(alloc: Global, bytes: &[u8]) -> Result<Found, AllocError>
+    ensures { IfOk result (λ found.
+        AreTable (records default_config (strip_bom bytes.now)) found.sound.items found.faults.items) }
+{
+    let mut reader = table(alloc, bytes);
+    let mut row = ByteRecord::new(alloc);
+    if !next_row(&mut reader, &mut row)? {
+        return alone(alloc, HoursFileFault::Header);
+    }
+    if !is_header(&row) {
+        return alone(alloc, HoursFileFault::Header);
+    }
+    read_rows(alloc, &mut reader, &mut row)
+}
+
+/// What a file with these bytes says.
+pub(crate) fn read_file(alloc: Global, bytes: &[u8]) -> Result<Found, AllocError>
+    ensures { IfOk result (λ found. AreOfFile bytes.now found.sound.items found.faults.items) }
+{
+    if bytes.len() > MOST_FILE_BYTES {
+        return alone(alloc, HoursFileFault::TooLarge);
+    }
+    read_table(alloc, bytes)
+}

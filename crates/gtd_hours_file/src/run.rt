@@ -1,0 +1,122 @@
+//! The run that translates a file of hours to a record file.
+
+ghost use Rattle.std.specs.Prelude.{◌≡◌, ◌<◌, ℕ, [], List, Some, IfErr, IsErrOf, IsTrue, OnOk};
+ghost use Rattle.gtd_hours_file.specs.HoursFile.{AreOfFile};
+ghost use Rattle.gtd_hours_file.specs.PuttingRows.{answer_of};
+ghost use Rattle.gtd_hours_file.specs.Run.{HasTranslated, IsRefusal, IsStop, failures_after_putting, failures_after_reading};
+
+use crate::fault::HoursFileFault;
+use crate::file::read_file;
+use crate::listing::lines_of;
+use crate::putting::put_records;
+use crate::row::HoursRow;
+use crate::untranslated::Untranslated;
+use gtd_core::limits::MOST_FILE_BYTES;
+use gtd_devices::{Input, InputFault, Output, read_whole};
+use gtd_report::{Progress, Stop};
+use std::alloc::Global;
+
+// The answer for a file at fault: the list of its faults.
+fn refusal(alloc: Global, path: &str, bytes: &[u8], faults: &[HoursFileFault]) -> Untranslated
+    ensures list { IsRefusal path.now bytes.now faults.now result }
+{
+    match lines_of(alloc, path, bytes, faults) {
+        Ok(text) => Untranslated::Faults(text),
+        Err(_) => Untranslated::NoMemory { written: 0 },
+    }
+}
+
+// The answer of a run that put its text, or that stopped.
+fn answer(put: Result<(), Stop>, progress: Progress) -> Result<u64, Untranslated>
+    ensures value { result ≡ answer_of put progress }
+{
+    match put {
+        Ok(()) => Ok(progress.lines),
+        Err(Stop::Output) => Err(Untranslated::WriteFault {
+            written: progress.written,
+        }),
+        Err(Stop::Memory) => Err(Untranslated::NoMemory {
+            written: progress.written,
+        }),
+    }
+}
+
+// Puts what the rows of the file with these bytes are translated to.
+fn put_sound<O: Output>(
+    alloc: Global,
+    output: &mut O,
+    bytes: &[u8],
+    rows: &[HoursRow],
+) -> Result<u64, Untranslated>
+    requires writable { O.failure_count output.old < u64.MAX }
+    requires file { AreOfFile bytes.now rows.now [] }
+    ensures stands { (path : List ℕ) → HasTranslated path (Some bytes.now) (O.taken output.old) (O.taken output.new) result }
+    ensures cause { IfErr result IsStop }
+    ensures ended { OnOk result (IsTrue (O.is_ended output.new)) }
+    ensures failures { O.failure_count output.new
+        ≡ failures_after_putting result (O.failure_count output.old) }
+{
+    let mut progress = Progress::new();
+    let put = put_records(alloc, output, &mut progress, rows);
+    answer(put, progress)
+}
+
+// Puts what the file with this path and these bytes is translated to, if it is not at fault.
+fn put_file<O: Output>(
+    alloc: Global,
+    output: &mut O,
+    path: &str,
+    bytes: &[u8],
+) -> Result<u64, Untranslated>
+    requires writable { O.failure_count output.old < u64.MAX }
+    ensures stands { HasTranslated path.now (Some bytes.now) (O.taken output.old) (O.taken output.new) result }
+    ensures cause { IfErr result IsStop }
+    ensures ended { OnOk result (IsTrue (O.is_ended output.new)) }
+    ensures failures { O.failure_count output.new
+        ≡ failures_after_putting result (O.failure_count output.old) }
+{
+    let Ok(found) = read_file(alloc, bytes) else {
+        return Err(Untranslated::NoMemory { written: 0 });
+    };
+    if !found.faults.is_empty() {
+        return Err(refusal(alloc, path, bytes, found.faults.as_slice()));
+    }
+    put_sound(alloc, output, bytes, found.sound.as_slice())
+}
+
+/// Puts the record file of version 2 that a file of hours stands for, which an input brings: its rows in their order, each
+/// with the canonical text of a domain that contains exactly the seconds at which its hours are open, and with none if it
+/// has no hours. Answers the number of lines, the header included.
+///
+/// Errors, in their order: `ReadFault`, `Endless` or `NoMemory` while the input is read; `Faults` if the file is at fault,
+/// with the list of all its faults for this path; then `WriteFault` or `NoMemory`, whichever happens first. Nothing is put
+/// until the whole file has been read and no row is at fault. Before the call, the failures of both devices must be below
+/// `u64::MAX`.
+pub fn run_hours_records<I: Input, O: Output>(
+    alloc: Global,
+    input: &mut I,
+    output: &mut O,
+    path: &str,
+) -> Result<u64, Untranslated>
+    requires readable { I.failure_count input.old < u64.MAX }
+    requires writable { O.failure_count output.old < u64.MAX }
+    // What each answer means. The number of lines: of a file of hours, the output took the record file that its rows are
+    // translated to. `Faults`: the text lists all faults of the bytes, and nothing was put. `WriteFault`, or `NoMemory`
+    // after the whole file was read: the output took a first part of the lines of the first rows.
+    ensures stands { HasTranslated path.now (I.to_come input.old) (O.taken output.old) (O.taken output.new) result }
+    // An output that took the whole text was then ended, last of all.
+    ensures ended { OnOk result (IsTrue (O.is_ended output.new)) }
+    ensures endless { IsErrOf result Untranslated.Endless → IsTrue (I.may_fall_silent input.old) }
+    ensures read_faults { I.failure_count input.new
+        ≡ failures_after_reading result (I.failure_count input.old) }
+    ensures write_faults { O.failure_count output.new
+        ≡ failures_after_putting result (O.failure_count output.old) }
+{
+    match read_whole(alloc, input, MOST_FILE_BYTES) {
+        Ok(bytes) => put_file(alloc, output, path, bytes.as_slice()),
+        Err(InputFault::TooLarge) => Err(refusal(alloc, path, &[], &[HoursFileFault::TooLarge])),
+        Err(InputFault::ReadFault) => Err(Untranslated::ReadFault),
+        Err(InputFault::Endless) => Err(Untranslated::Endless),
+        Err(InputFault::NoMemory) => Err(Untranslated::NoMemory { written: 0 }),
+    }
+}

@@ -1,0 +1,180 @@
+-- What a reading comes to where no move can be made.
+use Rattle.std.proofs.Common.{◌≡◌, ℕ, Bool, true, false, List, [], ◌∷◌, ◌++◌, length, Option, Some, None, Ok}
+use Rattle.std.proofs.Common.{refl, sym, ap, subst, ◌∙◌, append_assoc}
+use Rattle.std.specs.Prelude.{IfErr}
+use Rattle.std.proofs.lemmas.List.{append-nil}
+use Rattle.gtd_hours_tokens.specs.Lexing.{AreTokens, IsNext}
+use Rattle.gtd_hours_tokens.specs.declared.token.Token.{Token}
+use Rattle.gtd_hours_tokens.specs.declared.token.TokenKind.{TokenKind}
+use Rattle.gtd_hours_tokens.specs.declared.token.TokenKind.TheVariants as token
+use Rattle.gtd_hours_grammar.specs.declared.fault.FaultKind.TheVariants as fault
+use Rattle.gtd_hours_grammar.specs.declared.piece.Piece.{Piece}
+use Rattle.gtd_hours_grammar.specs.declared.stage.Stage.TheVariants as stage
+use Rattle.gtd_hours_grammar.specs.declared.place.Place.{Place}
+use Rattle.gtd_hours_grammar.specs.declared.place.Place.TheVariants as places
+use Rattle.gtd_hours_grammar.specs.declared.reading.Reading.{Reading}
+use Rattle.gtd_hours_grammar.specs.Grammar.{AreHours, CanGoOn, Follow, More, in_full, so_far, by_place}
+use Rattle.gtd_hours_grammar.specs.Faults.{IsFirstFault, IsHoursText, IsMisfitKind, are_alike, kinds}
+use Rattle.gtd_hours_grammar.specs.Kinds.{misfit_of, range_if}
+use Rattle.gtd_hours_grammar.specs.Places.{Rest}
+use Rattle.gtd_hours_grammar.specs.Sound.{IsPlace, takes_number, takes_time}
+use Rattle.gtd_hours_grammar.specs.Runs.{Runs, is_after}
+use Rattle.gtd_hours_grammar.specs.Steps.{GivesTo, IsMove, IsReading, end_or_fault, ended, kind_of}
+use Rattle.gtd_hours_grammar.specs.facts.RunSteps.{run_end_refused, run_refused}
+use Rattle.gtd_hours_grammar.specs.facts.FollowRuns.{follow_runs}
+use Rattle.gtd_hours_grammar.specs.facts.NoNext.{no_number, no_time}
+use Rattle.gtd_hours_grammar.specs.facts.Endings.{ending, number_ending, time_ending}
+use Rattle.gtd_hours_grammar.proofs.ReadLemmas.{known, none_later, same_next, split_later, tails}
+
+-- ---- the end
+
+rest_ends : (at : Place) → is_after at ≡ true → IsPlace at → Rest in_full at [] []
+rest_ends (places.After s) e h =
+    record { later = []; rest = []; more = More.none [] [] refl refl; follow = Follow.ends s [] [] h refl refl }
+rest_ends at e h = absurd cc
+
+pub all_read : (text : List ℕ) (r : Reading) (given : List Piece) → IsReading text r given → IsNext text r.place (Ok None)
+    → is_after r.at ≡ true → IsHoursText text given
+all_read text r given is h e =
+    let none_left = none_later is.read.later (same_next text r.place is.read.later None is.read.reads h) in
+    let gives = subst (λ (n : Option TokenKind). GivesTo r.behind r.at n is.two) (known text r given is None h) is.gives in
+    let behind = gives.leads in_full [] [] (rest_ends r.at e is.stands) in
+    let front = is.read.leads in_full (is.two ++ []) [] behind in
+    record {
+      tokens = is.read.before;
+      are = subst (λ (l : List Token). AreTokens text l)
+          (ap (λ (l : List Token). is.read.before ++ l) none_left ∙ append-nil is.read.before) is.read.are;
+      hours = subst (λ (l : List TokenKind). AreHours given l) (append-nil (kinds is.read.before))
+          (subst (λ (q : List Piece). AreHours q (kinds is.read.before ++ []))
+          (ap (λ (q : List Piece). is.one ++ q) (append-nil is.two) ∙ sym is.whole) front);
+    }
+
+can_go_on : (text : List ℕ) (r : Reading) (given : List Piece) → (is : IsReading text r given) → IsPlace r.behind
+    → CanGoOn (kinds is.read.before)
+can_go_on text r given is stands =
+    let end = ending r.behind stands in
+    record { p = is.one ++ end.p; after = end.ts; follow = is.read.leads so_far end.p end.ts end.rest }
+
+pub incomplete : (text : List ℕ) (r : Reading) (given : List Piece) → IsReading text r given → IsNext text r.place (Ok None)
+    → IsMove r.at None None → is_after r.at ≡ false
+    → IsFirstFault text (record { kind = fault.Incomplete; place = length text })
+incomplete text r given is h goes e =
+    let none_left = none_later is.read.later (same_next text r.place is.read.later None is.read.reads h) in
+    let gives = subst (λ (n : Option TokenKind). GivesTo r.behind r.at n is.two) (known text r given is None h) is.gives in
+    IsFirstFault.incomplete (record {
+      tokens = is.read.before;
+      are = subst (λ (l : List Token). AreTokens text l)
+          (ap (λ (l : List Token). is.read.before ++ l) none_left ∙ append-nil is.read.before) is.read.are;
+      goes = can_go_on text r given is is.read.stands;
+      no_hours = λ p hours.
+          let run = follow_runs in_full p (kinds is.read.before) hours in
+          let all = subst (λ (l : List TokenKind). Runs in_full places.Front p l) (sym (append-nil (kinds is.read.before))) run in
+          let behind = is.read.runs in_full p [] all in
+          let at = gives.runs in_full behind.p [] behind.runs in
+          run_end_refused r.at at.p goes.fits e goes.bit (sym goes.computed) at.runs;
+      kind = refl;
+      place = refl;
+    })
+
+-- ---- a token that does not go on
+
+first_runs : (before : List TokenKind) (t : TokenKind) (after : List TokenKind) → (before ++ t ∷ []) ++ after ≡ before ++ t ∷ after
+first_runs before t after = append_assoc before (t ∷ []) after
+
+number_never : (text : List ℕ) (r : Reading) (given : List Piece) (is : IsReading text r given) (v d : ℕ) (other : TokenKind)
+    → are_alike (token.Number v d) other ≡ true → takes_number r.behind ≡ false → (p : List Piece) → (after : List TokenKind)
+    → Follow by_place stage.Front p (kinds is.read.before ++ other ∷ after) → ⊥
+number_never text r given is v d (token.Number w c) alike e p after follow =
+    let run = follow_runs by_place p (kinds is.read.before ++ token.Number w c ∷ after) follow in
+    let behind = is.read.runs by_place p (token.Number w c ∷ after) run in
+    no_number by_place r.behind behind.p w c after e behind.runs
+number_never text r given is v d other alike e p after follow = absurd cc
+
+time_never : (text : List ℕ) (r : Reading) (given : List Piece) (is : IsReading text r given) (h m : ℕ) (other : TokenKind)
+    → are_alike (token.Time h m) other ≡ true → takes_time r.behind ≡ false → (p : List Piece) → (after : List TokenKind)
+    → Follow by_place stage.Front p (kinds is.read.before ++ other ∷ after) → ⊥
+time_never text r given is h m (token.Time g n) alike e p after follow =
+    let run = follow_runs by_place p (kinds is.read.before ++ token.Time g n ∷ after) follow in
+    let behind = is.read.runs by_place p (token.Time g n ∷ after) run in
+    no_time by_place r.behind behind.p g n after e behind.runs
+time_never text r given is h m other alike e p after follow = absurd cc
+
+-- another number, where one fits and where none does
+number_kind : (text : List ℕ) (r : Reading) (given : List Piece) (is : IsReading text r given) (v d : ℕ) (b : Bool)
+    → takes_number r.behind ≡ b → IsMisfitKind (kinds is.read.before) (token.Number v d) (range_if b)
+number_kind text r given is v d true e =
+    let end = number_ending r.behind is.read.stands e in
+    record {
+      other = token.Number end.v end.d;
+      alike = refl;
+      p = is.one ++ end.p;
+      after = end.ts;
+      follow = is.read.leads by_place end.p (token.Number end.v end.d ∷ end.ts) end.rest;
+    }
+number_kind text r given is v d false e = λ fits. number_never text r given is v d fits.other fits.alike e fits.p fits.after fits.follow
+
+time_kind : (text : List ℕ) (r : Reading) (given : List Piece) (is : IsReading text r given) (h m : ℕ) (b : Bool)
+    → takes_time r.behind ≡ b → IsMisfitKind (kinds is.read.before) (token.Time h m) (range_if b)
+time_kind text r given is h m true e =
+    let end = time_ending r.behind is.read.stands e in
+    record {
+      other = token.Time end.h end.m;
+      alike = refl;
+      p = is.one ++ end.p;
+      after = end.ts;
+      follow = is.read.leads by_place end.p (token.Time end.h end.m ∷ end.ts) end.rest;
+    }
+time_kind text r given is h m false e = λ fits. time_never text r given is h m fits.other fits.alike e fits.p fits.after fits.follow
+
+misfit_kind : (text : List ℕ) (r : Reading) (given : List Piece) (is : IsReading text r given) (t : TokenKind)
+    → IsMisfitKind (kinds is.read.before) t (misfit_of r.behind t)
+misfit_kind text r given is (token.Number v d) = number_kind text r given is v d (takes_number r.behind) refl
+misfit_kind text r given is (token.Time h m) = time_kind text r given is h m (takes_time r.behind) refl
+misfit_kind text r given is token.Unsupported = refl
+misfit_kind text r given is t = λ fits. absurd cc
+
+pub misfits : (text : List ℕ) (r : Reading) (given : List Piece) (t : Token) → IsReading text r given
+    → IsNext text r.place (Ok (Some t)) → IsMove r.at (Some t.kind) None
+    → IsFirstFault text (record { kind = misfit_of r.behind t.kind; place = t.from })
+misfits text r given t is h goes =
+    let split = split_later is.read.later t (same_next text r.place is.read.later (Some t) is.read.reads h) in
+    let gives = subst (λ (n : Option TokenKind). GivesTo r.behind r.at n is.two) (known text r given is (Some t) h) is.gives in
+    IsFirstFault.misfit (record {
+      before = is.read.before;
+      here = t;
+      after = tails is.read.later;
+      are = subst (λ (l : List Token). AreTokens text (is.read.before ++ l)) split is.read.are;
+      goes = can_go_on text r given is is.read.stands;
+      no_further = λ more.
+          let run = follow_runs so_far more.p ((kinds is.read.before ++ t.kind ∷ []) ++ more.after) more.follow in
+          let all = subst (λ (l : List TokenKind). Runs so_far places.Front more.p l)
+          (first_runs (kinds is.read.before) t.kind more.after) run in
+          let behind = is.read.runs so_far more.p (t.kind ∷ more.after) all in
+          let at = gives.runs so_far behind.p more.after behind.runs in
+          run_refused r.at at.p t.kind more.after goes.fits goes.bit (sym goes.computed) at.runs;
+      kind = misfit_kind text r given is t.kind;
+      place = refl;
+    })
+
+-- ---- both
+
+ended_all : (text : List ℕ) (r : Reading) (given : List Piece) (b : Bool) → is_after r.at ≡ b → IsReading text r given
+    → IsNext text r.place (Ok None) → ended text b ≡ Ok None → IsHoursText text given
+ended_all text r given true e is h same = all_read text r given is h e
+ended_all text r given false e is h same = absurd cc
+
+pub ends_all : (text : List ℕ) (r : Reading) (given : List Piece) (next : Option Token) → IsReading text r given
+    → IsNext text r.place (Ok next) → end_or_fault text r next ≡ Ok None → IsHoursText text given
+ends_all text r given None is h same = ended_all text r given (is_after r.at) refl is h same
+ends_all text r given (Some t) is h same = absurd cc
+
+ended_fault : (text : List ℕ) (r : Reading) (given : List Piece) (b : Bool) → is_after r.at ≡ b → IsReading text r given
+    → IsNext text r.place (Ok None) → IsMove r.at None None → IfErr (ended text b) (λ bad. IsFirstFault text bad)
+ended_fault text r given true e is h goes = record {}
+ended_fault text r given false e is h goes = incomplete text r given is h goes e
+
+pub ends_fault : (text : List ℕ) (r : Reading) (given : List Piece) (next : Option Token) → IsReading text r given
+    → IsNext text r.place (Ok next) → IsMove r.at (kind_of next) None
+    → IfErr (end_or_fault text r next) (λ bad. IsFirstFault text bad)
+ends_fault text r given None is h goes = ended_fault text r given (is_after r.at) refl is h goes
+ends_fault text r given (Some t) is h goes = misfits text r given t is h goes

@@ -1,0 +1,393 @@
+-- Which moves are right that complete a part of a list.
+use Rattle.std.proofs.Common.{◌≡◌, ℕ, Bool, true, false, Option, Some, None, List, ◌∷◌, IfSome, if◌then◌else◌}
+use Rattle.std.proofs.Common.{refl, subst, sym, arith, rules}
+use Rattle.gtd_hours.specs.Ranges.{IsMonth, IsWeekday}
+use Rattle.gtd_hours_tokens.specs.declared.token.TokenKind.{TokenKind}
+use Rattle.gtd_hours_tokens.specs.declared.token.TokenKind.TheVariants as token
+use Rattle.gtd_hours_parts.specs.declared.clock.ClockTime.{ClockTime}
+use Rattle.gtd_hours_parts.specs.declared.digits.Digits.{Digits}
+use Rattle.gtd_hours_parts.specs.Numbers.{IsPlaceNumber, IsWeekNumber, IsYearNumber}
+use Rattle.gtd_hours_grammar.specs.declared.piece.LastDate.TheVariants as last_date
+use Rattle.gtd_hours_grammar.specs.declared.piece.Piece.TheVariants as piece
+use Rattle.gtd_hours_grammar.specs.declared.piece.WrittenDate.{WrittenDate}
+use Rattle.gtd_hours_grammar.specs.declared.stage.Stage.TheVariants as stage
+use Rattle.gtd_hours_grammar.specs.declared.place.Place.TheVariants as places
+use Rattle.gtd_hours_grammar.specs.Grammar.{Follow, IsMonthDays, IsPlaces, IsWeekdays, IsWeeks, IsYears, More}
+use Rattle.gtd_hours_grammar.specs.Grammar.{begins_with_date, number}
+use Rattle.gtd_hours_grammar.specs.Pieces.{IsRange, IsWrittenDate}
+use Rattle.gtd_hours_grammar.specs.Sound.{Both, Fits, IsPlace, YearOrDay, is_last_year}
+use Rattle.gtd_hours_grammar.specs.Moves.{clock, complete, take, written, year_or_day}
+use Rattle.gtd_hours_grammar.specs.Runs.{IsGood, from}
+use Rattle.gtd_hours_grammar.proofs.GoodLemmas.{completes, gives, month_days_follow, sign_good, takes_to, token_good}
+use Rattle.gtd_hours_grammar.proofs.GoodLemmas.{years_follow}
+
+-- ---- weeks
+
+pub week_good : (n : Digits) (next : Option TokenKind) → IsWeekNumber n
+    → IsGood (places.Week n) next (gives (piece.Weeks n None None) (places.After stage.Weeks))
+week_good n next sound = record {
+  leads = λ d p ts rest. record {
+    later = p;
+    rest = from next ts;
+    one = IsWeeks.one n refl refl sound;
+    behind = rest;
+  };
+  stands = refl;
+  nearer = λ h. omega arith;
+}
+
+pub week_range_good : (a b : Digits) (next : Option TokenKind) → IsRange IsWeekNumber a b
+    → IsGood (places.WeekRange a b) next (gives (piece.Weeks a (Some b) None) (places.After stage.Weeks))
+week_range_good a b next sound = record {
+  leads = λ d p ts rest. record {
+    later = p;
+    rest = from next ts;
+    one = IsWeeks.range a b refl refl sound;
+    behind = rest;
+  };
+  stands = refl;
+  nearer = λ h. omega arith;
+}
+
+pub week_step_good : (a b : Digits) (v c : ℕ) (next : Option TokenKind) (fits : Bool) → next ≡ Some (token.Number v c)
+    → fits ≡ true → (fits ≡ true → Fits (places.WeekStep a b) next) → IsRange IsWeekNumber a b
+    → IsGood (places.WeekStep a b) next (completes (piece.Weeks a (Some b) (Some (written v c))) (places.After stage.Weeks))
+week_step_good a b v c next fits same holds fit sound =
+    token_good (places.WeekStep a b) next (token.Number v c) fits
+    (completes (piece.Weeks a (Some b) (Some (written v c))) (places.After stage.Weeks)) same holds fit λ step. record {
+      leads = λ d p ts rest. record {
+        later = p;
+        rest = ts;
+        one = IsWeeks.every a b (written v c) refl refl sound step;
+        behind = rest;
+      };
+      stands = refl;
+      nearer = λ h. absurd cc;
+    }
+
+-- ---- times
+
+pub time_dash_good : (t : ClockTime) (h m : ℕ) (next : Option TokenKind) (fits : Bool) → next ≡ Some (token.Time h m)
+    → fits ≡ true → (fits ≡ true → Fits (places.TimeDash t) next)
+    → IsGood (places.TimeDash t) next (completes (piece.Times t (clock h m)) (places.After stage.Times))
+time_dash_good t h m next fits same holds fit =
+    token_good (places.TimeDash t) next (token.Time h m) fits
+    (completes (piece.Times t (clock h m)) (places.After stage.Times)) same holds fit λ range. record {
+      leads = λ d p ts rest. record {
+        later = p;
+        rest = ts;
+        behind = rest;
+        one = record { begin = t; last = clock h m; tokens = refl; pieces = refl; range = range };
+      };
+      stands = refl;
+      nearer = λ x. absurd cc;
+    }
+
+-- ---- weekdays
+
+pub weekday_good : (k : ℕ) (next : Option TokenKind) → IsWeekday k
+    → IsGood (places.Weekday k) next (gives (piece.Weekdays k None) (places.After stage.Weekdays))
+weekday_good k next sound = record {
+  leads = λ d p ts rest. record {
+    later = p;
+    rest = from next ts;
+    one = IsWeekdays.one k refl refl sound;
+    behind = rest;
+  };
+  stands = refl;
+  nearer = λ h. omega arith;
+}
+
+pub weekday_bracket_good : (k : ℕ) (next : Option TokenKind) → next ≡ Some token.OpenBracket → IsWeekday k
+    → IsGood (places.Weekday k) next (takes_to (places.Bracket k))
+weekday_bracket_good k next same sound = sign_good (places.Weekday k) next token.OpenBracket (takes_to (places.Bracket k)) same
+    (record {
+      leads = λ d p ts rest. record {
+        later = rest.later;
+        rest = rest.rest;
+        one = IsWeekdays.places k ts refl sound rest.listed;
+        behind = rest.behind;
+      };
+      stands = sound;
+      nearer = λ h. absurd cc;
+    })
+
+pub weekday_dash_good : (a b : ℕ) (next : Option TokenKind) (fits : Bool) → next ≡ Some (token.Weekday b) → fits ≡ true
+    → (fits ≡ true → Fits (places.WeekdayDash a) next) → IsWeekday a
+    → IsGood (places.WeekdayDash a) next (completes (piece.Weekdays a (Some b)) (places.After stage.Weekdays))
+weekday_dash_good a b next fits same holds fit sound =
+    token_good (places.WeekdayDash a) next (token.Weekday b) fits
+    (completes (piece.Weekdays a (Some b)) (places.After stage.Weekdays)) same holds fit λ last. record {
+      leads = λ d p ts rest. record {
+        later = p;
+        rest = ts;
+        one = IsWeekdays.range a b refl refl sound last;
+        behind = rest;
+      };
+      stands = refl;
+      nearer = λ h. absurd cc;
+    }
+
+pub bracket_dash_good : (k v c : ℕ) (next : Option TokenKind) (fits : Bool) → next ≡ Some (token.Number v c) → fits ≡ true
+    → (fits ≡ true → Fits (places.BracketDash k) next) → IsWeekday k
+    → IsGood (places.BracketDash k) next (completes (piece.PlaceBack k (written v c)) (places.BracketEnd k))
+bracket_dash_good k v c next fits same holds fit sound =
+    token_good (places.BracketDash k) next (token.Number v c) fits
+    (completes (piece.PlaceBack k (written v c)) (places.BracketEnd k)) same holds fit λ place. record {
+      leads = λ d p ts rest. record {
+        later = rest.later;
+        rest = rest.rest;
+        behind = rest.behind;
+        listed = record { q = p; us = ts; one = IsPlaces.back (written v c) refl refl place; more = rest.more };
+      };
+      stands = sound;
+      nearer = λ h. absurd cc;
+    }
+
+pub nth_good : (k : ℕ) (n : Digits) (next : Option TokenKind) → Both (IsWeekday k) (IsPlaceNumber n)
+    → IsGood (places.Nth k n) next (gives (piece.Places k n None) (places.BracketEnd k))
+nth_good k n next sound = record {
+  leads = λ d p ts rest. record {
+    later = rest.later;
+    rest = rest.rest;
+    behind = rest.behind;
+    listed = record { q = p; us = from next ts; one = IsPlaces.one n refl refl sound.other; more = rest.more };
+  };
+  stands = sound.one;
+  nearer = λ h. omega arith;
+}
+
+pub nth_dash_good : (k : ℕ) (a : Digits) (v c : ℕ) (next : Option TokenKind) (fits : Bool) → next ≡ Some (token.Number v c)
+    → fits ≡ true → (fits ≡ true → Fits (places.NthDash k a) next) → Both (IsWeekday k) (IsPlaceNumber a)
+    → IsGood (places.NthDash k a) next (completes (piece.Places k a (Some (written v c))) (places.BracketEnd k))
+nth_dash_good k a v c next fits same holds fit sound =
+    token_good (places.NthDash k a) next (token.Number v c) fits
+    (completes (piece.Places k a (Some (written v c))) (places.BracketEnd k)) same holds fit λ range. record {
+      leads = λ d p ts rest. record {
+        later = rest.later;
+        rest = rest.rest;
+        behind = rest.behind;
+        listed = record { q = p; us = ts; one = IsPlaces.range a (written v c) refl refl range; more = rest.more };
+      };
+      stands = sound.one;
+      nearer = λ h. absurd cc;
+    }
+
+pub bracket_comma_good : (k : ℕ) (next : Option TokenKind) → next ≡ Some token.Comma → IsWeekday k
+    → IsGood (places.BracketEnd k) next (takes_to (places.Bracket k))
+bracket_comma_good k next same sound = sign_good (places.BracketEnd k) next token.Comma (takes_to (places.Bracket k)) same
+    (record {
+      leads = λ d p ts rest. record {
+        later = rest.later;
+        rest = rest.rest;
+        behind = rest.behind;
+        more = More.comma p rest.listed.q (token.Comma ∷ ts) ts rest.listed.us refl rest.listed.one rest.listed.more;
+      };
+      stands = sound;
+      nearer = λ h. absurd cc;
+    })
+
+pub bracket_close_good : (k : ℕ) (next : Option TokenKind) → next ≡ Some token.CloseBracket
+    → IsGood (places.BracketEnd k) next (takes_to (places.After stage.Weekdays))
+bracket_close_good k next same =
+    sign_good (places.BracketEnd k) next token.CloseBracket (takes_to (places.After stage.Weekdays)) same (record {
+      leads = λ d p ts rest. record {
+        later = p;
+        rest = ts;
+        behind = rest;
+        more = More.none p (token.CloseBracket ∷ ts) refl refl;
+      };
+      stands = refl;
+      nearer = λ h. absurd cc;
+    })
+
+-- ---- years
+
+-- a year that begins a rule, where no month comes next
+pub year_good : (n : Digits) (next : Option TokenKind)
+    → ((ts : List TokenKind) → begins_with_date (number n ∷ from next ts) ≡ false) → IsYearNumber n
+    → IsGood (places.Year n) next (gives (piece.Years n None None) (places.After stage.Years))
+year_good n next dateless sound = record {
+  leads = λ d p ts rest. years_follow d stage.Front (piece.Years n None None ∷ p) (number n ∷ from next ts) refl (dateless ts)
+      (record { later = p; rest = from next ts; one = IsYears.one n refl refl sound; behind = rest });
+  stands = refl;
+  nearer = λ h. omega arith;
+}
+
+pub year_dash_good : (n : Digits) (next : Option TokenKind) → next ≡ Some token.Dash → IsYearNumber n
+    → IsGood (places.Year n) next (takes_to (places.YearDash n))
+year_dash_good n next same sound = sign_good (places.Year n) next token.Dash (takes_to (places.YearDash n)) same (record {
+  leads = λ d p ts rest. years_follow d stage.Front p (number n ∷ token.Dash ∷ ts) refl refl rest;
+  stands = sound;
+  nearer = λ h. absurd cc;
+})
+
+-- a year and a month that begin a rule, where no number comes next
+pub year_month_good : (n : Digits) (m : ℕ) (next : Option TokenKind)
+    → ((ts : List TokenKind) → begins_with_date (number n ∷ token.Month m ∷ from next ts) ≡ false)
+    → Both (IsYearNumber n) (IsMonth m)
+    → IsGood (places.YearMonth n m) next (gives (piece.Years n None None) (places.MonthAfterYear m))
+year_month_good n m next dateless sound = record {
+  leads = λ d p ts rest. Follow.years stage.Front (piece.Kind ∷ piece.Years n None None ∷ p) (piece.Years n None None ∷ p) p
+      (number n ∷ token.Month m ∷ from next ts) (token.Month m ∷ from next ts) refl (dateless ts) refl
+      (record {
+        q = p;
+        us = token.Month m ∷ from next ts;
+        one = IsYears.one n refl refl sound.one;
+        more = More.none p (token.Month m ∷ from next ts) refl refl;
+      }) rest;
+  stands = sound.other;
+  nearer = λ h. omega arith;
+}
+
+pub year_date_good : (n : Digits) (m v c : ℕ) (next : Option TokenKind) (fits : Bool) → next ≡ Some (token.Number v c)
+    → fits ≡ true → (fits ≡ true → Fits (places.YearMonth n m) next) → Both (IsYearNumber n) (IsMonth m)
+    → IsGood (places.YearMonth n m) next
+    (takes_to (places.Date (record { year = Some n; month = m; day = written v c })))
+year_date_good n m v c next fits same holds fit sound =
+    token_good (places.YearMonth n m) next (token.Number v c) fits
+    (takes_to (places.Date (record { year = Some n; month = m; day = written v c }))) same holds fit λ day. record {
+      leads = λ d p ts rest. month_days_follow d stage.Front p (number n ∷ token.Month m ∷ token.Number v c ∷ ts) refl rest;
+      stands = (sound.one, day);
+      nearer = λ h. absurd cc;
+    }
+
+pub month_after_year_good : (m : ℕ) (next : Option TokenKind) → IsMonth m
+    → IsGood (places.MonthAfterYear m) next (gives piece.Kind (places.Month m))
+month_after_year_good m next sound = record {
+  leads = λ d p ts rest. month_days_follow d stage.Years p (token.Month m ∷ from next ts) refl rest;
+  stands = sound;
+  nearer = λ h. omega arith;
+}
+
+pub listed_year_good : (n : Digits) (next : Option TokenKind) → IsYearNumber n
+    → IsGood (places.ListedYear n) next (gives (piece.Years n None None) (places.After stage.Years))
+listed_year_good n next sound = record {
+  leads = λ d p ts rest. record {
+    later = p;
+    rest = from next ts;
+    one = IsYears.one n refl refl sound;
+    behind = rest;
+  };
+  stands = refl;
+  nearer = λ h. omega arith;
+}
+
+pub year_range_good : (a b : Digits) (next : Option TokenKind) → IsRange IsYearNumber a b
+    → IsGood (places.YearRange a b) next (gives (piece.Years a (Some b) None) (places.After stage.Years))
+year_range_good a b next sound = record {
+  leads = λ d p ts rest. record {
+    later = p;
+    rest = from next ts;
+    one = IsYears.range a b refl refl sound;
+    behind = rest;
+  };
+  stands = refl;
+  nearer = λ h. omega arith;
+}
+
+pub year_step_good : (a b : Digits) (v c : ℕ) (next : Option TokenKind) (fits : Bool) → next ≡ Some (token.Number v c)
+    → fits ≡ true → (fits ≡ true → Fits (places.YearStep a b) next) → IsRange IsYearNumber a b
+    → IsGood (places.YearStep a b) next (completes (piece.Years a (Some b) (Some (written v c))) (places.After stage.Years))
+year_step_good a b v c next fits same holds fit sound =
+    token_good (places.YearStep a b) next (token.Number v c) fits
+    (completes (piece.Years a (Some b) (Some (written v c))) (places.After stage.Years)) same holds fit λ step. record {
+      leads = λ d p ts rest. record {
+        later = p;
+        rest = ts;
+        one = IsYears.every a b (written v c) refl refl sound step;
+        behind = rest;
+      };
+      stands = refl;
+      nearer = λ h. absurd cc;
+    }
+
+-- ---- month days
+
+pub month_good : (m : ℕ) (next : Option TokenKind) → IsMonth m
+    → IsGood (places.Month m) next (gives (piece.Months m None) (places.After stage.MonthDays))
+month_good m next sound = record {
+  leads = λ d p ts rest. record {
+    later = p;
+    rest = from next ts;
+    one = IsMonthDays.month m refl refl sound;
+    behind = rest;
+  };
+  stands = refl;
+  nearer = λ h. omega arith;
+}
+
+pub month_dash_good : (a b : ℕ) (next : Option TokenKind) (fits : Bool) → next ≡ Some (token.Month b) → fits ≡ true
+    → (fits ≡ true → Fits (places.MonthDash a) next) → IsMonth a
+    → IsGood (places.MonthDash a) next (completes (piece.Months a (Some b)) (places.After stage.MonthDays))
+month_dash_good a b next fits same holds fit sound =
+    token_good (places.MonthDash a) next (token.Month b) fits
+    (completes (piece.Months a (Some b)) (places.After stage.MonthDays)) same holds fit λ last. record {
+      leads = λ d p ts rest. record {
+        later = p;
+        rest = ts;
+        one = IsMonthDays.months a b refl refl sound last;
+        behind = rest;
+      };
+      stands = refl;
+      nearer = λ h. absurd cc;
+    }
+
+pub date_good : (x : WrittenDate) (next : Option TokenKind) → IsWrittenDate x
+    → IsGood (places.Date x) next (gives (piece.Dates x None) (places.After stage.MonthDays))
+date_good x next sound = record {
+  leads = λ d p ts rest. record {
+    later = p;
+    rest = from next ts;
+    one = IsMonthDays.date x refl refl sound;
+    behind = rest;
+  };
+  stands = refl;
+  nearer = λ h. omega arith;
+}
+
+pub date_dash_month_good : (x : WrittenDate) (y : Option Digits) (m v c : ℕ) (next : Option TokenKind) (fits : Bool)
+    → next ≡ Some (token.Number v c) → fits ≡ true → (fits ≡ true → Fits (places.DateDashMonth x y m) next)
+    → IsPlace (places.DateDashMonth x y m) → IsGood (places.DateDashMonth x y m) next
+    (completes (piece.Dates x (Some (last_date.Date (record { year = y; month = m; day = written v c }))))
+    (places.After stage.MonthDays))
+date_dash_month_good x y m v c next fits same holds fit sound =
+    token_good (places.DateDashMonth x y m) next (token.Number v c) fits
+    (completes (piece.Dates x (Some (last_date.Date (record { year = y; month = m; day = written v c }))))
+    (places.After stage.MonthDays)) same holds fit λ ends. record {
+      leads = λ d p ts rest. record {
+        later = p;
+        rest = ts;
+        behind = rest;
+        one = IsMonthDays.dates x (last_date.Date (record { year = y; month = m; day = written v c })) refl refl sound.one ends;
+      };
+      stands = refl;
+      nearer = λ h. absurd cc;
+    }
+
+year_or_day_good : (x : WrittenDate) (v c : ℕ) (b : Bool) → is_last_year x (written v c) ≡ b → YearOrDay b x (written v c)
+    → IsWrittenDate x → IfSome (if b then take (places.DateDashYear x (written v c))
+    else complete (piece.Dates x (Some (last_date.Day (written v c)))) (places.After stage.MonthDays))
+    (λ move. IsGood (places.DateDash x) (Some (token.Number v c)) move)
+year_or_day_good x v c true is year sound = record {
+  leads = λ d p ts rest. rest;
+  stands = record { one = sound; other = record { one = search rules; other = year } };
+  nearer = λ h. absurd cc;
+}
+year_or_day_good x v c false is ends sound = record {
+  leads = λ d p ts rest. record {
+    later = p;
+    rest = ts;
+    behind = rest;
+    one = IsMonthDays.dates x (last_date.Day (written v c)) refl refl sound ends;
+  };
+  stands = refl;
+  nearer = λ h. absurd cc;
+}
+
+pub date_dash_good : (x : WrittenDate) (v c : ℕ) (next : Option TokenKind) (fits : Bool) → next ≡ Some (token.Number v c)
+    → fits ≡ true → (fits ≡ true → Fits (places.DateDash x) next) → IsWrittenDate x
+    → IfSome (year_or_day x (written v c)) (λ move. IsGood (places.DateDash x) next move)
+date_dash_good x v c next fits same holds fit sound =
+    subst (λ n. IfSome (year_or_day x (written v c)) (λ move. IsGood (places.DateDash x) n move)) (sym same)
+    (year_or_day_good x v c (is_last_year x (written v c)) refl (subst (Fits (places.DateDash x)) same (fit holds)) sound)

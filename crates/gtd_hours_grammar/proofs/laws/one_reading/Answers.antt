@@ -1,0 +1,5 @@
+use Rattle.gtd_hours_grammar.specs.facts.OneReading.{one_reading}
+use Rattle.gtd_hours_grammar.proofs.laws.one_reading.Goals as goal
+
+pub returns : goal.returns
+returns c = one_reading

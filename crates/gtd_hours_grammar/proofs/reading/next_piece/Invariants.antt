@@ -1,0 +1,9 @@
+use Rattle.gtd_hours_grammar.specs.Steps.{moves_left}
+use Rattle.gtd_hours_grammar.proofs.ReadLemmas.{Keeps}
+use Rattle.gtd_hours_grammar.proofs.reading.next_piece.Given as goal
+
+abbrev pub invariant-loop-step : goal.invariant-loop-step
+invariant-loop-step l = Keeps l.text l.fn.reading l.now
+
+abbrev pub decreases-loop-step : goal.decreases-loop-step
+decreases-loop-step l = moves_left l.text l.now

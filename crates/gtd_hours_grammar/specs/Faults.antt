@@ -1,0 +1,70 @@
+-- Which texts are opening hours, and what the first fault of another text is.
+use Rattle.std.specs.Prelude.{List, ◌≡◌, ℕ, Bool, true, false, [], ◌∷◌, ◌++◌, length}
+use Rattle.gtd_hours_tokens.specs.Lexing.{AreTokens, IsTokenFault}
+use Rattle.gtd_hours_tokens.specs.declared.token.Token.{Token}
+use Rattle.gtd_hours_tokens.specs.declared.token.TokenKind.{TokenKind}
+use Rattle.gtd_hours_tokens.specs.declared.token.TokenKind.TheVariants as token
+use Rattle.gtd_hours_grammar.specs.declared.fault.FaultKind.{FaultKind}
+use Rattle.gtd_hours_grammar.specs.declared.fault.FaultKind.TheVariants as fault
+use Rattle.gtd_hours_grammar.specs.declared.fault.HoursFault.{HoursFault}
+use Rattle.gtd_hours_grammar.specs.declared.piece.Piece.{Piece}
+use Rattle.gtd_hours_grammar.specs.declared.stage.Stage.TheVariants as stage
+use Rattle.gtd_hours_grammar.specs.Grammar.{AreHours, CanGoOn, Follow, by_place}
+
+abbrev pub kinds : List Token → List TokenKind
+kinds [] = []
+kinds (t ∷ ts) = t.kind ∷ kinds ts
+
+-- The text is opening hours with these pieces.
+pub record IsHoursText (text : List ℕ) (p : List Piece) : Type 0 where
+  pub tokens : List Token
+  pub are : AreTokens text tokens
+  pub hours : AreHours p (kinds tokens)
+
+-- Both are numbers, or both are times.
+abbrev pub are_alike : TokenKind → TokenKind → Bool
+are_alike (token.Number v d) (token.Number w c) = true
+are_alike (token.Time h m) (token.Time g n) = true
+are_alike t u = false
+
+-- The token is a number where some number can stand, or a time where some time can.
+pub record FitsByPlace (before : List TokenKind) (t : TokenKind) : Type 0 where
+  pub other : TokenKind
+  pub alike : are_alike t other ≡ true
+  pub p : List Piece
+  pub after : List TokenKind
+  pub follow : Follow by_place stage.Front p (before ++ other ∷ after)
+
+-- what is wrong with the first token that does not go on
+abbrev pub IsMisfitKind : List TokenKind → TokenKind → FaultKind → Type 0
+IsMisfitKind before token.Unsupported kind = kind ≡ fault.Unsupported
+IsMisfitKind before t fault.Range = FitsByPlace before t
+IsMisfitKind before t fault.Unexpected = FitsByPlace before t → ⊥
+IsMisfitKind before t kind = ⊥
+
+-- The tokens before one can go on, but not with it.
+pub record IsMisfit (text : List ℕ) (bad : HoursFault) : Type 0 where
+  pub before : List Token
+  pub here : Token
+  pub after : List Token
+  pub are : AreTokens text (before ++ here ∷ after)
+  pub goes : CanGoOn (kinds before)
+  pub no_further : CanGoOn (kinds before ++ here.kind ∷ []) → ⊥
+  pub kind : IsMisfitKind (kinds before) here.kind bad.kind
+  pub place : bad.place ≡ here.from
+
+-- All tokens together can go on, but are no opening hours yet.
+pub record IsIncomplete (text : List ℕ) (bad : HoursFault) : Type 0 where
+  pub tokens : List Token
+  pub are : AreTokens text tokens
+  pub goes : CanGoOn (kinds tokens)
+  pub no_hours : (p : List Piece) → AreHours p (kinds tokens) → ⊥
+  pub kind : bad.kind ≡ fault.Incomplete
+  pub place : bad.place ≡ length text
+
+-- The first fault of a text: a byte with which no token begins, wherever there is one; else a token that does not go on; else
+-- that tokens are missing.
+pub data IsFirstFault (text : List ℕ) (bad : HoursFault) : Type 0 where
+  bad_token : bad.kind ≡ fault.BadToken → IsTokenFault text bad.place → IsFirstFault text bad
+  misfit : IsMisfit text bad → IsFirstFault text bad
+  incomplete : IsIncomplete text bad → IsFirstFault text bad

@@ -1,0 +1,232 @@
+-- Which pieces a list of tokens is: the grammar of opening hours.
+use Rattle.std.specs.Prelude.{List, ◌≡◌, ℕ, Bool, true, false, ◌==◌, nat_lt, [], ◌∷◌, ◌++◌, Option, Some, None, IfSome, is_some}
+use Rattle.gtd_hours.specs.Ranges.{IsMonth, IsWeekday}
+use Rattle.gtd_hours.specs.declared.hours.Link.TheVariants as link
+use Rattle.gtd_hours_tokens.specs.declared.token.TokenKind.{TokenKind}
+use Rattle.gtd_hours_tokens.specs.declared.token.TokenKind.TheVariants as token
+use Rattle.gtd_hours_parts.specs.declared.digits.Digits.{Digits}
+use Rattle.gtd_hours_parts.specs.declared.clock.ClockTime.{ClockTime}
+use Rattle.gtd_hours_parts.specs.Numbers.{IsPlaceNumber, IsStepNumber, IsWeekNumber, IsYearNumber}
+use Rattle.gtd_hours_grammar.specs.declared.piece.WrittenDate.{WrittenDate}
+use Rattle.gtd_hours_grammar.specs.declared.piece.LastDate.{LastDate}
+use Rattle.gtd_hours_grammar.specs.declared.piece.LastDate.TheVariants as last_date
+use Rattle.gtd_hours_grammar.specs.declared.piece.Piece.{Piece}
+use Rattle.gtd_hours_grammar.specs.declared.piece.Piece.TheVariants as piece
+use Rattle.gtd_hours_grammar.specs.declared.stage.Stage.{Stage}
+use Rattle.gtd_hours_grammar.specs.declared.stage.Stage.TheVariants as stage
+use Rattle.gtd_hours_grammar.specs.Pieces.{AreWrittenTimes, EndsRange, IsRange, IsWrittenDate}
+
+-- What is asked of tokens: that they are a text in full; that they can be its beginning so far, where a text that has come to
+-- the last date of a range is judged at that date's day; or the same, where a number that comes last need only fit by its place.
+pub data Demand : Type 0 where
+  in_full : Demand
+  so_far : Demand
+  by_place : Demand
+
+abbrev pub may_break_off : Demand → Bool
+may_break_off in_full = false
+may_break_off so_far = true
+may_break_off by_place = true
+
+-- The first pieces and tokens go together, and the others are left.
+abbrev pub Text : Type 1
+Text = List Piece → List TokenKind → List Piece → List TokenKind → Type 0
+
+abbrev pub number : Digits → TokenKind
+number n = token.Number n.value n.count
+
+abbrev pub time : ClockTime → TokenKind
+time t = token.Time t.hour t.minute
+
+-- What goes on behind one of a list: nothing, or a comma and another one.
+pub data More (IsOne : Text) (later : List Piece) (rest : List TokenKind) : List Piece → List TokenKind → Type 0 where
+  none : (p : List Piece) → (ts : List TokenKind) → p ≡ later → ts ≡ rest → More IsOne later rest p ts
+  comma : (p q : List Piece) → (ts us vs : List TokenKind) → ts ≡ token.Comma ∷ us → IsOne p us q vs
+      → More IsOne later rest q vs → More IsOne later rest p ts
+
+-- a list of one or more, with commas between
+pub record Listed (IsOne : Text) (p : List Piece) (ts : List TokenKind) (later : List Piece) (rest : List TokenKind) : Type 0 where
+  pub q : List Piece
+  pub us : List TokenKind
+  pub one : IsOne p ts q us
+  pub more : More IsOne later rest q us
+
+-- ---- what stands in lists
+
+-- `2024`, `2024-2030`, `2024-2030/2`
+pub data IsYears (p : List Piece) (ts : List TokenKind) (later : List Piece) (rest : List TokenKind) : Type 0 where
+  one : (year : Digits) → ts ≡ number year ∷ rest → p ≡ piece.Years year None None ∷ later → IsYearNumber year
+      → IsYears p ts later rest
+  range : (first last : Digits) → ts ≡ number first ∷ token.Dash ∷ number last ∷ rest
+      → p ≡ piece.Years first (Some last) None ∷ later → IsRange IsYearNumber first last → IsYears p ts later rest
+  every : (first last step : Digits)
+      → ts ≡ number first ∷ token.Dash ∷ number last ∷ token.Slash ∷ number step ∷ rest
+      → p ≡ piece.Years first (Some last) (Some step) ∷ later → IsRange IsYearNumber first last → IsStepNumber step
+      → IsYears p ts later rest
+
+-- `10`, `10-20`, `10-20/2`
+pub data IsWeeks (p : List Piece) (ts : List TokenKind) (later : List Piece) (rest : List TokenKind) : Type 0 where
+  one : (week : Digits) → ts ≡ number week ∷ rest → p ≡ piece.Weeks week None None ∷ later → IsWeekNumber week
+      → IsWeeks p ts later rest
+  range : (first last : Digits) → ts ≡ number first ∷ token.Dash ∷ number last ∷ rest
+      → p ≡ piece.Weeks first (Some last) None ∷ later → IsRange IsWeekNumber first last → IsWeeks p ts later rest
+  every : (first last step : Digits)
+      → ts ≡ number first ∷ token.Dash ∷ number last ∷ token.Slash ∷ number step ∷ rest
+      → p ≡ piece.Weeks first (Some last) (Some step) ∷ later → IsRange IsWeekNumber first last → IsStepNumber step
+      → IsWeeks p ts later rest
+
+-- the tokens of a month, after a year if there is one, and what follows them
+abbrev pub dated : Option Digits → ℕ → List TokenKind → List TokenKind
+dated None month ts = token.Month month ∷ ts
+dated (Some year) month ts = number year ∷ token.Month month ∷ ts
+
+-- the tokens of a date, and what follows them
+abbrev pub date_before : WrittenDate → List TokenKind → List TokenKind
+date_before date rest = dated date.year date.month (number date.day ∷ rest)
+
+-- the tokens of the day or date that a range ends with, and what follows them
+abbrev pub last_before : LastDate → List TokenKind → List TokenKind
+last_before (last_date.Day day) rest = number day ∷ rest
+last_before (last_date.Date date) rest = date_before date rest
+
+-- the tokens of a last date that breaks off before its day
+abbrev pub unfinished : Option Digits → Option ℕ → List TokenKind
+unfinished None None = []
+unfinished None (Some month) = token.Month month ∷ []
+unfinished (Some year) None = number year ∷ []
+unfinished (Some year) (Some month) = number year ∷ token.Month month ∷ []
+
+-- `Apr`, `Apr-Sep`, `Apr 10`, `Apr 10-20`, `2024 Dec 24-2025 Jan 3`.
+-- The last date after one with a year is judged at its day: a text that breaks off before that day can go on, whichever the year
+-- and the month are, and any number fits by its place there.
+pub data IsMonthDays (demand : Demand) (p : List Piece) (ts : List TokenKind) (later : List Piece) (rest : List TokenKind)
+    : Type 0 where
+  month : (m : ℕ) → ts ≡ token.Month m ∷ rest → p ≡ piece.Months m None ∷ later → IsMonth m
+      → IsMonthDays demand p ts later rest
+  months : (first last : ℕ) → ts ≡ token.Month first ∷ token.Dash ∷ token.Month last ∷ rest
+      → p ≡ piece.Months first (Some last) ∷ later → IsMonth first → IsMonth last → IsMonthDays demand p ts later rest
+  date : (x : WrittenDate) → ts ≡ date_before x rest → p ≡ piece.Dates x None ∷ later → IsWrittenDate x
+      → IsMonthDays demand p ts later rest
+  dates : (first : WrittenDate) → (last : LastDate) → ts ≡ date_before first (token.Dash ∷ last_before last rest)
+      → p ≡ piece.Dates first (Some last) ∷ later → IsWrittenDate first → EndsRange first last
+      → IsMonthDays demand p ts later rest
+  cut : (first : WrittenDate) → (year : Option Digits) → (m : Option ℕ) → may_break_off demand ≡ true
+      → is_some first.year ≡ true → IsWrittenDate first → IfSome year IsYearNumber → IfSome m IsMonth
+      → ts ≡ date_before first (token.Dash ∷ unfinished year m) → rest ≡ [] → p ≡ later
+      → IsMonthDays demand p ts later rest
+  any_day : (first last : WrittenDate) → demand ≡ by_place → is_some first.year ≡ true → IsWrittenDate first
+      → IfSome last.year IsYearNumber → IsMonth last.month → ts ≡ date_before first (token.Dash ∷ date_before last [])
+      → rest ≡ [] → p ≡ later → IsMonthDays demand p ts later rest
+
+-- `1`, `1-2`, `-1`, in brackets after the weekday
+pub data IsPlaces (weekday : ℕ) (p : List Piece) (ts : List TokenKind) (later : List Piece) (rest : List TokenKind) : Type 0 where
+  one : (n : Digits) → ts ≡ number n ∷ rest → p ≡ piece.Places weekday n None ∷ later → IsPlaceNumber n
+      → IsPlaces weekday p ts later rest
+  range : (first last : Digits) → ts ≡ number first ∷ token.Dash ∷ number last ∷ rest
+      → p ≡ piece.Places weekday first (Some last) ∷ later → IsRange IsPlaceNumber first last
+      → IsPlaces weekday p ts later rest
+  back : (n : Digits) → ts ≡ token.Dash ∷ number n ∷ rest → p ≡ piece.PlaceBack weekday n ∷ later → IsPlaceNumber n
+      → IsPlaces weekday p ts later rest
+
+-- `Mo`, `Mo-Fr`, `We[1]`, `We[1,3-4,-1]`
+pub data IsWeekdays (p : List Piece) (ts : List TokenKind) (later : List Piece) (rest : List TokenKind) : Type 0 where
+  one : (k : ℕ) → ts ≡ token.Weekday k ∷ rest → p ≡ piece.Weekdays k None ∷ later → IsWeekday k → IsWeekdays p ts later rest
+  range : (first last : ℕ) → ts ≡ token.Weekday first ∷ token.Dash ∷ token.Weekday last ∷ rest
+      → p ≡ piece.Weekdays first (Some last) ∷ later → IsWeekday first → IsWeekday last → IsWeekdays p ts later rest
+  places : (k : ℕ) → (us : List TokenKind) → ts ≡ token.Weekday k ∷ token.OpenBracket ∷ us → IsWeekday k
+      → Listed (IsPlaces k) p us later (token.CloseBracket ∷ rest) → IsWeekdays p ts later rest
+
+-- `08:00-17:00`
+pub record IsTimes (p : List Piece) (ts : List TokenKind) (later : List Piece) (rest : List TokenKind) : Type 0 where
+  pub begin : ClockTime
+  pub last : ClockTime
+  pub tokens : ts ≡ time begin ∷ token.Dash ∷ time last ∷ rest
+  pub pieces : p ≡ piece.Times begin last ∷ later
+  pub range : AreWrittenTimes begin last
+
+-- ---- rules
+
+-- what the list of a stage is made of
+abbrev pub IsOne : Demand → Stage → Text
+IsOne demand stage.Years = IsYears
+IsOne demand stage.MonthDays = IsMonthDays demand
+IsOne demand stage.Weeks = IsWeeks
+IsOne demand stage.Weekdays = IsWeekdays
+IsOne demand stage.Times = IsTimes
+IsOne demand s = λ p ts later rest. ⊥
+
+-- the parts of a rule come in this order
+abbrev pub order : Stage → ℕ
+order stage.Front = 0
+order stage.Years = 1
+order stage.MonthDays = 2
+order stage.Weeks = 3
+order stage.Colon = 4
+order stage.Weekdays = 5
+order stage.Times = 6
+order stage.Always = 6
+order stage.Modifier = 7
+
+abbrev pub precedes : Stage → Stage → Bool
+precedes s other = nat_lt (order s) (order other)
+
+-- The list of the stage goes on behind a comma with this token. Years and dates with a year go on with numbers of four digits.
+abbrev pub goes_on : Stage → TokenKind → Bool
+goes_on stage.Years (token.Number value digits) = digits == 4
+goes_on stage.MonthDays (token.Number value digits) = digits == 4
+goes_on stage.MonthDays (token.Month m) = true
+goes_on stage.Weeks (token.Number value digits) = true
+goes_on stage.Weekdays (token.Weekday weekday) = true
+goes_on stage.Times (token.Time hour minute) = true
+goes_on s kind = false
+
+abbrev pub list_goes_on : Stage → List TokenKind → Bool
+list_goes_on s [] = false
+list_goes_on s (t ∷ ts) = goes_on s t
+
+-- a number directly before a month and a number: a date with its year
+abbrev pub begins_with_date : List TokenKind → Bool
+begins_with_date (token.Number value digits ∷ token.Month m ∷ token.Number v d ∷ ts) = true
+begins_with_date ts = false
+
+-- The pieces are the rest of a text, where its rule has come to a stage.
+pub data Follow (demand : Demand) : Stage → List Piece → List TokenKind → Type 0 where
+  always : (s : Stage) → (p : List Piece) → (ts us : List TokenKind) → s ≡ stage.Front
+      → ts ≡ token.Number 24 2 ∷ token.Slash ∷ token.Number 7 1 ∷ us → Follow demand stage.Always p us → Follow demand s p ts
+  years : (s : Stage) → (p q later : List Piece) → (ts rest : List TokenKind) → precedes s stage.Years ≡ true
+      → begins_with_date ts ≡ false → p ≡ piece.Kind ∷ q → Listed IsYears q ts later rest
+      → Follow demand stage.Years later rest → Follow demand s p ts
+  month_days : (s : Stage) → (p q later : List Piece) → (ts rest : List TokenKind) → precedes s stage.MonthDays ≡ true
+      → p ≡ piece.Kind ∷ q → Listed (IsMonthDays demand) q ts later rest
+      → Follow demand stage.MonthDays later rest → Follow demand s p ts
+  weeks : (s : Stage) → (p q later : List Piece) → (ts us rest : List TokenKind) → precedes s stage.Weeks ≡ true
+      → ts ≡ token.Week ∷ us → p ≡ piece.Kind ∷ q → Listed IsWeeks q us later rest
+      → Follow demand stage.Weeks later rest → Follow demand s p ts
+  colon : (s : Stage) → (p : List Piece) → (ts us : List TokenKind) → precedes stage.Front s ≡ true
+      → precedes s stage.Colon ≡ true → ts ≡ token.Colon ∷ us → Follow demand stage.Colon p us → Follow demand s p ts
+  weekdays : (s : Stage) → (p q later : List Piece) → (ts rest : List TokenKind) → precedes s stage.Weekdays ≡ true
+      → p ≡ piece.Kind ∷ q → Listed IsWeekdays q ts later rest
+      → Follow demand stage.Weekdays later rest → Follow demand s p ts
+  times : (s : Stage) → (p later : List Piece) → (ts rest : List TokenKind) → precedes s stage.Times ≡ true
+      → Listed IsTimes p ts later rest → Follow demand stage.Times later rest → Follow demand s p ts
+  opens : (s : Stage) → (p : List Piece) → (ts us : List TokenKind) → precedes s stage.Modifier ≡ true
+      → ts ≡ token.Open ∷ us → Follow demand stage.Modifier p us → Follow demand s p ts
+  closes : (s : Stage) → (p q : List Piece) → (ts us : List TokenKind) → precedes s stage.Modifier ≡ true
+      → ts ≡ token.Closed ∷ us → p ≡ piece.Closed ∷ q → Follow demand stage.Modifier q us → Follow demand s p ts
+  ends : (s : Stage) → (p : List Piece) → (ts : List TokenKind) → precedes stage.Front s ≡ true → p ≡ [] → ts ≡ []
+      → Follow demand s p ts
+  instead : (s : Stage) → (p q : List Piece) → (ts us : List TokenKind) → precedes stage.Front s ≡ true
+      → ts ≡ token.Semicolon ∷ us → p ≡ piece.Rule link.Instead ∷ q → Follow demand stage.Front q us → Follow demand s p ts
+  also : (s : Stage) → (p q : List Piece) → (ts us : List TokenKind) → precedes stage.Front s ≡ true
+      → ts ≡ token.Comma ∷ us → list_goes_on s us ≡ false → p ≡ piece.Rule link.Also ∷ q → Follow demand stage.Front q us
+      → Follow demand s p ts
+
+-- The tokens are opening hours with these pieces.
+abbrev pub AreHours : List Piece → List TokenKind → Type 0
+AreHours p ts = Follow in_full stage.Front p ts
+
+-- Some opening hours begin with these tokens.
+pub record CanGoOn (before : List TokenKind) : Type 0 where
+  pub p : List Piece
+  pub after : List TokenKind
+  pub follow : Follow so_far stage.Front p (before ++ after)

@@ -1,0 +1,43 @@
+-- Which written numbers and times stand together in one piece of a text of opening hours.
+use Rattle.std.specs.Prelude.{ℕ, ◌≤◌, Option, Some, None, IfSome}
+use Rattle.gtd_hours.specs.Ranges.{IsTimeRange}
+use Rattle.gtd_hours_parts.specs.declared.digits.Digits.{Digits}
+use Rattle.gtd_hours_parts.specs.declared.clock.ClockTime.{ClockTime}
+use Rattle.gtd_hours_parts.specs.Numbers.{IsYearNumber}
+use Rattle.gtd_hours_parts.specs.Dates.{EndsOn, IsDayOfYear, IsWrittenDay, last_year}
+use Rattle.gtd_hours_parts.specs.Times.{IsBegin, IsEnd, minute_of}
+use Rattle.gtd_hours_grammar.specs.declared.piece.WrittenDate.{WrittenDate}
+use Rattle.gtd_hours_grammar.specs.declared.piece.LastDate.{LastDate}
+use Rattle.gtd_hours_grammar.specs.declared.piece.LastDate.TheVariants as last_date
+
+-- two numbers of a kind, the second not before the first
+abbrev pub IsRange : (Digits → Type 0) → Digits → Digits → Type 0
+IsRange Is first last = Is first × Is last × (first.value ≤ last.value)
+
+-- a day that the month has: in that year, or in leap years if no year is written
+abbrev pub IsDay : Option Digits → ℕ → Digits → Type 0
+IsDay None month day = IsWrittenDay month day
+IsDay (Some year) month day = IsDayOfYear year.value month day
+
+-- a date
+abbrev pub IsWrittenDate : WrittenDate → Type 0
+IsWrittenDate date = IfSome date.year IsYearNumber × IsDay date.year date.month date.day
+
+-- A range that begins with a date of this year ends with a year, a month and a day. Only after a date with a year may the last
+-- one have a year. If it has none then, it is in the same year or, if it would come before the first there, in the next one.
+abbrev pub IsLastDay : Option Digits → ℕ → Digits → Option Digits → ℕ → Digits → Type 0
+IsLastDay None first_month first_day None month day = IsWrittenDay month day
+IsLastDay None first_month first_day (Some year) month day = ⊥
+IsLastDay (Some first) first_month first_day None month day =
+    EndsOn first.value first_month first_day.value (last_year first.value first_month first_day.value month day.value) month day
+IsLastDay (Some first) first_month first_day (Some year) month day =
+    IsYearNumber year × EndsOn first.value first_month first_day.value year.value month day
+
+-- a range that begins with this date ends with that day or date
+abbrev pub EndsRange : WrittenDate → LastDate → Type 0
+EndsRange first (last_date.Day day) = IsLastDay first.year first.month first.day None first.month day
+EndsRange first (last_date.Date last) = IsLastDay first.year first.month first.day last.year last.month last.day
+
+-- a range of times
+abbrev pub AreWrittenTimes : ClockTime → ClockTime → Type 0
+AreWrittenTimes begin last = IsBegin begin × IsEnd last × IsTimeRange (minute_of begin) (minute_of last)

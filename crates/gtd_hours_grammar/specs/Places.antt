@@ -1,0 +1,76 @@
+-- What follows behind a place of the reading: the grammar from there on. The tokens of the part that is not finished are put
+-- before those that follow.
+use Rattle.std.specs.Prelude.{List, ℕ, ◌∷◌}
+use Rattle.gtd_hours_tokens.specs.declared.token.TokenKind.{TokenKind}
+use Rattle.gtd_hours_tokens.specs.declared.token.TokenKind.TheVariants as token
+use Rattle.gtd_hours_grammar.specs.declared.piece.Piece.{Piece}
+use Rattle.gtd_hours_grammar.specs.declared.piece.Piece.TheVariants as piece
+use Rattle.gtd_hours_grammar.specs.declared.stage.Stage.{Stage}
+use Rattle.gtd_hours_grammar.specs.declared.stage.Stage.TheVariants as stage
+use Rattle.gtd_hours_grammar.specs.declared.place.Place.{Place}
+use Rattle.gtd_hours_grammar.specs.declared.place.Place.TheVariants as places
+use Rattle.gtd_hours_grammar.specs.Grammar.{Demand, Follow, IsOne, IsPlaces, Listed, More, date_before, dated, number, time}
+
+-- the rest behind one of a list
+pub record Behind (demand : Demand) (s : Stage) (p : List Piece) (ts : List TokenKind) : Type 0 where
+  pub later : List Piece
+  pub rest : List TokenKind
+  pub more : More (IsOne demand s) later rest p ts
+  pub follow : Follow demand s later rest
+
+-- the rest from one of a list on
+pub record From (demand : Demand) (s : Stage) (p : List Piece) (ts : List TokenKind) : Type 0 where
+  pub later : List Piece
+  pub rest : List TokenKind
+  pub one : IsOne demand s p ts later rest
+  pub behind : Behind demand s later rest
+
+-- the rest from a place in brackets on
+pub record InBrackets (demand : Demand) (weekday : ℕ) (p : List Piece) (ts : List TokenKind) : Type 0 where
+  pub later : List Piece
+  pub rest : List TokenKind
+  pub listed : Listed (IsPlaces weekday) p ts later (token.CloseBracket ∷ rest)
+  pub behind : Behind demand stage.Weekdays later rest
+
+-- the rest behind a place in brackets
+pub record BehindPlace (demand : Demand) (weekday : ℕ) (p : List Piece) (ts : List TokenKind) : Type 0 where
+  pub later : List Piece
+  pub rest : List TokenKind
+  pub more : More (IsPlaces weekday) later (token.CloseBracket ∷ rest) p ts
+  pub behind : Behind demand stage.Weekdays later rest
+
+abbrev pub Rest : Demand → Place → List Piece → List TokenKind → Type 0
+Rest d places.Front p ts = Follow d stage.Front p ts
+Rest d places.TwentyFour p ts = Follow d stage.Front p (token.Number 24 2 ∷ ts)
+Rest d places.TwentyFourSlash p ts = Follow d stage.Front p (token.Number 24 2 ∷ token.Slash ∷ ts)
+Rest d (places.Year n) p ts = Follow d stage.Front (piece.Kind ∷ p) (number n ∷ ts)
+Rest d (places.YearMonth n m) p ts = Follow d stage.Front (piece.Kind ∷ p) (number n ∷ token.Month m ∷ ts)
+Rest d (places.MonthAfterYear m) p ts = Follow d stage.Years p (token.Month m ∷ ts)
+Rest d (places.ListedYear n) p ts = From d stage.Years p (number n ∷ ts)
+Rest d (places.YearDash n) p ts = From d stage.Years p (number n ∷ token.Dash ∷ ts)
+Rest d (places.YearRange a b) p ts = From d stage.Years p (number a ∷ token.Dash ∷ number b ∷ ts)
+Rest d (places.YearStep a b) p ts = From d stage.Years p (number a ∷ token.Dash ∷ number b ∷ token.Slash ∷ ts)
+Rest d (places.DateYear n) p ts = From d stage.MonthDays p (number n ∷ ts)
+Rest d (places.DateYearMonth n m) p ts = From d stage.MonthDays p (number n ∷ token.Month m ∷ ts)
+Rest d (places.Month m) p ts = From d stage.MonthDays p (token.Month m ∷ ts)
+Rest d (places.MonthDash m) p ts = From d stage.MonthDays p (token.Month m ∷ token.Dash ∷ ts)
+Rest d (places.Date x) p ts = From d stage.MonthDays p (date_before x ts)
+Rest d (places.DateDash x) p ts = From d stage.MonthDays p (date_before x (token.Dash ∷ ts))
+Rest d (places.DateDashYear x n) p ts = From d stage.MonthDays p (date_before x (token.Dash ∷ number n ∷ ts))
+Rest d (places.DateDashMonth x year m) p ts = From d stage.MonthDays p (date_before x (token.Dash ∷ dated year m ts))
+Rest d places.WeekWord p ts = From d stage.Weeks p ts
+Rest d (places.Week n) p ts = From d stage.Weeks p (number n ∷ ts)
+Rest d (places.WeekDash n) p ts = From d stage.Weeks p (number n ∷ token.Dash ∷ ts)
+Rest d (places.WeekRange a b) p ts = From d stage.Weeks p (number a ∷ token.Dash ∷ number b ∷ ts)
+Rest d (places.WeekStep a b) p ts = From d stage.Weeks p (number a ∷ token.Dash ∷ number b ∷ token.Slash ∷ ts)
+Rest d (places.Weekday k) p ts = From d stage.Weekdays p (token.Weekday k ∷ ts)
+Rest d (places.WeekdayDash k) p ts = From d stage.Weekdays p (token.Weekday k ∷ token.Dash ∷ ts)
+Rest d (places.Bracket k) p ts = InBrackets d k p ts
+Rest d (places.BracketDash k) p ts = InBrackets d k p (token.Dash ∷ ts)
+Rest d (places.Nth k n) p ts = InBrackets d k p (number n ∷ ts)
+Rest d (places.NthDash k n) p ts = InBrackets d k p (number n ∷ token.Dash ∷ ts)
+Rest d (places.BracketEnd k) p ts = BehindPlace d k p ts
+Rest d (places.Time t) p ts = From d stage.Times p (time t ∷ ts)
+Rest d (places.TimeDash t) p ts = From d stage.Times p (time t ∷ token.Dash ∷ ts)
+Rest d (places.After s) p ts = Behind d s p ts
+Rest d (places.Comma s) p ts = Behind d s p (token.Comma ∷ ts)

@@ -1,0 +1,82 @@
+-- The run of the moves over tokens, and which moves are right.
+use Rattle.std.specs.Prelude.{List, ◌≡◌, ◌↔◌, ℕ, Bool, true, false, [], ◌∷◌, ◌<◌, Option, Some, None}
+use Rattle.gtd_hours_tokens.specs.declared.token.TokenKind.{TokenKind}
+use Rattle.gtd_hours_tokens.specs.declared.token.TokenKind.TheVariants as token
+use Rattle.gtd_hours_grammar.specs.declared.piece.Piece.{Piece}
+use Rattle.gtd_hours_grammar.specs.declared.stage.Stage.{Stage}
+use Rattle.gtd_hours_grammar.specs.declared.place.Place.{Place}
+use Rattle.gtd_hours_grammar.specs.declared.place.Place.TheVariants as places
+use Rattle.gtd_hours_grammar.specs.declared.place.Move.{Move}
+use Rattle.gtd_hours_grammar.specs.Grammar.{Demand, Follow, by_place, may_break_off}
+use Rattle.gtd_hours_grammar.specs.Places.{Rest}
+use Rattle.gtd_hours_grammar.specs.Sound.{Fits, IsPlace}
+use Rattle.gtd_hours_grammar.specs.Moves.{next_move, rank}
+
+abbrev pub first : List TokenKind → Option TokenKind
+first [] = None
+first (t ∷ ts) = Some t
+
+abbrev pub others : List TokenKind → List TokenKind
+others [] = []
+others (t ∷ ts) = ts
+
+-- the tokens that a move leaves
+abbrev pub left : Bool → List TokenKind → List TokenKind
+left true ts = others ts
+left false ts = ts
+
+abbrev pub with_piece : Option Piece → List Piece → List Piece
+with_piece None p = p
+with_piece (Some x) p = x ∷ p
+
+-- the next token, or the end of the text, and what follows
+abbrev pub from : Option TokenKind → List TokenKind → List TokenKind
+from None ts = []
+from (Some t) ts = t ∷ ts
+
+-- A text may end behind a part of a rule.
+abbrev pub is_after : Place → Bool
+is_after (places.After s) = true
+is_after place = false
+
+-- It may break off, to be judged by what comes, in the last date of a range.
+abbrev pub is_cut : Place → Bool
+is_cut (places.DateDash x) = true
+is_cut (places.DateDashYear x n) = true
+is_cut (places.DateDashMonth x year m) = true
+is_cut place = false
+
+-- The day of a last date comes next.
+abbrev pub awaits_day : Place → Bool
+awaits_day (places.DateDashMonth x year m) = true
+awaits_day place = false
+
+-- The moves lead from a place over all tokens and give these pieces.
+pub data Runs (demand : Demand) : Place → List Piece → List TokenKind → Type 0 where
+  ends : (at : Place) → (p : List Piece) → (ts : List TokenKind) → is_after at ≡ true → p ≡ [] → ts ≡ [] → Runs demand at p ts
+  cut : (at : Place) → (p : List Piece) → (ts : List TokenKind) → may_break_off demand ≡ true → is_cut at ≡ true → p ≡ [] → ts ≡ []
+      → Runs demand at p ts
+  any_day : (at : Place) → (p : List Piece) → (ts : List TokenKind) → (v d : ℕ) → demand ≡ by_place → awaits_day at ≡ true
+      → p ≡ [] → ts ≡ token.Number v d ∷ [] → Runs demand at p ts
+  step : (at : Place) → (p q : List Piece) → (ts : List TokenKind) → (move : Move) → (fits : Bool)
+      → ((fits ≡ true) ↔ Fits at (first ts)) → next_move at (first ts) fits ≡ Some move → p ≡ with_piece move.piece q
+      → Runs demand move.to q (left move.takes ts) → Runs demand at p ts
+
+-- What follows behind the move also follows before it.
+abbrev pub LeadsOn : Place → Option TokenKind → Move → Type 0
+LeadsOn at next move =
+    (demand : Demand) → (p : List Piece) → (ts : List TokenKind) → Rest demand move.to p (left move.takes (from next ts))
+    → Rest demand at (with_piece move.piece p) (from next ts)
+
+-- A move is right: it goes by the grammar, to a place with numbers in range, and no endless row of moves uses up no token.
+pub record IsGood (at : Place) (next : Option TokenKind) (move : Move) : Type 0 where
+  pub leads : LeadsOn at next move
+  pub stands : IsPlace move.to
+  pub nearer : move.takes ≡ false → rank move.to < rank at
+
+-- A move is right behind a part of a rule.
+pub record IsLater (s : Stage) (next : Option TokenKind) (move : Move) : Type 0 where
+  pub leads : (demand : Demand) → (p : List Piece) → (ts : List TokenKind) → Rest demand move.to p (left move.takes (from next ts))
+      → Follow demand s (with_piece move.piece p) (from next ts)
+  pub stands : IsPlace move.to
+  pub takes : move.takes ≡ true

@@ -1,0 +1,85 @@
+-- What is known of the reading, from token to token.
+use Rattle.std.specs.Prelude.{List, ◌≡◌, ◌↔◌, ℕ, ◌+◌, ◌*◌, ◌-◌, ◌≤◌, Bool, true, false, ◌++◌, length, Option, Some, None, Result, Ok, Err}
+use Rattle.gtd_hours_tokens.specs.Lexing.{AreTokens, Reads}
+use Rattle.gtd_hours_tokens.specs.declared.token.Token.{Token}
+use Rattle.gtd_hours_tokens.specs.declared.token.TokenKind.{TokenKind}
+use Rattle.gtd_hours_grammar.specs.declared.piece.Piece.{Piece}
+use Rattle.gtd_hours_grammar.specs.declared.place.Place.{Place}
+use Rattle.gtd_hours_grammar.specs.declared.place.Place.TheVariants as places
+use Rattle.gtd_hours_grammar.specs.declared.place.Move.{Move}
+use Rattle.gtd_hours_grammar.specs.declared.reading.Reading.{Reading}
+use Rattle.gtd_hours_grammar.specs.Grammar.{Demand}
+use Rattle.gtd_hours_grammar.specs.Faults.{kinds}
+use Rattle.gtd_hours_grammar.specs.Places.{Rest}
+use Rattle.gtd_hours_grammar.specs.Sound.{Fits, IsPlace}
+use Rattle.gtd_hours_grammar.specs.Moves.{next_move, rank}
+use Rattle.gtd_hours_grammar.specs.Runs.{Runs, first, from, is_after}
+use Rattle.gtd_hours_grammar.specs.Kinds.{misfit_of}
+use Rattle.gtd_hours_grammar.specs.declared.fault.FaultKind.TheVariants as fault
+use Rattle.gtd_hours_grammar.specs.declared.fault.HoursFault.{HoursFault}
+
+-- the move of the table
+pub record IsMove (place : Place) (next : Option TokenKind) (result : Option Move) : Type 0 where
+  pub fits : Bool
+  pub bit : (fits ≡ true) ↔ Fits place next
+  pub computed : result ≡ next_move place next fits
+
+-- a run goes on from here
+pub record RunsOn (demand : Demand) (at : Place) (ts : List TokenKind) : Type 0 where
+  pub p : List Piece
+  pub runs : Runs demand at p ts
+
+-- From one place the reading comes to another with these pieces, and has not used up the next token.
+pub record GivesTo (place to : Place) (next : Option TokenKind) (given : List Piece) : Type 0 where
+  pub runs : (demand : Demand) → (p : List Piece) → (ts : List TokenKind) → Runs demand place p (from next ts)
+      → RunsOn demand to (from next ts)
+  pub leads : (demand : Demand) → (p : List Piece) → (ts : List TokenKind) → Rest demand to p (from next ts)
+      → Rest demand place (given ++ p) (from next ts)
+
+-- The tokens up to a place of the text have led the reading to a place of the grammar, with these pieces.
+pub record HasRead (text : List ℕ) (place : ℕ) (at : Place) (given : List Piece) : Type 0 where
+  pub before : List Token
+  pub later : List Token
+  pub are : AreTokens text (before ++ later)
+  pub reads : Reads text place later (length text)
+  pub stands : IsPlace at
+  pub runs : (demand : Demand) → (p : List Piece) → (ts : List TokenKind) → Runs demand places.Front p (kinds before ++ ts)
+      → RunsOn demand at ts
+  pub leads : (demand : Demand) → (p : List Piece) → (ts : List TokenKind) → Rest demand at p ts
+      → Rest demand places.Front (given ++ p) (kinds before ++ ts)
+
+-- A reading has come this far in a text, with these pieces.
+pub record IsReading (text : List ℕ) (reading : Reading) (given : List Piece) : Type 0 where
+  pub one : List Piece
+  pub two : List Piece
+  pub whole : given ≡ one ++ two
+  pub inside : reading.place ≤ length text
+  pub stands : IsPlace reading.at
+  pub read : HasRead text reading.place reading.behind one
+  pub gives : GivesTo reading.behind reading.at (first (kinds read.later)) two
+
+-- how many moves can come at most
+abbrev pub moves_left : List ℕ → Reading → ℕ
+moves_left text reading = 4 * (length text - reading.place) + rank reading.at
+
+abbrev pub kind_of : Option Token → Option TokenKind
+kind_of None = None
+kind_of (Some t) = Some t.kind
+
+-- the reading behind a move
+abbrev pub moved : Bool → Reading → Token → Place → Reading
+moved true reading t to = record { place = t.to; behind = to; at = to }
+moved false reading t to = record { place = reading.place; behind = reading.behind; at = to }
+
+abbrev pub advanced : Reading → Option Token → Move → Reading
+advanced reading None move = record { place = reading.place; behind = reading.behind; at = move.to }
+advanced reading (Some t) move = moved move.takes reading t move.to
+
+-- what a reading comes to where no move can be made
+abbrev pub ended : List ℕ → Bool → Result (Option (Piece × Reading)) HoursFault
+ended text true = Ok None
+ended text false = Err (record { kind = fault.Incomplete; place = length text })
+
+abbrev pub end_or_fault : List ℕ → Reading → Option Token → Result (Option (Piece × Reading)) HoursFault
+end_or_fault text reading None = ended text (is_after reading.at)
+end_or_fault text reading (Some t) = Err (record { kind = misfit_of reading.behind t.kind; place = t.from })

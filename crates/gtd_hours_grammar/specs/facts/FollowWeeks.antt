@@ -1,0 +1,96 @@
+-- The run over a list of weeks.
+use Rattle.std.proofs.Common.{List, [], ◌∷◌, Some, None, refl, sym, subst}
+use Rattle.gtd_hours_tokens.specs.declared.token.TokenKind.{TokenKind}
+use Rattle.gtd_hours_tokens.specs.declared.token.TokenKind.TheVariants as token
+use Rattle.gtd_hours_parts.specs.declared.digits.Digits.{Digits}
+use Rattle.gtd_hours_parts.specs.Numbers.{IsWeekNumber}
+use Rattle.gtd_hours_grammar.specs.declared.piece.Piece.{Piece}
+use Rattle.gtd_hours_grammar.specs.declared.piece.Piece.TheVariants as piece
+use Rattle.gtd_hours_grammar.specs.declared.stage.Stage.TheVariants as stage
+use Rattle.gtd_hours_grammar.specs.declared.place.Place.TheVariants as places
+use Rattle.gtd_hours_grammar.specs.Grammar.{Demand, IsWeeks, Listed, number}
+use Rattle.gtd_hours_grammar.specs.Runs.{Runs}
+use Rattle.gtd_hours_grammar.specs.Pieces.{IsRange}
+use Rattle.gtd_hours_grammar.specs.facts.RunSteps.{fit_taken, fit_completed, sign_taken, no_token}
+use Rattle.gtd_hours_grammar.specs.facts.FollowBits.{begin_bit, next_bit, no_bit}
+use Rattle.gtd_hours_grammar.specs.facts.FollowSteps.{Begins, comma_runs, given_by, more_runs, renamed}
+
+week_given : (demand : Demand) (n : Digits) (q : List Piece) (ts : List TokenKind) → Runs demand (places.After stage.Weeks) q ts
+    → Runs demand (places.Week n) (piece.Weeks n None None ∷ q) ts
+week_given demand n q (token.Dash ∷ ts) go =
+    absurd (no_token demand (places.After stage.Weeks) q token.Dash ts refl (λ fits. refl) go)
+week_given demand n q [] go =
+    given_by demand (places.Week n) (places.After stage.Weeks) (piece.Weeks n None None) q [] (no_bit ⊥ (λ x. x)) (λ fits. refl) go
+week_given demand n q (t ∷ ts) go =
+    given_by demand (places.Week n) (places.After stage.Weeks) (piece.Weeks n None None) q (t ∷ ts)
+    (next_bit (places.Week n) (Some t) (λ v d e. no_bit ⊥ (λ x. x)) begin_bit) (λ fits. refl) go
+
+range_given : (demand : Demand) (a b : Digits) (q : List Piece) (ts : List TokenKind) → Runs demand (places.After stage.Weeks) q ts
+    → Runs demand (places.WeekRange a b) (piece.Weeks a (Some b) None ∷ q) ts
+range_given demand a b q (token.Slash ∷ ts) go =
+    absurd (no_token demand (places.After stage.Weeks) q token.Slash ts refl (λ fits. refl) go)
+range_given demand a b q [] go =
+    given_by demand (places.WeekRange a b) (places.After stage.Weeks) (piece.Weeks a (Some b) None) q [] (no_bit ⊥ (λ x. x))
+    (λ fits. refl) go
+range_given demand a b q (t ∷ ts) go =
+    given_by demand (places.WeekRange a b) (places.After stage.Weeks) (piece.Weeks a (Some b) None) q (t ∷ ts)
+    (next_bit (places.WeekRange a b) (Some t) (λ v d e. no_bit ⊥ (λ x. x)) begin_bit) (λ fits. refl) go
+
+-- the dash and the last week of a range
+to_range : (demand : Demand) (a b : Digits) (p : List Piece) (ts : List TokenKind) → IsRange IsWeekNumber a b
+    → Runs demand (places.WeekRange a b) p ts → Runs demand (places.Week a) p (token.Dash ∷ number b ∷ ts)
+to_range demand a b p ts is go =
+    sign_taken demand (places.Week a) (places.WeekDash a) p token.Dash (number b ∷ ts) (λ x. x) refl
+    (fit_taken demand (places.WeekDash a) (places.WeekRange a b) p (number b) ts is refl go)
+
+pub weeks_begin : (demand : Demand) (p q : List Piece) (ts us : List TokenKind) → IsWeeks p ts q us
+    → Runs demand (places.After stage.Weeks) q us → Begins demand IsWeekNumber places.Week p ts
+weeks_begin demand p q ts us (IsWeeks.one n e f is) go = record {
+  n = n;
+  us = us;
+  tokens = e;
+  is = is;
+  runs = renamed demand (places.Week n) p (piece.Weeks n None None ∷ q) us us f refl (week_given demand n q us go);
+}
+weeks_begin demand p q ts us (IsWeeks.range a b e f is) go = record {
+  n = a;
+  us = token.Dash ∷ number b ∷ us;
+  tokens = e;
+  is = is.0;
+  runs = to_range demand a b p us is
+      (renamed demand (places.WeekRange a b) p (piece.Weeks a (Some b) None ∷ q) us us f refl (range_given demand a b q us go));
+}
+weeks_begin demand p q ts us (IsWeeks.every a b n e f is also) go = record {
+  n = a;
+  us = token.Dash ∷ number b ∷ token.Slash ∷ number n ∷ us;
+  tokens = e;
+  is = is.0;
+  runs = to_range demand a b p (token.Slash ∷ number n ∷ us) is
+      (sign_taken demand (places.WeekRange a b) (places.WeekStep a b) p token.Slash (number n ∷ us) (λ x. x) refl
+      (renamed demand (places.WeekStep a b) p (piece.Weeks a (Some b) (Some n) ∷ q) (number n ∷ us) (number n ∷ us) f refl
+      (fit_completed demand (places.WeekStep a b) (places.After stage.Weeks) (piece.Weeks a (Some b) (Some n)) q (number n) us also
+      refl go)));
+}
+
+-- a number of a week, behind the word or a comma
+pub one_week : (demand : Demand) (p q : List Piece) (ts us : List TokenKind) → IsWeeks p ts q us
+    → Runs demand (places.After stage.Weeks) q us → Runs demand places.WeekWord p ts
+one_week demand p q ts us is go =
+    let b = weeks_begin demand p q ts us is go in
+    subst (Runs demand places.WeekWord p) (sym b.tokens)
+    (fit_taken demand places.WeekWord (places.Week b.n) p (number b.n) b.us b.is refl b.runs)
+
+next_week : (demand : Demand) (p q : List Piece) (ts us : List TokenKind) → IsWeeks p ts q us
+    → Runs demand (places.After stage.Weeks) q us → Runs demand (places.Comma stage.Weeks) p ts
+next_week demand p q ts us is go =
+    let b = weeks_begin demand p q ts us is go in
+    subst (Runs demand (places.Comma stage.Weeks) p) (sym b.tokens)
+    (fit_taken demand (places.Comma stage.Weeks) (places.Week b.n) p (number b.n) b.us b.is refl b.runs)
+
+-- a list of weeks, behind the word
+pub weeks_run : (demand : Demand) (p later : List Piece) (ts rest : List TokenKind) → Listed IsWeeks p ts later rest
+    → Runs demand (places.After stage.Weeks) later rest → Runs demand places.WeekWord p ts
+weeks_run demand p later ts rest l go =
+    one_week demand p l.q ts l.us l.one
+    (more_runs demand IsWeeks (places.After stage.Weeks) (places.Comma stage.Weeks) (next_week demand)
+    (comma_runs demand stage.Weeks) later rest l.q l.us l.more go)

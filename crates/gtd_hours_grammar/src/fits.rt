@@ -1,0 +1,208 @@
+//! Which numbers, times, months and weekdays fit at a place.
+
+ghost use Rattle.std.specs.Prelude.{◌≡◌, ◌↔◌, true};
+ghost use Rattle.gtd_hours.specs.Ranges.{IsMonth, IsWeekday};
+ghost use Rattle.gtd_hours_parts.specs.Numbers.{IsPlaceNumber, IsWeekNumber, IsYearNumber};
+ghost use Rattle.gtd_hours_grammar.specs.Pieces.{EndsRange, IsDay, IsLastDay, IsRange, IsWrittenDate};
+ghost use Rattle.gtd_hours_grammar.specs.Sound.{Fits, IsPlace, ListedFits, NumberFits, TimeFits, YearOrDayFits};
+ghost use Rattle.gtd_hours_grammar.specs.Sound.{is_last_year, takes_number, takes_time};
+
+use crate::piece::{LastDate, WrittenDate};
+use crate::place::Place;
+use crate::stage::Stage;
+use gtd_hours::{MonthDay, YearDate};
+use gtd_hours_parts::{
+    ClockTime, Digits, month_day, times, to_month_day, to_year_date, weeks, year_date, years,
+};
+use gtd_hours_tokens::TokenKind;
+
+fn month_fits(month: u8) -> bool
+    ensures { (result ≡ true) ↔ IsMonth month }
+{
+    1 <= month && month <= 12
+}
+
+fn weekday_fits(weekday: u8) -> bool
+    ensures { (result ≡ true) ↔ IsWeekday weekday }
+{
+    1 <= weekday && weekday <= 7
+}
+
+// A day that the month has: in that year, or in leap years if no year is written.
+fn day_fits(year: Option<Digits>, month: u8, day: Digits) -> bool
+    ensures { (result ≡ true) ↔ IsDay year month day }
+{
+    match day.day() {
+        None => false,
+        Some(number) => match year {
+            None => MonthDay::new(month, number).is_some(),
+            Some(year) => YearDate::new(year.value, month, number).is_some(),
+        },
+    }
+}
+
+// A range that begins with a date of this year ends with that year, month and day.
+fn last_day_fits(first: WrittenDate, year: Option<Digits>, month: u8, day: Digits) -> bool
+    requires date { IsWrittenDate first }
+    ensures { (result ≡ true) ↔ IsLastDay first.year first.month first.day year month day }
+{
+    match first.year {
+        None => year.is_none() && month_day(month, day).is_some(),
+        Some(first_year) => match year_date(first_year, first.month, first.day) {
+            None => false,
+            Some(begin) => match year {
+                None => to_month_day(begin, month, day).is_some(),
+                Some(year) => to_year_date(begin, year, month, day).is_some(),
+            },
+        },
+    }
+}
+
+// A range that begins with a date ends with that day or date.
+fn ends_range(first: WrittenDate, last: LastDate) -> bool
+    requires date { IsWrittenDate first }
+    ensures { (result ≡ true) ↔ EndsRange first last }
+{
+    match last {
+        LastDate::Day(day) => last_day_fits(first, None, first.month, day),
+        LastDate::Date(date) => last_day_fits(first, date.year, date.month, date.day),
+    }
+}
+
+/// Whether a number behind a date and a dash is a year: it has four digits, and the date has a year.
+pub fn is_last_year(first: WrittenDate, number: Digits) -> bool
+    ensures { result ≡ is_last_year first number }
+{
+    first.year.is_some() && number.count == 4
+}
+
+fn year_or_day_fits(first: WrittenDate, number: Digits) -> bool
+    requires date { IsWrittenDate first }
+    ensures { (result ≡ true) ↔ YearOrDayFits first number }
+{
+    if is_last_year(first, number) {
+        number.year().is_some()
+    } else {
+        ends_range(first, LastDate::Day(number))
+    }
+}
+
+// A place in the month that is not before the first one of a range.
+fn last_place_fits(first: Digits, number: Digits) -> bool
+    ensures { (result ≡ true) ↔ IsRange IsPlaceNumber first number }
+{
+    first.place().is_some() && number.place().is_some() && first.value <= number.value
+}
+
+// The number goes on with the list of a stage.
+fn listed_fits(stage: Stage, number: Digits) -> bool
+    ensures { (result ≡ true) ↔ ListedFits stage number }
+{
+    match stage {
+        Stage::Years => number.year().is_some(),
+        Stage::MonthDays => number.year().is_some(),
+        Stage::Weeks => number.week().is_some(),
+        _ => false,
+    }
+}
+
+fn number_fits(place: Place, number: Digits) -> bool
+    requires sound { IsPlace place }
+    ensures { (result ≡ true) ↔ NumberFits place number }
+{
+    match place {
+        Place::Front => number.year().is_some(),
+        Place::TwentyFourSlash => number.value == 7 && number.count == 1,
+        Place::YearMonth { year, month } => day_fits(Some(year), month, number),
+        Place::YearDash(first) => years(first, number, None).is_some(),
+        Place::YearStep { .. } => number.step().is_some(),
+        Place::DateYearMonth { year, month } => day_fits(Some(year), month, number),
+        Place::Month(month) => day_fits(None, month, number),
+        Place::DateDash(first) => year_or_day_fits(first, number),
+        Place::DateDashMonth { first, year, month } => { last_day_fits(first, year, month, number) }
+        Place::WeekWord => number.week().is_some(),
+        Place::WeekDash(first) => weeks(first, number, None).is_some(),
+        Place::WeekStep { .. } => number.step().is_some(),
+        Place::Bracket(_) => number.place().is_some(),
+        Place::BracketDash(_) => number.place().is_some(),
+        Place::NthDash { number: first, .. } => last_place_fits(first, number),
+        Place::After(_) => number.year().is_some(),
+        Place::Comma(stage) => listed_fits(stage, number),
+        _ => false,
+    }
+}
+
+fn time_fits(place: Place, time: ClockTime) -> bool
+    ensures { (result ≡ true) ↔ TimeFits place time }
+{
+    match place {
+        Place::TimeDash(begin) => times(begin, time).is_some(),
+        _ => time.begin().is_some(),
+    }
+}
+
+/// Whether the number, time, month or weekday that comes next fits.
+pub fn fits(place: Place, next: Option<TokenKind>) -> bool
+    requires sound { IsPlace place }
+    ensures { (result ≡ true) ↔ Fits place next }
+{
+    match next {
+        None => false,
+        Some(kind) => match kind {
+            TokenKind::Number { value, digits } => {
+                let count = digits;
+                number_fits(place, Digits { value, count })
+            }
+            TokenKind::Time { hour, minute } => time_fits(place, ClockTime { hour, minute }),
+            TokenKind::Month(month) => month_fits(month),
+            TokenKind::Weekday(weekday) => weekday_fits(weekday),
+            _ => false,
+        },
+    }
+}
+
+/// Whether some number can come next, with digits and a value that fit.
+pub fn takes_number(place: Place) -> bool
+    ensures { result ≡ takes_number place }
+{
+    match place {
+        Place::TwentyFour => false,
+        Place::DateYear(_) => false,
+        Place::MonthDash(_) => false,
+        Place::Date(_) => false,
+        Place::DateDashYear { .. } => false,
+        Place::Week(_) => false,
+        Place::WeekRange { .. } => false,
+        Place::Weekday(_) => false,
+        Place::WeekdayDash(_) => false,
+        Place::Nth { .. } => false,
+        Place::BracketEnd(_) => false,
+        Place::Time(_) => false,
+        Place::TimeDash(_) => false,
+        Place::After(stage) => stage.precedes(Stage::MonthDays),
+        _ => true,
+    }
+}
+
+/// Whether some time can come next.
+pub fn takes_time(place: Place) -> bool
+    ensures { result ≡ takes_time place }
+{
+    match place {
+        Place::Front => true,
+        Place::Year(_) => true,
+        Place::YearMonth { .. } => true,
+        Place::MonthAfterYear(_) => true,
+        Place::ListedYear(_) => true,
+        Place::YearRange { .. } => true,
+        Place::Month(_) => true,
+        Place::Date(_) => true,
+        Place::Week(_) => true,
+        Place::WeekRange { .. } => true,
+        Place::Weekday(_) => true,
+        Place::TimeDash(_) => true,
+        Place::After(stage) => stage.precedes(Stage::Times),
+        Place::Comma(_) => true,
+        _ => false,
+    }
+}

@@ -1,0 +1,202 @@
+//! The moves in a list of months and dates.
+
+ghost use Rattle.std.specs.Prelude.{◌≡◌, true, IfSome};
+ghost use Rattle.gtd_hours_grammar.specs.declared.place.Place.TheVariants as places;
+ghost use Rattle.gtd_hours_grammar.specs.Moves.{date, date_dash, date_dash_month, date_dash_year, date_year, date_year_month};
+ghost use Rattle.gtd_hours_grammar.specs.Moves.{month, month_dash, year_or_day};
+ghost use Rattle.gtd_hours_grammar.specs.Runs.{IsGood};
+ghost use Rattle.gtd_hours_grammar.specs.Sound.{Fits, IsPlace};
+
+use crate::moves::moving::{complete, give, take, written};
+use crate::piece::{LastDate, Piece, WrittenDate};
+use crate::place::{Move, Place};
+use crate::stage::Stage;
+use gtd_hours_parts::Digits;
+use gtd_hours_tokens::TokenKind;
+
+/// `2024`, the year of a date
+pub fn date_year(year: Digits, next: Option<TokenKind>, fits: bool) -> Option<Move>
+    requires sound { IsPlace (places.DateYear year) }
+    requires fit { fits ≡ true → Fits (places.DateYear year) next }
+    ensures computed { result ≡ date_year year next fits }
+    ensures good { IfSome result (λ move. IsGood (places.DateYear year) next move) }
+{
+    match next {
+        Some(TokenKind::Month(month)) if fits => take(Place::DateYearMonth { year, month }),
+        _ => None,
+    }
+}
+
+/// `2024 Dec`, of a date
+pub fn date_year_month(year: Digits, month: u8, next: Option<TokenKind>, fits: bool) -> Option<Move>
+    requires sound { IsPlace (places.DateYearMonth year month) }
+    requires fit { fits ≡ true → Fits (places.DateYearMonth year month) next }
+    ensures computed { result ≡ date_year_month year month next fits }
+    ensures good { IfSome result (λ move. IsGood (places.DateYearMonth year month) next move) }
+{
+    match next {
+        Some(TokenKind::Number { value, digits }) if fits => take(Place::Date(WrittenDate {
+            year: Some(year),
+            month,
+            day: written(value, digits),
+        })),
+        _ => None,
+    }
+}
+
+/// `Dec`
+pub fn month(m: u8, next: Option<TokenKind>, fits: bool) -> Option<Move>
+    requires sound { IsPlace (places.Month m) }
+    requires fit { fits ≡ true → Fits (places.Month m) next }
+    ensures computed { result ≡ month m next fits }
+    ensures good { IfSome result (λ move. IsGood (places.Month m) next move) }
+{
+    match next {
+        Some(TokenKind::Number { value, digits }) => {
+            if fits {
+                take(Place::Date(WrittenDate {
+                    year: None,
+                    month: m,
+                    day: written(value, digits),
+                }))
+            } else {
+                None
+            }
+        }
+        Some(TokenKind::Dash) => take(Place::MonthDash(m)),
+        _ => give(
+            Piece::Months {
+                first: m,
+                last: None,
+            },
+            Place::After(Stage::MonthDays),
+        ),
+    }
+}
+
+/// `Oct-`
+#[tactic(auto, using(crate::proofs::GoodItems::month_dash_good))]
+pub fn month_dash(first: u8, next: Option<TokenKind>, fits: bool) -> Option<Move>
+    requires sound { IsPlace (places.MonthDash first) }
+    requires fit { fits ≡ true → Fits (places.MonthDash first) next }
+    ensures computed { result ≡ month_dash first next fits }
+    ensures good { IfSome result (λ move. IsGood (places.MonthDash first) next move) }
+{
+    match next {
+        Some(TokenKind::Month(last)) if fits => complete(
+            Piece::Months {
+                first,
+                last: Some(last),
+            },
+            Place::After(Stage::MonthDays),
+        ),
+        _ => None,
+    }
+}
+
+/// `Dec 24`, `2024 Dec 24`
+pub fn date(first: WrittenDate, next: Option<TokenKind>) -> Option<Move>
+    requires sound { IsPlace (places.Date first) }
+    ensures computed { result ≡ date first next }
+    ensures good { IfSome result (λ move. IsGood (places.Date first) next move) }
+{
+    match next {
+        Some(TokenKind::Dash) => take(Place::DateDash(first)),
+        _ => give(
+            Piece::Dates { first, last: None },
+            Place::After(Stage::MonthDays),
+        ),
+    }
+}
+
+/// `Dec 24-`
+pub fn date_dash(first: WrittenDate, next: Option<TokenKind>, fits: bool) -> Option<Move>
+    requires sound { IsPlace (places.DateDash first) }
+    requires fit { fits ≡ true → Fits (places.DateDash first) next }
+    ensures computed { result ≡ date_dash first next fits }
+    ensures good { IfSome result (λ move. IsGood (places.DateDash first) next move) }
+{
+    match next {
+        Some(TokenKind::Number { value, digits }) if fits => {
+            year_or_day(first, written(value, digits))
+        }
+        Some(TokenKind::Month(month)) if fits => take(Place::DateDashMonth {
+            first,
+            year: None,
+            month,
+        }),
+        _ => None,
+    }
+}
+
+// A year, or the day that ends the range.
+fn year_or_day(first: WrittenDate, n: Digits) -> Option<Move>
+    ensures { result ≡ year_or_day first n }
+{
+    if first.year.is_some() && n.count == 4 {
+        take(Place::DateDashYear { first, year: n })
+    } else {
+        complete(
+            Piece::Dates {
+                first,
+                last: Some(LastDate::Day(n)),
+            },
+            Place::After(Stage::MonthDays),
+        )
+    }
+}
+
+/// `2024 Dec 24-2025`
+pub fn date_dash_year(
+    first: WrittenDate,
+    year: Digits,
+    next: Option<TokenKind>,
+    fits: bool,
+) -> Option<Move>
+    requires sound { IsPlace (places.DateDashYear first year) }
+    requires fit { fits ≡ true → Fits (places.DateDashYear first year) next }
+    ensures computed { result ≡ date_dash_year first year next fits }
+    ensures good { IfSome result (λ move. IsGood (places.DateDashYear first year) next move) }
+{
+    match next {
+        Some(TokenKind::Month(month)) if fits => take(Place::DateDashMonth {
+            first,
+            year: Some(year),
+            month,
+        }),
+        _ => None,
+    }
+}
+
+/// `Dec 24-Jan`
+#[tactic(auto, using(crate::proofs::GoodItems::date_dash_month_good))]
+pub fn date_dash_month(
+    first: WrittenDate,
+    year: Option<Digits>,
+    month: u8,
+    next: Option<TokenKind>,
+    fits: bool,
+) -> Option<Move>
+    requires sound { IsPlace (places.DateDashMonth first year month) }
+    requires fit { fits ≡ true → Fits (places.DateDashMonth first year month) next }
+    ensures computed { result ≡ date_dash_month first year month next fits }
+    ensures good { IfSome result (λ move. IsGood (places.DateDashMonth first year month) next move) }
+{
+    match next {
+        Some(TokenKind::Number { value, digits }) if fits => {
+            let last = WrittenDate {
+                year,
+                month,
+                day: written(value, digits),
+            };
+            complete(
+                Piece::Dates {
+                    first,
+                    last: Some(LastDate::Date(last)),
+                },
+                Place::After(Stage::MonthDays),
+            )
+        }
+        _ => None,
+    }
+}

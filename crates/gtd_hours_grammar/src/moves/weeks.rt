@@ -1,0 +1,103 @@
+//! The moves in a list of weeks.
+
+ghost use Rattle.std.specs.Prelude.{◌≡◌, true, IfSome};
+ghost use Rattle.gtd_hours_grammar.specs.declared.place.Place.TheVariants as places;
+ghost use Rattle.gtd_hours_grammar.specs.Moves.{week, week_dash, week_range, week_step, week_word};
+ghost use Rattle.gtd_hours_grammar.specs.Runs.{IsGood};
+ghost use Rattle.gtd_hours_grammar.specs.Sound.{Fits, IsPlace};
+
+use crate::moves::moving::{complete, give, take, written};
+use crate::piece::Piece;
+use crate::place::{Move, Place};
+use crate::stage::Stage;
+use gtd_hours_parts::Digits;
+use gtd_hours_tokens::TokenKind;
+
+/// `week`
+pub fn week_word(next: Option<TokenKind>, fits: bool) -> Option<Move>
+    requires fit { fits ≡ true → Fits places.WeekWord next }
+    ensures computed { result ≡ week_word next fits }
+    ensures good { IfSome result (λ move. IsGood places.WeekWord next move) }
+{
+    match next {
+        Some(TokenKind::Number { value, digits }) if fits => {
+            take(Place::Week(written(value, digits)))
+        }
+        _ => None,
+    }
+}
+
+/// `10`
+pub fn week(n: Digits, next: Option<TokenKind>) -> Option<Move>
+    requires sound { IsPlace (places.Week n) }
+    ensures computed { result ≡ week n next }
+    ensures good { IfSome result (λ move. IsGood (places.Week n) next move) }
+{
+    match next {
+        Some(TokenKind::Dash) => take(Place::WeekDash(n)),
+        _ => give(
+            Piece::Weeks {
+                first: n,
+                last: None,
+                step: None,
+            },
+            Place::After(Stage::Weeks),
+        ),
+    }
+}
+
+/// `10-`
+pub fn week_dash(n: Digits, next: Option<TokenKind>, fits: bool) -> Option<Move>
+    requires sound { IsPlace (places.WeekDash n) }
+    requires fit { fits ≡ true → Fits (places.WeekDash n) next }
+    ensures computed { result ≡ week_dash n next fits }
+    ensures good { IfSome result (λ move. IsGood (places.WeekDash n) next move) }
+{
+    match next {
+        Some(TokenKind::Number { value, digits }) if fits => take(Place::WeekRange {
+            first: n,
+            last: written(value, digits),
+        }),
+        _ => None,
+    }
+}
+
+/// `10-20`
+pub fn week_range(first: Digits, last: Digits, next: Option<TokenKind>) -> Option<Move>
+    requires sound { IsPlace (places.WeekRange first last) }
+    ensures computed { result ≡ week_range first last next }
+    ensures good { IfSome result (λ move. IsGood (places.WeekRange first last) next move) }
+{
+    match next {
+        Some(TokenKind::Slash) => take(Place::WeekStep { first, last }),
+        _ => give(
+            Piece::Weeks {
+                first,
+                last: Some(last),
+                step: None,
+            },
+            Place::After(Stage::Weeks),
+        ),
+    }
+}
+
+/// `10-20/`
+#[tactic(auto, using(crate::proofs::GoodItems::week_step_good))]
+pub fn week_step(first: Digits, last: Digits, next: Option<TokenKind>, fits: bool) -> Option<Move>
+    requires sound { IsPlace (places.WeekStep first last) }
+    requires fit { fits ≡ true → Fits (places.WeekStep first last) next }
+    ensures computed { result ≡ week_step first last next fits }
+    ensures good { IfSome result (λ move. IsGood (places.WeekStep first last) next move) }
+{
+    match next {
+        Some(TokenKind::Number { value, digits }) if fits => complete(
+            Piece::Weeks {
+                first,
+                last: Some(last),
+                step: Some(written(value, digits)),
+            },
+            Place::After(Stage::Weeks),
+        ),
+        _ => None,
+    }
+}

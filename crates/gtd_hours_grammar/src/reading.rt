@@ -1,0 +1,178 @@
+//! Reading a text of opening hours, piece by piece.
+
+ghost use Rattle.std.specs.Prelude.{◌≡◌, ◌<◌, ◌≤◌, ◌∷◌, ◌++◌, [], IfErr, IfOk, IfSome, List, None, Ok, length};
+ghost use Rattle.gtd_hours_tokens.specs.Lexing.{AreTokens, IsNext, Reads};
+ghost use Rattle.gtd_hours_tokens.specs.declared.token.Token.{Token};
+ghost use Rattle.gtd_hours_grammar.specs.declared.piece.Piece.{Piece};
+ghost use Rattle.gtd_hours_grammar.specs.Faults.{IsFirstFault, IsHoursText};
+ghost use Rattle.gtd_hours_grammar.specs.Kinds.{misfit_of, range_if};
+ghost use Rattle.gtd_hours_grammar.specs.Runs.{IsGood};
+ghost use Rattle.gtd_hours_grammar.specs.Sound.{IsPlace};
+ghost use Rattle.gtd_hours_grammar.specs.SoundPieces.{IsPiece};
+ghost use Rattle.gtd_hours_grammar.specs.Steps.{IsMove, IsReading, advanced, end_or_fault, kind_of, moves_left};
+
+use crate::fault::{FaultKind, HoursFault};
+use crate::fits::{fits, takes_number, takes_time};
+use crate::moves::next_move;
+use crate::piece::Piece;
+use crate::place::{Move, Place};
+use gtd_hours_tokens::{Token, TokenKind, check_tokens, next_token};
+
+/// How far a text of opening hours has been read.
+#[derive(Clone, Copy)]
+pub struct Reading {
+    // The number of bytes that have been read.
+    place: usize,
+    // Where the grammar stood when the next token came.
+    behind: Place,
+    // Where it stands now.
+    at: Place,
+}
+
+/// The beginning of a text, or the first byte with which no token begins. Takes no memory.
+pub fn begin(text: &[u8]) -> Result<Reading, HoursFault>
+    ensures reading { IfOk result (λ reading. IsReading text.now reading []) }
+    ensures fault { IfErr result (λ bad. IsFirstFault text.now bad) }
+{
+    match check_tokens(text) {
+        Ok(()) => Ok(Reading {
+            place: 0,
+            behind: Place::Front,
+            at: Place::Front,
+        }),
+        Err(bad) => Err(HoursFault {
+            kind: FaultKind::BadToken,
+            place: bad.place,
+        }),
+    }
+}
+
+/// The next piece, and the reading behind it. `None` where the text has been read in full, or its first fault. Takes no memory.
+pub fn next_piece(text: &[u8], reading: Reading) -> Result<Option<(Piece, Reading)>, HoursFault>
+    requires stands { (given : List Piece) × IsReading text.now reading given }
+    ensures piece { (given : List Piece) → IsReading text.now reading given →
+        IfOk result (λ next. IfSome next (λ x. IsReading text.now x.1 (given ++ x.0 ∷ []))) }
+    ensures sound { IfOk result (λ next. IfSome next (λ x. IsPiece x.0)) }
+    ensures all { (given : List Piece) → IsReading text.now reading given →
+        result ≡ Ok None → IsHoursText text.now given }
+    ensures fault { IfErr result (λ bad. IsFirstFault text.now bad) }
+    ensures nearer { IfOk result (λ next. IfSome next (λ x. moves_left text.now x.1 < moves_left text.now reading)) }
+{
+    let mut now = reading;
+    loop {
+        let next = token_behind(text, now.place);
+        let Some(step) = step_from(now.at, kind_of(next)) else {
+            return end_or_fault(text, now, next);
+        };
+        now = advanced(now, next, step);
+        if let Some(piece) = step.piece {
+            return Ok(Some((piece, now)));
+        }
+    }
+}
+
+// The next token, where the text is known to be tokens.
+fn token_behind(text: &[u8], place: usize) -> Option<Token>
+    requires inside { place ≤ length text.now }
+    requires tokens { (later : List Token) × Reads text.now place later (length text.now) }
+    ensures next { IsNext text.now place (Ok result) }
+    ensures past { IfSome result (λ token. place < token.to) }
+    ensures inside { IfSome result (λ token. token.to ≤ length text.now) }
+{
+    match next_token(text, place) {
+        Ok(next) => next,
+        Err(_) => unreachable!(),
+    }
+}
+
+fn kind_of(next: Option<Token>) -> Option<TokenKind>
+    ensures { result ≡ kind_of next }
+{
+    match next {
+        Some(token) => Some(token.kind),
+        None => None,
+    }
+}
+
+// The move that a token, or the end of the text, makes.
+fn step_from(place: Place, next: Option<TokenKind>) -> Option<Move>
+    requires { IsPlace place }
+    ensures computed { IsMove place next result }
+    ensures good { IfSome result (λ move. IsGood place next move) }
+{
+    next_move(place, next, fits(place, next))
+}
+
+// The reading behind a move.
+fn advanced(reading: Reading, next: Option<Token>, step: Move) -> Reading
+    ensures { result ≡ advanced reading next step }
+{
+    match next {
+        Some(token) => {
+            if step.takes {
+                Reading {
+                    place: token.to,
+                    behind: step.to,
+                    at: step.to,
+                }
+            } else {
+                Reading {
+                    at: step.to,
+                    ..reading
+                }
+            }
+        }
+        None => Reading {
+            at: step.to,
+            ..reading
+        },
+    }
+}
+
+// What a reading comes to where no move can be made.
+fn end_or_fault(
+    text: &[u8],
+    now: Reading,
+    next: Option<Token>,
+) -> Result<Option<(Piece, Reading)>, HoursFault>
+    ensures { result ≡ end_or_fault text.now now next }
+{
+    match next {
+        Some(token) => Err(HoursFault {
+            kind: misfit(now.behind, token.kind),
+            place: token.from,
+        }),
+        None => {
+            if now.at.is_after() {
+                Ok(None)
+            } else {
+                Err(HoursFault {
+                    kind: FaultKind::Incomplete,
+                    place: text.len(),
+                })
+            }
+        }
+    }
+}
+
+// What is wrong with a token that cannot come next.
+fn misfit(place: Place, kind: TokenKind) -> FaultKind
+    ensures { result ≡ misfit_of place kind }
+{
+    match kind {
+        TokenKind::Number { .. } => range_if(takes_number(place)),
+        TokenKind::Time { .. } => range_if(takes_time(place)),
+        TokenKind::Unsupported => FaultKind::Unsupported,
+        _ => FaultKind::Unexpected,
+    }
+}
+
+fn range_if(fits_by_place: bool) -> FaultKind
+    ensures { result ≡ range_if fits_by_place }
+{
+    if fits_by_place {
+        FaultKind::Range
+    } else {
+        FaultKind::Unexpected
+    }
+}

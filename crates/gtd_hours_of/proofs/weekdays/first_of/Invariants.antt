@@ -1,7 +1,0 @@
-use Rattle.std.proofs.Common.{◌<◌, ◌≤◌, ℕ}
-use Rattle.gtd_hours_of.specs.Forms.{Begins}
-use Rattle.gtd_hours_of.proofs.weekdays.first_of.Given as goal
-
--- none of the weekdays so far
-abbrev pub invariant-loop-weekday : goal.invariant-loop-weekday
-invariant-loop-weekday l = (k : ℕ) → 1 ≤ k → k < l.weekday → Begins l.bits k → ⊥

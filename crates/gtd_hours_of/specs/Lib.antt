@@ -1,5 +1,0 @@
-pub mod Forms
-pub mod Order
-pub use Rattle.gtd_core.specs.Parts
-pub use Rattle.gtd_eval.specs.Membership
-pub use Rattle.gtd_osm.specs.Opening

@@ -1,7 +1,0 @@
-use Rattle.gtd_hours_records.proofs.TranslatedFacts.{file_accepted}
-use Rattle.gtd_hours_records.proofs.laws.text_is_a_record_file.Goals as goal
-
-pub returns : goal.returns
-returns c =
-    let text = c.canonical_text_of_domain.ensures in
-    record { accepted = file_accepted text.stands text.faultless c.migrated_is_accepted.ensures.rows }

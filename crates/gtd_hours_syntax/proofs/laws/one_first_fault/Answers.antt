@@ -1,8 +1,0 @@
-use Rattle.gtd_hours_syntax.specs.facts.FirstFault.{hours_or_fault, one_first_fault}
-use Rattle.gtd_hours_syntax.proofs.laws.one_first_fault.Goals as goal
-
-pub returns-clause-fault : goal.returns-clause-fault
-returns-clause-fault c = one_first_fault
-
-pub returns-clause-apart : goal.returns-clause-apart
-returns-clause-apart c = hours_or_fault

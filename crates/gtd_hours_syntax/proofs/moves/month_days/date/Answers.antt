@@ -1,5 +1,0 @@
-use Rattle.gtd_hours_syntax.proofs.GoodItems.{date_good}
-use Rattle.gtd_hours_syntax.proofs.moves.month_days.date.Goals as goal
-
-pub returns-in_default-clause-good : goal.returns-in_default-clause-good
-returns-in_default-clause-good c = rw (c.give.ensures) (date_good c.args.first c.args.next c.requires.sound)

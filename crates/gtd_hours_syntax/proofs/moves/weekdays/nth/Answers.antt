@@ -1,5 +1,0 @@
-use Rattle.gtd_hours_syntax.proofs.GoodItems.{nth_good}
-use Rattle.gtd_hours_syntax.proofs.moves.weekdays.nth.Goals as goal
-
-pub returns-in_default-clause-good : goal.returns-in_default-clause-good
-returns-in_default-clause-good c = rw (c.give.ensures) (nth_good c.args.weekday c.args.number c.args.next c.requires.sound)

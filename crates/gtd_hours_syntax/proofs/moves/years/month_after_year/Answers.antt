@@ -1,6 +1,0 @@
-use Rattle.gtd_hours_syntax.proofs.GoodItems.{month_after_year_good}
-use Rattle.gtd_hours_syntax.proofs.moves.years.month_after_year.Goals as goal
-
-pub returns-clause-good : goal.returns-clause-good
-returns-clause-good c =
-    λ next. rw (c.give.ensures) (month_after_year_good c.args.month next c.requires.sound)

@@ -1,6 +1,0 @@
-use Rattle.gtd_hours_syntax.proofs.GoodItems.{year_range_good}
-use Rattle.gtd_hours_syntax.proofs.moves.years.year_range.Goals as goal
-
-pub returns-in_default-clause-good : goal.returns-in_default-clause-good
-returns-in_default-clause-good c =
-    rw (c.give.ensures) (year_range_good c.args.first c.args.last c.args.next c.requires.sound)

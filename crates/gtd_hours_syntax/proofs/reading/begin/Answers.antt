@@ -1,5 +1,0 @@
-use Rattle.gtd_hours_syntax.proofs.ReadLemmas.{front_read}
-use Rattle.gtd_hours_syntax.proofs.reading.begin.Goals as goal
-
-pub returns-in-Ok-clause-reading : goal.returns-in-Ok-clause-reading
-returns-in-Ok-clause-reading c = front_read c.args.text.now c.in-Ok.ensures.tokens.0 c.in-Ok.ensures.tokens.1

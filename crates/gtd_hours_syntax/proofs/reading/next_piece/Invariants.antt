@@ -1,9 +1,0 @@
-use Rattle.gtd_hours_syntax.specs.Steps.{moves_left}
-use Rattle.gtd_hours_syntax.proofs.ReadLemmas.{Keeps}
-use Rattle.gtd_hours_syntax.proofs.reading.next_piece.Given as goal
-
-abbrev pub invariant-loop-step : goal.invariant-loop-step
-invariant-loop-step l = Keeps l.text l.fn.reading l.now
-
-abbrev pub decreases-loop-step : goal.decreases-loop-step
-decreases-loop-step l = moves_left l.text l.now

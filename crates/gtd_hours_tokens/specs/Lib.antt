@@ -1,0 +1,4 @@
+pub mod Lexing
+pub mod TokenAt
+pub mod Words
+pub mod facts

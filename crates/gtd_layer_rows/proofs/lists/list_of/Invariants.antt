@@ -1,5 +1,0 @@
-use Rattle.gtd_spans.specs.Pushing.{NoneBeginsAfter}
-use Rattle.gtd_layer_rows.proofs.lists.list_of.Given as goal
-
-abbrev pub invariant-loop-from : goal.invariant-loop-from
-invariant-loop-from g l = NoneBeginsAfter l.latest.0 l.list

@@ -1,0 +1,16 @@
+use Rattle.std.proofs.Common.{◌≡◌, ◌≤◌, ◌+◌, ◌*◌, drop}
+use Rattle.gtd_report.specs.facts.TextFacts.{CarriesText}
+use Rattle.gtd_report.specs.Putting.{AreLinesOf, most_direction_bytes, most_direction_lines}
+use Rattle.gtd_report.proofs.by_element.put_elements.Given as goal
+
+-- where the lines of the elements that are left are put, those of all are
+abbrev pub invariant-loop-element : goal.invariant-loop-element
+invariant-loop-element g l = record {
+  carries : CarriesText (AreLinesOf (g.L.ElementLines.are_lines l.text l.found) l.elements)
+      (g.O.Output.taken l.fn.output) l.fn.progress
+      (AreLinesOf (g.L.ElementLines.are_lines l.text l.found) (drop l.element-index l.elements))
+      (g.O.Output.taken l.output) l.progress;
+  written : l.progress.written ≤ 1000 + 2 * most_direction_bytes * l.element-index;
+  lines : l.progress.lines ≤ 1 + 2 * most_direction_lines * l.element-index;
+  failures : g.O.Output.failure_count l.output ≡ g.O.Output.failure_count l.fn.output;
+}

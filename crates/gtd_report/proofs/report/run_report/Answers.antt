@@ -1,0 +1,17 @@
+use Rattle.gtd_report.specs.facts.RunFacts.{accepted_are_put, refused_put_nothing, unaccepted_put_nothing}
+use Rattle.gtd_report.proofs.report.run_report.Goals as goal
+
+pub returns-clause-accepted : goal.returns-clause-accepted
+returns-clause-accepted g c = λ vehicle year.
+    let e = c.run.ensures in
+    accepted_are_put _ _ c.run.result _ _ _ (λ is. e.vehicle.0 is vehicle) (λ is. (e.year.0 is).1 year) e.stands
+
+pub returns-clause-refused : goal.returns-clause-refused
+returns-clause-refused g c = λ vehicle year.
+    let e = c.run.ensures in
+    refused_put_nothing _ _ c.run.result _ _ _ (λ is. e.vehicle.0 is vehicle) (λ is. (e.year.0 is).1 year) e.stands
+
+pub returns-clause-unnamed : goal.returns-clause-unnamed
+returns-clause-unnamed g c = λ vehicle year.
+    let e = c.run.ensures in
+    unaccepted_put_nothing _ _ c.run.result _ _ _ (λ is. e.vehicle.0 is vehicle) (λ is. (e.year.0 is).1 year) e.stands

@@ -1,0 +1,33 @@
+//! What the tests of commands share: command lines carried out over files in memory.
+
+use crate::words::owned;
+use gtd_devices::{MemoryIn, MemoryOut};
+use gtdesk_tool::{Ending, Plan, Refusal, perform, plan};
+use std::alloc::Global;
+use std::process::Abort;
+
+/// The plan of the words.
+pub(crate) fn planned(rt: &impl Abort, alloc: Global, words: &[&str]) -> Plan {
+    let owned = owned(alloc, words).expect(rt, "memory");
+    match plan(alloc, owned) {
+        Ok(plan) => plan,
+        Err(_) => panic!(rt; "{words:?} is refused"),
+    }
+}
+
+/// What a plan answers for a file with these bytes, and what it puts. To the output for errors it puts nothing.
+pub(crate) fn performed(
+    rt: &impl Abort,
+    alloc: Global,
+    plan: &Plan,
+    file: &[u8],
+) -> (Result<Ending, Refusal>, Vec<u8>) {
+    let bytes = Vec::from_slice(alloc, file).expect(rt, "memory");
+    let mut input = MemoryIn::new(bytes, 4_096, None, None);
+    let mut output = MemoryOut::new(alloc, 100_000, 4_096, None).expect(rt, "memory");
+    let mut errors = MemoryOut::new(alloc, 100, 100, None).expect(rt, "memory");
+    let done = perform(alloc, plan, &mut input, &mut output, &mut errors);
+    let put = Vec::from_slice(alloc, output.bytes()).expect(rt, "memory");
+    assert!(rt; errors.bytes().is_empty());
+    (done, put)
+}

@@ -1,0 +1,62 @@
+//! The calls of commands that take no memory, while every growth is refused. Each test asserts the same answers twice, first with
+//! ample memory, but for a text that is put once.
+
+use crate::growth::switch;
+use crate::gtdesk::common::planned;
+use gtd_devices::{MemoryIn, MemoryOut};
+use gtd_records::RecordFault;
+use gtd_test_devices::R;
+use gtdesk_tool::{Ending, NoDomain, Plan, Refusal, WordFault, perform};
+use std::process::Abort;
+
+fn expect_statuses(rt: &impl Abort) {
+    assert!(rt; Ending::Done.status() == 0);
+    assert!(rt; Ending::FaultsListed.status() == 1);
+    assert!(rt; Refusal::Usage("x").status() == 2);
+    assert!(rt; Refusal::Vehicle.status() == 1);
+    assert!(rt; Refusal::Word(WordFault::Year).status() == 1);
+    assert!(rt; Refusal::NoHours.status() == 1);
+    assert!(rt; Refusal::NoDomain(NoDomain::TooMany).status() == 1);
+    assert!(rt; Refusal::NoElement.status() == 1);
+    assert!(rt; Refusal::Records(RecordFault::Header).status() == 1);
+    assert!(rt; Refusal::Records(RecordFault::ReadFault).status() == 3);
+    assert!(rt; Refusal::Records(RecordFault::Endless).status() == 3);
+    assert!(rt; Refusal::Open.status() == 3);
+    assert!(rt; Refusal::Write.status() == 3);
+    assert!(rt; Refusal::Memory.status() == 3);
+}
+
+#[test]
+fn statuses(rt: HostRuntime) {
+    expect_statuses(&rt);
+    switch(rt.alloc());
+    expect_statuses(&rt);
+    switch(rt.alloc());
+}
+
+#[test]
+fn files_of_plans(rt: HostRuntime) {
+    let alloc = rt.alloc();
+    let faults = planned(&rt, alloc, &["faults", "r.csv"]);
+    let words = planned(&rt, alloc, &["words", "(h1){h1}"]);
+    assert!(rt; (faults.file(), words.file()) == (Some("r.csv"), None));
+    switch(alloc);
+    assert!(rt; (faults.file(), words.file()) == (Some("r.csv"), None));
+    switch(alloc);
+}
+
+// A text that was asked for is put without memory.
+#[test]
+fn texts(rt: HostRuntime) {
+    let alloc = rt.alloc();
+    let plan: Plan = planned(&rt, alloc, &["--version"]);
+    let bytes = Vec::from_slice(alloc, R.as_bytes()).expect(&rt, "memory");
+    let mut input = MemoryIn::new(bytes, 7, None, None);
+    let mut output = MemoryOut::new(alloc, 1_000, 5, None).expect(&rt, "memory");
+    let mut errors = MemoryOut::new(alloc, 100, 100, None).expect(&rt, "memory");
+    switch(alloc);
+    let done = perform(alloc, &plan, &mut input, &mut output, &mut errors);
+    assert!(rt; done == Ok(Ending::Done));
+    assert!(rt; output.bytes() == b"gtdesk 0.1.0\n".as_slice());
+    switch(alloc);
+}

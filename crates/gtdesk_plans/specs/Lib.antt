@@ -1,0 +1,11 @@
+pub mod CommandLine
+pub mod Given
+pub mod Words
+pub mod Plans
+pub mod Statuses
+pub use Rattle.gtd_core.specs.Seconds
+pub use Rattle.gtd_core.specs.Parts
+pub use Rattle.gtd_text.specs.Reading
+pub use Rattle.gtd_calendar.specs.Read
+pub use Rattle.gtd_records.specs.Columns
+pub use Rattle.gtd_report.specs.Run

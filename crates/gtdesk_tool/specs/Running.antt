@@ -1,0 +1,217 @@
+-- What a plan prints, and how it ends.
+use Rattle.std.specs.Prelude.{◌≡◌, ◌≢◌, ◌↔◌, ◌⊎◌, ⊤, ℕ, ◌+◌, zero, suc, ℤ, Bool, List, Option, Result, Ok, Err, IsErrOf, IsTrue}
+use Rattle.std.specs.Prelude.{Any, IfErr, IfOk, IfSome, OnOk, string_bytes}
+use Rattle.std.specs.Io.KnownBytes.{Appends, Keeps}
+use Rattle.gtd_core.specs.Parts.{domain_tree}
+use Rattle.gtd_words.specs.Words.{words}
+use Rattle.gtd_records.specs.declared.fault.RecordFault.TheVariants as records
+use Rattle.gtd_core.specs.declared.domain.Domain.{Domain}
+use Rattle.gtd_records.specs.Closing.{Restriction}
+use Rattle.gtd_report.specs.Run.{AcceptedFilesArePut, HasRun, IsTableYear, IsVehicleType, RefusedFilesPutNothing}
+use Rattle.gtd_report.specs.Run.{UnacceptedFilesPutNothing}
+use Rattle.gtd_picture.specs.Domain.{HasPut, IsDomainPicture}
+use Rattle.gtd_picture.specs.Open.{IsOpenPicture}
+use Rattle.gtdesk_tool.specs.Hours.{IsDomainLine, IsHoursLine, IsNoDomainOf}
+use Rattle.gtdesk_tool.specs.Comparing.{HasCompared}
+use Rattle.gtdesk_plans.specs.declared.plans.PictureSubject.{PictureSubject}
+use Rattle.gtdesk_plans.specs.declared.refusal.WordFault.TheVariants as fault
+use Rattle.gtd_report.specs.declared.fault.RunFault.{RunFault}
+use Rattle.gtd_report.specs.declared.fault.RunFault.TheVariants as run
+use Rattle.gtd_faults.specs.declared.list_fault.ListFault.{ListFault}
+use Rattle.gtd_faults.specs.declared.list_fault.ListFault.TheVariants as list
+use Rattle.gtd_faults.specs.Run.{HasListed, TookSome}
+use Rattle.gtd_hours_file.specs.Run.{HasTranslated}
+use Rattle.gtd_hours_file.specs.declared.untranslated.Untranslated.{Untranslated}
+use Rattle.gtd_hours_file.specs.declared.untranslated.Untranslated.TheVariants as hours
+use Rattle.gtd_now.specs.Now.{IsNow}
+use Rattle.gtdesk_tool.specs.declared.ending.Ending.{Ending}
+use Rattle.gtdesk_tool.specs.declared.ending.Ending.TheVariants as ending
+use Rattle.gtdesk_plans.specs.declared.plans.Plan.{Plan}
+use Rattle.gtdesk_plans.specs.declared.plans.Plan.TheVariants as plan
+use Rattle.gtdesk_plans.specs.declared.refusal.Refusal.{Refusal}
+use Rattle.gtdesk_plans.specs.declared.refusal.Refusal.TheVariants as refusal
+
+-- Some restriction names the element.
+abbrev pub IsNamed : ℕ → List Restriction → Type 0
+IsNamed element found = Any (λ (r : Restriction). r.element ≡ element) found
+
+-- The refusal for a fault of a run.
+abbrev pub refusal_for : RunFault → Refusal
+refusal_for (run.Records records.NoMemory) = refusal.Memory
+refusal_for (run.Records why) = refusal.Records why
+refusal_for (run.WriteFault written) = refusal.Write
+refusal_for (run.NoMemory written) = refusal.Memory
+refusal_for run.VehicleRange = refusal.Vehicle
+refusal_for run.YearRange = refusal.Word fault.Year
+refusal_for run.NoElement = refusal.NoElement
+
+-- The answer of a command, from that of its run.
+abbrev pub outcome_of : Result ℕ RunFault → Result Ending Refusal
+outcome_of (Ok count) = Ok ending.Done
+outcome_of (Err why) = Err (refusal_for why)
+
+-- The run of `now` had an answer, and all that the run promises for this answer holds.
+pub record RanNow (vehicle : ℕ) (second : ℤ) (file old new : Option (List ℕ)) (silent ended : Bool)
+    (result : Result Ending Refusal) : Type 0 where
+  pub answer : Result ℕ RunFault
+  pub outcome : result ≡ outcome_of answer
+  pub accepted : IsVehicleType vehicle
+      → AcceptedFilesArePut (λ found. ⊤) (λ found lines. IsNow found vehicle second lines) file old new answer
+  pub refused : IsVehicleType vehicle → RefusedFilesPutNothing file old new answer
+  pub stands : HasRun (λ found. ⊤) (λ found lines. IsNow found vehicle second lines) file old new answer
+  pub whole : OnOk answer (IsTrue ended)
+  pub vehicle_range : IsErrOf answer run.VehicleRange ↔ (IsVehicleType vehicle → ⊥)
+  pub year : IsErrOf answer run.YearRange → ⊥
+  pub element : IsErrOf answer run.NoElement → ⊥
+  pub endless : IsErrOf answer (run.Records records.Endless) → IsTrue silent
+
+-- The run of `picture` had an answer, and all that the run promises for this answer holds.
+pub record RanPicture (subject : PictureSubject) (title : List ℕ) (file old new : Option (List ℕ)) (silent ended : Bool)
+    (result : Result Ending Refusal) : Type 0 where
+  pub answer : Result ℕ RunFault
+  pub outcome : result ≡ outcome_of answer
+  pub accepted : IsVehicleType subject.vehicle → IsTableYear subject.year → AcceptedFilesArePut (IsNamed subject.element)
+      (λ found lines. IsOpenPicture found subject.element subject.direction subject.vehicle title subject.year lines)
+      file old new answer
+  pub refused : IsVehicleType subject.vehicle → IsTableYear subject.year → RefusedFilesPutNothing file old new answer
+  pub unnamed : IsVehicleType subject.vehicle → IsTableYear subject.year
+      → UnacceptedFilesPutNothing (IsNamed subject.element) file old new answer
+  pub stands : HasRun (IsNamed subject.element)
+      (λ found lines. IsOpenPicture found subject.element subject.direction subject.vehicle title subject.year lines)
+      file old new answer
+  pub whole : OnOk answer (IsTrue ended)
+  pub vehicle_range : IsErrOf answer run.VehicleRange ↔ (IsVehicleType subject.vehicle → ⊥)
+  pub year_range : IsErrOf answer run.YearRange ↔ (IsVehicleType subject.vehicle × (IsTableYear subject.year → ⊥))
+  pub endless : IsErrOf answer (run.Records records.Endless) → IsTrue silent
+
+-- The run of `picture-domain` had an answer, and all that the run promises for this answer holds.
+pub record RanDomainPicture (domain : Domain) (title : List ℕ) (year : ℕ) (old new : Option (List ℕ)) (ended : Bool)
+    (result : Result Ending Refusal) : Type 0 where
+  pub answer : Result ℕ RunFault
+  pub outcome : result ≡ outcome_of answer
+  pub stands : HasPut (IsDomainPicture domain title year) old new answer
+  pub whole : OnOk answer (IsTrue ended)
+  pub year_range : IsErrOf answer run.YearRange ↔ (IsTableYear year → ⊥)
+
+-- The answer of a command, from that of its list of faults.
+abbrev pub listing_outcome : Result ℕ ListFault → Result Ending Refusal
+listing_outcome (Ok zero) = Ok ending.Done
+listing_outcome (Ok (suc count)) = Ok ending.FaultsListed
+listing_outcome (Err list.ReadFault) = Err (refusal.Records records.ReadFault)
+listing_outcome (Err list.Endless) = Err (refusal.Records records.Endless)
+listing_outcome (Err list.WriteFault) = Err refusal.Write
+listing_outcome (Err list.NoMemory) = Err refusal.Memory
+
+-- The run of `faults` had an answer, and all that the run promises for this answer holds.
+pub record RanFaults (path : List ℕ) (warn : Bool) (file old new : Option (List ℕ)) (silent ended : Bool)
+    (result : Result Ending Refusal) : Type 0 where
+  pub answer : Result ℕ ListFault
+  pub outcome : result ≡ listing_outcome answer
+  pub listed : IfSome file (λ bytes. HasListed path warn bytes old new answer)
+  pub kept : IfErr answer (λ why. why ≢ list.WriteFault → Keeps old new)
+  pub whole : OnOk answer (IsTrue ended)
+  pub endless : IsErrOf answer list.Endless → IsTrue silent
+
+-- A text of this kind was put whole, and then the output was ended. If the output failed, it had taken a first part of such a
+-- text, which may be none or all of it. Any other refusal has its cause, and nothing was put.
+pub record PutText (IsText : List ℕ → Type 0) (IsCause : Refusal → Type 0) (old new : Option (List ℕ)) (ended : Bool)
+    (result : Result Ending Refusal) : Type 0 where
+  pub whole : IfOk result (λ e. (e ≡ ending.Done) × ((text : List ℕ) × IsText text × Appends old new text) × IsTrue ended)
+  pub refused : IfErr result (λ r. ((r ≡ refusal.Write) × ((text : List ℕ) × IsText text × TookSome old new text))
+      ⊎ (IsCause r × Keeps old new))
+
+-- The refusal is of memory, or says that no hours are found.
+abbrev pub IsHoursRefusal : Refusal → Type 0
+IsHoursRefusal r = (r ≡ refusal.NoHours) ⊎ (r ≡ refusal.Memory)
+
+-- The refusal is of memory, or says why the text has no domain.
+abbrev pub IsTextRefusal : List ℕ → Refusal → Type 0
+IsTextRefusal text (refusal.NoDomain why) = IsNoDomainOf text why
+IsTextRefusal text refusal.Memory = Unit {0}
+IsTextRefusal text other = ⊥
+
+-- What the output for errors took: before and after, and how often it had failed.
+pub record Telling : Type 0 where
+  pub before : Option (List ℕ)
+  pub after : Option (List ℕ)
+  pub failed_before : ℕ
+  pub failed_after : ℕ
+
+-- It took a text whole; or it failed once, and had taken a first part, which may be none or all of it.
+abbrev pub Told : Telling → List ℕ → Type 0
+Told errors text =
+    (Appends errors.before errors.after text × (errors.failed_after ≡ errors.failed_before))
+    ⊎ (TookSome errors.before errors.after text × (errors.failed_after ≡ errors.failed_before + 1))
+
+-- It took nothing, and did not fail.
+abbrev pub IsUntold : Telling → Type 0
+IsUntold errors = Keeps errors.before errors.after × (errors.failed_after ≡ errors.failed_before)
+
+-- What it took for the answer of a run that translates a file of hours: the list of the faults, if there are any.
+abbrev pub IsToldOf : Telling → Result ℕ Untranslated → Type 0
+IsToldOf errors (Err (hours.Faults list)) = Told errors (string_bytes list)
+IsToldOf errors other = IsUntold errors
+
+-- The answer of `records`, from that of its run.
+abbrev pub records_outcome : Result ℕ Untranslated → Result Ending Refusal
+records_outcome (Ok count) = Ok ending.Done
+records_outcome (Err (hours.Faults list)) = Ok ending.FaultsListed
+records_outcome (Err hours.ReadFault) = Err (refusal.Records records.ReadFault)
+records_outcome (Err hours.Endless) = Err (refusal.Records records.Endless)
+records_outcome (Err (hours.WriteFault written)) = Err refusal.Write
+records_outcome (Err (hours.NoMemory written)) = Err refusal.Memory
+
+-- The run of `records` had an answer, and all that the run promises for this answer holds.
+pub record RanRecords (path : List ℕ) (file old new : Option (List ℕ)) (silent ended : Bool) (errors : Telling)
+    (result : Result Ending Refusal) : Type 0 where
+  pub answer : Result ℕ Untranslated
+  pub outcome : result ≡ records_outcome answer
+  pub translated : HasTranslated path file old new answer
+  pub told : IsToldOf errors answer
+  pub whole : OnOk answer (IsTrue ended)
+  pub endless : IsErrOf answer hours.Endless → IsTrue silent
+
+-- The plan puts nothing to the output for errors.
+abbrev pub IsQuiet : Plan → Type 0
+IsQuiet (plan.Records path) = ⊥
+IsQuiet other = ⊤
+
+-- What a plan did to the output, by its answer.
+abbrev pub HasRunPlan : Plan → Option (List ℕ) → Option (List ℕ) → Option (List ℕ) → Bool → Bool → Telling
+    → Result Ending Refusal → Type 0
+HasRunPlan (plan.Now path moment vehicle) file old new silent ended errors result =
+    RanNow vehicle moment.second.0 file old new silent ended result
+HasRunPlan (plan.Faults path warn) file old new silent ended errors result =
+    RanFaults (string_bytes path) warn file old new silent ended result
+HasRunPlan (plan.Picture path title subject) file old new silent ended errors result =
+    RanPicture subject (string_bytes title) file old new silent ended result
+HasRunPlan (plan.DomainPicture domain title year) file old new silent ended errors result =
+    RanDomainPicture domain (string_bytes title) year old new ended result
+HasRunPlan (plan.Words domain) file old new silent ended errors result =
+    PutText (λ text. text ≡ words (domain_tree domain)) (λ r. r ≡ refusal.Memory) old new ended result
+HasRunPlan (plan.HoursOf domain) file old new silent ended errors result =
+    PutText (IsHoursLine domain) IsHoursRefusal old new ended result
+HasRunPlan (plan.DomainOf text) file old new silent ended errors result =
+    PutText (IsDomainLine (string_bytes text)) (IsTextRefusal (string_bytes text)) old new ended result
+HasRunPlan (plan.Same first second from) file old new silent ended errors result =
+    HasCompared first second from.second.0 old new ended result
+HasRunPlan (plan.Records path) file old new silent ended errors result =
+    RanRecords (string_bytes path) file old new silent ended errors result
+HasRunPlan (plan.Show text) file old new silent ended errors result =
+    PutText (λ t. t ≡ string_bytes text) (λ r. ⊥) old new ended result
+
+-- one more failure of the input exactly if the refusal is that it failed
+abbrev pub failures_after_read : Result Ending Refusal → ℕ → ℕ
+failures_after_read (Err (refusal.Records records.ReadFault)) count = count + 1
+failures_after_read result count = count
+
+-- one more failure of the output exactly if the refusal is that it failed
+abbrev pub failures_after_write : Result Ending Refusal → ℕ → ℕ
+failures_after_write (Err refusal.Write) count = count + 1
+failures_after_write result count = count
+
+-- The exit status of a plan that was carried out: 1 if faults were listed, 4 if there is a difference.
+abbrev pub ending_status : Ending → ℕ
+ending_status ending.Done = 0
+ending_status ending.FaultsListed = 1
+ending_status ending.Differ = 4

@@ -1,0 +1,71 @@
+//! The command `records`: the record file of a file of opening hours.
+
+ghost use Rattle.std.specs.Prelude.{◌≡◌, ◌<◌};
+ghost use Rattle.gtdesk_tool.specs.Running.{RanRecords, Told, failures_after_read, failures_after_write, records_outcome};
+
+use crate::ending::Ending;
+use gtd_devices::{Input, Output};
+use gtd_hours_file::{Untranslated, run_hours_records};
+use gtd_records::RecordFault;
+use gtd_report::{Progress, put_line};
+use gtdesk_plans::Refusal;
+use std::alloc::Global;
+
+// The answer of `records`, from that of its run.
+fn records_outcome(answer: &Result<u64, Untranslated>) -> Result<Ending, Refusal>
+    ensures value { result ≡ records_outcome answer.now }
+{
+    match answer {
+        Ok(_) => Ok(Ending::Done),
+        Err(Untranslated::Faults(_)) => Ok(Ending::FaultsListed),
+        Err(Untranslated::ReadFault) => Err(Refusal::Records(RecordFault::ReadFault)),
+        Err(Untranslated::Endless) => Err(Refusal::Records(RecordFault::Endless)),
+        Err(Untranslated::WriteFault { .. }) => Err(Refusal::Write),
+        Err(Untranslated::NoMemory { .. }) => Err(Refusal::Memory),
+    }
+}
+
+// Puts a list of faults. If that fails, a first part of it stands, and nobody is told.
+fn tell<E: Output>(errors: &mut E, list: &str)
+    requires tellable { E.failure_count errors.old < u64.MAX }
+    ensures told { Told (record {
+      before = E.taken errors.old;
+      after = E.taken errors.new;
+      failed_before = E.failure_count errors.old;
+      failed_after = E.failure_count errors.new;
+    }) list.now }
+{
+    let mut progress = Progress::new();
+    let _ = put_line(errors, &mut progress, list.as_bytes());
+}
+
+/// Prints the record file of the file of hours that the input brings, or lists all its faults on the output for errors.
+pub(crate) fn print_records<I: Input, O: Output, E: Output>(
+    alloc: Global,
+    input: &mut I,
+    output: &mut O,
+    errors: &mut E,
+    path: &str,
+) -> Result<Ending, Refusal>
+    requires readable { I.failure_count input.old < u64.MAX }
+    requires writable { O.failure_count output.old < u64.MAX }
+    requires tellable { E.failure_count errors.old < u64.MAX }
+    ensures ran { RanRecords path.now (I.to_come input.old) (O.taken output.old) (O.taken output.new)
+        (I.may_fall_silent input.old) (O.is_ended output.new)
+        (record {
+          before = E.taken errors.old;
+          after = E.taken errors.new;
+          failed_before = E.failure_count errors.old;
+          failed_after = E.failure_count errors.new;
+        }) result }
+    ensures read_faults { I.failure_count input.new
+        ≡ failures_after_read result (I.failure_count input.old) }
+    ensures write_faults { O.failure_count output.new
+        ≡ failures_after_write result (O.failure_count output.old) }
+{
+    let answer = run_hours_records(alloc, input, output, path);
+    if let Err(Untranslated::Faults(list)) = &answer {
+        tell(errors, list.as_str());
+    }
+    records_outcome(&answer)
+}

@@ -1,0 +1,20 @@
+//! The commands of `gtdesk`.
+//!
+//! [`plan`] reads the words after the program's name, and [`perform`] carries out what they ask for.
+#![tactic(auto)]
+
+mod domain_hours;
+mod ending;
+mod hours_domain;
+mod hours_records;
+mod line;
+mod performing;
+mod picture;
+mod same;
+
+pub use ending::Ending;
+pub use gtdesk_plans::{
+    Moment, NoDomain, PairFault, PictureSubject, Plan, Refusal, WordFault, plan,
+};
+pub use line::RefusalLine;
+pub use performing::perform;

@@ -1,0 +1,216 @@
+//! Carrying a plan out.
+
+ghost use Rattle.std.specs.Prelude.{◌≡◌, ◌<◌, None};
+ghost use Rattle.gtd_core.specs.Parts.{domain_tree};
+ghost use Rattle.gtd_words.specs.Words.{words};
+ghost use Rattle.gtdesk_plans.specs.Plans.{file_of};
+ghost use Rattle.gtdesk_tool.specs.Running.{HasRunPlan, IsQuiet, PutText, RanFaults, RanNow, failures_after_read};
+ghost use Rattle.gtdesk_tool.specs.Running.{failures_after_write, listing_outcome, outcome_of, refusal_for};
+
+use crate::domain_hours::print_hours_of;
+use crate::ending::Ending;
+use crate::hours_domain::print_domain_of;
+use crate::hours_records::print_records;
+use crate::picture::{print_domain, print_picture};
+use crate::same::print_comparison;
+use gtd_core::Domain;
+use gtd_devices::{Input, Output};
+use gtd_faults::{ListFault, run_faults};
+use gtd_now::run_now;
+use gtd_records::RecordFault;
+use gtd_report::{Progress, RunFault, finish, put_line};
+use gtd_words::write_words;
+use gtdesk_plans::{Moment, Plan, Refusal, WordFault};
+use std::alloc::Global;
+
+// The refusal for a fault of a run.
+fn run_refusal(fault: RunFault) -> Refusal
+    ensures value { result ≡ refusal_for fault }
+{
+    match fault {
+        RunFault::Records(why) => match why {
+            RecordFault::NoMemory => Refusal::Memory,
+            _ => Refusal::Records(why),
+        },
+        RunFault::WriteFault { .. } => Refusal::Write,
+        RunFault::NoMemory { .. } => Refusal::Memory,
+        RunFault::VehicleRange => Refusal::Vehicle,
+        RunFault::YearRange => Refusal::Word(WordFault::Year),
+        RunFault::NoElement => Refusal::NoElement,
+    }
+}
+
+/// The answer of a command, from that of its run.
+pub(crate) fn outcome(answer: Result<u64, RunFault>) -> Result<Ending, Refusal>
+    ensures value { result ≡ outcome_of answer }
+{
+    match answer {
+        Ok(_) => Ok(Ending::Done),
+        Err(fault) => Err(run_refusal(fault)),
+    }
+}
+
+// Prints the state of the record file that the input brings.
+fn print_now<I: Input, O: Output>(
+    alloc: Global,
+    input: &mut I,
+    output: &mut O,
+    moment: Moment,
+    vehicle: u8,
+) -> Result<Ending, Refusal>
+    requires readable { I.failure_count input.old < u64.MAX }
+    requires writable { O.failure_count output.old < u64.MAX }
+    ensures ran { RanNow vehicle moment.second.0 (I.to_come input.old) (O.taken output.old) (O.taken output.new)
+        (I.may_fall_silent input.old) (O.is_ended output.new) result }
+    ensures read_faults { I.failure_count input.new
+        ≡ failures_after_read result (I.failure_count input.old) }
+    ensures write_faults { O.failure_count output.new
+        ≡ failures_after_write result (O.failure_count output.old) }
+{
+    outcome(run_now(alloc, input, output, vehicle, moment.second))
+}
+
+// The answer of `faults`, from that of its list.
+fn listing_outcome(answer: Result<usize, ListFault>) -> Result<Ending, Refusal>
+    ensures value { result ≡ listing_outcome answer }
+{
+    match answer {
+        Ok(0) => Ok(Ending::Done),
+        Ok(_) => Ok(Ending::FaultsListed),
+        Err(ListFault::ReadFault) => Err(Refusal::Records(RecordFault::ReadFault)),
+        Err(ListFault::Endless) => Err(Refusal::Records(RecordFault::Endless)),
+        Err(ListFault::WriteFault) => Err(Refusal::Write),
+        Err(ListFault::NoMemory) => Err(Refusal::Memory),
+    }
+}
+
+// Lists the faults of the record file with this path, whose bytes the input brings.
+fn list_faults<I: Input, O: Output>(
+    alloc: Global,
+    input: &mut I,
+    output: &mut O,
+    path: &str,
+    warn: bool,
+) -> Result<Ending, Refusal>
+    requires readable { I.failure_count input.old < u64.MAX }
+    requires writable { O.failure_count output.old < u64.MAX }
+    ensures ran { RanFaults path.now warn (I.to_come input.old) (O.taken output.old) (O.taken output.new)
+        (I.may_fall_silent input.old) (O.is_ended output.new) result }
+    ensures read_faults { I.failure_count input.new
+        ≡ failures_after_read result (I.failure_count input.old) }
+    ensures write_faults { O.failure_count output.new
+        ≡ failures_after_write result (O.failure_count output.old) }
+{
+    listing_outcome(run_faults(alloc, input, output, path, warn))
+}
+
+/// Puts a text, and ends the output.
+pub(crate) fn print_text<O: Output>(output: &mut O, text: &str) -> Result<Ending, Refusal>
+    requires writable { O.failure_count output.old < u64.MAX }
+    ensures put { PutText (λ t. t ≡ text.now) (λ r. ⊥) (O.taken output.old) (O.taken output.new)
+        (O.is_ended output.new) result }
+    ensures write_faults { O.failure_count output.new
+        ≡ failures_after_write result (O.failure_count output.old) }
+{
+    print_bytes(output, text.as_bytes())
+}
+
+/// The same of the bytes of a text.
+pub(crate) fn print_bytes<O: Output>(output: &mut O, text: &[u8]) -> Result<Ending, Refusal>
+    requires writable { O.failure_count output.old < u64.MAX }
+    ensures put { PutText (λ t. t ≡ text.now) (λ r. ⊥) (O.taken output.old) (O.taken output.new)
+        (O.is_ended output.new) result }
+    ensures write_faults { O.failure_count output.new
+        ≡ failures_after_write result (O.failure_count output.old) }
+{
+    let mut progress = Progress::new();
+    match put_line(output, &mut progress, text) {
+        Ok(()) => match finish(output) {
+            Ok(()) => Ok(Ending::Done),
+            Err(_) => Err(Refusal::Write),
+        },
+        Err(_) => Err(Refusal::Write),
+    }
+}
+
+// Puts the words of a domain, and ends the output.
+fn print_words<O: Output>(alloc: Global, output: &mut O, domain: &Domain) -> Result<Ending, Refusal>
+    requires writable { O.failure_count output.old < u64.MAX }
+    ensures put { PutText (λ t. t ≡ words (domain_tree domain.now)) (λ r. r ≡ Refusal.Memory)
+        (O.taken output.old) (O.taken output.new) (O.is_ended output.new) result }
+    ensures write_faults { O.failure_count output.new
+        ≡ failures_after_write result (O.failure_count output.old) }
+{
+    match write_words(alloc, domain) {
+        Ok(text) => print_text(output, text.as_str()),
+        Err(_) => Err(Refusal::Memory),
+    }
+}
+
+/// Carries a plan out: puts what it asks for, and ends the output. The input brings the bytes of the plan's file; if the plan
+/// reads none, nothing is pulled. Only `records` puts anything to the output for errors: all faults of a file of hours, if it has
+/// any. If that output fails, a first part of the list stands, and the answer is the same.
+///
+/// `Records` is the file's first fault, or why the input failed; `NoHours` is answered if no opening hours are found for a
+/// domain, and `NoDomain` if a text is no opening hours or the domain of these is too large. `Write` is answered exactly if the
+/// output failed, which has then taken a first part of what was to be put; `Memory` if memory was refused. Before the call, the
+/// failures of each device must be below `u64::MAX`.
+pub fn perform<I: Input, O: Output, E: Output>(
+    alloc: Global,
+    plan: &Plan,
+    input: &mut I,
+    output: &mut O,
+    errors: &mut E,
+) -> Result<Ending, Refusal>
+    requires readable { I.failure_count input.old < u64.MAX }
+    requires writable { O.failure_count output.old < u64.MAX }
+    requires tellable { E.failure_count errors.old < u64.MAX }
+    // What the output took, by the answer; of `records`, what the output for errors took, too.
+    ensures ran { HasRunPlan plan.now (I.to_come input.old) (O.taken output.old) (O.taken output.new)
+        (I.may_fall_silent input.old) (O.is_ended output.new)
+        (record {
+          before = E.taken errors.old;
+          after = E.taken errors.new;
+          failed_before = E.failure_count errors.old;
+          failed_after = E.failure_count errors.new;
+        }) result }
+    // Each failure of the input or of the output is told, and nothing else is told as one.
+    ensures read_faults { I.failure_count input.new
+        ≡ failures_after_read result (I.failure_count input.old) }
+    ensures write_faults { O.failure_count output.new
+        ≡ failures_after_write result (O.failure_count output.old) }
+    // A plan without a file leaves the input as it was, and a plan other than `records` the output for errors.
+    ensures untouched { file_of plan.now ≡ None → input.new ≡ input.old }
+    ensures quiet { IsQuiet plan.now → errors.new ≡ errors.old }
+{
+    match plan {
+        Plan::Now {
+            moment,
+            vehicle,
+            ..
+        } => print_now(alloc, input, output, *moment, *vehicle),
+        Plan::Faults { file, warn } => list_faults(alloc, input, output, file.as_str(), *warn),
+        Plan::Picture { title, subject, .. } => print_picture(
+            alloc,
+            input,
+            output,
+            title.as_str(),
+            *subject,
+        ),
+        Plan::DomainPicture {
+            domain,
+            title,
+            year,
+        } => print_domain(alloc, output, domain, title.as_str(), *year),
+        Plan::Words { domain } => print_words(alloc, output, domain),
+        Plan::HoursOf { domain } => print_hours_of(alloc, output, domain),
+        Plan::DomainOf { text } => print_domain_of(alloc, output, text.as_str()),
+        Plan::Same {
+            first,
+            second,
+            from,
+        } => print_comparison(alloc, output, first, second, *from),
+        Plan::Records { file } => print_records(alloc, input, output, errors, file.as_str()),
+        Plan::Show { text } => print_text(output, text.as_str()),
+    }
+}
