@@ -18,7 +18,7 @@ use crate::answers::{KIND, MEMORY, NO, RANGE, YEAR, YES};
 use crate::faults::{FaultNumbers, numbers_of};
 use crate::handle::{Handle, Thing};
 use crate::horizons::{is_moment, is_second};
-use crate::opening::open;
+use crate::openers::open;
 use gtd_core::{Domain, Fault, Horizon, Sec};
 use gtd_eval::{EverFault, KeptCursor, holds, next_change_ever};
 use gtd_text::read_domain;

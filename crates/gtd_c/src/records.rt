@@ -20,7 +20,7 @@ use crate::faults::{RecordFaultNumbers, numbers_of_record_fault};
 use crate::given::Given;
 use crate::handle::{Handle, Thing};
 use crate::horizons::{direction_of, is_second, is_vehicle};
-use crate::opening::open;
+use crate::openers::open;
 use crate::shared_records::SharedRecords;
 use gtd_core::{Horizon, Sec};
 use gtd_eval::KeptCursor;

@@ -10,7 +10,7 @@ ghost use Rattle.gtd_c.specs.Writing.{IsWritten};
 
 use crate::answers::{KIND, MEMORY, SHORT, YES};
 use crate::handle::{Handle, Thing};
-use crate::opening::open;
+use crate::openers::open;
 use gtd_core::Domain;
 use gtd_text::print_domain;
 use gtd_words::write_words;

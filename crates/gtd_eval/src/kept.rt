@@ -6,7 +6,7 @@ ghost use Rattle.gtd_eval.specs.Kept.{HasKept};
 ghost use Rattle.gtd_eval.specs.facts.RepeatProps.{AreKept-prop};
 
 use crate::cursor::Cursor;
-use crate::keeping::{is_long, kept_period, room_for};
+use crate::kept_period::{is_long, kept_period, room_for};
 use crate::leaf::Leaf;
 use crate::node::Node;
 use crate::repeat::Repeat;

@@ -6,7 +6,7 @@ ghost use Rattle.gtd_eval.specs.Ever.{week};
 ghost use Rattle.gtd_eval.specs.Repeating.{IsPlace, KeepsNone};
 ghost use Rattle.gtd_eval.specs.facts.RepeatProps.{IsPlace-prop, KeepsNone-prop};
 
-use crate::keeping::MOST_KEPT;
+use crate::kept_period::MOST_KEPT;
 use gtd_core::{Horizon, Sec, Span};
 use gtd_recur::Period;
 use std::alloc::{AllocError, Global};

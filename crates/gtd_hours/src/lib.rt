@@ -14,6 +14,7 @@ pub use printer::print_hours;
 pub use translate::{HoursFault, domain_of};
 
 mod clock;
+mod constructors;
 mod cost;
 mod dated;
 mod dates;
@@ -21,7 +22,6 @@ mod days;
 mod hours;
 mod leaf;
 mod level;
-mod making;
 mod numbers;
 mod printer;
 mod spans;

@@ -7,8 +7,8 @@ use Rattle.std.proofs.lemmas.List.{map-append, append-nil}
 use Rattle.gtd_migrate.specs.Migrated.{header_line, migrated, row_line}
 use Rattle.gtd_records.specs.Closing.{Restriction}
 use Rattle.gtd_report.specs.Putting.{Puts}
-use Rattle.gtd_report.specs.declared.putting.Progress.{Progress}
-use Rattle.gtd_report.specs.declared.putting.Stop.{Stop}
+use Rattle.gtd_report.specs.declared.output.Progress.{Progress}
+use Rattle.gtd_report.specs.declared.output.Stop.{Stop}
 use Rattle.gtd_report.specs.facts.PutFacts.{puts_ended, puts_nothing, puts_then}
 use Rattle.gtd_hours_file.specs.PuttingRows.{IsLineOf, PutsRows}
 use Rattle.gtd_hours_file.specs.Translated.{IsTranslated, IsTranslation}

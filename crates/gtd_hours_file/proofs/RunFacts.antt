@@ -6,9 +6,9 @@ use Rattle.gtd_core.specs.Limits.{most_file_bytes}
 use Rattle.gtd_migrate.specs.Migrated.{migrated}
 use Rattle.gtd_report.specs.Putting.{Puts, nothing_put, text_of}
 use Rattle.gtd_report.specs.Run.{TookFirst}
-use Rattle.gtd_report.specs.declared.putting.Progress.{Progress}
-use Rattle.gtd_report.specs.declared.putting.Stop.{Stop}
-use Rattle.gtd_report.specs.declared.putting.Stop.TheVariants.{Output, Memory}
+use Rattle.gtd_report.specs.declared.output.Progress.{Progress}
+use Rattle.gtd_report.specs.declared.output.Stop.{Stop}
+use Rattle.gtd_report.specs.declared.output.Stop.TheVariants.{Output, Memory}
 use Rattle.gtd_hours_file.specs.HoursFile.{AreOfFile}
 use Rattle.gtd_hours_file.specs.Listing.{AreLines}
 use Rattle.gtd_hours_file.specs.PuttingRows.{PutsRows, answer_of}

@@ -5,9 +5,9 @@ use Rattle.gtd_migrate.specs.Migrated.{row_line}
 use Rattle.gtd_hours.specs.Cost.{hours_cost}
 use Rattle.gtd_records.specs.Closing.{Restriction}
 use Rattle.gtd_report.specs.Putting.{Puts}
-use Rattle.gtd_report.specs.declared.putting.Progress.{Progress}
-use Rattle.gtd_report.specs.declared.putting.Stop.{Stop}
-use Rattle.gtd_report.specs.declared.putting.Stop.TheVariants.{Output, Memory}
+use Rattle.gtd_report.specs.declared.output.Progress.{Progress}
+use Rattle.gtd_report.specs.declared.output.Stop.{Stop}
+use Rattle.gtd_report.specs.declared.output.Stop.TheVariants.{Output, Memory}
 use Rattle.gtd_hours_file.specs.Translated.{IsTranslated, IsTranslation}
 use Rattle.gtd_hours_file.specs.declared.row.HoursRow.{HoursRow}
 use Rattle.gtd_hours_file.specs.declared.untranslated.Untranslated.{Untranslated}

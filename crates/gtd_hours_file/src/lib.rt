@@ -12,11 +12,11 @@ pub use untranslated::Untranslated;
 pub use words::HoursFaultText;
 
 mod fault;
+mod fault_list;
 mod file;
 pub mod laws;
-mod listing;
-mod putting;
 mod row;
 mod run;
+mod translation;
 mod untranslated;
 mod words;

@@ -6,10 +6,10 @@ ghost use Rattle.gtd_hours_file.specs.PuttingRows.{answer_of};
 ghost use Rattle.gtd_hours_file.specs.Run.{HasTranslated, IsRefusal, IsStop, failures_after_putting, failures_after_reading};
 
 use crate::fault::HoursFileFault;
+use crate::fault_list::lines_of;
 use crate::file::read_file;
-use crate::listing::lines_of;
-use crate::putting::put_records;
 use crate::row::HoursRow;
+use crate::translation::put_records;
 use crate::untranslated::Untranslated;
 use gtd_core::limits::MOST_FILE_BYTES;
 use gtd_devices::{Input, InputFault, Output, read_whole};

@@ -5,7 +5,7 @@ use Rattle.gtd_hours.specs.declared.hours.Link.TheVariants as link
 use Rattle.gtd_hours.specs.declared.hours.Rule.{Rule}
 use Rattle.gtd_hours_grammar.specs.declared.piece.Piece.{Piece}
 use Rattle.gtd_hours_grammar.specs.declared.piece.Piece.TheVariants as piece
-use Rattle.gtd_hours_text.specs.declared.building.Building.{Building}
+use Rattle.gtd_hours_text.specs.declared.builder.Building.{Building}
 use Rattle.gtd_hours_text.specs.Drafts.{Builds, Drafted, IsAdded, IsBuilding, IsDraft}
 use Rattle.gtd_hours_text.specs.Standing.{AreRules, IsRule, begins_rule, is_one_rule}
 use Rattle.gtd_hours_text.proofs.AddingLemmas.{one_more}

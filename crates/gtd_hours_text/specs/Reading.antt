@@ -4,7 +4,7 @@ use Rattle.gtd_hours_grammar.specs.declared.piece.Piece.{Piece}
 use Rattle.gtd_hours_grammar.specs.Faults.{IsFirstFault, IsHoursText}
 use Rattle.gtd_hours_grammar.specs.declared.reading.Reading.{Reading}
 use Rattle.gtd_hours_grammar.specs.Steps.{IsReading}
-use Rattle.gtd_hours_text.specs.declared.building.Building.{Building}
+use Rattle.gtd_hours_text.specs.declared.builder.Building.{Building}
 use Rattle.gtd_hours_text.specs.Drafts.{IsBuilding}
 use Rattle.gtd_hours_text.specs.declared.reader.TextFault.{TextFault}
 use Rattle.gtd_hours_text.specs.declared.reader.TextFault.TheVariants as fault

@@ -3,8 +3,8 @@
 //! A text is read in two passes: the first finds its first fault and takes no memory, the second builds the hours piece by piece.
 #![tactic(auto)]
 
-mod adding;
-mod building;
+mod additions;
+mod builder;
 mod dates;
 mod draft;
 pub mod laws;

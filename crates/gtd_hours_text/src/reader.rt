@@ -8,7 +8,7 @@ ghost use Rattle.gtd_hours_grammar.specs.Steps.{IsReading, moves_left};
 ghost use Rattle.gtd_hours_text.specs.Reading.{IsFaultOf};
 ghost use Rattle.gtd_hours_text.specs.Standing.{StandsFor};
 
-use crate::building::{hours_of, nothing, with_next};
+use crate::builder::{hours_of, nothing, with_next};
 use gtd_hours::Hours;
 use gtd_hours_grammar::{HoursFault, Piece, Reading, begin, check_hours, next_piece};
 use std::alloc::{AllocError, Global};

@@ -15,9 +15,9 @@ use Rattle.gtd_eval.specs.Membership.{IsNormalOver}
 use Rattle.gtd_report.specs.facts.PutFacts.{puts_cut, puts_ended, puts_text}
 use Rattle.gtd_report.specs.Putting.{Puts, PutsText, answer_of, nothing_put, text_of}
 use Rattle.gtd_report.specs.Run.{TookFirst}
-use Rattle.gtd_report.specs.declared.putting.Progress.{Progress}
-use Rattle.gtd_report.specs.declared.putting.Stop.{Stop}
-use Rattle.gtd_report.specs.declared.putting.Stop.TheVariants.{Output, Memory}
+use Rattle.gtd_report.specs.declared.output.Progress.{Progress}
+use Rattle.gtd_report.specs.declared.output.Stop.{Stop}
+use Rattle.gtd_report.specs.declared.output.Stop.TheVariants.{Output, Memory}
 use Rattle.gtd_spans.specs.Normal.{Holds}
 use Rattle.std.specs.Prelude.{Result, Ok, Err, Option}
 

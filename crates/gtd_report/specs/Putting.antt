@@ -4,10 +4,10 @@ use Rattle.std.specs.Prelude.{◌≡◌, ◌≤◌, ◌+◌, ◌++◌, ℕ, List
 use Rattle.std.specs.Io.KnownBytes.{Appends}
 use Rattle.gtd_report.specs.declared.fault.RunFault.{RunFault}
 use Rattle.gtd_report.specs.declared.fault.RunFault.TheVariants as fault
-use Rattle.gtd_report.specs.declared.putting.Progress.{Progress}
-use Rattle.gtd_report.specs.declared.putting.ShortPut.{ShortPut}
-use Rattle.gtd_report.specs.declared.putting.Stop.{Stop}
-use Rattle.gtd_report.specs.declared.putting.Stop.TheVariants.{Output, Memory}
+use Rattle.gtd_report.specs.declared.output.Progress.{Progress}
+use Rattle.gtd_report.specs.declared.output.ShortPut.{ShortPut}
+use Rattle.gtd_report.specs.declared.output.Stop.{Stop}
+use Rattle.gtd_report.specs.declared.output.Stop.TheVariants.{Output, Memory}
 use Rattle.gtd_records.specs.Closing.{AreElements, Restriction}
 use Rattle.gtd_records.specs.declared.direction.Direction.{Direction}
 use Rattle.gtd_records.specs.declared.direction.Direction.TheVariants.{Positive, Negative}

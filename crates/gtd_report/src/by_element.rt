@@ -7,7 +7,7 @@ ghost use Rattle.gtd_records.specs.declared.direction.Direction.{Direction};
 ghost use Rattle.gtd_report.specs.Putting.{AreElementLines, AreLinesOf, IsByElement, IsOneEach, PutsText, failures_after_stop};
 ghost use Rattle.gtd_report.specs.Putting.{most_direction_bytes, most_direction_lines, nothing_put};
 
-use crate::putting::{Progress, Stop, finish, put_line};
+use crate::output::{Progress, Stop, finish, put_line};
 use gtd_devices::Output;
 use gtd_records::{Direction, Records};
 use std::alloc::Global;

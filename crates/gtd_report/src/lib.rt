@@ -6,12 +6,12 @@
 
 pub use by_element::{DirectionLines, ElementLines, put_both, put_by_element};
 pub use fault::RunFault;
-pub use putting::{Progress, ShortPut, Stop, finish, put_line};
+pub use output::{Progress, ShortPut, Stop, finish, put_line};
 pub use report::{Report, run_report};
 pub use subject::Subject;
 
 mod by_element;
 mod fault;
-mod putting;
+mod output;
 mod report;
 mod subject;

@@ -9,7 +9,7 @@ ghost use Rattle.gtd_report.specs.Run.{AcceptedFilesArePut, HasRun, IsLineCount,
 ghost use Rattle.gtd_report.specs.Run.{failures_after_read, failures_after_write, IsAccepted, IsVehicleInRange, IsYearInRange};
 
 use crate::fault::RunFault;
-use crate::putting::{Progress, Stop};
+use crate::output::{Progress, Stop};
 use crate::subject::{Subject, is_accepted, is_vehicle_in_range, is_year_in_range};
 use gtd_devices::{Input, Output};
 use gtd_records::{RecordFault, Records, read_records};

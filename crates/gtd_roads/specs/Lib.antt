@@ -36,7 +36,7 @@ pub use Rattle.gtd_report.specs.Putting
 pub use Rattle.gtd_report.specs.Run
 pub use Rattle.gtd_report.specs.RunFaultNames
 pub use Rattle.gtd_report.specs.declared.fault.RunFault
-pub use Rattle.gtd_report.specs.declared.putting.Stop
+pub use Rattle.gtd_report.specs.declared.output.Stop
 pub use Rattle.gtd_report.specs.declared.subject.Subject
 pub use Rattle.gtd_schedule.specs.Schedule
 pub use Rattle.gtd_schedule.specs.Shown

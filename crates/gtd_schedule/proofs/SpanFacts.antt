@@ -3,8 +3,8 @@ use Rattle.std.proofs.Common.{◌≡◌, List, [], ◌∷◌, Option, ℕ}
 use Rattle.std.specs.Prelude.{Result, Ok, Err}
 use Rattle.gtd_report.specs.facts.PutFacts.{puts_cut, puts_none, puts_then}
 use Rattle.gtd_report.specs.Putting.{Puts}
-use Rattle.gtd_report.specs.declared.putting.Progress.{Progress}
-use Rattle.gtd_report.specs.declared.putting.Stop.{Stop}
+use Rattle.gtd_report.specs.declared.output.Progress.{Progress}
+use Rattle.gtd_report.specs.declared.output.Stop.{Stop}
 
 -- What is put of the lines that are left makes what is put of all.
 abbrev pub Carries : Option (List ℕ) → Progress → List (List ℕ) → Option (List ℕ) → Progress → List (List ℕ) → Type 0

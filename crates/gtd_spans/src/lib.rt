@@ -9,14 +9,14 @@
 //! five list operations take memory.
 #![tactic(auto)]
 
-pub use counting::ByDay;
+pub use by_day::ByDay;
 pub use list::{Listed, SpanList};
 pub use merge::Ask;
 pub use operations::{complement, meet, minus, same, union, within};
 pub use source::{Both, Outside, SpanSource, Unite, Without, next_change};
 pub use sweep::Sweep;
 
-mod counting;
+mod by_day;
 pub mod laws;
 mod list;
 mod merge;

@@ -6,17 +6,17 @@
 mod arguments;
 mod commands;
 pub mod laws;
-mod lending;
-mod performing;
-mod planning;
+mod loan;
+mod performer;
+mod planner;
 mod plans;
-mod printing;
+mod printer;
 mod refusal;
-mod running;
+mod runner;
 mod words;
-mod writing;
+mod writer;
 
-pub use performing::perform;
-pub use planning::plan;
+pub use performer::perform;
+pub use planner::plan;
 pub use plans::{Moment, MomentInHorizon, Plan};
 pub use refusal::Refusal;

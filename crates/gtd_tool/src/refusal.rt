@@ -5,7 +5,7 @@ ghost use Rattle.std.specs.Io.KnownBytes.{Appends};
 ghost use Rattle.gtd_tool.specs.Refusals.{records_status, refusal_line, status_of};
 ghost use Rattle.gtd_tool.specs.Writing.{AppendsPart};
 
-use crate::writing::put_texts;
+use crate::writer::put_texts;
 use gtd_calendar::StampFault;
 use gtd_core::{HorizonFault, TextFault};
 use gtd_roads::RecordFault;

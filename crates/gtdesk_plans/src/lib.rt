@@ -6,11 +6,11 @@
 
 mod command_line;
 mod given;
-mod planning;
+mod planner;
 mod plans;
 mod refusal;
 mod words;
 
-pub use planning::plan;
+pub use planner::plan;
 pub use plans::{Moment, PictureSubject, Plan};
 pub use refusal::{NoDomain, PairFault, Refusal, WordFault};

@@ -8,7 +8,7 @@ use Rattle.gtd_report.specs.Putting.{failures_after_line}
 use Rattle.gtd_report.specs.Run as runs
 use Rattle.gtd_report.specs.declared.fault.RunFault.{RunFault}
 use Rattle.gtd_report.specs.declared.fault.RunFault.TheVariants as run
-use Rattle.gtd_report.specs.declared.putting.ShortPut.{ShortPut}
+use Rattle.gtd_report.specs.declared.output.ShortPut.{ShortPut}
 use Rattle.gtd_faults.specs.Run as faults
 use Rattle.gtd_faults.specs.declared.list_fault.ListFault.{ListFault}
 use Rattle.gtd_faults.specs.declared.list_fault.ListFault.TheVariants as list

@@ -6,7 +6,7 @@ ghost use Rattle.gtdesk_tool.specs.Hours.{IsHoursLine};
 ghost use Rattle.gtdesk_tool.specs.Running.{IsHoursRefusal, PutText, failures_after_write};
 
 use crate::ending::Ending;
-use crate::performing::print_text;
+use crate::performer::print_text;
 use gtd_core::Domain;
 use gtd_devices::Output;
 use gtd_hours::{Hours, print_hours};

@@ -12,7 +12,7 @@ ghost use Rattle.gtdesk_tool.specs.Hours.{IsDomainLine};
 ghost use Rattle.gtdesk_tool.specs.Running.{IsTextRefusal, PutText, failures_after_write};
 
 use crate::ending::Ending;
-use crate::performing::print_text;
+use crate::performer::print_text;
 use gtd_core::Domain;
 use gtd_devices::Output;
 use gtd_hours::{Hours, HoursFault, domain_of};

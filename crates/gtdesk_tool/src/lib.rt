@@ -8,7 +8,7 @@ mod ending;
 mod hours_domain;
 mod hours_records;
 mod line;
-mod performing;
+mod performer;
 mod picture;
 mod same;
 
@@ -17,4 +17,4 @@ pub use gtdesk_plans::{
     Moment, NoDomain, PairFault, PictureSubject, Plan, Refusal, WordFault, plan,
 };
 pub use line::RefusalLine;
-pub use performing::perform;
+pub use performer::perform;

@@ -4,7 +4,7 @@ ghost use Rattle.std.specs.Prelude.{◌≡◌, ◌<◌};
 ghost use Rattle.gtdesk_tool.specs.Running.{RanDomainPicture, RanPicture, failures_after_read, failures_after_write};
 
 use crate::ending::Ending;
-use crate::performing::outcome;
+use crate::performer::outcome;
 use gtd_core::Domain;
 use gtd_devices::{Input, Output};
 use gtd_picture::{put_domain_picture, run_picture};

@@ -8,7 +8,7 @@ ghost use Rattle.gtdesk_tool.specs.Comparing.{side_word, with_ending};
 ghost use Rattle.gtdesk_tool.specs.Running.{failures_after_write};
 
 use crate::ending::Ending;
-use crate::performing::print_bytes;
+use crate::performer::print_bytes;
 use gtd_calendar::write_stamp;
 use gtd_core::Domain;
 use gtd_devices::Output;

@@ -15,8 +15,8 @@ use Rattle.gtd_records.specs.declared.direction.Direction.{Direction}
 use Rattle.gtd_records.specs.declared.direction.Direction.TheVariants.{Positive, Negative}
 use Rattle.gtd_report.specs.facts.TextFacts.{Then, texts_as, texts_cut, texts_then}
 use Rattle.gtd_report.specs.Putting.{AreElementLines, AreLinesOf, IsByElement, IsOne, IsOneEach, PutsText}
-use Rattle.gtd_report.specs.declared.putting.Progress.{Progress}
-use Rattle.gtd_report.specs.declared.putting.Stop.{Stop}
+use Rattle.gtd_report.specs.declared.output.Progress.{Progress}
+use Rattle.gtd_report.specs.declared.output.Stop.{Stop}
 
 -- restrictions name one list of elements
 pub one_elements : (found : List Restriction) (a b : List ℕ) → AreElements found a → AreElements found b → a ≡ b

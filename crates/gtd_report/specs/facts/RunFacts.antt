@@ -11,9 +11,9 @@ use Rattle.gtd_report.specs.Run.{AcceptedFilesArePut, HasRun, IsLineCount, PutsW
 use Rattle.gtd_report.specs.Run.{TookFirstOf, UnacceptedFilesPutNothing}
 use Rattle.gtd_report.specs.declared.fault.RunFault.{RunFault}
 use Rattle.gtd_report.specs.declared.fault.RunFault.TheVariants as fault
-use Rattle.gtd_report.specs.declared.putting.Progress.{Progress}
-use Rattle.gtd_report.specs.declared.putting.Stop.{Stop}
-use Rattle.gtd_report.specs.declared.putting.Stop.TheVariants.{Output, Memory}
+use Rattle.gtd_report.specs.declared.output.Progress.{Progress}
+use Rattle.gtd_report.specs.declared.output.Stop.{Stop}
+use Rattle.gtd_report.specs.declared.output.Stop.TheVariants.{Output, Memory}
 
 -- the first bytes, counted from nothing
 took_first : (x : Stop) (a b : Option (List ℕ)) (q : Progress) (lines : List (List ℕ)) → Puts (Err x) a b nothing_put q lines

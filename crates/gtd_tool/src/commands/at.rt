@@ -9,7 +9,7 @@ ghost use Rattle.gtd_tool.specs.Plans.{IsReadTo};
 ghost use Rattle.gtd_tool.specs.Printed.{AppendsLine, AppendsPartOfLine};
 
 use crate::plans::{Moment, Plan};
-use crate::printing::{print_texts, state_of};
+use crate::printer::{print_texts, state_of};
 use crate::refusal::Refusal;
 use crate::words::domain_and_moment;
 use gtd_core::Domain;

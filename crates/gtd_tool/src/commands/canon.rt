@@ -10,7 +10,7 @@ ghost use Rattle.gtd_tool.specs.Plans.{IsReadTo};
 ghost use Rattle.gtd_tool.specs.Printed.{AppendsLine, IsAnswer};
 
 use crate::plans::Plan;
-use crate::printing::print_texts;
+use crate::printer::print_texts;
 use crate::refusal::Refusal;
 use crate::words::domain_of;
 use gtd_core::Domain;

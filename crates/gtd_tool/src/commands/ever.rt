@@ -11,7 +11,7 @@ ghost use Rattle.gtd_tool.specs.Plans.{IsReadTo};
 ghost use Rattle.gtd_tool.specs.Printed.{AppendsLine, IsAnswer};
 
 use crate::plans::{Moment, Plan};
-use crate::printing::print_change;
+use crate::printer::print_change;
 use crate::refusal::Refusal;
 use crate::words::domain_and_moment;
 use gtd_core::Domain;

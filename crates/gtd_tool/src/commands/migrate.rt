@@ -7,10 +7,10 @@ ghost use Rattle.gtd_tool.specs.Commands.Migrate.{reading};
 ghost use Rattle.gtd_tool.specs.Plans.{IsReadTo};
 ghost use Rattle.gtd_tool.specs.Running.{Ran};
 
-use crate::lending::Lent;
+use crate::loan::Lent;
 use crate::plans::Plan;
 use crate::refusal::Refusal;
-use crate::running::outcome;
+use crate::runner::outcome;
 use crate::words::owned;
 use gtd_roads::{HostOut, Input, run_migrate};
 use std::alloc::Global;

@@ -12,7 +12,7 @@ ghost use Rattle.gtd_tool.specs.Plans.{IsReadTo};
 ghost use Rattle.gtd_tool.specs.Printed.{AppendsLine, IsAnswer};
 
 use crate::plans::{MomentInHorizon, Plan};
-use crate::printing::print_change;
+use crate::printer::print_change;
 use crate::refusal::Refusal;
 use crate::words::{date_of, domain_and_moment, in_horizon};
 use gtd_core::Domain;

@@ -7,10 +7,10 @@ ghost use Rattle.gtd_tool.specs.Commands.Schedule.{reading};
 ghost use Rattle.gtd_tool.specs.Plans.{IsReadTo};
 ghost use Rattle.gtd_tool.specs.Running.{Ran};
 
-use crate::lending::Lent;
+use crate::loan::Lent;
 use crate::plans::Plan;
 use crate::refusal::Refusal;
-use crate::running::outcome;
+use crate::runner::outcome;
 use crate::words::{days_in, owned, vehicle_in};
 use gtd_roads::{Horizon, HostOut, Input, run_schedule};
 use std::alloc::Global;

@@ -8,10 +8,10 @@ ghost use Rattle.gtd_tool.specs.Plans.{IsReadTo};
 ghost use Rattle.gtd_tool.specs.Refusals.{IsStopped};
 ghost use Rattle.gtd_tool.specs.Running.{Ran};
 
-use crate::lending::Lent;
+use crate::loan::Lent;
 use crate::plans::Plan;
 use crate::refusal::Refusal;
-use crate::running::outcome;
+use crate::runner::outcome;
 use crate::words::{direction_in, number_in, owned, vehicle_in, year_in};
 use gtd_roads::{HostOut, Input, YearTable, run_year};
 use std::alloc::Global;

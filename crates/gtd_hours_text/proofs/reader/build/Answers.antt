@@ -4,7 +4,7 @@ use Rattle.gtd_hours.specs.declared.hours.Hours.{Hours}
 use Rattle.gtd_hours.specs.declared.hours.Link.TheVariants as link
 use Rattle.gtd_hours_grammar.specs.declared.piece.Piece.{Piece}
 use Rattle.gtd_hours_grammar.specs.Faults.{IsHoursText}
-use Rattle.gtd_hours_text.specs.declared.building.Building.{Building}
+use Rattle.gtd_hours_text.specs.declared.builder.Building.{Building}
 use Rattle.gtd_hours_text.specs.Drafts.{IsBuilding}
 use Rattle.gtd_hours_text.specs.Standing.{AreRules, StandsFor}
 use Rattle.gtd_hours_text.proofs.reader.build.Goals as goal

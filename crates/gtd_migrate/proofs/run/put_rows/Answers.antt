@@ -2,7 +2,7 @@ use Rattle.std.proofs.Common.{◌≡◌, ◌∙◌, sym, ap, arith, suc, [], ◌
 use Rattle.std.specs.Prelude.{Ok, Err}
 use Rattle.std.proofs.lemmas.Result.{err_from_is_err_and}
 use Rattle.gtd_report.specs.facts.PutFacts.{one_put, one_short, puts_cut, puts_nothing, puts_then}
-use Rattle.gtd_report.specs.declared.putting.Progress.{Progress}
+use Rattle.gtd_report.specs.declared.output.Progress.{Progress}
 use Rattle.gtd_migrate.specs.Migrated.{row_line}
 use Rattle.gtd_migrate.proofs.RowsFacts.{more_rows, rows_left, rows_split}
 use Rattle.gtd_migrate.proofs.run.put_rows.Goals as goal

@@ -7,7 +7,7 @@ use Rattle.gtd_calendar.specs.facts.Signed.{signed_arith}
 use Rattle.gtd_spans.specs.Normal.{Holds}
 use Rattle.gtd_report.specs.facts.PutFacts.{one_put, one_short, puts_cut, puts_none, puts_nothing, puts_then}
 use Rattle.gtd_report.specs.Putting.{Puts}
-use Rattle.gtd_report.specs.declared.putting.Progress.{Progress}
+use Rattle.gtd_report.specs.declared.output.Progress.{Progress}
 use Rattle.gtd_picture.specs.Picture.{AreColumns, Rect, day_line, day_lines}
 use Rattle.gtd_picture.proofs.ColumnFacts.{day_lines-append, length-columns, no_columns, one_more, whole_picture}
 use Rattle.gtd_picture.proofs.TextFacts.{column_short, day_short, days_short}

@@ -6,7 +6,7 @@ use Rattle.gtd_calendar.specs.facts.YearDays.{year_length-few}
 use Rattle.gtd_core.specs.Seconds.{Interval}
 use Rattle.gtd_report.specs.facts.PutFacts.{puts_cut, puts_then}
 use Rattle.gtd_report.specs.Putting.{Puts}
-use Rattle.gtd_report.specs.declared.putting.Progress.{Progress}
+use Rattle.gtd_report.specs.declared.output.Progress.{Progress}
 use Rattle.gtd_picture.specs.Picture.{day_lines, foot_text, head_text}
 use Rattle.gtd_picture.proofs.PictureFacts.{columns_are, cut_head, put_picture}
 use Rattle.gtd_picture.proofs.TextFacts.{days_short}

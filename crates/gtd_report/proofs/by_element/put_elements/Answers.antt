@@ -8,8 +8,8 @@ use Rattle.gtd_report.specs.facts.ElementFacts.{one_element_lines}
 use Rattle.gtd_report.specs.facts.PutFacts.{puts_none}
 use Rattle.gtd_report.specs.facts.TextFacts.{CarriesText, texts_cut, texts_then}
 use Rattle.gtd_report.specs.Putting.{AreElementLines, AreLinesOf, IsOneEach, PutsText}
-use Rattle.gtd_report.specs.declared.putting.Progress.{Progress}
-use Rattle.gtd_report.specs.declared.putting.Stop.{Stop}
+use Rattle.gtd_report.specs.declared.output.Progress.{Progress}
+use Rattle.gtd_report.specs.declared.output.Stop.{Stop}
 use Rattle.gtd_report.proofs.by_element.put_elements.Goals as goal
 
 module _ (each : ℕ → Direction → List (List ℕ) → Type 0) (elements : List ℕ) (i : ℕ) (a b : Option (List ℕ)) (p q : Progress)

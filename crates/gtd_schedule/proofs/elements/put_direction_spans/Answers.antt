@@ -5,8 +5,8 @@ use Rattle.gtd_core.specs.Seconds.{Interval}
 use Rattle.gtd_records.specs.Closing.{IsOpen}
 use Rattle.gtd_records.specs.declared.direction.Direction.{Direction}
 use Rattle.gtd_report.specs.Putting.{Puts}
-use Rattle.gtd_report.specs.declared.putting.Progress.{Progress}
-use Rattle.gtd_report.specs.declared.putting.Stop.{Stop}
+use Rattle.gtd_report.specs.declared.output.Progress.{Progress}
+use Rattle.gtd_report.specs.declared.output.Stop.{Stop}
 use Rattle.gtd_report.specs.Putting.{most_direction_bytes, most_direction_lines}
 use Rattle.gtd_schedule.specs.Lines.{span_line}
 use Rattle.gtd_schedule.specs.Schedule.{AreLines}

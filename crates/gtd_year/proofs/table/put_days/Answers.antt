@@ -9,7 +9,7 @@ use Rattle.gtd_spans.specs.Normal.{Holds}
 use Rattle.gtd_spans.specs.facts.CountFacts.{count-few}
 use Rattle.gtd_report.specs.facts.PutFacts.{one_put, one_short, puts_cut, puts_none, puts_nothing, puts_then}
 use Rattle.gtd_report.specs.Putting.{Puts}
-use Rattle.gtd_report.specs.declared.putting.Progress.{Progress}
+use Rattle.gtd_report.specs.declared.output.Progress.{Progress}
 use Rattle.gtd_year.specs.YearTable.{AreDayLines, day_line}
 use Rattle.gtd_year.proofs.DayFacts.{length-day_line, length-days, no_days, one_more, whole_table}
 use Rattle.gtd_year.proofs.table.put_days.Goals as goal

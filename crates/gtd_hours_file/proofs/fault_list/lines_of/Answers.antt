@@ -1,0 +1,23 @@
+use Rattle.std.proofs.Common.{◌≡◌, ◌+◌, arith, ◌∷◌, ◌++◌, [], take, get_or, string_bytes}
+use Rattle.std.proofs.lemmas.List.{take_more}
+use Rattle.gtd_hours_file.specs.declared.fault.HoursFileFault.TheVariants as fault
+use Rattle.gtd_hours_file.proofs.ListFacts.{lines_more}
+use Rattle.gtd_hours_file.proofs.fault_list.lines_of.Goals as goal
+
+pub loop-fault-preserved : goal.loop-fault-preserved
+loop-fault-preserved c =
+    let i = c.loop-fault.fault-index in
+    let bytes = c.args.bytes.now in
+    let here = get_or c.args.faults.now i fault.TooLarge in
+    let next : take (i + 1) c.args.faults.now ≡ take i c.args.faults.now ++ here ∷ [] =
+    take_more c.args.faults.now i fault.TooLarge (omega arith) in
+    let so_far = c.loop-fault.invariant in
+    let at = c.in_ok-line.ensures.at bytes so_far.1 so_far.2 in
+    let on = c.in_ok-line.ensures.line bytes so_far.1 so_far.2 in
+    let below = c.below_fault-below.ensures.below at.0 at.2 (rw c.row_of.ensures at at.1) in (
+      rw (next, c.in_ok-push_fault.ensures)
+          (lines_more c.args.path.now bytes (take i c.args.faults.now) here (string_bytes c.loop-fault.text) c.in_ok-line.line
+          c.below_fault-below.result (rw c.row_of.ensures at on) below so_far.0),
+      at.0,
+      at.2,
+    )

@@ -1,5 +1,0 @@
-use Rattle.std.proofs.Common.{refl}
-use Rattle.gtd_hours_file.proofs.putting.domain_in.Goals as goal
-
-pub returns-in-Ok : goal.returns-in-Ok
-returns-in-Ok c = rw c.in-Some.is (c.in-Ok.domain, refl, c.in-Ok.ensures)

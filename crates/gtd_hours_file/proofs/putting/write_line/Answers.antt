@@ -1,8 +1,0 @@
-use Rattle.std.proofs.Common.{refl}
-use Rattle.gtd_hours_file.proofs.PutFacts.{is_line}
-use Rattle.gtd_hours_file.proofs.putting.write_line.Goals as goal
-
-pub returns-clause-line : goal.returns-clause-line
-returns-clause-line c =
-    is_line c.write_row.result c.args.row.now _ c.write_row.new.line.items
-    (record { element = refl; closed = refl; vehicles = refl; domain = c.in_ok-domain.ensures }) c.write_row.ensures.text

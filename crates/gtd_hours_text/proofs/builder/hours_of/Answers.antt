@@ -1,0 +1,5 @@
+use Rattle.gtd_hours_text.proofs.BuildingLemmas.{hours_built}
+use Rattle.gtd_hours_text.proofs.builder.hours_of.Goals as goal
+
+pub returns : goal.returns
+returns c = hours_built c.args.so_far c.in_ok-rule.rule c.push.new.self.items c.in_ok-rule.ensures c.in_ok-push.ensures.items

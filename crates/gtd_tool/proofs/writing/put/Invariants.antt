@@ -1,5 +1,0 @@
-use Rattle.gtd_tool.specs.Writing.{TakesBefore}
-use Rattle.gtd_tool.proofs.writing.put.Given as goal
-
-abbrev pub invariant-loop : goal.invariant-loop
-invariant-loop g l = TakesBefore (g.W.Write.contents l.initial.out) (g.W.Write.contents l.out) l.bytes l.rest
