@@ -22,8 +22,8 @@ use Rattle.gtd_hours_grammar.specs.Runs.{Runs, is_after}
 use Rattle.gtd_hours_grammar.specs.Steps.{GivesTo, IsMove, IsReading, end_or_fault, ended, kind_of}
 use Rattle.gtd_hours_grammar.specs.facts.RunSteps.{run_end_refused, run_refused}
 use Rattle.gtd_hours_grammar.specs.facts.FollowRuns.{follow_runs}
-use Rattle.gtd_hours_grammar.specs.facts.NoNext.{no_number, no_time}
-use Rattle.gtd_hours_grammar.specs.facts.Endings.{ending, number_ending, time_ending}
+use Rattle.gtd_hours_grammar.proofs.NoNext.{no_number, no_time}
+use Rattle.gtd_hours_grammar.proofs.Endings.{ending, number_ending, time_ending}
 use Rattle.gtd_hours_grammar.proofs.ReadLemmas.{known, none_later, same_next, split_later, tails}
 
 -- ---- the end

@@ -1,3 +1,6 @@
+pub mod NoNext
+pub mod EndingsOfParts
+pub mod Endings
 pub mod EndLemmas
 pub mod GoodItems
 pub mod GoodLemmas

@@ -1,6 +1,5 @@
 pub mod RunSteps
 pub mod OneRun
-pub mod NoNext
 pub mod FollowBits
 pub mod FollowSteps
 pub mod FollowWeeks
@@ -8,7 +7,5 @@ pub mod FollowYears
 pub mod FollowWeekdays
 pub mod FollowDates
 pub mod FollowRuns
-pub mod EndingsOfParts
-pub mod Endings
 pub mod FirstFault
 pub mod OneReading

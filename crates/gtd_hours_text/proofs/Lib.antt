@@ -1,3 +1,7 @@
+pub mod SameSelectors
+pub mod SameRules
+pub mod SameParts
+pub mod OneMeaning
 pub mod DraftLemmas
 pub mod AddingLemmas
 pub mod BuildingLemmas

@@ -4,4 +4,3 @@ pub mod Dates
 pub mod Drafts
 pub mod Reading
 pub use Rattle.gtd_hours_grammar.specs.Faults
-pub mod facts

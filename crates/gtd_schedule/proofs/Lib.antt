@@ -1,3 +1,7 @@
+pub mod SpansShown
+pub mod SpanLines
+pub mod SomeSchedule
+pub mod ScheduleFacts
 pub mod SpanFacts
 pub mod MonthDays
 pub mod Pairs

@@ -31,7 +31,7 @@ use Rattle.gtd_schedule.specs.facts.LineFacts.{length-line}
 use Rattle.gtd_report.specs.Putting.{AreLinesOf}
 use Rattle.gtd_schedule.specs.Lines.{span_line}
 use Rattle.gtd_schedule.specs.Schedule.{AreLines, IsSchedule, header_line}
-use Rattle.gtd_schedule.specs.facts.SpanLines.{lines_only}
+use Rattle.gtd_schedule.proofs.SpanLines.{lines_only}
 
 -- the number of a column is of ten digits at most
 few_digits : (text : List ℕ) (n : ℕ) → number_of text ≡ Some n → n < 10 ^ 10

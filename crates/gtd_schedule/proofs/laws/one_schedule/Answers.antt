@@ -1,4 +1,4 @@
-use Rattle.gtd_schedule.specs.facts.ScheduleFacts.{one_schedule}
+use Rattle.gtd_schedule.proofs.ScheduleFacts.{one_schedule}
 use Rattle.gtd_schedule.proofs.laws.one_schedule.Goals as goal
 
 pub returns : goal.returns

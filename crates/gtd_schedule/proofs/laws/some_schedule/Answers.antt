@@ -1,4 +1,4 @@
-use Rattle.gtd_schedule.specs.facts.SomeSchedule.{some_schedule}
+use Rattle.gtd_schedule.proofs.SomeSchedule.{some_schedule}
 use Rattle.gtd_schedule.proofs.laws.some_schedule.Goals as goal
 
 pub returns : goal.returns

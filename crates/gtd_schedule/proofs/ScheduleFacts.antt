@@ -8,7 +8,7 @@ use Rattle.gtd_records.specs.declared.direction.Direction.{Direction}
 use Rattle.gtd_report.specs.facts.ElementFacts.{one_by_element}
 use Rattle.gtd_report.specs.Putting.{IsOne}
 use Rattle.gtd_schedule.specs.Schedule.{AreLines, AreSpanLines, IsSchedule, header_line}
-use Rattle.gtd_schedule.specs.facts.SpanLines.{lines_only}
+use Rattle.gtd_schedule.proofs.SpanLines.{lines_only}
 use Rattle.gtd_spans.specs.facts.NormalFor.{one-normal-list}
 
 module _ (found : List Restriction) (vehicle : ℕ) (horizon : Horizon) where

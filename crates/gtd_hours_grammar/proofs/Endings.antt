@@ -22,11 +22,11 @@ use Rattle.gtd_hours_grammar.specs.Grammar.{time, unfinished}
 use Rattle.gtd_hours_grammar.specs.Pieces.{IsDay, IsLastDay, IsRange, IsWrittenDate}
 use Rattle.gtd_hours_grammar.specs.Places.{From, Rest}
 use Rattle.gtd_hours_grammar.specs.Sound.{IsLastYear, IsPlace, takes_number, takes_time}
-use Rattle.gtd_hours_grammar.specs.facts.EndingsOfParts.{a_date, a_month, a_month_day, a_year, after_number, another, behind}
-use Rattle.gtd_hours_grammar.specs.facts.EndingsOfParts.{bracket_closed, dated_after, digit_one, done, first_day, first_of}
-use Rattle.gtd_hours_grammar.specs.facts.EndingsOfParts.{first_of-is, in_brackets, midnight, midnight-is, opened, other_rule}
-use Rattle.gtd_hours_grammar.specs.facts.EndingsOfParts.{some_date, some_date-is, some_times, some_year, some_year-is, then}
-use Rattle.gtd_hours_grammar.specs.facts.EndingsOfParts.{times_after, to_same}
+use Rattle.gtd_hours_grammar.proofs.EndingsOfParts.{a_date, a_month, a_month_day, a_year, after_number, another, behind}
+use Rattle.gtd_hours_grammar.proofs.EndingsOfParts.{bracket_closed, dated_after, digit_one, done, first_day, first_of}
+use Rattle.gtd_hours_grammar.proofs.EndingsOfParts.{first_of-is, in_brackets, midnight, midnight-is, opened, other_rule}
+use Rattle.gtd_hours_grammar.proofs.EndingsOfParts.{some_date, some_date-is, some_times, some_year, some_year-is, then}
+use Rattle.gtd_hours_grammar.proofs.EndingsOfParts.{times_after, to_same}
 
 -- a text that goes on from a place
 pub record Ending (at : Place) : Type 0 where

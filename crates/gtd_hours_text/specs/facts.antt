@@ -1,4 +1,0 @@
-pub mod SameParts
-pub mod SameSelectors
-pub mod SameRules
-pub mod OneMeaning
