@@ -11,6 +11,7 @@ import subprocess
 import sys
 
 import hours
+from checks import Checks
 
 TOP = os.path.dirname(os.path.dirname(os.path.abspath(__file__)))
 DESK = os.environ.get("GTDESK", os.path.join(TOP, "crates", "gtdesk", "out", "gtdesk"))
@@ -23,16 +24,7 @@ FEWEST = 40
 OPERATORS = {"+": "_or_", "*": "_and_", "-": "_except_"}
 WORDS_ROW = re.compile(r'\| `([^`]+)` \|.*<img src="pictures/words/.*\n')
 
-passed = failed = 0
-
-
-def check(holds, what):
-    global passed, failed
-    if holds:
-        passed += 1
-    else:
-        failed += 1
-        print(f"FAILED {what}")
+check = Checks("gallery")
 
 
 def output_of(*words):
@@ -99,8 +91,7 @@ def main():
         check(os.path.exists(path) and open(path, "rb").read() == picture, f"the picture {name}")
     there = {f"{folder}/{name}" for folder in ("words", "hours") for name in os.listdir(os.path.join(PICTURES, folder))}
     check(there == set(pictures), "one picture for each domain and text, and no other")
-    print(f"gallery: {passed} passed, {failed} failed")
-    return failed != 0
+    return check.end()
 
 
 if __name__ == "__main__":

@@ -15,6 +15,8 @@ import subprocess
 import sys
 import tempfile
 
+from checks import Checks
+
 TOP = os.path.dirname(os.path.dirname(os.path.abspath(__file__)))
 GTD = os.path.join(TOP, "crates", "gtd", "out", "gtd")
 DESK = os.path.join(TOP, "crates", "gtdesk", "out", "gtdesk")
@@ -42,16 +44,7 @@ DAMAGES = [
     ("a brace for a parenthesis", 3, lambda text: text.replace(")", "}", 1)),
 ]
 
-passed = failed = 0
-
-
-def check(holds, what):
-    global passed, failed
-    if holds:
-        passed += 1
-    else:
-        failed += 1
-        print(f"FAILED {what}")
+check = Checks("mend")
 
 
 def run(program, *words):
@@ -149,8 +142,7 @@ def main():
     with tempfile.TemporaryDirectory() as room:
         for seed in [int(word) for word in sys.argv[1:]] or [1, 2]:
             round_of(room, seed)
-    print(f"mend: {passed} passed, {failed} failed")
-    return failed != 0
+    return check.end()
 
 
 if __name__ == "__main__":

@@ -20,6 +20,7 @@ import tempfile
 import time
 
 from browser import Browser, Failed, served
+from checks import Checks
 from page_views import VIEWS, kept_views, write_view
 
 TOP = os.path.dirname(os.path.dirname(os.path.abspath(__file__)))
@@ -37,16 +38,7 @@ MEMORY64 = 133  # the first version of Chromium with it
 NAMED = {"button", "link", "textbox", "spinbutton", "checkbox", "combobox", "Date", "DateTime", "InputTime", "dialog",
          "navigation", "image", "img", "table", "searchbox"}
 
-passed = failed = 0
-
-
-def check(holds, what):
-    global passed, failed
-    if holds:
-        passed += 1
-    else:
-        failed += 1
-        print(f"FAILED {what}")
+check = Checks("page")
 
 
 def same(found, wanted, what):
@@ -656,8 +648,7 @@ def main():
                     check(False, f"the page stopped: {error}")
         finally:
             browser.close()
-    print(f"page: {passed} passed, {failed} failed")
-    return failed != 0
+    return check.end()
 
 
 if __name__ == "__main__":

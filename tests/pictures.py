@@ -18,6 +18,7 @@ import sys
 import tempfile
 import xml.etree.ElementTree as tree
 
+from checks import Checks
 from fuzz import Maker
 
 TOP = os.path.dirname(os.path.dirname(os.path.abspath(__file__)))
@@ -44,16 +45,7 @@ EXAMPLE_DOMAINS = [
 ]
 RANDOM_PICTURES, RANDOM_DOMAINS = 6, 6
 
-passed = failed = 0
-
-
-def check(holds, what):
-    global passed, failed
-    if holds:
-        passed += 1
-    else:
-        failed += 1
-        print(f"FAILED {what}")
+check = Checks("pictures")
 
 
 def output_of(*words):
@@ -298,8 +290,7 @@ def main():
             for number, one in enumerate(made):
                 check_pixels(one, image, HEIGHT * number, page, f"Chromium, {page}", choose)
         check_contrast()
-    print(f"pictures: {passed} passed, {failed} failed")
-    return failed != 0
+    return check.end()
 
 
 if __name__ == "__main__":

@@ -60,6 +60,7 @@ extension=$out/mod_gtd.so
 nm -D --defined-only "$extension" | sed 's/.* //' > "$room/said"
 if [ "$(cat "$room/said")" = sqlite3_modgtd_init ]; then passed=$((passed + 1)); else fail 'what the extension exports'; fi
 
+export PYTHONPATH=$top/tests
 "$tests/cases.py" "$room/cases" "${1:-1000}" || exit 1
 "$tests/cases.py" "$room/few" "$((${1:-1000} / 10))" 2 || exit 1
 counted 'sqlite' "$tests/sqlite.py" "$extension" "$room/cases"

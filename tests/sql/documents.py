@@ -11,19 +11,11 @@ import subprocess
 import sys
 import tempfile
 
+from checks import Checks
 from server import Server
 
 TOP = os.path.dirname(os.path.dirname(os.path.dirname(os.path.abspath(__file__))))
-passed = failed = 0
-
-
-def check(holds, what):
-    global passed, failed
-    if holds:
-        passed += 1
-    else:
-        failed += 1
-        print(f"FAILED {what}")
+check = Checks("documents")
 
 
 def blocks(section):
@@ -77,8 +69,7 @@ def main():
     try_sqlite()
     try_geopackage()
     try_postgres()
-    print(f"documents: {passed} passed, {failed} failed")
-    return failed != 0
+    return check.end()
 
 
 if __name__ == "__main__":

@@ -12,26 +12,15 @@ import sys
 import tempfile
 import time
 
-TESTS = os.path.dirname(os.path.dirname(os.path.abspath(__file__)))
-TOP = os.path.dirname(TESTS)
-sys.path.insert(0, TESTS)
+import model
+from checks import Checks
 
-import model  # noqa: E402
-
+TOP = os.path.dirname(os.path.dirname(os.path.dirname(os.path.abspath(__file__))))
 EXAMPLE = os.path.join(TOP, "bindings", "sqlite", "example")
 RECORDS = os.path.join(TOP, "examples", "town.csv")
 ROADS = range(101, 107)
 LORRY = 11
-passed = failed = 0
-
-
-def check(holds, what):
-    global passed, failed
-    if holds:
-        passed += 1
-    else:
-        failed += 1
-        print(f"FAILED {what}")
+check = Checks("geopackage")
 
 
 def run(*words, **variables):
@@ -85,8 +74,7 @@ def main():
             values = [int(line.split("=")[1]) for line in said.splitlines() if " = " in line]
             shown = [road for road, closed in zip(values[::2], values[1::2]) if not closed]
             check(shown == [road for road in open_roads(rows, second) if road != 106], f"{moment}: {said}")
-    print(f"geopackage: {passed} passed, {failed} failed")
-    return failed != 0
+    return check.end()
 
 
 if __name__ == "__main__":

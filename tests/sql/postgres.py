@@ -14,22 +14,14 @@ import subprocess
 import sys
 import time
 
+from checks import Checks
 from server import ASKED, Server, quoted
 
 EPOCH = datetime.datetime(1970, 1, 1)
 MOMENTS = ("YYYY-MM-DDThh:mm:ss, or a space in place of the T, or whole seconds since 1970-01-01T00:00:00; "
            "from 1901-01-01 up to 2700-01-01")
 SCHOOL = "[(M9){M10}]*[(t2t3t4t5t6h07m30){h8m30}]"
-passed = failed = 0
-
-def check(holds, what):
-    global passed, failed
-    if holds:
-        passed += 1
-        return
-    failed += 1
-    if failed <= 20:
-        print(f"FAILED {what}"[:1000])
+check = Checks("postgres")
 
 
 def stamp(second, form="space"):
@@ -390,8 +382,7 @@ def main():
         check_ends(server)
         check_memory(server)
         check_dump(server)
-    print(f"postgres: {passed} passed, {failed} failed")
-    return failed != 0
+    return check.end()
 
 
 if __name__ == "__main__":

@@ -10,6 +10,8 @@ import re
 import sqlite3
 import sys
 
+from checks import Checks
+
 MOMENTS = ("YYYY-MM-DDThh:mm:ss, or a space in place of the T, or whole seconds since 1970-01-01T00:00:00; "
            "from 1901-01-01 up to 2700-01-01")
 HORIZON = "the second moment must come after the first, by 146,098 days at most"
@@ -17,17 +19,7 @@ EVER = "moments of gtd_ever lie from 1901 to 2199"
 YEAR = "the domain gives a year, and gtd_ever asks about all years: gtd_next asks up to a moment"
 EPOCH = datetime.datetime(1970, 1, 1)
 SCHOOL = "[(M9){M10}]*[(t2t3t4t5t6h07m30){h8m30}]"
-passed = failed = 0
-
-
-def check(holds, what):
-    global passed, failed
-    if holds:
-        passed += 1
-        return
-    failed += 1
-    if failed <= 20:
-        print(f"FAILED {what}"[:1000])
+check = Checks("sqlite")
 
 
 def opened(extension, path=":memory:"):
@@ -295,8 +287,7 @@ def main():
     base.close()
     for _ in range(3):
         opened(extension).close()
-    print(f"sqlite: {passed} passed, {failed} failed")
-    return failed != 0
+    return check.end()
 
 
 if __name__ == "__main__":
