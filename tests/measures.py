@@ -1,11 +1,12 @@
 #!/usr/bin/env python3
-"""How large the project is: the table of measures in docs/ARCHITECTURE.md.
+"""How large the project is: the table of measures in docs/ARCHITECTURE.md, and the wrong bodies of each crate in docs/PLANTED.md.
 
 Counts lines, crates, places that say the same, long lists of parameters, the files that know one command and the bytes of the
-documents, over the files that git knows. Fails if a figure of the table is off by more than a twentieth.
+documents, over the files that git knows. Fails if a figure of the table is off by more than a twentieth, or if a number of wrong
+bodies is another.
 
-Usage: tests/measures.py            compares the table
-       tests/measures.py --write    writes the table anew
+Usage: tests/measures.py            compares both
+       tests/measures.py --write    writes both anew
 """
 import collections
 import os
@@ -15,6 +16,7 @@ import sys
 
 TOP = os.path.dirname(os.path.dirname(os.path.abspath(__file__)))
 DOCUMENT = os.path.join(TOP, "docs", "ARCHITECTURE.md")
+PLANTED = os.path.join(TOP, "docs", "PLANTED.md")
 BEGIN, END = "<!-- measures, counted by tests/measures.py -->\n", "<!-- end of the measures -->\n"
 SHARED = 6
 LONG = 7
@@ -108,6 +110,33 @@ def number_of(line):
     return int(line.rstrip().rstrip("|").rpartition("|")[2].replace(",", ""))
 
 
+def planted_table(text):
+    """The text of docs/PLANTED.md with the numbers of wrong bodies as they are, and the crates that it does not list."""
+    kept = collections.Counter(name.split("/")[1] for name in tracked("crates/*/must-fail/*.edit"))
+    others = collections.Counter(name.split("/")[1] for name in tracked("planted/*/*.edit"))
+    listed = re.findall(r"^\| `(\w+)` \| [\d,]+ \| [\d,]+ \|", text, re.M)
+    text = re.sub(r"^\| `(\w+)` \| [\d,]+ \| [\d,]+ \|",
+                  lambda row: f"| `{row[1]}` | {kept[row[1]]} | {others[row[1]]} |", text, flags=re.M)
+    for form, number in ((r"(\*\*Kept edits\.\*\* )\d+", kept.total() + others.total()),
+                         (r"(named for its mistake: )\d+", kept.total()), (r"(The other )\d+( stand in)", others.total())):
+        text = re.sub(form, lambda found: found[1] + str(number) + "".join(found.groups()[1:]), text, count=1)
+    return text, sorted(set(kept + others) - set(listed))
+
+
+def compare_planted(write):
+    """Compares docs/PLANTED.md, or writes its numbers. How many checks failed."""
+    text = text_of("docs/PLANTED.md")
+    wanted, missing = planted_table(text)
+    for crate in missing:
+        print(f"FAILED docs/PLANTED.md has no row of {crate}")
+    if write:
+        with open(PLANTED, "w", encoding="utf-8") as file:
+            file.write(wanted)
+    elif text != wanted:
+        print("FAILED docs/PLANTED.md has other numbers of wrong bodies: tests/measures.py --write")
+    return int(bool(missing)) + int(not write and text != wanted)
+
+
 def main():
     figures = list(measured())
     table = ["| Measure | Today |\n", "|---|---|\n"] + [f"| {name} | {figure:,} |\n" for name, figure in figures]
@@ -118,15 +147,16 @@ def main():
     if sys.argv[1:] == ["--write"]:
         with open(DOCUMENT, "w", encoding="utf-8") as file:
             file.write(before + BEGIN + "".join(table) + END + after)
-        return 0
+        return compare_planted(True)
     told = {line.split("|")[1].strip(): number_of(line) for line in shown.split("\n")[2:] if line}
     failed = 0
     for name, figure in figures:
         if name not in told or abs(told[name] - figure) * 20 > figure:
             failed += 1
             print(f"FAILED docs/ARCHITECTURE.md: {name} is {figure:,}, and not {told.get(name)}")
-    print(f"measures: {len(figures) - failed} passed, {failed} failed")
-    return failed != 0
+    bad = compare_planted(False)
+    print(f"measures: {len(figures) - failed + 2 - bad} passed, {failed + bad} failed")
+    return failed + bad != 0
 
 
 if __name__ == "__main__":
