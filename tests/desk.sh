@@ -157,9 +157,9 @@ expected='    expected: element,direction,vehicle,domain (or vehicles)'
 listed 'an empty file' '' $'bad.csv:1: Header\n    found:    \n'"$expected"
 listed 'a wrong header' $'element;direction\r\n1,both,0,\n' $'bad.csv:1: Header\n    found:    element;direction\n'"$expected"
 listed 'lines that end with two bytes, and an empty line' $'element,direction,vehicle,domain\r\n1,both,0,\r\n1,up,0,\r\n\r\n1,x,0,\r\n' \
-    $'bad.csv:3: row 2: Direction\n    up\n    ^\nbad.csv:5: row 3: Direction\n    x\n    ^'
+    $'bad.csv:3: row 2: Direction\n    up\n    ^\n    expected: positive, negative or both\nbad.csv:5: row 3: Direction\n    x\n    ^\n    expected: positive, negative or both'
 listed 'bytes that are shown escaped' "$top_line"$'1,both,0,\\\xc3\xa9(h25)\n' \
-    $'bad.csv:2: row 1: Domain BadToken at 0\n    \\x5c\\xc3\\xa9(h25)\n    ^'
+    $'bad.csv:2: row 1: Domain BadToken at 0\n    \\x5c\\xc3\\xa9(h25)\n    ^\n    expected: a letter with 1 to 6 digits, a space, or one of ( ) { } [ ] + * -'
 # A hint for a first line that is nearly a header: the first of those that apply, and none for another line.
 hinted() {
     [ "$2" = - ] || printf "$2" > bad.csv
@@ -206,22 +206,22 @@ hinted 'half a mark' '\xff\n' '\xff' ''
 # Texts of more than 100 columns are cut: 40 columns before the place and 50 from it on are left.
 times() { printf "$2%.0s" $(seq "$1"); }
 listed 'a field of 100 columns' "$top_line$(times 100 x)"$',both,0,\n' \
-    $'bad.csv:2: row 1: Element\n    '"$(times 100 x)"$'\n    ^'
+    $'bad.csv:2: row 1: Element\n    '"$(times 100 x)"$'\n    ^\n    expected: 1 to 10 digits'
 listed 'a longer field' "$top_line$(times 101 x)"$',both,0,\n' \
-    $'bad.csv:2: row 1: Element\n    '"$(times 50 x)"$'...\n    ^'
+    $'bad.csv:2: row 1: Element\n    '"$(times 50 x)"$'...\n    ^\n    expected: 1 to 10 digits'
 listed 'a domain cut on both sides' "$top_line"$'1,both,0,'"$(times 60 ' ')(h25){h1}$(times 60 ' ')"$'\n' \
-    $'bad.csv:2: row 1: Domain FieldRange at 61\n    ...'"$(times 39 ' ')(h25){h1}$(times 42 ' ')"$'...\n'"$(times 47 ' ')^"
+    $'bad.csv:2: row 1: Domain FieldRange at 61\n    ...'"$(times 39 ' ')(h25){h1}$(times 42 ' ')"$'...\n'"$(times 47 ' ')^"$'\n    expected: a number in the range of its letter, with its digits'
 listed 'a domain cut on the left' "$top_line"$'1,both,0,'"$(times 100 ' ')(h25){h1}"$'\n' \
-    $'bad.csv:2: row 1: Domain FieldRange at 101\n    ...'"$(times 39 ' ')(h25){h1}"$'\n'"$(times 47 ' ')^"
+    $'bad.csv:2: row 1: Domain FieldRange at 101\n    ...'"$(times 39 ' ')(h25){h1}"$'\n'"$(times 47 ' ')^"$'\n    expected: a number in the range of its letter, with its digits'
 listed 'a field cut where bytes are shown escaped' "$top_line$(times 26 '\\')"$',both,0,\n' \
-    $'bad.csv:2: row 1: Element\n    '"$(times 12 '\\x5c')"$'...\n    ^'
+    $'bad.csv:2: row 1: Element\n    '"$(times 12 '\\x5c')"$'...\n    ^\n    expected: 1 to 10 digits'
 listed 'a first line that is cut' "$(times 101 x)"$'\n' $'bad.csv:1: Header\n    found:    '"$(times 50 x)"$'...\n'"$expected"
 { printf '%s' "$top_line"; yes 1,both,0, | head -n 65536; printf '1,both\n1,both\n'; } > bad.csv
 run faults bad.csv
-expect 'too many rows' 1 'bad.csv:65538: row 65537: TooManyRows' ''
+expect 'too many rows' 1 $'bad.csv:65538: row 65537: TooManyRows\n    expected: at most 65536 rows' ''
 head -c 16777217 /dev/zero > bad.csv
 run faults bad.csv
-expect 'a file too large' 1 'bad.csv:1: TooLarge' ''
+expect 'a file too large' 1 $'bad.csv:1: TooLarge\n    expected: at most 16777216 bytes' ''
 
 # Pictures: a line for each day and two more, under their titles; refused words, in their order, and an element without rows.
 # tests/pictures.py looks at what they show.
@@ -306,10 +306,10 @@ expect 'hours that are no text' 2 '' "gtdesk: command line: a word is no text $s
 printf '%s\n' element,direction,vehicle,domain '1,both,0,[(h5){h1}]*[(h7){h1}]' '2,both,0,(h0){h24}' '3,up,0,' \
     '4,both,0,(h7){h2}' 5,both,0, '6,both,0,(y1800){y1}' '7,both,0,(M2d30){d1}' > warn.csv
 run faults --warn warn.csv
-expect 'faults and warnings' 1 $'warn.csv:4: row 3: Direction\n    up\n    ^\nwarn.csv:2: row 1: never holds
+expect 'faults and warnings' 1 $'warn.csv:4: row 3: Direction\n    up\n    ^\n    expected: positive, negative or both\nwarn.csv:2: row 1: never holds
 warn.csv:3: row 2: always holds\nwarn.csv:7: row 6: never holds\nwarn.csv:8: row 7: never holds' ''
 run faults warn.csv
-expect 'faults without warnings' 1 $'warn.csv:4: row 3: Direction\n    up\n    ^' ''
+expect 'faults without warnings' 1 $'warn.csv:4: row 3: Direction\n    up\n    ^\n    expected: positive, negative or both' ''
 sed -i 4d warn.csv
 run faults warn.csv --warn
 expect 'warnings alone' 0 $'warn.csv:2: row 1: never holds\nwarn.csv:3: row 2: always holds
@@ -335,8 +335,8 @@ expect 'records of standard input' 0 $'element,direction,vehicles,domain\n1,both
 2,positive,11;12,' ''
 printf '%s\n' element,direction,vehicles,hours '1,both,0,Apr 10-31' '1,up,0,24/7' '1,both,0,24/7' '1,both,0,1800-2056/2' > bad.csv
 run records bad.csv
-expect 'faults of hours' 1 '' $'bad.csv:2: row 1: Hours Range at 7\n    Apr 10-31\n           ^\nbad.csv:3: row 2: Direction
-    up\n    ^\nbad.csv:5: row 4: Hours TooMany at 0\n    1800-2056/2\n    ^'
+expect 'faults of hours' 1 '' $'bad.csv:2: row 1: Hours Range at 7\n    Apr 10-31\n           ^\n    expected: a number or a time in its range, such as 08:00 or Apr 30\nbad.csv:3: row 2: Direction
+    up\n    ^\nbad.csv:5: row 4: Hours TooMany at 0\n    1800-2056/2\n    ^\n    expected: hours that take at most 128 basic domains'
 run records a.csv
 expect 'no file of hours' 1 '' $'a.csv:1: Header\n    found:    element,direction,vehicle,domain
     expected: element,direction,vehicles,hours'

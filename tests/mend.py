@@ -87,6 +87,9 @@ def mend(lines, printed, right):
         line, fields = int(line) - 1, right(int(row))
         at += 1
         if kind == "FieldCount":
+            check(printed[at:at + 2] == [f"    found:    {lines[line]}", f"    fields:   {lines[line].count(',') + 1}"],
+                  f"line {line + 1}: the row stands there")
+            at += 2
             lines[line] = ",".join(fields)
         else:
             shown, caret = printed[at][4:], printed[at + 1].index("^") - 4
@@ -100,6 +103,8 @@ def mend(lines, printed, right):
             check(cells[place] == wrong, f"line {line + 1}: the field {shown} stands there")
             cells[place] = good
             lines[line] = ",".join(cells)
+        check(printed[at].startswith("    expected: "), f"line {line + 1}: what is accepted there")
+        at += 1
         mended += 1
     return mended
 

@@ -13,8 +13,8 @@ use Rattle.gtd_records.specs.facts.OneAnswer.{one_version}
 use Rattle.gtd_records.specs.declared.fault.RecordFault.{RecordFault}
 use Rattle.gtd_records.specs.declared.vehicles.Version.{Version}
 use Rattle.gtd_records.specs.declared.warnings.Warning.{Warning}
-use Rattle.gtd_faults.specs.Below.{IsBelow, below_text}
-use Rattle.gtd_faults.specs.Listing.{AreLines, AreWarningLines, fault_line, fault_text, row_of, warned_row, warning_line}
+use Rattle.gtd_faults.specs.Below.{IsBelow}
+use Rattle.gtd_faults.specs.Listing.{AreLines, AreWarningLines, fault_line, fault_text, lines_below, row_of, warned_row, warning_line}
 use Rattle.gtd_faults.specs.Places.{IsLine, IsLineAt}
 use Rattle.gtd_faults.specs.Printable.{printable}
 use Rattle.gtd_faults.specs.declared.below.Below.{Below}
@@ -32,18 +32,18 @@ some_line path line why below after e =
 -- the line of one fault more
 pub lines_more : (path bytes : List ℕ) (faults : List RecordFault) (why : RecordFault) (text : List ℕ) (line : ℕ)
     (below : Below) → IsLineAt bytes (row_of why) line → IsBelow bytes why below → AreLines path bytes faults text
-    → AreLines path bytes (faults ++ why ∷ []) (text ++ (fault_line path line why ++ below_text below))
+    → AreLines path bytes (faults ++ why ∷ []) (text ++ (fault_line path line why ++ lines_below why below))
 lines_more path bytes [] why text line below on at is =
-    (line, on, below, at, [], refl, rw is (sym (append-nil (fault_line path line why ++ below_text below))))
+    (line, on, below, at, [], refl, rw is (sym (append-nil (fault_line path line why ++ lines_below why below))))
 lines_more path bytes (x ∷ faults) why text line below on at is =
-    let more = fault_line path line why ++ below_text below in (
+    let more = fault_line path line why ++ lines_below why below in (
       is.0,
       is.1,
       is.2,
       is.3,
       is.4 ++ more,
       lines_more path bytes faults why is.4 line below on at is.5,
-      rw (is.6) (append_assoc (fault_line path is.0 x ++ below_text is.2) is.4 more),
+      rw (is.6) (append_assoc (fault_line path is.0 x ++ lines_below x is.2) is.4 more),
     )
 
 -- the line of one warning more
@@ -74,7 +74,7 @@ module _ (accepted : (bytes : List ℕ) → AreFileFaults bytes [] ↔ Accepted 
       → AreLines path bytes faults text → (text ≡ []) ↔ Accepted bytes
   nothing_listed path bytes [] text are lines = (λ e. (accepted bytes).0 are, λ is. lines)
   nothing_listed path bytes (why ∷ rest) text are lines = (
-    (λ e. absurd (some_line path lines.0 why (below_text lines.2) lines.4 (sym (lines.6) ∙ e))),
+    (λ e. absurd (some_line path lines.0 why (lines_below why lines.2) lines.4 (sym (lines.6) ∙ e))),
     (λ is. absurd (apart is.0 why (one bytes (Ok is.0) (Err why) is.1 (first bytes why rest are)))),
   )
 
@@ -89,7 +89,7 @@ module _ (accepted : (bytes : List ℕ) → AreFileFaults bytes [] ↔ Accepted 
       absurd (apart file.0 why (one bytes (Ok file.0) (Err why) file.1 is))
   first_line path bytes (x ∷ rest) text why are lines is =
       let same = same_fault x why (one bytes (Err x) (Err why) (first bytes x rest are) is) in
-      let below = below_text lines.2 in (
+      let below = lines_below x lines.2 in (
         lines.0,
         subst (λ (w : RecordFault). IsLineAt bytes (row_of w) lines.0) same lines.1,
         below ++ lines.4,

@@ -1,11 +1,13 @@
 -- What is shown below the line of a fault: indented lines.
 use Rattle.std.specs.Prelude.{◌≡◌, ◌<◌, ◌≤◌, ◌+◌, ◌-◌, ◌++◌, ℕ, suc, zero, Bool, true, false, List, [], ◌∷◌, codes}
-use Rattle.std.specs.Prelude.{drop, get_or, length, map, take, flat_map, if◌then◌else◌, nat_eq, nat_le, nat_lt}
+use Rattle.std.specs.Prelude.{decimal, drop, get_or, length, map, take, flat_map, if◌then◌else◌, nat_eq, nat_le, nat_lt}
 use Rattle.std.specs.Prelude.{Option, Some, None}
 use Rattle.gtd_records.specs.declared.fault.RecordFault.{RecordFault}
 use Rattle.gtd_records.specs.declared.fault.RecordFault.TheVariants as fault
 use Rattle.gtd_faults.specs.Hints.{first_line, hint_line, hint_of}
-use Rattle.gtd_faults.specs.Places.{field_of}
+use Rattle.csv.specs.Reading.{default_config, records, strip_bom}
+use Rattle.gtd_records.specs.Columns.{Fields}
+use Rattle.gtd_faults.specs.Places.{field_of, row_text}
 use Rattle.gtd_faults.specs.Printable.{printable, shown_byte}
 use Rattle.gtd_faults.specs.declared.below.Below.{Below}
 use Rattle.gtd_faults.specs.declared.below.Below.TheVariants as below
@@ -76,10 +78,13 @@ caret_text s = blanks (dots s.cut_before) ++ flat_map (λ (byte : ℕ). blanks (
 abbrev pub expected_text : List ℕ
 expected_text = codes "element,direction,vehicle,domain (or vehicles)"
 
--- nothing; the stretch of a field around a place, with a caret; or the first line of a file without a header, with its hint
+-- nothing; the stretch of a field around a place, with a caret; the first line of a row, with the number of its fields; or the
+-- first line of a file without a header, with its hint
 abbrev pub below_text : Below → List ℕ
 below_text below.Nothing = []
 below_text (below.Field field) = codes "    " ++ stretch_text field ++ codes "\n    " ++ caret_text field ++ codes "\n"
+below_text (below.Row found fields) =
+    codes "    found:    " ++ (stretch_text found ++ (codes "\n    fields:   " ++ (decimal fields ++ codes "\n")))
 below_text (below.Header found expected hint) =
     codes "    found:    "
     ++ (stretch_text found ++ (codes "\n    expected: " ++ (expected.now ++ (codes "\n" ++ hint_line hint))))
@@ -89,7 +94,20 @@ abbrev pub IsOfField : Option (List ℕ) → ℕ → Below → Type 0
 IsOfField None place shown = shown ≡ below.Nothing
 IsOfField (Some field) place below.Nothing = length field < place
 IsOfField (Some field) place (below.Field stretch) = (place ≤ length field) × IsAround field place stretch
+IsOfField (Some field) place (below.Row found fields) = ⊥
 IsOfField (Some field) place (below.Header found expected hint) = ⊥
+
+-- What is shown of the first of these rows is its first line, from its first byte on, and the number of its fields; nothing, if
+-- there is none.
+abbrev pub IsOfRow : List Fields → List ℕ → Below → Type 0
+IsOfRow [] line shown = shown ≡ below.Nothing
+IsOfRow (fields ∷ rows) line (below.Row found count) = IsAround line 0 found × (count ≡ length fields)
+IsOfRow (fields ∷ rows) line shown = ⊥
+
+-- what is shown of the row with this number of a file with these bytes
+abbrev pub IsOfRowAt : List ℕ → ℕ → Below → Type 0
+IsOfRowAt bytes row shown =
+    IsOfRow (drop row (records default_config (strip_bom bytes))) (first_line (row_text bytes row)) shown
 
 -- what is shown of a first line that is no header: its stretch from its first byte on, the header that is expected, and a hint
 abbrev pub IsOfHeader : List ℕ → List ℕ → Option Hint → Below → Type 0
@@ -98,8 +116,10 @@ IsOfHeader line text told (below.Header found expected hint) =
 IsOfHeader line text told shown = ⊥
 
 -- What is shown below the line of a fault of a file with these bytes: the field in the column at fault, around the place in
--- a domain or from its first byte on; if the file has no header, its first line, and the hint for it; otherwise nothing.
+-- a domain or from its first byte on; a row with too few or too many fields; if the file has no header, its first line, and the
+-- hint for it; otherwise nothing.
 abbrev pub IsBelow : List ℕ → RecordFault → Below → Type 0
+IsBelow bytes (fault.FieldCount row) shown = IsOfRowAt bytes row shown
 IsBelow bytes (fault.Element row) shown = IsOfField (field_of bytes row 0) 0 shown
 IsBelow bytes (fault.Direction row) shown = IsOfField (field_of bytes row 1) 0 shown
 IsBelow bytes (fault.Vehicle row) shown = IsOfField (field_of bytes row 2) 0 shown

@@ -1,5 +1,6 @@
 pub mod Below
 pub mod Cut
+pub mod Expected
 pub mod Hints
 pub mod Listing
 pub mod Places

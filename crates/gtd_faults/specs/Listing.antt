@@ -10,6 +10,7 @@ use Rattle.gtd_records.specs.Warnings.{AreFileWarnings}
 use Rattle.gtd_records.specs.declared.warnings.Warning.{Warning}
 use Rattle.gtd_records.specs.declared.warnings.Warning.TheVariants as warning
 use Rattle.gtd_faults.specs.Below.{IsBelow, below_text}
+use Rattle.gtd_faults.specs.Expected.{accepted, expected_line}
 use Rattle.gtd_faults.specs.Places.{IsLine, IsLineAt}
 use Rattle.gtd_faults.specs.Printable.{printable}
 use Rattle.gtd_faults.specs.declared.below.Below.{Below}
@@ -47,12 +48,16 @@ row_of (fault.Domain row why) = Some row
 row_of fault.TooManyRows = Some (most_rows + 1)
 row_of why = None
 
--- The lines of the faults of a file with these bytes, in order: for each its line, and what is shown below it.
+-- the lines below that of a fault: what is shown of the file, and what is accepted there
+abbrev pub lines_below : RecordFault → Below → List ℕ
+lines_below why below = below_text below ++ expected_line (accepted why)
+
+-- The lines of the faults of a file with these bytes, in order: for each its line, and those below it.
 abbrev pub AreLines : List ℕ → List ℕ → List RecordFault → List ℕ → Type 0
 AreLines path bytes [] text = text ≡ []
 AreLines path bytes (why ∷ rest) text =
     (line : ℕ) × IsLineAt bytes (row_of why) line × (below : Below) × IsBelow bytes why below × (after : List ℕ)
-    × AreLines path bytes rest after × (text ≡ fault_line path line why ++ below_text below ++ after)
+    × AreLines path bytes rest after × (text ≡ fault_line path line why ++ lines_below why below ++ after)
 
 -- the words of a warning: its row, and what is said of its domain
 abbrev pub warning_text : Warning → List ℕ

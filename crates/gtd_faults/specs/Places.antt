@@ -34,6 +34,10 @@ pub record IsLine (bytes : List ℕ) (number line : ℕ) : Type 0 where
   pub record_follows : bytes ≡ before ++ from_record (left_after number (strip_bom bytes)).1
   pub counted : line ≡ count_by is_line_feed before + 1
 
+-- a file's bytes from the first byte of the record with this number on
+abbrev pub row_text : List ℕ → ℕ → List ℕ
+row_text bytes number = from_record (left_after number (strip_bom bytes)).1
+
 -- the line that is named with what is said of a row: that on which the row begins; without a row, the first
 abbrev pub IsLineAt : List ℕ → Option ℕ → ℕ → Type 0
 IsLineAt bytes None line = line ≡ 1

@@ -15,6 +15,13 @@ pub enum Below<'a> {
     Nothing,
     /// The stretch of a field around a place, with a caret below the place.
     Field(Stretch<'a>),
+    /// The first line of a row, and how many fields the row has.
+    Row {
+        /// The first line.
+        found: Stretch<'a>,
+        /// How many fields the row has.
+        fields: usize,
+    },
     /// The first line of a file without a header, the header that is expected, and a hint.
     Header {
         /// The first line.
@@ -35,6 +42,9 @@ impl Display for Below<'_> {
             Below::Field(field) => {
                 let caret = Caret(field);
                 write!(f, "    {field}\n    {caret}\n")
+            }
+            Below::Row { found, fields } => {
+                write!(f, "    found:    {found}\n    fields:   {fields}\n")
             }
             Below::Header {
                 found,

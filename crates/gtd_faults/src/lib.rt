@@ -9,7 +9,7 @@ pub use places::Rows;
 pub use printable::Printable;
 pub use run::run_faults;
 pub use stretch::Stretch;
-pub use words::{FaultText, WarningText};
+pub use words::{Expected, FaultText, WarningText, accepted};
 
 mod below;
 mod cut;

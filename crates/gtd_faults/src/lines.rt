@@ -1,11 +1,11 @@
 //! The lines of faults and of warnings.
 
 ghost use Rattle.std.specs.Prelude.{◌≡◌, ◌++◌, ℕ, IfOk, IfSome, OnOk, length, string_bytes};
-ghost use Rattle.gtd_faults.specs.Below.{IsBelow, below_text};
+ghost use Rattle.gtd_faults.specs.Below.{IsBelow};
 ghost use Rattle.gtd_records.specs.Faults.{AreFileFaults};
 ghost use Rattle.gtd_faults.specs.Hints as spec;
 ghost use Rattle.gtd_faults.specs.Listing as list;
-ghost use Rattle.gtd_faults.specs.Listing.{AreLines, AreWarningLines, IsList, fault_line, warning_line};
+ghost use Rattle.gtd_faults.specs.Listing.{AreLines, AreWarningLines, IsList, fault_line, lines_below, warning_line};
 ghost use Rattle.gtd_faults.specs.Standing.{StandsAt};
 
 use crate::below::Below;
@@ -13,12 +13,12 @@ use crate::hint::hint_of;
 use crate::places::Rows;
 use crate::printable::Printable;
 use crate::stretch::Stretch;
-use crate::words::{FaultText, WarningText};
+use crate::words::{Expected, FaultText, WarningText, accepted};
 use gtd_core::limits::MOST_ROWS;
 use gtd_records::{RecordFault, Warning, warnings_of};
 use std::alloc::{AllocError, Global};
 
-// Appends the line of a fault, and what is shown below it, to the text.
+// Appends the line of a fault, and those below it, to the text.
 fn push_fault(
     text: &mut String,
     path: &str,
@@ -27,11 +27,12 @@ fn push_fault(
     below: Below<'_>,
 ) -> Result<(), AllocError>
     ensures { OnOk result (string_bytes text.new
-        ≡ string_bytes text.old ++ (fault_line path.now line fault ++ below_text below.entry)) }
+        ≡ string_bytes text.old ++ (fault_line path.now line fault ++ lines_below fault below.entry)) }
 {
     let path = Printable(path.as_bytes());
     let words = FaultText(fault);
-    write!(text, "{path}:{line}: {words}\n{below}")
+    let expected = Expected(accepted(fault));
+    write!(text, "{path}:{line}: {words}\n{below}{expected}")
 }
 
 /// The bytes before the first line end, an LF or a CR: all of them if there is none.
@@ -61,8 +62,8 @@ fn row_of(fault: RecordFault) -> Option<u32>
     }
 }
 
-// What is shown below the line of a fault, if the rows stand at its row: of a field in it, or of the file's first line if
-// that is no header.
+// What is shown below the line of a fault, if the rows stand at its row: of a field in it, of the row, or of the file's first
+// line if that is no header.
 fn below_fault<'a>(bytes: &'a [u8], rows: &'a Rows<'_>, fault: RecordFault) -> Below<'a>
     ensures below { (number : ℕ) → StandsAt bytes.now number rows.now → IfSome (list.row_of fault) (λ row. number ≡ row)
         → IsBelow bytes.now fault result }
@@ -76,6 +77,7 @@ fn below_fault<'a>(bytes: &'a [u8], rows: &'a Rows<'_>, fault: RecordFault) -> B
                 hint: hint_of(line),
             }
         }
+        RecordFault::FieldCount { .. } => rows.row(),
         RecordFault::Element { .. } => rows.field(0, 0),
         RecordFault::Direction { .. } => rows.field(1, 0),
         RecordFault::Vehicle { .. } => rows.field(2, 0),

@@ -3,12 +3,13 @@
 ghost use Rattle.std.specs.Prelude.{◌≡◌, ◌≤◌, ◌+◌, ℕ, List, IfOk, IfSome, OnOk, option_map};
 ghost use Rattle.csv.specs.Records.{fields_of};
 ghost use Rattle.gtd_records.specs.Columns.{Fields};
-ghost use Rattle.gtd_faults.specs.Below.{IsOfField};
+ghost use Rattle.gtd_faults.specs.Below.{IsOfField, IsOfRowAt};
 ghost use Rattle.gtd_faults.specs.Places.{IsLine, IsLineAt, field_of};
 ghost use Rattle.gtd_faults.specs.Standing.{HasGiven, StandsAt};
 
 use crate::below::Below;
 use crate::cut::Place;
+use crate::lines::first_line;
 use crate::stretch::Stretch;
 use csv::{ByteRecord, Reader};
 use gtd_records::{next_row, table};
@@ -148,5 +149,21 @@ impl<'a> Rows<'a> {
             return Below::Nothing;
         }
         shown_of(self.row.get(index), place)
+    }
+    /// What is shown of the whole row: its first line, and how many fields it has. It is nothing if there is no such row.
+    pub fn row(&self) -> Below<'_>
+        ensures row { (bytes : List ℕ) (number : ℕ) → StandsAt bytes number self.now → IsOfRowAt bytes number result }
+    {
+        if !self.found {
+            return Below::Nothing;
+        }
+        if self.place.at > self.bytes.len() {
+            return Below::Nothing;
+        }
+        let line = first_line(&self.bytes[self.place.at..]);
+        Below::Row {
+            found: Stretch::around(line, 0),
+            fields: self.row.len(),
+        }
     }
 }

@@ -1,8 +1,11 @@
 //! The words of a fault, and of a warning.
 
-ghost use Rattle.std.specs.Prelude.{Some};
+ghost use Rattle.std.specs.Prelude.{◌≡◌, Some, option_map};
+ghost use Rattle.gtd_faults.specs.Expected as spec;
+ghost use Rattle.gtd_faults.specs.Expected.{expected_line};
 ghost use Rattle.gtd_faults.specs.Listing.{fault_text, warning_text};
 
+use gtd_core::Fault;
 use gtd_records::{RecordFault, Warning};
 use std::fmt;
 use std::fmt::{Display, Formatter};
@@ -46,6 +49,62 @@ impl Display for WarningText {
         match self.0 {
             Warning::NeverHolds { row } => write!(f, "row {row}: never holds"),
             Warning::AlwaysHolds { row } => write!(f, "row {row}: always holds"),
+        }
+    }
+}
+
+// What a text of a domain may have where this fault is.
+fn accepted_text(kind: Fault) -> Option<&'static str>
+    ensures { option_map (λ text. text.now) result ≡ spec.accepted_text kind }
+{
+    match kind {
+        Fault::BadToken => {
+            Some("a letter with 1 to 6 digits, a space, or one of ( ) { } [ ] + * -")
+        }
+        Fault::Fuzzy => Some("another field: fuzzy times are not read"),
+        Fault::TooDeep => Some("at most 128 brackets that are open at once"),
+        Fault::TooMany => Some("at most 128 basic domains"),
+        Fault::Repeated => Some("each letter once within ( ) or { }"),
+        Fault::FieldRange => Some("a number in the range of its letter, with its digits"),
+        Fault::Negative => Some("a duration without a sign"),
+        Fault::Unexpected => Some(
+            "(start){duration} or [..] at the beginning and after an operator, and + * - or ] after one of them",
+        ),
+        Fault::Incomplete => Some("(start){duration} in full, and a ] for each ["),
+        Fault::TooLongDuration => Some("a duration of at most 36600 days"),
+        Fault::NoMemory => None,
+    }
+}
+
+/// What a file may have where this fault is, in words. For `Header` it is shown below the first line, and so is not given here.
+pub fn accepted(fault: RecordFault) -> Option<&'static str>
+    ensures { option_map (λ text. text.now) result ≡ spec.accepted fault }
+{
+    match fault {
+        RecordFault::FieldCount { .. } => Some("4 fields, with commas between them"),
+        RecordFault::Element { .. } => Some("1 to 10 digits"),
+        RecordFault::Direction { .. } => Some("positive, negative or both"),
+        RecordFault::Vehicle { .. } => Some(
+            "1 to 99, or 0 for every type; below the header vehicles also several, such as 11;12 or !1;2",
+        ),
+        RecordFault::Domain { fault, .. } => accepted_text(fault.kind),
+        RecordFault::TooManyRows => Some("at most 65536 rows"),
+        RecordFault::TooLarge => Some("at most 16777216 bytes"),
+        _ => None,
+    }
+}
+
+/// The line that says what is accepted, or nothing.
+#[derive(Clone, Copy)]
+pub struct Expected<'a>(pub Option<&'a str>);
+
+impl Display for Expected<'_> {
+    ghost output = { λ shown. Some (expected_line (option_map (λ text. text.now) shown.0)) };
+
+    fn fmt<W: fmt::Write>(&self, f: &mut Formatter<W>) -> fmt::Result {
+        match self.0 {
+            None => Ok(()),
+            Some(text) => write!(f, "    expected: {text}\n"),
         }
     }
 }

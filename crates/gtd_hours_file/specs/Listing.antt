@@ -3,7 +3,9 @@ use Rattle.std.specs.Prelude.{◌≡◌, ◌+◌, ◌++◌, ℕ, List, [], ◌�
 use Rattle.gtd_core.specs.Limits.{most_rows}
 use Rattle.gtd_hours_grammar.specs.declared.fault.FaultKind.{FaultKind}
 use Rattle.gtd_hours_grammar.specs.declared.fault.FaultKind.TheVariants as kind
-use Rattle.gtd_faults.specs.Below.{IsOfField, IsOfHeader, below_text}
+use Rattle.gtd_faults.specs.Below.{IsOfField, IsOfHeader, IsOfRowAt, below_text}
+use Rattle.gtd_faults.specs.Expected.{accepted_bytes, accepted_count, accepted_direction, accepted_element, accepted_rows}
+use Rattle.gtd_faults.specs.Expected.{accepted_types, expected_line}
 use Rattle.gtd_faults.specs.Hints.{first_line}
 use Rattle.gtd_faults.specs.Listing.{line_text}
 use Rattle.gtd_faults.specs.Places.{IsLineAt, field_of}
@@ -38,9 +40,10 @@ abbrev pub expected_text : List ℕ
 expected_text = codes "element,direction,vehicles,hours"
 
 -- What is shown below the line of a fault of a file with these bytes: the field in the column at fault, around the place in
--- a text of hours or from its first byte on; if the file has no header, its first line, and the header that is expected;
--- otherwise nothing.
+-- a text of hours or from its first byte on; a row with too few or too many fields; if the file has no header, its first line,
+-- and the header that is expected; otherwise nothing.
 abbrev pub IsBelow : List ℕ → HoursFileFault → Below → Type 0
+IsBelow bytes (fault.FieldCount row) shown = IsOfRowAt bytes row shown
 IsBelow bytes (fault.Element row) shown = IsOfField (field_of bytes row 0) 0 shown
 IsBelow bytes (fault.Direction row) shown = IsOfField (field_of bytes row 1) 0 shown
 IsBelow bytes (fault.Vehicle row) shown = IsOfField (field_of bytes row 2) 0 shown
@@ -48,6 +51,33 @@ IsBelow bytes (fault.Hours row why) shown = IsOfField (field_of bytes row 3) why
 IsBelow bytes (fault.TooMany row) shown = IsOfField (field_of bytes row 3) 0 shown
 IsBelow bytes fault.Header shown = IsOfHeader (first_line bytes) expected_text None shown
 IsBelow bytes why shown = shown ≡ below.Nothing
+
+-- what hours may have where a fault of this kind is
+abbrev pub accepted_hours : FaultKind → List ℕ
+accepted_hours kind.BadToken = codes "words, numbers and signs of opening hours, such as Mo-Fr 08:00-18:00"
+accepted_hours kind.Unsupported = codes "weeks, years, dates, weekdays and times, without holidays, times of the sun and comments"
+accepted_hours kind.Range = codes "a number or a time in its range, such as 08:00 or Apr 30"
+accepted_hours kind.Unexpected = codes "rules with ; between them: years, weeks or dates, then weekdays, then times or off"
+accepted_hours kind.Incomplete = codes "more: the second part of a range, or what follows a sign"
+
+abbrev pub accepted_size : List ℕ
+accepted_size = codes "hours that take at most 128 basic domains"
+
+-- What a file may have where this fault is. The header that is expected is shown below the first line.
+abbrev pub accepted : HoursFileFault → Option (List ℕ)
+accepted (fault.FieldCount row) = Some accepted_count
+accepted (fault.Element row) = Some accepted_element
+accepted (fault.Direction row) = Some accepted_direction
+accepted (fault.Vehicle row) = Some accepted_types
+accepted (fault.Hours row why) = Some (accepted_hours why.kind)
+accepted (fault.TooMany row) = Some accepted_size
+accepted fault.TooManyRows = Some accepted_rows
+accepted fault.TooLarge = Some accepted_bytes
+accepted fault.Header = None
+
+-- the lines below that of a fault: what is shown of the file, and what is accepted there
+abbrev pub lines_below : HoursFileFault → Below → List ℕ
+lines_below why below = below_text below ++ expected_line (accepted why)
 
 -- the row that a fault is of, if it is of one; `TooManyRows` is of the first row too many
 abbrev pub row_of : HoursFileFault → Option ℕ
@@ -60,9 +90,9 @@ row_of (fault.TooMany row) = Some row
 row_of fault.TooManyRows = Some (most_rows + 1)
 row_of why = None
 
--- the lines of the faults of a file with these bytes, in order: for each its line, and what is shown below it
+-- the lines of the faults of a file with these bytes, in order: for each its line, and those below it
 abbrev pub AreLines : List ℕ → List ℕ → List HoursFileFault → List ℕ → Type 0
 AreLines path bytes [] text = text ≡ []
 AreLines path bytes (why ∷ rest) text =
     (line : ℕ) × IsLineAt bytes (row_of why) line × (below : Below) × IsBelow bytes why below × (after : List ℕ)
-    × AreLines path bytes rest after × (text ≡ line_text path line (fault_text why) ++ below_text below ++ after)
+    × AreLines path bytes rest after × (text ≡ line_text path line (fault_text why) ++ lines_below why below ++ after)

@@ -1,16 +1,15 @@
 //! The list of all faults of a file of hours.
 
-ghost use Rattle.std.specs.Prelude.{◌≡◌, ◌++◌, ℕ, IfOk, IfSome, OnOk, string_bytes};
-ghost use Rattle.gtd_faults.specs.Below.{below_text};
+ghost use Rattle.std.specs.Prelude.{◌≡◌, ◌++◌, ℕ, IfOk, IfSome, OnOk, option_map, string_bytes};
 ghost use Rattle.gtd_faults.specs.Listing.{line_text};
 ghost use Rattle.gtd_faults.specs.Standing.{StandsAt};
 ghost use Rattle.gtd_hours_file.specs.Listing as list;
-ghost use Rattle.gtd_hours_file.specs.Listing.{AreLines, IsBelow, fault_text};
+ghost use Rattle.gtd_hours_file.specs.Listing.{AreLines, IsBelow, fault_text, lines_below};
 
 use crate::fault::HoursFileFault;
-use crate::words::HoursFaultText;
+use crate::words::{HoursFaultText, accepted};
 use gtd_core::limits::MOST_ROWS;
-use gtd_faults::{Below, Printable, Rows, Stretch, first_line};
+use gtd_faults::{Below, Expected, Printable, Rows, Stretch, first_line};
 use std::alloc::{AllocError, Global};
 
 // The row of a fault, if it has one.
@@ -30,8 +29,8 @@ fn row_of(fault: HoursFileFault) -> Option<u32>
     }
 }
 
-// What is shown below the line of a fault, if the rows stand at its row: of a field in it, or of the file's first line if
-// that is no header.
+// What is shown below the line of a fault, if the rows stand at its row: of a field in it, of the row, or of the file's first
+// line if that is no header.
 fn below_fault<'a>(bytes: &'a [u8], rows: &'a Rows<'_>, fault: HoursFileFault) -> Below<'a>
     ensures below { (number : ℕ) → StandsAt bytes.now number rows.now → IfSome (list.row_of fault) (λ row. number ≡ row)
         → IsBelow bytes.now fault result }
@@ -42,6 +41,7 @@ fn below_fault<'a>(bytes: &'a [u8], rows: &'a Rows<'_>, fault: HoursFileFault) -
             expected: "element,direction,vehicles,hours",
             hint: None,
         },
+        HoursFileFault::FieldCount { .. } => rows.row(),
         HoursFileFault::Element { .. } => rows.field(0, 0),
         HoursFileFault::Direction { .. } => rows.field(1, 0),
         HoursFileFault::Vehicle { .. } => rows.field(2, 0),
@@ -51,7 +51,7 @@ fn below_fault<'a>(bytes: &'a [u8], rows: &'a Rows<'_>, fault: HoursFileFault) -
     }
 }
 
-// Appends the line of a fault, and what is shown below it, to the text.
+// Appends the line of a fault, and those below it, to the text.
 fn push_fault(
     text: &mut String,
     path: &str,
@@ -60,11 +60,12 @@ fn push_fault(
     below: Below<'_>,
 ) -> Result<(), AllocError>
     ensures { OnOk result (string_bytes text.new
-        ≡ string_bytes text.old ++ (line_text path.now line (fault_text fault) ++ below_text below.entry)) }
+        ≡ string_bytes text.old ++ (line_text path.now line (fault_text fault) ++ lines_below fault below.entry)) }
 {
     let path = Printable(path.as_bytes());
     let words = HoursFaultText(fault);
-    write!(text, "{path}:{line}: {words}\n{below}")
+    let expected = Expected(accepted(fault));
+    write!(text, "{path}:{line}: {words}\n{below}{expected}")
 }
 
 /// The lines of these faults, in order, for the file with this path and these bytes.

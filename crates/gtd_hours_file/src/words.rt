@@ -1,10 +1,13 @@
 //! The words of a fault.
 
-ghost use Rattle.std.specs.Prelude.{◌≡◌, Some};
+ghost use Rattle.std.specs.Prelude.{◌≡◌, Some, option_map};
+ghost use Rattle.gtd_hours_file.specs.Listing as spec;
 ghost use Rattle.gtd_hours_file.specs.Listing.{fault_text, kind_name};
 
 use crate::fault::HoursFileFault;
+use gtd_faults::accepted as accepted_of_record;
 use gtd_hours_grammar::FaultKind;
+use gtd_records::RecordFault;
 use std::fmt;
 use std::fmt::{Display, Formatter};
 
@@ -44,5 +47,41 @@ impl Display for HoursFaultText {
             HoursFileFault::TooMany { row } => write!(f, "row {row}: Hours TooMany at 0"),
             HoursFileFault::TooManyRows => write!(f, "row 65537: TooManyRows"),
         }
+    }
+}
+
+// What hours may have where a fault of this kind is.
+fn accepted_hours(kind: FaultKind) -> &'static str
+    ensures { result.now ≡ spec.accepted_hours kind }
+{
+    match kind {
+        FaultKind::BadToken =>
+            "words, numbers and signs of opening hours, such as Mo-Fr 08:00-18:00",
+        FaultKind::Unsupported => {
+            "weeks, years, dates, weekdays and times, without holidays, times of the sun and comments"
+        }
+        FaultKind::Range => "a number or a time in its range, such as 08:00 or Apr 30",
+        FaultKind::Unexpected => {
+            "rules with ; between them: years, weeks or dates, then weekdays, then times or off"
+        }
+        FaultKind::Incomplete => "more: the second part of a range, or what follows a sign",
+    }
+}
+
+/// What a file of hours may have where this fault is, in words. For `Header` it is shown below the first line, and so is not
+/// given here.
+pub fn accepted(fault: HoursFileFault) -> Option<&'static str>
+    ensures { option_map (λ text. text.now) result ≡ spec.accepted fault }
+{
+    match fault {
+        HoursFileFault::FieldCount { row } => accepted_of_record(RecordFault::FieldCount { row }),
+        HoursFileFault::Element { row } => accepted_of_record(RecordFault::Element { row }),
+        HoursFileFault::Direction { row } => accepted_of_record(RecordFault::Direction { row }),
+        HoursFileFault::Vehicle { row } => accepted_of_record(RecordFault::Vehicle { row }),
+        HoursFileFault::Hours { fault, .. } => Some(accepted_hours(fault.kind)),
+        HoursFileFault::TooMany { .. } => Some("hours that take at most 128 basic domains"),
+        HoursFileFault::TooManyRows => accepted_of_record(RecordFault::TooManyRows),
+        HoursFileFault::TooLarge => accepted_of_record(RecordFault::TooLarge),
+        HoursFileFault::Header => None,
     }
 }
