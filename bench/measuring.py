@@ -23,9 +23,9 @@ class Run(NamedTuple):
     status: int
 
 
-def program(words):
-    """The path of `gtd`: the first word, or where `rt run` and `rt ci` put it."""
-    path = words[0] if words else os.path.join(TOP, "crates", "gtd", "out", "gtd")
+def program(words, name="gtd"):
+    """The path of a program: the first word, or where `rt run` and `rt ci` put it."""
+    path = words[0] if words else os.path.join(TOP, "crates", name, "out", name)
     if not os.access(path, os.X_OK):
         sys.exit(f"no program at {path}: run rt ci first, or give the program's path")
     return os.path.abspath(path)

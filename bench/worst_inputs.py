@@ -1,4 +1,5 @@
-"""The inputs that cost `gtd` most, each for a loop of the program: commands, and files made in a temporary folder."""
+"""The inputs that cost `gtd` and `gtdesk` most, each for a loop of the programs: commands, and files made in a temporary
+folder."""
 import os
 from typing import NamedTuple
 
@@ -11,6 +12,7 @@ HEADER = "element,direction,vehicle,domain\n"
 LISTS = "element,direction,vehicles,domain\n"
 MOMENT = "2024-01-01T00:00:30"
 DAY = ("2024-01-01", "2024-01-02")
+WEEK = ("2024-01-01", "2024-01-08")
 YEAR = ("2024-01-01", "2025-01-01")
 DECADE = ("2024-01-01", "2034-01-01")
 LONGEST = ("2024-01-01", "2424-01-02")
@@ -21,11 +23,17 @@ NEVER = "(f11d8){y100}"  # the first Sunday of a month is never its eighth day
 
 
 class Case(NamedTuple):
-    """A command; and what it goes over one by one and how many, if these are so many that they decide its time."""
+    """A command; what it goes over one by one and how many, if these are so many that they decide its time; its program."""
     name: str
     words: list
     counted: int = 0
     what: str = ""
+    program: str = "gtd"
+
+
+def desk(name, words, counted=0, what=""):
+    """A command of the program for people."""
+    return Case(f"gtdesk {words[0]}, {name}", words, counted, what, "gtdesk")
 
 
 class Folder:
@@ -138,6 +146,8 @@ def taken_on_few_days():
         ("and its second one", "[(s0){s1}]*[(s1){s1}]*[(M2d29){d1}]"),
     ):
         yield Case(f"ever, each minute's first second {name}, on 29 February", ["ever", text, MOMENT], spans, "spans")
+    between = f"[[{joined(minute_starts(30))}]*[(M2d29){{d1}}]]*[(s1){{s1}}]"
+    yield Case("ever, even seconds of a 29 February that are odd", ["ever", between, MOMENT])
     for name, text in (
         ("even seconds", joined(minute_starts(30))),
         ("two hours of each day", "(h5){h1}+(h7){h1}"),
@@ -196,6 +206,17 @@ def one_element(folder):
     yield Case("one element, 65,536 rows from 29 February on, the year's table", year(leap))
 
 
+    dense = ["(s0){s1}"] * (MOST_ROWS - 1) + ["(M5d1){d1}"]
+    all_dense = folder.rows("dense", dense)
+    yield Case("one element, 65,535 rows of each minute's first second and a date, a day", schedule(all_dense, DAY))
+    fewer = folder.rows("fewer_dense", dense[-16_385:])
+    yield Case("one element, 16,384 of these and a date, a week", schedule(fewer, WEEK))
+    minutes = folder.rows("minutes", [f"(s{n % 60}){{s1}}" for n in range(MOST_ROWS)])
+    yield Case("one element, 65,536 rows, each a second of each minute, a day", schedule(minutes, DAY))
+    packed = folder.rows("packed_rows", [joined(["(f11d8){y99}"] * 89)] * 14_000)
+    yield Case("one element, 14,000 rows of 89 basic domains that begin on no day, a day", schedule(packed, DAY))
+
+
 def many_elements(folder):
     """Files with one row for each element, whose starts are rare.
 
@@ -227,6 +248,41 @@ def many_elements(folder):
     yield Case("65,536 elements, 26 basic domains in each row, no row like another, a day", schedule(unlike, DAY))
     deep = folder.elements("deep", ["[" * 110 + "(h7){h2}" + "]" * 110] * MOST_ROWS)
     yield Case("65,536 elements, 110 brackets in each row, migrated", ["migrate", deep])
+
+
+def states(folder):
+    """Files of which the state at a moment is asked, and its next change."""
+    never = "[(h5){h1}]*[(h7){h1}]*[(M2d29){d1}]"
+    texts = {
+        "never": [never] * MOST_ROWS,
+        "seconds": ["[(s0){s1}]*[(s1){s1}]*[(M2d29){d1}]"] * MOST_ROWS,
+        "weekday": ["(f57){y100}"] * MOST_ROWS,
+        "february": ["(M2f51){y100}"] * MOST_ROWS,
+    }
+    for name, domains_of in texts.items():
+        file = folder.elements(f"now_{name}", domains_of)
+        yield desk(f"65,536 elements of {domains_of[0]}", ["now", file, MOMENT, "11"])
+    yield desk(f"65,536 elements of {never}", ["faults", "--warn", folder.elements("warned", [never] * MOST_ROWS)])
+    dated = never.replace("M2", "y2096M2")
+    yield desk(f"65,536 elements of {dated}", ["faults", "--warn", folder.elements("warned_year", [dated] * MOST_ROWS)])
+    hands = [(n // 16, n % 16) for n in range(MOST_ROWS)]
+    text = HEADER + "".join(f"{element},both,0,(M5d1h{row}){{h1}}+(h{row}){{h1}}\n" for element, row in hands)
+    yield desk("4,096 elements of 16 rows that hand over to one another",
+               ["now", folder.file("now_hands", text), MOMENT, "11"])
+    row = joined(["(w9){y9}"] * 52)
+    text = HEADER + "".join(f"{n},both,0,{row}\n{n},positive,0,(h1){{h1}}\n" for n in range(MOST_ROWS // 2))
+    yield Case("32,768 elements, 52 (w9){y9} both ways and (h1){h1} one way, a day",
+               schedule(folder.file("one_way", text), DAY))
+
+
+def pictures(folder):
+    """Pictures of more rectangles than an eye can see."""
+    text = joined(hour_starts(MOST_BASIC))
+    yield desk("128 seconds of each hour", ["picture-domain", text, "2024"])
+    yield desk("128 seconds of each minute", ["picture-domain", joined(minute_starts(MOST_BASIC)), "2024"])
+    rows = ["(s0){s1}"] * 4_095 + ["(M5d1){d1}"]
+    yield desk("4,096 rows of each minute's first second and a date",
+               ["picture", folder.rows("picture", rows), "1", "positive", "11", "2024"])
 
 
 def rows_in_order(folder):
@@ -282,5 +338,5 @@ def cases(path):
     folder = Folder(path)
     yield from domains()
     yield from words()
-    for group in (one_row, one_element, many_elements, rows_in_order, one_field, vehicle_lists):
+    for group in (one_row, one_element, many_elements, states, pictures, rows_in_order, one_field, vehicle_lists):
         yield from group(folder)

@@ -75,7 +75,8 @@ module _ (d : BasicDomain) (a b : ℤ) (x : Interval) (xs : List Interval) (e : 
       where
         out : (t : ℤ) → a ≤ℤ t → t <ℤ x.from → InBasic d t → ⊥
         out t from before h =
-            let first = first-holds x xs t normal (is-for.complete t (from, (let i = begins.1 in omega (arith, ints, before, i)), h)) in
+            let within : t <ℤ b = (let i = begins.1 in omega (arith, ints, before, i)) in
+            let first = first-holds x xs t normal (is-for.complete t (from, within, h)) in
             omega (arith, ints, first, before)
 
     -- in its first interval
@@ -99,8 +100,10 @@ stays-none d a b s stay e le lt holds until = record {
   holds = rw holds ((λ h. absurd (cc)), (λ h. absurd (out s le lt h)));
   later = omega (arith, ints, until, lt);
   within = omega (arith, ints, until);
-  same = λ t after before.
-      ((λ h. absurd (out s le lt h)), (λ h. absurd (out t (omega (arith, ints, le, after)) (omega (arith, ints, until, before)) h)));
+  same = λ t after before. (
+    (λ h. absurd (out s le lt h)),
+    (λ h. absurd (out t (omega (arith, ints, le, after)) (omega (arith, ints, until, before)) h)),
+  );
 }
   where
     out : (t : ℤ) → a ≤ℤ t → t <ℤ b → InBasic d t → ⊥

@@ -12,7 +12,7 @@ use gtd_core::{Domain, Expr, Horizon, Op};
 use std::alloc::{AllocError, Global};
 
 // How many basic domains an expression has.
-fn basic_domains(expr: &Expr) -> usize
+pub(crate) fn basic_domains(expr: &Expr) -> usize
     requires few { leaf_count (tree_of expr.now) ≤ most_basic_domains }
     ensures value { result ≡ leaf_count (tree_of expr.now) }
 {

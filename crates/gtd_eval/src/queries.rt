@@ -9,13 +9,14 @@ ghost use Rattle.gtd_eval.specs.Membership.{InDomain, IsNormalOver};
 use crate::expr_stays::{stay_at, stays_of};
 use crate::kept::KeptCursor;
 use crate::membership::is_weekly;
-use crate::stay::days_to_look;
+use crate::open::basic_domains;
+use crate::stay::{days_to_look, stay_of};
 use gtd_core::{Domain, Horizon, Sec};
 use gtd_spans::SpanList;
 use std::alloc::{AllocError, Global};
 
-// How many stays are asked for, one after another, before a change is looked for span by span.
-const MOST_STAYS: u32 = 65_536;
+// How many stays of basic domains are asked for, one after another, before a change is looked for span by span.
+const MOST_STAYS: usize = 4_194_304;
 
 /// The seconds of the domain in the horizon.
 pub fn spans(alloc: Global, domain: &Domain, horizon: Horizon) -> Result<SpanList, AllocError>
@@ -57,10 +58,10 @@ fn change_by_stays(
 {
     let end = horizon.until();
     let days = days_to_look(false, second, horizon);
+    let first = stay_of(domain, second, horizon);
     let mut stays = stays_of(alloc, domain.expr(), days)?;
-    let first = stay_at(&mut stays, second, end);
     let mut at = first.until;
-    for _ in 0..MOST_STAYS {
+    for _ in 0..MOST_STAYS / (basic_domains(domain.expr()) + 1) {
         if at.0 >= end.0 {
             return Ok(None);
         }

@@ -1,22 +1,28 @@
 //! How long a domain stays as it is at a second.
 
-ghost use Rattle.std.specs.Prelude.{◌↔◌, ◌⊎◌, ◌≡◌, ◌+ℤ◌, ◌<ℤ◌, ◌≤ℤ◌, pos, ℤ, IsTrue};
+ghost use Rattle.std.specs.Prelude.{◌↔◌, ◌⊎◌, ◌≡◌, ◌+ℤ◌, ◌<ℤ◌, ◌≤ℤ◌, pos, ℤ, IfSome, IsTrue};
 ghost use Rattle.gtd_core.specs.Parts.{domain_tree, start_parts, duration_parts};
 ghost use Rattle.gtd_core.specs.Limits.{first_horizon_day, horizons_end};
 ghost use Rattle.gtd_core.specs.Seconds.{Within, day_of_second};
 ghost use Rattle.gtd_core.specs.Trees.{tree_of};
 ghost use Rattle.gtd_core.specs.Whole.{from_day, to_day, whole};
 ghost use Rattle.gtd_recur.specs.Membership.{InBasic};
+ghost use Rattle.gtd_recur.specs.Periods.{period_seconds};
 ghost use Rattle.gtd_spans.specs.Change.{NeverChanges};
 ghost use Rattle.gtd_eval.specs.Ever.{week};
 ghost use Rattle.gtd_eval.specs.Membership.{InDomain, InTree};
+ghost use Rattle.gtd_eval.specs.Periods.{AllRepeat};
 ghost use Rattle.gtd_eval.specs.Stays.{ComesBefore, IsStay, NoneChanges};
 
+use crate::period::period_of_all;
 use gtd_core::{Basic, Domain, Expr, Horizon, Op, Sec};
-use gtd_recur::{Runs, covers, is_weekly};
+use gtd_recur::{Period, Runs, covers, is_weekly};
 
 // The days of a week, and one more: the rest of a second's own day.
 const WEEKLY_DAYS: i64 = 8;
+
+// How many stays of an expression that repeats are asked for to find that it does not change. A minute has no more.
+const MOST_STAYS: usize = 64;
 
 /// Whether a set of seconds has a second, and a later second before which that does not change.
 #[derive(Clone, Copy, Debug, PartialEq, Eq)]
@@ -125,13 +131,98 @@ fn basic_end(basic: &Basic, second: Sec, horizon: Horizon) -> Sec
     }
 }
 
-// The stay of an expression at a second.
+// The stay of an expression at a second, by those of its basic domains.
+fn each_stay(expr: &Expr, second: Sec, horizon: Horizon) -> Stay
+    requires inside { Within (whole horizon) second.0 }
+    ensures stays { IsStay (InTree (tree_of expr.now)) second.0 (whole horizon).until result }
+    ensures far { (u : ℤ) → u ≤ℤ (whole horizon).until → NoneChanges (tree_of expr.now) second.0 u
+        → u ≤ℤ result.until.0 }
+{
+    match expr {
+        Expr::Leaf(basic) => Stay {
+            holds: covers(basic, second),
+            until: basic_end(basic, second, horizon),
+        },
+        Expr::Join(op, left, right) => {
+            let left = each_stay(left, second, horizon);
+            let right = each_stay(right, second, horizon);
+            Stay::joined(*op, left, right)
+        }
+    }
+}
+
+// The second up to which an expression stays as it is, from one stay to the next. No more of them are asked for once it is not
+// before the last.
+fn alike_until(expr: &Expr, first: Stay, second: Sec, last: Sec, horizon: Horizon) -> Sec
+    requires inside { Within (whole horizon) second.0 }
+    requires first { IsStay (InTree (tree_of expr.now)) second.0 (whole horizon).until first }
+    requires last { last.0 ≤ℤ (whole horizon).until }
+    ensures later { second.0 <ℤ result.0 }
+    ensures within { result.0 ≤ℤ (whole horizon).until }
+    ensures same { NeverChanges (InTree (tree_of expr.now)) second.0 result.0 }
+    ensures long { first.until.0 ≤ℤ result.0 }
+{
+    let mut at = first.until;
+    for _ in 0..MOST_STAYS {
+        if at.0 >= last.0 {
+            return at;
+        }
+        let stay = each_stay(expr, at, horizon);
+        if stay.holds != first.holds {
+            return at;
+        }
+        at = stay.until;
+    }
+    at
+}
+
+// The stay of an expression that repeats after a period: if it stays as it is for so long, it does for ever.
+fn repeating_stay(expr: &Expr, period: Period, second: Sec, horizon: Horizon) -> Stay
+    requires inside { Within (whole horizon) second.0 }
+    requires repeats { AllRepeat (period_seconds period) (tree_of expr.now) }
+    ensures stays { IsStay (InTree (tree_of expr.now)) second.0 (whole horizon).until result }
+    ensures far { (u : ℤ) → u ≤ℤ (whole horizon).until → NoneChanges (tree_of expr.now) second.0 u
+        → u ≤ℤ result.until.0 }
+{
+    let first = each_stay(expr, second, horizon);
+    let end = horizon.until();
+    let last = Sec(second.0 + period.seconds());
+    let until = alike_until(expr, first, second, last.earlier(end), horizon);
+    if until.0 >= last.0 {
+        return Stay {
+            holds: first.holds,
+            until: end,
+        };
+    }
+    Stay {
+        holds: first.holds,
+        until,
+    }
+}
+
+// The period after which an expression of two sides repeats. That of a basic domain says nothing more of its changes.
+fn joined_period(expr: &Expr) -> Option<Period>
+    ensures repeats { IfSome result (λ period. AllRepeat (period_seconds period) (tree_of expr.now)) }
+{
+    match expr {
+        Expr::Leaf(_) => None,
+        Expr::Join(..) => {
+            let period = period_of_all(expr)?;
+            Some(period)
+        }
+    }
+}
+
+// The stay of an expression at a second. What repeats in it and does not change stays as it is to the end.
 fn expr_stay(expr: &Expr, second: Sec, horizon: Horizon) -> Stay
     requires inside { Within (whole horizon) second.0 }
     ensures stays { IsStay (InTree (tree_of expr.now)) second.0 (whole horizon).until result }
     ensures far { (u : ℤ) → u ≤ℤ (whole horizon).until → NoneChanges (tree_of expr.now) second.0 u
         → u ≤ℤ result.until.0 }
 {
+    if let Some(period) = joined_period(expr) {
+        return repeating_stay(expr, period, second, horizon);
+    }
     match expr {
         Expr::Leaf(basic) => Stay {
             holds: covers(basic, second),
@@ -148,7 +239,8 @@ fn expr_stay(expr: &Expr, second: Sec, horizon: Horizon) -> Stay
 /// Whether the domain contains the second, which must be in the horizon, and a later second, at most the end of the
 /// horizon, before which that does not change. It may stay so for longer, but the second that is answered is at least the
 /// first at which any basic domain of the domain changes; so for a single basic domain it is the next change. Of a basic
-/// domain that repeats each week, a week is looked at. Takes no memory.
+/// domain that repeats each week, a week is looked at. A part whose basic domains repeat, and that few stays show not to change,
+/// stays as it is to the end. Takes no memory.
 ///
 /// ```
 /// let domain = read_domain(alloc, b"[(h10){h4}]")?;

@@ -1,4 +1,4 @@
-use Rattle.std.proofs.Common.{◌≡◌, ◌∙◌, arith, rules, subst}
+use Rattle.std.proofs.Common.{◌≡◌, ◌∙◌, arith, rules, subst, inl, inr}
 use Rattle.std.specs.Prelude.{ℤ, ◌<ℤ◌, ◌≤ℤ◌}
 use Rattle.std.proofs.lemmas.Int.{ints}
 use Rattle.gtd_core.specs.Parts.{domain_tree}
@@ -10,13 +10,7 @@ use Rattle.gtd_eval.specs.Stays.{IsStay}
 use Rattle.gtd_eval.specs.declared.stay.Stay.{Stay}
 use Rattle.gtd_eval.proofs.OnwardFacts.{come-later}
 use Rattle.gtd_eval.proofs.StayChanges.{changes_at, next_stays}
-use Rattle.gtd_eval.proofs.queries.change_by_stays.Goals.{After-stay_at-first}
 use Rattle.gtd_eval.proofs.queries.change_by_stays.Goals as goal
-
-pub stay_at-first-requires-clause-come : goal.stay_at-first-requires-clause-come
-stay_at-first-requires-clause-come c =
-    come-later c.in_ok-stays.stays (whole c.days_to_look-days.result).from c.args.second.0 c.days_to_look-days.ensures.inside.0
-    c.in_ok-stays.ensures.come
 
 -- a stay of the tree that is asked is one of the domain
 of-tree : (asked tree : Tree) (s last end : ℤ) (stay : Stay) → asked ≡ tree → end ≡ last → IsStay (InTree asked) s end stay
@@ -24,21 +18,18 @@ of-tree : (asked tree : Tree) (s last end : ℤ) (stay : Stay) → asked ≡ tre
 of-tree asked tree s last end stay e f is =
     subst (λ (t : Tree). IsStay (InTree t) s last stay) e (subst (λ (u : ℤ). IsStay (InTree asked) s u stay) f is)
 
-first : (c : After-stay_at-first)
-    → IsStay (InDomain c.args.domain.now) c.args.second.0 (whole c.args.horizon).until c.stay_at-first.result
-first c =
-    of-tree (asked_tree c.in_ok-stays.stays) (domain_tree c.args.domain.now) c.args.second.0 (whole c.args.horizon).until
-    c.until-end.result.0 c.stay_at-first.result (rw c.expr.ensures.value at c.in_ok-stays.ensures.tree) c.until-end.ensures.value
-    c.stay_at-first.ensures.stays
-
 pub loop-init : goal.loop-init
 loop-init c =
-    let is = first (goal.at.loop-init c).After-stay_at-first in
+    let is = c.stay_of-first.ensures.stays in
     record {
-      tree = c.stay_at-first.ensures.tree ∙ rw c.expr.ensures.value at c.in_ok-stays.ensures.tree;
-      come = come-later c.stay_at-first.new.stays c.args.second.0 c.stay_at-first.result.until.0
-          (let l = is.later in omega (arith, ints, l)) c.stay_at-first.ensures.come;
-      end = rw c.until-end.ensures.value at c.stay_at-first.ensures.end;
+      tree = rw c.expr.ensures.value at c.in_ok-stays.ensures.tree;
+      come = come-later c.in_ok-stays.stays (whole c.days_to_look-days.result).from c.stay_of-first.result.until.0
+          (let l = is.later in let s = c.days_to_look-days.ensures.inside.0 in omega (arith, ints, l, s))
+          c.in_ok-stays.ensures.come;
+      end = elim c.days_to_look-days.ensures.until [
+        | inl e ↦ rw e at c.in_ok-stays.ensures.end
+        | inr w ↦ absurd (let no = w.1 in cc)
+      ];
       later = is.later;
       within = is.within;
       never = is.same;
@@ -56,7 +47,7 @@ loop-preserved c =
     let is : IsStay (InDomain c.args.domain.now) c.loop.at.0 last c.stay_at-stay.result =
     of-tree (asked_tree c.loop.stays) (domain_tree c.args.domain.now) c.loop.at.0 last c.until-end.result.0 c.stay_at-stay.result
     i.tree c.until-end.ensures.value c.stay_at-stay.ensures.stays in
-    let same : c.stay_at-stay.result.holds ≡ c.stay_at-first.result.holds = search rules in
+    let same : c.stay_at-stay.result.holds ≡ c.stay_of-first.result.holds = search rules in
     record {
       tree = c.stay_at-stay.ensures.tree ∙ i.tree;
       come = come-later c.stay_at-stay.new.stays c.loop.at.0 c.stay_at-stay.result.until.0
@@ -64,6 +55,6 @@ loop-preserved c =
       end = rw c.until-end.ensures.value at c.stay_at-stay.ensures.end;
       later = (let l = is.later in let k = i.later in omega (arith, ints, l, k));
       within = is.within;
-      never = next_stays (InDomain c.args.domain.now) c.args.second.0 last c.stay_at-first.result c.stay_at-stay.result
-          c.loop.at.0 (first (goal.at.loop-preserved c).After-stay_at-first) is same i.later i.never;
+      never = next_stays (InDomain c.args.domain.now) c.args.second.0 last c.stay_of-first.result c.stay_at-stay.result
+          c.loop.at.0 c.stay_of-first.ensures.stays is same i.later i.never;
     }
