@@ -1,5 +1,5 @@
 -- The bytes that the moments of a line have at first are those of second 0.
-use Rattle.std.proofs.Common.{◌≡◌, sym, refl, rules, arith, ap, ℕ, ℤ, pos, ◌+ℤ◌, negsuc, List, ◌++◌}
+use Rattle.std.proofs.Common.{◌≡◌, sym, refl, rules, arith, ap, ℕ, ℤ, pos, ◌+ℤ◌, List, ◌++◌}
 use Rattle.std.specs.Prelude.{codes}
 use Rattle.gtd_calendar.specs.Calendar.{day_number, days_of_months}
 use Rattle.gtd_calendar.specs.ComputedDates.{year_of, month_of, day_of_month}
@@ -8,7 +8,7 @@ use Rattle.gtd_calendar.specs.Stamp.{stamp_text}
 use Rattle.gtd_calendar.specs.facts.DateLemmas.{date_of-only}
 use Rattle.gtd_calendar.specs.facts.YearLemmas.{first_day-1970}
 use Rattle.gtd_core.specs.Seconds.{day_of_second}
-use Rattle.gtd_schedule.specs.Moments.{AreMoments, IsKeptOf}
+use Rattle.gtd_schedule.specs.Moments.{AreMoments, IsKeptOf, first_second}
 use Rattle.gtd_schedule.specs.declared.moment.Shown.{Shown}
 
 first_day : pos 0 ≡ day_number (pos 1970) 1 1
@@ -26,10 +26,14 @@ day_zero : day_of_second (pos 0) ≡ pos 0
 unfolding day_of_second
 day_zero = refl
 
-pub first_kept : IsKeptOf (pos 0) record { month = record { eve = negsuc 0; last_day = 31 }; clock = 0 }
+first_begins : pos 0 ≡ first_second (pos 0) 1
+unfolding first_second
+first_begins = refl
+
+pub first_kept : IsKeptOf (pos 0) record { month = record { begins = pos 0; seconds = 2678400 }; clock = 0 }
 first_kept = let d = first_date in record {
   day = rw day_zero (search rules);
-  month = record { eve = rw (day_zero, ← d.2) refl; reached = rw (day_zero, ← d.1) (omega arith) };
+  month = record { begins = rw (day_zero, ← d.2) first_begins; reached = rw (day_zero, ← d.1) (omega arith) };
   clock = sym first_clock;
 }
 
@@ -46,7 +50,7 @@ first_moments = both (stamp_text (pos 0)) first_stamp
 
 -- what they show
 abbrev pub shown_first : Shown
-shown_first = record { month = record { eve = negsuc 0; last_day = 31 }; clock = 0 }
+shown_first = record { month = record { begins = pos 0; seconds = 2678400 }; clock = 0 }
 
 pub are_first : AreMoments (record { from = shown_first; until = shown_first })
     (codes "1970-01-01T00:00:00,1970-01-01T00:00:00\n")

@@ -1,5 +1,5 @@
 -- The moments of a line, and what is kept of them while the line is written over.
-use Rattle.std.specs.Prelude.{◌≡◌, ◌≤◌, ◌++◌, ℕ, ℤ, pos, ◌+ℤ◌, List, codes}
+use Rattle.std.specs.Prelude.{◌≡◌, ◌≤◌, ◌<◌, ◌+◌, ◌*◌, ◌++◌, ℕ, ℤ, pos, ◌+ℤ◌, ◌-ℤ◌, ◌*ℤ◌, List, codes}
 use Rattle.gtd_core.specs.Seconds.{day_of_second}
 use Rattle.gtd_calendar.specs.Calendar.{IsCalendarDay, month_length}
 use Rattle.gtd_calendar.specs.Clock.{second_of_day}
@@ -9,10 +9,20 @@ use Rattle.gtd_schedule.specs.declared.moment.Month.{Month}
 use Rattle.gtd_schedule.specs.declared.moment.Shown.{Shown}
 use Rattle.gtd_schedule.specs.declared.line.ShownSpan.{ShownSpan}
 
--- the month of the day: the day before its first day, and a last day that it has
+-- the first second of the month in which a day, by its number, is this day of the month
+unfoldable pub first_second : ℤ → ℕ → ℤ
+first_second day place = pos 86400 *ℤ ((day +ℤ pos 1) -ℤ pos place)
+
+-- the month of the day: its first second, and seconds of days that it has
 pub record IsMonthOf (day : ℤ) (month : Month) : Type 0 where
-  pub eve : month.eve +ℤ pos (day_of_month day) ≡ day
-  pub reached : month.last_day ≤ month_length (year_of day) (month_of day)
+  pub begins : month.begins ≡ first_second day (day_of_month day)
+  pub reached : month.seconds ≤ 86400 * month_length (year_of day) (month_of day)
+
+-- a day, by its number, is this day of a month, and begins within the month's seconds
+pub record IsDayOfMonth (month : Month) (day : ℤ) (place : ℕ) : Type 0 where
+  pub begins : month.begins ≡ first_second day place
+  pub some : 1 ≤ place
+  pub within : 86400 * place < month.seconds + 86400
 
 -- the month of some day of the calendar
 abbrev pub IsSomeMonth : Month → Type 0

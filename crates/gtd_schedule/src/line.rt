@@ -1,13 +1,13 @@
 //! The lines of a schedule.
 
-ghost use Rattle.std.specs.Prelude.{◌≡◌, ◌++◌, ◌≤◌, ℕ, List, pos, ◌+ℤ◌, codes, length, take, drop, OnOk, IfOk};
+ghost use Rattle.std.specs.Prelude.{◌≡◌, ◌*◌, ◌++◌, ◌≤◌, ℕ, List, codes, length, take, drop, OnOk, IfOk};
 ghost use Rattle.gtd_calendar.specs.Calendar.{IsCalendarDay, month_length};
 ghost use Rattle.gtd_calendar.specs.Clock.{second_of_day};
 ghost use Rattle.gtd_calendar.specs.ComputedDates.{day_of_month, month_of, year_of};
 ghost use Rattle.gtd_calendar.specs.Stamp.{stamp_text};
 ghost use Rattle.gtd_core.specs.Seconds.{day_of_second};
 ghost use Rattle.gtd_schedule.specs.Lines.{line_head, span_text};
-ghost use Rattle.gtd_schedule.specs.Moments.{AreMoments};
+ghost use Rattle.gtd_schedule.specs.Moments.{AreMoments, first_second};
 
 use crate::moment::{Month, Shown, write_moment};
 use gtd_core::{Sec, Span};
@@ -49,9 +49,9 @@ pub(crate) struct FirstMoments {
     pub(crate) shown: Shown,
     pub(crate) second: Sec,
     ghost day: { IsCalendarDay (day_of_second second.0) },
-    ghost eve: { shown.month.eve +ℤ pos (day_of_month (day_of_second second.0)) ≡ day_of_second second.0 },
-    ghost reached: { shown.month.last_day
-        ≤ month_length (year_of (day_of_second second.0)) (month_of (day_of_second second.0)) },
+    ghost begins: { shown.month.begins ≡ first_second (day_of_second second.0) (day_of_month (day_of_second second.0)) },
+    ghost reached: { shown.month.seconds
+        ≤ 86400 * month_length (year_of (day_of_second second.0)) (month_of (day_of_second second.0)) },
     ghost clock: { shown.clock ≡ second_of_day second.0 },
     ghost is: { bytes ≡ stamp_text second.0 ++ codes "," ++ stamp_text second.0 ++ codes "\n" },
 }
@@ -63,8 +63,8 @@ impl FirstMoments {
     {
         let mut bytes = *b"1970-01-01T00:00:00,1970-01-01T00:00:00\n";
         let month = Month {
-            eve: -1,
-            last_day: 31,
+            begins: 0,
+            seconds: 31 * 86_400,
         };
         let (mut shown, mut same) = (Shown { month, clock: 0 }, Shown { month, clock: 0 });
         let (from, until) = bytes.split_at_mut(20);

@@ -9,7 +9,7 @@ ghost use Rattle.gtd_core.specs.Limits.{day_seconds};
 ghost use Rattle.gtd_core.specs.Seconds.{day_of_second};
 ghost use Rattle.gtd_schedule.specs.Lines.{clock_bytes};
 ghost use Rattle.gtd_schedule.specs.Months.{IsDated};
-ghost use Rattle.gtd_schedule.specs.Moments.{IsKeptOf, IsMonthOf, IsShown, IsSomeMonth};
+ghost use Rattle.gtd_schedule.specs.Moments.{IsDayOfMonth, IsKeptOf, IsMonthOf, IsShown, IsSomeMonth};
 
 use gtd_calendar::{second_of_day, write_date};
 use gtd_core::Sec;
@@ -24,10 +24,10 @@ static PAIRS: [u8; 200] = *b"\
 /// The month of a day.
 #[derive(Clone, Copy)]
 pub(crate) struct Month {
-    /// The day before its first day.
-    pub(crate) eve: i64,
-    /// The last day that such a month has in every year.
-    pub(crate) last_day: u32,
+    /// The first second of its first day.
+    pub(crate) begins: i64,
+    /// The seconds of the days that such a month has in every year.
+    pub(crate) seconds: u32,
 }
 
 /// What the text of a moment shows. Only what differs from it is written for the next moment.
@@ -94,8 +94,8 @@ fn write_whole_day(text: &mut [u8], day: i64) -> Month
     front.copy_from_slice(&date);
     let [_, _, _, _, _, month_tens, month_ones, _, tens, ones] = date;
     Month {
-        eve: day - i64::from(10 * (tens - b'0') + (ones - b'0')),
-        last_day: last_day_of(10 * (month_tens - b'0') + (month_ones - b'0')),
+        begins: DAY_SECONDS * (day + 1 - i64::from(10 * (tens - b'0') + (ones - b'0'))),
+        seconds: 86_400 * last_day_of(10 * (month_tens - b'0') + (month_ones - b'0')),
     }
 }
 
@@ -104,21 +104,21 @@ fn write_whole_day(text: &mut [u8], day: i64) -> Month
 fn place_in_month(month: Month, second: Sec) -> Option<Place>
     requires day { IsCalendarDay (day_of_second second.0) }
     requires month { IsSomeMonth month }
-    ensures day { IfSome result (λ at. (month.eve +ℤ pos at.day ≡ day_of_second second.0) × (1 ≤ at.day)
-        × (at.day ≤ month.last_day)) }
+    ensures day { IfSome result (λ at. IsDayOfMonth month (day_of_second second.0) at.day) }
     ensures clock { IfSome result (λ at. at.clock ≡ clock_of second.0) }
 {
-    let since = second.0 - DAY_SECONDS * month.eve;
-    if since < DAY_SECONDS || 32 * DAY_SECONDS <= since {
+    let since = second.0 - month.begins;
+    let seconds = i64::from(month.seconds);
+    if since < 0 || seconds <= since {
         return None;
     }
     let since = since as u32;
-    let day = since / 86_400;
-    if month.last_day < day {
-        return None;
-    }
-    let clock = since - 86_400 * day;
-    Some(Place { day, clock })
+    let before = since / 86_400;
+    let clock = since - 86_400 * before;
+    Some(Place {
+        day: before + 1,
+        clock,
+    })
 }
 
 // Writes the day of a second over the one that the text begins with, where the known month does not have it: another text

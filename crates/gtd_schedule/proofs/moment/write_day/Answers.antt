@@ -19,10 +19,10 @@ returns-in-Some-clause-text c =
     let is = c.in-Some.ensures.day in
     written c.args.text.now c.write_two.new.text o.rest o.day c.in-Some.at.day o.is c.write_two.ensures.text
     ∙ ap (λ (l : List ℕ). l ++ drop 10 c.args.text.now)
-    (sym (other_day o.day c.args.month.now o.of (day_of_second c.args.second.0) c.in-Some.at.day is.0 is.1 is.2))
+    (sym (other_day o.day c.args.month.now o.of (day_of_second c.args.second.0) c.in-Some.at.day is))
 
 pub returns-in-Some-clause-month : goal.returns-in-Some-clause-month
 returns-in-Some-clause-month c =
     let o = c.requires.month in
     let is = c.in-Some.ensures.day in
-    other_month o.day c.args.month.now o.of (day_of_second c.args.second.0) c.in-Some.at.day is.0 is.1 is.2
+    other_month o.day c.args.month.now o.of (day_of_second c.args.second.0) c.in-Some.at.day is

@@ -27,10 +27,10 @@ returns-in-Some-clause-text c =
     c.in-Some.at.day o.is c.split_at.ensures.front c.copy_from_slice.ensures.after
     (rw (c.split_at_mut-front.ensures.back) at c.write_two.ensures.text)
     ∙ ap (λ (l : List ℕ). l ++ drop 10 c.args.text.now)
-    (sym (other_day o.day c.args.month_of_other o.of (day_of_second c.args.second.0) c.in-Some.at.day is.0 is.1 is.2))
+    (sym (other_day o.day c.args.month_of_other o.of (day_of_second c.args.second.0) c.in-Some.at.day is))
 
 pub returns-in-Some-clause-month : goal.returns-in-Some-clause-month
 returns-in-Some-clause-month c =
     let o = c.requires.other in
     let is = c.in-Some.ensures.day in
-    other_month o.day c.args.month_of_other o.of (day_of_second c.args.second.0) c.in-Some.at.day is.0 is.1 is.2
+    other_month o.day c.args.month_of_other o.of (day_of_second c.args.second.0) c.in-Some.at.day is
