@@ -254,7 +254,7 @@ run picture-domain '(h5){h1}' 1900
 expect 'no year of a domain' 1 '' 'gtdesk: YEAR: not a number from 1901 to 2199'
 # The words of a domain.
 run words '[(M4d1){M3}]*[(h22){h8}]'
-expect 'words' 0 $'from 1 April every year for 3 months\nand all this only in: every day from 22 o\'clock for 8 hours, until 6:00 the next day' ''
+expect 'words' 0 $'from 1 April every year until 30 June (included)\nand all this only in: each day from 22:00 until 06:00 the next day' ''
 run words '(h25){h1}'
 expect 'words of no domain' 1 '' 'gtdesk: DOMAIN: FieldRange at 1'
 run words ''

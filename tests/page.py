@@ -545,7 +545,7 @@ def check_people(browser, address):
     for place in ("spoken", "read", "faults", "counted", "saved", "looked", "element-said", "lacks"):
         check(place in live, f"{place} is not read out")
     enter(browser, "domain")
-    for text, part in (("[(h25){h1}]", "FieldRange at 2"), ("(h22){h8}", "every day from 22 o'clock")):
+    for text, part in (("[(h25){h1}]", "FieldRange at 2"), ("(h22){h8}", "each day from 22:00")):
         type_text(browser, text)
         browser.wait(f"document.getElementById('spoken').textContent.includes({part!r})")
 

@@ -55,7 +55,7 @@ class Domain:
     >>> market.contains("2024-03-16T08:00:00")
     True
     >>> market.words()
-    "every Saturday from 5 o'clock for 10 hours, until 15:00"
+    "every Saturday from 05:00 until 15:00"
     """
 
     __slots__ = ("_text", "_engine", "_at", "_holds", "_canonical", "__weakref__")

@@ -225,7 +225,7 @@ def test_words_and_pictures(answering):
     ]:
         printed = subprocess.run([gtd.program("gtdesk"), *words], stdout=subprocess.PIPE, check=True).stdout.decode()
         assert ask.rstrip("\n") == printed.rstrip("\n")
-    assert gtd.Domain("(t7h5){h10}").words() == "every Saturday from 5 o'clock for 10 hours, until 15:00"
+    assert gtd.Domain("(t7h5){h10}").words() == "every Saturday from 05:00 until 15:00"
 
 
 def test_a_domain_is_a_value(answering):

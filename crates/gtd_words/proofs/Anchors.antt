@@ -1,6 +1,6 @@
 -- What names the day of a start, read off its words.
 use Rattle.std.proofs.Common.{◌≡◌, ◌≢◌, ℕ, ◌/◌, ◌%◌, ◌<◌, Bool, true, false, cond, List}
-use Rattle.std.proofs.Common.{[], ◌∷◌, ◌++◌, refl, sym, ap, ◌∙◌, arith, append_assoc}
+use Rattle.std.proofs.Common.{[], ◌∷◌, ◌++◌, refl, sym, ap, ◌∙◌, arith, append_assoc, ◌⊎◌, inl, inr}
 use Rattle.std.specs.Prelude.{◌==◌, codes, decimal}
 use Rattle.std.specs.Char.{is_ascii_digit}
 use Rattle.std.proofs.lemmas.Bool.{false≢true, eq-eqb}
@@ -9,9 +9,9 @@ use Rattle.gtd_words.specs.declared.anchor.Anchor.{Anchor}
 use Rattle.gtd_words.specs.declared.anchor.Anchor.TheVariants.{Day, Place, PlaceBack, Weekdays, EveryDay, TheMonday, Beginning}
 use Rattle.gtd_words.specs.Names.{place_names, place_name, weekday_name, weekdays_words, place_words, back_words}
 use Rattle.gtd_words.specs.Names.{ordinal_ending}
-use Rattle.gtd_words.specs.Starts.{anchor_words, clock_lead, day_words, is_in_month, lead_words}
+use Rattle.gtd_words.specs.Starts.{anchor_words, day_words, is_in_month, lead_words, named_lead}
 use Rattle.gtd_words.proofs.Prefixes.{Both, NoDigit, Digit, head, tail, no_way, decimal_then, first_digit, of_name}
-use Rattle.gtd_words.proofs.WeekdayLists.{list_of_days, from_day, of_weekday}
+use Rattle.gtd_words.proofs.WeekdayLists.{and_days, DaysOf, RunOf, from_day, of_weekday}
 use Rattle.gtd_words.proofs.StartParts.{rank, IsAt, place_then, back_then, weekdays_spaced, spaced_then}
 
 abbrev pub IsAnchor : Anchor → Type 0
@@ -26,8 +26,8 @@ IsAnchor other = Unit {0}
 abbrev after_every : ℕ → List ℕ → List ℕ
 after_every w r = weekdays_words (codes " and ") w ++ codes " " ++ r
 
-lead_true : (m n : Bool) (a b : Anchor) (r s : List ℕ) → clock_lead a ++ (anchor_words m a ++ r)
-    ≡ clock_lead b ++ (anchor_words n b ++ s) → anchor_words m a ++ r ≡ anchor_words n b ++ s
+lead_true : (m n : Bool) (a b : Anchor) (r s : List ℕ) → named_lead a ++ (anchor_words m a ++ r)
+    ≡ named_lead b ++ (anchor_words n b ++ s) → anchor_words m a ++ r ≡ anchor_words n b ++ s
 lead_true m n (Weekdays w) (Weekdays v) r s e = e
 lead_true m n (Weekdays w) EveryDay r s e = e
 lead_true m n EveryDay (Weekdays v) r s e = e
@@ -35,16 +35,16 @@ lead_true m n EveryDay EveryDay r s e = e
 lead_true m n (Weekdays w) b r s e =
     absurd (no_way (codes "every ") (codes "on ") (after_every w r) (anchor_words n b ++ s) refl e)
 lead_true m n EveryDay b r s e =
-    absurd (no_way (codes "every ") (codes "on ") (codes "day " ++ r) (anchor_words n b ++ s) refl e)
+    absurd (no_way (codes "each ") (codes "on ") (codes "day " ++ r) (anchor_words n b ++ s) refl e)
 lead_true m n a (Weekdays v) r s e =
     absurd (no_way (codes "on ") (codes "every ") (anchor_words m a ++ r) (after_every v s) refl e)
 lead_true m n a EveryDay r s e =
-    absurd (no_way (codes "on ") (codes "every ") (anchor_words m a ++ r) (codes "day " ++ s) refl e)
+    absurd (no_way (codes "on ") (codes "each ") (anchor_words m a ++ r) (codes "day " ++ s) refl e)
 lead_true m n a b r s e = append_cancel_left (codes "on ") (anchor_words m a ++ r) (anchor_words n b ++ s) e
 
-lead_mixed : (n : Bool) (x : List ℕ) (b : Anchor) (s : List ℕ) → codes "from " ++ x ≡ clock_lead b ++ (anchor_words n b ++ s) → ⊥
+lead_mixed : (n : Bool) (x : List ℕ) (b : Anchor) (s : List ℕ) → codes "from " ++ x ≡ named_lead b ++ (anchor_words n b ++ s) → ⊥
 lead_mixed n x (Weekdays v) s e = no_way (codes "from ") (codes "every ") x (after_every v s) refl e
-lead_mixed n x EveryDay s e = no_way (codes "from ") (codes "every ") x (codes "day " ++ s) refl e
+lead_mixed n x EveryDay s e = no_way (codes "from ") (codes "each ") x (codes "day " ++ s) refl e
 lead_mixed n x b s e = no_way (codes "from ") (codes "on ") x (anchor_words n b ++ s) refl e
 
 pub lead_then : (c d m n : Bool) (a b : Anchor) (r s : List ℕ) → lead_words c a ++ (anchor_words m a ++ r)
@@ -74,10 +74,11 @@ the_kind (c ∷ r) = cond (is_ascii_digit c) 0 (letter_after_the c)
 
 abbrev every_kind : List ℕ → ℕ
 every_kind [] = 7
-every_kind (c ∷ r) = cond (c == 100) 4 3
+every_kind (c ∷ r) = 3
 
 abbrev word_kind : ℕ → List ℕ → ℕ
-word_kind c r = cond (c == 116) (the_kind (tail (tail (tail r)))) (every_kind (tail (tail (tail (tail (tail r))))))
+word_kind c r =
+    cond (c == 116) (the_kind (tail (tail (tail r)))) (cond (head r == 97) 4 (every_kind (tail (tail (tail (tail (tail r)))))))
 
 abbrev text_kind : List ℕ → ℕ
 text_kind [] = 7
@@ -131,11 +132,18 @@ list_kind d (e ∷ f ∷ l) r =
     ∙ weekday_kind d (codes ", " ++ from_day (codes " and ") e (f ∷ l) ++ r)
 
 weekdays_kind : (w : ℕ) (r : List ℕ) → w ≢ 0 → w < 128 → every_kind (weekdays_words (codes " and ") w ++ codes " " ++ r) ≡ 3
-weekdays_kind w r some small =
-    let x = list_of_days w some small in
-    ap (λ (l : List ℕ). every_kind l) (append_assoc (weekdays_words (codes " and ") w) (codes " ") r
-    ∙ ap (λ (l : List ℕ). l ++ (codes " " ++ r)) x.text)
-    ∙ list_kind x.first x.others (codes " " ++ r)
+weekdays_kind w r some small = by_text (and_days w some small)
+  where
+    by_text : DaysOf (codes " and ") w ⊎ RunOf (codes " and ") w → every_kind (weekdays_words (codes " and ") w ++ codes " " ++ r) ≡ 3
+    by_text (inl x) =
+        ap (λ (l : List ℕ). every_kind l) (append_assoc (weekdays_words (codes " and ") w) (codes " ") r
+        ∙ ap (λ (l : List ℕ). l ++ (codes " " ++ r)) x.text)
+        ∙ list_kind x.first x.others (codes " " ++ r)
+    by_text (inr x) =
+        ap (λ (l : List ℕ). every_kind l) (append_assoc (weekdays_words (codes " and ") w) (codes " ") r
+        ∙ ap (λ (l : List ℕ). l ++ (codes " " ++ r)) x.text
+        ∙ append_assoc (weekday_name x.first) (codes " to " ++ weekday_name x.end) (codes " " ++ r))
+        ∙ weekday_kind x.first (codes " to " ++ weekday_name x.end ++ (codes " " ++ r))
 
 anchor_kind : (m : Bool) (a : Anchor) (r : List ℕ) → IsAnchor a → text_kind (anchor_words m a ++ r) ≡ kind_of a
 anchor_kind m (Day d) r h = day_kind m d r h
@@ -209,7 +217,7 @@ by_kind (PlaceBack a) (PlaceBack b) m n r s h k x y t e =
 by_kind (Weekdays a) (Weekdays b) m n r s h k x y t e =
     same_weekdays a b r s (weekdays_spaced a b r s h.0 h.1 k.0 k.1 (x refl) (y refl)
     (append_cancel_left (codes "every ") (after_every a r) (after_every b s) e))
-by_kind EveryDay EveryDay m n r s h k x y t e = (refl, append_cancel_left (codes "every day ") r s e)
+by_kind EveryDay EveryDay m n r s h k x y t e = (refl, append_cancel_left (codes "each day ") r s e)
 by_kind TheMonday TheMonday m n r s h k x y t e = (refl, append_cancel_left (codes "the Monday ") r s e)
 by_kind Beginning Beginning m n r s h k x y t e = (refl, append_cancel_left (codes "the beginning ") r s e)
 by_kind a b m n r s h k x y t e = absurd (false≢true t)

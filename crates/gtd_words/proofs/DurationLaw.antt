@@ -1,7 +1,7 @@
 -- Two durations with the same words are the same duration, and two basic domains too.
-use Rattle.std.proofs.Common.{◌≡◌, ◌≢◌, ℕ, ◌+◌, ◌≤◌, Bool, true, false, cond, List, [], ◌∷◌, ◌++◌, Option, Some}
+use Rattle.std.proofs.Common.{◌≡◌, ◌≢◌, ℕ, ◌+◌, ◌/◌, ◌%◌, ◌<◌, ◌≤◌, Bool, true, false, cond, List, [], ◌∷◌, ◌++◌, Option, Some}
 use Rattle.std.proofs.Common.{None, refl, sym, ap, ◌∙◌, arith, append_assoc}
-use Rattle.std.specs.Prelude.{◌==◌, ◌&&◌, codes, decimal}
+use Rattle.std.specs.Prelude.{◌==◌, ◌&&◌, ◌||◌, not, codes, decimal, IfSome}
 use Rattle.std.specs.Char.{is_ascii_digit}
 use Rattle.std.proofs.lemmas.Bool.{false≢true, eqb-true, eqb-false, eq-eqb, ne_eqb, and_parts}
 use Rattle.std.proofs.lemmas.List.{append_cancel_left}
@@ -9,12 +9,19 @@ use Rattle.std.proofs.lemmas.Fmt.{decimal_digit}
 use Rattle.gtd_core.specs.declared.start.StartParts.{StartParts}
 use Rattle.gtd_core.specs.declared.duration.DurationParts.{DurationParts}
 use Rattle.gtd_core.specs.Ranges.{IsStart, IsDuration, HasSixDigits}
-use Rattle.gtd_words.specs.Starts.{start_words}
+use Rattle.gtd_words.specs.declared.end.End.{End}
+use Rattle.gtd_words.specs.Starts.{anchor_of, has_clock, start_words}
 use Rattle.gtd_words.specs.Durations.{number_words, numbers_words, date_numbers, clock_numbers, date_sum, clock_sum, date_words}
-use Rattle.gtd_words.specs.Durations.{clock_part_words, duration_words, clock_end, until_words}
+use Rattle.gtd_words.specs.Durations.{clock_part_words, duration_words}
+use Rattle.gtd_words.specs.Endings.{end_words, ending, for_words, is_all_day, is_beginning, is_written, rest_words, tail_words}
+use Rattle.gtd_words.specs.Endings.{until_words, usual}
+use Rattle.gtd_words.specs.Ends.{IsEnd}
 use Rattle.gtd_words.specs.Words.{basic_words}
 use Rattle.gtd_words.proofs.Prefixes.{Both, NoDigit, head, tail, apart, no_way, decimal_then}
 use Rattle.gtd_words.proofs.Prefixes.{first_digit}
+use Rattle.gtd_words.proofs.Clocks.{Next}
+use Rattle.gtd_words.proofs.EndWords.{end_then}
+use Rattle.gtd_words.proofs.EndRanges.{is_end}
 use Rattle.gtd_words.proofs.StartLaw.{start_then}
 
 -- ---- one number
@@ -270,36 +277,199 @@ duration_then d e r s p q h k same =
     let all = duration_step (all_sum d == 0) (all_sum e == 0) d e r s p q refl refl h k same in
     (all_numbers d e all.0, all.1)
 
--- ---- basic domains
+-- ---- what follows a start
 
-until_after : (end : Option ℕ) (r : List ℕ) → IsAfter (until_words end ++ (codes "\n" ++ r))
+-- Durations that are written with the same years, months, days and seconds are the same.
+same_written : (d e : DurationParts) (p : ℕ × ℕ × ℕ × ℕ) → is_written d p ≡ true → is_written e p ≡ true → d ≡ e
+same_written d e p h k =
+    let a1 = and_parts (d.years == p.0) _ h in
+    let a2 = and_parts (d.months == p.1) _ a1.1 in
+    let a3 = and_parts (d.weeks == 0) _ a2.1 in
+    let a4 = and_parts (d.days == p.2) _ a3.1 in
+    let a5 = and_parts (d.hours == p.3 / 3600) _ a4.1 in
+    let a6 = and_parts (d.minutes == p.3 / 60 % 60) _ a5.1 in
+    let b1 = and_parts (e.years == p.0) _ k in
+    let b2 = and_parts (e.months == p.1) _ b1.1 in
+    let b3 = and_parts (e.weeks == 0) _ b2.1 in
+    let b4 = and_parts (e.days == p.2) _ b3.1 in
+    let b5 = and_parts (e.hours == p.3 / 3600) _ b4.1 in
+    let b6 = and_parts (e.minutes == p.3 / 60 % 60) _ b5.1 in
+    all_numbers d e (
+      both d.years e.years p.0 a1.0 b1.0,
+      (
+        both d.months e.months p.1 a2.0 b2.0,
+        (
+          both d.weeks e.weeks 0 a3.0 b3.0,
+          (
+            both d.days e.days p.2 a4.0 b4.0,
+            (
+              both d.hours e.hours (p.3 / 3600) a5.0 b5.0,
+              (both d.minutes e.minutes (p.3 / 60 % 60) a6.0 b6.0, (both d.seconds e.seconds (p.3 % 60) a6.1 b6.1, tt)),
+            ),
+          ),
+        ),
+      ),
+    )
+  where
+    both : (m n k : ℕ) → (m == k) ≡ true → (n == k) ≡ true → m ≡ n
+    both m n k h j = eqb-true m k h ∙ sym (eqb-true n k j)
+
+-- what follows a duration: its end, or nothing
+abbrev and_until : Option End → List ℕ
+and_until None = []
+and_until (Some end) = codes ", " ++ until_words end
+
+-- the end is said alone
+abbrev says_alone : StartParts → DurationParts → Option End → Bool
+says_alone start duration None = false
+says_alone start duration (Some end) = is_written duration (usual start end)
+
+abbrev end_alone : Option End → List ℕ
+end_alone None = []
+end_alone (Some end) = until_words end
+
+-- the rest of a line, by what it says: all day, an end alone, or a duration
+abbrev rest_by : Bool → Bool → DurationParts → Option End → List ℕ → List ℕ
+rest_by true alone duration end r = codes "all day" ++ (10 ∷ r)
+rest_by false true duration end r = end_alone end ++ (10 ∷ r)
+rest_by false false duration end r = codes "for " ++ (duration_words duration ++ (and_until end ++ (10 ∷ r)))
+
+tail_by : (start : StartParts) (duration : DurationParts) (end : Option End) (r : List ℕ)
+    → tail_words start duration end ++ (10 ∷ r) ≡ rest_by false (says_alone start duration end) duration end r
+tail_by start duration None r = append_assoc (codes "for ") (duration_words duration) (10 ∷ r)
+tail_by start duration (Some end) r = by_usual (is_written duration (usual start end))
+  where
+    by_usual : (t : Bool) → cond t [] (for_words duration ++ codes ", ") ++ until_words end ++ (10 ∷ r)
+        ≡ rest_by false t duration (Some end) r
+    by_usual true = refl
+    by_usual false =
+        append_assoc (for_words duration ++ codes ", ") (until_words end) (10 ∷ r)
+        ∙ append_assoc (for_words duration) (codes ", ") (until_words end ++ (10 ∷ r))
+        ∙ append_assoc (codes "for ") (duration_words duration) (codes ", " ++ (until_words end ++ (10 ∷ r)))
+
+abbrev alone : StartParts → DurationParts → Bool
+alone start duration = says_alone start duration (ending start duration)
+
+rest_is : (start : StartParts) (duration : DurationParts) (r : List ℕ) → rest_words start duration ++ (10 ∷ r)
+    ≡ rest_by (is_all_day start duration) (alone start duration) duration (ending start duration) r
+unfolding rest_words
+rest_is start duration r = by_day (is_all_day start duration)
+  where
+    by_day : (t : Bool) → cond t (codes "all day") (tail_words start duration (ending start duration)) ++ (10 ∷ r)
+        ≡ rest_by t (alone start duration) duration (ending start duration) r
+    by_day true = refl
+    by_day false = tail_by start duration (ending start duration) r
+
+-- it is alone only if there is an end
+abbrev IsAlone : Bool → Option End → Type 0
+IsAlone true None = ⊥
+IsAlone true (Some end) = Unit {0}
+IsAlone false end = Unit {0}
+
+is_alone : (start : StartParts) (duration : DurationParts) (end : Option End) → IsAlone (says_alone start duration end) end
+is_alone start duration None = tt
+is_alone start duration (Some end) = either (is_written duration (usual start end))
+  where
+    either : (t : Bool) → IsAlone t (Some end)
+    either true = tt
+    either false = tt
+
+next_by : (t u : Bool) (duration : DurationParts) (end : Option End) (r : List ℕ) → IsAlone u end → Next (rest_by t u duration end r)
+unfolding until_words
+next_by true u duration end r h = record { order = omega arith; class = refl }
+next_by false true duration None r h = absurd h
+next_by false true duration (Some end) r h = record { order = omega arith; class = refl }
+next_by false false duration end r h = record { order = omega arith; class = refl }
+
+until_after : (end : Option End) (r : List ℕ) → IsAfter (and_until end ++ (10 ∷ r))
 until_after None r = (refl, refl)
 until_after (Some end) r = (refl, refl)
+
+-- the same rest of a line after the same start
+alone_then : (x : StartParts) (d e : DurationParts) (a b : Option End) (r s : List ℕ) → says_alone x d a ≡ true
+    → says_alone x e b ≡ true → IfSome a IsEnd → IfSome b IsEnd → end_alone a ++ (10 ∷ r) ≡ end_alone b ++ (10 ∷ s) → Both d e r s
+alone_then x d e None b r s h k p q same = absurd (false≢true h)
+alone_then x d e (Some a) None r s h k p q same = absurd (false≢true k)
+alone_then x d e (Some a) (Some b) r s h k p q same =
+    let end = end_then a b r s p q same in
+    (same_written d e (usual x b) (ap (λ (z : End). is_written d (usual x z)) (sym end.0) ∙ h) k, end.1)
+
+no_until : (a : Option End) (u : Bool) (x r s : List ℕ) → IsAlone u a → u ≡ true → apart (codes "until ") x ≡ true
+    → end_alone a ++ r ≡ x ++ s → ⊥
+unfolding until_words
+no_until None u x r s h t other e = IsAlone-none u h t
+  where
+    IsAlone-none : (u : Bool) → IsAlone u None → u ≡ true → ⊥
+    IsAlone-none true h t = h
+    IsAlone-none false h t = false≢true t
+no_until (Some a) u x r s h t other e = no_way (codes "until ") x (end_words a ++ r) s other e
+
+rest_by_then : (t u v w : Bool) (x : StartParts) (d e : DurationParts) (r s : List ℕ) → is_all_day x d ≡ t → alone x d ≡ u
+    → is_all_day x e ≡ v → alone x e ≡ w → IsDuration d → IsDuration e → IfSome (ending x d) IsEnd → IfSome (ending x e) IsEnd
+    → IsAlone u (ending x d) → IsAlone w (ending x e)
+    → rest_by t u d (ending x d) r ≡ rest_by v w e (ending x e) s → Both d e r s
+unfolding is_all_day
+rest_by_then true u true w x d e r s t1 u1 v1 w1 h k p q m n same =
+    (
+      same_written d e (0, 0, 1, 0) (last_part (not (has_clock x)) (not (is_beginning (anchor_of x))) _ t1)
+          (last_part (not (has_clock x)) (not (is_beginning (anchor_of x))) _ v1),
+      ap (λ (l : List ℕ). tail l) (append_cancel_left (codes "all day") (10 ∷ r) (10 ∷ s) same),
+    )
+  where
+    last_part : (a b c : Bool) → (a && (b && c)) ≡ true → c ≡ true
+    last_part a b c h = (and_parts b c (and_parts a (b && c) h).1).1
+rest_by_then true u false true x d e r s t1 u1 v1 w1 h k p q m n same =
+    absurd (no_until (ending x e) true (codes "all day") (10 ∷ s) (10 ∷ r) n refl refl (sym same))
+rest_by_then true u false false x d e r s t1 u1 v1 w1 h k p q m n same =
+    absurd (no_way (codes "all day") (codes "for ") (10 ∷ r) _ refl same)
+rest_by_then false true true w x d e r s t1 u1 v1 w1 h k p q m n same =
+    absurd (no_until (ending x d) true (codes "all day") (10 ∷ r) (10 ∷ s) m refl refl same)
+rest_by_then false false true w x d e r s t1 u1 v1 w1 h k p q m n same =
+    absurd (no_way (codes "for ") (codes "all day") _ (10 ∷ s) refl same)
+rest_by_then false true false true x d e r s t1 u1 v1 w1 h k p q m n same =
+    alone_then x d e (ending x d) (ending x e) r s u1 w1 p q same
+rest_by_then false true false false x d e r s t1 u1 v1 w1 h k p q m n same =
+    absurd (no_until (ending x d) true (codes "for ") (10 ∷ r) _ m refl refl same)
+rest_by_then false false false true x d e r s t1 u1 v1 w1 h k p q m n same =
+    absurd (no_until (ending x e) true (codes "for ") (10 ∷ s) _ n refl refl (sym same))
+rest_by_then false false false false x d e r s t1 u1 v1 w1 h k p q m n same =
+    let y = and_until (ending x d) ++ (10 ∷ r) in
+    let z = and_until (ending x e) ++ (10 ∷ s) in
+    let one = duration_then d e y z h.0 k.0 (until_after (ending x d) r) (until_after (ending x e) s)
+    (append_cancel_left (codes "for ") (duration_words d ++ y) (duration_words e ++ z) same) in
+    let two = append_cancel_left (and_until (ending x d)) (10 ∷ r) (10 ∷ s)
+    (one.1 ∙ ap (λ (f : DurationParts). and_until (ending x f) ++ (10 ∷ s)) (sym one.0)) in
+    (one.0, ap (λ (l : List ℕ). tail l) two)
+
+-- ---- basic domains
 
 pub record SameBasic (x : StartParts) (d : DurationParts) (y : StartParts) (e : DurationParts) (r s : List ℕ) : Type 0 where
   pub start : x ≡ y
   pub duration : d ≡ e
   pub rest : r ≡ s
 
-pub basic_is : (x : StartParts) (d : DurationParts) (r : List ℕ) → basic_words x d ++ r
-    ≡ start_words x ++ (codes "for " ++ (duration_words d ++ (until_words (clock_end x d) ++ r)))
+abbrev pub named : StartParts → DurationParts → Bool
+named x d = has_clock x || is_all_day x d
+
+abbrev pub rest_of : StartParts → DurationParts → List ℕ → List ℕ
+rest_of x d r = rest_by (is_all_day x d) (alone x d) d (ending x d) r
+
+pub basic_is : (x : StartParts) (d : DurationParts) (r : List ℕ) → basic_words x d ++ (10 ∷ r)
+    ≡ start_words (named x d) x ++ rest_of x d r
 unfolding basic_words
 basic_is x d r =
-    append_assoc (start_words x ++ codes "for " ++ duration_words d) (until_words (clock_end x d)) r
-    ∙ append_assoc (start_words x ++ codes "for ") (duration_words d) (until_words (clock_end x d) ++ r)
-    ∙ append_assoc (start_words x) (codes "for ") (duration_words d ++ (until_words (clock_end x d) ++ r))
+    append_assoc (start_words (named x d) x) (rest_words x d) (10 ∷ r)
+    ∙ ap (λ (l : List ℕ). start_words (named x d) x ++ l) (rest_is x d r)
+
+next_of : (x : StartParts) (d : DurationParts) (r : List ℕ) → Next (rest_of x d r)
+next_of x d r = next_by (is_all_day x d) (alone x d) d (ending x d) r (is_alone x d (ending x d))
 
 pub basic_then : (x y : StartParts) (d e : DurationParts) (r s : List ℕ) → IsStart x → IsStart y → IsDuration d → IsDuration e
     → basic_words x d ++ (codes "\n" ++ r) ≡ basic_words y e ++ (codes "\n" ++ s) → SameBasic x d y e r s
 basic_then x y d e r s p q h k same =
-    let u = until_words (clock_end x d) ++ (codes "\n" ++ r) in
-    let v = until_words (clock_end y e) ++ (codes "\n" ++ s) in
-    let first = start_then x y (duration_words d ++ u) (duration_words e ++ v) p q
-    (sym (basic_is x d (codes "\n" ++ r)) ∙ same ∙ basic_is y e (codes "\n" ++ s)) in
-    let second = duration_then d e u v h.0 k.0 (until_after (clock_end x d) r) (until_after (clock_end y e) s) first.1 in
-    let end : until_words (clock_end y e) ≡ until_words (clock_end x d) =
-    ap (λ (z : StartParts). until_words (clock_end z e)) (sym first.0)
-    ∙ ap (λ (z : DurationParts). until_words (clock_end x z)) (sym second.0) in
-    let third = append_cancel_left (until_words (clock_end x d)) (codes "\n" ++ r) (codes "\n" ++ s)
-    (second.1 ∙ ap (λ (l : List ℕ). l ++ (codes "\n" ++ s)) end) in
-    record { start = first.0; duration = second.0; rest = append_cancel_left (codes "\n") r s third }
+    let first = start_then (named x d) (named y e) x y (rest_of x d r) (rest_of y e s) p q (next_of x d r) (next_of y e s)
+    (sym (basic_is x d r) ∙ same ∙ basic_is y e s) in
+    let second = rest_by_then (is_all_day x d) (alone x d) (is_all_day x e) (alone x e) x d e r s refl refl refl refl h k
+    (is_end x d p h) (is_end x e p k) (is_alone x d (ending x d)) (is_alone x e (ending x e))
+    (first.1 ∙ ap (λ (z : StartParts). rest_of z e s) (sym first.0)) in
+    record { start = first.0; duration = second.0; rest = second.1 }

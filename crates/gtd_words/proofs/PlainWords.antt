@@ -1,4 +1,4 @@
--- The words of a start and of a duration have no comma but those of lists.
+-- The words of a start and of a duration do not say `until`.
 use Rattle.std.proofs.Common.{◌≡◌, ℕ, ◌+◌, ◌-◌, ◌/◌, ◌%◌, ◌^◌, ◌<◌, ◌≤◌, Bool, true, false, cond, List, [], ◌∷◌, ◌++◌}
 use Rattle.std.proofs.Common.{Option, Some, None, refl, arith}
 use Rattle.std.specs.Prelude.{◌==◌, ◌||◌, codes, decimal, IfSome}
@@ -7,32 +7,25 @@ use Rattle.gtd_core.specs.declared.start.StartParts.{StartParts}
 use Rattle.gtd_core.specs.declared.duration.DurationParts.{DurationParts}
 use Rattle.gtd_words.specs.declared.anchor.Anchor.{Anchor}
 use Rattle.gtd_words.specs.declared.anchor.Anchor.TheVariants.{Day, Place, PlaceBack, Weekdays, EveryDay, TheMonday, Beginning}
-use Rattle.gtd_words.specs.Names.{back_name, back_names, back_words, four_digits, month_name, month_names, ordinal_ending}
+use Rattle.gtd_words.specs.Names.{back_name, back_names, back_words, four_digits, month_name, ordinal_ending}
 use Rattle.gtd_words.specs.Names.{place_name, place_names, place_words, two_digits, weekday_if_set, weekday_joint, weekday_name}
-use Rattle.gtd_words.specs.Names.{weekday_names, weekdays_words}
+use Rattle.gtd_words.specs.Names.{run_of, run_words, weekday_list, weekdays_words}
 use Rattle.gtd_words.specs.Starts.{also_back, also_place, also_weekdays, anchor_from, anchor_of, anchor_words, back_condition}
 use Rattle.gtd_words.specs.Starts.{clock_words, condition_words, day_words, has_clock, is_given}
 use Rattle.gtd_words.specs.Starts.{is_in_month, lead_words, month_words, of_hour, of_hours, period_words}
 use Rattle.gtd_words.specs.Starts.{place_condition, second_words, seconds_words, start_words, week_words, weekdays_condition}
 use Rattle.gtd_words.specs.Starts.{year_words}
 use Rattle.gtd_words.specs.Durations.{clock_numbers, clock_part_words, date_numbers, date_sum, date_words, duration_words}
-use Rattle.gtd_words.specs.Durations.{clock_sum, number_words, numbers_words, until_words}
-use Rattle.gtd_words.proofs.EndWords.{no_comma, plain, plain-append, plain-cons, plain-decimal, plain-if, plain-two}
+use Rattle.gtd_words.specs.Durations.{clock_sum, number_words, numbers_words}
+use Rattle.gtd_words.specs.Endings.{for_words}
+use Rattle.gtd_words.proofs.EndWords.{no_letter, plain, plain-append, plain-cons, plain-decimal, plain-if, plain-month}
+use Rattle.gtd_words.proofs.EndWords.{plain-two, plain-weekday}
 use Rattle.gtd_words.proofs.Prefixes.{of_name}
 
 abbrev Plain : List ℕ → Type 0
 Plain l = plain l ≡ true
 
 -- ---- names
-
-plain-weekday : (n : ℕ) → Plain (weekday_name n)
-unfolding weekday_name
-plain-weekday n = of_name Plain 1 weekday_names n (refl, (refl, (refl, (refl, (refl, (refl, refl))))))
-
-plain-month : (n : ℕ) → Plain (month_name n)
-unfolding month_name
-plain-month n =
-    of_name Plain 1 month_names n (refl, (refl, (refl, (refl, (refl, (refl, (refl, (refl, (refl, (refl, (refl, refl)))))))))))
 
 plain-place_name : (n : ℕ) → Plain (place_name n)
 unfolding place_name
@@ -58,13 +51,14 @@ plain-ordinal n =
     plain-if (n / 10 == 1) (codes "th") _ refl (plain-if (n % 10 == 1) (codes "st") _ refl
     (plain-if (n % 10 == 2) (codes "nd") _ refl (plain-if (n % 10 == 3) (codes "rd") (codes "th") refl refl)))
 
-plain-four : (n : ℕ) → Plain (four_digits n)
+plain-four : (n : ℕ) → n ≤ 9999 → Plain (four_digits n)
 unfolding four_digits
-plain-four n =
-    plain-cons (48 + n / 1000) ((48 + n / 100 % 10) ∷ (48 + n / 10 % 10) ∷ (48 + n % 10) ∷ []) (no_comma (n / 1000))
-    (plain-cons (48 + n / 100 % 10) ((48 + n / 10 % 10) ∷ (48 + n % 10) ∷ []) (no_comma (n / 100 % 10))
-    (plain-cons (48 + n / 10 % 10) ((48 + n % 10) ∷ []) (no_comma (n / 10 % 10))
-    (plain-cons (48 + n % 10) [] (no_comma (n % 10)) refl)))
+plain-four n small =
+    plain-cons (48 + n / 1000) ((48 + n / 100 % 10) ∷ (48 + n / 10 % 10) ∷ (48 + n % 10) ∷ [])
+    (no_letter (n / 1000) (omega (arith, small)))
+    (plain-cons (48 + n / 100 % 10) ((48 + n / 10 % 10) ∷ (48 + n % 10) ∷ []) (no_letter (n / 100 % 10) (omega arith))
+    (plain-cons (48 + n / 10 % 10) ((48 + n % 10) ∷ []) (no_letter (n / 10 % 10) (omega arith))
+    (plain-cons (48 + n % 10) [] (no_letter (n % 10) (omega arith)) refl)))
 
 -- the name of a weekday, with what stands before it
 plain-day : (last : List ℕ) (w k : ℕ) → Plain last → Plain (codes ", " ++ weekday_name k) → Plain (weekday_if_set last w k)
@@ -78,9 +72,9 @@ plain-day last w k p q =
     by_joint false true = plain-append last (weekday_name k) p (plain-weekday k)
     by_joint false false = q
 
-plain-weekdays : (last : List ℕ) (w : ℕ) → Plain last → Plain (weekdays_words last w)
-unfolding weekdays_words weekday_name
-plain-weekdays last w p =
+plain-list : (last : List ℕ) (w : ℕ) → Plain last → Plain (weekday_list last w)
+unfolding weekday_list weekday_name
+plain-list last w p =
     let day : ℕ → List ℕ = λ k. weekday_if_set last w k in
     let two = plain-append (day 1) (day 2) (plain-day last w 1 p refl) (plain-day last w 2 p refl) in
     let three = plain-append (day 1 ++ day 2) (day 3) two (plain-day last w 3 p refl) in
@@ -88,6 +82,13 @@ plain-weekdays last w p =
     let five = plain-append (day 1 ++ day 2 ++ day 3 ++ day 4) (day 5) four (plain-day last w 5 p refl) in
     let six = plain-append (day 1 ++ day 2 ++ day 3 ++ day 4 ++ day 5) (day 6) five (plain-day last w 6 p refl) in
     plain-append (day 1 ++ day 2 ++ day 3 ++ day 4 ++ day 5 ++ day 6) (day 7) six (plain-day last w 7 p refl)
+
+plain-weekdays : (last : List ℕ) (w : ℕ) → Plain last → Plain (weekdays_words last w)
+unfolding weekdays_words
+plain-weekdays last w p =
+    plain-if ((run_of w).0 == 0) (weekday_list last w) (run_words (run_of w)) (plain-list last w p)
+    (plain-append (weekday_name (run_of w).0 ++ codes " to ") (weekday_name (run_of w).1)
+    (plain-append (weekday_name (run_of w).0) (codes " to ") (plain-weekday (run_of w).0) refl) (plain-weekday (run_of w).1))
 
 -- ---- the words of a start
 
@@ -136,13 +137,13 @@ plain-week : (week : Option ℕ) → IfSome week IsSmall → Plain (week_words w
 plain-week None small = refl
 plain-week (Some week) small = plain-append (decimal week) (codes " ") (plain-decimal week small) refl
 
-plain-year : (month week : Bool) (year : Option ℕ) → Plain (year_words month week year)
-plain-year month week (Some year) =
+plain-year : (month week : Bool) (year : Option ℕ) → IfSome year (λ y. y ≤ 9999) → Plain (year_words month week year)
+plain-year month week (Some year) small =
     plain-append (cond month (cond week (codes "of the year ") []) (codes "of the year ") ++ four_digits year) (codes " ")
     (plain-append (cond month (cond week (codes "of the year ") []) (codes "of the year ")) (four_digits year)
     (plain-if month (cond week (codes "of the year ") []) (codes "of the year ")
-    (plain-if week (codes "of the year ") [] refl refl) refl) (plain-four year)) refl
-plain-year month week None = plain-if (month || week) (codes "every year ") [] refl refl
+    (plain-if week (codes "of the year ") [] refl refl) refl) (plain-four year small)) refl
+plain-year month week None small = plain-if (month || week) (codes "every year ") [] refl refl
 
 plain-also_place : (place : Option (ℕ × ℕ)) → Plain (also_place place)
 plain-also_place None = refl
@@ -173,44 +174,60 @@ plain-conditions a start =
     back (Place p) = plain-also_back start.nth_back
     back a = refl
 
-plain-periods : (a : Anchor) (start : StartParts) → IfSome start.week IsSmall → Plain (period_words a start)
+plain-periods : (a : Anchor) (start : StartParts) → IfSome start.week IsSmall → IfSome start.year (λ y. y ≤ 9999)
+    → Plain (period_words a start)
 unfolding period_words
-plain-periods a start small =
+plain-periods a start small few =
     plain-append (month_words (is_in_month a) start.month ++ week_words start.week) _
     (plain-append (month_words (is_in_month a) start.month) (week_words start.week) (plain-months (is_in_month a) start.month)
-    (plain-week start.week small)) (plain-year (is_given start.month) (is_given start.week) start.year)
+    (plain-week start.week small)) (plain-year (is_given start.month) (is_given start.week) start.year few)
 
-plain-seconds : (second : Option ℕ) → Plain (seconds_words second)
-plain-seconds None = refl
-plain-seconds (Some second) = plain-two second
+abbrev IsClock : ℕ → Type 0
+IsClock n = n < 100
 
-plain-of_hour : (hour : Option ℕ) → IfSome hour IsSmall → Plain (of_hour hour)
+plain-seconds : (minute : ℕ) (second : Option ℕ) → IfSome second IsClock → Plain (seconds_words minute second)
+plain-seconds minute None small = plain-if (minute == 0) (codes " sharp") [] refl refl
+plain-seconds minute (Some second) small = plain-two second small
+
+few : (n : ℕ) → IsClock n → IsSmall n
+few n h = omega (arith, h)
+
+plain-of_hour : (hour : Option ℕ) → IfSome hour IsClock → Plain (of_hour hour)
 plain-of_hour None small = refl
-plain-of_hour (Some hour) small = plain-append (decimal hour) (codes " ") (plain-decimal hour small) refl
+plain-of_hour (Some hour) small = plain-append (decimal hour) (codes " ") (plain-decimal hour (few hour small)) refl
 
-plain-of_hours : (second : Option ℕ) → IfSome second IsSmall → Plain (of_hours second)
+plain-of_hours : (second : Option ℕ) → IfSome second IsClock → Plain (of_hours second)
 plain-of_hours None small = refl
 plain-of_hours (Some second) small =
-    plain-append (decimal second) (codes " of every hour ") (plain-decimal second small) refl
+    plain-append (decimal second) (codes " of every hour ") (plain-decimal second (few second small)) refl
 
-plain-second : (second : ℕ) (hour : Option ℕ) → IsSmall second → IfSome hour IsSmall → Plain (second_words second hour)
-plain-second second hour small few =
+plain-second : (second : ℕ) (hour : Option ℕ) → IsClock second → IfSome hour IsClock → Plain (second_words second hour)
+plain-second second hour small small' =
     plain-append (decimal second ++ codes " of every minute ") (of_hour hour)
-    (plain-append (decimal second) (codes " of every minute ") (plain-decimal second small) refl) (plain-of_hour hour few)
+    (plain-append (decimal second) (codes " of every minute ") (plain-decimal second (few second small)) refl)
+    (plain-of_hour hour small')
 
-plain-clock : (hour minute second : Option ℕ) → IfSome hour IsSmall → IfSome minute IsSmall → IfSome second IsSmall
+plain-clock : (hour minute second : Option ℕ) → IfSome hour IsClock → IfSome minute IsClock → IfSome second IsClock
     → Plain (clock_words hour minute second)
 plain-clock (Some h) (Some m) second p q r =
-    plain-append (decimal h ++ codes ":" ++ two_digits m ++ seconds_words second) (codes " ")
-    (plain-append (decimal h ++ codes ":" ++ two_digits m) (seconds_words second)
-    (plain-append (decimal h ++ codes ":") (two_digits m)
-    (plain-append (decimal h) (codes ":") (plain-decimal h p) refl) (plain-two m)) (plain-seconds second)) refl
-plain-clock (Some h) None None p q r = plain-append (decimal h) (codes " o'clock ") (plain-decimal h p) refl
+    plain-append (two_digits h ++ codes ":" ++ two_digits m ++ seconds_words m second) (codes " ")
+    (plain-append (two_digits h ++ codes ":" ++ two_digits m) (seconds_words m second)
+    (plain-append (two_digits h ++ codes ":") (two_digits m)
+    (plain-append (two_digits h) (codes ":") (plain-two h p) refl) (plain-two m q)) (plain-seconds m second r)) refl
+plain-clock (Some h) None None p q r = plain-append (two_digits h) (codes ":00 ") (plain-two h p) refl
 plain-clock (Some h) None (Some s) p q r = plain-second s (Some h) r p
 plain-clock None (Some m) second p q r =
-    plain-append (decimal m) (of_hours second) (plain-decimal m q) (plain-of_hours second r)
+    plain-append (decimal m) (of_hours second) (plain-decimal m (few m q)) (plain-of_hours second r)
 plain-clock None None (Some s) p q r = plain-second s None r p
 plain-clock None None None p q r = refl
+
+clock-within : (high : ℕ) (field : Option ℕ) → high < 100 → IsWithin 0 high field → IfSome field IsClock
+clock-within high None less h = tt
+clock-within high (Some n) less h = omega (arith, less, h.1)
+
+year-within : (field : Option ℕ) → IsWithin 0 9999 field → IfSome field (λ y. y ≤ 9999)
+year-within None h = tt
+year-within (Some y) h = h.1
 
 small-within : (low high : ℕ) (field : Option ℕ) → high < 100 → IsWithin low high field → IfSome field IsSmall
 small-within low high None few h = tt
@@ -231,23 +248,23 @@ small-anchor None None None w clock week small = by_weekdays (w == 0) clock week
     by_weekdays true false true = tt
     by_weekdays true false false = tt
 
-plain-start : (start : StartParts) → IsStart start → Plain (start_words start)
+pub plain-start : (named : Bool) (start : StartParts) → IsStart start → Plain (start_words named start)
 unfolding start_words anchor_of
-plain-start start h =
+plain-start named start h =
     let a = anchor_of start in
-    let lead = lead_words (has_clock start) a in
+    let lead = lead_words named a in
     let day = anchor_words (is_given start.month) a in
     let of = period_words a start in
     let also = condition_words a start in
-    let named = plain-append lead day (plain-lead (has_clock start) a) (plain-anchor (is_given start.month) a
+    let first = plain-append lead day (plain-lead named a) (plain-anchor (is_given start.month) a
     (small-anchor start.day start.nth start.nth_back start.weekdays (has_clock start) (is_given start.week)
     (small-within 1 31 start.day (omega arith) h.day))) in
-    let dated = plain-append (lead ++ day) of named
-    (plain-periods a start (small-within 1 53 start.week (omega arith) h.week)) in
+    let dated = plain-append (lead ++ day) of first
+    (plain-periods a start (small-within 1 53 start.week (omega arith) h.week) (year-within start.year h.year)) in
     let full = plain-append (lead ++ day ++ of) also dated (plain-conditions a start) in
     plain-append (lead ++ day ++ of ++ also) (clock_words start.hour start.minute start.second) full
-    (plain-clock start.hour start.minute start.second (small-within 0 23 start.hour (omega arith) h.hour)
-    (small-within 0 59 start.minute (omega arith) h.minute) (small-within 0 59 start.second (omega arith) h.second))
+    (plain-clock start.hour start.minute start.second (clock-within 23 start.hour (omega arith) h.hour)
+    (clock-within 59 start.minute (omega arith) h.minute) (clock-within 59 start.second (omega arith) h.second))
 
 -- ---- the words of a duration
 
@@ -279,10 +296,5 @@ plain-duration d h =
     (plain-numbers 0 (date_numbers d) (h.0.years, refl, (h.0.months, refl, (h.0.weeks, refl, (h.0.days, refl, tt)))))
     (plain-numbers (date_sum d) (clock_numbers d) (h.0.hours, refl, (h.0.minutes, refl, (h.0.seconds, refl, tt)))))
 
--- the words of a basic domain of which no end is known
-pub plain-basic : (start : StartParts) (duration : DurationParts) → IsStart start → IsDuration duration
-    → Plain (start_words start ++ codes "for " ++ duration_words duration ++ until_words None)
-plain-basic start duration p q =
-    plain-append (start_words start ++ codes "for " ++ duration_words duration) []
-    (plain-append (start_words start ++ codes "for ") (duration_words duration)
-    (plain-append (start_words start) (codes "for ") (plain-start start p) refl) (plain-duration duration q)) refl
+pub plain-for : (duration : DurationParts) → IsDuration duration → Plain (for_words duration)
+plain-for duration h = plain-append (codes "for ") (duration_words duration) refl (plain-duration duration h)

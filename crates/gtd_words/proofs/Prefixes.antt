@@ -38,7 +38,7 @@ no_way (c ∷ x) (d ∷ y) r s a e = apart_after (c == d) c d x y r s refl a (no
 
 -- ---- numbers
 
-digit : (d : ℕ) → d < 10 → is_ascii_digit (48 + d) ≡ true
+pub digit : (d : ℕ) → d < 10 → is_ascii_digit (48 + d) ≡ true
 digit d small = rw (le-leb 48 (48 + d) (omega arith)) (le-leb (48 + d) 57 (omega arith))
 
 abbrev pub NoDigit : List ℕ → Type 0
@@ -63,7 +63,7 @@ no_digit_there (c ∷ r) y l h d e =
     let same : c ≡ y = ap (λ (l : List ℕ). head l) e in
     false≢true (sym h ∙ ap (λ (b : ℕ). is_ascii_digit b) same ∙ d)
 
-split_digits : (xs ys r s : List ℕ) → AreDigits xs → AreDigits ys → NoDigit r → NoDigit s → xs ++ r ≡ ys ++ s → Both xs ys r s
+pub split_digits : (xs ys r s : List ℕ) → AreDigits xs → AreDigits ys → NoDigit r → NoDigit s → xs ++ r ≡ ys ++ s → Both xs ys r s
 split_digits [] [] r s a b h k e = (refl, e)
 split_digits [] (y ∷ ys) r s a b h k e = absurd (no_digit_there r y (ys ++ s) h b.0 e)
 split_digits (x ∷ xs) [] r s a b h k e = absurd (no_digit_there s x (xs ++ r) k a.0 (sym e))

@@ -1,9 +1,8 @@
 -- Two starts with the same words are the same start.
 use Rattle.std.proofs.Common.{◌≡◌, ℕ, ◌<◌, Bool, true, false, cond, List, ◌++◌, Option, Some}
 use Rattle.std.proofs.Common.{None, refl, sym, ap, subst, ◌∙◌, arith, append_assoc}
-use Rattle.std.specs.Prelude.{◌==◌, codes, IfSome}
+use Rattle.std.specs.Prelude.{◌==◌, IfSome}
 use Rattle.std.proofs.lemmas.Bool.{false≢true, eqb-true, eqb-false}
-use Rattle.std.proofs.lemmas.List.{append_cancel_left}
 use Rattle.gtd_core.specs.declared.start.StartParts.{StartParts}
 use Rattle.gtd_core.specs.Ranges.{IsStart, IsWithin}
 use Rattle.gtd_words.specs.declared.anchor.Anchor.{Anchor}
@@ -13,7 +12,7 @@ use Rattle.gtd_words.specs.Starts.{clock_words, condition_words, has_clock, is_g
 use Rattle.gtd_words.specs.Starts.{period_words, place_condition, start_words, week_words, weekdays_condition, year_words}
 use Rattle.gtd_words.proofs.Prefixes.{Both}
 use Rattle.gtd_words.proofs.Anchors.{IsAnchor, lead_then, anchor_then}
-use Rattle.gtd_words.proofs.Clocks.{IsClock, SameClock, clock_then, clock_rank}
+use Rattle.gtd_words.proofs.Clocks.{IsClock, Next, SameClock, clock_then, clock_rank}
 use Rattle.gtd_words.proofs.StartParts.{rank, IsMonth, IsWeek, IsYear, IsAt, months_then, month_rank, week_then, week_rank}
 use Rattle.gtd_words.proofs.StartParts.{year_then, year_rank, also_place_then, also_place_rank, also_back_then, also_back_rank}
 use Rattle.gtd_words.proofs.StartParts.{also_weekdays_then, also_weekdays_rank}
@@ -151,7 +150,7 @@ ranges start h =
 -- ---- the words, part by part
 
 abbrev from_clock : StartParts → List ℕ → List ℕ
-from_clock start r = clock_words start.hour start.minute start.second ++ (codes "for " ++ r)
+from_clock start r = clock_words start.hour start.minute start.second ++ r
 
 abbrev from_days : Anchor → StartParts → List ℕ → List ℕ
 from_days a start r = also_weekdays (kept_days a start.weekdays) ++ from_clock start r
@@ -191,15 +190,15 @@ period_is a start r =
     append_assoc (month_words (is_in_month a) start.month ++ week_words start.week) _ (from_place a start r)
     ∙ append_assoc (month_words (is_in_month a) start.month) (week_words start.week) _
 
-pub words_are : (start : StartParts) (r : List ℕ) → start_words start ++ (codes "for " ++ r)
-    ≡ lead_words (has_clock start) (anchor_of start)
+pub words_are : (named : Bool) (start : StartParts) (r : List ℕ) → start_words named start ++ r
+    ≡ lead_words named (anchor_of start)
     ++ (anchor_words (is_given start.month) (anchor_of start) ++ from_month (anchor_of start) start r)
 unfolding start_words
-words_are start r =
+words_are named start r =
     let a = anchor_of start in
-    let lead = lead_words (has_clock start) a in
+    let lead = lead_words named a in
     let day = anchor_words (is_given start.month) a in
-    append_assoc (lead ++ day ++ period_words a start ++ condition_words a start) _ (codes "for " ++ r)
+    append_assoc (lead ++ day ++ period_words a start ++ condition_words a start) _ r
     ∙ append_assoc (lead ++ day ++ period_words a start) (condition_words a start) _
     ∙ append_assoc (lead ++ day) (period_words a start) _
     ∙ append_assoc lead day _
@@ -222,9 +221,9 @@ month_after : (b : Bool) (x : Option ℕ) (r : List ℕ) → b ≡ false → IfS
 month_after true x r e p h = absurd (false≢true (sym e))
 month_after false x r e p h = month_rank x r p (omega arith)
 
-ranks : (a : Anchor) (start : StartParts) (r : List ℕ) → Ranges start a → Ranks a start r
-ranks a start r h =
-    let clock : 6 < rank (from_clock start r) = clock_rank start.hour start.minute start.second r in
+ranks : (a : Anchor) (start : StartParts) (r : List ℕ) → Ranges start a → Next r → Ranks a start r
+ranks a start r h next =
+    let clock : 6 < rank (from_clock start r) = clock_rank start.hour start.minute start.second r next.order in
     let days : 5 < rank (from_days a start r) =
     also_weekdays_rank (kept_days a start.weekdays) (from_clock start r) h.days (omega arith) in
     let back : 4 < rank (from_back a start r) =
@@ -253,13 +252,13 @@ record SameParts (a : Anchor) (x y : StartParts) (r s : List ℕ) : Type 0 where
   place : kept_place a x.nth ≡ kept_place a y.nth
   back : kept_back a x.nth_back ≡ kept_back a y.nth_back
   days : kept_days a x.weekdays ≡ kept_days a y.weekdays
-  clock : SameClock x.hour x.minute x.second y.hour y.minute y.second (codes "for " ++ r) (codes "for " ++ s)
+  clock : SameClock x.hour x.minute x.second y.hour y.minute y.second r s
 
-same_parts : (a : Anchor) (x y : StartParts) (r s : List ℕ) → Ranges x a → Ranges y a → from_month a x r ≡ from_month a y s
-    → SameParts a x y r s
-same_parts a x y r s h k e =
-    let p = ranks a x r h in
-    let q = ranks a y s k in
+same_parts : (a : Anchor) (x y : StartParts) (r s : List ℕ) → Ranges x a → Ranges y a → Next r → Next s
+    → from_month a x r ≡ from_month a y s → SameParts a x y r s
+same_parts a x y r s h k next next' e =
+    let p = ranks a x r h next in
+    let q = ranks a y s k next' in
     let month = months_then (is_in_month a) x.month y.month (from_week a x r) (from_week a y s) h.month k.month p.week q.week e in
     let week = week_then x.week y.week (from_year a x r) (from_year a y s) h.week k.week p.year q.year month.1 in
     let flags : from_year a x r
@@ -283,7 +282,7 @@ same_parts a x y r s h k e =
       back = back.0;
       days = days.0;
       clock = clock_then x.hour x.minute x.second y.hour y.minute y.second r s h.hour h.minute h.second k.hour k.minute k.second
-          days.1;
+          next next' days.1;
     }
 
 all_same : (x y : StartParts) → x.year ≡ y.year → x.month ≡ y.month → x.week ≡ y.week → x.day ≡ y.day → x.hour ≡ y.hour
@@ -315,17 +314,17 @@ by_parts a x y r s h k p =
     (sym h.nth_back ∙ ap (λ (o : Option (ℕ × ℕ)). back_from a o) p.back ∙ k.nth_back)
     (sym h.weekdays ∙ ap (λ (w : ℕ). days_from a w) p.days ∙ k.weekdays)
 
-pub start_then : (x y : StartParts) (r s : List ℕ) → IsStart x → IsStart y
-    → start_words x ++ (codes "for " ++ r) ≡ start_words y ++ (codes "for " ++ s) → Both x y r s
-start_then x y r s h k e =
+pub start_then : (c d : Bool) (x y : StartParts) (r s : List ℕ) → IsStart x → IsStart y → Next r → Next s
+    → start_words c x ++ r ≡ start_words d y ++ s → Both x y r s
+start_then c d x y r s h k next next' e =
     let a = anchor_of x in
     let b = anchor_of y in
     let p = ranges x h in
     let q = ranges y k in
     let day = anchor_then (is_given x.month) (is_given y.month) a b (from_month a x r) (from_month b y s) p.again.is_anchor
-    q.again.is_anchor (ranks a x r p).month (ranks b y s q).month
-    (lead_then (has_clock x) (has_clock y) (is_given x.month) (is_given y.month) a b (from_month a x r) (from_month b y s)
-    (sym (words_are x r) ∙ e ∙ words_are y s)) in
+    q.again.is_anchor (ranks a x r p next).month (ranks b y s q next').month
+    (lead_then c d (is_given x.month) (is_given y.month) a b (from_month a x r) (from_month b y s)
+    (sym (words_are c x r) ∙ e ∙ words_are d y s)) in
     let q : Ranges y a = subst (λ (c : Anchor). Ranges y c) (sym day.0) q in
-    let same = same_parts a x y r s p q (day.1 ∙ ap (λ (c : Anchor). from_month c y s) (sym day.0)) in
-    (by_parts a x y r s p.again q.again same, append_cancel_left (codes "for ") r s same.clock.rest)
+    let same = same_parts a x y r s p q next next' (day.1 ∙ ap (λ (c : Anchor). from_month c y s) (sym day.0)) in
+    (by_parts a x y r s p.again q.again same, same.clock.rest)

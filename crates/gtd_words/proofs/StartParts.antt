@@ -24,9 +24,12 @@ if_rank l = cond (head l == 102) 6 (cond (head (tail (tail (tail l))) == 116) 4 
 abbrev in_rank : List ℕ → ℕ
 in_rank l = cond (head l == 110) 2 (if_rank (tail (tail (tail (tail (tail l))))))
 
+abbrev last_rank : ℕ → List ℕ → ℕ
+last_rank c r = cond (c == 117) 7 (cond (c == 97) (cond (head r == 108) 7 0) 0)
+
 abbrev letter_rank : ℕ → List ℕ → ℕ
 letter_rank c r =
-    cond (c == 111) (of_rank (tail (tail r))) (cond (c == 105) (in_rank r) (cond (c == 101) 3 (cond (c == 102) 7 0)))
+    cond (c == 111) (of_rank (tail (tail r))) (cond (c == 105) (in_rank r) (cond (c == 101) 3 (cond (c == 102) 7 (last_rank c r))))
 
 abbrev pub rank : List ℕ → ℕ
 rank [] = 0
@@ -41,6 +44,10 @@ ranked_digit text d = ap (λ (l : List ℕ). rank l) d.whole ∙ digit_rank (is_
 
 pub not_and : (r : List ℕ) → 0 < rank r → Differs (codes " and ") r
 not_and r h l e =
+    let same : rank r ≡ 0 = ap (λ (m : List ℕ). rank (tail m)) e in absurd (omega arith)
+
+pub not_to : (r : List ℕ) → 0 < rank r → Differs (codes " to ") r
+not_to r h l e =
     let same : rank r ≡ 0 = ap (λ (m : List ℕ). rank (tail m)) e in absurd (omega arith)
 
 or_rank : (r : List ℕ) → rank (111 ∷ 114 ∷ 32 ∷ r) < 6
@@ -341,14 +348,14 @@ given_back a b false false h k e = cc
 pub weekdays_spaced : (a b : ℕ) (r s : List ℕ) → a ≢ 0 → a < 128 → b ≢ 0 → b < 128 → 0 < rank r → 0 < rank s
     → weekdays_words (codes " and ") a ++ codes " " ++ r ≡ weekdays_words (codes " and ") b ++ codes " " ++ s → Both a b r s
 weekdays_spaced a b r s some few more less h k e =
-    and_days_then a b r s some few more less (not_and r h) (not_and s k)
+    and_days_then a b r s some few more less (not_and r h) (not_and s k) (not_to r h) (not_to s k)
     (sym (append_assoc (weekdays_words (codes " and ") a) (codes " ") r) ∙ e
     ∙ append_assoc (weekdays_words (codes " and ") b) (codes " ") s)
 
 given_code : (a b : ℕ) → AreWeekdays a → AreWeekdays b → (r s : List ℕ) → 6 < rank r → 6 < rank s
     → given_text (Some a) ++ r ≡ given_text (Some b) ++ s → Both a b r s
 given_code a b p q r s h k e =
-    or_days_then a b r s p.0 p.1 q.0 q.1 (not_or r h) (not_or s k)
+    or_days_then a b r s p.0 p.1 q.0 q.1 (not_or r h) (not_or s k) (not_to r (omega (arith, h))) (not_to s (omega (arith, k)))
     (sym (append_assoc (weekdays_words (codes " or ") a) (codes " ") r)
     ∙ append_cancel_left (codes "if it falls on ") (weekdays_words (codes " or ") a ++ codes " " ++ r)
     (weekdays_words (codes " or ") b ++ codes " " ++ s) e

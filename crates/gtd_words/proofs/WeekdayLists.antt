@@ -4,7 +4,7 @@ use Rattle.std.proofs.Common.{[], ◌∷◌, ◌++◌, refl, sym, ap, ◌∙◌,
 use Rattle.std.specs.Prelude.{◌==◌, ◌&&◌, codes, nat_le}
 use Rattle.std.proofs.lemmas.List.{append_cancel_left}
 use Rattle.std.proofs.lemmas.Bool.{false≢true, eqb-true, and_parts, leb-true, cases_order}
-use Rattle.gtd_words.specs.Names.{weekday_names, weekday_name, weekday_if_set, weekdays_words}
+use Rattle.gtd_words.specs.Names.{run_of, runs, weekday_names, weekday_name, weekday_if_set, weekday_list, weekdays_words}
 use Rattle.gtd_words.proofs.Prefixes.{Both, apart, tail, no_way, name_then, EachName, of_name}
 
 pub weekday_then : (m n : ℕ) (r s : List ℕ) → 1 ≤ m → m ≤ 7 → 1 ≤ n → n ≤ 7 → weekday_name m ++ r ≡ weekday_name n ++ s
@@ -109,19 +109,32 @@ stands_for last w [] = w == 0
 stands_for last w (d ∷ l) =
     same_text (weekdays_words last w) (from_day last d l) && ((bits_of (d ∷ l) == w) && are_days (d ∷ l))
 
-abbrev all_below : ℕ → (ℕ → Bool) → Bool
+-- the bits of a run, by its first weekday and its last
+abbrev run_bits : List (ℕ × ℕ × ℕ) → ℕ → ℕ → ℕ
+run_bits [] first end = 0
+run_bits (run ∷ others) first end = cond ((run.1 == first) && (run.2 == end)) run.0 (run_bits others first end)
+
+abbrev runs_for : List ℕ → ℕ → ℕ → ℕ → Bool
+runs_for last w first end =
+    same_text (weekdays_words last w) (weekday_name first ++ (codes " to " ++ weekday_name end))
+    && ((run_bits runs first end == w) && are_days (first ∷ end ∷ []))
+
+abbrev stands : List ℕ → ℕ → Bool
+stands last w = cond ((run_of w).0 == 0) (stands_for last w (days_of w)) (runs_for last w (run_of w).0 (run_of w).1)
+
+abbrev pub all_below : ℕ → (ℕ → Bool) → Bool
 all_below zero f = true
 all_below (suc n) f = f n && all_below n f
 
 abbrev pub all_stand : List ℕ → Bool
-all_stand last = all_below 128 (λ w. stands_for last w (days_of w))
+all_stand last = all_below 128 (λ w. stands last w)
 
 and_stands : all_stand (codes " and ") ≡ true
-unfolding weekdays_words weekday_if_set weekday_name
+unfolding weekdays_words weekday_list run_of weekday_if_set weekday_name
 and_stands = refl
 
 or_stands : all_stand (codes " or ") ≡ true
-unfolding weekdays_words weekday_if_set weekday_name
+unfolding weekdays_words weekday_list run_of weekday_if_set weekday_name
 or_stands = refl
 
 by_order : (m n : ℕ) (P : Type 0) → (m ≡ n) ⊎ ((m < n) ⊎ (n < m)) → m < suc n → (m ≡ n → P) → (m < n → P) → P
@@ -129,7 +142,7 @@ by_order m n P (inl e) small same less = same e
 by_order m n P (inr (inl l)) small same less = less l
 by_order m n P (inr (inr g)) small same less = absurd (omega arith)
 
-one_below : (n : ℕ) (f : ℕ → Bool) (m : ℕ) → all_below n f ≡ true → m < n → f m ≡ true
+pub one_below : (n : ℕ) (f : ℕ → Bool) (m : ℕ) → all_below n f ≡ true → m < n → f m ≡ true
 one_below zero f m h small = absurd (omega arith)
 one_below (suc n) f m h small =
     let parts = and_parts (f n) (all_below n f) h in
@@ -172,29 +185,102 @@ in_list last w (d ∷ l) some h =
       days = days_are (d ∷ l) q.1;
     }
 
-list_of : (last : List ℕ) (w : ℕ) → all_stand last ≡ true → w ≢ 0 → w < 128 → DaysOf last w
-list_of last w all some small =
-    in_list last w (days_of w) some (one_below 128 (λ n. stands_for last n (days_of n)) w all small)
+-- weekdays as a run
+pub record RunOf (last : List ℕ) (w : ℕ) : Type 0 where
+  pub first : ℕ
+  pub end : ℕ
+  pub text : weekdays_words last w ≡ weekday_name first ++ (codes " to " ++ weekday_name end)
+  pub bits : run_bits runs first end ≡ w
+  pub days : AreDays (first ∷ end ∷ [])
 
-pub list_of_days : (w : ℕ) → w ≢ 0 → w < 128 → DaysOf (codes " and ") w
-list_of_days w some small = list_of (codes " and ") w and_stands some small
+in_run : (last : List ℕ) (w first end : ℕ) → runs_for last w first end ≡ true → RunOf last w
+in_run last w first end h =
+    let p = and_parts (same_text (weekdays_words last w) (weekday_name first ++ (codes " to " ++ weekday_name end))) _ h in
+    let q = and_parts (run_bits runs first end == w) (are_days (first ∷ end ∷ [])) p.1 in
+    record {
+      first = first;
+      end = end;
+      text = text_same (weekdays_words last w) (weekday_name first ++ (codes " to " ++ weekday_name end)) p.0;
+      bits = eqb-true (run_bits runs first end) w q.0;
+      days = days_are (first ∷ end ∷ []) q.1;
+    }
+
+either_text : (t : Bool) (last : List ℕ) (w first end : ℕ) → w ≢ 0
+    → cond t (stands_for last w (days_of w)) (runs_for last w first end) ≡ true → DaysOf last w ⊎ RunOf last w
+either_text true last w first end some h = inl (in_list last w (days_of w) some h)
+either_text false last w first end some h = inr (in_run last w first end h)
+
+text_of : (last : List ℕ) (w : ℕ) → all_stand last ≡ true → w ≢ 0 → w < 128 → DaysOf last w ⊎ RunOf last w
+text_of last w all some small =
+    either_text ((run_of w).0 == 0) last w (run_of w).0 (run_of w).1 some (one_below 128 (λ n. stands last n) w all small)
+
+pub and_days : (w : ℕ) → w ≢ 0 → w < 128 → DaysOf (codes " and ") w ⊎ RunOf (codes " and ") w
+and_days w some small = text_of (codes " and ") w and_stands some small
+
+run_is : (f g : ℕ) (r : List ℕ) → weekday_name f ++ (codes " to " ++ weekday_name g) ++ r
+    ≡ weekday_name f ++ (codes " to " ++ (weekday_name g ++ r))
+run_is f g r =
+    append_assoc (weekday_name f) (codes " to " ++ weekday_name g) r
+    ∙ ap (λ (l : List ℕ). weekday_name f ++ l) (append_assoc (codes " to ") (weekday_name g) r)
+
+-- no run is a list
+not_listed : (last : List ℕ) (f g d : ℕ) (l r s : List ℕ) → apart (codes " to ") last ≡ true → AreDays (f ∷ g ∷ []) → AreDays (d ∷ l)
+    → Differs (codes " to ") s
+    → weekday_name f ++ (codes " to " ++ (weekday_name g ++ 32 ∷ r)) ≡ from_day last d l ++ 32 ∷ s → ⊥
+not_listed last f g d [] r s other h k a e =
+    let p = weekday_then f d (codes " to " ++ (weekday_name g ++ 32 ∷ r)) (32 ∷ s) h.0 h.1 k.0 k.1 e in
+    a (weekday_name g ++ 32 ∷ r) (sym p.1)
+not_listed last f g d (c ∷ []) r s other h k a e =
+    let p = weekday_then f d (codes " to " ++ (weekday_name g ++ 32 ∷ r)) (last ++ (weekday_name c ++ 32 ∷ s)) h.0 h.1 k.0 k.1
+    (e ∙ append_assoc (weekday_name d) (last ++ weekday_name c) (32 ∷ s)
+    ∙ ap (λ (l : List ℕ). weekday_name d ++ l) (append_assoc last (weekday_name c) (32 ∷ s))) in
+    no_way (codes " to ") last (weekday_name g ++ 32 ∷ r) (weekday_name c ++ 32 ∷ s) other p.1
+not_listed last f g d (c ∷ b ∷ l) r s other h k a e =
+    let p = weekday_then f d (codes " to " ++ (weekday_name g ++ 32 ∷ r)) (codes ", " ++ from_day last c (b ∷ l) ++ 32 ∷ s)
+    h.0 h.1 k.0 k.1 (e ∙ append_assoc (weekday_name d) (codes ", " ++ from_day last c (b ∷ l)) (32 ∷ s)) in
+    no_way (codes " to ") (codes ", ") (weekday_name g ++ 32 ∷ r) (from_day last c (b ∷ l) ++ 32 ∷ s) refl p.1
+
+same_run : (f g f' g' : ℕ) (r s : List ℕ) → AreDays (f ∷ g ∷ []) → AreDays (f' ∷ g' ∷ [])
+    → weekday_name f ++ (codes " to " ++ (weekday_name g ++ 32 ∷ r)) ≡ weekday_name f' ++ (codes " to " ++ (weekday_name g' ++ 32 ∷ s))
+    → (f ≡ f') × (g ≡ g') × (r ≡ s)
+same_run f g f' g' r s h k e =
+    let p = weekday_then f f' (codes " to " ++ (weekday_name g ++ 32 ∷ r)) (codes " to " ++ (weekday_name g' ++ 32 ∷ s))
+    h.0 h.1 k.0 k.1 e in
+    let q = weekday_then g g' (32 ∷ r) (32 ∷ s) h.2.0 h.2.1 k.2.0 k.2.1
+    (append_cancel_left (codes " to ") (weekday_name g ++ 32 ∷ r) (weekday_name g' ++ 32 ∷ s) p.1) in
+    (p.0, q.0, ap (λ (l : List ℕ). tail l) q.1)
 
 same_days : (last : List ℕ) (a b : ℕ) (r s : List ℕ) → apart (codes ", ") last ≡ true → apart last (codes ", ") ≡ true
-    → DaysOf last a → DaysOf last b → Differs last r → Differs last s
+    → apart (codes " to ") last ≡ true → DaysOf last a ⊎ RunOf last a → DaysOf last b ⊎ RunOf last b → Differs last r
+    → Differs last s → Differs (codes " to ") r → Differs (codes " to ") s
     → weekdays_words last a ++ 32 ∷ r ≡ weekdays_words last b ++ 32 ∷ s → Both a b r s
-same_days last a b r s comma no_comma x y h k e =
+same_days last a b r s comma no_comma to (inl x) (inl y) h k m n e =
     let p = from_day_then last comma no_comma x.first x.others y.first y.others r s x.days y.days h k
     (ap (λ (l : List ℕ). l ++ 32 ∷ r) (sym x.text) ∙ e ∙ ap (λ (l : List ℕ). l ++ 32 ∷ s) y.text) in
     (sym x.bits ∙ ap (λ (l : List ℕ). bits_of l) p.0 ∙ y.bits, p.1)
+same_days last a b r s comma no_comma to (inr x) (inl y) h k m n e =
+    absurd (not_listed last x.first x.end y.first y.others r s to x.days y.days n
+    (sym (run_is x.first x.end (32 ∷ r)) ∙ ap (λ (l : List ℕ). l ++ 32 ∷ r) (sym x.text) ∙ e
+    ∙ ap (λ (l : List ℕ). l ++ 32 ∷ s) y.text))
+same_days last a b r s comma no_comma to (inl x) (inr y) h k m n e =
+    absurd (not_listed last y.first y.end x.first x.others s r to y.days x.days m
+    (sym (run_is y.first y.end (32 ∷ s)) ∙ ap (λ (l : List ℕ). l ++ 32 ∷ s) (sym y.text) ∙ sym e
+    ∙ ap (λ (l : List ℕ). l ++ 32 ∷ r) x.text))
+same_days last a b r s comma no_comma to (inr x) (inr y) h k m n e =
+    let p = same_run x.first x.end y.first y.end r s x.days y.days
+    (sym (run_is x.first x.end (32 ∷ r)) ∙ ap (λ (l : List ℕ). l ++ 32 ∷ r) (sym x.text) ∙ e
+    ∙ ap (λ (l : List ℕ). l ++ 32 ∷ s) y.text ∙ run_is y.first y.end (32 ∷ s)) in
+    (sym x.bits ∙ ap (λ (n : ℕ). run_bits runs n x.end) p.0 ∙ ap (λ (n : ℕ). run_bits runs y.first n) p.1 ∙ y.bits, p.2)
 
 pub and_days_then : (a b : ℕ) (r s : List ℕ) → a ≢ 0 → a < 128 → b ≢ 0 → b < 128 → Differs (codes " and ") r
-    → Differs (codes " and ") s → weekdays_words (codes " and ") a ++ 32 ∷ r ≡ weekdays_words (codes " and ") b ++ 32 ∷ s
-    → Both a b r s
-and_days_then a b r s some few more less h k e = same_days (codes " and ") a b r s refl refl (list_of_days a some few)
-    (list_of_days b more less) h k e
+    → Differs (codes " and ") s → Differs (codes " to ") r → Differs (codes " to ") s
+    → weekdays_words (codes " and ") a ++ 32 ∷ r ≡ weekdays_words (codes " and ") b ++ 32 ∷ s → Both a b r s
+and_days_then a b r s some few more less h k m n e =
+    same_days (codes " and ") a b r s refl refl refl (and_days a some few) (and_days b more less) h k m n e
 
 pub or_days_then : (a b : ℕ) (r s : List ℕ) → a ≢ 0 → a < 128 → b ≢ 0 → b < 128 → Differs (codes " or ") r
-    → Differs (codes " or ") s → weekdays_words (codes " or ") a ++ 32 ∷ r ≡ weekdays_words (codes " or ") b ++ 32 ∷ s
-    → Both a b r s
-or_days_then a b r s some few more less h k e = same_days (codes " or ") a b r s refl refl
-    (list_of (codes " or ") a or_stands some few) (list_of (codes " or ") b or_stands more less) h k e
+    → Differs (codes " or ") s → Differs (codes " to ") r → Differs (codes " to ") s
+    → weekdays_words (codes " or ") a ++ 32 ∷ r ≡ weekdays_words (codes " or ") b ++ 32 ∷ s → Both a b r s
+or_days_then a b r s some few more less h k m n e =
+    same_days (codes " or ") a b r s refl refl refl (text_of (codes " or ") a or_stands some few)
+    (text_of (codes " or ") b or_stands more less) h k m n e

@@ -15,27 +15,25 @@ use Rattle.gtd_words.specs.declared.anchor.Anchor.TheVariants.{Weekdays, EveryDa
 use Rattle.gtd_words.specs.Names.{weekdays_words}
 use Rattle.gtd_words.specs.Starts.{anchor_of, anchor_words, has_clock, is_given, lead_words}
 use Rattle.gtd_words.specs.Words.{basic_words, indent, lead_words as op_lead, lines, op_words, words}
-use Rattle.gtd_words.specs.Durations.{duration_words, clock_end, until_words}
 use Rattle.gtd_words.proofs.Prefixes.{Both, head, no_way}
 use Rattle.gtd_words.proofs.StartLaw.{from_month, words_are}
-use Rattle.gtd_words.proofs.DurationLaw.{SameBasic, basic_is, basic_then}
+use Rattle.gtd_words.proofs.DurationLaw.{SameBasic, basic_is, basic_then, named, rest_of}
 
 -- ---- how a basic domain's words begin
 
 lead_begins : (P : List ℕ → Type 0) → ((r : List ℕ) → P (codes "from " ++ r)) → ((r : List ℕ) → P (codes "on " ++ r))
-    → ((r : List ℕ) → P (codes "every " ++ r)) → (c m : Bool) (a : Anchor) (r : List ℕ)
+    → ((r : List ℕ) → P (codes "e" ++ r)) → (c m : Bool) (a : Anchor) (r : List ℕ)
     → P (lead_words c a ++ (anchor_words m a ++ r))
 lead_begins P f o e false m a r = f (anchor_words m a ++ r)
-lead_begins P f o e true m (Weekdays w) r = e (weekdays_words (codes " and ") w ++ codes " " ++ r)
-lead_begins P f o e true m EveryDay r = e (codes "day " ++ r)
+lead_begins P f o e true m (Weekdays w) r = e (codes "very " ++ (weekdays_words (codes " and ") w ++ codes " " ++ r))
+lead_begins P f o e true m EveryDay r = e (codes "ach day " ++ r)
 lead_begins P f o e true m a r = o (anchor_words m a ++ r)
 
 pub basic_begins : (P : List ℕ → Type 0) → ((r : List ℕ) → P (codes "from " ++ r)) → ((r : List ℕ) → P (codes "on " ++ r))
-    → ((r : List ℕ) → P (codes "every " ++ r)) → (x : StartParts) (d : DurationParts) (r : List ℕ) → P (basic_words x d ++ r)
+    → ((r : List ℕ) → P (codes "e" ++ r)) → (x : StartParts) (d : DurationParts) (r : List ℕ) → P (basic_words x d ++ (10 ∷ r))
 basic_begins P f o e x d r =
-    let rest = duration_words d ++ (until_words (clock_end x d) ++ r) in
-    subst P (sym (basic_is x d r ∙ words_are x rest))
-    (lead_begins P f o e (has_clock x) (is_given x.month) (anchor_of x) (from_month (anchor_of x) x rest))
+    subst P (sym (basic_is x d r ∙ words_are (named x d) x (rest_of x d r)))
+    (lead_begins P f o e (named x d) (is_given x.month) (anchor_of x) (from_month (anchor_of x) x (rest_of x d r)))
 
 -- ---- lines
 
@@ -83,7 +81,7 @@ op_no_space Minus r = refl
 
 body_no_space : (x : Line) (r : List ℕ) → NoSpace (body_of x r)
 body_no_space (basic depth None start duration) r =
-    basic_begins NoSpace (λ l. refl) (λ l. refl) (λ l. refl) start duration (codes "\n" ++ r)
+    basic_begins NoSpace (λ l. refl) (λ l. refl) (λ l. refl) start duration r
 body_no_space (basic depth (Some op) start duration) r =
     op_no_space op (codes " " ++ (basic_words start duration ++ (codes "\n" ++ r)))
 body_no_space (heading depth op) r = op_no_space op (codes "\n" ++ r)
@@ -112,17 +110,17 @@ op_then Minus Union r s e = absurd (no_way (codes "and all this except in:") (co
 op_then Minus Meet r s e = absurd (no_way (codes "and all this except in:") (codes "and all this only in:") r s refl e)
 
 -- no basic domain begins with what is done with the lines above
-no_op : (op : Op) (x : StartParts) (d : DurationParts) (r s : List ℕ) → basic_words x d ++ r ≡ op_words op ++ s → ⊥
+no_op : (op : Op) (x : StartParts) (d : DurationParts) (r s : List ℕ) → basic_words x d ++ (10 ∷ r) ≡ op_words op ++ s → ⊥
 no_op Union x d r s e = basic_begins (λ l. l ≡ codes "or:" ++ s → ⊥) (λ l. no_way (codes "from ") (codes "or:") l s refl)
-    (λ l. no_way (codes "on ") (codes "or:") l s refl) (λ l. no_way (codes "every ") (codes "or:") l s refl) x d r e
+    (λ l. no_way (codes "on ") (codes "or:") l s refl) (λ l. no_way (codes "e") (codes "or:") l s refl) x d r e
 no_op Meet x d r s e = basic_begins (λ l. l ≡ codes "and all this only in:" ++ s → ⊥)
     (λ l. no_way (codes "from ") (codes "and all this only in:") l s refl)
     (λ l. no_way (codes "on ") (codes "and all this only in:") l s refl)
-    (λ l. no_way (codes "every ") (codes "and all this only in:") l s refl) x d r e
+    (λ l. no_way (codes "e") (codes "and all this only in:") l s refl) x d r e
 no_op Minus x d r s e = basic_begins (λ l. l ≡ codes "and all this except in:" ++ s → ⊥)
     (λ l. no_way (codes "from ") (codes "and all this except in:") l s refl)
     (λ l. no_way (codes "on ") (codes "and all this except in:") l s refl)
-    (λ l. no_way (codes "every ") (codes "and all this except in:") l s refl) x d r e
+    (λ l. no_way (codes "e") (codes "and all this except in:") l s refl) x d r e
 
 same_line : (d e : ℕ) (l m : Option Op) (x y : StartParts) (p q : DurationParts) (r s : List ℕ) → d ≡ e → l ≡ m
     → SameBasic x p y q r s → Both (basic d l x p) (basic e m y q) r s
@@ -136,9 +134,9 @@ body_then : (x y : Line) (r s : List ℕ) → IsLine x → IsLine y → depth_of
 body_then (basic d None x p) (basic e None y q) r s h k depth same =
     same_line d e None None x y p q r s depth refl (basic_then x y p q r s h.0 k.0 h.1 k.1 same)
 body_then (basic d None x p) (basic e (Some o) y q) r s h k depth same =
-    absurd (no_op o x p (codes "\n" ++ r) (codes " " ++ (basic_words y q ++ (codes "\n" ++ s))) same)
+    absurd (no_op o x p r (codes " " ++ (basic_words y q ++ (codes "\n" ++ s))) same)
 body_then (basic d (Some o) x p) (basic e None y q) r s h k depth same =
-    absurd (no_op o y q (codes "\n" ++ s) (codes " " ++ (basic_words x p ++ (codes "\n" ++ r))) (sym same))
+    absurd (no_op o y q s (codes " " ++ (basic_words x p ++ (codes "\n" ++ r))) (sym same))
 body_then (basic d (Some o) x p) (basic e (Some i) y q) r s h k depth same =
     let one = op_then o i (codes " " ++ (basic_words x p ++ (codes "\n" ++ r)))
     (codes " " ++ (basic_words y q ++ (codes "\n" ++ s)))
@@ -147,9 +145,9 @@ body_then (basic d (Some o) x p) (basic e (Some i) y q) r s h k depth same =
     (basic_then x y p q r s h.0 k.0 h.1 k.1
     (append_cancel_left (codes " ") (basic_words x p ++ (codes "\n" ++ r)) (basic_words y q ++ (codes "\n" ++ s)) one.1))
 body_then (basic d None x p) (heading e i) r s h k depth same =
-    absurd (no_op i x p (codes "\n" ++ r) (codes "\n" ++ s) same)
+    absurd (no_op i x p r (codes "\n" ++ s) same)
 body_then (heading d o) (basic e None y q) r s h k depth same =
-    absurd (no_op o y q (codes "\n" ++ s) (codes "\n" ++ r) (sym same))
+    absurd (no_op o y q s (codes "\n" ++ r) (sym same))
 body_then (basic d (Some o) x p) (heading e i) r s h k depth same =
     let one = op_then o i (codes " " ++ (basic_words x p ++ (codes "\n" ++ r))) (codes "\n" ++ s) same in
     absurd (no_way (codes " ") (codes "\n") (basic_words x p ++ (codes "\n" ++ r)) s refl one.1)
@@ -183,7 +181,7 @@ op_some Minus r e = absurd cc
 
 body_some : (x : Line) (r : List ℕ) → body_of x r ≡ [] → ⊥
 body_some (basic depth None start duration) r e =
-    basic_begins (λ l. l ≡ [] → ⊥) (λ l e. absurd cc) (λ l e. absurd cc) (λ l e. absurd cc) start duration (codes "\n" ++ r) e
+    basic_begins (λ l. l ≡ [] → ⊥) (λ l e. absurd cc) (λ l e. absurd cc) (λ l e. absurd cc) start duration r e
 body_some (basic depth (Some op) start duration) r e =
     op_some op (codes " " ++ (basic_words start duration ++ (codes "\n" ++ r))) e
 body_some (heading depth op) r e = op_some op (codes "\n" ++ r) e

@@ -1,10 +1,6 @@
--- The words of a duration, and of the clock time at which a stretch ends.
-use Rattle.std.specs.Prelude.{ℕ, ◌+◌, ◌*◌, ◌/◌, ◌%◌, ◌==◌, Bool, List, [], ◌∷◌, ◌++◌, Option, Some, None, if◌then◌else◌}
-use Rattle.std.specs.Prelude.{◌&&◌, codes, decimal, nat_lt}
-use Rattle.gtd_core.specs.Ranges.{clock_seconds}
-use Rattle.gtd_core.specs.declared.start.StartParts.{StartParts}
+-- The words of a duration.
+use Rattle.std.specs.Prelude.{ℕ, ◌+◌, ◌==◌, List, [], ◌∷◌, ◌++◌, if◌then◌else◌, codes, decimal}
 use Rattle.gtd_core.specs.declared.duration.DurationParts.{DurationParts}
-use Rattle.gtd_words.specs.Names.{two_digits}
 
 -- `1 hour`, `2 hours`; before it ` and ` if a number before it is not 0. A number that is 0 is left out.
 abbrev pub number_words : ℕ → ℕ → List ℕ → List ℕ
@@ -43,41 +39,3 @@ clock_sum duration = duration.hours + duration.minutes + duration.seconds
 unfoldable pub duration_words : DurationParts → List ℕ
 duration_words duration =
     if date_sum duration + clock_sum duration == 0 then codes "0 seconds" else date_words duration ++ clock_part_words duration
-
--- The second of its day at which a start begins, if it gives a time of the clock from the hour on.
-abbrev pub clock_start : Option ℕ → Option ℕ → Option ℕ → Option ℕ
-clock_start (Some hour) (Some minute) (Some second) = Some (3600 * hour + 60 * minute + second)
-clock_start (Some hour) (Some minute) None = Some (3600 * hour + 60 * minute)
-clock_start (Some hour) None (Some second) = None
-clock_start (Some hour) None None = Some (3600 * hour)
-clock_start None minute second = None
-
--- Whether a duration is one of the clock, and not empty.
-abbrev pub is_of_clock : DurationParts → Bool
-is_of_clock duration =
-    (12 * duration.years + duration.months == 0)
-    && ((7 * duration.weeks + duration.days == 0) && nat_lt 0 (clock_seconds duration))
-
--- The seconds from the beginning of the start's day to the end of the stretch, if both are of the clock.
-abbrev pub end_after : ℕ → Option ℕ → Option ℕ
-end_after clock None = None
-end_after clock (Some second) = Some (second + clock)
-
-unfoldable pub clock_end : StartParts → DurationParts → Option ℕ
-clock_end start duration =
-    if is_of_clock duration then end_after (clock_seconds duration) (clock_start start.hour start.minute start.second) else None
-
--- `6:00`, `6:00:30`
-abbrev pub time_words : ℕ → List ℕ
-time_words second =
-    decimal (second / 3600) ++ codes ":" ++ two_digits (second / 60 % 60)
-    ++ (if second % 60 == 0 then [] else codes ":" ++ two_digits (second % 60))
-
-abbrev pub day_after : ℕ → List ℕ
-day_after days =
-    if days == 0 then [] else (if days == 1 then codes " the next day" else codes ", " ++ decimal days ++ codes " days later")
-
--- `, until 6:00 the next day`
-abbrev pub until_words : Option ℕ → List ℕ
-until_words None = []
-until_words (Some end) = codes ", until " ++ time_words (end % 86400) ++ day_after (end / 86400)

@@ -1,32 +1,65 @@
 -- When the stretches of a basic domain end, and when its words say that they do.
-use Rattle.std.specs.Prelude.{◌≡◌, ◌<◌, ◌^◌, ◌==◌, ℕ, ℤ, pos, ◌+ℤ◌, List, [], ◌++◌, if◌then◌else◌, codes, decimal}
+use Rattle.std.specs.Prelude.{◌≡◌, ◌<◌, ◌≤◌, ◌^◌, ◌+◌, ◌*◌, ◌-◌, ℕ, ℤ, pos, ◌+ℤ◌, ◌*ℤ◌, List, ◌++◌, ⊤}
 use Rattle.gtd_core.specs.Seconds.{day_of_second}
 use Rattle.gtd_core.specs.declared.start.StartParts.{StartParts}
 use Rattle.gtd_core.specs.declared.duration.DurationParts.{DurationParts}
-use Rattle.gtd_calendar.specs.Clock.{IsClock, IsStop, IsTimeOf}
+use Rattle.gtd_calendar.specs.Calendar.{IsDateOf, weekday_of}
+use Rattle.gtd_calendar.specs.Clock.{IsStop}
 use Rattle.gtd_recur.specs.Membership.{Matches}
-use Rattle.gtd_words.specs.Durations.{day_after}
-use Rattle.gtd_words.specs.Names.{two_digits}
+use Rattle.gtd_words.specs.declared.end.End.{End}
+use Rattle.gtd_words.specs.declared.end.End.TheVariants.{Clock, Weekday, Date, WithWeekday, WithDate, WithFebruary}
+use Rattle.gtd_words.specs.Endings.{until_words, years_until}
 
--- `, until 6:00`, `, until 6:00:30 the next day`: a time of the clock, and how many days after the day of the start it is.
-abbrev pub end_words : ℕ → ℕ → ℕ → ℕ → List ℕ
-end_words hour minute second days =
-    codes ", until " ++ decimal hour ++ codes ":" ++ two_digits minute
-    ++ (if second == 0 then [] else codes ":" ++ two_digits second) ++ day_after days
+-- The numbers of an end: seconds of a day, weekdays, months and days of the month are in their ranges.
+abbrev pub IsEnd : End → Type 0
+IsEnd (Clock end) = (end.0 < 2 ^ 64) × (end.1 < 86400)
+IsEnd (Weekday end) = (1 ≤ end.0) × (end.0 ≤ 7) × (end.1 < 86400)
+IsEnd (WithWeekday end) = (1 ≤ end) × (end ≤ 7)
+IsEnd (Date end) = (1 ≤ end.0) × (end.0 ≤ 12) × (end.1 < 100) × (end.2 < 86400)
+IsEnd (WithDate end) = (1 ≤ end.0) × (end.0 ≤ 12) × (end.1 < 100)
+IsEnd WithFebruary = ⊤
 
 -- The words of a basic domain say this end: they close with it.
-pub record SayEnd (words : List ℕ) (hour minute second days : ℕ) : Type 0 where
-  pub clock : IsClock hour minute second
-  pub few : days < 2 ^ 64
+pub record SayEnd (words : List ℕ) (end : End) : Type 0 where
+  pub is_end : IsEnd end
   pub before : List ℕ
-  pub whole : words ≡ before ++ end_words hour minute second days
+  pub whole : words ≡ before ++ until_words end
 
 -- They say some end.
 abbrev pub SayAnEnd : List ℕ → Type 0
-SayAnEnd words = (hour minute second days : ℕ) × SayEnd words hour minute second days
+SayAnEnd words = (end : End) × SayEnd words end
 
--- From each second that the start matches, the stretch of the duration ends at this time of the clock, so many days after the
--- day of that second.
-abbrev pub AllEndAt : StartParts → DurationParts → ℕ → ℕ → ℕ → ℕ → Type 0
-AllEndAt start duration hour minute second days =
-    (b e : ℤ) → Matches start b → IsStop duration b e → IsTimeOf e (day_of_second b +ℤ pos days) hour minute second
+-- the second of a day
+abbrev pub IsSecondOf : ℤ → ℤ → ℕ → Type 0
+IsSecondOf e day second = e ≡ pos 86400 *ℤ day +ℤ pos second
+
+-- The day is the first of this weekday from another one on.
+abbrev pub IsNextWeekday : ℤ → ℤ → ℕ → Type 0
+IsNextWeekday from day weekday = (days : ℕ) × (days < 7) × (day ≡ from +ℤ pos days) × (weekday_of day ≡ weekday)
+
+-- The day is the first of this month and day from another one on: in the year of that day, or, where it has this date before that
+-- day, in the next year.
+abbrev pub IsNextDate : ℤ → ℤ → ℕ → ℕ → ℕ → ℕ → Type 0
+IsNextDate from day month number shown_month shown_day = (year : ℤ) × (from_month : ℕ) × (from_day : ℕ)
+    × IsDateOf from year from_month from_day
+    × IsDateOf day (year +ℤ pos (years_until (from_month, from_day) shown_month shown_day)) month number
+
+-- A stretch that begins at b ends at e, as the end says: at a second of a day that comes so many days later, or is the next such
+-- weekday or date; or when the next such weekday or date, or February, is over.
+abbrev pub EndsAt : End → ℤ → ℤ → Type 0
+EndsAt (Clock end) b e = IsSecondOf e (day_of_second b +ℤ pos end.0) end.1
+EndsAt (Weekday end) b e = (day : ℤ) × IsNextWeekday (day_of_second b) day end.0 × IsSecondOf e day end.1
+EndsAt (WithWeekday end) b e = (day : ℤ) × IsNextWeekday (day_of_second b) day end × IsSecondOf e (day +ℤ pos 1) 0
+EndsAt (Date end) b e = (day : ℤ) × IsNextDate (day_of_second b) day end.0 end.1 end.0 end.1 × IsSecondOf e day end.2
+EndsAt (WithDate end) b e = (day : ℤ) × IsNextDate (day_of_second b) day end.0 end.1 end.0 end.1 × IsSecondOf e (day +ℤ pos 1) 0
+EndsAt WithFebruary b e = (day : ℤ) × IsNextDate (day_of_second b) day 3 1 2 29 × IsSecondOf e day 0
+
+-- From each second that the start matches, the stretch of the duration ends so.
+abbrev pub AllEndAt : StartParts → DurationParts → End → Type 0
+AllEndAt start duration end = (b e : ℤ) → Matches start b → IsStop duration b e → EndsAt end b e
+
+-- From each second that the start matches, the stretch is all of its day.
+abbrev pub AllLastTheDay : StartParts → DurationParts → Type 0
+AllLastTheDay start duration =
+    (b e : ℤ) → Matches start b → IsStop duration b e
+    → IsSecondOf b (day_of_second b) 0 × IsSecondOf e (day_of_second b +ℤ pos 1) 0

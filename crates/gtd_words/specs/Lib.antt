@@ -1,4 +1,5 @@
 pub mod Durations
+pub mod Endings
 pub mod Ends
 pub mod Joins
 pub mod Names

@@ -27,14 +27,14 @@ unfoldable pub anchor_of : StartParts → Anchor
 anchor_of start =
     anchor_from start.day start.nth start.nth_back start.weekdays (has_clock start) (is_given start.week)
 
--- Without a clock a start is `from` its day; otherwise it is `on` its day, or every day, and the clock comes later.
-abbrev pub clock_lead : Anchor → List ℕ
-clock_lead (Weekdays weekdays) = []
-clock_lead EveryDay = []
-clock_lead other = codes "on "
+-- A start whose clock, or `all day`, comes later is `on` its day, or each day; otherwise it is `from` its day.
+abbrev pub named_lead : Anchor → List ℕ
+named_lead (Weekdays weekdays) = []
+named_lead EveryDay = []
+named_lead other = codes "on "
 
 abbrev pub lead_words : Bool → Anchor → List ℕ
-lead_words clock anchor = if clock then clock_lead anchor else codes "from "
+lead_words named anchor = if named then named_lead anchor else codes "from "
 
 -- `13 ` before a month's name, and `the 13th of ` otherwise
 abbrev pub day_words : Bool → ℕ → List ℕ
@@ -47,7 +47,7 @@ anchor_words month (Day day) = day_words month day
 anchor_words month (Place place) = codes "the " ++ place_words place
 anchor_words month (PlaceBack place) = codes "the " ++ back_words place
 anchor_words month (Weekdays weekdays) = codes "every " ++ weekdays_words (codes " and ") weekdays ++ codes " "
-anchor_words month EveryDay = codes "every day "
+anchor_words month EveryDay = codes "each day "
 anchor_words month TheMonday = codes "the Monday "
 anchor_words month Beginning = codes "the beginning "
 
@@ -97,14 +97,15 @@ also_weekdays weekdays =
 abbrev pub weekdays_condition : Anchor → ℕ → List ℕ
 weekdays_condition anchor weekdays = if is_in_month anchor then also_weekdays weekdays else []
 
--- The clock, if it is given: `from 10 o'clock `, `from 10:30 `, `from minute 30 of every hour `.
-abbrev pub seconds_words : Option ℕ → List ℕ
-seconds_words None = []
-seconds_words (Some second) = codes ":" ++ two_digits second
+-- The clock, if it is given: `from 10:00 `, `from 10:30 `, `from minute 30 of every hour `. A minute 0 that is given, and no second
+-- after it, is ` sharp`.
+abbrev pub seconds_words : ℕ → Option ℕ → List ℕ
+seconds_words minute None = if minute == 0 then codes " sharp" else []
+seconds_words minute (Some second) = codes ":" ++ two_digits second
 
 abbrev pub time_from : ℕ → ℕ → Option ℕ → List ℕ
 time_from hour minute second =
-    codes "from " ++ decimal hour ++ codes ":" ++ two_digits minute ++ seconds_words second ++ codes " "
+    codes "from " ++ two_digits hour ++ codes ":" ++ two_digits minute ++ seconds_words minute second ++ codes " "
 
 abbrev pub of_hour : Option ℕ → List ℕ
 of_hour None = codes "of every hour "
@@ -128,7 +129,7 @@ minute_words minute second = from_minute minute ++ of_hours second
 
 abbrev pub hour_words : ℕ → Option ℕ → Option ℕ → List ℕ
 hour_words hour (Some minute) second = time_from hour minute second
-hour_words hour None None = codes "from " ++ decimal hour ++ codes " o'clock "
+hour_words hour None None = codes "from " ++ two_digits hour ++ codes ":00 "
 hour_words hour None (Some second) = second_words second (Some hour)
 
 abbrev pub clock_words : Option ℕ → Option ℕ → Option ℕ → List ℕ
@@ -149,10 +150,10 @@ condition_words anchor start =
     place_condition anchor start.nth ++ back_condition anchor start.nth_back ++ weekdays_condition anchor start.weekdays
 
 -- A start: its day, the month, week and year, what must hold too, and the clock.
-abbrev pub words_from : Anchor → StartParts → List ℕ
-words_from anchor start =
-    lead_words (has_clock start) anchor ++ anchor_words (is_given start.month) anchor ++ period_words anchor start
+abbrev pub words_from : Bool → Anchor → StartParts → List ℕ
+words_from named anchor start =
+    lead_words named anchor ++ anchor_words (is_given start.month) anchor ++ period_words anchor start
     ++ condition_words anchor start ++ clock_words start.hour start.minute start.second
 
-unfoldable pub start_words : StartParts → List ℕ
-start_words start = words_from (anchor_of start) start
+unfoldable pub start_words : Bool → StartParts → List ℕ
+start_words named start = words_from named (anchor_of start) start

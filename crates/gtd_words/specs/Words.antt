@@ -2,19 +2,19 @@
 --
 -- The parts of a chain of operators stand below one another, and each line after the first says what is done with all the
 -- lines above it. A part in brackets has a heading, and stands below it, indented by four columns.
-use Rattle.std.specs.Prelude.{ℕ, zero, suc, List, [], ◌++◌, Option, Some, None, codes}
+use Rattle.std.specs.Prelude.{ℕ, zero, suc, ◌||◌, List, [], ◌++◌, Option, Some, None, codes}
 use Rattle.gtd_core.specs.declared.start.StartParts.{StartParts}
 use Rattle.gtd_core.specs.declared.duration.DurationParts.{DurationParts}
 use Rattle.gtd_core.specs.declared.domain.Op.{Op}
 use Rattle.gtd_core.specs.declared.domain.Op.TheVariants.{Union, Meet, Minus}
 use Rattle.gtd_core.specs.Trees.{Tree, Single, Joined}
-use Rattle.gtd_words.specs.Starts.{start_words}
-use Rattle.gtd_words.specs.Durations.{duration_words, clock_end, until_words}
+use Rattle.gtd_words.specs.Starts.{has_clock, start_words}
+use Rattle.gtd_words.specs.Endings.{is_all_day, rest_words}
 
--- A basic domain: its start, its duration, and the clock time at which it ends if both are of the clock.
+-- A basic domain: its start, and its end or its duration.
 unfoldable pub basic_words : StartParts → DurationParts → List ℕ
 basic_words start duration =
-    start_words start ++ codes "for " ++ duration_words duration ++ until_words (clock_end start duration)
+    start_words (has_clock start || is_all_day start duration) start ++ rest_words start duration
 
 -- What is done with all the lines above: the seconds of these too, only those in these, only those not in these.
 abbrev pub op_words : Op → List ℕ

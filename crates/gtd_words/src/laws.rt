@@ -1,6 +1,6 @@
 //! Laws of the definitions: calls that do nothing, whose contracts are what is proved.
 
-ghost use Rattle.std.specs.Prelude.{◌≡◌, ◌↔◌, IsTrue, is_some, true, ℕ};
+ghost use Rattle.std.specs.Prelude.{◌≡◌, ◌↔◌, IsTrue, is_some, true, false};
 ghost use Rattle.gtd_core.specs.Equality.{same_tree};
 ghost use Rattle.gtd_core.specs.Parts.{domain_tree};
 ghost use Rattle.gtd_core.specs.Ranges.{IsDuration, IsStart};
@@ -8,9 +8,10 @@ ghost use Rattle.gtd_core.specs.Trees.{Tree, AreValid};
 ghost use Rattle.gtd_core.specs.declared.domain.Domain.{Domain};
 ghost use Rattle.gtd_core.specs.declared.duration.DurationParts.{DurationParts};
 ghost use Rattle.gtd_core.specs.declared.start.StartParts.{StartParts};
-ghost use Rattle.gtd_words.specs.Durations.{clock_end};
-ghost use Rattle.gtd_words.specs.Ends.{AllEndAt, SayAnEnd, SayEnd};
+ghost use Rattle.gtd_words.specs.Endings.{ending, is_all_day};
+ghost use Rattle.gtd_words.specs.Ends.{AllEndAt, AllLastTheDay, SayAnEnd, SayEnd};
 ghost use Rattle.gtd_words.specs.Words.{basic_words, words};
+ghost use Rattle.gtd_words.specs.declared.end.End.{End};
 
 use gtd_core::laws::{equality_of_trees, leaves_are_valid};
 
@@ -28,13 +29,15 @@ pub fn same_words_of_domains()
     equality_of_trees();
 }
 
-/// The end that words say is the end of each stretch. If the words of a basic domain close with `, until 6:00 the next day`, then
-/// each stretch of its recurrence ends at that time of the clock, on the day after the day on which it begins. The words say an
-/// end exactly if the start gives the clock from the hour on, and the duration is one of the clock.
+/// The end that words say is the end of each stretch. If the words of a basic domain close with `until 06:00 the next day`, or
+/// `until 31 May (included)`, then each stretch of its recurrence ends so. The words say an end exactly if one is found that is the
+/// same for all stretches (`ending`), unless they are `all day`: then the day with which each stretch begins is all of it.
 pub fn right_ends()
     ensures said { (start : StartParts) (duration : DurationParts) → IsStart start → IsDuration duration
-        → IsTrue (is_some (clock_end start duration)) ↔ SayAnEnd (basic_words start duration) }
-    ensures each { (start : StartParts) (duration : DurationParts) (hour minute second days : ℕ) → IsStart start
-        → IsDuration duration → SayEnd (basic_words start duration) hour minute second days
-        → AllEndAt start duration hour minute second days }
+        → is_all_day start duration ≡ false
+        → IsTrue (is_some (ending start duration)) ↔ SayAnEnd (basic_words start duration) }
+    ensures each { (start : StartParts) (duration : DurationParts) (end : End) → IsStart start
+        → IsDuration duration → SayEnd (basic_words start duration) end → AllEndAt start duration end }
+    ensures whole_day { (start : StartParts) (duration : DurationParts) → IsStart start → IsDuration duration
+        → is_all_day start duration ≡ true → AllLastTheDay start duration }
 {}

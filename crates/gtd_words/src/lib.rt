@@ -5,10 +5,15 @@
 #![tactic(auto)]
 
 mod anchor;
+mod date;
 mod duration;
+mod end;
 pub mod laws;
+mod named;
 mod names;
 mod start;
+mod until;
+mod usual;
 mod words;
 
 pub use words::write_words;

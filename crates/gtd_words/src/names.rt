@@ -2,14 +2,15 @@
 
 ghost use Rattle.std.specs.Prelude.{◌≡◌, ◌≤◌, ◌<◌, ◌+◌, ◌++◌, [], ◌∷◌, string_bytes, decimal, OnOk};
 ghost use Rattle.gtd_words.specs.Names.{weekday_name, month_name, place_name, back_name, place_words, back_words};
-ghost use Rattle.gtd_words.specs.Names.{ordinal_ending, two_digits, four_digits, weekday_joint, weekday_if_set, weekdays_words};
+ghost use Rattle.gtd_words.specs.Names.{ordinal_ending, run_of, run_words, two_digits, four_digits, weekday_joint};
+ghost use Rattle.gtd_words.specs.Names.{weekday_if_set, weekday_list, weekdays_words};
 
 use itoa::Buffer;
 use std::alloc::AllocError;
 
-// The name of a weekday, from 1 for Sunday.
+/// The name of a weekday, from 1 for Sunday.
 #[tactic(auto, unfolding(crate::specs::Names::weekday_name))]
-fn weekday_name(weekday: u8) -> &'static str
+pub(crate) fn weekday_name(weekday: u32) -> &'static str
     ensures { result.now ≡ weekday_name weekday }
 {
     match weekday {
@@ -25,7 +26,7 @@ fn weekday_name(weekday: u8) -> &'static str
 
 /// The name of a month, from 1 for January.
 #[tactic(auto, unfolding(crate::specs::Names::month_name))]
-pub(crate) fn month_name(month: u8) -> &'static str
+pub(crate) fn month_name(month: u32) -> &'static str
     ensures { result.now ≡ month_name month }
 {
     match month {
@@ -93,7 +94,7 @@ pub(crate) fn push_place(out: &mut String, place: (u8, u8)) -> Result<(), AllocE
     ensures { OnOk result (string_bytes out.new ≡ string_bytes out.old ++ place_words place) }
 {
     out.push_str(place_name(place.0))?;
-    out.push_str(weekday_name(place.1))?;
+    out.push_str(weekday_name(u32::from(place.1)))?;
     out.push_str(" of ")
 }
 
@@ -103,7 +104,7 @@ pub(crate) fn push_place_back(out: &mut String, place: (u8, u8)) -> Result<(), A
     ensures { OnOk result (string_bytes out.new ≡ string_bytes out.old ++ back_words place) }
 {
     out.push_str("last ")?;
-    out.push_str(weekday_name(place.1))?;
+    out.push_str(weekday_name(u32::from(place.1)))?;
     out.push_str(back_name(place.0))
 }
 
@@ -179,13 +180,60 @@ fn push_weekday(
 {
     if (weekdays >> (weekday - 1)) % 2 == 1 {
         out.push_str(weekday_joint(last, weekdays, weekday))?;
-        out.push_str(weekday_name(weekday))
+        out.push_str(weekday_name(u32::from(weekday)))
     } else {
         Ok(())
     }
 }
 
-/// Appends the names of weekdays, with these words before the last.
+// Three or more neighbouring weekdays: the first of them and the last, or zeros.
+#[tactic(auto, unfolding(crate::specs::Names::run_of))]
+fn run_of(weekdays: u8) -> (u8, u8)
+    ensures { result ≡ run_of weekdays }
+{
+    match weekdays {
+        7 => (1, 3),
+        14 => (2, 4),
+        15 => (1, 4),
+        28 => (3, 5),
+        30 => (2, 5),
+        31 => (1, 5),
+        56 => (4, 6),
+        60 => (3, 6),
+        62 => (2, 6),
+        63 => (1, 6),
+        67 => (7, 2),
+        71 => (7, 3),
+        79 => (7, 4),
+        95 => (7, 5),
+        97 => (6, 1),
+        99 => (6, 2),
+        103 => (6, 3),
+        111 => (6, 4),
+        112 => (5, 7),
+        113 => (5, 1),
+        115 => (5, 2),
+        119 => (5, 3),
+        120 => (4, 7),
+        121 => (4, 1),
+        123 => (4, 2),
+        124 => (3, 7),
+        125 => (3, 1),
+        126 => (2, 7),
+        127 => (2, 1),
+        _ => (0, 0),
+    }
+}
+
+fn push_run(out: &mut String, run: (u8, u8)) -> Result<(), AllocError>
+    ensures { OnOk result (string_bytes out.new ≡ string_bytes out.old ++ run_words run) }
+{
+    out.push_str(weekday_name(u32::from(run.0)))?;
+    out.push_str(" to ")?;
+    out.push_str(weekday_name(u32::from(run.1)))
+}
+
+/// Appends the names of weekdays, with these words before the last of a list.
 #[tactic(auto, unfolding(crate::specs::Names::weekdays_words))]
 pub(crate) fn push_weekdays(
     out: &mut String,
@@ -193,6 +241,21 @@ pub(crate) fn push_weekdays(
     weekdays: u8,
 ) -> Result<(), AllocError>
     ensures { OnOk result (string_bytes out.new ≡ string_bytes out.old ++ weekdays_words last.now weekdays) }
+{
+    let run = run_of(weekdays);
+    if run.0 == 0 {
+        return push_weekday_list(out, last, weekdays);
+    }
+    push_run(out, run)
+}
+
+#[tactic(auto, unfolding(crate::specs::Names::weekday_list))]
+fn push_weekday_list(
+    out: &mut String,
+    last: &'static str,
+    weekdays: u8,
+) -> Result<(), AllocError>
+    ensures { OnOk result (string_bytes out.new ≡ string_bytes out.old ++ weekday_list last.now weekdays) }
 {
     push_weekday(out, last, weekdays, 1)?;
     push_weekday(out, last, weekdays, 2)?;

@@ -2,14 +2,14 @@
 
 ghost use Rattle.std.specs.Prelude.{◌≡◌, ◌≤◌, ◌<◌, ◌++◌, [], codes, string_bytes, OnOk, IfSome};
 ghost use Rattle.gtd_core.specs.Parts.{start_parts};
-ghost use Rattle.gtd_words.specs.Names.{back_words, place_words, weekdays_words};
+ghost use Rattle.gtd_words.specs.Names.{back_words, place_words, two_digits, weekdays_words};
 ghost use Rattle.gtd_words.specs.Starts.{also_back, also_place, also_weekdays, anchor_words, back_condition};
 ghost use Rattle.gtd_words.specs.Starts.{clock_words, condition_words, day_words, from_minute, hour_words, lead_words};
 ghost use Rattle.gtd_words.specs.Starts.{minute_words, month_words, of_hour, of_hours, period_words, place_condition};
 ghost use Rattle.gtd_words.specs.Starts.{second_of_minutes, second_words};
 ghost use Rattle.gtd_words.specs.Starts.{seconds_words, start_words, time_from, week_words, weekdays_condition, year_words};
 
-use crate::anchor::{Anchor, anchor_of, has_clock, is_in_month};
+use crate::anchor::{Anchor, anchor_of, is_in_month};
 use crate::names::{
     month_name, ordinal_ending, push_four_digits, push_number, push_number_after,
     push_number_between, push_place, push_place_back, push_two_digits, push_weekdays,
@@ -17,24 +17,24 @@ use crate::names::{
 use gtd_core::{Start, StartParts};
 use std::alloc::AllocError;
 
-/// Appends the words of a start.
+/// Appends the words of a start. With `named` it is on its day; otherwise it is from its day.
 #[tactic(auto, unfolding(crate::specs::Starts::start_words))]
-pub(crate) fn push_start(out: &mut String, start: &Start) -> Result<(), AllocError>
-    ensures { OnOk result (string_bytes out.new ≡ string_bytes out.old ++ start_words (start_parts start.now)) }
+pub(crate) fn push_start(out: &mut String, named: bool, start: &Start) -> Result<(), AllocError>
+    ensures { OnOk result (string_bytes out.new ≡ string_bytes out.old ++ start_words named (start_parts start.now)) }
 {
     let parts = start.parts();
     let anchor = anchor_of(&parts);
-    push_lead(out, has_clock(&parts), anchor)?;
+    push_lead(out, named, anchor)?;
     push_anchor(out, parts.month.is_some(), anchor)?;
     push_period(out, anchor, &parts)?;
     push_conditions(out, anchor, &parts)?;
     push_clock(out, parts.hour, parts.minute, parts.second)
 }
 
-fn push_lead(out: &mut String, clock: bool, anchor: Anchor) -> Result<(), AllocError>
-    ensures { OnOk result (string_bytes out.new ≡ string_bytes out.old ++ lead_words clock anchor) }
+fn push_lead(out: &mut String, named: bool, anchor: Anchor) -> Result<(), AllocError>
+    ensures { OnOk result (string_bytes out.new ≡ string_bytes out.old ++ lead_words named anchor) }
 {
-    if !clock {
+    if !named {
         return out.push_str("from ");
     }
     match anchor {
@@ -65,7 +65,7 @@ fn push_anchor(out: &mut String, month: bool, anchor: Anchor) -> Result<(), Allo
         Anchor::Place(place) => push_place_between(out, "the ", place, ""),
         Anchor::PlaceBack(place) => push_back_between(out, "the ", place, ""),
         Anchor::Weekdays(weekdays) => push_weekdays_after(out, "every ", " and ", weekdays),
-        Anchor::EveryDay => out.push_str("every day "),
+        Anchor::EveryDay => out.push_str("each day "),
         Anchor::TheMonday => out.push_str("the Monday "),
         Anchor::Beginning => out.push_str("the beginning "),
     }
@@ -87,7 +87,7 @@ fn push_month(out: &mut String, in_month: bool, month: Option<u8>) -> Result<(),
     match month {
         Some(month) => {
             out.push_str(if in_month { "" } else { "of " })?;
-            out.push_str(month_name(month))?;
+            out.push_str(month_name(u32::from(month)))?;
             out.push_str(" ")
         }
         None => out.push_str(if in_month { "every month " } else { "" }),
@@ -236,6 +236,7 @@ fn push_clock(
     minute: Option<u8>,
     second: Option<u8>,
 ) -> Result<(), AllocError>
+    requires hours { IfSome hour (λ n. n < 100) }
     requires minutes { IfSome minute (λ n. n < 100) }
     requires seconds { IfSome second (λ n. n < 100) }
     ensures { OnOk result (string_bytes out.new ≡ string_bytes out.old ++ clock_words hour minute second) }
@@ -258,6 +259,7 @@ fn push_hour(
     minute: Option<u8>,
     second: Option<u8>,
 ) -> Result<(), AllocError>
+    requires hours { hour < 100 }
     requires minutes { IfSome minute (λ n. n < 100) }
     requires seconds { IfSome second (λ n. n < 100) }
     ensures { OnOk result (string_bytes out.new ≡ string_bytes out.old ++ hour_words hour minute second) }
@@ -266,34 +268,45 @@ fn push_hour(
         Some(minute) => push_time(out, hour, minute, second),
         None => match second {
             Some(second) => push_second(out, u32::from(second), Some(hour)),
-            None => push_number_between(out, "from ", u32::from(hour), " o'clock "),
+            None => push_hour_alone(out, hour),
         },
     }
 }
 
 fn push_time(out: &mut String, hour: u8, minute: u8, second: Option<u8>) -> Result<(), AllocError>
+    requires hours { hour < 100 }
     requires minutes { minute < 100 }
     requires seconds { IfSome second (λ n. n < 100) }
     ensures { OnOk result (string_bytes out.new ≡ string_bytes out.old ++ time_from hour minute second) }
 {
     out.push_str("from ")?;
-    push_number(out, u32::from(hour))?;
+    push_two_digits(out, u32::from(hour))?;
     out.push_str(":")?;
     push_two_digits(out, u32::from(minute))?;
-    push_seconds(out, second)?;
+    push_seconds(out, minute, second)?;
     out.push_str(" ")
 }
 
-fn push_seconds(out: &mut String, second: Option<u8>) -> Result<(), AllocError>
+fn push_hour_alone(out: &mut String, hour: u8) -> Result<(), AllocError>
+    requires { hour < 100 }
+    ensures { OnOk result (string_bytes out.new ≡ string_bytes out.old
+        ++ (codes "from " ++ two_digits hour ++ codes ":00 ")) }
+{
+    out.push_str("from ")?;
+    push_two_digits(out, u32::from(hour))?;
+    out.push_str(":00 ")
+}
+
+fn push_seconds(out: &mut String, minute: u8, second: Option<u8>) -> Result<(), AllocError>
     requires { IfSome second (λ n. n < 100) }
-    ensures { OnOk result (string_bytes out.new ≡ string_bytes out.old ++ seconds_words second) }
+    ensures { OnOk result (string_bytes out.new ≡ string_bytes out.old ++ seconds_words minute second) }
 {
     match second {
         Some(second) => {
             out.push_str(":")?;
             push_two_digits(out, u32::from(second))
         }
-        None => Ok(()),
+        None => out.push_str(if minute == 0 { " sharp" } else { "" }),
     }
 }
 

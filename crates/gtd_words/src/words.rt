@@ -6,8 +6,10 @@ ghost use Rattle.gtd_core.specs.Trees.{tree_of};
 ghost use Rattle.gtd_words.specs.Joins.{join_count};
 ghost use Rattle.gtd_words.specs.Words.{basic_words, indent, lead_words, lines, op_words, words};
 
-use crate::duration::{clock_end, push_duration, push_until};
+use crate::anchor::has_clock;
 use crate::start::push_start;
+use crate::until::push_rest;
+use crate::usual::is_all_day;
 use gtd_core::{Basic, Domain, Expr, Op};
 use std::alloc::{AllocError, Global};
 
@@ -20,8 +22,8 @@ use std::alloc::{AllocError, Global};
 /// ```
 /// let domain = read_domain(alloc, b"[(M4d1){M3}]*[(h10){h4}]")?;
 /// let words = write_words(alloc, &domain)?;
-/// assert_eq!(rt; words.as_str(), "from 1 April every year for 3 months\n\
-///     and all this only in: every day from 10 o'clock for 4 hours, until 14:00\n");
+/// assert_eq!(rt; words.as_str(), "from 1 April every year until 30 June (included)\n\
+///     and all this only in: each day from 10:00 until 14:00\n");
 /// ```
 pub fn write_words(alloc: Global, domain: &Domain) -> Result<String, AllocError>
     ensures exact { IfOk result (λ text. string_bytes text ≡ words (domain_tree domain.now)) }
@@ -110,8 +112,8 @@ fn push_basic(out: &mut String, basic: &Basic) -> Result<(), AllocError>
     ensures { OnOk result (string_bytes out.new ≡ string_bytes out.old
         ++ basic_words (start_parts basic.now.start) (duration_parts basic.now.duration)) }
 {
-    push_start(out, &basic.start)?;
-    out.push_str("for ")?;
-    push_duration(out, &basic.duration.parts())?;
-    push_until(out, clock_end(&basic.start.parts(), &basic.duration))
+    let start = basic.start.parts();
+    let named = has_clock(&start) || is_all_day(&start, &basic.duration.parts());
+    push_start(out, named, &basic.start)?;
+    push_rest(out, &start, &basic.duration)
 }
