@@ -74,6 +74,7 @@ part tests/examples.sh
 part tests/failing.sh
 part tests/refusals.sh
 part tests/fuzz.py 60 1
+part tests/words.py
 part tests/hours.py 10 1
 part tests/hours_program.py 10 1
 part tests/same.py 1000 1

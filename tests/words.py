@@ -158,14 +158,16 @@ def dates_of(start, fields):
 
 def date_end(start, fields, whole):
     """The end by a date, if it is the same from every year, with the usual duration; else nothing."""
-    found = set()
-    for year, end in dates_of(start, fields):
-        last = model.date_of(end // model.DAY - whole)
-        february = whole and (last.month, last.day) in ((2, 28), (2, 29)) and model.date_of(end // model.DAY).day == 1
-        found.add((last.year - year, *((2, 29) if february else (last.month, last.day)), february, end % model.DAY))
+    ends = [(year, end) for year, end in dates_of(start, fields)]
+    lasts = [(year, model.date_of(end // model.DAY - whole)) for year, end in ends]
+    found = {(last.year - year, last.month, last.day, end % model.DAY) for (year, last), (_, end) in zip(lasts, ends)}
+    february = len(found) != 1 and whole and all((last.month, last.day) in ((2, 28), (2, 29)) for _, last in lasts) \
+        and all(model.date_of(end // model.DAY).day == 1 for _, end in ends)
+    if february:
+        found = {(last.year - year, 2, 29, 0) for year, last in lasts}
     if len(found) != 1:
         return None
-    years, month, day, february, second = found.pop()
+    years, month, day, second = found.pop()
     if years != ((month, day) < start.date()):
         return None
     name = f"{day} {calendar.month_name[month]}"
@@ -176,8 +178,10 @@ def date_end(start, fields, whole):
         for days in range(31):
             usual = (1, 0, 0, 0, 0, 0, 0) if months == 12 and not days else (0, months, 0, days, 0, 0, 0)
             if usual == numbers(fields):
-                ahead = begin.day + days > 28 if months == 0 else False
-                return words, days < calendar.monthrange(begin.year, (begin.month + months - 1) % 12 + 1)[1] or ahead
+                reached = (begin.month + months - 1) % 12 + 1
+                until_28 = not february and whole and (month, day) == (2, 28) and reached == 2 and begin.day + days == 29
+                length = calendar.monthrange(2001, reached)[1]
+                return words, begin.day <= length + 3 * (reached == 2) and days < length or until_28
     return words, False
 
 

@@ -30,12 +30,18 @@ sure_short m = short (m == 2) ((m == 4) || (m == 6) || (m == 9) || (m == 11))
     short false true = omega arith
     short false false = omega arith
 
+abbrev length_by : Bool → ℕ → Bool → ℕ
+length_by a short c = cond a short (cond c 30 31)
+
+abbrev leap_by : Bool → ℕ
+leap_by l = cond l 29 28
+
+same_by : (a l c : Bool) → a ≡ false → length_by a (leap_by l) c ≡ length_by a 28 c
+same_by true l c h = absurd (false≢true (sym h))
+same_by false l c h = refl
+
 pub sure_is : (y : ℤ) (m : ℕ) → (m == 2) ≡ false → month_length y m ≡ sure_length m
-sure_is y m other = same (m == 2) (is_leap_year y) ((m == 4) || (m == 6) || (m == 9) || (m == 11)) other
-  where
-    same : (a l c : Bool) → a ≡ false → cond a (cond l 29 28) (cond c 30 31) ≡ cond a 28 (cond c 30 31)
-    same true l c h = absurd (false≢true (sym h))
-    same false l c h = refl
+sure_is y m other = same_by (m == 2) (is_leap_year y) ((m == 4) || (m == 6) || (m == 9) || (m == 11)) other
 
 -- ---- the same month
 
@@ -84,6 +90,12 @@ first_of_next y =
 ends : (n f : ℤ) (a d long : ℕ) → 1 ≤ d → d ≤ long → n ≡ f +ℤ pos (a + (d - 1)) → n +ℤ pos (long + 1 - d) ≡ f +ℤ pos (a + long)
 ends n f a d long low high e = omega (arith, signed_arith, low, high, e)
 
+below_last : (m : ℕ) → (m ≡ 12 → ⊥) → m ≤ 12 → m < 12
+below_last m other high = omega (arith, other, high)
+
+same_year : (y : ℤ) (k : ℕ) → k ≡ 0 → y ≡ y +ℤ pos k
+same_year y k e = omega (arith, signed_arith, e)
+
 -- the first of the next month, after the rest of this one
 pub next_month : (n y : ℤ) (m d : ℕ) → IsDateOf n y m d
     → IsDateOf (n +ℤ pos (month_length y m + 1 - d)) (y +ℤ pos (m / 12)) (m % 12 + 1) 1
@@ -108,7 +120,7 @@ next_month n y m d h = by_last (m == 12) refl
     by_last false t =
         let other = eqb-false m 12 t in
         let high = h.0.0.1 in
-        let less : m < 12 = below m other high in
+        let less : m < 12 = below_last m other high in
         let long = (month_length_bounds y (m + 1)).1 in
         let first : IsDateOf (n +ℤ pos (month_length y m + 1 - d)) y (m + 1) 1 =
         (((omega arith, omega (arith, less)), (omega arith, omega (arith, long))),
@@ -117,12 +129,6 @@ next_month n y m d h = by_last (m == 12) refl
         let year : y ≡ y +ℤ pos (m / 12) = same_year y (m / 12) (omega (arith, less)) in
         subst (λ (k : ℕ). IsDateOf (n +ℤ pos (month_length y m + 1 - d)) (y +ℤ pos (m / 12)) k 1) month
         (subst (λ (z : ℤ). IsDateOf (n +ℤ pos (month_length y m + 1 - d)) z (m + 1) 1) year first)
-
-    below : (m : ℕ) → (m ≡ 12 → ⊥) → m ≤ 12 → m < 12
-    below m other high = omega (arith, other, high)
-
-    same_year : (y : ℤ) (k : ℕ) → k ≡ 0 → y ≡ y +ℤ pos k
-    same_year y k e = omega (arith, signed_arith, e)
 
 -- ---- days on
 
@@ -205,25 +211,22 @@ least_most a b = by_test (nat_lt a b) refl
     by_test true e = omega arith
     by_test false e = grind (arith, e)
 
+low_by : (a c : Bool) → 28 ≤ length_by a 28 c
+low_by true c = omega arith
+low_by false true = omega arith
+low_by false false = omega arith
+
+sure_low : (m : ℕ) → 28 ≤ sure_length m
+sure_low m = low_by (m == 2) ((m == 4) || (m == 6) || (m == 9) || (m == 11))
+
+both_least : (d a b : ℕ) → d ≤ 28 → 28 ≤ a → 28 ≤ b → min d a ≡ min d b
+both_least d a b few la lb = omega (arith, few, la, lb)
+
 -- where a leap day does not decide, the day is cut to the length that is sure
 cut : (y : ℤ) (m d : ℕ) (t : Bool) → (m == 2) ≡ t → (m ≡ 2 → d ≤ 28) → min d (month_length y m) ≡ least (sure_length m) d
 cut y m d true t short =
-    let few = short (eqb-true m 2 t) in
-    let sure = sure_most y m in
-    let low = (month_length_bounds y m).1 in
-    let least28 = sure_low m in
-    sym (least_is (sure_length m) d ∙ both d (sure_length m) (month_length y m) few least28 low)
-  where
-    sure_low : (m : ℕ) → 28 ≤ sure_length m
-    sure_low m = low (m == 2) ((m == 4) || (m == 6) || (m == 9) || (m == 11))
-
-    low : (a c : Bool) → 28 ≤ cond a 28 (cond c 30 31)
-    low true c = omega arith
-    low false true = omega arith
-    low false false = omega arith
-
-    both : (d a b : ℕ) → d ≤ 28 → 28 ≤ a → 28 ≤ b → min d a ≡ min d b
-    both d a b few la lb = grind (arith, few, la, lb)
+    sym (least_is (sure_length m) d
+    ∙ both_least d (sure_length m) (month_length y m) (short (eqb-true m 2 t)) (sure_low m) (month_length_bounds y m).1)
 cut y m d false t short = sym (least_is (sure_length m) d ∙ ap (λ (k : ℕ). min d k) (sym (sure_is y m t)))
 
 pub record Reaches (month day months : ℕ) (date : ℕ × ℕ × ℕ) : Type 0 where
@@ -239,7 +242,7 @@ date_on : (month day months : ℕ) → ((month - 1 + months) % 12 + 1 ≡ 2 → 
     → IsMonthsLater n months r → IsDateOf r (year +ℤ pos ((month - 1 + months) / 12)) ((month - 1 + months) % 12 + 1)
     (least (sure_length ((month - 1 + months) % 12 + 1)) day)
 date_on month day months short n r year h (y, z, m, l, d, from, sum, to) =
-    let only = date-unique n y year m month d day from h in
+    let only = date-unique n y year m d month day from h in
     let at = reached_at y z m l months from.0.0.0 from.0.0.1 to.0.0.0 to.0.0.1 sum in
     let year_is : z ≡ year +ℤ pos ((month - 1 + months) / 12) =
     at.0 ∙ ap (λ (k : ℕ). y +ℤ pos ((k - 1 + months) / 12)) only.1 ∙ ap (λ (k : ℤ). k +ℤ pos ((month - 1 + months) / 12)) only.0 in

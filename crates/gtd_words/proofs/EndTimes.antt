@@ -41,13 +41,13 @@ begin_is (Some a) (Some b) (Some c) h m s second e x y z =
 begin_is (Some a) (Some b) None h m s second e x y z =
     let none = z refl in let is = some_is (3600 * a + 60 * b) second e in omega (arith, x, y, none, is)
 begin_is (Some a) None None h m s second e x y z =
-    let none = z refl in let zero = y refl in let is = some_is (3600 * a) second e in omega (arith, x, none, zero, is)
+    let none = z refl in let less = y refl in let is = some_is (3600 * a) second e in omega (arith, x, none, less, is)
 begin_is (Some a) None (Some c) h m s second e x y z = absurd cc
 begin_is None (Some b) z h m s second e x p q = absurd cc
 begin_is None None (Some c) h m s second e x p q = absurd cc
 begin_is None None None h m s second e x y z =
-    let none = z refl in let zero = y refl in let first = x refl in let is = some_is 0 second e in
-    omega (arith, none, zero, first, is)
+    let none = z refl in let less = y refl in let first = x refl in let is = some_is 0 second e in
+    omega (arith, none, less, first, is)
 
 pub first_small : (x y z : Option ℕ) (second : ℕ) → first_second x y z ≡ Some second → IsWithin 0 23 x → IsWithin 0 59 y
     → IsWithin 0 59 z → second < 86400
@@ -121,21 +121,26 @@ one_known w wd low high bit =
     (one_test (w == 16) w 4 wd _ refl (omega arith) low high bit (one_test (w == 32) w 5 wd _ refl (omega arith) low high bit
     (one_test (w == 64) w 6 wd None refl (omega arith) low high bit tt))))))
 
+-- no field names the day
+abbrev NoDay : Option ℕ → Option (ℕ × ℕ) → Option (ℕ × ℕ) → Type 0
+NoDay None None None = Unit {0}
+NoDay d f l = ⊥
+
 -- what the fields say of the weekday
 weekday_is : (d : Option ℕ) (f l : Option (ℕ × ℕ)) (w : ℕ) (c k : Bool) (wd : ℕ) → 1 ≤ wd → wd ≤ 7 → IfSome f (λ x. x.1 ≡ wd)
     → IfSome l (λ x. x.1 ≡ wd) → (w ≡ 0) ⊎ (w / 2 ^ (wd - 1) % 2 ≡ 1)
-    → (d ≡ None → f ≡ None → l ≡ None → (w == 0) ≡ true → c ≡ false → k ≡ true → wd ≡ 2)
+    → (NoDay d f l → (w == 0) ≡ true → c ≡ false → k ≡ true → wd ≡ 2)
     → IfSome (weekday_from (anchor_from d f l w c k)) (λ x. x ≡ wd)
 weekday_is (Some d) f l w c k wd low high nth back days monday = tt
 weekday_is None (Some f) l w c k wd low high nth back days monday = nth
 weekday_is None None (Some l) w c k wd low high nth back days monday = back
-weekday_is None None None w c k wd low high nth back days monday = by_days (w == 0) c k refl days monday
+weekday_is None None None w c k wd low high nth back days monday = by_days (w == 0) c k refl days (monday tt)
   where
     by_days : (t c k : Bool) → (w == 0) ≡ t → (w ≡ 0) ⊎ (w / 2 ^ (wd - 1) % 2 ≡ 1)
-        → (None ≡ None → None ≡ None → None ≡ None → (w == 0) ≡ true → c ≡ false → k ≡ true → wd ≡ 2)
+        → ((w == 0) ≡ true → c ≡ false → k ≡ true → wd ≡ 2)
         → IfSome (weekday_from (cond t (cond c EveryDay (cond k TheMonday Beginning)) (Weekdays w))) (λ x. x ≡ wd)
     by_days true true k t days monday = tt
-    by_days true false true t days monday = sym (monday refl refl refl t refl refl)
+    by_days true false true t days monday = sym (monday t refl refl)
     by_days true false false t days monday = tt
     by_days false c k t (inl none) monday = absurd (eqb-false w 0 t none)
     by_days false c k t (inr bit) monday = one_known w wd low high bit
@@ -145,9 +150,12 @@ given_is None = refl
 given_is (Some x) = refl
 
 -- no field of the day, and none of the clock
-no_day : (d : Option ℕ) (f l : Option (ℕ × ℕ)) (t : Bool) → d ≡ None → f ≡ None → l ≡ None → t ≡ true
+no_day : (d : Option ℕ) (f l : Option (ℕ × ℕ)) (t : Bool) → NoDay d f l → t ≡ true
     → (is_some d || (is_some f || (is_some l || not t))) ≡ false
-no_day d f l t ed ef el et = rw (ed, ef, el, et) refl
+no_day None None None t none et = ap (λ (b : Bool). not b) et
+no_day (Some d) f l t none et = absurd none
+no_day None (Some f) l t none et = absurd none
+no_day None None (Some l) t none et = absurd none
 
 no_clock : (x y z : Option ℕ) → (is_given x || (is_given y || is_given z)) ≡ false → (is_some x || (is_some y || is_some z)) ≡ false
 no_clock x y z h = rw (← given_is x, ← given_is y, ← given_is z) h
@@ -171,9 +179,9 @@ weekday_known start b (n, h, m, s, time, holds, hour, minute, last) =
     range.0 range.1 (place_of start.nth (λ x. x.0 ≡ (holds.day - 1) / 7 + 1) (weekday_of n) holds.nth)
     (place_of start.nth_back (λ x. x.0 ≡ (month_length holds.year holds.month - holds.day) / 7 + 1) (weekday_of n) holds.nth_back)
     holds.weekdays
-    (λ d f l w c k. eqb-true (weekday_of n) 2 (two_of (is_some start.week) (weekday_of n == 2) (holds.day == 1)
+    (λ none w c k. eqb-true (weekday_of n) 2 (two_of (is_some start.week) (weekday_of n == 2) (holds.day == 1)
     (sym (given_is start.week) ∙ k)
-    (holds.least (no_day start.day start.nth start.nth_back (start.weekdays == 0) d f l w)
+    (holds.least (no_day start.day start.nth start.nth_back (start.weekdays == 0) none w)
     (no_clock start.hour start.minute start.second c)))) in
     subst (λ (z : ℤ). IfSome (weekday_from (anchor_of start)) (λ x. x ≡ weekday_of z)) day here
   where
@@ -188,7 +196,7 @@ FromDate n from = (year : ℤ) × IsDateOf n year from.0 from.1
 
 date_is : (d : Option ℕ) (f l : Option (ℕ × ℕ)) (w : ℕ) (c k : Bool) (mo : Option ℕ) (finer : Bool) (n y : ℤ) (month day : ℕ)
     → IsDateOf n y month day → HasNumber mo finer 1 month → IfSome d (λ x. x ≡ day)
-    → (d ≡ None → f ≡ None → l ≡ None → (w == 0) ≡ true → c ≡ false → k ≡ false → (day ≡ 1) × (finer ≡ false))
+    → (NoDay d f l → (w == 0) ≡ true → c ≡ false → k ≡ false → (day ≡ 1) × (finer ≡ false))
     → IfSome (date_from (anchor_from d f l w c k) mo) (FromDate n)
 date_is (Some d) f l w c k (Some mo) finer n y month day h number on first =
     (y, subst (λ (x : ℕ). IsDateOf n y mo x) (sym on) (subst (λ (x : ℕ). IsDateOf n y x day) number h))
@@ -197,10 +205,10 @@ date_is None (Some f) l w c k (Some mo) finer n y month day h number on first = 
 date_is None (Some f) l w c k None finer n y month day h number on first = tt
 date_is None None (Some l) w c k (Some mo) finer n y month day h number on first = tt
 date_is None None (Some l) w c k None finer n y month day h number on first = tt
-date_is None None None w c k mo finer n y month day h number on first = by_days (w == 0) c k mo refl number first
+date_is None None None w c k mo finer n y month day h number on first = by_days (w == 0) c k mo refl number (first tt)
   where
     by_days : (t c k : Bool) (mo : Option ℕ) → (w == 0) ≡ t → HasNumber mo finer 1 month
-        → (None ≡ None → None ≡ None → None ≡ None → (w == 0) ≡ true → c ≡ false → k ≡ false → (day ≡ 1) × (finer ≡ false))
+        → ((w == 0) ≡ true → c ≡ false → k ≡ false → (day ≡ 1) × (finer ≡ false))
         → IfSome (date_from (cond t (cond c EveryDay (cond k TheMonday Beginning)) (Weekdays w)) mo) (FromDate n)
     by_days true true k None t number first = tt
     by_days true true k (Some mo) t number first = tt
@@ -209,10 +217,10 @@ date_is None None None w c k mo finer n y month day h number on first = by_days 
     by_days false c k None t number first = tt
     by_days false c k (Some mo) t number first = tt
     by_days true false false (Some mo) t number first =
-        let one = first refl refl refl t refl refl in
+        let one = first t refl refl in
         (y, subst (λ (x : ℕ). IsDateOf n y mo x) one.0 (subst (λ (x : ℕ). IsDateOf n y x day) number h))
     by_days true false false None t number first =
-        let one = first refl refl refl t refl refl in
+        let one = first t refl refl in
         (y, subst (λ (x : ℕ). IsDateOf n y 1 x) one.0 (subst (λ (x : ℕ). IsDateOf n y x day) (number one.1) h))
 
 no_finer : (k : Bool) (d e : Bool) → k ≡ false → d ≡ false → e ≡ false → (k || (d || e)) ≡ false
@@ -227,8 +235,8 @@ date_known start b (n, h, m, s, time, holds, hour, minute, last) =
     date_is start.day start.nth start.nth_back start.weekdays (has_clock start) (is_given start.week) start.month
     (is_some start.week || (gives_day start || gives_clock start)) n holds.year holds.month holds.day holds.date holds.in_month
     holds.on_day
-    (λ d f l w c k.
-      let none = no_day start.day start.nth start.nth_back (start.weekdays == 0) d f l w in
+    (λ unnamed w c k.
+      let none = no_day start.day start.nth start.nth_back (start.weekdays == 0) unnamed w in
       let clock = no_clock start.hour start.minute start.second c in
       let week = sym (given_is start.week) ∙ k in
       (eqb-true holds.day 1 (other_of (is_some start.week) (weekday_of n == 2) (holds.day == 1) week (holds.least none clock)),
@@ -248,18 +256,17 @@ StopsAt start duration months days second =
     (b e : ℤ) → Matches start b → IsStop duration b e
     → (reached : ℤ) × IsMonthsLater (day_of_second b) months reached × (e ≡ pos 86400 *ℤ (reached +ℤ pos days) +ℤ pos second)
 
+day_parts : (r : ℤ) (d k q l : ℕ) → k ≡ 86400 * q + l
+    → pos 86400 *ℤ (r +ℤ pos d) +ℤ pos k ≡ pos 86400 *ℤ (r +ℤ pos (d + q)) +ℤ pos l
+day_parts r d k q l e = omega (arith, signed_arith, e)
+
 end_sum : (r : ℤ) (day_part first clock h m s hs ms ss : ℕ) → 3600 * h + 60 * m + s ≡ first → clock ≡ 3600 * hs + 60 * ms + ss
     → pos 86400 *ℤ (r +ℤ pos day_part) +ℤ pos (3600 * (h + hs) + 60 * (m + ms) + (s + ss))
     ≡ pos 86400 *ℤ (r +ℤ pos (day_part + (first + clock) / 86400)) +ℤ pos ((first + clock) % 86400)
 end_sum r day_part first clock h m s hs ms ss e f =
     let sum : 3600 * (h + hs) + 60 * (m + ms) + (s + ss) ≡ first + clock = omega (arith, e, f) in
-    ap (λ (k : ℕ). pos 86400 *ℤ (r +ℤ pos day_part) +ℤ pos k) sum ∙ split r day_part (first + clock)
-  where
-    split : (r : ℤ) (d k : ℕ) → pos 86400 *ℤ (r +ℤ pos d) +ℤ pos k ≡ pos 86400 *ℤ (r +ℤ pos (d + k / 86400)) +ℤ pos (k % 86400)
-    split r d k = parts r d k (k / 86400) (k % 86400) (omega arith)
-
-    parts : (r : ℤ) (d k q l : ℕ) → k ≡ 86400 * q + l → pos 86400 *ℤ (r +ℤ pos d) +ℤ pos k ≡ pos 86400 *ℤ (r +ℤ pos (d + q)) +ℤ pos l
-    parts r d k q l e = omega (arith, signed_arith, e)
+    ap (λ (k : ℕ). pos 86400 *ℤ (r +ℤ pos day_part) +ℤ pos k) sum
+    ∙ day_parts r day_part (first + clock) ((first + clock) / 86400) ((first + clock) % 86400) (omega arith)
 
 stops_at : (start : StartParts) (duration : DurationParts) (first : ℕ)
     → first_second start.hour start.minute start.second ≡ Some first
@@ -301,6 +308,9 @@ stops_on start duration first e none b end matches is =
     on : (day b end : ℤ) (days clock first q l : ℕ) → b ≡ pos 86400 *ℤ day +ℤ pos first → end ≡ b +ℤ pos (86400 * days + clock)
         → first + clock ≡ 86400 * q + l → end ≡ pos 86400 *ℤ (day +ℤ pos (days + q)) +ℤ pos l
     on day b end days clock first q l begin long sum = omega (arith, signed_arith, begin, long, sum)
+
+positive : (n : ℕ) → (n ≡ 0 → ⊥) → 1 ≤ n
+positive n some = omega (arith, some)
 
 -- ---- by the clock and by weekdays
 
@@ -369,8 +379,8 @@ module _ (start : StartParts) (duration : DurationParts) where
           → IfSome (cond t None (Some (WithWeekday (weekday_after w (days - 1))))) (Good start duration)
       by_few true e = tt
       by_few false e =
-          let zero = (is_whole refl).1 in
-          with_weekday_good start duration w days known (subst (λ (k : ℕ). StopsOn start duration days k) zero stops)
+          let midnight = (is_whole refl).1 in
+          with_weekday_good start duration w days known (subst (λ (k : ℕ). StopsOn start duration days k) midnight stops)
           (is_whole refl).0 (at_most 7 days e)
   weekdays_good false (Some w) days second known stops small is_whole = by_few (nat_lt 6 days) refl
     where
@@ -551,14 +561,14 @@ module _ (start : StartParts) (duration : DurationParts) where
   from_good : (whole : Bool) (from : ℕ × ℕ) (days second : ℕ) (o : Option (ℕ × ℕ × ℕ)) → second < 86400
       → (whole ≡ true → second ≡ 0) → ((date : ℕ × ℕ × ℕ) → o ≡ Some date → InYear date × Dated from date days second)
       → IfSome (from_date whole from days second o) (Good start duration)
-  from_good whole from days second None small zero dated = tt
-  from_good false from days second (Some date) small zero dated =
+  from_good whole from days second None small midnight dated = tt
+  from_good false from days second (Some date) small midnight dated =
       let at = dated date refl in
       dated_at from date days second (days_on 13 date.0 date.1 date.2 days) at.0.0 at.0.1 refl small at.1
-  from_good true from days second (Some date) small zero dated = by_days (days == 0) refl
+  from_good true from days second (Some date) small midnight dated = by_days (days == 0) refl
     where
       at_zero : Dated from date days 0
-      at_zero = subst (λ (k : ℕ). Dated from date days k) (zero refl) (dated date refl).1
+      at_zero = subst (λ (k : ℕ). Dated from date days k) (midnight refl) (dated date refl).1
 
       by_days : (t : Bool) → (days == 0) ≡ t
           → IfSome (cond t (before_date from date) (with_date from (days_on 13 date.0 date.1 date.2 (days - 1)))) (Good start duration)
@@ -570,15 +580,12 @@ module _ (start : StartParts) (duration : DurationParts) where
           let range = (dated date refl).0 in
           dated_with from date days (days_on 13 date.0 date.1 date.2 (days - 1)) range.0 range.1 (positive days some) refl at_zero
 
-      positive : (n : ℕ) → (n ≡ 0 → ⊥) → 1 ≤ n
-      positive n some = omega (arith, some)
-
   dates_good : (whole : Bool) (o : Option (ℕ × ℕ)) (months days second : ℕ) → StopsAt start duration months days second
       → second < 86400 → (whole ≡ true → second ≡ 0) → IfSome o (λ from. (b : ℤ) → Matches start b → FromDate (day_of_second b) from)
       → IfSome (date_end whole o months days second) (Good start duration)
-  dates_good whole None months days second stops small zero known = tt
-  dates_good whole (Some from) months days second stops small zero known =
-      from_good whole from days second (date_at (from.0 - 1 + months) from.1) small zero
+  dates_good whole None months days second stops small midnight known = tt
+  dates_good whole (Some from) months days second stops small midnight known =
+      from_good whole from days second (date_at (from.0 - 1 + months) from.1) small midnight
       (λ date e.
       let reaches = months_reach from.0 from.1 months date e in
       (reaches.in_year, λ b end matches is.
@@ -627,7 +634,7 @@ whole_is true rem h = absurd (false≢true h)
 
 some_days : (months days clock first : ℕ) → (months + days + clock ≡ 0 → ⊥) → months ≡ 0 → first ≡ 0 → (first + clock) % 86400 ≡ 0
     → 1 ≤ days + (first + clock) / 86400
-some_days months days clock first some none zero rem = omega (arith, some, none, zero, rem)
+some_days months days clock first some none start rem = omega (arith, some, none, start, rem)
 
 few_days : (weeks days clock first : ℕ) → weeks ≤ 999999 → days ≤ 999999 → clock ≤ 3700000000 → first < 86400
     → 7 * weeks + days + (first + clock) / 86400 < 2 ^ 64

@@ -29,7 +29,8 @@ fn least(a: u32, b: u32) -> u32
     if a < b { a } else { b }
 }
 
-fn one_less(n: u32) -> u32
+/// The number before, or 0.
+pub(crate) fn one_less(n: u32) -> u32
     ensures { result ≡ n - 1 }
 {
     if n == 0 { 0 } else { n - 1 }
@@ -73,11 +74,20 @@ fn is_before(month: u32, day: u32, start: (u32, u32)) -> bool
     month < start.0 || (month == start.0 && day < start.1)
 }
 
+fn years_until(start: (u32, u32), month: u32, day: u32) -> u32
+    ensures { result ≡ years_until start month day }
+{
+    if is_before(month, day, start) { 1 } else { 0 }
+}
+
 fn if_first(start: (u32, u32), year: u32, month: u32, day: u32, end: End) -> Option<End>
     ensures { result ≡ if_first start year month day end }
 {
-    let later = if is_before(month, day, start) { 1 } else { 0 };
-    if year == later { Some(end) } else { None }
+    if year == years_until(start, month, day) {
+        Some(end)
+    } else {
+        None
+    }
 }
 
 fn before_first(start: (u32, u32), year: u32, month: u32) -> Option<End>

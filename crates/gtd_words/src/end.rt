@@ -2,11 +2,11 @@
 
 ghost use Rattle.std.specs.Prelude.{◌≡◌, ◌<◌, ◌^◌, Some, IfSome};
 ghost use Rattle.gtd_core.specs.Parts.{duration_parts};
-ghost use Rattle.gtd_words.specs.Endings.{ end_after, end_from, ending, first_second, is_empty, named_from};
+ghost use Rattle.gtd_words.specs.Endings.{end_after, end_from, ending, first_second, is_empty, named_from};
 ghost use Rattle.gtd_words.specs.Endings.{or_else, weekday_after, weekday_end, without_months};
 
 use crate::anchor::has_clock;
-use crate::date::date_end;
+use crate::date::{date_end, one_less};
 use crate::named::{first_second, named_from};
 use gtd_core::{Duration, StartParts};
 
@@ -44,8 +44,7 @@ fn weekday_end(whole: bool, weekday: Option<u32>, days: u32, second: u32) -> Opt
         if 7 < days {
             return None;
         }
-        let more = if days == 0 { 0 } else { days - 1 };
-        return Some(End::WithWeekday(weekday_after(weekday, more)));
+        return Some(End::WithWeekday(weekday_after(weekday, one_less(days))));
     }
     if 6 < days {
         return None;

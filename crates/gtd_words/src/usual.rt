@@ -100,17 +100,24 @@ fn usual_to(
     }
 }
 
+fn second_or_none(second: Option<u32>) -> u32
+    requires { IfSome second (λ n. n < 2 ^ 20) }
+    ensures value { result ≡ second_or_none second }
+    ensures small { result < 2 ^ 20 }
+{
+    match second {
+        Some(second) => second,
+        None => 0,
+    }
+}
+
 /// The usual duration of an end: years, months, days and seconds.
 #[tactic(auto, unfolding(crate::specs::Endings::usual))]
 pub(crate) fn usual(start: &StartParts, end: End) -> (u32, u32, u32, u32)
     requires { IsEnd end }
     ensures { result ≡ usual start.now end }
 {
-    let first = match first_second(start) {
-        Some(second) => second,
-        None => 0,
-    };
-    usual_to(named_from(start), first, end)
+    usual_to(named_from(start), second_or_none(first_second(start)), end)
 }
 
 /// Whether a duration is written as these years, months, days and seconds.
