@@ -110,9 +110,10 @@ next_month n y m d h = by_last (m == 12) refl
     by_last true t =
         let last : m ≡ 12 = eqb-true m 12 t in
         let long = (month_length_bounds (y +ℤ pos 1) 1).1 in
-        let first : IsDateOf (n +ℤ pos (month_length y m + 1 - d)) (y +ℤ pos 1) 1 1 =
-        ((((omega arith), (omega arith)), ((omega arith), omega (arith, long))),
-        at_end ∙ ap (λ (k : ℕ). first_day y +ℤ pos (days_of_months y (k - 1) + month_length y k)) last ∙ sym (first_of_next y)) in
+        let first : IsDateOf (n +ℤ pos (month_length y m + 1 - d)) (y +ℤ pos 1) 1 1 = (
+          (((omega arith), (omega arith)), ((omega arith), omega (arith, long))),
+          at_end ∙ ap (λ (k : ℕ). first_day y +ℤ pos (days_of_months y (k - 1) + month_length y k)) last ∙ sym (first_of_next y),
+        ) in
         let year : 1 ≡ m / 12 = omega (arith, last) in
         let month : 1 ≡ m % 12 + 1 = omega (arith, last) in
         subst (λ (k : ℕ). IsDateOf (n +ℤ pos (month_length y m + 1 - d)) (y +ℤ pos (m / 12)) k 1) month
@@ -122,9 +123,10 @@ next_month n y m d h = by_last (m == 12) refl
         let high = h.0.0.1 in
         let less : m < 12 = below_last m other high in
         let long = (month_length_bounds y (m + 1)).1 in
-        let first : IsDateOf (n +ℤ pos (month_length y m + 1 - d)) y (m + 1) 1 =
-        (((omega arith, omega (arith, less)), (omega arith, omega (arith, long))),
-        at_end ∙ sym (first_later y m h.0.0.0)) in
+        let first : IsDateOf (n +ℤ pos (month_length y m + 1 - d)) y (m + 1) 1 = (
+          ((omega arith, omega (arith, less)), (omega arith, omega (arith, long))),
+          at_end ∙ sym (first_later y m h.0.0.0),
+        ) in
         let month : m + 1 ≡ m % 12 + 1 = omega (arith, less) in
         let year : y ≡ y +ℤ pos (m / 12) = same_year y (m / 12) (omega (arith, less)) in
         subst (λ (k : ℕ). IsDateOf (n +ℤ pos (month_length y m + 1 - d)) (y +ℤ pos (m / 12)) k 1) month
@@ -257,8 +259,11 @@ date_on month day months short n r year h (y, z, m, l, d, from, sum, to) =
 
 months_step : (t : Bool) (month day months : ℕ) (date : ℕ × ℕ × ℕ)
     → (((month - 1 + months) % 12 == 1) && nat_lt 28 day) ≡ t
-    → cond t None (Some ((month - 1 + months) / 12, (month - 1 + months) % 12 + 1,
-    least (sure_length ((month - 1 + months) % 12 + 1)) day)) ≡ Some date → Reaches month day months date
+    → cond t None (Some (
+      (month - 1 + months) / 12,
+      (month - 1 + months) % 12 + 1,
+      least (sure_length ((month - 1 + months) % 12 + 1)) day,
+    )) ≡ Some date → Reaches month day months date
 months_step true month day months date t e = absurd (none_some date e)
 months_step false month day months date t e =
     let count = month - 1 + months in
@@ -298,13 +303,15 @@ month_before n y m h two other =
     let long = sure_is y (m - 1) other in
     let bounds = month_length_bounds y (m - 1) in
     let is = h.1 ∙ ap (λ (k : ℕ). day_number y k 1) back ∙ first_later y (m - 1) (omega (arith, two)) in
-    let date : IsDateOf (n -ℤ pos 1) y (m - 1) (month_length y (m - 1)) =
-    (((omega (arith, two), omega (arith, h.0.0.1)), (omega (arith, bounds.1), omega arith)),
-    back_one n (first_day y) (days_of_months y (m - 1 - 1)) (month_length y (m - 1)) (omega (arith, bounds.1)) is) in
+    let date : IsDateOf (n -ℤ pos 1) y (m - 1) (month_length y (m - 1)) = (
+      ((omega (arith, two), omega (arith, h.0.0.1)), (omega (arith, bounds.1), omega arith)),
+      back_one n (first_day y) (days_of_months y (m - 1 - 1)) (month_length y (m - 1)) (omega (arith, bounds.1)) is,
+    ) in
     subst (λ (k : ℕ). IsDateOf (n -ℤ pos 1) y (m - 1) k) long date
 
 pub year_before : (n y : ℤ) → IsDateOf n (y +ℤ pos 1) 1 1 → IsDateOf (n -ℤ pos 1) y 12 31
 unfolding day_number
-year_before n y h =
-    (((omega arith, omega arith), (omega arith, omega arith)),
-    back_one n (first_day y) (days_of_months y (12 - 1)) 31 (omega arith) (h.1 ∙ first_of_next y))
+year_before n y h = (
+  ((omega arith, omega arith), (omega arith, omega arith)),
+  back_one n (first_day y) (days_of_months y (12 - 1)) 31 (omega arith) (h.1 ∙ first_of_next y),
+)

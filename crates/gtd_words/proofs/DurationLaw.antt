@@ -409,12 +409,11 @@ rest_by_then : (t u v w : Bool) (x : StartParts) (d e : DurationParts) (r s : Li
     → IsAlone u (ending x d) → IsAlone w (ending x e)
     → rest_by t u d (ending x d) r ≡ rest_by v w e (ending x e) s → Both d e r s
 unfolding is_all_day
-rest_by_then true u true w x d e r s t1 u1 v1 w1 h k p q m n same =
-    (
-      same_written d e (0, 0, 1, 0) (last_part (not (has_clock x)) (not (is_beginning (anchor_of x))) _ t1)
-          (last_part (not (has_clock x)) (not (is_beginning (anchor_of x))) _ v1),
-      ap (λ (l : List ℕ). tail l) (append_cancel_left (codes "all day") (10 ∷ r) (10 ∷ s) same),
-    )
+rest_by_then true u true w x d e r s t1 u1 v1 w1 h k p q m n same = (
+  same_written d e (0, 0, 1, 0) (last_part (not (has_clock x)) (not (is_beginning (anchor_of x))) _ t1)
+      (last_part (not (has_clock x)) (not (is_beginning (anchor_of x))) _ v1),
+  ap (λ (l : List ℕ). tail l) (append_cancel_left (codes "all day") (10 ∷ r) (10 ∷ s) same),
+)
   where
     last_part : (a b c : Bool) → (a && (b && c)) ≡ true → c ≡ true
     last_part a b c h = (and_parts b c (and_parts a (b && c) h).1).1

@@ -236,11 +236,12 @@ date_known start b (n, h, m, s, time, holds, hour, minute, last) =
     (is_some start.week || (gives_day start || gives_clock start)) n holds.year holds.month holds.day holds.date holds.in_month
     holds.on_day
     (λ unnamed w c k.
-      let none = no_day start.day start.nth start.nth_back (start.weekdays == 0) unnamed w in
-      let clock = no_clock start.hour start.minute start.second c in
-      let week = sym (given_is start.week) ∙ k in
-      (eqb-true holds.day 1 (other_of (is_some start.week) (weekday_of n == 2) (holds.day == 1) week (holds.least none clock)),
-      no_finer (is_some start.week) (gives_day start) (gives_clock start) week none clock)) in
+    let none = no_day start.day start.nth start.nth_back (start.weekdays == 0) unnamed w in
+    let clock = no_clock start.hour start.minute start.second c in
+    let week = sym (given_is start.week) ∙ k in (
+      eqb-true holds.day 1 (other_of (is_some start.week) (weekday_of n == 2) (holds.day == 1) week (holds.least none clock)),
+      no_finer (is_some start.week) (gives_day start) (gives_clock start) week none clock,
+    )) in
     subst (λ (z : ℤ). IfSome (date_from (anchor_of start) start.month) (FromDate z)) day here
 
 -- ---- where stretches end
@@ -274,8 +275,7 @@ stops_at : (start : StartParts) (duration : DurationParts) (first : ℕ)
     ((first + clock_seconds duration) % 86400)
 stops_at start duration first e b end matches (day, reached, h, m, s, time, months, is) =
     let at = (time_of-only b day h m s time).0 in
-    let begin = begin_clock start b first e matches day h m s time in
-    (
+    let begin = begin_clock start b first e matches day h m s time in (
       reached,
       subst (λ (z : ℤ). IsMonthsLater z (month_sum duration) reached) at months,
       is ∙ end_sum reached (day_sum duration) first (clock_seconds duration) h m s duration.hours duration.minutes duration.seconds
@@ -415,11 +415,15 @@ module _ (start : StartParts) (duration : DurationParts) where
   at_good from date second range small dated first = record {
     is_end = (range.0, range.1, omega (arith, range.2), small);
     all = λ b e matches is.
-        let at = dated b e matches is in
-        (
+        let at = dated b e matches is in (
           at.1,
-          (at.0, from.0, from.1, at.2,
-          subst (λ (k : ℕ). IsDateOf at.1 (at.0 +ℤ pos k) date.1 date.2) first at.3),
+          (
+            at.0,
+            from.0,
+            from.1,
+            at.2,
+            subst (λ (k : ℕ). IsDateOf at.1 (at.0 +ℤ pos k) date.1 date.2) first at.3,
+          ),
           at.4 ∙ none at.1 second,
         );
   }
@@ -433,11 +437,15 @@ module _ (start : StartParts) (duration : DurationParts) where
   with_good from date range dated first = record {
     is_end = (range.0, range.1, omega (arith, range.2));
     all = λ b e matches is.
-        let at = dated b e matches is in
-        (
+        let at = dated b e matches is in (
           at.1,
-          (at.0, from.0, from.1, at.2,
-          subst (λ (k : ℕ). IsDateOf at.1 (at.0 +ℤ pos k) date.1 date.2) first at.3),
+          (
+            at.0,
+            from.0,
+            from.1,
+            at.2,
+            subst (λ (k : ℕ). IsDateOf at.1 (at.0 +ℤ pos k) date.1 date.2) first at.3,
+          ),
           at.4,
         );
   }
@@ -447,8 +455,7 @@ module _ (start : StartParts) (duration : DurationParts) where
   february_good from year dated first = record {
     is_end = tt;
     all = λ b e matches is.
-        let at = dated b e matches is in
-        (
+        let at = dated b e matches is in (
           at.1,
           (at.0, from.0, from.1, at.2, subst (λ (k : ℕ). IsDateOf at.1 (at.0 +ℤ pos k) 3 1) first at.3),
           at.4 ∙ none at.1,
@@ -587,11 +594,13 @@ module _ (start : StartParts) (duration : DurationParts) where
   dates_good whole (Some from) months days second stops small midnight known =
       from_good whole from days second (date_at (from.0 - 1 + months) from.1) small midnight
       (λ date e.
-      let reaches = months_reach from.0 from.1 months date e in
-      (reaches.in_year, λ b end matches is.
-      let stop = stops b end matches is in
-      let begin = known b matches in
-      (begin.0, stop.0, begin.1, reaches.on (day_of_second b) stop.0 begin.0 begin.1 stop.1, stop.2)))
+      let reaches = months_reach from.0 from.1 months date e in (
+        reaches.in_year,
+        λ b end matches is.
+            let stop = stops b end matches is in
+            let begin = known b matches in
+            (begin.0, stop.0, begin.1, reaches.on (day_of_second b) stop.0 begin.0 begin.1 stop.1, stop.2),
+      ))
 
   -- ---- the whole
 
@@ -682,9 +691,11 @@ from_first start duration (Some first) p q some e = by_months (month_sum duratio
         (few_days duration.weeks duration.days (clock_seconds duration) first q.0.weeks q.0.days
         (clock_most duration.hours duration.minutes duration.seconds q.0.hours q.0.minutes q.0.seconds) first_low) small
         (λ h.
-        let is = whole_is (has_clock start) (second == 0) h in
-        (some_days (month_sum duration) (day_sum duration) (clock_seconds duration) first some none
-        (first_none start.hour start.minute start.second first e is.0) (at_midnight h), at_midnight h))
+        let is = whole_is (has_clock start) (second == 0) h in (
+          some_days (month_sum duration) (day_sum duration) (clock_seconds duration) first some none
+              (first_none start.hour start.minute start.second first e is.0) (at_midnight h),
+          at_midnight h,
+        ))
 
 pub ending_good : (start : StartParts) (duration : DurationParts) → IsStart start → IsDuration duration
     → IfSome (ending start duration) (Good start duration)
@@ -714,10 +725,12 @@ all_day start duration h b e matches is =
     let first = none_given start.hour start.minute start.second clock.0 in
     let begin = begins_at start b 0 first matches in
     let stop = stop-only duration b e is ∙ stop-without_months duration b
-    (no_months duration.years duration.months (eqb-true duration.years 0 years.0) (eqb-true duration.months 0 months.0)) in
-    (begin, day_on (day_of_second b) b e duration.weeks duration.days duration.hours duration.minutes duration.seconds
-    (eqb-true duration.weeks 0 weeks.0) (eqb-true duration.days 1 days.0) (eqb-true duration.hours 0 hours.0)
-    (eqb-true duration.minutes 0 minutes.0) (eqb-true duration.seconds 0 minutes.1) begin stop)
+    (no_months duration.years duration.months (eqb-true duration.years 0 years.0) (eqb-true duration.months 0 months.0)) in (
+      begin,
+      day_on (day_of_second b) b e duration.weeks duration.days duration.hours duration.minutes duration.seconds
+          (eqb-true duration.weeks 0 weeks.0) (eqb-true duration.days 1 days.0) (eqb-true duration.hours 0 hours.0)
+          (eqb-true duration.minutes 0 minutes.0) (eqb-true duration.seconds 0 minutes.1) begin stop,
+    )
   where
     none_given : (x y z : Option ℕ) → (is_given x || (is_given y || is_given z)) ≡ false → first_second x y z ≡ Some 0
     none_given None None None h = refl

@@ -65,7 +65,13 @@ fn days_on(ends: u8, year: u32, month: u32, day: u32, days: u32) -> Option<(u32,
     if month == 2 {
         return None;
     }
-    days_on(ends - 1, year + month / 12, month % 12 + 1, 1, day + days - length - 1)
+    days_on(
+        ends - 1,
+        year + month / 12,
+        month % 12 + 1,
+        1,
+        day + days - length - 1,
+    )
 }
 
 fn is_before(month: u32, day: u32, start: (u32, u32)) -> bool
@@ -121,7 +127,13 @@ fn with_date(start: (u32, u32), date: Option<(u32, u32, u32)>) -> Option<End>
     ensures { result ≡ with_date start date }
 {
     match date {
-        Some(date) => if_first(start, date.0, date.1, date.2, End::WithDate((date.1, date.2))),
+        Some(date) => if_first(
+            start,
+            date.0,
+            date.1,
+            date.2,
+            End::WithDate((date.1, date.2)),
+        ),
         None => None,
     }
 }
@@ -130,7 +142,13 @@ fn at_date(start: (u32, u32), second: u32, date: Option<(u32, u32, u32)>) -> Opt
     ensures { result ≡ at_date start second date }
 {
     match date {
-        Some(date) => if_first(start, date.0, date.1, date.2, End::Date((date.1, date.2, second))),
+        Some(date) => if_first(
+            start,
+            date.0,
+            date.1,
+            date.2,
+            End::Date((date.1, date.2, second)),
+        ),
         None => None,
     }
 }

@@ -250,11 +250,7 @@ pub(crate) fn push_weekdays(
 }
 
 #[tactic(auto, unfolding(crate::specs::Names::weekday_list))]
-fn push_weekday_list(
-    out: &mut String,
-    last: &'static str,
-    weekdays: u8,
-) -> Result<(), AllocError>
+fn push_weekday_list(out: &mut String, last: &'static str, weekdays: u8) -> Result<(), AllocError>
     ensures { OnOk result (string_bytes out.new ≡ string_bytes out.old ++ weekday_list last.now weekdays) }
 {
     push_weekday(out, last, weekdays, 1)?;

@@ -81,11 +81,7 @@ fn next_date(date: (u32, u32)) -> (u32, u32)
     }
 }
 
-fn usual_to(
-    named: (Option<u32>, Option<(u32, u32)>),
-    first: u32,
-    end: End,
-) -> (u32, u32, u32, u32)
+fn usual_to(named: (Option<u32>, Option<(u32, u32)>), first: u32, end: End) -> (u32, u32, u32, u32)
     requires small { first < 2 ^ 20 }
     requires is_end { IsEnd end }
     ensures { result ≡ usual_to named first end }
@@ -147,7 +143,5 @@ fn is_beginning(anchor: Anchor) -> bool
 pub(crate) fn is_all_day(start: &StartParts, duration: &DurationParts) -> bool
     ensures { result ≡ is_all_day start.now duration.now }
 {
-    !has_clock(start)
-        && !is_beginning(anchor_of(start))
-        && is_written(duration, (0, 0, 1, 0))
+    !has_clock(start) && !is_beginning(anchor_of(start)) && is_written(duration, (0, 0, 1, 0))
 }
