@@ -11,6 +11,7 @@ import re
 import sys
 
 import model
+from checks import Checks
 
 TOP = os.path.dirname(os.path.dirname(os.path.abspath(__file__)))
 WEEKDAYS = ["Sunday", "Monday", "Tuesday", "Wednesday", "Thursday", "Friday", "Saturday"]
@@ -249,15 +250,10 @@ def main():
     if sys.argv[1:]:
         print("\n\n".join(map(words, sys.argv[1:])))
         return 0
-    passed, failed = 0, 0
+    check = Checks("words")
     for domain, said in rows():
-        if said == words(domain):
-            passed += 1
-        else:
-            failed += 1
-            print(f"FAILED {domain}: {said!r}, and not {words(domain)!r}")
-    print(f"words: {passed} passed, {failed} failed")
-    return failed != 0
+        check(said == words(domain), f"{domain}: {said!r}, and not {words(domain)!r}")
+    return check.end()
 
 
 if __name__ == "__main__":
