@@ -134,7 +134,8 @@ list_kind d (e ∷ f ∷ l) r =
 weekdays_kind : (w : ℕ) (r : List ℕ) → w ≢ 0 → w < 128 → every_kind (weekdays_words (codes " and ") w ++ codes " " ++ r) ≡ 3
 weekdays_kind w r some small = by_text (and_days w some small)
   where
-    by_text : DaysOf (codes " and ") w ⊎ RunOf (codes " and ") w → every_kind (weekdays_words (codes " and ") w ++ codes " " ++ r) ≡ 3
+    by_text : DaysOf (codes " and ") w ⊎ RunOf (codes " and ") w
+        → every_kind (weekdays_words (codes " and ") w ++ codes " " ++ r) ≡ 3
     by_text (inl x) =
         ap (λ (l : List ℕ). every_kind l) (append_assoc (weekdays_words (codes " and ") w) (codes " ") r
         ∙ ap (λ (l : List ℕ). l ++ (codes " " ++ r)) x.text)

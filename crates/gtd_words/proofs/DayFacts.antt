@@ -44,7 +44,8 @@ past ends year month day days length some is more =
     one_step ends year month day days some
     ∙ ap (λ (t : Bool). step t (month == 2) (ends - 1) year month day days) (later (day + days) (sure_length month) long)
 
-pub past_february : (ends year month day days length : ℕ) → ends ≢ 0 → length ≡ sure_length month → length < day + days → month ≡ 2
+pub past_february : (ends year month day days length : ℕ) → ends ≢ 0 → length ≡ sure_length month → length < day + days
+    → month ≡ 2
     → None ≡ days_on ends year month day days
 past_february ends year month day days length some is more two =
     sym (past ends year month day days length some is more

@@ -374,7 +374,8 @@ is_alone start duration (Some end) = either (is_written duration (usual start en
     either true = tt
     either false = tt
 
-next_by : (t u : Bool) (duration : DurationParts) (end : Option End) (r : List ℕ) → IsAlone u end → Next (rest_by t u duration end r)
+next_by : (t u : Bool) (duration : DurationParts) (end : Option End) (r : List ℕ) → IsAlone u end
+    → Next (rest_by t u duration end r)
 unfolding until_words
 next_by true u duration end r h = record { order = omega arith; class = refl }
 next_by false true duration None r h = absurd h

@@ -1,5 +1,6 @@
 -- The end that words say is that of each stretch.
-use Rattle.std.proofs.Common.{◌≡◌, ℕ, Bool, true, false, cond, List, [], ◌++◌, Option, Some, None, refl, sym, ap, subst, ◌∙◌, append_assoc}
+use Rattle.std.proofs.Common.{◌≡◌, ℕ, Bool, true, false, cond, List, [], ◌++◌, Option, Some, None, refl, sym, ap, subst}
+use Rattle.std.proofs.Common.{◌∙◌, append_assoc}
 use Rattle.std.specs.Prelude.{◌↔◌, ◌||◌, IfSome, IsTrue, codes, is_some}
 use Rattle.std.proofs.lemmas.Bool.{false≢true}
 use Rattle.gtd_core.specs.Ranges.{IsStart, IsDuration}

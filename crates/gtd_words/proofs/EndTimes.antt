@@ -1,5 +1,6 @@
 -- The end that is found for a basic domain is that of each stretch.
-use Rattle.std.proofs.Common.{◌≡◌, ℕ, zero, suc, ◌+◌, ◌-◌, ◌*◌, ◌/◌, ◌%◌, ◌^◌, ◌<◌, ◌≤◌, Bool, true, false, cond, List, ◌++◌, Option}
+use Rattle.std.proofs.Common.{◌≡◌, ℕ, zero, suc, ◌+◌, ◌-◌, ◌*◌, ◌/◌, ◌%◌, ◌^◌, ◌<◌, ◌≤◌, Bool, true, false, cond, List}
+use Rattle.std.proofs.Common.{◌++◌, Option}
 use Rattle.std.proofs.Common.{Some, None, inl, inr, ◌⊎◌, refl, sym, ap, subst, ◌∙◌, arith, ℤ, pos, ◌+ℤ◌, ◌-ℤ◌, ◌*ℤ◌}
 use Rattle.std.specs.Prelude.{◌==◌, ◌&&◌, ◌||◌, not, IfSome, is_some, nat_lt}
 use Rattle.std.specs.Int.{int_rem_euclid}
@@ -62,7 +63,8 @@ first_small None None (Some c) second e p q r = absurd cc
 first_small None None None second e p q r = let is = some_is 0 second e in omega (arith, is)
 
 -- without a clock it is the first
-first_none : (x y z : Option ℕ) (second : ℕ) → first_second x y z ≡ Some second → (is_given x || (is_given y || is_given z)) ≡ false
+first_none : (x y z : Option ℕ) (second : ℕ) → first_second x y z ≡ Some second
+    → (is_given x || (is_given y || is_given z)) ≡ false
     → second ≡ 0
 first_none None None None second e h = sym (some_is 0 second e)
 first_none (Some a) y z second e h = absurd (false≢true (sym h))
@@ -157,7 +159,8 @@ no_day (Some d) f l t none et = absurd none
 no_day None (Some f) l t none et = absurd none
 no_day None None (Some l) t none et = absurd none
 
-no_clock : (x y z : Option ℕ) → (is_given x || (is_given y || is_given z)) ≡ false → (is_some x || (is_some y || is_some z)) ≡ false
+no_clock : (x y z : Option ℕ) → (is_given x || (is_given y || is_given z)) ≡ false
+    → (is_some x || (is_some y || is_some z)) ≡ false
 no_clock x y z h = rw (← given_is x, ← given_is y, ← given_is z) h
 
 two_of : (t : Bool) (a b : Bool) → t ≡ true → cond t a b ≡ true → a ≡ true
@@ -278,7 +281,8 @@ stops_at start duration first e b end matches (day, reached, h, m, s, time, mont
     let begin = begin_clock start b first e matches day h m s time in (
       reached,
       subst (λ (z : ℤ). IsMonthsLater z (month_sum duration) reached) at months,
-      is ∙ end_sum reached (day_sum duration) first (clock_seconds duration) h m s duration.hours duration.minutes duration.seconds
+      is ∙ end_sum reached (day_sum duration) first
+          (clock_seconds duration) h m s duration.hours duration.minutes duration.seconds
           begin refl,
     )
   where
@@ -314,7 +318,8 @@ positive n some = omega (arith, some)
 
 -- ---- by the clock and by weekdays
 
-clock_good : (start : StartParts) (duration : DurationParts) (days second : ℕ) → StopsOn start duration days second → days < 2 ^ 64
+clock_good : (start : StartParts) (duration : DurationParts) (days second : ℕ) → StopsOn start duration days second
+    → days < 2 ^ 64
     → second < 86400 → Good start duration (Clock (days, second))
 clock_good start duration days second stops few small = record { is_end = (few, small); all = stops }
 
@@ -355,7 +360,8 @@ with_weekday_good start duration w days known stops some few =
       );
     }
   where
-    last : (n : ℤ) (days : ℕ) → 1 ≤ days → pos 86400 *ℤ (n +ℤ pos days) +ℤ pos 0 ≡ pos 86400 *ℤ (n +ℤ pos (days - 1) +ℤ pos 1) +ℤ pos 0
+    last : (n : ℤ) (days : ℕ) → 1 ≤ days → pos 86400 *ℤ (n +ℤ pos days) +ℤ pos 0
+        ≡ pos 86400 *ℤ (n +ℤ pos (days - 1) +ℤ pos 1) +ℤ pos 0
     last n days some = omega (arith, signed_arith, some)
 
 at_most : (a b : ℕ) → nat_lt a b ≡ false → b ≤ a
@@ -578,7 +584,8 @@ module _ (start : StartParts) (duration : DurationParts) where
       at_zero = subst (λ (k : ℕ). Dated from date days k) (midnight refl) (dated date refl).1
 
       by_days : (t : Bool) → (days == 0) ≡ t
-          → IfSome (cond t (before_date from date) (with_date from (days_on 13 date.0 date.1 date.2 (days - 1)))) (Good start duration)
+          → IfSome (cond t (before_date from date) (with_date from (days_on 13 date.0 date.1 date.2 (days - 1))))
+              (Good start duration)
       by_days true t =
           before_good (date.2 == 1) from date refl (dated date refl).0
           (subst (λ (k : ℕ). Dated from date k 0) (eqb-true days 0 t) at_zero)
@@ -588,7 +595,8 @@ module _ (start : StartParts) (duration : DurationParts) where
           dated_with from date days (days_on 13 date.0 date.1 date.2 (days - 1)) range.0 range.1 (positive days some) refl at_zero
 
   dates_good : (whole : Bool) (o : Option (ℕ × ℕ)) (months days second : ℕ) → StopsAt start duration months days second
-      → second < 86400 → (whole ≡ true → second ≡ 0) → IfSome o (λ from. (b : ℤ) → Matches start b → FromDate (day_of_second b) from)
+      → second < 86400 → (whole ≡ true → second ≡ 0) → IfSome o (λ from. (b : ℤ) → Matches start b
+          → FromDate (day_of_second b) from)
       → IfSome (date_end whole o months days second) (Good start duration)
   dates_good whole None months days second stops small midnight known = tt
   dates_good whole (Some from) months days second stops small midnight known =

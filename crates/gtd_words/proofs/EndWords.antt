@@ -10,7 +10,8 @@ use Rattle.gtd_words.specs.declared.end.End.TheVariants.{Clock, Weekday, Date, W
 use Rattle.gtd_words.specs.Endings.{date_words, day_after, end_words, time_words, until_words}
 use Rattle.gtd_words.specs.Ends.{IsEnd}
 use Rattle.gtd_words.specs.Names.{month_name, month_names, two_digits, weekday_name, weekday_names}
-use Rattle.gtd_words.proofs.Prefixes.{AreDigits, Both, are_digits, decimal_then, digit, first_digit, head, name_then, no_way, of_name}
+use Rattle.gtd_words.proofs.Prefixes.{AreDigits, Both, are_digits, decimal_then, digit, first_digit, head, name_then}
+use Rattle.gtd_words.proofs.Prefixes.{no_way, of_name}
 use Rattle.gtd_words.proofs.Prefixes.{split_digits, tail, two_then}
 use Rattle.gtd_words.proofs.WeekdayLists.{of_weekday, weekday_then}
 
@@ -195,7 +196,8 @@ time_then a b r s la lb h k e =
     (sym (time_is a r) ∙ e ∙ time_is b s) in
     let minute = two_then (a / 60 % 60) (b / 60 % 60) x y (omega arith) (omega arith)
     (append_cancel_left (codes ":") (two_digits (a / 60 % 60) ++ x) (two_digits (b / 60 % 60) ++ y) hour.1) in
-    let second = seconds_apart (a % 60 == 0) (b % 60 == 0) (a % 60) (b % 60) r s refl refl (omega arith) (omega arith) h k minute.1 in
+    let second = seconds_apart (a % 60 == 0) (b % 60 == 0) (a % 60) (b % 60) r s refl refl (omega arith)
+        (omega arith) h k minute.1 in
     (same_time a b hour.0 minute.0 second.0, second.1)
   where
     same_time : (a b : ℕ) → a / 3600 ≡ b / 3600 → a / 60 % 60 ≡ b / 60 % 60 → a % 60 ≡ b % 60 → a ≡ b
@@ -217,15 +219,19 @@ days_then false true true w a b r s t0 t1 u0 u1 p q e =
 days_then false false true w a b r s t0 t1 u0 u1 p q e =
     absurd (no_way (codes ", ") (codes "\n") (decimal a ++ codes " days later" ++ (10 ∷ r)) s refl e)
 days_then false true false true a b r s t0 t1 u0 u1 p q e =
-    (eqb-true a 1 t1 ∙ sym (eqb-true b 1 u1), ap (λ (l : List ℕ). tail l) (append_cancel_left (codes " the next day") (10 ∷ r) (10 ∷ s) e))
+    (eqb-true a 1 t1 ∙ sym (eqb-true b 1 u1), ap (λ (l : List ℕ). tail l) (append_cancel_left (codes " the next day")
+        (10 ∷ r) (10 ∷ s) e))
 days_then false true false false a b r s t0 t1 u0 u1 p q e =
-    absurd (no_way (codes " ") (codes ", ") (codes "the next day" ++ (10 ∷ r)) (decimal b ++ codes " days later" ++ (10 ∷ s)) refl e)
+    absurd (no_way (codes " ") (codes ", ") (codes "the next day" ++ (10 ∷ r)) (decimal b ++ codes " days later" ++
+        (10 ∷ s)) refl e)
 days_then false false false true a b r s t0 t1 u0 u1 p q e =
-    absurd (no_way (codes ", ") (codes " ") (decimal a ++ codes " days later" ++ (10 ∷ r)) (codes "the next day" ++ (10 ∷ s)) refl e)
+    absurd (no_way (codes ", ") (codes " ") (decimal a ++ codes " days later" ++ (10 ∷ r)) (codes "the next day" ++
+        (10 ∷ s)) refl e)
 days_then false false false false a b r s t0 t1 u0 u1 p q e =
     let same = decimal_then a b (codes " days later" ++ (10 ∷ r)) (codes " days later" ++ (10 ∷ s)) p q refl refl
     (sym (append_assoc (decimal a) (codes " days later") (10 ∷ r))
-    ∙ append_cancel_left (codes ", ") (decimal a ++ codes " days later" ++ (10 ∷ r)) (decimal b ++ codes " days later" ++ (10 ∷ s)) e
+    ∙ append_cancel_left (codes ", ") (decimal a ++ codes " days later" ++ (10 ∷ r))
+        (decimal b ++ codes " days later" ++ (10 ∷ s)) e
     ∙ append_assoc (decimal b) (codes " days later") (10 ∷ s)) in
     (same.0, ap (λ (l : List ℕ). tail l) (append_cancel_left (codes " days later") (10 ∷ r) (10 ∷ s) same.1))
 
@@ -410,7 +416,8 @@ by_kind WithFebruary WithFebruary r s h k t e =
 by_kind a b r s h k t e = absurd (false≢true t)
 
 -- the words of an end, up to the end of the line, say one end
-pub end_then : (a b : End) (r s : List ℕ) → IsEnd a → IsEnd b → until_words a ++ (10 ∷ r) ≡ until_words b ++ (10 ∷ s) → Both a b r s
+pub end_then : (a b : End) (r s : List ℕ) → IsEnd a → IsEnd b → until_words a ++ (10 ∷ r) ≡ until_words b ++ (10 ∷ s)
+    → Both a b r s
 unfolding until_words
 end_then a b r s h k e =
     let same = sym (line_is a r) ∙ append_cancel_left (codes "until ") (end_words a ++ (10 ∷ r)) (end_words b ++ (10 ∷ s)) e

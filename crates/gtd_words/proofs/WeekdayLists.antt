@@ -224,7 +224,8 @@ run_is f g r =
     ∙ ap (λ (l : List ℕ). weekday_name f ++ l) (append_assoc (codes " to ") (weekday_name g) r)
 
 -- no run is a list
-not_listed : (last : List ℕ) (f g d : ℕ) (l r s : List ℕ) → apart (codes " to ") last ≡ true → AreDays (f ∷ g ∷ []) → AreDays (d ∷ l)
+not_listed : (last : List ℕ) (f g d : ℕ) (l r s : List ℕ) → apart (codes " to ") last ≡ true → AreDays (f ∷ g ∷ [])
+    → AreDays (d ∷ l)
     → Differs (codes " to ") s
     → weekday_name f ++ (codes " to " ++ (weekday_name g ++ 32 ∷ r)) ≡ from_day last d l ++ 32 ∷ s → ⊥
 not_listed last f g d [] r s other h k a e =
@@ -241,7 +242,8 @@ not_listed last f g d (c ∷ b ∷ l) r s other h k a e =
     no_way (codes " to ") (codes ", ") (weekday_name g ++ 32 ∷ r) (from_day last c (b ∷ l) ++ 32 ∷ s) refl p.1
 
 same_run : (f g f' g' : ℕ) (r s : List ℕ) → AreDays (f ∷ g ∷ []) → AreDays (f' ∷ g' ∷ [])
-    → weekday_name f ++ (codes " to " ++ (weekday_name g ++ 32 ∷ r)) ≡ weekday_name f' ++ (codes " to " ++ (weekday_name g' ++ 32 ∷ s))
+    → weekday_name f ++ (codes " to " ++ (weekday_name g ++ 32 ∷ r))
+        ≡ weekday_name f' ++ (codes " to " ++ (weekday_name g' ++ 32 ∷ s))
     → (f ≡ f') × (g ≡ g') × (r ≡ s)
 same_run f g f' g' r s h k e =
     let p = weekday_then f f' (codes " to " ++ (weekday_name g ++ 32 ∷ r)) (codes " to " ++ (weekday_name g' ++ 32 ∷ s))

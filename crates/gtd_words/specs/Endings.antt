@@ -60,7 +60,8 @@ sure_length month =
 abbrev pub least : ℕ → ℕ → ℕ
 least a b = if nat_lt a b then a else b
 
--- A date of a later year: how many years later it is, its month, and its day of the month. This is the start's month and day moved
+-- A date of a later year: how many years later it is, its month, and its day of the month. This is the start's month and day
+-- moved
 -- by months, unless a leap day decides what it is.
 abbrev pub date_at : ℕ → ℕ → Option (ℕ × ℕ × ℕ)
 date_at count day =

@@ -97,7 +97,8 @@ also_weekdays weekdays =
 abbrev pub weekdays_condition : Anchor → ℕ → List ℕ
 weekdays_condition anchor weekdays = if is_in_month anchor then also_weekdays weekdays else []
 
--- The clock, if it is given: `from 10:00 `, `from 10:30 `, `from minute 30 of every hour `. A minute 0 that is given, and no second
+-- The clock, if it is given: `from 10:00 `, `from 10:30 `, `from minute 30 of every hour `. A minute 0 that is given, and no
+-- second
 -- after it, is ` sharp`.
 abbrev pub seconds_words : ℕ → Option ℕ → List ℕ
 seconds_words minute None = if minute == 0 then codes " sharp" else []

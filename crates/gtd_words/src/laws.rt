@@ -30,7 +30,8 @@ pub fn same_words_of_domains()
 }
 
 /// The end that words say is the end of each stretch. If the words of a basic domain close with `until 06:00 the next day`, or
-/// `until 31 May (included)`, then each stretch of its recurrence ends so. The words say an end exactly if one is found that is the
+/// `until 31 May (included)`, then each stretch of its recurrence ends so. The words say an end exactly if one is found that
+/// is the
 /// same for all stretches (`ending`), unless they are `all day`: then the day with which each stretch begins is all of it.
 pub fn right_ends()
     ensures said { (start : StartParts) (duration : DurationParts) → IsStart start → IsDuration duration
