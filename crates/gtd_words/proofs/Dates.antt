@@ -76,7 +76,7 @@ first_later y m low =
     let same : m + 1 - 1 ≡ m = omega arith in
     rw (same, through y m low)
     (let none : days_of_months y (m - 1) + month_length y m + (1 - 1)
-        ≡ days_of_months y (m - 1) + month_length y m = omega arith in
+    ≡ days_of_months y (m - 1) + month_length y m = omega arith in
     ap (λ (k : ℕ). first_day y +ℤ pos k) none)
 
 first_of_next : (y : ℤ) → day_number (y +ℤ pos 1) 1 1 ≡ first_day y +ℤ pos (days_of_months y (12 - 1) + month_length y 12)
@@ -174,11 +174,11 @@ days_step false false ends year month day days date t two low high more e =
           let long = sure_is (base +ℤ pos year) month two in
           let next = next_month n (base +ℤ pos year) month day h in
           let moved = subst (λ (y : ℤ). IsDateOf (n +ℤ pos (month_length (base +ℤ pos year) month + 1 - day)) y
-              (month % 12 + 1) 1)
+          (month % 12 + 1) 1)
           (later base year (month / 12)) next in
           subst (λ (k : ℤ). IsDateOf k (base +ℤ pos date.0) date.1 date.2)
           (add n (month_length (base +ℤ pos year) month) (sure_length month) day days long h.0.1.1 (over (day + days)
-              (sure_length month) t))
+          (sure_length month) t))
           (rest.on (n +ℤ pos (month_length (base +ℤ pos year) month + 1 - day)) base moved);
     }
   where
@@ -251,7 +251,7 @@ date_on month day months short n r year h (y, z, m, l, d, from, sum, to) =
     let at = reached_at y z m l months from.0.0.0 from.0.0.1 to.0.0.0 to.0.0.1 sum in
     let year_is : z ≡ year +ℤ pos ((month - 1 + months) / 12) =
     at.0 ∙ ap (λ (k : ℕ). y +ℤ pos ((k - 1 + months) / 12)) only.1
-        ∙ ap (λ (k : ℤ). k +ℤ pos ((month - 1 + months) / 12)) only.0 in
+    ∙ ap (λ (k : ℤ). k +ℤ pos ((month - 1 + months) / 12)) only.0 in
     let month_is : l ≡ (month - 1 + months) % 12 + 1 =
     at.1 ∙ ap (λ (k : ℕ). (k - 1 + months) % 12 + 1) only.1 in
     let cut_is : min d (month_length z l) ≡ least (sure_length l) day =

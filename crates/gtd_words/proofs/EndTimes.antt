@@ -585,7 +585,7 @@ module _ (start : StartParts) (duration : DurationParts) where
 
       by_days : (t : Bool) → (days == 0) ≡ t
           → IfSome (cond t (before_date from date) (with_date from (days_on 13 date.0 date.1 date.2 (days - 1))))
-              (Good start duration)
+          (Good start duration)
       by_days true t =
           before_good (date.2 == 1) from date refl (dated date refl).0
           (subst (λ (k : ℕ). Dated from date k 0) (eqb-true days 0 t) at_zero)
@@ -596,7 +596,7 @@ module _ (start : StartParts) (duration : DurationParts) where
 
   dates_good : (whole : Bool) (o : Option (ℕ × ℕ)) (months days second : ℕ) → StopsAt start duration months days second
       → second < 86400 → (whole ≡ true → second ≡ 0) → IfSome o (λ from. (b : ℤ) → Matches start b
-          → FromDate (day_of_second b) from)
+      → FromDate (day_of_second b) from)
       → IfSome (date_end whole o months days second) (Good start duration)
   dates_good whole None months days second stops small midnight known = tt
   dates_good whole (Some from) months days second stops small midnight known =

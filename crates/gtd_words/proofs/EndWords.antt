@@ -197,7 +197,7 @@ time_then a b r s la lb h k e =
     let minute = two_then (a / 60 % 60) (b / 60 % 60) x y (omega arith) (omega arith)
     (append_cancel_left (codes ":") (two_digits (a / 60 % 60) ++ x) (two_digits (b / 60 % 60) ++ y) hour.1) in
     let second = seconds_apart (a % 60 == 0) (b % 60 == 0) (a % 60) (b % 60) r s refl refl (omega arith)
-        (omega arith) h k minute.1 in
+    (omega arith) h k minute.1 in
     (same_time a b hour.0 minute.0 second.0, second.1)
   where
     same_time : (a b : ℕ) → a / 3600 ≡ b / 3600 → a / 60 % 60 ≡ b / 60 % 60 → a % 60 ≡ b % 60 → a ≡ b
@@ -218,20 +218,22 @@ days_then false true true w a b r s t0 t1 u0 u1 p q e =
     absurd (no_way (codes " ") (codes "\n") (codes "the next day" ++ (10 ∷ r)) s refl e)
 days_then false false true w a b r s t0 t1 u0 u1 p q e =
     absurd (no_way (codes ", ") (codes "\n") (decimal a ++ codes " days later" ++ (10 ∷ r)) s refl e)
-days_then false true false true a b r s t0 t1 u0 u1 p q e =
-    (eqb-true a 1 t1 ∙ sym (eqb-true b 1 u1), ap (λ (l : List ℕ). tail l) (append_cancel_left (codes " the next day")
-        (10 ∷ r) (10 ∷ s) e))
+days_then false true false true a b r s t0 t1 u0 u1 p q e = (
+  eqb-true a 1 t1 ∙ sym (eqb-true b 1 u1),
+  ap (λ (l : List ℕ). tail l) (append_cancel_left (codes " the next day")
+      (10 ∷ r) (10 ∷ s) e),
+)
 days_then false true false false a b r s t0 t1 u0 u1 p q e =
     absurd (no_way (codes " ") (codes ", ") (codes "the next day" ++ (10 ∷ r)) (decimal b ++ codes " days later" ++
-        (10 ∷ s)) refl e)
+    (10 ∷ s)) refl e)
 days_then false false false true a b r s t0 t1 u0 u1 p q e =
     absurd (no_way (codes ", ") (codes " ") (decimal a ++ codes " days later" ++ (10 ∷ r)) (codes "the next day" ++
-        (10 ∷ s)) refl e)
+    (10 ∷ s)) refl e)
 days_then false false false false a b r s t0 t1 u0 u1 p q e =
     let same = decimal_then a b (codes " days later" ++ (10 ∷ r)) (codes " days later" ++ (10 ∷ s)) p q refl refl
     (sym (append_assoc (decimal a) (codes " days later") (10 ∷ r))
     ∙ append_cancel_left (codes ", ") (decimal a ++ codes " days later" ++ (10 ∷ r))
-        (decimal b ++ codes " days later" ++ (10 ∷ s)) e
+    (decimal b ++ codes " days later" ++ (10 ∷ s)) e
     ∙ append_assoc (decimal b) (codes " days later") (10 ∷ s)) in
     (same.0, ap (λ (l : List ℕ). tail l) (append_cancel_left (codes " days later") (10 ∷ r) (10 ∷ s) same.1))
 

@@ -30,7 +30,7 @@ last_rank c r = cond (c == 117) 7 (cond (c == 97) (cond (head r == 108) 7 0) 0)
 abbrev letter_rank : ℕ → List ℕ → ℕ
 letter_rank c r =
     cond (c == 111) (of_rank (tail (tail r))) (cond (c == 105) (in_rank r) (cond (c == 101) 3 (cond (c == 102) 7
-        (last_rank c r))))
+    (last_rank c r))))
 
 abbrev pub rank : List ℕ → ℕ
 rank [] = 0

@@ -243,7 +243,7 @@ not_listed last f g d (c ∷ b ∷ l) r s other h k a e =
 
 same_run : (f g f' g' : ℕ) (r s : List ℕ) → AreDays (f ∷ g ∷ []) → AreDays (f' ∷ g' ∷ [])
     → weekday_name f ++ (codes " to " ++ (weekday_name g ++ 32 ∷ r))
-        ≡ weekday_name f' ++ (codes " to " ++ (weekday_name g' ++ 32 ∷ s))
+    ≡ weekday_name f' ++ (codes " to " ++ (weekday_name g' ++ 32 ∷ s))
     → (f ≡ f') × (g ≡ g') × (r ≡ s)
 same_run f g f' g' r s h k e =
     let p = weekday_then f f' (codes " to " ++ (weekday_name g ++ 32 ∷ r)) (codes " to " ++ (weekday_name g' ++ 32 ∷ s))
