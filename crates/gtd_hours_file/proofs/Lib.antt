@@ -5,3 +5,5 @@ pub mod RowFacts
 pub mod RunFacts
 pub mod TranslatedFacts
 pub mod OneAnswer
+pub mod ShortFields
+pub mod EachFile

@@ -1,7 +1,8 @@
 //! Laws of the definitions: calls that do nothing, whose contracts are what is proved.
 
-ghost use Rattle.std.specs.Prelude.{◌≡◌, ◌≤◌, ◌↔◌, ℕ, ℤ, List, Ok, Result, length};
+ghost use Rattle.std.specs.Prelude.{◌≡◌, ◌+◌, ◌*◌, ◌≤◌, ◌↔◌, ℕ, ℤ, List, Ok, Result, length};
 ghost use Rattle.gtd_core.specs.Limits.{most_file_bytes};
+ghost use Rattle.gtd_hours_text.specs.Room.{HasRoom};
 ghost use Rattle.gtd_migrate.specs.Migrated.{migrated};
 ghost use Rattle.gtd_records.specs.Closing.{Closes, Restriction};
 ghost use Rattle.gtd_records.specs.File.{IsFile};
@@ -14,7 +15,7 @@ ghost use Rattle.gtd_hours_file.specs.Translated.{IsTranslated, IsTranslation, R
 ghost use Rattle.gtd_hours_file.specs.declared.row.HoursRow.{HoursRow};
 
 use gtd_hours_grammar::laws::one_first_fault;
-use gtd_hours_text::laws::one_meaning;
+use gtd_hours_text::laws::{each_text, one_meaning};
 use gtd_migrate::laws::migrated_is_accepted;
 use gtd_text::laws::canonical_text_of_domain;
 
@@ -50,4 +51,12 @@ pub fn one_answer()
 {
     one_meaning();
     one_first_fault();
+}
+
+/// Each file of hours has an answer, where memory has room for the hours of its texts: its rows, or all its faults.
+pub fn each_file()
+    ensures some { HasRoom (20 * most_file_bytes + 4) → (bytes : List ℕ) →
+        (answer : Result (List HoursRow) (List HoursFileFault)) × IsHoursFile bytes answer }
+{
+    each_text();
 }

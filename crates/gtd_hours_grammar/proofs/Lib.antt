@@ -1,9 +1,12 @@
 pub mod NoNext
 pub mod EndingsOfParts
 pub mod Endings
+pub mod EachText
 pub mod EndLemmas
+pub mod FitsDecided
 pub mod GoodItems
 pub mod GoodLemmas
+pub mod GoodMoves
 pub mod GoodRules
 pub mod ReadLemmas
 pub mod SoundLemmas

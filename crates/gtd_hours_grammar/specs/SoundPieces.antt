@@ -1,5 +1,5 @@
 -- The numbers and times of a piece are in range.
-use Rattle.std.specs.Prelude.{Some, None, IfSome}
+use Rattle.std.specs.Prelude.{List, [], ◌∷◌, Some, None, IfSome}
 use Rattle.gtd_hours.specs.Ranges.{IsMonth, IsWeekday}
 use Rattle.gtd_hours_parts.specs.Numbers.{IsPlaceNumber, IsStepNumber, IsWeekNumber, IsYearNumber}
 use Rattle.gtd_hours_grammar.specs.declared.piece.Piece.{Piece}
@@ -22,3 +22,8 @@ IsPiece (piece.Places k first (Some last)) = IsWeekday k × IsRange IsPlaceNumbe
 IsPiece (piece.PlaceBack k n) = IsWeekday k × IsPlaceNumber n
 IsPiece (piece.Times begin last) = AreWrittenTimes begin last
 IsPiece x = Unit {0}
+
+-- and those of all pieces
+abbrev pub ArePieces : List Piece → Type 0
+ArePieces [] = Unit {0}
+ArePieces (x ∷ p) = IsPiece x × ArePieces p

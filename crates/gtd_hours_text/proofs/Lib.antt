@@ -16,3 +16,5 @@ pub mod WrittenChain
 pub mod WrittenRules
 pub mod WrittenHours
 pub mod WritableLemmas
+pub mod EachPiece
+pub mod EachText

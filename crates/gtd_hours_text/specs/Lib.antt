@@ -3,4 +3,5 @@ pub mod Adding
 pub mod Dates
 pub mod Drafts
 pub mod Reading
+pub mod Room
 pub use Rattle.gtd_hours_grammar.specs.Faults

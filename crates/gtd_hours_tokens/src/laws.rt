@@ -1,6 +1,6 @@
 //! Laws of the definitions: calls that do nothing, whose contracts are what is proved.
 
-ghost use Rattle.std.specs.Prelude.{◌≡◌, ◌↔◌, ℕ, List, Option, Some, None, Result};
+ghost use Rattle.std.specs.Prelude.{◌≡◌, ◌≤◌, ◌↔◌, ◌⊎◌, ℕ, List, Option, Some, None, Result, length};
 ghost use Rattle.gtd_hours_tokens.specs.Lexing.{AreTokens, BeginsNoToken, IsNext, IsToken, IsTokenFault};
 ghost use Rattle.gtd_hours_tokens.specs.TokenAt.{token_at};
 ghost use Rattle.gtd_hours_tokens.specs.declared.token.BadToken.{BadToken};
@@ -31,4 +31,13 @@ pub fn tokens_as_computed()
         IsToken text token ↔ (token_at text token.from ≡ Some token) }
     ensures none { (text : List ℕ) (place : ℕ) →
         BeginsNoToken text place ↔ (token_at text place ≡ None) }
+{}
+
+/// Each text is a list of tokens, or has a first byte with which no token begins. From each of its places on, something comes
+/// next.
+pub fn each_text()
+    ensures next { (text : List ℕ) (from : ℕ) → from ≤ length text →
+        (next : Result (Option Token) BadToken) × IsNext text from next }
+    ensures text { (text : List ℕ) →
+        ((tokens : List Token) × AreTokens text tokens) ⊎ ((place : ℕ) × IsTokenFault text place) }
 {}

@@ -1,0 +1,5 @@
+use Rattle.gtd_hours_file.proofs.EachFile.{each_file}
+use Rattle.gtd_hours_file.proofs.laws.each_file.Goals as goal
+
+pub returns : goal.returns
+returns c = record { some = λ room. each_file room c.each_text.ensures.some }
