@@ -130,7 +130,7 @@ def read_module(path):
 def handed_on(crate, name):
     """The module of a crate below that this crate's specs/Lib.antt hands on under this name, or None."""
     text = open(os.path.join(CRATES, crate, "specs", "Lib.antt"), encoding="utf-8").read()
-    found = re.search(r"^pub use (Rattle\.gtd_\w+\.specs\.(?:\w+\.)*%s)$" % name, text, re.M)
+    found = re.search(r"^pub use (Rattle\.gtd\w*\.specs\.(?:\w+\.)*%s)$" % name, text, re.M)
     return found.group(1) if found else None
 
 
@@ -138,8 +138,8 @@ def module_file(name):
     """The file of a module of specs/, or None for one that the check generates or that is not in this repository."""
     parts = name.split(".")
     path = os.path.join(CRATES, parts[1], *parts[2:]) + ".antt"
-    if not parts[1].startswith("gtd_") or os.path.exists(path):
-        return path if parts[1].startswith("gtd_") else None
+    if not parts[1].startswith("gtd") or os.path.exists(path):
+        return path if parts[1].startswith("gtd") else None
     below = handed_on(parts[1], parts[-1]) if parts[2:-1] == ["specs"] else None
     return module_file(below) if below else None
 
@@ -163,7 +163,7 @@ def type_in(path, name):
 
 def declared_type(name):
     """The struct or enum that a generated module is made from, as a definition of its source file, or None."""
-    found = re.match(r"^Rattle\.(gtd_\w+)\.specs\.declared\.(?P<path>.*?)(?:\.TheVariants)?$", name)
+    found = re.match(r"^Rattle\.(gtd\w*)\.specs\.declared\.(?P<path>.*?)(?:\.TheVariants)?$", name)
     if not found:
         return None
     parts = found.group("path").split(".")
@@ -179,7 +179,7 @@ def crate_of(path):
 def used_types(path):
     """The names that a source file takes from the crates of this repository, each with its crate."""
     text = open(path, encoding="utf-8").read()
-    for crate, names in re.findall(r"^(?:pub )?use (crate|gtd_\w+)::(?:\w+::)*(\w+|\{[^}]*\});", text, re.M):
+    for crate, names in re.findall(r"^(?:pub )?use (crate|gtd\w*)::(?:\w+::)*(\w+|\{[^}]*\});", text, re.M):
         for name in re.findall(r"\w+", names):
             yield name, crate_of(path) if crate == "crate" else crate
 
@@ -227,7 +227,7 @@ class Statement:
         module = self.module(target)
         if module is None:
             crate = target.split(".")[1]
-            if crate.startswith("gtd_"):
+            if crate.startswith("gtd"):
                 self.unfound.add("%s.%s" % (target, name))
             else:
                 self.ends.setdefault(crate, set()).add(name)
