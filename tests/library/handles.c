@@ -170,8 +170,8 @@ static void try_faults(void) {
     gtd_close(&handle);
 }
 
-/* Domains that differ: the second and the domain that has it; which stay as they were. Opening hours at fault leave a handle as it
-   was. */
+/* Domains that differ: the first second that one has alone, and which; both stay as they were. Opening hours at fault leave a
+   handle as it was. */
 static void try_two_domains(void) {
     static const char hours[] = "10:00-14:00", wrong_hours[] = "Mo-Fr 10:00-25:99; PH";
     gtd_handle handle = GTD_NONE, none = GTD_NONE;

@@ -6,9 +6,9 @@ use Rattle.gtd_difference.specs.declared.comparison.Apart.{Apart}
 use Rattle.gtd_difference.specs.declared.comparison.Comparison.TheVariants as compared
 use Rattle.gtd_difference.specs.declared.comparison.Side.{Side}
 use Rattle.gtd_difference.specs.declared.comparison.Side.TheVariants as side
-use Rattle.gtd_c.specs.Handles.{OfDomain}
+use Rattle.gtd_handles.specs.Handles.{OfDomain}
 use Rattle.gtd_c.specs.declared.comparisons.ApartNumbers.{ApartNumbers}
-use Rattle.gtd_c.specs.declared.handle.Thing.{Thing}
+use Rattle.gtd_handles.specs.declared.handle.Thing.{Thing}
 
 -- what is said of the domains that two handles stand for; any other handle is answered by its kind
 abbrev pub OfDomains : Option Thing → Option Thing → ℕ → (Domain → Domain → Type 0) → Type 0

@@ -11,9 +11,9 @@ use Rattle.gtd_hours_grammar.specs.declared.fault.FaultKind.{FaultKind}
 use Rattle.gtd_hours_grammar.specs.declared.fault.FaultKind.TheVariants as kind
 use Rattle.gtd_hours_grammar.specs.declared.fault.HoursFault.{HoursFault}
 use Rattle.gtd_hours_text.specs.Standing.{StandsFor}
-use Rattle.gtd_c.specs.Writing.{IsWritten}
-use Rattle.gtd_c.specs.declared.handle.Thing.{Thing}
-use Rattle.gtd_c.specs.declared.handle.Thing.TheVariants as thing
+use Rattle.gtd_handles.specs.Writing.{IsWritten}
+use Rattle.gtd_handles.specs.declared.handle.Thing.{Thing}
+use Rattle.gtd_handles.specs.declared.handle.Thing.TheVariants as thing
 use Rattle.gtd_c.specs.declared.hours_faults.HoursFaultNumbers.{HoursFaultNumbers}
 
 -- The domain has exactly the seconds at which the hours are open that the text stands for.

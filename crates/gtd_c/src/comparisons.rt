@@ -2,15 +2,15 @@
 
 ghost use Rattle.std.specs.Prelude.{◌≡◌, ◌≤◌};
 ghost use Rattle.gtd_core.specs.Seconds.{IsMomentSecond};
-ghost use Rattle.gtd_c.specs.Answers.{IsRange, gtd_kind, gtd_no, gtd_year, gtd_yes};
+ghost use Rattle.gtd_handles.specs.Answers.{IsRange, gtd_kind, gtd_no, gtd_year, gtd_yes};
 ghost use Rattle.gtd_c.specs.Comparisons.{AreApart, AreSame, AreSameUntil2700, OfDomains, apart_numbers, side_number};
-ghost use Rattle.gtd_c.specs.Handles.{OfDomain};
+ghost use Rattle.gtd_handles.specs.Handles.{OfDomain};
+ghost use Rattle.gtd_handles.specs.Holding.{thing_of};
 
-use crate::answers::{KIND, MEMORY, NO, RANGE, YEAR, YES};
-use crate::handle::{Handle, Thing};
 use crate::horizons::is_moment;
 use gtd_core::{Domain, Sec};
 use gtd_difference::{Apart, Comparison, Side, compare};
+use gtd_handles::{Handle, KIND, MEMORY, NO, RANGE, Thing, YEAR, YES};
 use std::alloc::Global;
 
 /// A second that one of two domains has alone, as numbers.
@@ -80,15 +80,15 @@ fn comparison_with(
     from: i64,
     apart: &mut ApartNumbers,
 ) -> u32
-    ensures kept { second.new.loose.value ≡ second.old.loose.value }
-    ensures same { OfDomain second.old.loose.value result
+    ensures kept { thing_of second.new ≡ thing_of second.old }
+    ensures same { OfDomain (thing_of second.old) result
         (λ other. (result ≡ gtd_yes) → AreSame first.now other from) }
-    ensures same_until_2700 { OfDomain second.old.loose.value result
+    ensures same_until_2700 { OfDomain (thing_of second.old) result
         (λ other. (result ≡ gtd_year) → AreSameUntil2700 first.now other from) }
-    ensures apart { OfDomain second.old.loose.value result
+    ensures apart { OfDomain (thing_of second.old) result
         (λ other. (result ≡ gtd_no) → AreApart first.now other from apart.new) }
-    ensures range { OfDomain second.old.loose.value result (λ other. IsRange (IsMomentSecond from) result) }
-    ensures answers { OfDomain second.old.loose.value result (λ other. (result ≤ gtd_year) × ((result ≡ gtd_kind) → ⊥)) }
+    ensures range { OfDomain (thing_of second.old) result (λ other. IsRange (IsMomentSecond from) result) }
+    ensures answers { OfDomain (thing_of second.old) result (λ other. (result ≤ gtd_year) × ((result ≡ gtd_kind) → ⊥)) }
     ensures untouched { ((result ≡ gtd_no) → ⊥) → apart.new ≡ apart.old }
 {
     let Some(thing) = second.take(alloc) else {
@@ -114,17 +114,17 @@ pub extern "C" fn gtd_same(
     from: i64,
     apart: &mut ApartNumbers,
 ) -> u32
-    ensures first_kept { first.new.loose.value ≡ first.old.loose.value }
-    ensures second_kept { second.new.loose.value ≡ second.old.loose.value }
-    ensures same { OfDomains first.old.loose.value second.old.loose.value result
+    ensures first_kept { thing_of first.new ≡ thing_of first.old }
+    ensures second_kept { thing_of second.new ≡ thing_of second.old }
+    ensures same { OfDomains (thing_of first.old) (thing_of second.old) result
         (λ one other. (result ≡ gtd_yes) → AreSame one other from) }
-    ensures same_until_2700 { OfDomains first.old.loose.value second.old.loose.value result
+    ensures same_until_2700 { OfDomains (thing_of first.old) (thing_of second.old) result
         (λ one other. (result ≡ gtd_year) → AreSameUntil2700 one other from) }
-    ensures apart { OfDomains first.old.loose.value second.old.loose.value result
+    ensures apart { OfDomains (thing_of first.old) (thing_of second.old) result
         (λ one other. (result ≡ gtd_no) → AreApart one other from apart.new) }
-    ensures range { OfDomains first.old.loose.value second.old.loose.value result
+    ensures range { OfDomains (thing_of first.old) (thing_of second.old) result
         (λ one other. IsRange (IsMomentSecond from) result) }
-    ensures answers { OfDomains first.old.loose.value second.old.loose.value result
+    ensures answers { OfDomains (thing_of first.old) (thing_of second.old) result
         (λ one other. (result ≤ gtd_year) × ((result ≡ gtd_kind) → ⊥)) }
     ensures untouched { ((result ≡ gtd_no) → ⊥) → apart.new ≡ apart.old }
 {

@@ -1,13 +1,12 @@
 //! Faults of opening hours as numbers, and their names.
 
 ghost use Rattle.std.specs.Prelude.{◌≡◌, ◌↔◌, IfSome, IsSome, codes};
-ghost use Rattle.gtd_c.specs.Answers.{IsRange, gtd_range};
+ghost use Rattle.gtd_handles.specs.Answers.{IsRange, gtd_range};
 ghost use Rattle.gtd_c.specs.OpeningHours.{IsHoursFaultKind, IsHoursFaultName, IsHoursTextFaultKind, hours_fault_name};
 ghost use Rattle.gtd_c.specs.OpeningHours.{hours_fault_number, hours_fault_numbers, too_many_number};
-ghost use Rattle.gtd_c.specs.Writing.{IsWritten};
+ghost use Rattle.gtd_handles.specs.Writing.{IsWritten};
 
-use crate::answers::RANGE;
-use crate::texts::write;
+use gtd_handles::{RANGE, write};
 use gtd_hours_grammar::{FaultKind, HoursFault};
 
 /// The number that says that the domain of hours would have too many basic domains.

@@ -6,14 +6,13 @@ ghost use Rattle.gtd_eval.specs.Membership.{InDomain};
 ghost use Rattle.gtd_hours.specs.Cost.{hours_cost};
 ghost use Rattle.gtd_hours.specs.Opening.{IsOpen};
 ghost use Rattle.gtd_hours_text.specs.Standing.{StandsFor};
-ghost use Rattle.gtd_c.specs.Answers.{gtd_kind, gtd_memory, gtd_no, gtd_range, gtd_yes};
+ghost use Rattle.gtd_handles.specs.Answers.{gtd_kind, gtd_memory, gtd_no, gtd_range, gtd_yes};
 ghost use Rattle.gtd_c.specs.OpeningHours.{HasHoursOf, IsFirstHoursFault, IsHoursDomain, IsHoursFault, too_many_numbers};
+ghost use Rattle.gtd_handles.specs.Holding.{thing_of};
 
-use crate::answers::{MEMORY, NO};
-use crate::handle::{Handle, Thing};
 use crate::hours_faults::{HoursFaultNumbers, TOO_MANY, numbers_of};
-use crate::openers::open;
 use gtd_core::Domain;
+use gtd_handles::{Handle, MEMORY, NO, Thing, open};
 use gtd_hours::{Hours, HoursFault, domain_of};
 use gtd_hours_text::{TextFault, read_hours};
 use std::alloc::Global;
@@ -67,10 +66,10 @@ pub extern "C" fn gtd_domain_from_hours(
     text: &[u8],
     fault: &mut HoursFaultNumbers,
 ) -> u32
-    ensures opened { (result ≡ gtd_yes) → IsHoursDomain text.now domain.new.loose.value }
+    ensures opened { (result ≡ gtd_yes) → IsHoursDomain text.now (thing_of domain.new) }
     ensures refused { (result ≡ gtd_no) → IsHoursFault text.now fault.new }
-    ensures kept { (result ≡ gtd_no) → domain.new.loose.value ≡ domain.old.loose.value }
-    ensures emptied { (result ≡ gtd_memory) → domain.new.loose.value ≡ None }
+    ensures kept { (result ≡ gtd_no) → thing_of domain.new ≡ thing_of domain.old }
+    ensures emptied { (result ≡ gtd_memory) → thing_of domain.new ≡ None }
     ensures untouched { ((result ≡ gtd_no) → ⊥) → fault.new ≡ fault.old }
     ensures answers { (result ≤ gtd_memory) × ((result ≡ gtd_range) → ⊥) × ((result ≡ gtd_kind) → ⊥) }
 {
