@@ -11,7 +11,8 @@ A domain or a file is given as x and the hexadecimal digits of its bytes. An ans
 it found: `no 6 2` is the fault FieldRange at 2.
 
 Usage: tests/library/questions.py [--random] QUESTIONS ANSWERS COUNT [SEED]
-       COUNT domains and as many files, pairs of domains and opening hours; with --random these alone, and no examples
+       COUNT domains and as many files, and a tenth as many pairs of domains and opening hours; with --random these alone, and
+       no examples
 """
 import csv
 import datetime
@@ -433,8 +434,8 @@ def main():
         cases = [names_case(), *pool.map(example_case, examples)]
         cases += pool.map(domain_case, (f"domain {seed} {number}" for number in range(count)))
         cases += pool.map(file_case, (f"file {seed} {number}" for number in range(count)))
-        cases += pool.map(pair_case, (f"pair {seed} {number}" for number in range(count)))
-        cases += pool.map(hours_case, (f"hours {seed} {number}" for number in range(count)))
+        cases += pool.map(pair_case, (f"pair {seed} {number}" for number in range(count // 10)))
+        cases += pool.map(hours_case, (f"hours {seed} {number}" for number in range(count // 10)))
         cases += [] if is_random else pool.map(worked_hours_case, ["texts.csv", "faults.csv"])
     with open(words[0], "w", encoding="ascii") as questions, open(words[1], "w", encoding="ascii") as answers:
         for case in cases:
