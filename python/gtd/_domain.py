@@ -93,7 +93,7 @@ class Domain:
         Examples
         --------
         >>> gtd.Domain.of_hours("Sa 05:00-15:00")
-        gtd.Domain('[(t7h5){h10}]')
+        gtd.Domain('[[(t7h0m0){d1}]*[(h5m0){m600}]]')
         """
         if not isinstance(hours, str):
             raise TypeError(f"opening hours are a str, not {type(hours).__name__}")

@@ -216,7 +216,7 @@ def check_pairs(server):
         ("SELECT count(gtd_apart(domain, domain, timestamp '1999-12-31')) FROM texts", "0"),
         ("SELECT gtd_apart('(h8){h9}', gtd_hours('Mo-Fr 08:00-17:00'), '2024-03-15T12:00:00')", "2024-03-16T08:00:00"),
         ("SELECT pg_typeof(gtd_apart('(h10){h4}', '(h1){h1}', timestamp '2024-03-01'))", "timestamp without time zone"),
-        ("SELECT gtd_hours('Sa 05:00-15:00')::gtd_domain", "[(t7h5){h10}]"),
+        ("SELECT gtd_hours('Sa 05:00-15:00')::gtd_domain", "[[(t7h0m0){d1}]*[(h5m0){m600}]]"),
     ])
 
 

@@ -72,7 +72,8 @@ impl Domain {
     /// ```
     /// use gtd::{Domain, HoursError, HoursFault, HoursFaultKind};
     ///
-    /// assert_eq!(Domain::from_hours("Mo-Fr 08:00-17:00")?.canon()?, "[(t2t3t4t5t6h8){h9}]");
+    /// let hours = Domain::from_hours("Mo-Fr 08:00-17:00")?;
+    /// assert!(hours.holds(gtd::second_of(2024, 3, 15, 16, 59, 59)?)?); // a Friday
     /// let fault = HoursFault { kind: HoursFaultKind::Unsupported, place: 3 };
     /// assert_eq!(Domain::from_hours("Mo,PH 08:00-17:00").unwrap_err(), HoursError::Fault(fault));
     /// # Ok::<(), Box<dyn std::error::Error>>(())
