@@ -50,11 +50,15 @@ fn domain_in(alloc: Global, text: &[u8]) -> Result<Domain, Option<HoursFaultNumb
     ensures domain { IfOk result (λ domain. HasHoursOf text.now domain) }
     ensures fault { IfErr result (λ why. IfSome why (IsHoursFault text.now)) }
 {
-    let hours = match hours_in(alloc, text) {
-        Ok(hours) => hours,
-        Err(why) => return Err(why),
-    };
-    domain_with(alloc, &hours)
+    match hours_in(alloc, text) {
+        Ok(hours) => match domain_with(alloc, &hours) {
+            Ok(domain) => Ok(domain),
+            Err(Some(many)) => Err(Some(many)),
+            Err(None) => Err(None),
+        },
+        Err(Some(fault)) => Err(Some(fault)),
+        Err(None) => Err(None),
+    }
 }
 
 /// Opens the domain with exactly the seconds at which opening hours are open: yes; or no, with the first fault of the text, or

@@ -1,7 +1,8 @@
 //! Schedules.
 
-ghost use Rattle.std.specs.Prelude.{◌≡◌, ◌≤◌, ◌⊎◌, IfOk, IfErr, None};
+ghost use Rattle.std.specs.Prelude.{◌≡◌, ◌≤◌, ◌⊎◌, IfOk, IfErr, None, length};
 ghost use Rattle.gtd_core.specs.Horizons.{IsHorizon};
+ghost use Rattle.gtd_core.specs.Limits.{most_rows};
 ghost use Rattle.gtd_report.specs.Run.{IsVehicleType};
 ghost use Rattle.gtd_handles.specs.Answers.{IsRange, gtd_memory, gtd_no, gtd_range, gtd_yes};
 ghost use Rattle.gtd_handles.specs.Handles.{IsTextOf, OfRecords};
@@ -24,6 +25,7 @@ fn schedule_of(
     until_day: i64,
     vehicle: u8,
 ) -> Result<Vec<u8>, u32>
+    requires few { length records.now ≤ most_rows }
     ensures schedule { IfOk result (λ bytes. IsScheduleText records.now vehicle from_day until_day bytes.items) }
     ensures refused { IfErr result (λ why.
         ((why ≡ gtd_range) × ((IsVehicleType vehicle × IsHorizon from_day until_day) → ⊥))
