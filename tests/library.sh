@@ -76,6 +76,7 @@ if [ -n "$lacks" ]; then
     succeeds 'ask.c' c -o "$room/ask" "$tests/ask.c" "$out/libgtd.a" -Wl,--unresolved-symbols=ignore-all -no-pie
     "$tests/questions.py" "$room/questions" "$room/answers" "${1:-1000}" || exit 1
     words=$(tr ' ' '\n' <<< "$lacks" | sed 's/^gtd_records_\(next\|spans\)$/records_\1/; s/^gtd_\(domain\|records\)_open$/\1/
+        s/^gtd_domain_from_hours$/hours/
         s/^gtd_records_closed_at$/closed/; s/^gtd_records_\(closed_many\|count\|element\|closers\|schedule\)$/\1/
         s/^gtd_domain_//; s/^gtd_//' | paste -sd '|')
     paste -d '\t' "$room/questions" "$room/answers" | grep -vE "^($words)[[:space:]]" > "$room/pairs"
@@ -126,8 +127,10 @@ agree 'ask.c, sanitized' "$room/answers" "$room/ask.asan"
 counted 'handles' "$room/handles"
 counted 'handles, sanitized' "$room/handles.asan"
 
-# Of C++ all but handles that stand for nothing and names by number; what comes before a number out of range is not told there.
-paste -d '\t' "$room/questions" "$room/answers" | grep -v $'^\(fault_name\|record_fault_name\|close\|.*\tkind$\)' > "$room/pairs"
+# Of C++ all but handles that stand for nothing and names by number; what comes before a number out of range is not told there, nor
+# that one of two domains that are the same gives a year.
+paste -d '\t' "$room/questions" "$room/answers" | sed $'s/^\(same .*\t\)year$/\\1yes/' |
+    grep -v $'^\(fault_name\|record_fault_name\|hours_fault_name\|close\|.*\tkind$\)' > "$room/pairs"
 cut -f 1 "$room/pairs" > "$room/asked"
 cut -f 2 "$room/pairs" | sed 's/^range .*/range/' > "$room/answers_cpp"
 agree 'ask.cpp' "$room/answers_cpp" "$room/ask_cpp"

@@ -48,10 +48,17 @@ typedef struct { uint32_t kind; size_t place; } gtd_fault;
    else zeros. */
 typedef struct { uint32_t kind; uint32_t row; gtd_fault text; } gtd_record_fault;
 
+/* The first fault of a text of opening hours. kind: 1 BadToken, 2 Unsupported, 3 Range, 4 Unexpected, 5 Incomplete, or 6 TooMany:
+   they would need more than 128 basic domains. place: the number of bytes before it; 0 of TooMany. */
+typedef struct { uint32_t kind; size_t place; } gtd_hours_fault;
+
 /* Domains. */
 
 /* The domain of a text: GTD_YES, or GTD_NO and *fault. */
 uint32_t gtd_domain_open(gtd_handle *domain, const uint8_t *text, size_t length, gtd_fault *fault);
+
+/* The domain with exactly the seconds at which opening hours of OpenStreetMap are open: GTD_YES, or GTD_NO and *fault. */
+uint32_t gtd_domain_from_hours(gtd_handle *domain, const uint8_t *text, size_t length, gtd_hours_fault *fault);
 
 /* Whether the domain contains the second. */
 uint32_t gtd_domain_holds(gtd_handle *domain, int64_t second);
@@ -75,6 +82,16 @@ uint32_t gtd_domain_picture(gtd_handle *domain, uint32_t year, gtd_handle *text)
    answered, after either. GTD_SHORT: there is room for fewer answers than seconds, and none is written. */
 uint32_t gtd_domain_holds_many(gtd_handle *domain, const int64_t *seconds, size_t count, uint8_t *answers, size_t room,
                                size_t *done);
+
+/* A second that one of two domains has alone. domain: 1 for the first, 2 for the second. */
+typedef struct { int64_t second; uint32_t domain; } gtd_apart;
+
+/* Whether two domains have the same seconds, for a second from 1901 to 2199.
+   GTD_YES: each second of all time is in both or in neither, and no start gives a year.
+   GTD_YEAR: a start of one of them gives a year, and each second from the given one on and before 2700-01-01 is in both or in
+   neither.
+   GTD_NO and *apart: the first second from the given one on that one of them has alone, which is before 2700-01-01. */
+uint32_t gtd_same(gtd_handle *first, gtd_handle *second, int64_t from, gtd_apart *apart);
 
 /* Records. An element that no record names is open. */
 
@@ -133,9 +150,11 @@ uint32_t gtd_second(int64_t year, uint32_t month, uint32_t day, uint32_t hour, u
 /* The second as YYYY-MM-DDThh:mm:ss, 19 bytes. */
 uint32_t gtd_stamp(int64_t second, uint8_t *out, size_t room);
 
-/* The names of the kinds of gtd_fault and of gtd_record_fault, as the programs print them; GTD_RANGE for another number. */
+/* The names of the kinds of gtd_fault, gtd_record_fault and gtd_hours_fault, as the programs print them; GTD_RANGE for another
+   number. */
 uint32_t gtd_fault_name(uint32_t kind, uint8_t *out, size_t room, size_t *length);
 uint32_t gtd_record_fault_name(uint32_t kind, uint8_t *out, size_t room, size_t *length);
+uint32_t gtd_hours_fault_name(uint32_t kind, uint8_t *out, size_t room, size_t *length);
 
 /* The version of the library. */
 uint32_t gtd_version(uint8_t *out, size_t room, size_t *length);

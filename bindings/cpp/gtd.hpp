@@ -125,12 +125,21 @@ inline std::string record_fault_name(std::uint32_t kind) {
     });
 }
 
+inline std::string hours_fault_name(std::uint32_t kind) {
+    return text_of([&](std::uint8_t *out, std::size_t room, std::size_t *length) {
+        return gtd_hours_fault_name(kind, out, room, length);
+    });
+}
+
 } // namespace detail
 
 // The kinds of the first fault of a text, by the numbers of gtd_fault.
 enum class TextFault : std::uint32_t {
     BadToken = 1, Fuzzy, TooDeep, TooMany, Repeated, FieldRange, Negative, Unexpected, Incomplete, TooLongDuration
 };
+
+// The kinds of the fault of a text of opening hours, by the numbers of gtd_hours_fault.
+enum class HoursFault : std::uint32_t { BadToken = 1, Unsupported, Range, Unexpected, Incomplete, TooMany };
 
 // The kinds of the first fault of a record file, by the numbers of gtd_record_fault.
 enum class RecordFault : std::uint32_t {
@@ -149,6 +158,21 @@ private:
     TextError(gtd_fault fault, const std::string &name)
         : std::invalid_argument("fault " + name + " at " + std::to_string(fault.place)), fault_(fault) {}
     gtd_fault fault_;
+};
+
+// A text is not opening hours: its first fault, and the number of bytes before it; or they would need more than 128 basic domains
+// (TooMany).
+class HoursError : public std::invalid_argument {
+public:
+    explicit HoursError(gtd_hours_fault fault) : HoursError(fault, detail::hours_fault_name(fault.kind)) {}
+    HoursFault kind() const noexcept { return static_cast<HoursFault>(fault_.kind); }
+    std::string name() const { return detail::hours_fault_name(fault_.kind); }
+    std::size_t place() const noexcept { return fault_.place; }
+
+private:
+    HoursError(gtd_hours_fault fault, const std::string &name)
+        : std::invalid_argument("hours: " + name + " at " + std::to_string(fault.place)), fault_(fault) {}
+    gtd_hours_fault fault_;
 };
 
 // A file is not a record file: its first fault, the row, from 1, if a row is at fault, and of Domain the fault of its text.
@@ -241,6 +265,16 @@ private:
     detail::Handle handle_;
 };
 
+// The first moment that may be asked about, 1901-01-01T00:00:00.
+constexpr std::int64_t first_moment = -2'177'452'800;
+
+// One of two domains, and a second that it has alone.
+enum class Side : std::uint32_t { first = 1, second };
+struct Apart {
+    std::int64_t second;
+    Side side;
+};
+
 // A time domain.
 class Domain {
 public:
@@ -249,6 +283,15 @@ public:
         gtd_fault fault{};
         if (!detail::yes_or_no(gtd_domain_open(handle_.get(), detail::bytes_of(text), text.size(), &fault)))
             throw TextError(fault);
+    }
+
+    // The domain with exactly the seconds at which opening hours of OpenStreetMap are open. Throws HoursError.
+    static Domain from_hours(std::string_view text) {
+        Domain domain;
+        gtd_hours_fault fault{};
+        if (!detail::yes_or_no(gtd_domain_from_hours(domain.handle_.get(), detail::bytes_of(text), text.size(), &fault)))
+            throw HoursError(fault);
+        return domain;
     }
 
     bool holds(std::int64_t second) { return detail::yes_or_no(gtd_domain_holds(handle_.get(), second)); }
@@ -275,6 +318,24 @@ public:
         std::int64_t change = 0;
         return detail::if_yes(gtd_domain_ever(handle_.get(), second, &change), change);
     }
+
+    // The first second from a moment on, from 1901 to 2199, that this domain (Side::first) or the other one has alone. There is
+    // none if each second of all time is in both or in neither; where one of them gives a year, if each one from the moment on
+    // and before 2700-01-01 is.
+    std::optional<Apart> apart(Domain &other, std::int64_t from = first_moment) {
+        if (&other == this) { // two handles of a call must not be one
+            Domain again(canon());
+            return apart(again, from);
+        }
+        gtd_apart found{};
+        const std::uint32_t answer = gtd_same(handle_.get(), other.handle_.get(), from, &found);
+        if (answer == GTD_NO) return Apart{found.second, static_cast<Side>(found.domain)};
+        if (answer != GTD_YEAR) detail::done(answer);
+        return std::nullopt;
+    }
+
+    // Whether there is none.
+    bool same(Domain &other, std::int64_t from = first_moment) { return !apart(other, from); }
 
     // Its seconds from one day up to another, which is not included.
     Spans spans(std::int64_t from_day, std::int64_t until_day) {
@@ -305,6 +366,7 @@ public:
     }
 
 private:
+    Domain() = default;
     detail::Handle handle_;
 };
 

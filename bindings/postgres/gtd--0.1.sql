@@ -70,6 +70,34 @@ AS 'MODULE_PATHNAME', 'gtd_pg_ever_text'
 LANGUAGE C IMMUTABLE STRICT PARALLEL SAFE COST 100;
 COMMENT ON FUNCTION gtd_ever(text, text) IS 'first later moment at which a time domain begins or ends, or NULL';
 
+CREATE FUNCTION gtd_same(one text, other text) RETURNS boolean
+AS 'MODULE_PATHNAME', 'gtd_pg_same'
+LANGUAGE C IMMUTABLE STRICT PARALLEL SAFE COST 10000;
+COMMENT ON FUNCTION gtd_same(text, text) IS 'whether two time domains contain the same moments';
+
+CREATE FUNCTION gtd_apart(one text, other text, moment timestamp) RETURNS timestamp
+AS 'MODULE_PATHNAME', 'gtd_pg_apart_timestamp'
+LANGUAGE C IMMUTABLE STRICT PARALLEL SAFE COST 10000;
+COMMENT ON FUNCTION gtd_apart(text, text, timestamp) IS
+'first moment, from the given one on, that one of two time domains contains and the other does not, or NULL';
+
+CREATE FUNCTION gtd_apart(one text, other text, moment bigint) RETURNS bigint
+AS 'MODULE_PATHNAME', 'gtd_pg_apart_seconds'
+LANGUAGE C IMMUTABLE STRICT PARALLEL SAFE COST 10000;
+COMMENT ON FUNCTION gtd_apart(text, text, bigint) IS
+'first moment, from the given one on, that one of two time domains contains and the other does not, or NULL';
+
+CREATE FUNCTION gtd_apart(one text, other text, moment text) RETURNS text
+AS 'MODULE_PATHNAME', 'gtd_pg_apart_text'
+LANGUAGE C IMMUTABLE STRICT PARALLEL SAFE COST 10000;
+COMMENT ON FUNCTION gtd_apart(text, text, text) IS
+'first moment, from the given one on, that one of two time domains contains and the other does not, or NULL';
+
+CREATE FUNCTION gtd_hours(hours text) RETURNS text
+AS 'MODULE_PATHNAME', 'gtd_pg_hours'
+LANGUAGE C IMMUTABLE STRICT PARALLEL SAFE COST 100;
+COMMENT ON FUNCTION gtd_hours(text) IS 'time domain, in its canonical text, of opening hours as OpenStreetMap writes them';
+
 CREATE FUNCTION gtd_spans(domain text, since timestamp, until timestamp) RETURNS TABLE (begins timestamp, ends timestamp)
 AS 'MODULE_PATHNAME', 'gtd_pg_spans_timestamp'
 LANGUAGE C IMMUTABLE STRICT PARALLEL SAFE COST 1000 ROWS 100;

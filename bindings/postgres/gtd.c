@@ -20,21 +20,27 @@ typedef struct {
     gtd_handle handle;
 } kept;
 
-/* What a call in a query keeps in fn_extra: for each remainder of a hash the text that was read last, and the one of these that
-   was asked last; also what a call opens for itself, so that an error that leaves the call leaks nothing. */
-enum { SLOTS = 64 };
+/* What a call in a query keeps in fn_extra. Of each argument that is a domain: for each remainder of a hash the text that was
+   read last, and the one of these that was asked last. Also what a call opens for itself, so that an error that leaves the call
+   leaks nothing. */
+enum { SLOTS = 64, DOMAINS = 2 };
 typedef struct {
-    MemoryContextCallback end;
-    gtd_handle made;
     kept *last;
     kept slots[SLOTS];
+} shelf;
+typedef struct {
+    MemoryContextCallback end;
+    gtd_handle made, opened;
+    shelf shelves[DOMAINS];
 } site;
 
 static void end_site(void *given)
 {
     site *it = given;
     gtd_close(&it->made);
-    for (int slot = 0; slot < SLOTS; slot++) gtd_close(&it->slots[slot].handle);
+    gtd_close(&it->opened);
+    for (int at = 0; at < DOMAINS; at++)
+        for (int slot = 0; slot < SLOTS; slot++) gtd_close(&it->shelves[at].slots[slot].handle);
 }
 
 static site *site_of(FunctionCallInfo fcinfo)
@@ -66,6 +72,16 @@ static void domain_error(const gtd_fault *fault, part domain)
     fault_name(fault->kind, name);
     show_place(domain.bytes, domain.length, fault->place, text);
     ereport(ERROR, (errcode(ERRCODE_INVALID_TEXT_REPRESENTATION), errmsg("invalid time domain: %s at %zu", name, fault->place),
+                    errdetail("The caret shows the place:\n%s", text)));
+}
+
+static void hours_error(const gtd_hours_fault *fault, part hours)
+{
+    char name[NAME_ROOM], text[SHOWN_ROOM];
+    if (fault->kind == HOURS_TOO_MANY) ereport(ERROR, (errcode(ERRCODE_PROGRAM_LIMIT_EXCEEDED), errmsg(TOO_MANY)));
+    hours_fault_name(fault->kind, name);
+    show_place(hours.bytes, hours.length, fault->place, text);
+    ereport(ERROR, (errcode(ERRCODE_INVALID_TEXT_REPRESENTATION), errmsg("invalid opening hours: %s at %zu", name, fault->place),
                     errdetail("The caret shows the place:\n%s", text)));
 }
 
@@ -101,10 +117,9 @@ static part part_of(text *given)
     return (part){ (const uint8_t *)VARDATA_ANY(given), VARSIZE_ANY_EXHDR(given) };
 }
 
-/* Reads a text, which the site keeps if it stands for something. */
-static kept *keep(FunctionCallInfo fcinfo, part text, bool is_row, uint32_t *answer, gtd_record_fault *fault)
+/* Reads a text, which a shelf of the site keeps if it stands for something. */
+static kept *keep(FunctionCallInfo fcinfo, shelf *at, part text, bool is_row, uint32_t *answer, gtd_record_fault *fault)
 {
-    site *at = site_of(fcinfo);
     *answer = GTD_YES;
     if (is_of(at->last, text)) return at->last;
     uint32_t hash = hash_of(text.bytes, text.length);
@@ -126,17 +141,30 @@ static kept *keep(FunctionCallInfo fcinfo, part text, bool is_row, uint32_t *ans
     return it;
 }
 
-/* The domain of the first argument. */
-static gtd_handle *domain_of(FunctionCallInfo fcinfo)
+/* The domain of an argument, the first or the second. */
+static gtd_handle *domain_at(FunctionCallInfo fcinfo, int argument)
 {
-    part given = part_of(PG_GETARG_TEXT_PP(0));
+    part given = part_of(PG_GETARG_TEXT_PP(argument));
     uint32_t answer;
     gtd_record_fault fault;
-    kept *it = keep(fcinfo, given, false, &answer, &fault);
+    kept *it = keep(fcinfo, &site_of(fcinfo)->shelves[argument], given, false, &answer, &fault);
     if (it) return &it->handle;
     if (answer == GTD_NO) domain_error(&fault.text, given);
     answer_error(answer, "domain", "");
     return NULL;
+}
+
+static gtd_handle *domain_of(FunctionCallInfo fcinfo)
+{
+    return domain_at(fcinfo, 0);
+}
+
+/* The domain of the second argument: that of the first one, if the texts are equal. */
+static gtd_handle *second_domain(FunctionCallInfo fcinfo, gtd_handle *first)
+{
+    part one = part_of(PG_GETARG_TEXT_PP(0)), other = part_of(PG_GETARG_TEXT_PP(1));
+    bool are_equal = one.length == other.length && !memcmp(one.bytes, other.bytes, one.length);
+    return are_equal ? first : domain_at(fcinfo, 1);
 }
 
 /* Moments. */
@@ -190,16 +218,17 @@ Datum gtd_pg_check(PG_FUNCTION_ARGS)
     char name[NAME_ROOM];
     uint32_t answer;
     gtd_record_fault fault;
-    if (keep(fcinfo, part_of(PG_GETARG_TEXT_PP(0)), false, &answer, &fault)) PG_RETURN_NULL();
+    shelf *at = &site_of(fcinfo)->shelves[0];
+    if (keep(fcinfo, at, part_of(PG_GETARG_TEXT_PP(0)), false, &answer, &fault)) PG_RETURN_NULL();
     if (answer != GTD_NO) answer_error(answer, "domain", "");
     fault_name(fault.text.kind, name);
     PG_RETURN_TEXT_P(cstring_to_text(psprintf("%s at %zu", name, fault.text.place)));
 }
 
 /* A text that the library writes of a domain; of words, lines, the last line end is left out. */
-static Datum text_datum(FunctionCallInfo fcinfo, uint32_t (*write)(gtd_handle *, gtd_handle *))
+static Datum text_datum(FunctionCallInfo fcinfo, gtd_handle *domain, uint32_t (*write)(gtd_handle *, gtd_handle *))
 {
-    gtd_handle *domain = domain_of(fcinfo), *made = &site_of(fcinfo)->made;
+    gtd_handle *made = &site_of(fcinfo)->made;
     size_t length = 0;
     uint32_t answer = write(domain, made);
     if (answer != GTD_YES) answer_error(answer, "domain", "");
@@ -216,13 +245,37 @@ static Datum text_datum(FunctionCallInfo fcinfo, uint32_t (*write)(gtd_handle *,
 PG_FUNCTION_INFO_V1(gtd_pg_canon);
 Datum gtd_pg_canon(PG_FUNCTION_ARGS)
 {
-    return text_datum(fcinfo, gtd_domain_canon);
+    return text_datum(fcinfo, domain_of(fcinfo), gtd_domain_canon);
 }
 
 PG_FUNCTION_INFO_V1(gtd_pg_words);
 Datum gtd_pg_words(PG_FUNCTION_ARGS)
 {
-    return text_datum(fcinfo, gtd_domain_words);
+    return text_datum(fcinfo, domain_of(fcinfo), gtd_domain_words);
+}
+
+PG_FUNCTION_INFO_V1(gtd_pg_hours);
+Datum gtd_pg_hours(PG_FUNCTION_ARGS)
+{
+    part given = part_of(PG_GETARG_TEXT_PP(0));
+    gtd_handle *opened = &site_of(fcinfo)->opened;
+    gtd_hours_fault fault;
+    uint32_t answer = gtd_domain_from_hours(opened, given.bytes, given.length, &fault);
+    if (answer == GTD_NO) hours_error(&fault, given);
+    if (answer != GTD_YES) answer_error(answer, "opening hours", "");
+    Datum canonical = text_datum(fcinfo, opened, gtd_domain_canon);
+    gtd_close(opened);
+    return canonical;
+}
+
+PG_FUNCTION_INFO_V1(gtd_pg_same);
+Datum gtd_pg_same(PG_FUNCTION_ARGS)
+{
+    gtd_handle *first = domain_of(fcinfo), *second = second_domain(fcinfo, first);
+    gtd_apart apart;
+    uint32_t answer = compare(first, second, FIRST_SECOND, &apart);
+    if (answer != GTD_YES && answer != GTD_NO) answer_error(answer, "moment", APART);
+    PG_RETURN_BOOL(answer == GTD_YES);
 }
 
 static Datum gtd_pg_holds(FunctionCallInfo fcinfo, type as)
@@ -258,6 +311,18 @@ static Datum gtd_pg_ever(FunctionCallInfo fcinfo, type as)
     return moment_datum(change, as, from.form);
 }
 FOR_EACH_TYPE(gtd_pg_ever);
+
+static Datum gtd_pg_apart(FunctionCallInfo fcinfo, type as)
+{
+    gtd_handle *first = domain_of(fcinfo), *second = second_domain(fcinfo, first);
+    moment from = moment_of(PG_GETARG_DATUM(2), as, false);
+    gtd_apart apart = { 0 };
+    uint32_t answer = compare(first, second, from.second, &apart);
+    if (answer == GTD_YES) PG_RETURN_NULL();
+    if (answer != GTD_NO) answer_error(answer, "moment", APART);
+    return moment_datum(apart.second, as, from.form);
+}
+FOR_EACH_TYPE(gtd_pg_apart);
 
 static Datum gtd_pg_spans(FunctionCallInfo fcinfo, type as)
 {
@@ -307,7 +372,8 @@ static gtd_handle *row_of(FunctionCallInfo fcinfo, bool is_number)
     uint8_t *file = palloc(row_room(fields));
     uint32_t answer;
     gtd_record_fault fault;
-    kept *it = keep(fcinfo, (part){ file, write_row(fields, file) }, true, &answer, &fault);
+    part row = { file, write_row(fields, file) };
+    kept *it = keep(fcinfo, &site_of(fcinfo)->shelves[0], row, true, &answer, &fault);
     pfree(file);
     if (it) return &it->handle;
     if (answer != GTD_NO) answer_error(answer, "row", "");

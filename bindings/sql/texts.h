@@ -18,11 +18,16 @@ enum { DAY = 86400, STAMP = 19, SHOWN = 100, SHOWN_ROOM = 2 * SHOWN + 16, NAME_R
 #define END_SECOND INT64_C(23036572800)
 #define END_STAMP "2700-01-01T00:00:00"
 
+/* 2200-01-01: the end of the moments from which domains are compared. */
+#define END_OF_COMPARED INT64_C(7258118400)
+
 #define RANGE "from 1901-01-01 up to 2700-01-01"
 #define MOMENTS "YYYY-MM-DDThh:mm:ss, or a space in place of the T, or whole seconds since 1970-01-01T00:00:00; " RANGE
 #define BOUNDS "YYYY-MM-DD, " MOMENTS
 #define HORIZON "the second moment must come after the first, by 146,098 days at most"
 #define EVER "moments of gtd_ever lie from 1901 to 2199"
+#define APART "moments of gtd_apart lie from 1901 to 2199"
+#define TOO_MANY "the opening hours would need more than 128 basic domains"
 #define YEAR "the domain gives a year, and gtd_ever asks about all years: gtd_next asks up to a moment"
 
 #define DIRECTIONS "positive, negative or both"
@@ -30,8 +35,8 @@ enum { DAY = 86400, STAMP = 19, SHOWN = 100, SHOWN_ROOM = 2 * SHOWN + 16, NAME_R
 #define VEHICLES "0, or codes 1 to 99 joined by ;, or ! and such codes"
 #define ASKED_VEHICLES "the vehicle type that is asked about must be a number from 1 to 99"
 
-/* Kinds of gtd_record_fault. */
-enum { FAULT_DIRECTION = 6, FAULT_VEHICLE = 7, FAULT_DOMAIN = 8 };
+/* Kinds of gtd_record_fault, and the one of gtd_hours_fault that has no place. */
+enum { FAULT_DIRECTION = 6, FAULT_VEHICLE = 7, FAULT_DOMAIN = 8, HOURS_TOO_MANY = 6 };
 
 /* How a moment was given; what answers it is given likewise, and to a date as to a text with T. */
 typedef enum { FORM_SECONDS, FORM_T, FORM_SPACE } form;
@@ -102,6 +107,23 @@ static inline void fault_name(uint32_t kind, char out[NAME_ROOM])
     size_t length = 0;
     if (gtd_fault_name(kind, (uint8_t *)out, NAME_ROOM - 1, &length) != GTD_YES) length = 0;
     out[length] = 0;
+}
+
+/* The name of a kind of fault of opening hours. */
+static inline void hours_fault_name(uint32_t kind, char out[NAME_ROOM])
+{
+    size_t length = 0;
+    if (gtd_hours_fault_name(kind, (uint8_t *)out, NAME_ROOM - 1, &length) != GTD_YES) length = 0;
+    out[length] = 0;
+}
+
+/* How two domains compare, as gtd_same answers, which takes no handle twice. That one of them gives a year makes no difference:
+   what is compared are the moments that SQL may ask about. */
+static inline uint32_t compare(gtd_handle *first, gtd_handle *second, int64_t from, gtd_apart *apart)
+{
+    if (first == second) return FIRST_SECOND <= from && from < END_OF_COMPARED ? GTD_YES : GTD_RANGE;
+    uint32_t answer = gtd_same(first, second, from, apart);
+    return answer == GTD_YEAR ? GTD_YES : answer;
 }
 
 static inline char shown(uint8_t byte)

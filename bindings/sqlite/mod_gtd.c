@@ -99,6 +99,15 @@ static char *domain_error(const gtd_fault *fault, part domain)
     return sqlite3_mprintf("not a time domain: %s at %llu\n%s", name, (unsigned long long)fault->place, text);
 }
 
+static char *hours_error(const gtd_hours_fault *fault, part hours)
+{
+    char name[NAME_ROOM], text[SHOWN_ROOM];
+    if (fault->kind == HOURS_TOO_MANY) return sqlite3_mprintf(TOO_MANY);
+    hours_fault_name(fault->kind, name);
+    show_place(hours.bytes, hours.length, fault->place, text);
+    return sqlite3_mprintf("not opening hours: %s at %llu\n%s", name, (unsigned long long)fault->place, text);
+}
+
 static char *text_error(const char *what, part given, const char *accepted)
 {
     char text[SHOWN_ROOM];
@@ -147,24 +156,31 @@ static void refuse_answer(sqlite3_context *context, uint32_t answer, const char 
     else sqlite3_result_error(context, answer == GTD_YEAR ? YEAR : answer == GTD_RANGE ? range : "a wrong handle", -1);
 }
 
-/* The domain of the first argument, or NULL where the call has ended with an error. */
-static gtd_handle *domain_of(sqlite3_context *context, sqlite3_value *value)
+/* What the domain of an argument stands for, or NULL where the call has ended with an error. */
+static kept *kept_of(sqlite3_context *context, sqlite3_value **values, int argument)
 {
-    kept *it = sqlite3_get_auxdata(context, 0);
-    if (it) return &it->handle;
+    kept *it = sqlite3_get_auxdata(context, argument);
+    if (it) return it;
     shelf *on = sqlite3_user_data(context);
-    part text = text_of(value);
+    part text = text_of(values[argument]);
     reading why = { .answer = GTD_MEMORY };
     uint32_t hash;
-    if (text.bytes && (it = find(on, text, false, &hash))) return &it->handle;
+    if (text.bytes && (it = find(on, text, false, &hash))) return it;
     if (text.bytes) it = read_text(on, text, false, hash, &why);
     if (!it) {
         refuse(context, why.answer == GTD_NO ? domain_error(&why.fault.text, text) : NULL);
         return NULL;
     }
     it->holders++;
-    sqlite3_set_auxdata(context, 0, it, release_kept);
-    return &it->handle; /* the shelf holds it, even if SQLite has let it go at once, since the text is no constant */
+    sqlite3_set_auxdata(context, argument, it, release_kept);
+    return it; /* the shelf holds it, even if SQLite has let it go at once, since the text is no constant */
+}
+
+/* The domain of the first argument, or NULL where the call has ended with an error. */
+static gtd_handle *domain_of(sqlite3_context *context, sqlite3_value **values)
+{
+    kept *it = kept_of(context, values, 0);
+    return it ? &it->handle : NULL;
 }
 
 static void result_moment(sqlite3_context *context, int64_t second, form as)
@@ -205,9 +221,9 @@ static void sql_check(sqlite3_context *context, int count, sqlite3_value **value
 }
 
 /* A text that the library writes of a domain; of words, lines, the last line end is left out. */
-static void result_text(sqlite3_context *context, sqlite3_value *value, uint32_t (*write)(gtd_handle *, gtd_handle *))
+static void result_text(sqlite3_context *context, gtd_handle *domain, uint32_t (*write)(gtd_handle *, gtd_handle *))
 {
-    gtd_handle *domain = domain_of(context, value), text = GTD_NONE;
+    gtd_handle text = GTD_NONE;
     if (!domain) return;
     uint32_t answer = write(domain, &text);
     size_t length = 0;
@@ -226,12 +242,24 @@ static void result_text(sqlite3_context *context, sqlite3_value *value, uint32_t
 
 static void sql_canon(sqlite3_context *context, int count, sqlite3_value **values)
 {
-    if (!any_null(count, values)) result_text(context, values[0], gtd_domain_canon);
+    if (!any_null(count, values)) result_text(context, domain_of(context, values), gtd_domain_canon);
 }
 
 static void sql_words(sqlite3_context *context, int count, sqlite3_value **values)
 {
-    if (!any_null(count, values)) result_text(context, values[0], gtd_domain_words);
+    if (!any_null(count, values)) result_text(context, domain_of(context, values), gtd_domain_words);
+}
+
+static void sql_hours(sqlite3_context *context, int count, sqlite3_value **values)
+{
+    gtd_handle domain = GTD_NONE;
+    gtd_hours_fault fault;
+    if (any_null(count, values)) return;
+    part text = text_of(values[0]);
+    uint32_t answer = text.bytes ? gtd_domain_from_hours(&domain, text.bytes, text.length, &fault) : GTD_MEMORY;
+    if (answer == GTD_YES) result_text(context, &domain, gtd_domain_canon);
+    else refuse(context, answer == GTD_NO ? hours_error(&fault, text) : NULL);
+    gtd_close(&domain);
 }
 
 static void sql_holds(sqlite3_context *context, int count, sqlite3_value **values)
@@ -239,7 +267,7 @@ static void sql_holds(sqlite3_context *context, int count, sqlite3_value **value
     gtd_handle *domain;
     moment at;
     char *error;
-    if (any_null(count, values) || !(domain = domain_of(context, values[0]))) return;
+    if (any_null(count, values) || !(domain = domain_of(context, values))) return;
     if (!moment_of(values[1], false, &at, &error)) {
         refuse(context, error);
         return;
@@ -247,6 +275,42 @@ static void sql_holds(sqlite3_context *context, int count, sqlite3_value **value
     uint32_t answer = gtd_domain_holds(domain, at.second);
     if (answer == GTD_YES || answer == GTD_NO) sqlite3_result_int(context, answer == GTD_YES);
     else refuse_answer(context, answer, RANGE);
+}
+
+/* How the domains of the first two arguments compare from a second on; GTD_KIND where the call has ended with an error. */
+static uint32_t compared(sqlite3_context *context, sqlite3_value **values, int64_t from, gtd_apart *apart)
+{
+    kept *first = kept_of(context, values, 0);
+    if (!first) return GTD_KIND;
+    first->holders++; /* the second text may take its slot of the shelf */
+    kept *second = kept_of(context, values, 1);
+    uint32_t answer = second ? compare(&first->handle, &second->handle, from, apart) : GTD_KIND;
+    release_kept(first);
+    return answer;
+}
+
+static void sql_same(sqlite3_context *context, int count, sqlite3_value **values)
+{
+    gtd_apart apart;
+    if (any_null(count, values)) return;
+    uint32_t answer = compared(context, values, FIRST_SECOND, &apart);
+    if (answer == GTD_YES || answer == GTD_NO) sqlite3_result_int(context, answer == GTD_YES);
+    else if (answer != GTD_KIND) refuse_answer(context, answer, APART);
+}
+
+static void sql_apart(sqlite3_context *context, int count, sqlite3_value **values)
+{
+    moment from;
+    gtd_apart apart;
+    char *error;
+    if (any_null(count, values)) return;
+    if (!moment_of(values[2], false, &from, &error)) {
+        refuse(context, error);
+        return;
+    }
+    uint32_t answer = compared(context, values, from.second, &apart);
+    if (answer == GTD_NO) result_moment(context, apart.second, from.form);
+    else if (answer != GTD_YES && answer != GTD_KIND) refuse_answer(context, answer, APART);
 }
 
 static void result_change(sqlite3_context *context, uint32_t answer, int64_t change, form as, const char *range)
@@ -261,7 +325,7 @@ static void sql_next(sqlite3_context *context, int count, sqlite3_value **values
     moment from, until;
     int64_t change;
     char *error;
-    if (any_null(count, values) || !(domain = domain_of(context, values[0]))) return;
+    if (any_null(count, values) || !(domain = domain_of(context, values))) return;
     if (!moment_of(values[1], false, &from, &error) || !moment_of(values[2], true, &until, &error)) {
         refuse(context, error);
         return;
@@ -278,7 +342,7 @@ static void sql_ever(sqlite3_context *context, int count, sqlite3_value **values
     moment from;
     int64_t change;
     char *error;
-    if (any_null(count, values) || !(domain = domain_of(context, values[0]))) return;
+    if (any_null(count, values) || !(domain = domain_of(context, values))) return;
     if (!moment_of(values[1], false, &from, &error)) {
         refuse(context, error);
         return;
@@ -545,6 +609,9 @@ static const struct {
     { "gtd_holds", 2, sql_holds, NULL, NULL },
     { "gtd_next", 3, sql_next, NULL, NULL },
     { "gtd_ever", 2, sql_ever, NULL, NULL },
+    { "gtd_same", 2, sql_same, NULL, NULL },
+    { "gtd_apart", 3, sql_apart, NULL, NULL },
+    { "gtd_hours", 1, sql_hours, NULL, NULL },
     { "gtd_closed", 6, NULL, step_closed, end_closed },
 };
 

@@ -16,7 +16,7 @@ True
 :mod:`gtd.country`.
 """
 
-from gtd._domain import Change, Domain, canon, check, contains, next_change, next_change_ever
+from gtd._domain import Apart, Change, Domain, canon, check, contains, next_change, next_change_ever
 from gtd._fault import Fault
 from gtd._library import LibraryNotFound, library
 from gtd._program import ProgramNotFound, program
@@ -25,6 +25,7 @@ from gtd._records import migrate, schedule, year
 from gtd._series import Domains
 
 __all__ = [
+    "Apart",
     "Change",
     "Domain",
     "Domains",

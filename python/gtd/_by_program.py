@@ -20,6 +20,7 @@ from gtd._questions import Place
 
 _LONGEST_WORD = 100_000  # bytes; Linux takes words of at most 131,071
 _FAR = 100  # days
+_DIFFER = 4  # the status of `gtdesk same` if the domains differ
 
 Spans = Callable[[int, int], Seconds]
 
@@ -63,6 +64,15 @@ class DomainByProgram:
         """The first later second at which its state changes, however late."""
         said = self.ask("ever", moment_at(second).isoformat())
         return None if said == "never" else _second(said.split(" ")[0])
+
+    def apart(self, other: DomainByProgram, second: int) -> Optional[Tuple[int, bool]]:
+        """The first second from one on that it or the other one has alone, and whether it is this one that has it."""
+        words = "--from", moment_at(second).isoformat(), "--", self.canon(), other.canon()
+        said = run_desk("same", *words, answers=(0, _DIFFER)).decode().rstrip("\n")
+        if said.startswith("same"):
+            return None
+        found, side = said.split(" ")
+        return _second(found), side == "first"
 
     def canon(self) -> str:
         """Its canonical text."""
@@ -164,6 +174,11 @@ class RecordsByProgram:
         if element in self.elements():
             return numpy.zeros((0, 2), dtype="int64")
         return numpy.array([days], dtype="int64") * DAY
+
+
+def domain_of_hours(hours: str) -> str:
+    """The canonical text of the domain of opening hours, which must be a word of a command line."""
+    return run_desk("hours", "--", hours.encode("utf-8", "replace").decode()).decode().rstrip("\n")
 
 
 def _short(text: str) -> str:

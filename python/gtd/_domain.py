@@ -9,6 +9,7 @@ import numpy
 import pandas
 from numpy.typing import NDArray
 
+from gtd import _by_program, _in_process
 from gtd._by_program import DomainByProgram
 from gtd._fault import Fault, in_domain
 from gtd._in_process import DomainInProcess
@@ -18,6 +19,7 @@ from gtd._moments import day, days, is_column, moment_at, search, second_of, sec
 
 _EPOCH = datetime(1970, 1, 1).toordinal()
 _FIRST_YEAR, _LAST_YEAR = 1901, 2199  # of pictures
+_FIRST_MOMENT = "1901-01-01T00:00:00"
 _Engine = Union[DomainInProcess, DomainByProgram]
 
 
@@ -28,6 +30,15 @@ class Change(NamedTuple):
     """The first second of the new state."""
     inside: bool
     """Whether the domain holds from then on."""
+
+
+class Apart(NamedTuple):
+    """A second that one of two time domains contains and the other does not."""
+
+    moment: datetime
+    """The second."""
+    inside: bool
+    """Whether the domain that was asked contains it; otherwise the other one does."""
 
 
 class Domain:
@@ -67,6 +78,31 @@ class Domain:
         self._holds: Optional[Callable[[int, int], int]] = None
         if isinstance(self._engine, DomainInProcess):
             self._at, self._holds = self._engine.at, self._engine.call_holds
+
+    @classmethod
+    def of_hours(cls, hours: str) -> Domain:
+        """The domain with exactly the seconds at which opening hours of OpenStreetMap are open.
+
+        Raises
+        ------
+        Fault
+            The text is no opening hours; ``kind`` is ``'hours BadToken'``, ``'hours Unsupported'``, ``'hours Range'``,
+            ``'hours Unexpected'`` or ``'hours Incomplete'``, and ``place`` that of its first fault. ``'hours TooMany'``: the
+            domain would have more than 128 basic domains.
+
+        Examples
+        --------
+        >>> gtd.Domain.of_hours("Sa 05:00-15:00")
+        gtd.Domain('[[(t7h0m0){d1}]*[(h5m0){m600}]]')
+        """
+        if not isinstance(hours, str):
+            raise TypeError(f"opening hours are a str, not {type(hours).__name__}")
+        library = load("domain_from_hours", "domain_canon", "text_bytes")
+        try:
+            text = _by_program.domain_of_hours(hours) if library is None else _in_process.domain_of_hours(library, hours)
+        except Fault as fault:
+            raise in_domain(fault, hours) from None
+        return cls(text)
 
     @property
     def text(self) -> str:
@@ -156,6 +192,34 @@ class Domain:
             With pandas 1, a span ends after 2262-04-11.
         """
         return frame_of(self._engine.spans(*days(first, until)))
+
+    def apart(self, other: Domain, moment: Moment = _FIRST_MOMENT) -> Optional[Apart]:
+        """The first second from ``moment`` on that this domain or the other one contains alone.
+
+        Parameters
+        ----------
+        moment : moment, optional
+            From 1901 to 2199; without it, the first one.
+
+        Returns
+        -------
+        Apart or None
+            None if there is none: of all time, if no start of either domain gives a year, and else before 2700-01-01.
+
+        Raises
+        ------
+        Fault
+            As for :meth:`contains`.
+        """
+        second = second_of(moment, END_OF_WORDS)
+        found = None if other is self else self._engine.apart(other._engine, second)  # type: ignore[arg-type]
+        return None if found is None else Apart(moment_at(found[0]), found[1])
+
+    def same(self, other: Domain) -> bool:
+        """Whether both domains contain the same seconds: of all time, if no start of either gives a year, and else before
+        2700-01-01. Domains that are equal (``==``) do; others may.
+        """
+        return self.apart(other) is None
 
     def words(self) -> str:
         """What the domain says, in plain English."""

@@ -6,6 +6,7 @@ import re
 from typing import Any, Callable, Dict, Optional, Tuple
 
 _LINE = re.compile(r"fault (?:row (?P<row>\d+) )?(?P<kind>\w+(?: \w+)?)(?: at (?P<place>\d+))?")
+_HOURS = re.compile(r"gtdesk: TEXT: (?P<kind>\w+) at (?P<place>\d+)")
 _SHOWN = 100  # characters of a text that a message shows
 
 
@@ -16,7 +17,8 @@ class Fault(ValueError):
     ----------
     kind : str
         As in the program's line: ``'FieldRange'``, ``'moment Range'``, ``'horizon Empty'``, ``'Header'``,
-        ``'Direction'``, ``'Domain FieldRange'``. docs/COMMANDS.md, docs/LANGUAGE.md and docs/FILES.md list them all.
+        ``'Direction'``, ``'Domain FieldRange'``; of opening hours ``'hours Unsupported'``. docs/COMMANDS.md, docs/LANGUAGE.md,
+        docs/FILES.md and docs/HOURS.md list them all.
     place : int or None
         For a time domain: the number of bytes of the domain's text before the fault.
     row : int or None
@@ -76,6 +78,9 @@ def _made(parts: Dict[str, Any]) -> Fault:
 
 def read_fault(line: str) -> Optional[Fault]:
     """The fault that a line of the program's standard error reports, or None if it reports none."""
+    found = _HOURS.fullmatch(line)
+    if found:
+        return Fault(f"hours {found['kind']}", place=int(found["place"]))
     found = _LINE.fullmatch(line)
     if not found:
         return None

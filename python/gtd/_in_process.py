@@ -12,7 +12,7 @@ from numpy.typing import NDArray
 
 from gtd import _by_program
 from gtd._fault import Fault
-from gtd._library import YEAR, Held, Library, RecordFault, TextFault, answers_of, done, spans_of, text_of
+from gtd._library import YEAR, Apart, Held, HoursFault, Library, RecordFault, TextFault, answers_of, done, spans_of, text_of
 from gtd._moments import Seconds
 from gtd._questions import Place
 
@@ -65,6 +65,16 @@ class DomainInProcess:
             raise Fault("HasYear")
         return change.value if done(answer) else None
 
+    def apart(self, other: DomainInProcess, second: int) -> Optional[Tuple[int, bool]]:
+        """The first second from one on that it or the other one has alone, and whether it is this one that has it."""
+        if self._calls.same is None:
+            return self._by_program.apart(other._by_program, second)
+        if self.at == other.at:
+            return None
+        found = Apart()
+        answer = self._calls.same(self.at, other.at, second, addressof(found))
+        return None if answer == YEAR or done(answer) else (found.second, found.domain == 1)
+
     def canon(self) -> str:
         """Its canonical text."""
         return self._by_program.canon() if self._calls.domain_canon is None else self._text("domain_canon")
@@ -84,6 +94,15 @@ class DomainInProcess:
         text = Held(self._library)
         done(getattr(self._calls, name)(self.at, *words, text.at))
         return text_of(text).decode()
+
+
+def domain_of_hours(library: Library, hours: str) -> str:
+    """The canonical text of the domain of opening hours. A text that is none raises its first fault."""
+    given, fault, domain, text = hours.encode("utf-8", "replace"), HoursFault(), Held(library), Held(library)
+    if not done(library.held.domain_from_hours(domain.at, given, len(given), addressof(fault))):
+        raise fault.fault()
+    done(library.held.domain_canon(domain.at, text.at))
+    return text_of(text).decode()
 
 
 def open_domain(library: Library, at: int, text: str) -> None:

@@ -32,6 +32,7 @@ _TEXT_FAULTS = (
 _RECORD_FAULTS = (
     "", "", "TooLarge", "Header", "FieldCount", "Element", "Direction", "Vehicle", "Domain", "TooManyRows",
 )  # fmt: skip
+_HOURS_FAULTS = ("", "BadToken", "Unsupported", "Range", "Unexpected", "Incomplete", "TooMany")
 _DOMAIN, _TOO_MANY_ROWS = 8, 9
 _MOST_ROWS = 65_536  # of a file; TooManyRows is the fault of the row after them
 
@@ -67,6 +68,22 @@ class TextFault(ctypes.Structure):
         return Fault(_TEXT_FAULTS[self.kind], place=self.place)
 
 
+class HoursFault(ctypes.Structure):
+    """``gtd_hours_fault``: the first fault of a text of opening hours."""
+
+    _fields_ = [("kind", c_uint32), ("place", c_size_t)]
+
+    def fault(self) -> Fault:
+        """The fault, without its text."""
+        return Fault(f"hours {_HOURS_FAULTS[self.kind]}", place=self.place)
+
+
+class Apart(ctypes.Structure):
+    """``gtd_apart``: a second that one of two domains has alone, the domain ``1`` or ``2``."""
+
+    _fields_ = [("second", c_int64), ("domain", c_uint32)]
+
+
 class RecordFault(ctypes.Structure):
     """``gtd_record_fault``: the first fault of a record file."""
 
@@ -85,6 +102,7 @@ _AT, _OUT = c_void_p, c_void_p
 _ASKED = [_AT, c_uint64, c_bool, c_uint8]  # records, an element, a direction and a vehicle type
 _CALLS: Dict[str, List[Any]] = {
     "domain_open": [_AT, ctypes.c_char_p, c_size_t, _OUT],
+    "domain_from_hours": [_AT, ctypes.c_char_p, c_size_t, _OUT],
     "domain_holds": [_AT, c_int64],
     "domain_next": [_AT, c_int64, c_int64, _OUT],
     "domain_ever": [_AT, c_int64, _OUT],
@@ -93,6 +111,7 @@ _CALLS: Dict[str, List[Any]] = {
     "domain_words": [_AT, _AT],
     "domain_picture": [_AT, c_uint32, _AT],
     "domain_holds_many": [_AT, c_void_p, c_size_t, _OUT, c_size_t, _OUT],
+    "same": [_AT, _AT, c_int64, _OUT],
     "records_open": [_AT, ctypes.c_char_p, c_size_t, _OUT],
     "records_count": [_AT, _OUT],
     "records_element": [_AT, c_size_t, _OUT],

@@ -56,6 +56,51 @@ def test_random_spans_and_changes(answering, seed):
     assert change == ((moment_of(later[0]), not is_within(ends, asked[0])) if later else None), text
 
 
+@pytest.mark.parametrize("seed", range(8))
+def test_random_pairs(answering, seed):
+    maker = Maker(200 + seed)
+    for _ in range(10 if answering == "library" else 1):
+        texts = maker.domain(), maker.domain()
+        one, other = (gtd.Domain(text) for text in texts)
+        moment = moment_of(maker.random.randint(-2_177_452_800, 7_258_118_399))
+        found, turned = one.apart(other, moment), other.apart(one, moment)
+        if found is None:
+            assert turned is None, texts
+            continue
+        second = int((found.moment - EPOCH).total_seconds())
+        assert found.moment >= moment and turned == (found.moment, not found.inside), texts
+        assert [in_domain(text, [second]) for text in texts] == [[found.inside], [not found.inside]], texts
+
+
+def test_two_domains(answering):
+    week, hours = gtd.Domain("[(t2t3t4t5t6h8){h9}]"), gtd.Domain.of_hours("Mo-Fr 08:00-17:00")
+    assert week.same(hours) and week.same(week) and week.apart(hours, "2199-12-31T23:59:59") is None
+    other = gtd.Domain("[(h8){h9}]")
+    assert week.apart(other, "2024-03-15T12:00:00") == gtd.Apart(datetime(2024, 3, 16, 8), False)
+    assert other.apart(week, datetime(2024, 3, 16, 8, 1)) == (datetime(2024, 3, 16, 8, 1), True)
+    assert not week.same(other) and gtd.Domain("(y2024){d1}").same(gtd.Domain("(y2024){h24}"))
+    for asked in week, hours:
+        with pytest.raises(gtd.Fault) as caught:
+            week.apart(asked, "2200-01-01T00:00:00")
+        assert caught.value.kind == "moment Range"
+
+
+@pytest.mark.parametrize(
+    "hours, kind, place",
+    [
+        ("Mo,PH 08:00-17:00", "hours Unsupported", 3),
+        ("", "hours Incomplete", 0),
+        ("Mo 8:00", "hours BadToken", 3),
+        ("Mo-Fr 10:00-25:99", "hours Range", 12),
+        ("Mo Mo", "hours Unexpected", 3),
+    ],
+)
+def test_faults_of_hours(answering, hours, kind, place):
+    with pytest.raises(gtd.Fault) as caught:
+        gtd.Domain.of_hours(hours)
+    assert (caught.value.kind, caught.value.place, caught.value.text) == (kind, place, hours)
+
+
 FORMS = [
     [datetime(2024, 9, 2, 7, 30), datetime(2024, 9, 2, 16, 0, 0, 999_999)],
     (pandas.Timestamp("2024-09-02T07:30:00.9"), "2024-09-02T16:00:00"),
@@ -273,6 +318,7 @@ def test_no_program_is_started(no_program):
     assert domain.next_change(days[0]) == gtd.next_change_ever(SCHOOL, days[0])
     assert domain.canon() == gtd.canon(SCHOOL) and domain.words() and domain.picture(2024)
     assert len(domain.spans("2024-09-02", "2024-09-03")) == 1
+    assert gtd.Domain.of_hours("10:00-14:00").apart(domain) is not None
 
 
 def test_where_the_library_is(monkeypatch, tmp_path):
@@ -297,6 +343,8 @@ def test_a_call_that_the_library_lacks(monkeypatch):
         "domain_spans": lambda domain: domain.spans("2024-09-02", "2024-09-05").to_numpy().tolist(),
         "domain_canon": lambda domain: (domain.canon(), gtd.canon(SCHOOL)),
         "domain_words": lambda domain: domain.words(),
+        "same": lambda domain: domain.apart(gtd.Domain("(h8){h9}"), "2024-09-02T12:00:00"),
+        "domain_from_hours": lambda domain: str(gtd.Domain.of_hours("Mo-Fr 08:00-17:00")),
         "domain_picture": lambda domain: domain.picture(2024).rstrip("\n"),
     }
     library = _library.load()

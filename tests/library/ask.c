@@ -11,7 +11,7 @@
 enum { LINE = 1 << 21, BYTES = 1 << 22, MANY = 4096, REFUSALS = 1000 };
 static char line[LINE];
 static uint8_t bytes[BYTES];
-static gtd_handle domain = GTD_NONE, records = GTD_NONE, made = GTD_NONE;
+static gtd_handle domain = GTD_NONE, other = GTD_NONE, records = GTD_NONE, made = GTD_NONE;
 
 static void fail(const char *what) {
     fprintf(stderr, "ask: %s\n", what);
@@ -97,11 +97,30 @@ static void print_answers(uint32_t answer, const uint8_t *answers, size_t done) 
     for (size_t at = 0; at < done; at++) printf("%u", answers[at]);
 }
 
-static void open_domain(void) {
+static void open_text(gtd_handle *opened) {
     gtd_fault fault = {0, 0};
     const size_t length = hex();
-    PUT(&domain, gtd_domain_open(&domain, bytes, length, &fault));
+    PUT(opened, gtd_domain_open(opened, bytes, length, &fault));
     if (answer == GTD_NO) printf(" %" PRIu32 " %zu", fault.kind, fault.place);
+}
+
+static void open_domain(void) { open_text(&domain); }
+
+/* The second of the domains that `same` compares. */
+static void open_other(void) { open_text(&other); }
+
+static void open_hours(void) {
+    gtd_hours_fault fault = {0, 0};
+    const size_t length = hex();
+    PUT(&domain, gtd_domain_from_hours(&domain, bytes, length, &fault));
+    if (answer == GTD_NO) printf(" %" PRIu32 " %zu", fault.kind, fault.place);
+}
+
+static void same(void) {
+    const int64_t from = number();
+    gtd_apart apart = {0, 0};
+    PUT(NULL, gtd_same(&domain, &other, from, &apart));
+    if (answer == GTD_NO) printf(" %" PRId64 " %" PRIu32, apart.second, apart.domain);
 }
 
 static void holds(void) { say(gtd_domain_holds(&domain, number())); }
@@ -240,11 +259,11 @@ static void schedule(void) {
 
 /* From here on the second handle is asked, and the first is closed. */
 static void share(void) {
-    gtd_handle other = GTD_NONE;
-    PUT(&other, gtd_share(&records, &other));
+    gtd_handle shared = GTD_NONE;
+    PUT(&shared, gtd_share(&records, &shared));
     if (answer != GTD_YES) return;
     gtd_close(&records);
-    records = other;
+    records = shared;
 }
 
 static void second(void) {
@@ -279,6 +298,12 @@ static void record_fault_name(void) {
     print_name(answer, length);
 }
 
+static void hours_fault_name(void) {
+    size_t length = 0;
+    const uint32_t answer = say(gtd_hours_fault_name((uint32_t)number(), bytes, 32, &length));
+    print_name(answer, length);
+}
+
 static void version(void) {
     size_t length = 0;
     const uint32_t answer = say(gtd_version(bytes, 32, &length));
@@ -287,6 +312,7 @@ static void version(void) {
 
 static void close_all(void) {
     gtd_close(&domain);
+    gtd_close(&other);
     gtd_close(&records);
     gtd_close(&made);
     say(GTD_YES);
@@ -294,11 +320,12 @@ static void close_all(void) {
 
 static const struct { const char *name; question *put; } known[] = {
     {"domain", open_domain}, {"holds", holds}, {"holds_many", holds_many}, {"next", next}, {"ever", ever}, {"spans", spans},
-    {"canon", canon}, {"words", words}, {"picture", picture},
+    {"canon", canon}, {"words", words}, {"picture", picture}, {"hours", open_hours}, {"other", open_other}, {"same", same},
     {"records", open_records}, {"count", count}, {"element", element_at}, {"closed", closed}, {"closed_many", closed_many},
     {"records_next", records_next}, {"closers", closers}, {"records_spans", records_spans}, {"schedule", schedule},
     {"share", share}, {"second", second}, {"stamp", stamp}, {"fault_name", fault_name},
-    {"record_fault_name", record_fault_name}, {"version", version}, {"close", close_all},
+    {"record_fault_name", record_fault_name}, {"hours_fault_name", hours_fault_name}, {"version", version},
+    {"close", close_all},
 };
 
 int main(void) {
@@ -315,6 +342,7 @@ int main(void) {
         putchar('\n');
     }
     gtd_close(&domain);
+    gtd_close(&other);
     gtd_close(&records);
     gtd_close(&made);
     return fflush(stdout) ? 99 : 0;

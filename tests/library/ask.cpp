@@ -11,7 +11,7 @@
 
 namespace {
 
-std::optional<gtd::Domain> domain;
+std::optional<gtd::Domain> domain, other;
 std::optional<gtd::Records> records;
 std::istringstream words;
 
@@ -47,6 +47,10 @@ std::string said(const std::string &text) { return "yes " + hex(text); }
 template <class Number> std::string said(const std::optional<Number> &found) {
     return found ? "yes " + std::to_string(*found) : "no";
 }
+std::string said(const std::optional<gtd::Apart> &apart) {
+    if (!apart) return "yes";
+    return "no " + std::to_string(apart->second) + ' ' + std::to_string(static_cast<unsigned>(apart->side));
+}
 std::string said(gtd::Spans spans) {
     std::string found = "yes";
     for (const auto &[from, until] : spans) found += ' ' + std::to_string(from) + ' ' + std::to_string(until);
@@ -77,6 +81,9 @@ Place place() {
 
 std::string ask_domain(const std::string &name) {
     if (name == "domain") return domain.emplace(bytes()), "yes";
+    if (name == "other") return other.emplace(bytes()), "yes";
+    if (name == "hours") return domain = gtd::Domain::from_hours(bytes()), "yes";
+    if (name == "same") return said(domain.value().apart(other.value(), number()));
     if (name == "holds") return said(domain.value().holds(number()));
     if (name == "canon") return said(domain.value().canon());
     if (name == "words") return said(domain.value().words());
@@ -128,8 +135,8 @@ std::string ask(const std::string &name) {
         for (auto &part : parts) part = number<std::uint32_t>();
         return said(std::optional(gtd::second_of(year, parts[0], parts[1], parts[2], parts[3], parts[4])));
     }
-    static const std::set<std::string> of_domains{"domain", "holds", "holds_many", "next", "ever",
-                                                  "spans",  "canon", "words",      "picture"};
+    static const std::set<std::string> of_domains{"domain", "holds", "holds_many", "next",  "ever",  "spans",
+                                                  "canon",  "words", "picture",    "other", "hours", "same"};
     return of_domains.count(name) ? ask_domain(name) : ask_records(name);
 }
 
@@ -141,6 +148,8 @@ std::string answer(const std::string &name) try {
     return ask(name);
 } catch (const gtd::TextError &error) {
     return "no " + numbers_of(error);
+} catch (const gtd::HoursError &error) {
+    return "no " + std::to_string(static_cast<unsigned>(error.kind())) + ' ' + std::to_string(error.place());
 } catch (const gtd::RecordError &error) {
     const auto text = error.text();
     return "no " + std::to_string(static_cast<unsigned>(error.kind())) + ' ' + std::to_string(error.row().value_or(0)) + ' ' +

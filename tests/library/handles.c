@@ -23,6 +23,7 @@ enum { NOON = 43200, UNTOUCHED = 0x5a };
 /* All that a call may write, filled with the byte UNTOUCHED before each. */
 static struct {
     int64_t change, until;
+    gtd_apart apart;
     size_t number;
     uint64_t element;
     uint32_t rows[4];
@@ -45,6 +46,9 @@ static void refresh(void) {
     out.made = empty;
 }
 
+/* The domain that others are compared with. */
+static gtd_handle another = GTD_NONE;
+
 static const int64_t seconds[2] = {NOON, 2 * NOON};
 static const gtd_question questions[2] = {{17, NOON, 11, false}, {17, 0, 12, true}};
 
@@ -56,6 +60,8 @@ static uint32_t canon(gtd_handle *h) { return gtd_domain_canon(h, &out.made); }
 static uint32_t words(gtd_handle *h) { return gtd_domain_words(h, &out.made); }
 static uint32_t picture(gtd_handle *h) { return gtd_domain_picture(h, 2024, &out.made); }
 static uint32_t holds_many(gtd_handle *h) { return gtd_domain_holds_many(h, seconds, 2, out.bytes, 2, &out.number); }
+static uint32_t same(gtd_handle *h) { return gtd_same(h, &another, 0, &out.apart); }
+static uint32_t same_turned(gtd_handle *h) { return gtd_same(&another, h, 0, &out.apart); }
 static uint32_t count(gtd_handle *h) { return gtd_records_count(h, &out.number); }
 static uint32_t element(gtd_handle *h) { return gtd_records_element(h, 0, &out.element); }
 static uint32_t closed_at(gtd_handle *h) { return gtd_records_closed_at(h, 17, true, 1, NOON); }
@@ -75,6 +81,7 @@ static const struct { const char *name; uint32_t (*put)(gtd_handle *); enum kind
     {"domain_holds", holds, DOMAIN}, {"domain_next", next, DOMAIN}, {"domain_ever", ever, DOMAIN},
     {"domain_spans", spans, DOMAIN}, {"domain_canon", canon, DOMAIN}, {"domain_words", words, DOMAIN},
     {"domain_picture", picture, DOMAIN}, {"domain_holds_many", holds_many, DOMAIN},
+    {"same", same, DOMAIN}, {"same, the other way", same_turned, DOMAIN},
     {"records_count", count, RECORDS}, {"records_element", element, RECORDS}, {"records_closed_at", closed_at, RECORDS},
     {"records_next", records_next, RECORDS}, {"records_closers", closers, RECORDS}, {"records_spans", records_spans, RECORDS},
     {"records_schedule", schedule, RECORDS}, {"records_closed_many", closed_many, RECORDS}, {"share", share, RECORDS},
@@ -163,6 +170,33 @@ static void try_faults(void) {
     gtd_close(&handle);
 }
 
+/* Domains that differ: the first second that one has alone, and which; both stay as they were. Opening hours at fault leave a
+   handle as it was. */
+static void try_two_domains(void) {
+    static const char hours[] = "10:00-14:00", wrong_hours[] = "Mo-Fr 10:00-25:99; PH";
+    gtd_handle handle = GTD_NONE, none = GTD_NONE;
+    gtd_hours_fault fault = {0, 0};
+    gtd_apart apart = {0, 0};
+    const uint32_t opened = gtd_domain_from_hours(&handle, (const uint8_t *)hours, sizeof hours - 1, &fault);
+    expect(opened == GTD_YES && fault.kind == 0, "it is opened", "domain_from_hours", "nothing");
+    uint32_t answer = gtd_same(&handle, &another, 0, &apart);
+    expect(answer == GTD_NO && apart.second == 10 * 3600 && apart.domain == 1, "the first has it", "same", "a domain");
+    answer = gtd_same(&another, &handle, 0, &apart);
+    expect(answer == GTD_NO && apart.second == 10 * 3600 && apart.domain == 2, "the second has it", "same", "a domain");
+    apart = (gtd_apart){-1, 9};
+    answer = gtd_same(&another, &handle, 90 * 86400, &apart);
+    expect(answer == GTD_NO && apart.second == 181 * 86400 + 10 * 3600, "the first such second", "same", "a domain");
+    apart = (gtd_apart){-1, 9};
+    expect(gtd_same(&handle, &none, 0, &apart) == GTD_KIND && gtd_same(&none, &handle, 0, &apart) == GTD_KIND,
+           "nothing is compared", "same", "nothing");
+    expect(gtd_same(&handle, &another, INT64_MAX, &apart) == GTD_RANGE, "its range", "same", "a domain");
+    expect(apart.second == -1 && apart.domain == 9, "nothing is written", "same", "nothing");
+    answer = gtd_domain_from_hours(&handle, (const uint8_t *)wrong_hours, sizeof wrong_hours - 1, &fault);
+    expect(answer == GTD_NO && fault.kind == 3 && fault.place == 12, "the first fault", "domain_from_hours", "a domain");
+    expect(holds(&handle) == GTD_YES, "it is as it was", "domain_holds", "a domain");
+    gtd_close(&handle);
+}
+
 /* Answers of calls that have too little room leave it as it was. */
 static void try_room(void) {
     gtd_handle records = GTD_NONE, canonical = GTD_NONE;
@@ -227,12 +261,15 @@ static void try_spans(void) {
 
 int main(void) {
     refresh();
+    expect(open_domain(&another) == GTD_YES, "it is opened", "open", "a domain");
     try_kinds();
     try_reopening();
     try_faults();
+    try_two_domains();
     try_room();
     try_sharing();
     try_spans();
+    gtd_close(&another);
     printf("handles: %d passed, %d failed\n", passed, failed);
     return failed != 0;
 }

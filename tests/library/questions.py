@@ -2,21 +2,24 @@
 """Writes questions to the library, a line for each, and the lines that answer them: of the record files of examples/, and of
 random domains and files from the makers of tests/fuzz.py.
 
-Faults, membership and closing rows are those of the plain model of tests/model.py. Changes, spans and texts are what the program
-`gtd` (and `gtdesk`, for words and pictures) answers, and each border of a span is held to the model, too. GTD and GTDESK in the
+Faults, membership and closing rows are those of the plain models of tests/model.py and tests/hours_model.py. Changes, spans and
+texts are what the program `gtd` answers (and `gtdesk`, for words, pictures, domains of opening hours, and seconds that one of two
+domains has alone); each border of a span, each such second and the hours are held to the models, too. GTD and GTDESK in the
 environment name other programs.
 
 A domain or a file is given as x and the hexadecimal digits of its bytes. An answer is the name of what the call answers, and what
 it found: `no 6 2` is the fault FieldRange at 2.
 
 Usage: tests/library/questions.py [--random] QUESTIONS ANSWERS COUNT [SEED]
-       COUNT domains and as many files; with --random these alone, and no examples
+       COUNT domains and as many files, and a tenth as many pairs of domains and opening hours; with --random these alone, and
+       no examples
 """
 import csv
 import datetime
 import glob
 import io
 import os
+import random
 import re
 import subprocess
 import sys
@@ -27,13 +30,17 @@ TESTS = os.path.dirname(os.path.dirname(os.path.abspath(__file__)))
 sys.path.insert(0, TESTS)
 
 import fuzz  # noqa: E402
+import hours  # noqa: E402
+import hours_model  # noqa: E402
 import model  # noqa: E402
+import same  # noqa: E402
 
 TOP = os.path.dirname(TESTS)
 GTD = os.environ.get("GTD", os.path.join(TOP, "crates", "gtd", "out", "gtd"))
 GTDESK = os.environ.get("GTDESK", os.path.join(TOP, "crates", "gtdesk", "out", "gtdesk"))
 TEXT_FAULTS = ["BadToken", "Fuzzy", "TooDeep", "TooMany", "Repeated", "FieldRange", "Negative", "Unexpected", "Incomplete",
                "TooLongDuration"]
+HOURS_FAULTS = ["BadToken", "Unsupported", "Range", "Unexpected", "Incomplete", "TooMany"]
 RECORD_FAULTS = {"TooLarge": 2, "Header": 3, "FieldCount": 4, "Element": 5, "Direction": 6, "Vehicle": 7, "Domain": 8,
                  "TooManyRows": 9}
 DAY = model.DAY
@@ -190,6 +197,74 @@ def domain_case(seed):
     return asked
 
 
+def ask_same(asked, first, second, begin):
+    """How the domain and the other one compare. A second that one has alone is held to the model."""
+    if not FIRST <= begin <= LAST_MOMENT:
+        return asked.ask(f"same {begin}", "range")
+    said, status = same.run("--from", fuzz.stamp_of(begin), "--", first, second)
+    if status == 0:
+        return asked.ask(f"same {begin}", {"same": "yes", "same until 2700": "year"}[said])
+    assert status == 4, (first, second, begin, said)
+    stamp, side = said.split()
+    found = fuzz.second_of(stamp)
+    has_first, has_second = (model.contains(model.read(text.encode()), found) for text in (first, second))
+    assert begin <= found and has_first != has_second and side == ("first" if has_first else "second"), (first, second, said)
+    return asked.ask(f"same {begin}", f"no {found} {1 if has_first else 2}")
+
+
+def pair_case(seed):
+    """Two random domains, half of them the same in other words, and how they compare from some seconds on."""
+    asked, rng = Asked(), random.Random(seed)
+    first = same.domain(rng)
+    second = same.rewritten(rng, model.read(first.encode())) if rng.random() < 0.5 else same.domain(rng)
+    if max(first.count("("), second.count("(")) > 128:
+        return asked
+    asked.ask(f"domain {hexed(first.encode())}", "yes")
+    asked.ask(f"other {hexed(second.encode())}", "yes")
+    for begin in [FIRST, LAST_MOMENT, rng.randint(FIRST, LAST_MOMENT), rng.choice([FIRST - 1, LAST_MOMENT + 1, -2**63])]:
+        ask_same(asked, first, second, begin)
+    asked.ask(f"holds {FIRST}", WORDS[model.contains(model.read(first.encode()), FIRST)])
+    return asked
+
+
+def ask_hours(asked, text):
+    """The domain of opening hours, by its canonical text, or their first fault; returns whether there is a domain."""
+    fault = hours.fault_of(text)
+    if fault:
+        asked.ask(f"hours {hexed(text)}", f"no {HOURS_FAULTS.index(fault[0]) + 1} {fault[1]}")
+        return False
+    status, said = gtd("hours", "--", text.decode(), program=GTDESK)
+    if status:
+        assert said == b"gtdesk: TEXT: TooMany at 0\n", (text, said)
+        asked.ask(f"hours {hexed(text)}", f"no {HOURS_FAULTS.index('TooMany') + 1} 0")
+        return False
+    asked.ask(f"hours {hexed(text)}", "yes")
+    asked.ask("canon", f"yes {hexed(said[:-1])}")
+    return True
+
+
+def hours_case(seed):
+    """Random opening hours, some of them damaged, and whether they are open at some seconds."""
+    asked, maker = Asked(), hours.Maker(seed)
+    text = maker.text()
+    for given in [text, maker.damaged(text), text]:
+        if not ask_hours(asked, given.encode()):
+            continue
+        rules = hours_model.read(given.encode())
+        for _ in range(8):
+            second = maker.randrange(0, 4_000_000_000)
+            asked.ask(f"holds {second}", WORDS[hours_model.is_open(rules, second)])
+    return asked
+
+
+def worked_hours_case(name):
+    """The opening hours of a file of tests/hours."""
+    asked = Asked()
+    for row in hours.rows_of(name):
+        ask_hours(asked, next(iter(row.values())).encode())
+    return asked
+
+
 class Rows:
     """The rows of a record file, for the model: each with its expression."""
 
@@ -322,6 +397,8 @@ def names_case():
         asked.ask(f"fault_name {kind}", f"yes {hexed(names[kind].encode())}" if kind in names else "range")
         names = {number: name for name, number in RECORD_FAULTS.items()}
         asked.ask(f"record_fault_name {kind}", f"yes {hexed(names[kind].encode())}" if kind in names else "range")
+        names = {number: name for number, name in enumerate(HOURS_FAULTS, 1)}
+        asked.ask(f"hours_fault_name {kind}", f"yes {hexed(names[kind].encode())}" if kind in names else "range")
     for when in [(1901, 1, 1, 0, 0, 0), (1970, 1, 1, 0, 0, 1), (2000, 2, 29, 23, 59, 59), (2699, 12, 31, 23, 59, 59)]:
         second = int((datetime.datetime(*when) - fuzz.EPOCH).total_seconds())
         asked.ask("second " + " ".join(map(str, when)), f"yes {second}")
@@ -340,7 +417,7 @@ def names_case():
     asked.ask("close", "yes")
     for question in ["holds 0", "next 0 1", "ever 0", "spans 0 1", "canon", "words", "picture 2024", "holds_many 0", "count",
                      "element 0", "closed 1 0 1 0", "closed_many 0", "records_next 1 0 1 0 1", "closers 1 0 1 0",
-                     "records_spans 1 0 1 0 1", "schedule 0 1 1", "share"]:
+                     "records_spans 1 0 1 0 1", "schedule 0 1 1", "share", "same 0"]:
         asked.ask(question, "kind")
     return asked
 
@@ -357,6 +434,9 @@ def main():
         cases = [names_case(), *pool.map(example_case, examples)]
         cases += pool.map(domain_case, (f"domain {seed} {number}" for number in range(count)))
         cases += pool.map(file_case, (f"file {seed} {number}" for number in range(count)))
+        cases += pool.map(pair_case, (f"pair {seed} {number}" for number in range(count // 10)))
+        cases += pool.map(hours_case, (f"hours {seed} {number}" for number in range(count // 10)))
+        cases += [] if is_random else pool.map(worked_hours_case, ["texts.csv", "faults.csv"])
     with open(words[0], "w", encoding="ascii") as questions, open(words[1], "w", encoding="ascii") as answers:
         for case in cases:
             questions.writelines(f"{line}\n" for line in case.questions)

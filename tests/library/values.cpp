@@ -15,6 +15,7 @@ static_assert(!std::is_copy_constructible_v<gtd::Records> && std::is_nothrow_mov
 static_assert(!std::is_copy_constructible_v<gtd::Spans> && std::is_nothrow_move_constructible_v<gtd::Spans>);
 static_assert(std::is_base_of_v<std::input_iterator_tag, std::iterator_traits<gtd::Spans::iterator>::iterator_category>);
 static_assert(std::is_nothrow_copy_constructible_v<gtd::TextError> && std::is_nothrow_copy_constructible_v<gtd::RecordError>);
+static_assert(std::is_nothrow_copy_constructible_v<gtd::HoursError>);
 
 static int passed = 0, failed = 0;
 
@@ -53,6 +54,28 @@ static void try_domains() {
     throws<gtd::RangeError>([&] { domain.holds(1LL << 60); }, "a second out of range", "gtd: out of range");
     throws<gtd::YearError>([] { gtd::Domain("(y2024){d1}").ever(0); }, "a year", "gtd: the domain gives a year");
     throws<gtd::RangeError>([] { gtd::second_of(2023, 2, 29); }, "no such date", "gtd: out of range");
+}
+
+static void try_two_domains() {
+    gtd::Domain weekdays("[(t2t3t4t5t6h8){h9}]"), each_day("[(h8){h9}]");
+    auto hours = gtd::Domain::from_hours("Mo-Fr 08:00-17:00");
+    expect(hours.same(weekdays) && weekdays.same(hours), "hours are the same as their domain");
+    expect(weekdays.same(weekdays), "a domain is the same as itself");
+    const auto saturday = gtd::second_of(2024, 3, 16, 8);
+    const auto found = weekdays.apart(each_day, gtd::second_of(2024, 3, 15, 12));
+    expect(found && found->second == saturday && found->side == gtd::Side::second, "the other one has it alone");
+    const auto turned = each_day.apart(weekdays, saturday + 60);
+    expect(turned && turned->second == saturday + 60 && turned->side == gtd::Side::first, "this one has it alone");
+    expect(!weekdays.same(each_day), "they are not the same");
+    gtd::Domain year("(y2024){d1}"), again("[(y2024){h24}]");
+    expect(year.same(again) && !year.same(weekdays), "domains that give a year");
+    throws<gtd::RangeError>([&] { weekdays.same(weekdays, gtd::second_of(2200, 1, 1)); }, "2200", "gtd: out of range");
+    throws<gtd::RangeError>([&] { weekdays.apart(hours, gtd::first_moment - 1); }, "1900", "gtd: out of range");
+    expect(gtd::stamp(gtd::first_moment) == "1901-01-01T00:00:00", "the first moment");
+    throws<gtd::HoursError>([] { gtd::Domain::from_hours("Mo,PH 08:00-17:00"); }, "hours at fault", "hours: Unsupported at 3");
+    throws<gtd::HoursError>([] { gtd::Domain::from_hours(""); }, "no hours", "hours: Incomplete at 0");
+    gtd::Domain gone(std::move(hours));
+    throws<gtd::MovedError>([&] { weekdays.same(hours); }, "the other one was moved from", "gtd: the object was moved from");
 }
 
 static void try_ranges() {
@@ -111,6 +134,7 @@ static void try_threads() {
 
 int main() {
     try_domains();
+    try_two_domains();
     try_ranges();
     try_records();
     try_threads();

@@ -3,7 +3,7 @@
 tests/library/questions.py puts to the library, which says where the answers come from: of the files of examples/, and of random
 domains and files. What lies between two moments that are not at midnight is cut out of the answers for whole days.
 
-Usage: tests/sql/cases.py CASES COUNT [SEED]       (COUNT domains, and a fourth as many files)
+Usage: tests/sql/cases.py CASES COUNT [SEED]       (COUNT domains, and a fourth as many files, pairs of domains and opening hours)
 """
 import csv
 import glob
@@ -40,7 +40,7 @@ class Cases:
 
     def __init__(self, seed, asked):
         self.random, self.found = random.Random(seed), []
-        self.domain, self.fault, self.rows = None, None, None
+        self.domain, self.other, self.hours, self.rows = None, None, None, None
         for question, answer in zip(asked.questions, asked.answers):
             words, told = question.split(), answer.split()
             read = getattr(self, f"read_{words[0]}", None)
@@ -59,8 +59,8 @@ class Cases:
             forms[1] = "date"
         return [[form, second] for form, second in zip(forms, moments)]
 
-    def add(self, call, moments, answer):
-        self.found.append({"call": call, "domain": self.domain.hex(), "moments": self.given(moments), "answer": answer})
+    def add(self, call, moments, answer, **more):
+        self.found.append({"call": call, "domain": self.domain.hex(), "moments": self.given(moments), "answer": answer, **more})
 
     def read_domain(self, words, told):
         self.domain = bytes_of(words[0])
@@ -104,7 +104,27 @@ class Cases:
         return None
 
     def read_canon(self, _words, told):
-        self.add("canon", [], bytes_of(told[1]).decode())
+        if self.hours is None:
+            return self.add("canon", [], bytes_of(told[1]).decode())
+        self.found.append({"call": "hours", "domain": self.hours.hex(), "moments": [], "answer": bytes_of(told[1]).decode()})
+        self.domain, self.hours = bytes_of(told[1]), None
+        return None
+
+    def read_hours(self, words, told):
+        self.domain, self.hours = None, bytes_of(words[0])
+        if told[0] == "no":
+            fault = [questions.HOURS_FAULTS[int(told[1]) - 1], int(told[2])]
+            self.found.append({"call": "hours", "domain": self.hours.hex(), "moments": [], "answer": {"hours": fault}})
+
+    def read_other(self, words, _told):
+        self.other = bytes_of(words[0])
+
+    def read_same(self, words, told):
+        begin, other = int(words[0]), self.other.hex()
+        if begin == FIRST:
+            self.add("same", [], told[0] != "no", other=other)
+        answers = {"range": {"range": 0}, "yes": None, "year": None}
+        self.add("apart", [begin], answers[told[0]] if told[0] in answers else int(told[1]), other=other)
 
     def read_words(self, _words, told):
         self.add("words", [], bytes_of(told[1]).decode().removesuffix("\n"))
@@ -135,7 +155,7 @@ def main():
                 if not re.search(r"\.(schedule|hours)\.csv$", path)]
     jobs = [("example", path) for path in examples]
     jobs += [("domain", f"domain {seed} {number}") for number in range(count)]
-    jobs += [("file", f"file {seed} {number}") for number in range(count // 4)]
+    jobs += [(kind, f"{kind} {seed} {number}") for kind in ("file", "pair", "hours") for number in range(count // 4)]
     with ThreadPoolExecutor(os.cpu_count()) as pool, open(sys.argv[1], "w", encoding="ascii") as file:
         for found in pool.map(lambda job: case(*job), jobs):
             file.writelines(json.dumps(it) + "\n" for it in found)

@@ -43,9 +43,16 @@ def shown(text):
     return "".join(chr(byte) if 32 <= byte < 127 else "?" for byte in text.encode())
 
 
-def fault_error(domain, kind, place):
+def fault_error(text, kind, place, what="time domain"):
     """What an error says of a text of at most 100 bytes."""
-    return f"error 22P02|invalid time domain: {kind} at {place}|The caret shows the place:\n{shown(domain)}\n{' ' * place}^|"
+    return f"error 22P02|invalid {what}: {kind} at {place}|The caret shows the place:\n{shown(text)}\n{' ' * place}^|"
+
+
+def hours_error(text, kind, place):
+    """What an error says of opening hours."""
+    if kind == "TooMany":
+        return "error 54000|the opening hours would need more than 128 basic domains||"
+    return fault_error(text, kind, place, "opening hours")
 
 
 def query_of(case, number):
@@ -56,7 +63,8 @@ def query_of(case, number):
         values = ", ".join(f"({quoted(row[0])}, {row[1] if is_number else quoted(row[1])}, {quoted(row[2])})" for row in rows)
         table = f"(VALUES {values}) r" if rows else "(SELECT NULL::text, NULL::text, NULL::text LIMIT 0) r"
         return f"SELECT gtd_closed(a, b, c, '{case['direction']}', {case['vehicle']}, {moments[0]}) FROM {table}(a, b, c)"
-    words = ", ".join([quoted(bytes.fromhex(case["domain"]).decode()), *moments])
+    texts = [quoted(bytes.fromhex(case[name]).decode()) for name in ("domain", "other") if name in case]
+    words = ", ".join([*texts, *moments])
     if case["call"] == "spans":
         return f"SELECT coalesce(string_agg(begins || ' until ' || ends, ', '), '') FROM gtd_spans({words})"
     return f"SELECT gtd_{case['call']}({words})"
@@ -86,6 +94,9 @@ def check_cases(server, cases):
             right = fault_error(domain, *right["fault"])
             if len(domain.encode()) > 100:
                 right, said = right.split("|")[:2], said.split("|")[:2]
+        elif isinstance(right, dict) and "hours" in right:
+            right = hours_error(bytes.fromhex(case["domain"]).decode(), *right["hours"])
+            right, said = right.split("|")[:2], said.split("|")[:2]
         elif isinstance(right, dict):
             state = "22023|the domain gives a year" if "year" in right else "22008|"
             check(said is not None and said.startswith(f"error {state}"), f"{case}: {said}")
@@ -133,12 +144,13 @@ def check_answers(server, rights):
 
 
 def check_null(server):
-    calls = ["check(NULL)", "canon(NULL)", "words(NULL)"]
+    calls = ["check(NULL)", "canon(NULL)", "words(NULL)", "same(NULL, 'x')", "same('x', NULL)", "hours(NULL)"]
     for kind in ["bigint", "text", "timestamp"]:
         null = f"NULL::{kind}"
         moment = {"bigint": "0", "text": "'1970-01-01T00:00:00'", "timestamp": "timestamp '1970-01-01'"}[kind]
         calls += [f"holds(NULL, {moment})", f"holds('x', {null})", f"next(NULL, {moment}, {moment})",
-                  f"next('x', {null}, {moment})", f"next('x', {moment}, {null})", f"ever(NULL, {moment})", f"ever('x', {null})"]
+                  f"next('x', {null}, {moment})", f"next('x', {moment}, {null})", f"ever(NULL, {moment})", f"ever('x', {null})",
+                  f"apart(NULL, 'x', {moment})", f"apart('x', NULL, {moment})", f"apart('x', 'x', {null})"]
         for words in [f"NULL, {moment}, {moment}", f"'x', {null}, {moment}", f"'x', {moment}, {null}"]:
             check_answers(server, [(f"SELECT count(*) FROM gtd_spans({words})", "0")])
     check_answers(server, [(f"SELECT gtd_{call}", None) for call in calls])
@@ -148,7 +160,8 @@ def check_errors(server):
     wrong = "'[(h25){h1}]'"
     fault = fault_error("[(h25){h1}]", "FieldRange", 2)
     calls = [f"canon({wrong})", f"words({wrong})", f"holds({wrong}, 0)", f"next({wrong}, 0, 1)", f"ever({wrong}, 0)",
-             f"spans({wrong}, 0, 1)"]
+             f"spans({wrong}, 0, 1)", f"same({wrong}, '(h1){{h1}}')", f"same('(h1){{h1}}', {wrong})",
+             f"apart({wrong}, '(h1){{h1}}', 0)", f"apart('(h1){{h1}}', {wrong}, 0)"]
     check_answers(server, [(f"SELECT gtd_{call}", fault) for call in calls])
     long = "+".join(["(h1){h1}"] * 30) + "+(h25){h1}" + "+(h1){h1}" * 30
     at = f"...{long[221:321]}...\n{' ' * 53}^"
@@ -180,9 +193,31 @@ def check_errors(server):
          "error 22023|the domain gives a year||gtd_next asks up to a moment, gtd_ever about all years."),
         ("SELECT gtd_ever('(h1){h1}', timestamp '2200-01-01')",
          "error 22008|moment out of range|Moments of gtd_ever lie from 1901 to 2199.|"),
+        *((f"SELECT gtd_apart('(h1){{h1}}', '{other}', timestamp '2200-01-01')",
+           "error 22008|moment out of range|Moments of gtd_apart lie from 1901 to 2199.|") for other in ("(h1){h1}", "(h2){h1}")),
+        *((f"SELECT gtd_hours('{text}')", hours_error(text, *fault)) for text, fault in [
+            ("Mo,PH 08:00-17:00", ("Unsupported", 3)), ("", ("Incomplete", 0)), ("Mo 8:00", ("BadToken", 3)),
+            ("Mo-Fr 10:00-25:99", ("Range", 12)), ("Mo Mo", ("Unexpected", 3))]),
     ])
     said = server.ask(["SELECT gtd_holds('(h1){h1}', now())"])[0]
     check(said.startswith("error 42883|"), f"a moment with a time zone: {said}")
+
+
+def check_pairs(server):
+    """Two domains of each row: texts that share a slot of what a call keeps, equal texts, and constants on either side."""
+    server.psql("CREATE TABLE texts AS SELECT '(h' || h || '){m' || m || '}' AS domain "
+                "FROM generate_series(0, 23) h, generate_series(1, 59) m")
+    some = "(SELECT domain FROM texts ORDER BY random() LIMIT 60)"
+    check_answers(server, [
+        (f"SELECT count(*) FROM {some} a, {some} b WHERE gtd_same(a.domain, b.domain) <> (a.domain = b.domain)", "0"),
+        ("SELECT string_agg(domain, ',') FROM texts WHERE gtd_same('(h1){m1}', domain)", "(h1){m1}"),
+        ("SELECT string_agg(domain, ',') FROM texts WHERE gtd_same(domain, '(h1){m1}')", "(h1){m1}"),
+        ("SELECT string_agg(domain, ',') FROM texts WHERE gtd_apart(domain, '(h1){m1}', 0) IS NULL", "(h1){m1}"),
+        ("SELECT count(gtd_apart(domain, domain, timestamp '1999-12-31')) FROM texts", "0"),
+        ("SELECT gtd_apart('(h8){h9}', gtd_hours('Mo-Fr 08:00-17:00'), '2024-03-15T12:00:00')", "2024-03-16T08:00:00"),
+        ("SELECT pg_typeof(gtd_apart('(h10){h4}', '(h1){h1}', timestamp '2024-03-01'))", "timestamp without time zone"),
+        ("SELECT gtd_hours('Sa 05:00-15:00')::gtd_domain", "[[(t7h0m0){d1}]*[(h5m0){m600}]]"),
+    ])
 
 
 def check_forms(server):
@@ -374,6 +409,7 @@ def main():
         server.psql(f"CREATE EXTENSION gtd; {ASKED}")
         check_cases(server, cases)
         check_columns(server, cases)
+        check_pairs(server)
         check_null(server)
         check_errors(server)
         check_forms(server)

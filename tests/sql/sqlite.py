@@ -16,6 +16,8 @@ MOMENTS = ("YYYY-MM-DDThh:mm:ss, or a space in place of the T, or whole seconds 
            "from 1901-01-01 up to 2700-01-01")
 HORIZON = "the second moment must come after the first, by 146,098 days at most"
 EVER = "moments of gtd_ever lie from 1901 to 2199"
+APART = "moments of gtd_apart lie from 1901 to 2199"
+TOO_MANY = "the opening hours would need more than 128 basic domains"
 YEAR = "the domain gives a year, and gtd_ever asks about all years: gtd_next asks up to a moment"
 EPOCH = datetime.datetime(1970, 1, 1)
 SCHOOL = "[(M9){M10}]*[(t2t3t4t5t6h07m30){h8m30}]"
@@ -42,9 +44,9 @@ def shown(text):
     return "".join(chr(byte) if 32 <= byte < 127 else "?" for byte in text)
 
 
-def fault_message(domain, kind, place):
+def fault_message(text, kind, place, what="a time domain"):
     """What an error says of a text of at most 100 bytes."""
-    return f"not a time domain: {kind} at {place}\n{shown(domain)}\n{' ' * place}^"
+    return f"not {what}: {kind} at {place}\n{shown(text)}\n{' ' * place}^"
 
 
 def answer_of(base, statement, values=()):
@@ -79,18 +81,22 @@ def ask(base, case):
     if case["call"] == "spans":
         found = answer_of(base, "SELECT begins, ends FROM gtd_spans(?, ?, ?)", [given, *moments])
     else:
-        marks = ", ".join("?" * (1 + len(moments)))
-        found = one(base, f"SELECT gtd_{case['call']}({marks})", given, *moments)
+        words = [given, *([bytes.fromhex(case["other"]).decode()] if "other" in case else []), *moments]
+        found = one(base, f"SELECT gtd_{case['call']}({', '.join('?' * len(words))})", *words)
     if isinstance(right, list):
         right = [tuple(written("T" if form == "date" else form, second) for second in span) for span in right]
     elif isinstance(right, dict) and "fault" in right:
         right = fault_message(domain, *right["fault"])
         if len(domain) > 100:
             right, found = right.split("\n")[0], found.split("\n")[0]
+    elif isinstance(right, dict) and "hours" in right:
+        right = TOO_MANY if right["hours"][0] == "TooMany" else fault_message(domain, *right["hours"], "opening hours")
+        if len(domain) > 100:
+            right, found = right.split("\n")[0], found.split("\n")[0]
     elif isinstance(right, dict):
-        is_told = found in (HORIZON, EVER, YEAR) or re.match("not a moment: '-?[0-9]+' ", str(found))
+        is_told = found in (HORIZON, EVER, APART, YEAR) or re.match("not a moment: '-?[0-9]+' ", str(found))
         return check(is_told, f"{case}: {found}")
-    elif case["call"] in ("next", "ever") and right is not None:
+    elif case["call"] in ("next", "ever", "apart") and right is not None:
         right = written(form, right)
     return check(found == right, f"{case}: {found}")
 
@@ -111,9 +117,27 @@ def check_columns(base, cases):
     check(wrong == 0, f"{wrong} spans of one second are wrong")
 
 
+def check_pairs(base):
+    """Two domains of each row: texts that share a slot of what a connection keeps, equal texts, and constants on either side."""
+    texts = [f"(h{hour}){{m{minutes}}}" for hour in range(24) for minutes in range(1, 60)]
+    base.execute("CREATE TABLE texts(domain TEXT)")
+    base.executemany("INSERT INTO texts VALUES (?)", [(text,) for text in texts])
+    some = "(SELECT domain FROM texts ORDER BY random() LIMIT 60)"
+    wrong = one(base, f"SELECT count(*) FROM {some} a, {some} b WHERE gtd_same(a.domain, b.domain) <> (a.domain = b.domain)")
+    check(wrong == 0, f"{wrong} pairs are wrong")
+    for call in ["gtd_same('(h1){m1}', domain)", "gtd_same(domain, '(h1){m1}')", "gtd_apart(domain, '(h1){m1}', 0) IS NULL"]:
+        found = answer_of(base, f"SELECT domain FROM texts WHERE {call}")
+        check(found == [("(h1){m1}",)], f"{call}: {found}")
+    found = answer_of(base, "SELECT DISTINCT gtd_apart(domain, domain, '1999-12-31T23:59:59') FROM texts")
+    check(found == [(None,)], f"texts that are equal: {found}")
+    found = one(base, "SELECT gtd_apart('(h8){h9}', gtd_hours('Mo-Fr 08:00-17:00'), '2024-03-15 12:00:00')")
+    check(found == "2024-03-16 08:00:00", f"hours and a domain: {found}")
+
+
 def check_null(base):
     for call in ["check(NULL)", "canon(NULL)", "words(NULL)", "holds(NULL, 0)", "holds('x', NULL)", "next(NULL, 0, 1)",
-                 "next('x', NULL, 1)", "next('x', 0, NULL)", "ever(NULL, 0)", "ever('x', NULL)"]:
+                 "next('x', NULL, 1)", "next('x', 0, NULL)", "ever(NULL, 0)", "ever('x', NULL)", "same(NULL, 'x')",
+                 "same('x', NULL)", "apart(NULL, 'x', 0)", "apart('x', NULL, 0)", "apart('x', 'x', NULL)", "hours(NULL)"]:
         found = one(base, f"SELECT gtd_{call}")
         check(found is None, f"gtd_{call}: {found}")
     for values in ["NULL, 0, 1", "'(h1){h1}', NULL, 1", "'(h1){h1}', 0, NULL"]:
@@ -124,7 +148,8 @@ def check_null(base):
 def check_errors(base):
     wrong = "[(h25){h1}]"
     fault = f"not a time domain: FieldRange at 2\n{wrong}\n  ^"
-    for call in ["canon(?)", "words(?)", "holds(?, 0)", "next(?, 0, 1)", "ever(?, 0)"]:
+    for call in ["canon(?)", "words(?)", "holds(?, 0)", "next(?, 0, 1)", "ever(?, 0)", "same(?, '(h1){h1}')",
+                 "same('(h1){h1}', ?)", "apart(?, 'x', 0)", "apart('(h1){h1}', ?, 0)"]:
         found = one(base, f"SELECT gtd_{call}", wrong)
         check(found == fault, f"gtd_{call}: {found}")
     found = answer_of(base, "SELECT * FROM gtd_spans(?, 0, 1)", [wrong])
@@ -157,6 +182,14 @@ def check_errors(base):
     check(found == YEAR, f"gtd_ever of a year: {found}")
     found = one(base, "SELECT gtd_ever('(h1){h1}', '2200-01-01 00:00:00')")
     check(found == EVER, f"gtd_ever in 2200: {found}")
+    for other in ["(h1){h1}", "(h1){h2}"]:
+        found = one(base, "SELECT gtd_apart('(h1){h1}', ?, '2200-01-01 00:00:00')", other)
+        check(found == APART, f"gtd_apart in 2200: {found}")
+    for text, right in [("Mo,PH 08:00-17:00", "Unsupported at 3"), ("", "Incomplete at 0"), ("Mo 8:00", "BadToken at 3"),
+                        ("Mo-Fr 10:00-25:99", "Range at 12"), ("Mo Mo", "Unexpected at 3")]:
+        found = one(base, "SELECT gtd_hours(?)", text)
+        kind, place = right.split(" at ")
+        check(found == fault_message(text.encode(), kind, int(place), "opening hours"), f"hours {text!r}: {found}")
     for arguments in ["", "'(h1){h1}'", "'(h1){h1}', 0"]:
         found = answer_of(base, f"SELECT * FROM gtd_spans({arguments})")
         check(found == "gtd_spans takes a domain and two moments", f"gtd_spans({arguments}): {found}")
@@ -206,6 +239,7 @@ def check_schema(base):
     base.execute("CREATE TABLE checked(domain TEXT CHECK (gtd_check(domain) IS NULL))")
     base.execute("CREATE TABLE r(element INTEGER, domain TEXT, canonical TEXT GENERATED ALWAYS AS (gtd_canon(domain)) STORED)")
     base.execute("CREATE INDEX by_canon ON r(gtd_canon(domain))")
+    base.execute("CREATE INDEX by_hours ON r(gtd_hours('10:00-11:00'), element) WHERE NOT gtd_same(domain, '(h2){h1}')")
     base.execute("CREATE INDEX at_night ON r(element) WHERE gtd_holds(domain, '2024-01-01T03:00:00')")
     base.execute("CREATE VIEW night AS SELECT element FROM r WHERE gtd_holds(domain, '2024-01-01 03:00:00')")
     base.execute("CREATE VIEW days AS SELECT element, begins, ends FROM r, gtd_spans(r.domain, '2024-01-01', '2024-01-03')")
@@ -278,6 +312,7 @@ def main():
     for case in cases:
         ask(base, case)
     check_columns(base, cases)
+    check_pairs(base)
     check_null(base)
     check_errors(base)
     check_forms(base)

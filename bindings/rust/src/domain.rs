@@ -1,12 +1,41 @@
 //! Time domains.
 
 use crate::handle::{done, if_yes, yes_or_no, Handle};
-use crate::{sys, AskError, DomainError, Spans, TextFault};
+use crate::{sys, AskError, DomainError, HoursError, HoursFault, Spans, TextFault};
 use std::fmt;
 use std::str::FromStr;
 
 /// A time domain: it contains some seconds of the local civil clock, and not others.
 pub struct Domain(Handle);
+
+/// One of two domains.
+#[derive(Clone, Copy, Debug, PartialEq, Eq, Hash)]
+pub enum Side {
+    /// The first one.
+    First,
+    /// The second one.
+    Second,
+}
+
+/// A second that one of two domains has alone.
+#[derive(Clone, Copy, Debug, PartialEq, Eq, Hash)]
+pub struct Apart {
+    /// The second.
+    pub second: i64,
+    /// The domain that has it.
+    pub side: Side,
+}
+
+/// How the seconds of two domains compare.
+#[derive(Clone, Copy, Debug, PartialEq, Eq, Hash)]
+pub enum Comparison {
+    /// Each second of all time is in both or in neither. No start gives a year.
+    Same,
+    /// Some start gives a year. Each second from the given one on and before 2700-01-01 is in both or in neither.
+    SameUntil2700,
+    /// The first second from the given one on that is in one of them alone.
+    Apart(Apart),
+}
 
 impl Domain {
     /// The domain of a text.
@@ -31,6 +60,33 @@ impl Domain {
             Ok(true) => Ok(Domain(handle)),
             Ok(false) => Err(TextFault::of(fault).map_or(DomainError::Memory, DomainError::Fault)),
             Err(_) => Err(DomainError::Memory),
+        }
+    }
+
+    /// The domain with exactly the seconds at which opening hours of OpenStreetMap are open.
+    ///
+    /// # Errors
+    ///
+    /// The first fault of a text that is not opening hours; that they would need more than 128 basic domains; refused memory.
+    ///
+    /// ```
+    /// use gtd::{Domain, HoursError, HoursFault, HoursFaultKind};
+    ///
+    /// let hours = Domain::from_hours("Mo-Fr 08:00-17:00")?;
+    /// assert!(hours.holds(gtd::second_of(2024, 3, 15, 16, 59, 59)?)?); // a Friday
+    /// let fault = HoursFault { kind: HoursFaultKind::Unsupported, place: 3 };
+    /// assert_eq!(Domain::from_hours("Mo,PH 08:00-17:00").unwrap_err(), HoursError::Fault(fault));
+    /// # Ok::<(), Box<dyn std::error::Error>>(())
+    /// ```
+    pub fn from_hours(text: impl AsRef<[u8]>) -> Result<Domain, HoursError> {
+        let (text, handle) = (text.as_ref(), Handle::none());
+        let mut fault = sys::gtd_hours_fault::default();
+        // SAFETY: the text is as long as is said, and the fault is of this call.
+        let answer = unsafe { sys::gtd_domain_from_hours(handle.get(), text.as_ptr(), text.len(), &mut fault) };
+        match yes_or_no(answer) {
+            Ok(true) => Ok(Domain(handle)),
+            Ok(false) => Err(HoursFault::of(fault).map_or(HoursError::Memory, HoursError::Fault)),
+            Err(_) => Err(HoursError::Memory),
         }
     }
 
@@ -107,6 +163,43 @@ impl Domain {
     pub fn ever_changes(&self, second: i64) -> Result<Option<i64>, AskError> {
         // SAFETY: the number is of this call.
         if_yes(|change| unsafe { sys::gtd_domain_ever(self.0.get(), second, change) })
+    }
+
+    /// How the seconds of this domain, the first, and of another one compare from a second on. Domains of which no start gives a
+    /// year are compared over all time.
+    ///
+    /// # Errors
+    ///
+    /// `Range`: the second is not from 1901 to 2199. `Memory`.
+    ///
+    /// ```
+    /// use gtd::{Apart, Comparison, Domain, Side, FIRST_MOMENT};
+    ///
+    /// let weekdays = Domain::new("[(t2t3t4t5t6h8){h9}]")?;
+    /// let hours = Domain::from_hours("Mo-Fr 08:00-17:00")?;
+    /// assert_eq!(weekdays.compare(&hours, FIRST_MOMENT)?, Comparison::Same);
+    /// let each_day = Domain::new("[(h8){h9}]")?;
+    /// let second = gtd::second_of(2024, 3, 16, 8, 0, 0)?; // a Saturday
+    /// let apart = Apart { second, side: Side::Second };
+    /// assert_eq!(weekdays.compare(&each_day, gtd::second_of(2024, 3, 15, 12, 0, 0)?)?, Comparison::Apart(apart));
+    /// # Ok::<(), Box<dyn std::error::Error>>(())
+    /// ```
+    pub fn compare(&self, other: &Domain, from: i64) -> Result<Comparison, AskError> {
+        if std::ptr::eq(self, other) {
+            // Two handles of a call must not be one.
+            let again = Domain::new(self.canon()?).map_err(|_| AskError::Memory)?;
+            return self.compare(&again, from);
+        }
+        let mut apart = sys::gtd_apart::default();
+        // SAFETY: both handles are of domains, and are two.
+        match unsafe { sys::gtd_same(self.0.get(), other.0.get(), from, &mut apart) } {
+            sys::YEAR => Ok(Comparison::SameUntil2700),
+            answer if yes_or_no(answer)? => Ok(Comparison::Same),
+            _ => {
+                let side = if apart.domain == 1 { Side::First } else { Side::Second };
+                Ok(Comparison::Apart(Apart { second: apart.second, side }))
+            }
+        }
     }
 
     /// The spans of the domain's seconds from one day up to another, which is not included.

@@ -80,6 +80,69 @@ impl fmt::Display for TextFault {
     }
 }
 
+/// A kind of fault of a text of opening hours, by its number in `gtd.h`.
+#[derive(Clone, Copy, Debug, PartialEq, Eq, Hash)]
+#[non_exhaustive]
+#[repr(u32)]
+pub enum HoursFaultKind {
+    /// A byte begins no token.
+    BadToken = 1,
+    /// A word or a sign that OpenStreetMap has and that is not read here.
+    Unsupported,
+    /// A number or a time is out of its range.
+    Range,
+    /// A token may not stand here.
+    Unexpected,
+    /// The text ends too early.
+    Incomplete,
+    /// The hours would need more than 128 basic domains.
+    TooMany,
+}
+
+impl HoursFaultKind {
+    const ALL: [HoursFaultKind; 6] = [
+        HoursFaultKind::BadToken,
+        HoursFaultKind::Unsupported,
+        HoursFaultKind::Range,
+        HoursFaultKind::Unexpected,
+        HoursFaultKind::Incomplete,
+        HoursFaultKind::TooMany,
+    ];
+
+    /// Its name, as `gtdesk` prints it.
+    ///
+    /// ```
+    /// assert_eq!(gtd::HoursFaultKind::Unsupported.name(), "Unsupported");
+    /// ```
+    #[must_use]
+    pub fn name(self) -> String {
+        // SAFETY: `text_of` gives the address and the length of a buffer of its own.
+        text_of(|out, room, length| unsafe { sys::gtd_hours_fault_name(self as u32, out, room, length) }).unwrap_or_default()
+    }
+}
+
+/// The first fault of a text of opening hours.
+#[derive(Clone, Copy, Debug, PartialEq, Eq, Hash)]
+pub struct HoursFault {
+    /// What is wrong.
+    pub kind: HoursFaultKind,
+    /// The number of bytes before it; 0 of `TooMany`.
+    pub place: usize,
+}
+
+impl HoursFault {
+    pub(crate) fn of(fault: sys::gtd_hours_fault) -> Option<HoursFault> {
+        let kind = HoursFaultKind::ALL.into_iter().find(|kind| *kind as u32 == fault.kind)?;
+        Some(HoursFault { kind, place: fault.place })
+    }
+}
+
+impl fmt::Display for HoursFault {
+    fn fmt(&self, f: &mut fmt::Formatter<'_>) -> fmt::Result {
+        write!(f, "{} at {}", self.kind.name(), self.place)
+    }
+}
+
 /// A kind of fault of a record file, by its number in `gtd.h`.
 #[derive(Clone, Copy, Debug, PartialEq, Eq, Hash)]
 #[non_exhaustive]
@@ -176,6 +239,26 @@ impl fmt::Display for DomainError {
 }
 
 impl Error for DomainError {}
+
+/// Why there is no domain of opening hours.
+#[derive(Clone, Copy, Debug, PartialEq, Eq, Hash)]
+pub enum HoursError {
+    /// The text is not opening hours, or these would need more than 128 basic domains.
+    Fault(HoursFault),
+    /// The system refused memory.
+    Memory,
+}
+
+impl fmt::Display for HoursError {
+    fn fmt(&self, f: &mut fmt::Formatter<'_>) -> fmt::Result {
+        match self {
+            HoursError::Fault(fault) => write!(f, "hours: {fault}"),
+            HoursError::Memory => f.write_str("the system refused memory"),
+        }
+    }
+}
+
+impl Error for HoursError {}
 
 /// Why there are no records of a file.
 #[derive(Clone, Copy, Debug, PartialEq, Eq, Hash)]

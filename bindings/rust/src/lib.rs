@@ -26,14 +26,23 @@ mod records;
 mod spans;
 mod sys;
 
-pub use domain::Domain;
-pub use error::{AskError, DomainError, RecordFault, RecordFaultKind, RecordsError, TextFault, TextFaultKind};
+pub use domain::{Apart, Comparison, Domain, Side};
+pub use error::{AskError, DomainError, HoursError, HoursFault, HoursFaultKind};
+pub use error::{RecordFault, RecordFaultKind, RecordsError, TextFault, TextFaultKind};
 pub use records::{Direction, Elements, Question, Records};
 pub use spans::Spans;
 
 use handle::{done, text_of};
 
 const DAY_SECONDS: i64 = 86_400;
+
+/// The first second that may be asked about, 1901-01-01T00:00:00.
+///
+/// ```
+/// assert_eq!(gtd::stamp(gtd::FIRST_MOMENT)?, "1901-01-01T00:00:00");
+/// # Ok::<(), gtd::AskError>(())
+/// ```
+pub const FIRST_MOMENT: i64 = -2_177_452_800;
 
 /// The second of a date and a clock time.
 ///

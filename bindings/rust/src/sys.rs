@@ -25,6 +25,20 @@ pub struct gtd_fault {
 
 #[repr(C)]
 #[derive(Clone, Copy, Default)]
+pub struct gtd_hours_fault {
+    pub kind: u32,
+    pub place: usize,
+}
+
+#[repr(C)]
+#[derive(Clone, Copy, Default)]
+pub struct gtd_apart {
+    pub second: i64,
+    pub domain: u32,
+}
+
+#[repr(C)]
+#[derive(Clone, Copy, Default)]
 pub struct gtd_record_fault {
     pub kind: u32,
     pub row: u32,
@@ -33,6 +47,7 @@ pub struct gtd_record_fault {
 
 extern "C" {
     pub fn gtd_domain_open(domain: *mut gtd_handle, text: *const u8, length: usize, fault: *mut gtd_fault) -> u32;
+    pub fn gtd_domain_from_hours(domain: *mut gtd_handle, text: *const u8, length: usize, fault: *mut gtd_hours_fault) -> u32;
     pub fn gtd_domain_holds(domain: *mut gtd_handle, second: i64) -> u32;
     pub fn gtd_domain_next(domain: *mut gtd_handle, second: i64, until_day: i64, change: *mut i64) -> u32;
     pub fn gtd_domain_ever(domain: *mut gtd_handle, second: i64, change: *mut i64) -> u32;
@@ -48,6 +63,7 @@ extern "C" {
         room: usize,
         done: *mut usize,
     ) -> u32;
+    pub fn gtd_same(first: *mut gtd_handle, second: *mut gtd_handle, from: i64, apart: *mut gtd_apart) -> u32;
     pub fn gtd_records_open(records: *mut gtd_handle, bytes: *const u8, length: usize, fault: *mut gtd_record_fault) -> u32;
     pub fn gtd_records_count(records: *mut gtd_handle, elements: *mut usize) -> u32;
     pub fn gtd_records_element(records: *mut gtd_handle, place: usize, element: *mut u64) -> u32;
@@ -103,5 +119,6 @@ extern "C" {
     pub fn gtd_stamp(second: i64, out: *mut u8, room: usize) -> u32;
     pub fn gtd_fault_name(kind: u32, out: *mut u8, room: usize, length: *mut usize) -> u32;
     pub fn gtd_record_fault_name(kind: u32, out: *mut u8, room: usize, length: *mut usize) -> u32;
+    pub fn gtd_hours_fault_name(kind: u32, out: *mut u8, room: usize, length: *mut usize) -> u32;
     pub fn gtd_version(out: *mut u8, room: usize, length: *mut usize) -> u32;
 }

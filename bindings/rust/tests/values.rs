@@ -52,6 +52,30 @@ fn spans_outlive_their_domain() {
 }
 
 #[test]
+fn a_domain_is_compared_with_itself() {
+    let domain = Domain::new("(y2024){d1}").unwrap();
+    assert_eq!(domain.compare(&domain, gtd::FIRST_MOMENT), Ok(gtd::Comparison::SameUntil2700));
+    let end = second_of(2200, 1, 1, 0, 0, 0).unwrap();
+    assert_eq!(domain.compare(&domain, end), Err(AskError::Range));
+}
+
+#[test]
+fn each_side_is_told() {
+    let (one, other) = (Domain::new("(h1){h1}").unwrap(), Domain::new("(h1){h2}").unwrap());
+    let second = second_of(2024, 2, 29, 2, 0, 0).unwrap();
+    let apart = |side| gtd::Comparison::Apart(gtd::Apart { second, side });
+    assert_eq!(one.compare(&other, second - 1), Ok(apart(gtd::Side::Second)));
+    assert_eq!(other.compare(&one, second - 1), Ok(apart(gtd::Side::First)));
+}
+
+#[test]
+fn faults_of_hours_have_names() {
+    let fault = Domain::from_hours("Mo Mo").unwrap_err();
+    assert_eq!(fault.to_string(), "hours: Unexpected at 3");
+    assert_eq!(gtd::HoursFaultKind::TooMany.name(), "TooMany");
+}
+
+#[test]
 fn long_lists_are_whole() {
     let mut text = String::from("element,direction,vehicle,domain\n");
     for _ in 0..500 {

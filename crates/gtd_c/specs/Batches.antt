@@ -1,6 +1,6 @@
 -- Many questions at once.
 use Rattle.std.specs.Prelude.{◌≡◌, ◌≤◌, ◌<◌, ◌⊎◌, ℕ, List, length, drop, slice_index, slice_index_or}
-use Rattle.gtd_c.specs.Answers.{gtd_range, gtd_short, gtd_yes}
+use Rattle.gtd_handles.specs.Answers.{gtd_range, gtd_short, gtd_yes}
 
 module _ {A : Type 0} (InRange Holds : A → Type 0) (questions : List A) where
   -- the question at this place; past the end, which is never asked for, the other one

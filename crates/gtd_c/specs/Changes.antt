@@ -6,7 +6,7 @@ use Rattle.gtd_eval.specs.Ever.{NeverChangesAfter}
 use Rattle.gtd_records.specs.Closing.{IsClosed, Restriction}
 use Rattle.gtd_spans.specs.Change.{NeverChanges}
 use Rattle.gtd_report.specs.Run.{IsVehicleType}
-use Rattle.gtd_c.specs.Answers.{IsRange, IsWhether, direction_of}
+use Rattle.gtd_handles.specs.Answers.{IsRange, IsWhether, direction_of}
 
 -- membership in the set never changes after the second
 pub record StaysEver (set : ℤ → Type 0) (second : ℤ) : Type 0 where

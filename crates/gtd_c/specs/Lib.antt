@@ -1,13 +1,11 @@
-pub mod Owned
-pub mod Answers
 pub mod Batches
 pub mod Changes
+pub mod Comparisons
 pub mod Dates
 pub mod Faults
-pub mod Handles
 pub mod Names
+pub mod OpeningHours
 pub mod Pictures
 pub mod Questions
 pub mod Rows
 pub mod Schedules
-pub mod Writing

@@ -5,7 +5,7 @@ use Rattle.gtd_core.specs.declared.fault.Fault.{Fault}
 use Rattle.gtd_records.specs.RecordFaultNames.{record_fault_name}
 use Rattle.gtd_records.specs.declared.fault.RecordFault.{RecordFault}
 use Rattle.gtd_c.specs.Faults.{fault_number, record_fault_numbers}
-use Rattle.gtd_c.specs.Writing.{IsWritten}
+use Rattle.gtd_handles.specs.Writing.{IsWritten}
 
 -- the name of the fault of a text with this number
 pub record IsFaultName (kind answer : ℕ) (old new : List ℕ) (count : ℕ) : Type 0 where

@@ -3,7 +3,7 @@ use Rattle.std.specs.Prelude.{List, false, pos}
 use Rattle.gtd_core.specs.Seconds.{IsHorizonSecond}
 use Rattle.gtd_records.specs.Closing.{IsClosed, Restriction}
 use Rattle.gtd_report.specs.Run.{IsVehicleType}
-use Rattle.gtd_c.specs.Answers.{direction_of}
+use Rattle.gtd_handles.specs.Answers.{direction_of}
 use Rattle.gtd_c.specs.declared.questions.Question.{Question}
 
 -- The numbers of the question are in their ranges.

@@ -3,15 +3,15 @@
 ghost use Rattle.std.specs.Prelude.{◌≡◌, pos};
 ghost use Rattle.gtd_core.specs.Seconds.{IsHorizonSecond};
 ghost use Rattle.gtd_eval.specs.Membership.{InDomain};
-ghost use Rattle.gtd_c.specs.Answers.{gtd_kind};
+ghost use Rattle.gtd_handles.specs.Answers.{gtd_kind};
 ghost use Rattle.gtd_c.specs.Batches.{AreAnswered};
-ghost use Rattle.gtd_c.specs.Handles.{OfDomain};
+ghost use Rattle.gtd_handles.specs.Handles.{OfDomain};
+ghost use Rattle.gtd_handles.specs.Holding.{thing_of};
 
-use crate::answers::{KIND, RANGE, SHORT, YES};
-use crate::handle::{Handle, Thing};
 use crate::horizons::is_second;
 use gtd_core::{Domain, Sec};
 use gtd_eval::holds;
+use gtd_handles::{Handle, KIND, RANGE, SHORT, Thing, YES};
 use std::alloc::Global;
 
 // Whether the domain contains each second, up to the first that is out of range.
@@ -44,8 +44,8 @@ pub extern "C" fn gtd_domain_holds_many(
     answers: &mut [u8],
     done: &mut usize,
 ) -> u32
-    ensures kept { domain.new.loose.value ≡ domain.old.loose.value }
-    ensures answered { OfDomain domain.old.loose.value result (λ found.
+    ensures kept { thing_of domain.new ≡ thing_of domain.old }
+    ensures answered { OfDomain (thing_of domain.old) result (λ found.
         AreAnswered IsHorizonSecond (InDomain found) seconds.now (pos 0) result answers.old answers.new done.old done.new) }
     ensures untouched { (result ≡ gtd_kind) → (answers.new ≡ answers.old) × (done.new ≡ done.old) }
 {

@@ -6,15 +6,15 @@ ghost use Rattle.gtd_core.specs.Whole.{to_day, whole};
 ghost use Rattle.gtd_eval.specs.Membership.{InDomain};
 ghost use Rattle.gtd_records.specs.Closing.{IsOpen};
 ghost use Rattle.gtd_spans.specs.Change.{IsNextChange};
-ghost use Rattle.gtd_c.specs.Answers.{day_begin, direction_of, gtd_kind, gtd_memory, gtd_no, gtd_range, gtd_yes};
+ghost use Rattle.gtd_handles.specs.Answers.{day_begin, direction_of, gtd_kind, gtd_memory, gtd_no, gtd_range, gtd_yes};
 ghost use Rattle.gtd_c.specs.Changes.{HasRange, IsHorizonAfter, IsWayHorizon, StaysUntil};
-ghost use Rattle.gtd_c.specs.Handles.{OfDomain, OfRecords};
+ghost use Rattle.gtd_handles.specs.Handles.{OfDomain, OfRecords};
+ghost use Rattle.gtd_handles.specs.Holding.{thing_of};
 
-use crate::answers::{KIND, MEMORY, NO, RANGE, YES};
-use crate::handle::{Handle, Thing};
 use crate::horizons::{direction_of, is_vehicle};
 use crate::records::Way;
 use gtd_core::{Domain, Horizon, Sec};
+use gtd_handles::{Handle, KIND, MEMORY, NO, RANGE, Thing, YES};
 use gtd_records::{Records, next_change};
 use std::alloc::Global;
 
@@ -79,14 +79,14 @@ pub extern "C" fn gtd_domain_next(
     until_day: i64,
     change: &mut i64,
 ) -> u32
-    ensures kept { domain.new.loose.value ≡ domain.old.loose.value }
-    ensures change { OfDomain domain.old.loose.value result
+    ensures kept { thing_of domain.new ≡ thing_of domain.old }
+    ensures change { OfDomain (thing_of domain.old) result
         (λ found. (result ≡ gtd_yes) → IsNextChange (InDomain found) second (day_begin until_day) change.new) }
-    ensures none { OfDomain domain.old.loose.value result
+    ensures none { OfDomain (thing_of domain.old) result
         (λ found. (result ≡ gtd_no) → StaysUntil (InDomain found) second (day_begin until_day)) }
-    ensures range { OfDomain domain.old.loose.value result
+    ensures range { OfDomain (thing_of domain.old) result
         (λ found. HasRange (IsHorizonAfter second until_day) result) }
-    ensures answers { OfDomain domain.old.loose.value result (λ found. (result ≤ gtd_memory) × ((result ≡ gtd_kind) → ⊥)) }
+    ensures answers { OfDomain (thing_of domain.old) result (λ found. (result ≤ gtd_memory) × ((result ≡ gtd_kind) → ⊥)) }
     ensures untouched { ((result ≡ gtd_yes) → ⊥) → change.new ≡ change.old }
 {
     let Some(thing) = domain.take(alloc) else {
@@ -182,14 +182,14 @@ pub extern "C" fn gtd_records_next(
     until_day: i64,
     change: &mut i64,
 ) -> u32
-    ensures kept { records.new.loose.value ≡ records.old.loose.value }
-    ensures change { OfRecords records.old.loose.value result (λ found. (result ≡ gtd_yes)
+    ensures kept { thing_of records.new ≡ thing_of records.old }
+    ensures change { OfRecords (thing_of records.old) result (λ found. (result ≡ gtd_yes)
         → IsNextChange (IsOpen found element (direction_of negative) vehicle) second (day_begin until_day) change.new) }
-    ensures none { OfRecords records.old.loose.value result (λ found. (result ≡ gtd_no)
+    ensures none { OfRecords (thing_of records.old) result (λ found. (result ≡ gtd_no)
         → StaysUntil (IsOpen found element (direction_of negative) vehicle) second (day_begin until_day)) }
-    ensures range { OfRecords records.old.loose.value result
+    ensures range { OfRecords (thing_of records.old) result
         (λ found. HasRange (IsWayHorizon vehicle second until_day) result) }
-    ensures answers { OfRecords records.old.loose.value result (λ found. (result ≤ gtd_memory) × ((result ≡ gtd_kind) → ⊥)) }
+    ensures answers { OfRecords (thing_of records.old) result (λ found. (result ≤ gtd_memory) × ((result ≡ gtd_kind) → ⊥)) }
     ensures untouched { ((result ≡ gtd_yes) → ⊥) → change.new ≡ change.old }
 {
     let Some(thing) = records.take(alloc) else {
@@ -201,7 +201,7 @@ pub extern "C" fn gtd_records_next(
         vehicle,
     };
     let answer = match &*thing {
-        Thing::Records(shared) => way_next(alloc, &shared.records, way, second, until_day, change),
+        Thing::Records(shared) => way_next(alloc, shared.records(), way, second, until_day, change),
         _ => KIND,
     };
     *records = Handle::of(thing);

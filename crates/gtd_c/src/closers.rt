@@ -5,16 +5,16 @@ ghost use Rattle.gtd_core.specs.Limits.{most_rows};
 ghost use Rattle.gtd_core.specs.Seconds.{IsHorizonSecond};
 ghost use Rattle.gtd_records.specs.ClosingRows.{AreClosingRows};
 ghost use Rattle.gtd_report.specs.Run.{IsVehicleType};
-ghost use Rattle.gtd_c.specs.Answers.{IsRange, direction_of, gtd_memory, gtd_range, gtd_short, gtd_yes};
-ghost use Rattle.gtd_c.specs.Handles.{OfRecords};
+ghost use Rattle.gtd_handles.specs.Answers.{IsRange, direction_of, gtd_memory, gtd_range, gtd_short, gtd_yes};
+ghost use Rattle.gtd_handles.specs.Handles.{OfRecords};
 ghost use Rattle.gtd_c.specs.Rows.{AreClosersWritten, AreRowNumbers};
-ghost use Rattle.gtd_c.specs.Writing.{IsWritten};
+ghost use Rattle.gtd_handles.specs.Writing.{IsWritten};
+ghost use Rattle.gtd_handles.specs.Holding.{thing_of};
 
-use crate::answers::{KIND, MEMORY, RANGE, SHORT, YES};
-use crate::handle::{Handle, Thing};
 use crate::horizons::{direction_of, is_second, is_vehicle};
 use crate::records::Way;
 use gtd_core::Sec;
+use gtd_handles::{Handle, KIND, MEMORY, RANGE, SHORT, Thing, YES};
 use gtd_records::Records;
 use std::alloc::Global;
 
@@ -85,12 +85,12 @@ pub extern "C" fn gtd_records_closers(
     rows: &mut [u32],
     count: &mut usize,
 ) -> u32
-    ensures kept { records.new.loose.value ≡ records.old.loose.value }
-    ensures rows { ((result ≡ gtd_yes) ⊎ (result ≡ gtd_short)) → OfRecords records.old.loose.value result (λ found.
+    ensures kept { thing_of records.new ≡ thing_of records.old }
+    ensures rows { ((result ≡ gtd_yes) ⊎ (result ≡ gtd_short)) → OfRecords (thing_of records.old) result (λ found.
         AreClosersWritten found element (direction_of negative) vehicle second result rows.old rows.new count.new) }
-    ensures range { OfRecords records.old.loose.value result
+    ensures range { OfRecords (thing_of records.old) result
         (λ found. IsRange (IsVehicleType vehicle × IsHorizonSecond second) result) }
-    ensures answers { OfRecords records.old.loose.value result
+    ensures answers { OfRecords (thing_of records.old) result
         (λ found. ((result ≡ gtd_yes) ⊎ (result ≡ gtd_short)) ⊎ ((result ≡ gtd_range) ⊎ (result ≡ gtd_memory))) }
     ensures untouched { ((result ≡ gtd_yes) → ⊥) → rows.new ≡ rows.old }
     ensures uncounted { ((result ≡ gtd_yes) → ⊥) → ((result ≡ gtd_short) → ⊥) → count.new ≡ count.old }
@@ -104,7 +104,7 @@ pub extern "C" fn gtd_records_closers(
         vehicle,
     };
     let found = match &*thing {
-        Thing::Records(shared) => closers_of(alloc, &shared.records, way, second),
+        Thing::Records(shared) => closers_of(alloc, shared.records(), way, second),
         _ => Err(KIND),
     };
     *records = Handle::of(thing);

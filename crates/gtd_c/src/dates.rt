@@ -3,12 +3,12 @@
 ghost use Rattle.std.specs.Prelude.{◌≡◌, ◌<◌, ◌↔◌, ◌⊎◌, ◌+◌, ◌*◌, IfSome, IsSome};
 ghost use Rattle.gtd_calendar.specs.Calendar.{day_number};
 ghost use Rattle.gtd_calendar.specs.Clock.{IsClock, IsTimeOf};
-ghost use Rattle.gtd_c.specs.Answers.{IsRange, gtd_range, gtd_yes};
+ghost use Rattle.gtd_handles.specs.Answers.{IsRange, gtd_range, gtd_yes};
 ghost use Rattle.gtd_c.specs.Dates.{IsDay, IsDayOf};
 
-use crate::answers::{RANGE, YES};
 use gtd_calendar::day_of;
 use gtd_core::limits::{DAY_SECONDS, FIRST_HORIZON_DAY, HORIZONS_END};
+use gtd_handles::{RANGE, YES};
 
 // The day of a date from 1901 to 2699.
 fn day_in(year: i64, month: u32, day: u32) -> Option<i64>

@@ -1,6 +1,6 @@
 //! Domains.
 
-ghost use Rattle.std.specs.Prelude.{◌≡◌, ◌≤◌, ◌↔◌, ◌⊎◌, IfOk, IfErr, None, Some};
+ghost use Rattle.std.specs.Prelude.{◌≡◌, ◌≤◌, ◌↔◌, ◌⊎◌, IfOk, IfErr, None};
 ghost use Rattle.gtd_core.specs.Horizons.{IsHorizon};
 ghost use Rattle.gtd_core.specs.Seconds.{IsHorizonSecond, IsMomentSecond};
 ghost use Rattle.gtd_core.specs.Parts.{domain_tree};
@@ -8,19 +8,18 @@ ghost use Rattle.gtd_eval.specs.Ever.{IsFirstChange};
 ghost use Rattle.gtd_eval.specs.Cursors.{cursor_list};
 ghost use Rattle.gtd_eval.specs.Membership.{InDomain, SomeGivesYear};
 ghost use Rattle.gtd_spans.specs.Normal.{IsNormalFor};
-ghost use Rattle.gtd_c.specs.Answers.{IsRange, IsWhether, day_begin, gtd_kind};
-ghost use Rattle.gtd_c.specs.Answers.{gtd_memory, gtd_no, gtd_range, gtd_year, gtd_yes};
+ghost use Rattle.gtd_handles.specs.Answers.{IsRange, IsWhether, day_begin, gtd_kind};
+ghost use Rattle.gtd_handles.specs.Answers.{gtd_memory, gtd_no, gtd_range, gtd_year, gtd_yes};
 ghost use Rattle.gtd_c.specs.Changes.{StaysEver};
 ghost use Rattle.gtd_c.specs.Faults.{IsFirstFault};
-ghost use Rattle.gtd_c.specs.Handles.{AreSpansOf, IsDomainOf, OfDomain};
+ghost use Rattle.gtd_handles.specs.Handles.{AreSpansOf, IsDomainOf, OfDomain};
+ghost use Rattle.gtd_handles.specs.Holding.{thing_of};
 
-use crate::answers::{KIND, MEMORY, NO, RANGE, YEAR, YES};
 use crate::faults::{FaultNumbers, numbers_of};
-use crate::handle::{Handle, Thing};
 use crate::horizons::{is_moment, is_second};
-use crate::openers::open;
 use gtd_core::{Domain, Fault, Horizon, Sec};
 use gtd_eval::{EverFault, KeptCursor, holds, next_change_ever};
+use gtd_handles::{Handle, KIND, MEMORY, NO, RANGE, Thing, YEAR, YES, open, open_spans};
 use gtd_text::read_domain;
 use std::alloc::Global;
 
@@ -32,10 +31,10 @@ pub extern "C" fn gtd_domain_open(
     text: &[u8],
     fault: &mut FaultNumbers,
 ) -> u32
-    ensures opened { (result ≡ gtd_yes) → IsDomainOf text.now domain.new.loose.value }
+    ensures opened { (result ≡ gtd_yes) → IsDomainOf text.now (thing_of domain.new) }
     ensures refused { (result ≡ gtd_no) → IsFirstFault text.now fault.new }
-    ensures kept { (result ≡ gtd_no) → domain.new.loose.value ≡ domain.old.loose.value }
-    ensures emptied { (result ≡ gtd_memory) → domain.new.loose.value ≡ None }
+    ensures kept { (result ≡ gtd_no) → thing_of domain.new ≡ thing_of domain.old }
+    ensures emptied { (result ≡ gtd_memory) → thing_of domain.new ≡ None }
     ensures untouched { ((result ≡ gtd_no) → ⊥) → fault.new ≡ fault.old }
     ensures answers { (result ≤ gtd_memory) × ((result ≡ gtd_range) → ⊥) × ((result ≡ gtd_kind) → ⊥) }
 {
@@ -67,8 +66,8 @@ fn holds_at(domain: &Domain, second: i64) -> u32
 /// Whether the domain contains the second.
 #[unsafe(no_mangle)]
 pub extern "C" fn gtd_domain_holds(alloc: Global, domain: &mut Handle, second: i64) -> u32
-    ensures kept { domain.new.loose.value ≡ domain.old.loose.value }
-    ensures holds { OfDomain domain.old.loose.value result
+    ensures kept { thing_of domain.new ≡ thing_of domain.old }
+    ensures holds { OfDomain (thing_of domain.old) result
         (λ found. IsWhether (IsHorizonSecond second) (InDomain found second) result) }
 {
     let Some(thing) = domain.take(alloc) else {
@@ -114,15 +113,15 @@ pub extern "C" fn gtd_domain_ever(
     second: i64,
     change: &mut i64,
 ) -> u32
-    ensures kept { domain.new.loose.value ≡ domain.old.loose.value }
-    ensures change { OfDomain domain.old.loose.value result
+    ensures kept { thing_of domain.new ≡ thing_of domain.old }
+    ensures change { OfDomain (thing_of domain.old) result
         (λ found. (result ≡ gtd_yes) → IsFirstChange (InDomain found) second change.new) }
-    ensures none { OfDomain domain.old.loose.value result
+    ensures none { OfDomain (thing_of domain.old) result
         (λ found. (result ≡ gtd_no) → StaysEver (InDomain found) second) }
-    ensures range { OfDomain domain.old.loose.value result (λ found. IsRange (IsMomentSecond second) result) }
-    ensures year { OfDomain domain.old.loose.value result
+    ensures range { OfDomain (thing_of domain.old) result (λ found. IsRange (IsMomentSecond second) result) }
+    ensures year { OfDomain (thing_of domain.old) result
         (λ found. (result ≡ gtd_year) ↔ (IsMomentSecond second × SomeGivesYear (domain_tree found))) }
-    ensures answers { OfDomain domain.old.loose.value result (λ found. (result ≤ gtd_year) × ((result ≡ gtd_kind) → ⊥)) }
+    ensures answers { OfDomain (thing_of domain.old) result (λ found. (result ≤ gtd_year) × ((result ≡ gtd_kind) → ⊥)) }
     ensures untouched { ((result ≡ gtd_yes) → ⊥) → change.new ≡ change.old }
 {
     let Some(thing) = domain.take(alloc) else {
@@ -167,12 +166,12 @@ pub extern "C" fn gtd_domain_spans(
     until_day: i64,
     spans: &mut Handle,
 ) -> u32
-    ensures kept { domain.new.loose.value ≡ domain.old.loose.value }
-    ensures spans { (result ≡ gtd_yes) → OfDomain domain.old.loose.value result
-        (λ found. AreSpansOf (InDomain found) from_day until_day spans.new.loose.value) }
-    ensures range { OfDomain domain.old.loose.value result (λ found. IsRange (IsHorizon from_day until_day) result) }
-    ensures emptied { (result ≡ gtd_memory) → spans.new.loose.value ≡ None }
-    ensures untouched { ((result ≡ gtd_yes) → ⊥) → ((result ≡ gtd_memory) → ⊥) → spans.new.loose.value ≡ spans.old.loose.value }
+    ensures kept { thing_of domain.new ≡ thing_of domain.old }
+    ensures spans { (result ≡ gtd_yes) → OfDomain (thing_of domain.old) result
+        (λ found. AreSpansOf (InDomain found) from_day until_day (thing_of spans.new)) }
+    ensures range { OfDomain (thing_of domain.old) result (λ found. IsRange (IsHorizon from_day until_day) result) }
+    ensures emptied { (result ≡ gtd_memory) → thing_of spans.new ≡ None }
+    ensures untouched { ((result ≡ gtd_yes) → ⊥) → ((result ≡ gtd_memory) → ⊥) → thing_of spans.new ≡ thing_of spans.old }
     ensures answers { (result ≤ gtd_memory) × ((result ≡ gtd_no) → ⊥) }
 {
     let Some(thing) = domain.take(alloc) else {
@@ -184,23 +183,4 @@ pub extern "C" fn gtd_domain_spans(
     };
     *domain = Handle::of(thing);
     open_spans(alloc, spans, opened)
-}
-
-/// Opens these spans, or answers why there are none.
-pub(crate) fn open_spans(alloc: Global, spans: &mut Handle, opened: Result<KeptCursor, u32>) -> u32
-    ensures opened { IfOk opened (λ c. ((result ≡ gtd_yes) × (spans.new.loose.value ≡ Some (Thing.Spans c)))
-        ⊎ ((result ≡ gtd_memory) × (spans.new.loose.value ≡ None))) }
-    ensures refused { IfErr opened (λ why. result ≡ why) }
-    ensures emptied { (result ≡ gtd_memory) → spans.new.loose.value ≡ None }
-    ensures untouched { IfErr opened (λ why. ((why ≡ gtd_memory) → ⊥) → spans.new.loose.value ≡ spans.old.loose.value) }
-{
-    match opened {
-        Ok(cursor) => open(alloc, spans, Thing::Spans(cursor)),
-        Err(why) => {
-            if why == MEMORY {
-                *spans = Handle::none(alloc);
-            }
-            why
-        }
-    }
 }

@@ -3,7 +3,7 @@
 ghost use Rattle.std.specs.Prelude.{◌↔◌, IsTrue};
 ghost use Rattle.gtd_core.specs.Seconds.{IsHorizonSecond, IsMomentSecond};
 ghost use Rattle.gtd_report.specs.Run.{IsVehicleType};
-ghost use Rattle.gtd_c.specs.Answers.{direction_of};
+ghost use Rattle.gtd_handles.specs.Answers.{direction_of};
 ghost use Rattle.std.specs.Prelude.{◌≡◌};
 
 use gtd_core::limits::{DAY_SECONDS, FIRST_HORIZON_DAY, FIRST_MOMENT, HORIZONS_END, LAST_MOMENT};

@@ -1,26 +1,22 @@
 //! Time domains and record files for programs in C, and in every language that can call C.
 #![tactic(auto)]
 
-mod answers;
 mod batches;
 mod changes;
 mod closers;
+mod comparisons;
 mod dates;
 mod domains;
+mod ends;
 mod faults;
-mod given;
-mod handle;
 mod horizons;
-mod loose;
+mod hours_faults;
 mod names;
-mod openers;
-mod output;
-mod parts;
+mod opening_hours;
 mod pictures;
 mod questions;
 mod records;
 mod schedules;
-mod shared_records;
 mod shares;
 mod spans;
 mod stamps;

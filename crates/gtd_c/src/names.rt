@@ -2,14 +2,13 @@
 
 ghost use Rattle.std.specs.Prelude.{◌≡◌, IfSome, IsSome, codes};
 ghost use Rattle.std.specs.Prelude.{◌↔◌};
-ghost use Rattle.gtd_c.specs.Answers.{IsRange, gtd_range};
+ghost use Rattle.gtd_handles.specs.Answers.{IsRange, gtd_range};
 ghost use Rattle.gtd_c.specs.Faults.{IsFaultKind, IsRecordFaultKind, fault_number, record_fault_numbers};
 ghost use Rattle.gtd_c.specs.Names.{IsFaultName, IsRecordFaultName};
-ghost use Rattle.gtd_c.specs.Writing.{IsWritten};
+ghost use Rattle.gtd_handles.specs.Writing.{IsWritten};
 
-use crate::answers::RANGE;
-use crate::texts::write;
 use gtd_core::{Fault, TextFault};
+use gtd_handles::{RANGE, write};
 use gtd_records::RecordFault;
 
 // The fault of a text with a number.

@@ -2,15 +2,13 @@
 
 ghost use Rattle.std.specs.Prelude.{◌≡◌, ◌≤◌, ◌⊎◌, IfErr, IfOk, None};
 ghost use Rattle.gtd_report.specs.Run.{IsTableYear};
-ghost use Rattle.gtd_c.specs.Answers.{IsRange, gtd_memory, gtd_no, gtd_range, gtd_yes};
-ghost use Rattle.gtd_c.specs.Handles.{IsTextOf, OfDomain};
+ghost use Rattle.gtd_handles.specs.Answers.{IsRange, gtd_memory, gtd_no, gtd_range, gtd_yes};
+ghost use Rattle.gtd_handles.specs.Handles.{IsTextOf, OfDomain};
 ghost use Rattle.gtd_c.specs.Pictures.{IsPictureText};
+ghost use Rattle.gtd_handles.specs.Holding.{thing_of};
 
-use crate::answers::{KIND, MEMORY, RANGE};
-use crate::handle::{Handle, Thing};
-use crate::output::Collected;
-use crate::texts::open_text;
 use gtd_core::Domain;
+use gtd_handles::{Collected, Handle, KIND, MEMORY, RANGE, Thing, open_text};
 use gtd_picture::put_domain_picture;
 use gtd_text::print_domain;
 use std::alloc::Global;
@@ -45,12 +43,12 @@ pub extern "C" fn gtd_domain_picture(
     year: u32,
     text: &mut Handle,
 ) -> u32
-    ensures kept { domain.new.loose.value ≡ domain.old.loose.value }
-    ensures picture { (result ≡ gtd_yes) → OfDomain domain.old.loose.value result
-        (λ found. IsTextOf (IsPictureText found year) text.new.loose.value) }
-    ensures range { OfDomain domain.old.loose.value result (λ found. IsRange (IsTableYear year) result) }
-    ensures emptied { (result ≡ gtd_memory) → text.new.loose.value ≡ None }
-    ensures untouched { ((result ≡ gtd_yes) → ⊥) → ((result ≡ gtd_memory) → ⊥) → text.new.loose.value ≡ text.old.loose.value }
+    ensures kept { thing_of domain.new ≡ thing_of domain.old }
+    ensures picture { (result ≡ gtd_yes) → OfDomain (thing_of domain.old) result
+        (λ found. IsTextOf (IsPictureText found year) (thing_of text.new)) }
+    ensures range { OfDomain (thing_of domain.old) result (λ found. IsRange (IsTableYear year) result) }
+    ensures emptied { (result ≡ gtd_memory) → thing_of text.new ≡ None }
+    ensures untouched { ((result ≡ gtd_yes) → ⊥) → ((result ≡ gtd_memory) → ⊥) → thing_of text.new ≡ thing_of text.old }
     ensures answers { (result ≤ gtd_memory) × ((result ≡ gtd_no) → ⊥) }
 {
     let Some(thing) = domain.take(alloc) else {

@@ -1,15 +1,15 @@
 //! Many questions of whether elements are closed.
 
 ghost use Rattle.std.specs.Prelude.{◌≡◌, ◌↔◌, IsTrue};
-ghost use Rattle.gtd_c.specs.Answers.{gtd_kind};
+ghost use Rattle.gtd_handles.specs.Answers.{gtd_kind};
 ghost use Rattle.gtd_c.specs.Batches.{AreAnswered};
-ghost use Rattle.gtd_c.specs.Handles.{OfRecords};
+ghost use Rattle.gtd_handles.specs.Handles.{OfRecords};
 ghost use Rattle.gtd_c.specs.Questions.{IsQuestion, IsQuestionClosed, no_question};
+ghost use Rattle.gtd_handles.specs.Holding.{thing_of};
 
-use crate::answers::{KIND, RANGE, SHORT, YES};
-use crate::handle::{Handle, Thing};
 use crate::horizons::{direction_of, is_second, is_vehicle};
 use gtd_core::Sec;
+use gtd_handles::{Handle, KIND, RANGE, SHORT, Thing, YES};
 use gtd_records::Records;
 use std::alloc::Global;
 
@@ -77,8 +77,8 @@ pub extern "C" fn gtd_records_closed_many(
     answers: &mut [u8],
     done: &mut usize,
 ) -> u32
-    ensures kept { records.new.loose.value ≡ records.old.loose.value }
-    ensures answered { OfRecords records.old.loose.value result (λ found.
+    ensures kept { thing_of records.new ≡ thing_of records.old }
+    ensures answered { OfRecords (thing_of records.old) result (λ found.
         AreAnswered IsQuestion (IsQuestionClosed found) questions.now no_question
         result answers.old answers.new done.old done.new) }
     ensures untouched { (result ≡ gtd_kind) → (answers.new ≡ answers.old) × (done.new ≡ done.old) }
@@ -87,7 +87,7 @@ pub extern "C" fn gtd_records_closed_many(
         return KIND;
     };
     let answer = match &*thing {
-        Thing::Records(shared) => close_all(&shared.records, questions, answers, done),
+        Thing::Records(shared) => close_all(shared.records(), questions, answers, done),
         _ => KIND,
     };
     *records = Handle::of(thing);

@@ -9,21 +9,19 @@ ghost use Rattle.gtd_spans.specs.Normal.{IsNormalFor};
 ghost use Rattle.gtd_records.specs.Closing.{IsOpen};
 ghost use Rattle.gtd_records.specs.File.{IsFile, IsOfFile};
 ghost use Rattle.gtd_report.specs.Run.{IsVehicleType};
-ghost use Rattle.gtd_c.specs.Answers.{IsRange, day_begin, direction_of, gtd_kind, gtd_memory, gtd_no, gtd_range, gtd_yes};
+ghost use Rattle.gtd_handles.specs.Answers.{IsRange, day_begin, direction_of, gtd_kind, gtd_memory, gtd_no, gtd_range, gtd_yes};
 ghost use Rattle.gtd_c.specs.Changes.{IsClosedAnswer};
 ghost use Rattle.gtd_c.specs.Faults.{IsFirstRecordFault};
-ghost use Rattle.gtd_c.specs.Handles.{AreRecordsOf, AreSpansOf, IsElementAt, IsElementCount, OfRecords};
+ghost use Rattle.gtd_handles.specs.Handles.{AreRecordsOf, AreSpansOf, IsElementAt, IsElementCount, OfRecords};
+ghost use Rattle.gtd_handles.specs.Holding.{thing_of};
 
-use crate::answers::{KIND, MEMORY, NO, RANGE, YES};
-use crate::domains::open_spans;
 use crate::faults::{RecordFaultNumbers, numbers_of_record_fault};
-use crate::given::Given;
-use crate::handle::{Handle, Thing};
 use crate::horizons::{direction_of, is_second, is_vehicle};
-use crate::openers::open;
-use crate::shared_records::SharedRecords;
 use gtd_core::{Horizon, Sec};
 use gtd_eval::KeptCursor;
+use gtd_handles::{
+    Given, Handle, KIND, MEMORY, NO, RANGE, SharedRecords, Thing, YES, open, open_spans,
+};
 use gtd_records::{Direction, RecordFault, Records, open_seconds, read_records};
 use std::alloc::Global;
 
@@ -47,10 +45,10 @@ pub extern "C" fn gtd_records_open(
     bytes: &[u8],
     fault: &mut RecordFaultNumbers,
 ) -> u32
-    ensures opened { (result ≡ gtd_yes) → AreRecordsOf bytes.now records.new.loose.value }
+    ensures opened { (result ≡ gtd_yes) → AreRecordsOf bytes.now (thing_of records.new) }
     ensures refused { (result ≡ gtd_no) → IsFirstRecordFault bytes.now fault.new }
-    ensures kept { (result ≡ gtd_no) → records.new.loose.value ≡ records.old.loose.value }
-    ensures emptied { (result ≡ gtd_memory) → records.new.loose.value ≡ None }
+    ensures kept { (result ≡ gtd_no) → thing_of records.new ≡ thing_of records.old }
+    ensures emptied { (result ≡ gtd_memory) → thing_of records.new ≡ None }
     ensures untouched { ((result ≡ gtd_no) → ⊥) → fault.new ≡ fault.old }
     ensures answers { (result ≤ gtd_memory) × ((result ≡ gtd_range) → ⊥) × ((result ≡ gtd_kind) → ⊥) }
 {
@@ -80,8 +78,8 @@ pub extern "C" fn gtd_records_count(
     records: &mut Handle,
     elements: &mut usize,
 ) -> u32
-    ensures kept { records.new.loose.value ≡ records.old.loose.value }
-    ensures count { OfRecords records.old.loose.value result
+    ensures kept { thing_of records.new ≡ thing_of records.old }
+    ensures count { OfRecords (thing_of records.old) result
         (λ found. (result ≡ gtd_yes) × IsElementCount found elements.new) }
     ensures untouched { ((result ≡ gtd_yes) → ⊥) → elements.new ≡ elements.old }
 {
@@ -90,7 +88,7 @@ pub extern "C" fn gtd_records_count(
     };
     let answer = match &*thing {
         Thing::Records(shared) => {
-            *elements = shared.records.elements().len();
+            *elements = shared.records().elements().len();
             YES
         }
         _ => KIND,
@@ -122,15 +120,15 @@ pub extern "C" fn gtd_records_element(
     place: usize,
     element: &mut u64,
 ) -> u32
-    ensures kept { records.new.loose.value ≡ records.old.loose.value }
-    ensures element { OfRecords records.old.loose.value result (λ found. IsElementAt found place result element.new) }
+    ensures kept { thing_of records.new ≡ thing_of records.old }
+    ensures element { OfRecords (thing_of records.old) result (λ found. IsElementAt found place result element.new) }
     ensures untouched { ((result ≡ gtd_yes) → ⊥) → element.new ≡ element.old }
 {
     let Some(thing) = records.take(alloc) else {
         return KIND;
     };
     let answer = match &*thing {
-        Thing::Records(shared) => element_at(&shared.records, place, element),
+        Thing::Records(shared) => element_at(shared.records(), place, element),
         _ => KIND,
     };
     *records = Handle::of(thing);
@@ -168,15 +166,15 @@ pub extern "C" fn gtd_records_closed_at(
     vehicle: u8,
     second: i64,
 ) -> u32
-    ensures kept { records.new.loose.value ≡ records.old.loose.value }
-    ensures closed { OfRecords records.old.loose.value result
+    ensures kept { thing_of records.new ≡ thing_of records.old }
+    ensures closed { OfRecords (thing_of records.old) result
         (λ found. IsClosedAnswer found element negative vehicle second result) }
 {
     let Some(thing) = records.take(alloc) else {
         return KIND;
     };
     let answer = match &*thing {
-        Thing::Records(shared) => closed_at(&shared.records, element, negative, vehicle, second),
+        Thing::Records(shared) => closed_at(shared.records(), element, negative, vehicle, second),
         _ => KIND,
     };
     *records = Handle::of(thing);
@@ -238,13 +236,13 @@ pub extern "C" fn gtd_records_spans(
     until_day: i64,
     spans: &mut Handle,
 ) -> u32
-    ensures kept { records.new.loose.value ≡ records.old.loose.value }
-    ensures spans { (result ≡ gtd_yes) → OfRecords records.old.loose.value result
-        (λ found. AreSpansOf (IsOpen found element (direction_of negative) vehicle) from_day until_day spans.new.loose.value) }
-    ensures range { OfRecords records.old.loose.value result
+    ensures kept { thing_of records.new ≡ thing_of records.old }
+    ensures spans { (result ≡ gtd_yes) → OfRecords (thing_of records.old) result
+        (λ found. AreSpansOf (IsOpen found element (direction_of negative) vehicle) from_day until_day (thing_of spans.new)) }
+    ensures range { OfRecords (thing_of records.old) result
         (λ found. IsRange (IsVehicleType vehicle × IsHorizon from_day until_day) result) }
-    ensures emptied { (result ≡ gtd_memory) → spans.new.loose.value ≡ None }
-    ensures untouched { ((result ≡ gtd_yes) → ⊥) → ((result ≡ gtd_memory) → ⊥) → spans.new.loose.value ≡ spans.old.loose.value }
+    ensures emptied { (result ≡ gtd_memory) → thing_of spans.new ≡ None }
+    ensures untouched { ((result ≡ gtd_yes) → ⊥) → ((result ≡ gtd_memory) → ⊥) → thing_of spans.new ≡ thing_of spans.old }
     ensures answers { (result ≤ gtd_memory) × ((result ≡ gtd_no) → ⊥) }
 {
     let Some(thing) = records.take(alloc) else {
@@ -256,7 +254,7 @@ pub extern "C" fn gtd_records_spans(
         vehicle,
     };
     let opened = match &*thing {
-        Thing::Records(shared) => spans_of(alloc, &shared.records, way, from_day, until_day),
+        Thing::Records(shared) => spans_of(alloc, shared.records(), way, from_day, until_day),
         _ => Err(KIND),
     };
     *records = Handle::of(thing);

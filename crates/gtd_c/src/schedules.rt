@@ -1,19 +1,18 @@
 //! Schedules.
 
-ghost use Rattle.std.specs.Prelude.{◌≡◌, ◌≤◌, ◌⊎◌, IfOk, IfErr, None, Some};
+ghost use Rattle.std.specs.Prelude.{◌≡◌, ◌≤◌, ◌⊎◌, IfOk, IfErr, None, length};
 ghost use Rattle.gtd_core.specs.Horizons.{IsHorizon};
+ghost use Rattle.gtd_core.specs.Limits.{most_rows};
 ghost use Rattle.gtd_report.specs.Run.{IsVehicleType};
-ghost use Rattle.gtd_c.specs.Answers.{IsRange, gtd_memory, gtd_no, gtd_range, gtd_yes};
-ghost use Rattle.gtd_c.specs.Handles.{IsTextOf, OfRecords};
+ghost use Rattle.gtd_handles.specs.Answers.{IsRange, gtd_memory, gtd_no, gtd_range, gtd_yes};
+ghost use Rattle.gtd_handles.specs.Handles.{IsTextOf, OfRecords};
 ghost use Rattle.gtd_c.specs.Schedules.{IsScheduleText};
+ghost use Rattle.gtd_handles.specs.Holding.{thing_of};
 
-use crate::answers::{KIND, MEMORY, RANGE};
-use crate::handle::{Handle, Thing};
 use crate::horizons::is_vehicle;
-use crate::output::Collected;
-use crate::shared_records::SharedRecords;
-use crate::texts::open_text;
 use gtd_core::Horizon;
+use gtd_handles::{Collected, Handle, KIND, MEMORY, RANGE, Thing, open_text};
+use gtd_records::Records;
 use gtd_report::{Progress, Report};
 use gtd_schedule::Schedule;
 use std::alloc::Global;
@@ -21,12 +20,13 @@ use std::alloc::Global;
 // The schedule of the records over the days, or why there is none.
 fn schedule_of(
     alloc: Global,
-    shared: &SharedRecords,
+    records: &Records,
     from_day: i64,
     until_day: i64,
     vehicle: u8,
 ) -> Result<Vec<u8>, u32>
-    ensures schedule { IfOk result (λ bytes. IsScheduleText shared.now.records.value vehicle from_day until_day bytes.items) }
+    requires few { length records.now ≤ most_rows }
+    ensures schedule { IfOk result (λ bytes. IsScheduleText records.now vehicle from_day until_day bytes.items) }
     ensures refused { IfErr result (λ why.
         ((why ≡ gtd_range) × ((IsVehicleType vehicle × IsHorizon from_day until_day) → ⊥))
         ⊎ ((why ≡ gtd_memory) × (IsVehicleType vehicle × IsHorizon from_day until_day))) }
@@ -41,7 +41,7 @@ fn schedule_of(
     let schedule = Schedule { horizon, vehicle };
     let mut output = Collected::new(alloc);
     let mut progress = Progress::new();
-    match schedule.put(alloc, &mut output, &mut progress, &shared.records) {
+    match schedule.put(alloc, &mut output, &mut progress, records) {
         Ok(()) => Ok(output.into_bytes()),
         Err(_) => Err(MEMORY),
     }
@@ -57,20 +57,26 @@ pub extern "C" fn gtd_records_schedule(
     vehicle: u8,
     text: &mut Handle,
 ) -> u32
-    ensures kept { records.new.loose.value ≡ records.old.loose.value }
-    ensures schedule { (result ≡ gtd_yes) → OfRecords records.old.loose.value result
-        (λ found. IsTextOf (IsScheduleText found vehicle from_day until_day) text.new.loose.value) }
-    ensures range { OfRecords records.old.loose.value result
+    ensures kept { thing_of records.new ≡ thing_of records.old }
+    ensures schedule { (result ≡ gtd_yes) → OfRecords (thing_of records.old) result
+        (λ found. IsTextOf (IsScheduleText found vehicle from_day until_day) (thing_of text.new)) }
+    ensures range { OfRecords (thing_of records.old) result
         (λ found. IsRange (IsVehicleType vehicle × IsHorizon from_day until_day) result) }
-    ensures emptied { (result ≡ gtd_memory) → text.new.loose.value ≡ None }
-    ensures untouched { ((result ≡ gtd_yes) → ⊥) → ((result ≡ gtd_memory) → ⊥) → text.new.loose.value ≡ text.old.loose.value }
+    ensures emptied { (result ≡ gtd_memory) → thing_of text.new ≡ None }
+    ensures untouched { ((result ≡ gtd_yes) → ⊥) → ((result ≡ gtd_memory) → ⊥) → thing_of text.new ≡ thing_of text.old }
     ensures answers { (result ≤ gtd_memory) × ((result ≡ gtd_no) → ⊥) }
 {
     let Some(thing) = records.take(alloc) else {
         return KIND;
     };
     let made = match &*thing {
-        Thing::Records(shared) => schedule_of(alloc, shared, from_day, until_day, vehicle),
+        Thing::Records(shared) => schedule_of(
+            alloc,
+            shared.records(),
+            from_day,
+            until_day,
+            vehicle,
+        ),
         _ => Err(KIND),
     };
     *records = Handle::of(thing);

@@ -2,12 +2,12 @@
 
 ghost use Rattle.std.specs.Prelude.{◌≡◌, ◌≤◌, ◌∷◌, []};
 ghost use Rattle.gtd_eval.specs.Cursors.{cursor_list};
-ghost use Rattle.gtd_c.specs.Answers.{gtd_kind, gtd_no, gtd_yes};
-ghost use Rattle.gtd_c.specs.Handles.{IsSpanTaken};
+ghost use Rattle.gtd_handles.specs.Answers.{gtd_kind, gtd_no, gtd_yes};
+ghost use Rattle.gtd_handles.specs.Handles.{IsSpanTaken};
+ghost use Rattle.gtd_handles.specs.Holding.{thing_of};
 
-use crate::answers::{KIND, NO, YES};
-use crate::handle::{Handle, Thing};
 use gtd_eval::KeptCursor;
+use gtd_handles::{Handle, KIND, NO, Thing, YES};
 use gtd_spans::SpanSource;
 use std::alloc::Global;
 
@@ -38,9 +38,9 @@ pub extern "C" fn gtd_spans_next(
     from: &mut i64,
     until: &mut i64,
 ) -> u32
-    ensures taken { IsSpanTaken spans.old.loose.value spans.new.loose.value result from.new until.new }
+    ensures taken { IsSpanTaken (thing_of spans.old) (thing_of spans.new) result from.new until.new }
     ensures untouched { ((result ≡ gtd_yes) → ⊥) → (from.new ≡ from.old) × (until.new ≡ until.old) }
-    ensures kept { (result ≡ gtd_kind) → spans.new.loose.value ≡ spans.old.loose.value }
+    ensures kept { (result ≡ gtd_kind) → thing_of spans.new ≡ thing_of spans.old }
 {
     let Some(mut thing) = spans.take(alloc) else {
         return KIND;

@@ -4,15 +4,14 @@ ghost use Rattle.std.specs.Prelude.{◌≡◌};
 ghost use Rattle.gtd_core.specs.Seconds.{day_of_second};
 ghost use Rattle.gtd_calendar.specs.Calendar.{IsCalendarDay};
 ghost use Rattle.gtd_calendar.specs.Stamp.{stamp_text};
-ghost use Rattle.gtd_c.specs.Answers.{IsRange, gtd_range};
+ghost use Rattle.gtd_handles.specs.Answers.{IsRange, gtd_range};
 ghost use Rattle.gtd_c.specs.Dates.{IsDay};
-ghost use Rattle.gtd_c.specs.Writing.{IsWritten};
+ghost use Rattle.gtd_handles.specs.Writing.{IsWritten};
 
-use crate::answers::RANGE;
-use crate::texts::write;
 use gtd_calendar::write_stamp;
 use gtd_core::Sec;
 use gtd_core::limits::{FIRST_HORIZON_DAY, HORIZONS_END};
+use gtd_handles::{RANGE, write};
 
 // Writes the text of the second, and its length.
 fn write_text(second: Sec, out: &mut [u8], length: &mut usize) -> u32

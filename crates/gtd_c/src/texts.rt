@@ -1,32 +1,19 @@
 //! Texts.
 
-ghost use Rattle.std.specs.Prelude.{◌≡◌, ◌⊎◌, IfOk, IfErr, None, Some};
+ghost use Rattle.std.specs.Prelude.{◌≡◌, ◌⊎◌, IfOk, IfErr, None};
 ghost use Rattle.gtd_core.specs.Parts.{domain_tree};
 ghost use Rattle.gtd_text.specs.Canonical.{canonical};
 ghost use Rattle.gtd_words.specs.Words.{words};
-ghost use Rattle.gtd_c.specs.Answers.{gtd_kind, gtd_memory, gtd_yes};
-ghost use Rattle.gtd_c.specs.Handles.{IsTextOf, OfDomain, OfText};
-ghost use Rattle.gtd_c.specs.Writing.{IsWritten};
+ghost use Rattle.gtd_handles.specs.Answers.{gtd_kind, gtd_memory, gtd_yes};
+ghost use Rattle.gtd_handles.specs.Handles.{IsTextOf, OfDomain, OfText};
+ghost use Rattle.gtd_handles.specs.Writing.{IsWritten};
+ghost use Rattle.gtd_handles.specs.Holding.{thing_of};
 
-use crate::answers::{KIND, MEMORY, SHORT, YES};
-use crate::handle::{Handle, Thing};
-use crate::openers::open;
 use gtd_core::Domain;
+use gtd_handles::{Handle, KIND, MEMORY, Thing, open_text, write};
 use gtd_text::print_domain;
 use gtd_words::write_words;
-use std::alloc::{AllocError, Global};
-
-/// Writes bytes to the front of a buffer, and their number: yes. If there is too little room, the number alone.
-pub(crate) fn write(bytes: &[u8], out: &mut [u8], length: &mut usize) -> u32
-    ensures written { IsWritten bytes.now result out.old out.new length.new }
-{
-    *length = bytes.len();
-    if bytes.len() > out.len() {
-        return SHORT;
-    }
-    out[..bytes.len()].copy_from_slice(bytes);
-    YES
-}
+use std::alloc::Global;
 
 /// The bytes of a text: yes, and their number. If there is too little room, their number alone.
 #[unsafe(no_mangle)]
@@ -36,8 +23,8 @@ pub extern "C" fn gtd_text_bytes(
     out: &mut [u8],
     length: &mut usize,
 ) -> u32
-    ensures kept { text.new.loose.value ≡ text.old.loose.value }
-    ensures written { OfText text.old.loose.value result (λ bytes. IsWritten bytes result out.old out.new length.new) }
+    ensures kept { thing_of text.new ≡ thing_of text.old }
+    ensures written { OfText (thing_of text.old) result (λ bytes. IsWritten bytes result out.old out.new length.new) }
     ensures untouched { (result ≡ gtd_kind) → (out.new ≡ out.old) × (length.new ≡ length.old) }
 {
     let Some(thing) = text.take(alloc) else {
@@ -49,25 +36,6 @@ pub extern "C" fn gtd_text_bytes(
     };
     *text = Handle::of(thing);
     answer
-}
-
-/// Opens a text of these bytes, or answers why there is none.
-pub(crate) fn open_text(alloc: Global, text: &mut Handle, made: Result<Vec<u8>, u32>) -> u32
-    ensures opened { IfOk made (λ bytes. ((result ≡ gtd_yes) × (text.new.loose.value ≡ Some (Thing.Text bytes)))
-        ⊎ ((result ≡ gtd_memory) × (text.new.loose.value ≡ None))) }
-    ensures refused { IfErr made (λ why. result ≡ why) }
-    ensures emptied { (result ≡ gtd_memory) → text.new.loose.value ≡ None }
-    ensures untouched { IfErr made (λ why. ((why ≡ gtd_memory) → ⊥) → text.new.loose.value ≡ text.old.loose.value) }
-{
-    match made {
-        Ok(bytes) => open(alloc, text, Thing::Text(bytes)),
-        Err(why) => {
-            if why == MEMORY {
-                *text = Handle::none(alloc);
-            }
-            why
-        }
-    }
 }
 
 // The canonical text of the domain.
@@ -84,12 +52,12 @@ fn canon_of(alloc: Global, domain: &Domain) -> Result<Vec<u8>, u32>
 /// Opens the canonical text of the domain.
 #[unsafe(no_mangle)]
 pub extern "C" fn gtd_domain_canon(alloc: Global, domain: &mut Handle, text: &mut Handle) -> u32
-    ensures kept { domain.new.loose.value ≡ domain.old.loose.value }
-    ensures canon { (result ≡ gtd_yes) → OfDomain domain.old.loose.value result
-        (λ found. IsTextOf (λ bytes. bytes ≡ canonical (domain_tree found)) text.new.loose.value) }
-    ensures answers { OfDomain domain.old.loose.value result (λ found. (result ≡ gtd_yes) ⊎ (result ≡ gtd_memory)) }
-    ensures emptied { (result ≡ gtd_memory) → text.new.loose.value ≡ None }
-    ensures untouched { (result ≡ gtd_kind) → text.new.loose.value ≡ text.old.loose.value }
+    ensures kept { thing_of domain.new ≡ thing_of domain.old }
+    ensures canon { (result ≡ gtd_yes) → OfDomain (thing_of domain.old) result
+        (λ found. IsTextOf (λ bytes. bytes ≡ canonical (domain_tree found)) (thing_of text.new)) }
+    ensures answers { OfDomain (thing_of domain.old) result (λ found. (result ≡ gtd_yes) ⊎ (result ≡ gtd_memory)) }
+    ensures emptied { (result ≡ gtd_memory) → thing_of text.new ≡ None }
+    ensures untouched { (result ≡ gtd_kind) → thing_of text.new ≡ thing_of text.old }
 {
     let Some(thing) = domain.take(alloc) else {
         return KIND;
@@ -116,12 +84,12 @@ fn words_of(alloc: Global, domain: &Domain) -> Result<Vec<u8>, u32>
 /// Opens the words of the domain, in plain English.
 #[unsafe(no_mangle)]
 pub extern "C" fn gtd_domain_words(alloc: Global, domain: &mut Handle, text: &mut Handle) -> u32
-    ensures kept { domain.new.loose.value ≡ domain.old.loose.value }
-    ensures words { (result ≡ gtd_yes) → OfDomain domain.old.loose.value result
-        (λ found. IsTextOf (λ bytes. bytes ≡ words (domain_tree found)) text.new.loose.value) }
-    ensures answers { OfDomain domain.old.loose.value result (λ found. (result ≡ gtd_yes) ⊎ (result ≡ gtd_memory)) }
-    ensures emptied { (result ≡ gtd_memory) → text.new.loose.value ≡ None }
-    ensures untouched { (result ≡ gtd_kind) → text.new.loose.value ≡ text.old.loose.value }
+    ensures kept { thing_of domain.new ≡ thing_of domain.old }
+    ensures words { (result ≡ gtd_yes) → OfDomain (thing_of domain.old) result
+        (λ found. IsTextOf (λ bytes. bytes ≡ words (domain_tree found)) (thing_of text.new)) }
+    ensures answers { OfDomain (thing_of domain.old) result (λ found. (result ≡ gtd_yes) ⊎ (result ≡ gtd_memory)) }
+    ensures emptied { (result ≡ gtd_memory) → thing_of text.new ≡ None }
+    ensures untouched { (result ≡ gtd_kind) → thing_of text.new ≡ thing_of text.old }
 {
     let Some(thing) = domain.take(alloc) else {
         return KIND;

@@ -1,8 +1,6 @@
 use Rattle.std.proofs.Common.{◌≡◌, ◌∙◌, sym, subst, List, ℕ, to_z-of_z}
 use Rattle.std.specs.Prelude.{Option, Some, []}
 use Rattle.std.specs.Io.KnownBytes.{Appends}
-use Rattle.gtd_records.specs.Closing.{Restriction}
-use Rattle.gtd_schedule.specs.Schedule.{IsSchedule}
 use Rattle.gtd_c.proofs.schedules.schedule_of.Goals as goal
 
 -- what was appended to nothing is all that there is
@@ -22,7 +20,6 @@ returns-in-Ok-put-clause-schedule c =
       begins = days.0 ∙ to_z-of_z c.ranges.from_day;
       ends = days.1 ∙ to_z-of_z c.ranges.until_day;
       lines = put.0;
-      schedule = subst (λ (found : List Restriction). IsSchedule found c.args.vehicle c.in-Ok.horizon put.0) c.deref.ensures
-          put.1;
+      schedule = put.1;
       text = all_of _ _ _ _ c.new-output.ensures.bytes c.into_bytes.ensures.taken put.2.0;
     }

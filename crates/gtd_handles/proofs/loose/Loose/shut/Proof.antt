@@ -1,0 +1,58 @@
+-- `shut` keeps the pointer and the allocator.
+use Rattle.std.proofs.Common.{◌≡◌, List, [], ◌∷◌, ◌++◌, refl, sym, subst}
+use mir.Syntax.{Fn}
+use mir.Val.{Val, vptr}
+use base.Logic.{SProp, ent, emp, id⊢}
+use base.Fml.{ftrue}
+use prog.Wp.{WpFn}
+use types.Kit.{‵, raw, ◌⊛◌, ◌$◌, ◌∵◌, !, qed, by, move, keep, drop, use0, split, fsplit, fjoin, suffices}
+use types.Part.{whole, sub, agg}
+use types.Run.{stop, fld, of_opd, no_more, and_then, returns, enter}
+use types.ByLocal.{alloc_all, pass_all, free_all, look_at, get, get_in, sets}
+use contract.Monad.{fact, fact_i}
+use contract.Running.{tables}
+use denote.RattleType.{RattleType, owns}
+use denote.RawPtr.{block_ptr}
+use denote.Signature.{types_at, plain}
+use denote.Steps.{nothing}
+use denote.Triple.Entry.{alive}
+use denote.Triple.Walked.{Stays, stay_dropped, walk_of}
+use Rattle.core.proofs.alloc.Calls.{Goes-blank}
+use Rattle.std.proofs.raw_atomic.Walks.{proved_at, leaves}
+use Rattle.std.proofs.alloc.Global.TheLaws as heap_laws
+use Rattle.std.specs.contracts.impls.GlobalAllocator.TheImpl.{ghosts}
+use Rattle.std.specs.Prelude.{Some}
+use Rattle.gtd_handles.specs.contracts.handle.Thing.{the_row as thing}
+use Rattle.gtd_handles.proofs.Values.{both, Loose as Parts, loose_good, loose_out}
+use Rattle.gtd_handles.proofs.Shut.{Z, Loose, shut_in}
+use Rattle.gtd_handles.specs.contracts.loose.Loose.shut.{ended, clauses}
+use Rattle.gtd_handles.specs.contracts.loose.Loose.shut.Key.{name as #self}
+use Rattle.gtd_handles.proofs.loose.Loose.shut.Statement.{statement}
+use Rattle.gtd_handles.proofs.loose.Loose.shut.Code as code
+
+pub shut_spec : {M : Type 1} → statement M
+shut_spec 𝓤 𝓛 𝓜 𝓡 wired =
+    let H = 𝓛.H in let C = (tables 𝓤 H 𝓜 𝓡 𝓡.env).C in let Λ = (tables 𝓤 H 𝓜 𝓡 𝓡.env).Λ in let En = ended in
+    let c = clauses 𝓛 𝓜.mem 𝓡.returns in let fn : Fn = code.function in
+    let P : RattleType = Parts thing Z heap_laws.the_row_laws ghosts in
+    let hs : Stays En.signature.params En.kept = (stay_dropped (plain (λ _. P)) En.kept.0, tt) in
+    proved_at 𝓛 En hs c 𝓜 𝓡 (Goes-blank 𝓛 0 (plain (λ _. P)) En.kept.0 (λ κs x f. tt), tt) #self fn (code.unfolded 𝓤 H 𝓜 𝓡 wired)
+    (λ z are.
+    let Post : Val → SProp 𝓤 = (walk_of 𝓛 En hs c).post z in let Run : List Val → SProp 𝓤 = λ ws. WpFn 𝓤 H C Λ fn ws Post in
+    let v = z.0.3.0 in let a = v.alloc in
+    qed 𝓛 ((raw (alive 𝓛 En.signature z.0.0 z.0.1) ⊛ ‵ (owns (types_at En.signature.params z.0.0) z.0.3 z.0.4)) ∷ ‵ ftrue ∷ []) ∵
+    move ! (1 ∷ []) $ drop ! $ split ! $ move ! (1 ∷ []) $ fsplit ! $
+    loose_out thing Z heap_laws.the_row_laws ghosts ! v z.0.4.0 (λ b o h e ws fits.
+    let w : Val = both (vptr b o) h in let typed = loose_good thing Z heap_laws.the_row_laws ghosts b o h fits in
+    suffices ! (Run (w ∷ [])) (subst (λ (us : List Val). ent 𝓤 (Run (w ∷ [])) (Run us)) (sym (λ i. ws i ++ []))
+    (id⊢ 𝓤 (Run (w ∷ [])))) $
+    enter ! C Λ fn (w ∷ []) Post $ alloc_all ! (λ l. pass_all ! refl (typed, tt) $
+    sets ! (of_opd ! (get_in ! (fld ! refl (stop !)) (sub ! 0 refl (whole !)))) refl (tt, tt) $
+    sets ! (of_opd ! (get_in ! (fld ! refl (stop !)) (sub ! 1 refl (whole !)))) refl fits $
+    sets ! (of_opd ! (get ! refl)) refl (tt, tt) $
+    sets ! (agg ! (and_then ! (get ! refl) (and_then ! (get ! refl) (no_more !)))) refl typed $
+    let y : Loose.Denot = record { at = block_ptr b o; alloc = a; value = Some v.value } in
+    shut_in ! y h $ use0 𝓛 (raw (fact 𝓤 (Some v.value ≡ Some v.value))) (fact_i 𝓤 (Some v.value ≡ Some v.value) (emp 𝓤) refl) $
+    nothing ! $ nothing ! $ fjoin ! $
+    returns ! (look_at ! 0 refl) $ free_all ! refl $ keep ! (4 ∷ 0 ∷ 2 ∷ 1 ∷ []) $
+    by ! (leaves 𝓛 En hs c z w y (tt, tt) (tt, tt)))))

@@ -1,0 +1,11 @@
+pub mod Owned
+pub mod Answers
+pub mod Handles
+pub mod Holding
+pub mod Writing
+pub use Rattle.gtd_core.specs.Parts
+pub use Rattle.gtd_eval.specs.Cursors
+pub use Rattle.gtd_records.specs.Closing
+pub use Rattle.gtd_records.specs.File
+pub use Rattle.gtd_spans.specs.Normal
+pub use Rattle.gtd_text.specs.Reading
