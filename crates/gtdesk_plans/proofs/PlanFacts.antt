@@ -9,7 +9,7 @@ use Rattle.clap.specs.declared.error.Error.{Error}
 use Rattle.clap.specs.declared.error.kind.ErrorKind.{ErrorKind}
 use Rattle.clap.specs.declared.error.kind.ErrorKind.TheVariants as error
 use Rattle.gtd_core.specs.declared.second.Sec.{Sec}
-use Rattle.gtd_calendar.specs.Read.{stamp_in}
+use Rattle.gtd_moments.specs.Moments.{moment_in}
 use Rattle.gtd_calendar.specs.declared.stamp.StampFault.{StampFault}
 use Rattle.gtd_records.specs.Columns.{direction_of, number_of}
 use Rattle.gtd_text.specs.Reading.{HasNoFault}
@@ -162,7 +162,7 @@ sound (Given.for_picture_domain text year) p h = domain_sound text year p h
 now_apart : (file moment vehicle : Text) (r : Refusal) → IsSound (Given.for_now file moment vehicle)
     → IsNowFault moment vehicle r → ⊥
 now_apart file moment vehicle (refusal.Usage why) s h = h
-now_apart file moment vehicle (refusal.Moment why) s h = ok_or_err (stamp_in moment) s.0.0 why s.0.1 h
+now_apart file moment vehicle (refusal.Moment why) s h = ok_or_err (moment_in moment) s.0.0 why s.0.1 h
 now_apart file moment vehicle refusal.Vehicle s h = h.1 s.1.0 s.1.1.0 s.1.1.1
 now_apart file moment vehicle (refusal.Word why) s h = h
 now_apart file moment vehicle (refusal.Pair why) s h = h
@@ -227,7 +227,7 @@ of_pair_apart is none refusal.Memory h = h
 
 no_from_fault : (from : Option Text) (s : Sec) → IsFromWord from s → (why : StampFault) → IsFromFault from why → ⊥
 no_from_fault None s is why h = h
-no_from_fault (Some text) s is why h = ok_or_err (stamp_in text) s why is h
+no_from_fault (Some text) s is why h = ok_or_err (moment_in text) s why is h
 
 no_pair_fault : (first second : Text) (from : Option Text) → IsSound (Given.for_same first second from) → (why : PairFault)
     → IsPairFault first second from why → ⊥
@@ -250,11 +250,11 @@ apart (Given.for_picture_domain text year) r s h =
 
 -- ---- one word is the first that stands for nothing
 
-one_moment : (moment vehicle : Text) (a : StampFault) (r : Refusal) → stamp_in moment ≡ Err a → IsNowFault moment vehicle r
+one_moment : (moment vehicle : Text) (a : StampFault) (r : Refusal) → moment_in moment ≡ Err a → IsNowFault moment vehicle r
     → r ≡ refusal.Moment a
 one_moment moment vehicle a (refusal.Usage why) h k = absurd k
-one_moment moment vehicle a (refusal.Moment why) h k = ap refusal.Moment (one_err (stamp_in moment) why a k h)
-one_moment moment vehicle a refusal.Vehicle h k = absurd (ok_or_err (stamp_in moment) k.0.0 a k.0.1 h)
+one_moment moment vehicle a (refusal.Moment why) h k = ap refusal.Moment (one_err (moment_in moment) why a k h)
+one_moment moment vehicle a refusal.Vehicle h k = absurd (ok_or_err (moment_in moment) k.0.0 a k.0.1 h)
 one_moment moment vehicle a (refusal.Word why) h k = absurd k
 one_moment moment vehicle a (refusal.Pair why) h k = absurd k
 one_moment moment vehicle a refusal.NoHours h k = absurd k
@@ -267,7 +267,7 @@ one_moment moment vehicle a refusal.Memory h k = absurd k
 
 one_vehicle : (moment vehicle : Text) (r : Refusal) → IsMomentWord moment → IsNowFault moment vehicle r → r ≡ refusal.Vehicle
 one_vehicle moment vehicle (refusal.Usage why) h k = absurd k
-one_vehicle moment vehicle (refusal.Moment why) h k = absurd (ok_or_err (stamp_in moment) h.0 why h.1 k)
+one_vehicle moment vehicle (refusal.Moment why) h k = absurd (ok_or_err (moment_in moment) h.0 why h.1 k)
 one_vehicle moment vehicle refusal.Vehicle h k = refl
 one_vehicle moment vehicle (refusal.Word why) h k = absurd k
 one_vehicle moment vehicle (refusal.Pair why) h k = absurd k
@@ -408,7 +408,7 @@ one_of_pair is one refusal.Memory s h k = absurd h
 
 one_from_fault : (from : Option Text) (a b : StampFault) → IsFromFault from a → IsFromFault from b → a ≡ b
 one_from_fault None a b h k = absurd h
-one_from_fault (Some text) a b h k = one_err (stamp_in text) a b h k
+one_from_fault (Some text) a b h k = one_err (moment_in text) a b h k
 
 one_pair_fault : (first second : Text) (from : Option Text) (x y : PairFault) → IsPairFault first second from x
     → IsPairFault first second from y → x ≡ y

@@ -1,5 +1,5 @@
 -- Which words of a command are given.
-use Rattle.std.specs.Prelude.{◌≡◌, ◌⊎◌, Bool, false, List, [], Option, Some, None, codes, option_and_then, option_map}
+use Rattle.std.specs.Prelude.{◌≡◌, ◌⊎◌, Bool, false, List, [], ◌∷◌, Option, Some, None, codes, option_and_then, option_map}
 use Rattle.std.specs.Prelude.{if◌then◌else◌}
 use Rattle.std.specs.Str.{bytes_eq}
 use Rattle.clap.specs.Walk.{Row, first_of}
@@ -110,6 +110,14 @@ given_in found =
 -- The command among the words of a command line.
 abbrev pub given_by : List Text → Option Given
 given_by words = option_and_then given_in (subcommand_of desk_app words)
+
+-- What is read: without words, the program is asked for its help.
+abbrev pub help_words : List Text
+help_words = codes "--help" ∷ []
+
+abbrev pub asked_words : List Text → List Text
+asked_words [] = help_words
+asked_words (word ∷ words) = word ∷ words
 
 -- The words give this command, with all of its words and no fault.
 pub record Give (words : List Text) (given : Given) : Type 0 where

@@ -1,6 +1,6 @@
 -- What a command line asks for, and why it is refused.
 use Rattle.std.specs.Prelude.{◌≡◌, ◌++◌, Bool, List, Option, Some, None, Ok, Err, codes, string_bytes}
-use Rattle.gtd_calendar.specs.Read.{stamp_in}
+use Rattle.gtd_moments.specs.Moments.{moment_in}
 use Rattle.clap.specs.declared.error.kind.ErrorKind.{ErrorKind}
 use Rattle.clap.specs.declared.error.kind.ErrorKind.TheVariants.{DisplayVersion}
 use Rattle.gtdesk_plans.specs.CommandLine.{AskForText, Text, version_line}
@@ -17,7 +17,7 @@ use Rattle.gtdesk_plans.specs.declared.refusal.WordFault.{WordFault}
 -- The plan that each command asks for.
 abbrev pub IsNowPlan : Text → Text → Text → Plan → Type 0
 IsNowPlan file moment vehicle (plan.Now f m v) =
-    (string_bytes f ≡ file) × (stamp_in moment ≡ Ok m.second) × IsVehicleWord vehicle v
+    (string_bytes f ≡ file) × (moment_in moment ≡ Ok m.second) × IsVehicleWord vehicle v
 IsNowPlan file moment vehicle other = ⊥
 
 abbrev pub IsFaultsPlan : Text → Bool → Plan → Type 0
@@ -76,7 +76,7 @@ Asks (Given.for_picture_domain text year) p = IsDomainPlan text year p
 
 -- The first of the words of `now` that stands for nothing; and of commands whose faults are those of `WordFault`.
 abbrev pub IsNowFault : Text → Text → Refusal → Type 0
-IsNowFault moment vehicle (refusal.Moment why) = stamp_in moment ≡ Err why
+IsNowFault moment vehicle (refusal.Moment why) = moment_in moment ≡ Err why
 IsNowFault moment vehicle refusal.Vehicle = IsMomentWord moment × IsNoVehicle vehicle
 IsNowFault moment vehicle other = ⊥
 

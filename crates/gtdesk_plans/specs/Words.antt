@@ -1,6 +1,6 @@
 -- What the single words of a command stand for.
 use Rattle.std.specs.Prelude.{◌≡◌, ◌*ℤ◌, ℕ, pos, Option, Some, None, Ok, Err, IsSome}
-use Rattle.gtd_calendar.specs.Read.{stamp_in}
+use Rattle.gtd_moments.specs.Moments.{moment_in}
 use Rattle.gtd_calendar.specs.declared.stamp.StampFault.{StampFault}
 use Rattle.gtd_core.specs.Limits.{day_seconds, first_horizon_day}
 use Rattle.gtd_core.specs.Parts.{domain_tree}
@@ -21,7 +21,7 @@ use Rattle.gtdesk_plans.specs.declared.refusal.WordFault.TheVariants as fault
 
 -- The word stands for a moment.
 abbrev pub IsMomentWord : Text → Type 0
-IsMomentWord text = (second : Sec) × (stamp_in text ≡ Ok second)
+IsMomentWord text = (second : Sec) × (moment_in text ≡ Ok second)
 
 -- The word stands for a vehicle type.
 abbrev pub IsVehicleWord : Text → ℕ → Type 0
@@ -82,11 +82,11 @@ IsWordOfDomainFault domain other = ⊥
 -- The word, which may be left out, stands for the second: without it, that is 1901-01-01T00:00:00.
 abbrev pub IsFromWord : Option Text → Sec → Type 0
 IsFromWord None second = second.0 ≡ first_horizon_day *ℤ pos day_seconds
-IsFromWord (Some text) second = stamp_in text ≡ Ok second
+IsFromWord (Some text) second = moment_in text ≡ Ok second
 
 abbrev pub IsFromFault : Option Text → StampFault → Type 0
 IsFromFault None why = ⊥
-IsFromFault (Some text) why = stamp_in text ≡ Err why
+IsFromFault (Some text) why = moment_in text ≡ Err why
 
 -- The first of the words of `same` that stands for nothing.
 abbrev pub IsPairFault : Text → Text → Option Text → PairFault → Type 0

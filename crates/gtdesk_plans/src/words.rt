@@ -1,7 +1,7 @@
 //! What the single words of a command stand for.
 
 ghost use Rattle.std.specs.Prelude.{◌≡◌, ◌≢◌, ◌⊎◌, Err, IfSome, MatchResult, None, Ok, Some, option_map};
-ghost use Rattle.gtd_calendar.specs.Read.{stamp_in};
+ghost use Rattle.gtd_moments.specs.Moments.{moment_in};
 ghost use Rattle.gtd_records.specs.Columns.{number_of};
 ghost use Rattle.gtd_report.specs.Run.{IsVehicleType};
 ghost use Rattle.gtdesk_plans.specs.Given.{picture_texts};
@@ -12,19 +12,20 @@ ghost use Rattle.gtd_text.specs.Reading.{IsFault};
 use crate::given::PictureWords;
 use crate::plans::{Moment, PictureSubject};
 use crate::refusal::{Refusal, WordFault};
-use gtd_calendar::{StampFault, read_stamp};
+use gtd_calendar::StampFault;
 use gtd_core::limits::FIRST_MOMENT;
 use gtd_core::{Domain, Fault, Sec, TextFault};
+use gtd_moments::read_moment;
 use gtd_records::{read_direction, read_number};
 use gtd_text::read_domain;
 use std::alloc::Global;
 
 /// The moment that a word stands for.
 pub(crate) fn moment_of(text: &str) -> Result<Moment, StampFault>
-    ensures { MatchResult result (λ moment. stamp_in text.now ≡ Ok moment.second)
-        (λ fault. stamp_in text.now ≡ Err fault) }
+    ensures { MatchResult result (λ moment. moment_in text.now ≡ Ok moment.second)
+        (λ fault. moment_in text.now ≡ Err fault) }
 {
-    match read_stamp(text.as_bytes()) {
+    match read_moment(text.as_bytes()) {
         Ok(second) => Ok(Moment { second }),
         Err(fault) => Err(fault),
     }
