@@ -1,12 +1,12 @@
 //! What the single words of a command stand for.
 
-ghost use Rattle.std.specs.Prelude.{◌≡◌, ◌≢◌, ◌⊎◌, Err, IfSome, MatchResult, None, Ok, Some, option_map};
+ghost use Rattle.std.specs.Prelude.{◌≡◌, ◌≢◌, ◌⊎◌, Err, IfOk, IfSome, MatchResult, None, Ok, Some, option_map};
 ghost use Rattle.gtd_moments.specs.Moments.{moment_in};
 ghost use Rattle.gtd_records.specs.Columns.{number_of};
 ghost use Rattle.gtd_report.specs.Run.{IsVehicleType};
 ghost use Rattle.gtdesk_plans.specs.Given.{picture_texts};
 ghost use Rattle.gtdesk_plans.specs.Words.{AreSubjectWords, IsNoDomain, IsNoVehicle, IsNoYear, IsReadDomain, IsSubjectFault};
-ghost use Rattle.gtdesk_plans.specs.Words.{IsFromFault, IsFromWord, IsYearWord};
+ghost use Rattle.gtdesk_plans.specs.Words.{IsFromFault, IsFromWord, IsNoElements, IsYearWord, elements_in, numbers_of, parts_of};
 ghost use Rattle.gtd_text.specs.Reading.{IsFault};
 
 use crate::given::PictureWords;
@@ -18,7 +18,7 @@ use gtd_core::{Domain, Fault, Sec, TextFault};
 use gtd_moments::read_moment;
 use gtd_records::{read_direction, read_number};
 use gtd_text::read_domain;
-use std::alloc::Global;
+use std::alloc::{AllocError, Global};
 
 /// The moment that a word stands for.
 pub(crate) fn moment_of(text: &str) -> Result<Moment, StampFault>
@@ -58,6 +58,35 @@ pub(crate) fn vehicle_of(text: &str) -> Option<u8>
             }
         }
         None => None,
+    }
+}
+
+// The elements that a text names, if each of its parts, which commas separate, is a number.
+fn numbers_in(alloc: Global, text: &[u8]) -> Result<Option<Vec<u64>>, AllocError>
+    ensures { IfOk result (λ read. option_map (λ v. v.items) read ≡ numbers_of (parts_of text.now)) }
+{
+    let mut numbers = Vec::new(alloc);
+    for part in text.split(|byte| *byte == b',') {
+        let Some(number) = read_number(part) else {
+            return Ok(None);
+        };
+        numbers.push(number)?;
+    }
+    Ok(Some(numbers))
+}
+
+/// The elements that a word names, which may be left out: then it names none.
+pub(crate) fn elements_of(alloc: Global, text: Option<&str>) -> Result<Vec<u64>, Refusal>
+    ensures { MatchResult result (λ elements. elements_in (option_map (λ s. s.now) text.entry) ≡ Some elements.items)
+        (IsNoElements (option_map (λ s. s.now) text.entry)) }
+{
+    let Some(text) = text else {
+        return Ok(Vec::new(alloc));
+    };
+    match numbers_in(alloc, text.as_bytes()) {
+        Ok(Some(elements)) => Ok(elements),
+        Ok(None) => Err(Refusal::Word(WordFault::Element)),
+        Err(_) => Err(Refusal::Memory),
     }
 }
 
