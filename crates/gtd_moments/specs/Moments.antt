@@ -1,5 +1,5 @@
 -- The moments that people write, and the second that each stands for.
-use Rattle.std.specs.Prelude.{◌≡◌, ◌++◌, ◌&&◌, ◌||◌, ℕ, Bool, true, false, nat_eq, nat_lt, if◌then◌else◌, List, [], ◌∷◌, take}
+use Rattle.std.specs.Prelude.{◌≡◌, ◌++◌, ◌&&◌, ℕ, Bool, true, nat_eq, nat_lt, if◌then◌else◌, List, [], ◌∷◌, take}
 use Rattle.std.specs.Prelude.{drop, length, slice_index, Option, Some, None, Result, Err, codes}
 use Rattle.std.specs.List.{list_all}
 use Rattle.std.specs.Char.{is_ascii_digit}
@@ -8,19 +8,16 @@ use Rattle.gtd_calendar.specs.declared.stamp.StampFault.{StampFault}
 use Rattle.gtd_calendar.specs.declared.stamp.StampFault.TheVariants.{Shape}
 use Rattle.gtd_core.specs.declared.second.Sec.{Sec}
 
--- Whether bytes are a fraction of a second: a point, and digits after it.
-abbrev pub is_fraction : List ℕ → Bool
-is_fraction [] = false
-is_fraction (byte ∷ []) = false
-is_fraction (byte ∷ digit ∷ rest) = nat_eq byte 46 && (is_ascii_digit digit && list_all is_ascii_digit rest)
+-- What may follow the seconds of a clock: nothing, or a fraction: a point, and digits after it.
+abbrev pub may_follow : List ℕ → Bool
+may_follow [] = true
+may_follow (mark ∷ digits) = nat_eq mark 46 && (nat_lt 0 (length digits) && list_all is_ascii_digit digits)
 
--- The seconds of a clock, `:ss`, from what follows `hh:mm`: without any, they are `:00`, and a fraction after them is dropped.
+-- The seconds of a clock, `:ss`, from what follows `hh:mm`. If nothing does, they are `:00`; a fraction is dropped.
 abbrev pub seconds_in : List ℕ → Option (List ℕ)
 seconds_in [] = Some (codes ":00")
-seconds_in (byte ∷ rest) =
-    if nat_lt (length rest) 2 then None
-    else if nat_eq (length rest) 2 || is_fraction (drop 2 rest) then Some (byte ∷ take 2 rest)
-    else None
+seconds_in (a ∷ b ∷ c ∷ rest) = if may_follow rest then Some (a ∷ b ∷ c ∷ []) else None
+seconds_in other = None
 
 -- `T`, where a space stands between the ten bytes of a date and the clock.
 abbrev pub letter : ℕ → ℕ
@@ -42,13 +39,11 @@ moment_in text = if nat_lt (length text) 16 then Err Shape else read_parts (take
 pub record IsSpaced (text spaced : List ℕ) : Type 0 where
   pub is : spaced ≡ take 10 text ++ (32 ∷ drop 11 text)
 
--- The one text is the other with a fraction after it.
+-- The one text is the other with a fraction after it, which may be nothing.
 pub record HasFraction (text long : List ℕ) : Type 0 where
-  pub digit : ℕ
-  pub digits : List ℕ
-  pub is_digit : is_ascii_digit digit ≡ true
-  pub are_digits : list_all is_ascii_digit digits ≡ true
-  pub is : long ≡ text ++ (46 ∷ digit ∷ digits)
+  pub fraction : List ℕ
+  pub may_follow : may_follow fraction ≡ true
+  pub is : long ≡ text ++ fraction
 
 -- The one text is the other without its seconds, which are `:00`.
 pub record IsOfMinutes (text short : List ℕ) : Type 0 where

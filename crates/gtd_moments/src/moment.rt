@@ -1,32 +1,44 @@
 //! Reading a moment.
 
-ghost use Rattle.std.specs.Prelude.{◌≡◌, ◌++◌, IfOk, Some, None, option_map};
+ghost use Rattle.std.specs.Prelude.{◌≡◌, ◌++◌, IfOk};
+ghost use Rattle.std.specs.Char.{is_ascii_digit};
+ghost use Rattle.std.specs.List.{list_all};
 ghost use Rattle.gtd_core.specs.Seconds.{IsMomentSecond};
 ghost use Rattle.gtd_moments.specs.Moments as spec;
-ghost use Rattle.gtd_moments.specs.Moments.{is_fraction, moment_in, seconds_in, with_letter};
+ghost use Rattle.gtd_moments.specs.Moments.{may_follow, moment_in, seconds_in, with_letter};
 
 use gtd_calendar::{StampFault, read_stamp};
 use gtd_core::Sec;
 
-// Whether bytes are a fraction of a second: a point, and digits after it.
-fn is_fraction(bytes: &[u8]) -> bool
-    ensures { result ≡ is_fraction bytes.now }
+// Whether all bytes are digits.
+fn are_digits(bytes: &[u8]) -> bool
+    ensures { result ≡ list_all is_ascii_digit bytes.now }
 {
-    match bytes {
-        [b'.', digit, rest @ ..] => {
-            digit.is_ascii_digit() && rest.iter().all(|byte| byte.is_ascii_digit())
+    for byte in bytes {
+        if !byte.is_ascii_digit() {
+            return false;
         }
-        _ => false,
     }
+    true
 }
 
-// The seconds of the clock, `:ss`, from what follows its minutes.
+// Whether bytes may follow the seconds of a clock: none, or a fraction: a point, and digits after it.
+fn may_follow(bytes: &[u8]) -> bool
+    ensures { result ≡ may_follow bytes.now }
+{
+    let Some((mark, digits)) = bytes.split_first() else {
+        return true;
+    };
+    *mark == b'.' && digits.len() > 0 && are_digits(digits)
+}
+
+// The seconds of a clock, `:ss`, from what follows its minutes.
 fn seconds_in(rest: &[u8]) -> Option<[u8; 3]>
     ensures { result ≡ seconds_in rest.now }
 {
     match rest.split_first_chunk::<3>() {
         Some((seconds, fraction)) => {
-            if fraction.is_empty() || is_fraction(fraction) {
+            if may_follow(fraction) {
                 Some(*seconds)
             } else {
                 None
