@@ -19,7 +19,10 @@ use std::alloc::Global;
 fn is_wanted(wanted: &[u64], element: u64) -> bool
     ensures { result ≡ spec.is_wanted wanted.now element }
 {
-    wanted.is_empty() || wanted.contains(&element)
+    match wanted.split_first() {
+        Some(_) => wanted.contains(&element),
+        None => true,
+    }
 }
 
 // Whether the line of an element in a direction is put.

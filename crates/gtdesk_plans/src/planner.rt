@@ -301,10 +301,9 @@ fn plan_asked(alloc: Global, words: &[String]) -> Result<Plan, Refusal>
     ensures { MatchResult result (AskFor (asked_words (map string_bytes words.now)))
         (AreRefused (asked_words (map string_bytes words.now))) }
 {
-    if words.is_empty() {
-        plan_help(alloc)
-    } else {
-        plan_line(alloc, words)
+    match words.split_first() {
+        Some(_) => plan_line(alloc, words),
+        None => plan_help(alloc),
     }
 }
 

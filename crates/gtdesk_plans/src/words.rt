@@ -75,18 +75,26 @@ fn numbers_in(alloc: Global, text: &[u8]) -> Result<Option<Vec<u64>>, AllocError
     Ok(Some(numbers))
 }
 
+// The same, or the refusal of the text.
+fn numbers_of(alloc: Global, text: &[u8]) -> Result<Vec<u64>, Refusal>
+    ensures { MatchResult result (λ elements. elements_in (Some text.now) ≡ Some elements.items)
+        (IsNoElements (Some text.now)) }
+{
+    match numbers_in(alloc, text) {
+        Ok(Some(elements)) => Ok(elements),
+        Ok(None) => Err(Refusal::Word(WordFault::Element)),
+        Err(_) => Err(Refusal::Memory),
+    }
+}
+
 /// The elements that a word names, which may be left out: then it names none.
 pub(crate) fn elements_of(alloc: Global, text: Option<&str>) -> Result<Vec<u64>, Refusal>
     ensures { MatchResult result (λ elements. elements_in (option_map (λ s. s.now) text.entry) ≡ Some elements.items)
         (IsNoElements (option_map (λ s. s.now) text.entry)) }
 {
-    let Some(text) = text else {
-        return Ok(Vec::new(alloc));
-    };
-    match numbers_in(alloc, text.as_bytes()) {
-        Ok(Some(elements)) => Ok(elements),
-        Ok(None) => Err(Refusal::Word(WordFault::Element)),
-        Err(_) => Err(Refusal::Memory),
+    match text {
+        Some(text) => numbers_of(alloc, text.as_bytes()),
+        None => Ok(Vec::new(alloc)),
     }
 }
 
