@@ -15,15 +15,17 @@ long : (n : ℕ) → nat_lt (suc (suc (suc (suc (suc (suc (suc (suc (suc (suc (s
 long n = grind (arith, nat_tests)
 
 module _ (year month day hour minute second : ℕ) where
-  shown : List ℕ
+  abbrev pub shown : List ℕ
   shown =
       four_digits year ++ codes "-" ++ two_digits month ++ codes "-" ++ two_digits day ++ codes "T" ++ two_digits hour
       ++ codes ":" ++ two_digits minute ++ codes ":" ++ two_digits second
 
   shown_same : moment_in shown ≡ stamp_in shown
+  unfolding stamp_in
   shown_same = refl
 
   shown_spaced : moment_in (take 10 shown ++ (32 ∷ drop 11 shown)) ≡ stamp_in shown
+  unfolding stamp_in
   shown_spaced = refl
 
   shown_fraction : (fraction : List ℕ) → may_follow fraction ≡ true → moment_in (shown ++ fraction) ≡ stamp_in shown
@@ -33,6 +35,7 @@ module _ (year month day hour minute second : ℕ) where
       ∙ ap (λ (b : Bool). read_parts (take 16 shown) (if b then Some (drop 16 shown) else None)) may
 
   shown_minutes : drop 16 shown ≡ codes ":00" → moment_in (take 16 shown) ≡ stamp_in shown
+  unfolding stamp_in
   shown_minutes e = ap (λ (s : List ℕ). stamp_in (with_letter (take 16 shown) ++ s)) (sym e)
 
 -- the text of a second, and what a text stands for that is made of it

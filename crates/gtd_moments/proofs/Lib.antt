@@ -1,3 +1,2 @@
 pub mod Forms
-pub mod SecondsFacts
 pub mod Spelled

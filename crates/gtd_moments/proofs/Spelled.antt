@@ -4,7 +4,7 @@ use Rattle.std.specs.Prelude.{drop, take}
 use Rattle.gtd_moments.specs.Moments.{letter, with_letter}
 
 -- some elements of a list, from a place on
-spelled : ℕ → List ℕ → ℕ → List ℕ
+abbrev pub spelled : ℕ → List ℕ → ℕ → List ℕ
 spelled zero xs at = []
 spelled (suc count) xs at = slice_index_or xs at 0 ∷ spelled count xs (suc at)
 

@@ -79,7 +79,8 @@ fn full_text(minutes: &[u8; 16], seconds: [u8; 3]) -> [u8; 19]
 
 // The moment of sixteen bytes, the last of which are its minutes, and of what follows them.
 fn read_parts(minutes: &[u8; 16], rest: &[u8]) -> Result<Sec, StampFault>
-    ensures { result ≡ spec.read_parts minutes.now (seconds_in rest.now) }
+    ensures value { result ≡ spec.read_parts minutes.now (seconds_in rest.now) }
+    ensures range { IfOk result (λ second. IsMomentSecond second.0) }
 {
     match seconds_in(rest) {
         Some(seconds) => read_stamp(&full_text(minutes, seconds)),

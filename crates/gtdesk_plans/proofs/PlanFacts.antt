@@ -1,6 +1,6 @@
 -- Words give one command at most, and a command has one plan or one first fault.
 use Rattle.std.proofs.Common.{◌≡◌, ◌∙◌, ◌⊎◌, inl, inr, ap, sym, subst, refl, true, false, Bool, true≢false, List}
-use Rattle.std.proofs.Common.{Option, Some, None, is_some}
+use Rattle.std.proofs.Common.{Option, Some, None, is_some, arith, [], ◌∷◌, length, map}
 use Rattle.std.specs.Prelude.{Result, Ok, Err, IsSome, MatchResult, option_and_then, option_map, unwrap_or, ℕ}
 use Rattle.clap.specs.Faults.{fault_of}
 use Rattle.clap.specs.Kinds.{HasKind, IsAmong}
@@ -18,7 +18,8 @@ use Rattle.clap.specs.Walk.{Row}
 use Rattle.clap.specs.Simple.{subcommand_rows_of}
 use Rattle.clap.specs.declared.parser.matches.ArgMatches.{ArgMatches}
 use Rattle.gtdesk_plans.specs.CommandLine.{HasWords, Text, desk_app, is_memory, is_request, neither_or_both}
-use Rattle.gtdesk_plans.specs.Given.{AreMistaken, Give, Given, NowTexts, PictureTexts, given_by, given_in, texts_of}
+use Rattle.gtdesk_plans.specs.Given.{AreMistaken, Give, Given, NowTexts, PictureTexts, asked_words, given_by, given_in}
+use Rattle.gtdesk_plans.specs.Given.{help_words, texts_of}
 use Rattle.gtdesk_plans.specs.declared.given.Words.{Words}
 use Rattle.gtdesk_plans.specs.Plans.{AreRefused, AskFor, Asks, IsDomainPlan, IsHoursPlan, IsNowFault, IsNowPlan, IsOfPair}
 use Rattle.gtdesk_plans.specs.Plans.{IsOfWord, IsPicturePlan, IsRefused, IsSamePlan, IsShown, IsWordFault, IsWordsPlan}
@@ -483,6 +484,16 @@ one_word (Given.for_records file) r s h k = absurd h
 one_word (Given.for_picture texts) r s h k = one_of_word (IsSubjectFault texts) (one_subject_fault texts) r s h k
 one_word (Given.for_picture_domain text year) r s h k =
     one_of_word (IsDomainFault text year) (one_picture_fault text year) r s h k
+
+-- ---- words of which there may be none
+
+pub asked_none : {A : Type 0} (f : A → Text) (words : List A) → length words ≡ 0 → asked_words (map f words) ≡ help_words
+asked_none f [] e = refl
+asked_none f (word ∷ words) e = absurd (omega (arith, e))
+
+pub asked_some : {A : Type 0} (f : A → Text) (words : List A) (word : A) (rest : List A) → words ≡ word ∷ rest
+    → asked_words (map f words) ≡ map f words
+asked_some f words word rest e = subst (λ (x : List _). asked_words (map f x) ≡ map f x) (sym e) refl
 
 -- ---- why the elements of `now` are refused
 

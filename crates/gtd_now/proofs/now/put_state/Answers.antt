@@ -1,4 +1,4 @@
-use Rattle.std.proofs.Common.{ap, refl, arith, [], ◌∷◌, length}
+use Rattle.std.proofs.Common.{◌∙◌, ap, refl, sym, true≢false, arith, [], ◌∷◌, length}
 use Rattle.std.specs.Prelude.{Err}
 use Rattle.std.proofs.lemmas.Result.{err_from_is_err_and}
 use Rattle.gtd_report.specs.facts.PutFacts.{one_put, one_short, puts_none, puts_nothing}
@@ -11,6 +11,13 @@ pub returns-in_err-write_line-clause-puts : goal.returns-in_err-write_line-claus
 returns-in_err-write_line-clause-puts g c =
     let p = err_from_is_err_and c.from_residual.result c.from_residual.ensures.1 in
     rw (p.1) (λ lines are. puts_nothing p.0 (g.O.Output.taken c.args.output.now) c.args.progress.now lines)
+
+pub returns-then-not-is_shown-clause-puts : goal.returns-then-not-is_shown-clause-puts
+returns-then-not-is_shown-clause-puts g c = (
+  [],
+  AreLines.hidden (λ shows. true≢false (sym (c.is_shown.ensures.1 shows) ∙ c.if-not-is_shown.true)) refl,
+  puts_none (g.O.Output.taken c.args.output.now) c.args.progress.now,
+)
 
 pub put_line-requires-clause-written : goal.put_line-requires-clause-written
 put_line-requires-clause-written g c =
@@ -31,7 +38,7 @@ returns-in_err-put_line-clause-puts g c =
     (Err p.0) a b c.args.progress.now c.put_line.new.progress
     (line ∷ []) (one_lines c.args.found.now c.args.asked.now.vehicle c.args.asked.now.second.0 c.args.asked.now.closed
     c.args.asked.now.elements.now c.args.element c.args.direction)
-    (AreLines.shown (c.is_shown.ensures.0 c.if-is_shown.false) line
+    (AreLines.shown (c.is_shown.ensures.0 c.if-not-is_shown.false) line
     (rw (c.as_slice.ensures.value) (c.in_ok-write_line.ensures.line)) refl)
     (one_short p.0 line c.in_err-put_line.field-0.0.taken a b c.args.progress.now c.put_line.new.progress e.some.0 e.some.1
     e.progress))
@@ -43,7 +50,7 @@ returns-clause-puts g c =
     let line = c.as_slice.result.now in
     let e = c.in_ok-put_line.ensures in (
       line ∷ [],
-      AreLines.shown (c.is_shown.ensures.0 c.if-is_shown.false) line
+      AreLines.shown (c.is_shown.ensures.0 c.if-not-is_shown.false) line
           (rw (c.as_slice.ensures.value) (c.in_ok-write_line.ensures.line)) refl,
       one_put line a b c.args.progress.now c.put_line.new.progress e.all e.progress,
     )
