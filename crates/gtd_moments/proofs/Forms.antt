@@ -1,11 +1,10 @@
 -- What the forms of a moment's text stand for.
-use Rattle.std.proofs.Common.{◌≡◌, ◌∙◌, refl, sym, ap, subst, arith, ℕ, suc, Bool, true, false, List, [], ◌∷◌, ◌++◌, length}
+use Rattle.std.proofs.Common.{◌≡◌, ◌∙◌, refl, sym, ap, subst, arith, ℕ, suc, Bool, true, false, List, ◌∷◌, ◌++◌, length}
 use Rattle.std.proofs.lemmas.Bool.Decides.{nat_tests}
-use Rattle.std.specs.Prelude.{codes, drop, if◌then◌else◌, nat_lt, take, Option, Some, None, Result, Ok, Err}
+use Rattle.std.specs.Prelude.{codes, drop, if◌then◌else◌, nat_lt, take, Some, None, Ok, Err}
 use Rattle.gtd_core.specs.declared.second.Sec.{Sec}
 use Rattle.gtd_calendar.specs.Clock.{IsStampText, four_digits, two_digits}
 use Rattle.gtd_calendar.specs.Read.{IsReadStamp, stamp_in}
-use Rattle.gtd_calendar.specs.declared.stamp.StampFault.{StampFault}
 use Rattle.gtd_calendar.specs.declared.stamp.StampFault.TheVariants.{Shape}
 use Rattle.gtd_moments.specs.Moments.{HasFraction, IsOfMinutes, IsSpaced, may_follow, moment_in, read_parts, with_letter}
 
