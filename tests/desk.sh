@@ -62,10 +62,11 @@ expect 'help of the command records' 0 "$(cat "$top/tests/desk/records.txt")" ''
 run --version
 expect 'version' 0 'gtdesk 0.1.0' ''
 
+run
+expect 'no words' 0 "$(cat "$top/tests/desk/help.txt")" ''
+
 # Words that are refused.
 see='(see gtdesk --help)'
-run
-expect 'no words' 2 '' "gtdesk: command line: a subcommand is required but one was not provided $see"
 run yesterday
 expect 'no command' 2 '' "gtdesk: command line: unrecognized subcommand $see"
 run now a.csv
@@ -102,6 +103,15 @@ expect 'standard input' 0 "$header"$'\n'"$at_ten"$'\n'"$always" ''
 head -n 1 a.csv > none.csv
 run now none.csv 2024-04-01T10:00:00 11
 expect 'no rows' 0 "$header" ''
+
+# Ctrl-C while the file is read: the shell reports status 130, and nothing was printed.
+mkfifo waits
+exec 3<> waits
+cat a.csv >&3
+timeout --preserve-status -s INT 0.5 "$program" now - 2024-04-01T10:00:00 11 <&3 > out 2> err
+status=$?
+exec 3>&-
+expect 'interrupted while it reads' 130 '' ''
 
 # Files that are refused.
 run now gone.csv 2024-04-01T10:00:00 11

@@ -208,6 +208,7 @@ gtd 'open error' migrate gone.csv
 
 gtdesk 'open read write' now r.csv 2024-04-01T10:00:00 11
 gtdesk 'read write' now - 2024-04-01T10:00:00 11
+gtdesk 'open read write' now --closed --element 17,18 r.csv '2024-04-01 10:00' 11
 gtdesk 'open read' faults r.csv
 gtdesk 'open read write' faults bad.csv
 gtdesk 'open read write' faults always.csv --warn
@@ -221,8 +222,9 @@ gtdesk 'open read write' records hours.csv
 gtdesk 'open read error' records bad_hours.csv
 gtdesk 'open read write' picture r.csv 17 positive 11 2024
 gtdesk write picture-domain '(h0){h2}+(h4){h2}+(h8){h2}' 2024
+gtdesk write
 gtdesk write --help
-gtdesk error
+gtdesk error today
 gtdesk error words '[(h25){h1}]'
 gtdesk 'open read error' now bad.csv 2024-04-01T10:00:00 11
 gtdesk 'open error' now gone.csv 2024-04-01T10:00:00 11

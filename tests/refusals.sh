@@ -159,6 +159,8 @@ program_refused 1 migrate faulty.csv
 program=$gtdesk no_memory='gtdesk: memory: refused by the system'
 program_refused 0 now r.csv $moment 11
 program_refused 0 now - $moment 11
+program_refused 0 now --closed --element 17,18 r.csv $moment 11
+program_refused 1 now --element 17, r.csv $moment 11
 program_refused 1 now faulty.csv $moment 11
 program_refused 3 now gone.csv $moment 11
 program_refused 1 now r.csv now 11

@@ -2,3 +2,4 @@ pub mod DayFacts
 pub mod LineFacts
 pub mod NowFacts
 pub mod SomeNow
+pub mod ShownFacts

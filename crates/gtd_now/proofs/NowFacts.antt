@@ -62,11 +62,15 @@ module _ (found : List Restriction) (vehicle : ℕ) (second : ℤ) where
       ∙ ap (λ (x : List ℕ). state_line element direction vehicle q.is_open q.change x) rows
       ∙ sym q.whole
 
-  -- an element has one list of lines in a direction
-  pub one_lines : (element : ℕ) (direction : Direction) → IsOne (AreLines found vehicle second element direction)
-  one_lines element direction a b p q =
-      p.each ∙ ap (λ (l : List ℕ). l ∷ []) (one_line element direction p.line q.line p.is_line q.is_line) ∙ sym q.each
+  module _ (closed : Bool) (wanted : List ℕ) where
+    -- an element has one list of lines in a direction
+    pub one_lines : (element : ℕ) (direction : Direction) → IsOne (AreLines found vehicle second closed wanted element direction)
+    one_lines element direction a b (AreLines.shown s x p e) (AreLines.shown t y q f) =
+        e ∙ ap (λ (l : List ℕ). l ∷ []) (one_line element direction x y p q) ∙ sym f
+    one_lines element direction a b (AreLines.shown s x p e) (AreLines.hidden none f) = absurd (none s)
+    one_lines element direction a b (AreLines.hidden none e) (AreLines.shown t y q f) = absurd (none t)
+    one_lines element direction a b (AreLines.hidden none e) (AreLines.hidden never f) = e ∙ sym f
 
-  -- restrictions have one text
-  pub one_now : IsOne (IsNow found vehicle second)
-  one_now = one_by_element (AreLines found vehicle second) one_lines found header_line
+    -- restrictions have one text
+    pub one_now : IsOne (IsNow found vehicle second closed wanted)
+    one_now = one_by_element (AreLines found vehicle second closed wanted) one_lines found header_line

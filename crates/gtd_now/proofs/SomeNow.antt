@@ -1,7 +1,7 @@
 -- Restrictions have a text of each moment.
 use Rattle.std.proofs.Common.{◌≡◌, sym, refl, subst, arith, ◌<◌, ◌+◌, ◌⊎◌, inl, inr, ◌↔◌, ℕ, zero, suc, List, [], ◌∷◌}
-use Rattle.std.proofs.Common.{length, Option, Some, None}
-use Rattle.std.specs.Prelude.{ℤ, pos, ◌+ℤ◌, ◌-ℤ◌, ◌*ℤ◌, negsuc, ◌≤ℤ◌, ◌<ℤ◌, MatchOption, slice_index_or}
+use Rattle.std.proofs.Common.{length, Option, Some, None, Bool, true, false, true≢false}
+use Rattle.std.specs.Prelude.{ℤ, pos, ◌+ℤ◌, ◌-ℤ◌, ◌*ℤ◌, negsuc, ◌≤ℤ◌, ◌<ℤ◌, IsTrue, MatchOption, slice_index_or}
 use Rattle.std.proofs.lemmas.Int.{ints, by_lt_z}
 use Rattle.std.proofs.lemmas.Map.Keys.{IsStrictlyIncreasing-from_sorted}
 use Rattle.gtd_core.specs.Limits.{horizons_end, most_horizon_days}
@@ -17,7 +17,7 @@ use Rattle.gtd_report.specs.facts.SomeElements.{some_by_element, sorted}
 use Rattle.gtd_spans.specs.Change.{IsNextChange, NeverChanges, SameAt}
 use Rattle.gtd_now.proofs.LineFacts.{open_by_rows}
 use Rattle.gtd_now.specs.Lines.{none_closes}
-use Rattle.gtd_now.specs.Now.{AreLines, IsLookEnd, IsNow, header_line, state_line}
+use Rattle.gtd_now.specs.Now.{AreLines, IsLine, IsLookEnd, IsNow, IsShown, header_line, is_wanted, state_line}
 
 -- ---- the end
 
@@ -189,6 +189,13 @@ module _ (found : List Restriction) (element : ℕ) (direction : Direction) (veh
 
 -- ---- the lines
 
+-- a line is put or is not
+shown_or_not : {A : Type 0} (closed wanted : Bool) → Decided A → Decided (IsTrue wanted × (IsTrue closed → A → ⊥))
+shown_or_not closed false d = inr (λ h. true≢false (sym h.0))
+shown_or_not false true d = inl (refl, (λ h. absurd (true≢false (sym h))))
+shown_or_not true true (inl is) = inr (λ h. h.1 refl is)
+shown_or_not true true (inr never) = inl (refl, (λ h. never))
+
 gap : (s until : ℤ) → s <ℤ until → (n : ℕ) × ((s +ℤ pos (n + 1)) ≡ until)
 gap s until lt = by_sign ((until -ℤ s) -ℤ pos 1) refl
   where
@@ -197,33 +204,40 @@ gap s until lt = by_sign ((until -ℤ s) -ℤ pos 1) refl
     by_sign (negsuc n) e = absurd (omega (arith, ints, e, lt))
 
 module _ (found : List Restriction) (vehicle : ℕ) (second : ℤ) (range : IsHorizonSecond second) where
-  some_line : (element : ℕ) (direction : Direction) → (lines : List (List ℕ))
-      × AreLines found vehicle second element direction lines
+  some_line : (element : ℕ) (direction : Direction) → (line : List ℕ) × IsLine found vehicle second element direction line
   some_line element direction =
       let e = some_end (day_of_second second) in
       let g = gap second (e.0 *ℤ pos 86400) (looks_at second (day_of_second second) e.0 range refl e.1).1 in
       let c = some_change (IsOpen found element direction vehicle) (open_or_not found element direction vehicle) second
       (e.0 *ℤ pos 86400) g.0 g.1 in
-      let r = some_rows found element direction vehicle second in
-      let line = state_line element direction vehicle (none_closes r.0) c.0 r.0 in (
-        line ∷ [],
+      let r = some_rows found element direction vehicle second in (
+        state_line element direction vehicle (none_closes r.0) c.0 r.0,
         record {
-          line = line;
-          is_line = record {
-            is_open = none_closes r.0;
-            state = open_by_rows found element direction vehicle second r.0 r.1;
-            last = e.0;
-            ends = e.1;
-            change = c.0;
-            until = c.1;
-            rows = r.0;
-            closing = r.1;
-            whole = refl;
-          };
-          each = refl;
+          is_open = none_closes r.0;
+          state = open_by_rows found element direction vehicle second r.0 r.1;
+          last = e.0;
+          ends = e.1;
+          change = c.0;
+          until = c.1;
+          rows = r.0;
+          closing = r.1;
+          whole = refl;
         },
       )
 
-  -- there is a text
-  pub some_now : (lines : List (List ℕ)) × IsNow found vehicle second lines
-  some_now = some_by_element (AreLines found vehicle second) some_line found header_line
+  module _ (closed : Bool) (wanted : List ℕ) where
+    -- the line of an element whose line is put, or is not
+    by_choice : (element : ℕ) (direction : Direction) → Decided (IsShown found vehicle second closed wanted element direction)
+        → (lines : List (List ℕ)) × AreLines found vehicle second closed wanted element direction lines
+    by_choice element direction (inl shows) =
+        let line = some_line element direction in (line.0 ∷ [], AreLines.shown shows line.0 line.1 refl)
+    by_choice element direction (inr hides) = ([], AreLines.hidden hides refl)
+
+    some_lines : (element : ℕ) (direction : Direction)
+        → (lines : List (List ℕ)) × AreLines found vehicle second closed wanted element direction lines
+    some_lines element direction =
+        by_choice element direction (shown_or_not closed (is_wanted wanted element) (open_or_not found element direction vehicle second))
+
+    -- there is a text
+    pub some_now : (lines : List (List ℕ)) × IsNow found vehicle second closed wanted lines
+    some_now = some_by_element (AreLines found vehicle second closed wanted) some_lines found header_line

@@ -1,7 +1,8 @@
--- The state of road elements at a moment: whether each is open or closed, until when, and which rows close it. A line has
--- its end: the LF is its last byte.
-use Rattle.std.specs.Prelude.{◌≡◌, ◌++◌, ◌⊎◌, ℕ, ℤ, pos, ◌+ℤ◌, ◌*ℤ◌, ◌≤ℤ◌, ◌<ℤ◌, ◌↔◌, Bool, true, false, IsTrue, List, []}
+-- The state of road elements at a moment: whether each is open or closed, until when, and which rows close it; of all elements,
+-- or of some of them. A line has its end: the LF is its last byte.
+use Rattle.std.specs.Prelude.{◌≡◌, ◌==◌, ◌++◌, ◌⊎◌, ℕ, ℤ, pos, ◌+ℤ◌, ◌*ℤ◌, ◌≤ℤ◌, ◌<ℤ◌, ◌↔◌, Bool, true, false, IsTrue, List, []}
 use Rattle.std.specs.Prelude.{◌∷◌, Option, Some, None, MatchOption, flat_map, codes, decimal}
+use Rattle.std.specs.List.{list_any}
 use Rattle.gtd_core.specs.Limits.{day_seconds, horizons_end, most_horizon_days}
 use Rattle.gtd_calendar.specs.Stamp.{stamp_text}
 use Rattle.gtd_core.specs.Seconds.{day_of_second}
@@ -43,6 +44,11 @@ IsLookEnd day last =
     ((last ≡ day +ℤ pos most_horizon_days) × (last ≤ℤ horizons_end))
     ⊎ ((last ≡ horizons_end) × (horizons_end <ℤ (day +ℤ pos most_horizon_days)))
 
+-- Whether an element is one of those that are asked about. If none is named, all are.
+abbrev pub is_wanted : List ℕ → ℕ → Bool
+is_wanted [] element = true
+is_wanted (first ∷ rest) element = list_any (λ wanted. wanted == element) (first ∷ rest)
+
 module _ (found : List Restriction) (vehicle : ℕ) (second : ℤ) where
   -- What the line says of an element in a direction: it is open exactly if no restriction closes it; it changes at the
   -- first later second, of those that are looked at, at which its state differs; and exactly these rows close it.
@@ -58,12 +64,17 @@ module _ (found : List Restriction) (vehicle : ℕ) (second : ℤ) where
     pub closing : AreClosingRows found element direction vehicle second rows
     pub whole : line ≡ state_line element direction vehicle is_open change rows
 
-  -- its one line
-  pub record AreLines (element : ℕ) (direction : Direction) (lines : List (List ℕ)) : Type 0 where
-    pub line : List ℕ
-    pub is_line : IsLine element direction line
-    pub each : lines ≡ line ∷ []
+  -- Its line is put: it is one of the elements that are asked about and, where closed ones alone are, it is not open.
+  abbrev pub IsShown : Bool → List ℕ → ℕ → Direction → Type 0
+  IsShown closed wanted element direction =
+      IsTrue (is_wanted wanted element) × (IsTrue closed → IsOpen found element direction vehicle second → ⊥)
 
-  -- The header, and the line of each element that the restrictions name, in ascending order and positive before negative.
-  abbrev pub IsNow : List (List ℕ) → Type 0
-  IsNow = IsByElement found header_line AreLines
+  -- Its lines: the one, if it is put, and otherwise none.
+  pub data AreLines (closed : Bool) (wanted : List ℕ) (element : ℕ) (direction : Direction) (lines : List (List ℕ)) : Type 0 where
+    shown : IsShown closed wanted element direction → (line : List ℕ) → IsLine element direction line → lines ≡ line ∷ []
+        → AreLines closed wanted element direction lines
+    hidden : (IsShown closed wanted element direction → ⊥) → lines ≡ [] → AreLines closed wanted element direction lines
+
+  -- The header, and the lines of each element that the restrictions name, in ascending order and positive before negative.
+  abbrev pub IsNow : Bool → List ℕ → List (List ℕ) → Type 0
+  IsNow closed wanted = IsByElement found header_line (AreLines closed wanted)

@@ -1,7 +1,8 @@
-//! The state of the road elements of a record file at a moment: open or closed, until when, and by which rows.
+//! The state of the road elements of a record file at a moment: open or closed, until when, and by which rows; of all elements, or
+//! of some of them.
 #![tactic(auto)]
 
-pub use run::run_now;
+pub use run::{Asked, run_now};
 
 mod change;
 pub mod laws;

@@ -17,17 +17,29 @@ use gtd_report::{
 };
 use std::alloc::Global;
 
-/// The state of each element and direction at a second, for a vehicle type. The second is on a day that a horizon may
-/// have.
+/// What is asked about the elements of a record file: the state of which of them, at which second, and for which vehicle type.
 #[derive(Clone, Copy)]
-struct State {
-    vehicle: u8,
-    second: Sec,
-    ghost in_range: { IsHorizonSecond second.0 },
+pub struct Asked<'a> {
+    /// The vehicle type.
+    pub vehicle: u8,
+    /// The second.
+    pub second: Sec,
+    /// Whether those alone are asked about that are closed at the second.
+    pub closed: bool,
+    /// The elements that are asked about. If none is named, all are.
+    pub elements: &'a [u64],
 }
 
-impl DirectionLines for State {
-    ghost are_lines = { λ report found. AreLines found report.vehicle report.second.0 };
+/// The state of the elements that are asked about, in each direction. The second is on a day that a horizon may have.
+#[derive(Clone, Copy)]
+struct State<'a> {
+    asked: Asked<'a>,
+    ghost in_range: { IsHorizonSecond asked.second.0 },
+}
+
+impl DirectionLines for State<'_> {
+    ghost are_lines = { λ report found.
+        AreLines found report.asked.vehicle report.asked.second.0 report.asked.closed report.asked.elements.now };
 
     fn put_direction<O: Output>(
         &self,
@@ -47,14 +59,14 @@ impl DirectionLines for State {
             found,
             element,
             direction,
-            self.vehicle,
-            self.second,
+            &self.asked,
         )
     }
 }
 
-impl ElementLines for State {
-    ghost are_lines = { λ report found. AreLines found report.vehicle report.second.0 };
+impl ElementLines for State<'_> {
+    ghost are_lines = { λ report found.
+        AreLines found report.asked.vehicle report.asked.second.0 report.asked.closed report.asked.elements.now };
 
     fn put_element<O: Output>(
         &self,
@@ -69,14 +81,15 @@ impl ElementLines for State {
     }
 }
 
-impl Report for State {
-    ghost subject = { λ report. record { vehicle = Some report.vehicle; year = None; element = None } };
+impl Report for State<'_> {
+    ghost subject = { λ report. record { vehicle = Some report.asked.vehicle; year = None; element = None } };
 
-    ghost is_text = { λ report found lines. IsNow found report.vehicle report.second.0 lines };
+    ghost is_text = { λ report found lines.
+        IsNow found report.asked.vehicle report.asked.second.0 report.asked.closed report.asked.elements.now lines };
 
     fn subject(&self) -> Subject {
         Subject {
-            vehicle: Some(self.vehicle),
+            vehicle: Some(self.asked.vehicle),
             year: None,
             element: None,
         }
@@ -95,8 +108,9 @@ impl Report for State {
 }
 
 /// Puts the state, at a second, of the road elements of the record file that an input brings, for a vehicle type from 1
-/// to 99: whether each is open in each direction, until when, and which rows close it. The second must be on a day that
-/// a horizon may have. Answers the number of lines, the header included.
+/// to 99: whether each that is asked about is open in each direction, until when, and which rows close it. An element that no
+/// record names has no line. The second must be on a day that a horizon may have. Answers the number of lines, the header
+/// included.
 ///
 /// In order: `VehicleRange`; then the first fault of reading the file (`Records`); then `WriteFault` or `NoMemory`,
 /// whichever happens first. Nothing is put until the whole file has been read and accepted. Before the call, the
@@ -105,27 +119,28 @@ pub fn run_now<I: Input, O: Output>(
     alloc: Global,
     input: &mut I,
     output: &mut O,
-    vehicle: u8,
-    second: Sec,
+    asked: &Asked<'_>,
 ) -> Result<u64, RunFault>
-    requires in_range { IsHorizonSecond second.0 }
+    requires in_range { IsHorizonSecond asked.now.second.0 }
     requires readable { I.failure_count input.old < u64.MAX }
     requires writable { O.failure_count output.old < u64.MAX }
     // Accepted files are shown: if nothing hinders it, the output took the state of the file's elements, and the answer is
     // the number of its lines.
-    ensures accepted { IsVehicleType vehicle → AcceptedFilesArePut
-        (λ found. ⊤) (λ found lines. IsNow found vehicle second.0 lines)
+    ensures accepted { IsVehicleType asked.now.vehicle → AcceptedFilesArePut
+        (λ found. ⊤)
+        (λ found. IsNow found asked.now.vehicle asked.now.second.0 asked.now.closed asked.now.elements.now)
         (I.to_come input.old) (O.taken output.old) (O.taken output.new) result }
     // Refused files print nothing: if nothing hinders it, the answer is the first fault of the file.
-    ensures refused { IsVehicleType vehicle → RefusedFilesPutNothing
+    ensures refused { IsVehicleType asked.now.vehicle → RefusedFilesPutNothing
         (I.to_come input.old) (O.taken output.old) (O.taken output.new) result }
     // What each answer means: after a failure or a refusal of memory, the first bytes of the same text.
     ensures stands { HasRun
-        (λ found. ⊤) (λ found lines. IsNow found vehicle second.0 lines)
+        (λ found. ⊤)
+        (λ found. IsNow found asked.now.vehicle asked.now.second.0 asked.now.closed asked.now.elements.now)
         (I.to_come input.old) (O.taken output.old) (O.taken output.new) result }
     // An output that took the whole text was then ended, last of all.
     ensures ended { OnOk result (IsTrue (O.is_ended output.new)) }
-    ensures vehicle { IsErrOf result RunFault.VehicleRange ↔ (IsVehicleType vehicle → ⊥) }
+    ensures vehicle { IsErrOf result RunFault.VehicleRange ↔ (IsVehicleType asked.now.vehicle → ⊥) }
     ensures year { IsErrOf result RunFault.YearRange → ⊥ }
     ensures element { IsErrOf result RunFault.NoElement → ⊥ }
     ensures endless { IsErrOf result (RunFault.Records RecordFault.Endless) → IsTrue (I.may_fall_silent input.old) }
@@ -134,5 +149,5 @@ pub fn run_now<I: Input, O: Output>(
     ensures write_faults { O.failure_count output.new
         ≡ failures_after_write result (O.failure_count output.old) }
 {
-    run_report(alloc, input, output, &State { vehicle, second })
+    run_report(alloc, input, output, &State { asked: *asked })
 }

@@ -1,2 +1,3 @@
 pub mod ClapWords
 pub mod PlanFacts
+pub mod NumberFacts

@@ -1,6 +1,6 @@
 -- Words give one command at most, and a command has one plan or one first fault.
 use Rattle.std.proofs.Common.{◌≡◌, ◌∙◌, ◌⊎◌, inl, inr, ap, sym, subst, refl, true, false, Bool, true≢false, List}
-use Rattle.std.proofs.Common.{Option, Some, None, is_some}
+use Rattle.std.proofs.Common.{Option, Some, None, is_some, arith, [], ◌∷◌, length, map}
 use Rattle.std.specs.Prelude.{Result, Ok, Err, IsSome, MatchResult, option_and_then, option_map, unwrap_or, ℕ}
 use Rattle.clap.specs.Faults.{fault_of}
 use Rattle.clap.specs.Kinds.{HasKind, IsAmong}
@@ -9,7 +9,7 @@ use Rattle.clap.specs.declared.error.Error.{Error}
 use Rattle.clap.specs.declared.error.kind.ErrorKind.{ErrorKind}
 use Rattle.clap.specs.declared.error.kind.ErrorKind.TheVariants as error
 use Rattle.gtd_core.specs.declared.second.Sec.{Sec}
-use Rattle.gtd_calendar.specs.Read.{stamp_in}
+use Rattle.gtd_moments.specs.Moments.{moment_in}
 use Rattle.gtd_calendar.specs.declared.stamp.StampFault.{StampFault}
 use Rattle.gtd_records.specs.Columns.{direction_of, number_of}
 use Rattle.gtd_text.specs.Reading.{HasNoFault}
@@ -18,12 +18,14 @@ use Rattle.clap.specs.Walk.{Row}
 use Rattle.clap.specs.Simple.{subcommand_rows_of}
 use Rattle.clap.specs.declared.parser.matches.ArgMatches.{ArgMatches}
 use Rattle.gtdesk_plans.specs.CommandLine.{HasWords, Text, desk_app, is_memory, is_request, neither_or_both}
-use Rattle.gtdesk_plans.specs.Given.{AreMistaken, Give, Given, PictureTexts, given_by, given_in, texts_of}
+use Rattle.gtdesk_plans.specs.Given.{AreMistaken, Give, Given, NowTexts, PictureTexts, asked_words, given_by, given_in}
+use Rattle.gtdesk_plans.specs.Given.{help_words, texts_of}
 use Rattle.gtdesk_plans.specs.declared.given.Words.{Words}
 use Rattle.gtdesk_plans.specs.Plans.{AreRefused, AskFor, Asks, IsDomainPlan, IsHoursPlan, IsNowFault, IsNowPlan, IsOfPair}
 use Rattle.gtdesk_plans.specs.Plans.{IsOfWord, IsPicturePlan, IsRefused, IsSamePlan, IsShown, IsWordFault, IsWordsPlan}
-use Rattle.gtdesk_plans.specs.Words.{AreSubjectWords, IsDomainFault, IsFromFault, IsFromWord, IsMomentWord, IsPairFault}
-use Rattle.gtdesk_plans.specs.Words.{IsSubjectFault, IsVehicleWord, IsWordOfDomainFault, IsYearWord}
+use Rattle.gtdesk_plans.specs.Words.{AreSubjectWords, IsDomainFault, IsElementFault, IsFromFault, IsFromWord, IsMomentWord}
+use Rattle.gtdesk_plans.specs.Words.{IsNoElements, IsNoVehicle, IsPairFault, IsSubjectFault, IsVehicleWord, IsWordOfDomainFault}
+use Rattle.gtdesk_plans.specs.Words.{IsYearWord, elements_in}
 use Rattle.gtdesk_plans.specs.declared.plans.PictureSubject.{PictureSubject}
 use Rattle.gtdesk_plans.specs.declared.plans.Plan.{Plan}
 use Rattle.gtdesk_plans.specs.declared.plans.Plan.TheVariants as plan
@@ -62,7 +64,8 @@ one_err r a b e f = ap (λ (x : Result _ _). err_or x a) (sym e ∙ f)
 -- ---- a command whose words all stand for something
 
 abbrev IsSound : Given → Type 0
-IsSound (Given.for_now file moment vehicle) = IsMomentWord moment × ((v : ℕ) × IsVehicleWord vehicle v)
+IsSound (Given.for_now texts) =
+    IsMomentWord texts.moment × ((v : ℕ) × IsVehicleWord texts.vehicle v) × IsSome (elements_in texts.element)
 IsSound (Given.for_faults file warn) = Unit {0}
 IsSound (Given.for_words text) = HasNoFault text
 IsSound (Given.for_hours text) = Unit {0}
@@ -72,21 +75,20 @@ IsSound (Given.for_records file) = Unit {0}
 IsSound (Given.for_picture texts) = (s : PictureSubject) × AreSubjectWords texts s
 IsSound (Given.for_picture_domain text year) = HasNoFault text × ((y : ℕ) × IsYearWord year y)
 
-now_sound : (file moment vehicle : Text) (p : Plan) → IsNowPlan file moment vehicle p
-    → IsSound (Given.for_now file moment vehicle)
-now_sound file moment vehicle (plan.Now f m v) h = ((m.second, h.1), (v, h.2))
-now_sound file moment vehicle (plan.Faults f w) h = absurd h
-now_sound file moment vehicle (plan.Picture f t s) h = absurd h
-now_sound file moment vehicle (plan.DomainPicture d t y) h = absurd h
-now_sound file moment vehicle (plan.Words d) h = absurd h
-now_sound file moment vehicle (plan.HoursOf d) h = absurd h
-now_sound file moment vehicle (plan.DomainOf t) h = absurd h
-now_sound file moment vehicle (plan.Same a b m) h = absurd h
-now_sound file moment vehicle (plan.Records f) h = absurd h
-now_sound file moment vehicle (plan.Show t) h = absurd h
+now_sound : (texts : NowTexts) (p : Plan) → IsNowPlan texts p → IsSound (Given.for_now texts)
+now_sound texts (plan.Now f m v c es) h = ((m.second, h.1), (v, h.2), ap is_some h.4)
+now_sound texts (plan.Faults f w) h = absurd h
+now_sound texts (plan.Picture f t s) h = absurd h
+now_sound texts (plan.DomainPicture d t y) h = absurd h
+now_sound texts (plan.Words d) h = absurd h
+now_sound texts (plan.HoursOf d) h = absurd h
+now_sound texts (plan.DomainOf t) h = absurd h
+now_sound texts (plan.Same a b m) h = absurd h
+now_sound texts (plan.Records f) h = absurd h
+now_sound texts (plan.Show t) h = absurd h
 
 words_sound : (text : Text) (p : Plan) → IsWordsPlan text p → HasNoFault text
-words_sound text (plan.Now f m v) h = absurd h
+words_sound text (plan.Now f m v c es) h = absurd h
 words_sound text (plan.Faults f w) h = absurd h
 words_sound text (plan.Picture f t s) h = absurd h
 words_sound text (plan.DomainPicture d t y) h = absurd h
@@ -98,7 +100,7 @@ words_sound text (plan.Records f) h = absurd h
 words_sound text (plan.Show t) h = absurd h
 
 hours_sound : (text : Text) (p : Plan) → IsHoursPlan text p → HasNoFault text
-hours_sound text (plan.Now f m v) h = absurd h
+hours_sound text (plan.Now f m v c es) h = absurd h
 hours_sound text (plan.Faults f w) h = absurd h
 hours_sound text (plan.Picture f t s) h = absurd h
 hours_sound text (plan.DomainPicture d t y) h = absurd h
@@ -110,7 +112,7 @@ hours_sound text (plan.Records f) h = absurd h
 hours_sound text (plan.Show t) h = absurd h
 
 picture_sound : (texts : PictureTexts) (p : Plan) → IsPicturePlan texts p → IsSound (Given.for_picture texts)
-picture_sound texts (plan.Now f m v) h = absurd h
+picture_sound texts (plan.Now f m v c es) h = absurd h
 picture_sound texts (plan.Faults f w) h = absurd h
 picture_sound texts (plan.Picture f t s) h = (s, h.1)
 picture_sound texts (plan.DomainPicture d t y) h = absurd h
@@ -122,7 +124,7 @@ picture_sound texts (plan.Records f) h = absurd h
 picture_sound texts (plan.Show t) h = absurd h
 
 domain_sound : (text year : Text) (p : Plan) → IsDomainPlan text year p → IsSound (Given.for_picture_domain text year)
-domain_sound text year (plan.Now f m v) h = absurd h
+domain_sound text year (plan.Now f m v c es) h = absurd h
 domain_sound text year (plan.Faults f w) h = absurd h
 domain_sound text year (plan.Picture f t s) h = absurd h
 domain_sound text year (plan.DomainPicture d t y) h = (h.1.faultless, (y, h.2))
@@ -135,7 +137,7 @@ domain_sound text year (plan.Show t) h = absurd h
 
 same_sound : (first second : Text) (from : Option Text) (p : Plan) → IsSamePlan first second from p
     → IsSound (Given.for_same first second from)
-same_sound first second from (plan.Now f m v) h = absurd h
+same_sound first second from (plan.Now f m v c es) h = absurd h
 same_sound first second from (plan.Faults f w) h = absurd h
 same_sound first second from (plan.Picture f t s) h = absurd h
 same_sound first second from (plan.DomainPicture d t y) h = absurd h
@@ -147,7 +149,7 @@ same_sound first second from (plan.Records f) h = absurd h
 same_sound first second from (plan.Show t) h = absurd h
 
 sound : (given : Given) (p : Plan) → Asks given p → IsSound given
-sound (Given.for_now file moment vehicle) p h = now_sound file moment vehicle p h
+sound (Given.for_now texts) p h = now_sound texts p h
 sound (Given.for_faults file warn) p h = tt
 sound (Given.for_words text) p h = words_sound text p h
 sound (Given.for_hours text) p h = tt
@@ -159,20 +161,26 @@ sound (Given.for_picture_domain text year) p h = domain_sound text year p h
 
 -- ---- it has no word that stands for nothing
 
-now_apart : (file moment vehicle : Text) (r : Refusal) → IsSound (Given.for_now file moment vehicle)
-    → IsNowFault moment vehicle r → ⊥
-now_apart file moment vehicle (refusal.Usage why) s h = h
-now_apart file moment vehicle (refusal.Moment why) s h = ok_or_err (stamp_in moment) s.0.0 why s.0.1 h
-now_apart file moment vehicle refusal.Vehicle s h = h.1 s.1.0 s.1.1.0 s.1.1.1
-now_apart file moment vehicle (refusal.Word why) s h = h
-now_apart file moment vehicle (refusal.Pair why) s h = h
-now_apart file moment vehicle refusal.NoHours s h = h
-now_apart file moment vehicle (refusal.NoDomain why) s h = h
-now_apart file moment vehicle refusal.NoElement s h = h
-now_apart file moment vehicle (refusal.Records why) s h = h
-now_apart file moment vehicle refusal.Open s h = h
-now_apart file moment vehicle refusal.Write s h = h
-now_apart file moment vehicle refusal.Memory s h = h
+no_element_fault : (texts : NowTexts) → IsSome (elements_in texts.element) → (why : WordFault) → IsElementFault texts why → ⊥
+no_element_fault texts some word.Element h = some_read (elements_in texts.element) some h.2
+no_element_fault texts some word.Direction h = h
+no_element_fault texts some word.Vehicle h = h
+no_element_fault texts some word.Year h = h
+no_element_fault texts some (word.Domain why) h = h
+
+now_apart : (texts : NowTexts) (r : Refusal) → IsSound (Given.for_now texts) → IsNowFault texts r → ⊥
+now_apart texts (refusal.Usage why) s h = h
+now_apart texts (refusal.Moment why) s h = ok_or_err (moment_in texts.moment) s.0.0 why s.0.1 h
+now_apart texts refusal.Vehicle s h = h.1 s.1.0 s.1.1.0 s.1.1.1
+now_apart texts (refusal.Word why) s h = no_element_fault texts s.2 why h
+now_apart texts (refusal.Pair why) s h = h
+now_apart texts refusal.NoHours s h = h
+now_apart texts (refusal.NoDomain why) s h = h
+now_apart texts refusal.NoElement s h = h
+now_apart texts (refusal.Records why) s h = h
+now_apart texts refusal.Open s h = h
+now_apart texts refusal.Write s h = h
+now_apart texts refusal.Memory s h = h
 
 of_word_apart : (is : WordFault → Type 0) → ((why : WordFault) → is why → ⊥) → (r : Refusal) → IsOfWord is r → ⊥
 of_word_apart is none (refusal.Usage why) h = h
@@ -227,7 +235,7 @@ of_pair_apart is none refusal.Memory h = h
 
 no_from_fault : (from : Option Text) (s : Sec) → IsFromWord from s → (why : StampFault) → IsFromFault from why → ⊥
 no_from_fault None s is why h = h
-no_from_fault (Some text) s is why h = ok_or_err (stamp_in text) s why is h
+no_from_fault (Some text) s is why h = ok_or_err (moment_in text) s why is h
 
 no_pair_fault : (first second : Text) (from : Option Text) → IsSound (Given.for_same first second from) → (why : PairFault)
     → IsPairFault first second from why → ⊥
@@ -236,7 +244,7 @@ no_pair_fault first second from s (pair.Second why) h = s.1 why h.1
 no_pair_fault first second from s (pair.From why) h = no_from_fault from s.2.0 s.2.1 why h.2
 
 apart : (given : Given) (r : Refusal) → IsSound given → IsWordFault given r → ⊥
-apart (Given.for_now file moment vehicle) r s h = now_apart file moment vehicle r s h
+apart (Given.for_now texts) r s h = now_apart texts r s h
 apart (Given.for_faults file warn) r s h = h
 apart (Given.for_words text) r s h = of_word_apart (IsWordOfDomainFault text) (no_domain_fault text s) r h
 apart (Given.for_hours text) r s h = h
@@ -250,48 +258,90 @@ apart (Given.for_picture_domain text year) r s h =
 
 -- ---- one word is the first that stands for nothing
 
-one_moment : (moment vehicle : Text) (a : StampFault) (r : Refusal) → stamp_in moment ≡ Err a → IsNowFault moment vehicle r
+moment_or_element : (texts : NowTexts) (a : StampFault) (why : WordFault) → moment_in texts.moment ≡ Err a
+    → IsElementFault texts why → ⊥
+moment_or_element texts a word.Element h k = ok_or_err (moment_in texts.moment) k.0.0 a k.0.1 h
+moment_or_element texts a word.Direction h k = k
+moment_or_element texts a word.Vehicle h k = k
+moment_or_element texts a word.Year h k = k
+moment_or_element texts a (word.Domain why) h k = k
+
+vehicle_or_element : (texts : NowTexts) (why : WordFault) → IsNoVehicle texts.vehicle → IsElementFault texts why → ⊥
+vehicle_or_element texts word.Element h k = h k.1.0 k.1.1.0 k.1.1.1
+vehicle_or_element texts word.Direction h k = k
+vehicle_or_element texts word.Vehicle h k = k
+vehicle_or_element texts word.Year h k = k
+vehicle_or_element texts (word.Domain why) h k = k
+
+one_element : (texts : NowTexts) (a b : WordFault) → IsElementFault texts a → IsElementFault texts b → a ≡ b
+one_element texts word.Element word.Element h k = refl
+one_element texts word.Element word.Direction h k = absurd k
+one_element texts word.Element word.Vehicle h k = absurd k
+one_element texts word.Element word.Year h k = absurd k
+one_element texts word.Element (word.Domain why) h k = absurd k
+one_element texts word.Direction b h k = absurd h
+one_element texts word.Vehicle b h k = absurd h
+one_element texts word.Year b h k = absurd h
+one_element texts (word.Domain why) b h k = absurd h
+
+one_moment : (texts : NowTexts) (a : StampFault) (r : Refusal) → moment_in texts.moment ≡ Err a → IsNowFault texts r
     → r ≡ refusal.Moment a
-one_moment moment vehicle a (refusal.Usage why) h k = absurd k
-one_moment moment vehicle a (refusal.Moment why) h k = ap refusal.Moment (one_err (stamp_in moment) why a k h)
-one_moment moment vehicle a refusal.Vehicle h k = absurd (ok_or_err (stamp_in moment) k.0.0 a k.0.1 h)
-one_moment moment vehicle a (refusal.Word why) h k = absurd k
-one_moment moment vehicle a (refusal.Pair why) h k = absurd k
-one_moment moment vehicle a refusal.NoHours h k = absurd k
-one_moment moment vehicle a (refusal.NoDomain why) h k = absurd k
-one_moment moment vehicle a refusal.NoElement h k = absurd k
-one_moment moment vehicle a (refusal.Records why) h k = absurd k
-one_moment moment vehicle a refusal.Open h k = absurd k
-one_moment moment vehicle a refusal.Write h k = absurd k
-one_moment moment vehicle a refusal.Memory h k = absurd k
+one_moment texts a (refusal.Usage why) h k = absurd k
+one_moment texts a (refusal.Moment why) h k = ap refusal.Moment (one_err (moment_in texts.moment) why a k h)
+one_moment texts a refusal.Vehicle h k = absurd (ok_or_err (moment_in texts.moment) k.0.0 a k.0.1 h)
+one_moment texts a (refusal.Word why) h k = absurd (moment_or_element texts a why h k)
+one_moment texts a (refusal.Pair why) h k = absurd k
+one_moment texts a refusal.NoHours h k = absurd k
+one_moment texts a (refusal.NoDomain why) h k = absurd k
+one_moment texts a refusal.NoElement h k = absurd k
+one_moment texts a (refusal.Records why) h k = absurd k
+one_moment texts a refusal.Open h k = absurd k
+one_moment texts a refusal.Write h k = absurd k
+one_moment texts a refusal.Memory h k = absurd k
 
-one_vehicle : (moment vehicle : Text) (r : Refusal) → IsMomentWord moment → IsNowFault moment vehicle r → r ≡ refusal.Vehicle
-one_vehicle moment vehicle (refusal.Usage why) h k = absurd k
-one_vehicle moment vehicle (refusal.Moment why) h k = absurd (ok_or_err (stamp_in moment) h.0 why h.1 k)
-one_vehicle moment vehicle refusal.Vehicle h k = refl
-one_vehicle moment vehicle (refusal.Word why) h k = absurd k
-one_vehicle moment vehicle (refusal.Pair why) h k = absurd k
-one_vehicle moment vehicle refusal.NoHours h k = absurd k
-one_vehicle moment vehicle (refusal.NoDomain why) h k = absurd k
-one_vehicle moment vehicle refusal.NoElement h k = absurd k
-one_vehicle moment vehicle (refusal.Records why) h k = absurd k
-one_vehicle moment vehicle refusal.Open h k = absurd k
-one_vehicle moment vehicle refusal.Write h k = absurd k
-one_vehicle moment vehicle refusal.Memory h k = absurd k
+one_vehicle : (texts : NowTexts) (r : Refusal) → IsMomentWord texts.moment → IsNoVehicle texts.vehicle → IsNowFault texts r
+    → r ≡ refusal.Vehicle
+one_vehicle texts (refusal.Usage why) h none k = absurd k
+one_vehicle texts (refusal.Moment why) h none k = absurd (ok_or_err (moment_in texts.moment) h.0 why h.1 k)
+one_vehicle texts refusal.Vehicle h none k = refl
+one_vehicle texts (refusal.Word why) h none k = absurd (vehicle_or_element texts why none k)
+one_vehicle texts (refusal.Pair why) h none k = absurd k
+one_vehicle texts refusal.NoHours h none k = absurd k
+one_vehicle texts (refusal.NoDomain why) h none k = absurd k
+one_vehicle texts refusal.NoElement h none k = absurd k
+one_vehicle texts (refusal.Records why) h none k = absurd k
+one_vehicle texts refusal.Open h none k = absurd k
+one_vehicle texts refusal.Write h none k = absurd k
+one_vehicle texts refusal.Memory h none k = absurd k
 
-one_now : (moment vehicle : Text) (r s : Refusal) → IsNowFault moment vehicle r → IsNowFault moment vehicle s → s ≡ r
-one_now moment vehicle (refusal.Usage why) s h k = absurd h
-one_now moment vehicle (refusal.Moment why) s h k = one_moment moment vehicle why s h k
-one_now moment vehicle refusal.Vehicle s h k = one_vehicle moment vehicle s h.0 k
-one_now moment vehicle (refusal.Word why) s h k = absurd h
-one_now moment vehicle (refusal.Pair why) s h k = absurd h
-one_now moment vehicle refusal.NoHours s h k = absurd h
-one_now moment vehicle (refusal.NoDomain why) s h k = absurd h
-one_now moment vehicle refusal.NoElement s h k = absurd h
-one_now moment vehicle (refusal.Records why) s h k = absurd h
-one_now moment vehicle refusal.Open s h k = absurd h
-one_now moment vehicle refusal.Write s h k = absurd h
-one_now moment vehicle refusal.Memory s h k = absurd h
+one_of_elements : (texts : NowTexts) (a : WordFault) (r : Refusal) → IsElementFault texts a → IsNowFault texts r
+    → r ≡ refusal.Word a
+one_of_elements texts a (refusal.Usage why) h k = absurd k
+one_of_elements texts a (refusal.Moment why) h k = absurd (moment_or_element texts why a k h)
+one_of_elements texts a refusal.Vehicle h k = absurd (vehicle_or_element texts a k.1 h)
+one_of_elements texts a (refusal.Word why) h k = ap refusal.Word (one_element texts why a k h)
+one_of_elements texts a (refusal.Pair why) h k = absurd k
+one_of_elements texts a refusal.NoHours h k = absurd k
+one_of_elements texts a (refusal.NoDomain why) h k = absurd k
+one_of_elements texts a refusal.NoElement h k = absurd k
+one_of_elements texts a (refusal.Records why) h k = absurd k
+one_of_elements texts a refusal.Open h k = absurd k
+one_of_elements texts a refusal.Write h k = absurd k
+one_of_elements texts a refusal.Memory h k = absurd k
+
+one_now : (texts : NowTexts) (r s : Refusal) → IsNowFault texts r → IsNowFault texts s → s ≡ r
+one_now texts (refusal.Usage why) s h k = absurd h
+one_now texts (refusal.Moment why) s h k = one_moment texts why s h k
+one_now texts refusal.Vehicle s h k = one_vehicle texts s h.0 h.1 k
+one_now texts (refusal.Word why) s h k = one_of_elements texts why s h k
+one_now texts (refusal.Pair why) s h k = absurd h
+one_now texts refusal.NoHours s h k = absurd h
+one_now texts (refusal.NoDomain why) s h k = absurd h
+one_now texts refusal.NoElement s h k = absurd h
+one_now texts (refusal.Records why) s h k = absurd h
+one_now texts refusal.Open s h k = absurd h
+one_now texts refusal.Write s h k = absurd h
+one_now texts refusal.Memory s h k = absurd h
 
 same_word : (is : WordFault → Type 0) → ((a b : WordFault) → is a → is b → a ≡ b) → (a : WordFault) (s : Refusal) → is a
     → IsOfWord is s → s ≡ refusal.Word a
@@ -408,7 +458,7 @@ one_of_pair is one refusal.Memory s h k = absurd h
 
 one_from_fault : (from : Option Text) (a b : StampFault) → IsFromFault from a → IsFromFault from b → a ≡ b
 one_from_fault None a b h k = absurd h
-one_from_fault (Some text) a b h k = one_err (stamp_in text) a b h k
+one_from_fault (Some text) a b h k = one_err (moment_in text) a b h k
 
 one_pair_fault : (first second : Text) (from : Option Text) (x y : PairFault) → IsPairFault first second from x
     → IsPairFault first second from y → x ≡ y
@@ -423,7 +473,7 @@ one_pair_fault first second from (pair.From a) (pair.Second b) h k = absurd (h.1
 one_pair_fault first second from (pair.From a) (pair.From b) h k = ap pair.From (one_from_fault from a b h.2 k.2)
 
 one_word : (given : Given) (r s : Refusal) → IsWordFault given r → IsWordFault given s → s ≡ r
-one_word (Given.for_now file moment vehicle) r s h k = one_now moment vehicle r s h k
+one_word (Given.for_now texts) r s h k = one_now texts r s h k
 one_word (Given.for_faults file warn) r s h k = absurd h
 one_word (Given.for_words text) r s h k = one_of_word (IsWordOfDomainFault text) (one_domain_fault text) r s h k
 one_word (Given.for_hours text) r s h k = absurd h
@@ -434,6 +484,37 @@ one_word (Given.for_records file) r s h k = absurd h
 one_word (Given.for_picture texts) r s h k = one_of_word (IsSubjectFault texts) (one_subject_fault texts) r s h k
 one_word (Given.for_picture_domain text year) r s h k =
     one_of_word (IsDomainFault text year) (one_picture_fault text year) r s h k
+
+-- ---- words of which there may be none
+
+pub asked_none : {A : Type 0} (f : A → Text) (words : List A) → length words ≡ 0 → asked_words (map f words) ≡ help_words
+asked_none f [] e = refl
+asked_none f (word ∷ words) e = absurd (omega (arith, e))
+
+pub asked_some : {A : Type 0} (f : A → Text) (words : List A) (word : A) (rest : List A) → words ≡ word ∷ rest
+    → asked_words (map f words) ≡ map f words
+asked_some f words word rest e = subst (λ (x : List _). asked_words (map f x) ≡ map f x) (sym e) refl
+
+-- ---- why the elements of `now` are refused
+
+pub refused_elements : (texts : NowTexts) (r : Refusal) → IsMomentWord texts.moment
+    → ((v : ℕ) × IsVehicleWord texts.vehicle v) → IsNoElements texts.element r → IsRefused (Given.for_now texts) r
+refused_elements texts (refusal.Usage why) m v h = absurd h
+refused_elements texts (refusal.Moment why) m v h = absurd h
+refused_elements texts refusal.Vehicle m v h = absurd h
+refused_elements texts (refusal.Word word.Element) m v h = (m, v, h)
+refused_elements texts (refusal.Word word.Direction) m v h = absurd h
+refused_elements texts (refusal.Word word.Vehicle) m v h = absurd h
+refused_elements texts (refusal.Word word.Year) m v h = absurd h
+refused_elements texts (refusal.Word (word.Domain why)) m v h = absurd h
+refused_elements texts (refusal.Pair why) m v h = absurd h
+refused_elements texts refusal.NoHours m v h = absurd h
+refused_elements texts (refusal.NoDomain why) m v h = absurd h
+refused_elements texts refusal.NoElement m v h = absurd h
+refused_elements texts (refusal.Records why) m v h = absurd h
+refused_elements texts refusal.Open m v h = absurd h
+refused_elements texts refusal.Write m v h = absurd h
+refused_elements texts refusal.Memory m v h = tt
 
 -- ---- what a command line is answered
 
@@ -520,7 +601,7 @@ none_given_by words told m has e is =
     inr (has.faultless, ap (λ (o : Option (Text × List Row)). option_and_then given_in o) (sym has.entered) ∙ sym e, is)
 
 no_usage : (given : Given) → (told : _) → IsWordFault given (refusal.Usage told) → ⊥
-no_usage (Given.for_now file moment vehicle) told h = h
+no_usage (Given.for_now texts) told h = h
 no_usage (Given.for_faults file warn) told h = h
 no_usage (Given.for_words text) told h = h
 no_usage (Given.for_hours text) told h = h

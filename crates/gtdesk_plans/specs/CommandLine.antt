@@ -41,9 +41,13 @@ Builds app built = IfOk built (λ command. app_of command ≡ app)
 abbrev pub command_of : Text → List Rule → App
 command_of name rules = fold with_rule (new_app name) rules
 
--- `now FILE MOMENT VEHICLE`
+-- `now [--closed] [--element N[,N..]] FILE MOMENT VEHICLE`, first without its options
+abbrev pub now_by_words : App
+now_by_words =
+    command_of (codes "now") (word_rule (codes "FILE") ∷ word_rule (codes "MOMENT") ∷ word_rule (codes "VEHICLE") ∷ [])
+
 abbrev pub now_app : App
-now_app = command_of (codes "now") (word_rule (codes "FILE") ∷ word_rule (codes "MOMENT") ∷ word_rule (codes "VEHICLE") ∷ [])
+now_app = fold with_rule now_by_words (flag_rule (codes "closed") ∷ option_rule (codes "element") ∷ [])
 
 -- `faults [--warn] FILE`
 abbrev pub faults_app : App

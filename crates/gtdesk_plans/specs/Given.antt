@@ -1,5 +1,5 @@
 -- Which words of a command are given.
-use Rattle.std.specs.Prelude.{◌≡◌, ◌⊎◌, Bool, false, List, [], Option, Some, None, codes, option_and_then, option_map}
+use Rattle.std.specs.Prelude.{◌≡◌, ◌⊎◌, Bool, false, List, [], ◌∷◌, Option, Some, None, codes, option_and_then, option_map}
 use Rattle.std.specs.Prelude.{if◌then◌else◌}
 use Rattle.std.specs.Str.{bytes_eq}
 use Rattle.clap.specs.Walk.{Row, first_of}
@@ -10,7 +10,16 @@ use Rattle.clap.specs.declared.error.kind.ErrorKind.{ErrorKind}
 use Rattle.gtdesk_plans.specs.CommandLine.{Text, desk_app, is_request, neither_or_both, usage_text}
 use Rattle.gtdesk_plans.specs.declared.given.Words.{Words}
 use Rattle.gtdesk_plans.specs.declared.given.Words.TheVariants as words
+use Rattle.gtdesk_plans.specs.declared.given.NowWords.{NowWords}
 use Rattle.gtdesk_plans.specs.declared.given.PictureWords.{PictureWords}
+
+-- The words of `now`.
+pub record NowTexts : Type 0 where
+  pub file : Text
+  pub moment : Text
+  pub vehicle : Text
+  pub closed : Bool
+  pub element : Option Text
 
 -- The words of `picture`.
 pub record PictureTexts : Type 0 where
@@ -22,7 +31,7 @@ pub record PictureTexts : Type 0 where
 
 -- A command with all of its words.
 pub data Given : Type 0 where
-  for_now : (file moment vehicle : Text) → Given
+  for_now : (texts : NowTexts) → Given
   for_faults : (file : Text) → (warn : Bool) → Given
   for_words : (domain : Text) → Given
   for_hours : (text : Text) → Given
@@ -32,10 +41,11 @@ pub data Given : Type 0 where
   for_picture : (texts : PictureTexts) → Given
   for_picture_domain : (domain year : Text) → Given
 
--- The value of each word, if all are there.
-abbrev pub all_of_now : Option Text → Option Text → Option Text → Option Given
-all_of_now (Some file) (Some moment) (Some vehicle) = Some (Given.for_now file moment vehicle)
-all_of_now file moment vehicle = None
+-- The value of each word, if all are there; the options of `now` may be left out.
+abbrev pub all_of_now : Option Text → Option Text → Option Text → Bool → Option Text → Option Given
+all_of_now (Some file) (Some moment) (Some vehicle) closed element =
+    Some (Given.for_now (record { file = file; moment = moment; vehicle = vehicle; closed = closed; element = element }))
+all_of_now file moment vehicle closed element = None
 
 abbrev pub all_of_picture : Option Text → Option Text → Option Text → Option Text → Option Text → Option Given
 all_of_picture (Some file) (Some element) (Some direction) (Some vehicle) (Some year) =
@@ -66,6 +76,7 @@ is_set (Some text) = bytes_eq text (codes "true")
 abbrev pub now_in : List Row → Option Given
 now_in rows =
     all_of_now (first_of (codes "FILE") rows) (first_of (codes "MOMENT") rows) (first_of (codes "VEHICLE") rows)
+    (is_set (first_of (codes "closed") rows)) (first_of (codes "element") rows)
 
 abbrev pub faults_in : List Row → Option Given
 faults_in rows = option_map (λ file. Given.for_faults file (is_set (first_of (codes "warn") rows))) (first_of (codes "FILE") rows)
@@ -111,6 +122,14 @@ given_in found =
 abbrev pub given_by : List Text → Option Given
 given_by words = option_and_then given_in (subcommand_of desk_app words)
 
+-- What is read: without words, the program is asked for its help.
+abbrev pub help_words : List Text
+help_words = codes "--help" ∷ []
+
+abbrev pub asked_words : List Text → List Text
+asked_words [] = help_words
+asked_words (word ∷ words) = word ∷ words
+
 -- The words give this command, with all of its words and no fault.
 pub record Give (words : List Text) (given : Given) : Type 0 where
   pub faultless : fault_of desk_app words ≡ []
@@ -124,6 +143,15 @@ AreMistaken words told =
     ⊎ ((fault_of desk_app words ≡ []) × (given_by words ≡ None) × (told ≡ neither_or_both))
 
 -- Words as they were read, without where they lie in memory.
+abbrev pub now_texts : NowWords → NowTexts
+now_texts words = record {
+  file = words.file.now;
+  moment = words.moment.now;
+  vehicle = words.vehicle.now;
+  closed = words.closed;
+  element = option_map (λ text. text.now) words.element;
+}
+
 abbrev pub picture_texts : PictureWords → PictureTexts
 picture_texts words = record {
   file = words.file.now;
@@ -134,7 +162,7 @@ picture_texts words = record {
 }
 
 abbrev pub texts_of : Words → Given
-texts_of (words.Now file moment vehicle) = Given.for_now file.now moment.now vehicle.now
+texts_of (words.Now given) = Given.for_now (now_texts given)
 texts_of (words.Faults file warn) = Given.for_faults file.now warn
 texts_of (words.Words domain) = Given.for_words domain.now
 texts_of (words.Hours text) = Given.for_hours text.now

@@ -7,5 +7,6 @@ pub use Rattle.gtd_core.specs.Seconds
 pub use Rattle.gtd_core.specs.Parts
 pub use Rattle.gtd_text.specs.Reading
 pub use Rattle.gtd_calendar.specs.Read
+pub use Rattle.gtd_moments.specs.Moments
 pub use Rattle.gtd_records.specs.Columns
 pub use Rattle.gtd_report.specs.Run

@@ -1,12 +1,13 @@
 -- What a command line asks for, and why it is refused.
 use Rattle.std.specs.Prelude.{◌≡◌, ◌++◌, Bool, List, Option, Some, None, Ok, Err, codes, string_bytes}
-use Rattle.gtd_calendar.specs.Read.{stamp_in}
+use Rattle.gtd_moments.specs.Moments.{moment_in}
 use Rattle.clap.specs.declared.error.kind.ErrorKind.{ErrorKind}
 use Rattle.clap.specs.declared.error.kind.ErrorKind.TheVariants.{DisplayVersion}
 use Rattle.gtdesk_plans.specs.CommandLine.{AskForText, Text, version_line}
-use Rattle.gtdesk_plans.specs.Given.{AreMistaken, Give, Given, PictureTexts}
-use Rattle.gtdesk_plans.specs.Words.{AreSubjectWords, IsDomainFault, IsMomentWord, IsNoVehicle, IsReadDomain, IsSubjectFault}
-use Rattle.gtdesk_plans.specs.Words.{IsFromWord, IsPairFault, IsVehicleWord, IsWordOfDomainFault, IsYearWord}
+use Rattle.gtdesk_plans.specs.Given.{AreMistaken, Give, Given, NowTexts, PictureTexts}
+use Rattle.gtdesk_plans.specs.Words.{AreSubjectWords, IsDomainFault, IsElementFault, IsMomentWord, IsNoVehicle, IsReadDomain}
+use Rattle.gtdesk_plans.specs.Words.{IsFromWord, IsPairFault, IsSubjectFault, IsVehicleWord, IsWordOfDomainFault, IsYearWord}
+use Rattle.gtdesk_plans.specs.Words.{elements_in}
 use Rattle.gtdesk_plans.specs.declared.plans.Plan.{Plan}
 use Rattle.gtdesk_plans.specs.declared.plans.Plan.TheVariants as plan
 use Rattle.gtdesk_plans.specs.declared.refusal.PairFault.{PairFault}
@@ -15,10 +16,11 @@ use Rattle.gtdesk_plans.specs.declared.refusal.Refusal.TheVariants as refusal
 use Rattle.gtdesk_plans.specs.declared.refusal.WordFault.{WordFault}
 
 -- The plan that each command asks for.
-abbrev pub IsNowPlan : Text → Text → Text → Plan → Type 0
-IsNowPlan file moment vehicle (plan.Now f m v) =
-    (string_bytes f ≡ file) × (stamp_in moment ≡ Ok m.second) × IsVehicleWord vehicle v
-IsNowPlan file moment vehicle other = ⊥
+abbrev pub IsNowPlan : NowTexts → Plan → Type 0
+IsNowPlan texts (plan.Now f m v c es) =
+    (string_bytes f ≡ texts.file) × (moment_in texts.moment ≡ Ok m.second) × IsVehicleWord texts.vehicle v
+    × (c ≡ texts.closed) × (elements_in texts.element ≡ Some es.items)
+IsNowPlan texts other = ⊥
 
 abbrev pub IsFaultsPlan : Text → Bool → Plan → Type 0
 IsFaultsPlan file warn (plan.Faults f w) = (string_bytes f ≡ file) × (w ≡ warn)
@@ -64,7 +66,7 @@ IsDomainPlan text year other = ⊥
 
 -- The command asks for what the plan carries out.
 abbrev pub Asks : Given → Plan → Type 0
-Asks (Given.for_now file moment vehicle) p = IsNowPlan file moment vehicle p
+Asks (Given.for_now texts) p = IsNowPlan texts p
 Asks (Given.for_faults file warn) p = IsFaultsPlan file warn p
 Asks (Given.for_words text) p = IsWordsPlan text p
 Asks (Given.for_hours text) p = IsTextPlan text p
@@ -74,11 +76,13 @@ Asks (Given.for_records file) p = IsRecordsPlan file p
 Asks (Given.for_picture texts) p = IsPicturePlan texts p
 Asks (Given.for_picture_domain text year) p = IsDomainPlan text year p
 
--- The first of the words of `now` that stands for nothing; and of commands whose faults are those of `WordFault`.
-abbrev pub IsNowFault : Text → Text → Refusal → Type 0
-IsNowFault moment vehicle (refusal.Moment why) = stamp_in moment ≡ Err why
-IsNowFault moment vehicle refusal.Vehicle = IsMomentWord moment × IsNoVehicle vehicle
-IsNowFault moment vehicle other = ⊥
+-- The first of the words of `now` that stands for nothing, its options last; and of commands whose faults are those of
+-- `WordFault` or of `PairFault`.
+abbrev pub IsNowFault : NowTexts → Refusal → Type 0
+IsNowFault texts (refusal.Moment why) = moment_in texts.moment ≡ Err why
+IsNowFault texts refusal.Vehicle = IsMomentWord texts.moment × IsNoVehicle texts.vehicle
+IsNowFault texts (refusal.Word why) = IsElementFault texts why
+IsNowFault texts other = ⊥
 
 abbrev pub IsOfWord : (WordFault → Type 0) → Refusal → Type 0
 IsOfWord is (refusal.Word why) = is why
@@ -91,7 +95,7 @@ IsOfPair is other = ⊥
 -- The refusal is for the first word of the command that stands for nothing. The text of `hours` is read when the plan is carried
 -- out.
 abbrev pub IsWordFault : Given → Refusal → Type 0
-IsWordFault (Given.for_now file moment vehicle) r = IsNowFault moment vehicle r
+IsWordFault (Given.for_now texts) r = IsNowFault texts r
 IsWordFault (Given.for_faults file warn) r = ⊥
 IsWordFault (Given.for_words text) r = IsOfWord (IsWordOfDomainFault text) r
 IsWordFault (Given.for_hours text) r = ⊥
@@ -125,7 +129,7 @@ AreRefused words other = (given : Given) × Give words given × IsWordFault give
 
 -- The path of the file that the plan reads, if it reads one.
 abbrev pub file_of : Plan → Option Text
-file_of (plan.Now file moment vehicle) = Some (string_bytes file)
+file_of (plan.Now file moment vehicle closed elements) = Some (string_bytes file)
 file_of (plan.Faults file warn) = Some (string_bytes file)
 file_of (plan.Records file) = Some (string_bytes file)
 file_of (plan.Picture file title subject) = Some (string_bytes file)

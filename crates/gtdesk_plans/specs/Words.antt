@@ -1,6 +1,7 @@
 -- What the single words of a command stand for.
-use Rattle.std.specs.Prelude.{◌≡◌, ◌*ℤ◌, ℕ, pos, Option, Some, None, Ok, Err, IsSome}
-use Rattle.gtd_calendar.specs.Read.{stamp_in}
+use Rattle.std.specs.Prelude.{◌≡◌, ◌==◌, ◌*ℤ◌, ℕ, pos, List, [], ◌∷◌, Option, Some, None, Ok, Err, IsSome}
+use Rattle.std.specs.List.{slice_split}
+use Rattle.gtd_moments.specs.Moments.{moment_in}
 use Rattle.gtd_calendar.specs.declared.stamp.StampFault.{StampFault}
 use Rattle.gtd_core.specs.Limits.{day_seconds, first_horizon_day}
 use Rattle.gtd_core.specs.Parts.{domain_tree}
@@ -10,7 +11,7 @@ use Rattle.gtd_records.specs.Columns.{direction_of, number_of}
 use Rattle.gtd_report.specs.Run.{IsTableYear, IsVehicleType}
 use Rattle.gtd_text.specs.Reading.{HasNoFault, IsFault, StandsFor}
 use Rattle.gtdesk_plans.specs.CommandLine.{Text}
-use Rattle.gtdesk_plans.specs.Given.{PictureTexts}
+use Rattle.gtdesk_plans.specs.Given.{NowTexts, PictureTexts}
 use Rattle.gtdesk_plans.specs.declared.plans.PictureSubject.{PictureSubject}
 use Rattle.gtdesk_plans.specs.declared.refusal.PairFault.{PairFault}
 use Rattle.gtdesk_plans.specs.declared.refusal.PairFault.TheVariants as pair
@@ -21,7 +22,7 @@ use Rattle.gtdesk_plans.specs.declared.refusal.WordFault.TheVariants as fault
 
 -- The word stands for a moment.
 abbrev pub IsMomentWord : Text → Type 0
-IsMomentWord text = (second : Sec) × (stamp_in text ≡ Ok second)
+IsMomentWord text = (second : Sec) × (moment_in text ≡ Ok second)
 
 -- The word stands for a vehicle type.
 abbrev pub IsVehicleWord : Text → ℕ → Type 0
@@ -30,6 +31,25 @@ IsVehicleWord text vehicle = (number_of text ≡ Some vehicle) × IsVehicleType 
 -- The word does not stand for a vehicle type.
 abbrev pub IsNoVehicle : Text → Type 0
 IsNoVehicle text = (vehicle : ℕ) → number_of text ≡ Some vehicle → IsVehicleType vehicle → ⊥
+
+-- The numbers of texts, in their order, if each is a number.
+abbrev pub and_number : Option ℕ → Option (List ℕ) → Option (List ℕ)
+and_number None numbers = None
+and_number (Some number) None = None
+and_number (Some number) (Some numbers) = Some (number ∷ numbers)
+
+abbrev pub numbers_of : List Text → Option (List ℕ)
+numbers_of [] = Some []
+numbers_of (text ∷ texts) = and_number (number_of text) (numbers_of texts)
+
+-- The parts of a text, which commas separate.
+abbrev pub parts_of : Text → List Text
+parts_of text = slice_split (λ byte. byte == 44) text
+
+-- The elements that a word names, which may be left out: its numbers, which commas separate. Without it, no element is named.
+abbrev pub elements_in : Option Text → Option (List ℕ)
+elements_in None = Some []
+elements_in (Some text) = numbers_of (parts_of text)
 
 -- The word stands for a year that a picture may be of.
 abbrev pub IsYearWord : Text → ℕ → Type 0
@@ -49,6 +69,18 @@ abbrev pub IsNoDomain : Text → Refusal → Type 0
 IsNoDomain text refusal.Memory = Unit {0}
 IsNoDomain text (refusal.Word (fault.Domain why)) = IsFault text why
 IsNoDomain text other = ⊥
+
+-- The elements of `now` are the first of its words that stands for nothing.
+abbrev pub IsElementFault : NowTexts → WordFault → Type 0
+IsElementFault texts fault.Element =
+    IsMomentWord texts.moment × ((vehicle : ℕ) × IsVehicleWord texts.vehicle vehicle) × (elements_in texts.element ≡ None)
+IsElementFault texts other = ⊥
+
+-- The refusal is of memory, or of a word that should name elements.
+abbrev pub IsNoElements : Option Text → Refusal → Type 0
+IsNoElements text refusal.Memory = Unit {0}
+IsNoElements text (refusal.Word fault.Element) = elements_in text ≡ None
+IsNoElements text other = ⊥
 
 -- The words of `picture` stand for this element, direction, vehicle type and year.
 pub record AreSubjectWords (texts : PictureTexts) (subject : PictureSubject) : Type 0 where
@@ -82,11 +114,11 @@ IsWordOfDomainFault domain other = ⊥
 -- The word, which may be left out, stands for the second: without it, that is 1901-01-01T00:00:00.
 abbrev pub IsFromWord : Option Text → Sec → Type 0
 IsFromWord None second = second.0 ≡ first_horizon_day *ℤ pos day_seconds
-IsFromWord (Some text) second = stamp_in text ≡ Ok second
+IsFromWord (Some text) second = moment_in text ≡ Ok second
 
 abbrev pub IsFromFault : Option Text → StampFault → Type 0
 IsFromFault None why = ⊥
-IsFromFault (Some text) why = stamp_in text ≡ Err why
+IsFromFault (Some text) why = moment_in text ≡ Err why
 
 -- The first of the words of `same` that stands for nothing.
 abbrev pub IsPairFault : Text → Text → Option Text → PairFault → Type 0

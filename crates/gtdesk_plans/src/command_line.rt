@@ -8,7 +8,8 @@ ghost use Rattle.clap.specs.Kinds.{HasKind};
 ghost use Rattle.clap.specs.Simple.{App, new_app, with_rule, with_subcommand};
 ghost use Rattle.clap.specs.Walk.{rule_of};
 ghost use Rattle.gtdesk_plans.specs.CommandLine.{Builds, HasWords, desk_app, domain_app, faults_app, hours_app};
-ghost use Rattle.gtdesk_plans.specs.CommandLine.{none_given, now_app, picture_app, records_app, same_app, word_rule, words_app};
+ghost use Rattle.gtdesk_plans.specs.CommandLine.{none_given, now_app, now_by_words, picture_app, records_app, same_app};
+ghost use Rattle.gtdesk_plans.specs.CommandLine.{word_rule, words_app};
 
 use clap::{Arg, ArgAction, ArgMatches, Command};
 use std::alloc::{AllocError, Global};
@@ -55,9 +56,9 @@ fn bare<'a>(alloc: Global, name: &'a str, about: &'a str) -> Result<Command<'a>,
     Ok(Command::new(alloc, name).about(about))
 }
 
-// The command `now`.
-fn now_command<'a>(alloc: Global) -> Result<Command<'a>, AllocError>
-    ensures { Builds now_app result }
+// The command `now` without its options.
+fn now_by_words<'a>(alloc: Global) -> Result<Command<'a>, AllocError>
+    ensures { Builds now_by_words result }
 {
     let command = bare(
         alloc,
@@ -77,6 +78,23 @@ fn now_command<'a>(alloc: Global) -> Result<Command<'a>, AllocError>
         "The second, YYYY-MM-DDThh:mm:ss, of the local clock",
     );
     add_word(alloc, command, "VEHICLE", "The vehicle type, from 1 to 99")
+}
+
+// The command `now`.
+fn now_command<'a>(alloc: Global) -> Result<Command<'a>, AllocError>
+    ensures { Builds now_app result }
+{
+    let closed = Arg::new(alloc, "closed")
+        .long("closed")
+        .action(ArgAction::SetTrue)
+        .help("Print closed elements alone");
+    let command = add(now_by_words(alloc), closed);
+    let element = Arg::new(alloc, "element")
+        .long("element")
+        .value_name("N[,N..]")
+        .action(ArgAction::Set)
+        .help("Print these elements alone");
+    add(command, element)
 }
 
 // The command `faults`.

@@ -11,6 +11,16 @@ ghost use Rattle.gtdesk_plans.specs.Given.{words_in};
 
 use clap::ArgMatches;
 
+/// The words of `now [--closed] [--element N[,N..]] FILE MOMENT VEHICLE`, as they were given.
+#[derive(Clone, Copy)]
+pub(crate) struct NowWords<'a> {
+    pub(crate) file: &'a str,
+    pub(crate) moment: &'a str,
+    pub(crate) vehicle: &'a str,
+    pub(crate) closed: bool,
+    pub(crate) element: Option<&'a str>,
+}
+
 /// The words of `picture FILE ELEMENT DIRECTION VEHICLE YEAR`, as they were given.
 #[derive(Clone, Copy)]
 pub(crate) struct PictureWords<'a> {
@@ -24,12 +34,8 @@ pub(crate) struct PictureWords<'a> {
 /// A command with its words, as they were given.
 #[derive(Clone, Copy)]
 pub(crate) enum Words<'a> {
-    /// `now FILE MOMENT VEHICLE`
-    Now {
-        file: &'a str,
-        moment: &'a str,
-        vehicle: &'a str,
-    },
+    /// `now [--closed] [--element N[,N..]] FILE MOMENT VEHICLE`
+    Now(NowWords<'a>),
     /// `faults [--warn] FILE`
     Faults {
         file: &'a str,
@@ -73,31 +79,6 @@ fn value<'a>(given: &ArgMatches<'a>, name: &str) -> Option<&'a str>
     given.get_str(name)
 }
 
-// The words of `now`, if all are given.
-fn all_of_now<'a>(
-    file: Option<&'a str>,
-    moment: Option<&'a str>,
-    vehicle: Option<&'a str>,
-) -> Option<Words<'a>>
-    ensures { option_map texts_of result ≡ all_of_now (option_map (λ s. s.now) file.entry)
-        (option_map (λ s. s.now) moment.entry) (option_map (λ s. s.now) vehicle.entry) }
-{
-    Some(Words::Now {
-        file: file?,
-        moment: moment?,
-        vehicle: vehicle?,
-    })
-}
-
-fn now_words<'a>(given: &ArgMatches<'a>) -> Option<Words<'a>>
-    ensures { option_map texts_of result ≡ now_in (rows_of (found_of given.now)) }
-{
-    let file = value(given, "FILE");
-    let moment = value(given, "MOMENT");
-    let vehicle = value(given, "VEHICLE");
-    all_of_now(file, moment, vehicle)
-}
-
 // Whether an option without a value was given.
 fn is_set(given: Option<&str>) -> bool
     ensures { result ≡ is_set (option_map (λ s. s.now) given.entry) }
@@ -106,6 +87,38 @@ fn is_set(given: Option<&str>) -> bool
         Some(text) => text == "true",
         None => false,
     }
+}
+
+// The words of `now`, if all that it must have are given.
+fn all_of_now<'a>(
+    file: Option<&'a str>,
+    moment: Option<&'a str>,
+    vehicle: Option<&'a str>,
+    closed: bool,
+    element: Option<&'a str>,
+) -> Option<Words<'a>>
+    ensures { option_map texts_of result ≡ all_of_now (option_map (λ s. s.now) file.entry)
+        (option_map (λ s. s.now) moment.entry) (option_map (λ s. s.now) vehicle.entry) closed
+        (option_map (λ s. s.now) element.entry) }
+{
+    Some(Words::Now(NowWords {
+        file: file?,
+        moment: moment?,
+        vehicle: vehicle?,
+        closed,
+        element,
+    }))
+}
+
+fn now_words<'a>(given: &ArgMatches<'a>) -> Option<Words<'a>>
+    ensures { option_map texts_of result ≡ now_in (rows_of (found_of given.now)) }
+{
+    let file = value(given, "FILE");
+    let moment = value(given, "MOMENT");
+    let vehicle = value(given, "VEHICLE");
+    let closed = is_set(value(given, "closed"));
+    let element = value(given, "element");
+    all_of_now(file, moment, vehicle, closed, element)
 }
 
 fn faults_words<'a>(given: &ArgMatches<'a>) -> Option<Words<'a>>

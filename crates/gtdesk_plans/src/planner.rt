@@ -6,16 +6,16 @@ ghost use Rattle.clap.specs.Kinds.{HasKind};
 ghost use Rattle.clap.specs.declared.error.kind.ErrorKind.TheVariants.{DisplayVersion};
 ghost use Rattle.gtdesk_plans.specs.CommandLine as spec;
 ghost use Rattle.gtdesk_plans.specs.CommandLine.{Text, desk_app, version_line};
-ghost use Rattle.gtdesk_plans.specs.Given.{Give, Given, picture_texts, texts_of};
+ghost use Rattle.gtdesk_plans.specs.Given.{Give, Given, asked_words, help_words, now_texts, picture_texts, texts_of};
 ghost use Rattle.gtdesk_plans.specs.Plans.{AreRefused, AskFor, Asks, IsRefused, IsShown, IsWordFault, picture_title};
 ghost use Rattle.gtdesk_plans.specs.declared.refusal.Refusal.{Refusal};
 
 use crate::command_line::parse;
-use crate::given::{PictureWords, Words, given};
+use crate::given::{NowWords, PictureWords, Words, given};
 use crate::plans::Plan;
 use crate::refusal::{PairFault, Refusal, WordFault};
 use crate::words::{
-    domain_of, domain_or_fault, from_of, moment_of, subject_of, vehicle_of, year_of,
+    domain_of, domain_or_fault, elements_of, from_of, moment_of, subject_of, vehicle_of, year_of,
 };
 use clap::error::ErrorKind;
 use std::alloc::{AllocError, Global};
@@ -93,23 +93,29 @@ fn plan_error(alloc: Global, error: &clap::Error) -> Result<Plan, Refusal>
 }
 
 // The plan of `now`.
-fn plan_now(alloc: Global, file: &str, moment: &str, vehicle: &str) -> Result<Plan, Refusal>
-    ensures { MatchResult result (Asks (Given.for_now file.now moment.now vehicle.now))
-        (IsRefused (Given.for_now file.now moment.now vehicle.now)) }
+fn plan_now(alloc: Global, given: NowWords<'_>) -> Result<Plan, Refusal>
+    ensures { MatchResult result (Asks (Given.for_now (now_texts given.entry)))
+        (IsRefused (Given.for_now (now_texts given.entry))) }
 {
-    let moment = match moment_of(moment) {
+    let moment = match moment_of(given.moment) {
         Ok(moment) => moment,
         Err(fault) => return Err(Refusal::Moment(fault)),
     };
-    let vehicle = match vehicle_of(vehicle) {
+    let vehicle = match vehicle_of(given.vehicle) {
         Some(vehicle) => vehicle,
         None => return Err(Refusal::Vehicle),
     };
-    match String::from_str(alloc, file) {
+    let elements = match elements_of(alloc, given.element) {
+        Ok(elements) => elements,
+        Err(refusal) => return Err(refusal),
+    };
+    match String::from_str(alloc, given.file) {
         Ok(file) => Ok(Plan::Now {
             file,
             moment,
             vehicle,
+            closed: given.closed,
+            elements,
         }),
         Err(_) => Err(Refusal::Memory),
     }
@@ -251,11 +257,7 @@ fn plan_given(alloc: Global, given: Words<'_>) -> Result<Plan, Refusal>
     ensures { MatchResult result (Asks (texts_of given.entry)) (IsRefused (texts_of given.entry)) }
 {
     match given {
-        Words::Now {
-            file,
-            moment,
-            vehicle,
-        } => plan_now(alloc, file, moment, vehicle),
+        Words::Now(words) => plan_now(alloc, words),
         Words::Faults { file, warn } => plan_faults(alloc, file, warn),
         Words::Words { domain } => plan_words(alloc, domain),
         Words::Hours { text } => plan_hours(alloc, text),
@@ -284,27 +286,49 @@ fn plan_line(alloc: Global, words: &[String]) -> Result<Plan, Refusal>
     }
 }
 
-/// What the words after the program's name ask for, or why they are refused.
+// The plan of a program that is given no words: it is asked for its help.
+fn plan_help(alloc: Global) -> Result<Plan, Refusal>
+    ensures { MatchResult result (AskFor help_words) (AreRefused help_words) }
+{
+    match String::from_str(alloc, "--help") {
+        Ok(help) => plan_line(alloc, &[help]),
+        Err(_) => Err(Refusal::Memory),
+    }
+}
+
+// The plan of the words after the program's name, of which there may be none.
+fn plan_asked(alloc: Global, words: &[String]) -> Result<Plan, Refusal>
+    ensures { MatchResult result (AskFor (asked_words (map string_bytes words.now)))
+        (AreRefused (asked_words (map string_bytes words.now))) }
+{
+    match words.split_first() {
+        Some(_) => plan_line(alloc, words),
+        None => plan_help(alloc),
+    }
+}
+
+/// What the words after the program's name ask for, or why they are refused. Without words, they ask for help.
 ///
 /// In order: `Usage` if they neither give a command with its words nor ask for help; then the refusal for the first of the
-/// command's words that stands for nothing, from left to right: `Moment` or `Vehicle` for `now`, `Pair` for `same`, and `Word` for
-/// `words`, `hours --of`, `picture` and `picture-domain`. If memory was refused, `Memory` is the answer in place of these.
+/// command's words that stands for nothing, from left to right and its options last: `Moment`, `Vehicle` or `Word` for `now`,
+/// `Pair` for `same`, and `Word` for `words`, `hours --of`, `picture` and `picture-domain`. If memory was refused, `Memory` is
+/// the answer in place of these.
 pub fn plan(alloc: Global, words: Vec<String>) -> Result<Plan, Refusal>
     // The plan is what the words ask for.
-    ensures asked { IfOk result (AskFor (map string_bytes words.items)) }
+    ensures asked { IfOk result (AskFor (asked_words (map string_bytes words.items))) }
     // The refusal is one that the words have, unless memory was refused.
-    ensures refused { IfErr result (AreRefused (map string_bytes words.items)) }
+    ensures refused { IfErr result (AreRefused (asked_words (map string_bytes words.items))) }
     // If the words give a command, the plan is what that command asks for; or the refusal is for the first of its words that
     // stands for nothing, unless memory was refused.
-    ensures only { (given : Given) → Give (map string_bytes words.items) given
+    ensures only { (given : Given) → Give (asked_words (map string_bytes words.items)) given
         → MatchResult result (Asks given) (IsRefused given) }
     // If a word of the command stands for nothing, the first such word gives the refusal, unless memory is refused.
-    ensures first { (given : Given) (refusal : Refusal) → Give (map string_bytes words.items) given → IsWordFault given refusal
-        → MatchResult result (λ plan. ⊥) (λ r. (r ≡ Refusal.Memory) ⊎ (r ≡ refusal)) }
+    ensures first { (given : Given) (refusal : Refusal) → Give (asked_words (map string_bytes words.items)) given
+        → IsWordFault given refusal → MatchResult result (λ plan. ⊥) (λ r. (r ≡ Refusal.Memory) ⊎ (r ≡ refusal)) }
     // If each of its words stands for something, they are planned, unless memory is refused.
-    ensures planned { (given : Given) → Give (map string_bytes words.items) given
+    ensures planned { (given : Given) → Give (asked_words (map string_bytes words.items)) given
         → ((refusal : Refusal) → IsWordFault given refusal → ⊥)
         → MatchResult result (Asks given) (λ r. r ≡ Refusal.Memory) }
 {
-    plan_line(alloc, words.as_slice())
+    plan_asked(alloc, words.as_slice())
 }

@@ -37,6 +37,10 @@ pub enum Plan {
         moment: Moment,
         /// The vehicle type.
         vehicle: u8,
+        /// Whether closed elements alone are printed.
+        closed: bool,
+        /// The elements that are printed; all, if none is named.
+        elements: Vec<u64>,
     },
     /// To list the faults of a record file.
     Faults {

@@ -1,30 +1,31 @@
 //! What the single words of a command stand for.
 
-ghost use Rattle.std.specs.Prelude.{◌≡◌, ◌≢◌, ◌⊎◌, Err, IfSome, MatchResult, None, Ok, Some, option_map};
-ghost use Rattle.gtd_calendar.specs.Read.{stamp_in};
+ghost use Rattle.std.specs.Prelude.{◌≡◌, ◌≢◌, ◌⊎◌, Err, IfOk, IfSome, MatchResult, None, Ok, Some, option_map};
+ghost use Rattle.gtd_moments.specs.Moments.{moment_in};
 ghost use Rattle.gtd_records.specs.Columns.{number_of};
 ghost use Rattle.gtd_report.specs.Run.{IsVehicleType};
 ghost use Rattle.gtdesk_plans.specs.Given.{picture_texts};
 ghost use Rattle.gtdesk_plans.specs.Words.{AreSubjectWords, IsNoDomain, IsNoVehicle, IsNoYear, IsReadDomain, IsSubjectFault};
-ghost use Rattle.gtdesk_plans.specs.Words.{IsFromFault, IsFromWord, IsYearWord};
+ghost use Rattle.gtdesk_plans.specs.Words.{IsFromFault, IsFromWord, IsNoElements, IsYearWord, elements_in, numbers_of, parts_of};
 ghost use Rattle.gtd_text.specs.Reading.{IsFault};
 
 use crate::given::PictureWords;
 use crate::plans::{Moment, PictureSubject};
 use crate::refusal::{Refusal, WordFault};
-use gtd_calendar::{StampFault, read_stamp};
+use gtd_calendar::StampFault;
 use gtd_core::limits::FIRST_MOMENT;
 use gtd_core::{Domain, Fault, Sec, TextFault};
+use gtd_moments::read_moment;
 use gtd_records::{read_direction, read_number};
 use gtd_text::read_domain;
-use std::alloc::Global;
+use std::alloc::{AllocError, Global};
 
 /// The moment that a word stands for.
 pub(crate) fn moment_of(text: &str) -> Result<Moment, StampFault>
-    ensures { MatchResult result (λ moment. stamp_in text.now ≡ Ok moment.second)
-        (λ fault. stamp_in text.now ≡ Err fault) }
+    ensures { MatchResult result (λ moment. moment_in text.now ≡ Ok moment.second)
+        (λ fault. moment_in text.now ≡ Err fault) }
 {
-    match read_stamp(text.as_bytes()) {
+    match read_moment(text.as_bytes()) {
         Ok(second) => Ok(Moment { second }),
         Err(fault) => Err(fault),
     }
@@ -57,6 +58,43 @@ pub(crate) fn vehicle_of(text: &str) -> Option<u8>
             }
         }
         None => None,
+    }
+}
+
+// The elements that a text names, if each of its parts, which commas separate, is a number.
+fn numbers_in(alloc: Global, text: &[u8]) -> Result<Option<Vec<u64>>, AllocError>
+    ensures { IfOk result (λ read. option_map (λ v. v.items) read ≡ numbers_of (parts_of text.now)) }
+{
+    let mut numbers = Vec::new(alloc);
+    for part in text.split(|byte| *byte == b',') {
+        let Some(number) = read_number(part) else {
+            return Ok(None);
+        };
+        numbers.push(number)?;
+    }
+    Ok(Some(numbers))
+}
+
+// The same, or the refusal of the text.
+fn numbers_of(alloc: Global, text: &[u8]) -> Result<Vec<u64>, Refusal>
+    ensures { MatchResult result (λ elements. elements_in (Some text.now) ≡ Some elements.items)
+        (IsNoElements (Some text.now)) }
+{
+    match numbers_in(alloc, text) {
+        Ok(Some(elements)) => Ok(elements),
+        Ok(None) => Err(Refusal::Word(WordFault::Element)),
+        Err(_) => Err(Refusal::Memory),
+    }
+}
+
+/// The elements that a word names, which may be left out: then it names none.
+pub(crate) fn elements_of(alloc: Global, text: Option<&str>) -> Result<Vec<u64>, Refusal>
+    ensures { MatchResult result (λ elements. elements_in (option_map (λ s. s.now) text.entry) ≡ Some elements.items)
+        (IsNoElements (option_map (λ s. s.now) text.entry)) }
+{
+    match text {
+        Some(text) => numbers_of(alloc, text.as_bytes()),
+        None => Ok(Vec::new(alloc)),
     }
 }
 

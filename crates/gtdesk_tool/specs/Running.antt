@@ -51,14 +51,14 @@ outcome_of (Ok count) = Ok ending.Done
 outcome_of (Err why) = Err (refusal_for why)
 
 -- The run of `now` had an answer, and all that the run promises for this answer holds.
-pub record RanNow (vehicle : ℕ) (second : ℤ) (file old new : Option (List ℕ)) (silent ended : Bool)
-    (result : Result Ending Refusal) : Type 0 where
+pub record RanNow (vehicle : ℕ) (second : ℤ) (closed : Bool) (wanted : List ℕ) (file old new : Option (List ℕ))
+    (silent ended : Bool) (result : Result Ending Refusal) : Type 0 where
   pub answer : Result ℕ RunFault
   pub outcome : result ≡ outcome_of answer
   pub accepted : IsVehicleType vehicle
-      → AcceptedFilesArePut (λ found. ⊤) (λ found lines. IsNow found vehicle second lines) file old new answer
+      → AcceptedFilesArePut (λ found. ⊤) (λ found. IsNow found vehicle second closed wanted) file old new answer
   pub refused : IsVehicleType vehicle → RefusedFilesPutNothing file old new answer
-  pub stands : HasRun (λ found. ⊤) (λ found lines. IsNow found vehicle second lines) file old new answer
+  pub stands : HasRun (λ found. ⊤) (λ found. IsNow found vehicle second closed wanted) file old new answer
   pub whole : OnOk answer (IsTrue ended)
   pub vehicle_range : IsErrOf answer run.VehicleRange ↔ (IsVehicleType vehicle → ⊥)
   pub year : IsErrOf answer run.YearRange → ⊥
@@ -179,8 +179,8 @@ IsQuiet other = ⊤
 -- What a plan did to the output, by its answer.
 abbrev pub HasRunPlan : Plan → Option (List ℕ) → Option (List ℕ) → Option (List ℕ) → Bool → Bool → Telling
     → Result Ending Refusal → Type 0
-HasRunPlan (plan.Now path moment vehicle) file old new silent ended errors result =
-    RanNow vehicle moment.second.0 file old new silent ended result
+HasRunPlan (plan.Now path moment vehicle closed elements) file old new silent ended errors result =
+    RanNow vehicle moment.second.0 closed elements.items file old new silent ended result
 HasRunPlan (plan.Faults path warn) file old new silent ended errors result =
     RanFaults (string_bytes path) warn file old new silent ended result
 HasRunPlan (plan.Picture path title subject) file old new silent ended errors result =

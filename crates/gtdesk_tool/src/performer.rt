@@ -2,6 +2,7 @@
 
 ghost use Rattle.std.specs.Prelude.{◌≡◌, ◌<◌, None};
 ghost use Rattle.gtd_core.specs.Parts.{domain_tree};
+ghost use Rattle.gtd_core.specs.Seconds.{IsHorizonSecond};
 ghost use Rattle.gtd_words.specs.Words.{words};
 ghost use Rattle.gtdesk_plans.specs.Plans.{file_of};
 ghost use Rattle.gtdesk_tool.specs.Running.{HasRunPlan, IsQuiet, PutText, RanFaults, RanNow, failures_after_read};
@@ -16,11 +17,11 @@ use crate::same::print_comparison;
 use gtd_core::Domain;
 use gtd_devices::{Input, Output};
 use gtd_faults::{ListFault, run_faults};
-use gtd_now::run_now;
+use gtd_now::{Asked, run_now};
 use gtd_records::RecordFault;
 use gtd_report::{Progress, RunFault, finish, put_line};
 use gtd_words::write_words;
-use gtdesk_plans::{Moment, Plan, Refusal, WordFault};
+use gtdesk_plans::{Plan, Refusal, WordFault};
 use std::alloc::Global;
 
 // The refusal for a fault of a run.
@@ -55,19 +56,20 @@ fn print_now<I: Input, O: Output>(
     alloc: Global,
     input: &mut I,
     output: &mut O,
-    moment: Moment,
-    vehicle: u8,
+    asked: &Asked<'_>,
 ) -> Result<Ending, Refusal>
+    requires in_range { IsHorizonSecond asked.now.second.0 }
     requires readable { I.failure_count input.old < u64.MAX }
     requires writable { O.failure_count output.old < u64.MAX }
-    ensures ran { RanNow vehicle moment.second.0 (I.to_come input.old) (O.taken output.old) (O.taken output.new)
-        (I.may_fall_silent input.old) (O.is_ended output.new) result }
+    ensures ran { RanNow asked.now.vehicle asked.now.second.0 asked.now.closed asked.now.elements.now
+        (I.to_come input.old) (O.taken output.old) (O.taken output.new) (I.may_fall_silent input.old)
+        (O.is_ended output.new) result }
     ensures read_faults { I.failure_count input.new
         ≡ failures_after_read result (I.failure_count input.old) }
     ensures write_faults { O.failure_count output.new
         ≡ failures_after_write result (O.failure_count output.old) }
 {
-    outcome(run_now(alloc, input, output, vehicle, moment.second))
+    outcome(run_now(alloc, input, output, asked))
 }
 
 // The answer of `faults`, from that of its list.
@@ -187,8 +189,18 @@ pub fn perform<I: Input, O: Output, E: Output>(
         Plan::Now {
             moment,
             vehicle,
+            closed,
+            elements,
             ..
-        } => print_now(alloc, input, output, *moment, *vehicle),
+        } => {
+            let asked = Asked {
+                vehicle: *vehicle,
+                second: moment.second,
+                closed: *closed,
+                elements: elements.as_slice(),
+            };
+            print_now(alloc, input, output, &asked)
+        }
         Plan::Faults { file, warn } => list_faults(alloc, input, output, file.as_str(), *warn),
         Plan::Picture { title, subject, .. } => print_picture(
             alloc,

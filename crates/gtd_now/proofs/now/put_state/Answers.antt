@@ -1,7 +1,7 @@
-use Rattle.std.proofs.Common.{ap, refl, arith, [], ◌∷◌, length}
+use Rattle.std.proofs.Common.{◌∙◌, ap, refl, sym, true≢false, arith, [], ◌∷◌, length}
 use Rattle.std.specs.Prelude.{Err}
 use Rattle.std.proofs.lemmas.Result.{err_from_is_err_and}
-use Rattle.gtd_report.specs.facts.PutFacts.{one_put, one_short, puts_nothing}
+use Rattle.gtd_report.specs.facts.PutFacts.{one_put, one_short, puts_none, puts_nothing}
 use Rattle.gtd_report.specs.facts.TextFacts.{texts_of}
 use Rattle.gtd_now.proofs.NowFacts.{one_lines}
 use Rattle.gtd_now.specs.Now.{AreLines}
@@ -11,6 +11,13 @@ pub returns-in_err-write_line-clause-puts : goal.returns-in_err-write_line-claus
 returns-in_err-write_line-clause-puts g c =
     let p = err_from_is_err_and c.from_residual.result c.from_residual.ensures.1 in
     rw (p.1) (λ lines are. puts_nothing p.0 (g.O.Output.taken c.args.output.now) c.args.progress.now lines)
+
+pub returns-then-not-is_shown-clause-puts : goal.returns-then-not-is_shown-clause-puts
+returns-then-not-is_shown-clause-puts g c = (
+  [],
+  AreLines.hidden (λ shows. true≢false (sym (c.is_shown.ensures.1 shows) ∙ c.if-not-is_shown.true)) refl,
+  puts_none (g.O.Output.taken c.args.output.now) c.args.progress.now,
+)
 
 pub put_line-requires-clause-written : goal.put_line-requires-clause-written
 put_line-requires-clause-written g c =
@@ -26,10 +33,13 @@ returns-in_err-put_line-clause-puts g c =
     let b = g.O.Output.taken c.put_line.new.output in
     let line = c.as_slice.result.now in
     let e = c.in_err-put_line.ensures in
-    rw (p.1) (texts_of (AreLines c.args.found.now c.args.vehicle c.args.second.0 c.args.element c.args.direction)
+    rw (p.1) (texts_of (AreLines c.args.found.now c.args.asked.now.vehicle c.args.asked.now.second.0 c.args.asked.now.closed
+    c.args.asked.now.elements.now c.args.element c.args.direction)
     (Err p.0) a b c.args.progress.now c.put_line.new.progress
-    (line ∷ []) (one_lines c.args.found.now c.args.vehicle c.args.second.0 c.args.element c.args.direction)
-    (record { line = line; is_line = rw (c.as_slice.ensures.value) (c.in_ok-write_line.ensures.line); each = refl })
+    (line ∷ []) (one_lines c.args.found.now c.args.asked.now.vehicle c.args.asked.now.second.0 c.args.asked.now.closed
+    c.args.asked.now.elements.now c.args.element c.args.direction)
+    (AreLines.shown (c.is_shown.ensures.0 c.if-not-is_shown.false) line
+    (rw (c.as_slice.ensures.value) (c.in_ok-write_line.ensures.line)) refl)
     (one_short p.0 line c.in_err-put_line.field-0.0.taken a b c.args.progress.now c.put_line.new.progress e.some.0 e.some.1
     e.progress))
 
@@ -40,7 +50,8 @@ returns-clause-puts g c =
     let line = c.as_slice.result.now in
     let e = c.in_ok-put_line.ensures in (
       line ∷ [],
-      record { line = line; is_line = rw (c.as_slice.ensures.value) (c.in_ok-write_line.ensures.line); each = refl },
+      AreLines.shown (c.is_shown.ensures.0 c.if-not-is_shown.false) line
+          (rw (c.as_slice.ensures.value) (c.in_ok-write_line.ensures.line)) refl,
       one_put line a b c.args.progress.now c.put_line.new.progress e.all e.progress,
     )
 
