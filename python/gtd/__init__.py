@@ -22,10 +22,12 @@ from gtd._library import LibraryNotFound, library
 from gtd._program import ProgramNotFound, program
 from gtd._record_set import ElementChange, Records
 from gtd._records import migrate, schedule, year
+from gtd._same import Difference, first_difference, same
 from gtd._series import Domains
 
 __all__ = [
     "Change",
+    "Difference",
     "Domain",
     "Domains",
     "ElementChange",
@@ -36,11 +38,13 @@ __all__ = [
     "canon",
     "check",
     "contains",
+    "first_difference",
     "library",
     "migrate",
     "next_change",
     "next_change_ever",
     "program",
+    "same",
     "schedule",
     "year",
 ]

@@ -73,15 +73,16 @@ def run(*words: str, given: bytes = b"", into: Optional[IO[bytes]] = None) -> by
     RuntimeError
         What ran is not this program, or it was killed.
     """
-    return _run(program(), words, given, into)
+    return _run(program(), words, given, into, (0,))
 
 
-def run_desk(*words: str, given: bytes = b"") -> bytes:
-    """What ``gtdesk`` prints when it reads ``given`` from ``/dev/stdin``; raises what :func:`run` raises."""
-    return _run(program("gtdesk"), words, given, None)
+def run_desk(*words: str, given: bytes = b"", answers: Sequence[int] = (0,)) -> bytes:
+    """What ``gtdesk`` prints when it reads ``given`` from ``/dev/stdin``; raises what :func:`run` raises, unless it ends with a
+    status that is an answer."""
+    return _run(program("gtdesk"), words, given, None, answers)
 
 
-def _run(path: str, words: Sequence[str], given: bytes, into: Optional[IO[bytes]]) -> bytes:
+def _run(path: str, words: Sequence[str], given: bytes, into: Optional[IO[bytes]], answers: Sequence[int]) -> bytes:
     # Files in memory and not pipes: Python feeds a pipe in pieces of 4 KiB, and the processes would wait for each other
     # each time.
     with _memory() as source, _memory() as printed:
@@ -89,7 +90,7 @@ def _run(path: str, words: Sequence[str], given: bytes, into: Optional[IO[bytes]
         source.seek(0)  # what is buffered is written, too
         output = printed if into is None else into
         done = subprocess.run([path, *words], stdin=source, stdout=output, stderr=subprocess.PIPE)
-        if done.returncode == 0:
+        if done.returncode in answers:
             printed.seek(0)
             return printed.read()
     said = done.stderr.decode("utf-8", "replace").strip()

@@ -1,2 +1,3 @@
 pub mod ClapWords
+pub mod HoursFacts
 pub mod PlanFacts
