@@ -9,7 +9,6 @@ use Rattle.gtd_hours.specs.Written.{hours_text}
 use Rattle.gtd_hours.specs.declared.hours.Hours.{Hours}
 use Rattle.gtd_text.specs.Canonical.{canonical}
 use Rattle.gtdesk_plans.specs.CommandLine.{Text}
-pub use Rattle.gtdesk_plans.specs.HoursWords.{IsNoDomainOf}
 
 -- The line is the written text of some hours, with a line end. The text stands for these hours, and they are open at exactly the
 -- seconds of the domain.
