@@ -51,7 +51,10 @@ def test_faults(first, second, hours, kind, place):
     assert refused.value.note == (("second" if first == "Mo" else "first") if hours else None)
 
 
-@pytest.mark.parametrize("moment, kind", [("today", "Shape"), ("2023-02-29T00:00:00", "NoSuchDate"), ("2200-01-01T00:00:00", "Range")])
+@pytest.mark.parametrize(
+    "moment, kind",
+    [("today", "Shape"), ("2023-02-29T00:00:00", "NoSuchDate"), ("2200-01-01T00:00:00", "Range")],
+)
 def test_moments_that_are_refused(moment, kind):
     with pytest.raises(gtd.Fault, match=f"moment {kind}"):
         gtd.same("(h1){h1}", "(h1){h1}", from_=moment)
