@@ -173,6 +173,10 @@ program_refused 0 hours 'Mo-Fr 07:00-09:00,16:00-18:00; Dec 25 off'
 program_refused 1 hours 'Mo-Fr PH off'
 program_refused 0 hours --of '(t2t3t4t5t6h0m0){d1}*[(h7m0){m120}+(h16m0){m120}]'
 program_refused 1 hours --of '(h7){h2}'
+program_refused 0 same "$domain" "$domain"
+program_refused 1 same "$domain" '[(h25){h1}]'
+program_refused 0 same --hours 24/7 00:00-24:00
+program_refused 1 same --hours 24/7 'Mo-Fr PH off'
 program_refused 0 records hours.csv
 program_refused 1 records faulty_hours.csv
 program_refused 0 picture r.csv 17 positive 12 2024

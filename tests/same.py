@@ -1,12 +1,14 @@
 #!/usr/bin/env python3
-"""`gtdesk same` on worked and on random pairs of time domains, against the plain model of tests/model.py.
+"""`gtdesk same` on worked and on random pairs of time domains, and of opening hours, against the plain models of tests/model.py
+and tests/hours_model.py.
 
 The worked pairs are rows of tests/rows/desk_same.rows; with --table, this prints the answers that the model gives for each of
 their pairs, over all time for domains without years. Of the random pairs, half are made the same by rewriting: the program must
 say so. Of the others, the second that it answers must be the first in the model that is in one of the domains alone; and if it
-says that they are the same, random years of the model must be the same, too. Run it after `rt ci`, which builds the program.
+says that they are the same, random years of the model must be the same, too. A quarter as many pairs are opening hours. Run it
+after `rt ci`, which builds the program.
 
-Usage: tests/same.py [COUNT [SEED]]    tests/same.py --table < PAIRS
+Usage: tests/same.py [COUNT [SEED]]    tests/same.py [--hours] --table < PAIRS
 """
 import datetime
 import os
@@ -14,6 +16,8 @@ import random
 import subprocess
 import sys
 
+import hours
+import hours_model
 import model
 
 TOP = os.path.dirname(os.path.dirname(os.path.abspath(__file__)))
@@ -99,11 +103,39 @@ def gives_year(expression):
     return gives_year(expression[1]) or gives_year(expression[2])
 
 
-def answer(first, second, begin):
+# ---- the same of opening hours, whose state changes at whole minutes
+
+def hours_apart(left, right, begin, end):
+    """The first second from `begin` to `end` at which exactly one of the hours is open, and which, in steps of some days."""
+    day, step = begin // model.DAY, 400
+    while day * model.DAY < end:
+        first = hours_model.EPOCH + datetime.timedelta(days=day)
+        count = min(step, -(-end // model.DAY) - day)
+        open_left, open_right = (hours_model.open_minutes(rules, first, count) for rules in (left, right))
+        if open_left != open_right:
+            for at in range(max(0, begin - day * model.DAY) // 60, len(open_left)):
+                second = max(begin, day * model.DAY + 60 * at)
+                if open_left[at] != open_right[at] and second < end:
+                    return second, "first" if open_left[at] else "second"
+        day += step
+    return None
+
+
+def names_year(rules):
+    return any(selector[0] in ("years", "dated") for rule in rules for listed in rule.kinds.values() for selector in listed)
+
+
+# How the words of a kind are read, which of them give years, and the first second at which they differ.
+DOMAINS = (model.read, gives_year, first_apart)
+HOURS = (hours_model.read, names_year, hours_apart)
+
+
+def answer(first, second, begin, of=DOMAINS):
     """What the program is to print, and its status."""
-    left, right = model.read(first.encode()), model.read(second.encode())
-    years = gives_year(left) or gives_year(right)
-    found = first_apart(left, right, begin, number(END) if years else begin + CYCLE)
+    read, has_years, apart = of
+    left, right = read(first.encode()), read(second.encode())
+    years = has_years(left) or has_years(right)
+    found = apart(left, right, begin, number(END) if years else begin + CYCLE)
     if found:
         return f"{stamp(found[0])} {found[1]}", 4
     return ("same until 2700" if years else "same"), 0
@@ -169,60 +201,92 @@ def run(*words):
 
 
 def why_wrong(rng, at):
-    """What is wrong with the answer for a random pair, if anything."""
+    """What is wrong with the answer for a random pair of domains, if anything."""
     first = domain(rng)
     made_same = at % 2 == 0
-    left = model.read(first.encode())
-    second = rewritten(rng, left) if made_same else domain(rng)
+    second = rewritten(rng, model.read(first.encode())) if made_same else domain(rng)
     if first.count("(") > 128 or second.count("(") > 128:
         return None
+    return why_of(rng, first, second, made_same, DOMAINS)
+
+
+def rewritten_hours(rng, rules):
+    """Another text for the same hours: their times or selectors the other way round, one of them twice, or a range cut in two."""
+    changed = []
+    for rule in rules:
+        times = list(rule.times)
+        if hours_model.has_times(rule):
+            begin, end = times.pop(rng.randrange(len(times)))
+            cut = rng.randint(begin, min(end, model.DAY // 60))
+            times += [(begin, cut), (cut, end)] if begin < cut < min(end, model.DAY // 60) else [(begin, end)] * 2
+            rng.shuffle(times)
+        kinds = {kind: rng.sample(listed, len(listed)) for kind, listed in rule.kinds.items()}
+        changed.append(rule._replace(kinds=kinds, times=times))
+    return hours_model.print_rules(changed)
+
+
+def why_wrong_hours(at, seed):
+    """What is wrong with the answer for a random pair of opening hours, if anything."""
+    rng = hours.Maker(f"{seed}/hours/{at}")
+    first, made_same = rng.text(), at % 2 == 0
+    second = rewritten_hours(rng, hours_model.read(first.encode())) if made_same else rng.text()
+    printed, status = run("--hours", first, second)
+    if status == 1 and printed == "":
+        return None  # one of them has too many basic domains, which tests/hours_program.py checks
+    return why_of(rng, first, second, made_same, HOURS)
+
+
+def why_of(rng, first, second, made_same, of):
+    """What is wrong with the answer for a pair of this kind, if anything."""
+    read, has_years, apart = of
     begin = number(FIRST) + rng.randrange(200 * 365 * model.DAY)
-    right = model.read(second.encode())
-    years = gives_year(left) or gives_year(right)
-    printed, status = run(first, second, "--from", stamp(begin))
+    left, right = read(first.encode()), read(second.encode())
+    years = has_years(left) or has_years(right)
+    printed, status = run(*["--hours"] * (of is HOURS), first, second, "--from", stamp(begin))
     shown = f"same {first!r} {second!r} --from {stamp(begin)}: {printed!r}, status {status}"
     same = "same until 2700" if years else "same"
     if made_same or printed == same:
         if (printed, status) != (same, 0):
             return f"{shown}; wanted {same!r}"
         some = rng.randrange(begin, number(datetime.datetime(2600, 1, 1)))
-        found = first_apart(left, right, some, some + 700 * model.DAY)
+        found = apart(left, right, some, some + 700 * model.DAY)
         return f"{shown}; the model has {found}" if found else None
     try:
         when, which = printed.split(" ")
         told = number(datetime.datetime.fromisoformat(when))
     except ValueError:
         return shown
-    if status != 4 or first_apart(left, right, max(begin, told - 12000 * model.DAY), told + 1) != (told, which):
-        return f"{shown}; the model has {answer(first, second, begin)}"
+    if status != 4 or apart(left, right, max(begin, told - 12000 * model.DAY), told + 1) != (told, which):
+        return f"{shown}; the model has {answer(first, second, begin, of)}"
     return None
 
 
-def table():
+def table(of):
     """The rows of pairs, with the model's answers."""
     for line in sys.stdin:
         columns = line.rstrip("\n").split("\t")
         if line.startswith("#") or len(columns) < 3:
             print(line, end="")
             continue
-        printed, status = answer(columns[0], columns[1], number(datetime.datetime.fromisoformat(columns[2])))
+        printed, status = answer(columns[0], columns[1], number(datetime.datetime.fromisoformat(columns[2])), of)
         print("\t".join([*columns[:3], printed]), flush=True)
         if status != (0 if printed.startswith("same") else 4):
             sys.exit(f"{line}: {status}")
 
 
 def main(words):
-    if words == ["--table"]:
-        table()
+    if words[-1:] == ["--table"]:
+        table(HOURS if words[0] == "--hours" else DOMAINS)
         return 0
     count, seed = int(words[0]) if words else 1000, int(words[1]) if words[1:] else 1
     failed = 0
-    for at in range(count):
-        why = why_wrong(random.Random(f"{seed}/{at}"), at)
+    of_hours = -(-count // 4)
+    for at in range(count + of_hours):
+        why = why_wrong(random.Random(f"{seed}/{at}"), at) if at < count else why_wrong_hours(at, seed)
         if why:
             failed += 1
             print(f"FAILED {seed}/{at}: {why}")
-    print(f"same: {count - failed} passed, {failed} failed")
+    print(f"same: {count + of_hours - failed} passed, {failed} failed")
     return 1 if failed or not count else 0
 
 

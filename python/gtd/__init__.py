@@ -22,11 +22,13 @@ from gtd._library import LibraryNotFound, library
 from gtd._program import ProgramNotFound, program
 from gtd._record_set import ElementChange, Records
 from gtd._records import migrate, schedule, year
+from gtd._same import Difference, first_difference, same
 from gtd._series import Domains
 
 __all__ = [
     "Apart",
     "Change",
+    "Difference",
     "Domain",
     "Domains",
     "ElementChange",
@@ -37,11 +39,13 @@ __all__ = [
     "canon",
     "check",
     "contains",
+    "first_difference",
     "library",
     "migrate",
     "next_change",
     "next_change_ever",
     "program",
+    "same",
     "schedule",
     "year",
 ]

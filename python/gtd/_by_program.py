@@ -6,6 +6,7 @@ A program is started for each call.
 from __future__ import annotations
 
 import io
+from datetime import datetime
 from typing import Any, Callable, Dict, Iterator, List, Optional, Sequence, Tuple
 
 import numpy
@@ -85,6 +86,17 @@ class DomainByProgram:
     def picture(self, year: int) -> str:
         """The picture of a year."""
         return run_desk("picture-domain", "--", self.canon(), str(year)).decode()
+
+
+def first_apart(first: str, second: str, hours: bool, begin: Optional[int]) -> Optional[Tuple[datetime, str]]:
+    """The first second from ``begin`` on that is in one of two domains alone, or at which one of two opening hours is open alone,
+    and which of them; None if there is none."""
+    words = ["--hours"] * hours + ([] if begin is None else ["--from", moment_at(begin).isoformat()])
+    said = run_desk("same", *words, "--", first, second, answers=(0, 4)).decode().rstrip("\n")
+    if said in ("same", "same until 2700"):
+        return None
+    moment, side = said.split(" ")
+    return datetime.fromisoformat(moment), side
 
 
 class RecordsByProgram:

@@ -7,6 +7,7 @@ from typing import Any, Callable, Dict, Optional, Tuple
 
 _LINE = re.compile(r"fault (?:row (?P<row>\d+) )?(?P<kind>\w+(?: \w+)?)(?: at (?P<place>\d+))?")
 _HOURS = re.compile(r"gtdesk: TEXT: (?P<kind>\w+) at (?P<place>\d+)")
+_OF_TWO = re.compile(r"gtdesk: (?P<side>FIRST|SECOND): (?P<kind>\w+) at (?P<place>\d+)")  # the fault of one of two texts
 _SHOWN = 100  # characters of a text that a message shows
 
 
@@ -81,6 +82,9 @@ def read_fault(line: str) -> Optional[Fault]:
     found = _HOURS.fullmatch(line)
     if found:
         return Fault(f"hours {found['kind']}", place=int(found["place"]))
+    of_two = _OF_TWO.fullmatch(line)
+    if of_two:
+        return Fault(of_two["kind"], place=int(of_two["place"]), note=of_two["side"].lower())
     found = _LINE.fullmatch(line)
     if not found:
         return None

@@ -73,7 +73,7 @@ def run(*words: str, given: bytes = b"", into: Optional[IO[bytes]] = None) -> by
     RuntimeError
         What ran is not this program, or it was killed.
     """
-    return _run(program(), words, given, into)
+    return _run(program(), words, given, into, (0,))
 
 
 def run_desk(*words: str, given: bytes = b"", answers: Sequence[int] = (0,)) -> bytes:

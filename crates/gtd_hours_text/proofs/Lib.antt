@@ -1,7 +1,3 @@
-pub mod SameSelectors
-pub mod SameRules
-pub mod SameParts
-pub mod OneMeaning
 pub mod DraftLemmas
 pub mod AddingLemmas
 pub mod BuildingLemmas

@@ -5,3 +5,4 @@ pub mod Drafts
 pub mod Reading
 pub mod Room
 pub use Rattle.gtd_hours_grammar.specs.Faults
+pub mod facts

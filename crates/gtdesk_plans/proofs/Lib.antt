@@ -1,3 +1,4 @@
 pub mod ClapWords
+pub mod HoursFacts
 pub mod PlanFacts
 pub mod NumberFacts

@@ -22,10 +22,13 @@ use Rattle.gtdesk_plans.specs.Given.{AreMistaken, Give, Given, NowTexts, Picture
 use Rattle.gtdesk_plans.specs.Given.{help_words, texts_of}
 use Rattle.gtdesk_plans.specs.declared.given.Words.{Words}
 use Rattle.gtdesk_plans.specs.Plans.{AreRefused, AskFor, Asks, IsDomainPlan, IsHoursPlan, IsNowFault, IsNowPlan, IsOfPair}
-use Rattle.gtdesk_plans.specs.Plans.{IsOfWord, IsPicturePlan, IsRefused, IsSamePlan, IsShown, IsWordFault, IsWordsPlan}
+use Rattle.gtdesk_plans.specs.Plans.{IsOfWord, IsPicturePlan, IsRefused, IsSameHoursPlan, IsSamePlan, IsShown, IsWordFault}
+use Rattle.gtdesk_plans.specs.Plans.{IsWordsPlan}
+use Rattle.gtdesk_plans.specs.HoursWords.{HasDomain, IsHoursPairFault}
 use Rattle.gtdesk_plans.specs.Words.{AreSubjectWords, IsDomainFault, IsElementFault, IsFromFault, IsFromWord, IsMomentWord}
 use Rattle.gtdesk_plans.specs.Words.{IsNoElements, IsNoVehicle, IsPairFault, IsSubjectFault, IsVehicleWord, IsWordOfDomainFault}
 use Rattle.gtdesk_plans.specs.Words.{IsYearWord, elements_in}
+use Rattle.gtdesk_plans.proofs.HoursFacts.{no_hours_pair_fault, one_hours_pair_fault}
 use Rattle.gtdesk_plans.specs.declared.plans.PictureSubject.{PictureSubject}
 use Rattle.gtdesk_plans.specs.declared.plans.Plan.{Plan}
 use Rattle.gtdesk_plans.specs.declared.plans.Plan.TheVariants as plan
@@ -70,6 +73,7 @@ IsSound (Given.for_faults file warn) = Unit {0}
 IsSound (Given.for_words text) = HasNoFault text
 IsSound (Given.for_hours text) = Unit {0}
 IsSound (Given.for_same first second from) = HasNoFault first × HasNoFault second × ((s : Sec) × IsFromWord from s)
+IsSound (Given.for_same_hours first second from) = HasDomain first × HasDomain second × ((s : Sec) × IsFromWord from s)
 IsSound (Given.for_hours_of text) = HasNoFault text
 IsSound (Given.for_records file) = Unit {0}
 IsSound (Given.for_picture texts) = (s : PictureSubject) × AreSubjectWords texts s
@@ -148,12 +152,27 @@ same_sound first second from (plan.Same a b m) h = (h.0.faultless, h.1.faultless
 same_sound first second from (plan.Records f) h = absurd h
 same_sound first second from (plan.Show t) h = absurd h
 
+same_hours_sound : (first second : Text) (from : Option Text) (p : Plan) → IsSameHoursPlan first second from p
+    → IsSound (Given.for_same_hours first second from)
+same_hours_sound first second from (plan.Now f m v c es) h = absurd h
+same_hours_sound first second from (plan.Faults f w) h = absurd h
+same_hours_sound first second from (plan.Picture f t s) h = absurd h
+same_hours_sound first second from (plan.DomainPicture d t y) h = absurd h
+same_hours_sound first second from (plan.Words d) h = absurd h
+same_hours_sound first second from (plan.HoursOf d) h = absurd h
+same_hours_sound first second from (plan.DomainOf t) h = absurd h
+same_hours_sound first second from (plan.Same a b m) h =
+    ((h.0.0, h.0.1, h.0.2.fits), (h.1.0, h.1.1, h.1.2.fits), (m.second, h.2))
+same_hours_sound first second from (plan.Records f) h = absurd h
+same_hours_sound first second from (plan.Show t) h = absurd h
+
 sound : (given : Given) (p : Plan) → Asks given p → IsSound given
 sound (Given.for_now texts) p h = now_sound texts p h
 sound (Given.for_faults file warn) p h = tt
 sound (Given.for_words text) p h = words_sound text p h
 sound (Given.for_hours text) p h = tt
 sound (Given.for_same first second from) p h = same_sound first second from p h
+sound (Given.for_same_hours first second from) p h = same_hours_sound first second from p h
 sound (Given.for_hours_of text) p h = hours_sound text p h
 sound (Given.for_records file) p h = tt
 sound (Given.for_picture texts) p h = picture_sound texts p h
@@ -242,6 +261,8 @@ no_pair_fault : (first second : Text) (from : Option Text) → IsSound (Given.fo
 no_pair_fault first second from s (pair.First why) h = s.0 why h
 no_pair_fault first second from s (pair.Second why) h = s.1 why h.1
 no_pair_fault first second from s (pair.From why) h = no_from_fault from s.2.0 s.2.1 why h.2
+no_pair_fault first second from s (pair.FirstHours why) h = h
+no_pair_fault first second from s (pair.SecondHours why) h = h
 
 apart : (given : Given) (r : Refusal) → IsSound given → IsWordFault given r → ⊥
 apart (Given.for_now texts) r s h = now_apart texts r s h
@@ -250,6 +271,9 @@ apart (Given.for_words text) r s h = of_word_apart (IsWordOfDomainFault text) (n
 apart (Given.for_hours text) r s h = h
 apart (Given.for_same first second from) r s h =
     of_pair_apart (IsPairFault first second from) (no_pair_fault first second from s) r h
+apart (Given.for_same_hours first second from) r s h =
+    of_pair_apart (IsHoursPairFault first second from)
+    (no_hours_pair_fault first second from s.0 s.1 (no_from_fault from s.2.0 s.2.1)) r h
 apart (Given.for_hours_of text) r s h = of_word_apart (IsWordOfDomainFault text) (no_domain_fault text s) r h
 apart (Given.for_records file) r s h = h
 apart (Given.for_picture texts) r s h = of_word_apart (IsSubjectFault texts) (no_subject_fault texts s.0 s.1) r h
@@ -471,6 +495,14 @@ one_pair_fault first second from (pair.Second a) (pair.From b) h k = absurd (k.1
 one_pair_fault first second from (pair.From a) (pair.First b) h k = absurd (h.0 b k)
 one_pair_fault first second from (pair.From a) (pair.Second b) h k = absurd (h.1 b k.1)
 one_pair_fault first second from (pair.From a) (pair.From b) h k = ap pair.From (one_from_fault from a b h.2 k.2)
+one_pair_fault first second from (pair.First a) (pair.FirstHours b) h k = absurd k
+one_pair_fault first second from (pair.First a) (pair.SecondHours b) h k = absurd k
+one_pair_fault first second from (pair.Second a) (pair.FirstHours b) h k = absurd k
+one_pair_fault first second from (pair.Second a) (pair.SecondHours b) h k = absurd k
+one_pair_fault first second from (pair.From a) (pair.FirstHours b) h k = absurd k
+one_pair_fault first second from (pair.From a) (pair.SecondHours b) h k = absurd k
+one_pair_fault first second from (pair.FirstHours a) y h k = absurd h
+one_pair_fault first second from (pair.SecondHours a) y h k = absurd h
 
 one_word : (given : Given) (r s : Refusal) → IsWordFault given r → IsWordFault given s → s ≡ r
 one_word (Given.for_now texts) r s h k = one_now texts r s h k
@@ -479,6 +511,8 @@ one_word (Given.for_words text) r s h k = one_of_word (IsWordOfDomainFault text)
 one_word (Given.for_hours text) r s h k = absurd h
 one_word (Given.for_same first second from) r s h k =
     one_of_pair (IsPairFault first second from) (one_pair_fault first second from) r s h k
+one_word (Given.for_same_hours first second from) r s h k =
+    one_of_pair (IsHoursPairFault first second from) (one_hours_pair_fault first second from (one_from_fault from)) r s h k
 one_word (Given.for_hours_of text) r s h k = one_of_word (IsWordOfDomainFault text) (one_domain_fault text) r s h k
 one_word (Given.for_records file) r s h k = absurd h
 one_word (Given.for_picture texts) r s h k = one_of_word (IsSubjectFault texts) (one_subject_fault texts) r s h k
@@ -606,6 +640,7 @@ no_usage (Given.for_faults file warn) told h = h
 no_usage (Given.for_words text) told h = h
 no_usage (Given.for_hours text) told h = h
 no_usage (Given.for_same first second from) told h = h
+no_usage (Given.for_same_hours first second from) told h = h
 no_usage (Given.for_hours_of text) told h = h
 no_usage (Given.for_records file) told h = h
 no_usage (Given.for_picture texts) told h = h

@@ -61,9 +61,11 @@ words_app = command_of (codes "words") (word_rule (codes "DOMAIN") ∷ [])
 abbrev pub hours_app : App
 hours_app = command_of (codes "hours") (free_word_rule (codes "TEXT") ∷ option_rule (codes "of") ∷ [])
 
--- `same FIRST SECOND [--from MOMENT]`
+-- `same [--hours] FIRST SECOND [--from MOMENT]`
 abbrev pub same_app : App
-same_app = command_of (codes "same") (word_rule (codes "FIRST") ∷ word_rule (codes "SECOND") ∷ option_rule (codes "from") ∷ [])
+same_app =
+    command_of (codes "same")
+    (flag_rule (codes "hours") ∷ word_rule (codes "FIRST") ∷ word_rule (codes "SECOND") ∷ option_rule (codes "from") ∷ [])
 
 -- `records FILE`
 abbrev pub records_app : App

@@ -37,6 +37,7 @@ pub data Given : Type 0 where
   for_hours : (text : Text) → Given
   for_hours_of : (domain : Text) → Given
   for_same : (first second : Text) → (from : Option Text) → Given
+  for_same_hours : (first second : Text) → (from : Option Text) → Given
   for_records : (file : Text) → Given
   for_picture : (texts : PictureTexts) → Given
   for_picture_domain : (domain year : Text) → Given
@@ -60,6 +61,14 @@ all_of_domain domain year = None
 abbrev pub all_of_same : Option Text → Option Text → Option Text → Option Given
 all_of_same (Some first) (Some second) from = Some (Given.for_same first second from)
 all_of_same first second from = None
+
+abbrev pub all_of_same_hours : Option Text → Option Text → Option Text → Option Given
+all_of_same_hours (Some first) (Some second) from = Some (Given.for_same_hours first second from)
+all_of_same_hours first second from = None
+
+-- With the option, the texts are opening hours.
+abbrev pub same_of : Bool → Option Text → Option Text → Option Text → Option Given
+same_of hours first second from = if hours then all_of_same_hours first second from else all_of_same first second from
 
 -- One of two, if the other is not there.
 abbrev pub either_of_hours : Option Text → Option Text → Option Given
@@ -88,7 +97,9 @@ abbrev pub hours_in : List Row → Option Given
 hours_in rows = either_of_hours (first_of (codes "TEXT") rows) (first_of (codes "of") rows)
 
 abbrev pub same_in : List Row → Option Given
-same_in rows = all_of_same (first_of (codes "FIRST") rows) (first_of (codes "SECOND") rows) (first_of (codes "from") rows)
+same_in rows =
+    same_of (is_set (first_of (codes "hours") rows)) (first_of (codes "FIRST") rows) (first_of (codes "SECOND") rows)
+    (first_of (codes "from") rows)
 
 abbrev pub records_in : List Row → Option Given
 records_in rows = option_map Given.for_records (first_of (codes "FILE") rows)
@@ -168,6 +179,8 @@ texts_of (words.Words domain) = Given.for_words domain.now
 texts_of (words.Hours text) = Given.for_hours text.now
 texts_of (words.HoursOf domain) = Given.for_hours_of domain.now
 texts_of (words.Same first second from) = Given.for_same first.now second.now (option_map (λ text. text.now) from)
+texts_of (words.SameHours first second from) =
+    Given.for_same_hours first.now second.now (option_map (λ text. text.now) from)
 texts_of (words.Records file) = Given.for_records file.now
 texts_of (words.Picture given) = Given.for_picture (picture_texts given)
 texts_of (words.PictureDomain domain year) = Given.for_picture_domain domain.now year.now

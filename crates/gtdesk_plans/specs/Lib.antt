@@ -1,6 +1,7 @@
 pub mod CommandLine
 pub mod Given
 pub mod Words
+pub mod HoursWords
 pub mod Plans
 pub mod Statuses
 pub use Rattle.gtd_core.specs.Seconds
@@ -8,5 +9,10 @@ pub use Rattle.gtd_core.specs.Parts
 pub use Rattle.gtd_text.specs.Reading
 pub use Rattle.gtd_calendar.specs.Read
 pub use Rattle.gtd_moments.specs.Moments
+pub use Rattle.gtd_hours.specs.Membership
+pub use Rattle.gtd_hours.specs.Cost
+pub use Rattle.gtd_hours.specs.Opening
+pub use Rattle.gtd_hours_grammar.specs.Faults
+pub use Rattle.gtd_hours_text.specs.Standing
 pub use Rattle.gtd_records.specs.Columns
 pub use Rattle.gtd_report.specs.Run

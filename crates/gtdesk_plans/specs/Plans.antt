@@ -5,6 +5,7 @@ use Rattle.clap.specs.declared.error.kind.ErrorKind.{ErrorKind}
 use Rattle.clap.specs.declared.error.kind.ErrorKind.TheVariants.{DisplayVersion}
 use Rattle.gtdesk_plans.specs.CommandLine.{AskForText, Text, version_line}
 use Rattle.gtdesk_plans.specs.Given.{AreMistaken, Give, Given, NowTexts, PictureTexts}
+use Rattle.gtdesk_plans.specs.HoursWords.{IsHoursDomain, IsHoursPairFault}
 use Rattle.gtdesk_plans.specs.Words.{AreSubjectWords, IsDomainFault, IsElementFault, IsMomentWord, IsNoVehicle, IsReadDomain}
 use Rattle.gtdesk_plans.specs.Words.{IsFromWord, IsPairFault, IsSubjectFault, IsVehicleWord, IsWordOfDomainFault, IsYearWord}
 use Rattle.gtdesk_plans.specs.Words.{elements_in}
@@ -43,6 +44,11 @@ IsSamePlan first second from (plan.Same a b moment) =
     IsReadDomain first a × IsReadDomain second b × IsFromWord from moment.second
 IsSamePlan first second from other = ⊥
 
+abbrev pub IsSameHoursPlan : Text → Text → Option Text → Plan → Type 0
+IsSameHoursPlan first second from (plan.Same a b moment) =
+    IsHoursDomain first a × IsHoursDomain second b × IsFromWord from moment.second
+IsSameHoursPlan first second from other = ⊥
+
 abbrev pub IsRecordsPlan : Text → Plan → Type 0
 IsRecordsPlan file (plan.Records f) = string_bytes f ≡ file
 IsRecordsPlan file other = ⊥
@@ -72,6 +78,7 @@ Asks (Given.for_words text) p = IsWordsPlan text p
 Asks (Given.for_hours text) p = IsTextPlan text p
 Asks (Given.for_hours_of text) p = IsHoursPlan text p
 Asks (Given.for_same first second from) p = IsSamePlan first second from p
+Asks (Given.for_same_hours first second from) p = IsSameHoursPlan first second from p
 Asks (Given.for_records file) p = IsRecordsPlan file p
 Asks (Given.for_picture texts) p = IsPicturePlan texts p
 Asks (Given.for_picture_domain text year) p = IsDomainPlan text year p
@@ -101,6 +108,7 @@ IsWordFault (Given.for_words text) r = IsOfWord (IsWordOfDomainFault text) r
 IsWordFault (Given.for_hours text) r = ⊥
 IsWordFault (Given.for_hours_of text) r = IsOfWord (IsWordOfDomainFault text) r
 IsWordFault (Given.for_same first second from) r = IsOfPair (IsPairFault first second from) r
+IsWordFault (Given.for_same_hours first second from) r = IsOfPair (IsHoursPairFault first second from) r
 IsWordFault (Given.for_records file) r = ⊥
 IsWordFault (Given.for_picture texts) r = IsOfWord (IsSubjectFault texts) r
 IsWordFault (Given.for_picture_domain text year) r = IsOfWord (IsDomainFault text year) r

@@ -125,3 +125,4 @@ abbrev pub IsPairFault : Text → Text → Option Text → PairFault → Type 0
 IsPairFault first second from (pair.First why) = IsFault first why
 IsPairFault first second from (pair.Second why) = HasNoFault first × IsFault second why
 IsPairFault first second from (pair.From why) = HasNoFault first × HasNoFault second × IsFromFault from why
+IsPairFault first second from other = ⊥

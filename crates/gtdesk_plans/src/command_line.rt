@@ -170,6 +170,11 @@ fn same_command<'a>(alloc: Global) -> Result<Command<'a>, AllocError>
         "same",
         "Print whether two time domains have the same seconds, or the first second that one of them has alone",
     );
+    let hours = Arg::new(alloc, "hours")
+        .long("hours")
+        .action(ArgAction::SetTrue)
+        .help("Take FIRST and SECOND as opening hours");
+    let command = add(command, hours);
     let command = add_word(alloc, command, "FIRST", "A time domain");
     let command = add_word(alloc, command, "SECOND", "Another time domain");
     let from = Arg::new(alloc, "from")

@@ -5,7 +5,7 @@ ghost use Rattle.clap.specs.Matches.{found_of};
 ghost use Rattle.clap.specs.Simple.{subcommand_rows_of};
 ghost use Rattle.clap.specs.Walk.{first_of, rows_of};
 ghost use Rattle.gtdesk_plans.specs.Given.{all_of_domain, all_of_now, all_of_picture, all_of_same, domain_in, either_of_hours};
-ghost use Rattle.gtdesk_plans.specs.Given.{faults_in, same_in};
+ghost use Rattle.gtdesk_plans.specs.Given.{all_of_same_hours, faults_in, same_in, same_of};
 ghost use Rattle.gtdesk_plans.specs.Given.{given_in, hours_in, is_set, now_in, picture_in, pictures_in, records_in, texts_of};
 ghost use Rattle.gtdesk_plans.specs.Given.{words_in};
 
@@ -55,6 +55,12 @@ pub(crate) enum Words<'a> {
     },
     /// `same FIRST SECOND [--from MOMENT]`
     Same {
+        first: &'a str,
+        second: &'a str,
+        from: Option<&'a str>,
+    },
+    /// `same --hours FIRST SECOND [--from MOMENT]`
+    SameHours {
         first: &'a str,
         second: &'a str,
         from: Option<&'a str>,
@@ -177,13 +183,47 @@ fn all_of_same<'a>(
     })
 }
 
+// The same of two texts of opening hours.
+fn all_of_same_hours<'a>(
+    first: Option<&'a str>,
+    second: Option<&'a str>,
+    from: Option<&'a str>,
+) -> Option<Words<'a>>
+    ensures { option_map texts_of result ≡ all_of_same_hours (option_map (λ s. s.now) first.entry)
+        (option_map (λ s. s.now) second.entry) (option_map (λ s. s.now) from.entry) }
+{
+    Some(Words::SameHours {
+        first: first?,
+        second: second?,
+        from,
+    })
+}
+
+// The words of `same`, of opening hours or of domains.
+fn same_of<'a>(
+    hours: bool,
+    first: Option<&'a str>,
+    second: Option<&'a str>,
+    from: Option<&'a str>,
+) -> Option<Words<'a>>
+    ensures { option_map texts_of result ≡ same_of hours (option_map (λ s. s.now) first.entry)
+        (option_map (λ s. s.now) second.entry) (option_map (λ s. s.now) from.entry) }
+{
+    if hours {
+        all_of_same_hours(first, second, from)
+    } else {
+        all_of_same(first, second, from)
+    }
+}
+
 fn same_words<'a>(given: &ArgMatches<'a>) -> Option<Words<'a>>
     ensures { option_map texts_of result ≡ same_in (rows_of (found_of given.now)) }
 {
+    let hours = is_set(value(given, "hours"));
     let first = value(given, "FIRST");
     let second = value(given, "SECOND");
     let from = value(given, "from");
-    all_of_same(first, second, from)
+    same_of(hours, first, second, from)
 }
 
 fn records_words<'a>(given: &ArgMatches<'a>) -> Option<Words<'a>>

@@ -6,11 +6,13 @@
 
 mod command_line;
 mod given;
+mod hours;
 mod planner;
 mod plans;
 mod refusal;
 mod words;
 
+pub use hours::hours_domain;
 pub use planner::plan;
 pub use plans::{Moment, PictureSubject, Plan};
 pub use refusal::{NoDomain, PairFault, Refusal, WordFault};

@@ -12,6 +12,7 @@ ghost use Rattle.gtdesk_plans.specs.declared.refusal.Refusal.{Refusal};
 
 use crate::command_line::parse;
 use crate::given::{NowWords, PictureWords, Words, given};
+use crate::hours::hours_domain;
 use crate::plans::Plan;
 use crate::refusal::{PairFault, Refusal, WordFault};
 use crate::words::{
@@ -186,6 +187,36 @@ fn plan_same(alloc: Global, first: &str, second: &str, from: Option<&str>) -> Re
     }
 }
 
+// The plan of `same --hours`.
+fn plan_same_hours(
+    alloc: Global,
+    first: &str,
+    second: &str,
+    from: Option<&str>,
+) -> Result<Plan, Refusal>
+    ensures { MatchResult result (Asks (Given.for_same_hours first.now second.now (option_map (λ s. s.now) from.entry)))
+        (IsRefused (Given.for_same_hours first.now second.now (option_map (λ s. s.now) from.entry))) }
+{
+    let first = match hours_domain(alloc, first) {
+        Ok(first) => first,
+        Err(Some(why)) => return Err(Refusal::Pair(PairFault::FirstHours(why))),
+        Err(None) => return Err(Refusal::Memory),
+    };
+    let second = match hours_domain(alloc, second) {
+        Ok(second) => second,
+        Err(Some(why)) => return Err(Refusal::Pair(PairFault::SecondHours(why))),
+        Err(None) => return Err(Refusal::Memory),
+    };
+    match from_of(from) {
+        Ok(from) => Ok(Plan::Same {
+            first,
+            second,
+            from,
+        }),
+        Err(fault) => Err(Refusal::Pair(PairFault::From(fault))),
+    }
+}
+
 // The plan of `records`.
 fn plan_records(alloc: Global, file: &str) -> Result<Plan, Refusal>
     ensures { MatchResult result (Asks (Given.for_records file.now)) (IsRefused (Given.for_records file.now)) }
@@ -267,6 +298,11 @@ fn plan_given(alloc: Global, given: Words<'_>) -> Result<Plan, Refusal>
             second,
             from,
         } => plan_same(alloc, first, second, from),
+        Words::SameHours {
+            first,
+            second,
+            from,
+        } => plan_same_hours(alloc, first, second, from),
         Words::Records { file } => plan_records(alloc, file),
         Words::Picture(words) => plan_picture(alloc, words),
         Words::PictureDomain { domain, year } => plan_domain(alloc, domain, year),

@@ -30,6 +30,10 @@ pub enum PairFault {
     First(TextFault),
     /// The second word for a domain.
     Second(TextFault),
+    /// The first text of opening hours has no time domain.
+    FirstHours(NoDomain),
+    /// The second text of opening hours.
+    SecondHours(NoDomain),
     /// The word for a moment.
     From(StampFault),
 }

@@ -1,19 +1,14 @@
 -- Which lines are hours of a domain, and which lines are the domain of hours.
-use Rattle.std.specs.Prelude.{◌≡◌, ◌↔◌, ◌++◌, ◌<◌, ℕ, ℤ, List, codes}
-use Rattle.gtd_core.specs.Limits.{most_basic_domains}
+use Rattle.std.specs.Prelude.{◌≡◌, ◌↔◌, ◌++◌, ℕ, ℤ, List, codes}
 use Rattle.gtd_core.specs.Parts.{domain_tree}
 use Rattle.gtd_core.specs.declared.domain.Domain.{Domain}
 use Rattle.gtd_hours_search.specs.Membership.{InDomain}
-use Rattle.gtd_hours_grammar.specs.Faults.{IsFirstFault}
 use Rattle.gtd_hours_text.specs.Standing.{StandsFor}
-use Rattle.gtd_hours.specs.Cost.{hours_cost}
 use Rattle.gtd_hours.specs.Opening.{IsOpen}
 use Rattle.gtd_hours.specs.Written.{hours_text}
 use Rattle.gtd_hours.specs.declared.hours.Hours.{Hours}
 use Rattle.gtd_text.specs.Canonical.{canonical}
 use Rattle.gtdesk_plans.specs.CommandLine.{Text}
-use Rattle.gtdesk_plans.specs.declared.refusal.NoDomain.{NoDomain}
-use Rattle.gtdesk_plans.specs.declared.refusal.NoDomain.TheVariants as none
 
 -- The line is the written text of some hours, with a line end. The text stands for these hours, and they are open at exactly the
 -- seconds of the domain.
@@ -31,8 +26,3 @@ pub record IsDomainLine (text : Text) (line : List ℕ) : Type 0 where
   pub stands : StandsFor text hours
   pub same : (s : ℤ) → InDomain domain s ↔ IsOpen hours s
   pub written : line ≡ canonical (domain_tree domain) ++ codes "\n"
-
--- Why a text has no domain: its first fault; or it stands for hours whose domain has too many basic domains.
-abbrev pub IsNoDomainOf : Text → NoDomain → Type 0
-IsNoDomainOf text (none.Fault why) = IsFirstFault text why
-IsNoDomainOf text none.TooMany = (hours : Hours) × StandsFor text hours × (most_basic_domains < hours_cost hours)

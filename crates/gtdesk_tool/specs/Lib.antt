@@ -5,6 +5,7 @@ pub mod Running
 pub use Rattle.gtd_core.specs.Seconds
 pub use Rattle.gtdesk_plans.specs.CommandLine
 pub use Rattle.gtdesk_plans.specs.Given
+pub use Rattle.gtdesk_plans.specs.HoursWords
 pub use Rattle.gtdesk_plans.specs.Plans
 pub use Rattle.gtdesk_plans.specs.Statuses
 pub use Rattle.gtdesk_plans.specs.Words

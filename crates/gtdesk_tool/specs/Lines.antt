@@ -30,12 +30,6 @@ word_text word.Vehicle = codes "VEHICLE: not a number from 1 to 99"
 word_text word.Year = codes "YEAR: not a number from 1901 to 2199"
 word_text (word.Domain why) = codes "DOMAIN: " ++ fault_name why.kind ++ codes " at " ++ decimal why.place
 
--- the same for the words of `same`
-abbrev pub pair_text : PairFault → List ℕ
-pair_text (pair.First why) = codes "FIRST: " ++ fault_name why.kind ++ codes " at " ++ decimal why.place
-pair_text (pair.Second why) = codes "SECOND: " ++ fault_name why.kind ++ codes " at " ++ decimal why.place
-pair_text (pair.From why) = codes "MOMENT: " ++ moment_reason why
-
 -- what is wrong with a text of opening hours
 abbrev pub kind_name : FaultKind → List ℕ
 kind_name kind.BadToken = codes "BadToken"
@@ -46,8 +40,16 @@ kind_name kind.Incomplete = codes "Incomplete"
 
 -- why it has no domain: its first fault and the place, or that the domain is too large
 abbrev pub no_domain_text : NoDomain → List ℕ
-no_domain_text (none.Fault why) = codes "TEXT: " ++ kind_name why.kind ++ codes " at " ++ decimal why.place
-no_domain_text none.TooMany = codes "TEXT: TooMany at 0"
+no_domain_text (none.Fault why) = kind_name why.kind ++ codes " at " ++ decimal why.place
+no_domain_text none.TooMany = codes "TooMany at 0"
+
+-- the same for the words of `same`
+abbrev pub pair_text : PairFault → List ℕ
+pair_text (pair.First why) = codes "FIRST: " ++ fault_name why.kind ++ codes " at " ++ decimal why.place
+pair_text (pair.Second why) = codes "SECOND: " ++ fault_name why.kind ++ codes " at " ++ decimal why.place
+pair_text (pair.FirstHours why) = codes "FIRST: " ++ no_domain_text why
+pair_text (pair.SecondHours why) = codes "SECOND: " ++ no_domain_text why
+pair_text (pair.From why) = codes "MOMENT: " ++ moment_reason why
 
 -- why no hours are printed: the domain is not of the form that hours are sought for
 abbrev pub no_hours : List ℕ
@@ -62,7 +64,7 @@ refusal_line file refusal.Vehicle = codes "gtdesk: VEHICLE: not a number from 1 
 refusal_line file (refusal.Word why) = codes "gtdesk: " ++ word_text why
 refusal_line file (refusal.Pair why) = codes "gtdesk: " ++ pair_text why
 refusal_line file refusal.NoHours = codes "gtdesk: " ++ no_hours
-refusal_line file (refusal.NoDomain why) = codes "gtdesk: " ++ no_domain_text why
+refusal_line file (refusal.NoDomain why) = codes "gtdesk: TEXT: " ++ no_domain_text why
 refusal_line file refusal.NoElement = codes "gtdesk: " ++ printable file ++ codes ": no row names the element"
 refusal_line file (refusal.Records why) = codes "gtdesk: " ++ printable file ++ codes ": " ++ fault_text why
 refusal_line file refusal.Open = codes "gtdesk: " ++ printable file ++ codes ": cannot be opened"

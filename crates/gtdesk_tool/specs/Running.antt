@@ -11,8 +11,9 @@ use Rattle.gtd_report.specs.Run.{AcceptedFilesArePut, HasRun, IsTableYear, IsVeh
 use Rattle.gtd_report.specs.Run.{UnacceptedFilesPutNothing}
 use Rattle.gtd_picture.specs.Domain.{HasPut, IsDomainPicture}
 use Rattle.gtd_picture.specs.Open.{IsOpenPicture}
-use Rattle.gtdesk_tool.specs.Hours.{IsDomainLine, IsHoursLine, IsNoDomainOf}
+use Rattle.gtdesk_tool.specs.Hours.{IsDomainLine, IsHoursLine}
 use Rattle.gtdesk_tool.specs.Comparing.{HasCompared}
+use Rattle.gtdesk_plans.specs.HoursWords.{IsNoDomainOf}
 use Rattle.gtdesk_plans.specs.declared.plans.PictureSubject.{PictureSubject}
 use Rattle.gtdesk_plans.specs.declared.refusal.WordFault.TheVariants as fault
 use Rattle.gtd_report.specs.declared.fault.RunFault.{RunFault}

@@ -67,6 +67,8 @@ impl Display for PairLine {
                 let place = fault.place;
                 write!(f, "SECOND: {kind} at {place}")
             }
+            PairFault::FirstHours(why) => write!(f, "FIRST: {}", TextLine(why)),
+            PairFault::SecondHours(why) => write!(f, "SECOND: {}", TextLine(why)),
             PairFault::From(fault) => write!(f, "MOMENT: {}", moment_reason(fault)),
         }
     }
@@ -97,9 +99,9 @@ impl Display for TextLine {
             NoDomain::Fault(fault) => {
                 let kind = kind_name(fault.kind);
                 let place = fault.place;
-                write!(f, "TEXT: {kind} at {place}")
+                write!(f, "{kind} at {place}")
             }
-            NoDomain::TooMany => write!(f, "TEXT: TooMany at 0"),
+            NoDomain::TooMany => write!(f, "TooMany at 0"),
         }
     }
 }
@@ -125,7 +127,7 @@ impl Display for RefusalLine<'_> {
             Refusal::Word(fault) => write!(f, "gtdesk: {}", WordLine(fault)),
             Refusal::Pair(fault) => write!(f, "gtdesk: {}", PairLine(fault)),
             Refusal::NoHours => write!(f, "gtdesk: {NO_HOURS}"),
-            Refusal::NoDomain(why) => write!(f, "gtdesk: {}", TextLine(why)),
+            Refusal::NoDomain(why) => write!(f, "gtdesk: TEXT: {}", TextLine(why)),
             Refusal::NoElement => write!(f, "gtdesk: {file}: no row names the element"),
             Refusal::Records(fault) => write!(f, "gtdesk: {file}: {}", FaultText(fault)),
             Refusal::Open => write!(f, "gtdesk: {file}: cannot be opened"),

@@ -1,4 +1,4 @@
-use Rattle.gtd_hours_text.proofs.OneMeaning.{one_cost, one_opening, one_text}
+use Rattle.gtd_hours_text.specs.facts.OneMeaning.{one_cost, one_opening, one_text}
 use Rattle.gtd_hours_text.proofs.laws.one_meaning.Goals as goal
 
 pub returns-clause-open : goal.returns-clause-open

@@ -12,8 +12,8 @@ use Rattle.gtd_hours_grammar.specs.declared.piece.Piece.TheVariants as piece
 use Rattle.gtd_hours_grammar.specs.declared.piece.WrittenDate.{WrittenDate}
 use Rattle.gtd_hours_text.specs.Standing.{AllSelectors, AllTimes, AreDates, ArePlaces, AreSelectors, IsMonthDay, IsPlace}
 use Rattle.gtd_hours_text.specs.Standing.{IsSelector, IsYearDate}
-use Rattle.gtd_hours_text.proofs.SameParts.{same_dated, same_dates, same_month_day, same_months, same_place, same_times}
-use Rattle.gtd_hours_text.proofs.SameParts.{same_weekdays, same_weeks, same_year_date, same_years}
+use Rattle.gtd_hours_text.specs.facts.SameParts.{same_dated, same_dates, same_month_day, same_months, same_place, same_times}
+use Rattle.gtd_hours_text.specs.facts.SameParts.{same_weekdays, same_weeks, same_year_date, same_years}
 
 one_month_day : (x y : MonthDay) (month day : ℕ) → IsMonthDay x month day → IsMonthDay y month day → x ≡ y
 one_month_day x y month day h k = same_month_day x y (h.0 ∙ sym k.0) (h.1 ∙ sym k.1)

@@ -17,7 +17,7 @@ use Rattle.gtd_hours.specs.declared.hours.TimeRange.{TimeRange}
 use Rattle.gtd_hours_grammar.specs.declared.piece.Piece.{Piece}
 use Rattle.gtd_hours_grammar.specs.facts.OneReading.{one_reading}
 use Rattle.gtd_hours_text.specs.Standing.{AreRules, StandsFor, selectors}
-use Rattle.gtd_hours_text.proofs.SameRules.{SameRule, SameRules, one_rules}
+use Rattle.gtd_hours_text.specs.facts.SameRules.{SameRule, SameRules, one_rules}
 
 -- the rules of hours that a text stands for
 pub same_rules : (text : List ℕ) (one other : Hours) → StandsFor text one → StandsFor text other

@@ -8,7 +8,7 @@ use Rattle.gtd_hours_grammar.specs.declared.piece.Piece.{Piece}
 use Rattle.gtd_hours_grammar.specs.declared.piece.Piece.TheVariants as piece
 use Rattle.gtd_hours_text.specs.Standing.{AreRules, IsRule, is_one_rule, kind_if, names_month_days, names_times, names_weekdays}
 use Rattle.gtd_hours_text.specs.Standing.{names_weeks, names_years, selectors}
-use Rattle.gtd_hours_text.proofs.SameSelectors.{one_selectors, one_times}
+use Rattle.gtd_hours_text.specs.facts.SameSelectors.{one_selectors, one_times}
 
 pub record SameRule (one other : Rule) : Type 0 where
   pub kinds : selectors one.kinds.items ≡ selectors other.kinds.items

@@ -1,0 +1,4 @@
+pub mod SameParts
+pub mod SameSelectors
+pub mod SameRules
+pub mod OneMeaning
