@@ -1,2 +1,3 @@
 pub mod ClapWords
+pub mod DiffFacts
 pub mod PlanFacts

@@ -20,6 +20,8 @@ use Rattle.clap.specs.declared.parser.matches.ArgMatches.{ArgMatches}
 use Rattle.gtdesk_plans.specs.CommandLine.{HasWords, Text, desk_app, is_memory, is_request, neither_or_both}
 use Rattle.gtdesk_plans.specs.Given.{AreMistaken, Give, Given, PictureTexts, given_by, given_in, texts_of}
 use Rattle.gtdesk_plans.specs.declared.given.Words.{Words}
+use Rattle.gtdesk_plans.proofs.DiffFacts.{IsSoundDiff, diff_sound, no_diff_fault, of_diff_apart, one_diff_fault, one_of_diff}
+use Rattle.gtdesk_plans.specs.Diff.{IsDiffFault}
 use Rattle.gtdesk_plans.specs.Plans.{AreRefused, AskFor, Asks, IsDomainPlan, IsHoursPlan, IsNowFault, IsNowPlan, IsOfPair}
 use Rattle.gtdesk_plans.specs.Plans.{IsOfWord, IsPicturePlan, IsRefused, IsSamePlan, IsShown, IsWordFault, IsWordsPlan}
 use Rattle.gtdesk_plans.specs.Words.{AreSubjectWords, IsDomainFault, IsFromFault, IsFromWord, IsMomentWord, IsPairFault}
@@ -68,6 +70,7 @@ IsSound (Given.for_words text) = HasNoFault text
 IsSound (Given.for_hours text) = Unit {0}
 IsSound (Given.for_same first second from) = HasNoFault first × HasNoFault second × ((s : Sec) × IsFromWord from s)
 IsSound (Given.for_hours_of text) = HasNoFault text
+IsSound (Given.for_diff old new from to vehicle) = IsSoundDiff from to vehicle
 IsSound (Given.for_records file) = Unit {0}
 IsSound (Given.for_picture texts) = (s : PictureSubject) × AreSubjectWords texts s
 IsSound (Given.for_picture_domain text year) = HasNoFault text × ((y : ℕ) × IsYearWord year y)
@@ -83,6 +86,7 @@ now_sound file moment vehicle (plan.HoursOf d) h = absurd h
 now_sound file moment vehicle (plan.DomainOf t) h = absurd h
 now_sound file moment vehicle (plan.Same a b m) h = absurd h
 now_sound file moment vehicle (plan.Records f) h = absurd h
+now_sound file moment vehicle (plan.Diff d) h = absurd h
 now_sound file moment vehicle (plan.Show t) h = absurd h
 
 words_sound : (text : Text) (p : Plan) → IsWordsPlan text p → HasNoFault text
@@ -95,6 +99,7 @@ words_sound text (plan.HoursOf d) h = absurd h
 words_sound text (plan.DomainOf t) h = absurd h
 words_sound text (plan.Same a b m) h = absurd h
 words_sound text (plan.Records f) h = absurd h
+words_sound text (plan.Diff d) h = absurd h
 words_sound text (plan.Show t) h = absurd h
 
 hours_sound : (text : Text) (p : Plan) → IsHoursPlan text p → HasNoFault text
@@ -107,6 +112,7 @@ hours_sound text (plan.HoursOf d) h = h.faultless
 hours_sound text (plan.DomainOf t) h = absurd h
 hours_sound text (plan.Same a b m) h = absurd h
 hours_sound text (plan.Records f) h = absurd h
+hours_sound text (plan.Diff d) h = absurd h
 hours_sound text (plan.Show t) h = absurd h
 
 picture_sound : (texts : PictureTexts) (p : Plan) → IsPicturePlan texts p → IsSound (Given.for_picture texts)
@@ -119,6 +125,7 @@ picture_sound texts (plan.HoursOf d) h = absurd h
 picture_sound texts (plan.DomainOf t) h = absurd h
 picture_sound texts (plan.Same a b m) h = absurd h
 picture_sound texts (plan.Records f) h = absurd h
+picture_sound texts (plan.Diff d) h = absurd h
 picture_sound texts (plan.Show t) h = absurd h
 
 domain_sound : (text year : Text) (p : Plan) → IsDomainPlan text year p → IsSound (Given.for_picture_domain text year)
@@ -131,6 +138,7 @@ domain_sound text year (plan.HoursOf d) h = absurd h
 domain_sound text year (plan.DomainOf t) h = absurd h
 domain_sound text year (plan.Same a b m) h = absurd h
 domain_sound text year (plan.Records f) h = absurd h
+domain_sound text year (plan.Diff d) h = absurd h
 domain_sound text year (plan.Show t) h = absurd h
 
 same_sound : (first second : Text) (from : Option Text) (p : Plan) → IsSamePlan first second from p
@@ -144,6 +152,7 @@ same_sound first second from (plan.HoursOf d) h = absurd h
 same_sound first second from (plan.DomainOf t) h = absurd h
 same_sound first second from (plan.Same a b m) h = (h.0.faultless, h.1.faultless, (m.second, h.2))
 same_sound first second from (plan.Records f) h = absurd h
+same_sound first second from (plan.Diff d) h = absurd h
 same_sound first second from (plan.Show t) h = absurd h
 
 sound : (given : Given) (p : Plan) → Asks given p → IsSound given
@@ -153,6 +162,7 @@ sound (Given.for_words text) p h = words_sound text p h
 sound (Given.for_hours text) p h = tt
 sound (Given.for_same first second from) p h = same_sound first second from p h
 sound (Given.for_hours_of text) p h = hours_sound text p h
+sound (Given.for_diff old new from to vehicle) p h = diff_sound old new from to vehicle p h
 sound (Given.for_records file) p h = tt
 sound (Given.for_picture texts) p h = picture_sound texts p h
 sound (Given.for_picture_domain text year) p h = domain_sound text year p h
@@ -166,6 +176,7 @@ now_apart file moment vehicle (refusal.Moment why) s h = ok_or_err (stamp_in mom
 now_apart file moment vehicle refusal.Vehicle s h = h.1 s.1.0 s.1.1.0 s.1.1.1
 now_apart file moment vehicle (refusal.Word why) s h = h
 now_apart file moment vehicle (refusal.Pair why) s h = h
+now_apart file moment vehicle (refusal.Diff why) s h = h
 now_apart file moment vehicle refusal.NoHours s h = h
 now_apart file moment vehicle (refusal.NoDomain why) s h = h
 now_apart file moment vehicle refusal.NoElement s h = h
@@ -180,6 +191,7 @@ of_word_apart is none (refusal.Moment why) h = h
 of_word_apart is none refusal.Vehicle h = h
 of_word_apart is none (refusal.Word why) h = none why h
 of_word_apart is none (refusal.Pair why) h = h
+of_word_apart is none (refusal.Diff why) h = h
 of_word_apart is none refusal.NoHours h = h
 of_word_apart is none (refusal.NoDomain why) h = h
 of_word_apart is none refusal.NoElement h = h
@@ -217,6 +229,7 @@ of_pair_apart is none (refusal.Moment why) h = h
 of_pair_apart is none refusal.Vehicle h = h
 of_pair_apart is none (refusal.Word why) h = h
 of_pair_apart is none (refusal.Pair why) h = none why h
+of_pair_apart is none (refusal.Diff why) h = h
 of_pair_apart is none refusal.NoHours h = h
 of_pair_apart is none (refusal.NoDomain why) h = h
 of_pair_apart is none refusal.NoElement h = h
@@ -243,6 +256,8 @@ apart (Given.for_hours text) r s h = h
 apart (Given.for_same first second from) r s h =
     of_pair_apart (IsPairFault first second from) (no_pair_fault first second from s) r h
 apart (Given.for_hours_of text) r s h = of_word_apart (IsWordOfDomainFault text) (no_domain_fault text s) r h
+apart (Given.for_diff old new from to vehicle) r s h =
+    of_diff_apart (IsDiffFault from to vehicle) (no_diff_fault from to vehicle s) r h
 apart (Given.for_records file) r s h = h
 apart (Given.for_picture texts) r s h = of_word_apart (IsSubjectFault texts) (no_subject_fault texts s.0 s.1) r h
 apart (Given.for_picture_domain text year) r s h =
@@ -257,6 +272,7 @@ one_moment moment vehicle a (refusal.Moment why) h k = ap refusal.Moment (one_er
 one_moment moment vehicle a refusal.Vehicle h k = absurd (ok_or_err (stamp_in moment) k.0.0 a k.0.1 h)
 one_moment moment vehicle a (refusal.Word why) h k = absurd k
 one_moment moment vehicle a (refusal.Pair why) h k = absurd k
+one_moment moment vehicle a (refusal.Diff why) h k = absurd k
 one_moment moment vehicle a refusal.NoHours h k = absurd k
 one_moment moment vehicle a (refusal.NoDomain why) h k = absurd k
 one_moment moment vehicle a refusal.NoElement h k = absurd k
@@ -271,6 +287,7 @@ one_vehicle moment vehicle (refusal.Moment why) h k = absurd (ok_or_err (stamp_i
 one_vehicle moment vehicle refusal.Vehicle h k = refl
 one_vehicle moment vehicle (refusal.Word why) h k = absurd k
 one_vehicle moment vehicle (refusal.Pair why) h k = absurd k
+one_vehicle moment vehicle (refusal.Diff why) h k = absurd k
 one_vehicle moment vehicle refusal.NoHours h k = absurd k
 one_vehicle moment vehicle (refusal.NoDomain why) h k = absurd k
 one_vehicle moment vehicle refusal.NoElement h k = absurd k
@@ -285,6 +302,7 @@ one_now moment vehicle (refusal.Moment why) s h k = one_moment moment vehicle wh
 one_now moment vehicle refusal.Vehicle s h k = one_vehicle moment vehicle s h.0 k
 one_now moment vehicle (refusal.Word why) s h k = absurd h
 one_now moment vehicle (refusal.Pair why) s h k = absurd h
+one_now moment vehicle (refusal.Diff why) s h k = absurd h
 one_now moment vehicle refusal.NoHours s h k = absurd h
 one_now moment vehicle (refusal.NoDomain why) s h k = absurd h
 one_now moment vehicle refusal.NoElement s h k = absurd h
@@ -300,6 +318,7 @@ same_word is one a (refusal.Moment why) h k = absurd k
 same_word is one a refusal.Vehicle h k = absurd k
 same_word is one a (refusal.Word why) h k = ap refusal.Word (one why a k h)
 same_word is one a (refusal.Pair why) h k = absurd k
+same_word is one a (refusal.Diff why) h k = absurd k
 same_word is one a refusal.NoHours h k = absurd k
 same_word is one a (refusal.NoDomain why) h k = absurd k
 same_word is one a refusal.NoElement h k = absurd k
@@ -315,6 +334,7 @@ one_of_word is one (refusal.Moment why) s h k = absurd h
 one_of_word is one refusal.Vehicle s h k = absurd h
 one_of_word is one (refusal.Word why) s h k = same_word is one why s h k
 one_of_word is one (refusal.Pair why) s h k = absurd h
+one_of_word is one (refusal.Diff why) s h k = absurd h
 one_of_word is one refusal.NoHours s h k = absurd h
 one_of_word is one (refusal.NoDomain why) s h k = absurd h
 one_of_word is one refusal.NoElement s h k = absurd h
@@ -383,6 +403,7 @@ same_pair is one a (refusal.Moment why) h k = absurd k
 same_pair is one a refusal.Vehicle h k = absurd k
 same_pair is one a (refusal.Word why) h k = absurd k
 same_pair is one a (refusal.Pair why) h k = ap refusal.Pair (one why a k h)
+same_pair is one a (refusal.Diff why) h k = absurd k
 same_pair is one a refusal.NoHours h k = absurd k
 same_pair is one a (refusal.NoDomain why) h k = absurd k
 same_pair is one a refusal.NoElement h k = absurd k
@@ -398,6 +419,7 @@ one_of_pair is one (refusal.Moment why) s h k = absurd h
 one_of_pair is one refusal.Vehicle s h k = absurd h
 one_of_pair is one (refusal.Word why) s h k = absurd h
 one_of_pair is one (refusal.Pair why) s h k = same_pair is one why s h k
+one_of_pair is one (refusal.Diff why) s h k = absurd h
 one_of_pair is one refusal.NoHours s h k = absurd h
 one_of_pair is one (refusal.NoDomain why) s h k = absurd h
 one_of_pair is one refusal.NoElement s h k = absurd h
@@ -430,6 +452,8 @@ one_word (Given.for_hours text) r s h k = absurd h
 one_word (Given.for_same first second from) r s h k =
     one_of_pair (IsPairFault first second from) (one_pair_fault first second from) r s h k
 one_word (Given.for_hours_of text) r s h k = one_of_word (IsWordOfDomainFault text) (one_domain_fault text) r s h k
+one_word (Given.for_diff old new from to vehicle) r s h k =
+    one_of_diff (IsDiffFault from to vehicle) (one_diff_fault from to vehicle) r s h k
 one_word (Given.for_records file) r s h k = absurd h
 one_word (Given.for_picture texts) r s h k = one_of_word (IsSubjectFault texts) (one_subject_fault texts) r s h k
 one_word (Given.for_picture_domain text year) r s h k =
@@ -462,6 +486,7 @@ only_asked words (Err (refusal.Moment why)) is given give = refused_word words g
 only_asked words (Err refusal.Vehicle) is given give = refused_word words given refusal.Vehicle give is
 only_asked words (Err (refusal.Word why)) is given give = refused_word words given (refusal.Word why) give is
 only_asked words (Err (refusal.Pair why)) is given give = refused_word words given (refusal.Pair why) give is
+only_asked words (Err (refusal.Diff why)) is given give = refused_word words given (refusal.Diff why) give is
 only_asked words (Err refusal.NoHours) is given give = refused_word words given refusal.NoHours give is
 only_asked words (Err (refusal.NoDomain why)) is given give = refused_word words given (refusal.NoDomain why) give is
 only_asked words (Err refusal.NoElement) is given give = refused_word words given refusal.NoElement give is
@@ -477,6 +502,7 @@ of_memory_or_word given (refusal.Moment why) h = inr h
 of_memory_or_word given refusal.Vehicle h = inr h
 of_memory_or_word given (refusal.Word why) h = inr h
 of_memory_or_word given (refusal.Pair why) h = inr h
+of_memory_or_word given (refusal.Diff why) h = inr h
 of_memory_or_word given refusal.NoHours h = inr h
 of_memory_or_word given (refusal.NoDomain why) h = inr h
 of_memory_or_word given refusal.NoElement h = inr h
@@ -526,6 +552,7 @@ no_usage (Given.for_words text) told h = h
 no_usage (Given.for_hours text) told h = h
 no_usage (Given.for_same first second from) told h = h
 no_usage (Given.for_hours_of text) told h = h
+no_usage (Given.for_diff old new from to vehicle) told h = h
 no_usage (Given.for_records file) told h = h
 no_usage (Given.for_picture texts) told h = h
 no_usage (Given.for_picture_domain text year) told h = h
@@ -538,6 +565,7 @@ answered words given (Err (refusal.Moment why)) give h = (given, give, h)
 answered words given (Err refusal.Vehicle) give h = (given, give, h)
 answered words given (Err (refusal.Word why)) give h = (given, give, h)
 answered words given (Err (refusal.Pair why)) give h = (given, give, h)
+answered words given (Err (refusal.Diff why)) give h = (given, give, h)
 answered words given (Err refusal.NoHours) give h = (given, give, h)
 answered words given (Err (refusal.NoDomain why)) give h = (given, give, h)
 answered words given (Err refusal.NoElement) give h = (given, give, h)

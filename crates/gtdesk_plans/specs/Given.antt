@@ -28,6 +28,7 @@ pub data Given : Type 0 where
   for_hours : (text : Text) → Given
   for_hours_of : (domain : Text) → Given
   for_same : (first second : Text) → (from : Option Text) → Given
+  for_diff : (old new from to vehicle : Text) → Given
   for_records : (file : Text) → Given
   for_picture : (texts : PictureTexts) → Given
   for_picture_domain : (domain year : Text) → Given
@@ -50,6 +51,10 @@ all_of_domain domain year = None
 abbrev pub all_of_same : Option Text → Option Text → Option Text → Option Given
 all_of_same (Some first) (Some second) from = Some (Given.for_same first second from)
 all_of_same first second from = None
+
+abbrev pub all_of_diff : Option Text → Option Text → Option Text → Option Text → Option Text → Option Given
+all_of_diff (Some old) (Some new) (Some from) (Some to) (Some vehicle) = Some (Given.for_diff old new from to vehicle)
+all_of_diff old new from to vehicle = None
 
 -- One of two, if the other is not there.
 abbrev pub either_of_hours : Option Text → Option Text → Option Given
@@ -79,6 +84,11 @@ hours_in rows = either_of_hours (first_of (codes "TEXT") rows) (first_of (codes 
 abbrev pub same_in : List Row → Option Given
 same_in rows = all_of_same (first_of (codes "FIRST") rows) (first_of (codes "SECOND") rows) (first_of (codes "from") rows)
 
+abbrev pub diff_in : List Row → Option Given
+diff_in rows =
+    all_of_diff (first_of (codes "OLD") rows) (first_of (codes "NEW") rows) (first_of (codes "FROM") rows)
+    (first_of (codes "TO") rows) (first_of (codes "VEHICLE") rows)
+
 abbrev pub records_in : List Row → Option Given
 records_in rows = option_map Given.for_records (first_of (codes "FILE") rows)
 
@@ -93,7 +103,8 @@ domain_in rows = all_of_domain (first_of (codes "DOMAIN") rows) (first_of (codes
 -- The command of a name, from what was found for it.
 abbrev pub pictures_in : Text × List Row → Option Given
 pictures_in found =
-    if bytes_eq found.0 (codes "picture") then picture_in found.1
+    if bytes_eq found.0 (codes "diff") then diff_in found.1
+    else if bytes_eq found.0 (codes "picture") then picture_in found.1
     else if bytes_eq found.0 (codes "picture-domain") then domain_in found.1
     else None
 
@@ -140,6 +151,8 @@ texts_of (words.Words domain) = Given.for_words domain.now
 texts_of (words.Hours text) = Given.for_hours text.now
 texts_of (words.HoursOf domain) = Given.for_hours_of domain.now
 texts_of (words.Same first second from) = Given.for_same first.now second.now (option_map (λ text. text.now) from)
+texts_of (words.Diff given) =
+    Given.for_diff given.old.now given.new.now given.from.now given.to.now given.vehicle.now
 texts_of (words.Records file) = Given.for_records file.now
 texts_of (words.Picture given) = Given.for_picture (picture_texts given)
 texts_of (words.PictureDomain domain year) = Given.for_picture_domain domain.now year.now

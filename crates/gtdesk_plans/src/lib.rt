@@ -5,12 +5,14 @@
 #![tactic(auto)]
 
 mod command_line;
+mod diff;
 mod given;
 mod planner;
 mod plans;
 mod refusal;
 mod words;
 
+pub use diff::{DiffFault, DiffPlan};
 pub use planner::plan;
 pub use plans::{Moment, PictureSubject, Plan};
 pub use refusal::{NoDomain, PairFault, Refusal, WordFault};
