@@ -57,6 +57,8 @@ run help hours
 expect 'the command help with the command hours' 0 "$(cat "$top/tests/desk/hours.txt")" ''
 run same --help
 expect 'help of the command same' 0 "$(cat "$top/tests/desk/same.txt")" ''
+run diff --help
+expect 'help of the command diff' 0 "$(cat "$top/tests/desk/diff.txt")" ''
 run records --help
 expect 'help of the command records' 0 "$(cat "$top/tests/desk/records.txt")" ''
 run --version

@@ -2,7 +2,7 @@
 
 ghost use Rattle.std.specs.Prelude.{◌≡◌, ◌+◌, ◌*◌, ◌<◌, ◌≤◌, ◌^◌, ℕ, List, length, IsTrue, OnOk};
 ghost use Rattle.gtd_core.specs.Limits.{most_rows};
-ghost use Rattle.gtd_records.specs.Closing.{Restriction};
+ghost use Rattle.gtd_records.specs.Closing.{AreElements, Restriction};
 ghost use Rattle.gtd_records.specs.declared.direction.Direction.{Direction};
 ghost use Rattle.gtd_report.specs.Putting.{AreElementLines, AreLinesOf, IsByElement, IsOneEach, PutsText, failures_after_stop};
 ghost use Rattle.gtd_report.specs.Putting.{most_direction_bytes, most_direction_lines, nothing_put};
@@ -111,7 +111,7 @@ fn put_elements<O: Output, L: ElementLines>(
 ) -> Result<(), Stop>
     requires countable { O.failure_count output.old < u64.MAX }
     requires known { length found.now ≤ most_rows }
-    requires few { length elements.now ≤ most_rows }
+    requires few { length elements.now ≤ 2 * most_rows }
     requires written { progress.old.written ≤ 1000 }
     requires lines { progress.old.lines ≤ 1 }
     requires one { IsOneEach (L.are_lines text.now found.now) }
@@ -125,6 +125,37 @@ fn put_elements<O: Output, L: ElementLines>(
         text.put_element(alloc, output, progress, &mut line, found, *element)?;
     }
     Ok(())
+}
+
+/// Puts a header of at most 1,000 bytes, and the lines of listed elements, in their order and positive before negative; then
+/// ends the output. If the list is that of the elements that some restrictions name, this is a text by their elements. There may
+/// be twice as many as a file has rows. Before the call, the output's failures must be below `u64::MAX`. An element must have at
+/// most one list of lines in a direction.
+pub fn put_listed<O: Output, L: ElementLines>(
+    alloc: Global,
+    output: &mut O,
+    progress: &mut Progress,
+    found: &Records,
+    elements: &[u64],
+    header: &[u8],
+    text: &L,
+) -> Result<(), Stop>
+    requires countable { O.failure_count output.old < u64.MAX }
+    requires begins { progress.old ≡ nothing_put }
+    requires known { length found.now ≤ most_rows }
+    requires few { length elements.now ≤ 2 * most_rows }
+    requires short { length header.now ≤ 1000 }
+    requires one { IsOneEach (L.are_lines text.now found.now) }
+    ensures puts { (all : List Restriction) → AreElements all elements.now
+        → PutsText (IsByElement all header.now (L.are_lines text.now found.now)) result
+        (O.taken output.old) (O.taken output.new) progress.old progress.new }
+    ensures ended { OnOk result (IsTrue (O.is_ended output.new)) }
+    ensures failures { O.failure_count output.new
+        ≡ failures_after_stop result (O.failure_count output.old) }
+{
+    put_line(output, progress, header)?;
+    put_elements(alloc, output, progress, found, elements, text)?;
+    finish(output)
 }
 
 /// Puts a text by elements: a header of at most 1,000 bytes, and the lines of each element of the records, in ascending
@@ -149,7 +180,13 @@ pub fn put_by_element<O: Output, L: ElementLines>(
     ensures failures { O.failure_count output.new
         ≡ failures_after_stop result (O.failure_count output.old) }
 {
-    put_line(output, progress, header)?;
-    put_elements(alloc, output, progress, found, found.elements(), text)?;
-    finish(output)
+    put_listed(
+        alloc,
+        output,
+        progress,
+        found,
+        found.elements(),
+        header,
+        text,
+    )
 }

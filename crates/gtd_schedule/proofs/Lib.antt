@@ -1,4 +1,3 @@
-pub mod SpansShown
 pub mod SpanLines
 pub mod SomeSchedule
 pub mod ScheduleFacts

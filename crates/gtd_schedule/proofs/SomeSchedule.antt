@@ -11,7 +11,7 @@ use Rattle.gtd_report.specs.facts.SomeElements.{some_by_element}
 use Rattle.gtd_schedule.specs.Schedule.{AreLines, IsSchedule, header_line}
 use Rattle.gtd_schedule.specs.Lines.{span_line}
 use Rattle.gtd_schedule.proofs.SpanLines.{lines_are}
-use Rattle.gtd_schedule.proofs.SpansShown.{normal_shown}
+use Rattle.gtd_schedule.specs.facts.SpansShown.{normal_shown}
 use Rattle.gtd_spans.specs.facts.SomeList.{some-normal-list}
 
 module _ (found : List Restriction) (vehicle : ℕ) (horizon : Horizon) where

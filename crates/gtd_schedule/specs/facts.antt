@@ -1,3 +1,4 @@
 pub mod LineFacts
 pub mod NormalLists
 pub mod ShownFacts
+pub mod SpansShown

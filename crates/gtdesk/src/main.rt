@@ -1,14 +1,19 @@
 //! `gtdesk` prints, for people, which elements of a record file are closed at a moment and by which rows, lists the rows of
-//! a file that are at fault, says in plain English and in opening hours when a time domain holds, compares two time domains, makes
+//! a file that are at fault, says in plain English and in opening hours when a time domain holds, compares two time domains or record files, makes
 //! record files of files of opening hours, and draws pictures of a year.
 //!
-//! It writes its answer to standard output and ends with status 0, or 1 if it listed faults, or 4 if two domains differ; faults of
+//! It writes its answer to standard output and ends with status 0, or 1 if it listed faults, or 4 if the two differ; faults of
 //! a file of opening hours go to standard error. Or it writes one line to standard error and ends with the status of its refusal: 1 if the input is refused,
 //! 2 for usage, 3 if opening, reading, writing or memory failed.
 #![tactic(auto)]
 
+ghost use Rattle.std.specs.Prelude.{◌≡◌, None};
+ghost use Rattle.gtdesk_tool.specs.Plans.{diff_of};
+
 use gtd_devices::{Host, HostOut};
-use gtdesk_tool::{Ending, Plan, Refusal, RefusalLine, perform, plan};
+use gtdesk_tool::{
+    DiffFault, DiffPlan, Ending, Plan, Refusal, RefusalLine, perform, perform_diff, plan,
+};
 use std::fs::File;
 use std::io::{BufWriter, ErrorKind, Read};
 use std::process::ExitCode;
@@ -38,7 +43,9 @@ fn open(rt: &HostRuntime, path: &str) -> Result<File, Refusal> {
 }
 
 // Carries the plan out, from a reader to standard output.
-fn print<R: Read + Drop>(rt: &HostRuntime, plan: &Plan, reader: R) -> Result<Ending, Refusal> {
+fn print<R: Read + Drop>(rt: &HostRuntime, plan: &Plan, reader: R) -> Result<Ending, Refusal>
+    requires one_file { diff_of plan.now ≡ None }
+{
     let mut input = Host::new(reader);
     let made = BufWriter::with_capacity(rt.alloc(), OUTPUT_BUFFER, io::writer(rt));
     let mut output = HostOut::new(made.map_err(|_| Refusal::Memory)?);
@@ -46,11 +53,54 @@ fn print<R: Read + Drop>(rt: &HostRuntime, plan: &Plan, reader: R) -> Result<End
     perform(rt.alloc(), plan, &mut input, &mut output, &mut errors)
 }
 
-fn run(rt: &HostRuntime, plan: &Plan) -> Result<Ending, Refusal> {
+// Carries a plan out that reads one file at most.
+fn run_one(rt: &HostRuntime, plan: &Plan) -> Result<Ending, Refusal>
+    requires one_file { diff_of plan.now ≡ None }
+{
     match plan.file() {
         Some("-") => print(rt, plan, rt.stdin()),
         Some(path) => print(rt, plan, open(rt, path)?),
         None => print(rt, plan, io::empty()),
+    }
+}
+
+// Carries the plan of `diff` out, from two readers to standard output.
+fn print_diff<R: Read + Drop, S: Read + Drop>(
+    rt: &HostRuntime,
+    plan: &DiffPlan,
+    old: R,
+    new: S,
+) -> Result<Ending, Refusal> {
+    let mut old = Host::new(old);
+    let mut new = Host::new(new);
+    let made = BufWriter::with_capacity(rt.alloc(), OUTPUT_BUFFER, io::writer(rt));
+    let mut output = HostOut::new(made.map_err(|_| Refusal::Memory)?);
+    perform_diff(rt.alloc(), plan, &mut old, &mut new, &mut output)
+}
+
+// Carries the plan of `diff` out, from the reader of the old file.
+fn run_diff<R: Read + Drop>(rt: &HostRuntime, plan: &DiffPlan, old: R) -> Result<Ending, Refusal> {
+    match plan.new.as_str() {
+        "-" => print_diff(rt, plan, old, rt.stdin()),
+        path => print_diff(rt, plan, old, open(rt, path)?),
+    }
+}
+
+// The old record file.
+fn open_old(rt: &HostRuntime, path: &str) -> Result<File, Refusal> {
+    open(rt, path).map_err(|refusal| match refusal {
+        Refusal::Open => Refusal::Diff(DiffFault::OldOpen),
+        _ => refusal,
+    })
+}
+
+fn run(rt: &HostRuntime, plan: &Plan) -> Result<Ending, Refusal> {
+    match plan.diff() {
+        Some(diff) => match diff.old.as_str() {
+            "-" => run_diff(rt, diff, rt.stdin()),
+            path => run_diff(rt, diff, open_old(rt, path)?),
+        },
+        None => run_one(rt, plan),
     }
 }
 
@@ -68,7 +118,7 @@ fn main(rt: HostRuntime) -> ExitCode {
     match planned {
         Ok(plan) => match run(&rt, &plan) {
             Ok(ending) => ExitCode::from(ending.status()),
-            Err(refusal) => refuse(&rt, refusal, plan.file().unwrap_or("")),
+            Err(refusal) => refuse(&rt, refusal, plan.refused_file(refusal).unwrap_or("")),
         },
         Err(refusal) => refuse(&rt, refusal, ""),
     }

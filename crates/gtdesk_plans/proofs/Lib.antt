@@ -1,4 +1,5 @@
 pub mod ClapWords
 pub mod HoursFacts
+pub mod DiffFacts
 pub mod PlanFacts
 pub mod NumberFacts

@@ -21,6 +21,8 @@ use Rattle.gtdesk_plans.specs.CommandLine.{HasWords, Text, desk_app, is_memory, 
 use Rattle.gtdesk_plans.specs.Given.{AreMistaken, Give, Given, NowTexts, PictureTexts, asked_words, given_by, given_in}
 use Rattle.gtdesk_plans.specs.Given.{help_words, texts_of}
 use Rattle.gtdesk_plans.specs.declared.given.Words.{Words}
+use Rattle.gtdesk_plans.proofs.DiffFacts.{IsSoundDiff, diff_sound, no_diff_fault, of_diff_apart, one_diff_fault, one_of_diff}
+use Rattle.gtdesk_plans.specs.Diff.{IsDiffFault}
 use Rattle.gtdesk_plans.specs.Plans.{AreRefused, AskFor, Asks, IsDomainPlan, IsHoursPlan, IsNowFault, IsNowPlan, IsOfPair}
 use Rattle.gtdesk_plans.specs.Plans.{IsOfWord, IsPicturePlan, IsRefused, IsSameHoursPlan, IsSamePlan, IsShown, IsWordFault}
 use Rattle.gtdesk_plans.specs.Plans.{IsWordsPlan}
@@ -75,6 +77,7 @@ IsSound (Given.for_hours text) = Unit {0}
 IsSound (Given.for_same first second from) = HasNoFault first × HasNoFault second × ((s : Sec) × IsFromWord from s)
 IsSound (Given.for_same_hours first second from) = HasDomain first × HasDomain second × ((s : Sec) × IsFromWord from s)
 IsSound (Given.for_hours_of text) = HasNoFault text
+IsSound (Given.for_diff old new from to vehicle) = IsSoundDiff from to vehicle
 IsSound (Given.for_records file) = Unit {0}
 IsSound (Given.for_picture texts) = (s : PictureSubject) × AreSubjectWords texts s
 IsSound (Given.for_picture_domain text year) = HasNoFault text × ((y : ℕ) × IsYearWord year y)
@@ -89,6 +92,7 @@ now_sound texts (plan.HoursOf d) h = absurd h
 now_sound texts (plan.DomainOf t) h = absurd h
 now_sound texts (plan.Same a b m) h = absurd h
 now_sound texts (plan.Records f) h = absurd h
+now_sound texts (plan.Diff d) h = absurd h
 now_sound texts (plan.Show t) h = absurd h
 
 words_sound : (text : Text) (p : Plan) → IsWordsPlan text p → HasNoFault text
@@ -101,6 +105,7 @@ words_sound text (plan.HoursOf d) h = absurd h
 words_sound text (plan.DomainOf t) h = absurd h
 words_sound text (plan.Same a b m) h = absurd h
 words_sound text (plan.Records f) h = absurd h
+words_sound text (plan.Diff d) h = absurd h
 words_sound text (plan.Show t) h = absurd h
 
 hours_sound : (text : Text) (p : Plan) → IsHoursPlan text p → HasNoFault text
@@ -113,6 +118,7 @@ hours_sound text (plan.HoursOf d) h = h.faultless
 hours_sound text (plan.DomainOf t) h = absurd h
 hours_sound text (plan.Same a b m) h = absurd h
 hours_sound text (plan.Records f) h = absurd h
+hours_sound text (plan.Diff d) h = absurd h
 hours_sound text (plan.Show t) h = absurd h
 
 picture_sound : (texts : PictureTexts) (p : Plan) → IsPicturePlan texts p → IsSound (Given.for_picture texts)
@@ -125,6 +131,7 @@ picture_sound texts (plan.HoursOf d) h = absurd h
 picture_sound texts (plan.DomainOf t) h = absurd h
 picture_sound texts (plan.Same a b m) h = absurd h
 picture_sound texts (plan.Records f) h = absurd h
+picture_sound texts (plan.Diff d) h = absurd h
 picture_sound texts (plan.Show t) h = absurd h
 
 domain_sound : (text year : Text) (p : Plan) → IsDomainPlan text year p → IsSound (Given.for_picture_domain text year)
@@ -137,6 +144,7 @@ domain_sound text year (plan.HoursOf d) h = absurd h
 domain_sound text year (plan.DomainOf t) h = absurd h
 domain_sound text year (plan.Same a b m) h = absurd h
 domain_sound text year (plan.Records f) h = absurd h
+domain_sound text year (plan.Diff d) h = absurd h
 domain_sound text year (plan.Show t) h = absurd h
 
 same_sound : (first second : Text) (from : Option Text) (p : Plan) → IsSamePlan first second from p
@@ -150,6 +158,7 @@ same_sound first second from (plan.HoursOf d) h = absurd h
 same_sound first second from (plan.DomainOf t) h = absurd h
 same_sound first second from (plan.Same a b m) h = (h.0.faultless, h.1.faultless, (m.second, h.2))
 same_sound first second from (plan.Records f) h = absurd h
+same_sound first second from (plan.Diff d) h = absurd h
 same_sound first second from (plan.Show t) h = absurd h
 
 same_hours_sound : (first second : Text) (from : Option Text) (p : Plan) → IsSameHoursPlan first second from p
@@ -164,6 +173,7 @@ same_hours_sound first second from (plan.DomainOf t) h = absurd h
 same_hours_sound first second from (plan.Same a b m) h =
     ((h.0.0, h.0.1, h.0.2.fits), (h.1.0, h.1.1, h.1.2.fits), (m.second, h.2))
 same_hours_sound first second from (plan.Records f) h = absurd h
+same_hours_sound first second from (plan.Diff d) h = absurd h
 same_hours_sound first second from (plan.Show t) h = absurd h
 
 sound : (given : Given) (p : Plan) → Asks given p → IsSound given
@@ -174,6 +184,7 @@ sound (Given.for_hours text) p h = tt
 sound (Given.for_same first second from) p h = same_sound first second from p h
 sound (Given.for_same_hours first second from) p h = same_hours_sound first second from p h
 sound (Given.for_hours_of text) p h = hours_sound text p h
+sound (Given.for_diff old new from to vehicle) p h = diff_sound old new from to vehicle p h
 sound (Given.for_records file) p h = tt
 sound (Given.for_picture texts) p h = picture_sound texts p h
 sound (Given.for_picture_domain text year) p h = domain_sound text year p h
@@ -193,6 +204,7 @@ now_apart texts (refusal.Moment why) s h = ok_or_err (moment_in texts.moment) s.
 now_apart texts refusal.Vehicle s h = h.1 s.1.0 s.1.1.0 s.1.1.1
 now_apart texts (refusal.Word why) s h = no_element_fault texts s.2 why h
 now_apart texts (refusal.Pair why) s h = h
+now_apart texts (refusal.Diff why) s h = h
 now_apart texts refusal.NoHours s h = h
 now_apart texts (refusal.NoDomain why) s h = h
 now_apart texts refusal.NoElement s h = h
@@ -207,6 +219,7 @@ of_word_apart is none (refusal.Moment why) h = h
 of_word_apart is none refusal.Vehicle h = h
 of_word_apart is none (refusal.Word why) h = none why h
 of_word_apart is none (refusal.Pair why) h = h
+of_word_apart is none (refusal.Diff why) h = h
 of_word_apart is none refusal.NoHours h = h
 of_word_apart is none (refusal.NoDomain why) h = h
 of_word_apart is none refusal.NoElement h = h
@@ -244,6 +257,7 @@ of_pair_apart is none (refusal.Moment why) h = h
 of_pair_apart is none refusal.Vehicle h = h
 of_pair_apart is none (refusal.Word why) h = h
 of_pair_apart is none (refusal.Pair why) h = none why h
+of_pair_apart is none (refusal.Diff why) h = h
 of_pair_apart is none refusal.NoHours h = h
 of_pair_apart is none (refusal.NoDomain why) h = h
 of_pair_apart is none refusal.NoElement h = h
@@ -275,6 +289,8 @@ apart (Given.for_same_hours first second from) r s h =
     of_pair_apart (IsHoursPairFault first second from)
     (no_hours_pair_fault first second from s.0 s.1 (no_from_fault from s.2.0 s.2.1)) r h
 apart (Given.for_hours_of text) r s h = of_word_apart (IsWordOfDomainFault text) (no_domain_fault text s) r h
+apart (Given.for_diff old new from to vehicle) r s h =
+    of_diff_apart (IsDiffFault from to vehicle) (no_diff_fault from to vehicle s) r h
 apart (Given.for_records file) r s h = h
 apart (Given.for_picture texts) r s h = of_word_apart (IsSubjectFault texts) (no_subject_fault texts s.0 s.1) r h
 apart (Given.for_picture_domain text year) r s h =
@@ -315,6 +331,7 @@ one_moment texts a (refusal.Moment why) h k = ap refusal.Moment (one_err (moment
 one_moment texts a refusal.Vehicle h k = absurd (ok_or_err (moment_in texts.moment) k.0.0 a k.0.1 h)
 one_moment texts a (refusal.Word why) h k = absurd (moment_or_element texts a why h k)
 one_moment texts a (refusal.Pair why) h k = absurd k
+one_moment texts a (refusal.Diff why) h k = absurd k
 one_moment texts a refusal.NoHours h k = absurd k
 one_moment texts a (refusal.NoDomain why) h k = absurd k
 one_moment texts a refusal.NoElement h k = absurd k
@@ -330,6 +347,7 @@ one_vehicle texts (refusal.Moment why) h none k = absurd (ok_or_err (moment_in t
 one_vehicle texts refusal.Vehicle h none k = refl
 one_vehicle texts (refusal.Word why) h none k = absurd (vehicle_or_element texts why none k)
 one_vehicle texts (refusal.Pair why) h none k = absurd k
+one_vehicle texts (refusal.Diff why) h none k = absurd k
 one_vehicle texts refusal.NoHours h none k = absurd k
 one_vehicle texts (refusal.NoDomain why) h none k = absurd k
 one_vehicle texts refusal.NoElement h none k = absurd k
@@ -345,6 +363,7 @@ one_of_elements texts a (refusal.Moment why) h k = absurd (moment_or_element tex
 one_of_elements texts a refusal.Vehicle h k = absurd (vehicle_or_element texts a k.1 h)
 one_of_elements texts a (refusal.Word why) h k = ap refusal.Word (one_element texts why a k h)
 one_of_elements texts a (refusal.Pair why) h k = absurd k
+one_of_elements texts a (refusal.Diff why) h k = absurd k
 one_of_elements texts a refusal.NoHours h k = absurd k
 one_of_elements texts a (refusal.NoDomain why) h k = absurd k
 one_of_elements texts a refusal.NoElement h k = absurd k
@@ -359,6 +378,7 @@ one_now texts (refusal.Moment why) s h k = one_moment texts why s h k
 one_now texts refusal.Vehicle s h k = one_vehicle texts s h.0 h.1 k
 one_now texts (refusal.Word why) s h k = one_of_elements texts why s h k
 one_now texts (refusal.Pair why) s h k = absurd h
+one_now texts (refusal.Diff why) s h k = absurd h
 one_now texts refusal.NoHours s h k = absurd h
 one_now texts (refusal.NoDomain why) s h k = absurd h
 one_now texts refusal.NoElement s h k = absurd h
@@ -374,6 +394,7 @@ same_word is one a (refusal.Moment why) h k = absurd k
 same_word is one a refusal.Vehicle h k = absurd k
 same_word is one a (refusal.Word why) h k = ap refusal.Word (one why a k h)
 same_word is one a (refusal.Pair why) h k = absurd k
+same_word is one a (refusal.Diff why) h k = absurd k
 same_word is one a refusal.NoHours h k = absurd k
 same_word is one a (refusal.NoDomain why) h k = absurd k
 same_word is one a refusal.NoElement h k = absurd k
@@ -389,6 +410,7 @@ one_of_word is one (refusal.Moment why) s h k = absurd h
 one_of_word is one refusal.Vehicle s h k = absurd h
 one_of_word is one (refusal.Word why) s h k = same_word is one why s h k
 one_of_word is one (refusal.Pair why) s h k = absurd h
+one_of_word is one (refusal.Diff why) s h k = absurd h
 one_of_word is one refusal.NoHours s h k = absurd h
 one_of_word is one (refusal.NoDomain why) s h k = absurd h
 one_of_word is one refusal.NoElement s h k = absurd h
@@ -457,6 +479,7 @@ same_pair is one a (refusal.Moment why) h k = absurd k
 same_pair is one a refusal.Vehicle h k = absurd k
 same_pair is one a (refusal.Word why) h k = absurd k
 same_pair is one a (refusal.Pair why) h k = ap refusal.Pair (one why a k h)
+same_pair is one a (refusal.Diff why) h k = absurd k
 same_pair is one a refusal.NoHours h k = absurd k
 same_pair is one a (refusal.NoDomain why) h k = absurd k
 same_pair is one a refusal.NoElement h k = absurd k
@@ -472,6 +495,7 @@ one_of_pair is one (refusal.Moment why) s h k = absurd h
 one_of_pair is one refusal.Vehicle s h k = absurd h
 one_of_pair is one (refusal.Word why) s h k = absurd h
 one_of_pair is one (refusal.Pair why) s h k = same_pair is one why s h k
+one_of_pair is one (refusal.Diff why) s h k = absurd h
 one_of_pair is one refusal.NoHours s h k = absurd h
 one_of_pair is one (refusal.NoDomain why) s h k = absurd h
 one_of_pair is one refusal.NoElement s h k = absurd h
@@ -514,6 +538,8 @@ one_word (Given.for_same first second from) r s h k =
 one_word (Given.for_same_hours first second from) r s h k =
     one_of_pair (IsHoursPairFault first second from) (one_hours_pair_fault first second from (one_from_fault from)) r s h k
 one_word (Given.for_hours_of text) r s h k = one_of_word (IsWordOfDomainFault text) (one_domain_fault text) r s h k
+one_word (Given.for_diff old new from to vehicle) r s h k =
+    one_of_diff (IsDiffFault from to vehicle) (one_diff_fault from to vehicle) r s h k
 one_word (Given.for_records file) r s h k = absurd h
 one_word (Given.for_picture texts) r s h k = one_of_word (IsSubjectFault texts) (one_subject_fault texts) r s h k
 one_word (Given.for_picture_domain text year) r s h k =
@@ -542,6 +568,7 @@ refused_elements texts (refusal.Word word.Vehicle) m v h = absurd h
 refused_elements texts (refusal.Word word.Year) m v h = absurd h
 refused_elements texts (refusal.Word (word.Domain why)) m v h = absurd h
 refused_elements texts (refusal.Pair why) m v h = absurd h
+refused_elements texts (refusal.Diff why) m v h = absurd h
 refused_elements texts refusal.NoHours m v h = absurd h
 refused_elements texts (refusal.NoDomain why) m v h = absurd h
 refused_elements texts refusal.NoElement m v h = absurd h
@@ -577,6 +604,7 @@ only_asked words (Err (refusal.Moment why)) is given give = refused_word words g
 only_asked words (Err refusal.Vehicle) is given give = refused_word words given refusal.Vehicle give is
 only_asked words (Err (refusal.Word why)) is given give = refused_word words given (refusal.Word why) give is
 only_asked words (Err (refusal.Pair why)) is given give = refused_word words given (refusal.Pair why) give is
+only_asked words (Err (refusal.Diff why)) is given give = refused_word words given (refusal.Diff why) give is
 only_asked words (Err refusal.NoHours) is given give = refused_word words given refusal.NoHours give is
 only_asked words (Err (refusal.NoDomain why)) is given give = refused_word words given (refusal.NoDomain why) give is
 only_asked words (Err refusal.NoElement) is given give = refused_word words given refusal.NoElement give is
@@ -592,6 +620,7 @@ of_memory_or_word given (refusal.Moment why) h = inr h
 of_memory_or_word given refusal.Vehicle h = inr h
 of_memory_or_word given (refusal.Word why) h = inr h
 of_memory_or_word given (refusal.Pair why) h = inr h
+of_memory_or_word given (refusal.Diff why) h = inr h
 of_memory_or_word given refusal.NoHours h = inr h
 of_memory_or_word given (refusal.NoDomain why) h = inr h
 of_memory_or_word given refusal.NoElement h = inr h
@@ -642,6 +671,7 @@ no_usage (Given.for_hours text) told h = h
 no_usage (Given.for_same first second from) told h = h
 no_usage (Given.for_same_hours first second from) told h = h
 no_usage (Given.for_hours_of text) told h = h
+no_usage (Given.for_diff old new from to vehicle) told h = h
 no_usage (Given.for_records file) told h = h
 no_usage (Given.for_picture texts) told h = h
 no_usage (Given.for_picture_domain text year) told h = h
@@ -654,6 +684,7 @@ answered words given (Err (refusal.Moment why)) give h = (given, give, h)
 answered words given (Err refusal.Vehicle) give h = (given, give, h)
 answered words given (Err (refusal.Word why)) give h = (given, give, h)
 answered words given (Err (refusal.Pair why)) give h = (given, give, h)
+answered words given (Err (refusal.Diff why)) give h = (given, give, h)
 answered words given (Err refusal.NoHours) give h = (given, give, h)
 answered words given (Err (refusal.NoDomain why)) give h = (given, give, h)
 answered words given (Err refusal.NoElement) give h = (given, give, h)

@@ -67,6 +67,13 @@ same_app =
     command_of (codes "same")
     (flag_rule (codes "hours") ∷ word_rule (codes "FIRST") ∷ word_rule (codes "SECOND") ∷ option_rule (codes "from") ∷ [])
 
+-- `diff OLD NEW FROM TO VEHICLE`
+abbrev pub diff_app : App
+diff_app =
+    command_of (codes "diff")
+    (word_rule (codes "OLD") ∷ word_rule (codes "NEW") ∷ word_rule (codes "FROM") ∷ word_rule (codes "TO")
+    ∷ word_rule (codes "VEHICLE") ∷ [])
+
 -- `records FILE`
 abbrev pub records_app : App
 records_app = command_of (codes "records") (word_rule (codes "FILE") ∷ [])
@@ -93,7 +100,7 @@ none_given = record {
 abbrev pub desk_app : App
 desk_app =
     fold (λ program command. with_subcommand program command.top) none_given
-    (now_app ∷ faults_app ∷ words_app ∷ hours_app ∷ same_app ∷ records_app ∷ picture_app ∷ domain_app ∷ [])
+    (now_app ∷ faults_app ∷ words_app ∷ hours_app ∷ same_app ∷ diff_app ∷ records_app ∷ picture_app ∷ domain_app ∷ [])
 
 -- The words have no fault, and the matches are theirs.
 pub record HasWords (words : List Text) (m : ArgMatches) : Type 0 where

@@ -38,6 +38,7 @@ pub data Given : Type 0 where
   for_hours_of : (domain : Text) → Given
   for_same : (first second : Text) → (from : Option Text) → Given
   for_same_hours : (first second : Text) → (from : Option Text) → Given
+  for_diff : (old new from to vehicle : Text) → Given
   for_records : (file : Text) → Given
   for_picture : (texts : PictureTexts) → Given
   for_picture_domain : (domain year : Text) → Given
@@ -70,6 +71,10 @@ all_of_same_hours first second from = None
 abbrev pub same_of : Bool → Option Text → Option Text → Option Text → Option Given
 same_of hours first second from = if hours then all_of_same_hours first second from else all_of_same first second from
 
+abbrev pub all_of_diff : Option Text → Option Text → Option Text → Option Text → Option Text → Option Given
+all_of_diff (Some old) (Some new) (Some from) (Some to) (Some vehicle) = Some (Given.for_diff old new from to vehicle)
+all_of_diff old new from to vehicle = None
+
 -- One of two, if the other is not there.
 abbrev pub either_of_hours : Option Text → Option Text → Option Given
 either_of_hours (Some text) None = Some (Given.for_hours text)
@@ -101,6 +106,11 @@ same_in rows =
     same_of (is_set (first_of (codes "hours") rows)) (first_of (codes "FIRST") rows) (first_of (codes "SECOND") rows)
     (first_of (codes "from") rows)
 
+abbrev pub diff_in : List Row → Option Given
+diff_in rows =
+    all_of_diff (first_of (codes "OLD") rows) (first_of (codes "NEW") rows) (first_of (codes "FROM") rows)
+    (first_of (codes "TO") rows) (first_of (codes "VEHICLE") rows)
+
 abbrev pub records_in : List Row → Option Given
 records_in rows = option_map Given.for_records (first_of (codes "FILE") rows)
 
@@ -115,7 +125,8 @@ domain_in rows = all_of_domain (first_of (codes "DOMAIN") rows) (first_of (codes
 -- The command of a name, from what was found for it.
 abbrev pub pictures_in : Text × List Row → Option Given
 pictures_in found =
-    if bytes_eq found.0 (codes "picture") then picture_in found.1
+    if bytes_eq found.0 (codes "diff") then diff_in found.1
+    else if bytes_eq found.0 (codes "picture") then picture_in found.1
     else if bytes_eq found.0 (codes "picture-domain") then domain_in found.1
     else None
 
@@ -181,6 +192,8 @@ texts_of (words.HoursOf domain) = Given.for_hours_of domain.now
 texts_of (words.Same first second from) = Given.for_same first.now second.now (option_map (λ text. text.now) from)
 texts_of (words.SameHours first second from) =
     Given.for_same_hours first.now second.now (option_map (λ text. text.now) from)
+texts_of (words.Diff given) =
+    Given.for_diff given.old.now given.new.now given.from.now given.to.now given.vehicle.now
 texts_of (words.Records file) = Given.for_records file.now
 texts_of (words.Picture given) = Given.for_picture (picture_texts given)
 texts_of (words.PictureDomain domain year) = Given.for_picture_domain domain.now year.now

@@ -2,6 +2,7 @@ pub mod CommandLine
 pub mod Given
 pub mod Words
 pub mod HoursWords
+pub mod Diff
 pub mod Plans
 pub mod Statuses
 pub use Rattle.gtd_core.specs.Seconds

@@ -4,6 +4,9 @@ use Rattle.gtd_moments.specs.Moments.{moment_in}
 use Rattle.clap.specs.declared.error.kind.ErrorKind.{ErrorKind}
 use Rattle.clap.specs.declared.error.kind.ErrorKind.TheVariants.{DisplayVersion}
 use Rattle.gtdesk_plans.specs.CommandLine.{AskForText, Text, version_line}
+use Rattle.gtdesk_plans.specs.Diff.{AreDiffWords, IsDiffFault}
+use Rattle.gtdesk_plans.specs.declared.diff.DiffFault.{DiffFault}
+use Rattle.gtdesk_plans.specs.declared.diff.DiffPlan.{DiffPlan}
 use Rattle.gtdesk_plans.specs.Given.{AreMistaken, Give, Given, NowTexts, PictureTexts}
 use Rattle.gtdesk_plans.specs.HoursWords.{IsHoursDomain, IsHoursPairFault}
 use Rattle.gtdesk_plans.specs.Words.{AreSubjectWords, IsDomainFault, IsElementFault, IsMomentWord, IsNoVehicle, IsReadDomain}
@@ -49,6 +52,11 @@ IsSameHoursPlan first second from (plan.Same a b moment) =
     IsHoursDomain first a × IsHoursDomain second b × IsFromWord from moment.second
 IsSameHoursPlan first second from other = ⊥
 
+abbrev pub IsDiffPlan : Text → Text → Text → Text → Text → Plan → Type 0
+IsDiffPlan old new from to vehicle (plan.Diff diff) =
+    (string_bytes diff.old ≡ old) × (string_bytes diff.new ≡ new) × AreDiffWords from to vehicle diff.horizon diff.vehicle
+IsDiffPlan old new from to vehicle other = ⊥
+
 abbrev pub IsRecordsPlan : Text → Plan → Type 0
 IsRecordsPlan file (plan.Records f) = string_bytes f ≡ file
 IsRecordsPlan file other = ⊥
@@ -79,6 +87,7 @@ Asks (Given.for_hours text) p = IsTextPlan text p
 Asks (Given.for_hours_of text) p = IsHoursPlan text p
 Asks (Given.for_same first second from) p = IsSamePlan first second from p
 Asks (Given.for_same_hours first second from) p = IsSameHoursPlan first second from p
+Asks (Given.for_diff old new from to vehicle) p = IsDiffPlan old new from to vehicle p
 Asks (Given.for_records file) p = IsRecordsPlan file p
 Asks (Given.for_picture texts) p = IsPicturePlan texts p
 Asks (Given.for_picture_domain text year) p = IsDomainPlan text year p
@@ -99,6 +108,10 @@ abbrev pub IsOfPair : (PairFault → Type 0) → Refusal → Type 0
 IsOfPair is (refusal.Pair why) = is why
 IsOfPair is other = ⊥
 
+abbrev pub IsOfDiff : (DiffFault → Type 0) → Refusal → Type 0
+IsOfDiff is (refusal.Diff why) = is why
+IsOfDiff is other = ⊥
+
 -- The refusal is for the first word of the command that stands for nothing. The text of `hours` is read when the plan is carried
 -- out.
 abbrev pub IsWordFault : Given → Refusal → Type 0
@@ -109,6 +122,7 @@ IsWordFault (Given.for_hours text) r = ⊥
 IsWordFault (Given.for_hours_of text) r = IsOfWord (IsWordOfDomainFault text) r
 IsWordFault (Given.for_same first second from) r = IsOfPair (IsPairFault first second from) r
 IsWordFault (Given.for_same_hours first second from) r = IsOfPair (IsHoursPairFault first second from) r
+IsWordFault (Given.for_diff old new from to vehicle) r = IsOfDiff (IsDiffFault from to vehicle) r
 IsWordFault (Given.for_records file) r = ⊥
 IsWordFault (Given.for_picture texts) r = IsOfWord (IsSubjectFault texts) r
 IsWordFault (Given.for_picture_domain text year) r = IsOfWord (IsDomainFault text year) r
@@ -141,4 +155,20 @@ file_of (plan.Now file moment vehicle closed elements) = Some (string_bytes file
 file_of (plan.Faults file warn) = Some (string_bytes file)
 file_of (plan.Records file) = Some (string_bytes file)
 file_of (plan.Picture file title subject) = Some (string_bytes file)
+file_of (plan.Diff diff) = Some (string_bytes diff.new)
 file_of other = None
+
+-- What is to be compared, if the plan is that of `diff`.
+abbrev pub diff_of : Plan → Option DiffPlan
+diff_of (plan.Diff diff) = Some diff
+diff_of other = None
+
+-- The path of its old file.
+abbrev pub old_file_of : Plan → Option Text
+old_file_of (plan.Diff diff) = Some (string_bytes diff.old)
+old_file_of other = None
+
+-- The path of the file that a refusal is about.
+abbrev pub refused_file : Refusal → Plan → Option Text
+refused_file (refusal.Diff why) p = old_file_of p
+refused_file other p = file_of p

@@ -7,7 +7,7 @@ ghost use Rattle.clap.specs.Faults.{fault_of};
 ghost use Rattle.clap.specs.Kinds.{HasKind};
 ghost use Rattle.clap.specs.Simple.{App, new_app, with_rule, with_subcommand};
 ghost use Rattle.clap.specs.Walk.{rule_of};
-ghost use Rattle.gtdesk_plans.specs.CommandLine.{Builds, HasWords, desk_app, domain_app, faults_app, hours_app};
+ghost use Rattle.gtdesk_plans.specs.CommandLine.{Builds, HasWords, desk_app, diff_app, domain_app, faults_app, hours_app};
 ghost use Rattle.gtdesk_plans.specs.CommandLine.{none_given, now_app, now_by_words, picture_app, records_app, same_app};
 ghost use Rattle.gtdesk_plans.specs.CommandLine.{word_rule, words_app};
 
@@ -187,6 +187,22 @@ fn same_command<'a>(alloc: Global) -> Result<Command<'a>, AllocError>
     add(command, from)
 }
 
+// The command `diff`.
+fn diff_command<'a>(alloc: Global) -> Result<Command<'a>, AllocError>
+    ensures { Builds diff_app result }
+{
+    let command = bare(
+        alloc,
+        "diff",
+        "Print when each element of either of two record files was opened or closed from the one to the other",
+    );
+    let command = add_word(alloc, command, "OLD", "The record file as it was");
+    let command = add_word(alloc, command, "NEW", "The record file as it is to be");
+    let command = add_word(alloc, command, "FROM", "The first day, YYYY-MM-DD");
+    let command = add_word(alloc, command, "TO", "The day after the last, YYYY-MM-DD");
+    add_word(alloc, command, "VEHICLE", "The vehicle type, from 1 to 99")
+}
+
 // The command `records`.
 fn records_command<'a>(alloc: Global) -> Result<Command<'a>, AllocError>
     ensures { Builds records_app result }
@@ -278,6 +294,7 @@ fn gtdesk<'a>(alloc: Global) -> Result<Command<'a>, AllocError>
     let program = add_command(program, words_command(alloc));
     let program = add_command(program, hours_command(alloc));
     let program = add_command(program, same_command(alloc));
+    let program = add_command(program, diff_command(alloc));
     let program = add_command(program, records_command(alloc));
     let program = add_command(program, picture_command(alloc));
     add_command(program, domain_command(alloc))

@@ -5,10 +5,11 @@ ghost use Rattle.clap.specs.Matches.{found_of};
 ghost use Rattle.clap.specs.Simple.{subcommand_rows_of};
 ghost use Rattle.clap.specs.Walk.{first_of, rows_of};
 ghost use Rattle.gtdesk_plans.specs.Given.{all_of_domain, all_of_now, all_of_picture, all_of_same, domain_in, either_of_hours};
-ghost use Rattle.gtdesk_plans.specs.Given.{all_of_same_hours, faults_in, same_in, same_of};
+ghost use Rattle.gtdesk_plans.specs.Given.{all_of_diff, all_of_same_hours, diff_in, faults_in, same_in, same_of};
 ghost use Rattle.gtdesk_plans.specs.Given.{given_in, hours_in, is_set, now_in, picture_in, pictures_in, records_in, texts_of};
 ghost use Rattle.gtdesk_plans.specs.Given.{words_in};
 
+use crate::diff::DiffWords;
 use clap::ArgMatches;
 
 /// The words of `now [--closed] [--element N[,N..]] FILE MOMENT VEHICLE`, as they were given.
@@ -65,6 +66,8 @@ pub(crate) enum Words<'a> {
         second: &'a str,
         from: Option<&'a str>,
     },
+    /// `diff OLD NEW FROM TO VEHICLE`
+    Diff(DiffWords<'a>),
     /// `records FILE`
     Records {
         file: &'a str,
@@ -226,6 +229,39 @@ fn same_words<'a>(given: &ArgMatches<'a>) -> Option<Words<'a>>
     same_of(hours, first, second, from)
 }
 
+// The words of `diff`, if all are given.
+fn all_of_diff<'a>(
+    old: Option<&'a str>,
+    new: Option<&'a str>,
+    from: Option<&'a str>,
+    to: Option<&'a str>,
+    vehicle: Option<&'a str>,
+) -> Option<Words<'a>>
+    ensures { option_map texts_of result
+        ≡ all_of_diff (option_map (λ s. s.now) old.entry) (option_map (λ s. s.now) new.entry)
+        (option_map (λ s. s.now) from.entry) (option_map (λ s. s.now) to.entry)
+        (option_map (λ s. s.now) vehicle.entry) }
+{
+    Some(Words::Diff(DiffWords {
+        old: old?,
+        new: new?,
+        from: from?,
+        to: to?,
+        vehicle: vehicle?,
+    }))
+}
+
+fn diff_words<'a>(given: &ArgMatches<'a>) -> Option<Words<'a>>
+    ensures { option_map texts_of result ≡ diff_in (rows_of (found_of given.now)) }
+{
+    let old = value(given, "OLD");
+    let new = value(given, "NEW");
+    let from = value(given, "FROM");
+    let to = value(given, "TO");
+    let vehicle = value(given, "VEHICLE");
+    all_of_diff(old, new, from, to, vehicle)
+}
+
 fn records_words<'a>(given: &ArgMatches<'a>) -> Option<Words<'a>>
     ensures { option_map texts_of result ≡ records_in (rows_of (found_of given.now)) }
 {
@@ -284,11 +320,12 @@ fn domain_words<'a>(given: &ArgMatches<'a>) -> Option<Words<'a>>
     all_of_domain(domain, year)
 }
 
-// The command of this name, if it is one of a picture, with its words.
+// The command of this name, if it is `diff` or one of a picture, with its words.
 fn pictures_words<'a>(name: &str, given: &ArgMatches<'a>) -> Option<Words<'a>>
     ensures { option_map texts_of result ≡ pictures_in (name.now, rows_of (found_of given.now)) }
 {
     match name {
+        "diff" => diff_words(given),
         "picture" => picture_words(given),
         "picture-domain" => domain_words(given),
         _ => None,

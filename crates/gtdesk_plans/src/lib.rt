@@ -5,6 +5,7 @@
 #![tactic(auto)]
 
 mod command_line;
+mod diff;
 mod given;
 mod hours;
 mod planner;
@@ -12,6 +13,7 @@ mod plans;
 mod refusal;
 mod words;
 
+pub use diff::{DiffFault, DiffPlan};
 pub use hours::hours_domain;
 pub use planner::plan;
 pub use plans::{Moment, PictureSubject, Plan};

@@ -11,6 +11,7 @@ ghost use Rattle.gtdesk_plans.specs.Plans.{AreRefused, AskFor, Asks, IsRefused, 
 ghost use Rattle.gtdesk_plans.specs.declared.refusal.Refusal.{Refusal};
 
 use crate::command_line::parse;
+use crate::diff::{DiffPlan, DiffWords, compared_of};
 use crate::given::{NowWords, PictureWords, Words, given};
 use crate::hours::hours_domain;
 use crate::plans::Plan;
@@ -217,6 +218,32 @@ fn plan_same_hours(
     }
 }
 
+// The plan of `diff`.
+fn plan_diff(alloc: Global, given: DiffWords<'_>) -> Result<Plan, Refusal>
+    ensures { MatchResult result (Asks (Given.for_diff given.entry.old.now given.entry.new.now given.entry.from.now
+        given.entry.to.now given.entry.vehicle.now))
+        (IsRefused (Given.for_diff given.entry.old.now given.entry.new.now given.entry.from.now
+        given.entry.to.now given.entry.vehicle.now)) }
+{
+    let compared = match compared_of(given) {
+        Ok(compared) => compared,
+        Err(fault) => return Err(Refusal::Diff(fault)),
+    };
+    let old = match String::from_str(alloc, given.old) {
+        Ok(old) => old,
+        Err(_) => return Err(Refusal::Memory),
+    };
+    match String::from_str(alloc, given.new) {
+        Ok(new) => Ok(Plan::Diff(DiffPlan {
+            old,
+            new,
+            horizon: compared.0,
+            vehicle: compared.1,
+        })),
+        Err(_) => Err(Refusal::Memory),
+    }
+}
+
 // The plan of `records`.
 fn plan_records(alloc: Global, file: &str) -> Result<Plan, Refusal>
     ensures { MatchResult result (Asks (Given.for_records file.now)) (IsRefused (Given.for_records file.now)) }
@@ -303,6 +330,7 @@ fn plan_given(alloc: Global, given: Words<'_>) -> Result<Plan, Refusal>
             second,
             from,
         } => plan_same_hours(alloc, first, second, from),
+        Words::Diff(words) => plan_diff(alloc, words),
         Words::Records { file } => plan_records(alloc, file),
         Words::Picture(words) => plan_picture(alloc, words),
         Words::PictureDomain { domain, year } => plan_domain(alloc, domain, year),
@@ -347,7 +375,7 @@ fn plan_asked(alloc: Global, words: &[String]) -> Result<Plan, Refusal>
 ///
 /// In order: `Usage` if they neither give a command with its words nor ask for help; then the refusal for the first of the
 /// command's words that stands for nothing, from left to right and its options last: `Moment`, `Vehicle` or `Word` for `now`,
-/// `Pair` for `same`, and `Word` for `words`, `hours --of`, `picture` and `picture-domain`. If memory was refused, `Memory` is
+/// `Pair` for `same`, `Diff` for `diff`, and `Word` for `words`, `hours --of`, `picture` and `picture-domain`. If memory was refused, `Memory` is
 /// the answer in place of these.
 pub fn plan(alloc: Global, words: Vec<String>) -> Result<Plan, Refusal>
     // The plan is what the words ask for.

@@ -2,6 +2,8 @@
 
 ghost use Rattle.gtd_core.specs.Seconds.{IsMomentSecond};
 
+use crate::diff::DiffPlan;
+use crate::refusal::Refusal;
 use gtd_core::{Domain, Sec};
 use gtd_records::Direction;
 
@@ -91,6 +93,8 @@ pub enum Plan {
         /// The second to compare from.
         from: Moment,
     },
+    /// To print what two record files say differently.
+    Diff(DiffPlan),
     /// To print the record file of a file of opening hours.
     Records {
         /// The file's path, or `-` for standard input.
@@ -105,9 +109,9 @@ pub enum Plan {
 
 impl Plan {
     ghost use Rattle.std.specs.Prelude.{◌≡◌, option_map};
-    ghost use Rattle.gtdesk_plans.specs.Plans.{file_of};
+    ghost use Rattle.gtdesk_plans.specs.Plans.{diff_of, file_of, old_file_of, refused_file};
 
-    /// The path of the file that is to be read, if the plan reads one.
+    /// The path of the file that is to be read, if the plan reads one: of `diff`, the new one.
     pub fn file(&self) -> Option<&str>
         ensures value { option_map (λ path. path.now) result ≡ file_of self.now }
     {
@@ -116,12 +120,44 @@ impl Plan {
             Plan::Faults { file, .. } => Some(file.as_str()),
             Plan::Picture { file, .. } => Some(file.as_str()),
             Plan::Records { file } => Some(file.as_str()),
+            Plan::Diff(diff) => Some(diff.new.as_str()),
             Plan::DomainPicture { .. } => None,
             Plan::Words { .. } => None,
             Plan::HoursOf { .. } => None,
             Plan::DomainOf { .. } => None,
             Plan::Same { .. } => None,
             Plan::Show { .. } => None,
+        }
+    }
+
+    /// What is to be compared, if the plan is that of `diff`.
+    pub fn diff(&self) -> Option<&DiffPlan>
+        ensures value { option_map (λ diff. diff.now) result ≡ diff_of self.now }
+    {
+        match self {
+            Plan::Diff(diff) => Some(diff),
+            _ => None,
+        }
+    }
+
+    /// The path of the old file, if the plan is that of `diff`.
+    fn old_file(&self) -> Option<&str>
+        ensures value { option_map (λ path. path.now) result ≡ old_file_of self.now }
+    {
+        match self {
+            Plan::Diff(diff) => Some(diff.old.as_str()),
+            _ => None,
+        }
+    }
+
+    /// The path of the file that a refusal is about: the old file's of `diff` if it is not opened or not read, and otherwise
+    /// that of the file that is to be read.
+    pub fn refused_file(&self, refusal: Refusal) -> Option<&str>
+        ensures value { option_map (λ path. path.now) result ≡ refused_file refusal self.now }
+    {
+        match refusal {
+            Refusal::Diff(_) => self.old_file(),
+            _ => self.file(),
         }
     }
 }

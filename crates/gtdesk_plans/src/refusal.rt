@@ -1,8 +1,9 @@
 //! Why a command line is not carried out.
 
 ghost use Rattle.std.specs.Prelude.{◌≡◌};
-ghost use Rattle.gtdesk_plans.specs.Statuses.{records_status, status_of};
+ghost use Rattle.gtdesk_plans.specs.Statuses.{diff_status, records_status, status_of};
 
+use crate::diff::DiffFault;
 use gtd_calendar::StampFault;
 use gtd_core::TextFault;
 use gtd_hours_grammar::HoursFault;
@@ -60,6 +61,8 @@ pub enum Refusal {
     Word(WordFault),
     /// A word of `same` stands for nothing.
     Pair(PairFault),
+    /// A word of `diff` stands for nothing, or its old file is not read.
+    Diff(DiffFault),
     /// No opening hours are found for a time domain. That none have its seconds is not said.
     NoHours,
     /// The text of `hours` has no time domain.
@@ -84,10 +87,22 @@ impl Refusal {
         match self {
             Refusal::Moment(_) | Refusal::Vehicle | Refusal::Word(_) | Refusal::Pair(_) => 1,
             Refusal::NoHours | Refusal::NoDomain(_) | Refusal::NoElement => 1,
+            Refusal::Diff(fault) => diff_status(*fault),
             Refusal::Records(fault) => records_status(*fault),
             Refusal::Usage(_) => 2,
             Refusal::Open | Refusal::Write | Refusal::Memory => 3,
         }
+    }
+}
+
+// The status for words of `diff`, and for its old file.
+fn diff_status(fault: DiffFault) -> u8
+    ensures value { result ≡ diff_status fault }
+{
+    match fault {
+        DiffFault::Old(why) => records_status(why),
+        DiffFault::OldOpen => 3,
+        _ => 1,
     }
 }
 

@@ -156,6 +156,7 @@ of_domain text n (refusal.Moment why) is = absurd is
 of_domain text n refusal.Vehicle is = absurd is
 of_domain text n (refusal.Word why) is = absurd is
 of_domain text n (refusal.Pair why) is = absurd is
+of_domain text n (refusal.Diff why) is = absurd is
 of_domain text n refusal.NoHours is = absurd is
 of_domain text n refusal.NoElement is = absurd is
 of_domain text n (refusal.Records why) is = absurd is

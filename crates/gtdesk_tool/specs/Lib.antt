@@ -1,4 +1,5 @@
 pub mod Comparing
+pub mod Diff
 pub mod Hours
 pub mod Lines
 pub mod Running
@@ -9,6 +10,8 @@ pub use Rattle.gtdesk_plans.specs.HoursWords
 pub use Rattle.gtdesk_plans.specs.Plans
 pub use Rattle.gtdesk_plans.specs.Statuses
 pub use Rattle.gtdesk_plans.specs.Words
+pub use Rattle.gtd_changes.specs.Changes
+pub use Rattle.gtd_changes.specs.Run as ChangesRun
 pub use Rattle.gtd_difference.specs.Difference
 pub use Rattle.gtd_hours_search.specs.Membership
 pub use Rattle.gtd_hours.specs.Opening

@@ -3,10 +3,14 @@ use Rattle.std.specs.Prelude.{◌++◌, ℕ, List, codes, decimal}
 use Rattle.gtd_calendar.specs.declared.stamp.StampFault.{StampFault}
 use Rattle.gtd_calendar.specs.declared.stamp.StampFault.TheVariants as moment
 use Rattle.gtd_core.specs.Names.{fault_name}
+use Rattle.gtd_core.specs.declared.horizon.HorizonFault.{HorizonFault}
+use Rattle.gtd_core.specs.declared.horizon.HorizonFault.TheVariants as horizon
 use Rattle.gtd_faults.specs.Listing.{fault_text}
 use Rattle.gtd_faults.specs.Printable.{printable}
 use Rattle.gtd_hours_grammar.specs.declared.fault.FaultKind.{FaultKind}
 use Rattle.gtd_hours_grammar.specs.declared.fault.FaultKind.TheVariants as kind
+use Rattle.gtdesk_plans.specs.declared.diff.DiffFault.{DiffFault}
+use Rattle.gtdesk_plans.specs.declared.diff.DiffFault.TheVariants as diff
 use Rattle.gtdesk_plans.specs.declared.refusal.NoDomain.{NoDomain}
 use Rattle.gtdesk_plans.specs.declared.refusal.NoDomain.TheVariants as none
 use Rattle.gtdesk_plans.specs.declared.refusal.PairFault.{PairFault}
@@ -29,6 +33,28 @@ word_text word.Direction = codes "DIRECTION: neither positive nor negative"
 word_text word.Vehicle = codes "VEHICLE: not a number from 1 to 99"
 word_text word.Year = codes "YEAR: not a number from 1901 to 2199"
 word_text (word.Domain why) = codes "DOMAIN: " ++ fault_name why.kind ++ codes " at " ++ decimal why.place
+
+-- why two days make no horizon
+abbrev pub horizon_reason : HorizonFault → List ℕ
+horizon_reason horizon.Empty = codes "not after FROM"
+horizon_reason horizon.TooEarly = codes "FROM is before 1901-01-01"
+horizon_reason horizon.TooLate = codes "after 2700-01-01"
+horizon_reason horizon.TooLong = codes "more than 146098 days after FROM"
+
+-- why a text is not a date
+abbrev pub date_reason : StampFault → List ℕ
+date_reason moment.Shape = codes "not of the form YYYY-MM-DD"
+date_reason moment.NoSuchDate = codes "no such date"
+date_reason moment.Range = codes "not from 1901-01-01 to 2700-01-01"
+
+-- the word of `diff` that stands for nothing, and why; or why its old file, of this name, is not read
+abbrev pub diff_text : List ℕ → DiffFault → List ℕ
+diff_text file (diff.From why) = codes "FROM: " ++ date_reason why
+diff_text file (diff.To why) = codes "TO: " ++ date_reason why
+diff_text file (diff.Horizon why) = codes "TO: " ++ horizon_reason why
+diff_text file diff.Vehicle = codes "VEHICLE: not a number from 1 to 99"
+diff_text file diff.OldOpen = printable file ++ codes ": cannot be opened"
+diff_text file (diff.Old why) = printable file ++ codes ": " ++ fault_text why
 
 -- what is wrong with a text of opening hours
 abbrev pub kind_name : FaultKind → List ℕ
@@ -63,6 +89,7 @@ refusal_line file (refusal.Moment why) = codes "gtdesk: MOMENT: " ++ moment_reas
 refusal_line file refusal.Vehicle = codes "gtdesk: VEHICLE: not a number from 1 to 99"
 refusal_line file (refusal.Word why) = codes "gtdesk: " ++ word_text why
 refusal_line file (refusal.Pair why) = codes "gtdesk: " ++ pair_text why
+refusal_line file (refusal.Diff why) = codes "gtdesk: " ++ diff_text file why
 refusal_line file refusal.NoHours = codes "gtdesk: " ++ no_hours
 refusal_line file (refusal.NoDomain why) = codes "gtdesk: TEXT: " ++ no_domain_text why
 refusal_line file refusal.NoElement = codes "gtdesk: " ++ printable file ++ codes ": no row names the element"

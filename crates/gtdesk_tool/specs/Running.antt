@@ -177,7 +177,7 @@ abbrev pub IsQuiet : Plan → Type 0
 IsQuiet (plan.Records path) = ⊥
 IsQuiet other = ⊤
 
--- What a plan did to the output, by its answer.
+-- What a plan did to the output, by its answer. That of `diff` has a call of its own.
 abbrev pub HasRunPlan : Plan → Option (List ℕ) → Option (List ℕ) → Option (List ℕ) → Bool → Bool → Telling
     → Result Ending Refusal → Type 0
 HasRunPlan (plan.Now path moment vehicle closed elements) file old new silent ended errors result =
@@ -196,6 +196,7 @@ HasRunPlan (plan.DomainOf text) file old new silent ended errors result =
     PutText (IsDomainLine (string_bytes text)) (IsTextRefusal (string_bytes text)) old new ended result
 HasRunPlan (plan.Same first second from) file old new silent ended errors result =
     HasCompared first second from.second.0 old new ended result
+HasRunPlan (plan.Diff diff) file old new silent ended errors result = ⊥
 HasRunPlan (plan.Records path) file old new silent ended errors result =
     RanRecords (string_bytes path) file old new silent ended errors result
 HasRunPlan (plan.Show text) file old new silent ended errors result =

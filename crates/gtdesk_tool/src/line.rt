@@ -2,12 +2,13 @@
 
 ghost use Rattle.std.specs.Prelude.{◌≡◌, Some};
 ghost use Rattle.gtdesk_tool.specs.Lines as spec;
-ghost use Rattle.gtdesk_tool.specs.Lines.{kind_name, no_domain_text, pair_text, refusal_line, word_text};
+ghost use Rattle.gtdesk_tool.specs.Lines.{diff_text, kind_name, no_domain_text, pair_text, refusal_line, word_text};
 
 use gtd_calendar::StampFault;
+use gtd_core::HorizonFault;
 use gtd_faults::{FaultText, Printable};
 use gtd_hours_grammar::FaultKind;
-use gtdesk_plans::{NoDomain, PairFault, Refusal, WordFault};
+use gtdesk_plans::{DiffFault, NoDomain, PairFault, Refusal, WordFault};
 use std::fmt;
 use std::fmt::{Display, Formatter};
 
@@ -74,6 +75,52 @@ impl Display for PairLine {
     }
 }
 
+// Why two days make no horizon, in words.
+fn horizon_reason(fault: HorizonFault) -> &'static str
+    ensures { result.now ≡ spec.horizon_reason fault }
+{
+    match fault {
+        HorizonFault::Empty => "not after FROM",
+        HorizonFault::TooEarly => "FROM is before 1901-01-01",
+        HorizonFault::TooLate => "after 2700-01-01",
+        HorizonFault::TooLong => "more than 146098 days after FROM",
+    }
+}
+
+// Why a text is not a date, in words.
+fn date_reason(fault: StampFault) -> &'static str
+    ensures { result.now ≡ spec.date_reason fault }
+{
+    match fault {
+        StampFault::Shape => "not of the form YYYY-MM-DD",
+        StampFault::NoSuchDate => "no such date",
+        StampFault::Range => "not from 1901-01-01 to 2700-01-01",
+    }
+}
+
+/// Which word of `diff` stands for nothing, and why; or why its old file is not read.
+#[derive(Drop)]
+struct DiffLine<'a> {
+    fault: DiffFault,
+    file: &'a str,
+}
+
+impl Display for DiffLine<'_> {
+    ghost output = { λ shown. Some (diff_text shown.file.now shown.fault) };
+
+    fn fmt<W: fmt::Write>(&self, f: &mut Formatter<W>) -> fmt::Result {
+        let file = Printable(self.file.as_bytes());
+        match self.fault {
+            DiffFault::From(fault) => write!(f, "FROM: {}", date_reason(fault)),
+            DiffFault::To(fault) => write!(f, "TO: {}", date_reason(fault)),
+            DiffFault::Horizon(fault) => write!(f, "TO: {}", horizon_reason(fault)),
+            DiffFault::Vehicle => write!(f, "VEHICLE: not a number from 1 to 99"),
+            DiffFault::OldOpen => write!(f, "{file}: cannot be opened"),
+            DiffFault::Old(fault) => write!(f, "{file}: {}", FaultText(fault)),
+        }
+    }
+}
+
 // What is wrong with a text of opening hours.
 fn kind_name(kind: FaultKind) -> &'static str
     ensures { result.now ≡ kind_name kind }
@@ -126,6 +173,14 @@ impl Display for RefusalLine<'_> {
             Refusal::Vehicle => write!(f, "gtdesk: VEHICLE: not a number from 1 to 99"),
             Refusal::Word(fault) => write!(f, "gtdesk: {}", WordLine(fault)),
             Refusal::Pair(fault) => write!(f, "gtdesk: {}", PairLine(fault)),
+            Refusal::Diff(fault) => write!(
+                f,
+                "gtdesk: {}",
+                DiffLine {
+                    fault,
+                    file: self.file
+                }
+            ),
             Refusal::NoHours => write!(f, "gtdesk: {NO_HOURS}"),
             Refusal::NoDomain(why) => write!(f, "gtdesk: TEXT: {}", TextLine(why)),
             Refusal::NoElement => write!(f, "gtdesk: {file}: no row names the element"),

@@ -4,7 +4,7 @@ ghost use Rattle.std.specs.Prelude.{◌≡◌, ◌<◌, None};
 ghost use Rattle.gtd_core.specs.Parts.{domain_tree};
 ghost use Rattle.gtd_core.specs.Seconds.{IsHorizonSecond};
 ghost use Rattle.gtd_words.specs.Words.{words};
-ghost use Rattle.gtdesk_plans.specs.Plans.{file_of};
+ghost use Rattle.gtdesk_plans.specs.Plans.{diff_of, file_of};
 ghost use Rattle.gtdesk_tool.specs.Running.{HasRunPlan, IsQuiet, PutText, RanFaults, RanNow, failures_after_read};
 ghost use Rattle.gtdesk_tool.specs.Running.{failures_after_write, listing_outcome, outcome_of, refusal_for};
 
@@ -24,8 +24,8 @@ use gtd_words::write_words;
 use gtdesk_plans::{Plan, Refusal, WordFault};
 use std::alloc::Global;
 
-// The refusal for a fault of a run.
-fn run_refusal(fault: RunFault) -> Refusal
+/// The refusal for a fault of a run.
+pub(crate) fn run_refusal(fault: RunFault) -> Refusal
     ensures value { result ≡ refusal_for fault }
 {
     match fault {
@@ -149,7 +149,7 @@ fn print_words<O: Output>(alloc: Global, output: &mut O, domain: &Domain) -> Res
     }
 }
 
-/// Carries a plan out: puts what it asks for, and ends the output. The input brings the bytes of the plan's file; if the plan
+/// Carries a plan out that reads one file at most, so any but that of `diff`: puts what it asks for, and ends the output. The input brings the bytes of the plan's file; if the plan
 /// reads none, nothing is pulled. Only `records` puts anything to the output for errors: all faults of a file of hours, if it has
 /// any. If that output fails, a first part of the list stands, and the answer is the same.
 ///
@@ -164,6 +164,7 @@ pub fn perform<I: Input, O: Output, E: Output>(
     output: &mut O,
     errors: &mut E,
 ) -> Result<Ending, Refusal>
+    requires one_file { diff_of plan.now ≡ None }
     requires readable { I.failure_count input.old < u64.MAX }
     requires writable { O.failure_count output.old < u64.MAX }
     requires tellable { E.failure_count errors.old < u64.MAX }
@@ -222,6 +223,8 @@ pub fn perform<I: Input, O: Output, E: Output>(
             second,
             from,
         } => print_comparison(alloc, output, first, second, *from),
+        // It has a call of its own.
+        Plan::Diff(_) => unreachable!(),
         Plan::Records { file } => print_records(alloc, input, output, errors, file.as_str()),
         Plan::Show { text } => print_text(output, text.as_str()),
     }

@@ -12,7 +12,7 @@ use Rattle.gtd_schedule.specs.Lines.{span_line}
 use Rattle.gtd_schedule.specs.Schedule.{AreLines}
 use Rattle.gtd_schedule.proofs.SpanLines.{lines_are}
 use Rattle.gtd_schedule.specs.facts.LineFacts.{length-lines}
-use Rattle.gtd_schedule.proofs.SpansShown.{normal_few, normal_shown}
+use Rattle.gtd_schedule.specs.facts.SpansShown.{normal_few, normal_shown}
 use Rattle.gtd_schedule.proofs.ScheduleFacts.{one_lines}
 use Rattle.gtd_report.specs.facts.TextFacts.{texts_of}
 use Rattle.gtd_schedule.proofs.elements.put_direction_spans.Goals as goal

@@ -8,6 +8,7 @@ returns c =
     let words = c.add_command-program-3.ensures _ _ faults c.words_command.ensures refl in
     let hours = c.add_command-program-4.ensures _ _ words c.hours_command.ensures refl in
     let same = c.add_command-program-5.ensures _ _ hours c.same_command.ensures refl in
-    let records = c.add_command-program-6.ensures _ _ same c.records_command.ensures refl in
-    let picture = c.add_command-program-7.ensures _ _ records c.picture_command.ensures refl in
+    let diff = c.add_command-program-6.ensures _ _ same c.diff_command.ensures refl in
+    let records = c.add_command-program-7.ensures _ _ diff c.records_command.ensures refl in
+    let picture = c.add_command-program-8.ensures _ _ records c.picture_command.ensures refl in
     c.add_command.ensures _ _ picture c.domain_command.ensures refl

@@ -1,5 +1,5 @@
 use Rattle.gtd_schedule.proofs.ScheduleFacts.{one_lines}
-use Rattle.gtd_schedule.proofs.SpansShown.{first_shown}
+use Rattle.gtd_schedule.specs.facts.SpansShown.{first_shown}
 use Rattle.gtd_schedule.proofs.run.ScheduleReport.put.Goals as goal
 
 pub put_by_element-requires-clause-one : goal.put_by_element-requires-clause-one

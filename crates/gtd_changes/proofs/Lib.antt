@@ -1,0 +1,4 @@
+pub mod AnswerFacts
+pub mod ChangeFacts
+pub mod SameFacts
+pub mod SortedNumbers

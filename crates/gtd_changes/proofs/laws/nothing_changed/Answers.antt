@@ -1,0 +1,9 @@
+use Rattle.gtd_changes.proofs.SameFacts.{agree_header, header_agrees, same_rows}
+use Rattle.gtd_changes.proofs.laws.nothing_changed.Goals as goal
+
+pub returns : goal.returns
+returns c = record {
+  same = λ old new vehicle horizon lines is.
+      (header_agrees old new vehicle horizon lines is, agree_header old new vehicle horizon lines is);
+  same_rows = same_rows;
+}

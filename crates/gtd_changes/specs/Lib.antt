@@ -1,0 +1,8 @@
+pub mod Changes
+pub mod Merging
+pub mod Run
+pub mod facts
+pub use Rattle.gtd_core.specs.declared.horizon.Horizon
+pub use Rattle.gtd_records.specs.File
+pub use Rattle.gtd_records.specs.Closing
+pub use Rattle.gtd_report.specs.Run as ReportRun

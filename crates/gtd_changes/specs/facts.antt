@@ -1,0 +1,2 @@
+pub mod MergeFacts
+pub mod ChangesFacts

@@ -1,0 +1,70 @@
+//! The lines of changes.
+
+ghost use Rattle.std.specs.Prelude.{[], ◌∷◌, ◌≡◌, ◌++◌, OnOk};
+ghost use Rattle.gtd_calendar.specs.Calendar.{IsCalendarDay};
+ghost use Rattle.gtd_calendar.specs.Stamp.{stamp_text};
+ghost use Rattle.gtd_core.specs.Seconds.{day_of_second};
+ghost use Rattle.gtd_schedule.specs.Lines.{line_head};
+ghost use Rattle.gtd_changes.specs.Changes.{change_line, change_word, span_of};
+
+use crate::change::Change;
+use gtd_calendar::write_stamp;
+use gtd_core::Sec;
+use gtd_records::Direction;
+use itoa::Buffer;
+use std::alloc::AllocError;
+
+// Writes what the lines of an element in a direction begin with, in place of what the buffer held.
+fn write_head(
+    line: &mut Vec<u8>,
+    element: u64,
+    direction: Direction,
+    vehicle: u8,
+) -> Result<(), AllocError>
+    ensures head { OnOk result (line.new.items ≡ line_head element direction vehicle) }
+{
+    line.clear();
+    line.extend_from_slice(Buffer::new().format(element).as_bytes())?;
+    line.extend_from_slice(match direction {
+        Direction::Positive => b",positive,".as_slice(),
+        Direction::Negative => b",negative,".as_slice(),
+    })?;
+    line.extend_from_slice(Buffer::new().format(vehicle).as_bytes())?;
+    line.extend_from_slice(b",")
+}
+
+// Appends the word for a change and a comma to the buffer.
+fn push_word(line: &mut Vec<u8>, change: &Change) -> Result<(), AllocError>
+    ensures word { OnOk result (line.new.items ≡ line.old.items ++ (change_word change.now ++ (44 ∷ []))) }
+{
+    line.extend_from_slice(change.word().as_bytes())?;
+    line.extend_from_slice(b",")
+}
+
+// Appends a moment and what stands behind it to the buffer.
+fn push_moment(line: &mut Vec<u8>, second: Sec, end: &[u8]) -> Result<(), AllocError>
+    requires day { IsCalendarDay (day_of_second second.0) }
+    ensures moment { OnOk result (line.new.items ≡ line.old.items ++ (stamp_text second.0 ++ end.now)) }
+{
+    line.extend_from_slice(&write_stamp(second))?;
+    line.extend_from_slice(end)
+}
+
+/// Writes the line of a change, in place of what the buffer held.
+pub(crate) fn write_change(
+    line: &mut Vec<u8>,
+    element: u64,
+    direction: Direction,
+    vehicle: u8,
+    change: &Change,
+) -> Result<(), AllocError>
+    requires from { IsCalendarDay (day_of_second (span_of change.now).from) }
+    requires until { IsCalendarDay (day_of_second (span_of change.now).until) }
+    ensures line { OnOk result (line.new.items ≡ change_line element direction vehicle change.now) }
+{
+    let span = change.span();
+    write_head(line, element, direction, vehicle)?;
+    push_word(line, change)?;
+    push_moment(line, span.from(), b",")?;
+    push_moment(line, span.until(), b"\n")
+}

@@ -1,0 +1,65 @@
+use Rattle.std.proofs.Common.{refl, [], ◌∷◌}
+use Rattle.std.specs.Prelude.{Ok, Err}
+use Rattle.std.proofs.lemmas.Result.{err_from_is_err_and}
+use Rattle.gtd_report.specs.facts.ElementFacts.{IsHeader, one_by_element, one_header, text_lines, text_parts}
+use Rattle.gtd_report.specs.facts.PutFacts.{one_put, one_short, puts_cut}
+use Rattle.gtd_report.specs.facts.TextFacts.{Then, texts_as, texts_ended, texts_then}
+use Rattle.gtd_report.specs.Putting.{AreLinesOf, IsByElement, PutsText}
+use Rattle.gtd_report.proofs.by_element.put_listed.Goals as goal
+
+pub returns-in_err-put_line-clause-puts : goal.returns-in_err-put_line-clause-puts
+returns-in_err-put_line-clause-puts g c = λ found named.
+    let p = err_from_is_err_and c.from_residual.result c.from_residual.ensures.1 in
+    let a = g.O.Output.taken c.args.output.now in
+    let b = g.O.Output.taken c.put_line.new.output in
+    let e = c.in_err-put_line.ensures in
+    let before = c.args.progress.now in
+    let after = c.put_line.new.progress in
+    let first = c.args.header.now in
+    let short = one_short p.0 first c.in_err-put_line.field-0.0.taken a b before after e.some.0 e.some.1 e.progress in
+    rw (p.1) (λ lines is. rw (is.whole) (puts_cut p.0 a b before after (first ∷ []) is.rest short))
+
+pub returns-in_err-put_elements-clause-puts : goal.returns-in_err-put_elements-clause-puts
+returns-in_err-put_elements-clause-puts g c = λ found named.
+    let p = err_from_is_err_and c.from_residual-in_err-put_elements.result c.from_residual-in_err-put_elements.ensures.1 in
+    let each = g.L.ElementLines.are_lines c.args.text.now c.args.found.now in
+    let elements = c.args.elements.now in
+    let first = c.args.header.now in
+    let rest = AreLinesOf each elements in
+    let a = g.O.Output.taken c.args.output.now in
+    let b = g.O.Output.taken c.put_line.new.output in
+    let d = g.O.Output.taken c.put_elements.new.output in
+    let e = c.in_ok-put_line.ensures in
+    let before = c.args.progress.now in
+    let now = c.put_line.new.progress in
+    let after = c.put_elements.new.progress in
+    let put : PutsText (IsHeader first) (Ok tt) a b before now =
+    (first ∷ [], refl, one_put first a b before now e.all e.progress) in
+    rw (p.1) (texts_as (Then (IsHeader first) rest) (IsByElement found first each) (Err p.0) a d before after
+    (text_lines each found first elements named) (text_parts each found first elements named)
+    (texts_then (IsHeader first) rest (Err p.0) a b d before now after
+    (one_header first) put c.in_err-put_elements.ensures.puts))
+
+pub returns-clause-puts : goal.returns-clause-puts
+returns-clause-puts g c = λ found named.
+    let each = g.L.ElementLines.are_lines c.args.text.now c.args.found.now in
+    let elements = c.args.elements.now in
+    let first = c.args.header.now in
+    let rest = AreLinesOf each elements in
+    let a = g.O.Output.taken c.args.output.now in
+    let b = g.O.Output.taken c.put_line.new.output in
+    let d = g.O.Output.taken c.put_elements.new.output in
+    let f = g.O.Output.taken c.finish.new.output in
+    let e = c.in_ok-put_line.ensures in
+    let before = c.args.progress.now in
+    let now = c.put_line.new.progress in
+    let after = c.put_elements.new.progress in
+    let put : PutsText (IsHeader first) (Ok tt) a b before now =
+    (first ∷ [], refl, one_put first a b before now e.all e.progress) in
+    texts_ended (IsByElement found first each) c.finish.result a d f before after
+    (one_by_element each c.requires.one found first)
+    (texts_as (Then (IsHeader first) rest) (IsByElement found first each) (Ok tt) a d before after
+    (text_lines each found first elements named) (text_parts each found first elements named)
+    (texts_then (IsHeader first) rest (Ok tt) a b d before now after (one_header first) put
+    c.in_ok-put_elements.ensures.puts))
+    c.finish.ensures.bytes
