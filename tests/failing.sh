@@ -219,6 +219,8 @@ gtdesk write words "$domain"
 gtdesk write hours 'Mo-Fr 08:00-17:00'
 gtdesk write hours --of '(t2h0m0){d1}*(h7m0){m120}'
 gtdesk write same --hours 24/7 00:00-24:00
+gtdesk 'open read write' diff r.csv r.csv 2024-04-01 2024-04-08 11
+gtdesk 'open read error' diff r.csv bad.csv 2024-04-01 2024-04-08 11
 gtdesk 'open read write' records hours.csv
 gtdesk 'open read error' records bad_hours.csv
 gtdesk 'open read write' picture r.csv 17 positive 11 2024

@@ -24,6 +24,7 @@ CLAIMS = [
     ("the table of a year", ("gtd_year", "src/run.rt", "run_year", ("claim",))),
     ("a migrated file", ("gtd_migrate", "src/run.rt", "run_migrate", ("claim",))),
     ("the state now", ("gtd_now", "src/run.rt", "run_now", ("accepted", "refused"))),
+    ("what two files say differently", ("gtd_changes", "src/run.rt", "run_changes", ("headline",))),
     ("the list of faults", ("gtd_faults", "src/run.rt", "run_faults", ("listed",))),
     ("the picture of a year", ("gtd_picture", "src/run.rt", "run_picture", ("accepted", "refused", "unnamed"))),
     ("the domain of opening hours", ("gtdesk_tool", "src/hours_domain.rt", "print_domain_of", ("put",))),
