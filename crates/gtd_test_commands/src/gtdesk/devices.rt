@@ -1,6 +1,7 @@
 //! Commands over devices that fail, are interrupted, or take little at a time.
 
-ghost use Rattle.std.specs.Prelude.{◌≡◌, ◌<◌};
+ghost use Rattle.std.specs.Prelude.{◌≡◌, ◌<◌, None};
+ghost use Rattle.gtdesk_tool.specs.Plans.{diff_of};
 
 use crate::gtdesk::common::{performed, planned};
 use gtd_devices::{HostOut, Input, MemoryIn, MemoryOut, Output};
@@ -44,6 +45,7 @@ fn perform_into(
     fail_call: Option<u64>,
 ) -> (Result<Ending, Refusal>, MemoryOut)
     requires some_byte { 0 < piece }
+    requires one_file { diff_of plan.now ≡ None }
 {
     let mut input = two_rows(rt, alloc);
     let mut output = MemoryOut::new(alloc, room, piece, fail_call).expect(rt, "memory");
@@ -117,8 +119,8 @@ fn outputs_that_fail_at_a_call(rt: HostRuntime) {
 const FAULTY: &str = "element,direction,vehicle,domain\n1,up,0,\nx,both,0,\n2,both,0,(h0){h24}\n";
 
 const LIST: &str =
-    "r.csv:2: row 1: Direction\n    up\n    ^\nr.csv:3: row 2: Element\n    x\n    ^\n\
-    r.csv:4: row 3: always holds\n";
+    "r.csv:2: row 1: Direction\n    up\n    ^\n    expected: positive, negative or both\n\
+    r.csv:3: row 2: Element\n    x\n    ^\n    expected: 1 to 10 digits\nr.csv:4: row 3: always holds\n";
 
 // A list of faults is put whole: with less room than it takes, its first bytes.
 #[test]

@@ -27,13 +27,17 @@ const FAULTY: &str = "element,direction,vehicles,hours\n\
     1,both,0,1800-2056/2\n\
     1,both,0,Mo-Fr 08:00-18:00; PH off\n";
 
-const LIST: &str = "r.csv:2: row 1: Element\n    x\n    ^\n\
-    r.csv:3: row 2: Direction\n    up\n    ^\n\
+const LIST: &str = "r.csv:2: row 1: Element\n    x\n    ^\n    expected: 1 to 10 digits\n\
+    r.csv:3: row 2: Direction\n    up\n    ^\n    expected: positive, negative or both\n\
     r.csv:4: row 3: Vehicle\n    100\n    ^\n\
+    \x20   expected: 1 to 99, or 0 for every type; below the header vehicles also several, such as 11;12 or !1;2\n\
     r.csv:6: row 5: Hours BadToken at 6\n    Mo-Fr 7:30-12:00\n          ^\n\
-    r.csv:7: row 6: FieldCount\n\
-    r.csv:8: row 7: Hours TooMany at 0\n    1800-2056/2\n    ^\n\
-    r.csv:9: row 8: Hours Unsupported at 19\n    Mo-Fr 08:00-18:00; PH off\n                       ^\n";
+    \x20   expected: words, numbers and signs of opening hours, such as Mo-Fr 08:00-18:00\n\
+    r.csv:7: row 6: FieldCount\n    found:    1,both,0\n    fields:   3\n\
+    \x20   expected: 4 fields, with commas between them\n\
+    r.csv:8: row 7: Hours TooMany at 0\n    1800-2056/2\n    ^\n    expected: hours that take at most 128 basic domains\n\
+    r.csv:9: row 8: Hours Unsupported at 19\n    Mo-Fr 08:00-18:00; PH off\n                       ^\n\
+    \x20   expected: weeks, years, dates, weekdays and times, without holidays, times of the sun and comments\n";
 
 // With less room than the record file takes, its first bytes stand. The list of faults does not ask for that room.
 #[test]
