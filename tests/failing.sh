@@ -208,7 +208,7 @@ gtd 'open error' migrate gone.csv
 
 gtdesk 'open read write' now r.csv 2024-04-01T10:00:00 11
 gtdesk 'read write' now - 2024-04-01T10:00:00 11
-gtdesk 'open read write' now --closed --element 17,18 r.csv '2024-04-01 10:00' 11
+gtdesk 'open read write' now r.csv '2024-04-01 10:00' 11 --closed --element 17,18
 gtdesk 'open read' faults r.csv
 gtdesk 'open read write' faults bad.csv
 gtdesk 'open read write' faults always.csv --warn
@@ -220,7 +220,7 @@ gtdesk write hours 'Mo-Fr 08:00-17:00'
 gtdesk write hours --of '(t2h0m0){d1}*(h7m0){m120}'
 gtdesk write same --hours 24/7 00:00-24:00
 gtdesk 'open read write' diff r.csv r.csv 2024-04-01 2024-04-08 11
-gtdesk 'open read error' diff r.csv bad.csv 2024-04-01 2024-04-08 11
+gtdesk 'open read error' diff bad.csv bad.csv 2024-04-01 2024-04-08 11
 gtdesk 'open read write' records hours.csv
 gtdesk 'open read error' records bad_hours.csv
 gtdesk 'open read write' picture r.csv 17 positive 11 2024
