@@ -216,7 +216,7 @@ def main():
             if answer != (0 if text == HEADER else 4, text, ""):
                 failed += 1
                 print("FAILED", old, new, first, last, vehicle, "expected", text, "found", answer)
-    print(f"{count} pairs of files, {len(FAULTS) + 5} refusals and others: {failed} failed")
+    print(f"diff: {count + len(FAULTS) + 5 - failed} passed, {failed} failed")
     return 1 if failed else 0
 
 
