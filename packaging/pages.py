@@ -137,14 +137,16 @@ def places(program):
 
 
 def patterns(program, first, kinds):
-    """What a shell completes: for each kind of what is due, the patterns of the places where it is. Options come first, since
-    they begin with a sign of their own."""
-    found = {}
+    """What a shell completes: for each kind of what is due, the patterns of the places where it is. All options of a place are one
+    kind. They come first, since they begin with a sign of their own."""
+    found, options = {}, {}
     for command, place, word in places(program):
-        kind = word if word.startswith("--") else program.words[word][0]
-        if kinds(kind):
-            sign = "-*" if word.startswith("--") else "*"
-            found.setdefault(kind, []).append(f"{command}:{place + first}:{sign}")
+        if word.startswith("--"):
+            options.setdefault(f"{command}:{place + first}:-*", []).append(word)
+        elif kinds(program.words[word][0]):
+            found.setdefault(program.words[word][0], []).append(f"{command}:{place + first}:*")
+    for where, names in options.items():
+        found.setdefault(" ".join(sorted(set(names))), []).append(where)
     return sorted(found.items(), key=lambda it: not it[0].startswith("--"))
 
 

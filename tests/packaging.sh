@@ -164,6 +164,8 @@ complete_in() {
     tab "$1" 'gtdesk faults --warn restr' '<faults><--warn><restrictions.csv>'
     tab "$1" 'gtdesk hours --o' '<hours><--of>'
     tab "$1" 'gtdesk same --f' '<same><--from>'
+    tab "$1" 'gtdesk same --h' '<same><--hours>'
+    tab "$1" 'gtdesk diff restr' '<diff><restrictions.csv>'
     tab "$1" 'gtdesk records town.hours' '<records><town.hours.csv>'
     tab "$1" 'gtdesk picture town.csv 103 p' '<picture><town.csv><103><positive>'
     tab "$1" 'gtdesk words restr' '<words><restr>'
