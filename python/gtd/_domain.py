@@ -66,7 +66,7 @@ class Domain:
     >>> market.contains("2024-03-16T08:00:00")
     True
     >>> market.words()
-    "every Saturday from 05:00 until 15:00"
+    'every Saturday from 05:00 until 15:00'
     """
 
     __slots__ = ("_text", "_engine", "_at", "_holds", "_canonical", "__weakref__")
@@ -92,6 +92,7 @@ class Domain:
 
         Examples
         --------
+        >>> import gtd
         >>> gtd.Domain.of_hours("Sa 05:00-15:00")
         gtd.Domain('[[(t7h0m0){d1}]*[(h5m0){m600}]]')
         """
