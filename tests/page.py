@@ -378,7 +378,8 @@ def check_file_faults(browser, room):
     with open(path, "wb") as file:
         file.write(b"element,direction,vehicle,domain\n" + b"1,both,0,\n" * 1700000)
     choose_file(browser, path)
-    same(browser.run("document.querySelector('#faults pre')?.textContent"), "large.csv:1: TooLarge\n", "a file that is too large")
+    same(browser.run("document.querySelector('#faults pre')?.textContent"),
+         "large.csv:1: TooLarge\n    expected: at most 16777216 bytes\n", "a file that is too large")
 
 
 def check_warnings(browser, room):
