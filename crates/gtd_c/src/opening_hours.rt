@@ -13,8 +13,8 @@ ghost use Rattle.gtd_handles.specs.Holding.{thing_of};
 use crate::hours_faults::{HoursFaultNumbers, TOO_MANY, numbers_of};
 use gtd_core::Domain;
 use gtd_handles::{Handle, MEMORY, NO, Thing, open};
-use gtd_hours::{Hours, HoursFault, domain_of};
-use gtd_hours_text::{TextFault, read_hours};
+use gtd_hours::{Hours, TranslationFault, domain_of};
+use gtd_hours_text::{HoursTextFault, read_hours};
 use std::alloc::Global;
 
 // The hours that the text stands for, or its first fault; nothing, if memory was refused.
@@ -24,8 +24,8 @@ fn hours_in(alloc: Global, text: &[u8]) -> Result<Hours, Option<HoursFaultNumber
 {
     match read_hours(alloc, text) {
         Ok(hours) => Ok(hours),
-        Err(TextFault::Fault(fault)) => Err(Some(numbers_of(fault))),
-        Err(TextFault::NoMemory) => Err(None),
+        Err(HoursTextFault::Fault(fault)) => Err(Some(numbers_of(fault))),
+        Err(HoursTextFault::NoMemory) => Err(None),
     }
 }
 
@@ -37,11 +37,11 @@ fn domain_with(alloc: Global, hours: &Hours) -> Result<Domain, Option<HoursFault
 {
     match domain_of(alloc, hours) {
         Ok(domain) => Ok(domain),
-        Err(HoursFault::TooMany) => Err(Some(HoursFaultNumbers {
+        Err(TranslationFault::TooMany) => Err(Some(HoursFaultNumbers {
             kind: TOO_MANY,
             place: 0,
         })),
-        Err(HoursFault::NoMemory) => Err(None),
+        Err(TranslationFault::NoMemory) => Err(None),
     }
 }
 

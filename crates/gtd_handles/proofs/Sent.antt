@@ -31,7 +31,7 @@ use Rattle.gtd_eval.proofs.repeat.Repeat.TheSendSync as repeat
 use Rattle.gtd_eval.proofs.repeat.Stage.TheSendSync as stage
 use Rattle.gtd_records.proofs.direction.Closed.TheSendSync as closed
 use Rattle.gtd_records.proofs.direction.Direction.TheSendSync as direction
-use Rattle.gtd_records.proofs.index.Place.TheSendSync as place
+use Rattle.gtd_records.proofs.index.RowPlace.TheSendSync as place
 use Rattle.gtd_records.proofs.vehicles.Vehicles.TheSendSync as vehicles
 use Rattle.core.proofs.option.Option.TheSendSync as option
 use Rattle.std.proofs.alloc.Global.TheSendSync as heap

@@ -5,7 +5,7 @@ ghost use Rattle.gtd_hours.specs.Ranges.{IsDatedRange, IsMonth, IsMonthDay, IsTi
 ghost use Rattle.gtd_hours.specs.Ranges.{IsWeeks, IsYearDate, IsYears};
 
 use crate::dated::is_dated_range;
-use crate::hours::{Dated, MonthDay, Months, Place, TimeRange, Weekdays, Weeks, YearDate, Years};
+use crate::hours::{Dated, MonthDay, Months, WeekdayPlace, TimeRange, Weekdays, Weeks, YearDate, Years};
 use gtd_calendar::day_of;
 
 impl Years {
@@ -110,14 +110,14 @@ impl Weekdays {
     }
 }
 
-impl Place {
+impl WeekdayPlace {
     /// The weekday and its place, or `None` exactly if the weekday is not from 1 to 7 or the place not from 1 to 5.
-    pub fn new(weekday: u8, number: u8) -> Option<Place>
+    pub fn new(weekday: u8, number: u8) -> Option<WeekdayPlace>
         ensures kept { IfSome result (λ x. (x.weekday ≡ weekday) × (x.number ≡ number)) }
         ensures accepted { IsSome result ↔ IsWeekdayPlace weekday number }
     {
         if 1 <= weekday && weekday <= 7 && 1 <= number && number <= 5 {
-            Some(Place { weekday, number })
+            Some(WeekdayPlace { weekday, number })
         } else {
             None
         }

@@ -11,7 +11,7 @@ ghost use Rattle.gtd_hours.specs.declared.hours.Selector.TheVariants as selector
 use crate::clock::Clock;
 use crate::dated::dated_days;
 use crate::dates::{date_days, month_days};
-use crate::hours::{Kind, Place, Selector, Weekdays};
+use crate::hours::{Kind, WeekdayPlace, Selector, Weekdays};
 use crate::leaf::{NO_PARTS, each_day, join, nothing};
 use crate::numbers::{week_days, year_days};
 use gtd_core::{Expr, Op, StartParts};
@@ -71,7 +71,7 @@ fn weekday_days(days: Weekdays, clock: Clock) -> Expr
     )
 }
 
-fn nth_days(place: Place, clock: Clock) -> Expr
+fn nth_days(place: WeekdayPlace, clock: Clock) -> Expr
     ensures days { AreDays (minutes_of clock) (HoldsAt (selector.Nth place)) result }
     ensures leaves { leaf_count (tree_of result) ≡ 1 }
 {
@@ -84,7 +84,7 @@ fn nth_days(place: Place, clock: Clock) -> Expr
     )
 }
 
-fn nth_back_days(place: Place, clock: Clock) -> Expr
+fn nth_back_days(place: WeekdayPlace, clock: Clock) -> Expr
     ensures days { AreDays (minutes_of clock) (HoldsAt (selector.NthBack place)) result }
     ensures leaves { leaf_count (tree_of result) ≡ 1 }
 {

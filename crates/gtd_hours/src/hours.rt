@@ -92,7 +92,7 @@ pub struct Weekdays {
 
 /// A weekday and its place in the month: the first to the fifth.
 #[derive(Clone, Copy, Debug, PartialEq, Eq)]
-pub struct Place {
+pub struct WeekdayPlace {
     /// The weekday, 1 for Sunday to 7 for Saturday.
     pub weekday: u8,
     /// Which of these weekdays of the month it is, 1 to 5.
@@ -116,9 +116,9 @@ pub enum Selector {
     /// `Mo-Fr`
     Weekdays(Weekdays),
     /// `We[1]`: a place from the beginning of the month.
-    Nth(Place),
+    Nth(WeekdayPlace),
     /// `We[-1]`: a place back from the end of the month.
-    NthBack(Place),
+    NthBack(WeekdayPlace),
 }
 
 /// The selectors of one kind, of which one must hold.

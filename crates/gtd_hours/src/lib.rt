@@ -7,11 +7,11 @@
 
 pub use cost::cost_of;
 pub use hours::{
-    Dated, Dates, Hours, Kind, Link, Modifier, MonthDay, Months, Place, Rule, Selector, TimeRange,
+    Dated, Dates, Hours, Kind, Link, Modifier, MonthDay, Months, WeekdayPlace, Rule, Selector, TimeRange,
     Weekdays, Weeks, YearDate, Years,
 };
 pub use printer::print_hours;
-pub use translate::{HoursFault, domain_of};
+pub use translate::{TranslationFault, domain_of};
 
 mod clock;
 mod constructors;

@@ -9,7 +9,7 @@ ghost use Rattle.gtd_hours.specs.Written.{selector_text, spans_text, step_text, 
 ghost use Rattle.gtd_hours.specs.Written.{weekday_name, weekdays_text, weeks_text, year_date_text, years_text};
 
 use crate::hours::{
-    Dated, Dates, Hours, Kind, Link, Modifier, MonthDay, Months, Place, Rule, Selector, TimeRange,
+    Dated, Dates, Hours, Kind, Link, Modifier, MonthDay, Months, WeekdayPlace, Rule, Selector, TimeRange,
     Weekdays, Weeks, YearDate, Years,
 };
 use itoa::Buffer;
@@ -294,7 +294,7 @@ fn push_weekdays(out: &mut String, days: Weekdays) -> Result<(), AllocError>
     out.push_str(weekday_name(days.last))
 }
 
-fn push_place(out: &mut String, bracket: &str, place: Place) -> Result<(), AllocError>
+fn push_place(out: &mut String, bracket: &str, place: WeekdayPlace) -> Result<(), AllocError>
     ensures { OnOk result (string_bytes out.new ≡ string_bytes out.old
         ++ (weekday_name place.weekday ++ bracket.now ++ decimal place.number ++ codes "]")) }
 {

@@ -21,7 +21,7 @@ use thiserror::Error;
 
 /// Why there is no domain.
 #[derive(Clone, Copy, Debug, PartialEq, Eq, Error)]
-pub enum HoursFault {
+pub enum TranslationFault {
     /// The domain would have more than 128 basic domains.
     #[error("TooMany")]
     TooMany,
@@ -104,16 +104,16 @@ fn after_rules(alloc: Global, rules: &[Rule]) -> Result<Option<Expr>, AllocError
 /// The domain that contains exactly the seconds at which the hours are open, over all time. It has as many basic domains as
 /// `cost_of` says. If these are more than 128, the answer is `TooMany`, and no memory is taken. `NoMemory` is answered only
 /// if the allocator refused memory.
-pub fn domain_of(alloc: Global, hours: &Hours) -> Result<Domain, HoursFault>
+pub fn domain_of(alloc: Global, hours: &Hours) -> Result<Domain, TranslationFault>
     ensures open { IfOk result (λ domain. (s : ℤ) → InDomain domain s ↔ IsOpen hours.now s) }
     ensures count { IfOk result (λ domain. leaf_count (domain_tree domain) ≡ hours_cost hours.now) }
-    ensures too_many { IfErr result (λ fault. (fault ≡ HoursFault.TooMany) ↔ (most_basic_domains < hours_cost hours.now)) }
+    ensures too_many { IfErr result (λ fault. (fault ≡ TranslationFault.TooMany) ↔ (most_basic_domains < hours_cost hours.now)) }
 {
     if cost_of(hours) > u32::from(MOST_BASIC_DOMAINS) {
-        return Err(HoursFault::TooMany);
+        return Err(TranslationFault::TooMany);
     }
     let Ok(seconds) = after_rules(alloc, hours.rules.as_slice()) else {
-        return Err(HoursFault::NoMemory);
+        return Err(TranslationFault::NoMemory);
     };
     match Domain::new(or_nothing(seconds)) {
         Ok(domain) => Ok(domain),

@@ -8,7 +8,7 @@ use crate::fault::HoursFileFault;
 use csv::ByteRecord;
 use gtd_core::limits::MOST_BASIC_DOMAINS;
 use gtd_hours::{Hours, cost_of};
-use gtd_hours_text::{TextFault, read_hours};
+use gtd_hours_text::{HoursTextFault, read_hours};
 use gtd_records::{
     Closed, Vehicles, Version, four_columns, read_closed, read_number, read_vehicles,
 };
@@ -56,10 +56,10 @@ fn read_last(alloc: Global, number: u32, text: &[u8]) -> Result<Option<Hours>, R
     }
     let hours = match read_hours(alloc, text) {
         Ok(hours) => hours,
-        Err(TextFault::Fault(fault)) => {
+        Err(HoursTextFault::Fault(fault)) => {
             return Err(RowStop::Fault(HoursFileFault::Hours { row: number, fault }));
         }
-        Err(TextFault::NoMemory) => return Err(RowStop::NoMemory),
+        Err(HoursTextFault::NoMemory) => return Err(RowStop::NoMemory),
     };
     if cost_of(&hours) > u32::from(MOST_BASIC_DOMAINS) {
         return Err(RowStop::Fault(HoursFileFault::TooMany { row: number }));

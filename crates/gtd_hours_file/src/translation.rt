@@ -15,7 +15,7 @@ ghost use Rattle.gtd_hours_file.specs.Translated.{IsDomainOf};
 use crate::row::HoursRow;
 use gtd_core::Domain;
 use gtd_devices::Output;
-use gtd_hours::{Hours, HoursFault, domain_of};
+use gtd_hours::{Hours, TranslationFault, domain_of};
 use gtd_migrate::write_row;
 use gtd_report::{Progress, Stop, finish, put_line};
 use std::alloc::{AllocError, Global};
@@ -27,8 +27,8 @@ fn domain_with(alloc: Global, hours: &Hours) -> Result<Domain, AllocError>
 {
     match domain_of(alloc, hours) {
         Ok(domain) => Ok(domain),
-        Err(HoursFault::NoMemory) => Err(AllocError),
-        Err(HoursFault::TooMany) => unreachable!(),
+        Err(TranslationFault::NoMemory) => Err(AllocError),
+        Err(TranslationFault::TooMany) => unreachable!(),
     }
 }
 

@@ -2,26 +2,26 @@
 
 ghost use Rattle.std.specs.Prelude.{◌≡◌, ◌↔◌, IfSome, IsSome};
 ghost use Rattle.gtd_hours.specs.Ranges.{IsWeekday};
-ghost use Rattle.gtd_hours.specs.declared.hours.Place.{Place};
+ghost use Rattle.gtd_hours.specs.declared.hours.WeekdayPlace.{WeekdayPlace};
 ghost use Rattle.gtd_hours.specs.declared.hours.Selector.TheVariants as selector;
 ghost use Rattle.gtd_hours_parts.specs.Numbers.{IsPlaceNumber};
 
 use crate::digits::Digits;
-use gtd_hours::{Place, Selector};
+use gtd_hours::{WeekdayPlace, Selector};
 
-fn place(weekday: u8, number: Digits) -> Option<Place>
+fn place(weekday: u8, number: Digits) -> Option<WeekdayPlace>
     ensures kept { IfSome result (λ x. (x.weekday ≡ weekday) × (x.number ≡ number.value)) }
     ensures accepted { IsSome result ↔ (IsWeekday weekday × IsPlaceNumber number) }
 {
     let place = number.place()?;
-    Place::new(weekday, place)
+    WeekdayPlace::new(weekday, place)
 }
 
 /// `We[1]`: a weekday by its place from the beginning of the month. `None` exactly if the weekday is not from 1 to 7 or the
 /// number is no place.
 pub fn place_from_front(weekday: u8, number: Digits) -> Option<Selector>
     ensures kept { IfSome result
-        (λ x. (p : Place) × (x ≡ selector.Nth p) × (p.weekday ≡ weekday) × (p.number ≡ number.value)) }
+        (λ x. (p : WeekdayPlace) × (x ≡ selector.Nth p) × (p.weekday ≡ weekday) × (p.number ≡ number.value)) }
     ensures accepted { IsSome result ↔ (IsWeekday weekday × IsPlaceNumber number) }
 {
     match place(weekday, number) {
@@ -34,7 +34,7 @@ pub fn place_from_front(weekday: u8, number: Digits) -> Option<Selector>
 /// number is no place.
 pub fn place_from_back(weekday: u8, number: Digits) -> Option<Selector>
     ensures kept { IfSome result
-        (λ x. (p : Place) × (x ≡ selector.NthBack p) × (p.weekday ≡ weekday) × (p.number ≡ number.value)) }
+        (λ x. (p : WeekdayPlace) × (x ≡ selector.NthBack p) × (p.weekday ≡ weekday) × (p.number ≡ number.value)) }
     ensures accepted { IsSome result ↔ (IsWeekday weekday × IsPlaceNumber number) }
 {
     match place(weekday, number) {

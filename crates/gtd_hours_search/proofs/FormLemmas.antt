@@ -7,7 +7,7 @@ use Rattle.gtd_core.specs.declared.duration.DurationParts.{DurationParts}
 use Rattle.gtd_hours.specs.Cost.{IsOneStretch, common_length, month_after}
 use Rattle.gtd_hours.specs.Ranges.{IsMonth, IsWeeks, IsYears}
 use Rattle.gtd_hours.specs.declared.hours.MonthDay.{MonthDay}
-use Rattle.gtd_hours.specs.declared.hours.Place.{Place}
+use Rattle.gtd_hours.specs.declared.hours.WeekdayPlace.{WeekdayPlace}
 use Rattle.gtd_hours.specs.declared.hours.Selector.{Selector}
 use Rattle.gtd_hours.specs.declared.hours.Selector.TheVariants as selector
 use Rattle.gtd_hours_search.specs.Forms.{AreWeeks, AreYears, IsLeafOf, IsMonthCount, ReachesMonth, IsStretch}
@@ -75,8 +75,8 @@ by_month p d month day o no_year no_week is on each dates (selector.Nth x) h = a
 by_month p d month day o no_year no_week is on each dates (selector.NthBack x) h = absurd (none p.month month is h.0.1)
 
 pub by_weekday : (p : StartParts) (d : DurationParts) (o : Option Selector) → p.year ≡ None → p.week ≡ None → p.month ≡ None
-    → ((x : Place) → p.nth ≡ Some (x.number, x.weekday) → IsSome o)
-    → ((x : Place) → p.nth ≡ None → p.nth_back ≡ Some (x.number, x.weekday) → IsSome o)
+    → ((x : WeekdayPlace) → p.nth ≡ Some (x.number, x.weekday) → IsSome o)
+    → ((x : WeekdayPlace) → p.nth ≡ None → p.nth_back ≡ Some (x.number, x.weekday) → IsSome o)
     → (p.nth ≡ None → p.nth_back ≡ None → IsSome o)
     → (x : Selector) → IsLeafOf x p d → IsSome o
 by_weekday p d o no_year no_week no_month nth back days (selector.Years x) h = absurd (none p.year x.first h.0 no_year)

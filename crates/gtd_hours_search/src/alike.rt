@@ -1,7 +1,7 @@
 //! Whether a selector has a chain of basic domains as its days.
 
 use gtd_core::{Basic, Expr, StartParts};
-use gtd_hours::{Hours, HoursFault, Kind, Link, Modifier, Rule, Selector, domain_of};
+use gtd_hours::{Hours, TranslationFault, Kind, Link, Modifier, Rule, Selector, domain_of};
 use std::alloc::{AllocError, Global};
 
 fn without_clock(parts: StartParts) -> StartParts {
@@ -58,7 +58,7 @@ pub fn is_translated_to(
     let hours = hours_on(alloc, selector)?;
     match domain_of(alloc, &hours) {
         Ok(days) => Ok(are_alike(days.expr(), expr)),
-        Err(HoursFault::TooMany) => Ok(false),
-        Err(HoursFault::NoMemory) => Err(AllocError),
+        Err(TranslationFault::TooMany) => Ok(false),
+        Err(TranslationFault::NoMemory) => Err(AllocError),
     }
 }

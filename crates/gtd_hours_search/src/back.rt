@@ -8,7 +8,7 @@ ghost use Rattle.gtd_hours.specs.Writable.{IsWritable};
 use crate::rules::rules_of;
 use crate::writable::can_be_written;
 use gtd_core::Domain;
-use gtd_hours::{Hours, HoursFault, domain_of};
+use gtd_hours::{Hours, TranslationFault, domain_of};
 use std::alloc::{AllocError, Global};
 
 // Whether the domains are equal. Then they have the same seconds.
@@ -37,7 +37,7 @@ pub fn hours_of(alloc: Global, domain: &Domain) -> Result<Option<Hours>, AllocEr
             }
             Ok(None)
         }
-        Err(HoursFault::TooMany) => Ok(None),
-        Err(HoursFault::NoMemory) => Err(AllocError),
+        Err(TranslationFault::TooMany) => Ok(None),
+        Err(TranslationFault::NoMemory) => Err(AllocError),
     }
 }

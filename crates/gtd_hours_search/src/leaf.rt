@@ -7,14 +7,14 @@ ghost use Rattle.gtd_core.specs.Trees.Tree.{Single};
 ghost use Rattle.gtd_hours.specs.Cost.{IsOneStretch};
 ghost use Rattle.gtd_hours.specs.Ranges.{IsMonth, IsWeeks, IsYears};
 ghost use Rattle.gtd_hours.specs.declared.hours.MonthDay.{MonthDay};
-ghost use Rattle.gtd_hours.specs.declared.hours.Place.{Place};
+ghost use Rattle.gtd_hours.specs.declared.hours.WeekdayPlace.{WeekdayPlace};
 ghost use Rattle.gtd_hours_search.specs.Forms.{AreWeeks, AreYears, IsDayLeaf, IsMonthCount, IsStretch};
 
 use crate::dates::{dates_from, months_from};
 use crate::weekdays::weekdays_of;
 use gtd_calendar::{day_of, fields};
 use gtd_core::{Basic, DurationParts, StartParts};
-use gtd_hours::{Dated, Place, Selector, Weeks, YearDate, Years};
+use gtd_hours::{Dated, WeekdayPlace, Selector, Weeks, YearDate, Years};
 
 /// The last day of the calendar: 2799-12-31.
 const LAST_CALENDAR_DAY: i64 = 303_150;
@@ -118,16 +118,16 @@ fn from_month(month: u8, day: u8, lasts: DurationParts) -> Option<Selector>
 
 // A place in the month, or weekdays.
 fn on_weekday(parts: StartParts) -> Option<Selector>
-    ensures nth { (x : Place) → parts.nth ≡ Some (x.number, x.weekday) → IsSome result }
-    ensures nth_back { (x : Place) → parts.nth ≡ None → parts.nth_back ≡ Some (x.number, x.weekday) → IsSome result }
+    ensures nth { (x : WeekdayPlace) → parts.nth ≡ Some (x.number, x.weekday) → IsSome result }
+    ensures nth_back { (x : WeekdayPlace) → parts.nth ≡ None → parts.nth_back ≡ Some (x.number, x.weekday) → IsSome result }
     ensures weekdays { parts.nth ≡ None → parts.nth_back ≡ None → IsSome result }
 {
     if let Some((number, weekday)) = parts.nth {
-        let place = Place::new(weekday, number)?;
+        let place = WeekdayPlace::new(weekday, number)?;
         return Some(Selector::Nth(place));
     }
     if let Some((number, weekday)) = parts.nth_back {
-        let place = Place::new(weekday, number)?;
+        let place = WeekdayPlace::new(weekday, number)?;
         return Some(Selector::NthBack(place));
     }
     let weekdays = weekdays_of(parts.weekdays)?;

@@ -3,7 +3,7 @@ use Rattle.std.proofs.Common.{◌≡◌, ℕ, ◌+◌, ◌≤◌, ◌<◌, List,
 use Rattle.std.proofs.lemmas.List.{append-nil}
 use Rattle.gtd_hours.specs.declared.hours.Selector.{Selector}
 use Rattle.gtd_hours.specs.declared.hours.Selector.TheVariants as selector
-use Rattle.gtd_hours.specs.declared.hours.Place.{Place}
+use Rattle.gtd_hours.specs.declared.hours.WeekdayPlace.{WeekdayPlace}
 use Rattle.gtd_hours_text.specs.Adding.{AddsPlace, AddsPlaces, AddsUpTo}
 use Rattle.gtd_hours_text.specs.Standing.{ArePlaces, IsPlace}
 
@@ -31,6 +31,7 @@ all_added list after weekday first number last lt so_far = record {
       (so_far.are [] (ArePlaces.past number last [] lt refl));
 }
 
-pub is_place : (x : Selector) (weekday number : ℕ) (p : Place) → x ≡ selector.Nth p → p.weekday ≡ weekday → p.number ≡ number
+pub is_place : (x : Selector) (weekday number : ℕ) (p : WeekdayPlace) → x ≡ selector.Nth p → p.weekday ≡ weekday
+    → p.number ≡ number
     → IsPlace weekday number x
 is_place x weekday number p e w n = subst (λ (y : Selector). IsPlace weekday number y) (sym e) (w, n)

@@ -13,7 +13,7 @@ use Rattle.gtd_hours.specs.declared.hours.YearDate.{YearDate}
 use Rattle.gtd_hours.specs.declared.hours.Dates.{Dates}
 use Rattle.gtd_hours.specs.declared.hours.Dated.{Dated}
 use Rattle.gtd_hours.specs.declared.hours.Weekdays.{Weekdays}
-use Rattle.gtd_hours.specs.declared.hours.Place.{Place}
+use Rattle.gtd_hours.specs.declared.hours.WeekdayPlace.{WeekdayPlace}
 use Rattle.gtd_hours.specs.declared.hours.TimeRange.{TimeRange}
 use Rattle.gtd_hours.specs.Calendar.{is_leap_year, month_length}
 use Rattle.gtd_hours.specs.Ranges.{IsTimeRange}
@@ -249,7 +249,7 @@ closed a j x = tight (a ++ 93 ∷ []) (j ++ token.CloseBracket ∷ [])
     (joined Apart Anything a (93 ∷ []) j (token.CloseBracket ∷ []) x (sign_spelt 93 token.CloseBracket refl)
     (λ rest c. (refl, refl, refl)))
 
-nth_spelt : (x : Place) → Spelt Apart (weekday_name x.weekday ++ codes "[" ++ decimal x.number ++ codes "]")
+nth_spelt : (x : WeekdayPlace) → Spelt Apart (weekday_name x.weekday ++ codes "[" ++ decimal x.number ++ codes "]")
     (token.Weekday x.weekday ∷ token.OpenBracket ∷ token.Number x.number (length (decimal x.number)) ∷ token.CloseBracket ∷ [])
 nth_spelt x =
     let r = x.in_range in
@@ -260,7 +260,7 @@ nth_spelt x =
     (opened (weekday_name x.weekday) (token.Weekday x.weekday ∷ []) (weekday_spelt x.weekday r.0))
     (decimal_spelt x.number (omega (arith, r.2))) (λ rest c. tt))
 
-pub nth_item : (follows : Bool) (x : Place)
+pub nth_item : (follows : Bool) (x : WeekdayPlace)
     → Item IsWeekdays (selector_text follows (selector.Nth x)) (only_weekdays (selector.Nth x ∷ [])) false
 nth_item follows x =
     let r = x.in_range in
@@ -290,7 +290,7 @@ nth_item follows x =
       front = λ rest. refl;
     }
 
-back_spelt : (x : Place) → Spelt Apart (weekday_name x.weekday ++ codes "[-" ++ decimal x.number ++ codes "]")
+back_spelt : (x : WeekdayPlace) → Spelt Apart (weekday_name x.weekday ++ codes "[-" ++ decimal x.number ++ codes "]")
     (token.Weekday x.weekday ∷ token.OpenBracket ∷ token.Dash ∷ token.Number x.number (length (decimal x.number))
     ∷ token.CloseBracket ∷ [])
 back_spelt x =
@@ -306,7 +306,7 @@ back_spelt x =
     (token.OpenBracket ∷ token.Dash ∷ []) (weekday_spelt x.weekday r.0) signs (λ rest c. (refl, refl, refl)))
     (decimal_spelt x.number (omega (arith, r.2))) (λ rest c. tt))
 
-pub back_item : (follows : Bool) (x : Place)
+pub back_item : (follows : Bool) (x : WeekdayPlace)
     → Item IsWeekdays (selector_text follows (selector.NthBack x)) (only_weekdays (selector.NthBack x ∷ [])) false
 back_item follows x =
     let r = x.in_range in

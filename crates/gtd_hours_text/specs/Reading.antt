@@ -6,11 +6,11 @@ use Rattle.gtd_hours_grammar.specs.declared.reading.Reading.{Reading}
 use Rattle.gtd_hours_grammar.specs.Steps.{IsReading}
 use Rattle.gtd_hours_text.specs.declared.builder.Building.{Building}
 use Rattle.gtd_hours_text.specs.Drafts.{IsBuilding}
-use Rattle.gtd_hours_text.specs.declared.reader.TextFault.{TextFault}
-use Rattle.gtd_hours_text.specs.declared.reader.TextFault.TheVariants as fault
+use Rattle.gtd_hours_text.specs.declared.reader.HoursTextFault.{HoursTextFault}
+use Rattle.gtd_hours_text.specs.declared.reader.HoursTextFault.TheVariants as fault
 
 -- the first fault, or want of memory for a text that has none
-abbrev pub IsFaultOf : List ℕ → TextFault → Type 0
+abbrev pub IsFaultOf : List ℕ → HoursTextFault → Type 0
 IsFaultOf text (fault.Fault bad) = IsFirstFault text bad
 IsFaultOf text fault.NoMemory = (p : List Piece) × IsHoursText text p
 

@@ -13,4 +13,4 @@ mod reader;
 mod selectors;
 pub mod writing_laws;
 
-pub use reader::{TextFault, read_hours};
+pub use reader::{HoursTextFault, read_hours};

@@ -16,7 +16,7 @@ use thiserror::Error;
 
 /// Why the hours of a text cannot be read.
 #[derive(Clone, Copy, Debug, PartialEq, Eq, Error)]
-pub enum TextFault {
+pub enum HoursTextFault {
     /// The first fault of the text.
     #[error("{0}")]
     Fault(HoursFault),
@@ -26,15 +26,15 @@ pub enum TextFault {
 }
 
 /// The hours that a text stands for. Errors: the first fault of the text; or, where there is none, that there is no memory.
-pub fn read_hours(alloc: Global, text: &[u8]) -> Result<Hours, TextFault>
+pub fn read_hours(alloc: Global, text: &[u8]) -> Result<Hours, HoursTextFault>
     ensures hours { IfOk result (λ hours. StandsFor text.now hours) }
     ensures fault { IfErr result (λ fault. IsFaultOf text.now fault) }
 {
     match check_hours(text) {
-        Err(bad) => Err(TextFault::Fault(bad)),
+        Err(bad) => Err(HoursTextFault::Fault(bad)),
         Ok(()) => match build(alloc, text) {
             Ok(hours) => Ok(hours),
-            Err(_) => Err(TextFault::NoMemory),
+            Err(_) => Err(HoursTextFault::NoMemory),
         },
     }
 }

@@ -8,23 +8,23 @@ use Rattle.gtd_records.specs.Closing.{Closes, Restriction}
 use Rattle.gtd_records.specs.ClosingRows.{AreClosingRows, IsClosingRow}
 use Rattle.gtd_records.specs.Columns.{IsSortedSet}
 use Rattle.gtd_records.specs.declared.direction.Direction.{Direction}
-use Rattle.gtd_records.specs.declared.index.Place.{Place}
+use Rattle.gtd_records.specs.declared.index.RowPlace.{RowPlace}
 
-module _ (rows : List Restriction) (part : List Place) (element : ℕ) (direction : Direction) (vehicle : ℕ) (second : ℤ) where
+module _ (rows : List Restriction) (part : List RowPlace) (element : ℕ) (direction : Direction) (vehicle : ℕ) (second : ℤ) where
   -- the numbers of the rows at the places so far
   pub record AreSoFar (i : ℕ) (numbers : List ℕ) : Type 0 where
     pub sound : (n : ℕ) → Contains numbers n → IsClosingRow rows element direction vehicle second n
-    pub each : (j : ℕ) (p : Place) (r : Restriction) → j < i → slice_index_or part j p ≡ p → slice_index_or rows p.row r ≡ r
+    pub each : (j : ℕ) (p : RowPlace) (r : Restriction) → j < i → slice_index_or part j p ≡ p → slice_index_or rows p.row r ≡ r
         → Closes element direction vehicle second r → Contains numbers (p.row + 1)
 
   pub none_yet : AreSoFar 0 []
   none_yet = record { sound = λ n c. absurd (let l = c.1 in omega arith); each = λ j p r lt. absurd (omega arith) }
 
-  module _ (i : ℕ) (numbers : List ℕ) (d : Place) (here : i < length part) (s : Restriction)
+  module _ (i : ℕ) (numbers : List ℕ) (d : RowPlace) (here : i < length part) (s : Restriction)
       (within : (slice_index_or part i d).row < length rows) (stands : s ≡ slice_index_or rows (slice_index_or part i d).row s)
       (old : AreSoFar i numbers) where
     -- what stands at a place up to this one
-    at_last : {P : Type 0} (j : ℕ) (p : Place) (r : Restriction) → j < i + 1 → slice_index_or part j p ≡ p
+    at_last : {P : Type 0} (j : ℕ) (p : RowPlace) (r : Restriction) → j < i + 1 → slice_index_or part j p ≡ p
         → slice_index_or rows p.row r ≡ r
         → (j < i → P) → (slice_index_or part i d ≡ p → r ≡ s → P) → P
     at_last {P} j p r lt at is earlier last =
@@ -34,7 +34,7 @@ module _ (rows : List Restriction) (part : List Place) (element : ℕ) (directio
         let same : slice_index_or part i d ≡ p = any_default part i d p here
         ∙ subst (λ (k : ℕ). slice_index_or part k p ≡ p) e at in
         last same (one_record rows (slice_index_or part i d).row r s within
-        (subst (λ (q : Place). slice_index_or rows q.row r ≡ r) (sym same) is) stands))
+        (subst (λ (q : RowPlace). slice_index_or rows q.row r ≡ r) (sym same) is) stands))
         (λ less. earlier less)
 
     -- this row does not close it
@@ -66,7 +66,7 @@ module _ (rows : List Restriction) (part : List Place) (element : ℕ) (directio
           at_last {P = Contains (numbers ++ (((slice_index_or part i d).row + 1) ∷ [])) (p.row + 1)} j p r lt at is
           (λ less. Contains-append_left numbers (((slice_index_or part i d).row + 1) ∷ []) (p.row + 1)
           (old.each j p r less at is c))
-          (λ same own. subst (λ (q : Place). Contains (numbers ++ (((slice_index_or part i d).row + 1) ∷ [])) (q.row + 1)) same
+          (λ same own. subst (λ (q : RowPlace). Contains (numbers ++ (((slice_index_or part i d).row + 1) ∷ [])) (q.row + 1)) same
           (Contains-push numbers ((slice_index_or part i d).row + 1)));
     }
 

@@ -15,7 +15,7 @@ use Rattle.gtd_eval.specs.Cursors.{total_nodes}
 use Rattle.gtd_records.proofs.FoundPlaces.{AllSeen, NoneSoFar, none_more, none_of_seen}
 use Rattle.gtd_records.specs.Index.{AreClosing}
 use Rattle.gtd_records.specs.Closing.{Closes, Concerns, HoldsAt, IsClosed, IsOpen, Restriction}
-use Rattle.gtd_records.specs.declared.index.Place.{Place}
+use Rattle.gtd_records.specs.declared.index.RowPlace.{RowPlace}
 use Rattle.gtd_records.specs.declared.direction.Direction.{Direction}
 
 some_push : {L : Type 0} {g : Ghosts L} (cs : List (SweepTree L g)) (c : SweepTree L g) (t : ℤ)
@@ -36,7 +36,7 @@ push_new : {L : Type 0} {g : Ghosts L} (cs : List (SweepTree L g)) (c : SweepTre
 push_new [] c t h = inl h
 push_new (d ∷ cs) c t h = inr (push_new cs c t h)
 
-module _ {L : Type 0} {g : Ghosts L} (rows : List Restriction) (part : List Place) (element : ℕ) (direction : Direction)
+module _ {L : Type 0} {g : Ghosts L} (rows : List Restriction) (part : List RowPlace) (element : ℕ) (direction : Direction)
     (vehicle : ℕ) (horizon : Horizon) where
   -- the cursors are those of the restrictions at the first places that close the element
   pub record AreClosingSoFar (stop : ℕ) (cursors : List (SweepTree L g)) : Type 0 where
@@ -45,7 +45,7 @@ module _ {L : Type 0} {g : Ghosts L} (rows : List Restriction) (part : List Plac
         → NoneSoFar rows part (Closes element direction vehicle t) stop
 
   -- a restriction that concerns nothing asked for adds none
-  pub same_cursors : (i : ℕ) (cursors : List (SweepTree L g)) (p : Place) (s : Restriction) → i < length part
+  pub same_cursors : (i : ℕ) (cursors : List (SweepTree L g)) (p : RowPlace) (s : Restriction) → i < length part
       → (slice_index_or part i p).row < length rows
       → s ≡ slice_index_or rows (slice_index_or part i p).row s → (Concerns direction vehicle s → ⊥) → AreClosingSoFar i cursors
       → AreClosingSoFar (i + 1) cursors
@@ -55,7 +55,7 @@ module _ {L : Type 0} {g : Ghosts L} (rows : List Restriction) (part : List Plac
   }
 
   -- one that does adds its cursor
-  pub one_cursor : (i : ℕ) (cursors : List (SweepTree L g)) (c : SweepTree L g) (p : Place) (s : Restriction) → i < length part
+  pub one_cursor : (i : ℕ) (cursors : List (SweepTree L g)) (c : SweepTree L g) (p : RowPlace) (s : Restriction) → i < length part
       → (slice_index_or part i p).row < length rows
       → s ≡ slice_index_or rows (slice_index_or part i p).row s → s.element ≡ element → Concerns direction vehicle s
       → ((t : ℤ) → Holds (cursor_list c) t ↔ (Within (whole horizon) t × HoldsAt s.domain t))

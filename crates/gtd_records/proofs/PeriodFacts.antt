@@ -11,23 +11,23 @@ use Rattle.gtd_eval.specs.Ever.{week}
 use Rattle.gtd_eval.specs.Membership.{IsNormalOver}
 use Rattle.gtd_records.specs.Closing.{Concerns, HoldsAt, IsClosed, IsOpen, Restriction}
 use Rattle.gtd_records.specs.declared.direction.Direction.{Direction}
-use Rattle.gtd_records.specs.declared.index.Place.{Place}
+use Rattle.gtd_records.specs.declared.index.RowPlace.{RowPlace}
 
 -- the restrictions at the first places repeat from a period on, as far as they close the element
-abbrev pub RepeatSoFar : Period → List Restriction → List Place → ℕ → Direction → ℕ → ℕ → Type 0
+abbrev pub RepeatSoFar : Period → List Restriction → List RowPlace → ℕ → Direction → ℕ → ℕ → Type 0
 RepeatSoFar x rows part element direction vehicle stop =
-    (k : ℕ) (d : Place) (r : Restriction) → k < stop → slice_index_or rows (slice_index_or part k d).row r ≡ r
+    (k : ℕ) (d : RowPlace) (r : Restriction) → k < stop → slice_index_or rows (slice_index_or part k d).row r ≡ r
     → r.element ≡ element → Concerns direction vehicle r → RepeatsFrom x (HoldsAt r.domain)
 
 -- and from a longer one on
-pub so-far-longer : (x y : Period) (rows : List Restriction) (part : List Place) (element : ℕ) (direction : Direction)
+pub so-far-longer : (x y : Period) (rows : List Restriction) (part : List RowPlace) (element : ℕ) (direction : Direction)
     (vehicle stop : ℕ) → period_seconds x ≤ℤ period_seconds y → RepeatSoFar x rows part element direction vehicle stop
     → RepeatSoFar y rows part element direction vehicle stop
 so-far-longer x y rows part element direction vehicle stop le so = λ k d r less is name concerns.
     from-longer x y (HoldsAt r.domain) le (so k d r less is name concerns)
 
 -- where these are all of the element, so do the seconds in which it is closed
-pub all_repeat : (x : Period) (rows : List Restriction) (part : List Place) (element : ℕ) (direction : Direction)
+pub all_repeat : (x : Period) (rows : List Restriction) (part : List RowPlace) (element : ℕ) (direction : Direction)
     (vehicle stop : ℕ)
     → RepeatSoFar x rows part element direction vehicle stop
     → ((row : ℕ) (r : Restriction) → row < length rows → slice_index_or rows row r ≡ r → r.element ≡ element
@@ -44,7 +44,7 @@ all_repeat x rows part element direction vehicle stop so placed y le t = (
     own row r within stands names concerns =
         let p = placed row r within stands names in
         so p.0 (record { element = r.element; row = row }) r p.1
-        (subst (λ (q : Place). slice_index_or rows q.row r ≡ r) (sym p.2) stands) names concerns
+        (subst (λ (q : RowPlace). slice_index_or rows q.row r ≡ r) (sym p.2) stands) names concerns
 
     -- closed at one second, and so at another
     moved : (a b : ℤ)

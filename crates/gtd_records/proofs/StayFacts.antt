@@ -11,7 +11,7 @@ use Rattle.gtd_spans.specs.Change.{IsNextChange, NeverChanges, SameAt}
 use Rattle.gtd_records.specs.facts.IndexFacts.{any_default, by_le, one_record}
 use Rattle.gtd_records.specs.Closing.{Closes, Concerns, HoldsAt, IsClosed, IsOpen, Restriction}
 use Rattle.gtd_records.specs.declared.direction.Direction.{Direction}
-use Rattle.gtd_records.specs.declared.index.Place.{Place}
+use Rattle.gtd_records.specs.declared.index.RowPlace.{RowPlace}
 
 -- one set stays as it is as long as an equal one
 same_set : (P Q : ℤ → Type 0) (s last : ℤ) (stay : Stay) → ((t : ℤ) → P t ↔ Q t) → IsStay P s last stay → IsStay Q s last stay
@@ -24,11 +24,11 @@ same_set P Q s last stay e is = record {
       ((λ q. (e t).0 (same.0 ((e s).1 q))), (λ q. (e s).0 (same.1 ((e t).1 q))));
 }
 
-module _ (rows : List Restriction) (part : List Place) (element : ℕ) (direction : Direction) (vehicle : ℕ) where
+module _ (rows : List Restriction) (part : List RowPlace) (element : ℕ) (direction : Direction) (vehicle : ℕ) where
   -- a restriction at the first places closes the element at the second
   pub record ClosesSoFar (stop : ℕ) (t : ℤ) : Type 0 where
     pub before : ℕ
-    pub place : Place
+    pub place : RowPlace
     pub row : Restriction
     pub early : before < stop
     pub at : slice_index_or part before place ≡ place
@@ -47,7 +47,7 @@ module _ (rows : List Restriction) (part : List Place) (element : ℕ) (directio
         ((λ c. absurd (let e = c.early in omega arith)), (λ c. absurd (let e = c.early in omega arith)));
   }
 
-  module _ (i : ℕ) (d : Place) (here : i < length part) (r : Restriction)
+  module _ (i : ℕ) (d : RowPlace) (here : i < length part) (r : Restriction)
       (within : (slice_index_or part i d).row < length rows) (stands : r ≡ slice_index_or rows (slice_index_or part i d).row r)
       (s last : ℤ) where
     more : (t : ℤ) → ClosesSoFar i t → ClosesSoFar (i + 1) t
@@ -73,7 +73,7 @@ module _ (rows : List Restriction) (part : List Place) (element : ℕ) (directio
         ∙ subst (λ (k : ℕ). slice_index_or part k c.place ≡ c.place) e c.at in
         own (subst (Closes element direction vehicle t)
         (one_record rows (slice_index_or part i d).row c.row r within
-        (subst (λ (q : Place). slice_index_or rows q.row c.row ≡ c.row) (sym same) c.stands) stands) c.closes))
+        (subst (λ (q : RowPlace). slice_index_or rows q.row c.row ≡ c.row) (sym same) c.stands) stands) c.closes))
         (λ less. earlier (record {
           before = c.before;
           place = c.place;

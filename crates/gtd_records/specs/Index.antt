@@ -11,22 +11,22 @@ use Rattle.gtd_eval.specs.declared.leaf.Leaf.{Ghosts}
 use Rattle.gtd_eval.specs.declared.tree.SweepTree.{SweepTree}
 use Rattle.gtd_records.specs.Closing.{AreElements, IsClosed, IsOpen, Restriction}
 use Rattle.gtd_records.specs.declared.direction.Direction.{Direction}
-use Rattle.gtd_records.specs.declared.index.Place.{Place}
+use Rattle.gtd_records.specs.declared.index.RowPlace.{RowPlace}
 
 -- the place's row is a restriction of its element
-abbrev pub IsPlaceOfRow : List Restriction → Place → Type 0
+abbrev pub IsPlaceOfRow : List Restriction → RowPlace → Type 0
 IsPlaceOfRow rows p = (r : Restriction) × (p.row < length rows) × (slice_index_or rows p.row r ≡ r) × (r.element ≡ p.element)
 
 -- the places of all rows, by element
-pub record ArePlaces (rows : List Restriction) (places : List Place) : Type 0 where
-  pub sorted : IsNonDecreasingBy (λ (p : Place). p.element) places
+pub record ArePlaces (rows : List Restriction) (places : List RowPlace) : Type 0 where
+  pub sorted : IsNonDecreasingBy (λ (p : RowPlace). p.element) places
   pub sound : All (IsPlaceOfRow rows) places
   pub each : (k : ℕ) (r : Restriction) → k < length rows → slice_index_or rows k r ≡ r
       → Contains places (record { element = r.element; row = k })
   pub many : length places ≡ length rows
 
 -- the places and the elements of all rows, of which there are no more than a file may have
-pub record IsIndexed (rows : List Restriction) (places : List Place) (elements : List ℕ) : Type 0 where
+pub record IsIndexed (rows : List Restriction) (places : List RowPlace) (elements : List ℕ) : Type 0 where
   pub placed : ArePlaces rows places
   pub named : AreElements rows elements
   pub few : length rows ≤ most_rows

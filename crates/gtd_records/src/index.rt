@@ -22,7 +22,7 @@ use std::marker::Model;
 
 /// The place of an element's record in the file.
 #[derive(Clone, Copy, Debug)]
-pub struct Place {
+pub struct RowPlace {
     /// The record's element.
     pub element: u64,
     /// The number of rows before the record's.
@@ -33,7 +33,7 @@ pub struct Place {
 #[derive(Drop)]
 pub struct Records {
     rows: Vec<Record>,
-    places: Vec<Place>,
+    places: Vec<RowPlace>,
     elements: Vec<u64>,
 }
 
@@ -54,12 +54,12 @@ impl Model for Records {
 }
 
 // The places of records, by element.
-fn places_of(alloc: Global, rows: &[Record]) -> Result<Vec<Place>, AllocError>
+fn places_of(alloc: Global, rows: &[Record]) -> Result<Vec<RowPlace>, AllocError>
     ensures { IfOk result (λ places. ArePlaces rows.now places.items) }
 {
     let mut places = Vec::new(alloc);
     for (row, record) in rows.iter().enumerate() {
-        places.push(Place {
+        places.push(RowPlace {
             element: record.element,
             row,
         })?;
@@ -69,16 +69,16 @@ fn places_of(alloc: Global, rows: &[Record]) -> Result<Vec<Place>, AllocError>
 }
 
 // The elements of places, in their order.
-fn numbers_of(alloc: Global, places: &[Place]) -> Result<Vec<u64>, AllocError>
-    ensures { IfOk result (λ numbers. numbers.items ≡ map (λ (p : Place). p.element) places.now) }
+fn numbers_of(alloc: Global, places: &[RowPlace]) -> Result<Vec<u64>, AllocError>
+    ensures { IfOk result (λ numbers. numbers.items ≡ map (λ (p : RowPlace). p.element) places.now) }
 {
     places.iter().map(|place| place.element).collect(alloc)
 }
 
 // The elements of places that are ordered by element, each once.
-fn elements_of(alloc: Global, places: &[Place]) -> Result<Vec<u64>, AllocError>
-    requires { IsNonDecreasingBy (λ (p : Place). p.element) places.now }
-    ensures { IfOk result (λ elements. IsSortedSet (map (λ (p : Place). p.element) places.now) elements.items) }
+fn elements_of(alloc: Global, places: &[RowPlace]) -> Result<Vec<u64>, AllocError>
+    requires { IsNonDecreasingBy (λ (p : RowPlace). p.element) places.now }
+    ensures { IfOk result (λ elements. IsSortedSet (map (λ (p : RowPlace). p.element) places.now) elements.items) }
 {
     let mut elements = numbers_of(alloc, places)?;
     elements.dedup();
@@ -86,11 +86,11 @@ fn elements_of(alloc: Global, places: &[Place]) -> Result<Vec<u64>, AllocError>
 }
 
 // The number of places of elements below a given one.
-pub(crate) fn places_below(places: &[Place], element: u64) -> usize
-    requires { IsNonDecreasingBy (λ (p : Place). p.element) places.now }
+pub(crate) fn places_below(places: &[RowPlace], element: u64) -> usize
+    requires { IsNonDecreasingBy (λ (p : RowPlace). p.element) places.now }
     ensures within { result ≤ length places.now }
-    ensures below { AllWithin (λ (p : Place). p.element < element) places.now 0 result }
-    ensures rest { AllWithin (λ (p : Place). element ≤ p.element) places.now result (length places.now) }
+    ensures below { AllWithin (λ (p : RowPlace). p.element < element) places.now 0 result }
+    ensures rest { AllWithin (λ (p : RowPlace). element ≤ p.element) places.now result (length places.now) }
 {
     places.partition_point(|place| place.element < element)
 }

@@ -1,6 +1,6 @@
 //! Values of opening hours that are out of their ranges. Worked texts are in `tests/rows/desk_hour_texts.rows`.
 
-use gtd_hours::{Dated, MonthDay, Months, Place, TimeRange, Weekdays, Weeks, YearDate, Years};
+use gtd_hours::{Dated, MonthDay, Months, WeekdayPlace, TimeRange, Weekdays, Weeks, YearDate, Years};
 
 #[test]
 fn parts_out_of_range(rt: HostRuntime) {
@@ -11,7 +11,7 @@ fn parts_out_of_range(rt: HostRuntime) {
     assert_eq!(rt; YearDate::new(2023, 2, 29), None);
     assert_eq!(rt; Weeks::new(1, 54, 1), None);
     assert_eq!(rt; Weekdays::new(0, 3), None);
-    assert_eq!(rt; Place::new(4, 6), None);
+    assert_eq!(rt; WeekdayPlace::new(4, 6), None);
     assert_eq!(rt; TimeRange::new(1_440, 1_500), None);
     assert_eq!(rt; TimeRange::new(480, 1_921), None);
     assert!(rt; TimeRange::new(480, 1_920).is_some());

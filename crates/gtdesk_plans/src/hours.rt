@@ -8,8 +8,8 @@ ghost use Rattle.gtdesk_plans.specs.HoursWords.{IsHoursDomain, IsNoDomainOf, IsT
 
 use crate::refusal::NoDomain;
 use gtd_core::Domain;
-use gtd_hours::{Hours, HoursFault, domain_of};
-use gtd_hours_text::{TextFault, read_hours};
+use gtd_hours::{Hours, TranslationFault, domain_of};
+use gtd_hours_text::{HoursTextFault, read_hours};
 use std::alloc::Global;
 
 // The hours that the text stands for, or its first fault. No fault is answered if memory was refused.
@@ -19,8 +19,8 @@ fn hours_in(alloc: Global, text: &str) -> Result<Hours, Option<NoDomain>>
 {
     match read_hours(alloc, text.as_bytes()) {
         Ok(hours) => Ok(hours),
-        Err(TextFault::Fault(fault)) => Err(Some(NoDomain::Fault(fault))),
-        Err(TextFault::NoMemory) => Err(None),
+        Err(HoursTextFault::Fault(fault)) => Err(Some(NoDomain::Fault(fault))),
+        Err(HoursTextFault::NoMemory) => Err(None),
     }
 }
 
@@ -32,8 +32,8 @@ fn domain_with(alloc: Global, hours: &Hours) -> Result<Domain, Option<NoDomain>>
 {
     match domain_of(alloc, hours) {
         Ok(domain) => Ok(domain),
-        Err(HoursFault::TooMany) => Err(Some(NoDomain::TooMany)),
-        Err(HoursFault::NoMemory) => Err(None),
+        Err(TranslationFault::TooMany) => Err(Some(NoDomain::TooMany)),
+        Err(TranslationFault::NoMemory) => Err(None),
     }
 }
 

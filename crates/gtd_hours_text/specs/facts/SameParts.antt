@@ -8,7 +8,7 @@ use Rattle.gtd_hours.specs.declared.hours.Dated.{Dated}
 use Rattle.gtd_hours.specs.declared.hours.Dates.{Dates}
 use Rattle.gtd_hours.specs.declared.hours.MonthDay.{MonthDay}
 use Rattle.gtd_hours.specs.declared.hours.Months.{Months}
-use Rattle.gtd_hours.specs.declared.hours.Place.{Place}
+use Rattle.gtd_hours.specs.declared.hours.WeekdayPlace.{WeekdayPlace}
 use Rattle.gtd_hours.specs.declared.hours.TimeRange.{TimeRange}
 use Rattle.gtd_hours.specs.declared.hours.Weekdays.{Weekdays}
 use Rattle.gtd_hours.specs.declared.hours.Weeks.{Weeks}
@@ -75,7 +75,7 @@ same_weekdays x y first last = λ i. record {
   last_in = is_prop→PathP (λ j. IsWeekday (last j)) (λ j. hlevel props) x.last_in y.last_in i;
 }
 
-pub same_place : (x y : Place) → x.weekday ≡ y.weekday → x.number ≡ y.number → x ≡ y
+pub same_place : (x y : WeekdayPlace) → x.weekday ≡ y.weekday → x.number ≡ y.number → x ≡ y
 same_place x y weekday number = λ i. record {
   weekday = weekday i;
   number = number i;

@@ -10,7 +10,7 @@ use Rattle.std.proofs.lemmas.Bool.Decides.{nat_tests}
 use Rattle.gtd_records.specs.Index.{ArePlaces, IsPlaceOfRow}
 use Rattle.gtd_records.specs.Closing.{AreElements, Restriction}
 use Rattle.gtd_records.specs.Columns.{IsSortedSet}
-use Rattle.gtd_records.specs.declared.index.Place.{Place}
+use Rattle.gtd_records.specs.declared.index.RowPlace.{RowPlace}
 
 pub by_le : {P : Type 0} (a b : ℕ) → (a ≤ b → P) → (b < a → P) → P
 by_le zero b f g = f (omega arith)
@@ -47,30 +47,30 @@ map_from_any f (y ∷ xs) (suc k) n x h e g =
     (suc r.0, (let l = r.1 in omega arith), r.2)
 
 -- the places from there on
-pub part_at : (places all : List Place) → all ≡ places → (from k : ℕ) (d : Place) → from + k < length places
+pub part_at : (places all : List RowPlace) → all ≡ places → (from k : ℕ) (d : RowPlace) → from + k < length places
     → slice_index_or (take (length all - from) (drop from all)) k d ≡ slice_index_or places (from + k) d
 part_at places all same from k d h =
     let l = ap length same in
     get_or-take (length all - from) (drop from all) k d (omega (arith, l)) ∙ get_or-drop from all k d
-    ∙ ap (λ (xs : List Place). get_or xs (from + k) d) same
+    ∙ ap (λ (xs : List RowPlace). get_or xs (from + k) d) same
 
 -- the place of a row of the element is one of those up to one that is of a later element or past the end
-module _ (rows : List Restriction) (places all : List Place) (same : all ≡ places) (placed : ArePlaces rows places)
+module _ (rows : List Restriction) (places all : List RowPlace) (same : all ≡ places) (placed : ArePlaces rows places)
     (element from : ℕ)
-    (below : (k : ℕ) (d : Place) → 0 ≤ k → k < from → (slice_index_or places k d).element < element)
-    (rest : (k : ℕ) (d : Place) → from ≤ k → k < length places → element ≤ (slice_index_or places k d).element) where
-  abbrev pub IsPlaced : ℕ → Place → Type 0
+    (below : (k : ℕ) (d : RowPlace) → 0 ≤ k → k < from → (slice_index_or places k d).element < element)
+    (rest : (k : ℕ) (d : RowPlace) → from ≤ k → k < length places → element ≤ (slice_index_or places k d).element) where
+  abbrev pub IsPlaced : ℕ → RowPlace → Type 0
   IsPlaced stop p = (j : ℕ) × (j < stop) × (slice_index_or (take (length all - from) (drop from all)) j p ≡ p)
 
-  pub row_placed : (stop : ℕ) → ((d : Place) → from + stop < length places → (slice_index_or places (from + stop) d).element
+  pub row_placed : (stop : ℕ) → ((d : RowPlace) → from + stop < length places → (slice_index_or places (from + stop) d).element
       ≡ element → ⊥)
       → (row : ℕ) (r : Restriction) → row < length rows → slice_index_or rows row r ≡ r → r.element ≡ element
       → IsPlaced stop (record { element = r.element; row = row })
   row_placed stop after row r within stands names =
-      let p : Place = record { element = r.element; row = row } in
+      let p : RowPlace = record { element = r.element; row = row } in
       let h = placed.each row r within stands in
       let k = h.0 in
-      let name = ap (λ (q : Place). q.element) h.2 in
+      let name = ap (λ (q : RowPlace). q.element) h.2 in
       by_le {P = IsPlaced stop p} from k
       (λ ge.
       by_le {P = IsPlaced stop p} (from + stop) k
@@ -88,14 +88,15 @@ module _ (rows : List Restriction) (places all : List Place) (same : all ≡ pla
       (λ lt. let b = below k p (omega arith) lt in absurd (omega (arith, b, name, names)))
 
 -- how far the places from there on reach
-pub part_within : (all : List Place) (from k : ℕ) → k < length (take (length all - from) (drop from all)) → from + k < length all
+pub part_within : (all : List RowPlace) (from k : ℕ) → k < length (take (length all - from) (drop from all))
+    → from + k < length all
 part_within all from k h = let l = simp (length-take, length-drop) at h in omega (arith, l)
 
-pub part_past : (all : List Place) (from k : ℕ) → length (take (length all - from) (drop from all)) ≤ k → length all ≤ from + k
+pub part_past : (all : List RowPlace) (from k : ℕ) → length (take (length all - from) (drop from all)) ≤ k → length all ≤ from + k
 part_past all from k h = let l = simp (length-take, length-drop) at h in omega (arith, l)
 
 -- the record at a place is of its element
-pub place_element : (rows : List Restriction) (p : Place) (r : Restriction) → IsPlaceOfRow rows p
+pub place_element : (rows : List Restriction) (p : RowPlace) (r : Restriction) → IsPlaceOfRow rows p
     → r ≡ slice_index_or rows p.row r
     → r.element ≡ p.element
 place_element rows p r h is =
@@ -108,8 +109,8 @@ pub one_record : (rows : List Restriction) (n : ℕ) (r s : Restriction) → n <
 one_record rows n r s h a b = sym a ∙ any_default rows n r s h ∙ sym b
 
 -- what comes from there on are places
-pub part_sound : (rows : List Restriction) (places all : List Place) (same : all ≡ places) → ArePlaces rows places
-    → (from k : ℕ) (d : Place) → k < length (take (length all - from) (drop from all))
+pub part_sound : (rows : List Restriction) (places all : List RowPlace) (same : all ≡ places) → ArePlaces rows places
+    → (from k : ℕ) (d : RowPlace) → k < length (take (length all - from) (drop from all))
     → IsPlaceOfRow rows (slice_index_or (take (length all - from) (drop from all)) k d)
 part_sound rows places all same placed from k d h =
     let within = part_within all from k h in
@@ -121,34 +122,35 @@ not_less : (a b : ℕ) → b ≤ a → is_lt (nat_cmp a b) ≡ false
 not_less a b h = grind (arith, nat_tests)
 
 -- places that are ordered by element have elements in order
-number_at : (places : List Place) (k d : ℕ) (p : Place) → k < length places → get_or (map (λ (q : Place). q.element) places) k d
+number_at : (places : List RowPlace) (k d : ℕ) (p : RowPlace) → k < length places
+    → get_or (map (λ (q : RowPlace). q.element) places) k d
     ≡ (slice_index_or places k p).element
 number_at [] k d p h = absurd (omega arith)
 number_at (q ∷ places) zero d p h = refl
 number_at (q ∷ places) (suc k) d p h = number_at places k d p (omega arith)
 
-pub sorted_numbers : (places : List Place) → IsNonDecreasingBy (λ (p : Place). p.element) places
-    → IsSorted nat_cmp (map (λ (p : Place). p.element) places)
+pub sorted_numbers : (places : List RowPlace) → IsNonDecreasingBy (λ (p : RowPlace). p.element) places
+    → IsSorted nat_cmp (map (λ (p : RowPlace). p.element) places)
 sorted_numbers places sorted = λ k d low high.
-    let p : Place = record { element = 0; row = 0 } in
+    let p : RowPlace = record { element = 0; row = 0 } in
     let within : k + 1 < length places = rw length-map at high in
     rw (number_at places (k + 1) d p within, number_at places k d p (omega arith))
     (not_less _ _ (sorted k (k + 1) p (omega arith) within))
 
 -- the elements of the places are those of the rows
-module _ (rows : List Restriction) (places : List Place) (placed : ArePlaces rows places) where
-  place_named : (x : ℕ) → Contains (map (λ (p : Place). p.element) places) x → Any (λ (r : Restriction). r.element ≡ x) rows
+module _ (rows : List Restriction) (places : List RowPlace) (placed : ArePlaces rows places) where
+  place_named : (x : ℕ) → Contains (map (λ (p : RowPlace). p.element) places) x → Any (λ (r : Restriction). r.element ≡ x) rows
   place_named x h =
-      let a = any_from_map (λ (p : Place). p.element) places h.0 x h.1 h.2 in
+      let a = any_from_map (λ (p : RowPlace). p.element) places h.0 x h.1 h.2 in
       let q = subst (IsPlaceOfRow rows) a.3 (placed.sound a.0 a.1 a.2) in
       (a.1.row, q.0, q.1, q.2, q.3 ∙ a.4)
 
-  named_place : (x : ℕ) → Any (λ (r : Restriction). r.element ≡ x) rows → Contains (map (λ (p : Place). p.element) places) x
+  named_place : (x : ℕ) → Any (λ (r : Restriction). r.element ≡ x) rows → Contains (map (λ (p : RowPlace). p.element) places) x
   named_place x a =
       let c = placed.each a.0 a.1 a.2 a.3 in
-      map_from_any (λ (p : Place). p.element) places c.0 x (record { element = a.1.element; row = a.0 }) c.1 c.2 a.4
+      map_from_any (λ (p : RowPlace). p.element) places c.0 x (record { element = a.1.element; row = a.0 }) c.1 c.2 a.4
 
-  pub are_elements : (elements : List ℕ) → IsSortedSet (map (λ (p : Place). p.element) places) elements
+  pub are_elements : (elements : List ℕ) → IsSortedSet (map (λ (p : RowPlace). p.element) places) elements
       → AreElements rows elements
   are_elements elements is = record {
     ascending = is.order;
@@ -156,9 +158,9 @@ module _ (rows : List Restriction) (places : List Place) (placed : ArePlaces row
   }
 
 -- so many cursors of 255 nodes are few enough to be united and complemented
-pub fewer : (all places : List Place) {rows : ℕ} → all ≡ places → length places ≡ rows → rows ≤ 65536 → length all ≤ 65536
+pub fewer : (all places : List RowPlace) {rows : ℕ} → all ≡ places → length places ≡ rows → rows ≤ 65536 → length all ≤ 65536
 fewer all places same many few = let l = ap length same in omega (arith, l, many, few)
 
-pub few_nodes : (n i : ℕ) (all : List Place) (from : ℕ) → i ≤ length (take (length all - from) (drop from all))
+pub few_nodes : (n i : ℕ) (all : List RowPlace) (from : ℕ) → i ≤ length (take (length all - from) (drop from all))
     → length all ≤ 65536 → n ≤ 256 * i → n ≤ 16777216
 few_nodes n i all from within few nodes = let l = simp (length-take, length-drop) at within in omega (arith, l)

@@ -1,12 +1,12 @@
 use Rattle.std.proofs.Common.{ltb, ltb-true, ltb-false, rules}
 use Rattle.std.proofs.lemmas.List.Sorted.{IsPartitionPoint-from_clause, IsPartitionedBy-ltb}
-use Rattle.gtd_records.specs.declared.index.Place.{Place}
+use Rattle.gtd_records.specs.declared.index.RowPlace.{RowPlace}
 use Rattle.gtd_records.proofs.index.places_below.Goals as goal
 
 pub returns : goal.returns
 returns c =
-    let parted = IsPartitionedBy-ltb (λ (p : Place). p.element) c.args.places.now c.args.element c.requires in
-    let point = IsPartitionPoint-from_clause (λ (p : Place). ltb p.element c.args.element) _ _
+    let parted = IsPartitionedBy-ltb (λ (p : RowPlace). p.element) c.args.places.now c.args.element c.requires in
+    let point = IsPartitionPoint-from_clause (λ (p : RowPlace). ltb p.element c.args.element) _ _
     c.partition_point.ensures.partitioned parted (λ a r q k. search rules) in
     record {
       within = search rules;

@@ -1,7 +1,7 @@
 use Rattle.std.proofs.Common.{◌≡◌, sym, subst, refl, arith, rules, length}
 use Rattle.std.proofs.lemmas.List.Sorted.{All-permutation, Contains-permutation, IsNonDecreasingBy-from_sort_by_key}
 use Rattle.gtd_records.specs.Index.{IsPlaceOfRow}
-use Rattle.gtd_records.specs.declared.index.Place.{Place}
+use Rattle.gtd_records.specs.declared.index.RowPlace.{RowPlace}
 use Rattle.gtd_records.specs.facts.IndexFacts.{at_index}
 use Rattle.gtd_records.proofs.index.places_of.Goals as goal
 
@@ -12,7 +12,7 @@ returns c =
     let all : c.loop-row.row ≡ length rows = omega arith in
     let moved = c.sort_unstable_by_key.ensures.permutation in
     record {
-      sorted = IsNonDecreasingBy-from_sort_by_key (λ (p : Place). p.element) _ c.sort_unstable_by_key.ensures.sorted
+      sorted = IsNonDecreasingBy-from_sort_by_key (λ (p : RowPlace). p.element) _ c.sort_unstable_by_key.ensures.sorted
           (λ a r q k. search rules);
       sound = All-permutation (IsPlaceOfRow rows) _ _ moved
           (λ k d h. let a = at_index rows k (omega arith) in

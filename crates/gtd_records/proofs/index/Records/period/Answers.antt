@@ -3,7 +3,7 @@ use Rattle.std.specs.Prelude.{slice_index_or}
 use Rattle.gtd_eval.specs.Periods.{RepeatsFrom}
 use Rattle.gtd_eval.specs.facts.PeriodFacts.{from-longer}
 use Rattle.gtd_records.specs.Closing.{Concerns, HoldsAt, Restriction}
-use Rattle.gtd_records.specs.declared.index.Place.{Place}
+use Rattle.gtd_records.specs.declared.index.RowPlace.{RowPlace}
 use Rattle.gtd_records.proofs.PeriodFacts.{all_repeat, so-far-longer}
 use Rattle.gtd_records.specs.facts.IndexFacts.{any_default, by_le, one_record, part_sound}
 use Rattle.gtd_records.proofs.FoundPlaces.{nowhere, seen_till_end, seen_till_other}
@@ -40,12 +40,12 @@ loop-place-preserved c =
     c.places_below-from.result i nowhere c.loop-place-test.true in
     let s = c.index-restriction.result.now in
     let old = c.loop-place.invariant in
-    let own : (k : ℕ) (d : Place) (r : Restriction) → k < i + 1 → i ≤ k
+    let own : (k : ℕ) (d : RowPlace) (r : Restriction) → k < i + 1 → i ≤ k
     → slice_index_or rows (slice_index_or part k d).row r ≡ r → r ≡ s =
     λ k d r lt ge is.
     let e : k ≡ i = omega arith in
     let at = ap (λ (n : ℕ). slice_index_or part n d) e ∙ any_default part i d nowhere c.loop-place-test.true in
-    one_record rows _ r s p.1 (subst (λ (q : Place). slice_index_or rows q.row r ≡ r) at is) c.index-restriction.ensures in
+    one_record rows _ r s p.1 (subst (λ (q : RowPlace). slice_index_or rows q.row r ≡ r) at is) c.index-restriction.ensures in
     elim c.if-concerns.branch [
       | then-concerns+in_ok-period w ↦
           rw w.longest-is (λ k d r lt is name concerns.
