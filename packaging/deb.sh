@@ -58,7 +58,7 @@ put_pages() {
 # The documents keep their folders, so that their links hold, and come with the pictures that they show.
 put_documents() {
     local folder
-    put 644 usr/share/doc/gtd "$top/README.md" "$top/CHANGELOG.md"
+    put 644 usr/share/doc/gtd "$top/README.md" "$top/CHANGELOG.md" "$top/STATEMENT.txt"
     put 644 usr/share/doc/gtd/docs "$top"/docs/*.md
     for folder in pictures pictures/words pictures/hours; do
         put 644 "usr/share/doc/gtd/docs/$folder" "$top/docs/$folder"/*.svg

@@ -103,6 +103,7 @@ def measured():
         yield f"files of {shown} that name one command of `{program}`", len(naming(words, owners))
     yield f"files of the smallest report, `{REPORT}`", len(code_of(REPORT))
     yield "bytes of the documents (README, CONTRIBUTING, `docs/`)", sum(len(text_of(it).encode()) for it in documents)
+    yield "bytes of the printed definitions, `STATEMENT.txt`", len(text_of("STATEMENT.txt").encode())
 
 
 def number_of(line):

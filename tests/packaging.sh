@@ -108,7 +108,7 @@ install_it() {
     for name in gtd gtdesk; do
         succeeds "$name is the proved one" cmp "$root/usr/bin/$name" "$top/crates/$name/out/$name"
     done
-    for file in README.md docs/TUTORIAL.md docs/COMMANDS.md examples/restrictions.csv examples/planner/network.csv; do
+    for file in README.md STATEMENT.txt docs/TUTORIAL.md docs/COMMANDS.md examples/restrictions.csv examples/planner/network.csv; do
         succeeds "documents: $file" test -s "$root/usr/share/doc/gtd/$file"
     done
     gives 'the pictures that the documents show' '' missing_pictures

@@ -3,16 +3,15 @@
 
 Starts at the clause `headline` of `run_schedule` and follows each name that a definition uses (tests/definitions.py). Counts the
 lines of the definitions, without comments and blank lines, and those of the types, models and traits that they name; and for the
-claims of the other runs what each asks beyond the headline. docs/PROOF.md holds the whole statement as its last part.
+claims of the other runs what each asks beyond the headline. STATEMENT.txt is the whole statement.
 
-Fails if a sum is over its limit; if docs/PROOF.md or README.md tells other numbers; if docs/PROOF.md prints something else, or
-more than its pages; if a name is not found; if a definition is among the lemmas, in specs/facts/; or if a file of specs/ cites a
-lemma.
+Fails if a sum is over its limit; if docs/PROOF.md or README.md tells other numbers; if STATEMENT.txt is something else, or more
+than its pages; if a name is not found; if a definition is among the lemmas, in specs/facts/; or if a file of specs/ cites a lemma.
 
 Usage: tests/statement.py [--print | --list | --write]
-  --print   prints the statement, as docs/PROOF.md must have it
+  --print   prints the statement, as STATEMENT.txt must have it
   --list    prints each definition with its place
-  --write   puts the statement and the counts into docs/PROOF.md
+  --write   writes STATEMENT.txt, and the counts into docs/PROOF.md
 """
 import os
 import sys
@@ -31,12 +30,17 @@ CLAIMS = [
     ("a file of opening hours", ("gtd_hours_file", "src/run.rt", "run_hours_records", ("stands",))),
 ]
 MOST_LINES, MOST_FILES, MOST_WITH_TYPES = 420, 20, 600
+HEAD = [
+    "-- What must be believed of the headline: each definition that it rests on, once. docs/PROOF.md says how to read it.",
+    "-- Made by tests/statement.py --write, which also checks it.",
+    "",
+]
 # A page of A4 takes 105 lines of 130 characters in a print of 7 points.
 PAGE_LINES, MOST_PAGES = 105, 12
 README = os.path.join(TOP, "README.md")
 DOCUMENT = os.path.join(TOP, "docs", "PROOF.md")
 COUNTS = ("<!-- the counts of tests/statement.py -->", "<!-- end of the counts -->")
-PRINT = ("<!-- the print of tests/statement.py -->", "<!-- end of the print -->")
+PRINT = os.path.join(TOP, "STATEMENT.txt")
 
 
 class Sums:
@@ -143,6 +147,11 @@ def the_print(statement):
     return lines
 
 
+def printed(statement):
+    """The text of STATEMENT.txt."""
+    return "\n".join(HEAD + the_print(statement)) + "\n"
+
+
 def the_counts(statement):
     """The table of the sums, as docs/PROOF.md has it."""
     rows = ["| Claim | Lines of definitions | in files | Lines of types |", "|---|---|---|---|"]
@@ -176,8 +185,8 @@ def faults(statement, sums, counts, pages):
     document = open(DOCUMENT, encoding="utf-8").read()
     if held(document, COUNTS) != counts:
         yield "docs/PROOF.md has other counts: tests/statement.py --write"
-    if held(document, PRINT) != ["```text"] + the_print(statement) + ["```"]:
-        yield "docs/PROOF.md prints something else: tests/statement.py --write"
+    if open(PRINT, encoding="utf-8").read() != printed(statement):
+        yield "STATEMENT.txt is something else: tests/statement.py --write"
     for path in sorted({it.path for it in statement.reached.values()}):
         if "/specs/facts/" in path:
             yield "a definition stands among lemmas: " + path
@@ -194,7 +203,7 @@ def main():
     statement = statement_of(*HEADLINE)
     words = sys.argv[1:]
     if "--print" in words:
-        print("\n".join(the_print(statement)))
+        print(printed(statement), end="")
         return 0
     if "--list" in words:
         for it in sorted(statement.reached.values(), key=lambda it: (it.path, it.first)):
@@ -203,12 +212,11 @@ def main():
     counts = the_counts(statement)
     if "--write" in words:
         text = open(DOCUMENT, encoding="utf-8").read()
-        text = with_held(text, COUNTS, counts)
-        text = with_held(text, PRINT, ["```text"] + the_print(statement) + ["```"])
-        open(DOCUMENT, "w", encoding="utf-8").write(text)
+        open(DOCUMENT, "w", encoding="utf-8").write(with_held(text, COUNTS, counts))
+        open(PRINT, "w", encoding="utf-8").write(printed(statement))
         return 0
     sums = Sums(list(statement.reached.values()))
-    length = len(the_print(statement))
+    length = len(printed(statement).split("\n")) - 1
     pages = -(-length // PAGE_LINES)
     failures = list(faults(statement, sums, counts, pages))
     for fault in failures:
