@@ -5,7 +5,9 @@ ghost use Rattle.gtd_hours.specs.Ranges.{IsDatedRange, IsMonth, IsMonthDay, IsTi
 ghost use Rattle.gtd_hours.specs.Ranges.{IsWeeks, IsYearDate, IsYears};
 
 use crate::dated::is_dated_range;
-use crate::hours::{Dated, MonthDay, Months, WeekdayPlace, TimeRange, Weekdays, Weeks, YearDate, Years};
+use crate::hours::{
+    Dated, MonthDay, Months, TimeRange, WeekdayPlace, Weekdays, Weeks, YearDate, Years,
+};
 use gtd_calendar::day_of;
 
 impl Years {

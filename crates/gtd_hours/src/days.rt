@@ -11,7 +11,7 @@ ghost use Rattle.gtd_hours.specs.declared.hours.Selector.TheVariants as selector
 use crate::clock::Clock;
 use crate::dated::dated_days;
 use crate::dates::{date_days, month_days};
-use crate::hours::{Kind, WeekdayPlace, Selector, Weekdays};
+use crate::hours::{Kind, Selector, WeekdayPlace, Weekdays};
 use crate::leaf::{NO_PARTS, each_day, join, nothing};
 use crate::numbers::{week_days, year_days};
 use gtd_core::{Expr, Op, StartParts};

@@ -7,8 +7,8 @@
 
 pub use cost::cost_of;
 pub use hours::{
-    Dated, Dates, Hours, Kind, Link, Modifier, MonthDay, Months, WeekdayPlace, Rule, Selector, TimeRange,
-    Weekdays, Weeks, YearDate, Years,
+    Dated, Dates, Hours, Kind, Link, Modifier, MonthDay, Months, Rule, Selector, TimeRange,
+    WeekdayPlace, Weekdays, Weeks, YearDate, Years,
 };
 pub use printer::print_hours;
 pub use translate::{TranslationFault, domain_of};

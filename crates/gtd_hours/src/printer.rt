@@ -9,8 +9,8 @@ ghost use Rattle.gtd_hours.specs.Written.{selector_text, spans_text, step_text, 
 ghost use Rattle.gtd_hours.specs.Written.{weekday_name, weekdays_text, weeks_text, year_date_text, years_text};
 
 use crate::hours::{
-    Dated, Dates, Hours, Kind, Link, Modifier, MonthDay, Months, WeekdayPlace, Rule, Selector, TimeRange,
-    Weekdays, Weeks, YearDate, Years,
+    Dated, Dates, Hours, Kind, Link, Modifier, MonthDay, Months, Rule, Selector, TimeRange,
+    WeekdayPlace, Weekdays, Weeks, YearDate, Years,
 };
 use itoa::Buffer;
 use std::alloc::{AllocError, Global};

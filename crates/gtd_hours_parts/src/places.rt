@@ -7,7 +7,7 @@ ghost use Rattle.gtd_hours.specs.declared.hours.Selector.TheVariants as selector
 ghost use Rattle.gtd_hours_parts.specs.Numbers.{IsPlaceNumber};
 
 use crate::digits::Digits;
-use gtd_hours::{WeekdayPlace, Selector};
+use gtd_hours::{Selector, WeekdayPlace};
 
 fn place(weekday: u8, number: Digits) -> Option<WeekdayPlace>
     ensures kept { IfSome result (λ x. (x.weekday ≡ weekday) × (x.number ≡ number.value)) }

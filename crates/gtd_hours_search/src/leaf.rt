@@ -14,7 +14,7 @@ use crate::dates::{dates_from, months_from};
 use crate::weekdays::weekdays_of;
 use gtd_calendar::{day_of, fields};
 use gtd_core::{Basic, DurationParts, StartParts};
-use gtd_hours::{Dated, WeekdayPlace, Selector, Weeks, YearDate, Years};
+use gtd_hours::{Dated, Selector, WeekdayPlace, Weeks, YearDate, Years};
 
 /// The last day of the calendar: 2799-12-31.
 const LAST_CALENDAR_DAY: i64 = 303_150;

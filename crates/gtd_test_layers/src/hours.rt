@@ -1,6 +1,8 @@
 //! Values of opening hours that are out of their ranges. Worked texts are in `tests/rows/desk_hour_texts.rows`.
 
-use gtd_hours::{Dated, MonthDay, Months, WeekdayPlace, TimeRange, Weekdays, Weeks, YearDate, Years};
+use gtd_hours::{
+    Dated, MonthDay, Months, TimeRange, WeekdayPlace, Weekdays, Weeks, YearDate, Years,
+};
 
 #[test]
 fn parts_out_of_range(rt: HostRuntime) {
