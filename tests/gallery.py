@@ -22,7 +22,7 @@ HEAD = ["| Opening hours | Who writes it | A year |\n", "|---|---|---|\n"]
 YEAR = "2024"
 FEWEST = 30
 OPERATORS = {"+": "_or_", "*": "_and_", "-": "_except_"}
-WORDS_ROW = re.compile(r'\| `([^`]+)` \|.*<img src="pictures/words/.*\n')
+WORDS_ROW = re.compile(r'\| `([^`]+)` \|.*<img src=pictures/words/.*\n')
 
 check = Checks("gallery")
 
@@ -38,7 +38,7 @@ def name_of(domain):
 
 
 def cell_of(name):
-    return f'<img src="pictures/{name}" width="414">'
+    return f"<img src=pictures/{name} width=414>"
 
 
 def words_row(domain):

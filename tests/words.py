@@ -242,7 +242,7 @@ def rows():
                 for domain, said in zip(cells[::2], cells[1::2]):
                     yield domain, said.replace("\\n", "\n")
     with open(os.path.join(TOP, "docs", "GALLERY.md"), encoding="utf-8") as file:
-        for domain, said in re.findall(r'^\| `([^`]+)` \| (.*) \| <img src="pictures/words/', file.read(), re.M):
+        for domain, said in re.findall(r'^\| `([^`]+)` \| (.*) \| <img src=pictures/words/', file.read(), re.M):
             yield domain, said.replace("<br>", "\n").replace("&emsp;", "    ")
 
 
