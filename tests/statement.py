@@ -30,11 +30,7 @@ CLAIMS = [
     ("a file of opening hours", ("gtd_hours_file", "src/run.rt", "run_hours_records", ("stands",))),
 ]
 MOST_LINES, MOST_FILES, MOST_WITH_TYPES = 420, 20, 600
-HEAD = [
-    "-- What must be believed of the headline: each definition that it rests on, once. docs/PROOF.md says how to read it.",
-    "-- Made by tests/statement.py --write, which also checks it.",
-    "",
-]
+HEAD = os.path.join(TOP, "tests", "statement_head.txt")
 # A page of A4 takes 105 lines of 130 characters in a print of 7 points.
 PAGE_LINES, MOST_PAGES = 105, 12
 README = os.path.join(TOP, "README.md")
@@ -148,8 +144,9 @@ def the_print(statement):
 
 
 def printed(statement):
-    """The text of STATEMENT.txt."""
-    return "\n".join(HEAD + the_print(statement)) + "\n"
+    """The text of STATEMENT.txt: how to read it, and the print."""
+    with open(HEAD, encoding="utf-8") as file:
+        return file.read() + "\n".join(the_print(statement)) + "\n"
 
 
 def the_counts(statement):
