@@ -1,3 +1,4 @@
 pub mod Alone
 pub mod Ever
+pub mod Inclusion
 pub mod Parts

@@ -1,6 +1,6 @@
 -- Seconds that are in one of two sets alone, and how the seconds of two domains compare.
 use Rattle.std.specs.Prelude.{ℤ, pos, ◌*ℤ◌, ◌<ℤ◌, ◌≤ℤ◌, ◌↔◌, ◌⊎◌, int_lt, if◌then◌else◌, Option, Some, None}
-use Rattle.gtd_core.specs.Limits.{day_seconds, horizons_end}
+use Rattle.gtd_core.specs.Limits.{day_seconds, first_horizon_day, horizons_end}
 use Rattle.gtd_core.specs.Parts.{domain_tree}
 use Rattle.gtd_core.specs.declared.domain.Domain.{Domain}
 use Rattle.gtd_core.specs.declared.second.Sec.{Sec}
@@ -10,6 +10,10 @@ use Rattle.gtd_difference.specs.declared.comparison.Comparison.{Comparison}
 use Rattle.gtd_difference.specs.declared.comparison.Comparison.TheVariants.{Same, SameUntil2700, Apart as Differ}
 use Rattle.gtd_difference.specs.declared.comparison.Side.{Side}
 use Rattle.gtd_difference.specs.declared.comparison.Side.TheVariants.{First, Second}
+
+-- 1901-01-01T00:00:00
+abbrev pub first_begin : ℤ
+first_begin = first_horizon_day *ℤ pos day_seconds
 
 -- 2700-01-01T00:00:00
 abbrev pub last_end : ℤ
@@ -22,6 +26,10 @@ Agree P Q = (t : ℤ) → P t ↔ Q t
 -- each second from `from` on and before `until` is in both sets or in neither
 abbrev pub AgreeFrom : (ℤ → Type 0) → (ℤ → Type 0) → ℤ → ℤ → Type 0
 AgreeFrom P Q from until = (t : ℤ) → from ≤ℤ t → t <ℤ until → P t ↔ Q t
+
+-- each second of P is in Q, too
+abbrev pub IsWithin : (ℤ → Type 0) → (ℤ → Type 0) → Type 0
+IsWithin P Q = (t : ℤ) → P t → Q t
 
 -- the second is in that one of the two sets alone
 abbrev pub IsAlone : Side → (ℤ → Type 0) → (ℤ → Type 0) → ℤ → Type 0

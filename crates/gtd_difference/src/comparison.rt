@@ -52,7 +52,7 @@ pub enum Comparison {
 }
 
 // Whether some start of the expression gives a year.
-fn gives_year(expr: &Expr) -> bool
+pub(crate) fn gives_year(expr: &Expr) -> bool
     ensures given { IsTrue result ↔ SomeGivesYear (tree_of expr.now) }
 {
     match expr {
@@ -62,7 +62,7 @@ fn gives_year(expr: &Expr) -> bool
 }
 
 // The days after which two domains without years repeat, 7 or the 146,097 of 400 years, and one more.
-fn days_to_repeat(first: &Domain, second: &Domain) -> i64
+pub(crate) fn days_to_repeat(first: &Domain, second: &Domain) -> i64
     ensures days { (result ≡ pos most_horizon_days)
         ⊎ ((result ≡ pos 8) × AllWeekly (domain_tree first.now) × AllWeekly (domain_tree second.now)) }
 {
@@ -74,7 +74,7 @@ fn days_to_repeat(first: &Domain, second: &Domain) -> i64
 }
 
 // The days from one up to but not including another.
-fn days_between(from_day: i64, to_day: i64) -> Horizon
+pub(crate) fn days_between(from_day: i64, to_day: i64) -> Horizon
     requires days { IsHorizon from_day to_day }
     ensures first { spec.from_day result ≡ from_day }
     ensures last { spec.to_day result ≡ to_day }

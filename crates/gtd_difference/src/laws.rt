@@ -5,7 +5,8 @@ ghost use Rattle.gtd_core.specs.Parts.{domain_tree};
 ghost use Rattle.gtd_core.specs.declared.domain.Domain.{Domain};
 ghost use Rattle.gtd_eval.specs.Membership.{InDomain};
 ghost use Rattle.gtd_text.specs.Canonical.{canonical};
-ghost use Rattle.gtd_difference.specs.Difference.{Agree, AgreeFrom, IsComparison};
+ghost use Rattle.gtd_difference.specs.Difference.{Agree, AgreeFrom, EitherGivesYear, HasNoneAlone, IsComparison};
+ghost use Rattle.gtd_difference.specs.Difference.{IsWithin, first_begin, last_end};
 ghost use Rattle.gtd_difference.specs.declared.comparison.Comparison.{Comparison};
 
 use gtd_text::laws::canonical_text_of_domain;
@@ -38,4 +39,12 @@ pub fn equal_texts_agree()
 /// Two domains compare in exactly one way from a second on.
 pub fn one_comparison()
     ensures only { (a b : Domain) (from : ℤ) (x y : Comparison) → IsComparison a b from x → IsComparison a b from y → x ≡ y }
+{}
+
+/// What two domains without years say of the seconds from 1901-01-01 up to 2700-01-01 they say of all time.
+pub fn ever()
+    ensures same { (a b : Domain) → (EitherGivesYear a b → ⊥)
+        → AgreeFrom (InDomain a) (InDomain b) first_begin last_end → Agree (InDomain a) (InDomain b) }
+    ensures within { (a b : Domain) → (EitherGivesYear a b → ⊥)
+        → HasNoneAlone (InDomain a) (InDomain b) first_begin last_end → IsWithin (InDomain a) (InDomain b) }
 {}

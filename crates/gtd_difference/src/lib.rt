@@ -1,8 +1,11 @@
-//! Whether two domains have the same seconds, and if not, the first second that one of them has alone.
+//! Whether two domains have the same seconds, and if not, the first second that one of them has alone; and whether each second of
+//! one is in the other.
 #![tactic(auto)]
 
 pub use comparison::{Apart, Comparison, Side, compare};
+pub use within::is_within;
 
 mod comparison;
 mod first;
 pub mod laws;
+mod within;
