@@ -5,10 +5,10 @@ use Rattle.std.specs.Prelude.{◌==◌, codes, decimal}
 use Rattle.std.specs.Char.{is_ascii_digit}
 use Rattle.std.proofs.lemmas.Bool.{false≢true, eq-eqb}
 use Rattle.std.proofs.lemmas.List.{append_cancel_left}
-use Rattle.gtd_words.specs.declared.anchor.Anchor.{Anchor}
-use Rattle.gtd_words.specs.declared.anchor.Anchor.TheVariants.{Day, Place, PlaceBack, Weekdays, EveryDay, TheMonday, Beginning}
-use Rattle.gtd_words.specs.Names.{place_names, place_name, weekday_name, weekdays_words, place_words, back_words}
-use Rattle.gtd_words.specs.Names.{ordinal_ending}
+use Rattle.gtd_ends.specs.declared.anchor.Anchor.{Anchor}
+use Rattle.gtd_ends.specs.declared.anchor.Anchor.TheVariants.{Day, Place, PlaceBack, Weekdays, EveryDay, TheMonday, Beginning}
+use Rattle.gtd_words.specs.Names.{back_words, ordinal_ending, place_name, place_names, place_words, weekday_name}
+use Rattle.gtd_words.specs.Names.{weekdays_words}
 use Rattle.gtd_words.specs.Starts.{anchor_words, day_words, is_in_month, lead_words, named_lead}
 use Rattle.gtd_words.proofs.Prefixes.{Both, NoDigit, Digit, head, tail, no_way, decimal_then, first_digit, of_name}
 use Rattle.gtd_words.proofs.WeekdayLists.{and_days, DaysOf, RunOf, from_day, of_weekday}

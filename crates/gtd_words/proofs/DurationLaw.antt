@@ -9,19 +9,19 @@ use Rattle.std.proofs.lemmas.Fmt.{decimal_digit}
 use Rattle.gtd_core.specs.declared.start.StartParts.{StartParts}
 use Rattle.gtd_core.specs.declared.duration.DurationParts.{DurationParts}
 use Rattle.gtd_core.specs.Ranges.{IsStart, IsDuration, HasSixDigits}
-use Rattle.gtd_words.specs.declared.end.End.{End}
-use Rattle.gtd_words.specs.Starts.{anchor_of, has_clock, start_words}
-use Rattle.gtd_words.specs.Durations.{number_words, numbers_words, date_numbers, clock_numbers, date_sum, clock_sum, date_words}
-use Rattle.gtd_words.specs.Durations.{clock_part_words, duration_words}
-use Rattle.gtd_words.specs.Endings.{end_words, ending, for_words, is_all_day, is_beginning, is_written, rest_words, tail_words}
-use Rattle.gtd_words.specs.Endings.{until_words, usual}
-use Rattle.gtd_words.specs.Ends.{IsEnd}
+use Rattle.gtd_ends.specs.declared.end.End.{End}
+use Rattle.gtd_ends.specs.Anchors.{anchor_of, has_clock}
+use Rattle.gtd_ends.specs.Endings.{ending, is_all_day, is_beginning, is_written, usual}
+use Rattle.gtd_ends.specs.Ends.{IsEnd}
+use Rattle.gtd_words.specs.Durations.{clock_numbers, clock_part_words, clock_sum, date_numbers, date_sum, date_words}
+use Rattle.gtd_words.specs.Durations.{duration_words, number_words, numbers_words}
+use Rattle.gtd_words.specs.Starts.{start_words}
+use Rattle.gtd_words.specs.Untils.{end_words, for_words, rest_words, tail_words, until_words}
 use Rattle.gtd_words.specs.Words.{basic_words}
 use Rattle.gtd_words.proofs.Prefixes.{Both, NoDigit, head, tail, apart, no_way, decimal_then}
 use Rattle.gtd_words.proofs.Prefixes.{first_digit}
 use Rattle.gtd_words.proofs.Clocks.{Next}
 use Rattle.gtd_words.proofs.EndWords.{end_then}
-use Rattle.gtd_words.proofs.EndRanges.{is_end}
 use Rattle.gtd_words.proofs.StartLaw.{start_then}
 
 -- ---- one number
@@ -464,12 +464,17 @@ basic_is x d r =
 next_of : (x : StartParts) (d : DurationParts) (r : List ℕ) → Next (rest_of x d r)
 next_of x d r = next_by (is_all_day x d) (alone x d) d (ending x d) r (is_alone x d (ending x d))
 
-pub basic_then : (x y : StartParts) (d e : DurationParts) (r s : List ℕ) → IsStart x → IsStart y → IsDuration d → IsDuration e
+-- The numbers of each end are in their ranges.
+abbrev pub InRange : Type 0
+InRange = (start : StartParts) (duration : DurationParts) → IsStart start → IsDuration duration
+    → IfSome (ending start duration) IsEnd
+
+pub basic_then : InRange → (x y : StartParts) (d e : DurationParts) (r s : List ℕ) → IsStart x → IsStart y → IsDuration d → IsDuration e
     → basic_words x d ++ (codes "\n" ++ r) ≡ basic_words y e ++ (codes "\n" ++ s) → SameBasic x d y e r s
-basic_then x y d e r s p q h k same =
+basic_then ends x y d e r s p q h k same =
     let first = start_then (named x d) (named y e) x y (rest_of x d r) (rest_of y e s) p q (next_of x d r) (next_of y e s)
     (sym (basic_is x d r) ∙ same ∙ basic_is y e s) in
     let second = rest_by_then (is_all_day x d) (alone x d) (is_all_day x e) (alone x e) x d e r s refl refl refl refl h k
-    (is_end x d p h) (is_end x e p k) (is_alone x d (ending x d)) (is_alone x e (ending x e))
+    (ends x d p h) (ends x e p k) (is_alone x d (ending x d)) (is_alone x e (ending x e))
     (first.1 ∙ ap (λ (z : StartParts). rest_of z e s) (sym first.0)) in
     record { start = first.0; duration = second.0; rest = second.1 }

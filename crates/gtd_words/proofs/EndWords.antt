@@ -5,11 +5,11 @@ use Rattle.std.specs.Prelude.{◌==◌, ◌&&◌, not, codes, decimal, IfSome}
 use Rattle.std.specs.Char.{is_ascii_digit}
 use Rattle.std.proofs.lemmas.Bool.{false≢true, eq-eqb, eqb-true, ne_eqb, and_parts}
 use Rattle.std.proofs.lemmas.List.{append_cancel_left}
-use Rattle.gtd_words.specs.declared.end.End.{End}
-use Rattle.gtd_words.specs.declared.end.End.TheVariants.{Clock, Weekday, Date, WithWeekday, WithDate, WithFebruary}
-use Rattle.gtd_words.specs.Endings.{date_words, day_after, end_words, time_words, until_words}
-use Rattle.gtd_words.specs.Ends.{IsEnd}
+use Rattle.gtd_ends.specs.declared.end.End.{End}
+use Rattle.gtd_ends.specs.declared.end.End.TheVariants.{Clock, Weekday, Date, WithWeekday, WithDate, WithFebruary}
+use Rattle.gtd_ends.specs.Ends.{IsEnd}
 use Rattle.gtd_words.specs.Names.{month_name, month_names, two_digits, weekday_name, weekday_names}
+use Rattle.gtd_words.specs.Untils.{date_words, day_after, end_words, time_words, until_words}
 use Rattle.gtd_words.proofs.Prefixes.{AreDigits, Both, are_digits, decimal_then, digit, first_digit, head, name_then}
 use Rattle.gtd_words.proofs.Prefixes.{no_way, of_name}
 use Rattle.gtd_words.proofs.Prefixes.{split_digits, tail, two_then}

@@ -9,8 +9,4 @@ pub mod DurationLaw
 pub mod WordsLaw
 pub mod EndWords
 pub mod PlainWords
-pub mod DayFacts
-pub mod Dates
-pub mod EndTimes
-pub mod EndRanges
 pub mod EndLaws

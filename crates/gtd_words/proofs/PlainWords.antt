@@ -5,19 +5,19 @@ use Rattle.std.specs.Prelude.{◌==◌, ◌||◌, codes, decimal, IfSome}
 use Rattle.gtd_core.specs.Ranges.{IsStart, IsDuration, IsWithin}
 use Rattle.gtd_core.specs.declared.start.StartParts.{StartParts}
 use Rattle.gtd_core.specs.declared.duration.DurationParts.{DurationParts}
-use Rattle.gtd_words.specs.declared.anchor.Anchor.{Anchor}
-use Rattle.gtd_words.specs.declared.anchor.Anchor.TheVariants.{Day, Place, PlaceBack, Weekdays, EveryDay, TheMonday, Beginning}
-use Rattle.gtd_words.specs.Names.{back_name, back_names, back_words, four_digits, month_name, ordinal_ending}
-use Rattle.gtd_words.specs.Names.{place_name, place_names, place_words, two_digits, weekday_if_set, weekday_joint, weekday_name}
-use Rattle.gtd_words.specs.Names.{run_of, run_words, weekday_list, weekdays_words}
-use Rattle.gtd_words.specs.Starts.{also_back, also_place, also_weekdays, anchor_from, anchor_of, anchor_words, back_condition}
-use Rattle.gtd_words.specs.Starts.{clock_words, condition_words, day_words, has_clock, is_given}
-use Rattle.gtd_words.specs.Starts.{is_in_month, lead_words, month_words, of_hour, of_hours, period_words}
-use Rattle.gtd_words.specs.Starts.{place_condition, second_words, seconds_words, start_words, week_words, weekdays_condition}
-use Rattle.gtd_words.specs.Starts.{year_words}
-use Rattle.gtd_words.specs.Durations.{clock_numbers, clock_part_words, date_numbers, date_sum, date_words, duration_words}
-use Rattle.gtd_words.specs.Durations.{clock_sum, number_words, numbers_words}
-use Rattle.gtd_words.specs.Endings.{for_words}
+use Rattle.gtd_ends.specs.declared.anchor.Anchor.{Anchor}
+use Rattle.gtd_ends.specs.declared.anchor.Anchor.TheVariants.{Day, Place, PlaceBack, Weekdays, EveryDay, TheMonday, Beginning}
+use Rattle.gtd_ends.specs.Anchors.{anchor_from, anchor_of, has_clock, is_given}
+use Rattle.gtd_words.specs.Durations.{clock_numbers, clock_part_words, clock_sum, date_numbers, date_sum, date_words}
+use Rattle.gtd_words.specs.Durations.{duration_words, number_words, numbers_words}
+use Rattle.gtd_words.specs.Names.{back_name, back_names, back_words, four_digits, month_name, ordinal_ending, place_name}
+use Rattle.gtd_words.specs.Names.{place_names, place_words, run_of, run_words, two_digits, weekday_if_set, weekday_joint}
+use Rattle.gtd_words.specs.Names.{weekday_list, weekday_name, weekdays_words}
+use Rattle.gtd_words.specs.Starts.{also_back, also_place, also_weekdays, anchor_words, back_condition, clock_words}
+use Rattle.gtd_words.specs.Starts.{condition_words, day_words, is_in_month, lead_words, month_words, of_hour, of_hours}
+use Rattle.gtd_words.specs.Starts.{period_words, place_condition, second_words, seconds_words, start_words, week_words}
+use Rattle.gtd_words.specs.Starts.{weekdays_condition, year_words}
+use Rattle.gtd_words.specs.Untils.{for_words}
 use Rattle.gtd_words.proofs.EndWords.{no_letter, plain, plain-append, plain-cons, plain-decimal, plain-if, plain-month}
 use Rattle.gtd_words.proofs.EndWords.{plain-two, plain-weekday}
 use Rattle.gtd_words.proofs.Prefixes.{of_name}

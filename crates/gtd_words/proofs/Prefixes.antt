@@ -6,7 +6,7 @@ use Rattle.std.specs.Char.{is_ascii_digit}
 use Rattle.std.proofs.lemmas.Bool.{false≢true, eqb-true, eqb-false, and_parts, le-leb}
 use Rattle.std.proofs.lemmas.List.{append_cancel_left}
 use Rattle.std.proofs.lemmas.Fmt.{decimal_by_steps, decimal_injective, decimal_nonempty}
-use Rattle.gtd_words.specs.Names.{name_from, two_digits, four_digits}
+use Rattle.gtd_words.specs.Names.{four_digits, name_from, two_digits}
 
 abbrev pub Both : {A : Type 0} → A → A → List ℕ → List ℕ → Type 0
 Both a b r s = (a ≡ b) × (r ≡ s)

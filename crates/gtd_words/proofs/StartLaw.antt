@@ -5,11 +5,12 @@ use Rattle.std.specs.Prelude.{◌==◌, IfSome}
 use Rattle.std.proofs.lemmas.Bool.{false≢true, eqb-true, eqb-false}
 use Rattle.gtd_core.specs.declared.start.StartParts.{StartParts}
 use Rattle.gtd_core.specs.Ranges.{IsStart, IsWithin}
-use Rattle.gtd_words.specs.declared.anchor.Anchor.{Anchor}
-use Rattle.gtd_words.specs.declared.anchor.Anchor.TheVariants.{Day, Place, PlaceBack, Weekdays, EveryDay, TheMonday, Beginning}
-use Rattle.gtd_words.specs.Starts.{anchor_from, anchor_of, anchor_words, also_back, also_place, also_weekdays, back_condition}
-use Rattle.gtd_words.specs.Starts.{clock_words, condition_words, has_clock, is_given, is_in_month, lead_words, month_words}
-use Rattle.gtd_words.specs.Starts.{period_words, place_condition, start_words, week_words, weekdays_condition, year_words}
+use Rattle.gtd_ends.specs.declared.anchor.Anchor.{Anchor}
+use Rattle.gtd_ends.specs.declared.anchor.Anchor.TheVariants.{Day, Place, PlaceBack, Weekdays, EveryDay, TheMonday, Beginning}
+use Rattle.gtd_ends.specs.Anchors.{anchor_from, anchor_of, has_clock, is_given}
+use Rattle.gtd_words.specs.Starts.{also_back, also_place, also_weekdays, anchor_words, back_condition, clock_words}
+use Rattle.gtd_words.specs.Starts.{condition_words, is_in_month, lead_words, month_words, period_words, place_condition}
+use Rattle.gtd_words.specs.Starts.{start_words, week_words, weekdays_condition, year_words}
 use Rattle.gtd_words.proofs.Prefixes.{Both}
 use Rattle.gtd_words.proofs.Anchors.{IsAnchor, lead_then, anchor_then}
 use Rattle.gtd_words.proofs.Clocks.{IsClock, Next, SameClock, clock_then, clock_rank}

@@ -5,9 +5,9 @@ use Rattle.std.specs.Prelude.{◌==◌, codes, decimal, IfSome}
 use Rattle.std.specs.Char.{is_ascii_digit}
 use Rattle.std.proofs.lemmas.Bool.{false≢true, eqb-true, eqb-false}
 use Rattle.std.proofs.lemmas.List.{append_cancel_left}
-use Rattle.gtd_words.specs.Names.{month_names, month_name, place_names, place_name, back_names, back_name, place_words}
-use Rattle.gtd_words.specs.Names.{back_words, weekday_name, weekdays_words, four_digits}
-use Rattle.gtd_words.specs.Starts.{month_words, week_words, year_words, also_place, also_back, also_weekdays}
+use Rattle.gtd_words.specs.Names.{back_name, back_names, back_words, four_digits, month_name, month_names, place_name}
+use Rattle.gtd_words.specs.Names.{place_names, place_words, weekday_name, weekdays_words}
+use Rattle.gtd_words.specs.Starts.{also_back, also_place, also_weekdays, month_words, week_words, year_words}
 use Rattle.gtd_words.proofs.Prefixes.{Both, Digit, head, tail, no_way, decimal_then, four_then, four_first}
 use Rattle.gtd_words.proofs.Prefixes.{name_then, not_named, of_name}
 use Rattle.gtd_words.proofs.WeekdayLists.{weekday_then, Differs, and_days_then, or_days_then}

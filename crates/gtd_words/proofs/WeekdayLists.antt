@@ -4,7 +4,7 @@ use Rattle.std.proofs.Common.{[], ◌∷◌, ◌++◌, refl, sym, ap, ◌∙◌,
 use Rattle.std.specs.Prelude.{◌==◌, ◌&&◌, codes, nat_le}
 use Rattle.std.proofs.lemmas.List.{append_cancel_left}
 use Rattle.std.proofs.lemmas.Bool.{false≢true, eqb-true, and_parts, leb-true, cases_order}
-use Rattle.gtd_words.specs.Names.{run_of, runs, weekday_names, weekday_name, weekday_if_set, weekday_list, weekdays_words}
+use Rattle.gtd_words.specs.Names.{run_of, runs, weekday_if_set, weekday_list, weekday_name, weekday_names, weekdays_words}
 use Rattle.gtd_words.proofs.Prefixes.{Both, apart, tail, no_way, name_then, EachName, of_name}
 
 pub weekday_then : (m n : ℕ) (r s : List ℕ) → 1 ≤ m → m ≤ 7 → 1 ≤ n → n ≤ 7 → weekday_name m ++ r ≡ weekday_name n ++ s

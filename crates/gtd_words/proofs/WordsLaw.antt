@@ -10,14 +10,15 @@ use Rattle.gtd_core.specs.declared.domain.Op.{Op}
 use Rattle.gtd_core.specs.declared.domain.Op.TheVariants.{Union, Meet, Minus}
 use Rattle.gtd_core.specs.Ranges.{IsStart, IsDuration}
 use Rattle.gtd_core.specs.Trees.{Tree, Single, Joined, AreValid}
-use Rattle.gtd_words.specs.declared.anchor.Anchor.{Anchor}
-use Rattle.gtd_words.specs.declared.anchor.Anchor.TheVariants.{Weekdays, EveryDay}
+use Rattle.gtd_ends.specs.declared.anchor.Anchor.{Anchor}
+use Rattle.gtd_ends.specs.declared.anchor.Anchor.TheVariants.{Weekdays, EveryDay}
+use Rattle.gtd_ends.specs.Anchors.{anchor_of, has_clock, is_given}
 use Rattle.gtd_words.specs.Names.{weekdays_words}
-use Rattle.gtd_words.specs.Starts.{anchor_of, anchor_words, has_clock, is_given, lead_words}
+use Rattle.gtd_words.specs.Starts.{anchor_words, lead_words}
 use Rattle.gtd_words.specs.Words.{basic_words, indent, lead_words as op_lead, lines, op_words, words}
 use Rattle.gtd_words.proofs.Prefixes.{Both, head, no_way}
 use Rattle.gtd_words.proofs.StartLaw.{from_month, words_are}
-use Rattle.gtd_words.proofs.DurationLaw.{SameBasic, basic_is, basic_then, named, rest_of}
+use Rattle.gtd_words.proofs.DurationLaw.{InRange, SameBasic, basic_is, basic_then, named, rest_of}
 
 -- ---- how a basic domain's words begin
 
@@ -130,39 +131,39 @@ same_line d e l m x y p q r s depth lead same = (
   same.rest,
 )
 
-body_then : (x y : Line) (r s : List ℕ) → IsLine x → IsLine y → depth_of x ≡ depth_of y → body_of x r ≡ body_of y s → Both x y r s
-body_then (basic d None x p) (basic e None y q) r s h k depth same =
-    same_line d e None None x y p q r s depth refl (basic_then x y p q r s h.0 k.0 h.1 k.1 same)
-body_then (basic d None x p) (basic e (Some o) y q) r s h k depth same =
+body_then : InRange → (x y : Line) (r s : List ℕ) → IsLine x → IsLine y → depth_of x ≡ depth_of y → body_of x r ≡ body_of y s → Both x y r s
+body_then ends (basic d None x p) (basic e None y q) r s h k depth same =
+    same_line d e None None x y p q r s depth refl (basic_then ends x y p q r s h.0 k.0 h.1 k.1 same)
+body_then ends (basic d None x p) (basic e (Some o) y q) r s h k depth same =
     absurd (no_op o x p r (codes " " ++ (basic_words y q ++ (codes "\n" ++ s))) same)
-body_then (basic d (Some o) x p) (basic e None y q) r s h k depth same =
+body_then ends (basic d (Some o) x p) (basic e None y q) r s h k depth same =
     absurd (no_op o y q s (codes " " ++ (basic_words x p ++ (codes "\n" ++ r))) (sym same))
-body_then (basic d (Some o) x p) (basic e (Some i) y q) r s h k depth same =
+body_then ends (basic d (Some o) x p) (basic e (Some i) y q) r s h k depth same =
     let one = op_then o i (codes " " ++ (basic_words x p ++ (codes "\n" ++ r)))
     (codes " " ++ (basic_words y q ++ (codes "\n" ++ s)))
     same in
     same_line d e (Some o) (Some i) x y p q r s depth (ap (λ (z : Op). Some z) one.0)
-    (basic_then x y p q r s h.0 k.0 h.1 k.1
+    (basic_then ends x y p q r s h.0 k.0 h.1 k.1
     (append_cancel_left (codes " ") (basic_words x p ++ (codes "\n" ++ r)) (basic_words y q ++ (codes "\n" ++ s)) one.1))
-body_then (basic d None x p) (heading e i) r s h k depth same =
+body_then ends (basic d None x p) (heading e i) r s h k depth same =
     absurd (no_op i x p r (codes "\n" ++ s) same)
-body_then (heading d o) (basic e None y q) r s h k depth same =
+body_then ends (heading d o) (basic e None y q) r s h k depth same =
     absurd (no_op o y q s (codes "\n" ++ r) (sym same))
-body_then (basic d (Some o) x p) (heading e i) r s h k depth same =
+body_then ends (basic d (Some o) x p) (heading e i) r s h k depth same =
     let one = op_then o i (codes " " ++ (basic_words x p ++ (codes "\n" ++ r))) (codes "\n" ++ s) same in
     absurd (no_way (codes " ") (codes "\n") (basic_words x p ++ (codes "\n" ++ r)) s refl one.1)
-body_then (heading d o) (basic e (Some i) y q) r s h k depth same =
+body_then ends (heading d o) (basic e (Some i) y q) r s h k depth same =
     let one = op_then o i (codes "\n" ++ r) (codes " " ++ (basic_words y q ++ (codes "\n" ++ s))) same in
     absurd (no_way (codes "\n") (codes " ") r (basic_words y q ++ (codes "\n" ++ s)) refl one.1)
-body_then (heading d o) (heading e i) r s h k depth same =
+body_then ends (heading d o) (heading e i) r s h k depth same =
     let one = op_then o i (codes "\n" ++ r) (codes "\n" ++ s) same in
     (ap (λ (n : ℕ). heading n o) depth ∙ ap (λ (z : Op). heading e z) one.0, append_cancel_left (codes "\n") r s one.1)
 
-line_then : (x y : Line) (r s : List ℕ) → IsLine x → IsLine y → text_of x ++ r ≡ text_of y ++ s → Both x y r s
-line_then x y r s h k same =
+line_then : InRange → (x y : Line) (r s : List ℕ) → IsLine x → IsLine y → text_of x ++ r ≡ text_of y ++ s → Both x y r s
+line_then ends x y r s h k same =
     let one = indent_then (depth_of x) (depth_of y) (body_of x r) (body_of y s) (body_no_space x r) (body_no_space y s)
     (sym (text_is x r) ∙ same ∙ text_is y s) in
-    body_then x y r s h k one.0 one.1
+    body_then ends x y r s h k one.0 one.1
 
 -- ---- lists of lines
 
@@ -193,13 +194,13 @@ indent_some (suc depth) r h e = absurd cc
 text_some : (x : Line) (r : List ℕ) → text_of x ++ r ≡ [] → ⊥
 text_some x r e = indent_some (depth_of x) (body_of x r) (body_some x r) (sym (text_is x r) ∙ e)
 
-texts_then : (xs ys : List Line) → AreLines xs → AreLines ys → texts_of xs ≡ texts_of ys → xs ≡ ys
-texts_then [] [] h k e = refl
-texts_then [] (y ∷ ys) h k e = absurd (text_some y (texts_of ys) (sym e))
-texts_then (x ∷ xs) [] h k e = absurd (text_some x (texts_of xs) e)
-texts_then (x ∷ xs) (y ∷ ys) h k e =
-    let one = line_then x y (texts_of xs) (texts_of ys) h.0 k.0 e in
-    ap (λ (z : Line). z ∷ xs) one.0 ∙ ap (λ (l : List Line). y ∷ l) (texts_then xs ys h.1 k.1 one.1)
+texts_then : InRange → (xs ys : List Line) → AreLines xs → AreLines ys → texts_of xs ≡ texts_of ys → xs ≡ ys
+texts_then ends [] [] h k e = refl
+texts_then ends [] (y ∷ ys) h k e = absurd (text_some y (texts_of ys) (sym e))
+texts_then ends (x ∷ xs) [] h k e = absurd (text_some x (texts_of xs) e)
+texts_then ends (x ∷ xs) (y ∷ ys) h k e =
+    let one = line_then ends x y (texts_of xs) (texts_of ys) h.0 k.0 e in
+    ap (λ (z : Line). z ∷ xs) one.0 ∙ ap (λ (l : List Line). y ∷ l) (texts_then ends xs ys h.1 k.1 one.1)
 
 texts_joined : (xs ys : List Line) → texts_of (xs ++ ys) ≡ texts_of xs ++ texts_of ys
 texts_joined [] ys = refl
@@ -430,9 +431,9 @@ tree_then (Joined o a b) (Joined i c d) depth (Some l) (Some m) e =
           ∙ ap (λ (z : Tree). Joined i c z) right.tree;
     }
 
-pub words_then : (a b : Tree) → AreValid a → AreValid b → words a ≡ words b → a ≡ b
-words_then a b h k e =
-    let same = texts_then (lines_of 0 None a) (lines_of 0 None b) (are_lines 0 None a h) (are_lines 0 None b k)
+pub words_then : InRange → (a b : Tree) → AreValid a → AreValid b → words a ≡ words b → a ≡ b
+words_then ends a b h k e =
+    let same = texts_then ends (lines_of 0 None a) (lines_of 0 None b) (are_lines 0 None a h) (are_lines 0 None b k)
     (sym (lines_are 0 None a) ∙ e ∙ lines_are 0 None b) in
     let found = tree_then a b 0 None None same in
     found.tree

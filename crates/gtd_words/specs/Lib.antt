@@ -1,9 +1,9 @@
 pub mod Durations
-pub mod Endings
-pub mod Ends
 pub mod Joins
 pub mod Names
+pub mod Said
 pub mod Starts
+pub mod Untils
 pub mod Words
 pub use Rattle.gtd_core.specs.Equality
 pub use Rattle.gtd_core.specs.Parts
@@ -13,5 +13,8 @@ pub use Rattle.gtd_core.specs.Trees
 pub use Rattle.gtd_core.specs.declared.domain.Domain
 pub use Rattle.gtd_core.specs.declared.duration.DurationParts
 pub use Rattle.gtd_core.specs.declared.start.StartParts
-pub use Rattle.gtd_calendar.specs.Clock
-pub use Rattle.gtd_recur.specs.Membership
+pub use Rattle.gtd_ends.specs.Anchors
+pub use Rattle.gtd_ends.specs.Endings
+pub use Rattle.gtd_ends.specs.Ends
+pub use Rattle.gtd_ends.specs.declared.anchor.Anchor
+pub use Rattle.gtd_ends.specs.declared.end.End

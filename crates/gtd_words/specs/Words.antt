@@ -8,8 +8,10 @@ use Rattle.gtd_core.specs.declared.duration.DurationParts.{DurationParts}
 use Rattle.gtd_core.specs.declared.domain.Op.{Op}
 use Rattle.gtd_core.specs.declared.domain.Op.TheVariants.{Union, Meet, Minus}
 use Rattle.gtd_core.specs.Trees.{Tree, Single, Joined}
-use Rattle.gtd_words.specs.Starts.{has_clock, start_words}
-use Rattle.gtd_words.specs.Endings.{is_all_day, rest_words}
+use Rattle.gtd_ends.specs.Anchors.{has_clock}
+use Rattle.gtd_ends.specs.Endings.{is_all_day}
+use Rattle.gtd_words.specs.Starts.{start_words}
+use Rattle.gtd_words.specs.Untils.{rest_words}
 
 -- A basic domain: its start, and its end or its duration.
 unfoldable pub basic_words : StartParts → DurationParts → List ℕ

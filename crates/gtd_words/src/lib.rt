@@ -4,16 +4,11 @@
 //! have the same words exactly if they are equal.
 #![tactic(auto)]
 
-mod anchor;
-mod date;
 mod duration;
-mod end;
 pub mod laws;
-mod named;
 mod names;
 mod start;
 mod until;
-mod usual;
 mod words;
 
 pub use words::write_words;

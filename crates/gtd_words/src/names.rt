@@ -1,9 +1,9 @@
 //! Names, and numbers in words.
 
 ghost use Rattle.std.specs.Prelude.{◌≡◌, ◌≤◌, ◌<◌, ◌+◌, ◌++◌, [], ◌∷◌, string_bytes, decimal, OnOk};
-ghost use Rattle.gtd_words.specs.Names.{weekday_name, month_name, place_name, back_name, place_words, back_words};
-ghost use Rattle.gtd_words.specs.Names.{ordinal_ending, run_of, run_words, two_digits, four_digits, weekday_joint};
-ghost use Rattle.gtd_words.specs.Names.{weekday_if_set, weekday_list, weekdays_words};
+ghost use Rattle.gtd_words.specs.Names.{back_name, back_words, four_digits, month_name, ordinal_ending, place_name};
+ghost use Rattle.gtd_words.specs.Names.{place_words, run_of, run_words, two_digits, weekday_if_set, weekday_joint};
+ghost use Rattle.gtd_words.specs.Names.{weekday_list, weekday_name, weekdays_words};
 
 use itoa::Buffer;
 use std::alloc::AllocError;

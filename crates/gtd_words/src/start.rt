@@ -3,18 +3,18 @@
 ghost use Rattle.std.specs.Prelude.{◌≡◌, ◌≤◌, ◌<◌, ◌++◌, [], codes, string_bytes, OnOk, IfSome};
 ghost use Rattle.gtd_core.specs.Parts.{start_parts};
 ghost use Rattle.gtd_words.specs.Names.{back_words, place_words, two_digits, weekdays_words};
-ghost use Rattle.gtd_words.specs.Starts.{also_back, also_place, also_weekdays, anchor_words, back_condition};
-ghost use Rattle.gtd_words.specs.Starts.{clock_words, condition_words, day_words, from_minute, hour_words, lead_words};
-ghost use Rattle.gtd_words.specs.Starts.{minute_words, month_words, of_hour, of_hours, period_words, place_condition};
-ghost use Rattle.gtd_words.specs.Starts.{second_of_minutes, second_words};
-ghost use Rattle.gtd_words.specs.Starts.{seconds_words, start_words, time_from, week_words, weekdays_condition, year_words};
+ghost use Rattle.gtd_words.specs.Starts.{is_in_month, also_back, also_place, also_weekdays, anchor_words, back_condition, clock_words};
+ghost use Rattle.gtd_words.specs.Starts.{condition_words, day_words, from_minute, hour_words, lead_words, minute_words};
+ghost use Rattle.gtd_words.specs.Starts.{month_words, of_hour, of_hours, period_words, place_condition, second_of_minutes};
+ghost use Rattle.gtd_words.specs.Starts.{second_words, seconds_words, start_words, time_from, week_words};
+ghost use Rattle.gtd_words.specs.Starts.{weekdays_condition, year_words};
 
-use crate::anchor::{Anchor, anchor_of, is_in_month};
 use crate::names::{
     month_name, ordinal_ending, push_four_digits, push_number, push_number_after,
     push_number_between, push_place, push_place_back, push_two_digits, push_weekdays,
 };
 use gtd_core::{Start, StartParts};
+use gtd_ends::{Anchor, anchor_of};
 use std::alloc::AllocError;
 
 /// Appends the words of a start. With `named` it is on its day; otherwise it is from its day.
@@ -79,6 +79,21 @@ fn push_period(out: &mut String, anchor: Anchor, start: &StartParts) -> Result<(
     push_month(out, is_in_month(anchor), start.month)?;
     push_week(out, start.week)?;
     push_year(out, start.month.is_some(), start.week.is_some(), start.year)
+}
+
+/// Whether a month is named after it, or each month.
+fn is_in_month(anchor: Anchor) -> bool
+    ensures { result ≡ is_in_month anchor }
+{
+    match anchor {
+        Anchor::Day(_) => true,
+        Anchor::Place(_) => true,
+        Anchor::PlaceBack(_) => true,
+        Anchor::Weekdays(_) => false,
+        Anchor::EveryDay => false,
+        Anchor::TheMonday => false,
+        Anchor::Beginning => false,
+    }
 }
 
 fn push_month(out: &mut String, in_month: bool, month: Option<u8>) -> Result<(), AllocError>

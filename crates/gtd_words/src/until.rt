@@ -3,16 +3,17 @@
 ghost use Rattle.std.specs.Prelude.{◌≡◌, ◌<◌, ◌++◌, [], if◌then◌else◌, codes, string_bytes, OnOk, IfSome};
 ghost use Rattle.gtd_core.specs.Parts.{duration_parts, start_parts};
 ghost use Rattle.gtd_core.specs.Ranges.{HasSixDigits, IsStart};
-ghost use Rattle.gtd_words.specs.Endings.{date_words, day_after, end_words, ending, for_words, rest_words, tail_words};
-ghost use Rattle.gtd_words.specs.Endings.{time_words, until_words};
-ghost use Rattle.gtd_words.specs.Ends.{IsEnd};
+ghost use Rattle.gtd_ends.specs.Endings.{ending};
+ghost use Rattle.gtd_ends.specs.Ends.{IsEnd};
 ghost use Rattle.gtd_words.specs.Names.{weekday_name};
+ghost use Rattle.gtd_words.specs.Untils.{date_words, day_after, end_words, for_words, rest_words, tail_words, time_words};
+ghost use Rattle.gtd_words.specs.Untils.{until_words};
 
 use crate::duration::push_duration;
-use crate::end::{End, ending};
 use crate::names::{month_name, push_number, push_number_between, push_two_digits, weekday_name};
-use crate::usual::{is_all_day, is_written, usual};
 use gtd_core::{Duration, DurationParts, StartParts};
+use gtd_ends::laws::ends_are_right;
+use gtd_ends::{End, ending, is_all_day, is_written, usual};
 use std::alloc::AllocError;
 
 fn push_time(out: &mut String, second: u32) -> Result<(), AllocError>
@@ -105,7 +106,7 @@ fn push_end(out: &mut String, end: End) -> Result<(), AllocError>
     }
 }
 
-#[tactic(auto, unfolding(crate::specs::Endings::until_words))]
+#[tactic(auto, unfolding(crate::specs::Untils::until_words))]
 fn push_until(out: &mut String, end: End) -> Result<(), AllocError>
     requires { IsEnd end }
     ensures { OnOk result (string_bytes out.new ≡ string_bytes out.old ++ until_words end) }
@@ -155,7 +156,7 @@ fn push_tail(
 }
 
 /// Appends what follows the words of a start: `all day`, or the end, or the duration.
-#[tactic(auto, unfolding(crate::specs::Endings::rest_words))]
+#[tactic(auto, unfolding(crate::specs::Untils::rest_words))]
 pub(crate) fn push_rest(
     out: &mut String,
     start: &StartParts,
@@ -165,6 +166,7 @@ pub(crate) fn push_rest(
     ensures { OnOk result (string_bytes out.new ≡ string_bytes out.old
         ++ rest_words start.now (duration_parts duration.now)) }
 {
+    ends_are_right();
     let parts = duration.parts();
     if is_all_day(start, &parts) {
         return out.push_str("all day");

@@ -6,11 +6,10 @@ ghost use Rattle.gtd_core.specs.Trees.{tree_of};
 ghost use Rattle.gtd_words.specs.Joins.{join_count};
 ghost use Rattle.gtd_words.specs.Words.{basic_words, indent, lead_words, lines, op_words, words};
 
-use crate::anchor::has_clock;
 use crate::start::push_start;
 use crate::until::push_rest;
-use crate::usual::is_all_day;
 use gtd_core::{Basic, Domain, Expr, Op};
+use gtd_ends::{has_clock, is_all_day};
 use std::alloc::{AllocError, Global};
 
 /// The words of a domain, in lines of plain English that end with a line feed, or an error if memory was refused.

@@ -10,7 +10,7 @@ returns c = record {
   same = λ a b. (
     λ same. ap (λ (e : Tree). words e) ((c.equality_of_trees.ensures.same (domain_tree a) (domain_tree b)).0 same),
     λ same. (c.equality_of_trees.ensures.same (domain_tree a) (domain_tree b)).1
-        (words_then (domain_tree a) (domain_tree b) (c.leaves_are_valid.ensures.valid a.expr)
+        (words_then c.ends_are_right.ensures.in_range (domain_tree a) (domain_tree b) (c.leaves_are_valid.ensures.valid a.expr)
         (c.leaves_are_valid.ensures.valid b.expr) same),
   );
 }

@@ -1,4 +1,4 @@
-use Rattle.gtd_words.specs.Starts.{second_of_minutes, of_hour}
+use Rattle.gtd_words.specs.Starts.{of_hour, second_of_minutes}
 use Rattle.gtd_words.proofs.LineFacts.{ok_so, both_appended}
 use Rattle.gtd_words.proofs.start.push_second.Goals as goal
 

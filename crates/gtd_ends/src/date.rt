@@ -1,13 +1,13 @@
 //! Dates of each year: months and days later, where no leap day decides.
 
 ghost use Rattle.std.specs.Prelude.{◌≡◌, ◌≤◌, ◌<◌, ◌+◌, ◌-◌, ◌^◌, IfSome};
-ghost use Rattle.gtd_words.specs.Endings.{at_date, before_date, before_first, date_at, date_end, days_on, from_date, if_first};
-ghost use Rattle.gtd_words.specs.Endings.{is_before, least, sure_length, with_date, years_until};
+ghost use Rattle.gtd_ends.specs.Dates.{date_at, days_on, is_before, least, sure_length, years_until};
+ghost use Rattle.gtd_ends.specs.Endings.{at_date, before_date, before_first, date_end, from_date, if_first, with_date};
 
 use crate::end::End;
 
 /// The days of a month that it has in each year.
-pub(crate) fn sure_length(month: u32) -> u32
+pub fn sure_length(month: u32) -> u32
     ensures value { result ≡ sure_length month }
     ensures long { 28 ≤ result }
     ensures short { result ≤ 31 }
@@ -30,7 +30,7 @@ fn least(a: u32, b: u32) -> u32
 }
 
 /// The number before, or 0.
-pub(crate) fn one_less(n: u32) -> u32
+pub fn one_less(n: u32) -> u32
     ensures { result ≡ n - 1 }
 {
     if n == 0 { 0 } else { n - 1 }
@@ -179,7 +179,7 @@ fn from_date(
 }
 
 /// The end of each stretch by its date, if it begins on this month and day.
-pub(crate) fn date_end(
+pub fn date_end(
     whole: bool,
     date: Option<(u32, u32)>,
     months: u32,

@@ -2,8 +2,8 @@
 
 ghost use Rattle.std.specs.Prelude.{◌≡◌, ◌<◌, ◌^◌, Some, IfSome};
 ghost use Rattle.gtd_core.specs.Parts.{duration_parts};
-ghost use Rattle.gtd_words.specs.Endings.{end_after, end_from, ending, first_second, is_empty, named_from};
-ghost use Rattle.gtd_words.specs.Endings.{or_else, weekday_after, weekday_end, without_months};
+ghost use Rattle.gtd_ends.specs.Endings.{end_after, end_from, ending, first_second, is_empty, named_from, or_else};
+ghost use Rattle.gtd_ends.specs.Endings.{weekday_after, weekday_end, without_months};
 
 use crate::anchor::has_clock;
 use crate::date::{date_end, one_less};
@@ -131,7 +131,7 @@ fn is_empty(duration: &Duration) -> bool
 
 /// The end of each stretch, where it is the same for all, and no leap day decides it.
 #[tactic(auto, unfolding(crate::specs::Endings::ending))]
-pub(crate) fn ending(start: &StartParts, duration: &Duration) -> Option<End>
+pub fn ending(start: &StartParts, duration: &Duration) -> Option<End>
     ensures { result ≡ ending start.now (duration_parts duration.now) }
 {
     if is_empty(duration) {

@@ -9,7 +9,7 @@ use Rattle.gtd_calendar.specs.facts.DateLemmas.{date-unique, days_of_months-next
 use Rattle.gtd_calendar.specs.facts.DateLemmas.{month_length_bounds}
 use Rattle.gtd_calendar.specs.facts.Signed.{signed_arith}
 use Rattle.gtd_calendar.specs.facts.YearLemmas.{first_day-next}
-use Rattle.gtd_words.specs.Endings.{date_at, days_on, least, sure_length}
+use Rattle.gtd_ends.specs.Dates.{date_at, days_on, least, sure_length}
 
 -- ---- the lengths of months
 

@@ -1,9 +1,9 @@
 //! The usual duration of an end. Where a duration is written in another way, the words say it too.
 
 ghost use Rattle.std.specs.Prelude.{◌≡◌, ◌≤◌, ◌<◌, ◌+◌, ◌-◌, ◌^◌, IfSome};
-ghost use Rattle.gtd_words.specs.Endings.{between, dates_between, is_all_day, is_beginning, is_written, months_between};
-ghost use Rattle.gtd_words.specs.Endings.{next_date, second_or_none, usual, usual_to, weekdays_between};
-ghost use Rattle.gtd_words.specs.Ends.{IsEnd};
+ghost use Rattle.gtd_ends.specs.Endings.{between, dates_between, is_all_day, is_beginning, is_written, months_between};
+ghost use Rattle.gtd_ends.specs.Endings.{next_date, second_or_none, usual, usual_to, weekdays_between};
+ghost use Rattle.gtd_ends.specs.Ends.{IsEnd};
 
 use crate::anchor::{Anchor, anchor_of, has_clock};
 use crate::date::sure_length;
@@ -109,7 +109,7 @@ fn second_or_none(second: Option<u32>) -> u32
 
 /// The usual duration of an end: years, months, days and seconds.
 #[tactic(auto, unfolding(crate::specs::Endings::usual))]
-pub(crate) fn usual(start: &StartParts, end: End) -> (u32, u32, u32, u32)
+pub fn usual(start: &StartParts, end: End) -> (u32, u32, u32, u32)
     requires { IsEnd end }
     ensures { result ≡ usual start.now end }
 {
@@ -117,7 +117,7 @@ pub(crate) fn usual(start: &StartParts, end: End) -> (u32, u32, u32, u32)
 }
 
 /// Whether a duration is written as these years, months, days and seconds.
-pub(crate) fn is_written(duration: &DurationParts, parts: (u32, u32, u32, u32)) -> bool
+pub fn is_written(duration: &DurationParts, parts: (u32, u32, u32, u32)) -> bool
     ensures { result ≡ is_written duration.now parts }
 {
     duration.years == parts.0
@@ -140,7 +140,7 @@ fn is_beginning(anchor: Anchor) -> bool
 
 /// Whether it is one whole day, whose start names it.
 #[tactic(auto, unfolding(crate::specs::Endings::is_all_day))]
-pub(crate) fn is_all_day(start: &StartParts, duration: &DurationParts) -> bool
+pub fn is_all_day(start: &StartParts, duration: &DurationParts) -> bool
     ensures { result ≡ is_all_day start.now duration.now }
 {
     !has_clock(start) && !is_beginning(anchor_of(start)) && is_written(duration, (0, 0, 1, 0))

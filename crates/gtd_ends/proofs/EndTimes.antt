@@ -16,18 +16,19 @@ use Rattle.gtd_calendar.specs.facts.ClockLemmas.{stop-without_months}
 use Rattle.gtd_calendar.specs.facts.StopLemmas.{stop-only}
 use Rattle.gtd_calendar.specs.facts.TimeLemmas.{time_of-only}
 use Rattle.gtd_recur.specs.Membership.{HasNumber, Matches, gives_clock, gives_day}
-use Rattle.gtd_words.specs.declared.anchor.Anchor.{Anchor}
-use Rattle.gtd_words.specs.declared.anchor.Anchor.TheVariants.{Day, Place, PlaceBack, Weekdays, EveryDay, TheMonday, Beginning}
-use Rattle.gtd_words.specs.declared.end.End.{End}
-use Rattle.gtd_words.specs.declared.end.End.TheVariants.{Clock, Weekday, Date, WithWeekday, WithDate, WithFebruary}
-use Rattle.gtd_words.specs.Endings.{at_date, before_date, before_first, date_at, date_end, date_from, day_sum, days_on, end_after}
-use Rattle.gtd_words.specs.Endings.{end_from, ending, first_second, from_date, if_first, is_all_day, is_beginning, is_empty}
-use Rattle.gtd_words.specs.Endings.{is_written, month_sum, named_from, one_weekday, or_else, sure_length, weekday_after}
-use Rattle.gtd_words.specs.Endings.{weekday_end, weekday_from, with_date, without_months, years_until}
-use Rattle.gtd_words.specs.Ends.{AllEndAt, AllLastTheDay, EndsAt, IsEnd}
-use Rattle.gtd_words.specs.Starts.{anchor_from, anchor_of, has_clock, is_given}
-use Rattle.gtd_words.proofs.Dates.{Arrives, InYear, day_before, days_arrive, month_before, months_reach, sure_short, year_before}
-use Rattle.gtd_words.proofs.WeekdayLists.{all_below, one_below}
+use Rattle.gtd_ends.specs.declared.anchor.Anchor.{Anchor}
+use Rattle.gtd_ends.specs.declared.anchor.Anchor.TheVariants.{Day, Place, PlaceBack, Weekdays, EveryDay, TheMonday, Beginning}
+use Rattle.gtd_ends.specs.declared.end.End.{End}
+use Rattle.gtd_ends.specs.declared.end.End.TheVariants.{Clock, Weekday, Date, WithWeekday, WithDate, WithFebruary}
+use Rattle.gtd_ends.specs.Anchors.{anchor_from, anchor_of, has_clock, is_given}
+use Rattle.gtd_ends.specs.Dates.{date_at, days_on, sure_length, years_until}
+use Rattle.gtd_ends.specs.Endings.{at_date, before_date, before_first, date_end, date_from, day_sum, end_after, end_from}
+use Rattle.gtd_ends.specs.Endings.{ending, first_second, from_date, if_first, is_all_day, is_beginning, is_empty, is_written}
+use Rattle.gtd_ends.specs.Endings.{month_sum, named_from, one_weekday, or_else, weekday_after, weekday_end, weekday_from}
+use Rattle.gtd_ends.specs.Endings.{with_date, without_months}
+use Rattle.gtd_ends.specs.Ends.{AllEndAt, AllLastTheDay, EndsAt, IsEnd}
+use Rattle.gtd_ends.proofs.Dates.{Arrives, InYear, day_before, days_arrive, month_before, months_reach, sure_short, year_before}
+use Rattle.gtd_ends.proofs.Bounded.{all_below, one_below}
 
 -- ---- where stretches begin
 

@@ -1,13 +1,13 @@
 //! What names the day of a start.
 
 ghost use Rattle.std.specs.Prelude.{◌≡◌};
-ghost use Rattle.gtd_words.specs.Starts.{anchor_of, has_clock, is_in_month};
+ghost use Rattle.gtd_ends.specs.Anchors.{anchor_of, has_clock};
 
 use gtd_core::StartParts;
 
 /// What names the day of a start.
 #[derive(Clone, Copy)]
-pub(crate) enum Anchor {
+pub enum Anchor {
     /// The day of the month.
     Day(u8),
     /// A weekday's place from the beginning of the month.
@@ -25,15 +25,15 @@ pub(crate) enum Anchor {
 }
 
 /// Whether an hour, a minute or a second is given.
-pub(crate) fn has_clock(start: &StartParts) -> bool
+pub fn has_clock(start: &StartParts) -> bool
     ensures { result ≡ has_clock start.now }
 {
     start.hour.is_some() || start.minute.is_some() || start.second.is_some()
 }
 
 /// What names the day of a start.
-#[tactic(auto, unfolding(crate::specs::Starts::anchor_of))]
-pub(crate) fn anchor_of(start: &StartParts) -> Anchor
+#[tactic(auto, unfolding(crate::specs::Anchors::anchor_of))]
+pub fn anchor_of(start: &StartParts) -> Anchor
     ensures { result ≡ anchor_of start.now }
 {
     if let Some(day) = start.day {
@@ -55,19 +55,4 @@ pub(crate) fn anchor_of(start: &StartParts) -> Anchor
         return Anchor::TheMonday;
     }
     Anchor::Beginning
-}
-
-/// Whether a month is named after it, or each month.
-pub(crate) fn is_in_month(anchor: Anchor) -> bool
-    ensures { result ≡ is_in_month anchor }
-{
-    match anchor {
-        Anchor::Day(_) => true,
-        Anchor::Place(_) => true,
-        Anchor::PlaceBack(_) => true,
-        Anchor::Weekdays(_) => false,
-        Anchor::EveryDay => false,
-        Anchor::TheMonday => false,
-        Anchor::Beginning => false,
-    }
 }

@@ -3,7 +3,7 @@ use Rattle.std.proofs.Common.{◌≡◌, ◌≢◌, ℕ, zero, suc, ◌+◌, ◌
 use Rattle.std.proofs.Common.{refl, sym, ap, ◌∙◌, arith}
 use Rattle.std.specs.Prelude.{◌==◌, nat_le}
 use Rattle.std.proofs.lemmas.Bool.{eq-eqb, le-leb, leb-true, ne_eqb}
-use Rattle.gtd_words.specs.Endings.{days_on, sure_length}
+use Rattle.gtd_ends.specs.Dates.{days_on, sure_length}
 
 pub no_ends : (ends year month day days : ℕ) → ends ≡ 0 → None ≡ days_on ends year month day days
 unfolding days_on

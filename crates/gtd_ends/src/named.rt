@@ -1,13 +1,13 @@
 //! When stretches begin: the second of the day, the weekday, and the date, where they are the same for all.
 
 ghost use Rattle.std.specs.Prelude.{◌≡◌, ◌≤◌, ◌<◌, ◌^◌, IfSome};
-ghost use Rattle.gtd_words.specs.Endings.{date_from, first_second, named_from, one_weekday, weekday_from};
+ghost use Rattle.gtd_ends.specs.Endings.{date_from, first_second, named_from, one_weekday, weekday_from};
 
 use crate::anchor::{Anchor, anchor_of};
 use gtd_core::StartParts;
 
 /// The second of its day at which each stretch begins, if the start says it.
-pub(crate) fn first_second(start: &StartParts) -> Option<u32>
+pub fn first_second(start: &StartParts) -> Option<u32>
     ensures value { result ≡ first_second start.now.hour start.now.minute start.now.second }
     ensures small { IfSome result (λ second. second < 2 ^ 20) }
 {
@@ -82,7 +82,7 @@ fn date_from(anchor: Anchor, month: Option<u8>) -> Option<(u32, u32)>
 }
 
 /// The weekday, and the month and day, on which each stretch begins, where they are the same for all.
-pub(crate) fn named_from(start: &StartParts) -> (Option<u32>, Option<(u32, u32)>)
+pub fn named_from(start: &StartParts) -> (Option<u32>, Option<(u32, u32)>)
     ensures value { result ≡ named_from start.now }
     ensures weekdays { IfSome result.0 (λ n. n < 256) }
     ensures dates { IfSome result.1 (λ date. (date.0 < 256) × (date.1 < 256)) }

@@ -1,14 +1,14 @@
--- When the stretches of a basic domain end, and when its words say that they do.
-use Rattle.std.specs.Prelude.{◌≡◌, ◌<◌, ◌≤◌, ◌^◌, ◌+◌, ◌*◌, ◌-◌, ℕ, ℤ, pos, ◌+ℤ◌, ◌*ℤ◌, List, ◌++◌, ⊤}
+-- When the stretches of a basic domain end.
+use Rattle.std.specs.Prelude.{◌≡◌, ◌<◌, ◌≤◌, ◌^◌, ◌+◌, ◌*◌, ◌-◌, ℕ, ℤ, pos, ◌+ℤ◌, ◌*ℤ◌, ⊤}
 use Rattle.gtd_core.specs.Seconds.{day_of_second}
 use Rattle.gtd_core.specs.declared.start.StartParts.{StartParts}
 use Rattle.gtd_core.specs.declared.duration.DurationParts.{DurationParts}
 use Rattle.gtd_calendar.specs.Calendar.{IsDateOf, weekday_of}
 use Rattle.gtd_calendar.specs.Clock.{IsStop}
 use Rattle.gtd_recur.specs.Membership.{Matches}
-use Rattle.gtd_words.specs.declared.end.End.{End}
-use Rattle.gtd_words.specs.declared.end.End.TheVariants.{Clock, Weekday, Date, WithWeekday, WithDate, WithFebruary}
-use Rattle.gtd_words.specs.Endings.{until_words, years_until}
+use Rattle.gtd_ends.specs.declared.end.End.{End}
+use Rattle.gtd_ends.specs.declared.end.End.TheVariants.{Clock, Weekday, Date, WithWeekday, WithDate, WithFebruary}
+use Rattle.gtd_ends.specs.Dates.{years_until}
 
 -- The numbers of an end: seconds of a day, weekdays, months and days of the month are in their ranges.
 abbrev pub IsEnd : End → Type 0
@@ -18,16 +18,6 @@ IsEnd (WithWeekday end) = (1 ≤ end) × (end ≤ 7)
 IsEnd (Date end) = (1 ≤ end.0) × (end.0 ≤ 12) × (end.1 < 100) × (end.2 < 86400)
 IsEnd (WithDate end) = (1 ≤ end.0) × (end.0 ≤ 12) × (end.1 < 100)
 IsEnd WithFebruary = ⊤
-
--- The words of a basic domain say this end: they close with it.
-pub record SayEnd (words : List ℕ) (end : End) : Type 0 where
-  pub is_end : IsEnd end
-  pub before : List ℕ
-  pub whole : words ≡ before ++ until_words end
-
--- They say some end.
-abbrev pub SayAnEnd : List ℕ → Type 0
-SayAnEnd words = (end : End) × SayEnd words end
 
 -- the second of a day
 abbrev pub IsSecondOf : ℤ → ℤ → ℕ → Type 0

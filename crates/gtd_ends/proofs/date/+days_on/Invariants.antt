@@ -1,4 +1,4 @@
-use Rattle.gtd_words.proofs.date.+days_on.Given as goal
+use Rattle.gtd_ends.proofs.date.+days_on.Given as goal
 
 abbrev pub decreases-days_on : goal.decreases-days_on
 decreases-days_on l = l.ends

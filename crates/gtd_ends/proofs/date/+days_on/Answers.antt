@@ -1,6 +1,6 @@
 use Rattle.std.proofs.Common.{rules, ◌∙◌}
-use Rattle.gtd_words.proofs.DayFacts.{next_month, no_ends, past_february, same_month}
-use Rattle.gtd_words.proofs.date.+days_on.Goals as goal
+use Rattle.gtd_ends.proofs.DayFacts.{next_month, no_ends, past_february, same_month}
+use Rattle.gtd_ends.proofs.date.+days_on.Goals as goal
 
 pub returns-then-ends-eq0 : goal.returns-then-ends-eq0
 returns-then-ends-eq0 t c =

@@ -1,16 +1,15 @@
--- Which end the words of a basic domain say, and with which words.
-use Rattle.std.specs.Prelude.{ℕ, zero, suc, ◌+◌, ◌-◌, ◌*◌, ◌/◌, ◌%◌, ◌==◌, ◌&&◌, ◌||◌, not, Bool, true, false, List, [], ◌++◌}
-use Rattle.std.specs.Prelude.{Option, Some, None, if◌then◌else◌, codes, decimal, nat_lt, nat_le}
+-- Which end the stretches of a basic domain have, where it is the same for all.
+use Rattle.std.specs.Prelude.{ℕ, ◌+◌, ◌-◌, ◌*◌, ◌/◌, ◌%◌, ◌==◌, ◌&&◌, not, Bool, true, false, Option, Some, None}
+use Rattle.std.specs.Prelude.{if◌then◌else◌, nat_lt}
 use Rattle.gtd_core.specs.Ranges.{clock_seconds}
 use Rattle.gtd_core.specs.declared.start.StartParts.{StartParts}
 use Rattle.gtd_core.specs.declared.duration.DurationParts.{DurationParts}
-use Rattle.gtd_words.specs.declared.anchor.Anchor.{Anchor}
-use Rattle.gtd_words.specs.declared.anchor.Anchor.TheVariants.{Day, Place, PlaceBack, Weekdays, EveryDay, TheMonday, Beginning}
-use Rattle.gtd_words.specs.declared.end.End.{End}
-use Rattle.gtd_words.specs.declared.end.End.TheVariants.{Clock, Weekday, Date, WithWeekday, WithDate, WithFebruary}
-use Rattle.gtd_words.specs.Durations.{duration_words}
-use Rattle.gtd_words.specs.Names.{month_name, two_digits, weekday_name}
-use Rattle.gtd_words.specs.Starts.{anchor_of, has_clock}
+use Rattle.gtd_ends.specs.declared.anchor.Anchor.{Anchor}
+use Rattle.gtd_ends.specs.declared.anchor.Anchor.TheVariants.{Day, Place, PlaceBack, Weekdays, EveryDay, TheMonday, Beginning}
+use Rattle.gtd_ends.specs.declared.end.End.{End}
+use Rattle.gtd_ends.specs.declared.end.End.TheVariants.{Clock, Weekday, Date, WithWeekday, WithDate, WithFebruary}
+use Rattle.gtd_ends.specs.Anchors.{anchor_of, has_clock}
+use Rattle.gtd_ends.specs.Dates.{date_at, days_on, sure_length, years_until}
 
 -- ---- what a start gives
 
@@ -50,41 +49,7 @@ date_from anchor month = None
 abbrev pub named_from : StartParts → Option ℕ × Option (ℕ × ℕ)
 named_from start = (weekday_from (anchor_of start), date_from (anchor_of start) start.month)
 
--- ---- dates, where no leap day decides
-
--- the days of a month that it has in each year
-abbrev pub sure_length : ℕ → ℕ
-sure_length month =
-    if month == 2 then 28 else (if (month == 4) || (month == 6) || (month == 9) || (month == 11) then 30 else 31)
-
-abbrev pub least : ℕ → ℕ → ℕ
-least a b = if nat_lt a b then a else b
-
--- A date of a later year: how many years later it is, its month, and its day of the month. This is the start's month and day
--- moved
--- by months, unless a leap day decides what it is.
-abbrev pub date_at : ℕ → ℕ → Option (ℕ × ℕ × ℕ)
-date_at count day =
-    if (count % 12 == 1) && nat_lt 28 day then None
-    else Some (count / 12, count % 12 + 1, least (sure_length (count % 12 + 1)) day)
-
--- The date moved by days, over so many ends of months at most, unless a leap day decides what it is.
-unfoldable pub days_on : ℕ → ℕ → ℕ → ℕ → ℕ → Option (ℕ × ℕ × ℕ)
-days_on zero year month day days = None
-days_on (suc ends) year month day days =
-    if nat_le (day + days) (sure_length month) then Some (year, month, day + days)
-    else (if month == 2 then None
-    else days_on ends (year + month / 12) (month % 12 + 1) 1 (day + days - sure_length month - 1))
-
--- A date is over in the year of the start.
-abbrev pub is_before : ℕ → ℕ → ℕ × ℕ → Bool
-is_before month day start = nat_lt month start.0 || ((month == start.0) && nat_lt day start.1)
-
--- how many years later than the start a date first comes
-abbrev pub years_until : ℕ × ℕ → ℕ → ℕ → ℕ
-years_until start month day = if is_before month day start then 1 else 0
-
--- ---- the end that the words say
+-- ---- the end
 
 -- A date is said only where it is the first such date.
 abbrev pub if_first : ℕ × ℕ → ℕ → ℕ → ℕ → End → Option End
@@ -198,7 +163,7 @@ abbrev pub next_date : ℕ × ℕ → ℕ × ℕ
 next_date date =
     if (date.1 == sure_length date.0) && not (date.0 == 2) then (date.0 % 12 + 1, 1) else (date.0, date.1 + 1)
 
--- Years, months, days and seconds that lead to an end. Where a duration is written in another way, the words say it too.
+-- Years, months, days and seconds that lead to an end.
 abbrev pub usual_to : Option ℕ × Option (ℕ × ℕ) → ℕ → End → ℕ × ℕ × ℕ × ℕ
 usual_to named first (Clock end) = between first end.0 end.1
 usual_to named first (Weekday end) = between first (weekdays_between named.0 end.0) end.1
@@ -220,42 +185,7 @@ is_written duration parts =
     (duration.years == parts.0) && ((duration.months == parts.1) && ((duration.weeks == 0) && ((duration.days == parts.2)
     && ((duration.hours == parts.3 / 3600) && ((duration.minutes == parts.3 / 60 % 60) && (duration.seconds == parts.3 % 60))))))
 
--- ---- the words
-
--- `06:00`, `06:00:30`
-abbrev pub time_words : ℕ → List ℕ
-time_words second =
-    two_digits (second / 3600) ++ codes ":" ++ two_digits (second / 60 % 60)
-    ++ (if second % 60 == 0 then [] else codes ":" ++ two_digits (second % 60))
-
-abbrev pub day_after : ℕ → List ℕ
-day_after days =
-    if days == 0 then [] else (if days == 1 then codes " the next day" else codes ", " ++ decimal days ++ codes " days later")
-
--- `31 May`
-abbrev pub date_words : ℕ → ℕ → List ℕ
-date_words month day = decimal day ++ codes " " ++ month_name month
-
-abbrev pub end_words : End → List ℕ
-end_words (Clock end) = time_words end.1 ++ day_after end.0
-end_words (Weekday end) = weekday_name end.0 ++ codes " " ++ time_words end.1
-end_words (WithWeekday end) = weekday_name end ++ codes " (included)"
-end_words (Date end) = date_words end.0 end.1 ++ codes " " ++ time_words end.2
-end_words (WithDate end) = date_words end.0 end.1 ++ codes " (included)"
-end_words WithFebruary = codes "the end of February"
-
--- `until 06:00 the next day`
-unfoldable pub until_words : End → List ℕ
-until_words end = codes "until " ++ end_words end
-
-abbrev pub for_words : DurationParts → List ℕ
-for_words duration = codes "for " ++ duration_words duration
-
--- The duration, if no end is known; the end, and before it the duration if it is not written in the usual way.
-abbrev pub tail_words : StartParts → DurationParts → Option End → List ℕ
-tail_words start duration None = for_words duration
-tail_words start duration (Some end) =
-    (if is_written duration (usual start end) then [] else for_words duration ++ codes ", ") ++ until_words end
+-- ---- one whole day
 
 abbrev pub is_beginning : Anchor → Bool
 is_beginning Beginning = true
@@ -265,7 +195,3 @@ is_beginning anchor = false
 unfoldable pub is_all_day : StartParts → DurationParts → Bool
 is_all_day start duration =
     not (has_clock start) && (not (is_beginning (anchor_of start)) && is_written duration (0, 0, 1, 0))
-
-unfoldable pub rest_words : StartParts → DurationParts → List ℕ
-rest_words start duration =
-    if is_all_day start duration then codes "all day" else tail_words start duration (ending start duration)

@@ -1,0 +1,11 @@
+pub mod Anchors
+pub mod Dates
+pub mod Endings
+pub mod Ends
+pub use Rattle.gtd_core.specs.Parts
+pub use Rattle.gtd_core.specs.Ranges
+pub use Rattle.gtd_core.specs.Seconds
+pub use Rattle.gtd_core.specs.declared.duration.DurationParts
+pub use Rattle.gtd_core.specs.declared.start.StartParts
+pub use Rattle.gtd_calendar.specs.Clock
+pub use Rattle.gtd_recur.specs.Membership
