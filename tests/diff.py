@@ -46,22 +46,28 @@ def intervals(seconds):
     return found
 
 
+def read_domains(rows):
+    return [row[:3] + (model.read(row[3].encode()) if row[3] else None,) for row in rows]
+
+
 def expected(old, new, first, last, vehicle):
     """The text for two lists of rows, from the first day up to but not including the last."""
     lines = [HEADER]
-    old, new = ([row[:3] + (model.read(row[3].encode()) if row[3] else None,) for row in rows] for rows in (old, new))
+    old, new = read_domains(old), read_domains(new)
     quarters = range(day_of(first) * model.DAY, day_of(last) * model.DAY, QUARTER)
     for element in sorted({int(row[0]) for row in old + new}):
         for direction in ("positive", "negative"):
-            def is_open(rows, second):
-                return model.is_open(rows, 2, element, direction, vehicle, second)
-            was, now = ([is_open(rows, second) for second in quarters] for rows in (old, new))
+            def open_quarters(rows):
+                mine = [row for row in rows if int(row[0]) == element]
+                return [model.is_open(mine, 2, element, direction, vehicle, second) for second in quarters]
+            was, now = open_quarters(old), open_quarters(new)
             changes = []
             for word, before, after in (("opened", was, now), ("closed", now, was)):
                 spans = intervals([s for s, x, y in zip(quarters, before, after) if y and not x])
                 changes += [(begin, end, word) for begin, end in spans]
-            lines += [f"{element},{direction},{vehicle},{word},{stamp(begin)},{stamp(end)}\n"
-                      for begin, end, word in sorted(changes)]
+            for begin, end, word in sorted(changes):
+                line = f"{element},{direction},{vehicle},{word},{stamp(begin)},{stamp(end)}"
+                lines.append(line + "\n")
     return "".join(lines)
 
 
@@ -118,11 +124,14 @@ def random_days(rng):
 
 
 def pairs(rng, count):
-    """Pairs of files with the days and the vehicle type, and what is to be printed."""
+    """Pairs of files with the days and the vehicle type, and the intervals that are to be printed, if they are known without the
+    model.
+    """
     for number in range(count):
         old = random_rows(rng)
         first, last = random_days(rng)
         vehicle = rng.choice([11, 12, 13])
+        text = None
         if number % 3 == 0:
             new = rewritten(rng, old)
             text = HEADER
@@ -137,7 +146,6 @@ def pairs(rng, count):
                 for day in days)
         else:
             new = changed_rows(rng, old) if rng.random() < 0.7 else random_rows(rng)
-            text = expected(old, new, first, last, vehicle)
         yield old, new, first, last, vehicle, text
 
 
@@ -210,8 +218,9 @@ def main():
     rng = random.Random(int(sys.argv[2]) if len(sys.argv) > 2 else 48)
     with tempfile.TemporaryDirectory() as folder:
         failed = check_faults(folder)
-        for old, new, first, last, vehicle, text in pairs(rng, count):
+        for old, new, first, last, vehicle, known in pairs(rng, count):
             paths = [write(folder, "old.csv", file_of(old)), write(folder, "new.csv", file_of(new))]
+            text = expected(old, new, first, last, vehicle) if known is None else known
             answer = run(paths + [first, last, str(vehicle)])
             if answer != (0 if text == HEADER else 4, text, ""):
                 failed += 1

@@ -106,10 +106,10 @@ end
 
 start failures tests/test_failures.py
 failures=$!
-start country tests/test_country.py tests/test_large.py tests/test_documents.py
+start country tests/test_country.py tests/test_diff.py tests/test_large.py tests/test_documents.py
 country=$!
 start package tests/test_domain.py tests/test_records.py tests/test_series.py tests/test_roads.py tests/test_blocks.py \
-    tests/test_asked_domain.py tests/test_asked_records.py tests/test_planner.py
+    tests/test_asked_domain.py tests/test_asked_records.py tests/test_planner.py tests/test_same.py
 package=$!
 (cd "$top/python" && "$python" -m mypy --strict --cache-dir "$room/types") > "$room/mypy" 2>&1
 succeeds 'mypy --strict' grep -q '^Success' "$room/mypy"

@@ -16,6 +16,7 @@ True
 :mod:`gtd.country`.
 """
 
+from gtd._diff import diff
 from gtd._domain import Apart, Change, Domain, canon, check, contains, next_change, next_change_ever
 from gtd._fault import Fault
 from gtd._library import LibraryNotFound, library
@@ -39,6 +40,7 @@ __all__ = [
     "canon",
     "check",
     "contains",
+    "diff",
     "first_difference",
     "library",
     "migrate",

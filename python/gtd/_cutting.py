@@ -68,6 +68,8 @@ class Beyond:
     element: int
     rows: int
     size: int
+    side: str = ""
+    """Which of two sets it is an element of, ``'old'`` or ``'new'``, if there are two."""
 
     @property
     def kind(self) -> str:
@@ -181,11 +183,29 @@ def cut(total: pandas.DataFrame, most: int = MOST_ROWS) -> Union[Cuts, Beyond]:
         As :func:`count` gives it, by ``element`` as the index.
     """
     total = total.sort_index()
+    return _beyond(total) or _stretched(total, most)
+
+
+def cut_both(old: pandas.DataFrame, new: pandas.DataFrame, most: int = MOST_ROWS) -> Union[Cuts, Beyond]:
+    """The parts of the elements of two sets. The rows of both together are within the limits of a part, but for an element that
+    is a part by itself.
+    """
+    old, new = old.sort_index(), new.sort_index()
+    return _beyond(old, "old") or _beyond(new, "new") or _stretched(old.add(new, fill_value=0).astype("int64"), most)
+
+
+def _beyond(total: pandas.DataFrame, side: str = "") -> Optional[Beyond]:
+    """The first element that no file can hold."""
     rows, sizes = total["rows"].to_numpy(), total["size"].to_numpy()
     beyond = numpy.flatnonzero((rows > MOST_ROWS) | (sizes > _LARGEST_PART))
-    if len(beyond):
-        at = beyond[0]
-        return Beyond(int(total.index[at]), int(rows[at]), int(sizes[at]))
+    if not len(beyond):
+        return None
+    at = beyond[0]
+    return Beyond(int(total.index[at]), int(rows[at]), int(sizes[at]), side)
+
+
+def _stretched(total: pandas.DataFrame, most: int) -> Cuts:
+    rows, sizes = total["rows"].to_numpy(), total["size"].to_numpy()
     begins = stretches(rows, sizes, _LARGEST_PART, most)
     if not begins:  # no rows at all: one part, of the header
         return Cuts(numpy.zeros(1, "int64"), numpy.zeros(1, "int64"))

@@ -76,23 +76,37 @@ def run(*words: str, given: bytes = b"", into: Optional[IO[bytes]] = None) -> by
     return _run(program(), words, given, into, (0,))
 
 
-def run_desk(*words: str, given: bytes = b"", answers: Sequence[int] = (0,)) -> bytes:
+def run_desk(
+    *words: str, given: bytes = b"", into: Optional[IO[bytes]] = None, answers: Sequence[int] = (0,), files: Sequence[int] = ()
+) -> bytes:
     """What ``gtdesk`` prints when it reads ``given`` from ``/dev/stdin``, if it ends with one of these statuses; raises what
     :func:`run` raises.
+
+    Parameters
+    ----------
+    into
+        As in :func:`run`.
+    files : sequence of int
+        The descriptors of open files that the words name, as ``/dev/fd/7``.
     """
-    return _run(program("gtdesk"), words, given, None, answers)
+    return _run(program("gtdesk"), words, given, into, answers, files)
 
 
 def _run(
-    path: str, words: Sequence[str], given: bytes, into: Optional[IO[bytes]], answers: Sequence[int] = (0,)
+    path: str,
+    words: Sequence[str],
+    given: bytes,
+    into: Optional[IO[bytes]],
+    answers: Sequence[int] = (0,),
+    files: Sequence[int] = (),
 ) -> bytes:
     # Files in memory and not pipes: Python feeds a pipe in pieces of 4 KiB, and the processes would wait for each other
     # each time.
-    with _memory() as source, _memory() as printed:
+    with memory() as source, memory() as printed:
         source.write(given)
         source.seek(0)  # what is buffered is written, too
         output = printed if into is None else into
-        done = subprocess.run([path, *words], stdin=source, stdout=output, stderr=subprocess.PIPE)
+        done = subprocess.run([path, *words], stdin=source, stdout=output, stderr=subprocess.PIPE, pass_fds=tuple(files))
         if done.returncode in answers:
             printed.seek(0)
             return printed.read()
@@ -112,7 +126,7 @@ def _failure(path: str, command: str, status: int, said: str) -> Exception:
     return RuntimeError(f"{path} {command} {ended}: {said or 'it said nothing'}")
 
 
-def _memory() -> IO[bytes]:
+def memory() -> IO[bytes]:
     """A file without a name."""
     if hasattr(os, "memfd_create"):
         return open(os.memfd_create("gtd"), "w+b")

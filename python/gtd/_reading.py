@@ -6,7 +6,7 @@ import csv
 import gzip
 import operator
 import os
-from typing import IO, Union
+from typing import IO, Any, Dict, Union
 
 import numpy
 import pandas
@@ -22,6 +22,7 @@ RecordsLike = Union[Path, bytes, IO[bytes], "pandas.DataFrame"]
 Engine = Union[RecordsInProcess, RecordsByProgram]
 
 DIRECTION = pandas.CategoricalDtype(["positive", "negative"])
+CHANGE = pandas.CategoricalDtype(["opened", "closed"])
 HAS_SECONDS = bool(pandas.Series(numpy.zeros(1, "datetime64[s]")).dtype == "datetime64[s]")
 _LAST_NANOSECOND = "2262-04-11"
 
@@ -110,10 +111,18 @@ def is_large(records: RecordsLike, given: bytes) -> bool:
 
 def read_schedule(file: Union[Path, IO[bytes]]) -> pandas.DataFrame:
     """A schedule that the program printed, as :func:`schedule` gives it."""
-    frame = pandas.read_csv(
-        file,
-        dtype={"element": "int64", "direction": DIRECTION, "vehicle": "int64", "from": "category", "until": "category"},
-    )
+    return _read_spans(file, {})
+
+
+def read_changes(file: Union[Path, IO[bytes]]) -> pandas.DataFrame:
+    """Changes that the program printed, as :func:`diff` gives them."""
+    return _read_spans(file, {"change": CHANGE})
+
+
+def _read_spans(file: Union[Path, IO[bytes]], more: Dict[str, Any]) -> pandas.DataFrame:
+    """Lines that the program printed, each of a span of an element; and the types of the columns that not all of these have."""
+    types = {"element": "int64", "direction": DIRECTION, "vehicle": "int64", "from": "category", "until": "category", **more}
+    frame = pandas.read_csv(file, dtype=types)
     for name in ("from", "until"):
         moments = frame[name].cat
         frame[name] = moments.categories.to_numpy(dtype="datetime64[s]")[moments.codes]

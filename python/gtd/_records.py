@@ -62,7 +62,7 @@ def schedule(records: RecordsLike, first: Day, until: Day, vehicle: int) -> pand
     if not is_large(records, given):
         return _scheduled(given, *words)
     asked(*words)  # the days and the type are looked at before the records
-    rows = sort_rows(_migrated(given))
+    rows = sort_rows(migrated(given))
     cuts = cut(count(rows).set_index("element"))
     if isinstance(cuts, Beyond):
         raise Fault(cuts.kind, note=cuts.note)
@@ -105,7 +105,7 @@ def year(records: RecordsLike, element: int, direction: str, vehicle: int, year:
     _check_year(*words[2:])
     if is_large(records, given):
         mine = named.encode() + b","
-        given = HEADER + b"".join(row for row in _migrated(given) if row.startswith(mine))
+        given = HEADER + b"".join(row for row in migrated(given) if row.startswith(mine))
     place = Place(int(named), direction == "negative", int(vehicle))
     days = day_of(f"{year:04}-01-01"), day_of(f"{year + 1:04}-01-01")
     index = pandas.date_range(f"{year:04}-01-01", f"{year:04}-12-31", freq="D", name="date")
@@ -132,14 +132,14 @@ def migrate(records: RecordsLike) -> pandas.DataFrame:
     """
     given = as_bytes(records)
     if is_large(records, given):
-        printed = HEADER + b"".join(_migrated(given))
+        printed = HEADER + b"".join(migrated(given))
     else:
         printed = _run(given, "migrate", "/dev/stdin")
     types = {"element": "int64", "direction": _CLOSES, "vehicles": "str", "domain": "str"}
     return pandas.read_csv(io.BytesIO(printed), dtype=types, keep_default_na=False)
 
 
-def _migrated(given: bytes) -> List[bytes]:
+def migrated(given: bytes) -> List[bytes]:
     """The rows of a large file, migrated."""
     head, *lines = given.splitlines(keepends=True)
     migrated = migrate_lines(head, lines)

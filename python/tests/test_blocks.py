@@ -140,7 +140,7 @@ def migrated(given):
 def test_the_library_writes_what_the_program_writes(vehicles, tmp_path, monkeypatch):
     """A part of short schedules by the library, by the program where they may be long, and where there is no library."""
     rows = migrated("".join(made_rows(3_000, 1)).encode())
-    frame = pandas.DataFrame({"bundle": [0], "part": [0], "rows": [rows]})
+    frame = pandas.DataFrame({"bundle": [0], "part": [0], "side": [0], "rows": [rows]})
     written = {}
     for name in ("short", "long", "no library"):
         plan = _parts.Plan("2024-03-11", "2024-03-18", vehicles, tmp_path / name / "attempts", tmp_path / name / "parts", 1)

@@ -11,7 +11,7 @@ from pathlib import Path
 import pytest
 
 import gtd
-from gtd import _domain, _record_set, _series
+from gtd import _diff, _domain, _record_set, _same, _series
 from tests.conftest import environment
 from tests.make_records import rows
 
@@ -28,6 +28,9 @@ def folder(tmp_path, monkeypatch):
         shutil.copy(path, tmp_path)
     (tmp_path / "north.csv").write_text("".join(rows(300, 1)))
     (tmp_path / "south.csv").write_text("".join(rows(200, 2)))
+    for seed, name in enumerate(("old", "new")):
+        (tmp_path / name).mkdir()
+        (tmp_path / name / "rows.csv").write_text("".join(rows(100, seed)))
     monkeypatch.chdir(tmp_path)
     return tmp_path
 
@@ -53,12 +56,12 @@ def test_commands_of_a_page(folder, page):
         if "--scheduler" in words:
             continue
         ran = subprocess.run([sys.executable, *words[1:]], env=environment(), stderr=subprocess.PIPE, text=True, timeout=300)
-        assert ran.returncode == 0, (line, ran.stderr)
+        assert ran.returncode == (4 if "--diff" in words else 0), (line, ran.stderr)
         out = folder / words[words.index("--out") + 1]
         (shutil.rmtree if out.is_dir() else Path.unlink)(out)
 
 
-@pytest.mark.parametrize("module", [gtd, _domain, _record_set, _series])
+@pytest.mark.parametrize("module", [gtd, _diff, _domain, _record_set, _same, _series])
 def test_examples_of_the_code(module):
     found = doctest.testmod(module)
     assert found.attempted and not found.failed

@@ -206,7 +206,7 @@ def test_a_full_disk(packed, many, tmp_path):
 def test_a_full_disk_while_the_library_answers(tmp_path, monkeypatch):
     monkeypatch.setattr(_parts, "_run_into", None)
     migrated = gtd.migrate("".join(rows(400, 1)).encode()).to_csv(index=False, header=False, lineterminator="\n").encode()
-    frame = pandas.DataFrame({"bundle": [0], "part": [0], "rows": [migrated]})
+    frame = pandas.DataFrame({"bundle": [0], "part": [0], "side": [0], "rows": [migrated]})
     with small_disk(tmp_path / "disk", "64k") as disk:
         plan = _parts.Plan(FIRST, "2024-04-01", ("11",), disk / "attempts", disk / "parts", 1)
         plan.attempts.mkdir()

@@ -32,10 +32,10 @@ from gtd.country import _parts
 from gtd.country._claims import LeftBehind
 from gtd.country._cluster import connect, local
 from gtd.country._files import sources
-from gtd.country._run import Asked, Done, Run, told_plainly
+from gtd.country._run import Asked, Compared, Done, Run, told_plainly
 from gtd.country._staging import Staging
 
-__all__ = ["Done", "LeftBehind", "connect", "local", "schedule"]
+__all__ = ["Compared", "Done", "LeftBehind", "connect", "diff", "local", "schedule"]
 
 _Path = Union[str, "os.PathLike[str]"]
 
@@ -104,28 +104,87 @@ def schedule(
     LeftBehind
         A run of the same output was killed earlier. What it left is removed.
     """
-    if not 1 <= rows_per_part <= MOST_ROWS:
-        raise ValueError(f"rows_per_part is 1 to {MOST_ROWS}, not {rows_per_part}")
-    if block_size < 1:
-        raise ValueError(f"block_size is at least 1, not {block_size}")
     asked = Asked(day(first), day(until), _vehicles(vehicle), joined, block_size, rows_per_part)
-    many: List[_Path] = [paths] if isinstance(paths, (str, os.PathLike)) else list(paths)
+    return _written([paths], asked, Path(out), client, show_progress, storage_options)[0]
+
+
+def diff(
+    old: Union[_Path, Sequence[_Path]],
+    new: Union[_Path, Sequence[_Path]],
+    first: Day,
+    until: Day,
+    vehicle: Union[int, Sequence[int]],
+    out: _Path,
+    *,
+    client: Optional[Client] = None,
+    joined: bool = False,
+    block_size: int = 4 << 20,
+    rows_per_part: int = MOST_ROWS,
+    show_progress: bool = False,
+    storage_options: Optional[Dict[str, Any]] = None,
+) -> Compared:
+    """Write what two sets of records say differently: when each road element was opened or closed from one to the other.
+
+    Parameters
+    ----------
+    old, new
+        The files of each set, as those of :func:`schedule`.
+    out
+        As for :func:`schedule`. Each part has the lines that ``gtdesk diff`` prints for the elements of the part.
+    rows_per_part : int
+        1 to 65,536 rows of both sets together; an element with more of them is a part of its own.
+    first, until, vehicle, client, joined, block_size, show_progress, storage_options
+        As for :func:`schedule`.
+
+    Returns
+    -------
+    Compared
+
+    Raises
+    ------
+    Fault
+        As for :func:`schedule`; the files of ``old`` come before those of ``new``.
+    OSError, RuntimeError
+        As for :func:`schedule`.
+
+    Warns
+    -----
+    LeftBehind
+        As for :func:`schedule`.
+    """
+    asked = Asked(day(first), day(until), _vehicles(vehicle), joined, block_size, rows_per_part)
+    done, has_lines = _written([old, new], asked, Path(out), client, show_progress, storage_options)
+    return Compared(*done, has_lines)
+
+
+def _written(
+    sets: Sequence[Union[_Path, Sequence[_Path]]],
+    asked: Asked,
+    out: Path,
+    client: Optional[Client],
+    show: bool,
+    storage_options: Optional[Dict[str, Any]],
+) -> Tuple[Done, bool]:
+    """What was written, and whether some part has a line behind its header."""
+    if not 1 <= asked.rows_per_part <= MOST_ROWS:
+        raise ValueError(f"rows_per_part is 1 to {MOST_ROWS}, not {asked.rows_per_part}")
+    if asked.block_size < 1:
+        raise ValueError(f"block_size is at least 1, not {asked.block_size}")
     with contextlib.ExitStack() as stack:
         if client is None:
             client = stack.enter_context(local())
         stack.enter_context(told_plainly(client))
-        done = _write(client, asked, [os.fspath(path) for path in many], Path(out), show_progress, storage_options)
-    return done
+        _parts.check(asked.first, asked.until, asked.vehicles)  # before any file
+        files = [sources(_paths(paths), storage_options) for paths in sets]
+        with Staging(out.absolute(), asked.joined and len(asked.vehicles) == 1) as staging:
+            run = Run(client, asked, staging, show)
+            done = run.whole(files)
+    return done, run.has_lines
 
 
-def _write(
-    client: Client, asked: Asked, paths: List[str], out: Path, show: bool, storage_options: Optional[Dict[str, Any]]
-) -> Done:
-    _parts.check(asked.first, asked.until, asked.vehicles)  # before any file
-    files = sources(paths, storage_options)
-    with Staging(out.absolute(), asked.joined and len(asked.vehicles) == 1) as staging:
-        done = Run(client, asked, staging, show).whole(files)
-    return done
+def _paths(paths: Union[_Path, Sequence[_Path]]) -> List[str]:
+    many: List[_Path] = [paths] if isinstance(paths, (str, os.PathLike)) else list(paths)
+    return [os.fspath(path) for path in many]
 
 
 def _vehicles(vehicle: Union[int, Sequence[int]]) -> Tuple[str, ...]:

@@ -7,19 +7,21 @@ import logging
 import signal
 import sys
 import warnings
-from typing import Any, List, NoReturn, Optional
+from typing import Any, List, NoReturn, Optional, Union
 
 from distributed import KilledWorker
 
 from gtd import Fault, country
 from gtd.country._claims import LeftBehind
 
+_DIFFER = 4  # the status if two sets are compared and say something differently
+
 # Of Dask and what it runs on: what they meet is raised here, and calls that a run leaves open when it ends are no news.
 _LOGGERS = ("distributed", "tornado", "asyncio")
 
 
 def main(words: Optional[List[str]] = None) -> int:
-    """Run the command and return its exit status, as the program's: 0 done, 1 refused, 2 usage, 3 the machine."""
+    """Run the command and return its exit status, as the programs': 0 done, 1 refused, 2 usage, 3 the machine, 4 a difference."""
     parser = _parser()
     given = parser.parse_args(words)
     if not given.scheduler and (given.tls_ca_file or given.tls_cert or given.tls_key):
@@ -44,25 +46,18 @@ def main(words: Optional[List[str]] = None) -> int:
         return _fail(130, "interrupted: nothing is kept")
     if not given.quiet:
         print(f"{done.rows:,} rows, {len(done.parts):,} files, {done.size:,} bytes", file=sys.stderr)
-    return 0
+    return _DIFFER if isinstance(done, country.Compared) and done.differs else 0
 
 
-def _run(given: argparse.Namespace) -> country.Done:
+def _run(given: argparse.Namespace) -> Union[country.Done, country.Compared]:
     if given.scheduler:
         cluster = country.connect(given.scheduler, given.tls_ca_file, given.tls_cert, given.tls_key)
     else:
         cluster = country.local(given.workers)
     with cluster as client:
-        return country.schedule(
-            given.files,
-            given.first,
-            given.until,
-            given.vehicle,
-            given.out,
-            client=client,
-            joined=given.join,
-            show_progress=not given.quiet and sys.stderr.isatty(),
-        )
+        more = {"client": client, "joined": given.join, "show_progress": not given.quiet and sys.stderr.isatty()}
+        words = given.files, given.first, given.until, given.vehicle, given.out
+        return country.diff(given.diff, *words, **more) if given.diff else country.schedule(*words, **more)
 
 
 def _parser() -> argparse.ArgumentParser:
@@ -74,6 +69,7 @@ def _parser() -> argparse.ArgumentParser:
     parser.add_argument("--to", required=True, dest="until", metavar="DAY", help="the day after the last")
     parser.add_argument("--vehicle", required=True, type=_types, metavar="TYPE", help="1 to 99, or many: 1,11,12")
     parser.add_argument("--out", required=True, metavar="DIR", help="a new folder for part-00000.csv...")
+    parser.add_argument("--diff", action="append", metavar="OLD.csv", help="what is said differently from these files; may repeat")
     parser.add_argument("--join", action="store_true", help="one file for each type, in place of parts")
     parser.add_argument("--workers", type=_at_least_one, metavar="N", help="of the cluster started here; else one for each core")
     parser.add_argument("--scheduler", metavar="ADDRESS", help="of a Dask cluster: tcp://HOST:8786 or tls://HOST:8786")

@@ -6,27 +6,30 @@ import os
 import re
 import uuid
 from dataclasses import dataclass
+from functools import partial
 from pathlib import Path
-from typing import IO, List, Optional, Sequence, Tuple, Union
+from typing import IO, Callable, Iterator, List, Optional, Sequence, Tuple, Union
 
 import numpy
 import pandas
 
-from gtd._cutting import HEADER, Beyond, Cuts, Numbers, Refused, count, cut, stretches, texts_of
+from gtd._cutting import HEADER, Beyond, Cuts, Numbers, Refused, count, cut, cut_both, stretches, texts_of
+from gtd._diff import print_changes
 from gtd._fault import Fault
 from gtd._in_process import RecordsInProcess
 from gtd._library import load
-from gtd._program import run
+from gtd._program import fingerprint, program, run
 from gtd._records import asked
 from gtd.country._blocks import BlockRows, engine
 from gtd.country._files import named
 
-PRINTED = b"element,direction,vehicle,from,until\n"  # the header of a schedule
+_PRINTED = b"element,direction,vehicle,from,until\n"  # the header of a schedule
+_CHANGES = b"element,direction,vehicle,change,from,until\n"  # and of what two sets say differently
 
 BINS = pandas.DataFrame({"bin": [], "rows": []}, dtype="int64")
-COUNTS = pandas.DataFrame({"range": [], "element": [], "rows": [], "size": []}, dtype="int64")
-PIECES = pandas.DataFrame({"bundle": [], "part": [], "rows": []}).astype(
-    {"bundle": "int64", "part": "int64", "rows": "object"}
+COUNTS = pandas.DataFrame({"range": [], "side": [], "element": [], "rows": [], "size": []}, dtype="int64")
+PIECES = pandas.DataFrame({"bundle": [], "part": [], "side": [], "rows": []}).astype(
+    {"bundle": "int64", "part": "int64", "side": "int64", "rows": "object"}
 )
 _BIN = 14  # bits of an element's number
 _LARGEST_TEXT = 1 << 25  # bytes of a schedule that a worker may hold in memory
@@ -47,6 +50,13 @@ class Plan:
     """The folder of parts that are whole."""
     count: int
     """How many parts there are."""
+    sides: int = 1
+    """How many sets of rows there are: one, of which a part is the schedule, or two, of which it is what they say differently."""
+
+    @property
+    def header(self) -> bytes:
+        """The first line of each part."""
+        return _PRINTED if self.sides == 1 else _CHANGES
 
     def name(self, vehicle: str, part: int) -> str:
         """The name of a part in its folder. It has enough digits for the parts to be in the order of their names."""
@@ -62,7 +72,9 @@ class Written:
     size: int
     """How many bytes, including its header."""
     engine: str
-    """The fingerprint of what wrote it."""
+    """The fingerprint of what read its rows."""
+    desk: str = ""
+    """The fingerprint of the program that compared them, if there are two sets."""
 
 
 def vehicle_name(vehicle: str) -> str:
@@ -95,46 +107,47 @@ def ranges(total: pandas.DataFrame, most: int) -> Numbers:
     return firsts if len(begins) else numpy.zeros(1, "int64")
 
 
-def counts(reads: Sequence[BlockRows], firsts: Numbers) -> pandas.DataFrame:
-    """How many rows and bytes each element has in some blocks, with the range that it lies in."""
+def counts(reads: Sequence[BlockRows], firsts: Numbers, side: int = 0) -> pandas.DataFrame:
+    """How many rows and bytes each element has in some blocks of one set, with the range that it lies in."""
     frame = pandas.concat([COUNTS, *(count(read.rows) for read in reads)], ignore_index=True)
+    frame["side"] = side
     frame["range"] = numpy.searchsorted(firsts, frame["element"].to_numpy(), side="right") - 1
     return frame.astype("int64")
 
 
-def cut_range(frame: pandas.DataFrame, most: int) -> Union[Cuts, Beyond]:
+def cut_range(frame: pandas.DataFrame, most: int, sides: int = 1) -> Union[Cuts, Beyond]:
     """The parts of the elements of a range."""
-    return cut(frame.groupby("element")[["rows", "size"]].sum(), most)
+    totals = [frame[frame["side"] == side].groupby("element")[["rows", "size"]].sum() for side in range(sides)]
+    return cut(totals[0], most) if sides == 1 else cut_both(totals[0], totals[1], most)
 
 
 def join_cuts(cuts: Sequence[Union[Cuts, Beyond]]) -> Union[Cuts, Beyond]:
-    """The parts of all ranges; or the first element that no file can hold."""
-    made: List[Cuts] = []
-    for one in cuts:
-        if isinstance(one, Beyond):
-            return one
-        made.append(one)
+    """The parts of all ranges; or the first element that no file can hold, of the old set if it has one."""
+    beyond = [one for one in cuts if isinstance(one, Beyond)]
+    if beyond:
+        return min(beyond, key=lambda one: one.side != "old")
+    made = [one for one in cuts if isinstance(one, Cuts)]
     return Cuts(numpy.concatenate([one.firsts for one in made]), numpy.concatenate([one.rows for one in made]))
 
 
-def pieces(reads: Sequence[BlockRows], cuts: Cuts, bundle_size: int) -> pandas.DataFrame:
-    """The rows of some blocks by part: the frame has a row, with their text, for each block and part that has any.
+def pieces(reads: Sequence[BlockRows], cuts: Cuts, bundle_size: int, side: int = 0) -> pandas.DataFrame:
+    """The rows of some blocks of one set by part: the frame has a row, with their text, for each block and part that has any.
 
     Parameters
     ----------
     bundle_size : int
         How many consecutive parts one task writes.
     """
-    frames = [_piece(read, cuts, bundle_size) for read in reads]
+    frames = [_piece(read, cuts, bundle_size, side) for read in reads]
     return pandas.concat(frames, ignore_index=True)
 
 
-def _piece(read: BlockRows, cuts: Cuts, bundle_size: int) -> pandas.DataFrame:
+def _piece(read: BlockRows, cuts: Cuts, bundle_size: int, side: int) -> pandas.DataFrame:
     texts = texts_of(read.rows, cuts.firsts)
     filled = [part for part, text in enumerate(texts) if text]
     parts = numpy.array(filled, dtype="int64")
     rows = pandas.Series([texts[part] for part in filled], dtype="object")
-    return pandas.DataFrame({"bundle": parts // bundle_size, "part": parts, "rows": rows})
+    return pandas.DataFrame({"bundle": parts // bundle_size, "part": parts, "side": side, "rows": rows})
 
 
 def check(first: str, until: str, vehicles: Sequence[str]) -> None:
@@ -159,29 +172,49 @@ def is_short(given: bytes, days: int) -> bool:
 
 
 def write_bundle(frame: pandas.DataFrame, first_part: int, rows: Sequence[int], plan: Plan) -> List[Written]:
-    """Write the schedules of some consecutive parts, each whole or not at all.
+    """Write some consecutive parts, each whole or not at all.
 
     A second attempt writes the same bytes in the same places.
 
     Parameters
     ----------
     rows : sequence of int
-        How many rows each of the parts has.
+        How many rows each of the parts has, of all sets together.
     """
-    texts: List[List[bytes]] = [[] for _ in rows]
-    for part, text in zip(frame["part"], frame["rows"]):
-        texts[part - first_part].append(text)
+    texts: List[List[List[bytes]]] = [[[] for _ in range(plan.sides)] for _ in rows]
+    for part, side, text in zip(frame["part"], frame["side"], frame["rows"]):
+        texts[part - first_part][side].append(text)
     written: List[Written] = []
     for at, number in enumerate(rows):
         part = first_part + at
-        given = b"".join([HEADER, *texts[at]])
-        if given.count(b"\n") != number + 1:
+        files = [b"".join([HEADER, *lines]) for lines in texts[at]]
+        if sum(file.count(b"\n") for file in files) != number + plan.sides:
             raise RuntimeError(f"part {part} has other rows than were counted: was a file changed while it was read?")
-        records = _records_of(given, plan)
-        for vehicle in plan.vehicles:
-            name = plan.name(vehicle, part)
-            written.append(Written(name, _write(given, records, vehicle, name, plan), engine()))
+        written += _schedules(files[0], part, plan) if plan.sides == 1 else _changes(files[0], files[1], part, plan)
     return written
+
+
+def _schedules(given: bytes, part: int, plan: Plan) -> Iterator[Written]:
+    """Write the schedules of a part, one for each vehicle type."""
+    records = _records_of(given, plan)
+    for vehicle in plan.vehicles:
+
+        def put(file: IO[bytes], words: Tuple[str, str, str] = (plan.first, plan.until, vehicle)) -> None:
+            if records is None:
+                _run_into(file, given, *words)
+            else:
+                file.write(records.schedule(*asked(*words)))
+
+        name = plan.name(vehicle, part)
+        yield Written(name, _write(put, name, plan), engine())
+
+
+def _changes(old: bytes, new: bytes, part: int, plan: Plan) -> Iterator[Written]:
+    """Write what the two sets say differently of the elements of a part, for each vehicle type."""
+    for vehicle in plan.vehicles:
+        name = plan.name(vehicle, part)
+        size = _write(partial(_compare_into, old=old, new=new, words=(plan.first, plan.until, vehicle)), name, plan)
+        yield Written(name, size, engine(), fingerprint(program("gtdesk")))
 
 
 def _records_of(given: bytes, plan: Plan) -> Optional[RecordsInProcess]:
@@ -191,16 +224,12 @@ def _records_of(given: bytes, plan: Plan) -> Optional[RecordsInProcess]:
     return None if library is None or not is_short(given, until - first) else RecordsInProcess(library, given)
 
 
-def _write(given: bytes, records: Optional[RecordsInProcess], vehicle: str, name: str, plan: Plan) -> int:
-    """Write a part for one vehicle type, and return its size."""
+def _write(put: Callable[[IO[bytes]], None], name: str, plan: Plan) -> int:
+    """Write a part, and return its size."""
     attempt = plan.attempts / uuid.uuid4().hex
-    words = plan.first, plan.until, vehicle
     try:
         with open(attempt, "xb") as file:
-            if records is None:
-                _run_into(file, given, *words)
-            else:
-                file.write(records.schedule(*asked(*words)))
+            put(file)
             size = file.seek(0, os.SEEK_END)
         os.replace(attempt, plan.parts / name)
     except OSError as failure:
@@ -214,8 +243,21 @@ def _run_into(file: IO[bytes], given: bytes, *words: str) -> None:
     try:
         run("schedule", "/dev/stdin", *words, given=given, into=file)
     except OSError:
-        # The program does not say why it could not write. Another write makes the system say it.
-        os.lseek(file.fileno(), 0, os.SEEK_END)
-        for _ in range(2):
-            os.write(file.fileno(), bytes(1 << 16))
+        _say_why(file)
         raise
+
+
+def _compare_into(file: IO[bytes], old: bytes, new: bytes, words: Tuple[str, str, str]) -> None:
+    """Have the program write what two files say differently as it finds it, of whatever length."""
+    try:
+        print_changes(old, new, words, file)
+    except OSError:
+        _say_why(file)
+        raise
+
+
+def _say_why(file: IO[bytes]) -> None:
+    """Raise why a file could not be written: a program does not say it, and another write makes the system say it."""
+    os.lseek(file.fileno(), 0, os.SEEK_END)
+    for _ in range(2):
+        os.write(file.fileno(), bytes(1 << 16))

@@ -3,10 +3,11 @@
 from __future__ import annotations
 
 import contextlib
+import itertools
 import sys
 from concurrent.futures import CancelledError
 from functools import partial
-from typing import Any, Callable, Dict, Iterable, Iterator, List, NamedTuple, Sequence, Tuple, Union
+from typing import Any, Callable, Dict, Iterable, Iterator, List, NamedTuple, Sequence, Set, Tuple, Union
 
 import dask
 import dask.dataframe
@@ -46,6 +47,19 @@ class Done(NamedTuple):
     """How many bytes the output has."""
 
 
+class Compared(NamedTuple):
+    """What was written of two sets."""
+
+    rows: int
+    """How many rows all files of both have."""
+    parts: List[str]
+    """As in :class:`Done`."""
+    size: int
+    """How many bytes the output has."""
+    differs: bool
+    """Whether the two sets say anything differently."""
+
+
 class Asked(NamedTuple):
     """What is asked for."""
 
@@ -62,25 +76,36 @@ class Run:
 
     def __init__(self, client: Client, asked: Asked, staging: Staging, show: bool) -> None:
         self.client, self.asked, self.staging, self.show = client, asked, staging, show
+        self.has_lines = False
+        """Whether some part that was written has a line behind its header."""
 
-    def whole(self, sources: List[Source]) -> Done:
-        """Write the output. See :func:`gtd.country.schedule`."""
-        files = self._files(sources)
-        every = [block for file in files for block in blocks(file, self.asked.block_size)]
+    def whole(self, sets: Sequence[List[Source]]) -> Done:
+        """Write the output: of one set the schedule, and of two what they say differently. See :func:`gtd.country.schedule` and
+        :func:`gtd.country.diff`.
+        """
+        sources = [source for one in sets for source in one]
+        opened = iter(self._files(sources))
+        files = [list(itertools.islice(opened, len(one))) for one in sets]
+        sides = [[block for file in one for block in blocks(file, self.asked.block_size)] for one in files]
+        every = [block for side in sides for block in side]
         read = self._map(_blocks.read_rows, every)
         accepted = self._accepted(every, self._gathered("reading", self._map(_blocks.report, read)))
-        cuts = self._cuts(read)
+        bounds = list(itertools.accumulate(map(len, sides), initial=0))
+        by_side = [read[begin:end] for begin, end in zip(bounds, bounds[1:])]
+        cuts = self._cuts(by_side)
         if isinstance(cuts, Beyond):
-            raise self._fault_beyond(cuts, every, read, accepted)
-        plan = self._plan(cuts)
-        bundles = self._bundles(read, cuts, plan)
-        del read  # from here on the scheduler keeps what the parts need
+            at = 1 if cuts.side == "new" else 0
+            mine = slice(bounds[at], bounds[at + 1])
+            raise self._fault_beyond(cuts, every[mine], read[mine], accepted[mine])
+        plan = self._plan(cuts, len(sets))
+        bundles = self._bundles(by_side, cuts, plan)
+        del read, by_side  # from here on the scheduler keeps what the parts need
         written = [part for bundle in self._gathered("scheduling", bundles) for part in bundle]
-        if len({report.engine for report in accepted} | {part.engine for part in written}) > 1:
-            raise RuntimeError("the workers have different programs gtd, or different libraries")
+        _check_same({report.engine for report in accepted} | {part.engine for part in written}, {part.desk for part in written})
         changed = [source.path for source in sources if source.is_changed()]
         if changed:
             raise RuntimeError(f"changed while they were read: {', '.join(changed)}")
+        self.has_lines = any(part.size > len(plan.header) for part in written)
         return self._kept(plan, written, sum(report.rows for report in accepted))
 
     def _files(self, sources: List[Source]) -> List[File]:
@@ -103,15 +128,18 @@ class Run:
             accepted.append(report)
         return accepted
 
-    def _cuts(self, read: List[Future]) -> Union[Cuts, Beyond]:
+    def _cuts(self, by_side: List[List[Future]]) -> Union[Cuts, Beyond]:
         """The parts of all rows: their elements are counted range by range."""
-        total = dask.dataframe.from_delayed(self._map(_parts.bins, read), meta=_parts.BINS, verify_meta=False)
+        every = [one for side in by_side for one in side]
+        total = dask.dataframe.from_delayed(self._map(_parts.bins, every), meta=_parts.BINS, verify_meta=False)
         total = total.groupby("bin").sum(split_every=8).to_delayed()[0]
         firsts = self.client.compute(dask.delayed(_parts.ranges)(total, _ROWS_PER_RANGE)).result()
-        counts = self.client.map(_parts.counts, _grouped(read), firsts=firsts, retries=_RETRIES, pure=False)
+        counts = self._map_sides(partial(_parts.counts, firsts=firsts), by_side)
         ranges = _shuffled(counts, _parts.COUNTS, "range", len(firsts))
         cut = dask.delayed(_parts.cut_range)
-        cuts = self.client.compute([cut(one, self.asked.rows_per_part) for one in ranges], retries=_RETRIES)
+        cuts = self.client.compute(
+            [cut(one, self.asked.rows_per_part, len(by_side)) for one in ranges], retries=_RETRIES
+        )
         return _parts.join_cuts(self._gathered("counting", cuts))
 
     def _fault_beyond(self, beyond: Beyond, every: List[Block], read: List[Future], accepted: List[Accepted]) -> Exception:
@@ -126,21 +154,19 @@ class Run:
             rows, size = rows + more_rows, size + more_size
         return Fault(beyond.kind, note=beyond.note)
 
-    def _plan(self, cuts: Cuts) -> _parts.Plan:
+    def _plan(self, cuts: Cuts, sides: int) -> _parts.Plan:
         vehicles = self.asked.vehicles
         if len(vehicles) > 1:
             for vehicle in vehicles:
                 (self.staging.parts / _parts.vehicle_name(vehicle)).mkdir()
         folders = self.staging.attempts, self.staging.parts
-        return _parts.Plan(self.asked.first, self.asked.until, vehicles, *folders, len(cuts.rows))
+        return _parts.Plan(self.asked.first, self.asked.until, vehicles, *folders, len(cuts.rows), sides)
 
-    def _bundles(self, read: List[Future], cuts: Cuts, plan: _parts.Plan) -> List[Future]:
+    def _bundles(self, by_side: List[List[Future]], cuts: Cuts, plan: _parts.Plan) -> List[Future]:
         """The tasks that write the parts, each some consecutive ones."""
         size = -(-plan.count // _MOST_PIECES)
         begins = range(0, plan.count, size)
-        pieces = self.client.map(
-            _parts.pieces, _grouped(read), cuts=cuts, bundle_size=size, retries=_RETRIES, pure=False
-        )
+        pieces = self._map_sides(partial(_parts.pieces, cuts=cuts, bundle_size=size), by_side)
         bundles = _shuffled(pieces, _parts.PIECES, "bundle", len(begins))
         write = dask.delayed(partial(_parts.write_bundle, plan=plan))
         rows = [[int(number) for number in cuts.rows[begin : begin + size]] for begin in begins]
@@ -154,7 +180,7 @@ class Run:
         size = sum(part.size for part in written)
         names = [name for group in groups for name in group]
         if self.asked.joined:
-            size -= len(_parts.PRINTED) * (len(names) - len(groups))
+            size -= len(plan.header) * (len(names) - len(groups))
             names = [f"{_parts.vehicle_name(vehicle)}.csv" for vehicle in plan.vehicles]
         if self.staging.is_file:
             names = [self.staging.out.name]
@@ -163,6 +189,13 @@ class Run:
 
     def _map(self, function: Callable[..., Any], many: Iterable[Any]) -> List[Future]:
         futures: List[Future] = self.client.map(function, many, retries=_RETRIES, pure=False)
+        return futures
+
+    def _map_sides(self, function: Callable[..., Any], by_side: List[List[Future]]) -> List[Future]:
+        """A function of blocks that go into the shuffle together, of each set by itself."""
+        futures: List[Future] = []
+        for side, read in enumerate(by_side):
+            futures += self.client.map(partial(function, side=side), _grouped(read), retries=_RETRIES, pure=False)
         return futures
 
     def _gathered(self, what: str, futures: List[Future]) -> List[Any]:
@@ -179,6 +212,14 @@ class Run:
                 if self.client.status == "running":
                     self.client.cancel(futures)
             raise
+
+
+def _check_same(engines: Set[str], desks: Set[str]) -> None:
+    """Raise RuntimeError if the workers have different programs."""
+    if len(engines) > 1:
+        raise RuntimeError("the workers have different programs gtd, or different libraries")
+    if len(desks) > 1:
+        raise RuntimeError("the workers have different programs gtdesk")
 
 
 def _grouped(read: List[Future]) -> List[List[Future]]:
