@@ -1,0 +1,2 @@
+pub mod NameFacts
+pub mod ToldFacts

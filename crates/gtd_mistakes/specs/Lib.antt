@@ -1,0 +1,4 @@
+pub mod RuleNames
+pub mod Rules
+pub mod Shapes
+pub mod Told
