@@ -39,8 +39,9 @@ fn days_from(second: Sec) -> Horizon
     }
 }
 
-// The least later second within the search at which the element's state differs from that at the given one.
-pub(crate) fn change_of(
+/// The least later second, within the days that a search looks at, at which the element's state differs from that at the given
+/// one; `None` if there is none. The second must be on a day that a horizon may have.
+pub fn change_after(
     alloc: Global,
     found: &Records,
     element: u64,

@@ -2,6 +2,7 @@
 //! of some of them.
 #![tactic(auto)]
 
+pub use change::change_after;
 pub use run::{Asked, run_now};
 
 mod change;

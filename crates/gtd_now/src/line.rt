@@ -7,7 +7,7 @@ ghost use Rattle.gtd_core.specs.Seconds.{day_of_second, IsHorizonSecond};
 ghost use Rattle.gtd_now.specs.Lines.{state_head, most_state_bytes, none_closes, second_of};
 ghost use Rattle.gtd_now.specs.Now.{IsLine, change_text, rows_text, state_line, state_word};
 
-use crate::change::change_of;
+use crate::change::change_after;
 use gtd_calendar::write_stamp;
 use gtd_core::Sec;
 use gtd_records::{Direction, Records};
@@ -110,6 +110,6 @@ pub(crate) fn write_line(
     ensures short { OnOk result (length line.new.items ≤ most_state_bytes) }
 {
     let rows = found.closing_rows(alloc, element, direction, vehicle, second)?;
-    let change = change_of(alloc, found, element, direction, vehicle, second)?;
+    let change = change_after(alloc, found, element, direction, vehicle, second)?;
     write_state(line, element, direction, vehicle, change, rows.as_slice())
 }

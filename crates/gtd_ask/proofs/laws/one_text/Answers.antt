@@ -1,0 +1,5 @@
+use Rattle.gtd_ask.proofs.AnswerFacts.{one_text}
+use Rattle.gtd_ask.proofs.laws.one_text.Goals as goal
+
+pub returns : goal.returns
+returns c = record { one = one_text }

@@ -1,0 +1,102 @@
+//! The lines of answers.
+
+ghost use Rattle.std.specs.Prelude.{[], ◌∷◌, ◌≡◌, ◌++◌, ◌≤◌, ⊤, length, MatchOption, OnOk};
+ghost use Rattle.gtd_calendar.specs.Calendar.{IsCalendarDay};
+ghost use Rattle.gtd_calendar.specs.Stamp.{stamp_text};
+ghost use Rattle.gtd_core.specs.Seconds.{day_of_second, IsMomentSecond};
+ghost use Rattle.gtd_now.specs.Lines.{second_of, state_head};
+ghost use Rattle.gtd_now.specs.Now.{change_text, state_word};
+ghost use Rattle.gtd_ask.specs.Answers.{IsAnswer, answer_line};
+
+use crate::question::Question;
+use gtd_calendar::write_stamp;
+use gtd_core::Sec;
+use gtd_now::change_after;
+use gtd_records::{Direction, Records};
+use itoa::Buffer;
+use std::alloc::{AllocError, Global};
+
+// Writes the element, the direction and the vehicle type of a question, in place of what the buffer held.
+fn write_head(line: &mut Vec<u8>, question: &Question) -> Result<(), AllocError>
+    ensures head { OnOk result (line.new.items
+        ≡ state_head question.now.element question.now.direction question.now.vehicle) }
+    ensures short { OnOk result (length line.new.items ≤ 34) }
+{
+    line.clear();
+    line.extend_from_slice(Buffer::new().format(question.element).as_bytes())?;
+    line.extend_from_slice(match question.direction {
+        Direction::Positive => b",positive,".as_slice(),
+        Direction::Negative => b",negative,".as_slice(),
+    })?;
+    line.extend_from_slice(Buffer::new().format(question.vehicle).as_bytes())?;
+    line.extend_from_slice(b",")
+}
+
+// Appends a moment and a comma to the buffer.
+fn push_moment(line: &mut Vec<u8>, second: Sec) -> Result<(), AllocError>
+    requires day { IsCalendarDay (day_of_second second.0) }
+    ensures moment { OnOk result (line.new.items ≡ line.old.items ++ (stamp_text second.0 ++ (44 ∷ []))) }
+{
+    line.extend_from_slice(&write_stamp(second))?;
+    line.extend_from_slice(b",")
+}
+
+// Appends the state and a comma to the buffer.
+fn push_state(line: &mut Vec<u8>, is_open: bool) -> Result<(), AllocError>
+    ensures state { OnOk result (line.new.items ≡ line.old.items ++ (state_word is_open ++ (44 ∷ []))) }
+{
+    if is_open {
+        line.extend_from_slice(b"open,")
+    } else {
+        line.extend_from_slice(b"closed,")
+    }
+}
+
+// Appends the moment of a change, if there is one, and the line's end to the buffer.
+fn push_change(line: &mut Vec<u8>, change: Option<Sec>) -> Result<(), AllocError>
+    requires day { MatchOption change ⊤ (λ c. IsCalendarDay (day_of_second c.0)) }
+    ensures change { OnOk result (line.new.items ≡ line.old.items ++ (change_text (second_of change) ++ (10 ∷ []))) }
+{
+    if let Some(second) = change {
+        line.extend_from_slice(&write_stamp(second))?;
+    }
+    line.extend_from_slice(b"\n")
+}
+
+// Writes the line of a question, in place of what the buffer held.
+fn write_line(
+    line: &mut Vec<u8>,
+    question: &Question,
+    is_open: bool,
+    change: Option<Sec>,
+) -> Result<(), AllocError>
+    requires moment { IsCalendarDay (day_of_second question.now.second.0) }
+    requires day { MatchOption change ⊤ (λ c. IsCalendarDay (day_of_second c.0)) }
+    ensures line { OnOk result (line.new.items ≡ answer_line question.now is_open (second_of change)) }
+    ensures short { OnOk result (length line.new.items ≤ 100) }
+{
+    write_head(line, question)?;
+    push_moment(line, question.second)?;
+    push_state(line, is_open)?;
+    push_change(line, change)
+}
+
+/// Writes the line of a question and its answer, in place of what the buffer held.
+pub(crate) fn write_answer(
+    alloc: Global,
+    line: &mut Vec<u8>,
+    found: &Records,
+    question: &Question,
+) -> Result<(), AllocError>
+    requires in_range { IsMomentSecond question.now.second.0 }
+    ensures line { OnOk result (IsAnswer found.now question.now line.new.items) }
+    ensures short { OnOk result (length line.new.items ≤ 100) }
+{
+    let element = question.element;
+    let direction = question.direction;
+    let vehicle = question.vehicle;
+    let second = question.second;
+    let closed = found.closed_at(element, direction, vehicle, second);
+    let change = change_after(alloc, found, element, direction, vehicle, second)?;
+    write_line(line, question, !closed, change)
+}
