@@ -1,0 +1,2 @@
+pub mod DayFacts
+pub mod RowFacts
