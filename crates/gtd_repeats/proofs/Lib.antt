@@ -1,0 +1,10 @@
+mod AlikeFacts
+mod BucketFacts
+mod FindingFacts
+mod FirstFacts
+mod KnownFacts
+mod LineFacts
+mod ListFacts
+mod NumberFacts
+mod RunFacts
+mod TextFacts

@@ -1,0 +1,23 @@
+use Rattle.std.proofs.Common.{◌≡◌, ◌<◌, arith, rules, length, length-append, [], ◌∷◌}
+use Rattle.gtd_repeats.proofs.FirstFacts.{all_firsts, none_yet, so_far_more}
+use Rattle.gtd_repeats.proofs.firsts.firsts_of.Goals as goal
+
+pub loop-row-preserved : goal.loop-row-preserved
+loop-row-preserved g c =
+    let inv = c.loop-row.invariant in
+    let row = c.loop-row.row in
+    let like = g.L.Likeness.alike c.args.rows.now in
+    let firsts = c.loop-row.firsts.items in
+    let first = c.in_ok-first.first in
+    let inside : row < length c.args.numbers.now = omega arith in
+    let k = c.requires.known row inside in
+    let found = c.in_ok-first.ensures.first c.args.numbers.now c.requires.likeness c.requires.numbers
+    (rw c.as_slice.ensures.value inv.so_far) (search rules) k.0 k.1 in
+    let l = length-append firsts (first ∷ []) in
+    record {
+      many = rw c.in_ok-push.ensures.items (omega (arith, l, inv.many));
+      buckets = c.in_ok-first.ensures.many;
+      so_far = rw c.in_ok-push.ensures.items
+          (so_far_more like c.requires.likeness c.args.numbers.now firsts c.first_of.new.buckets.items first row
+          (omega (arith, inv.many)) (found.0, found.2) (rw c.as_slice.ensures.value at found.1));
+    }

@@ -1,0 +1,11 @@
+use Rattle.std.proofs.Common.{◌≡◌, ◌<◌, ℕ, length, get_or}
+use Rattle.gtd_repeats.specs.Numbers.{IsNumberOf}
+use Rattle.gtd_repeats.specs.Sameness.{row_at}
+use Rattle.gtd_repeats.proofs.numbers.numbers_of.Given as goal
+
+-- those of the rows so far
+abbrev pub invariant-loop-row : goal.invariant-loop-row
+invariant-loop-row l = record {
+  many : length l.numbers.items ≡ l.row;
+  each : (k : ℕ) → k < length l.numbers.items → IsNumberOf (row_at l.fn.rows k).domain (get_or l.numbers.items k 0);
+}

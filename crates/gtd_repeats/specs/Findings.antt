@@ -1,0 +1,57 @@
+-- What is said of the rows of a file that say nothing new.
+use Rattle.std.specs.Prelude.{◌≡◌, ◌<◌, ◌+◌, ℕ, zero, suc, List, [], ◌∷◌, ◌++◌, length, Option, Some, None}
+use Rattle.gtd_records.specs.Closing.{Restriction}
+use Rattle.gtd_repeats.specs.Firsts.{IsFirst}
+use Rattle.gtd_repeats.specs.Sameness.{AreAlikeIn, IsSameRow, IsWithinRow, row_at}
+use Rattle.gtd_repeats.specs.declared.alike.Kind.TheVariants as kind
+use Rattle.gtd_repeats.specs.declared.findings.Finding.{Finding}
+use Rattle.gtd_repeats.specs.declared.findings.Finding.TheVariants.{SameRow, WithinRow, SameMeaning}
+
+-- a list with one finding more, if there is one
+abbrev pub with_finding : List Finding → Option Finding → List Finding
+with_finding before None = before
+with_finding before (Some finding) = before ++ finding ∷ []
+
+module _ (rows : List Restriction) where
+  -- the other is a row of the file that does not say the same, and the row is within it
+  pub record IsWithinOf (row other : ℕ) : Type 0 where
+    pub inside : other < length rows
+    pub within : IsWithinRow (row_at rows row) (row_at rows other)
+    pub apart : IsSameRow (row_at rows row) (row_at rows other) → ⊥
+
+  -- the first row that says the same; the first whose domain has the same canonical text; the first that closes at the same seconds
+  abbrev pub IsFirstSame : ℕ → ℕ → Type 0
+  IsFirstSame = IsFirst (AreAlikeIn rows kind.Row)
+
+  abbrev pub IsFirstText : ℕ → ℕ → Type 0
+  IsFirstText = IsFirst (AreAlikeIn rows kind.Text)
+
+  abbrev pub IsFirstMeaning : ℕ → ℕ → Type 0
+  IsFirstMeaning = IsFirst (AreAlikeIn rows kind.Seconds)
+
+  -- What is said of a row: that an earlier one says the same, the first that does; otherwise maybe that it is within another.
+  abbrev pub IsSaidOfRow : ℕ → Option Finding → Type 0
+  IsSaidOfRow row None = IsFirstSame row row
+  IsSaidOfRow row (Some (SameRow number of)) =
+      (first : ℕ) × (first < row) × IsFirstSame row first × (number ≡ row + 1) × (of ≡ first + 1)
+  IsSaidOfRow row (Some (WithinRow number of)) =
+      (other : ℕ) × IsFirstSame row row × IsWithinOf row other × (number ≡ row + 1) × (of ≡ other + 1)
+  IsSaidOfRow row (Some (SameMeaning number of)) = ⊥
+
+  -- What is said of a row's text, if no earlier row has it: the first row that closes at the same seconds, if that is an earlier one.
+  abbrev pub IsSaidOfText : ℕ → Option Finding → Type 0
+  IsSaidOfText row None = IsFirstText row row → IsFirstMeaning row row
+  IsSaidOfText row (Some (SameMeaning number of)) =
+      (first : ℕ) × (first < row) × IsFirstText row row × IsFirstMeaning row first × (number ≡ row + 1) × (of ≡ first + 1)
+  IsSaidOfText row (Some other) = ⊥
+
+  -- what is said of the first rows, so many, row by row
+  unfoldable pub AreFindingsOf : ℕ → List Finding → Type 0
+  AreFindingsOf zero findings = findings ≡ []
+  AreFindingsOf (suc row) findings =
+      (before : List Finding) × (of_row of_text : Option Finding) × AreFindingsOf row before × IsSaidOfRow row of_row
+      × IsSaidOfText row of_text × (findings ≡ with_finding (with_finding before of_row) of_text)
+
+  -- what is said of all rows
+  abbrev pub AreFindings : List Finding → Type 0
+  AreFindings = AreFindingsOf (length rows)

@@ -1,0 +1,138 @@
+//! Numbers that rows with the same seconds share, so that few rows are compared.
+
+ghost use Rattle.std.specs.Prelude.{◌≡◌, ◌<◌, ◌≤◌, ◌*◌, ℕ, Some, IfOk, get_or, length, option_map};
+ghost use Rattle.gtd_core.specs.Parts.{domain_tree};
+ghost use Rattle.gtd_eval.specs.Cursors.{cursor_list};
+ghost use Rattle.gtd_repeats.specs.Known.{AreKnown};
+ghost use Rattle.gtd_repeats.specs.Numbers as spec;
+ghost use Rattle.gtd_repeats.specs.Numbers.{AreMixed, AreNumbers, IsNumberOf, mixed};
+ghost use Rattle.gtd_repeats.specs.Sameness.{row_at};
+
+use crate::seconds::days_between;
+use gtd_core::{Domain, Span};
+use gtd_eval::Cursor;
+use gtd_records::Record;
+use gtd_spans::SpanSource;
+use std::alloc::{AllocError, Global};
+
+/// The days of 2016-01-01 and of 2044-01-01.
+const FIRST_DAY: i64 = 16_801;
+
+const END_DAY: i64 = 27_028;
+
+/// How many spans are looked at.
+const SPANS: u8 = 8;
+
+/// Numbers are of remainders by this prime.
+const PRIME: u64 = 1_000_003;
+
+// A number of a span.
+fn weight(span: Span) -> u64
+    ensures value { result ≡ spec.weight span }
+    ensures small { result < 8_000_024 }
+{
+    let from = span.from().0.unsigned_abs() % PRIME;
+    let until = span.until().0.unsigned_abs() % PRIME;
+    7 * from + until
+}
+
+// The sum of those of the next spans.
+fn total_of(cursor: &mut Cursor, left: u8) -> u64
+    requires few { left ≤ 8 }
+    ensures value { result ≡ spec.total left (cursor_list cursor.old) }
+    ensures small { result ≤ left * 8_000_024 }
+{
+    if left == 0 {
+        return 0;
+    }
+    let Some(span) = cursor.next() else {
+        return 0;
+    };
+    let first = weight(span);
+    let rest = total_of(cursor, left - 1);
+    first + rest
+}
+
+// The number of a domain.
+fn number_of_domain(alloc: Global, domain: &Domain) -> Result<u64, AllocError>
+    ensures number { IfOk result (IsNumberOf (Some (domain_tree domain.now))) }
+{
+    let years = days_between(FIRST_DAY, END_DAY);
+    let mut cursor = Cursor::open(alloc, domain, years)?;
+    Ok(total_of(&mut cursor, SPANS))
+}
+
+// The number of a row with this domain, or with none.
+fn number_of(alloc: Global, domain: &Option<Domain>) -> Result<u64, AllocError>
+    ensures number { IfOk result (IsNumberOf (option_map domain_tree domain.now)) }
+{
+    match domain {
+        Some(domain) => number_of_domain(alloc, domain),
+        None => {
+            let years = days_between(FIRST_DAY, END_DAY);
+            Ok(weight(years.whole()))
+        }
+    }
+}
+
+// The number of the next row, which has the text of a known row: an earlier one, or itself.
+fn next_number(
+    alloc: Global,
+    rows: &[Record],
+    numbers: &[u64],
+    known: usize,
+) -> Result<u64, AllocError>
+    requires next { length numbers.now < length rows.now }
+    ensures number { ((row : ℕ) → row < length numbers.now → IsNumberOf (row_at rows.now row).domain (get_or numbers.now row 0))
+        → (row_at rows.now known).domain ≡ (row_at rows.now (length numbers.now)).domain → known ≤ length numbers.now
+        → IfOk result (IsNumberOf (row_at rows.now (length numbers.now)).domain) }
+{
+    match numbers.get(known) {
+        Some(number) => Ok(*number),
+        None => {
+            let record = &rows[numbers.len()];
+            number_of(alloc, &record.domain)
+        }
+    }
+}
+
+/// The number of each row's domain. Each row has the text of a known one: an earlier one, or itself.
+pub(crate) fn numbers_of(
+    alloc: Global,
+    rows: &[Record],
+    known: &[usize],
+) -> Result<Vec<u64>, AllocError>
+    requires known { AreKnown rows.now known.now }
+    ensures numbers { IfOk result (λ numbers. AreNumbers rows.now numbers.items) }
+{
+    let mut numbers = Vec::new(alloc);
+    for row in 0..rows.len() {
+        let number = next_number(alloc, rows, numbers.as_slice(), known[row])?;
+        numbers.push(number)?;
+    }
+    Ok(numbers)
+}
+
+// A number of a row, of its element and of the first row with the same seconds.
+fn mixed(element: u64, first: usize) -> u64
+    ensures value { result ≡ spec.mixed element first }
+{
+    (element % PRIME) * 65_536 + first as u64 % 65_536
+}
+
+/// The number of each row, of its element and of the first row with the same seconds.
+pub(crate) fn mixed_numbers(
+    alloc: Global,
+    rows: &[Record],
+    firsts: &[usize],
+) -> Result<Vec<u64>, AllocError>
+    requires many { length firsts.now ≡ length rows.now }
+    ensures numbers { IfOk result (λ numbers. AreMixed rows.now firsts.now numbers.items) }
+{
+    let mut numbers = Vec::new(alloc);
+    for row in 0..rows.len() {
+        let record = &rows[row];
+        numbers.push(mixed(record.element, firsts[row]))?;
+    }
+    Ok(numbers)
+}
