@@ -176,9 +176,9 @@ complete_in() {
 know_commands() {
     gives "the program's commands" "$(tr ' ' '\n' <<< "$commands" | sort)" \
         bash -c "sed -n 's/.*(codes \"\([a-z]*\)\", .*reading)/\1/p' '$top/crates/gtd_tool/specs/Commands.antt' | sort"
-    local defined=$top/crates/gtdesk_plans/specs/CommandLine.antt
+    local defined=$top/crates/gtdesk_plans/specs/Commands
     gives "gtdesk's commands" "$(tr ' ' '\n' <<< "$desk_commands" | sort)" \
-        bash -c "sed -n 's/.*command_of (codes \"\([a-z-]*\)\").*/\1/p' '$defined' | sort"
+        bash -c "sed -n 's/.*command_of (codes \"\([a-z-]*\)\").*/\1/p' '$defined'/*.antt | sort"
     gives "gtdesk's commands and their words, as its help says them" '' "$top/packaging/pages.py" --help-of "$root/usr/bin/gtdesk"
 }
 

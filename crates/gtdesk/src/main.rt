@@ -7,12 +7,10 @@
 //! 2 for usage, 3 if opening, reading, writing or memory failed.
 #![tactic(auto)]
 
-ghost use Rattle.std.specs.Prelude.{◌≡◌, None};
-ghost use Rattle.gtdesk_tool.specs.Plans.{diff_of};
-
 use gtd_devices::{Host, HostOut};
 use gtdesk_tool::{
-    DiffFault, DiffPlan, Ending, Plan, Refusal, RefusalLine, perform, perform_diff, plan,
+    DiffPlan, Ending, OnePlan, Plan, Refusal, RefusalLine, RunRefusal, WordsRefusal, perform,
+    perform_diff, plan, refused_file,
 };
 use std::fs::File;
 use std::io::{BufWriter, ErrorKind, Read};
@@ -23,40 +21,40 @@ use std::{env, io};
 const OUTPUT_BUFFER: usize = 65_536;
 
 // The words after the program's name. A word that is not UTF-8 is a fault of usage.
-fn words_of(rt: &HostRuntime) -> Result<Vec<String>, Refusal> {
+fn words_of(rt: &HostRuntime) -> Result<Vec<String>, WordsRefusal> {
     let words = env::args(rt).map_err(|error| match error.kind() {
-        ErrorKind::OutOfMemory => Refusal::Memory,
-        _ => Refusal::Usage("a word is no text"),
+        ErrorKind::OutOfMemory => WordsRefusal::Memory,
+        _ => WordsRefusal::Usage("a word is no text"),
     })?;
     words
         .skip(1)
         .collect(rt.alloc())
-        .map_err(|_| Refusal::Memory)
+        .map_err(|_| WordsRefusal::Memory)
 }
 
 // The record file at the path.
-fn open(rt: &HostRuntime, path: &str) -> Result<File, Refusal> {
+fn open(rt: &HostRuntime, path: &str) -> Result<File, RunRefusal> {
     File::open(rt, path).map_err(|error| match error.kind() {
-        ErrorKind::OutOfMemory => Refusal::Memory,
-        _ => Refusal::Open,
+        ErrorKind::OutOfMemory => RunRefusal::Memory,
+        _ => RunRefusal::Open,
     })
 }
 
 // Carries the plan out, from a reader to standard output.
-fn print<R: Read + Drop>(rt: &HostRuntime, plan: &Plan, reader: R) -> Result<Ending, Refusal>
-    requires one_file { diff_of plan.now ≡ None }
-{
+fn print<R: Read + Drop>(
+    rt: &HostRuntime,
+    plan: &OnePlan,
+    reader: R,
+) -> Result<Ending, RunRefusal> {
     let mut input = Host::new(reader);
     let made = BufWriter::with_capacity(rt.alloc(), OUTPUT_BUFFER, io::writer(rt));
-    let mut output = HostOut::new(made.map_err(|_| Refusal::Memory)?);
+    let mut output = HostOut::new(made.map_err(|_| RunRefusal::Memory)?);
     let mut errors = HostOut::new(rt.stderr());
     perform(rt.alloc(), plan, &mut input, &mut output, &mut errors)
 }
 
 // Carries a plan out that reads one file at most.
-fn run_one(rt: &HostRuntime, plan: &Plan) -> Result<Ending, Refusal>
-    requires one_file { diff_of plan.now ≡ None }
-{
+fn run_one(rt: &HostRuntime, plan: &OnePlan) -> Result<Ending, RunRefusal> {
     match plan.file() {
         Some("-") => print(rt, plan, rt.stdin()),
         Some(path) => print(rt, plan, open(rt, path)?),
@@ -70,16 +68,20 @@ fn print_diff<R: Read + Drop, S: Read + Drop>(
     plan: &DiffPlan,
     old: R,
     new: S,
-) -> Result<Ending, Refusal> {
+) -> Result<Ending, RunRefusal> {
     let mut old = Host::new(old);
     let mut new = Host::new(new);
     let made = BufWriter::with_capacity(rt.alloc(), OUTPUT_BUFFER, io::writer(rt));
-    let mut output = HostOut::new(made.map_err(|_| Refusal::Memory)?);
+    let mut output = HostOut::new(made.map_err(|_| RunRefusal::Memory)?);
     perform_diff(rt.alloc(), plan, &mut old, &mut new, &mut output)
 }
 
 // Carries the plan of `diff` out, from the reader of the old file.
-fn run_diff<R: Read + Drop>(rt: &HostRuntime, plan: &DiffPlan, old: R) -> Result<Ending, Refusal> {
+fn run_diff<R: Read + Drop>(
+    rt: &HostRuntime,
+    plan: &DiffPlan,
+    old: R,
+) -> Result<Ending, RunRefusal> {
     match plan.new.as_str() {
         "-" => print_diff(rt, plan, old, rt.stdin()),
         path => print_diff(rt, plan, old, open(rt, path)?),
@@ -87,20 +89,20 @@ fn run_diff<R: Read + Drop>(rt: &HostRuntime, plan: &DiffPlan, old: R) -> Result
 }
 
 // The old record file.
-fn open_old(rt: &HostRuntime, path: &str) -> Result<File, Refusal> {
+fn open_old(rt: &HostRuntime, path: &str) -> Result<File, RunRefusal> {
     open(rt, path).map_err(|refusal| match refusal {
-        Refusal::Open => Refusal::Diff(DiffFault::OldOpen),
+        RunRefusal::Open => RunRefusal::OldOpen,
         _ => refusal,
     })
 }
 
-fn run(rt: &HostRuntime, plan: &Plan) -> Result<Ending, Refusal> {
-    match plan.diff() {
-        Some(diff) => match diff.old.as_str() {
+fn run(rt: &HostRuntime, plan: &Plan) -> Result<Ending, RunRefusal> {
+    match plan {
+        Plan::One(plan) => run_one(rt, plan),
+        Plan::Diff(diff) => match diff.old.as_str() {
             "-" => run_diff(rt, diff, rt.stdin()),
             path => run_diff(rt, diff, open_old(rt, path)?),
         },
-        None => run_one(rt, plan),
     }
 }
 
@@ -118,8 +120,11 @@ fn main(rt: HostRuntime) -> ExitCode {
     match planned {
         Ok(plan) => match run(&rt, &plan) {
             Ok(ending) => ExitCode::from(ending.status()),
-            Err(refusal) => refuse(&rt, refusal, plan.refused_file(refusal).unwrap_or("")),
+            Err(refusal) => {
+                let file = refused_file(&plan, refusal).unwrap_or("");
+                refuse(&rt, Refusal::Run(refusal), file)
+            }
         },
-        Err(refusal) => refuse(&rt, refusal, ""),
+        Err(refusal) => refuse(&rt, Refusal::Words(refusal), ""),
     }
 }

@@ -12,7 +12,8 @@ use Rattle.clap.specs.declared.error.Error.{Error}
 use Rattle.clap.specs.declared.parser.matches.ArgMatches.{ArgMatches}
 use Rattle.clap.specs.declared.parser.matches.ArgMatches.TheViews.{out-ArgMatches, out-SubCommand}
 use Rattle.clap.specs.declared.parser.matches.SubCommand.{SubCommand}
-use Rattle.gtdesk_plans.specs.CommandLine.{HasWords, Text, desk_app}
+use Rattle.gtdesk_plans.specs.Arguments.{Text}
+use Rattle.gtdesk_plans.specs.CommandLine.{HasWords, desk_app}
 
 desk_is_simple : is_simple desk_app ≡ true
 desk_is_simple = refl

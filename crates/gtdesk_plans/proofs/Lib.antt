@@ -1,5 +1,5 @@
 pub mod ClapWords
-pub mod HoursFacts
-pub mod DiffFacts
-pub mod PlanFacts
 pub mod NumberFacts
+pub mod PlanFacts
+pub mod ReadingFacts
+pub mod StandFacts

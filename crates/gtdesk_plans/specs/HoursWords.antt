@@ -1,6 +1,5 @@
 -- What a text of opening hours stands for.
-use Rattle.std.specs.Prelude.{◌≡◌, ◌↔◌, ◌<◌, ◌≤◌, ℤ, Option}
-use Rattle.gtd_calendar.specs.declared.stamp.StampFault.{StampFault}
+use Rattle.std.specs.Prelude.{◌↔◌, ◌<◌, ◌≤◌, ℤ}
 use Rattle.gtd_core.specs.Limits.{most_basic_domains}
 use Rattle.gtd_core.specs.declared.domain.Domain.{Domain}
 use Rattle.gtd_hours.specs.Membership.{InDomain}
@@ -9,12 +8,9 @@ use Rattle.gtd_hours.specs.Opening.{IsOpen}
 use Rattle.gtd_hours.specs.declared.hours.Hours.{Hours}
 use Rattle.gtd_hours_grammar.specs.Faults.{IsFirstFault}
 use Rattle.gtd_hours_text.specs.Standing.{StandsFor}
-use Rattle.gtdesk_plans.specs.CommandLine.{Text}
-use Rattle.gtdesk_plans.specs.Words.{IsFromFault}
+use Rattle.gtdesk_plans.specs.Arguments.{Text}
 use Rattle.gtdesk_plans.specs.declared.refusal.NoDomain.{NoDomain}
 use Rattle.gtdesk_plans.specs.declared.refusal.NoDomain.TheVariants as none
-use Rattle.gtdesk_plans.specs.declared.refusal.PairFault.{PairFault}
-use Rattle.gtdesk_plans.specs.declared.refusal.PairFault.TheVariants as pair
 
 -- The text stands for hours that fit into a domain.
 abbrev pub HasDomain : Text → Type 0
@@ -33,10 +29,3 @@ IsHoursDomain text domain = (hours : Hours) × StandsFor text hours × IsTransla
 abbrev pub IsNoDomainOf : Text → NoDomain → Type 0
 IsNoDomainOf text (none.Fault why) = IsFirstFault text why
 IsNoDomainOf text none.TooMany = (hours : Hours) × StandsFor text hours × (most_basic_domains < hours_cost hours)
-
--- The first of the words of `same --hours` that stands for nothing.
-abbrev pub IsHoursPairFault : Text → Text → Option Text → PairFault → Type 0
-IsHoursPairFault first second from (pair.FirstHours why) = IsNoDomainOf first why
-IsHoursPairFault first second from (pair.SecondHours why) = HasDomain first × IsNoDomainOf second why
-IsHoursPairFault first second from (pair.From why) = HasDomain first × HasDomain second × IsFromFault from why
-IsHoursPairFault first second from other = ⊥

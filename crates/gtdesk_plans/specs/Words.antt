@@ -1,28 +1,18 @@
 -- What the single words of a command stand for.
-use Rattle.std.specs.Prelude.{◌≡◌, ◌==◌, ◌*ℤ◌, ℕ, pos, List, [], ◌∷◌, Option, Some, None, Ok, Err, IsSome}
+use Rattle.std.specs.Prelude.{◌≡◌, ◌==◌, ◌*ℤ◌, ℕ, pos, List, [], ◌∷◌, Option, Some, None, Ok}
 use Rattle.std.specs.List.{slice_split}
+use Rattle.gtd_calendar.specs.Read.{date_in}
 use Rattle.gtd_moments.specs.Moments.{moment_in}
-use Rattle.gtd_calendar.specs.declared.stamp.StampFault.{StampFault}
 use Rattle.gtd_core.specs.Limits.{day_seconds, first_horizon_day}
 use Rattle.gtd_core.specs.Parts.{domain_tree}
+use Rattle.gtd_core.specs.Whole.{from_day, to_day}
 use Rattle.gtd_core.specs.declared.domain.Domain.{Domain}
+use Rattle.gtd_core.specs.declared.horizon.Horizon.{Horizon}
 use Rattle.gtd_core.specs.declared.second.Sec.{Sec}
-use Rattle.gtd_records.specs.Columns.{direction_of, number_of}
+use Rattle.gtd_records.specs.Columns.{number_of}
 use Rattle.gtd_report.specs.Run.{IsTableYear, IsVehicleType}
-use Rattle.gtd_text.specs.Reading.{HasNoFault, IsFault, StandsFor}
-use Rattle.gtdesk_plans.specs.CommandLine.{Text}
-use Rattle.gtdesk_plans.specs.Given.{NowTexts, PictureTexts}
-use Rattle.gtdesk_plans.specs.declared.plans.PictureSubject.{PictureSubject}
-use Rattle.gtdesk_plans.specs.declared.refusal.PairFault.{PairFault}
-use Rattle.gtdesk_plans.specs.declared.refusal.PairFault.TheVariants as pair
-use Rattle.gtdesk_plans.specs.declared.refusal.Refusal.{Refusal}
-use Rattle.gtdesk_plans.specs.declared.refusal.Refusal.TheVariants as refusal
-use Rattle.gtdesk_plans.specs.declared.refusal.WordFault.{WordFault}
-use Rattle.gtdesk_plans.specs.declared.refusal.WordFault.TheVariants as fault
-
--- The word stands for a moment.
-abbrev pub IsMomentWord : Text → Type 0
-IsMomentWord text = (second : Sec) × (moment_in text ≡ Ok second)
+use Rattle.gtd_text.specs.Reading.{HasNoFault, StandsFor}
+use Rattle.gtdesk_plans.specs.Arguments.{Text}
 
 -- The word stands for a vehicle type.
 abbrev pub IsVehicleWord : Text → ℕ → Type 0
@@ -64,65 +54,12 @@ pub record IsReadDomain (text : Text) (domain : Domain) : Type 0 where
   pub stands : StandsFor text (domain_tree domain)
   pub faultless : HasNoFault text
 
--- The refusal is of memory, or for the fault of the word.
-abbrev pub IsNoDomain : Text → Refusal → Type 0
-IsNoDomain text refusal.Memory = Unit {0}
-IsNoDomain text (refusal.Word (fault.Domain why)) = IsFault text why
-IsNoDomain text other = ⊥
-
--- The elements of `now` are the first of its words that stands for nothing.
-abbrev pub IsElementFault : NowTexts → WordFault → Type 0
-IsElementFault texts fault.Element =
-    IsMomentWord texts.moment × ((vehicle : ℕ) × IsVehicleWord texts.vehicle vehicle) × (elements_in texts.element ≡ None)
-IsElementFault texts other = ⊥
-
--- The refusal is of memory, or of a word that should name elements.
-abbrev pub IsNoElements : Option Text → Refusal → Type 0
-IsNoElements text refusal.Memory = Unit {0}
-IsNoElements text (refusal.Word fault.Element) = elements_in text ≡ None
-IsNoElements text other = ⊥
-
--- The words of `picture` stand for this element, direction, vehicle type and year.
-pub record AreSubjectWords (texts : PictureTexts) (subject : PictureSubject) : Type 0 where
-  pub element : number_of texts.element ≡ Some subject.element
-  pub direction : direction_of texts.direction ≡ Some subject.direction
-  pub vehicle : IsVehicleWord texts.vehicle subject.vehicle
-  pub year : IsYearWord texts.year subject.year
-
--- The first of the words of `picture` that stands for nothing.
-abbrev pub IsSubjectFault : PictureTexts → WordFault → Type 0
-IsSubjectFault texts fault.Element = number_of texts.element ≡ None
-IsSubjectFault texts fault.Direction = IsSome (number_of texts.element) × (direction_of texts.direction ≡ None)
-IsSubjectFault texts fault.Vehicle =
-    IsSome (number_of texts.element) × IsSome (direction_of texts.direction) × IsNoVehicle texts.vehicle
-IsSubjectFault texts fault.Year =
-    IsSome (number_of texts.element) × IsSome (direction_of texts.direction)
-    × ((vehicle : ℕ) × IsVehicleWord texts.vehicle vehicle) × IsNoYear texts.year
-IsSubjectFault texts (fault.Domain why) = ⊥
-
--- The first of the words of `picture-domain` that stands for nothing.
-abbrev pub IsDomainFault : Text → Text → WordFault → Type 0
-IsDomainFault domain year (fault.Domain why) = IsFault domain why
-IsDomainFault domain year fault.Year = HasNoFault domain × IsNoYear year
-IsDomainFault domain year other = ⊥
-
--- The fault of the one word of a command, a domain.
-abbrev pub IsWordOfDomainFault : Text → WordFault → Type 0
-IsWordOfDomainFault domain (fault.Domain why) = IsFault domain why
-IsWordOfDomainFault domain other = ⊥
+-- The words stand for the first day of the horizon and for the day after its last.
+pub record AreDays (from to : Text) (horizon : Horizon) : Type 0 where
+  pub first : date_in from ≡ Ok (from_day horizon)
+  pub last : date_in to ≡ Ok (to_day horizon)
 
 -- The word, which may be left out, stands for the second: without it, that is 1901-01-01T00:00:00.
 abbrev pub IsFromWord : Option Text → Sec → Type 0
 IsFromWord None second = second.0 ≡ first_horizon_day *ℤ pos day_seconds
 IsFromWord (Some text) second = moment_in text ≡ Ok second
-
-abbrev pub IsFromFault : Option Text → StampFault → Type 0
-IsFromFault None why = ⊥
-IsFromFault (Some text) why = moment_in text ≡ Err why
-
--- The first of the words of `same` that stands for nothing.
-abbrev pub IsPairFault : Text → Text → Option Text → PairFault → Type 0
-IsPairFault first second from (pair.First why) = IsFault first why
-IsPairFault first second from (pair.Second why) = HasNoFault first × IsFault second why
-IsPairFault first second from (pair.From why) = HasNoFault first × HasNoFault second × IsFromFault from why
-IsPairFault first second from other = ⊥

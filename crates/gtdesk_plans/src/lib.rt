@@ -4,8 +4,10 @@
 //! refused.
 #![tactic(auto)]
 
+mod arguments;
 mod command_line;
-mod diff;
+mod commands;
+mod forms;
 mod given;
 mod hours;
 mod planner;
@@ -13,8 +15,10 @@ mod plans;
 mod refusal;
 mod words;
 
-pub use diff::{DiffFault, DiffPlan};
+pub use commands::{
+    DiffPlan, DomainPicturePlan, FaultsPlan, NowPlan, PicturePlan, PictureSubject, SamePlan,
+};
 pub use hours::hours_domain;
 pub use planner::plan;
-pub use plans::{Moment, PictureSubject, Plan};
-pub use refusal::{NoDomain, PairFault, Refusal, WordFault};
+pub use plans::{Moment, OnePlan, Plan};
+pub use refusal::{NoDomain, Reason, WordFault, WordName, WordsRefusal};

@@ -1,40 +1,43 @@
 //! What the single words of a command stand for.
 
-ghost use Rattle.std.specs.Prelude.{◌≡◌, ◌≢◌, ◌⊎◌, Err, IfOk, IfSome, MatchResult, None, Ok, Some, option_map};
+ghost use Rattle.std.specs.Prelude.{◌≡◌, ◌≢◌, ◌⊎◌, [], ◌∷◌, IfOk, IfSome, MatchResult, None, Ok, Some, option_map};
+ghost use Rattle.gtd_calendar.specs.Read.{date_in};
 ghost use Rattle.gtd_moments.specs.Moments.{moment_in};
-ghost use Rattle.gtd_records.specs.Columns.{number_of};
-ghost use Rattle.gtd_report.specs.Run.{IsVehicleType};
-ghost use Rattle.gtdesk_plans.specs.Given.{picture_texts};
-ghost use Rattle.gtdesk_plans.specs.Words.{AreSubjectWords, IsNoDomain, IsNoVehicle, IsNoYear, IsReadDomain, IsSubjectFault};
-ghost use Rattle.gtdesk_plans.specs.Words.{IsFromFault, IsFromWord, IsNoElements, IsYearWord, elements_in, numbers_of, parts_of};
-ghost use Rattle.gtd_text.specs.Reading.{IsFault};
+ghost use Rattle.gtd_records.specs.Columns.{direction_of, number_of};
+ghost use Rattle.gtdesk_plans.specs.HoursWords.{IsHoursDomain};
+ghost use Rattle.gtdesk_plans.specs.Readings.{AreStopped, Reading, if_given, word_as};
+ghost use Rattle.gtdesk_plans.specs.Words.{AreDays, IsFromWord, IsNoVehicle, IsNoYear, IsReadDomain, IsVehicleWord, IsYearWord};
+ghost use Rattle.gtdesk_plans.specs.Words.{elements_in, numbers_of, parts_of};
 
-use crate::given::PictureWords;
-use crate::plans::{Moment, PictureSubject};
-use crate::refusal::{Refusal, WordFault};
-use gtd_calendar::StampFault;
+use crate::hours::hours_domain;
+use crate::plans::Moment;
+use crate::refusal::{Reason, WordFault, WordName, WordsRefusal};
+use gtd_calendar::read_date;
 use gtd_core::limits::FIRST_MOMENT;
-use gtd_core::{Domain, Fault, Sec, TextFault};
+use gtd_core::{Domain, Fault, Horizon, Sec, TextFault};
 use gtd_moments::read_moment;
-use gtd_records::{read_direction, read_number};
+use gtd_records::{Direction, read_direction, read_number};
 use gtd_text::read_domain;
 use std::alloc::{AllocError, Global};
 
 /// The moment that a word stands for.
-pub(crate) fn moment_of(text: &str) -> Result<Moment, StampFault>
+pub(crate) fn moment_of(text: &str) -> Result<Moment, WordsRefusal>
     ensures { MatchResult result (λ moment. moment_in text.now ≡ Ok moment.second)
-        (λ fault. moment_in text.now ≡ Err fault) }
+        (AreStopped (word_as WordName.Moment (Reading.moment text.now) ∷ [])) }
 {
     match read_moment(text.as_bytes()) {
         Ok(second) => Ok(Moment { second }),
-        Err(fault) => Err(fault),
+        Err(fault) => Err(WordsRefusal::Word(WordFault {
+            word: WordName::Moment,
+            why: Reason::Moment(fault),
+        })),
     }
 }
 
 /// The moment that a word stands for, which may be left out: then it is the first one.
-pub(crate) fn from_of(text: Option<&str>) -> Result<Moment, StampFault>
+pub(crate) fn from_of(text: Option<&str>) -> Result<Moment, WordsRefusal>
     ensures { MatchResult result (λ moment. IsFromWord (option_map (λ s. s.now) text.entry) moment.second)
-        (IsFromFault (option_map (λ s. s.now) text.entry)) }
+        (AreStopped (if_given (option_map (λ s. s.now) text.entry) (λ t. word_as WordName.Moment (Reading.moment t)))) }
 {
     match text {
         Some(text) => moment_of(text),
@@ -44,9 +47,46 @@ pub(crate) fn from_of(text: Option<&str>) -> Result<Moment, StampFault>
     }
 }
 
-/// The vehicle type that a word stands for, if any.
-pub(crate) fn vehicle_of(text: &str) -> Option<u8>
-    ensures found { IfSome result (λ vehicle. (number_of text.now ≡ Some vehicle) × IsVehicleType vehicle) }
+// The day that a word of this name stands for.
+fn date_of(word: WordName, text: &str) -> Result<i64, WordsRefusal>
+    ensures { MatchResult result (λ day. date_in text.now ≡ Ok day)
+        (AreStopped (word_as word (Reading.date text.now) ∷ [])) }
+{
+    match read_date(text.as_bytes()) {
+        Ok(day) => Ok(day),
+        Err(fault) => Err(WordsRefusal::Word(WordFault {
+            word,
+            why: Reason::Date(fault),
+        })),
+    }
+}
+
+/// The days from the one word on and before the other.
+pub(crate) fn days_of(from: &str, to: &str) -> Result<Horizon, WordsRefusal>
+    ensures { MatchResult result (AreDays from.now to.now)
+        (AreStopped (word_as WordName.From (Reading.date from.now) ∷ word_as WordName.To (Reading.date to.now)
+        ∷ word_as WordName.To (Reading.days from.now to.now) ∷ [])) }
+{
+    let first = match date_of(WordName::From, from) {
+        Ok(day) => day,
+        Err(refusal) => return Err(refusal),
+    };
+    let last = match date_of(WordName::To, to) {
+        Ok(day) => day,
+        Err(refusal) => return Err(refusal),
+    };
+    match Horizon::new(first, last) {
+        Ok(days) => Ok(days),
+        Err(fault) => Err(WordsRefusal::Word(WordFault {
+            word: WordName::To,
+            why: Reason::Horizon(fault),
+        })),
+    }
+}
+
+// The vehicle type that a word stands for, if any.
+fn vehicle_in(text: &str) -> Option<u8>
+    ensures found { IfSome result (IsVehicleWord text.now) }
     ensures none { result ≡ None → IsNoVehicle text.now }
 {
     match read_number(text.as_bytes()) {
@@ -58,6 +98,79 @@ pub(crate) fn vehicle_of(text: &str) -> Option<u8>
             }
         }
         None => None,
+    }
+}
+
+/// The vehicle type that a word stands for.
+pub(crate) fn vehicle_of(text: &str) -> Result<u8, WordsRefusal>
+    ensures { MatchResult result (IsVehicleWord text.now)
+        (AreStopped (word_as WordName.Vehicle (Reading.vehicle text.now) ∷ [])) }
+{
+    match vehicle_in(text) {
+        Some(vehicle) => Ok(vehicle),
+        None => Err(WordsRefusal::Word(WordFault {
+            word: WordName::Vehicle,
+            why: Reason::Vehicle,
+        })),
+    }
+}
+
+// The year that a word stands for, if a picture may be of it.
+fn year_in(text: &str) -> Option<u16>
+    ensures found { IfSome result (IsYearWord text.now) }
+    ensures none { result ≡ None → IsNoYear text.now }
+{
+    match read_number(text.as_bytes()) {
+        Some(number) => {
+            if number >= 1901 && number <= 2199 {
+                Some(number as u16)
+            } else {
+                None
+            }
+        }
+        None => None,
+    }
+}
+
+/// The year that a word stands for.
+pub(crate) fn year_of(text: &str) -> Result<u16, WordsRefusal>
+    ensures { MatchResult result (IsYearWord text.now)
+        (AreStopped (word_as WordName.Year (Reading.year text.now) ∷ [])) }
+{
+    match year_in(text) {
+        Some(year) => Ok(year),
+        None => Err(WordsRefusal::Word(WordFault {
+            word: WordName::Year,
+            why: Reason::Year,
+        })),
+    }
+}
+
+/// The element that a word stands for.
+pub(crate) fn element_of(text: &str) -> Result<u64, WordsRefusal>
+    ensures { MatchResult result (λ element. number_of text.now ≡ Some element)
+        (AreStopped (word_as WordName.Element (Reading.element text.now) ∷ [])) }
+{
+    match read_number(text.as_bytes()) {
+        Some(element) => Ok(element),
+        None => Err(WordsRefusal::Word(WordFault {
+            word: WordName::Element,
+            why: Reason::Element,
+        })),
+    }
+}
+
+/// The direction that a word stands for.
+pub(crate) fn direction_of(text: &str) -> Result<Direction, WordsRefusal>
+    ensures { MatchResult result (λ direction. direction_of text.now ≡ Some direction)
+        (AreStopped (word_as WordName.Direction (Reading.direction text.now) ∷ [])) }
+{
+    match read_direction(text.as_bytes()) {
+        Some(direction) => Ok(direction),
+        None => Err(WordsRefusal::Word(WordFault {
+            word: WordName::Direction,
+            why: Reason::Direction,
+        })),
     }
 }
 
@@ -76,21 +189,24 @@ fn numbers_in(alloc: Global, text: &[u8]) -> Result<Option<Vec<u64>>, AllocError
 }
 
 // The same, or the refusal of the text.
-fn numbers_of(alloc: Global, text: &[u8]) -> Result<Vec<u64>, Refusal>
-    ensures { MatchResult result (λ elements. elements_in (Some text.now) ≡ Some elements.items)
-        (IsNoElements (Some text.now)) }
+fn numbers_of(alloc: Global, text: &[u8]) -> Result<Vec<u64>, WordsRefusal>
+    ensures { MatchResult result (λ elements. numbers_of (parts_of text.now) ≡ Some elements.items)
+        (AreStopped (word_as WordName.Element (Reading.elements text.now) ∷ [])) }
 {
     match numbers_in(alloc, text) {
         Ok(Some(elements)) => Ok(elements),
-        Ok(None) => Err(Refusal::Word(WordFault::Element)),
-        Err(_) => Err(Refusal::Memory),
+        Ok(None) => Err(WordsRefusal::Word(WordFault {
+            word: WordName::Element,
+            why: Reason::Element,
+        })),
+        Err(_) => Err(WordsRefusal::Memory),
     }
 }
 
 /// The elements that a word names, which may be left out: then it names none.
-pub(crate) fn elements_of(alloc: Global, text: Option<&str>) -> Result<Vec<u64>, Refusal>
+pub(crate) fn elements_of(alloc: Global, text: Option<&str>) -> Result<Vec<u64>, WordsRefusal>
     ensures { MatchResult result (λ elements. elements_in (option_map (λ s. s.now) text.entry) ≡ Some elements.items)
-        (IsNoElements (option_map (λ s. s.now) text.entry)) }
+        (AreStopped (if_given (option_map (λ s. s.now) text.entry) (λ t. word_as WordName.Element (Reading.elements t)))) }
 {
     match text {
         Some(text) => numbers_of(alloc, text.as_bytes()),
@@ -98,78 +214,43 @@ pub(crate) fn elements_of(alloc: Global, text: Option<&str>) -> Result<Vec<u64>,
     }
 }
 
-/// The year that a word stands for, if a picture may be of it.
-pub(crate) fn year_of(text: &str) -> Option<u16>
-    ensures found { IfSome result (IsYearWord text.now) }
-    ensures none { result ≡ None → IsNoYear text.now }
-{
-    match read_number(text.as_bytes()) {
-        Some(number) => {
-            if number >= 1901 && number <= 2199 {
-                Some(number as u16)
-            } else {
-                None
-            }
-        }
-        None => None,
-    }
-}
-
-/// What the words of `picture` are about, or the first of them that stands for nothing.
-pub(crate) fn subject_of(given: PictureWords<'_>) -> Result<PictureSubject, WordFault>
-    ensures { MatchResult result (AreSubjectWords (picture_texts given.entry)) (IsSubjectFault (picture_texts given.entry)) }
-{
-    let element = match read_number(given.element.as_bytes()) {
-        Some(element) => element,
-        None => return Err(WordFault::Element),
-    };
-    let direction = match read_direction(given.direction.as_bytes()) {
-        Some(direction) => direction,
-        None => return Err(WordFault::Direction),
-    };
-    let vehicle = match vehicle_of(given.vehicle) {
-        Some(vehicle) => vehicle,
-        None => return Err(WordFault::Vehicle),
-    };
-    match year_of(given.year) {
-        Some(year) => Ok(PictureSubject {
-            element,
-            direction,
-            vehicle,
-            year,
-        }),
-        None => Err(WordFault::Year),
-    }
-}
-
-// The refusal for a fault of a text. A refusal of memory is not a fault of the text.
-fn text_refusal(fault: TextFault) -> Refusal
-    ensures { ((fault.kind ≡ Fault.NoMemory) × (result ≡ Refusal.Memory))
-        ⊎ ((fault.kind ≢ Fault.NoMemory) × (result ≡ Refusal.Word (WordFault.Domain fault))) }
+// The refusal for a fault of a domain. A refusal of memory is not a fault of the text.
+fn text_refusal(word: WordName, fault: TextFault) -> WordsRefusal
+    ensures { ((fault.kind ≡ Fault.NoMemory) × (result ≡ WordsRefusal.Memory))
+        ⊎ ((fault.kind ≢ Fault.NoMemory)
+        × (result ≡ WordsRefusal.Word (record { word = word; why = Reason.Domain fault }))) }
 {
     match fault.kind {
-        Fault::NoMemory => Refusal::Memory,
-        _ => Refusal::Word(WordFault::Domain(fault)),
+        Fault::NoMemory => WordsRefusal::Memory,
+        _ => WordsRefusal::Word(WordFault {
+            word,
+            why: Reason::Domain(fault),
+        }),
     }
 }
 
-/// The domain that a word stands for, or the refusal for its first fault.
-pub(crate) fn domain_of(alloc: Global, text: &str) -> Result<Domain, Refusal>
-    ensures { MatchResult result (IsReadDomain text.now) (IsNoDomain text.now) }
+/// The domain that a word of this name stands for.
+pub(crate) fn domain_of(alloc: Global, word: WordName, text: &str) -> Result<Domain, WordsRefusal>
+    ensures { MatchResult result (IsReadDomain text.now)
+        (AreStopped (word_as word (Reading.domain text.now) ∷ [])) }
 {
     match read_domain(alloc, text.as_bytes()) {
         Ok(domain) => Ok(domain),
-        Err(fault) => Err(text_refusal(fault)),
+        Err(fault) => Err(text_refusal(word, fault)),
     }
 }
 
-/// The domain that a word of `same` stands for, or its first fault. No fault is answered if memory was refused.
-pub(crate) fn domain_or_fault(alloc: Global, text: &str) -> Result<Domain, Option<TextFault>>
-    ensures { MatchResult result (IsReadDomain text.now) (λ fault. IfSome fault (IsFault text.now)) }
+/// The domain with exactly the seconds at which the hours are open that a word of this name stands for.
+pub(crate) fn hours_of(alloc: Global, word: WordName, text: &str) -> Result<Domain, WordsRefusal>
+    ensures { MatchResult result (IsHoursDomain text.now)
+        (AreStopped (word_as word (Reading.hours text.now) ∷ [])) }
 {
-    match domain_of(alloc, text) {
+    match hours_domain(alloc, text) {
         Ok(domain) => Ok(domain),
-        Err(Refusal::Word(WordFault::Domain(fault))) => Err(Some(fault)),
-        Err(_) => Err(None),
+        Err(Some(why)) => Err(WordsRefusal::Word(WordFault {
+            word,
+            why: Reason::Hours(why),
+        })),
+        Err(None) => Err(WordsRefusal::Memory),
     }
 }

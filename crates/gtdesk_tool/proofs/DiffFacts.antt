@@ -6,14 +6,14 @@ use Rattle.gtd_report.specs.declared.fault.RunFault.TheVariants as run
 use Rattle.gtd_changes.specs.Run as runs
 use Rattle.gtd_changes.specs.declared.fault.ChangesFault.{ChangesFault}
 use Rattle.gtd_changes.specs.declared.fault.ChangesFault.TheVariants as changes
-use Rattle.gtdesk_plans.specs.declared.refusal.Refusal.{Refusal}
+use Rattle.gtdesk_tool.specs.declared.refusal.RunRefusal.{RunRefusal}
 use Rattle.gtdesk_tool.specs.Diff.{diff_outcome, failures_after_new, failures_after_old}
 use Rattle.gtdesk_tool.specs.Running.{failures_after_write}
 use Rattle.gtdesk_tool.specs.declared.ending.Ending.{Ending}
 use Rattle.gtdesk_tool.specs.declared.ending.Ending.TheVariants as ending
 
 -- either ending is no failure
-abbrev ending_of : Bool → Result Ending Refusal
+abbrev ending_of : Bool → Result Ending RunRefusal
 ending_of b = if b then Ok ending.Done else Ok ending.Differ
 
 old_ending : (b : Bool) (n : ℕ) → n ≡ failures_after_old (ending_of b) n

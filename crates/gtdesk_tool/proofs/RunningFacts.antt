@@ -16,8 +16,8 @@ use Rattle.gtd_hours_file.specs.Run as translated
 use Rattle.gtd_hours_file.specs.declared.untranslated.Untranslated.{Untranslated}
 use Rattle.gtd_hours_file.specs.declared.untranslated.Untranslated.TheVariants as hours
 use Rattle.gtd_picture.specs.Domain.{HasPut}
-use Rattle.gtdesk_plans.specs.declared.refusal.Refusal.{Refusal}
-use Rattle.gtdesk_plans.specs.declared.refusal.Refusal.TheVariants as refusal
+use Rattle.gtdesk_tool.specs.declared.refusal.RunRefusal.{RunRefusal}
+use Rattle.gtdesk_tool.specs.declared.refusal.RunRefusal.TheVariants as refusal
 use Rattle.gtdesk_tool.specs.declared.ending.Ending.{Ending}
 use Rattle.gtdesk_tool.specs.Running.{IsHoursRefusal, IsTextRefusal, PutText, RanDomainPicture, Telling, Told, failures_after_read}
 use Rattle.gtdesk_tool.specs.Running.{failures_after_write, listing_outcome, outcome_of, records_outcome}
@@ -101,10 +101,10 @@ records_writes (Err (hours.WriteFault m)) n = refl
 records_writes (Err (hours.NoMemory m)) n = refl
 
 -- the count that a run tells is the count that the command tells
-pub handed_on : (count : Result Ending Refusal → ℕ → ℕ) (result outcome : Result Ending Refusal) (after told before : ℕ)
+pub handed_on : (count : Result Ending RunRefusal → ℕ → ℕ) (result outcome : Result Ending RunRefusal) (after told before : ℕ)
     → after ≡ told → told ≡ count outcome before → result ≡ outcome → after ≡ count result before
 handed_on count result outcome after told before failed same is =
-    failed ∙ same ∙ ap (λ (r : Result Ending Refusal). count r before) (sym is)
+    failed ∙ same ∙ ap (λ (r : Result Ending RunRefusal). count r before) (sym is)
 
 -- ---- the output for errors
 
@@ -119,15 +119,15 @@ told_of errors text (Err short) all some failed =
 
 -- ---- a text that is made before it is put
 
-module _ (P : List ℕ → Type 0) (C : Refusal → Type 0) (text : List ℕ) (old new : Option (List ℕ)) (ended : Bool) where
-  as_part : (r : Refusal) → P text
+module _ (P : List ℕ → Type 0) (C : RunRefusal → Type 0) (text : List ℕ) (old new : Option (List ℕ)) (ended : Bool) where
+  as_part : (r : RunRefusal) → P text
       → ((r ≡ refusal.Write) × ((t : List ℕ) × (t ≡ text) × faults.TookSome old new t)) ⊎ (⊥ × Keeps old new)
       → ((r ≡ refusal.Write) × ((t : List ℕ) × P t × faults.TookSome old new t)) ⊎ (C r × Keeps old new)
   as_part r is (inl part) = inl (part.0, (part.1.0, subst P (sym part.1.1) is, part.1.2))
   as_part r is (inr none) = absurd none.0
 
   -- the text is of this kind
-  pub put_as : (result : Result Ending Refusal) → P text → PutText (λ t. t ≡ text) (λ r. ⊥) old new ended result
+  pub put_as : (result : Result Ending RunRefusal) → P text → PutText (λ t. t ≡ text) (λ r. ⊥) old new ended result
       → PutText P C old new ended result
   put_as (Ok e) is put = record {
     whole = (put.whole.0, (put.whole.1.0, subst P (sym put.whole.1.1) is, put.whole.1.2), put.whole.2);
@@ -138,45 +138,42 @@ module _ (P : List ℕ → Type 0) (C : Refusal → Type 0) (text : List ℕ) (o
 -- ---- a refusal before anything is put
 
 -- no failure of a device is told by this refusal
-abbrev TellsNone : ℕ → Refusal → Type 0
+abbrev TellsNone : ℕ → RunRefusal → Type 0
 TellsNone n r = (n ≡ failures_after_read (Err r) n) × (n ≡ failures_after_write (Err r) n)
 
-pub of_memory : (n : ℕ) (r : Refusal) → r ≡ refusal.Memory → TellsNone n r
-of_memory n r is = subst (λ (x : Refusal). TellsNone n x) (sym is) (refl, refl)
+pub of_memory : (n : ℕ) (r : RunRefusal) → r ≡ refusal.Memory → TellsNone n r
+of_memory n r is = subst (λ (x : RunRefusal). TellsNone n x) (sym is) (refl, refl)
 
-pub of_hours : (n : ℕ) (r : Refusal) → IsHoursRefusal r → TellsNone n r
-of_hours n r (inl is) = subst (λ (x : Refusal). TellsNone n x) (sym is) (refl, refl)
+pub of_hours : (n : ℕ) (r : RunRefusal) → IsHoursRefusal r → TellsNone n r
+of_hours n r (inl is) = subst (λ (x : RunRefusal). TellsNone n x) (sym is) (refl, refl)
 of_hours n r (inr is) = of_memory n r is
 
-pub of_domain : (text : List ℕ) (n : ℕ) (r : Refusal) → IsTextRefusal text r → TellsNone n r
+pub of_domain : (text : List ℕ) (n : ℕ) (r : RunRefusal) → IsTextRefusal text r → TellsNone n r
 of_domain text n (refusal.NoDomain why) is = (refl, refl)
 of_domain text n refusal.Memory is = (refl, refl)
-of_domain text n (refusal.Usage why) is = absurd is
-of_domain text n (refusal.Moment why) is = absurd is
-of_domain text n refusal.Vehicle is = absurd is
 of_domain text n (refusal.Word why) is = absurd is
-of_domain text n (refusal.Pair why) is = absurd is
-of_domain text n (refusal.Diff why) is = absurd is
 of_domain text n refusal.NoHours is = absurd is
 of_domain text n refusal.NoElement is = absurd is
 of_domain text n (refusal.Records why) is = absurd is
 of_domain text n refusal.Open is = absurd is
+of_domain text n (refusal.Old why) is = absurd is
+of_domain text n refusal.OldOpen is = absurd is
 of_domain text n refusal.Write is = absurd is
 
-pub of_none : (n : ℕ) (r : Refusal) → ⊥ → TellsNone n r
+pub of_none : (n : ℕ) (r : RunRefusal) → ⊥ → TellsNone n r
 of_none n r none = absurd none
 
 -- ---- what reads no file
 
-module _ (P : List ℕ → Type 0) (C : Refusal → Type 0) (old new : Option (List ℕ)) (ended : Bool) (n : ℕ)
-    (cause : (r : Refusal) → C r → TellsNone n r) where
-  unread_part : (r : Refusal)
+module _ (P : List ℕ → Type 0) (C : RunRefusal → Type 0) (old new : Option (List ℕ)) (ended : Bool) (n : ℕ)
+    (cause : (r : RunRefusal) → C r → TellsNone n r) where
+  unread_part : (r : RunRefusal)
       → ((r ≡ refusal.Write) × ((t : List ℕ) × P t × faults.TookSome old new t)) ⊎ (C r × Keeps old new)
       → n ≡ failures_after_read (Err r) n
-  unread_part r (inl part) = sym (ap (λ (x : Refusal). failures_after_read (Err x) n) part.0)
+  unread_part r (inl part) = sym (ap (λ (x : RunRefusal). failures_after_read (Err x) n) part.0)
   unread_part r (inr is) = (cause r is.0).0
 
-  pub unread_text : (result : Result Ending Refusal) → PutText P C old new ended result → n ≡ failures_after_read result n
+  pub unread_text : (result : Result Ending RunRefusal) → PutText P C old new ended result → n ≡ failures_after_read result n
   unread_text (Ok e) put = refl
   unread_text (Err r) put = unread_part r put.refused
 
@@ -191,7 +188,7 @@ unread_run Lines old new (Err (run.NoMemory m)) n put = refl
 unread_run Lines old new (Err (run.Records why)) n put = absurd put
 
 pub unread_picture : (domain : Domain) (title : List ℕ) (year : ℕ) (old new : Option (List ℕ)) (ended : Bool)
-    (result : Result Ending Refusal) (n : ℕ) → RanDomainPicture domain title year old new ended result
+    (result : Result Ending RunRefusal) (n : ℕ) → RanDomainPicture domain title year old new ended result
     → n ≡ failures_after_read result n
 unread_picture domain title year old new ended result n ran =
-    unread_run _ old new ran.answer n ran.stands ∙ ap (λ (x : Result Ending Refusal). failures_after_read x n) (sym ran.outcome)
+    unread_run _ old new ran.answer n ran.stands ∙ ap (λ (x : Result Ending RunRefusal). failures_after_read x n) (sym ran.outcome)

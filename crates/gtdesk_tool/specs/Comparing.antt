@@ -13,8 +13,8 @@ use Rattle.gtd_difference.specs.declared.comparison.Side.TheVariants.{First, Sec
 use Rattle.gtd_faults.specs.Run.{TookSome}
 use Rattle.gtdesk_tool.specs.declared.ending.Ending.{Ending}
 use Rattle.gtdesk_tool.specs.declared.ending.Ending.TheVariants as ending
-use Rattle.gtdesk_plans.specs.declared.refusal.Refusal.{Refusal}
-use Rattle.gtdesk_plans.specs.declared.refusal.Refusal.TheVariants as refusal
+use Rattle.gtdesk_tool.specs.declared.refusal.RunRefusal.{RunRefusal}
+use Rattle.gtdesk_tool.specs.declared.refusal.RunRefusal.TheVariants as refusal
 
 -- the word for the domain that has a second alone
 abbrev pub side_word : Side → List ℕ
@@ -43,13 +43,13 @@ IsShown SameUntil2700 = Unit {0}
 IsShown (Apart apart) = IsHorizonSecond apart.second.0
 
 -- the same answer with another ending
-abbrev pub with_ending : Ending → Result Ending Refusal → Result Ending Refusal
+abbrev pub with_ending : Ending → Result Ending RunRefusal → Result Ending RunRefusal
 with_ending ending (Ok other) = Ok ending
 with_ending ending (Err why) = Err why
 
 -- The line of a comparison was put whole, the output was ended, and the command ends as it says; or the output failed, and had
 -- taken a first part of the line, which may be none or all of it; or memory was refused, and nothing was put.
-pub record PutsComparison (found : Comparison) (old new : Option (List ℕ)) (ended : Bool) (result : Result Ending Refusal)
+pub record PutsComparison (found : Comparison) (old new : Option (List ℕ)) (ended : Bool) (result : Result Ending RunRefusal)
     : Type 0 where
   pub whole : IfOk result (λ e. (e ≡ comparison_ending found) × Appends old new (comparison_line found) × IsTrue ended)
   pub refused : IfErr result (λ r. ((r ≡ refusal.Write) × TookSome old new (comparison_line found))
@@ -57,7 +57,7 @@ pub record PutsComparison (found : Comparison) (old new : Option (List ℕ)) (en
 
 -- The same of the line that tells how the domains compare from the second on. If memory was refused, that may not be known.
 pub record HasCompared (first second : Domain) (from : ℤ) (old new : Option (List ℕ)) (ended : Bool)
-    (result : Result Ending Refusal) : Type 0 where
+    (result : Result Ending RunRefusal) : Type 0 where
   pub whole : IfOk result (λ e. (found : Comparison) × IsComparison first second from found × (e ≡ comparison_ending found)
       × Appends old new (comparison_line found) × IsTrue ended)
   pub refused : IfErr result (λ r. ((r ≡ refusal.Write)

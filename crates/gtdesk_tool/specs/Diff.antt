@@ -9,21 +9,20 @@ use Rattle.gtd_changes.specs.declared.fault.ChangesFault.TheVariants as changes
 use Rattle.gtdesk_tool.specs.Running.{refusal_for}
 use Rattle.gtdesk_tool.specs.declared.ending.Ending.{Ending}
 use Rattle.gtdesk_tool.specs.declared.ending.Ending.TheVariants as ending
-use Rattle.gtdesk_plans.specs.declared.diff.DiffFault.TheVariants as diff
-use Rattle.gtdesk_plans.specs.declared.diff.DiffPlan.{DiffPlan}
-use Rattle.gtdesk_plans.specs.declared.refusal.Refusal.{Refusal}
-use Rattle.gtdesk_plans.specs.declared.refusal.Refusal.TheVariants as refusal
+use Rattle.gtdesk_plans.specs.declared.commands.diff.DiffPlan.{DiffPlan}
+use Rattle.gtdesk_tool.specs.declared.refusal.RunRefusal.{RunRefusal}
+use Rattle.gtdesk_tool.specs.declared.refusal.RunRefusal.TheVariants as refusal
 
 -- The answer of `diff`, from that of its run: there is a difference if there is a line behind the header.
-abbrev pub diff_outcome : Result ℕ ChangesFault → Result Ending Refusal
+abbrev pub diff_outcome : Result ℕ ChangesFault → Result Ending RunRefusal
 diff_outcome (Ok lines) = if nat_le lines 1 then Ok ending.Done else Ok ending.Differ
 diff_outcome (Err (changes.Old records.NoMemory)) = Err refusal.Memory
-diff_outcome (Err (changes.Old why)) = Err (refusal.Diff (diff.Old why))
+diff_outcome (Err (changes.Old why)) = Err (refusal.Old why)
 diff_outcome (Err (changes.Run why)) = Err (refusal_for why)
 
 -- The run of `diff` had an answer, and all that the run promises for this answer holds.
 pub record RanDiff (plan : DiffPlan) (old new before after : Option (List ℕ)) (old_silent new_silent ended : Bool)
-    (result : Result Ending Refusal) : Type 0 where
+    (result : Result Ending RunRefusal) : Type 0 where
   pub answer : Result ℕ ChangesFault
   pub outcome : result ≡ diff_outcome answer
   pub headline : IsVehicleType plan.vehicle → HeadlineOf plan.vehicle plan.horizon old new before after answer
@@ -36,11 +35,11 @@ pub record RanDiff (plan : DiffPlan) (old new before after : Option (List ℕ)) 
   pub new_endless : IsErrOf answer (changes.Run (run.Records records.Endless)) → IsTrue new_silent
 
 -- one more failure of the old file's input exactly if the refusal is that it failed
-abbrev pub failures_after_old : Result Ending Refusal → ℕ → ℕ
-failures_after_old (Err (refusal.Diff (diff.Old records.ReadFault))) count = count + 1
+abbrev pub failures_after_old : Result Ending RunRefusal → ℕ → ℕ
+failures_after_old (Err (refusal.Old records.ReadFault)) count = count + 1
 failures_after_old result count = count
 
 -- the same of the new file's
-abbrev pub failures_after_new : Result Ending Refusal → ℕ → ℕ
+abbrev pub failures_after_new : Result Ending RunRefusal → ℕ → ℕ
 failures_after_new (Err (refusal.Records records.ReadFault)) count = count + 1
 failures_after_new result count = count

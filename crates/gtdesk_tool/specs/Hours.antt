@@ -8,7 +8,7 @@ use Rattle.gtd_hours.specs.Opening.{IsOpen}
 use Rattle.gtd_hours.specs.Written.{hours_text}
 use Rattle.gtd_hours.specs.declared.hours.Hours.{Hours}
 use Rattle.gtd_text.specs.Canonical.{canonical}
-use Rattle.gtdesk_plans.specs.CommandLine.{Text}
+use Rattle.gtdesk_plans.specs.Arguments.{Text}
 
 -- The line is the written text of some hours, with a line end. The text stands for these hours, and they are open at exactly the
 -- seconds of the domain.

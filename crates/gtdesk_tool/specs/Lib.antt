@@ -2,12 +2,17 @@ pub mod Comparing
 pub mod Diff
 pub mod Hours
 pub mod Lines
+pub mod Refusals
 pub mod Running
 pub use Rattle.gtd_core.specs.Seconds
+pub use Rattle.gtdesk_plans.specs.Arguments
 pub use Rattle.gtdesk_plans.specs.CommandLine
+pub use Rattle.gtdesk_plans.specs.Commands
 pub use Rattle.gtdesk_plans.specs.Given
 pub use Rattle.gtdesk_plans.specs.HoursWords
 pub use Rattle.gtdesk_plans.specs.Plans
+pub use Rattle.gtdesk_plans.specs.Readings
+pub use Rattle.gtdesk_plans.specs.Rows
 pub use Rattle.gtdesk_plans.specs.Statuses
 pub use Rattle.gtdesk_plans.specs.Words
 pub use Rattle.gtd_changes.specs.Changes

@@ -14,8 +14,9 @@ use Rattle.gtd_picture.specs.Open.{IsOpenPicture}
 use Rattle.gtdesk_tool.specs.Hours.{IsDomainLine, IsHoursLine}
 use Rattle.gtdesk_tool.specs.Comparing.{HasCompared}
 use Rattle.gtdesk_plans.specs.HoursWords.{IsNoDomainOf}
-use Rattle.gtdesk_plans.specs.declared.plans.PictureSubject.{PictureSubject}
-use Rattle.gtdesk_plans.specs.declared.refusal.WordFault.TheVariants as fault
+use Rattle.gtdesk_plans.specs.declared.commands.picture.PictureSubject.{PictureSubject}
+use Rattle.gtdesk_plans.specs.declared.refusal.Reason.TheVariants as reason
+use Rattle.gtdesk_plans.specs.declared.refusal.WordName.TheVariants as name
 use Rattle.gtd_report.specs.declared.fault.RunFault.{RunFault}
 use Rattle.gtd_report.specs.declared.fault.RunFault.TheVariants as run
 use Rattle.gtd_faults.specs.declared.list_fault.ListFault.{ListFault}
@@ -27,33 +28,33 @@ use Rattle.gtd_hours_file.specs.declared.untranslated.Untranslated.TheVariants a
 use Rattle.gtd_now.specs.Now.{IsNow}
 use Rattle.gtdesk_tool.specs.declared.ending.Ending.{Ending}
 use Rattle.gtdesk_tool.specs.declared.ending.Ending.TheVariants as ending
-use Rattle.gtdesk_plans.specs.declared.plans.Plan.{Plan}
-use Rattle.gtdesk_plans.specs.declared.plans.Plan.TheVariants as plan
-use Rattle.gtdesk_plans.specs.declared.refusal.Refusal.{Refusal}
-use Rattle.gtdesk_plans.specs.declared.refusal.Refusal.TheVariants as refusal
+use Rattle.gtdesk_plans.specs.declared.plans.OnePlan.{OnePlan}
+use Rattle.gtdesk_plans.specs.declared.plans.OnePlan.TheVariants as plan
+use Rattle.gtdesk_tool.specs.declared.refusal.RunRefusal.{RunRefusal}
+use Rattle.gtdesk_tool.specs.declared.refusal.RunRefusal.TheVariants as refusal
 
 -- Some restriction names the element.
 abbrev pub IsNamed : ℕ → List Restriction → Type 0
 IsNamed element found = Any (λ (r : Restriction). r.element ≡ element) found
 
 -- The refusal for a fault of a run.
-abbrev pub refusal_for : RunFault → Refusal
+abbrev pub refusal_for : RunFault → RunRefusal
 refusal_for (run.Records records.NoMemory) = refusal.Memory
 refusal_for (run.Records why) = refusal.Records why
 refusal_for (run.WriteFault written) = refusal.Write
 refusal_for (run.NoMemory written) = refusal.Memory
-refusal_for run.VehicleRange = refusal.Vehicle
-refusal_for run.YearRange = refusal.Word fault.Year
+refusal_for run.VehicleRange = refusal.Word (record { word = name.Vehicle; why = reason.Vehicle })
+refusal_for run.YearRange = refusal.Word (record { word = name.Year; why = reason.Year })
 refusal_for run.NoElement = refusal.NoElement
 
 -- The answer of a command, from that of its run.
-abbrev pub outcome_of : Result ℕ RunFault → Result Ending Refusal
+abbrev pub outcome_of : Result ℕ RunFault → Result Ending RunRefusal
 outcome_of (Ok count) = Ok ending.Done
 outcome_of (Err why) = Err (refusal_for why)
 
 -- The run of `now` had an answer, and all that the run promises for this answer holds.
 pub record RanNow (vehicle : ℕ) (second : ℤ) (closed : Bool) (wanted : List ℕ) (file old new : Option (List ℕ))
-    (silent ended : Bool) (result : Result Ending Refusal) : Type 0 where
+    (silent ended : Bool) (result : Result Ending RunRefusal) : Type 0 where
   pub answer : Result ℕ RunFault
   pub outcome : result ≡ outcome_of answer
   pub accepted : IsVehicleType vehicle
@@ -68,7 +69,7 @@ pub record RanNow (vehicle : ℕ) (second : ℤ) (closed : Bool) (wanted : List 
 
 -- The run of `picture` had an answer, and all that the run promises for this answer holds.
 pub record RanPicture (subject : PictureSubject) (title : List ℕ) (file old new : Option (List ℕ)) (silent ended : Bool)
-    (result : Result Ending Refusal) : Type 0 where
+    (result : Result Ending RunRefusal) : Type 0 where
   pub answer : Result ℕ RunFault
   pub outcome : result ≡ outcome_of answer
   pub accepted : IsVehicleType subject.vehicle → IsTableYear subject.year → AcceptedFilesArePut (IsNamed subject.element)
@@ -87,7 +88,7 @@ pub record RanPicture (subject : PictureSubject) (title : List ℕ) (file old ne
 
 -- The run of `picture-domain` had an answer, and all that the run promises for this answer holds.
 pub record RanDomainPicture (domain : Domain) (title : List ℕ) (year : ℕ) (old new : Option (List ℕ)) (ended : Bool)
-    (result : Result Ending Refusal) : Type 0 where
+    (result : Result Ending RunRefusal) : Type 0 where
   pub answer : Result ℕ RunFault
   pub outcome : result ≡ outcome_of answer
   pub stands : HasPut (IsDomainPicture domain title year) old new answer
@@ -95,7 +96,7 @@ pub record RanDomainPicture (domain : Domain) (title : List ℕ) (year : ℕ) (o
   pub year_range : IsErrOf answer run.YearRange ↔ (IsTableYear year → ⊥)
 
 -- The answer of a command, from that of its list of faults.
-abbrev pub listing_outcome : Result ℕ ListFault → Result Ending Refusal
+abbrev pub listing_outcome : Result ℕ ListFault → Result Ending RunRefusal
 listing_outcome (Ok zero) = Ok ending.Done
 listing_outcome (Ok (suc count)) = Ok ending.FaultsListed
 listing_outcome (Err list.ReadFault) = Err (refusal.Records records.ReadFault)
@@ -105,7 +106,7 @@ listing_outcome (Err list.NoMemory) = Err refusal.Memory
 
 -- The run of `faults` had an answer, and all that the run promises for this answer holds.
 pub record RanFaults (path : List ℕ) (warn : Bool) (file old new : Option (List ℕ)) (silent ended : Bool)
-    (result : Result Ending Refusal) : Type 0 where
+    (result : Result Ending RunRefusal) : Type 0 where
   pub answer : Result ℕ ListFault
   pub outcome : result ≡ listing_outcome answer
   pub listed : IfSome file (λ bytes. HasListed path warn bytes old new answer)
@@ -115,18 +116,18 @@ pub record RanFaults (path : List ℕ) (warn : Bool) (file old new : Option (Lis
 
 -- A text of this kind was put whole, and then the output was ended. If the output failed, it had taken a first part of such a
 -- text, which may be none or all of it. Any other refusal has its cause, and nothing was put.
-pub record PutText (IsText : List ℕ → Type 0) (IsCause : Refusal → Type 0) (old new : Option (List ℕ)) (ended : Bool)
-    (result : Result Ending Refusal) : Type 0 where
+pub record PutText (IsText : List ℕ → Type 0) (IsCause : RunRefusal → Type 0) (old new : Option (List ℕ)) (ended : Bool)
+    (result : Result Ending RunRefusal) : Type 0 where
   pub whole : IfOk result (λ e. (e ≡ ending.Done) × ((text : List ℕ) × IsText text × Appends old new text) × IsTrue ended)
   pub refused : IfErr result (λ r. ((r ≡ refusal.Write) × ((text : List ℕ) × IsText text × TookSome old new text))
       ⊎ (IsCause r × Keeps old new))
 
 -- The refusal is of memory, or says that no hours are found.
-abbrev pub IsHoursRefusal : Refusal → Type 0
+abbrev pub IsHoursRefusal : RunRefusal → Type 0
 IsHoursRefusal r = (r ≡ refusal.NoHours) ⊎ (r ≡ refusal.Memory)
 
 -- The refusal is of memory, or says why the text has no domain.
-abbrev pub IsTextRefusal : List ℕ → Refusal → Type 0
+abbrev pub IsTextRefusal : List ℕ → RunRefusal → Type 0
 IsTextRefusal text (refusal.NoDomain why) = IsNoDomainOf text why
 IsTextRefusal text refusal.Memory = Unit {0}
 IsTextRefusal text other = ⊥
@@ -154,7 +155,7 @@ IsToldOf errors (Err (hours.Faults list)) = Told errors (string_bytes list)
 IsToldOf errors other = IsUntold errors
 
 -- The answer of `records`, from that of its run.
-abbrev pub records_outcome : Result ℕ Untranslated → Result Ending Refusal
+abbrev pub records_outcome : Result ℕ Untranslated → Result Ending RunRefusal
 records_outcome (Ok count) = Ok ending.Done
 records_outcome (Err (hours.Faults list)) = Ok ending.FaultsListed
 records_outcome (Err hours.ReadFault) = Err (refusal.Records records.ReadFault)
@@ -164,7 +165,7 @@ records_outcome (Err (hours.NoMemory written)) = Err refusal.Memory
 
 -- The run of `records` had an answer, and all that the run promises for this answer holds.
 pub record RanRecords (path : List ℕ) (file old new : Option (List ℕ)) (silent ended : Bool) (errors : Telling)
-    (result : Result Ending Refusal) : Type 0 where
+    (result : Result Ending RunRefusal) : Type 0 where
   pub answer : Result ℕ Untranslated
   pub outcome : result ≡ records_outcome answer
   pub translated : HasTranslated path file old new answer
@@ -173,42 +174,41 @@ pub record RanRecords (path : List ℕ) (file old new : Option (List ℕ)) (sile
   pub endless : IsErrOf answer hours.Endless → IsTrue silent
 
 -- The plan puts nothing to the output for errors.
-abbrev pub IsQuiet : Plan → Type 0
+abbrev pub IsQuiet : OnePlan → Type 0
 IsQuiet (plan.Records path) = ⊥
 IsQuiet other = ⊤
 
--- What a plan did to the output, by its answer. That of `diff` has a call of its own.
-abbrev pub HasRunPlan : Plan → Option (List ℕ) → Option (List ℕ) → Option (List ℕ) → Bool → Bool → Telling
-    → Result Ending Refusal → Type 0
-HasRunPlan (plan.Now path moment vehicle closed elements) file old new silent ended errors result =
-    RanNow vehicle moment.second.0 closed elements.items file old new silent ended result
-HasRunPlan (plan.Faults path warn) file old new silent ended errors result =
-    RanFaults (string_bytes path) warn file old new silent ended result
-HasRunPlan (plan.Picture path title subject) file old new silent ended errors result =
-    RanPicture subject (string_bytes title) file old new silent ended result
-HasRunPlan (plan.DomainPicture domain title year) file old new silent ended errors result =
-    RanDomainPicture domain (string_bytes title) year old new ended result
+-- What a plan did to the output, by its answer.
+abbrev pub HasRunPlan : OnePlan → Option (List ℕ) → Option (List ℕ) → Option (List ℕ) → Bool → Bool → Telling
+    → Result Ending RunRefusal → Type 0
+HasRunPlan (plan.Now p) file old new silent ended errors result =
+    RanNow p.vehicle p.moment.second.0 p.closed p.elements.items file old new silent ended result
+HasRunPlan (plan.Faults p) file old new silent ended errors result =
+    RanFaults (string_bytes p.file) p.warn file old new silent ended result
+HasRunPlan (plan.Picture p) file old new silent ended errors result =
+    RanPicture p.subject (string_bytes p.title) file old new silent ended result
+HasRunPlan (plan.DomainPicture p) file old new silent ended errors result =
+    RanDomainPicture p.domain (string_bytes p.title) p.year old new ended result
 HasRunPlan (plan.Words domain) file old new silent ended errors result =
     PutText (λ text. text ≡ words (domain_tree domain)) (λ r. r ≡ refusal.Memory) old new ended result
 HasRunPlan (plan.HoursOf domain) file old new silent ended errors result =
     PutText (IsHoursLine domain) IsHoursRefusal old new ended result
 HasRunPlan (plan.DomainOf text) file old new silent ended errors result =
     PutText (IsDomainLine (string_bytes text)) (IsTextRefusal (string_bytes text)) old new ended result
-HasRunPlan (plan.Same first second from) file old new silent ended errors result =
-    HasCompared first second from.second.0 old new ended result
-HasRunPlan (plan.Diff diff) file old new silent ended errors result = ⊥
+HasRunPlan (plan.Same p) file old new silent ended errors result =
+    HasCompared p.first p.second p.from.second.0 old new ended result
 HasRunPlan (plan.Records path) file old new silent ended errors result =
     RanRecords (string_bytes path) file old new silent ended errors result
 HasRunPlan (plan.Show text) file old new silent ended errors result =
     PutText (λ t. t ≡ string_bytes text) (λ r. ⊥) old new ended result
 
 -- one more failure of the input exactly if the refusal is that it failed
-abbrev pub failures_after_read : Result Ending Refusal → ℕ → ℕ
+abbrev pub failures_after_read : Result Ending RunRefusal → ℕ → ℕ
 failures_after_read (Err (refusal.Records records.ReadFault)) count = count + 1
 failures_after_read result count = count
 
 -- one more failure of the output exactly if the refusal is that it failed
-abbrev pub failures_after_write : Result Ending Refusal → ℕ → ℕ
+abbrev pub failures_after_write : Result Ending RunRefusal → ℕ → ℕ
 failures_after_write (Err refusal.Write) count = count + 1
 failures_after_write result count = count
 

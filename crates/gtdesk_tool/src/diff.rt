@@ -6,14 +6,15 @@ ghost use Rattle.gtdesk_tool.specs.Running.{failures_after_write};
 
 use crate::ending::Ending;
 use crate::performer::run_refusal;
+use crate::refusal::RunRefusal;
 use gtd_changes::{ChangesFault, run_changes};
 use gtd_devices::{Input, Output};
 use gtd_records::RecordFault;
-use gtdesk_plans::{DiffFault, DiffPlan, Refusal};
+use gtdesk_plans::DiffPlan;
 use std::alloc::Global;
 
 // The answer of the command, from that of its run. A run whose only line is the header found no difference.
-fn diff_outcome(answer: Result<u64, ChangesFault>) -> Result<Ending, Refusal>
+fn diff_outcome(answer: Result<u64, ChangesFault>) -> Result<Ending, RunRefusal>
     ensures value { result ≡ diff_outcome answer }
 {
     match answer {
@@ -25,8 +26,8 @@ fn diff_outcome(answer: Result<u64, ChangesFault>) -> Result<Ending, Refusal>
             }
         }
         Err(ChangesFault::Old(why)) => match why {
-            RecordFault::NoMemory => Err(Refusal::Memory),
-            _ => Err(Refusal::Diff(DiffFault::Old(why))),
+            RecordFault::NoMemory => Err(RunRefusal::Memory),
+            _ => Err(RunRefusal::Old(why)),
         },
         Err(ChangesFault::Run(why)) => Err(run_refusal(why)),
     }
@@ -34,7 +35,7 @@ fn diff_outcome(answer: Result<u64, ChangesFault>) -> Result<Ending, Refusal>
 
 /// Carries the plan of `diff` out: puts what the record files that two inputs bring say differently, and ends the output.
 ///
-/// The new file is read if the old one has no fault. `Diff` is the old file's first fault, or why its input failed; `Records` is
+/// The new file is read if the old one has no fault. `Old` is the old file's first fault, or why its input failed; `Records` is
 /// the same of the new one. `Write` is answered exactly if the output failed, which has then taken a first part of what was to be
 /// put; `Memory` if memory was refused. Before the call, the failures of each device must be below `u64::MAX`.
 pub fn perform_diff<I: Input, J: Input, O: Output>(
@@ -43,7 +44,7 @@ pub fn perform_diff<I: Input, J: Input, O: Output>(
     old: &mut I,
     new: &mut J,
     output: &mut O,
-) -> Result<Ending, Refusal>
+) -> Result<Ending, RunRefusal>
     requires old_readable { I.failure_count old.old < u64.MAX }
     requires new_readable { J.failure_count new.old < u64.MAX }
     requires writable { O.failure_count output.old < u64.MAX }

@@ -7,12 +7,12 @@ ghost use Rattle.gtdesk_tool.specs.Running.{IsHoursRefusal, PutText, failures_af
 
 use crate::ending::Ending;
 use crate::performer::print_text;
+use crate::refusal::RunRefusal;
 use gtd_core::Domain;
 use gtd_devices::Output;
 use gtd_hours::{Hours, print_hours};
 use gtd_hours_search::hours_of;
 use gtd_hours_text::writing_laws::printed_hours_read_back;
-use gtdesk_plans::Refusal;
 use std::alloc::{AllocError, Global};
 
 // The hours in one line, with its end.
@@ -25,7 +25,7 @@ fn line_of(alloc: Global, hours: &Hours) -> Result<String, AllocError>
 }
 
 // The line of hours that are open at exactly the seconds of the domain. It reads as these hours, which is a law.
-fn hours_line(alloc: Global, domain: &Domain) -> Result<String, Refusal>
+fn hours_line(alloc: Global, domain: &Domain) -> Result<String, RunRefusal>
     ensures line { IfOk result (λ line. IsHoursLine domain.now (string_bytes line)) }
     ensures refused { IfErr result IsHoursRefusal }
 {
@@ -33,10 +33,10 @@ fn hours_line(alloc: Global, domain: &Domain) -> Result<String, Refusal>
     match hours_of(alloc, domain) {
         Ok(Some(hours)) => match line_of(alloc, &hours) {
             Ok(line) => Ok(line),
-            Err(_) => Err(Refusal::Memory),
+            Err(_) => Err(RunRefusal::Memory),
         },
-        Ok(None) => Err(Refusal::NoHours),
-        Err(_) => Err(Refusal::Memory),
+        Ok(None) => Err(RunRefusal::NoHours),
+        Err(_) => Err(RunRefusal::Memory),
     }
 }
 
@@ -45,7 +45,7 @@ pub(crate) fn print_hours_of<O: Output>(
     alloc: Global,
     output: &mut O,
     domain: &Domain,
-) -> Result<Ending, Refusal>
+) -> Result<Ending, RunRefusal>
     requires writable { O.failure_count output.old < u64.MAX }
     ensures put { PutText (IsHoursLine domain.now) IsHoursRefusal (O.taken output.old) (O.taken output.new)
         (O.is_ended output.new) result }

@@ -8,10 +8,11 @@ ghost use Rattle.gtdesk_tool.specs.Running.{IsTextRefusal, PutText, failures_aft
 
 use crate::ending::Ending;
 use crate::performer::print_text;
+use crate::refusal::RunRefusal;
 use gtd_core::Domain;
 use gtd_devices::Output;
 use gtd_text::print_domain;
-use gtdesk_plans::{Refusal, hours_domain};
+use gtdesk_plans::hours_domain;
 use std::alloc::{AllocError, Global};
 
 // The canonical text of a domain in one line, with its end.
@@ -24,18 +25,18 @@ fn line_of(alloc: Global, domain: &Domain) -> Result<String, AllocError>
 }
 
 // The line of the domain with exactly the seconds at which the hours are open that the text stands for.
-fn domain_line(alloc: Global, text: &str) -> Result<String, Refusal>
+fn domain_line(alloc: Global, text: &str) -> Result<String, RunRefusal>
     ensures line { IfOk result (λ line. IsDomainLine text.now (string_bytes line)) }
     ensures refused { IfErr result (IsTextRefusal text.now) }
 {
     let domain = match hours_domain(alloc, text) {
         Ok(domain) => domain,
-        Err(Some(why)) => return Err(Refusal::NoDomain(why)),
-        Err(None) => return Err(Refusal::Memory),
+        Err(Some(why)) => return Err(RunRefusal::NoDomain(why)),
+        Err(None) => return Err(RunRefusal::Memory),
     };
     match line_of(alloc, &domain) {
         Ok(line) => Ok(line),
-        Err(_) => Err(Refusal::Memory),
+        Err(_) => Err(RunRefusal::Memory),
     }
 }
 
@@ -44,7 +45,7 @@ pub(crate) fn print_domain_of<O: Output>(
     alloc: Global,
     output: &mut O,
     text: &str,
-) -> Result<Ending, Refusal>
+) -> Result<Ending, RunRefusal>
     requires writable { O.failure_count output.old < u64.MAX }
     ensures put { PutText (IsDomainLine text.now) (IsTextRefusal text.now) (O.taken output.old) (O.taken output.new)
         (O.is_ended output.new) result }

@@ -4,24 +4,24 @@ ghost use Rattle.std.specs.Prelude.{◌≡◌, ◌<◌};
 ghost use Rattle.gtdesk_tool.specs.Running.{RanRecords, Told, failures_after_read, failures_after_write, records_outcome};
 
 use crate::ending::Ending;
+use crate::refusal::RunRefusal;
 use gtd_devices::{Input, Output};
 use gtd_hours_file::{Untranslated, run_hours_records};
 use gtd_records::RecordFault;
 use gtd_report::{Progress, put_line};
-use gtdesk_plans::Refusal;
 use std::alloc::Global;
 
 // The answer of `records`, from that of its run.
-fn records_outcome(answer: &Result<u64, Untranslated>) -> Result<Ending, Refusal>
+fn records_outcome(answer: &Result<u64, Untranslated>) -> Result<Ending, RunRefusal>
     ensures value { result ≡ records_outcome answer.now }
 {
     match answer {
         Ok(_) => Ok(Ending::Done),
         Err(Untranslated::Faults(_)) => Ok(Ending::FaultsListed),
-        Err(Untranslated::ReadFault) => Err(Refusal::Records(RecordFault::ReadFault)),
-        Err(Untranslated::Endless) => Err(Refusal::Records(RecordFault::Endless)),
-        Err(Untranslated::WriteFault { .. }) => Err(Refusal::Write),
-        Err(Untranslated::NoMemory { .. }) => Err(Refusal::Memory),
+        Err(Untranslated::ReadFault) => Err(RunRefusal::Records(RecordFault::ReadFault)),
+        Err(Untranslated::Endless) => Err(RunRefusal::Records(RecordFault::Endless)),
+        Err(Untranslated::WriteFault { .. }) => Err(RunRefusal::Write),
+        Err(Untranslated::NoMemory { .. }) => Err(RunRefusal::Memory),
     }
 }
 
@@ -46,7 +46,7 @@ pub(crate) fn print_records<I: Input, O: Output, E: Output>(
     output: &mut O,
     errors: &mut E,
     path: &str,
-) -> Result<Ending, Refusal>
+) -> Result<Ending, RunRefusal>
     requires readable { I.failure_count input.old < u64.MAX }
     requires writable { O.failure_count output.old < u64.MAX }
     requires tellable { E.failure_count errors.old < u64.MAX }

@@ -12,13 +12,15 @@ mod hours_records;
 mod line;
 mod performer;
 mod picture;
+mod refusal;
 mod same;
 
 pub use diff::perform_diff;
 pub use ending::Ending;
 pub use gtdesk_plans::{
-    DiffFault, DiffPlan, Moment, NoDomain, PairFault, PictureSubject, Plan, Refusal, WordFault,
-    plan,
+    DiffPlan, DomainPicturePlan, FaultsPlan, Moment, NoDomain, NowPlan, OnePlan, PicturePlan,
+    PictureSubject, Plan, Reason, SamePlan, WordFault, WordName, WordsRefusal, plan,
 };
 pub use line::RefusalLine;
 pub use performer::perform;
+pub use refusal::{Refusal, RunRefusal, refused_file};

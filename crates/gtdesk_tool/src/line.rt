@@ -2,13 +2,14 @@
 
 ghost use Rattle.std.specs.Prelude.{◌≡◌, Some};
 ghost use Rattle.gtdesk_tool.specs.Lines as spec;
-ghost use Rattle.gtdesk_tool.specs.Lines.{diff_text, kind_name, no_domain_text, pair_text, refusal_line, word_text};
+ghost use Rattle.gtdesk_tool.specs.Lines.{kind_name, no_domain_text, reason_text, refusal_line, run_text, word_text, words_text};
 
+use crate::refusal::{Refusal, RunRefusal};
 use gtd_calendar::StampFault;
 use gtd_core::HorizonFault;
 use gtd_faults::{FaultText, Printable};
 use gtd_hours_grammar::FaultKind;
-use gtdesk_plans::{DiffFault, NoDomain, PairFault, Refusal, WordFault};
+use gtdesk_plans::{NoDomain, Reason, WordFault, WordName, WordsRefusal};
 use std::fmt;
 use std::fmt::{Display, Formatter};
 
@@ -24,54 +25,6 @@ fn moment_reason(fault: StampFault) -> &'static str
         StampFault::Shape => "not of the form YYYY-MM-DDThh:mm:ss",
         StampFault::NoSuchDate => "no such date or clock time",
         StampFault::Range => "not from 1901-01-01T00:00:00 to 2199-12-31T23:59:59",
-    }
-}
-
-/// Which word of a picture's command, of `words` or of `hours --of`, stands for nothing, and why.
-#[derive(Drop)]
-struct WordLine(WordFault);
-
-impl Display for WordLine {
-    ghost output = { λ shown. Some (word_text shown.0) };
-
-    fn fmt<W: fmt::Write>(&self, f: &mut Formatter<W>) -> fmt::Result {
-        match self.0 {
-            WordFault::Element => write!(f, "ELEMENT: not a number of 1 to 10 digits"),
-            WordFault::Direction => write!(f, "DIRECTION: neither positive nor negative"),
-            WordFault::Vehicle => write!(f, "VEHICLE: not a number from 1 to 99"),
-            WordFault::Year => write!(f, "YEAR: not a number from 1901 to 2199"),
-            WordFault::Domain(fault) => {
-                let kind = fault.kind.name();
-                let place = fault.place;
-                write!(f, "DOMAIN: {kind} at {place}")
-            }
-        }
-    }
-}
-
-/// Which word of `same` stands for nothing, and why.
-#[derive(Drop)]
-struct PairLine(PairFault);
-
-impl Display for PairLine {
-    ghost output = { λ shown. Some (pair_text shown.0) };
-
-    fn fmt<W: fmt::Write>(&self, f: &mut Formatter<W>) -> fmt::Result {
-        match self.0 {
-            PairFault::First(fault) => {
-                let kind = fault.kind.name();
-                let place = fault.place;
-                write!(f, "FIRST: {kind} at {place}")
-            }
-            PairFault::Second(fault) => {
-                let kind = fault.kind.name();
-                let place = fault.place;
-                write!(f, "SECOND: {kind} at {place}")
-            }
-            PairFault::FirstHours(why) => write!(f, "FIRST: {}", TextLine(why)),
-            PairFault::SecondHours(why) => write!(f, "SECOND: {}", TextLine(why)),
-            PairFault::From(fault) => write!(f, "MOMENT: {}", moment_reason(fault)),
-        }
     }
 }
 
@@ -95,29 +48,6 @@ fn date_reason(fault: StampFault) -> &'static str
         StampFault::Shape => "not of the form YYYY-MM-DD",
         StampFault::NoSuchDate => "no such date",
         StampFault::Range => "not from 1901-01-01 to 2700-01-01",
-    }
-}
-
-/// Which word of `diff` stands for nothing, and why; or why its old file is not read.
-#[derive(Drop)]
-struct DiffLine<'a> {
-    fault: DiffFault,
-    file: &'a str,
-}
-
-impl Display for DiffLine<'_> {
-    ghost output = { λ shown. Some (diff_text shown.file.now shown.fault) };
-
-    fn fmt<W: fmt::Write>(&self, f: &mut Formatter<W>) -> fmt::Result {
-        let file = Printable(self.file.as_bytes());
-        match self.fault {
-            DiffFault::From(fault) => write!(f, "FROM: {}", date_reason(fault)),
-            DiffFault::To(fault) => write!(f, "TO: {}", date_reason(fault)),
-            DiffFault::Horizon(fault) => write!(f, "TO: {}", horizon_reason(fault)),
-            DiffFault::Vehicle => write!(f, "VEHICLE: not a number from 1 to 99"),
-            DiffFault::OldOpen => write!(f, "{file}: cannot be opened"),
-            DiffFault::Old(fault) => write!(f, "{file}: {}", FaultText(fault)),
-        }
     }
 }
 
@@ -153,12 +83,112 @@ impl Display for TextLine {
     }
 }
 
+// The name of a word, as a refusal gives it.
+fn word_name(word: WordName) -> &'static str
+    ensures { result.now ≡ spec.word_name word }
+{
+    match word {
+        WordName::Domain => "DOMAIN",
+        WordName::First => "FIRST",
+        WordName::Second => "SECOND",
+        WordName::Element => "ELEMENT",
+        WordName::Direction => "DIRECTION",
+        WordName::Vehicle => "VEHICLE",
+        WordName::Year => "YEAR",
+        WordName::Moment => "MOMENT",
+        WordName::From => "FROM",
+        WordName::To => "TO",
+    }
+}
+
+/// Why a word stands for nothing.
+#[derive(Drop)]
+struct ReasonText(Reason);
+
+impl Display for ReasonText {
+    ghost output = { λ shown. Some (reason_text shown.0) };
+
+    fn fmt<W: fmt::Write>(&self, f: &mut Formatter<W>) -> fmt::Result {
+        match self.0 {
+            Reason::Element => write!(f, "not a number of 1 to 10 digits"),
+            Reason::Direction => write!(f, "neither positive nor negative"),
+            Reason::Vehicle => write!(f, "not a number from 1 to 99"),
+            Reason::Year => write!(f, "not a number from 1901 to 2199"),
+            Reason::Moment(fault) => write!(f, "{}", moment_reason(fault)),
+            Reason::Date(fault) => write!(f, "{}", date_reason(fault)),
+            Reason::Horizon(fault) => write!(f, "{}", horizon_reason(fault)),
+            Reason::Domain(fault) => {
+                let kind = fault.kind.name();
+                let place = fault.place;
+                write!(f, "{kind} at {place}")
+            }
+            Reason::Hours(why) => write!(f, "{}", TextLine(why)),
+        }
+    }
+}
+
+/// Which word stands for nothing, and why.
+#[derive(Drop)]
+struct WordLine(WordFault);
+
+impl Display for WordLine {
+    ghost output = { λ shown. Some (word_text shown.0) };
+
+    fn fmt<W: fmt::Write>(&self, f: &mut Formatter<W>) -> fmt::Result {
+        let word = word_name(self.0.word);
+        write!(f, "{word}: {}", ReasonText(self.0.why))
+    }
+}
+
+/// Why the words are refused.
+#[derive(Drop)]
+struct WordsLine(WordsRefusal);
+
+impl Display for WordsLine {
+    ghost output = { λ shown. Some (words_text shown.0) };
+
+    fn fmt<W: fmt::Write>(&self, f: &mut Formatter<W>) -> fmt::Result {
+        match self.0 {
+            WordsRefusal::Usage(why) => write!(f, "command line: {why} (see gtdesk --help)"),
+            WordsRefusal::Word(fault) => write!(f, "{}", WordLine(fault)),
+            WordsRefusal::Memory => write!(f, "memory: refused by the system"),
+        }
+    }
+}
+
+/// Why a plan is not carried out that reads a file of this name.
+#[derive(Drop)]
+struct RunLine<'a> {
+    refusal: RunRefusal,
+    file: &'a str,
+}
+
+impl Display for RunLine<'_> {
+    ghost output = { λ shown. Some (run_text shown.file.now shown.refusal) };
+
+    fn fmt<W: fmt::Write>(&self, f: &mut Formatter<W>) -> fmt::Result {
+        let file = Printable(self.file.as_bytes());
+        match self.refusal {
+            RunRefusal::Word(fault) => write!(f, "{}", WordLine(fault)),
+            RunRefusal::NoHours => write!(f, "{NO_HOURS}"),
+            RunRefusal::NoDomain(why) => write!(f, "TEXT: {}", TextLine(why)),
+            RunRefusal::NoElement => write!(f, "{file}: no row names the element"),
+            RunRefusal::Records(fault) => write!(f, "{file}: {}", FaultText(fault)),
+            RunRefusal::Open => write!(f, "{file}: cannot be opened"),
+            RunRefusal::Old(fault) => write!(f, "{file}: {}", FaultText(fault)),
+            RunRefusal::OldOpen => write!(f, "{file}: cannot be opened"),
+            RunRefusal::Write => write!(f, "standard output: cannot be written"),
+            RunRefusal::Memory => write!(f, "memory: refused by the system"),
+        }
+    }
+}
+
 /// The line for standard error that reports a refusal, without its line end: `gtdesk: WHERE: WHAT`.
 #[derive(Drop)]
 pub struct RefusalLine<'a> {
     /// The refusal.
     pub refusal: Refusal,
-    /// The name of the record file, if one is read.
+    /// The name of the record file that it is about, if it is about one.
     pub file: &'a str,
 }
 
@@ -166,28 +196,16 @@ impl Display for RefusalLine<'_> {
     ghost output = { λ line. Some (refusal_line line.file.now line.refusal) };
 
     fn fmt<W: fmt::Write>(&self, f: &mut Formatter<W>) -> fmt::Result {
-        let file = Printable(self.file.as_bytes());
         match self.refusal {
-            Refusal::Usage(why) => write!(f, "gtdesk: command line: {why} (see gtdesk --help)"),
-            Refusal::Moment(fault) => write!(f, "gtdesk: MOMENT: {}", moment_reason(fault)),
-            Refusal::Vehicle => write!(f, "gtdesk: VEHICLE: not a number from 1 to 99"),
-            Refusal::Word(fault) => write!(f, "gtdesk: {}", WordLine(fault)),
-            Refusal::Pair(fault) => write!(f, "gtdesk: {}", PairLine(fault)),
-            Refusal::Diff(fault) => write!(
+            Refusal::Words(refusal) => write!(f, "gtdesk: {}", WordsLine(refusal)),
+            Refusal::Run(refusal) => write!(
                 f,
                 "gtdesk: {}",
-                DiffLine {
-                    fault,
+                RunLine {
+                    refusal,
                     file: self.file
                 }
             ),
-            Refusal::NoHours => write!(f, "gtdesk: {NO_HOURS}"),
-            Refusal::NoDomain(why) => write!(f, "gtdesk: TEXT: {}", TextLine(why)),
-            Refusal::NoElement => write!(f, "gtdesk: {file}: no row names the element"),
-            Refusal::Records(fault) => write!(f, "gtdesk: {file}: {}", FaultText(fault)),
-            Refusal::Open => write!(f, "gtdesk: {file}: cannot be opened"),
-            Refusal::Write => write!(f, "gtdesk: standard output: cannot be written"),
-            Refusal::Memory => write!(f, "gtdesk: memory: refused by the system"),
         }
     }
 }

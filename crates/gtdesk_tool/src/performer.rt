@@ -4,7 +4,7 @@ ghost use Rattle.std.specs.Prelude.{◌≡◌, ◌<◌, None};
 ghost use Rattle.gtd_core.specs.Parts.{domain_tree};
 ghost use Rattle.gtd_core.specs.Seconds.{IsHorizonSecond};
 ghost use Rattle.gtd_words.specs.Words.{words};
-ghost use Rattle.gtdesk_plans.specs.Plans.{diff_of, file_of};
+ghost use Rattle.gtdesk_plans.specs.Plans.{file_of};
 ghost use Rattle.gtdesk_tool.specs.Running.{HasRunPlan, IsQuiet, PutText, RanFaults, RanNow, failures_after_read};
 ghost use Rattle.gtdesk_tool.specs.Running.{failures_after_write, listing_outcome, outcome_of, refusal_for};
 
@@ -13,6 +13,7 @@ use crate::ending::Ending;
 use crate::hours_domain::print_domain_of;
 use crate::hours_records::print_records;
 use crate::picture::{print_domain, print_picture};
+use crate::refusal::RunRefusal;
 use crate::same::print_comparison;
 use gtd_core::Domain;
 use gtd_devices::{Input, Output};
@@ -21,28 +22,34 @@ use gtd_now::{Asked, run_now};
 use gtd_records::RecordFault;
 use gtd_report::{Progress, RunFault, finish, put_line};
 use gtd_words::write_words;
-use gtdesk_plans::{Plan, Refusal, WordFault};
+use gtdesk_plans::{OnePlan, Reason, WordFault, WordName};
 use std::alloc::Global;
 
 /// The refusal for a fault of a run.
-pub(crate) fn run_refusal(fault: RunFault) -> Refusal
+pub(crate) fn run_refusal(fault: RunFault) -> RunRefusal
     ensures value { result ≡ refusal_for fault }
 {
     match fault {
         RunFault::Records(why) => match why {
-            RecordFault::NoMemory => Refusal::Memory,
-            _ => Refusal::Records(why),
+            RecordFault::NoMemory => RunRefusal::Memory,
+            _ => RunRefusal::Records(why),
         },
-        RunFault::WriteFault { .. } => Refusal::Write,
-        RunFault::NoMemory { .. } => Refusal::Memory,
-        RunFault::VehicleRange => Refusal::Vehicle,
-        RunFault::YearRange => Refusal::Word(WordFault::Year),
-        RunFault::NoElement => Refusal::NoElement,
+        RunFault::WriteFault { .. } => RunRefusal::Write,
+        RunFault::NoMemory { .. } => RunRefusal::Memory,
+        RunFault::VehicleRange => RunRefusal::Word(WordFault {
+            word: WordName::Vehicle,
+            why: Reason::Vehicle,
+        }),
+        RunFault::YearRange => RunRefusal::Word(WordFault {
+            word: WordName::Year,
+            why: Reason::Year,
+        }),
+        RunFault::NoElement => RunRefusal::NoElement,
     }
 }
 
 /// The answer of a command, from that of its run.
-pub(crate) fn outcome(answer: Result<u64, RunFault>) -> Result<Ending, Refusal>
+pub(crate) fn outcome(answer: Result<u64, RunFault>) -> Result<Ending, RunRefusal>
     ensures value { result ≡ outcome_of answer }
 {
     match answer {
@@ -57,7 +64,7 @@ fn print_now<I: Input, O: Output>(
     input: &mut I,
     output: &mut O,
     asked: &Asked<'_>,
-) -> Result<Ending, Refusal>
+) -> Result<Ending, RunRefusal>
     requires in_range { IsHorizonSecond asked.now.second.0 }
     requires readable { I.failure_count input.old < u64.MAX }
     requires writable { O.failure_count output.old < u64.MAX }
@@ -73,16 +80,16 @@ fn print_now<I: Input, O: Output>(
 }
 
 // The answer of `faults`, from that of its list.
-fn listing_outcome(answer: Result<usize, ListFault>) -> Result<Ending, Refusal>
+fn listing_outcome(answer: Result<usize, ListFault>) -> Result<Ending, RunRefusal>
     ensures value { result ≡ listing_outcome answer }
 {
     match answer {
         Ok(0) => Ok(Ending::Done),
         Ok(_) => Ok(Ending::FaultsListed),
-        Err(ListFault::ReadFault) => Err(Refusal::Records(RecordFault::ReadFault)),
-        Err(ListFault::Endless) => Err(Refusal::Records(RecordFault::Endless)),
-        Err(ListFault::WriteFault) => Err(Refusal::Write),
-        Err(ListFault::NoMemory) => Err(Refusal::Memory),
+        Err(ListFault::ReadFault) => Err(RunRefusal::Records(RecordFault::ReadFault)),
+        Err(ListFault::Endless) => Err(RunRefusal::Records(RecordFault::Endless)),
+        Err(ListFault::WriteFault) => Err(RunRefusal::Write),
+        Err(ListFault::NoMemory) => Err(RunRefusal::Memory),
     }
 }
 
@@ -93,7 +100,7 @@ fn list_faults<I: Input, O: Output>(
     output: &mut O,
     path: &str,
     warn: bool,
-) -> Result<Ending, Refusal>
+) -> Result<Ending, RunRefusal>
     requires readable { I.failure_count input.old < u64.MAX }
     requires writable { O.failure_count output.old < u64.MAX }
     ensures ran { RanFaults path.now warn (I.to_come input.old) (O.taken output.old) (O.taken output.new)
@@ -107,7 +114,7 @@ fn list_faults<I: Input, O: Output>(
 }
 
 /// Puts a text, and ends the output.
-pub(crate) fn print_text<O: Output>(output: &mut O, text: &str) -> Result<Ending, Refusal>
+pub(crate) fn print_text<O: Output>(output: &mut O, text: &str) -> Result<Ending, RunRefusal>
     requires writable { O.failure_count output.old < u64.MAX }
     ensures put { PutText (λ t. t ≡ text.now) (λ r. ⊥) (O.taken output.old) (O.taken output.new)
         (O.is_ended output.new) result }
@@ -118,7 +125,7 @@ pub(crate) fn print_text<O: Output>(output: &mut O, text: &str) -> Result<Ending
 }
 
 /// The same of the bytes of a text.
-pub(crate) fn print_bytes<O: Output>(output: &mut O, text: &[u8]) -> Result<Ending, Refusal>
+pub(crate) fn print_bytes<O: Output>(output: &mut O, text: &[u8]) -> Result<Ending, RunRefusal>
     requires writable { O.failure_count output.old < u64.MAX }
     ensures put { PutText (λ t. t ≡ text.now) (λ r. ⊥) (O.taken output.old) (O.taken output.new)
         (O.is_ended output.new) result }
@@ -129,28 +136,32 @@ pub(crate) fn print_bytes<O: Output>(output: &mut O, text: &[u8]) -> Result<Endi
     match put_line(output, &mut progress, text) {
         Ok(()) => match finish(output) {
             Ok(()) => Ok(Ending::Done),
-            Err(_) => Err(Refusal::Write),
+            Err(_) => Err(RunRefusal::Write),
         },
-        Err(_) => Err(Refusal::Write),
+        Err(_) => Err(RunRefusal::Write),
     }
 }
 
 // Puts the words of a domain, and ends the output.
-fn print_words<O: Output>(alloc: Global, output: &mut O, domain: &Domain) -> Result<Ending, Refusal>
+fn print_words<O: Output>(
+    alloc: Global,
+    output: &mut O,
+    domain: &Domain,
+) -> Result<Ending, RunRefusal>
     requires writable { O.failure_count output.old < u64.MAX }
-    ensures put { PutText (λ t. t ≡ words (domain_tree domain.now)) (λ r. r ≡ Refusal.Memory)
+    ensures put { PutText (λ t. t ≡ words (domain_tree domain.now)) (λ r. r ≡ RunRefusal.Memory)
         (O.taken output.old) (O.taken output.new) (O.is_ended output.new) result }
     ensures write_faults { O.failure_count output.new
         ≡ failures_after_write result (O.failure_count output.old) }
 {
     match write_words(alloc, domain) {
         Ok(text) => print_text(output, text.as_str()),
-        Err(_) => Err(Refusal::Memory),
+        Err(_) => Err(RunRefusal::Memory),
     }
 }
 
-/// Carries a plan out that reads one file at most, so any but that of `diff`: puts what it asks for, and ends the output. The input brings the bytes of the plan's file; if the plan
-/// reads none, nothing is pulled. Only `records` puts anything to the output for errors: all faults of a file of hours, if it has
+/// Carries a plan out that reads one file at most: puts what it asks for, and ends the output. The input brings the bytes of the
+/// plan's file; if the plan reads none, nothing is pulled. Only `records` puts anything to the output for errors: all faults of a file of hours, if it has
 /// any. If that output fails, a first part of the list stands, and the answer is the same.
 ///
 /// `Records` is the file's first fault, or why the input failed; `NoHours` is answered if no opening hours are found for a
@@ -159,12 +170,11 @@ fn print_words<O: Output>(alloc: Global, output: &mut O, domain: &Domain) -> Res
 /// failures of each device must be below `u64::MAX`.
 pub fn perform<I: Input, O: Output, E: Output>(
     alloc: Global,
-    plan: &Plan,
+    plan: &OnePlan,
     input: &mut I,
     output: &mut O,
     errors: &mut E,
-) -> Result<Ending, Refusal>
-    requires one_file { diff_of plan.now ≡ None }
+) -> Result<Ending, RunRefusal>
     requires readable { I.failure_count input.old < u64.MAX }
     requires writable { O.failure_count output.old < u64.MAX }
     requires tellable { E.failure_count errors.old < u64.MAX }
@@ -187,45 +197,37 @@ pub fn perform<I: Input, O: Output, E: Output>(
     ensures quiet { IsQuiet plan.now → errors.new ≡ errors.old }
 {
     match plan {
-        Plan::Now {
-            moment,
-            vehicle,
-            closed,
-            elements,
-            ..
-        } => {
+        OnePlan::Now(plan) => {
             let asked = Asked {
-                vehicle: *vehicle,
-                second: moment.second,
-                closed: *closed,
-                elements: elements.as_slice(),
+                vehicle: plan.vehicle,
+                second: plan.moment.second,
+                closed: plan.closed,
+                elements: plan.elements.as_slice(),
             };
             print_now(alloc, input, output, &asked)
         }
-        Plan::Faults { file, warn } => list_faults(alloc, input, output, file.as_str(), *warn),
-        Plan::Picture { title, subject, .. } => print_picture(
+        OnePlan::Faults(plan) => list_faults(alloc, input, output, plan.file.as_str(), plan.warn),
+        OnePlan::Picture(plan) => print_picture(
             alloc,
             input,
             output,
-            title.as_str(),
-            *subject,
+            plan.title.as_str(),
+            plan.subject,
         ),
-        Plan::DomainPicture {
-            domain,
-            title,
-            year,
-        } => print_domain(alloc, output, domain, title.as_str(), *year),
-        Plan::Words { domain } => print_words(alloc, output, domain),
-        Plan::HoursOf { domain } => print_hours_of(alloc, output, domain),
-        Plan::DomainOf { text } => print_domain_of(alloc, output, text.as_str()),
-        Plan::Same {
-            first,
-            second,
-            from,
-        } => print_comparison(alloc, output, first, second, *from),
-        // It has a call of its own.
-        Plan::Diff(_) => unreachable!(),
-        Plan::Records { file } => print_records(alloc, input, output, errors, file.as_str()),
-        Plan::Show { text } => print_text(output, text.as_str()),
+        OnePlan::DomainPicture(plan) => print_domain(
+            alloc,
+            output,
+            &plan.domain,
+            plan.title.as_str(),
+            plan.year,
+        ),
+        OnePlan::Words(domain) => print_words(alloc, output, domain),
+        OnePlan::HoursOf(domain) => print_hours_of(alloc, output, domain),
+        OnePlan::DomainOf(text) => print_domain_of(alloc, output, text.as_str()),
+        OnePlan::Same(plan) => {
+            print_comparison(alloc, output, &plan.first, &plan.second, plan.from)
+        }
+        OnePlan::Records(file) => print_records(alloc, input, output, errors, file.as_str()),
+        OnePlan::Show(text) => print_text(output, text.as_str()),
     }
 }

@@ -5,10 +5,11 @@ ghost use Rattle.gtdesk_tool.specs.Running.{RanDomainPicture, RanPicture, failur
 
 use crate::ending::Ending;
 use crate::performer::outcome;
+use crate::refusal::RunRefusal;
 use gtd_core::Domain;
 use gtd_devices::{Input, Output};
 use gtd_picture::{put_domain_picture, run_picture};
-use gtdesk_plans::{PictureSubject, Refusal};
+use gtdesk_plans::PictureSubject;
 use std::alloc::Global;
 
 /// Prints the picture of an element of the record file that the input brings.
@@ -18,7 +19,7 @@ pub(crate) fn print_picture<I: Input, O: Output>(
     output: &mut O,
     title: &str,
     subject: PictureSubject,
-) -> Result<Ending, Refusal>
+) -> Result<Ending, RunRefusal>
     requires readable { I.failure_count input.old < u64.MAX }
     requires writable { O.failure_count output.old < u64.MAX }
     ensures ran { RanPicture subject title.now (I.to_come input.old) (O.taken output.old) (O.taken output.new)
@@ -47,7 +48,7 @@ pub(crate) fn print_domain<O: Output>(
     domain: &Domain,
     title: &str,
     year: u16,
-) -> Result<Ending, Refusal>
+) -> Result<Ending, RunRefusal>
     requires writable { O.failure_count output.old < u64.MAX }
     ensures ran { RanDomainPicture domain.now title.now year (O.taken output.old) (O.taken output.new)
         (O.is_ended output.new) result }

@@ -9,11 +9,12 @@ ghost use Rattle.gtdesk_tool.specs.Running.{failures_after_write};
 
 use crate::ending::Ending;
 use crate::performer::print_bytes;
+use crate::refusal::RunRefusal;
 use gtd_calendar::write_stamp;
 use gtd_core::Domain;
 use gtd_devices::Output;
 use gtd_difference::{Apart, Comparison, Side, compare};
-use gtdesk_plans::{Moment, Refusal};
+use gtdesk_plans::Moment;
 use std::alloc::{AllocError, Global};
 
 // The word for the domain that has a second alone.
@@ -63,7 +64,7 @@ fn ending_of(found: Comparison) -> Ending
 }
 
 // The same answer with another ending.
-fn with_ending(ending: Ending, put: Result<Ending, Refusal>) -> Result<Ending, Refusal>
+fn with_ending(ending: Ending, put: Result<Ending, RunRefusal>) -> Result<Ending, RunRefusal>
     ensures value { result ≡ with_ending ending put }
 {
     match put {
@@ -77,7 +78,7 @@ fn put_comparison<O: Output>(
     alloc: Global,
     output: &mut O,
     found: Comparison,
-) -> Result<Ending, Refusal>
+) -> Result<Ending, RunRefusal>
     requires writable { O.failure_count output.old < u64.MAX }
     requires shown { IsShown found }
     ensures put { PutsComparison found (O.taken output.old) (O.taken output.new) (O.is_ended output.new) result }
@@ -86,7 +87,7 @@ fn put_comparison<O: Output>(
 {
     match line_of(alloc, found) {
         Ok(line) => with_ending(ending_of(found), print_bytes(output, line.as_slice())),
-        Err(_) => Err(Refusal::Memory),
+        Err(_) => Err(RunRefusal::Memory),
     }
 }
 
@@ -97,7 +98,7 @@ pub(crate) fn print_comparison<O: Output>(
     first: &Domain,
     second: &Domain,
     from: Moment,
-) -> Result<Ending, Refusal>
+) -> Result<Ending, RunRefusal>
     requires writable { O.failure_count output.old < u64.MAX }
     ensures compared { HasCompared first.now second.now from.second.0 (O.taken output.old) (O.taken output.new)
         (O.is_ended output.new) result }
@@ -106,6 +107,6 @@ pub(crate) fn print_comparison<O: Output>(
 {
     match compare(alloc, first, second, from.second) {
         Ok(found) => put_comparison(alloc, output, found),
-        Err(_) => Err(Refusal::Memory),
+        Err(_) => Err(RunRefusal::Memory),
     }
 }

@@ -1,24 +1,17 @@
 //! What the tests of commands share: command lines carried out over files in memory.
 
-ghost use Rattle.std.specs.Prelude.{◌≡◌, None};
-ghost use Rattle.gtdesk_tool.specs.Plans.{diff_of};
-
 use crate::words::owned;
 use gtd_devices::{MemoryIn, MemoryOut};
-use gtdesk_tool::{Ending, Plan, Refusal, perform, plan};
+use gtdesk_tool::{Ending, OnePlan, Plan, RunRefusal, perform, plan};
 use std::alloc::Global;
 use std::process::Abort;
 
-/// The plan of the words, which is of one file at most.
-pub(crate) fn planned(rt: &impl Abort, alloc: Global, words: &[&str]) -> Plan
-    ensures one_file { diff_of result ≡ None }
-{
+/// The plan of the words, which reads one file at most.
+pub(crate) fn planned(rt: &impl Abort, alloc: Global, words: &[&str]) -> OnePlan {
     let owned = owned(alloc, words).expect(rt, "memory");
     match plan(alloc, owned) {
-        Ok(plan) => {
-            assert!(rt; plan.diff().is_none(), "{words:?} compares two files");
-            plan
-        }
+        Ok(Plan::One(plan)) => plan,
+        Ok(Plan::Diff(_)) => panic!(rt; "{words:?} compares two files"),
         Err(_) => panic!(rt; "{words:?} is refused"),
     }
 }
@@ -27,11 +20,9 @@ pub(crate) fn planned(rt: &impl Abort, alloc: Global, words: &[&str]) -> Plan
 pub(crate) fn performed(
     rt: &impl Abort,
     alloc: Global,
-    plan: &Plan,
+    plan: &OnePlan,
     file: &[u8],
-) -> (Result<Ending, Refusal>, Vec<u8>)
-    requires one_file { diff_of plan.now ≡ None }
-{
+) -> (Result<Ending, RunRefusal>, Vec<u8>) {
     let bytes = Vec::from_slice(alloc, file).expect(rt, "memory");
     let mut input = MemoryIn::new(bytes, 4_096, None, None);
     let mut output = MemoryOut::new(alloc, 100_000, 4_096, None).expect(rt, "memory");

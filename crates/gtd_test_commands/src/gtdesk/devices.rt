@@ -1,12 +1,11 @@
 //! Commands over devices that fail, are interrupted, or take little at a time.
 
-ghost use Rattle.std.specs.Prelude.{◌≡◌, ◌<◌, None};
-ghost use Rattle.gtdesk_tool.specs.Plans.{diff_of};
+ghost use Rattle.std.specs.Prelude.{◌≡◌, ◌<◌};
 
 use crate::gtdesk::common::{performed, planned};
 use gtd_devices::{HostOut, Input, MemoryIn, MemoryOut, Output};
 use gtd_test_devices::{Busy, Counting, R, in_pieces};
-use gtdesk_tool::{Ending, Plan, Refusal, perform};
+use gtdesk_tool::{Ending, OnePlan, RunRefusal, perform};
 use std::alloc::Global;
 use std::process::Abort;
 
@@ -39,13 +38,12 @@ fn two_rows(rt: &impl Abort, alloc: Global) -> MemoryIn
 fn perform_into(
     rt: &impl Abort,
     alloc: Global,
-    plan: &Plan,
+    plan: &OnePlan,
     room: usize,
     piece: usize,
     fail_call: Option<u64>,
-) -> (Result<Ending, Refusal>, MemoryOut)
+) -> (Result<Ending, RunRefusal>, MemoryOut)
     requires some_byte { 0 < piece }
-    requires one_file { diff_of plan.now ≡ None }
 {
     let mut input = two_rows(rt, alloc);
     let mut output = MemoryOut::new(alloc, room, piece, fail_call).expect(rt, "memory");
@@ -55,9 +53,9 @@ fn perform_into(
 }
 
 // Whether a command puts its text whole, or line by line.
-fn is_put_whole(plan: &Plan) -> bool {
+fn is_put_whole(plan: &OnePlan) -> bool {
     match plan {
-        Plan::Words { .. } | Plan::Show { .. } | Plan::Faults { .. } => true,
+        OnePlan::Words(_) | OnePlan::Show(_) | OnePlan::Faults(_) => true,
         _ => false,
     }
 }
@@ -92,7 +90,7 @@ fn expect_failures(rt: &impl Abort, alloc: Global, words: &[&str]) {
     {
         let (taken, _) = taken_before(text.as_slice(), is_whole, call);
         let (done, output) = perform_into(rt, alloc, &plan, 100_000, 50, Some(call));
-        assert!(rt; done == Err(Refusal::Write), "{words:?}, call {call}");
+        assert!(rt; done == Err(RunRefusal::Write), "{words:?}, call {call}");
         assert!(rt;
             output.bytes() == &text[..taken.min(text.len())],
             "{words:?}, call {call}"
@@ -136,7 +134,7 @@ fn lists_with_too_little_room(rt: HostRuntime) {
         let expected = if room == LIST.len() {
             Ok(Ending::FaultsListed)
         } else {
-            Err(Refusal::Write)
+            Err(RunRefusal::Write)
         };
         assert!(rt; done == expected, "{room} bytes of room");
         assert!(rt; output.bytes() == &LIST.as_bytes()[..room]);
@@ -151,7 +149,7 @@ fn expect_over_writer(
     interruptions: u32,
     takes: bool,
     flushes: bool,
-    expected: Result<Ending, Refusal>,
+    expected: Result<Ending, RunRefusal>,
 ) {
     let plan = planned(rt, alloc, words);
     let mut input = two_rows(rt, alloc);
@@ -172,7 +170,7 @@ fn expect_over_writer(
 #[test]
 fn writers_that_are_interrupted(rt: HostRuntime) {
     let alloc = rt.alloc();
-    let refused = Err(Refusal::Write);
+    let refused = Err(RunRefusal::Write);
     let now = FILE_COMMANDS[0];
     let hours = OTHER_COMMANDS[3];
     for words in [

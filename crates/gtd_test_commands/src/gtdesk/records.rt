@@ -2,7 +2,7 @@
 
 use crate::gtdesk::common::planned;
 use gtd_devices::{MemoryIn, MemoryOut};
-use gtdesk_tool::{Ending, Refusal, perform};
+use gtdesk_tool::{Ending, RunRefusal, perform};
 
 const WORDS: [&str; 2] = ["records", "r.csv"];
 
@@ -50,7 +50,7 @@ fn records_with_too_little_room(rt: HostRuntime) {
         let mut output = MemoryOut::new(alloc, room, 5, None).expect(&rt, "memory");
         let mut errors = MemoryOut::new(alloc, 0, 1, None).expect(&rt, "memory");
         let done = perform(alloc, &plan, &mut input, &mut output, &mut errors);
-        assert!(rt; done == Err(Refusal::Write), "{room} bytes of room");
+        assert!(rt; done == Err(RunRefusal::Write), "{room} bytes of room");
         assert!(rt; RECORDS.as_bytes().starts_with(output.bytes()));
         assert!(rt; output.bytes().len() == room);
     }

@@ -6,24 +6,42 @@ use crate::gtdesk::common::planned;
 use gtd_devices::{MemoryIn, MemoryOut};
 use gtd_records::RecordFault;
 use gtd_test_devices::R;
-use gtdesk_tool::{Ending, NoDomain, Plan, Refusal, WordFault, perform};
+use gtdesk_tool::{
+    Ending, NoDomain, OnePlan, Reason, Refusal, RunRefusal, WordFault, WordName, WordsRefusal,
+    perform,
+};
 use std::process::Abort;
 
 fn expect_statuses(rt: &impl Abort) {
     assert!(rt; Ending::Done.status() == 0);
     assert!(rt; Ending::FaultsListed.status() == 1);
-    assert!(rt; Refusal::Usage("x").status() == 2);
-    assert!(rt; Refusal::Vehicle.status() == 1);
-    assert!(rt; Refusal::Word(WordFault::Year).status() == 1);
-    assert!(rt; Refusal::NoHours.status() == 1);
-    assert!(rt; Refusal::NoDomain(NoDomain::TooMany).status() == 1);
-    assert!(rt; Refusal::NoElement.status() == 1);
-    assert!(rt; Refusal::Records(RecordFault::Header).status() == 1);
-    assert!(rt; Refusal::Records(RecordFault::ReadFault).status() == 3);
-    assert!(rt; Refusal::Records(RecordFault::Endless).status() == 3);
-    assert!(rt; Refusal::Open.status() == 3);
-    assert!(rt; Refusal::Write.status() == 3);
-    assert!(rt; Refusal::Memory.status() == 3);
+    let fault = WordFault {
+        word: WordName::Year,
+        why: Reason::Year,
+    };
+    for (refusal, status) in [
+        (WordsRefusal::Usage("x"), 2),
+        (WordsRefusal::Word(fault), 1),
+        (WordsRefusal::Memory, 3),
+    ] {
+        assert!(rt; Refusal::Words(refusal).status() == status);
+    }
+    for (refusal, status) in [
+        (RunRefusal::Word(fault), 1),
+        (RunRefusal::NoHours, 1),
+        (RunRefusal::NoDomain(NoDomain::TooMany), 1),
+        (RunRefusal::NoElement, 1),
+        (RunRefusal::Records(RecordFault::Header), 1),
+        (RunRefusal::Records(RecordFault::ReadFault), 3),
+        (RunRefusal::Records(RecordFault::Endless), 3),
+        (RunRefusal::Open, 3),
+        (RunRefusal::Old(RecordFault::Header), 1),
+        (RunRefusal::OldOpen, 3),
+        (RunRefusal::Write, 3),
+        (RunRefusal::Memory, 3),
+    ] {
+        assert!(rt; Refusal::Run(refusal).status() == status);
+    }
 }
 
 #[test]
@@ -49,7 +67,7 @@ fn files_of_plans(rt: HostRuntime) {
 #[test]
 fn texts(rt: HostRuntime) {
     let alloc = rt.alloc();
-    let plan: Plan = planned(&rt, alloc, &["--version"]);
+    let plan: OnePlan = planned(&rt, alloc, &["--version"]);
     let bytes = Vec::from_slice(alloc, R.as_bytes()).expect(&rt, "memory");
     let mut input = MemoryIn::new(bytes, 7, None, None);
     let mut output = MemoryOut::new(alloc, 1_000, 5, None).expect(&rt, "memory");

@@ -3,7 +3,7 @@ use Rattle.std.proofs.lemmas.Result.{IfOk-weaker}
 use Rattle.clap.specs.Simple.{App, Shape, app_of, with_subcommand}
 use Rattle.clap.specs.declared.builder.command.Command.{Command}
 use Rattle.clap.specs.declared.builder.command.Command.TheViews.{out-Command}
-use Rattle.gtdesk_plans.specs.CommandLine.{Builds}
+use Rattle.gtdesk_plans.specs.Arguments.{Builds}
 use Rattle.gtdesk_plans.proofs.command_line.add_command.Goals as goal
 
 third : (a b g rest : Bool) → (a && (b && (not g && rest))) ≡ true → g ≡ false

@@ -6,7 +6,7 @@ use Rattle.gtd_core.specs.declared.domain.Domain.{Domain}
 use Rattle.gtd_hours.specs.Cost.{hours_cost}
 use Rattle.gtd_hours.specs.declared.hours.Hours.{Hours}
 use Rattle.gtd_hours_text.specs.Standing.{StandsFor}
-use Rattle.gtdesk_plans.specs.CommandLine.{Text}
+use Rattle.gtdesk_plans.specs.Arguments.{Text}
 use Rattle.gtdesk_plans.specs.HoursWords.{IsHoursDomain, IsNoDomainOf, IsTranslation}
 use Rattle.gtdesk_plans.specs.declared.refusal.NoDomain.{NoDomain}
 use Rattle.gtdesk_plans.specs.declared.refusal.NoDomain.TheVariants as none

@@ -1,6 +1,6 @@
 use Rattle.std.proofs.Common.{subst, sym, List}
 use Rattle.std.specs.Prelude.{MatchResult, string_bytes}
-use Rattle.gtdesk_plans.specs.CommandLine.{Text}
+use Rattle.gtdesk_plans.specs.Arguments.{Text}
 use Rattle.gtdesk_plans.specs.Plans.{AreRefused, AskFor}
 use Rattle.gtdesk_plans.proofs.PlanFacts.{asked_none, asked_some}
 use Rattle.gtdesk_plans.proofs.planner.plan_asked.Goals as goal

@@ -1,0 +1,84 @@
+-- The words of a command that has a plan all stand for something.
+use Rattle.std.proofs.Common.{◌≡◌, ap, List, Option, Some, None, is_some, ℕ}
+use Rattle.std.specs.Prelude.{IsSomeAnd, codes}
+use Rattle.clap.specs.Walk.{Row, first_of}
+use Rattle.gtd_core.specs.declared.domain.Domain.{Domain}
+use Rattle.gtd_core.specs.declared.second.Sec.{Sec}
+use Rattle.gtdesk_plans.specs.Arguments.{Text}
+use Rattle.gtdesk_plans.specs.Commands.{asks_of, words_of}
+use Rattle.gtdesk_plans.specs.Commands.Diff as diff
+use Rattle.gtdesk_plans.specs.Commands.Hours as hours
+use Rattle.gtdesk_plans.specs.Commands.Now as now
+use Rattle.gtdesk_plans.specs.Commands.Picture as picture
+use Rattle.gtdesk_plans.specs.Commands.Same as same
+use Rattle.gtdesk_plans.specs.Commands.Words as words
+use Rattle.gtdesk_plans.specs.HoursWords.{HasDomain, IsHoursDomain}
+use Rattle.gtdesk_plans.specs.Readings.{AllStand, Reading, if_given, word_as}
+use Rattle.gtdesk_plans.specs.Words.{IsFromWord, elements_in}
+use Rattle.gtdesk_plans.specs.declared.commands.diff.DiffPlan.{DiffPlan}
+use Rattle.gtdesk_plans.specs.declared.commands.now.NowPlan.{NowPlan}
+use Rattle.gtdesk_plans.specs.declared.commands.picture.DomainPicturePlan.{DomainPicturePlan}
+use Rattle.gtdesk_plans.specs.declared.commands.picture.PictureSubject.{PictureSubject}
+use Rattle.gtdesk_plans.specs.declared.commands.same.SamePlan.{SamePlan}
+use Rattle.gtdesk_plans.specs.declared.forms.Form.{Form}
+use Rattle.gtdesk_plans.specs.declared.forms.Form.TheVariants as form
+use Rattle.gtdesk_plans.specs.declared.plans.Plan.{Plan}
+use Rattle.gtdesk_plans.specs.declared.refusal.WordName.TheVariants as name
+
+some_and : {T : Type 0} (o : Option T) (P : T → Type 0) → IsSomeAnd o P → (x : T) × P x
+some_and None P h = absurd h
+some_and (Some x) P h = (x, h)
+
+-- ---- words that may be left out
+
+elements_stand : (text : Option Text) (elements : List ℕ) → elements_in text ≡ Some elements
+    → AllStand (if_given text (λ t. word_as name.Element (Reading.elements t)))
+elements_stand None elements e = tt
+elements_stand (Some text) elements e = (ap is_some e, tt)
+
+from_stands : (text : Option Text) (second : Sec) → IsFromWord text second
+    → AllStand (if_given text (λ t. word_as name.Moment (Reading.moment t)))
+from_stands None second is = tt
+from_stands (Some text) second is = ((second, is), tt)
+
+-- ---- each command
+
+pub has_domain : (text : Text) (domain : Domain) → IsHoursDomain text domain → HasDomain text
+has_domain text domain is = (is.0, is.1, is.2.fits)
+
+now_stand : (rows : List Row) (p : NowPlan) → now.IsPlan rows p → AllStand (now.words rows)
+now_stand rows p h =
+    ((p.moment.second, h.1), ((p.vehicle, h.2), elements_stand (first_of (codes "element") rows) p.elements.items h.4))
+
+same_stand : (rows : List Row) (p : SamePlan) → same.IsPlan rows p → AllStand (same.words rows)
+same_stand rows p h =
+    (h.0.faultless, (h.1.faultless, from_stands (first_of (codes "from") rows) p.from.second h.2))
+
+same_hours_stand : (rows : List Row) (p : SamePlan) → same.IsHoursPlan rows p → AllStand (same.hours_words rows)
+same_hours_stand rows p h =
+    (has_domain _ p.first h.0, (has_domain _ p.second h.1, from_stands (first_of (codes "from") rows) p.from.second h.2))
+
+diff_stand : (rows : List Row) (p : DiffPlan) → diff.IsPlan rows p → AllStand (diff.words rows)
+diff_stand rows p h = ((_, h.2.first), ((_, h.2.last), ((p.horizon, h.2), ((p.vehicle, h.3), tt))))
+
+picture_stand : (rows : List Row) (s : PictureSubject) → picture.AreSubject rows s → AllStand (picture.words rows)
+picture_stand rows s h =
+    (ap is_some h.element, (ap is_some h.direction, ((s.vehicle, h.vehicle), ((s.year, h.year), tt))))
+
+domain_stand : (rows : List Row) (p : DomainPicturePlan) → picture.IsDomainPlan rows p → AllStand (picture.domain_words rows)
+domain_stand rows p h = (h.1.faultless, ((p.year, h.2), tt))
+
+pub all_stand : (f : Form) (rows : List Row) (p : Plan) → asks_of f rows p → AllStand (words_of f rows)
+all_stand form.Now rows p h = let x = some_and (now.plan_in p) (now.IsPlan rows) h in now_stand rows x.0 x.1
+all_stand form.Faults rows p h = tt
+all_stand form.Words rows p h = let x = some_and (words.plan_in p) _ h in (x.1.faultless, tt)
+all_stand form.Hours rows p h = tt
+all_stand form.HoursOf rows p h = let x = some_and (hours.plan_in p) _ h in (x.1.faultless, tt)
+all_stand form.Same rows p h = let x = some_and (same.plan_in p) (same.IsPlan rows) h in same_stand rows x.0 x.1
+all_stand form.SameHours rows p h = let x = some_and (same.plan_in p) (same.IsHoursPlan rows) h in same_hours_stand rows x.0 x.1
+all_stand form.Diff rows p h = let x = some_and (diff.plan_in p) (diff.IsPlan rows) h in diff_stand rows x.0 x.1
+all_stand form.Records rows p h = tt
+all_stand form.Picture rows p h =
+    let x = some_and (picture.plan_in p) (picture.IsPlan rows) h in picture_stand rows x.0.subject x.1.1
+all_stand form.PictureDomain rows p h =
+    let x = some_and (picture.domain_plan_in p) (picture.IsDomainPlan rows) h in domain_stand rows x.0 x.1

@@ -1,0 +1,16 @@
+use Rattle.clap.specs.Matches.{found_of}
+use Rattle.clap.specs.Walk.{rows_of}
+use Rattle.gtdesk_plans.specs.Commands.Picture.{domain_words}
+use Rattle.gtdesk_plans.proofs.ReadingFacts.{stopped_past, stopped_upto}
+use Rattle.gtdesk_plans.proofs.commands.picture.plan_domain.Goals as goal
+
+pub returns-in-Err : goal.returns-in-Err
+returns-in-Err c =
+    stopped_upto 1 (domain_words (rows_of (found_of c.args.given.now))) c.in-Err.refusal
+    (rw c.text.ensures at c.in-Err.ensures)
+
+pub returns-in-Err-year_of : goal.returns-in-Err-year_of
+returns-in-Err-year_of c =
+    let domain = rw c.text.ensures at c.in-Ok.ensures in
+    stopped_past 1 (domain_words (rows_of (found_of c.args.given.now))) c.in-Err-year_of.refusal (domain.faultless, tt)
+    (rw c.text-2.ensures at c.in-Err-year_of.ensures)

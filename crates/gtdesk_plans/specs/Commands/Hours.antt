@@ -1,0 +1,35 @@
+-- The command `hours [TEXT] [--of DOMAIN]`, of which one is to be given.
+use Rattle.std.specs.Prelude.{◌≡◌, [], ◌∷◌, List, Option, Some, None, IsSomeAnd, codes, string_bytes}
+use Rattle.clap.specs.Simple.{App}
+use Rattle.clap.specs.Walk.{Row}
+use Rattle.gtd_core.specs.declared.domain.Domain.{Domain}
+use Rattle.gtdesk_plans.specs.Arguments.{command_of, free_word_rule, option_rule}
+use Rattle.gtdesk_plans.specs.Readings.{Reading, Word, word_as}
+use Rattle.gtdesk_plans.specs.Rows.{text_of}
+use Rattle.gtdesk_plans.specs.Words.{IsReadDomain}
+use Rattle.gtdesk_plans.specs.declared.plans.OnePlan.TheVariants as one
+use Rattle.gtdesk_plans.specs.declared.plans.Plan.{Plan}
+use Rattle.gtdesk_plans.specs.declared.plans.Plan.TheVariants as plan
+use Rattle.gtdesk_plans.specs.declared.refusal.WordName.TheVariants as name
+
+abbrev pub app : App
+app = command_of (codes "hours") (free_word_rule (codes "TEXT") ∷ option_rule (codes "of") ∷ [])
+
+-- The text is read when the plan is carried out.
+abbrev pub words : List Row → List Word
+words rows = []
+
+abbrev pub Asks : List Row → Plan → Type 0
+Asks rows (plan.One (one.DomainOf text)) = string_bytes text ≡ text_of (codes "TEXT") rows
+Asks rows other = ⊥
+
+-- The same for a domain.
+abbrev pub words_of : List Row → List Word
+words_of rows = word_as name.Domain (Reading.domain (text_of (codes "of") rows)) ∷ []
+
+abbrev pub plan_in : Plan → Option Domain
+plan_in (plan.One (one.HoursOf domain)) = Some domain
+plan_in other = None
+
+abbrev pub AsksOf : List Row → Plan → Type 0
+AsksOf rows p = IsSomeAnd (plan_in p) (IsReadDomain (text_of (codes "of") rows))

@@ -1,0 +1,16 @@
+//! The commands.
+
+pub(crate) mod diff;
+pub(crate) mod faults;
+pub(crate) mod hours;
+pub(crate) mod now;
+pub(crate) mod picture;
+pub(crate) mod records;
+pub(crate) mod same;
+pub(crate) mod words;
+
+pub use diff::DiffPlan;
+pub use faults::FaultsPlan;
+pub use now::NowPlan;
+pub use picture::{DomainPicturePlan, PicturePlan, PictureSubject};
+pub use same::SamePlan;

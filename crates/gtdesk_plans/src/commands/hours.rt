@@ -1,0 +1,71 @@
+//! The command `hours`, of a text of opening hours and of a time domain.
+
+ghost use Rattle.std.specs.Prelude.{MatchResult};
+ghost use Rattle.clap.specs.Matches.{found_of};
+ghost use Rattle.clap.specs.Walk.{rows_of};
+ghost use Rattle.gtdesk_plans.specs.Arguments.{Builds};
+ghost use Rattle.gtdesk_plans.specs.Commands.Hours.{Asks, AsksOf, app, words, words_of};
+ghost use Rattle.gtdesk_plans.specs.Readings.{AreStopped};
+
+use crate::arguments::{Argument, with_arguments};
+use crate::given::text;
+use crate::plans::{OnePlan, Plan};
+use crate::refusal::{WordName, WordsRefusal};
+use crate::words::domain_of;
+use clap::{ArgMatches, Command};
+use std::alloc::{AllocError, Global};
+
+// What help says at the end.
+const EXAMPLES: &str = "\
+Examples:
+  gtdesk hours 'Mo-Fr 08:00-17:00' prints [[(t2t3t4t5t6h0m0){d1}]*[(h8m0){m540}]]
+  gtdesk hours --of '(t6h22m0){d1}*(h22m0){m360}' prints Fr 22:00-04:00";
+
+/// The command for `clap`. Of its word and its option one is to be given, which the library does not see to.
+pub(crate) fn command<'a>(alloc: Global) -> Result<Command<'a>, AllocError>
+    ensures { Builds app result }
+{
+    let command = Command::new(alloc, "hours")
+        .about(
+            "Print the time domain with exactly the seconds at which opening hours of OpenStreetMap are open, \
+                or opening hours that are open at exactly the seconds of a time domain",
+        )
+        .override_usage("gtdesk hours <TEXT|--of <DOMAIN>>")
+        .after_help(EXAMPLES);
+    with_arguments(
+        alloc,
+        command,
+        &[
+            Argument::FreeWord {
+                name: "TEXT",
+                help: "The opening hours",
+            },
+            Argument::Option {
+                name: "of",
+                value: "DOMAIN",
+                help: "The time domain, made of days from midnight and ranges of times in minutes",
+            },
+        ],
+    )
+}
+
+/// What the words given ask for, if there is a text.
+pub(crate) fn plan(alloc: Global, given: &ArgMatches<'_>) -> Result<Plan, WordsRefusal>
+    ensures { MatchResult result (Asks (rows_of (found_of given.now))) (AreStopped (words (rows_of (found_of given.now)))) }
+{
+    match String::from_str(alloc, text(given, "TEXT")) {
+        Ok(text) => Ok(Plan::One(OnePlan::DomainOf(text))),
+        Err(_) => Err(WordsRefusal::Memory),
+    }
+}
+
+/// What they ask for, if there is a domain.
+pub(crate) fn plan_of(alloc: Global, given: &ArgMatches<'_>) -> Result<Plan, WordsRefusal>
+    ensures { MatchResult result (AsksOf (rows_of (found_of given.now)))
+        (AreStopped (words_of (rows_of (found_of given.now)))) }
+{
+    match domain_of(alloc, WordName::Domain, text(given, "of")) {
+        Ok(domain) => Ok(Plan::One(OnePlan::HoursOf(domain))),
+        Err(refusal) => Err(refusal),
+    }
+}

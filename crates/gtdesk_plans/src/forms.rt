@@ -1,0 +1,78 @@
+//! The forms of commands.
+
+ghost use Rattle.std.specs.Prelude.{◌≡◌, option_map, option_and_then};
+ghost use Rattle.clap.specs.Matches.{found_of};
+ghost use Rattle.clap.specs.Simple.{subcommand_rows_of};
+ghost use Rattle.clap.specs.Walk.{rows_of};
+ghost use Rattle.gtdesk_plans.specs.Given as spec;
+
+use crate::given::{is_given, value};
+use clap::ArgMatches;
+
+/// The form of a command. Some commands have two.
+#[derive(Clone, Copy)]
+pub(crate) enum Form {
+    /// `now`
+    Now,
+    /// `faults`
+    Faults,
+    /// `words`
+    Words,
+    /// `hours TEXT`
+    Hours,
+    /// `hours --of DOMAIN`
+    HoursOf,
+    /// `same`
+    Same,
+    /// `same --hours`
+    SameHours,
+    /// `diff`
+    Diff,
+    /// `records`
+    Records,
+    /// `picture`
+    Picture,
+    /// `picture-domain`
+    PictureDomain,
+}
+
+// The form of `hours`, if either its word or its option is given.
+fn hours_form(text: Option<&str>, domain: Option<&str>) -> Option<Form>
+    ensures { result ≡ spec.hours_form (option_map (λ s. s.now) text.entry) (option_map (λ s. s.now) domain.entry) }
+{
+    match text {
+        Some(_) => match domain {
+            Some(_) => None,
+            None => Some(Form::Hours),
+        },
+        None => match domain {
+            Some(_) => Some(Form::HoursOf),
+            None => None,
+        },
+    }
+}
+
+// The form of `same`.
+fn same_form(hours: bool) -> Form
+    ensures { result ≡ spec.same_form hours }
+{
+    if hours { Form::SameHours } else { Form::Same }
+}
+
+/// The form of the command of this name.
+pub(crate) fn form_of(name: &str, given: &ArgMatches<'_>) -> Option<Form>
+    ensures { result ≡ spec.form_in (name.now, rows_of (found_of given.now)) }
+{
+    match name {
+        "now" => Some(Form::Now),
+        "faults" => Some(Form::Faults),
+        "words" => Some(Form::Words),
+        "hours" => hours_form(value(given, "TEXT"), value(given, "of")),
+        "same" => Some(same_form(is_given(given, "hours"))),
+        "diff" => Some(Form::Diff),
+        "records" => Some(Form::Records),
+        "picture" => Some(Form::Picture),
+        "picture-domain" => Some(Form::PictureDomain),
+        _ => None,
+    }
+}

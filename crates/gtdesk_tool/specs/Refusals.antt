@@ -1,0 +1,52 @@
+-- The exit status of a refusal, and the file that it is about.
+use Rattle.std.specs.Prelude.{ℕ, Option, Some, None, string_bytes}
+use Rattle.gtd_records.specs.declared.fault.RecordFault.{RecordFault}
+use Rattle.gtd_records.specs.declared.fault.RecordFault.TheVariants as records
+use Rattle.gtdesk_plans.specs.Arguments.{Text}
+use Rattle.gtdesk_plans.specs.Plans.{file_of}
+use Rattle.gtdesk_plans.specs.Statuses.{words_status}
+use Rattle.gtdesk_plans.specs.declared.plans.Plan.{Plan}
+use Rattle.gtdesk_plans.specs.declared.plans.Plan.TheVariants as plan
+use Rattle.gtdesk_tool.specs.declared.refusal.Refusal.{Refusal}
+use Rattle.gtdesk_tool.specs.declared.refusal.Refusal.TheVariants as refusal
+use Rattle.gtdesk_tool.specs.declared.refusal.RunRefusal.{RunRefusal}
+use Rattle.gtdesk_tool.specs.declared.refusal.RunRefusal.TheVariants as run
+
+-- 1 if the input is refused, 2 for usage, 3 if opening, reading, writing or memory failed.
+abbrev pub records_status : RecordFault → ℕ
+records_status records.ReadFault = 3
+records_status records.Endless = 3
+records_status records.NoMemory = 3
+records_status why = 1
+
+abbrev pub run_status : RunRefusal → ℕ
+run_status (run.Word why) = 1
+run_status run.NoHours = 1
+run_status (run.NoDomain why) = 1
+run_status run.NoElement = 1
+run_status (run.Records why) = records_status why
+run_status run.Open = 3
+run_status (run.Old why) = records_status why
+run_status run.OldOpen = 3
+run_status run.Write = 3
+run_status run.Memory = 3
+
+abbrev pub status_of : Refusal → ℕ
+status_of (refusal.Words why) = words_status why
+status_of (refusal.Run why) = run_status why
+
+-- The path of the file that a plan reads: of two files, the new one's.
+abbrev pub new_file_of : Plan → Option Text
+new_file_of (plan.One p) = file_of p
+new_file_of (plan.Diff p) = Some (string_bytes p.new)
+
+-- The path of the old of two files.
+abbrev pub old_file_of : Plan → Option Text
+old_file_of (plan.One p) = None
+old_file_of (plan.Diff p) = Some (string_bytes p.old)
+
+-- The path of the file that a refusal is about.
+abbrev pub refused_file : RunRefusal → Plan → Option Text
+refused_file (run.Old why) p = old_file_of p
+refused_file run.OldOpen p = old_file_of p
+refused_file other p = new_file_of p

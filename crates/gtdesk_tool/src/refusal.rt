@@ -1,0 +1,115 @@
+//! Why a command line is not carried out.
+
+ghost use Rattle.std.specs.Prelude.{◌≡◌, option_map};
+ghost use Rattle.gtdesk_tool.specs.Refusals.{new_file_of, old_file_of, records_status, refused_file, run_status, status_of};
+
+use gtd_records::RecordFault;
+use gtdesk_plans::{NoDomain, Plan, WordFault, WordsRefusal};
+
+/// Why a plan is not carried out.
+#[derive(Clone, Copy, Debug, PartialEq, Eq)]
+pub enum RunRefusal {
+    /// A number of the plan is out of its range. No plan of a command line has such a number.
+    Word(WordFault),
+    /// No opening hours are found for a time domain. That none have its seconds is not said.
+    NoHours,
+    /// The text of `hours` has no time domain.
+    NoDomain(NoDomain),
+    /// No row of the record file names the element of a picture.
+    NoElement,
+    /// The record file is not read. This is its first fault, or why the input failed, and never `NoMemory`.
+    Records(RecordFault),
+    /// The record file is not opened.
+    Open,
+    /// The old of two record files is not read. This is its first fault, or why the input failed, and never `NoMemory`.
+    Old(RecordFault),
+    /// The old of two record files is not opened.
+    OldOpen,
+    /// A write to standard output failed.
+    Write,
+    /// Memory was refused.
+    Memory,
+}
+
+impl RunRefusal {
+    /// The exit status: 1 if the input is refused, 3 if opening, reading, writing or memory failed.
+    pub fn status(&self) -> u8
+        ensures value { result ≡ run_status self.now }
+    {
+        match self {
+            RunRefusal::Word(_) => 1,
+            RunRefusal::NoHours => 1,
+            RunRefusal::NoDomain(_) => 1,
+            RunRefusal::NoElement => 1,
+            RunRefusal::Records(fault) => records_status(*fault),
+            RunRefusal::Open => 3,
+            RunRefusal::Old(fault) => records_status(*fault),
+            RunRefusal::OldOpen => 3,
+            RunRefusal::Write => 3,
+            RunRefusal::Memory => 3,
+        }
+    }
+}
+
+// The status for a record file that is not read.
+fn records_status(fault: RecordFault) -> u8
+    ensures value { result ≡ records_status fault }
+{
+    match fault {
+        RecordFault::ReadFault | RecordFault::Endless | RecordFault::NoMemory => 3,
+        _ => 1,
+    }
+}
+
+/// Why a command line is not carried out.
+#[derive(Clone, Copy, Debug, PartialEq, Eq)]
+pub enum Refusal {
+    /// Its words are refused.
+    Words(WordsRefusal),
+    /// What they ask for is not carried out.
+    Run(RunRefusal),
+}
+
+impl Refusal {
+    /// The exit status: 1 if the input is refused, 2 for usage, 3 if opening, reading, writing or memory failed.
+    pub fn status(&self) -> u8
+        ensures value { result ≡ status_of self.now }
+    {
+        match self {
+            Refusal::Words(refusal) => refusal.status(),
+            Refusal::Run(refusal) => refusal.status(),
+        }
+    }
+}
+
+// The path of the file that a plan reads: of two files, the new one's.
+fn file_of(plan: &Plan) -> Option<&str>
+    ensures value { option_map (λ path. path.now) result ≡ new_file_of plan.now }
+{
+    match plan {
+        Plan::One(plan) => plan.file(),
+        Plan::Diff(diff) => Some(diff.new.as_str()),
+    }
+}
+
+// The path of the old of two files.
+fn old_file_of(plan: &Plan) -> Option<&str>
+    ensures value { option_map (λ path. path.now) result ≡ old_file_of plan.now }
+{
+    match plan {
+        Plan::One(_) => None,
+        Plan::Diff(diff) => Some(diff.old.as_str()),
+    }
+}
+
+/// The path of the file that a refusal is about: the old one's of two if it is not opened or not read, and otherwise that of the
+/// file that is to be read.
+pub fn refused_file(plan: &Plan, refusal: RunRefusal) -> Option<&str>
+    ensures value { option_map (λ path. path.now) result ≡ refused_file refusal plan.now }
+{
+    match refusal {
+        RunRefusal::Old(_) => old_file_of(plan),
+        RunRefusal::OldOpen => old_file_of(plan),
+        _ => file_of(plan),
+    }
+}
