@@ -12,8 +12,10 @@ use Rattle.gtd_report.specs.Run as report
 use Rattle.gtd_report.specs.declared.fault.RunFault.{RunFault}
 use Rattle.gtd_report.specs.declared.fault.RunFault.TheVariants as run
 use Rattle.gtd_report.specs.facts.RunFacts.{apart, same_found}
-use Rattle.gtd_changes.specs.Changes.{IsChanges}
-use Rattle.gtd_changes.specs.Run.{HasCompared, HasRunAfter, HeadlineOf, IsUnhindered, PutsChanges, answer_for, failures_after_new}
+use Rattle.gtd_changes.specs.Forms.{IsTextIn}
+use Rattle.gtd_changes.specs.declared.form.Form.{Form}
+use Rattle.gtd_changes.specs.Run.{HasComparedIn, HasRunAfter, HeadlineIn, IsUnhindered, PutsChanges, answer_for}
+use Rattle.gtd_changes.specs.Run.{failures_after_new}
 use Rattle.gtd_changes.specs.Run.{failures_after_old, failures_after_write}
 use Rattle.gtd_changes.specs.declared.fault.ChangesFault.TheVariants as fault
 
@@ -21,12 +23,13 @@ free_run : (r : Result ℕ RunFault) → IsUnhindered (answer_for r) → report.
 free_run (Ok count) free = tt
 free_run (Err why) free = free
 
-module _ (vehicle : ℕ) (horizon : Horizon) (was : List Restriction) where
+module _ (form : Form) (vehicle : ℕ) (horizon : Horizon) (was : List Restriction) where
   abbrev IsText : List Restriction → List (List ℕ) → Type 0
-  IsText found lines = IsChanges was found vehicle horizon lines
+  IsText found lines = IsTextIn form was found vehicle horizon lines
 
-  whole : (found : List Restriction) (before after : Option (List ℕ)) (r : Result ℕ RunFault) → PutsWhole (IsText found) before after r
-      → PutsChanges vehicle horizon was found before after (answer_for r)
+  whole : (found : List Restriction) (before after : Option (List ℕ)) (r : Result ℕ RunFault)
+      → PutsWhole (IsText found) before after r
+      → PutsChanges form vehicle horizon was found before after (answer_for r)
   whole found before after r puts =
       record { lines = puts.lines; is_text = puts.is_text; taken = puts.taken; count = ap answer_for puts.count }
 
@@ -34,12 +37,12 @@ module _ (vehicle : ℕ) (horizon : Horizon) (was : List Restriction) where
   pub headline_run : (old new before after : Option (List ℕ)) (r : Result ℕ RunFault)
       → IfSome old (λ bytes. IsFile bytes (Ok was))
       → AcceptedFilesArePut (λ found. ⊤) IsText new before after r → RefusedFilesPutNothing new before after r
-      → HeadlineOf vehicle horizon old new before after (answer_for r)
+      → HeadlineIn form vehicle horizon old new before after (answer_for r)
   headline_run None new before after r file accepted refused = tt
   headline_run (Some a) None before after r file accepted refused = tt
   headline_run (Some a) (Some b) before after r file accepted refused = record {
     accepted = λ free other found fa fb.
-        subst (λ (x : List Restriction). PutsChanges vehicle horizon x found before after (answer_for r))
+        subst (λ (x : List Restriction). PutsChanges form vehicle horizon x found before after (answer_for r))
         (same_found a was other file fa) (whole found before after r (accepted (free_run r free) found fb tt));
     old_refused = λ free why fa. absurd (apart a was why file fa);
     new_refused = λ free other why fa fb.
@@ -47,14 +50,15 @@ module _ (vehicle : ℕ) (horizon : Horizon) (was : List Restriction) where
   }
 
   after_run : (old new before after : Option (List ℕ)) (r : Result ℕ RunFault) → IfSome old (λ bytes. IsFile bytes (Ok was))
-      → HasRun (λ found. ⊤) IsText new before after r → IfSome old (λ bytes. HasRunAfter vehicle horizon bytes new before after r)
+      → HasRun (λ found. ⊤) IsText new before after r
+      → IfSome old (λ bytes. HasRunAfter form vehicle horizon bytes new before after r)
   after_run None new before after r file ran = tt
   after_run (Some a) new before after r file ran = record { was = was; file = file; ran = ran }
 
   -- what the output took
   pub compared_run : (old new before after : Option (List ℕ)) (r : Result ℕ RunFault)
       → IfSome old (λ bytes. IsFile bytes (Ok was)) → HasRun (λ found. ⊤) IsText new before after r
-      → HasCompared vehicle horizon old new before after (answer_for r)
+      → HasComparedIn form vehicle horizon old new before after (answer_for r)
   compared_run old new before after (Ok count) file ran = after_run old new before after (Ok count) file ran
   compared_run old new before after (Err run.VehicleRange) file ran = ran
   compared_run old new before after (Err run.YearRange) file ran = after_run old new before after (Err run.YearRange) file ran
@@ -63,15 +67,16 @@ module _ (vehicle : ℕ) (horizon : Horizon) (was : List Restriction) where
   compared_run old new before after (Err run.NoElement) file ran = after_run old new before after (Err run.NoElement) file ran
   compared_run old new before after (Err (run.WriteFault n)) file ran =
       after_run old new before after (Err (run.WriteFault n)) file ran
-  compared_run old new before after (Err (run.NoMemory n)) file ran = after_run old new before after (Err (run.NoMemory n)) file ran
+  compared_run old new before after (Err (run.NoMemory n)) file ran =
+      after_run old new before after (Err (run.NoMemory n)) file ran
 
 -- the headline, of an old file that is not read
-pub headline_old : (vehicle : ℕ) (horizon : Horizon) (old new taken : Option (List ℕ)) (why : RecordFault)
+pub headline_old : (form : Form) (vehicle : ℕ) (horizon : Horizon) (old new taken : Option (List ℕ)) (why : RecordFault)
     → IfSome old (λ bytes. IsOfFile why → IsFile bytes (Err why))
-    → HeadlineOf vehicle horizon old new taken taken (Err (fault.Old why))
-headline_old vehicle horizon None new taken why file = tt
-headline_old vehicle horizon (Some a) None taken why file = tt
-headline_old vehicle horizon (Some a) (Some b) taken why file = record {
+    → HeadlineIn form vehicle horizon old new taken taken (Err (fault.Old why))
+headline_old form vehicle horizon None new taken why file = tt
+headline_old form vehicle horizon (Some a) None taken why file = tt
+headline_old form vehicle horizon (Some a) (Some b) taken why file = record {
   accepted = λ free was found fa fb. absurd (apart a was why fa (file free));
   old_refused = λ free other fa. (
     ap (λ (w : RecordFault). Err (fault.Old w)) (same_fault why other (one_file a (Err why) (Err other) (file free) fa)),
@@ -83,11 +88,11 @@ headline_old vehicle horizon (Some a) (Some b) taken why file = record {
     same_fault : (x y : RecordFault) → ◌≡◌ {A = Result (List Restriction) RecordFault} (Err x) (Err y) → x ≡ y
     same_fault x y e = cc
 
-pub compared_old : (vehicle : ℕ) (horizon : Horizon) (old new taken : Option (List ℕ)) (why : RecordFault)
+pub compared_old : (form : Form) (vehicle : ℕ) (horizon : Horizon) (old new taken : Option (List ℕ)) (why : RecordFault)
     → IfSome old (λ bytes. IsOfFile why → IsFile bytes (Err why))
-    → HasCompared vehicle horizon old new taken taken (Err (fault.Old why))
-compared_old vehicle horizon None new taken why file = (Keeps-refl taken, λ free. tt)
-compared_old vehicle horizon (Some a) new taken why file = (Keeps-refl taken, file)
+    → HasComparedIn form vehicle horizon old new taken taken (Err (fault.Old why))
+compared_old form vehicle horizon None new taken why file = (Keeps-refl taken, λ free. tt)
+compared_old form vehicle horizon (Some a) new taken why file = (Keeps-refl taken, file)
 
 -- ---- the answer
 

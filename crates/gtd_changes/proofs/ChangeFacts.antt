@@ -1,30 +1,28 @@
 -- Changes that are handed out one by one: what is put of their lines, how long these are, and how many there are.
-use Rattle.std.proofs.Common.{◌≡◌, ◌∙◌, ap, ap₂, refl, sym, arith, ◌<◌, ◌≤◌, ◌+◌, ◌*◌, ◌^◌, Bool, true, false, ℕ, List, [], ◌∷◌, ◌++◌}
-use Rattle.std.proofs.Common.{length, length-append, append_assoc, map, inl, inr, Option, Some, None}
-use Rattle.std.specs.Prelude.{ℤ, pos, ◌+ℤ◌, ◌-ℤ◌, ◌≤ℤ◌, ◌<ℤ◌, OnOk, Result, Ok, Err, int_lt, if◌then◌else◌, codes}
-use Rattle.std.proofs.lemmas.Fmt.{length-decimal-le}
+use Rattle.std.proofs.Common.{◌≡◌, ◌∙◌, ap, ap₂, sym, arith, ◌≤◌, ◌+◌, ℕ, List, []}
+use Rattle.std.proofs.Common.{◌∷◌, ◌++◌}
+use Rattle.std.proofs.Common.{length, append_assoc, inl, inr, Option, Some, None}
+use Rattle.std.specs.Prelude.{ℤ, pos, ◌+ℤ◌, ◌-ℤ◌, ◌≤ℤ◌, ◌<ℤ◌, OnOk, Result, Ok, Err, codes}
 use Rattle.std.proofs.lemmas.Int.{ints}
-use Rattle.gtd_calendar.specs.Calendar.{IsCalendarDay}
 use Rattle.gtd_calendar.specs.Stamp.{stamp_text}
-use Rattle.gtd_core.specs.Seconds.{Interval, day_of_second}
+use Rattle.gtd_core.specs.Seconds.{Interval}
 use Rattle.gtd_core.specs.Whole.{whole}
 use Rattle.gtd_core.specs.declared.horizon.Horizon.{Horizon}
 use Rattle.gtd_eval.specs.Membership.{IsNormalOver}
 use Rattle.gtd_records.specs.declared.direction.Direction.{Direction}
 use Rattle.gtd_report.specs.facts.PutFacts.{puts_cut, puts_none, puts_then}
-use Rattle.gtd_report.specs.Putting.{Puts, most_direction_lines, text_of}
+use Rattle.gtd_report.specs.Putting.{Puts, most_direction_lines}
 use Rattle.gtd_report.specs.declared.output.Progress.{Progress}
 use Rattle.gtd_report.specs.declared.output.Stop.{Stop}
-use Rattle.gtd_schedule.specs.Lines.{AreShown, line_head}
-use Rattle.gtd_schedule.specs.facts.LineFacts.{length-head}
+use Rattle.gtd_schedule.specs.Lines.{line_head}
 use Rattle.gtd_spans.specs.Normal.{AllBeginAfter, AllBeginFrom, Holds, IsNormal}
 use Rattle.gtd_spans.specs.facts.NormalFor.{normal-of}
 use Rattle.gtd_changes.specs.Changes.{change_line, change_word, span_of}
-use Rattle.gtd_changes.specs.Merging.{at_place, by_from, with_ahead}
+use Rattle.gtd_changes.specs.Merging.{by_from, with_ahead}
+use Rattle.gtd_changes.specs.Rows.{change_start}
 use Rattle.gtd_changes.specs.facts.MergeFacts.{long_lists, of_both}
 use Rattle.gtd_spans.specs.Sweeping.{Takes}
 use Rattle.gtd_changes.specs.declared.change.Change.{Change}
-use Rattle.gtd_changes.specs.declared.change.Change.TheVariants.{Opened, Closed}
 
 -- What is put of the lines that are left makes what is put of all.
 abbrev pub Carries : Option (List ℕ) → Progress → List (List ℕ) → Option (List ℕ) → Progress → List (List ℕ) → Type 0
@@ -46,90 +44,40 @@ pub carries_none : (a b : Option (List ℕ)) (p q : Progress) (all left : List (
     → Puts (Ok tt) a b p q all
 carries_none a b p q all left carries is = carries (Ok tt) b q (rw is (puts_none b q))
 
--- ---- the days of changes have texts
+-- ---- a line, from the parts that it is written in
 
-abbrev pub AllShown : List Change → Type 0
-AllShown [] = Unit {0}
-AllShown (c ∷ changes) =
-    IsCalendarDay (day_of_second (span_of c).from) × IsCalendarDay (day_of_second (span_of c).until) × AllShown changes
-
-shown_closed : (closed : List Interval) → AreShown closed → AllShown (map Closed closed)
-shown_closed [] s = tt
-shown_closed (y ∷ closed) s = (s.0, s.1, shown_closed closed s.2)
-
-shown_one : (x y : Interval) (rest all : List Change) (test : Bool) → AllShown (Opened x ∷ all) → AllShown (Closed y ∷ rest)
-    → AllShown (if test then Closed y ∷ rest else Opened x ∷ all)
-shown_one x y rest all true a b = b
-shown_one x y rest all false a b = a
-
-shown_place : (x : Interval) (opened closed : List Interval)
-    → ((ys : List Interval) → AreShown ys → AllShown (by_from opened ys))
-    → IsCalendarDay (day_of_second x.from) × IsCalendarDay (day_of_second x.until) → AreShown closed
-    → AllShown (at_place x (by_from opened) closed)
-shown_place x opened [] more s c = (s.0, s.1, more [] tt)
-shown_place x opened (y ∷ closed) more s c =
-    shown_one x y (at_place x (by_from opened) closed) (by_from opened (y ∷ closed)) (int_lt y.from x.from)
-    (s.0, s.1, more (y ∷ closed) c) (c.0, c.1, shown_place x opened closed more s c.2)
-
-pub shown_both : (opened closed : List Interval) → AreShown opened → AreShown closed → AllShown (by_from opened closed)
-shown_both [] closed o c = shown_closed closed c
-shown_both (x ∷ opened) closed o c = shown_place x opened closed (λ ys s. shown_both opened ys o.2 s) (o.0, o.1) c
-
--- ---- a line has at most 80 bytes
-
-abbrev rest_of : Change → List ℕ
-rest_of c = change_word c ++ codes "," ++ stamp_text (span_of c).from ++ codes "," ++ stamp_text (span_of c).until ++ codes "\n"
-
-length-rest : (c : Change) → length (rest_of c) ≡ 47
-length-rest (Opened span) = refl
-length-rest (Closed span) = refl
+grouped : (h w f u end : List ℕ) → h ++ (w ++ (44 ∷ [])) ++ (f ++ (44 ∷ [])) ++ (u ++ end)
+    ≡ (h ++ (w ++ codes "," ++ f ++ codes "," ++ u)) ++ end
+grouped h w f u end = simp append_assoc
 
 parts : (element : ℕ) (direction : Direction) (vehicle : ℕ) (c : Change)
-    → line_head element direction vehicle ++ rest_of c ≡ change_line element direction vehicle c
+    → line_head element direction vehicle ++ (change_word c ++ codes "," ++ stamp_text (span_of c).from ++ codes ","
+    ++ stamp_text (span_of c).until) ≡ change_start element direction vehicle c
 parts element direction vehicle c = simp append_assoc
 
-grouped : (h w f u : List ℕ) → h ++ (w ++ (44 ∷ [])) ++ (f ++ (44 ∷ [])) ++ (u ++ (10 ∷ []))
-    ≡ h ++ (w ++ codes "," ++ f ++ codes "," ++ u ++ codes "\n")
-grouped h w f u = simp append_assoc
-
--- a line, from the parts that it is written in
-pub line_of : (element : ℕ) (direction : Direction) (vehicle : ℕ) (c : Change) (span : Interval) (from until : ℤ)
-    (one two three all : List ℕ)
+pub start_of : (element : ℕ) (direction : Direction) (vehicle : ℕ) (c : Change) (span : Interval) (from until : ℤ)
+    (one two three all end : List ℕ)
     → span ≡ span_of c → from ≡ span.from → until ≡ span.until → one ≡ line_head element direction vehicle
     → two ≡ one ++ (change_word c ++ (44 ∷ [])) → three ≡ two ++ (stamp_text from ++ (44 ∷ []))
-    → all ≡ three ++ (stamp_text until ++ (10 ∷ [])) → all ≡ change_line element direction vehicle c
-line_of element direction vehicle c span from until one two three all s f u a b d e =
+    → all ≡ three ++ (stamp_text until ++ end) → all ≡ change_start element direction vehicle c ++ end
+start_of element direction vehicle c span from until one two three all end s f u a b d e =
     e
-    ∙ ap₂ (λ (x : List ℕ) (t : ℤ). x ++ (stamp_text t ++ (10 ∷ []))) (d
+    ∙ ap₂ (λ (x : List ℕ) (t : ℤ). x ++ (stamp_text t ++ end)) (d
     ∙ ap₂ (λ (x : List ℕ) (t : ℤ). x ++ (stamp_text t ++ (44 ∷ []))) (b
     ∙ ap (λ (x : List ℕ). x ++ (change_word c ++ (44 ∷ []))) a) (f ∙ ap (λ (x : Interval). x.from) s))
     (u ∙ ap (λ (x : Interval). x.until) s)
-    ∙ grouped (line_head element direction vehicle) (change_word c) (stamp_text (span_of c).from) (stamp_text (span_of c).until)
-    ∙ parts element direction vehicle c
+    ∙ grouped (line_head element direction vehicle) (change_word c) (stamp_text (span_of c).from) (stamp_text
+    (span_of c).until) end
+    ∙ ap (λ (x : List ℕ). x ++ end) (parts element direction vehicle c)
+
+-- a line without rows is that start and the LF
+pub line_of : (element : ℕ) (direction : Direction) (vehicle : ℕ) (c : Change)
+    → change_start element direction vehicle c ++ (10 ∷ []) ≡ change_line element direction vehicle c
+line_of element direction vehicle c = simp append_assoc
 
 pub on_ok : {T E : Type 0} (r : Result T E) (A B : Type 0) → (A → B) → OnOk r A → OnOk r B
 on_ok (Ok x) A B f a = f a
 on_ok (Err x) A B f a = tt
-
-pub short_line : (element : ℕ) (direction : Direction) (vehicle : ℕ) (c : Change) → element < 2 ^ 64 → vehicle ≤ 99
-    → length (change_line element direction vehicle c) ≤ 80
-short_line element direction vehicle c small type =
-    let d = length-decimal-le 20 element (omega arith) (omega arith) small in
-    let v = length-decimal-le 2 vehicle (omega arith) (omega arith) (omega arith) in
-    let head = length-head element direction vehicle 20 2 d v in
-    let both = length-append (line_head element direction vehicle) (rest_of c) in
-    let rest = length-rest c in
-    rw (← parts element direction vehicle c) (omega arith)
-
-pub short_lines : (element : ℕ) (direction : Direction) (vehicle : ℕ) (changes : List Change) → element < 2 ^ 64 → vehicle ≤ 99
-    → length (text_of (map (change_line element direction vehicle) changes)) ≤ 80 * length changes
-short_lines element direction vehicle [] small type = omega arith
-short_lines element direction vehicle (c ∷ changes) small type =
-    let l = short_line element direction vehicle c small type in
-    let r = short_lines element direction vehicle changes small type in
-    let a = length-append (change_line element direction vehicle c)
-    (text_of (map (change_line element direction vehicle) changes)) in
-    omega arith
 
 -- ---- there are at most half as many spans as seconds
 

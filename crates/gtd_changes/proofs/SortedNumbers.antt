@@ -1,5 +1,5 @@
 -- Numbers that were sorted and rid of what stands twice, and the elements that either of two files names.
-use Rattle.std.proofs.Common.{◌≡◌, eqb, subst, ◌+◌, ◌⊎◌, inl, inr, ℕ, List, [], ◌∷◌, ◌++◌}
+use Rattle.std.proofs.Common.{◌≡◌, eqb, subst, ◌⊎◌, inl, inr, ℕ, List, [], ◌∷◌, ◌++◌}
 use Rattle.std.specs.Prelude.{Any}
 use Rattle.std.specs.List.{Contains}
 use Rattle.std.specs.List.Retain.{DiffersFromLast, IsFiltered}

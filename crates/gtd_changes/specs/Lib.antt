@@ -1,6 +1,10 @@
 pub mod Changes
+pub mod Forms
 pub mod Merging
+pub mod Rows
 pub mod Run
+pub mod Same
+pub mod Summary
 pub mod facts
 pub use Rattle.gtd_core.specs.declared.horizon.Horizon
 pub use Rattle.gtd_records.specs.File

@@ -14,7 +14,9 @@ use Rattle.gtd_report.specs.Run.{HasRun}
 use Rattle.gtd_report.specs.Run as report
 use Rattle.gtd_report.specs.declared.fault.RunFault.{RunFault}
 use Rattle.gtd_report.specs.declared.fault.RunFault.TheVariants as run
-use Rattle.gtd_changes.specs.Changes.{IsChanges}
+use Rattle.gtd_changes.specs.Forms.{IsTextIn}
+use Rattle.gtd_changes.specs.declared.form.Form.{Form}
+use Rattle.gtd_changes.specs.declared.form.Form.TheVariants.{Intervals}
 use Rattle.gtd_changes.specs.declared.fault.ChangesFault.{ChangesFault}
 use Rattle.gtd_changes.specs.declared.fault.ChangesFault.TheVariants as fault
 
@@ -29,31 +31,33 @@ abbrev pub answer_for : Result ℕ RunFault → Result ℕ ChangesFault
 answer_for (Ok count) = Ok count
 answer_for (Err why) = Err (fault.Run why)
 
-module _ (vehicle : ℕ) (horizon : Horizon) where
+module _ (form : Form) (vehicle : ℕ) (horizon : Horizon) where
   -- The old file has these restrictions, and over the new one a run did what it says of its answer.
   pub record HasRunAfter (bytes : List ℕ) (new before after : Option (List ℕ)) (answer : Result ℕ RunFault) : Type 0 where
     pub was : List Restriction
     pub file : IsFile bytes (Ok was)
-    pub ran : HasRun (λ found. ⊤) (λ found lines. IsChanges was found vehicle horizon lines) new before after answer
+    pub ran : HasRun (λ found. ⊤) (λ found lines. IsTextIn form was found vehicle horizon lines) new before after answer
 
   -- What the output took, by the answer; and, if the inputs tell their bytes, what they are.
-  abbrev pub HasCompared : Option (List ℕ) → Option (List ℕ) → Option (List ℕ) → Option (List ℕ) → Result ℕ ChangesFault → Type 0
-  HasCompared old new before after (Ok count) = IfSome old (λ bytes. HasRunAfter bytes new before after (Ok count))
-  HasCompared old new before after (Err (fault.Old why)) =
+  abbrev pub HasComparedIn : Option (List ℕ) → Option (List ℕ) → Option (List ℕ) → Option (List ℕ) → Result ℕ ChangesFault
+      → Type 0
+  HasComparedIn old new before after (Ok count) = IfSome old (λ bytes. HasRunAfter bytes new before after (Ok count))
+  HasComparedIn old new before after (Err (fault.Old why)) =
       Keeps before after × (IsOfFile why → IfSome old (λ bytes. IsFile bytes (Err why)))
-  HasCompared old new before after (Err (fault.Run run.VehicleRange)) = Keeps before after
-  HasCompared old new before after (Err (fault.Run why)) = IfSome old (λ bytes. HasRunAfter bytes new before after (Err why))
+  HasComparedIn old new before after (Err (fault.Run run.VehicleRange)) = Keeps before after
+  HasComparedIn old new before after (Err (fault.Run why)) = IfSome old (λ bytes. HasRunAfter bytes new before after (Err why))
 
   -- The output took the changes from the one list of restrictions to the other, and the answer is the number of their lines.
-  pub record PutsChanges (was found : List Restriction) (before after : Option (List ℕ)) (answer : Result ℕ ChangesFault) : Type 0 where
+  pub record PutsChanges (was found : List Restriction) (before after : Option (List ℕ))
+      (answer : Result ℕ ChangesFault) : Type 0 where
     pub lines : List (List ℕ)
-    pub is_text : IsChanges was found vehicle horizon lines
+    pub is_text : IsTextIn form was found vehicle horizon lines
     pub taken : Appends before after (text_of lines)
     pub count : answer ≡ Ok (length lines)
 
   -- The headline of a run that puts changes, for a vehicle type from 1 to 99. If no device failed, no memory was refused and no
-  -- input fell silent: of two record files their changes are printed, whole. If the old file is none, nothing is printed, and the
-  -- answer is its first fault; if only the new file is none, it is that of the new file.
+  -- input fell silent: of two record files their changes are printed, whole. If the old file is none, nothing is printed, and
+  -- the answer is its first fault; if only the new file is none, it is that of the new file.
   pub record Headline (old new : List ℕ) (before after : Option (List ℕ)) (answer : Result ℕ ChangesFault) : Type 0 where
     pub accepted : IsUnhindered answer → (was found : List Restriction) → IsFile old (Ok was) → IsFile new (Ok found)
         → PutsChanges was found before after answer
@@ -63,9 +67,18 @@ module _ (vehicle : ℕ) (horizon : Horizon) where
         → IsFile new (Err why) → (answer ≡ Err (fault.Run (run.Records why))) × Keeps before after
 
   -- The same, if both inputs tell their bytes.
-  abbrev pub HeadlineOf : Option (List ℕ) → Option (List ℕ) → Option (List ℕ) → Option (List ℕ) → Result ℕ ChangesFault → Type 0
-  HeadlineOf old new before after answer =
+  abbrev pub HeadlineIn : Option (List ℕ) → Option (List ℕ) → Option (List ℕ) → Option (List ℕ) → Result ℕ ChangesFault → Type 0
+  HeadlineIn old new before after answer =
       IfSome old (λ a. IfSome new (λ b. Headline a b before after answer))
+
+-- The same of a run that puts the intervals.
+abbrev pub HasCompared : ℕ → Horizon → Option (List ℕ) → Option (List ℕ) → Option (List ℕ) → Option (List ℕ)
+    → Result ℕ ChangesFault → Type 0
+HasCompared = HasComparedIn Intervals
+
+abbrev pub HeadlineOf : ℕ → Horizon → Option (List ℕ) → Option (List ℕ) → Option (List ℕ) → Option (List ℕ)
+    → Result ℕ ChangesFault → Type 0
+HeadlineOf = HeadlineIn Intervals
 
 -- one more failure of the old file's input exactly if the answer is that it failed
 abbrev pub failures_after_old : Result ℕ ChangesFault → ℕ → ℕ

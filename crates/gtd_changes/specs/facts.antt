@@ -1,2 +1,4 @@
-pub mod MergeFacts
 pub mod ChangesFacts
+pub mod MergeFacts
+pub mod RowsFacts
+pub mod ToldFacts

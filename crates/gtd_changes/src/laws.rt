@@ -4,22 +4,25 @@ ghost use Rattle.std.specs.Prelude.{◌≡◌, ◌↔◌, ◌∷◌, [], ℕ, Li
 ghost use Rattle.gtd_core.specs.declared.horizon.Horizon.{Horizon};
 ghost use Rattle.gtd_records.specs.Closing.{Restriction};
 ghost use Rattle.gtd_schedule.specs.Split.{HaveSameRows};
-ghost use Rattle.gtd_changes.specs.Changes.{AgreeOver, IsChanges, header_line};
+ghost use Rattle.gtd_changes.specs.Changes.{AgreeOver};
+ghost use Rattle.gtd_changes.specs.Forms.{IsTextIn, header_in};
+ghost use Rattle.gtd_changes.specs.declared.form.Form.{Form};
 
-/// Two lists of restrictions have exactly one text for a vehicle type and a horizon.
+/// Two lists of restrictions have exactly one text in each form, for a vehicle type and a horizon.
 pub fn one_text()
-    ensures one { (old new : List Restriction) (vehicle : ℕ) (horizon : Horizon) (a b : List (List ℕ)) →
-        IsChanges old new vehicle horizon a → IsChanges old new vehicle horizon b → a ≡ b }
-    ensures some { (old new : List Restriction) (vehicle : ℕ) (horizon : Horizon) →
-        (lines : List (List ℕ)) × IsChanges old new vehicle horizon lines }
+    ensures one { (form : Form) (old new : List Restriction) (vehicle : ℕ) (horizon : Horizon) (a b : List (List ℕ)) →
+        IsTextIn form old new vehicle horizon a → IsTextIn form old new vehicle horizon b → a ≡ b }
+    ensures some { (form : Form) (old new : List Restriction) (vehicle : ℕ) (horizon : Horizon) →
+        (lines : List (List ℕ)) × IsTextIn form old new vehicle horizon lines }
 {}
 
-/// The text is the header alone exactly if both close each element in each direction at the same seconds of the horizon. So it
-/// is, if both have the same restrictions, in whatever order and however often each of them stands: a file and itself, its
-/// migration, or its rows in any other order.
+/// In each form the text is the header alone exactly if both close each element in each direction at the same seconds of the
+/// horizon. So it is, if both have the same restrictions, in whatever order and however often each of them stands: a file and
+/// itself, its migration, or its rows in any other order.
 pub fn nothing_changed()
-    ensures same { (old new : List Restriction) (vehicle : ℕ) (horizon : Horizon) (lines : List (List ℕ)) →
-        IsChanges old new vehicle horizon lines → (lines ≡ header_line ∷ []) ↔ AgreeOver old new vehicle horizon }
-    ensures same_rows { (old new : List Restriction) (vehicle : ℕ) (horizon : Horizon) →
-        HaveSameRows old new → IsChanges old new vehicle horizon (header_line ∷ []) }
+    ensures same { (form : Form) (old new : List Restriction) (vehicle : ℕ) (horizon : Horizon) (lines : List (List ℕ)) →
+        IsTextIn form old new vehicle horizon lines
+        → (lines ≡ header_in form ∷ []) ↔ AgreeOver old new vehicle horizon }
+    ensures same_rows { (form : Form) (old new : List Restriction) (vehicle : ℕ) (horizon : Horizon) →
+        HaveSameRows old new → IsTextIn form old new vehicle horizon (header_in form ∷ []) }
 {}

@@ -6,6 +6,7 @@ ghost use Rattle.gtd_calendar.specs.Stamp.{stamp_text};
 ghost use Rattle.gtd_core.specs.Seconds.{day_of_second};
 ghost use Rattle.gtd_schedule.specs.Lines.{line_head};
 ghost use Rattle.gtd_changes.specs.Changes.{change_line, change_word, span_of};
+ghost use Rattle.gtd_changes.specs.Rows.{change_start, numbers_text, rows_line};
 
 use crate::change::Change;
 use gtd_calendar::write_stamp;
@@ -14,8 +15,8 @@ use gtd_records::Direction;
 use itoa::Buffer;
 use std::alloc::AllocError;
 
-// Writes what the lines of an element in a direction begin with, in place of what the buffer held.
-fn write_head(
+/// Writes what the lines of an element in a direction begin with, in place of what the buffer held.
+pub(crate) fn write_head(
     line: &mut Vec<u8>,
     element: u64,
     direction: Direction,
@@ -50,6 +51,26 @@ fn push_moment(line: &mut Vec<u8>, second: Sec, end: &[u8]) -> Result<(), AllocE
     line.extend_from_slice(end)
 }
 
+// Writes the line of a change up to its last moment, and what stands behind it, in place of what the buffer held.
+fn write_start(
+    line: &mut Vec<u8>,
+    element: u64,
+    direction: Direction,
+    vehicle: u8,
+    change: &Change,
+    end: &[u8],
+) -> Result<(), AllocError>
+    requires from { IsCalendarDay (day_of_second (span_of change.now).from) }
+    requires until { IsCalendarDay (day_of_second (span_of change.now).until) }
+    ensures start { OnOk result (line.new.items ≡ change_start element direction vehicle change.now ++ end.now) }
+{
+    let span = change.span();
+    write_head(line, element, direction, vehicle)?;
+    push_word(line, change)?;
+    push_moment(line, span.from(), b",")?;
+    push_moment(line, span.until(), end)
+}
+
 /// Writes the line of a change, in place of what the buffer held.
 pub(crate) fn write_change(
     line: &mut Vec<u8>,
@@ -62,9 +83,41 @@ pub(crate) fn write_change(
     requires until { IsCalendarDay (day_of_second (span_of change.now).until) }
     ensures line { OnOk result (line.new.items ≡ change_line element direction vehicle change.now) }
 {
-    let span = change.span();
-    write_head(line, element, direction, vehicle)?;
-    push_word(line, change)?;
-    push_moment(line, span.from(), b",")?;
-    push_moment(line, span.until(), b"\n")
+    write_start(line, element, direction, vehicle, change, b"\n")
+}
+
+// Appends numbers to the buffer, in their order, with spaces between them.
+fn push_numbers(line: &mut Vec<u8>, numbers: &[usize]) -> Result<(), AllocError>
+    ensures text { OnOk result (line.new.items ≡ line.old.items ++ numbers_text numbers.now) }
+{
+    let Some((first, rest)) = numbers.split_first() else {
+        return Ok(());
+    };
+    line.extend_from_slice(Buffer::new().format(*first).as_bytes())?;
+    for number in rest {
+        line.extend_from_slice(b" ")?;
+        line.extend_from_slice(Buffer::new().format(*number).as_bytes())?;
+    }
+    Ok(())
+}
+
+/// Writes the line of a change with rows of either file, in place of what the buffer held.
+pub(crate) fn write_rows(
+    line: &mut Vec<u8>,
+    element: u64,
+    direction: Direction,
+    vehicle: u8,
+    change: &Change,
+    old_rows: &[usize],
+    new_rows: &[usize],
+) -> Result<(), AllocError>
+    requires from { IsCalendarDay (day_of_second (span_of change.now).from) }
+    requires until { IsCalendarDay (day_of_second (span_of change.now).until) }
+    ensures line { OnOk result (line.new.items ≡ rows_line element direction vehicle change.now old_rows.now new_rows.now) }
+{
+    write_start(line, element, direction, vehicle, change, b",")?;
+    push_numbers(line, old_rows)?;
+    line.extend_from_slice(b",")?;
+    push_numbers(line, new_rows)?;
+    line.extend_from_slice(b"\n")
 }

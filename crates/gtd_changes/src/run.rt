@@ -4,91 +4,38 @@ ghost use Rattle.std.specs.Prelude.{◌≡◌, ◌<◌, ◌≤◌, ◌↔◌, No
 ghost use Rattle.gtd_core.specs.Limits.{most_rows};
 ghost use Rattle.gtd_records.specs.Closing.{Restriction};
 ghost use Rattle.gtd_report.specs.Run.{IsVehicleType};
-ghost use Rattle.gtd_changes.specs.Changes.{AreLines, IsChanges};
-ghost use Rattle.gtd_changes.specs.Run.{HasCompared, HeadlineOf, answer_for, failures_after_new, failures_after_old, failures_after_write};
+ghost use Rattle.gtd_changes.specs.Forms.{IsTextIn};
+ghost use Rattle.gtd_changes.specs.Run.{HasCompared, HasComparedIn, HeadlineIn, HeadlineOf, answer_for};
+ghost use Rattle.gtd_changes.specs.Run.{failures_after_new, failures_after_old, failures_after_write};
 
 use crate::elements::elements_of_both;
 use crate::fault::ChangesFault;
-use crate::put::put_changes;
+use crate::form::{Asked, Form};
+use crate::pair::Pair;
+use crate::text::{ChangeLines, header_in};
 use gtd_core::Horizon;
 use gtd_devices::{Input, Output};
-use gtd_records::{Direction, RecordFault, Records, read_records};
-use gtd_report::{
-    DirectionLines, ElementLines, Progress, Report, RunFault, Stop, Subject, put_both, put_listed,
-    run_report,
-};
+use gtd_records::{RecordFault, Records, read_records};
+use gtd_report::{Progress, Report, RunFault, Stop, Subject, put_listed, run_report};
 use std::alloc::Global;
 
-// What changes from the old records to those of the report, over the days of a horizon and for a vehicle type.
+// What two files say differently: the old one is read.
 #[derive(Clone, Copy)]
 struct Changes<'a> {
     old: &'a Records,
-    horizon: Horizon,
-    vehicle: u8,
+    asked: Asked,
     ghost few: { length old.now ≤ most_rows },
 }
 
-// The same, for a vehicle type that is one.
-#[derive(Clone, Copy)]
-struct ChangeLines<'a> {
-    old: &'a Records,
-    horizon: Horizon,
-    vehicle: u8,
-    ghost short: { vehicle ≤ 99 },
-}
-
-impl DirectionLines for ChangeLines<'_> {
-    ghost are_lines = { λ text found. AreLines text.old.now found text.vehicle text.horizon };
-
-    fn put_direction<O: Output>(
-        &self,
-        alloc: Global,
-        output: &mut O,
-        progress: &mut Progress,
-        line: &mut Vec<u8>,
-        found: &Records,
-        element: u64,
-        direction: Direction,
-    ) -> Result<(), Stop> {
-        put_changes(
-            alloc,
-            output,
-            progress,
-            line,
-            self.old,
-            found,
-            element,
-            direction,
-            self.vehicle,
-            self.horizon,
-        )
-    }
-}
-
-impl ElementLines for ChangeLines<'_> {
-    ghost are_lines = { λ text found. AreLines text.old.now found text.vehicle text.horizon };
-
-    fn put_element<O: Output>(
-        &self,
-        alloc: Global,
-        output: &mut O,
-        progress: &mut Progress,
-        line: &mut Vec<u8>,
-        found: &Records,
-        element: u64,
-    ) -> Result<(), Stop> {
-        put_both(alloc, output, progress, line, found, element, self)
-    }
-}
-
 impl Report for Changes<'_> {
-    ghost subject = { λ report. record { vehicle = Some report.vehicle; year = None; element = None } };
+    ghost subject = { λ report. record { vehicle = Some report.asked.vehicle; year = None; element = None } };
 
-    ghost is_text = { λ report found lines. IsChanges report.old.now found report.vehicle report.horizon lines };
+    ghost is_text = { λ report found lines.
+        IsTextIn report.asked.form report.old.now found report.asked.vehicle report.asked.horizon lines };
 
     fn subject(&self) -> Subject {
         Subject {
-            vehicle: Some(self.vehicle),
+            vehicle: Some(self.asked.vehicle),
             year: None,
             element: None,
         }
@@ -101,12 +48,11 @@ impl Report for Changes<'_> {
         progress: &mut Progress,
         found: &Records,
     ) -> Result<(), Stop> {
-        let header = b"element,direction,vehicle,change,from,until\n";
         let elements = elements_of_both(alloc, self.old, found)?;
+        let pair = Pair::new(alloc, self.old, found)?;
         let lines = ChangeLines {
-            old: self.old,
-            horizon: self.horizon,
-            vehicle: self.vehicle,
+            pair: &pair,
+            asked: self.asked,
         };
         put_listed(
             alloc,
@@ -114,7 +60,7 @@ impl Report for Changes<'_> {
             progress,
             found,
             elements.as_slice(),
-            header,
+            header_in(self.asked.form),
             &lines,
         )
     }
@@ -137,15 +83,61 @@ fn answer_for(answer: Result<u64, RunFault>) -> Result<u64, ChangesFault>
     }
 }
 
-/// Puts what the record files that two inputs bring say differently, over the days of the horizon and for a vehicle type from
-/// 1 to 99: a header, and for each element that either names, in ascending order and positive before negative, the intervals
-/// in which one of them alone closes it, by their first seconds. Answers the number of lines, the header included: 1 if and
-/// only if nothing differs.
+/// Puts what the record files that two inputs bring say differently, over the days that are asked about and for a vehicle type
+/// from 1 to 99: a header, and for each element that either names, in ascending order and positive before negative, its lines in
+/// the form that is asked for. Answers the number of lines, the header included: 1 if and only if nothing differs.
 ///
 /// In order: `VehicleRange`; then the first fault of reading the old file (`Old`), of which the new one is not read; then that of
 /// reading the new one (`Run` of `Records`); then `WriteFault` or `NoMemory`, whichever happens first. Nothing is put until both
-/// files have been read and accepted. No list of an element's spans is kept, but at most 4,096 spans of each period that repeats
-/// in the rows of an element and a direction. Before the call, the failures of all three devices must be below `u64::MAX`.
+/// files have been read and accepted. An element whose rows are the same in both, in the same order, is not evaluated. No list of
+/// an element's spans is kept, but at most 4,096 spans of each period that repeats in the rows of an element and a direction.
+/// Lines with rows that have more than 1,009,829,376,000 bytes for an element in a direction end in `NoMemory`. Before the call,
+/// the failures of all three devices must be below `u64::MAX`.
+pub fn run_changes_in<I: Input, J: Input, O: Output>(
+    alloc: Global,
+    old: &mut I,
+    new: &mut J,
+    output: &mut O,
+    asked: Asked,
+) -> Result<u64, ChangesFault>
+    requires old_readable { I.failure_count old.old < u64.MAX }
+    requires new_readable { J.failure_count new.old < u64.MAX }
+    requires writable { O.failure_count output.old < u64.MAX }
+    // The headline. If nothing hindered the run: of two record files the output took the changes, and the answer is the number
+    // of their lines; otherwise it took nothing, and the answer is the first fault of the old file, or else of the new one.
+    ensures headline { IsVehicleType asked.vehicle → HeadlineIn asked.form asked.vehicle asked.horizon (I.to_come old.old)
+        (J.to_come new.old) (O.taken output.old) (O.taken output.new) result }
+    // What each answer means: after a failure or a refusal of memory, the first bytes of the same text.
+    ensures stands { HasComparedIn asked.form asked.vehicle asked.horizon (I.to_come old.old) (J.to_come new.old)
+        (O.taken output.old) (O.taken output.new) result }
+    // An output that took the whole text was then ended, last of all.
+    ensures ended { OnOk result (IsTrue (O.is_ended output.new)) }
+    ensures vehicle { IsErrOf result (ChangesFault.Run RunFault.VehicleRange) ↔ (IsVehicleType asked.vehicle → ⊥) }
+    ensures year { IsErrOf result (ChangesFault.Run RunFault.YearRange) → ⊥ }
+    ensures element { IsErrOf result (ChangesFault.Run RunFault.NoElement) → ⊥ }
+    ensures old_endless { IsErrOf result (ChangesFault.Old RecordFault.Endless) → IsTrue (I.may_fall_silent old.old) }
+    ensures new_endless { IsErrOf result (ChangesFault.Run (RunFault.Records RecordFault.Endless))
+        → IsTrue (J.may_fall_silent new.old) }
+    ensures old_faults { I.failure_count old.new ≡ failures_after_old result (I.failure_count old.old) }
+    ensures new_faults { J.failure_count new.new ≡ failures_after_new result (J.failure_count new.old) }
+    ensures write_faults { O.failure_count output.new ≡ failures_after_write result (O.failure_count output.old) }
+{
+    if !is_vehicle_type(asked.vehicle) {
+        return Err(ChangesFault::Run(RunFault::VehicleRange));
+    }
+    let records = match read_records(alloc, old) {
+        Ok(records) => records,
+        Err(why) => return Err(ChangesFault::Old(why)),
+    };
+    let report = Changes {
+        old: &records,
+        asked,
+    };
+    answer_for(run_report(alloc, new, output, &report))
+}
+
+/// Puts the intervals in which one of the record files that two inputs bring alone closes an element, over the days of the
+/// horizon and for a vehicle type from 1 to 99. It answers as [`run_changes_in`] does, and the same must hold before the call.
 pub fn run_changes<I: Input, J: Input, O: Output>(
     alloc: Global,
     old: &mut I,
@@ -159,8 +151,8 @@ pub fn run_changes<I: Input, J: Input, O: Output>(
     requires writable { O.failure_count output.old < u64.MAX }
     // The headline. If nothing hindered the run: of two record files the output took the changes, and the answer is the number
     // of their lines; otherwise it took nothing, and the answer is the first fault of the old file, or else of the new one.
-    ensures headline { IsVehicleType vehicle → HeadlineOf vehicle horizon (I.to_come old.old) (J.to_come new.old)
-        (O.taken output.old) (O.taken output.new) result }
+    ensures headline { IsVehicleType vehicle → HeadlineOf vehicle horizon (I.to_come old.old)
+        (J.to_come new.old) (O.taken output.old) (O.taken output.new) result }
     // What each answer means: after a failure or a refusal of memory, the first bytes of the same text.
     ensures stands { HasCompared vehicle horizon (I.to_come old.old) (J.to_come new.old)
         (O.taken output.old) (O.taken output.new) result }
@@ -176,17 +168,10 @@ pub fn run_changes<I: Input, J: Input, O: Output>(
     ensures new_faults { J.failure_count new.new ≡ failures_after_new result (J.failure_count new.old) }
     ensures write_faults { O.failure_count output.new ≡ failures_after_write result (O.failure_count output.old) }
 {
-    if !is_vehicle_type(vehicle) {
-        return Err(ChangesFault::Run(RunFault::VehicleRange));
-    }
-    let records = match read_records(alloc, old) {
-        Ok(records) => records,
-        Err(why) => return Err(ChangesFault::Old(why)),
-    };
-    let report = Changes {
-        old: &records,
+    let asked = Asked {
         horizon,
         vehicle,
+        form: Form::Intervals,
     };
-    answer_for(run_report(alloc, new, output, &report))
+    run_changes_in(alloc, old, new, output, asked)
 }

@@ -1,5 +1,5 @@
 -- Two lists of restrictions have one text of changes.
-use Rattle.std.proofs.Common.{◌∙◌, sym, ap, refl, subst, inl, inr, map, ℕ, List, [], ◌∷◌, ◌++◌}
+use Rattle.std.proofs.Common.{◌≡◌, ◌∙◌, sym, ap, refl, subst, inl, inr, map, ℕ, List, [], ◌∷◌, ◌++◌}
 use Rattle.std.specs.Prelude.{ℤ, ◌↔◌}
 use Rattle.gtd_core.specs.Seconds.{Interval}
 use Rattle.gtd_core.specs.Whole.{whole}
@@ -16,8 +16,12 @@ use Rattle.gtd_records.specs.facts.OpenDecisions.{closes, open_or_not}
 use Rattle.gtd_report.specs.facts.ElementFacts.{one_by_element}
 use Rattle.gtd_report.specs.facts.SomeElements.{any_first, any_later, any_none, any_split, some_by_element}
 use Rattle.gtd_report.specs.Putting.{IsOne}
-use Rattle.gtd_changes.specs.Changes.{AreLines, IsChanges, WasClosed, WasOpened, change_line, closed_in, header_line, opened_in}
+use Rattle.gtd_changes.specs.Rows.{AreRowsLines}
+use Rattle.gtd_changes.specs.facts.RowsFacts.{are_full, full_line, one_each}
+use Rattle.gtd_changes.specs.Changes.{AreLines, BeginInTurn, IsChanges, WasClosed, WasOpened, change_line, closed_in}
+use Rattle.gtd_changes.specs.Changes.{header_line, opened_in}
 use Rattle.gtd_changes.specs.Merging.{by_from}
+use Rattle.gtd_changes.specs.declared.change.Change.{Change}
 use Rattle.gtd_changes.specs.facts.MergeFacts.{AreApart, of_both, one_order, turn_both}
 
 -- some restriction closes an element at a second, or none does
@@ -48,52 +52,108 @@ module _ (old new : List Restriction) (vehicle : ℕ) (horizon : Horizon) where
         → IsNormalOver (WasClosed old new element direction vehicle) horizon closed → AreApart opened closed
     lists_apart opened closed n m = λ t h k. (m.inside t k).2.0 (n.inside t h).2.0
 
+    -- the changes of both lists are those that are meant
+    pub opened_of : (opened closed : List Interval) → IsNormalOver (WasOpened old new element direction vehicle) horizon opened
+        → IsNormalOver (WasOpened old new element direction vehicle) horizon (opened_in (by_from opened closed))
+    opened_of opened closed n =
+        subst (λ (xs : List Interval). IsNormalOver (WasOpened old new element direction vehicle) horizon xs)
+        (sym (of_both opened closed).0) n
+
+    pub closed_of : (opened closed : List Interval) → IsNormalOver (WasClosed old new element direction vehicle) horizon closed
+        → IsNormalOver (WasClosed old new element direction vehicle) horizon (closed_in (by_from opened closed))
+    closed_of opened closed m =
+        subst (λ (xs : List Interval). IsNormalOver (WasClosed old new element direction vehicle) horizon xs)
+        (sym (of_both opened closed).1) m
+
+    pub order_of : (opened closed : List Interval)
+        → IsNormalOver (WasOpened old new element direction vehicle) horizon opened
+        → IsNormalOver (WasClosed old new element direction vehicle) horizon closed → BeginInTurn (by_from opened closed)
+    order_of opened closed n m =
+        turn_both opened closed
+        (normal-of (WasOpened old new element direction vehicle) (whole horizon).from (whole horizon).until opened n)
+        (normal-of (WasClosed old new element direction vehicle) (whole horizon).from (whole horizon).until closed m)
+        (lists_apart opened closed n m)
+
     -- the lines of both lists
     pub lines_of : (opened closed : List Interval)
         → IsNormalOver (WasOpened old new element direction vehicle) horizon opened
         → IsNormalOver (WasClosed old new element direction vehicle) horizon closed
-        → AreLines old new vehicle horizon element direction (map (change_line element direction vehicle) (by_from opened closed))
-    lines_of opened closed n m =
-        let both = of_both opened closed in
-        record {
-          changes = by_from opened closed;
-          opened = subst (λ (xs : List Interval). IsNormalOver (WasOpened old new element direction vehicle) horizon xs)
-              (sym both.0) n;
-          closed = subst (λ (xs : List Interval). IsNormalOver (WasClosed old new element direction vehicle) horizon xs)
-              (sym both.1) m;
-          order = turn_both opened closed
-              (normal-of (WasOpened old new element direction vehicle) (whole horizon).from (whole horizon).until opened n)
-              (normal-of (WasClosed old new element direction vehicle) (whole horizon).from (whole horizon).until closed m)
-              (lists_apart opened closed n m);
-          each = refl;
-        }
+        → AreLines old new vehicle horizon element direction (map (change_line element direction vehicle)
+        (by_from opened closed))
+    lines_of opened closed n m = record {
+      changes = by_from opened closed;
+      opened = opened_of opened closed n;
+      closed = closed_of opened closed m;
+      order = order_of opened closed n m;
+      each = refl;
+    }
 
-    opened_list : (xs : List Interval) × IsNormalOver (WasOpened old new element direction vehicle) horizon xs
+    -- the same with rows
+    pub rows_of : (opened closed : List Interval)
+        → IsNormalOver (WasOpened old new element direction vehicle) horizon opened
+        → IsNormalOver (WasClosed old new element direction vehicle) horizon closed
+        → AreRowsLines old new vehicle horizon element direction
+        (map (full_line old new vehicle element direction) (by_from opened closed))
+    rows_of opened closed n m = record {
+      changes = by_from opened closed;
+      opened = opened_of opened closed n;
+      closed = closed_of opened closed m;
+      order = order_of opened closed n m;
+      each = are_full old new vehicle element direction (by_from opened closed);
+    }
+
+    pub opened_list : (xs : List Interval) × IsNormalOver (WasOpened old new element direction vehicle) horizon xs
     opened_list =
         some-normal-list (WasOpened old new element direction vehicle)
         (λ t. both _ _ (closed_or_open old element direction vehicle t) (open_or_not new element direction vehicle t))
         (whole horizon).from (whole horizon).until
 
-    closed_list : (xs : List Interval) × IsNormalOver (WasClosed old new element direction vehicle) horizon xs
+    pub closed_list : (xs : List Interval) × IsNormalOver (WasClosed old new element direction vehicle) horizon xs
     closed_list =
         some-normal-list (WasClosed old new element direction vehicle)
         (λ t. both _ _ (open_or_not old element direction vehicle t) (closed_or_open new element direction vehicle t))
         (whole horizon).from (whole horizon).until
 
-    some_lines : (lines : List (List ℕ)) × AreLines old new vehicle horizon element direction lines
+    pub some_lines : (lines : List (List ℕ)) × AreLines old new vehicle horizon element direction lines
     some_lines = (
       map (change_line element direction vehicle) (by_from opened_list.0 closed_list.0),
       lines_of opened_list.0 closed_list.0 opened_list.1 closed_list.1,
     )
 
+    pub some_rows_lines : (lines : List (List ℕ)) × AreRowsLines old new vehicle horizon element direction lines
+    some_rows_lines = (
+      map (full_line old new vehicle element direction) (by_from opened_list.0 closed_list.0),
+      rows_of opened_list.0 closed_list.0 opened_list.1 closed_list.1,
+    )
+
+  -- there is one list of such changes
+  one_list : (element : ℕ) (direction : Direction) (a b : List Change)
+      → IsNormalOver (WasOpened old new element direction vehicle) horizon (opened_in a)
+      → IsNormalOver (WasOpened old new element direction vehicle) horizon (opened_in b)
+      → IsNormalOver (WasClosed old new element direction vehicle) horizon (closed_in a)
+      → IsNormalOver (WasClosed old new element direction vehicle) horizon (closed_in b)
+      → BeginInTurn a → BeginInTurn b → a ≡ b
+  one_list element direction a b oa ob ca cb ta tb =
+      one_order a b ta tb
+      (one-normal-list (WasOpened old new element direction vehicle) (whole horizon).from (whole horizon).until (opened_in a)
+      (opened_in b) oa ob)
+      (one-normal-list (WasClosed old new element direction vehicle) (whole horizon).from (whole horizon).until (closed_in a)
+      (closed_in b) ca cb)
+
+  pub one_rows_lines : (element : ℕ) (direction : Direction) → IsOne (AreRowsLines old new vehicle horizon element direction)
+  one_rows_lines element direction a b p q =
+      one_each old new vehicle element direction p.changes a p.each
+      ∙ ap (map (full_line old new vehicle element direction))
+      (one_list element direction p.changes q.changes p.opened q.opened p.closed q.closed p.order q.order)
+      ∙ sym (one_each old new vehicle element direction q.changes b q.each)
+
   -- an element has one list of lines in a direction
   pub one_lines : (element : ℕ) (direction : Direction) → IsOne (AreLines old new vehicle horizon element direction)
   one_lines element direction a b p q =
-      let o = one-normal-list (WasOpened old new element direction vehicle) (whole horizon).from (whole horizon).until
-      (opened_in p.changes) (opened_in q.changes) p.opened q.opened in
-      let c = one-normal-list (WasClosed old new element direction vehicle) (whole horizon).from (whole horizon).until
-      (closed_in p.changes) (closed_in q.changes) p.closed q.closed in
-      p.each ∙ ap (map (change_line element direction vehicle)) (one_order p.changes q.changes p.order q.order o c) ∙ sym q.each
+      p.each
+      ∙ ap (map (change_line element direction vehicle))
+      (one_list element direction p.changes q.changes p.opened q.opened p.closed q.closed p.order q.order)
+      ∙ sym q.each
 
   -- two lists of restrictions have one text
   pub one_changes : IsOne (IsChanges old new vehicle horizon)

@@ -3,7 +3,7 @@ use Rattle.gtd_changes.proofs.laws.nothing_changed.Goals as goal
 
 pub returns : goal.returns
 returns c = record {
-  same = λ old new vehicle horizon lines is.
-      (header_agrees old new vehicle horizon lines is, agree_header old new vehicle horizon lines is);
-  same_rows = same_rows;
+  same = λ form old new vehicle horizon lines is.
+      (header_agrees old new vehicle horizon form lines is, agree_header old new vehicle horizon form lines is);
+  same_rows = λ form old new vehicle horizon. same_rows old new vehicle horizon form;
 }

@@ -1,5 +1,8 @@
-use Rattle.gtd_changes.specs.facts.ChangesFacts.{one_changes, some_changes}
+use Rattle.gtd_changes.proofs.FormFacts.{one_text, some_text}
 use Rattle.gtd_changes.proofs.laws.one_text.Goals as goal
 
 pub returns : goal.returns
-returns c = record { one = one_changes; some = some_changes }
+returns c = record {
+  one = λ form old new vehicle horizon. one_text old new vehicle horizon form;
+  some = λ form old new vehicle horizon. some_text old new vehicle horizon form;
+}

@@ -1,15 +1,12 @@
-use Rattle.std.proofs.Common.{◌≡◌}
+use Rattle.std.proofs.Common.{◌≡◌, ◌∙◌}
 use Rattle.gtd_changes.proofs.ChangeFacts.{line_of, on_ok}
 use Rattle.gtd_changes.specs.Changes.{change_line}
 use Rattle.gtd_changes.proofs.line.write_change.Goals as goal
 
 pub returns : goal.returns
 returns c = record {
-  line = on_ok c.push_moment-2.result _
-      (c.push_moment-2.new.line.items ≡ change_line c.args.element c.args.direction c.args.vehicle c.args.change.now)
-      (λ e. line_of c.args.element c.args.direction c.args.vehicle c.args.change.now c.span-span.result c.from.result.0
-      c.until.result.0 c.write_head.new.line.items c.push_word.new.line.items c.push_moment.new.line.items
-      c.push_moment-2.new.line.items c.span-span.ensures.value c.from.ensures.value c.until.ensures.value
-      c.in_ok-write_head.ensures.head c.in_ok-push_word.ensures.word c.in_ok-push_moment.ensures.moment e)
-      c.push_moment-2.ensures.moment;
+  line = on_ok c.write_start.result _
+      (c.write_start.new.line.items ≡ change_line c.args.element c.args.direction c.args.vehicle c.args.change.now)
+      (λ e. e ∙ line_of c.args.element c.args.direction c.args.vehicle c.args.change.now)
+      c.write_start.ensures.start;
 }

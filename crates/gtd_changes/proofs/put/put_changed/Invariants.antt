@@ -1,26 +1,26 @@
-use Rattle.std.proofs.Common.{◌≡◌, ◌≤◌, ◌+◌, ◌*◌, length, map}
-use Rattle.gtd_changes.proofs.ChangeFacts.{AllShown, Carries}
-use Rattle.gtd_changes.specs.Changes.{change_line}
+use Rattle.std.proofs.Common.{◌≡◌, ◌≤◌, ◌+◌, length, map}
+use Rattle.gtd_report.specs.Putting.{most_direction_bytes}
+use Rattle.gtd_changes.proofs.ChangeFacts.{Carries}
 use Rattle.gtd_changes.specs.Merging.{by_from, with_ahead}
+use Rattle.gtd_changes.specs.facts.RowsFacts.{line_with}
+use Rattle.gtd_changes.specs.facts.ToldFacts.{AllTold}
 use Rattle.gtd_changes.proofs.put.put_changed.Given as goal
 
 -- where the lines of the changes that are left are put, those of all are
 abbrev pub invariant-loop-change : goal.invariant-loop-change
 invariant-loop-change g l = record {
-  shown : AllShown (by_from (with_ahead l.ahead.opened (g.A.SpanSource.rest l.opened))
+  told : AllTold (by_from (with_ahead l.ahead.opened (g.A.SpanSource.rest l.opened))
       (with_ahead l.ahead.closed (g.B.SpanSource.rest l.closed)));
-  written : l.progress.written + 80 * length (by_from (with_ahead l.ahead.opened (g.A.SpanSource.rest l.opened))
-      (with_ahead l.ahead.closed (g.B.SpanSource.rest l.closed)))
-      ≤ l.fn.progress.written + 80 * (length (g.A.SpanSource.rest l.fn.opened) + length (g.B.SpanSource.rest l.fn.closed));
+  written : l.progress.written + l.room ≡ l.fn.progress.written + most_direction_bytes;
   lines : l.progress.lines + length (by_from (with_ahead l.ahead.opened (g.A.SpanSource.rest l.opened))
       (with_ahead l.ahead.closed (g.B.SpanSource.rest l.closed)))
       ≤ l.fn.progress.lines + (length (g.A.SpanSource.rest l.fn.opened) + length (g.B.SpanSource.rest l.fn.closed));
   failures : g.O.Output.failure_count l.output ≡ g.O.Output.failure_count l.fn.output;
   carries : Carries (g.O.Output.taken l.fn.output) l.fn.progress
-      (map (change_line l.element l.fn.direction l.vehicle)
+      (map (line_with l.place.old.now l.place.new.now l.place.vehicle l.place.element l.place.direction l.with_rows)
       (by_from (g.A.SpanSource.rest l.fn.opened) (g.B.SpanSource.rest l.fn.closed)))
       (g.O.Output.taken l.output) l.progress
-      (map (change_line l.element l.fn.direction l.vehicle)
+      (map (line_with l.place.old.now l.place.new.now l.place.vehicle l.place.element l.place.direction l.with_rows)
       (by_from (with_ahead l.ahead.opened (g.A.SpanSource.rest l.opened))
       (with_ahead l.ahead.closed (g.B.SpanSource.rest l.closed))));
 }

@@ -3,24 +3,27 @@ use Rattle.gtd_records.specs.declared.fault.RecordFault.TheVariants as records
 use Rattle.gtd_report.specs.declared.fault.RunFault.TheVariants as run
 use Rattle.gtd_changes.proofs.AnswerFacts.{compared_old, compared_run, ended_run, err_of, headline_old, headline_run, is_err}
 use Rattle.gtd_changes.proofs.AnswerFacts.{new_run, not_old, old_run, write_run}
-use Rattle.gtd_changes.proofs.run.run_changes.Goals as goal
+use Rattle.gtd_changes.proofs.run.run_changes_in.Goals as goal
 
 pub returns-in-Err-clause-headline : goal.returns-in-Err-clause-headline
-returns-in-Err-clause-headline g c = λ vehicle. headline_old _ _ _ _ _ c.in-Err.why c.in-Err.ensures.file
+returns-in-Err-clause-headline g c = λ vehicle. headline_old _ _ _ _ _ _ c.in-Err.why c.in-Err.ensures.file
 
 pub returns-in-Err-clause-stands : goal.returns-in-Err-clause-stands
 returns-in-Err-clause-stands g c =
-    compared_old c.args.vehicle c.args.horizon (g.I.Input.to_come c.args.old.now) (g.J.Input.to_come c.args.new.now)
+    compared_old c.args.asked.form c.args.asked.vehicle c.args.asked.horizon (g.I.Input.to_come c.args.old.now)
+    (g.J.Input.to_come c.args.new.now)
     (g.O.Output.taken c.args.output.now) c.in-Err.why c.in-Err.ensures.file
 
 pub returns-clause-headline : goal.returns-clause-headline
 returns-clause-headline g c = λ vehicle.
-    rw (c.answer_for.ensures.value) (headline_run c.args.vehicle c.args.horizon c.in-Ok.records _ _ _ _ c.run_report.result
+    rw (c.answer_for.ensures.value)
+    (headline_run c.args.asked.form c.args.asked.vehicle c.args.asked.horizon c.in-Ok.records _ _ _ _ c.run_report.result
     c.in-Ok.ensures.file (c.run_report.ensures.accepted vehicle tt) (c.run_report.ensures.refused vehicle tt))
 
 pub returns-clause-stands : goal.returns-clause-stands
 returns-clause-stands g c =
-    rw (c.answer_for.ensures.value) (compared_run c.args.vehicle c.args.horizon c.in-Ok.records _ _ _ _ c.run_report.result
+    rw (c.answer_for.ensures.value)
+    (compared_run c.args.asked.form c.args.asked.vehicle c.args.asked.horizon c.in-Ok.records _ _ _ _ c.run_report.result
     c.in-Ok.ensures.file c.run_report.ensures.stands)
 
 pub returns-clause-ended : goal.returns-clause-ended
@@ -47,7 +50,8 @@ returns-clause-old_endless g c =
 
 pub returns-clause-new_endless : goal.returns-clause-new_endless
 returns-clause-new_endless g c =
-    rw (c.answer_for.ensures.value) (λ e. c.run_report.ensures.endless (is_err c.run_report.result (run.Records records.Endless) e))
+    rw (c.answer_for.ensures.value) (λ e. c.run_report.ensures.endless (is_err c.run_report.result
+    (run.Records records.Endless) e))
 
 pub returns-clause-old_faults : goal.returns-clause-old_faults
 returns-clause-old_faults g c =

@@ -1,0 +1,187 @@
+//! The elements whose rows are not the same in one file as in another.
+
+ghost use Rattle.std.specs.Prelude.{◌≡◌, ◌≤◌, ◌++◌, IfNone, IfOk, IfSome, IsTrue, OnOk, length, map, option_map};
+ghost use Rattle.std.specs.List.Sorted.{IsNonDecreasing, IsPermutation};
+ghost use Rattle.gtd_core.specs.Parts.{domain_tree};
+ghost use Rattle.gtd_changes.specs.Same.{AreAlikeBut, AreFound, IsRowAt, Meets, element_of, new_rows, old_rows};
+
+use gtd_core::Domain;
+use gtd_records::{Record, Records, Vehicles};
+use std::alloc::{AllocError, Global};
+
+/// What the rows of two files say that come next, by their elements.
+#[derive(Clone, Copy)]
+pub(crate) enum Meeting {
+    /// They are the same.
+    Same,
+    /// The old file's, of this element, is not the new one's.
+    Old(u64),
+    /// The new file's, of this element, comes before the old one's.
+    New(u64),
+}
+
+impl Meeting {
+    // How many rows of the old file are then done with.
+    fn old_rows(self) -> usize
+        ensures value { result ≡ old_rows self }
+    {
+        match self {
+            Meeting::Same => 1,
+            Meeting::Old(_) => 1,
+            Meeting::New(_) => 0,
+        }
+    }
+
+    // How many rows of the new file are then done with.
+    fn new_rows(self) -> usize
+        ensures value { result ≡ new_rows self }
+    {
+        match self {
+            Meeting::Same => 1,
+            Meeting::Old(_) => 0,
+            Meeting::New(_) => 1,
+        }
+    }
+
+    // Lists the element of a row that has no equal.
+    fn list(self, elements: &mut Vec<u64>) -> Result<(), AllocError>
+        ensures listed { OnOk result (elements.new.items ≡ elements.old.items ++ element_of self) }
+    {
+        match self {
+            Meeting::Same => Ok(()),
+            Meeting::Old(element) => {
+                elements.push(element)?;
+                Ok(())
+            }
+            Meeting::New(element) => {
+                elements.push(element)?;
+                Ok(())
+            }
+        }
+    }
+}
+
+// Whether the vehicle types of two records are given alike.
+fn are_same_vehicles(one: &Vehicles, two: &Vehicles) -> bool
+    ensures same { IsTrue result → one.now ≡ two.now }
+{
+    match one {
+        Vehicles::Every => match two {
+            Vehicles::Every => true,
+            _ => false,
+        },
+        Vehicles::Only(types) => match two {
+            Vehicles::Only(others) => types.as_slice() == others.as_slice(),
+            _ => false,
+        },
+        Vehicles::AllBut(types) => match two {
+            Vehicles::AllBut(others) => types.as_slice() == others.as_slice(),
+            _ => false,
+        },
+    }
+}
+
+// Whether the domains of two records are the same tree.
+fn are_same_domains(one: &Option<Domain>, two: &Option<Domain>) -> bool
+    ensures same { IsTrue result → option_map domain_tree one.now ≡ option_map domain_tree two.now }
+{
+    match one {
+        None => two.is_none(),
+        Some(domain) => match two {
+            None => false,
+            Some(other) => *domain == *other,
+        },
+    }
+}
+
+// Whether two records are the same.
+fn is_same(one: &Record, two: &Record) -> bool
+    ensures same { IsTrue result → one.now ≡ two.now }
+{
+    one.element == two.element
+        && one.closed == two.closed
+        && are_same_vehicles(&one.vehicles, &two.vehicles)
+        && are_same_domains(&one.domain, &two.domain)
+}
+
+// The records of a file, in the order of its rows.
+fn refs_of(alloc: Global, rows: &[Record]) -> Result<Vec<&Record>, AllocError>
+    ensures same { IfOk result (λ refs. map (λ row. row.now) refs.items ≡ rows.now) }
+{
+    rows.iter().collect(alloc)
+}
+
+// The records of a file, by their elements: those of one element in the order of the file.
+fn by_element(alloc: Global, rows: &[Record]) -> Result<Vec<&Record>, AllocError>
+    ensures moved { IfOk result (λ refs. IsPermutation rows.now (map (λ row. row.now) refs.items)) }
+{
+    let mut refs = refs_of(alloc, rows)?;
+    refs.sort_by_key(|row| row.element)?;
+    Ok(refs)
+}
+
+// The record at a place, if there is one.
+fn row_at<'a>(rows: &[&'a Record], place: usize) -> Option<&'a Record>
+    ensures row { IfSome result (λ row. IsRowAt (map (λ row. row.now) rows.now) place row.now) }
+    ensures none { IfNone result (length rows.now ≤ place) }
+{
+    if place < rows.len() {
+        Some(rows[place])
+    } else {
+        None
+    }
+}
+
+// What two records say that come next, of which there may be none.
+fn meet(one: Option<&Record>, two: Option<&Record>) -> Option<Meeting>
+    ensures meets { Meets (option_map (λ row. row.now) one.entry) (option_map (λ row. row.now) two.entry) result }
+{
+    let Some(one) = one else {
+        return match two {
+            Some(two) => Some(Meeting::New(two.element)),
+            None => None,
+        };
+    };
+    let Some(two) = two else {
+        return Some(Meeting::Old(one.element));
+    };
+    if is_same(one, two) {
+        return Some(Meeting::Same);
+    }
+    if two.element < one.element {
+        Some(Meeting::New(two.element))
+    } else {
+        Some(Meeting::Old(one.element))
+    }
+}
+
+// The elements of the rows that stand in one file and not, in the same place, in the other.
+fn differing_of(alloc: Global, old: &[&Record], new: &[&Record]) -> Result<Vec<u64>, AllocError>
+    ensures old { IfOk result (λ elements.
+        AreFound (map (λ row. row.now) old.now) (map (λ row. row.now) new.now) elements.items) }
+    ensures new { IfOk result (λ elements.
+        AreFound (map (λ row. row.now) new.now) (map (λ row. row.now) old.now) elements.items) }
+{
+    let mut elements = Vec::new(alloc);
+    let mut at = 0usize;
+    let mut next = 0usize;
+    while let Some(meeting) = meet(row_at(old, at), row_at(new, next)) {
+        meeting.list(&mut elements)?;
+        at += meeting.old_rows();
+        next += meeting.new_rows();
+    }
+    Ok(elements)
+}
+
+/// The elements of which some row stands in one file and not, in the same place among those of its element, in the other: in
+/// ascending order. All others have the same rows.
+pub(crate) fn differing(alloc: Global, old: &Records, new: &Records) -> Result<Vec<u64>, AllocError>
+    ensures ascending { IfOk result (λ elements. IsNonDecreasing elements.items) }
+    ensures alike { IfOk result (λ elements. AreAlikeBut old.now new.now elements.items) }
+{
+    let old = by_element(alloc, old.rows())?;
+    let new = by_element(alloc, new.rows())?;
+    let mut elements = differing_of(alloc, old.as_slice(), new.as_slice())?;
+    elements.sort_unstable();
+    Ok(elements)
+}

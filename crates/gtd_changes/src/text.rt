@@ -1,0 +1,86 @@
+//! The lines of all elements, in each form.
+
+ghost use Rattle.std.specs.Prelude.{◌≡◌, ◌≤◌, length};
+ghost use Rattle.gtd_changes.specs.Changes.{header_line};
+ghost use Rattle.gtd_changes.specs.Forms.{AreLinesIn, header_in};
+
+use crate::form::{Asked, Form};
+use crate::pair::Pair;
+use crate::place::Place;
+use crate::put::put_changes;
+use crate::summary::put_summary;
+use gtd_devices::Output;
+use gtd_records::{Direction, Records};
+use gtd_report::{DirectionLines, ElementLines, Progress, Stop, put_both};
+use std::alloc::Global;
+
+/// The lines of what two files say differently.
+#[derive(Drop)]
+pub(crate) struct ChangeLines<'a> {
+    pub(crate) pair: &'a Pair<'a>,
+    pub(crate) asked: Asked,
+}
+
+/// The header of a form.
+pub(crate) fn header_in(form: Form) -> &'static [u8]
+    ensures value { result.now ≡ header_in form }
+    ensures short { length result.now ≤ 1000 }
+{
+    match form {
+        Form::Intervals => b"element,direction,vehicle,change,from,until\n",
+        Form::Rows => b"element,direction,vehicle,change,from,until,old_rows,new_rows\n",
+        Form::Summary => b"element,direction,vehicle,old_seconds,new_seconds\n",
+    }
+}
+
+impl DirectionLines for ChangeLines<'_> {
+    ghost are_lines = { λ text _. AreLinesIn text.asked.form text.pair.now.old.now text.pair.now.new.now text.asked.vehicle
+        text.asked.horizon };
+
+    fn put_direction<O: Output>(
+        &self,
+        alloc: Global,
+        output: &mut O,
+        progress: &mut Progress,
+        line: &mut Vec<u8>,
+        _found: &Records,
+        element: u64,
+        direction: Direction,
+    ) -> Result<(), Stop> {
+        if !self.pair.may_differ(element) {
+            return Ok(());
+        }
+        let place = Place {
+            old: self.pair.old,
+            new: self.pair.new,
+            element,
+            direction,
+            vehicle: self.asked.vehicle,
+        };
+        let horizon = self.asked.horizon;
+        match self.asked.form {
+            Form::Intervals => {
+                put_changes(alloc, output, progress, line, &place, false, horizon)
+            }
+            Form::Rows => put_changes(alloc, output, progress, line, &place, true, horizon),
+            Form::Summary => put_summary(alloc, output, progress, line, &place, horizon),
+        }
+    }
+}
+
+impl ElementLines for ChangeLines<'_> {
+    ghost are_lines = { λ text _. AreLinesIn text.asked.form text.pair.now.old.now text.pair.now.new.now text.asked.vehicle
+        text.asked.horizon };
+
+    fn put_element<O: Output>(
+        &self,
+        alloc: Global,
+        output: &mut O,
+        progress: &mut Progress,
+        line: &mut Vec<u8>,
+        found: &Records,
+        element: u64,
+    ) -> Result<(), Stop> {
+        put_both(alloc, output, progress, line, found, element, self)
+    }
+}
