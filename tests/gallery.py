@@ -20,7 +20,7 @@ PICTURES = os.path.join(TOP, "docs", "pictures")
 BEGIN, END = "<!-- the texts of tests/hours/texts.csv -->\n", "<!-- the end of the texts -->\n"
 HEAD = ["| Opening hours | Who writes it | A year |\n", "|---|---|---|\n"]
 YEAR = "2024"
-FEWEST = 25
+FEWEST = 15
 OPERATORS = {"+": "_or_", "*": "_and_", "-": "_except_"}
 WORDS_ROW = re.compile(r'\| `([^`]+)` \|.*<img src=pictures/words/.*\n')
 
