@@ -78,17 +78,19 @@ def comment_above(lines, first):
 def read_definitions(module, text):
     """The definitions of a file of specs/: each begins at a header line, and ends before the next, its comments aside."""
     lines = text.split("\n")
-    current, depth, shared = None, 0, None
+    current, depth, shared, around = None, 0, None, []
     for number, line in enumerate(lines, 1):
         bare = line.strip()
         if not bare or bare.startswith("--"):
             continue
         indent = len(line) - len(line.lstrip())
+        while indent < depth:
+            depth, shared = around.pop()
+            current = None
         if bare.startswith("module "):
-            depth, current, shared = indent + 2, None, line
+            around.append((depth, shared))
+            depth, current, shared = indent + 2, None, "\n".join([shared, line] if shared else [line])
             continue
-        if indent < depth:
-            depth, shared = 0, None
         header = HEADER.match(line)
         if indent == depth and header and header.group("name") not in KEYWORDS:
             name = header.group("name")
