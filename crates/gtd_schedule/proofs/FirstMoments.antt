@@ -30,11 +30,12 @@ first_begins : pos 0 ≡ first_second (pos 0) 1
 unfolding first_second
 first_begins = refl
 
-pub first_kept : IsKeptOf (pos 0) record { month = record { begins = pos 0; seconds = 2678400 }; clock = 0 }
+pub first_kept : IsKeptOf (pos 0) record { month = record { begins = pos 0; seconds = 2678400 }; clock = 0; past_hour = 0 }
 first_kept = let d = first_date in record {
   day = rw day_zero (search rules);
   month = record { begins = rw (day_zero, ← d.2) first_begins; reached = rw (day_zero, ← d.1) (omega arith) };
   clock = sym first_clock;
+  past_hour = rw first_clock refl;
 }
 
 first_stamp : stamp_text (pos 0) ≡ codes "1970-01-01T00:00:00"
@@ -50,7 +51,7 @@ first_moments = both (stamp_text (pos 0)) first_stamp
 
 -- what they show
 abbrev pub shown_first : Shown
-shown_first = record { month = record { begins = pos 0; seconds = 2678400 }; clock = 0 }
+shown_first = record { month = record { begins = pos 0; seconds = 2678400 }; clock = 0; past_hour = 0 }
 
 pub are_first : AreMoments (record { from = shown_first; until = shown_first })
     (codes "1970-01-01T00:00:00,1970-01-01T00:00:00\n")

@@ -1,5 +1,5 @@
 -- The moments of a line, and what is kept of them while the line is written over.
-use Rattle.std.specs.Prelude.{◌≡◌, ◌≤◌, ◌<◌, ◌+◌, ◌*◌, ◌++◌, ℕ, ℤ, pos, ◌+ℤ◌, ◌-ℤ◌, ◌*ℤ◌, List, codes}
+use Rattle.std.specs.Prelude.{◌≡◌, ◌≤◌, ◌<◌, ◌+◌, ◌*◌, ◌%◌, ◌++◌, ℕ, ℤ, pos, ◌+ℤ◌, ◌-ℤ◌, ◌*ℤ◌, List, codes}
 use Rattle.gtd_core.specs.Seconds.{day_of_second}
 use Rattle.gtd_calendar.specs.Calendar.{IsCalendarDay, month_length}
 use Rattle.gtd_calendar.specs.Clock.{second_of_day}
@@ -28,11 +28,12 @@ pub record IsDayOfMonth (month : Month) (day : ℤ) (place : ℕ) : Type 0 where
 abbrev pub IsSomeMonth : Month → Type 0
 IsSomeMonth month = (n : ℤ) × IsCalendarDay n × IsMonthOf n month
 
--- it is kept of this second: its month, and its place in its day
+-- it is kept of this second: its month, and its places in its day and in its hour
 pub record IsKeptOf (second : ℤ) (shown : Shown) : Type 0 where
   pub day : IsCalendarDay (day_of_second second)
   pub month : IsMonthOf (day_of_second second) shown.month
   pub clock : shown.clock ≡ second_of_day second
+  pub past_hour : shown.past_hour ≡ second_of_day second % 3600
 
 -- a text begins with a moment, of which it is kept
 pub record IsShown (shown : Shown) (text : List ℕ) : Type 0 where

@@ -9,10 +9,11 @@ ghost use Rattle.gtd_schedule.specs.Lines.{AreShown, span_line};
 ghost use Rattle.gtd_schedule.specs.Schedule.{AreLines};
 
 use crate::line::{FirstMoments, write_first_moments, write_head, write_span};
+use crate::put::put_whole;
 use gtd_core::Horizon;
 use gtd_devices::Output;
 use gtd_records::{Direction, Records, open_seconds};
-use gtd_report::{Progress, Stop, put_line};
+use gtd_report::{Progress, Stop};
 use gtd_spans::SpanSource;
 use std::alloc::Global;
 
@@ -41,7 +42,7 @@ fn put_spans<O: Output, S: SpanSource>(
     let mut shown = write_first_moments(line, first)?;
     while let Some(span) = spans.next() {
         write_span(line, head, &mut shown, span);
-        put_line(output, progress, line.as_slice())?;
+        put_whole(output, progress, line.as_slice())?;
     }
     Ok(())
 }

@@ -7,4 +7,5 @@ mod elements;
 pub mod laws;
 mod line;
 mod moment;
+mod put;
 mod run;

@@ -1,6 +1,6 @@
 //! The lines of a schedule.
 
-ghost use Rattle.std.specs.Prelude.{◌≡◌, ◌*◌, ◌++◌, ◌≤◌, ℕ, List, codes, length, take, drop, OnOk, IfOk};
+ghost use Rattle.std.specs.Prelude.{◌≡◌, ◌*◌, ◌%◌, ◌++◌, ◌≤◌, ℕ, List, codes, length, take, drop, OnOk, IfOk};
 ghost use Rattle.gtd_calendar.specs.Calendar.{IsCalendarDay, month_length};
 ghost use Rattle.gtd_calendar.specs.Clock.{second_of_day};
 ghost use Rattle.gtd_calendar.specs.ComputedDates.{day_of_month, month_of, year_of};
@@ -53,6 +53,7 @@ pub(crate) struct FirstMoments {
     ghost reached: { shown.month.seconds
         ≤ 86400 * month_length (year_of (day_of_second second.0)) (month_of (day_of_second second.0)) },
     ghost clock: { shown.clock ≡ second_of_day second.0 },
+    ghost past_hour: { shown.past_hour ≡ second_of_day second.0 % 3600 },
     ghost is: { bytes ≡ stamp_text second.0 ++ codes "," ++ stamp_text second.0 ++ codes "\n" },
 }
 
@@ -66,7 +67,12 @@ impl FirstMoments {
             begins: 0,
             seconds: 31 * 86_400,
         };
-        let (mut shown, mut same) = (Shown { month, clock: 0 }, Shown { month, clock: 0 });
+        let mut shown = Shown {
+            month,
+            clock: 0,
+            past_hour: 0,
+        };
+        let mut same = shown;
         let (from, until) = bytes.split_at_mut(20);
         write_moment(from, &mut shown, until, month, second);
         write_moment(until, &mut same, from, shown.month, second);

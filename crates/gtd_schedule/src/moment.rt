@@ -37,6 +37,8 @@ pub(crate) struct Shown {
     pub(crate) month: Month,
     /// The second of its day.
     pub(crate) clock: u32,
+    /// The second of its hour.
+    pub(crate) past_hour: u32,
 }
 
 /// Where a second is in a month: its day, from 1 on, and the second of that day.
@@ -177,20 +179,26 @@ fn write_day(
 
 // Writes a clock over the one after the day, if it is another one.
 #[inline(always)]
-fn write_clock(text: &mut [u8], shown: u32, clock: u32)
-    requires shown { shown < day_seconds }
+fn write_clock(text: &mut [u8], shown: &mut Shown, clock: u32)
+    requires shown { shown.old.clock < day_seconds }
+    requires past_hour { shown.old.past_hour ≡ shown.old.clock % 3600 }
     requires clock { clock < day_seconds }
     requires inside { 19 ≤ length text.old }
-    ensures text { (n : ℤ) (rest : List ℕ) → text.old ≡ date_text n ++ (clock_bytes shown ++ rest)
+    ensures text { (n : ℤ) (rest : List ℕ) → text.old ≡ date_text n ++ (clock_bytes shown.old.clock ++ rest)
         → text.new ≡ date_text n ++ (clock_bytes clock ++ rest) }
+    ensures month { shown.new.month ≡ shown.old.month }
+    ensures clock { shown.new.clock ≡ clock }
+    ensures past_hour { shown.new.past_hour ≡ clock % 3600 }
 {
-    if clock == shown {
+    if clock == shown.clock {
         return;
     }
+    shown.clock = clock;
     let hours = clock / 3600;
     let seconds = clock - 3600 * hours;
     write_two(text, 11, hours);
-    if seconds != shown % 3600 {
+    if seconds != shown.past_hour {
+        shown.past_hour = seconds;
         let minutes = seconds / 60;
         write_two(text, 14, minutes);
         write_two(text, 17, seconds - 60 * minutes);
@@ -213,6 +221,5 @@ pub(crate) fn write_moment(
     ensures kept { IsKeptOf second.0 shown.new }
 {
     let clock = write_day(text, &mut shown.month, other, month_of_other, second);
-    write_clock(text, shown.clock, clock);
-    shown.clock = clock;
+    write_clock(text, shown, clock);
 }

@@ -85,8 +85,8 @@ write_span-requires-clause-until g c =
     (shown_first c.in-Some.span (rest c.next.new.self) (rest c.loop-span.spans) c.loop-span.invariant.shown
     c.in-Some.ensures.takes).1
 
-pub put_line-requires-clause-written : goal.put_line-requires-clause-written
-put_line-requires-clause-written g c =
+pub put_whole-requires-clause-written : goal.put_whole-requires-clause-written
+put_whole-requires-clause-written g c =
     let rest = g.S.SpanSource.rest in
     let i = c.loop-span.invariant in
     let e = c.args.element in
@@ -101,13 +101,28 @@ put_line-requires-clause-written g c =
     (length (rest c.next.new.self))
     (rw (c.in-Some.ensures.takes) at i.written) c.requires.written short).0
 
-pub put_line-requires-clause-lines : goal.put_line-requires-clause-lines
-put_line-requires-clause-lines g c =
+pub put_whole-requires-clause-lines : goal.put_whole-requires-clause-lines
+put_whole-requires-clause-lines g c =
     let rest = g.S.SpanSource.rest in
     let i = c.loop-span.invariant in
     (room_lines c.loop-span.progress.lines c.args.progress.now.lines (length (rest c.args.spans.now))
     (length (rest c.next.new.self))
     (rw (c.in-Some.ensures.takes) at i.lines) c.requires.lines).0
+
+-- a line has its LF
+some_bytes : (front : List ℕ) → 0 < length (front ++ 10 ∷ [])
+some_bytes front = let count = length-append front (10 ∷ []) in omega arith
+
+pub put_whole-requires-clause-offered : goal.put_whole-requires-clause-offered
+put_whole-requires-clause-offered g c =
+    let e = c.args.element in
+    let d = c.args.direction in
+    let v = c.args.vehicle in
+    let x = c.in-Some.span in
+    let line = c.as_slice.result.now in
+    let is = whole_line e d v x (take c.len-head.result c.loop-span.line.items) c.write_span.new.line.items line
+    c.loop-span.invariant.head c.write_span.ensures.line c.as_slice.ensures.value in
+    rw is (some_bytes _)
 
 pub loop-span-preserved : goal.loop-span-preserved
 loop-span-preserved g c =
@@ -128,12 +143,12 @@ loop-span-preserved g c =
     let short : length line ≤ 80 = rw is (length-put_line e d v x (omega arith) (omega arith)) in
     let kept = same_head (take n now) c.write_span.new.line.items (span_text x) n
     (long_head n now i.room) c.write_span.ensures.line in
-    let put = c.in_ok-put_line.ensures in
+    let put = c.in_ok-put_whole.ensures in
     let a = g.O.Output.taken c.args.output.now in
     let b = g.O.Output.taken c.loop-span.output in
-    let t = g.O.Output.taken c.put_line.new.output in
-    let one : Puts (Ok tt) b t c.loop-span.progress c.put_line.new.progress (f x ∷ []) =
-    one_put (f x) b t c.loop-span.progress c.put_line.new.progress (rw is at put.all) (rw is at put.progress) in
+    let t = g.O.Output.taken c.put_whole.new.output in
+    let one : Puts (Ok tt) b t c.loop-span.progress c.put_whole.new.progress (f x ∷ []) =
+    one_put (f x) b t c.loop-span.progress c.put_whole.new.progress (rw is at put.all) (rw is at put.progress) in
     let written = (room_written c.loop-span.progress.written c.args.progress.now.written (length (rest c.args.spans.now))
     (length line) (length more) (rw takes at i.written) c.requires.written short).1 in
     let lines = (room_lines c.loop-span.progress.lines c.args.progress.now.lines (length (rest c.args.spans.now)) (length more)
@@ -148,14 +163,14 @@ loop-span-preserved g c =
       written = rw after written;
       lines = rw after lines;
       failures = put.failures ∙ i.failures;
-      carries = carries_one a b t c.args.progress.now c.loop-span.progress c.put_line.new.progress
+      carries = carries_one a b t c.args.progress.now c.loop-span.progress c.put_whole.new.progress
           (map f (rest c.args.spans.now)) (map f (rest c.loop-span.spans)) (map f more) (f x) i.carries
           (next_lines f x more (rest c.loop-span.spans) takes) one;
     }
 
-pub returns-in_err-put_line-clause-puts : goal.returns-in_err-put_line-clause-puts
-returns-in_err-put_line-clause-puts g c =
-    let p = err_from_is_err_and c.from_residual-in_err-put_line.result c.from_residual-in_err-put_line.ensures.1 in
+pub returns-in_err-put_whole-clause-puts : goal.returns-in_err-put_whole-clause-puts
+returns-in_err-put_whole-clause-puts g c =
+    let p = err_from_is_err_and c.from_residual-in_err-put_whole.result c.from_residual-in_err-put_whole.ensures.1 in
     let rest = g.S.SpanSource.rest in
     let i = c.loop-span.invariant in
     let e = c.args.element in
@@ -167,14 +182,14 @@ returns-in_err-put_line-clause-puts g c =
     let more = rest c.next.new.self in
     let is = whole_line e d v x (take c.len-head.result c.loop-span.line.items) c.write_span.new.line.items line i.head
     c.write_span.ensures.line c.as_slice.ensures.value in
-    let put = c.in_err-put_line.ensures in
+    let put = c.in_err-put_whole.ensures in
     let a = g.O.Output.taken c.args.output.now in
     let b = g.O.Output.taken c.loop-span.output in
-    let t = g.O.Output.taken c.put_line.new.output in
-    let short : Puts (Err p.0) b t c.loop-span.progress c.put_line.new.progress (f x ∷ []) =
-    one_short p.0 (f x) c.in_err-put_line.field-0.0.taken b t c.loop-span.progress c.put_line.new.progress (rw is at put.some.0)
+    let t = g.O.Output.taken c.put_whole.new.output in
+    let short : Puts (Err p.0) b t c.loop-span.progress c.put_whole.new.progress (f x ∷ []) =
+    one_short p.0 (f x) c.in_err-put_whole.field-0.0.taken b t c.loop-span.progress c.put_whole.new.progress (rw is at put.some.0)
     (rw is at put.some.1) put.progress in
-    rw (p.1) (carries_short a b t c.args.progress.now c.loop-span.progress c.put_line.new.progress
+    rw (p.1) (carries_short a b t c.args.progress.now c.loop-span.progress c.put_whole.new.progress
     (map f (rest c.args.spans.now)) (map f (rest c.loop-span.spans)) (map f more) (f x) p.0 i.carries
     (next_lines f x more (rest c.loop-span.spans) c.in-Some.ensures.takes) short)
 
