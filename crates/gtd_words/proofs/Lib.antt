@@ -1,12 +1,7 @@
 pub mod LineFacts
-pub mod Prefixes
-pub mod WeekdayLists
-pub mod StartParts
-pub mod Anchors
-pub mod Clocks
-pub mod StartLaw
-pub mod DurationLaw
+pub mod Paths
+pub mod StartReading
+pub mod RestReading
+pub mod LineReading
 pub mod WordsLaw
-pub mod EndWords
-pub mod PlainWords
 pub mod EndLaws

@@ -1,8 +1,8 @@
 -- Two expressions with the same words are the same expression: the text gives its lines, and the lines give the tree.
-use Rattle.std.proofs.Common.{◌≡◌, ℕ, zero, suc, ◌≤◌, Bool, true, false, List, [], ◌∷◌, ◌++◌, Option}
+use Rattle.std.proofs.Common.{◌≡◌, ◌≢◌, ℕ, zero, suc, ◌≤◌, Bool, true, false, List, [], ◌∷◌, ◌++◌, Option}
 use Rattle.std.proofs.Common.{Some, None, refl, sym, ap, subst, ◌∙◌, arith, append_assoc}
-use Rattle.std.specs.Prelude.{◌==◌, codes}
-use Rattle.std.proofs.lemmas.Bool.{false≢true, eq-eqb}
+use Rattle.std.specs.Prelude.{◌==◌, ◌||◌, codes}
+use Rattle.std.proofs.lemmas.Bool.{false≢true}
 use Rattle.std.proofs.lemmas.List.{append_cancel_left, append-nil}
 use Rattle.gtd_core.specs.declared.start.StartParts.{StartParts}
 use Rattle.gtd_core.specs.declared.duration.DurationParts.{DurationParts}
@@ -10,31 +10,95 @@ use Rattle.gtd_core.specs.declared.domain.Op.{Op}
 use Rattle.gtd_core.specs.declared.domain.Op.TheVariants.{Union, Meet, Minus}
 use Rattle.gtd_core.specs.Ranges.{IsStart, IsDuration}
 use Rattle.gtd_core.specs.Trees.{Tree, Single, Joined, AreValid}
-use Rattle.gtd_ends.specs.declared.anchor.Anchor.{Anchor}
-use Rattle.gtd_ends.specs.declared.anchor.Anchor.TheVariants.{Weekdays, EveryDay}
-use Rattle.gtd_ends.specs.Anchors.{anchor_of, has_clock, is_given}
-use Rattle.gtd_words.specs.Names.{weekdays_words}
-use Rattle.gtd_words.specs.Starts.{anchor_words, lead_words}
-use Rattle.gtd_words.specs.Words.{basic_words, indent, lead_words as op_lead, lines, op_words, words}
-use Rattle.gtd_words.proofs.Prefixes.{Both, head, no_way}
-use Rattle.gtd_words.proofs.StartLaw.{from_month, words_are}
-use Rattle.gtd_words.proofs.DurationLaw.{InRange, SameBasic, basic_is, basic_then, named, rest_of}
+use Rattle.gtd_phrases.specs.Grammar.{BeginsALine, First, Group, IsIn, IsLine, IsOperator, members}
+use Rattle.gtd_phrases.specs.Pieces.{figures_of, phrase_text, text}
+use Rattle.gtd_phrases.specs.Ranges.{IsWritten}
+use Rattle.gtd_phrases.specs.Tables.{word_in}
+use Rattle.gtd_phrases.specs.declared.phrase.Language.{Language}
+use Rattle.gtd_phrases.specs.declared.phrase.Piece.{Piece}
+use Rattle.gtd_languages.specs.declared.word.Word.{Word}
+use Rattle.gtd_languages.specs.declared.word.Word.TheVariants.{ExceptIn, OnlyIn, Or}
+use Rattle.gtd_words.specs.Words.{basic_pieces, basic_words, indent, lead_words, lines, op_word, op_words, words_in}
+use Rattle.gtd_words.proofs.LineReading.{SameBasic, basic_read, some_pieces}
+use Rattle.gtd_words.proofs.Paths.{InRange, basic_line}
 
--- ---- how a basic domain's words begin
+abbrev pub Both : {A : Type 0} → A → A → List ℕ → List ℕ → Type 0
+Both a b r s = (a ≡ b) × (r ≡ s)
 
-lead_begins : (P : List ℕ → Type 0) → ((r : List ℕ) → P (codes "from " ++ r)) → ((r : List ℕ) → P (codes "on " ++ r))
-    → ((r : List ℕ) → P (codes "e" ++ r)) → (c m : Bool) (a : Anchor) (r : List ℕ)
-    → P (lead_words c a ++ (anchor_words m a ++ r))
-lead_begins P f o e false m a r = f (anchor_words m a ++ r)
-lead_begins P f o e true m (Weekdays w) r = e (codes "very " ++ (weekdays_words (codes " and ") w ++ codes " " ++ r))
-lead_begins P f o e true m EveryDay r = e (codes "ach day " ++ r)
-lead_begins P f o e true m a r = o (anchor_words m a ++ r)
+-- what is known of a language, and of ends
+pub record Facts (l : Language) : Type 0 where
+  pub ends : InRange
+  pub read : (group : Group) (x y : List Piece) (r s : List ℕ) → IsLine group x → IsLine group y
+      → text l x ++ 10 ∷ r ≡ text l y ++ 10 ∷ s → (x ≡ y) × (r ≡ s)
+  pub operators : (v w : Word) (r s : List ℕ) → IsOperator v → IsOperator w → word_in l v ++ r ≡ word_in l w ++ s
+      → (v ≡ w) × (r ≡ s)
+  pub no_operator : (p : Piece) (w : Word) (r s : List ℕ) → IsIn p.phrase (members First)
+      → IsWritten (figures_of p.phrase) p.number → IsOperator w → phrase_text l p.phrase p.number ++ r ≡ word_in l w ++ s → ⊥
+  pub day : (p : Piece) (r : List ℕ) → IsIn p.phrase (members First) → IsWritten (figures_of p.phrase) p.number
+      → BeginsALine (phrase_text l p.phrase p.number ++ r)
+  pub operator : (w : Word) (r : List ℕ) → IsOperator w → BeginsALine (word_in l w ++ r)
 
-pub basic_begins : (P : List ℕ → Type 0) → ((r : List ℕ) → P (codes "from " ++ r)) → ((r : List ℕ) → P (codes "on " ++ r))
-    → ((r : List ℕ) → P (codes "e" ++ r)) → (x : StartParts) (d : DurationParts) (r : List ℕ) → P (basic_words x d ++ (10 ∷ r))
-basic_begins P f o e x d r =
-    subst P (sym (basic_is x d r ∙ words_are (named x d) x (rest_of x d r)))
-    (lead_begins P f o e (named x d) (is_given x.month) (anchor_of x) (from_month (anchor_of x) x (rest_of x d r)))
+-- ---- basic domains
+
+abbrev pub Basic : Language → StartParts → DurationParts → List ℕ → List ℕ
+Basic l x d r = basic_words l x d ++ (codes "\n" ++ r)
+
+record SameLine (x : StartParts) (d : DurationParts) (y : StartParts) (e : DurationParts) (r s : List ℕ) : Type 0 where
+  start : x ≡ y
+  duration : d ≡ e
+  rest : r ≡ s
+
+basic_then : (l : Language) → Facts l → (x y : StartParts) (d e : DurationParts) (r s : List ℕ) → IsStart x → IsStart y
+    → IsDuration d → IsDuration e → Basic l x d r ≡ Basic l y e s → SameLine x d y e r s
+basic_then l f x y d e r s p q h k same =
+    let found = f.read First (basic_pieces x d) (basic_pieces y e) r s (basic_line f.ends x d p h) (basic_line f.ends y e q k)
+    same in
+    let read = basic_read x y d e found.0 in
+    record { start = read.start; duration = read.duration; rest = found.1 }
+
+-- a line has pieces, since it is not the end of one
+no_pieces : (l : Language) → Facts l → (P : List Piece) (r : List ℕ) → IsLine First P → (P ≡ [] → ⊥) → BeginsALine
+    (text l P ++ r)
+no_pieces l f [] r h some = absurd (some refl)
+no_pieces l f (p ∷ P) r h some =
+    subst (λ (x : List ℕ). BeginsALine x) (sym (append_assoc (phrase_text l p.phrase p.number) (text l P) r))
+    (f.day p (text l P ++ r) h.0 h.1)
+
+no_op_first : (l : Language) → Facts l → (P : List Piece) (w : Word) (r s : List ℕ) → IsLine First P → (P ≡ [] → ⊥)
+    → IsOperator w → text l P ++ r ≡ word_in l w ++ s → ⊥
+no_op_first l f [] w r s h some o e = some refl
+no_op_first l f (p ∷ P) w r s h some o e =
+    f.no_operator p w (text l P ++ r) s h.0 h.1 o (sym (append_assoc (phrase_text l p.phrase p.number) (text l P) r) ∙ e)
+
+is_operator : (op : Op) → IsOperator (op_word op)
+is_operator Union = tt
+is_operator Meet = tt
+is_operator Minus = tt
+
+word_op : (o p : Op) → op_word o ≡ op_word p → o ≡ p
+word_op Union Union e = refl
+word_op Meet Meet e = refl
+word_op Minus Minus e = refl
+word_op Union Meet e = absurd cc
+word_op Union Minus e = absurd cc
+word_op Meet Union e = absurd cc
+word_op Meet Minus e = absurd cc
+word_op Minus Union e = absurd cc
+word_op Minus Meet e = absurd cc
+
+op_then : (l : Language) → Facts l → (o p : Op) (r s : List ℕ) → op_words l o ++ r ≡ op_words l p ++ s → Both o p r s
+op_then l f o p r s e =
+    let same = f.operators (op_word o) (op_word p) r s (is_operator o) (is_operator p) e in
+    (word_op o p same.0, same.1)
+
+basic_begins : (l : Language) → Facts l → (x : StartParts) (d : DurationParts) (r : List ℕ) → IsStart x → IsDuration d
+    → BeginsALine (basic_words l x d ++ r)
+basic_begins l f x d r p q = no_pieces l f (basic_pieces x d) r (basic_line f.ends x d p q) (some_pieces x d)
+
+no_op : (l : Language) → Facts l → (op : Op) (x : StartParts) (d : DurationParts) (r s : List ℕ) → IsStart x → IsDuration d
+    → basic_words l x d ++ r ≡ op_words l op ++ s → ⊥
+no_op l f op x d r s p q e =
+    no_op_first l f (basic_pieces x d) (op_word op) r s (basic_line f.ends x d p q) (some_pieces x d) (is_operator op) e
 
 -- ---- lines
 
@@ -46,52 +110,47 @@ abbrev depth_of : Line → ℕ
 depth_of (basic depth lead start duration) = depth
 depth_of (heading depth op) = depth
 
-abbrev text_of : Line → List ℕ
-text_of (basic depth lead start duration) = indent depth ++ op_lead lead ++ basic_words start duration ++ codes "\n"
-text_of (heading depth op) = indent depth ++ op_words op ++ codes "\n"
+abbrev text_of : Language → Line → List ℕ
+text_of l (basic depth lead start duration) =
+    indent depth ++ lead_words l lead ++ basic_words l start duration ++ codes "\n"
+text_of l (heading depth op) = indent depth ++ op_words l op ++ codes "\n"
 
-abbrev IsLine : Line → Type 0
-IsLine (basic depth lead start duration) = IsStart start × IsDuration duration
-IsLine (heading depth op) = Unit {0}
+abbrev IsALine : Line → Type 0
+IsALine (basic depth lead start duration) = IsStart start × IsDuration duration
+IsALine (heading depth op) = Unit {0}
 
-abbrev body_of : Line → List ℕ → List ℕ
-body_of (basic depth None start duration) r = basic_words start duration ++ (codes "\n" ++ r)
-body_of (basic depth (Some op) start duration) r = op_words op ++ (codes " " ++ (basic_words start duration ++ (codes "\n" ++ r)))
-body_of (heading depth op) r = op_words op ++ (codes "\n" ++ r)
+abbrev body_of : Language → Line → List ℕ → List ℕ
+body_of l (basic depth None start duration) r = Basic l start duration r
+body_of l (basic depth (Some op) start duration) r = op_words l op ++ (codes " " ++ Basic l start duration r)
+body_of l (heading depth op) r = op_words l op ++ (codes "\n" ++ r)
 
-text_is : (x : Line) (r : List ℕ) → text_of x ++ r ≡ indent (depth_of x) ++ body_of x r
-text_is (basic depth None start duration) r =
-    append_assoc (indent depth ++ [] ++ basic_words start duration) (codes "\n") r
-    ∙ append_assoc (indent depth ++ []) (basic_words start duration) (codes "\n" ++ r)
-    ∙ append_assoc (indent depth) [] (basic_words start duration ++ (codes "\n" ++ r))
-text_is (basic depth (Some op) start duration) r =
-    append_assoc (indent depth ++ (op_words op ++ codes " ") ++ basic_words start duration) (codes "\n") r
-    ∙ append_assoc (indent depth ++ (op_words op ++ codes " ")) (basic_words start duration) (codes "\n" ++ r)
-    ∙ append_assoc (indent depth) (op_words op ++ codes " ") (basic_words start duration ++ (codes "\n" ++ r))
-    ∙ ap (λ (l : List ℕ). indent depth ++ l) (append_assoc (op_words op) (codes " ") _)
-text_is (heading depth op) r =
-    append_assoc (indent depth ++ op_words op) (codes "\n") r ∙ append_assoc (indent depth) (op_words op) (codes "\n" ++ r)
+text_is : (l : Language) (x : Line) (r : List ℕ) → text_of l x ++ r ≡ indent (depth_of x) ++ body_of l x r
+text_is l (basic depth None start duration) r =
+    append_assoc (indent depth ++ [] ++ basic_words l start duration) (codes "\n") r
+    ∙ append_assoc (indent depth ++ []) (basic_words l start duration) (codes "\n" ++ r)
+    ∙ append_assoc (indent depth) [] (basic_words l start duration ++ (codes "\n" ++ r))
+text_is l (basic depth (Some op) start duration) r =
+    append_assoc (indent depth ++ (op_words l op ++ codes " ") ++ basic_words l start duration) (codes "\n") r
+    ∙ append_assoc (indent depth ++ (op_words l op ++ codes " ")) (basic_words l start duration) (codes "\n" ++ r)
+    ∙ append_assoc (indent depth) (op_words l op ++ codes " ") (basic_words l start duration ++ (codes "\n" ++ r))
+    ∙ ap (λ (z : List ℕ). indent depth ++ z) (append_assoc (op_words l op) (codes " ") _)
+text_is l (heading depth op) r =
+    append_assoc (indent depth ++ op_words l op) (codes "\n") r ∙ append_assoc (indent depth) (op_words l op) (codes "\n" ++ r)
 
-abbrev NoSpace : List ℕ → Type 0
-NoSpace l = (head l == 32) ≡ false
+body_begins : (l : Language) → Facts l → (x : Line) (r : List ℕ) → IsALine x → BeginsALine (body_of l x r)
+body_begins l f (basic depth None start duration) r h = basic_begins l f start duration (codes "\n" ++ r) h.0 h.1
+body_begins l f (basic depth (Some op) start duration) r h =
+    f.operator (op_word op) (codes " " ++ Basic l start duration r) (is_operator op)
+body_begins l f (heading depth op) r h = f.operator (op_word op) (codes "\n" ++ r) (is_operator op)
 
-op_no_space : (op : Op) (r : List ℕ) → NoSpace (op_words op ++ r)
-op_no_space Union r = refl
-op_no_space Meet r = refl
-op_no_space Minus r = refl
+abbrev first : List ℕ → ℕ
+first [] = 0
+first (c ∷ x) = c
 
-body_no_space : (x : Line) (r : List ℕ) → NoSpace (body_of x r)
-body_no_space (basic depth None start duration) r =
-    basic_begins NoSpace (λ l. refl) (λ l. refl) (λ l. refl) start duration r
-body_no_space (basic depth (Some op) start duration) r =
-    op_no_space op (codes " " ++ (basic_words start duration ++ (codes "\n" ++ r)))
-body_no_space (heading depth op) r = op_no_space op (codes "\n" ++ r)
+not_indented : (t r : List ℕ) → BeginsALine t → t ≡ codes "    " ++ r → ⊥
+not_indented t r h e = h.3 (ap (λ (x : List ℕ). first x) (sym h.2 ∙ e))
 
-not_indented : (l r : List ℕ) → NoSpace l → l ≡ codes "    " ++ r → ⊥
-not_indented l r h e =
-    let same : head l ≡ 32 = ap (λ (m : List ℕ). head m) e in false≢true (sym h ∙ eq-eqb (head l) 32 same)
-
-indent_then : (d e : ℕ) (r s : List ℕ) → NoSpace r → NoSpace s → indent d ++ r ≡ indent e ++ s → Both d e r s
+indent_then : (d e : ℕ) (r s : List ℕ) → BeginsALine r → BeginsALine s → indent d ++ r ≡ indent e ++ s → Both d e r s
 indent_then zero zero r s h k same = (refl, same)
 indent_then zero (suc e) r s h k same = absurd (not_indented r (indent e ++ s) h same)
 indent_then (suc d) zero r s h k same = absurd (not_indented s (indent d ++ r) k (sym same))
@@ -99,113 +158,85 @@ indent_then (suc d) (suc e) r s h k same =
     let rest = indent_then d e r s h k (append_cancel_left (codes "    ") (indent d ++ r) (indent e ++ s) same) in
     (ap (λ (n : ℕ). suc n) rest.0, rest.1)
 
-op_then : (o p : Op) (r s : List ℕ) → op_words o ++ r ≡ op_words p ++ s → Both o p r s
-op_then Union Union r s e = (refl, append_cancel_left (codes "or:") r s e)
-op_then Meet Meet r s e = (refl, append_cancel_left (codes "and all this only in:") r s e)
-op_then Minus Minus r s e = (refl, append_cancel_left (codes "and all this except in:") r s e)
-op_then Union Meet r s e = absurd (no_way (codes "or:") (codes "and all this only in:") r s refl e)
-op_then Union Minus r s e = absurd (no_way (codes "or:") (codes "and all this except in:") r s refl e)
-op_then Meet Union r s e = absurd (no_way (codes "and all this only in:") (codes "or:") r s refl e)
-op_then Meet Minus r s e = absurd (no_way (codes "and all this only in:") (codes "and all this except in:") r s refl e)
-op_then Minus Union r s e = absurd (no_way (codes "and all this except in:") (codes "or:") r s refl e)
-op_then Minus Meet r s e = absurd (no_way (codes "and all this except in:") (codes "and all this only in:") r s refl e)
-
--- no basic domain begins with what is done with the lines above
-no_op : (op : Op) (x : StartParts) (d : DurationParts) (r s : List ℕ) → basic_words x d ++ (10 ∷ r) ≡ op_words op ++ s → ⊥
-no_op Union x d r s e = basic_begins (λ l. l ≡ codes "or:" ++ s → ⊥) (λ l. no_way (codes "from ") (codes "or:") l s refl)
-    (λ l. no_way (codes "on ") (codes "or:") l s refl) (λ l. no_way (codes "e") (codes "or:") l s refl) x d r e
-no_op Meet x d r s e = basic_begins (λ l. l ≡ codes "and all this only in:" ++ s → ⊥)
-    (λ l. no_way (codes "from ") (codes "and all this only in:") l s refl)
-    (λ l. no_way (codes "on ") (codes "and all this only in:") l s refl)
-    (λ l. no_way (codes "e") (codes "and all this only in:") l s refl) x d r e
-no_op Minus x d r s e = basic_begins (λ l. l ≡ codes "and all this except in:" ++ s → ⊥)
-    (λ l. no_way (codes "from ") (codes "and all this except in:") l s refl)
-    (λ l. no_way (codes "on ") (codes "and all this except in:") l s refl)
-    (λ l. no_way (codes "e") (codes "and all this except in:") l s refl) x d r e
-
 same_line : (d e : ℕ) (l m : Option Op) (x y : StartParts) (p q : DurationParts) (r s : List ℕ) → d ≡ e → l ≡ m
-    → SameBasic x p y q r s → Both (basic d l x p) (basic e m y q) r s
+    → SameLine x p y q r s → Both (basic d l x p) (basic e m y q) r s
 same_line d e l m x y p q r s depth lead same = (
   ap (λ (n : ℕ). basic n l x p) depth ∙ ap (λ (o : Option Op). basic e o x p) lead
       ∙ ap (λ (z : StartParts). basic e m z p) same.start ∙ ap (λ (z : DurationParts). basic e m y z) same.duration,
   same.rest,
 )
 
-body_then : InRange → (x y : Line) (r s : List ℕ) → IsLine x → IsLine y → depth_of x ≡ depth_of y → body_of x r ≡ body_of y s → Both x y r s
-body_then ends (basic d None x p) (basic e None y q) r s h k depth same =
-    same_line d e None None x y p q r s depth refl (basic_then ends x y p q r s h.0 k.0 h.1 k.1 same)
-body_then ends (basic d None x p) (basic e (Some o) y q) r s h k depth same =
-    absurd (no_op o x p r (codes " " ++ (basic_words y q ++ (codes "\n" ++ s))) same)
-body_then ends (basic d (Some o) x p) (basic e None y q) r s h k depth same =
-    absurd (no_op o y q s (codes " " ++ (basic_words x p ++ (codes "\n" ++ r))) (sym same))
-body_then ends (basic d (Some o) x p) (basic e (Some i) y q) r s h k depth same =
-    let one = op_then o i (codes " " ++ (basic_words x p ++ (codes "\n" ++ r)))
-    (codes " " ++ (basic_words y q ++ (codes "\n" ++ s)))
-    same in
+no_newline : (r s : List ℕ) → codes " " ++ r ≡ codes "\n" ++ s → ⊥
+no_newline r s e = absurd cc
+
+body_then : (l : Language) → Facts l → (x y : Line) (r s : List ℕ) → IsALine x → IsALine y → depth_of x ≡ depth_of y
+    → body_of l x r ≡ body_of l y s → Both x y r s
+body_then l f (basic d None x p) (basic e None y q) r s h k depth same =
+    same_line d e None None x y p q r s depth refl (basic_then l f x y p q r s h.0 k.0 h.1 k.1 same)
+body_then l f (basic d None x p) (basic e (Some o) y q) r s h k depth same =
+    absurd (no_op l f o x p (codes "\n" ++ r) (codes " " ++ Basic l y q s) h.0 h.1 same)
+body_then l f (basic d (Some o) x p) (basic e None y q) r s h k depth same =
+    absurd (no_op l f o y q (codes "\n" ++ s) (codes " " ++ Basic l x p r) k.0 k.1 (sym same))
+body_then l f (basic d (Some o) x p) (basic e (Some i) y q) r s h k depth same =
+    let one = op_then l f o i (codes " " ++ Basic l x p r) (codes " " ++ Basic l y q s) same in
     same_line d e (Some o) (Some i) x y p q r s depth (ap (λ (z : Op). Some z) one.0)
-    (basic_then ends x y p q r s h.0 k.0 h.1 k.1
-    (append_cancel_left (codes " ") (basic_words x p ++ (codes "\n" ++ r)) (basic_words y q ++ (codes "\n" ++ s)) one.1))
-body_then ends (basic d None x p) (heading e i) r s h k depth same =
-    absurd (no_op i x p r (codes "\n" ++ s) same)
-body_then ends (heading d o) (basic e None y q) r s h k depth same =
-    absurd (no_op o y q s (codes "\n" ++ r) (sym same))
-body_then ends (basic d (Some o) x p) (heading e i) r s h k depth same =
-    let one = op_then o i (codes " " ++ (basic_words x p ++ (codes "\n" ++ r))) (codes "\n" ++ s) same in
-    absurd (no_way (codes " ") (codes "\n") (basic_words x p ++ (codes "\n" ++ r)) s refl one.1)
-body_then ends (heading d o) (basic e (Some i) y q) r s h k depth same =
-    let one = op_then o i (codes "\n" ++ r) (codes " " ++ (basic_words y q ++ (codes "\n" ++ s))) same in
-    absurd (no_way (codes "\n") (codes " ") r (basic_words y q ++ (codes "\n" ++ s)) refl one.1)
-body_then ends (heading d o) (heading e i) r s h k depth same =
-    let one = op_then o i (codes "\n" ++ r) (codes "\n" ++ s) same in
+    (basic_then l f x y p q r s h.0 k.0 h.1 k.1
+    (append_cancel_left (codes " ") (Basic l x p r) (Basic l y q s) one.1))
+body_then l f (basic d None x p) (heading e i) r s h k depth same =
+    absurd (no_op l f i x p (codes "\n" ++ r) (codes "\n" ++ s) h.0 h.1 same)
+body_then l f (heading d o) (basic e None y q) r s h k depth same =
+    absurd (no_op l f o y q (codes "\n" ++ s) (codes "\n" ++ r) k.0 k.1 (sym same))
+body_then l f (basic d (Some o) x p) (heading e i) r s h k depth same =
+    absurd (no_newline (Basic l x p r) s (op_then l f o i (codes " " ++ Basic l x p r) (codes "\n" ++ s) same).1)
+body_then l f (heading d o) (basic e (Some i) y q) r s h k depth same =
+    absurd (no_newline (Basic l y q s) r (sym (op_then l f o i (codes "\n" ++ r) (codes " " ++ Basic l y q s) same).1))
+body_then l f (heading d o) (heading e i) r s h k depth same =
+    let one = op_then l f o i (codes "\n" ++ r) (codes "\n" ++ s) same in
     (ap (λ (n : ℕ). heading n o) depth ∙ ap (λ (z : Op). heading e z) one.0, append_cancel_left (codes "\n") r s one.1)
 
-line_then : InRange → (x y : Line) (r s : List ℕ) → IsLine x → IsLine y → text_of x ++ r ≡ text_of y ++ s → Both x y r s
-line_then ends x y r s h k same =
-    let one = indent_then (depth_of x) (depth_of y) (body_of x r) (body_of y s) (body_no_space x r) (body_no_space y s)
-    (sym (text_is x r) ∙ same ∙ text_is y s) in
-    body_then ends x y r s h k one.0 one.1
+line_then : (l : Language) → Facts l → (x y : Line) (r s : List ℕ) → IsALine x → IsALine y
+    → text_of l x ++ r ≡ text_of l y ++ s → Both x y r s
+line_then l f x y r s h k same =
+    let one = indent_then (depth_of x) (depth_of y) (body_of l x r) (body_of l y s) (body_begins l f x r h)
+    (body_begins l f y s k) (sym (text_is l x r) ∙ same ∙ text_is l y s) in
+    body_then l f x y r s h k one.0 one.1
 
 -- ---- lists of lines
 
-abbrev texts_of : List Line → List ℕ
-texts_of [] = []
-texts_of (x ∷ xs) = text_of x ++ texts_of xs
+abbrev texts_of : Language → List Line → List ℕ
+texts_of l [] = []
+texts_of l (x ∷ xs) = text_of l x ++ texts_of l xs
 
 abbrev AreLines : List Line → Type 0
 AreLines [] = Unit {0}
-AreLines (x ∷ xs) = IsLine x × AreLines xs
+AreLines (x ∷ xs) = IsALine x × AreLines xs
 
-op_some : (op : Op) (r : List ℕ) → op_words op ++ r ≡ [] → ⊥
-op_some Union r e = absurd cc
-op_some Meet r e = absurd cc
-op_some Minus r e = absurd cc
-
-body_some : (x : Line) (r : List ℕ) → body_of x r ≡ [] → ⊥
-body_some (basic depth None start duration) r e =
-    basic_begins (λ l. l ≡ [] → ⊥) (λ l e. absurd cc) (λ l e. absurd cc) (λ l e. absurd cc) start duration r e
-body_some (basic depth (Some op) start duration) r e =
-    op_some op (codes " " ++ (basic_words start duration ++ (codes "\n" ++ r))) e
-body_some (heading depth op) r e = op_some op (codes "\n" ++ r) e
+begins_some : (t : List ℕ) → BeginsALine t → t ≡ [] → ⊥
+begins_some [] h e = absurd (let same = h.2 in cc)
+begins_some (c ∷ t) h e = absurd cc
 
 indent_some : (depth : ℕ) (r : List ℕ) → (r ≡ [] → ⊥) → indent depth ++ r ≡ [] → ⊥
 indent_some zero r h e = h e
 indent_some (suc depth) r h e = absurd cc
 
-text_some : (x : Line) (r : List ℕ) → text_of x ++ r ≡ [] → ⊥
-text_some x r e = indent_some (depth_of x) (body_of x r) (body_some x r) (sym (text_is x r) ∙ e)
+text_some : (l : Language) → Facts l → (x : Line) (r : List ℕ) → IsALine x → text_of l x ++ r ≡ [] → ⊥
+text_some l f x r h e =
+    indent_some (depth_of x) (body_of l x r) (begins_some (body_of l x r) (body_begins l f x r h)) (sym (text_is l x r) ∙ e)
 
-texts_then : InRange → (xs ys : List Line) → AreLines xs → AreLines ys → texts_of xs ≡ texts_of ys → xs ≡ ys
-texts_then ends [] [] h k e = refl
-texts_then ends [] (y ∷ ys) h k e = absurd (text_some y (texts_of ys) (sym e))
-texts_then ends (x ∷ xs) [] h k e = absurd (text_some x (texts_of xs) e)
-texts_then ends (x ∷ xs) (y ∷ ys) h k e =
-    let one = line_then ends x y (texts_of xs) (texts_of ys) h.0 k.0 e in
-    ap (λ (z : Line). z ∷ xs) one.0 ∙ ap (λ (l : List Line). y ∷ l) (texts_then ends xs ys h.1 k.1 one.1)
+texts_then : (l : Language) → Facts l → (xs ys : List Line) → AreLines xs → AreLines ys → texts_of l xs ≡ texts_of l ys
+    → xs ≡ ys
+texts_then l f [] [] h k e = refl
+texts_then l f [] (y ∷ ys) h k e = absurd (text_some l f y (texts_of l ys) k.0 (sym e))
+texts_then l f (x ∷ xs) [] h k e = absurd (text_some l f x (texts_of l xs) h.0 e)
+texts_then l f (x ∷ xs) (y ∷ ys) h k e =
+    let one = line_then l f x y (texts_of l xs) (texts_of l ys) h.0 k.0 e in
+    ap (λ (z : Line). z ∷ xs) one.0 ∙ ap (λ (z : List Line). y ∷ z) (texts_then l f xs ys h.1 k.1 one.1)
 
-texts_joined : (xs ys : List Line) → texts_of (xs ++ ys) ≡ texts_of xs ++ texts_of ys
-texts_joined [] ys = refl
-texts_joined (x ∷ xs) ys =
-    ap (λ (l : List ℕ). text_of x ++ l) (texts_joined xs ys) ∙ sym (append_assoc (text_of x) (texts_of xs) (texts_of ys))
+texts_joined : (l : Language) (xs ys : List Line) → texts_of l (xs ++ ys) ≡ texts_of l xs ++ texts_of l ys
+texts_joined l [] ys = refl
+texts_joined l (x ∷ xs) ys =
+    ap (λ (z : List ℕ). text_of l x ++ z) (texts_joined l xs ys) ∙ sym
+    (append_assoc (text_of l x) (texts_of l xs) (texts_of l ys))
 
 -- ---- the lines of an expression
 
@@ -215,19 +246,20 @@ lines_of depth None (Joined op a b) = lines_of depth None a ++ lines_of depth (S
 lines_of depth (Some before) (Joined op a b) =
     heading depth before ∷ (lines_of (suc depth) None a ++ lines_of (suc depth) (Some op) b)
 
-lines_are : (depth : ℕ) (lead : Option Op) (tree : Tree) → lines depth lead tree ≡ texts_of (lines_of depth lead tree)
-lines_are depth None (Single start duration) = sym (append-nil _)
-lines_are depth (Some op) (Single start duration) = sym (append-nil _)
-lines_are depth None (Joined op a b) =
-    ap (λ (l : List ℕ). l ++ lines depth (Some op) b) (lines_are depth None a)
-    ∙ ap (λ (l : List ℕ). texts_of (lines_of depth None a) ++ l) (lines_are depth (Some op) b)
-    ∙ sym (texts_joined (lines_of depth None a) (lines_of depth (Some op) b))
-lines_are depth (Some before) (Joined op a b) =
-    append_assoc (text_of (heading depth before)) (lines (suc depth) None a) (lines (suc depth) (Some op) b)
-    ∙ ap (λ (l : List ℕ). text_of (heading depth before) ++ l) (
-    ap (λ (l : List ℕ). l ++ lines (suc depth) (Some op) b) (lines_are (suc depth) None a)
-    ∙ ap (λ (l : List ℕ). texts_of (lines_of (suc depth) None a) ++ l) (lines_are (suc depth) (Some op) b)
-    ∙ sym (texts_joined (lines_of (suc depth) None a) (lines_of (suc depth) (Some op) b)))
+lines_are : (l : Language) (depth : ℕ) (lead : Option Op) (tree : Tree)
+    → lines l depth lead tree ≡ texts_of l (lines_of depth lead tree)
+lines_are l depth None (Single start duration) = sym (append-nil _)
+lines_are l depth (Some op) (Single start duration) = sym (append-nil _)
+lines_are l depth None (Joined op a b) =
+    ap (λ (z : List ℕ). z ++ lines l depth (Some op) b) (lines_are l depth None a)
+    ∙ ap (λ (z : List ℕ). texts_of l (lines_of depth None a) ++ z) (lines_are l depth (Some op) b)
+    ∙ sym (texts_joined l (lines_of depth None a) (lines_of depth (Some op) b))
+lines_are l depth (Some before) (Joined op a b) =
+    append_assoc (text_of l (heading depth before)) (lines l (suc depth) None a) (lines l (suc depth) (Some op) b)
+    ∙ ap (λ (z : List ℕ). text_of l (heading depth before) ++ z) (
+    ap (λ (z : List ℕ). z ++ lines l (suc depth) (Some op) b) (lines_are l (suc depth) None a)
+    ∙ ap (λ (z : List ℕ). texts_of l (lines_of (suc depth) None a) ++ z) (lines_are l (suc depth) (Some op) b)
+    ∙ sym (texts_joined l (lines_of (suc depth) None a) (lines_of (suc depth) (Some op) b)))
 
 AreLines-append : (xs ys : List Line) → AreLines xs → AreLines ys → AreLines (xs ++ ys)
 AreLines-append [] ys h k = k
@@ -263,7 +295,8 @@ are_deep : (depth : ℕ) (lead : Option Op) (tree : Tree) → AreDeep depth (lin
 are_deep depth None (Single start duration) = (omega arith, tt)
 are_deep depth (Some op) (Single start duration) = (omega arith, tt)
 are_deep depth None (Joined op a b) =
-    AreDeep-append depth (lines_of depth None a) (lines_of depth (Some op) b) (are_deep depth None a) (are_deep depth (Some op) b)
+    AreDeep-append depth (lines_of depth None a) (lines_of depth (Some op) b) (are_deep depth None a)
+    (are_deep depth (Some op) b)
 are_deep depth (Some before) (Joined op a b) = (
   omega arith,
   shallower depth (lines_of (suc depth) None a ++ lines_of (suc depth) (Some op) b)
@@ -334,13 +367,13 @@ join_then depth o i a b c d e =
 -- ---- the tree
 
 -- a part that is not a right side begins with a basic domain
-record First (depth : ℕ) (tree : Tree) : Type 0 where
+record FirstLine (depth : ℕ) (tree : Tree) : Type 0 where
   start : StartParts
   duration : DurationParts
   others : List Line
   whole : lines_of depth None tree ≡ basic depth None start duration ∷ others
 
-first_of : (depth : ℕ) (tree : Tree) → First depth tree
+first_of : (depth : ℕ) (tree : Tree) → FirstLine depth tree
 first_of depth (Single start duration) = record { start = start; duration = duration; others = []; whole = refl }
 first_of depth (Joined op a b) =
     let f = first_of depth a in record {
@@ -431,9 +464,9 @@ tree_then (Joined o a b) (Joined i c d) depth (Some l) (Some m) e =
           ∙ ap (λ (z : Tree). Joined i c z) right.tree;
     }
 
-pub words_then : InRange → (a b : Tree) → AreValid a → AreValid b → words a ≡ words b → a ≡ b
-words_then ends a b h k e =
-    let same = texts_then ends (lines_of 0 None a) (lines_of 0 None b) (are_lines 0 None a h) (are_lines 0 None b k)
-    (sym (lines_are 0 None a) ∙ e ∙ lines_are 0 None b) in
+pub words_then : (l : Language) → Facts l → (a b : Tree) → AreValid a → AreValid b → words_in l a ≡ words_in l b → a ≡ b
+words_then l f a b h k e =
+    let same = texts_then l f (lines_of 0 None a) (lines_of 0 None b) (are_lines 0 None a h) (are_lines 0 None b k)
+    (sym (lines_are l 0 None a) ∙ e ∙ lines_are l 0 None b) in
     let found = tree_then a b 0 None None same in
     found.tree

@@ -1,6 +1,5 @@
 pub mod Durations
 pub mod Joins
-pub mod Names
 pub mod Said
 pub mod Starts
 pub mod Untils
@@ -18,3 +17,5 @@ pub use Rattle.gtd_ends.specs.Endings
 pub use Rattle.gtd_ends.specs.Ends
 pub use Rattle.gtd_ends.specs.declared.anchor.Anchor
 pub use Rattle.gtd_ends.specs.declared.end.End
+pub use Rattle.gtd_phrases.specs.Pieces
+pub use Rattle.gtd_phrases.specs.declared.phrase.Language

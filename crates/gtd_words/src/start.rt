@@ -1,174 +1,194 @@
-//! The words of a start.
+//! The pieces of a start's words.
 
-ghost use Rattle.std.specs.Prelude.{◌≡◌, ◌≤◌, ◌<◌, ◌++◌, [], codes, string_bytes, OnOk, IfSome};
-ghost use Rattle.gtd_core.specs.Parts.{start_parts};
-ghost use Rattle.gtd_words.specs.Names.{back_words, place_words, two_digits, weekdays_words};
-ghost use Rattle.gtd_words.specs.Starts.{is_in_month, also_back, also_place, also_weekdays, anchor_words, back_condition, clock_words};
-ghost use Rattle.gtd_words.specs.Starts.{condition_words, day_words, from_minute, hour_words, lead_words, minute_words};
-ghost use Rattle.gtd_words.specs.Starts.{month_words, of_hour, of_hours, period_words, place_condition, second_of_minutes};
-ghost use Rattle.gtd_words.specs.Starts.{second_words, seconds_words, start_words, time_from, week_words};
-ghost use Rattle.gtd_words.specs.Starts.{weekdays_condition, year_words};
+ghost use Rattle.std.specs.Prelude.{◌≡◌, ◌++◌, [], ◌∷◌, vec_items, OnOk};
+ghost use Rattle.gtd_words.specs.Starts.{also_back, also_place, also_weekdays, anchor_pieces, back_condition, beginning_pieces};
+ghost use Rattle.gtd_words.specs.Starts.{clock_pieces, condition_pieces, count, day_pieces, hour_pieces, minute_pieces};
+ghost use Rattle.gtd_words.specs.Starts.{month_pieces, period_pieces, place_condition, place_month, role_of, say};
+ghost use Rattle.gtd_words.specs.Starts.{year_pieces};
+ghost use Rattle.gtd_words.specs.Starts.{second_pieces, start_pieces, time_pieces, week_pieces, weekdays_condition};
 
-use crate::names::{
-    month_name, ordinal_ending, push_four_digits, push_number, push_number_after,
-    push_number_between, push_place, push_place_back, push_two_digits, push_weekdays,
-};
-use gtd_core::{Start, StartParts};
+use gtd_core::StartParts;
 use gtd_ends::{Anchor, anchor_of};
+use gtd_phrases::{Counted, Fixed, Phrase, Piece, Role};
 use std::alloc::AllocError;
 
-/// Appends the words of a start. With `named` it is on its day; otherwise it is from its day.
-#[tactic(auto, unfolding(crate::specs::Starts::start_words))]
-pub(crate) fn push_start(out: &mut String, named: bool, start: &Start) -> Result<(), AllocError>
-    ensures { OnOk result (string_bytes out.new ≡ string_bytes out.old ++ start_words named (start_parts start.now)) }
+/// Adds a phrase with its number.
+pub(crate) fn count(out: &mut Vec<Piece>, phrase: Phrase, number: u32) -> Result<(), AllocError>
+    ensures { OnOk result (vec_items out.new ≡ vec_items out.old ++ count phrase number ∷ []) }
 {
-    let parts = start.parts();
-    let anchor = anchor_of(&parts);
-    push_lead(out, named, anchor)?;
-    push_anchor(out, parts.month.is_some(), anchor)?;
-    push_period(out, anchor, &parts)?;
-    push_conditions(out, anchor, &parts)?;
-    push_clock(out, parts.hour, parts.minute, parts.second)
+    out.push(Piece { phrase, number })?;
+    Ok(())
 }
 
-fn push_lead(out: &mut String, named: bool, anchor: Anchor) -> Result<(), AllocError>
-    ensures { OnOk result (string_bytes out.new ≡ string_bytes out.old ++ lead_words named anchor) }
+/// Adds a phrase.
+pub(crate) fn say(out: &mut Vec<Piece>, phrase: Phrase) -> Result<(), AllocError>
+    ensures { OnOk result (vec_items out.new ≡ vec_items out.old ++ say phrase ∷ []) }
 {
-    if !named {
-        return out.push_str("from ");
-    }
-    match anchor {
-        Anchor::Weekdays(_) => Ok(()),
-        Anchor::EveryDay => Ok(()),
-        _ => out.push_str("on "),
-    }
+    count(out, phrase, 0)
 }
 
-fn push_day(out: &mut String, month: bool, day: u8) -> Result<(), AllocError>
-    ensures { OnOk result (string_bytes out.new ≡ string_bytes out.old ++ day_words month day) }
+/// Adds the pieces of a start. With `named` it is on its day; otherwise it is from its day.
+#[tactic(auto, unfolding(crate::specs::Starts::start_pieces))]
+pub(crate) fn push_start(
+    out: &mut Vec<Piece>,
+    named: bool,
+    start: &StartParts,
+) -> Result<(), AllocError>
+    ensures { OnOk result (vec_items out.new ≡ vec_items out.old ++ start_pieces named start.now) }
 {
-    if month {
-        push_number(out, u32::from(day))?;
-        return out.push_str(" ");
-    }
-    out.push_str("the ")?;
-    push_number(out, u32::from(day))?;
-    out.push_str(ordinal_ending(day))?;
-    out.push_str(" of ")
+    let anchor = anchor_of(start);
+    push_anchor(out, named, start.month, anchor)?;
+    push_period(out, start)?;
+    push_conditions(out, anchor, start)?;
+    push_clock(out, start.hour, start.minute, start.second)
 }
 
-fn push_anchor(out: &mut String, month: bool, anchor: Anchor) -> Result<(), AllocError>
-    ensures { OnOk result (string_bytes out.new ≡ string_bytes out.old ++ anchor_words month anchor) }
+fn role_of(named: bool) -> Role
+    ensures { result ≡ role_of named }
 {
-    match anchor {
-        Anchor::Day(day) => push_day(out, month, day),
-        Anchor::Place(place) => push_place_between(out, "the ", place, ""),
-        Anchor::PlaceBack(place) => push_back_between(out, "the ", place, ""),
-        Anchor::Weekdays(weekdays) => push_weekdays_after(out, "every ", " and ", weekdays),
-        Anchor::EveryDay => out.push_str("each day "),
-        Anchor::TheMonday => out.push_str("the Monday "),
-        Anchor::Beginning => out.push_str("the beginning "),
-    }
+    if named { Role::On } else { Role::From }
 }
 
-#[tactic(auto, unfolding(crate::specs::Starts::period_words))]
-fn push_period(out: &mut String, anchor: Anchor, start: &StartParts) -> Result<(), AllocError>
-    requires { IfSome start.now.year (λ n. n ≤ 9999) }
-    ensures { OnOk result (string_bytes out.new ≡ string_bytes out.old ++ period_words anchor start.now) }
-{
-    push_month(out, is_in_month(anchor), start.month)?;
-    push_week(out, start.week)?;
-    push_year(out, start.month.is_some(), start.week.is_some(), start.year)
-}
-
-/// Whether a month is named after it, or each month.
-fn is_in_month(anchor: Anchor) -> bool
-    ensures { result ≡ is_in_month anchor }
-{
-    match anchor {
-        Anchor::Day(_) => true,
-        Anchor::Place(_) => true,
-        Anchor::PlaceBack(_) => true,
-        Anchor::Weekdays(_) => false,
-        Anchor::EveryDay => false,
-        Anchor::TheMonday => false,
-        Anchor::Beginning => false,
-    }
-}
-
-fn push_month(out: &mut String, in_month: bool, month: Option<u8>) -> Result<(), AllocError>
-    ensures { OnOk result (string_bytes out.new ≡ string_bytes out.old ++ month_words in_month month) }
+fn push_day(out: &mut Vec<Piece>, named: bool, month: Option<u8>, day: u8) -> Result<(), AllocError>
+    ensures { OnOk result (vec_items out.new ≡ vec_items out.old ++ day_pieces named month day) }
 {
     match month {
-        Some(month) => {
-            out.push_str(if in_month { "" } else { "of " })?;
-            out.push_str(month_name(u32::from(month)))?;
-            out.push_str(" ")
-        }
-        None => out.push_str(if in_month { "every month " } else { "" }),
+        Some(month) => count(out, Phrase::DateOf(named, month), u32::from(day)),
+        None => count(out, Phrase::DateOfEach(named), u32::from(day)),
     }
 }
 
-fn push_week(out: &mut String, week: Option<u8>) -> Result<(), AllocError>
-    ensures { OnOk result (string_bytes out.new ≡ string_bytes out.old ++ week_words week) }
+// Adds a place and its month, or each month.
+fn push_place(out: &mut Vec<Piece>, place: Phrase, month: Option<u8>) -> Result<(), AllocError>
+    ensures { OnOk result (vec_items out.new ≡ vec_items out.old ++ say place ∷ place_month month) }
 {
-    match week {
-        Some(week) => push_number_between(out, "in week ", u32::from(week), " "),
+    say(out, place)?;
+    match month {
+        Some(month) => say(out, Phrase::OfMonth(month)),
+        None => say(out, Phrase::Said(Fixed::OfEachMonth)),
+    }
+}
+
+// Adds another day and its month, if it is given.
+fn push_in_month(out: &mut Vec<Piece>, day: Phrase, month: Option<u8>) -> Result<(), AllocError>
+    ensures { OnOk result (vec_items out.new ≡ vec_items out.old ++ say day ∷ month_pieces month) }
+{
+    say(out, day)?;
+    match month {
+        Some(month) => say(out, Phrase::OfMonth(month)),
         None => Ok(()),
     }
 }
 
-fn push_year(out: &mut String, month: bool, week: bool, year: Option<u16>) -> Result<(), AllocError>
-    requires { IfSome year (λ n. n ≤ 9999) }
-    ensures { OnOk result (string_bytes out.new ≡ string_bytes out.old ++ year_words month week year) }
+fn push_beginning(out: &mut Vec<Piece>, month: Option<u8>) -> Result<(), AllocError>
+    ensures { OnOk result (vec_items out.new ≡ vec_items out.old ++ beginning_pieces month) }
 {
-    match year {
-        Some(year) => {
-            out.push_str(if month && !week { "" } else { "of the year " })?;
-            push_four_digits(out, u32::from(year))?;
-            out.push_str(" ")
-        }
-        None => out.push_str(if month || week { "every year " } else { "" }),
+    match month {
+        Some(month) => say(out, Phrase::BeginningOf(month)),
+        None => say(out, Phrase::Said(Fixed::FromBeginning)),
     }
 }
 
-#[tactic(auto, unfolding(crate::specs::Starts::condition_words))]
-fn push_conditions(out: &mut String, anchor: Anchor, start: &StartParts) -> Result<(), AllocError>
-    ensures { OnOk result (string_bytes out.new ≡ string_bytes out.old ++ condition_words anchor start.now) }
+fn push_anchor(
+    out: &mut Vec<Piece>,
+    named: bool,
+    month: Option<u8>,
+    anchor: Anchor,
+) -> Result<(), AllocError>
+    ensures { OnOk result (vec_items out.new ≡ vec_items out.old ++ anchor_pieces named month anchor) }
+{
+    match anchor {
+        Anchor::Day(day) => push_day(out, named, month, day),
+        Anchor::Place(place) => {
+            push_place(
+                out,
+                Phrase::PlaceOf(role_of(named), place.0, place.1),
+                month,
+            )
+        }
+        Anchor::PlaceBack(place) => {
+            push_place(out, Phrase::BackOf(role_of(named), place.0, place.1), month)
+        }
+        Anchor::Weekdays(weekdays) => {
+            push_in_month(out, Phrase::DaysOf(role_of(named), weekdays), month)
+        }
+        Anchor::EveryDay => push_in_month(out, Phrase::Said(Fixed::EachDay), month),
+        Anchor::TheMonday => push_in_month(out, Phrase::MondayOf(named), month),
+        Anchor::Beginning => push_beginning(out, month),
+    }
+}
+
+#[tactic(auto, unfolding(crate::specs::Starts::period_pieces))]
+fn push_period(out: &mut Vec<Piece>, start: &StartParts) -> Result<(), AllocError>
+    ensures { OnOk result (vec_items out.new ≡ vec_items out.old ++ period_pieces start.now) }
+{
+    push_week(out, start.week)?;
+    push_year(out, start.month.is_some(), start.week.is_some(), start.year)
+}
+
+fn push_week(out: &mut Vec<Piece>, week: Option<u8>) -> Result<(), AllocError>
+    ensures { OnOk result (vec_items out.new ≡ vec_items out.old ++ week_pieces week) }
+{
+    match week {
+        Some(week) => count(out, Phrase::Numbered(Counted::InWeek), u32::from(week)),
+        None => Ok(()),
+    }
+}
+
+fn push_year(
+    out: &mut Vec<Piece>,
+    month: bool,
+    week: bool,
+    year: Option<u16>,
+) -> Result<(), AllocError>
+    ensures { OnOk result (vec_items out.new ≡ vec_items out.old ++ year_pieces month week year) }
+{
+    match year {
+        Some(year) => {
+            if month && !week {
+                count(out, Phrase::Numbered(Counted::YearAlone), u32::from(year))
+            } else {
+                count(out, Phrase::Numbered(Counted::OfYear), u32::from(year))
+            }
+        }
+        None => {
+            if month || week {
+                say(out, Phrase::Said(Fixed::EveryYear))
+            } else {
+                Ok(())
+            }
+        }
+    }
+}
+
+#[tactic(auto, unfolding(crate::specs::Starts::condition_pieces))]
+fn push_conditions(
+    out: &mut Vec<Piece>,
+    anchor: Anchor,
+    start: &StartParts,
+) -> Result<(), AllocError>
+    ensures { OnOk result (vec_items out.new ≡ vec_items out.old ++ condition_pieces anchor start.now) }
 {
     push_place_condition(out, anchor, start.nth)?;
     push_back_condition(out, anchor, start.nth_back)?;
     push_weekdays_condition(out, anchor, start.weekdays)
 }
 
-fn push_also_place(out: &mut String, place: Option<(u8, u8)>) -> Result<(), AllocError>
-    ensures { OnOk result (string_bytes out.new ≡ string_bytes out.old ++ also_place place) }
+fn push_also_place(out: &mut Vec<Piece>, place: Option<(u8, u8)>) -> Result<(), AllocError>
+    ensures { OnOk result (vec_items out.new ≡ vec_items out.old ++ also_place place) }
 {
     match place {
-        Some(place) => push_place_between(out, "if it is the ", place, "the month "),
+        Some(place) => say(out, Phrase::PlaceOf(Role::If, place.0, place.1)),
         None => Ok(()),
     }
 }
 
-fn push_place_between(
-    out: &mut String,
-    before: &str,
-    place: (u8, u8),
-    after: &str,
-) -> Result<(), AllocError>
-    ensures { OnOk result (string_bytes out.new ≡ string_bytes out.old ++ (before.now ++ place_words place ++ after.now)) }
-{
-    out.push_str(before)?;
-    push_place(out, place)?;
-    out.push_str(after)
-}
-
 fn push_place_condition(
-    out: &mut String,
+    out: &mut Vec<Piece>,
     anchor: Anchor,
     place: Option<(u8, u8)>,
 ) -> Result<(), AllocError>
-    ensures { OnOk result (string_bytes out.new ≡ string_bytes out.old ++ place_condition anchor place) }
+    ensures { OnOk result (vec_items out.new ≡ vec_items out.old ++ place_condition anchor place) }
 {
     match anchor {
         Anchor::Day(_) => push_also_place(out, place),
@@ -176,34 +196,21 @@ fn push_place_condition(
     }
 }
 
-fn push_back_between(
-    out: &mut String,
-    before: &str,
-    place: (u8, u8),
-    after: &str,
-) -> Result<(), AllocError>
-    ensures { OnOk result (string_bytes out.new ≡ string_bytes out.old ++ (before.now ++ back_words place ++ after.now)) }
-{
-    out.push_str(before)?;
-    push_place_back(out, place)?;
-    out.push_str(after)
-}
-
-fn push_also_back(out: &mut String, place: Option<(u8, u8)>) -> Result<(), AllocError>
-    ensures { OnOk result (string_bytes out.new ≡ string_bytes out.old ++ also_back place) }
+fn push_also_back(out: &mut Vec<Piece>, place: Option<(u8, u8)>) -> Result<(), AllocError>
+    ensures { OnOk result (vec_items out.new ≡ vec_items out.old ++ also_back place) }
 {
     match place {
-        Some(place) => push_back_between(out, "if it is also the ", place, "the month "),
+        Some(place) => say(out, Phrase::BackOf(Role::If, place.0, place.1)),
         None => Ok(()),
     }
 }
 
 fn push_back_condition(
-    out: &mut String,
+    out: &mut Vec<Piece>,
     anchor: Anchor,
     place: Option<(u8, u8)>,
 ) -> Result<(), AllocError>
-    ensures { OnOk result (string_bytes out.new ≡ string_bytes out.old ++ back_condition anchor place) }
+    ensures { OnOk result (vec_items out.new ≡ vec_items out.old ++ back_condition anchor place) }
 {
     match anchor {
         Anchor::Day(_) => push_also_back(out, place),
@@ -212,56 +219,50 @@ fn push_back_condition(
     }
 }
 
-fn push_weekdays_condition(out: &mut String, anchor: Anchor, weekdays: u8) -> Result<(), AllocError>
-    ensures { OnOk result (string_bytes out.new ≡ string_bytes out.old ++ weekdays_condition anchor weekdays) }
-{
-    if is_in_month(anchor) {
-        push_also_weekdays(out, weekdays)
-    } else {
-        Ok(())
-    }
-}
-
-fn push_also_weekdays(out: &mut String, weekdays: u8) -> Result<(), AllocError>
-    ensures { OnOk result (string_bytes out.new ≡ string_bytes out.old ++ also_weekdays weekdays) }
+fn push_also_weekdays(out: &mut Vec<Piece>, weekdays: u8) -> Result<(), AllocError>
+    ensures { OnOk result (vec_items out.new ≡ vec_items out.old ++ also_weekdays weekdays) }
 {
     if weekdays == 0 {
         return Ok(());
     }
-    push_weekdays_after(out, "if it falls on ", " or ", weekdays)
+    say(out, Phrase::DaysOf(Role::If, weekdays))
 }
 
-fn push_weekdays_after(
-    out: &mut String,
-    before: &str,
-    last: &'static str,
+fn push_weekdays_condition(
+    out: &mut Vec<Piece>,
+    anchor: Anchor,
     weekdays: u8,
 ) -> Result<(), AllocError>
-    ensures { OnOk result (string_bytes out.new ≡ string_bytes out.old
-        ++ (before.now ++ weekdays_words last.now weekdays ++ codes " ")) }
+    ensures { OnOk result (vec_items out.new ≡ vec_items out.old ++ weekdays_condition anchor weekdays) }
 {
-    out.push_str(before)?;
-    push_weekdays(out, last, weekdays)?;
-    out.push_str(" ")
+    match anchor {
+        Anchor::Day(_) => push_also_weekdays(out, weekdays),
+        Anchor::Place(_) => push_also_weekdays(out, weekdays),
+        Anchor::PlaceBack(_) => push_also_weekdays(out, weekdays),
+        _ => Ok(()),
+    }
 }
 
 fn push_clock(
-    out: &mut String,
+    out: &mut Vec<Piece>,
     hour: Option<u8>,
     minute: Option<u8>,
     second: Option<u8>,
 ) -> Result<(), AllocError>
-    requires hours { IfSome hour (λ n. n < 100) }
-    requires minutes { IfSome minute (λ n. n < 100) }
-    requires seconds { IfSome second (λ n. n < 100) }
-    ensures { OnOk result (string_bytes out.new ≡ string_bytes out.old ++ clock_words hour minute second) }
+    ensures { OnOk result (vec_items out.new ≡ vec_items out.old ++ clock_pieces hour minute second) }
 {
     match hour {
         Some(hour) => push_hour(out, hour, minute, second),
         None => match minute {
-            Some(minute) => push_minute(out, u32::from(minute), second),
+            Some(minute) => push_minute(out, minute, second),
             None => match second {
-                Some(second) => push_second(out, u32::from(second), None),
+                Some(second) => {
+                    count(
+                        out,
+                        Phrase::Numbered(Counted::FromSecond),
+                        u32::from(second),
+                    )
+                }
                 None => Ok(()),
             },
         },
@@ -269,107 +270,77 @@ fn push_clock(
 }
 
 fn push_hour(
-    out: &mut String,
+    out: &mut Vec<Piece>,
     hour: u8,
     minute: Option<u8>,
     second: Option<u8>,
 ) -> Result<(), AllocError>
-    requires hours { hour < 100 }
-    requires minutes { IfSome minute (λ n. n < 100) }
-    requires seconds { IfSome second (λ n. n < 100) }
-    ensures { OnOk result (string_bytes out.new ≡ string_bytes out.old ++ hour_words hour minute second) }
+    ensures { OnOk result (vec_items out.new ≡ vec_items out.old ++ hour_pieces hour minute second) }
 {
     match minute {
-        Some(minute) => push_time(out, hour, minute, second),
+        Some(minute) => {
+            push_time(out, hour, minute)?;
+            push_second(out, minute, second)
+        }
         None => match second {
-            Some(second) => push_second(out, u32::from(second), Some(hour)),
-            None => push_hour_alone(out, hour),
+            Some(second) => {
+                count(
+                    out,
+                    Phrase::Numbered(Counted::FromSecondOf),
+                    u32::from(second),
+                )?;
+                count(out, Phrase::Numbered(Counted::OfHour), u32::from(hour))
+            }
+            None => {
+                push_time(out, hour, 0)?;
+                say(out, Phrase::Said(Fixed::WholeMinute))
+            }
         },
     }
 }
 
-fn push_time(out: &mut String, hour: u8, minute: u8, second: Option<u8>) -> Result<(), AllocError>
-    requires hours { hour < 100 }
-    requires minutes { minute < 100 }
-    requires seconds { IfSome second (λ n. n < 100) }
-    ensures { OnOk result (string_bytes out.new ≡ string_bytes out.old ++ time_from hour minute second) }
+fn push_time(out: &mut Vec<Piece>, hour: u8, minute: u8) -> Result<(), AllocError>
+    ensures { OnOk result (vec_items out.new ≡ vec_items out.old ++ time_pieces hour minute) }
 {
-    out.push_str("from ")?;
-    push_two_digits(out, u32::from(hour))?;
-    out.push_str(":")?;
-    push_two_digits(out, u32::from(minute))?;
-    push_seconds(out, minute, second)?;
-    out.push_str(" ")
+    count(out, Phrase::Numbered(Counted::FromHour), u32::from(hour))?;
+    count(out, Phrase::Numbered(Counted::AtMinute), u32::from(minute))
 }
 
-fn push_hour_alone(out: &mut String, hour: u8) -> Result<(), AllocError>
-    requires { hour < 100 }
-    ensures { OnOk result (string_bytes out.new ≡ string_bytes out.old
-        ++ (codes "from " ++ two_digits hour ++ codes ":00 ")) }
+fn push_second(out: &mut Vec<Piece>, minute: u8, second: Option<u8>) -> Result<(), AllocError>
+    ensures { OnOk result (vec_items out.new ≡ vec_items out.old ++ second_pieces minute second) }
 {
-    out.push_str("from ")?;
-    push_two_digits(out, u32::from(hour))?;
-    out.push_str(":00 ")
+    match second {
+        Some(second) => count(out, Phrase::Numbered(Counted::AtSecond), u32::from(second)),
+        None => {
+            if minute == 0 {
+                say(out, Phrase::Said(Fixed::Sharp))
+            } else {
+                say(out, Phrase::Said(Fixed::WholeMinute))
+            }
+        }
+    }
 }
 
-fn push_seconds(out: &mut String, minute: u8, second: Option<u8>) -> Result<(), AllocError>
-    requires { IfSome second (λ n. n < 100) }
-    ensures { OnOk result (string_bytes out.new ≡ string_bytes out.old ++ seconds_words minute second) }
+fn push_minute(out: &mut Vec<Piece>, minute: u8, second: Option<u8>) -> Result<(), AllocError>
+    ensures { OnOk result (vec_items out.new ≡ vec_items out.old ++ minute_pieces minute second) }
 {
     match second {
         Some(second) => {
-            out.push_str(":")?;
-            push_two_digits(out, u32::from(second))
+            count(
+                out,
+                Phrase::Numbered(Counted::FromMinuteAnd),
+                u32::from(minute),
+            )?;
+            count(
+                out,
+                Phrase::Numbered(Counted::SecondOfEveryHour),
+                u32::from(second),
+            )
         }
-        None => out.push_str(if minute == 0 { " sharp" } else { "" }),
-    }
-}
-
-fn push_minute(out: &mut String, minute: u32, second: Option<u8>) -> Result<(), AllocError>
-    ensures { OnOk result (string_bytes out.new ≡ string_bytes out.old ++ minute_words minute second) }
-{
-    push_from_minute(out, minute)?;
-    push_of_hours(out, second)
-}
-
-fn push_from_minute(out: &mut String, minute: u32) -> Result<(), AllocError>
-    ensures { OnOk result (string_bytes out.new ≡ string_bytes out.old ++ from_minute minute) }
-{
-    push_number_after(out, "from minute ", minute)
-}
-
-fn push_of_hours(out: &mut String, second: Option<u8>) -> Result<(), AllocError>
-    ensures { OnOk result (string_bytes out.new ≡ string_bytes out.old ++ of_hours second) }
-{
-    match second {
-        Some(second) => push_number_between(
+        None => count(
             out,
-            " and second ",
-            u32::from(second),
-            " of every hour ",
+            Phrase::Numbered(Counted::FromMinute),
+            u32::from(minute),
         ),
-        None => out.push_str(" of every hour "),
-    }
-}
-
-fn push_second(out: &mut String, second: u32, hour: Option<u8>) -> Result<(), AllocError>
-    ensures { OnOk result (string_bytes out.new ≡ string_bytes out.old ++ second_words second hour) }
-{
-    push_second_of_minutes(out, second)?;
-    push_of_hour(out, hour)
-}
-
-fn push_second_of_minutes(out: &mut String, second: u32) -> Result<(), AllocError>
-    ensures { OnOk result (string_bytes out.new ≡ string_bytes out.old ++ second_of_minutes second) }
-{
-    push_number_between(out, "from second ", second, " of every minute ")
-}
-
-fn push_of_hour(out: &mut String, hour: Option<u8>) -> Result<(), AllocError>
-    ensures { OnOk result (string_bytes out.new ≡ string_bytes out.old ++ of_hour hour) }
-{
-    match hour {
-        Some(hour) => push_number_between(out, "of hour ", u32::from(hour), " "),
-        None => out.push_str("of every hour "),
     }
 }

@@ -1,0 +1,254 @@
+-- The words of English.
+use Rattle.std.specs.Prelude.{ℕ, Bool, true, false, List, [], ◌∷◌, codes}
+use Rattle.gtd_languages.specs.declared.word.Role.{Role}
+use Rattle.gtd_languages.specs.declared.word.Role.TheVariants.{On, From, If}
+use Rattle.gtd_languages.specs.declared.word.Form.{Form}
+use Rattle.gtd_languages.specs.declared.word.Form.TheVariants.{Zero, One, EndsInOne, EndsInTwo, EndsInThree, Other}
+use Rattle.gtd_languages.specs.declared.word.Unit.{Unit}
+use Rattle.gtd_languages.specs.declared.word.Unit.TheVariants.{Years, Months, Weeks, Days, Hours, Minutes, Seconds}
+use Rattle.gtd_languages.specs.declared.word.Fixed.{Fixed}
+use Rattle.gtd_languages.specs.declared.word.Fixed.TheVariants.{EachDay, FromBeginning, OfEachMonth, EveryYear}
+use Rattle.gtd_languages.specs.declared.word.Fixed.TheVariants.{WholeMinute, Sharp, AllDay, NextDay, Included}
+use Rattle.gtd_languages.specs.declared.word.Counted.{Counted}
+use Rattle.gtd_languages.specs.declared.word.Counted.TheVariants.{InWeek, YearAlone, OfYear, FromHour, FromMinute}
+use Rattle.gtd_languages.specs.declared.word.Counted.TheVariants.{FromMinuteAnd, SecondOfEveryHour, FromSecond}
+use Rattle.gtd_languages.specs.declared.word.Counted.TheVariants.{FromSecondOf, OfHour, AtMinute, AtSecond, EndHour}
+use Rattle.gtd_languages.specs.declared.word.Counted.TheVariants.{EndMinute, EndSecond, DaysLater}
+use Rattle.gtd_languages.specs.declared.word.Word.{Word}
+use Rattle.gtd_languages.specs.declared.word.Word.TheVariants.{OfEach, For, And, Comma, UntilTime, UntilDay, UntilThe}
+use Rattle.gtd_languages.specs.declared.word.Word.TheVariants.{UntilTheEnd, Or, OnlyIn, ExceptIn}
+use Rattle.gtd_languages.specs.Names.{name_from}
+
+abbrev pub english_weekdays : List (List ℕ)
+english_weekdays =
+    codes "Sunday" ∷ codes "Monday" ∷ codes "Tuesday" ∷ codes "Wednesday" ∷ codes "Thursday" ∷ codes "Friday"
+    ∷ codes "Saturday" ∷ []
+
+-- The name of a weekday.
+unfoldable pub english_weekday : ℕ → List ℕ
+english_weekday n = name_from 1 english_weekdays n
+
+abbrev pub english_months : List (List ℕ)
+english_months =
+    codes "January" ∷ codes "February" ∷ codes "March" ∷ codes "April" ∷ codes "May" ∷ codes "June" ∷ codes "July"
+    ∷ codes "August" ∷ codes "September" ∷ codes "October" ∷ codes "November" ∷ codes "December" ∷ []
+
+-- The name of a month.
+unfoldable pub english_month : ℕ → List ℕ
+english_month n = name_from 1 english_months n
+
+abbrev pub english_of_months : List (List ℕ)
+english_of_months =
+    codes "of January " ∷ codes "of February " ∷ codes "of March " ∷ codes "of April " ∷ codes "of May "
+    ∷ codes "of June " ∷ codes "of July " ∷ codes "of August " ∷ codes "of September " ∷ codes "of October "
+    ∷ codes "of November " ∷ codes "of December " ∷ []
+
+-- A month, after a day that is not of the month.
+unfoldable pub english_of_month : ℕ → List ℕ
+english_of_month n = name_from 1 english_of_months n
+
+abbrev pub english_beginnings : List (List ℕ)
+english_beginnings =
+    codes "from the beginning of January " ∷ codes "from the beginning of February "
+    ∷ codes "from the beginning of March " ∷ codes "from the beginning of April " ∷ codes "from the beginning of May "
+    ∷ codes "from the beginning of June " ∷ codes "from the beginning of July "
+    ∷ codes "from the beginning of August " ∷ codes "from the beginning of September "
+    ∷ codes "from the beginning of October " ∷ codes "from the beginning of November "
+    ∷ codes "from the beginning of December " ∷ []
+
+-- The beginning of a month.
+unfoldable pub english_beginning : ℕ → List ℕ
+english_beginning n = name_from 1 english_beginnings n
+
+-- The name of a weekday in a list.
+unfoldable pub english_day : Role → ℕ → List ℕ
+english_day On n = english_weekday n
+english_day From n = english_weekday n
+english_day If n = english_weekday n
+
+-- What comes before a list of weekdays.
+unfoldable pub english_list_lead : Role → List ℕ
+english_list_lead On = codes "every "
+english_list_lead From = codes "from every "
+english_list_lead If = codes "if it falls on "
+
+-- What comes before neighbouring weekdays.
+unfoldable pub english_run_lead : Role → List ℕ
+english_run_lead On = codes "every "
+english_run_lead From = codes "from every "
+english_run_lead If = codes "if it falls on "
+
+-- What comes before the last weekday of a list.
+unfoldable pub english_list_last : Role → List ℕ
+english_list_last On = codes " and "
+english_list_last From = codes " and "
+english_list_last If = codes " or "
+
+-- What comes before the last of neighbouring weekdays.
+unfoldable pub english_run_to : Role → List ℕ
+english_run_to On = codes " to "
+english_run_to From = codes " to "
+english_run_to If = codes " to "
+
+-- What comes after weekdays.
+unfoldable pub english_list_end : Role → List ℕ
+english_list_end On = codes " "
+english_list_end From = codes " "
+english_list_end If = codes " "
+
+-- A place of a weekday from the beginning of the month.
+unfoldable pub english_place_lead : Role → ℕ → List ℕ
+english_place_lead On n = name_from 1
+    (codes "on the first " ∷ codes "on the second " ∷ codes "on the third " ∷ codes "on the fourth "
+    ∷ codes "on the fifth " ∷ []) n
+english_place_lead From n = name_from 1
+    (codes "from the first " ∷ codes "from the second " ∷ codes "from the third " ∷ codes "from the fourth "
+    ∷ codes "from the fifth " ∷ []) n
+english_place_lead If n = name_from 1
+    (codes "if it is the first " ∷ codes "if it is the second " ∷ codes "if it is the third "
+    ∷ codes "if it is the fourth " ∷ codes "if it is the fifth " ∷ []) n
+
+-- What comes after that weekday.
+unfoldable pub english_place_end : Role → List ℕ
+english_place_end On = codes " "
+english_place_end From = codes " "
+english_place_end If = codes " of the month "
+
+-- A place of a weekday from the end of the month.
+unfoldable pub english_back_lead : Role → ℕ → List ℕ
+english_back_lead On n = codes "on the last "
+english_back_lead From n = codes "from the last "
+english_back_lead If n = codes "if it is also the last "
+
+-- What comes after that weekday.
+unfoldable pub english_back_end : Role → ℕ → List ℕ
+english_back_end On n = name_from 1
+    (codes " " ∷ codes " but one " ∷ codes " but two " ∷ codes " but three " ∷ codes " but four " ∷ []) n
+english_back_end From n = name_from 1
+    (codes " " ∷ codes " but one " ∷ codes " but two " ∷ codes " but three " ∷ codes " but four " ∷ []) n
+english_back_end If n = name_from 1
+    (codes " of the month " ∷ codes " but one of the month " ∷ codes " but two of the month "
+    ∷ codes " but three of the month " ∷ codes " but four of the month " ∷ []) n
+
+-- What comes before a day of a month.
+unfoldable pub english_date_lead : Bool → List ℕ
+english_date_lead true = codes "on "
+english_date_lead false = codes "from "
+
+-- What comes before a day of each month.
+unfoldable pub english_each_lead : Bool → List ℕ
+english_each_lead true = codes "on the "
+english_each_lead false = codes "from the "
+
+-- The Monday of a week.
+unfoldable pub english_monday : Bool → List ℕ
+english_monday true = codes "on the Monday "
+english_monday false = codes "from the Monday "
+
+-- What makes the number of a day of each month an ordinal number.
+unfoldable pub english_ordinal : Form → List ℕ
+english_ordinal Zero = codes "th"
+english_ordinal One = codes "st"
+english_ordinal EndsInOne = codes "st"
+english_ordinal EndsInTwo = codes "nd"
+english_ordinal EndsInThree = codes "rd"
+english_ordinal Other = codes "th"
+
+-- The same for a day of a month.
+unfoldable pub english_date_ending : Form → List ℕ
+english_date_ending Zero = []
+english_date_ending One = []
+english_date_ending EndsInOne = []
+english_date_ending EndsInTwo = []
+english_date_ending EndsInThree = []
+english_date_ending Other = []
+
+-- Words without a number or a name.
+unfoldable pub english_fixed : Fixed → List ℕ
+english_fixed EachDay = codes "each day "
+english_fixed FromBeginning = codes "from the beginning "
+english_fixed OfEachMonth = codes "of every month "
+english_fixed EveryYear = codes "every year "
+english_fixed WholeMinute = codes " "
+english_fixed Sharp = codes " sharp "
+english_fixed AllDay = codes "all day"
+english_fixed NextDay = codes " the next day"
+english_fixed Included = codes " (included)"
+
+-- What comes before a number.
+unfoldable pub english_lead : Counted → List ℕ
+english_lead InWeek = codes "in week "
+english_lead YearAlone = []
+english_lead OfYear = codes "of the year "
+english_lead FromHour = codes "from "
+english_lead FromMinute = codes "from minute "
+english_lead FromMinuteAnd = codes "from minute "
+english_lead SecondOfEveryHour = []
+english_lead FromSecond = codes "from second "
+english_lead FromSecondOf = codes "from second "
+english_lead OfHour = []
+english_lead AtMinute = []
+english_lead AtSecond = codes ":"
+english_lead EndHour = codes " "
+english_lead EndMinute = []
+english_lead EndSecond = codes ":"
+english_lead DaysLater = codes ", "
+
+-- What comes after a number.
+unfoldable pub english_end : Counted → List ℕ
+english_end InWeek = codes " "
+english_end YearAlone = codes " "
+english_end OfYear = codes " "
+english_end FromHour = codes ":"
+english_end FromMinute = codes " of every hour "
+english_end FromMinuteAnd = codes " and second "
+english_end SecondOfEveryHour = codes " of every hour "
+english_end FromSecond = codes " of every minute of every hour "
+english_end FromSecondOf = codes " of every minute of hour "
+english_end OfHour = codes " "
+english_end AtMinute = []
+english_end AtSecond = codes " "
+english_end EndHour = codes ":"
+english_end EndMinute = []
+english_end EndSecond = []
+english_end DaysLater = codes " days later"
+
+-- Other words.
+unfoldable pub english_word : Word → List ℕ
+english_word OfEach = codes " of every month "
+english_word For = codes "for "
+english_word And = codes " and "
+english_word Comma = codes ", "
+english_word UntilTime = codes "until "
+english_word UntilDay = codes "until "
+english_word UntilThe = codes "until "
+english_word UntilTheEnd = codes "until the end of February"
+english_word Or = codes "or:"
+english_word OnlyIn = codes "and all this only in:"
+english_word ExceptIn = codes "and all this except in:"
+
+-- A unit of time, of one.
+unfoldable pub english_one : Unit → List ℕ
+english_one Years = codes "year"
+english_one Months = codes "month"
+english_one Weeks = codes "week"
+english_one Days = codes "day"
+english_one Hours = codes "hour"
+english_one Minutes = codes "minute"
+english_one Seconds = codes "second"
+
+-- A unit of time, of several.
+unfoldable pub english_several : Unit → List ℕ
+english_several Years = codes "years"
+english_several Months = codes "months"
+english_several Weeks = codes "weeks"
+english_several Days = codes "days"
+english_several Hours = codes "hours"
+english_several Minutes = codes "minutes"
+english_several Seconds = codes "seconds"
+
+-- A unit of time after a number.
+unfoldable pub english_unit : Unit → Form → List ℕ
+english_unit unit One = english_one unit
+english_unit unit Zero = english_several unit
+english_unit unit form = english_several unit

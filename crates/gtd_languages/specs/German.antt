@@ -1,0 +1,256 @@
+-- The words of German.
+use Rattle.std.specs.Prelude.{ℕ, Bool, true, false, List, [], ◌∷◌, codes}
+use Rattle.gtd_languages.specs.declared.word.Role.{Role}
+use Rattle.gtd_languages.specs.declared.word.Role.TheVariants.{On, From, If}
+use Rattle.gtd_languages.specs.declared.word.Form.{Form}
+use Rattle.gtd_languages.specs.declared.word.Form.TheVariants.{Zero, One, EndsInOne, EndsInTwo, EndsInThree, Other}
+use Rattle.gtd_languages.specs.declared.word.Unit.{Unit}
+use Rattle.gtd_languages.specs.declared.word.Unit.TheVariants.{Years, Months, Weeks, Days, Hours, Minutes, Seconds}
+use Rattle.gtd_languages.specs.declared.word.Fixed.{Fixed}
+use Rattle.gtd_languages.specs.declared.word.Fixed.TheVariants.{EachDay, FromBeginning, OfEachMonth, EveryYear}
+use Rattle.gtd_languages.specs.declared.word.Fixed.TheVariants.{WholeMinute, Sharp, AllDay, NextDay, Included}
+use Rattle.gtd_languages.specs.declared.word.Counted.{Counted}
+use Rattle.gtd_languages.specs.declared.word.Counted.TheVariants.{InWeek, YearAlone, OfYear, FromHour, FromMinute}
+use Rattle.gtd_languages.specs.declared.word.Counted.TheVariants.{FromMinuteAnd, SecondOfEveryHour, FromSecond}
+use Rattle.gtd_languages.specs.declared.word.Counted.TheVariants.{FromSecondOf, OfHour, AtMinute, AtSecond, EndHour}
+use Rattle.gtd_languages.specs.declared.word.Counted.TheVariants.{EndMinute, EndSecond, DaysLater}
+use Rattle.gtd_languages.specs.declared.word.Word.{Word}
+use Rattle.gtd_languages.specs.declared.word.Word.TheVariants.{OfEach, For, And, Comma, UntilTime, UntilDay, UntilThe}
+use Rattle.gtd_languages.specs.declared.word.Word.TheVariants.{UntilTheEnd, Or, OnlyIn, ExceptIn}
+use Rattle.gtd_languages.specs.Names.{name_from, utf8}
+
+abbrev pub german_weekdays : List (List ℕ)
+german_weekdays =
+    codes "Sonntag" ∷ codes "Montag" ∷ codes "Dienstag" ∷ codes "Mittwoch" ∷ codes "Donnerstag" ∷ codes "Freitag"
+    ∷ codes "Samstag" ∷ []
+
+-- The name of a weekday.
+unfoldable pub german_weekday : ℕ → List ℕ
+german_weekday n = name_from 1 german_weekdays n
+
+abbrev pub german_months : List (List ℕ)
+german_months =
+    codes "Januar" ∷ codes "Februar" ∷ utf8 (codes "März") ∷ codes "April" ∷ codes "Mai" ∷ codes "Juni" ∷ codes "Juli"
+    ∷ codes "August" ∷ codes "September" ∷ codes "Oktober" ∷ codes "November" ∷ codes "Dezember" ∷ []
+
+-- The name of a month.
+unfoldable pub german_month : ℕ → List ℕ
+german_month n = name_from 1 german_months n
+
+abbrev pub german_of_months : List (List ℕ)
+german_of_months =
+    codes "im Januar " ∷ codes "im Februar " ∷ utf8 (codes "im März ") ∷ codes "im April " ∷ codes "im Mai "
+    ∷ codes "im Juni " ∷ codes "im Juli " ∷ codes "im August " ∷ codes "im September " ∷ codes "im Oktober "
+    ∷ codes "im November " ∷ codes "im Dezember " ∷ []
+
+-- A month, after a day that is not of the month.
+unfoldable pub german_of_month : ℕ → List ℕ
+german_of_month n = name_from 1 german_of_months n
+
+abbrev pub german_beginnings : List (List ℕ)
+german_beginnings =
+    codes "von Anfang Januar " ∷ codes "von Anfang Februar " ∷ utf8 (codes "von Anfang März ")
+    ∷ codes "von Anfang April " ∷ codes "von Anfang Mai " ∷ codes "von Anfang Juni " ∷ codes "von Anfang Juli "
+    ∷ codes "von Anfang August " ∷ codes "von Anfang September " ∷ codes "von Anfang Oktober "
+    ∷ codes "von Anfang November " ∷ codes "von Anfang Dezember " ∷ []
+
+-- The beginning of a month.
+unfoldable pub german_beginning : ℕ → List ℕ
+german_beginning n = name_from 1 german_beginnings n
+
+-- The name of a weekday in a list.
+unfoldable pub german_day : Role → ℕ → List ℕ
+german_day On n = name_from 1
+    (codes "sonntags" ∷ codes "montags" ∷ codes "dienstags" ∷ codes "mittwochs" ∷ codes "donnerstags"
+    ∷ codes "freitags" ∷ codes "samstags" ∷ []) n
+german_day From n = german_weekday n
+german_day If n = german_weekday n
+
+-- What comes before a list of weekdays.
+unfoldable pub german_list_lead : Role → List ℕ
+german_list_lead On = []
+german_list_lead From = codes "von jedem "
+german_list_lead If = codes "(wenn er auf "
+
+-- What comes before neighbouring weekdays.
+unfoldable pub german_run_lead : Role → List ℕ
+german_run_lead On = []
+german_run_lead From = codes "von jedem Tag von "
+german_run_lead If = codes "(wenn er auf "
+
+-- What comes before the last weekday of a list.
+unfoldable pub german_list_last : Role → List ℕ
+german_list_last On = codes " und "
+german_list_last From = codes " und "
+german_list_last If = codes " oder "
+
+-- What comes before the last of neighbouring weekdays.
+unfoldable pub german_run_to : Role → List ℕ
+german_run_to On = codes " bis "
+german_run_to From = codes " bis "
+german_run_to If = codes " bis "
+
+-- What comes after weekdays.
+unfoldable pub german_list_end : Role → List ℕ
+german_list_end On = codes " "
+german_list_end From = codes " "
+german_list_end If = utf8 (codes " fällt) ")
+
+-- A place of a weekday from the beginning of the month.
+unfoldable pub german_place_lead : Role → ℕ → List ℕ
+german_place_lead On n = name_from 1
+    (codes "am ersten " ∷ codes "am zweiten " ∷ codes "am dritten " ∷ codes "am vierten " ∷ utf8 (codes "am fünften ")
+    ∷ []) n
+german_place_lead From n = name_from 1
+    (codes "vom ersten " ∷ codes "vom zweiten " ∷ codes "vom dritten " ∷ codes "vom vierten "
+    ∷ utf8 (codes "vom fünften ") ∷ []) n
+german_place_lead If n = name_from 1
+    (codes "(wenn es der erste " ∷ codes "(wenn es der zweite " ∷ codes "(wenn es der dritte "
+    ∷ codes "(wenn es der vierte " ∷ utf8 (codes "(wenn es der fünfte ") ∷ []) n
+
+-- What comes after that weekday.
+unfoldable pub german_place_end : Role → List ℕ
+german_place_end On = codes " "
+german_place_end From = codes " "
+german_place_end If = codes " im Monat ist) "
+
+-- A place of a weekday from the end of the month.
+unfoldable pub german_back_lead : Role → ℕ → List ℕ
+german_back_lead On n = name_from 1
+    (codes "am letzten " ∷ codes "am vorletzten " ∷ codes "am drittletzten " ∷ codes "am viertletzten "
+    ∷ utf8 (codes "am fünftletzten ") ∷ []) n
+german_back_lead From n = name_from 1
+    (codes "vom letzten " ∷ codes "vom vorletzten " ∷ codes "vom drittletzten " ∷ codes "vom viertletzten "
+    ∷ utf8 (codes "vom fünftletzten ") ∷ []) n
+german_back_lead If n = name_from 1
+    (codes "(wenn es auch der letzte " ∷ codes "(wenn es auch der vorletzte " ∷ codes "(wenn es auch der drittletzte "
+    ∷ codes "(wenn es auch der viertletzte " ∷ utf8 (codes "(wenn es auch der fünftletzte ") ∷ []) n
+
+-- What comes after that weekday.
+unfoldable pub german_back_end : Role → ℕ → List ℕ
+german_back_end On n = codes " "
+german_back_end From n = codes " "
+german_back_end If n = codes " im Monat ist) "
+
+-- What comes before a day of a month.
+unfoldable pub german_date_lead : Bool → List ℕ
+german_date_lead true = codes "am "
+german_date_lead false = codes "vom "
+
+-- What comes before a day of each month.
+unfoldable pub german_each_lead : Bool → List ℕ
+german_each_lead true = codes "am "
+german_each_lead false = codes "vom "
+
+-- The Monday of a week.
+unfoldable pub german_monday : Bool → List ℕ
+german_monday true = codes "am Montag "
+german_monday false = codes "vom Montag "
+
+-- What makes the number of a day of each month an ordinal number.
+unfoldable pub german_ordinal : Form → List ℕ
+german_ordinal Zero = codes "."
+german_ordinal One = codes "."
+german_ordinal EndsInOne = codes "."
+german_ordinal EndsInTwo = codes "."
+german_ordinal EndsInThree = codes "."
+german_ordinal Other = codes "."
+
+-- The same for a day of a month.
+unfoldable pub german_date_ending : Form → List ℕ
+german_date_ending Zero = codes "."
+german_date_ending One = codes "."
+german_date_ending EndsInOne = codes "."
+german_date_ending EndsInTwo = codes "."
+german_date_ending EndsInThree = codes "."
+german_date_ending Other = codes "."
+
+-- Words without a number or a name.
+unfoldable pub german_fixed : Fixed → List ℕ
+german_fixed EachDay = utf8 (codes "täglich ")
+german_fixed FromBeginning = codes "von Jahresbeginn "
+german_fixed OfEachMonth = codes "jedes Monats "
+german_fixed EveryYear = codes "jedes Jahres "
+german_fixed WholeMinute = codes " "
+german_fixed Sharp = codes " genau "
+german_fixed AllDay = utf8 (codes "ganztägig")
+german_fixed NextDay = codes " des Folgetags"
+german_fixed Included = utf8 (codes " (einschließlich)")
+
+-- What comes before a number.
+unfoldable pub german_lead : Counted → List ℕ
+german_lead InWeek = codes "in Woche "
+german_lead YearAlone = []
+german_lead OfYear = codes "im Jahr "
+german_lead FromHour = codes "von "
+german_lead FromMinute = codes "von Minute "
+german_lead FromMinuteAnd = codes "von Minute "
+german_lead SecondOfEveryHour = []
+german_lead FromSecond = codes "von Sekunde "
+german_lead FromSecondOf = codes "von Sekunde "
+german_lead OfHour = []
+german_lead AtMinute = []
+german_lead AtSecond = codes ":"
+german_lead EndHour = codes " "
+german_lead EndMinute = []
+german_lead EndSecond = codes ":"
+german_lead DaysLater = codes ", "
+
+-- What comes after a number.
+unfoldable pub german_end : Counted → List ℕ
+german_end InWeek = codes " "
+german_end YearAlone = codes " "
+german_end OfYear = codes " "
+german_end FromHour = codes ":"
+german_end FromMinute = codes " jeder Stunde "
+german_end FromMinuteAnd = codes " und Sekunde "
+german_end SecondOfEveryHour = codes " jeder Stunde "
+german_end FromSecond = codes " jeder Minute jeder Stunde "
+german_end FromSecondOf = codes " jeder Minute der Stunde "
+german_end OfHour = codes " "
+german_end AtMinute = []
+german_end AtSecond = codes " "
+german_end EndHour = codes ":"
+german_end EndMinute = []
+german_end EndSecond = []
+german_end DaysLater = utf8 (codes " Tage später")
+
+-- Other words.
+unfoldable pub german_word : Word → List ℕ
+german_word OfEach = codes " jedes Monats "
+german_word For = utf8 (codes "an für ")
+german_word And = codes " und "
+german_word Comma = codes ", "
+german_word UntilTime = codes "bis "
+german_word UntilDay = codes "bis "
+german_word UntilThe = codes "bis "
+german_word UntilTheEnd = codes "bis Ende Februar"
+german_word Or = codes "oder:"
+german_word OnlyIn = codes "und all dies nur:"
+german_word ExceptIn = utf8 (codes "und all dies außer:")
+
+-- A unit of time, of one.
+unfoldable pub german_one : Unit → List ℕ
+german_one Years = codes "Jahr"
+german_one Months = codes "Monat"
+german_one Weeks = codes "Woche"
+german_one Days = codes "Tag"
+german_one Hours = codes "Stunde"
+german_one Minutes = codes "Minute"
+german_one Seconds = codes "Sekunde"
+
+-- A unit of time, of several.
+unfoldable pub german_several : Unit → List ℕ
+german_several Years = codes "Jahre"
+german_several Months = codes "Monate"
+german_several Weeks = codes "Wochen"
+german_several Days = codes "Tage"
+german_several Hours = codes "Stunden"
+german_several Minutes = codes "Minuten"
+german_several Seconds = codes "Sekunden"
+
+-- A unit of time after a number.
+unfoldable pub german_unit : Unit → Form → List ℕ
+german_unit unit One = german_one unit
+german_unit unit Zero = german_several unit
+german_unit unit form = german_several unit

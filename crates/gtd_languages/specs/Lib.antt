@@ -1,0 +1,5 @@
+pub mod English
+pub mod Forms
+pub mod French
+pub mod German
+pub mod Names

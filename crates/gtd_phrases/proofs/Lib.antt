@@ -1,0 +1,11 @@
+pub mod Numbers
+pub mod Skeletons
+pub mod Tables
+pub mod Reading
+pub mod Beginnings
+pub mod Closers
+pub mod Marks
+pub mod EnglishWords
+pub mod FrenchWords
+pub mod GermanWords
+pub mod AllTables

@@ -1,0 +1,5 @@
+pub mod Grammar
+pub mod Pieces
+pub mod Ranges
+pub mod Runs
+pub mod Tables
