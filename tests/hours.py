@@ -3,8 +3,10 @@
 
 For each row of tests/hours/texts.csv, the hours and the time domain beside them are open in the same minutes of four years: the
 hours by the model of hours, the domain by the plain model of domains, tests/model.py. For each row of tests/hours/faults.csv,
-the text has that fault. Then, for SECONDS, random texts of the grammar: they are read, what is printed of them is read again and
-means the same, and a damaged text has its fault where the words before it can still become hours, and with the next one cannot.
+the text has that fault. For each row of tests/hours/loose.csv, by the model of tests/loose_model.py, the text has that mended
+text and these warnings, or that fault. Then, for SECONDS, random texts of the grammar: they are read, what is printed of them is
+read again and means the same, a damaged text has its fault where the words before it can still become hours, and with the next
+one cannot, and a text whose tokens are written loosely means the same, with a warning at each of them.
 
 Usage: tests/hours.py [SECONDS [SEED]]    (without SECONDS no random texts; the same seed makes the same texts)
 """
@@ -18,6 +20,7 @@ import time
 from functools import lru_cache
 
 import hours_model
+import loose_model
 import model
 
 TOP = os.path.dirname(os.path.abspath(__file__))
@@ -26,7 +29,7 @@ DAYS = (datetime.date(2027, 1, 1) - FIRST).days
 BASE = (FIRST - hours_model.EPOCH).days
 RANDOM_DAYS = 200
 SAMPLES = 12
-FEWEST_TEXTS, FEWEST_FAULTS, MOST_BASIC_DOMAINS = 100, 40, 128
+FEWEST_TEXTS, FEWEST_FAULTS, FEWEST_LOOSE, MOST_BASIC_DOMAINS = 100, 40, 60, 128
 ENDINGS = ["", "off", "Mo", "-10:00", "10:00", "/7", "7", "]", "1]", "5]", "1", "31", "53", "Jan", "Dec 31", "2799"]
 ENDINGS += ["2799 Dec 31"]
 DATED_RANGE = re.compile(r"[0-9]{4} *[A-Z][a-z]{2} *[0-9]+ *- *[0-9]{4}")
@@ -122,6 +125,22 @@ def check_fault(row):
     expect(found == (row["kind"], int(row["place"])), f"{row['text']!r}: {found}, and not {row['kind']} at {row['place']}")
 
 
+def shown(warnings):
+    return "; ".join(f"{kind} at {place}" + (f": {form}" if form else "") for kind, place, form in warnings)
+
+
+def check_loose(row):
+    """The mended text and the warnings of a row, or its fault. Mended again it is the same, without a warning."""
+    try:
+        rules, warnings = loose_model.read(row["text"].encode(), row["names"] == "de")
+        found = (hours_model.print_rules(rules), shown(warnings), "")
+        again = loose_model.read(found[0].encode())
+        expect((hours_model.print_rules(again[0]), again[1]) == (found[0], []), f"{found[0]}: mended again")
+    except hours_model.Fault as fault:
+        found = ("", "", str(fault))
+    expect(found == (row["mended"], row["warnings"], row["fault"]), f"{row['text']!r}: {found}")
+
+
 class Maker(random.Random):
     """Makes random texts of the grammar, near each other in time."""
 
@@ -185,6 +204,31 @@ class Maker(random.Random):
             text += ("; " if rule[0].isdigit() else self.choice(["; ", ", ", " ;", " , "])) + rule
         return text
 
+    def loose_time(self, time):
+        hour, minute = int(time[:2]), time[3:]
+        forms = [f"{hour}:{minute}", f"{time[:2]}.{minute}", f"{hour}H{minute}", f"{time} uhr"]
+        if hour % 12 > 0 and hour < 24:
+            forms.append(f"{hour % 12}{self.choice(':.')}{minute}{' ' * self.randrange(2)}{'aP'[hour > 12]}m")
+        return self.choice(forms)
+
+    def loose_word(self, word):
+        names = [name for name, form in loose_model.NAMES.items() if form == word]
+        written = self.choice(names or [word])
+        return self.choice([written.upper(), written.title(), written]) + "." * (bool(names) and self.randrange(2))
+
+    def loosened(self, text):
+        """A text with some tokens written loosely, and the warnings of them."""
+        written, warnings = "", []
+        for token in hours_model.tokens(text.encode()):
+            form = token.text
+            if self.random() < 0.5:
+                loose = {"time": self.loose_time, "-": lambda _: self.choice("\u2010\u2013\u2014\u2212")}
+                form = loose.get(token.kind, self.loose_word if token.text.isalpha() else lambda text: text)(token.text)
+            if form != token.text:
+                warnings.append(("Loose", len(written.encode()), token.text))
+            written += form + " "
+        return written, warnings
+
     def damaged(self, text):
         """The tokens of a text, some of them removed, doubled, or changed for others."""
         found = [token.text for token in hours_model.tokens(text.encode())]
@@ -221,6 +265,9 @@ def check_random(maker):
     check_printed(text, hours_model.read(text.encode()), first, RANDOM_DAYS)
     for _ in range(4):
         check_damaged(maker.damaged(text))
+        written, warnings = maker.loosened(text)
+        rules, found = loose_model.read(written.encode())
+        expect(rules == hours_model.read(text.encode()) and found == warnings, f"{text}: {written}: {shown(found)}")
 
 
 def main():
@@ -229,8 +276,9 @@ def main():
     seconds = float(sys.argv[1]) if len(sys.argv) > 1 else 0
     seed = int(sys.argv[2]) if len(sys.argv) == 3 else random.SystemRandom().randrange(10**9)
     maker = Maker(seed)
-    texts, faults = rows_of("texts.csv"), rows_of("faults.csv")
+    texts, faults, loose = rows_of("texts.csv"), rows_of("faults.csv"), rows_of("loose.csv")
     checks = [lambda row=row: check_text(row, maker) for row in texts] + [lambda row=row: check_fault(row) for row in faults]
+    checks += [lambda row=row: check_loose(row) for row in loose]
     failed = 0
     for check in checks:
         try:
@@ -238,8 +286,8 @@ def main():
         except (Failure, hours_model.Fault, model.Fault) as failure:
             print(f"FAILED {failure}")
             failed += 1
-    if len(texts) < FEWEST_TEXTS or len(faults) < FEWEST_FAULTS:
-        print(f"FAILED {len(texts)} texts and {len(faults)} faults are too few")
+    if len(texts) < FEWEST_TEXTS or len(faults) < FEWEST_FAULTS or len(loose) < FEWEST_LOOSE:
+        print(f"FAILED {len(texts)} texts, {len(faults)} faults and {len(loose)} loose texts are too few")
         failed += 1
     end, rounds = time.monotonic() + seconds, 0
     while time.monotonic() < end and not failed:
@@ -249,7 +297,7 @@ def main():
         except (Failure, hours_model.Fault) as failure:
             print(f"FAILED with seed {seed}, in round {rounds + 1}: {failure}")
             failed += 1
-    print(f"{len(texts)} texts, {len(faults)} faults and {rounds} random texts (seed {seed})")
+    print(f"{len(texts)} texts, {len(faults)} faults, {len(loose)} loose texts and {rounds} random texts (seed {seed})")
     print(f"hours: {max(0, len(checks) + rounds - failed)} passed, {failed} failed")
     sys.exit(1 if failed else 0)
 

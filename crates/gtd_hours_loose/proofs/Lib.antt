@@ -1,0 +1,4 @@
+pub mod RunLemmas
+pub mod LexingLemmas
+pub mod MendingLemmas
+pub mod ReadingLemmas

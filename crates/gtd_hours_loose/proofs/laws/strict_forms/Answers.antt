@@ -1,0 +1,8 @@
+use Rattle.gtd_hours_loose.proofs.ReadingLemmas.{mended_law, strict_law}
+use Rattle.gtd_hours_loose.proofs.laws.strict_forms.Goals as goal
+
+pub returns-clause-strict : goal.returns-clause-strict
+returns-clause-strict c = strict_law
+
+pub returns-clause-mended : goal.returns-clause-mended
+returns-clause-mended c = mended_law

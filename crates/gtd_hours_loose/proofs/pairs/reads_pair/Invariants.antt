@@ -1,0 +1,9 @@
+use Rattle.std.proofs.Common.{◌≡◌, length, false}
+use Rattle.gtd_hours_loose.specs.Pairs.{reads_pair}
+use Rattle.gtd_hours_loose.proofs.pairs.reads_pair.Given as goal
+
+abbrev pub invariant-loop-token : goal.invariant-loop-token
+invariant-loop-token l = reads_pair l.days l.rest ≡ reads_pair false l.tokens
+
+abbrev pub decreases-loop-token : goal.decreases-loop-token
+decreases-loop-token l = length l.rest

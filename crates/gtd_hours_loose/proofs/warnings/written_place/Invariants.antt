@@ -1,0 +1,9 @@
+use Rattle.std.proofs.Common.{◌≡◌, length}
+use Rattle.gtd_hours_loose.specs.Mending.{written_place}
+use Rattle.gtd_hours_loose.proofs.warnings.written_place.Given as goal
+
+abbrev pub invariant-loop-part : goal.invariant-loop-part
+invariant-loop-part l = written_place l.place l.end l.rest ≡ written_place l.place l.end l.parts
+
+abbrev pub decreases-loop-part : goal.decreases-loop-part
+decreases-loop-part l = length l.rest

@@ -1,0 +1,10 @@
+pub mod Words
+pub mod Signs
+pub mod Clock
+pub mod Lexing
+pub mod Stops
+pub mod Pairs
+pub mod Behind
+pub mod Mending
+pub mod StrictForms
+pub mod Reading

@@ -1,0 +1,28 @@
+//! Opening hours of OpenStreetMap as people write them: the strict form of a text that is written loosely, and its warnings.
+//!
+//! The hours of a text are those of its strict form. A text that is hours as it is written is its own strict form.
+#![tactic(auto)]
+
+mod behind;
+mod clock;
+pub mod laws;
+mod lexer;
+mod mending;
+mod pairs;
+mod reader;
+mod runs;
+mod signs;
+mod stop;
+mod strict;
+mod token;
+mod warnings;
+mod words;
+
+pub use lexer::tokens_of;
+pub use mending::strict_form;
+pub use pairs::pair_fault;
+pub use reader::{LooseFault, LooseHours, LooseReadFault, read_loose_hours};
+pub use stop::LooseStop;
+pub use strict::{Part, StrictForm};
+pub use token::{DayNames, LooseKind, LooseToken, TokenFault};
+pub use warnings::{push_warnings, written_place};

@@ -1,0 +1,157 @@
+//! The strict form of a text: what is written for each of its tokens, and in place of what.
+
+ghost use Rattle.std.specs.Prelude.{◌≡◌, ◌+◌, ◌≤◌, ◌<◌, ◌++◌, ◌∷◌, [], List, OnOk, IfOk, length, map};
+ghost use Rattle.std.specs.Char.{to_ascii_lowercase};
+ghost use Rattle.gtd_hours_loose.specs.Mending.{Holds, Mended, form_of, month_form, stretch, two_digits, weekday_form};
+
+use crate::token::LooseKind;
+use std::alloc::{AllocError, Global};
+
+/// A part of a text, and its strict form.
+#[derive(Clone, Copy, Debug)]
+pub struct Part {
+    /// Where it begins in the text.
+    pub from: usize,
+    /// Where it ends.
+    pub to: usize,
+    /// Where its strict form begins in the strict text.
+    pub start: usize,
+    /// Where that ends.
+    pub end: usize,
+}
+
+/// The strict form of a text.
+#[derive(Drop)]
+pub struct StrictForm {
+    /// A text that is written strictly.
+    pub text: Vec<u8>,
+    /// What stands where: tokens, tokens that are left out or put in, and spaces that are not of ASCII.
+    pub parts: Vec<Part>,
+}
+
+/// Nothing.
+pub fn nothing(alloc: Global) -> StrictForm
+    ensures { Holds result [] }
+{
+    StrictForm {
+        text: Vec::new(alloc),
+        parts: Vec::new(alloc),
+    }
+}
+
+/// From one place of a text up to but not including another.
+pub fn stretch(text: &[u8], from: usize, to: usize) -> &[u8]
+    ensures bytes { result.now ≡ stretch text.now from to }
+    ensures within { 0 < length result.now → from + length result.now ≤ length text.now }
+{
+    let end = if to < text.len() { to } else { text.len() };
+    if from < end {
+        &text[from..end]
+    } else {
+        &text[..0]
+    }
+}
+
+fn month_form(month: u8) -> &'static str
+    ensures { result.now ≡ month_form month }
+{
+    match month {
+        1 => "Jan",
+        2 => "Feb",
+        3 => "Mar",
+        4 => "Apr",
+        5 => "May",
+        6 => "Jun",
+        7 => "Jul",
+        8 => "Aug",
+        9 => "Sep",
+        10 => "Oct",
+        11 => "Nov",
+        _ => "Dec",
+    }
+}
+
+fn weekday_form(weekday: u8) -> &'static str
+    ensures { result.now ≡ weekday_form weekday }
+{
+    match weekday {
+        1 => "Su",
+        2 => "Mo",
+        3 => "Tu",
+        4 => "We",
+        5 => "Th",
+        6 => "Fr",
+        _ => "Sa",
+    }
+}
+
+fn push_two_digits(out: &mut Vec<u8>, number: u8) -> Result<(), AllocError>
+    ensures { OnOk result (out.new.items ≡ out.old.items ++ two_digits number) }
+{
+    let digits = [b'0' + number / 10, b'0' + number % 10];
+    out.extend_from_slice(&digits)
+}
+
+fn push_time(out: &mut Vec<u8>, hour: u8, minute: u8) -> Result<(), AllocError>
+    ensures { OnOk result (out.new.items ≡ out.old.items ++ (two_digits hour ++ 58 ∷ two_digits minute)) }
+{
+    push_two_digits(out, hour)?;
+    out.push(b':')?;
+    push_two_digits(out, minute)
+}
+
+fn push_lower(out: &mut Vec<u8>, written: &[u8]) -> Result<(), AllocError>
+    ensures { OnOk result (out.new.items ≡ out.old.items ++ map to_ascii_lowercase written.now) }
+{
+    for byte in written {
+        out.push(byte.to_ascii_lowercase())?;
+    }
+    Ok(())
+}
+
+fn push_form(out: &mut Vec<u8>, kind: LooseKind, written: &[u8]) -> Result<(), AllocError>
+    ensures { OnOk result (out.new.items ≡ out.old.items ++ form_of kind written.now) }
+{
+    match kind {
+        LooseKind::Month(month) => out.extend_from_slice(month_form(month).as_bytes()),
+        LooseKind::Weekday(weekday) => out.extend_from_slice(weekday_form(weekday).as_bytes()),
+        LooseKind::Time { hour, minute } => push_time(out, hour, minute),
+        LooseKind::PublicHoliday => out.extend_from_slice(b"PH"),
+        LooseKind::SchoolHoliday => out.extend_from_slice(b"SH"),
+        LooseKind::Dash => out.extend_from_slice(b"-"),
+        LooseKind::Comment => out.extend_from_slice(written),
+        _ => push_lower(out, written),
+    }
+}
+
+/// The strict form of a token with this text.
+pub fn form_of(alloc: Global, kind: LooseKind, written: &[u8]) -> Result<Vec<u8>, AllocError>
+    ensures { IfOk result (λ form. form.items ≡ form_of kind written.now) }
+{
+    let mut form = Vec::new(alloc);
+    push_form(&mut form, kind, written)?;
+    Ok(form)
+}
+
+/// Appends a strict form that stands for what is written from one place to another.
+pub fn push_part(
+    strict: &mut StrictForm,
+    from: usize,
+    to: usize,
+    form: &[u8],
+) -> Result<(), AllocError>
+    ensures { OnOk result ((ms : List Mended) → Holds strict.old ms
+        → Holds strict.new (ms ++ record { from = from; to = to; form = form.now } ∷ [])) }
+{
+    let start = strict.text.len();
+    strict.text.extend_from_slice(form)?;
+    let end = strict.text.len();
+    strict.text.push(b' ')?;
+    strict.parts.push(Part {
+        from,
+        to,
+        start,
+        end,
+    })?;
+    Ok(())
+}
