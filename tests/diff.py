@@ -3,8 +3,9 @@
 
 The domains of these files begin and end on quarters of an hour, so the model is asked at each quarter of the days. The pairs are
 random files, and files that were shuffled, whose rows were split or rewritten, or in which one hour was changed: of the first
-three nothing may be printed but the header, and of the last exactly that hour. Then come faults of either file and of the words,
-and an output that fails. Run it after `rt ci`, which builds the program.
+three nothing may be printed but the header, and of the last exactly that hour. Each pair is asked for its intervals, for these
+with `--rows`, and with `--summary`. Then come faults of either file and of the words, and an output that fails. Run it after
+`rt ci`, which builds the program.
 
 Usage: tests/diff.py [COUNT [SEED]]
 """
@@ -20,6 +21,11 @@ import model
 TOP = os.path.dirname(os.path.dirname(os.path.abspath(__file__)))
 GTDESK = os.path.abspath(os.environ.get("GTDESK", os.path.join(TOP, "crates", "gtdesk", "out", "gtdesk")))
 HEADER = "element,direction,vehicle,change,from,until\n"
+HEADERS = {
+    "": HEADER,
+    "--rows": "element,direction,vehicle,change,from,until,old_rows,new_rows\n",
+    "--summary": "element,direction,vehicle,old_seconds,new_seconds\n",
+}
 RECORDS = "element,direction,vehicles,domain\n"
 EPOCH = datetime.datetime(1970, 1, 1)
 QUARTER = 900
@@ -50,9 +56,15 @@ def read_domains(rows):
     return [row[:3] + (model.read(row[3].encode()) if row[3] else None,) for row in rows]
 
 
-def expected(old, new, first, last, vehicle):
+def closing_rows(rows, element, direction, vehicle, second):
+    """The numbers of the rows that close the element, as a column."""
+    return " ".join(str(number) for number, row in enumerate(rows, 1)
+                    if int(row[0]) == element and not model.is_open([row], 2, element, direction, vehicle, second))
+
+
+def expected(form, old, new, first, last, vehicle):
     """The text for two lists of rows, from the first day up to but not including the last."""
-    lines = [HEADER]
+    lines = [HEADERS[form]]
     old, new = read_domains(old), read_domains(new)
     quarters = range(day_of(first) * model.DAY, day_of(last) * model.DAY, QUARTER)
     for element in sorted({int(row[0]) for row in old + new}):
@@ -61,12 +73,18 @@ def expected(old, new, first, last, vehicle):
                 mine = [row for row in rows if int(row[0]) == element]
                 return [model.is_open(mine, 2, element, direction, vehicle, second) for second in quarters]
             was, now = open_quarters(old), open_quarters(new)
+            if form == "--summary":
+                if was != now:
+                    lines.append(f"{element},{direction},{vehicle},{QUARTER * sum(was)},{QUARTER * sum(now)}\n")
+                continue
             changes = []
             for word, before, after in (("opened", was, now), ("closed", now, was)):
                 spans = intervals([s for s, x, y in zip(quarters, before, after) if y and not x])
                 changes += [(begin, end, word) for begin, end in spans]
             for begin, end, word in sorted(changes):
                 line = f"{element},{direction},{vehicle},{word},{stamp(begin)},{stamp(end)}"
+                if form == "--rows":
+                    line += "".join("," + closing_rows(rows, element, direction, vehicle, begin) for rows in (old, new))
                 lines.append(line + "\n")
     return "".join(lines)
 
@@ -220,12 +238,13 @@ def main():
         failed = check_faults(folder)
         for old, new, first, last, vehicle, known in pairs(rng, count):
             paths = [write(folder, "old.csv", file_of(old)), write(folder, "new.csv", file_of(new))]
-            text = expected(old, new, first, last, vehicle) if known is None else known
-            answer = run(paths + [first, last, str(vehicle)])
-            if answer != (0 if text == HEADER else 4, text, ""):
-                failed += 1
-                print("FAILED", old, new, first, last, vehicle, "expected", text, "found", answer)
-    print(f"diff: {count + len(FAULTS) + 5 - failed} passed, {failed} failed")
+            for form, header in HEADERS.items():
+                text = expected(form, old, new, first, last, vehicle) if form or known is None else known
+                answer = run(paths + [first, last, str(vehicle)] + form.split())
+                if answer != (0 if text == header else 4, text, ""):
+                    failed += 1
+                    print("FAILED", form, old, new, first, last, vehicle, "expected", text, "found", answer)
+    print(f"diff: {len(HEADERS) * count + len(FAULTS) + 5 - failed} passed, {failed} failed")
     return 1 if failed else 0
 
 

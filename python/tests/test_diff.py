@@ -29,7 +29,7 @@ def made(seed, count):
     old = [(str(rng.randrange(1, 40)), *diff.random_row(rng)[1:]) for _ in range(count)]
     new = [row for row in old if rng.random() < 0.9] + [("41", "both", "0", "(h3){h1}"), ("2", "positive", "11", "(h22){h1}")]
     rng.shuffle(new)
-    return a_set(map(",".join, old)), a_set(map(",".join, new)), diff.expected(old, new, *DAYS).encode()
+    return a_set(map(",".join, old)), a_set(map(",".join, new)), diff.expected("", old, new, *DAYS).encode()
 
 
 def printed(frame):

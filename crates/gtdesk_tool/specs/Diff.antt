@@ -1,11 +1,14 @@
 -- What the command `diff` prints, and how it ends.
-use Rattle.std.specs.Prelude.{◌≡◌, ◌↔◌, ℕ, ◌+◌, Bool, List, Option, Result, Ok, Err, IsErrOf, IsTrue, OnOk, if◌then◌else◌, nat_le}
+use Rattle.std.specs.Prelude.{◌≡◌, ◌↔◌, ℕ, ◌+◌, Bool, true, false, List, Option, Result, Ok, Err, IsErrOf, IsTrue, OnOk}
+use Rattle.std.specs.Prelude.{if◌then◌else◌, nat_le}
 use Rattle.gtd_records.specs.declared.fault.RecordFault.TheVariants as records
 use Rattle.gtd_report.specs.Run.{IsVehicleType}
 use Rattle.gtd_report.specs.declared.fault.RunFault.TheVariants as run
-use Rattle.gtd_changes.specs.Run.{HasCompared, HeadlineOf}
+use Rattle.gtd_changes.specs.Run.{HasComparedIn, HeadlineIn}
 use Rattle.gtd_changes.specs.declared.fault.ChangesFault.{ChangesFault}
 use Rattle.gtd_changes.specs.declared.fault.ChangesFault.TheVariants as changes
+use Rattle.gtd_changes.specs.declared.form.Form.{Form}
+use Rattle.gtd_changes.specs.declared.form.Form.TheVariants as form
 use Rattle.gtdesk_tool.specs.Running.{refusal_for}
 use Rattle.gtdesk_tool.specs.declared.ending.Ending.{Ending}
 use Rattle.gtdesk_tool.specs.declared.ending.Ending.TheVariants as ending
@@ -20,13 +23,20 @@ diff_outcome (Err (changes.Old records.NoMemory)) = Err refusal.Memory
 diff_outcome (Err (changes.Old why)) = Err (refusal.Old why)
 diff_outcome (Err (changes.Run why)) = Err (refusal_for why)
 
+-- The form that is asked for: a summary has no intervals, and so no rows either.
+abbrev pub form_of : Bool → Bool → Form
+form_of rows true = form.Summary
+form_of true false = form.Rows
+form_of false false = form.Intervals
+
 -- The run of `diff` had an answer, and all that the run promises for this answer holds.
 pub record RanDiff (plan : DiffPlan) (old new before after : Option (List ℕ)) (old_silent new_silent ended : Bool)
     (result : Result Ending RunRefusal) : Type 0 where
   pub answer : Result ℕ ChangesFault
   pub outcome : result ≡ diff_outcome answer
-  pub headline : IsVehicleType plan.vehicle → HeadlineOf plan.vehicle plan.horizon old new before after answer
-  pub stands : HasCompared plan.vehicle plan.horizon old new before after answer
+  pub headline : IsVehicleType plan.vehicle
+      → HeadlineIn (form_of plan.rows plan.summary) plan.vehicle plan.horizon old new before after answer
+  pub stands : HasComparedIn (form_of plan.rows plan.summary) plan.vehicle plan.horizon old new before after answer
   pub whole : OnOk answer (IsTrue ended)
   pub vehicle_range : IsErrOf answer (changes.Run run.VehicleRange) ↔ (IsVehicleType plan.vehicle → ⊥)
   pub year : IsErrOf answer (changes.Run run.YearRange) → ⊥

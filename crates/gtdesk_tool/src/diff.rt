@@ -1,13 +1,13 @@
 //! The command `diff`: what two record files say differently.
 
 ghost use Rattle.std.specs.Prelude.{◌≡◌, ◌<◌};
-ghost use Rattle.gtdesk_tool.specs.Diff.{RanDiff, diff_outcome, failures_after_new, failures_after_old};
+ghost use Rattle.gtdesk_tool.specs.Diff.{RanDiff, diff_outcome, failures_after_new, failures_after_old, form_of};
 ghost use Rattle.gtdesk_tool.specs.Running.{failures_after_write};
 
 use crate::ending::Ending;
 use crate::performer::run_refusal;
 use crate::refusal::RunRefusal;
-use gtd_changes::{ChangesFault, run_changes};
+use gtd_changes::{Asked, ChangesFault, Form, run_changes_in};
 use gtd_devices::{Input, Output};
 use gtd_records::RecordFault;
 use gtdesk_plans::DiffPlan;
@@ -30,6 +30,19 @@ fn diff_outcome(answer: Result<u64, ChangesFault>) -> Result<Ending, RunRefusal>
             _ => Err(RunRefusal::Old(why)),
         },
         Err(ChangesFault::Run(why)) => Err(run_refusal(why)),
+    }
+}
+
+// The form that is asked for. A summary has no intervals, and so no rows either.
+fn form_of(rows: bool, summary: bool) -> Form
+    ensures value { result ≡ form_of rows summary }
+{
+    if summary {
+        Form::Summary
+    } else if rows {
+        Form::Rows
+    } else {
+        Form::Intervals
     }
 }
 
@@ -56,5 +69,10 @@ pub fn perform_diff<I: Input, J: Input, O: Output>(
     ensures new_faults { J.failure_count new.new ≡ failures_after_new result (J.failure_count new.old) }
     ensures write_faults { O.failure_count output.new ≡ failures_after_write result (O.failure_count output.old) }
 {
-    diff_outcome(run_changes(alloc, old, new, output, plan.horizon, plan.vehicle))
+    let asked = Asked {
+        horizon: plan.horizon,
+        vehicle: plan.vehicle,
+        form: form_of(plan.rows, plan.summary),
+    };
+    diff_outcome(run_changes_in(alloc, old, new, output, asked))
 }

@@ -8,7 +8,7 @@ ghost use Rattle.gtdesk_plans.specs.Commands.Diff.{Asks, app, words};
 ghost use Rattle.gtdesk_plans.specs.Readings.{AreStopped};
 
 use crate::arguments::{Argument, VEHICLE, command_of};
-use crate::given::text;
+use crate::given::{is_given, text};
 use crate::plans::Plan;
 use crate::refusal::WordsRefusal;
 use crate::words::{days_of, vehicle_of};
@@ -27,6 +27,10 @@ pub struct DiffPlan {
     pub horizon: Horizon,
     /// The vehicle type, from 1 to 99.
     pub vehicle: u8,
+    /// Whether each interval has the rows that close the element when it begins.
+    pub rows: bool,
+    /// Whether each element that differs has one line in place of its intervals.
+    pub summary: bool,
 }
 
 /// The command for `clap`.
@@ -55,6 +59,14 @@ pub(crate) fn command<'a>(alloc: Global) -> Result<Command<'a>, AllocError>
                 help: "The day after the last, YYYY-MM-DD",
             },
             VEHICLE,
+            Argument::Flag {
+                name: "rows",
+                help: "Print the rows of either file that close the element when an interval begins, too",
+            },
+            Argument::Flag {
+                name: "summary",
+                help: "Print the seconds in which each element that differs is open, in place of the intervals",
+            },
         ],
     )
 }
@@ -81,6 +93,8 @@ pub(crate) fn plan(alloc: Global, given: &ArgMatches<'_>) -> Result<Plan, WordsR
             new,
             horizon,
             vehicle,
+            rows: is_given(given, "rows"),
+            summary: is_given(given, "summary"),
         })),
         Err(_) => Err(WordsRefusal::Memory),
     }
