@@ -6,7 +6,7 @@ use gtd_report::RunFault;
 use std::alloc::{AllocError, AllocFailed};
 
 /// Why a file of questions is not read. Rows are numbered from 1, after the header.
-#[derive(Clone, Copy)]
+#[derive(Clone, Copy, Debug, PartialEq, Eq)]
 pub enum QuestionFault {
     /// The input failed.
     ReadFault,
@@ -33,7 +33,7 @@ pub enum QuestionFault {
 }
 
 /// Why a run that answers questions does not put its whole text. If both files have a fault, that of the questions is answered.
-#[derive(Clone, Copy)]
+#[derive(Clone, Copy, Debug, PartialEq, Eq)]
 pub enum AskFault {
     /// The questions are not read, for this reason.
     Questions(QuestionFault),

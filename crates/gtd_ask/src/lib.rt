@@ -7,6 +7,7 @@
 pub use fault::{AskFault, QuestionFault};
 pub use question::Question;
 pub use run::run_ask;
+pub use words::QuestionText;
 
 mod answer;
 mod fault;
@@ -15,3 +16,4 @@ mod put;
 mod question;
 mod reader;
 mod run;
+mod words;
