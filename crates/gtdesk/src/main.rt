@@ -10,7 +10,7 @@
 use gtd_devices::{Host, HostOut};
 use gtdesk_tool::{
     DiffPlan, Ending, OnePlan, Plan, Refusal, RefusalLine, RunRefusal, WordsRefusal, perform,
-    perform_diff, plan, refused_file,
+    perform_ask, perform_diff, plan, refused_file,
 };
 use std::fs::File;
 use std::io::{BufWriter, ErrorKind, Read};
@@ -96,12 +96,25 @@ fn open_old(rt: &HostRuntime, path: &str) -> Result<File, RunRefusal> {
     })
 }
 
+// Answers the questions on standard input about the record file of a reader.
+fn print_answers<R: Read + Drop>(rt: &HostRuntime, records: R) -> Result<Ending, RunRefusal> {
+    let mut questions = Host::new(rt.stdin());
+    let mut records = Host::new(records);
+    let made = BufWriter::with_capacity(rt.alloc(), OUTPUT_BUFFER, io::writer(rt));
+    let mut output = HostOut::new(made.map_err(|_| RunRefusal::Memory)?);
+    perform_ask(rt.alloc(), &mut questions, &mut records, &mut output)
+}
+
 fn run(rt: &HostRuntime, plan: &Plan) -> Result<Ending, RunRefusal> {
     match plan {
         Plan::One(plan) => run_one(rt, plan),
         Plan::Diff(diff) => match diff.old.as_str() {
             "-" => run_diff(rt, diff, rt.stdin()),
             path => run_diff(rt, diff, open_old(rt, path)?),
+        },
+        Plan::Ask(file) => match file.as_str() {
+            "-" => print_answers(rt, rt.stdin()),
+            path => print_answers(rt, open(rt, path)?),
         },
     }
 }

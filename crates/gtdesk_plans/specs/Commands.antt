@@ -1,6 +1,7 @@
 -- The forms of commands: the words of each, and the plan that each asks for.
 use Rattle.std.specs.Prelude.{List}
 use Rattle.clap.specs.Walk.{Row}
+use Rattle.gtdesk_plans.specs.Commands.Ask as ask
 use Rattle.gtdesk_plans.specs.Commands.Diff as diff
 use Rattle.gtdesk_plans.specs.Commands.Faults as faults
 use Rattle.gtdesk_plans.specs.Commands.Hours as hours
@@ -13,6 +14,7 @@ use Rattle.gtdesk_plans.specs.Readings.{Word}
 use Rattle.gtdesk_plans.specs.declared.forms.Form.{Form}
 use Rattle.gtdesk_plans.specs.declared.forms.Form.TheVariants as form
 use Rattle.gtdesk_plans.specs.declared.plans.Plan.{Plan}
+pub mod Ask
 pub mod Diff
 pub mod Faults
 pub mod Hours
@@ -32,6 +34,7 @@ words_of form.HoursOf rows = hours.words_of rows
 words_of form.Same rows = same.words rows
 words_of form.SameHours rows = same.hours_words rows
 words_of form.Diff rows = diff.words rows
+words_of form.Ask rows = ask.words rows
 words_of form.Records rows = records.words rows
 words_of form.Picture rows = picture.words rows
 words_of form.PictureDomain rows = picture.domain_words rows
@@ -46,6 +49,7 @@ asks_of form.HoursOf rows p = hours.AsksOf rows p
 asks_of form.Same rows p = same.Asks rows p
 asks_of form.SameHours rows p = same.AsksHours rows p
 asks_of form.Diff rows p = diff.Asks rows p
+asks_of form.Ask rows p = ask.Asks rows p
 asks_of form.Records rows p = records.Asks rows p
 asks_of form.Picture rows p = picture.Asks rows p
 asks_of form.PictureDomain rows p = picture.AsksDomain rows p

@@ -32,6 +32,7 @@ form_in found =
     else if bytes_eq found.0 (codes "hours") then hours_form (first_of (codes "TEXT") found.1) (first_of (codes "of") found.1)
     else if bytes_eq found.0 (codes "same") then Some (same_form (is_given (codes "hours") found.1))
     else if bytes_eq found.0 (codes "diff") then Some form.Diff
+    else if bytes_eq found.0 (codes "ask") then Some form.Ask
     else if bytes_eq found.0 (codes "records") then Some form.Records
     else if bytes_eq found.0 (codes "picture") then Some form.Picture
     else if bytes_eq found.0 (codes "picture-domain") then Some form.PictureDomain

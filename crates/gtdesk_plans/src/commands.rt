@@ -1,5 +1,6 @@
 //! The commands.
 
+pub(crate) mod ask;
 pub(crate) mod diff;
 pub(crate) mod faults;
 pub(crate) mod hours;

@@ -28,6 +28,8 @@ pub(crate) enum Form {
     SameHours,
     /// `diff`
     Diff,
+    /// `ask`
+    Ask,
     /// `records`
     Records,
     /// `picture`
@@ -70,6 +72,7 @@ pub(crate) fn form_of(name: &str, given: &ArgMatches<'_>) -> Option<Form>
         "hours" => hours_form(value(given, "TEXT"), value(given, "of")),
         "same" => Some(same_form(is_given(given, "hours"))),
         "diff" => Some(Form::Diff),
+        "ask" => Some(Form::Ask),
         "records" => Some(Form::Records),
         "picture" => Some(Form::Picture),
         "picture-domain" => Some(Form::PictureDomain),

@@ -17,7 +17,7 @@ ghost use Rattle.gtdesk_plans.specs.Readings.{AreStopped};
 ghost use Rattle.gtdesk_plans.specs.declared.refusal.WordsRefusal.{WordsRefusal};
 
 use crate::command_line::parse;
-use crate::commands::{diff, faults, hours, now, picture, records, same, words};
+use crate::commands::{ask, diff, faults, hours, now, picture, records, same, words};
 use crate::forms::{Form, form_of};
 use crate::plans::{OnePlan, Plan};
 use crate::refusal::WordsRefusal;
@@ -111,6 +111,7 @@ fn plan_form(alloc: Global, form: Form, given: &ArgMatches<'_>) -> Result<Plan, 
         Form::Same => same::plan(alloc, given),
         Form::SameHours => same::plan_hours(alloc, given),
         Form::Diff => diff::plan(alloc, given),
+        Form::Ask => ask::plan(alloc, given),
         Form::Records => records::plan(alloc, given),
         Form::Picture => picture::plan(alloc, given),
         Form::PictureDomain => picture::plan_domain(alloc, given),

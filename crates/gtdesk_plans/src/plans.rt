@@ -20,6 +20,8 @@ pub enum Plan {
     One(OnePlan),
     /// To print what two record files say differently.
     Diff(DiffPlan),
+    /// To answer the questions on standard input about the record file of this path.
+    Ask(String),
 }
 
 /// What a command line asks for that reads one file at most.

@@ -1,3 +1,4 @@
+pub mod Ask
 pub mod Comparing
 pub mod Diff
 pub mod Hours

@@ -1,5 +1,6 @@
 -- The line for standard error that reports a refusal.
 use Rattle.std.specs.Prelude.{◌++◌, ℕ, List, codes, decimal}
+use Rattle.gtd_ask.specs.Texts.{question_fault_text}
 use Rattle.gtd_calendar.specs.declared.stamp.StampFault.{StampFault}
 use Rattle.gtd_calendar.specs.declared.stamp.StampFault.TheVariants as moment
 use Rattle.gtd_core.specs.Names.{fault_name}
@@ -104,6 +105,7 @@ run_text file (run.Records why) = printable file ++ codes ": " ++ fault_text why
 run_text file run.Open = printable file ++ codes ": cannot be opened"
 run_text file (run.Old why) = printable file ++ codes ": " ++ fault_text why
 run_text file run.OldOpen = printable file ++ codes ": cannot be opened"
+run_text file (run.Questions why) = codes "standard input: " ++ question_fault_text why
 run_text file run.Write = codes "standard output: cannot be written"
 run_text file run.Memory = codes "memory: refused by the system"
 

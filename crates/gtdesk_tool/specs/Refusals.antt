@@ -1,5 +1,7 @@
 -- The exit status of a refusal, and the file that it is about.
 use Rattle.std.specs.Prelude.{ℕ, Option, Some, None, string_bytes}
+use Rattle.gtd_ask.specs.declared.fault.QuestionFault.{QuestionFault}
+use Rattle.gtd_ask.specs.declared.fault.QuestionFault.TheVariants as question
 use Rattle.gtd_records.specs.declared.fault.RecordFault.{RecordFault}
 use Rattle.gtd_records.specs.declared.fault.RecordFault.TheVariants as records
 use Rattle.gtdesk_plans.specs.Arguments.{Text}
@@ -19,6 +21,12 @@ records_status records.Endless = 3
 records_status records.NoMemory = 3
 records_status why = 1
 
+abbrev pub questions_status : QuestionFault → ℕ
+questions_status question.ReadFault = 3
+questions_status question.Endless = 3
+questions_status question.NoMemory = 3
+questions_status why = 1
+
 abbrev pub run_status : RunRefusal → ℕ
 run_status (run.Word why) = 1
 run_status run.NoHours = 1
@@ -28,6 +36,7 @@ run_status (run.Records why) = records_status why
 run_status run.Open = 3
 run_status (run.Old why) = records_status why
 run_status run.OldOpen = 3
+run_status (run.Questions why) = questions_status why
 run_status run.Write = 3
 run_status run.Memory = 3
 
@@ -39,11 +48,13 @@ status_of (refusal.Run why) = run_status why
 abbrev pub new_file_of : Plan → Option Text
 new_file_of (plan.One p) = file_of p
 new_file_of (plan.Diff p) = Some (string_bytes p.new)
+new_file_of (plan.Ask file) = Some (string_bytes file)
 
 -- The path of the old of two files.
 abbrev pub old_file_of : Plan → Option Text
 old_file_of (plan.One p) = None
 old_file_of (plan.Diff p) = Some (string_bytes p.old)
+old_file_of (plan.Ask file) = None
 
 -- The path of the file that a refusal is about.
 abbrev pub refused_file : RunRefusal → Plan → Option Text

@@ -1,9 +1,10 @@
 //! The commands of `gtdesk`.
 //!
 //! [`plan`] reads the words after the program's name, and [`perform`] carries out what they ask for, or
-//! [`perform_diff`] if they ask for what two files say differently.
+//! [`perform_diff`] if they ask for what two files say differently, or [`perform_ask`] if they ask for answers to questions.
 #![tactic(auto)]
 
+mod ask;
 mod diff;
 mod domain_hours;
 mod ending;
@@ -15,6 +16,7 @@ mod picture;
 mod refusal;
 mod same;
 
+pub use ask::perform_ask;
 pub use diff::perform_diff;
 pub use ending::Ending;
 pub use gtdesk_plans::{

@@ -5,6 +5,7 @@ ghost use Rattle.gtdesk_tool.specs.Lines as spec;
 ghost use Rattle.gtdesk_tool.specs.Lines.{kind_name, no_domain_text, reason_text, refusal_line, run_text, word_text, words_text};
 
 use crate::refusal::{Refusal, RunRefusal};
+use gtd_ask::QuestionText;
 use gtd_calendar::StampFault;
 use gtd_core::HorizonFault;
 use gtd_faults::{FaultText, Printable};
@@ -177,6 +178,7 @@ impl Display for RunLine<'_> {
             RunRefusal::Open => write!(f, "{file}: cannot be opened"),
             RunRefusal::Old(fault) => write!(f, "{file}: {}", FaultText(fault)),
             RunRefusal::OldOpen => write!(f, "{file}: cannot be opened"),
+            RunRefusal::Questions(fault) => write!(f, "standard input: {}", QuestionText(fault)),
             RunRefusal::Write => write!(f, "standard output: cannot be written"),
             RunRefusal::Memory => write!(f, "memory: refused by the system"),
         }

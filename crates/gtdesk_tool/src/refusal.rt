@@ -1,8 +1,9 @@
 //! Why a command line is not carried out.
 
 ghost use Rattle.std.specs.Prelude.{◌≡◌, option_map};
-ghost use Rattle.gtdesk_tool.specs.Refusals.{new_file_of, old_file_of, records_status, refused_file, run_status, status_of};
+ghost use Rattle.gtdesk_tool.specs.Refusals.{new_file_of, old_file_of, questions_status, records_status, refused_file, run_status, status_of};
 
+use gtd_ask::QuestionFault;
 use gtd_records::RecordFault;
 use gtdesk_plans::{NoDomain, Plan, WordFault, WordsRefusal};
 
@@ -25,6 +26,8 @@ pub enum RunRefusal {
     Old(RecordFault),
     /// The old of two record files is not opened.
     OldOpen,
+    /// The questions on standard input are not read. This is their first fault, or why the input failed, and never `NoMemory`.
+    Questions(QuestionFault),
     /// A write to standard output failed.
     Write,
     /// Memory was refused.
@@ -45,6 +48,7 @@ impl RunRefusal {
             RunRefusal::Open => 3,
             RunRefusal::Old(fault) => records_status(*fault),
             RunRefusal::OldOpen => 3,
+            RunRefusal::Questions(fault) => questions_status(*fault),
             RunRefusal::Write => 3,
             RunRefusal::Memory => 3,
         }
@@ -57,6 +61,16 @@ fn records_status(fault: RecordFault) -> u8
 {
     match fault {
         RecordFault::ReadFault | RecordFault::Endless | RecordFault::NoMemory => 3,
+        _ => 1,
+    }
+}
+
+// The status for questions that are not read.
+fn questions_status(fault: QuestionFault) -> u8
+    ensures value { result ≡ questions_status fault }
+{
+    match fault {
+        QuestionFault::ReadFault | QuestionFault::Endless | QuestionFault::NoMemory => 3,
         _ => 1,
     }
 }
@@ -89,6 +103,7 @@ fn file_of(plan: &Plan) -> Option<&str>
     match plan {
         Plan::One(plan) => plan.file(),
         Plan::Diff(diff) => Some(diff.new.as_str()),
+        Plan::Ask(file) => Some(file.as_str()),
     }
 }
 
@@ -99,6 +114,7 @@ fn old_file_of(plan: &Plan) -> Option<&str>
     match plan {
         Plan::One(_) => None,
         Plan::Diff(diff) => Some(diff.old.as_str()),
+        Plan::Ask(_) => None,
     }
 }
 
