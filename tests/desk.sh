@@ -59,6 +59,8 @@ run same --help
 expect 'help of the command same' 0 "$(cat "$top/tests/desk/same.txt")" ''
 run diff --help
 expect 'help of the command diff' 0 "$(cat "$top/tests/desk/diff.txt")" ''
+run ask --help
+expect 'help of the command ask' 0 "$(cat "$top/tests/desk/ask.txt")" ''
 run records --help
 expect 'help of the command records' 0 "$(cat "$top/tests/desk/records.txt")" ''
 run --version

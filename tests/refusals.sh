@@ -118,7 +118,7 @@ as_before_or_in_want() {
 program_refused() {
     local name="${program##*/} ${*:2}"
     has_parts=false
-    case $2 in schedule | year | migrate | now | diff | records | picture | picture-domain) has_parts=true ;; esac
+    case $2 in schedule | year | migrate | now | diff | ask | records | picture | picture-domain) has_parts=true ;; esac
     run 0 0 "$program" "${@:2}"
     mv "$room/out" "$room/whole"
     whole_status=$status whole_told=$told

@@ -11,6 +11,7 @@ lines; tabs stand between its columns. In the lines
     {0^NAME}    is the same for a file called NAME
     ^TEXT       is the name of a file that holds a text of that name
     ^(WORD)     is the name of a file, `r.csv`, that holds WORD, which may have columns and texts in it
+    < FILE      among the words: what standard input holds. Otherwise it is empty
     | FILTER    before the `=>`: a command of the shell that the output is passed through. It is run in tests/
 
 An empty file `roads.csv` is there, too. What is wanted:
@@ -121,8 +122,14 @@ class Case:
     def why_not(self, room):
         """What is wrong with the answer, if anything."""
         words = [it for word in (self.words or "").split(" ") if word for it in filled(word, self.columns, self.texts, room)]
-        done = subprocess.run([PROGRAMS[self.program], *words], cwd=room, stdin=subprocess.DEVNULL, capture_output=True,
-                              timeout=120, check=False)
+        given = b""
+        if b"<" in words:
+            at = words.index(b"<")
+            with open(os.path.join(room, words[at + 1].decode()), "rb") as file:
+                given = file.read()
+            words = words[:at] + words[at + 2:]
+        done = subprocess.run([PROGRAMS[self.program], *words], cwd=room, input=given, capture_output=True, timeout=120,
+                              check=False)
         out = done.stdout
         if self.filter:
             out = subprocess.run(["bash", "-c", self.filter], cwd=HERE, input=out, capture_output=True, timeout=120,
