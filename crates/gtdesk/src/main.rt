@@ -24,7 +24,10 @@ const OUTPUT_BUFFER: usize = 65_536;
 fn words_of(rt: &HostRuntime) -> Result<Vec<String>, WordsRefusal> {
     let words = env::args(rt).map_err(|error| match error.kind() {
         ErrorKind::OutOfMemory => WordsRefusal::Memory,
-        _ => WordsRefusal::Usage("a word is no text"),
+        _ => WordsRefusal::Usage {
+            told: "a word is no text",
+            meant: None,
+        },
     })?;
     words
         .skip(1)

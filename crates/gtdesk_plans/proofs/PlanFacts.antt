@@ -48,9 +48,10 @@ none_among : (words : List Text) (given : Given) → Give words given → (kind 
     → IsAmong kind (fault_of desk_app words) → ⊥
 none_among words given give kind among = subst (λ kinds. IsAmong kind kinds) give.faultless among
 
-not_mistaken : (words : List Text) (told : Text) (given : Given) → Give words given → AreMistaken words told → ⊥
-not_mistaken words told given give (inl x) = none_among words given give x.0 x.1
-not_mistaken words told given give (inr x) = none_read (given_by words) given give.is x.1
+not_mistaken : (words : List Text) (told : Text) (meant : Option Text) (given : Given) → Give words given
+    → AreMistaken words told meant → ⊥
+not_mistaken words told meant given give (inl x) = none_among words given give x.0 x.1
+not_mistaken words told meant given give (inr x) = none_read (given_by words) given give.is x.1
 
 refused_word : (words : List Text) (given : Given) (fault : WordFault) → Give words given
     → ((g : Given) × Give words g × IsWordFault g (refusal.Word fault)) → IsWordFault given (refusal.Word fault)
@@ -63,21 +64,21 @@ pub only_asked : (words : List Text) (result : Result Plan WordsRefusal)
 only_asked words (Ok p) (AskFor.command g gives asks) given give =
     subst (λ (x : Given). Asks x p) (one_given words g given gives give) asks
 only_asked words (Ok p) (AskFor.text kind asks shown) given give = absurd (none_among words given give kind asks.0)
-only_asked words (Err (refusal.Usage why)) is given give = absurd (not_mistaken words why.now given give is)
+only_asked words (Err (refusal.Usage told meant)) is given give = absurd (not_mistaken words told.now _ given give is)
 only_asked words (Err (refusal.Word fault)) is given give = refused_word words given fault give is
 only_asked words (Err refusal.Memory) is given give = tt
 
 first_of_two : (given : Given) (r s : WordsRefusal) → IsWordFault given r → IsRefused given s
     → (s ≡ refusal.Memory) ⊎ (s ≡ r)
-first_of_two given (refusal.Usage why) s h k = absurd h
-first_of_two given (refusal.Word fault) (refusal.Usage why) h k = absurd k
+first_of_two given (refusal.Usage told meant) s h k = absurd h
+first_of_two given (refusal.Word fault) (refusal.Usage told meant) h k = absurd k
 first_of_two given (refusal.Word fault) (refusal.Word other) h k =
     inr (ap refusal.Word (one_first (words_of given.form given.rows) other fault k h))
 first_of_two given (refusal.Word fault) refusal.Memory h k = inl refl
 first_of_two given refusal.Memory s h k = absurd h
 
 no_word_fault : (given : Given) (p : Plan) (r : WordsRefusal) → Asks given p → IsWordFault given r → ⊥
-no_word_fault given p (refusal.Usage why) is h = h
+no_word_fault given p (refusal.Usage told meant) is h = h
 no_word_fault given p (refusal.Word fault) is h =
     no_first_fault (words_of given.form given.rows) fault (all_stand given.form given.rows p is) h
 no_word_fault given p refusal.Memory is h = h
@@ -90,7 +91,7 @@ first_word given (Err s) is r h = first_of_two given r s h is
 pub planned_words : (given : Given) (result : Result Plan WordsRefusal) → MatchResult result (Asks given) (IsRefused given)
     → ((r : WordsRefusal) → IsWordFault given r → ⊥) → MatchResult result (Asks given) (λ s. s ≡ refusal.Memory)
 planned_words given (Ok p) is none = is
-planned_words given (Err (refusal.Usage why)) is none = absurd is
+planned_words given (Err (refusal.Usage told meant)) is none = absurd is
 planned_words given (Err (refusal.Word fault)) is none = absurd (none (refusal.Word fault) is)
 planned_words given (Err refusal.Memory) is none = refl
 
@@ -104,14 +105,14 @@ give_of words m given has e = record {
 }
 
 pub none_given_by : (words : List Text) (told : Text) (m : ArgMatches) → HasWords words m
-    → None ≡ option_and_then given_in (subcommand_rows_of m) → told ≡ neither_or_both → AreMistaken words told
+    → None ≡ option_and_then given_in (subcommand_rows_of m) → told ≡ neither_or_both → AreMistaken words told None
 none_given_by words told m has e is =
-    inr (has.faultless, ap (λ (o : Option (Text × List Row)). option_and_then given_in o) (sym has.entered) ∙ sym e, is)
+    inr (has.faultless, ap (λ (o : Option (Text × List Row)). option_and_then given_in o) (sym has.entered) ∙ sym e, is, refl)
 
 pub answered : (words : List Text) (given : Given) (result : Result Plan WordsRefusal) → Give words given
     → MatchResult result (Asks given) (IsRefused given) → MatchResult result (AskFor words) (AreRefused words)
 answered words given (Ok p) give asks = AskFor.command given give asks
-answered words given (Err (refusal.Usage why)) give h = absurd h
+answered words given (Err (refusal.Usage told meant)) give h = absurd h
 answered words given (Err (refusal.Word fault)) give h = (given, give, h)
 answered words given (Err refusal.Memory) give h = tt
 

@@ -180,14 +180,14 @@ first_past (suc n) (word ∷ words) fault s h = inr (s.0, first_past n words fau
 
 -- a refusal of the first words
 pub stopped_upto : (n : ℕ) (words : List Word) (r : WordsRefusal) → AreStopped (take n words) r → AreStopped words r
-stopped_upto n words (refusal.Usage told) h = h
+stopped_upto n words (refusal.Usage told meant) h = h
 stopped_upto n words (refusal.Word fault) h = first_upto n words fault h
 stopped_upto n words refusal.Memory h = h
 
 -- a refusal behind first words that all stand for something
 pub stopped_past : (n : ℕ) (words : List Word) (r : WordsRefusal) → AllStand (take n words) → AreStopped (drop n words) r
     → AreStopped words r
-stopped_past n words (refusal.Usage told) s h = h
+stopped_past n words (refusal.Usage told meant) s h = h
 stopped_past n words (refusal.Word fault) s h = first_past n words fault s h
 stopped_past n words refusal.Memory s h = h
 

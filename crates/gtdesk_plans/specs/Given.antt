@@ -9,6 +9,7 @@ use Rattle.clap.specs.Faults.{fault_of}
 use Rattle.clap.specs.declared.error.kind.ErrorKind.{ErrorKind}
 use Rattle.gtdesk_plans.specs.Arguments.{Text}
 use Rattle.gtdesk_plans.specs.CommandLine.{desk_app, is_request, neither_or_both, usage_text}
+use Rattle.gtdesk_plans.specs.Hints.{meant_by}
 use Rattle.gtdesk_plans.specs.Rows.{is_given}
 use Rattle.gtdesk_plans.specs.declared.forms.Form.{Form}
 use Rattle.gtdesk_plans.specs.declared.forms.Form.TheVariants as form
@@ -64,8 +65,9 @@ pub record Give (words : List Text) (given : Given) : Type 0 where
   pub is : given_by words ≡ Some given
 
 -- The words have a fault that is not a request for help; or they have none, and do not give a command with all of its words. The
--- text says which fault it is.
-abbrev pub AreMistaken : List Text → Text → Type 0
-AreMistaken words told =
-    ((kind : ErrorKind) × IsAmong kind (fault_of desk_app words) × (is_request kind ≡ false) × (told ≡ usage_text kind))
-    ⊎ ((fault_of desk_app words ≡ []) × (given_by words ≡ None) × (told ≡ neither_or_both))
+-- text says which fault it is, and a command may be meant.
+abbrev pub AreMistaken : List Text → Text → Option Text → Type 0
+AreMistaken words told meant =
+    ((kind : ErrorKind) × IsAmong kind (fault_of desk_app words) × (is_request kind ≡ false) × (told ≡ usage_text kind)
+    × (meant ≡ meant_by kind words))
+    ⊎ ((fault_of desk_app words ≡ []) × (given_by words ≡ None) × (told ≡ neither_or_both) × (meant ≡ None))

@@ -5,6 +5,7 @@ pub mod HoursWords
 pub mod Readings
 pub mod Commands
 pub mod CommandLine
+pub mod Hints
 pub mod Given
 pub mod Plans
 pub mod Statuses

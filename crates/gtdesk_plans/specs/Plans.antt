@@ -1,5 +1,5 @@
 -- What a command line asks for, and why it is refused.
-use Rattle.std.specs.Prelude.{◌≡◌, List, Option, Some, None, string_bytes}
+use Rattle.std.specs.Prelude.{◌≡◌, List, Option, Some, None, option_map, string_bytes}
 use Rattle.clap.specs.declared.error.kind.ErrorKind.{ErrorKind}
 use Rattle.clap.specs.declared.error.kind.ErrorKind.TheVariants.{DisplayVersion}
 use Rattle.gtdesk_plans.specs.Arguments.{Text}
@@ -20,7 +20,7 @@ Asks given p = asks_of given.form given.rows p
 
 -- The refusal is for the first word of the command that stands for nothing.
 abbrev pub IsWordFault : Given → WordsRefusal → Type 0
-IsWordFault given (refusal.Usage told) = ⊥
+IsWordFault given (refusal.Usage told meant) = ⊥
 IsWordFault given (refusal.Word fault) = IsFirstFault (words_of given.form given.rows) fault
 IsWordFault given refusal.Memory = ⊥
 
@@ -41,7 +41,7 @@ pub data AskFor (words : List Text) (wanted : Plan) : Type 0 where
 -- Why words are refused: they give no command, as the refusal says; or a word of the command stands for nothing; or memory was
 -- refused.
 abbrev pub AreRefused : List Text → WordsRefusal → Type 0
-AreRefused words (refusal.Usage told) = AreMistaken words told.now
+AreRefused words (refusal.Usage told meant) = AreMistaken words told.now (option_map (λ name. name.now) meant)
 AreRefused words (refusal.Word fault) = (given : Given) × Give words given × IsWordFault given (refusal.Word fault)
 AreRefused words refusal.Memory = Unit {0}
 

@@ -92,6 +92,6 @@ IsFirstFault (word ∷ words) fault = IsFaultOf word fault ⊎ (Stands word.read
 
 -- The refusal is for that word, or of memory.
 abbrev pub AreStopped : List Word → WordsRefusal → Type 0
-AreStopped words (refusal.Usage told) = ⊥
+AreStopped words (refusal.Usage told meant) = ⊥
 AreStopped words (refusal.Word fault) = IsFirstFault words fault
 AreStopped words refusal.Memory = Unit {0}

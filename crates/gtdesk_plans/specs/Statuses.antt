@@ -4,6 +4,6 @@ use Rattle.gtdesk_plans.specs.declared.refusal.WordsRefusal.{WordsRefusal}
 use Rattle.gtdesk_plans.specs.declared.refusal.WordsRefusal.TheVariants as refusal
 
 abbrev pub words_status : WordsRefusal → ℕ
-words_status (refusal.Usage why) = 2
+words_status (refusal.Usage told meant) = 2
 words_status (refusal.Word why) = 1
 words_status refusal.Memory = 3

@@ -9,6 +9,7 @@ mod command_line;
 mod commands;
 mod forms;
 mod given;
+mod hints;
 mod hours;
 mod planner;
 mod plans;

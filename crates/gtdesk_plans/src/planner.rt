@@ -1,13 +1,12 @@
 //! From the words of a command line to a plan.
 
-ghost use Rattle.std.specs.Prelude.{◌≡◌, ◌⊎◌, IfErr, IfOk, List, MatchResult, map, option_and_then, option_map, string_bytes};
+ghost use Rattle.std.specs.Prelude.{◌≡◌, ◌⊎◌, IfErr, IfOk, MatchResult, map, option_and_then, option_map, string_bytes};
 ghost use Rattle.clap.specs.Faults.{fault_of};
 ghost use Rattle.clap.specs.Kinds.{HasKind};
 ghost use Rattle.clap.specs.Matches.{found_of};
 ghost use Rattle.clap.specs.Simple.{subcommand_rows_of};
 ghost use Rattle.clap.specs.Walk.{rows_of};
 ghost use Rattle.clap.specs.declared.error.kind.ErrorKind.TheVariants.{DisplayVersion};
-ghost use Rattle.gtdesk_plans.specs.Arguments.{Text};
 ghost use Rattle.gtdesk_plans.specs.CommandLine as spec;
 ghost use Rattle.gtdesk_plans.specs.CommandLine.{desk_app, version_line};
 ghost use Rattle.gtdesk_plans.specs.Commands.{asks_of, words_of};
@@ -19,6 +18,7 @@ ghost use Rattle.gtdesk_plans.specs.declared.refusal.WordsRefusal.{WordsRefusal}
 use crate::command_line::parse;
 use crate::commands::{ask, diff, faults, hours, now, picture, records, same, words};
 use crate::forms::{Form, form_of};
+use crate::hints::meant_by;
 use crate::plans::{OnePlan, Plan};
 use crate::refusal::WordsRefusal;
 use clap::ArgMatches;
@@ -83,9 +83,9 @@ fn usage_text(kind: ErrorKind) -> &'static str
 }
 
 // The plan for words in which `clap` finds no command: to show the text that they ask for. Otherwise their refusal.
-fn plan_error(alloc: Global, error: &clap::Error) -> Result<Plan, WordsRefusal>
-    ensures { (words : List Text) → HasKind (fault_of desk_app words) error.now
-        → MatchResult result (AskFor words) (AreRefused words) }
+fn plan_error(alloc: Global, error: &clap::Error, words: &[String]) -> Result<Plan, WordsRefusal>
+    ensures { HasKind (fault_of desk_app (map string_bytes words.now)) error.now
+        → MatchResult result (AskFor (map string_bytes words.now)) (AreRefused (map string_bytes words.now)) }
 {
     let kind = error.kind();
     if is_memory(kind) {
@@ -94,7 +94,9 @@ fn plan_error(alloc: Global, error: &clap::Error) -> Result<Plan, WordsRefusal>
     if is_request(kind) {
         return show(alloc, error, kind);
     }
-    Err(WordsRefusal::Usage(usage_text(kind)))
+    let told = usage_text(kind);
+    let meant = meant_by(kind, words);
+    Err(WordsRefusal::Usage { told, meant })
 }
 
 // The plan of a command with its words.
@@ -139,9 +141,12 @@ fn plan_line(alloc: Global, words: &[String]) -> Result<Plan, WordsRefusal>
     match parse(alloc, words) {
         Ok(matches) => match given(&matches) {
             Some((form, given)) => plan_form(alloc, form, given),
-            None => Err(WordsRefusal::Usage(NEITHER_OR_BOTH)),
+            None => Err(WordsRefusal::Usage {
+                told: NEITHER_OR_BOTH,
+                meant: None,
+            }),
         },
-        Err(error) => plan_error(alloc, &error),
+        Err(error) => plan_error(alloc, &error, words),
     }
 }
 

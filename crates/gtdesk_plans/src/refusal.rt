@@ -76,8 +76,13 @@ pub struct WordFault {
 /// Why the words of a command line are refused.
 #[derive(Clone, Copy, Debug, PartialEq, Eq)]
 pub enum WordsRefusal {
-    /// The words name no command, or are not the words that it takes. This says what is wrong with them.
-    Usage(&'static str),
+    /// The words name no command, or are not the words that it takes.
+    Usage {
+        /// What is wrong with them.
+        told: &'static str,
+        /// The command that may be meant, if a word should name one and does not.
+        meant: Option<&'static str>,
+    },
     /// A word of the command stands for nothing. It is the first such word.
     Word(WordFault),
     /// Memory was refused.
@@ -91,7 +96,7 @@ impl WordsRefusal {
     {
         match self {
             WordsRefusal::Word(_) => 1,
-            WordsRefusal::Usage(_) => 2,
+            WordsRefusal::Usage { .. } => 2,
             WordsRefusal::Memory => 3,
         }
     }

@@ -1,5 +1,5 @@
 -- The line for standard error that reports a refusal.
-use Rattle.std.specs.Prelude.{◌++◌, ℕ, List, codes, decimal}
+use Rattle.std.specs.Prelude.{◌++◌, ℕ, List, Some, None, codes, decimal}
 use Rattle.gtd_ask.specs.Texts.{question_fault_text}
 use Rattle.gtd_calendar.specs.declared.stamp.StampFault.{StampFault}
 use Rattle.gtd_calendar.specs.declared.stamp.StampFault.TheVariants as moment
@@ -91,7 +91,9 @@ no_hours = codes "DOMAIN: no opening hours: not of the form of days from midnigh
 
 -- why words are refused: where the fault is, and what it is
 abbrev pub words_text : WordsRefusal → List ℕ
-words_text (words.Usage why) = codes "command line: " ++ why.now ++ codes " (see gtdesk --help)"
+words_text (words.Usage told None) = codes "command line: " ++ told.now ++ codes " (see gtdesk --help)"
+words_text (words.Usage told (Some name)) =
+    codes "command line: " ++ told.now ++ codes ": did you mean '" ++ name.now ++ codes "'? (see gtdesk --help)"
 words_text (words.Word why) = word_text why
 words_text words.Memory = codes "memory: refused by the system"
 

@@ -20,7 +20,13 @@ fn expect_statuses(rt: &impl Abort) {
         why: Reason::Year,
     };
     for (refusal, status) in [
-        (WordsRefusal::Usage("x"), 2),
+        (
+            WordsRefusal::Usage {
+                told: "x",
+                meant: None,
+            },
+            2,
+        ),
         (WordsRefusal::Word(fault), 1),
         (WordsRefusal::Memory, 3),
     ] {
