@@ -1,5 +1,5 @@
 -- What is said of the rows, with what is said of one row more.
-use Rattle.std.proofs.Common.{◌≡◌, ◌∙◌, sym, subst, refl, arith, add-one, ◌<◌, ◌≤◌, ◌+◌, ℕ, suc, List, []}
+use Rattle.std.proofs.Common.{◌≡◌, ◌∙◌, sym, subst, refl, arith, add-one, ◌<◌, ◌+◌, ℕ, suc, List, []}
 use Rattle.std.specs.Prelude.{Option, slice_index_or}
 use Rattle.gtd_records.specs.Closing.{Restriction}
 use Rattle.gtd_repeats.specs.Findings.{AreFindingsOf, IsSaidOfRow, IsSaidOfText, with_finding}
@@ -7,8 +7,8 @@ use Rattle.gtd_repeats.specs.Firsts.{AreFirsts, IsFirst}
 use Rattle.gtd_repeats.specs.declared.findings.Finding.{Finding}
 use Rattle.gtd_repeats.proofs.ListFacts.{any_default}
 
-at_suc : (rows : List Restriction) (row : ℕ) (before : List Finding) (of_row of_text : Option Finding) → AreFindingsOf rows row before
-    → IsSaidOfRow rows row of_row → IsSaidOfText rows row of_text
+at_suc : (rows : List Restriction) (row : ℕ) (before : List Finding) (of_row of_text : Option Finding)
+    → AreFindingsOf rows row before → IsSaidOfRow rows row of_row → IsSaidOfText rows row of_text
     → AreFindingsOf rows (suc row) (with_finding (with_finding before of_row) of_text)
 unfolding AreFindingsOf
 at_suc rows row before of_row of_text are first second = (before, of_row, of_text, are, first, second, refl)
@@ -22,20 +22,6 @@ findings_more rows row before of_row of_text are first second =
 pub no_findings : (rows : List Restriction) (findings : List Finding) → findings ≡ [] → AreFindingsOf rows 0 findings
 unfolding AreFindingsOf
 no_findings rows findings e = e
-
--- ---- the first row that is like one
-
-module _ (Alike : ℕ → ℕ → Type 0) (row first : ℕ) (is : IsFirst Alike row first) where
-  -- it is the row itself if it is not before it
-  pub first_here : row ≤ first → IsFirst Alike row row
-  first_here ge =
-      let le = is.not_later in
-      let e : first ≡ row = omega (arith, le, ge) in
-      subst (λ (m : ℕ). IsFirst Alike row m) e is
-
-  -- it is the row itself, or an earlier one
-  pub first_before : first < row → IsFirst Alike row row → ⊥
-  first_before lt own = own.least first lt is.alike
 
 -- what a list of first rows has at a place
 pub first_at : (Alike : ℕ → ℕ → Type 0) (firsts : List ℕ) (count row first : ℕ) → AreFirsts Alike count firsts → row < count

@@ -1,12 +1,13 @@
 -- The first row that is like each, row by row.
-use Rattle.std.proofs.Common.{◌≡◌, ◌∙◌, sym, ap, refl, subst, arith, ◌<◌, ◌≤◌, ◌+◌, ℕ, zero, suc, List, [], ◌∷◌, ◌++◌, length, get_or}
+use Rattle.std.proofs.Common.{◌≡◌, ◌∙◌, sym, ap, refl, subst, arith, ◌<◌, ◌≤◌, ◌+◌, ℕ, zero, suc}
+use Rattle.std.proofs.Common.{List, [], ◌∷◌, ◌++◌, length, get_or}
 use Rattle.std.specs.Prelude.{slice_index_or}
 use Rattle.std.specs.List.{Contains}
 use Rattle.std.specs.Global.{Vec}
 use Rattle.gtd_repeats.specs.Buckets.{IsListed}
 use Rattle.gtd_repeats.specs.Firsts.{AreFirsts, AreSoFar, IsFirst, IsLikeness, ShareNumbers}
 use Rattle.gtd_repeats.specs.declared.buckets.Entry.{Entry}
-use Rattle.gtd_repeats.proofs.ListFacts.{all_more, all_none, any_default, by_lt}
+use Rattle.gtd_repeats.proofs.ListFacts.{all_more, any_default, by_lt}
 
 pub by_three : {P : Type 0} (a b : ℕ) → (a < b → P) → (b < a → P) → (a ≡ b → P) → P
 by_three zero zero f g h = h refl
@@ -78,14 +79,6 @@ module _ (Alike : ℕ → ℕ → Type 0) (likeness : IsLikeness Alike) (numbers
   so_far_more first row next is so_far =
       let all = all_more IsFound firsts first row next is (λ k early. (so_far.each k early, so_far.kept k early)) in
       record { each = λ k early. (all k early).0; kept = λ k early. (all k early).1 }
-
-  pub none_yet : firsts ≡ [] → AreSoFar Alike numbers firsts buckets
-  none_yet e =
-      let all = all_none IsFound firsts e in
-      record { each = λ k early. (all k early).0; kept = λ k early. (all k early).1 }
-
-  pub all_firsts : (count : ℕ) → length firsts ≡ count → AreSoFar Alike numbers firsts buckets → AreFirsts Alike count firsts
-  all_firsts count many so_far = record { many = many; each = λ row early. so_far.each row (omega (arith, many, early)) }
 
 -- ---- the entries of a bucket, one after the other
 

@@ -2,9 +2,7 @@ mod AlikeFacts
 mod BucketFacts
 mod FindingFacts
 mod FirstFacts
-mod KnownFacts
 mod LineFacts
 mod ListFacts
 mod NumberFacts
-mod RunFacts
 mod TextFacts

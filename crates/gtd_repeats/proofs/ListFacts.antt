@@ -33,9 +33,6 @@ all_more P xs y n e last all k h =
     let same : n ≡ k = omega (arith, e, at) in
     rw (at_end xs y k at) (subst (λ (i : ℕ). P i y) same last))
 
-pub all_none : (P : ℕ → ℕ → Type 0) (xs : List ℕ) → xs ≡ [] → (k : ℕ) → k < length xs → P k (get_or xs k 0)
-all_none P xs e k h = let l : length xs ≡ 0 = ap length e in absurd (omega (arith, l, h))
-
 -- a value that was written is there
 pub set_here : {X : Type 0} (xs : List X) (k : ℕ) (x d : X) → k < length xs → slice_index_or (slice_set xs k x) k d ≡ x
 set_here [] k x d h = absurd (omega (arith, h))
@@ -43,7 +40,8 @@ set_here (y ∷ xs) zero x d h = refl
 set_here (y ∷ xs) (suc k) x d h = set_here xs k x d (omega (arith, h))
 
 -- and the others are as before
-pub set_other : {X : Type 0} (xs : List X) (k j : ℕ) (x d : X) → (j ≡ k → ⊥) → slice_index_or (slice_set xs k x) j d ≡ slice_index_or xs j d
+pub set_other : {X : Type 0} (xs : List X) (k j : ℕ) (x d : X) → (j ≡ k → ⊥)
+    → slice_index_or (slice_set xs k x) j d ≡ slice_index_or xs j d
 set_other [] k j x d n = refl
 set_other (y ∷ xs) zero zero x d n = absurd (n refl)
 set_other (y ∷ xs) zero (suc j) x d n = refl

@@ -2,7 +2,6 @@
 use Rattle.std.proofs.Common.{◌≡◌, ◌∙◌, sym, ap, subst, refl, arith, inl, inr, ◌<◌, ℕ, ◌+◌, ◌-◌, ◌*◌, ◌%◌, ◌==◌}
 use Rattle.std.proofs.Common.{List, [], ◌∷◌, length, get_or, add-zero}
 use Rattle.std.specs.Prelude.{ℤ, ◌<ℤ◌, ◌≤ℤ◌, pos, ◌-ℤ◌, Option, None}
-use Rattle.std.proofs.lemmas.Bool.{ne_eqb}
 use Rattle.std.proofs.lemmas.Int.{ints}
 use Rattle.gtd_core.specs.Seconds.{Interval, IsHorizonSecond}
 use Rattle.gtd_core.specs.Trees.{Tree}
@@ -43,7 +42,8 @@ module _ (rows : List Restriction) (numbers : List ℕ) where
   share_text are j k h = share_seconds are j k (of_text rows j k h)
 
   -- the numbers of rows by their elements and the first rows with their seconds
-  pub share_row : (firsts : List ℕ) → AreFirsts (AreAlikeIn rows kind.Seconds) (length rows) firsts → AreMixed rows firsts numbers
+  pub share_row : (firsts : List ℕ) → AreFirsts (AreAlikeIn rows kind.Seconds) (length rows) firsts
+      → AreMixed rows firsts numbers
       → ShareNumbers (AreAlikeIn rows kind.Row) numbers
   share_row firsts are mix j k h =
       let first : get_or firsts j 0 ≡ get_or firsts k 0 =
@@ -57,9 +57,6 @@ module _ (rows : List Restriction) (numbers : List ℕ) where
 pub total_zero : (xs : List Interval) → total 0 xs ≡ 0
 total_zero [] = refl
 total_zero (x ∷ xs) = refl
-
-pub total_more : (left : ℕ) (x : Interval) (xs : List Interval) → (left ≡ 0 → ⊥) → total left (x ∷ xs) ≡ weight x + total (left - 1) xs
-total_more left x xs some = rw (ne_eqb left 0 some) refl
 
 -- a row without a domain
 whole_normal : (x : Interval) → x.from ≡ years_begin → x.until ≡ years_end

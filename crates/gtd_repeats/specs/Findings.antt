@@ -19,7 +19,8 @@ module _ (rows : List Restriction) where
     pub within : IsWithinRow (row_at rows row) (row_at rows other)
     pub apart : IsSameRow (row_at rows row) (row_at rows other) → ⊥
 
-  -- the first row that says the same; the first whose domain has the same canonical text; the first that closes at the same seconds
+  -- the first row that says the same; the first whose domain has the same canonical text; the first that closes at the same
+  -- seconds
   abbrev pub IsFirstSame : ℕ → ℕ → Type 0
   IsFirstSame = IsFirst (AreAlikeIn rows kind.Row)
 
@@ -38,7 +39,8 @@ module _ (rows : List Restriction) where
       (other : ℕ) × IsFirstSame row row × IsWithinOf row other × (number ≡ row + 1) × (of ≡ other + 1)
   IsSaidOfRow row (Some (SameMeaning number of)) = ⊥
 
-  -- What is said of a row's text, if no earlier row has it: the first row that closes at the same seconds, if that is an earlier one.
+  -- What is said of a row's text, if no earlier row has it: the first row that closes at the same seconds, if that is an earlier
+  -- one.
   abbrev pub IsSaidOfText : ℕ → Option Finding → Type 0
   IsSaidOfText row None = IsFirstText row row → IsFirstMeaning row row
   IsSaidOfText row (Some (SameMeaning number of)) =

@@ -41,7 +41,8 @@ pub(crate) fn add_entry(buckets: &mut Vec<Vec<Entry>>, entry: Entry) -> Result<(
     requires many { length buckets.old.items ≡ 4093 }
     ensures many { length buckets.new.items ≡ 4093 }
     ensures listed { OnOk result (IsListed buckets.new.items entry.number entry.row) }
-    ensures kept { (number row : ℕ) → IsListed buckets.old.items number row → OnOk result (IsListed buckets.new.items number row) }
+    ensures kept { (number row : ℕ) → IsListed buckets.old.items number row
+        → OnOk result (IsListed buckets.new.items number row) }
 {
     let Some(entries) = buckets.get_mut(place_of(entry.number)) else {
         return Err(AllocError);

@@ -1,6 +1,7 @@
 //! The run that lists what the rows of a record file say more than once.
 
-ghost use Rattle.std.specs.Prelude.{◌≡◌, ◌≢◌, ◌<◌, ◌≤◌, ℕ, Ok, Err, IfOk, IfSome, IsErrOf, IsTrue, MatchResult, OnOk, length, string_bytes};
+ghost use Rattle.std.specs.Prelude.{◌≡◌, ◌≢◌, ◌<◌, ◌≤◌, ℕ, Ok, Err, IfOk, IfSome, IsErrOf, IsTrue};
+ghost use Rattle.std.specs.Prelude.{MatchResult, OnOk, length, string_bytes};
 ghost use Rattle.gtd_core.specs.Limits.{most_file_bytes, most_rows};
 ghost use Rattle.gtd_records.specs.Closing.{Restriction};
 ghost use Rattle.gtd_records.specs.File.{IsFile, IsOfFile};
@@ -103,8 +104,8 @@ fn put_listing<O: Output>(
 }
 
 /// Puts what the rows of the record file that an input brings say more than once, and answers the number of lines. Each has the
-/// file's path, as [`gtd_faults::Printable`] shows it, the line of the file on which its row begins, the row, and what is said of
-/// it: `same as row M`, the first earlier row of the same element, directions, vehicle types and seconds; otherwise
+/// file's path, as [`gtd_faults::Printable`] shows it, the line of the file on which its row begins, the row, and what is said
+/// of it: `same as row M`, the first earlier row of the same element, directions, vehicle types and seconds; otherwise
 /// `within row M`, the first of the first 64 rows of its element that closes each direction, vehicle type and second that it
 /// closes; and `same domain as row M`, if the row is the first with its canonical text, and the earlier row M is
 /// the first with the same seconds. The seconds are those from 1901-01-01 to 2699-12-31: all time, where no start gives a year.

@@ -12,4 +12,5 @@ returns-clause-listed c =
 pub returns-clause-kept : goal.returns-clause-kept
 returns-clause-kept c = λ number row listed.
     still_listed c.args.buckets.now.items c.place_of.result c.in-Some.entries.now c.push.new.self c.args.entry
-    (omega (arith, c.place_of.ensures.inside, c.requires.many)) c.in-Some.ensures.value c.in_ok-push.ensures.items number row listed
+    (omega (arith, c.place_of.ensures.inside, c.requires.many)) c.in-Some.ensures.value c.in_ok-push.ensures.items number row
+    listed

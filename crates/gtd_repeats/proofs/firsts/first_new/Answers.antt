@@ -25,7 +25,7 @@ returns-in_ok-add_entry-in-None-clause-first g c = λ numbers likeness shared so
       alone alike likeness numbers firsts c.args.buckets.now.items so_far shared asked.row asked.number
           c.entries_of-entries.result.now c.requires.next is
           (rw c.as_slice.ensures.value at c.entries_of-entries.ensures.listed) none self,
-      later alike likeness numbers firsts c.args.buckets.now.items c.add_entry.new.buckets.items c.in_ok-add_entry-in-None.ensures.kept
-          so_far,
+      later alike likeness numbers firsts c.args.buckets.now.items c.add_entry.new.buckets.items
+          c.in_ok-add_entry-in-None.ensures.kept so_far,
       rw is c.in_ok-add_entry-in-None.ensures.listed,
     )

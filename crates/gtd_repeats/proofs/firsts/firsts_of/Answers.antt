@@ -1,5 +1,5 @@
 use Rattle.std.proofs.Common.{◌≡◌, ◌<◌, arith, rules, length, length-append, [], ◌∷◌}
-use Rattle.gtd_repeats.proofs.FirstFacts.{all_firsts, none_yet, so_far_more}
+use Rattle.gtd_repeats.proofs.FirstFacts.{so_far_more}
 use Rattle.gtd_repeats.proofs.firsts.firsts_of.Goals as goal
 
 pub loop-row-preserved : goal.loop-row-preserved

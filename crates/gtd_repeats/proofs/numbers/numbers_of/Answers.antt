@@ -13,7 +13,8 @@ loop-row-preserved c =
     let inv = c.loop-row.invariant in
     let inside : row < length rows = omega arith in
     let next = rw c.as_slice.ensures.value at c.in_ok-number.ensures.number in
-    let last = next inv.each (rw inv.many (c.requires.known.same row inside)) (rw inv.many (c.requires.known.not_later row inside)) in
+    let last = next inv.each (rw inv.many (c.requires.known.same row inside))
+    (rw inv.many (c.requires.known.not_later row inside)) in
     let l = length-append numbers (number ∷ []) in
     record {
       many = rw c.in_ok-push.ensures.items (omega (arith, l, inv.many));
