@@ -14,8 +14,10 @@ use Rattle.gtd_records.specs.declared.fault.RecordFault.{RecordFault}
 use Rattle.gtd_records.specs.declared.vehicles.Version.{Version}
 use Rattle.gtd_records.specs.declared.warnings.Warning.{Warning}
 use Rattle.gtd_faults.specs.Below.{IsBelow}
+use Rattle.gtd_mistakes.specs.declared.told.Told.{Told}
+use Rattle.gtd_faults.specs.Doubts.{AreDoubtLines, IsOfPart, doubt_below, doubt_line}
 use Rattle.gtd_faults.specs.Listing.{AreLines, AreWarningLines, fault_line, fault_text, lines_below, row_of, warned_row, warning_line}
-use Rattle.gtd_faults.specs.Places.{IsLine, IsLineAt}
+use Rattle.gtd_faults.specs.Places.{IsLine, IsLineAt, field_of}
 use Rattle.gtd_faults.specs.Printable.{printable}
 use Rattle.gtd_faults.specs.declared.below.Below.{Below}
 
@@ -59,6 +61,24 @@ warning_lines_more path bytes (x ∷ warnings) said text line on is = (
   warning_lines_more path bytes warnings said is.2 line on is.3,
   rw (is.4) (append_assoc (warning_line path is.0 x) is.2 (warning_line path line said)),
 )
+
+-- the lines of one thing more that is told
+pub doubt_lines_more : (path bytes : List ℕ) (told : List Told) (one : Told) (text : List ℕ) (line : ℕ) (below : Below)
+    → IsLine bytes one.row line → IsOfPart (field_of bytes one.row 3) one.part.before below
+    → AreDoubtLines path bytes told text
+    → AreDoubtLines path bytes (told ++ one ∷ []) (text ++ (doubt_line path line one ++ doubt_below one below))
+doubt_lines_more path bytes [] one text line below on at is =
+    (line, on, below, at, [], refl, rw is (sym (append-nil (doubt_line path line one ++ doubt_below one below))))
+doubt_lines_more path bytes (x ∷ told) one text line below on at is =
+    let more = doubt_line path line one ++ doubt_below one below in (
+      is.0,
+      is.1,
+      is.2,
+      is.3,
+      is.4 ++ more,
+      doubt_lines_more path bytes told one is.4 line below on at is.5,
+      rw (is.6) (append_assoc (doubt_line path is.0 x ++ doubt_below x is.2) is.4 more),
+    )
 
 abbrev Accepted : List ℕ → Type 0
 Accepted bytes = (found : List Restriction) × IsFile bytes (Ok found)

@@ -1,10 +1,12 @@
 pub mod Below
 pub mod Cut
+pub mod Doubts
 pub mod Expected
 pub mod Hints
 pub mod Listing
 pub mod Places
 pub mod Printable
 pub mod Run
+pub mod Sentences
 pub mod Standing
 pub use Rattle.gtd_records.specs.Faults

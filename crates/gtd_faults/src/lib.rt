@@ -2,17 +2,20 @@
 #![tactic(auto)]
 
 pub use below::Below;
+pub use doubts::lines_of_told;
 pub use hint::Hint;
 pub use lines::first_line;
 pub use list_fault::ListFault;
 pub use places::Rows;
 pub use printable::Printable;
 pub use run::run_faults;
+pub use sentences::{DoubtText, PerhapsLine};
 pub use stretch::Stretch;
 pub use words::{Expected, FaultText, WarningText, accepted};
 
 mod below;
 mod cut;
+mod doubts;
 mod hint;
 pub mod laws;
 mod lines;
@@ -20,5 +23,6 @@ mod list_fault;
 mod places;
 mod printable;
 mod run;
+mod sentences;
 mod stretch;
 mod words;

@@ -4,6 +4,8 @@ ghost use Rattle.std.specs.Prelude.{◌≡◌, ◌≤◌, ◌+◌, ℕ, List, If
 ghost use Rattle.csv.specs.Records.{fields_of};
 ghost use Rattle.gtd_records.specs.Columns.{Fields};
 ghost use Rattle.gtd_faults.specs.Below.{IsOfField, IsOfRowAt};
+ghost use Rattle.gtd_faults.specs.Doubts as spec;
+ghost use Rattle.gtd_faults.specs.Doubts.{IsOfPart};
 ghost use Rattle.gtd_faults.specs.Places.{IsLine, IsLineAt, field_of};
 ghost use Rattle.gtd_faults.specs.Standing.{HasGiven, StandsAt};
 
@@ -41,6 +43,32 @@ fn read_on(
         return Ok(false);
     }
     next_row(reader, row)
+}
+
+// The bytes of a text before the parenthesis that opens after so many others: all of them, if there is none.
+fn opening(text: &[u8], before: u32) -> usize
+    ensures value { result ≡ spec.opening before text.now }
+{
+    let mut left = before;
+    for (at, byte) in text.iter().enumerate() {
+        if *byte == b'(' {
+            if left == 0 {
+                return at;
+            }
+            left -= 1;
+        }
+    }
+    text.len()
+}
+
+// What is shown of a domain around its basic domain after so many others, if there is one.
+fn part_of(field: Option<&[u8]>, before: u32) -> Below<'_>
+    ensures { IsOfPart (option_map (λ f. f.now) field.entry) before result }
+{
+    let Some(text) = field else {
+        return Below::Nothing;
+    };
+    shown_of(Some(text), opening(text, before))
 }
 
 // What is shown of a field, if there is one.
@@ -150,6 +178,19 @@ impl<'a> Rows<'a> {
         }
         shown_of(self.row.get(index), place)
     }
+
+    /// What is shown of the domain of the row, its fourth field: its stretch around the basic domain that stands after so many
+    /// others, with a caret below the first byte of that. It is nothing if the row has no such field.
+    pub fn part(&self, before: u32) -> Below<'_>
+        ensures part { (bytes : List ℕ) (number : ℕ) → StandsAt bytes number self.now
+            → IsOfPart (field_of bytes number 3) before result }
+    {
+        if !self.found {
+            return Below::Nothing;
+        }
+        part_of(self.row.get(3), before)
+    }
+
     /// What is shown of the whole row: its first line, and how many fields it has. It is nothing if there is no such row.
     pub fn row(&self) -> Below<'_>
         ensures row { (bytes : List ℕ) (number : ℕ) → StandsAt bytes number self.now → IsOfRowAt bytes number result }
