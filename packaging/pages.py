@@ -227,9 +227,12 @@ def usage_of(program, command):
         words = command.ways[0][0]
         shown = ["[OPTIONS]"] * any(it.startswith("[--") for it in words) + [f"<{it}>" for it in words if it[0] != "["]
         return " ".join([program.name, command.name, *shown])
-    ways = ["|".join(" ".join(it if it.startswith("--") or len(words) == 1 else f"<{it}>" for it in words)
-                     for words, _ in command.ways)]
-    return f"{program.name} {command.name} <{ways[0]}>"
+    def way(words):
+        needed = [it for it in words if not it.startswith("[--")]
+        shown = [it if it.startswith("--") or len(words) == 1 else f"<{it}>" for it in needed]
+        return " ".join(["[OPTIONS]"] * (needed != words) + shown)
+
+    return f"{program.name} {command.name} <{'|'.join(way(words) for words, _ in command.ways)}>"
 
 
 def compare_help(program, path):

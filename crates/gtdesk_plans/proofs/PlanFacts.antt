@@ -12,9 +12,9 @@ use Rattle.clap.specs.declared.error.kind.ErrorKind.{ErrorKind}
 use Rattle.clap.specs.declared.error.kind.ErrorKind.TheVariants as error
 use Rattle.clap.specs.declared.parser.matches.ArgMatches.{ArgMatches}
 use Rattle.gtdesk_plans.specs.Arguments.{Text}
-use Rattle.gtdesk_plans.specs.CommandLine.{HasWords, desk_app, is_memory, is_request, neither_or_both}
+use Rattle.gtdesk_plans.specs.CommandLine.{HasWords, desk_app, is_memory, is_request}
 use Rattle.gtdesk_plans.specs.Commands.{words_of}
-use Rattle.gtdesk_plans.specs.Given.{AreMistaken, Give, Given, asked_words, given_by, given_in, help_words}
+use Rattle.gtdesk_plans.specs.Given.{AreMistaken, Give, Given, asked_words, given_by, given_in, help_words, told_of}
 use Rattle.gtdesk_plans.specs.Plans.{AreRefused, AskFor, Asks, IsRefused, IsShown, IsWordFault}
 use Rattle.gtdesk_plans.proofs.ReadingFacts.{no_first_fault, one_first}
 use Rattle.gtdesk_plans.proofs.StandFacts.{all_stand}
@@ -105,9 +105,14 @@ give_of words m given has e = record {
 }
 
 pub none_given_by : (words : List Text) (told : Text) (m : ArgMatches) → HasWords words m
-    → None ≡ option_and_then given_in (subcommand_rows_of m) → told ≡ neither_or_both → AreMistaken words told None
+    → None ≡ option_and_then given_in (subcommand_rows_of m) → told ≡ told_of (subcommand_rows_of m) → AreMistaken words told None
 none_given_by words told m has e is =
-    inr (has.faultless, ap (λ (o : Option (Text × List Row)). option_and_then given_in o) (sym has.entered) ∙ sym e, is, refl)
+    inr (
+      has.faultless,
+      ap (λ (o : Option (Text × List Row)). option_and_then given_in o) (sym has.entered) ∙ sym e,
+      is ∙ ap told_of has.entered,
+      refl,
+    )
 
 pub answered : (words : List Text) (given : Given) (result : Result Plan WordsRefusal) → Give words given
     → MatchResult result (Asks given) (IsRefused given) → MatchResult result (AskFor words) (AreRefused words)

@@ -76,6 +76,7 @@ all_stand form.Hours rows p h = tt
 all_stand form.HoursOf rows p h = let x = some_and (hours.plan_in p) _ h in (x.1.faultless, tt)
 all_stand form.Same rows p h = let x = some_and (same.plan_in p) (same.IsPlan rows) h in same_stand rows x.0 x.1
 all_stand form.SameHours rows p h = let x = some_and (same.plan_in p) (same.IsHoursPlan rows) h in same_hours_stand rows x.0 x.1
+all_stand form.SameRows rows p h = tt
 all_stand form.Diff rows p h = let x = some_and (diff.plan_in p) (diff.IsPlan rows) h in diff_stand rows x.0 x.1
 all_stand form.Ask rows p h = tt
 all_stand form.Records rows p h = tt

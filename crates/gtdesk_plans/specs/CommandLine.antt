@@ -64,3 +64,6 @@ usage_text kind = unwrap_or (kind_text kind) (codes "the words are not understoo
 -- What is wrong with words that have no fault and give no command with all of its words.
 abbrev pub neither_or_both : Text
 neither_or_both = codes "hours takes either TEXT or --of DOMAIN"
+
+abbrev pub words_or_file : Text
+words_or_file = codes "same takes either FIRST and SECOND or --file FILE alone"

@@ -50,5 +50,6 @@ abbrev pub file_of : OnePlan → Option Text
 file_of (one.Now p) = Some (string_bytes p.file)
 file_of (one.Faults p) = Some (string_bytes p.file)
 file_of (one.Picture p) = Some (string_bytes p.file)
+file_of (one.SameRows file) = Some (string_bytes file)
 file_of (one.Records file) = Some (string_bytes file)
 file_of other = None

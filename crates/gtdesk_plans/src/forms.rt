@@ -26,6 +26,8 @@ pub(crate) enum Form {
     Same,
     /// `same --hours`
     SameHours,
+    /// `same --file`
+    SameRows,
     /// `diff`
     Diff,
     /// `ask`
@@ -54,11 +56,38 @@ fn hours_form(text: Option<&str>, domain: Option<&str>) -> Option<Form>
     }
 }
 
-// The form of `same`.
-fn same_form(hours: bool) -> Form
-    ensures { result ≡ spec.same_form hours }
+// The form of `same` with both of its words, of domains or of opening hours.
+fn pair_form(hours: bool) -> Form
+    ensures { result ≡ spec.pair_form hours }
 {
     if hours { Form::SameHours } else { Form::Same }
+}
+
+// The form of `same` with neither of its words, of which the option of a file is to be given alone.
+fn rows_form(hours: bool, from: Option<&str>) -> Option<Form>
+    ensures { result ≡ spec.rows_form hours (option_map (λ s. s.now) from.entry) }
+{
+    match from {
+        Some(_) => None,
+        None => { if hours { None } else { Some(Form::SameRows) } }
+    }
+}
+
+// The form of `same`.
+fn same_form(given: &ArgMatches<'_>) -> Option<Form>
+    ensures { result ≡ spec.same_form (rows_of (found_of given.now)) }
+{
+    let hours = is_given(given, "hours");
+    match value(given, "file") {
+        None => match value(given, "SECOND") {
+            Some(_) => Some(pair_form(hours)),
+            None => None,
+        },
+        Some(_) => match value(given, "FIRST") {
+            Some(_) => None,
+            None => rows_form(hours, value(given, "from")),
+        },
+    }
 }
 
 /// The form of the command of this name.
@@ -70,7 +99,7 @@ pub(crate) fn form_of(name: &str, given: &ArgMatches<'_>) -> Option<Form>
         "faults" => Some(Form::Faults),
         "words" => Some(Form::Words),
         "hours" => hours_form(value(given, "TEXT"), value(given, "of")),
-        "same" => Some(same_form(is_given(given, "hours"))),
+        "same" => same_form(given),
         "diff" => Some(Form::Diff),
         "ask" => Some(Form::Ask),
         "records" => Some(Form::Records),

@@ -10,7 +10,7 @@ ghost use Rattle.clap.specs.declared.error.kind.ErrorKind.TheVariants.{DisplayVe
 ghost use Rattle.gtdesk_plans.specs.CommandLine as spec;
 ghost use Rattle.gtdesk_plans.specs.CommandLine.{desk_app, version_line};
 ghost use Rattle.gtdesk_plans.specs.Commands.{asks_of, words_of};
-ghost use Rattle.gtdesk_plans.specs.Given.{Give, Given, asked_words, given_in, help_words};
+ghost use Rattle.gtdesk_plans.specs.Given.{Give, Given, asked_words, given_in, help_words, told_of};
 ghost use Rattle.gtdesk_plans.specs.Plans.{AreRefused, AskFor, Asks, IsRefused, IsShown, IsWordFault};
 ghost use Rattle.gtdesk_plans.specs.Readings.{AreStopped};
 ghost use Rattle.gtdesk_plans.specs.declared.refusal.WordsRefusal.{WordsRefusal};
@@ -27,6 +27,9 @@ use std::alloc::{AllocError, Global};
 
 // Why the words of a command are refused that the library takes: it leaves nothing to see to but this.
 const NEITHER_OR_BOTH: &str = "hours takes either TEXT or --of DOMAIN";
+
+// The same of `same`.
+const WORDS_OR_FILE: &str = "same takes either FIRST and SECOND or --file FILE alone";
 
 // The line of the version.
 const VERSION_LINE: &str = "gtdesk 0.1.0\n";
@@ -112,6 +115,7 @@ fn plan_form(alloc: Global, form: Form, given: &ArgMatches<'_>) -> Result<Plan, 
         Form::HoursOf => hours::plan_of(alloc, given),
         Form::Same => same::plan(alloc, given),
         Form::SameHours => same::plan_hours(alloc, given),
+        Form::SameRows => same::plan_file(alloc, given),
         Form::Diff => diff::plan(alloc, given),
         Form::Ask => ask::plan(alloc, given),
         Form::Records => records::plan(alloc, given),
@@ -134,6 +138,19 @@ fn given<'m, 'a>(matches: &'m ArgMatches<'a>) -> Option<(Form, &'m ArgMatches<'a
     }
 }
 
+// What is wrong with the words of a command that the library takes, and that do not give all that it takes.
+fn left_to_see(matches: &ArgMatches<'_>) -> &'static str
+    ensures { result.now ≡ told_of (subcommand_rows_of matches.now) }
+{
+    match matches.subcommand() {
+        Some((name, _)) => match name {
+            "same" => WORDS_OR_FILE,
+            _ => NEITHER_OR_BOTH,
+        },
+        None => NEITHER_OR_BOTH,
+    }
+}
+
 // The plan of the words after the program's name.
 fn plan_line(alloc: Global, words: &[String]) -> Result<Plan, WordsRefusal>
     ensures { MatchResult result (AskFor (map string_bytes words.now)) (AreRefused (map string_bytes words.now)) }
@@ -142,7 +159,7 @@ fn plan_line(alloc: Global, words: &[String]) -> Result<Plan, WordsRefusal>
         Ok(matches) => match given(&matches) {
             Some((form, given)) => plan_form(alloc, form, given),
             None => Err(WordsRefusal::Usage {
-                told: NEITHER_OR_BOTH,
+                told: left_to_see(&matches),
                 meant: None,
             }),
         },

@@ -43,6 +43,8 @@ pub enum OnePlan {
     DomainOf(String),
     /// To print how the seconds of two time domains compare.
     Same(SamePlan),
+    /// To print what the rows of the record file of this path, or `-` for standard input, say more than once.
+    SameRows(String),
     /// To print the record file of a file of opening hours, whose path this is, or `-` for standard input.
     Records(String),
     /// To print this text: help, or the version.
@@ -61,6 +63,7 @@ impl OnePlan {
             OnePlan::Now(plan) => Some(plan.file.as_str()),
             OnePlan::Faults(plan) => Some(plan.file.as_str()),
             OnePlan::Picture(plan) => Some(plan.file.as_str()),
+            OnePlan::SameRows(file) => Some(file.as_str()),
             OnePlan::Records(file) => Some(file.as_str()),
             _ => None,
         }

@@ -26,6 +26,7 @@ use Rattle.gtd_hours_file.specs.Run.{HasTranslated}
 use Rattle.gtd_hours_file.specs.declared.untranslated.Untranslated.{Untranslated}
 use Rattle.gtd_hours_file.specs.declared.untranslated.Untranslated.TheVariants as hours
 use Rattle.gtd_now.specs.Now.{IsNow}
+use Rattle.gtd_repeats.specs.Run as repeats
 use Rattle.gtdesk_tool.specs.declared.ending.Ending.{Ending}
 use Rattle.gtdesk_tool.specs.declared.ending.Ending.TheVariants as ending
 use Rattle.gtdesk_plans.specs.declared.plans.OnePlan.{OnePlan}
@@ -114,6 +115,21 @@ pub record RanFaults (path : List ℕ) (warn : Bool) (file old new : Option (Lis
   pub whole : OnOk answer (IsTrue ended)
   pub endless : IsErrOf answer list.Endless → IsTrue silent
 
+-- The answer of `same --file`, from that of its run: no line, or some.
+abbrev pub repeats_outcome : Result ℕ RunFault → Result Ending RunRefusal
+repeats_outcome (Ok zero) = Ok ending.Done
+repeats_outcome (Ok (suc lines)) = Ok ending.Differ
+repeats_outcome (Err why) = Err (refusal_for why)
+
+-- The run of `same --file` had an answer, and all that the run promises for this answer holds.
+pub record RanRepeats (path : List ℕ) (file old new : Option (List ℕ)) (silent ended : Bool) (result : Result Ending RunRefusal)
+    : Type 0 where
+  pub answer : Result ℕ RunFault
+  pub outcome : result ≡ repeats_outcome answer
+  pub listed : IfSome file (λ bytes. repeats.HasListed path bytes old new answer)
+  pub whole : OnOk answer (IsTrue ended)
+  pub endless : IsErrOf answer (run.Records records.Endless) → IsTrue silent
+
 -- A text of this kind was put whole, and then the output was ended. If the output failed, it had taken a first part of such a
 -- text, which may be none or all of it. Any other refusal has its cause, and nothing was put.
 pub record PutText (IsText : List ℕ → Type 0) (IsCause : RunRefusal → Type 0) (old new : Option (List ℕ)) (ended : Bool)
@@ -197,6 +213,8 @@ HasRunPlan (plan.DomainOf text) file old new silent ended errors result =
     PutText (IsDomainLine (string_bytes text)) (IsTextRefusal (string_bytes text)) old new ended result
 HasRunPlan (plan.Same p) file old new silent ended errors result =
     HasCompared p.first p.second p.from.second.0 old new ended result
+HasRunPlan (plan.SameRows path) file old new silent ended errors result =
+    RanRepeats (string_bytes path) file old new silent ended result
 HasRunPlan (plan.Records path) file old new silent ended errors result =
     RanRecords (string_bytes path) file old new silent ended errors result
 HasRunPlan (plan.Show text) file old new silent ended errors result =

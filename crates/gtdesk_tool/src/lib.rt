@@ -14,6 +14,7 @@ mod line;
 mod performer;
 mod picture;
 mod refusal;
+mod repeats;
 mod same;
 
 pub use ask::perform_ask;

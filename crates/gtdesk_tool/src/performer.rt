@@ -14,6 +14,7 @@ use crate::hours_domain::print_domain_of;
 use crate::hours_records::print_records;
 use crate::picture::{print_domain, print_picture};
 use crate::refusal::RunRefusal;
+use crate::repeats::print_repeats;
 use crate::same::print_comparison;
 use gtd_core::Domain;
 use gtd_devices::{Input, Output};
@@ -227,6 +228,7 @@ pub fn perform<I: Input, O: Output, E: Output>(
         OnePlan::Same(plan) => {
             print_comparison(alloc, output, &plan.first, &plan.second, plan.from)
         }
+        OnePlan::SameRows(file) => print_repeats(alloc, input, output, file.as_str()),
         OnePlan::Records(file) => print_records(alloc, input, output, errors, file.as_str()),
         OnePlan::Show(text) => print_text(output, text.as_str()),
     }

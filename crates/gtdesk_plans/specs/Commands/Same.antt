@@ -1,8 +1,8 @@
--- The command `same [--hours] FIRST SECOND [--from MOMENT]`.
-use Rattle.std.specs.Prelude.{[], ◌∷◌, List, Option, Some, None, IsSomeAnd, codes}
+-- The command `same [--hours] FIRST SECOND [--from MOMENT]`, or `same --file FILE`.
+use Rattle.std.specs.Prelude.{◌≡◌, [], ◌∷◌, List, Option, Some, None, IsSomeAnd, codes, string_bytes}
 use Rattle.clap.specs.Simple.{App}
 use Rattle.clap.specs.Walk.{Row, first_of}
-use Rattle.gtdesk_plans.specs.Arguments.{Text, command_of, flag_rule, option_rule, word_rule}
+use Rattle.gtdesk_plans.specs.Arguments.{Text, command_of, flag_rule, free_word_rule, option_rule}
 use Rattle.gtdesk_plans.specs.HoursWords.{IsHoursDomain}
 use Rattle.gtdesk_plans.specs.Readings.{Reading, Word, if_given, word_as}
 use Rattle.gtdesk_plans.specs.Rows.{text_of}
@@ -16,7 +16,8 @@ use Rattle.gtdesk_plans.specs.declared.refusal.WordName.TheVariants as name
 abbrev pub app : App
 app =
     command_of (codes "same")
-    (flag_rule (codes "hours") ∷ word_rule (codes "FIRST") ∷ word_rule (codes "SECOND") ∷ option_rule (codes "from") ∷ [])
+    (flag_rule (codes "hours") ∷ free_word_rule (codes "FIRST") ∷ free_word_rule (codes "SECOND") ∷ option_rule (codes "from")
+    ∷ option_rule (codes "file") ∷ [])
 
 -- Two words that are read alike, and the moment, if it is given.
 abbrev pub pair_as : (Text → Reading) → List Row → List Word
@@ -50,3 +51,11 @@ IsHoursPlan rows p =
 
 abbrev pub AsksHours : List Row → Plan → Type 0
 AsksHours rows p = IsSomeAnd (plan_in p) (IsHoursPlan rows)
+
+-- The rows of a file.
+abbrev pub file_words : List Row → List Word
+file_words rows = []
+
+abbrev pub AsksFile : List Row → Plan → Type 0
+AsksFile rows (plan.One (one.SameRows file)) = string_bytes file ≡ text_of (codes "file") rows
+AsksFile rows other = ⊥

@@ -1,13 +1,13 @@
-//! The command `same`, of time domains and of opening hours.
+//! The command `same`, of time domains, of opening hours, and of the rows of a file.
 
 ghost use Rattle.std.specs.Prelude.{MatchResult};
 ghost use Rattle.clap.specs.Matches.{found_of};
 ghost use Rattle.clap.specs.Walk.{rows_of};
 ghost use Rattle.gtdesk_plans.specs.Arguments.{Builds};
-ghost use Rattle.gtdesk_plans.specs.Commands.Same.{Asks, AsksHours, app, hours_words, words};
+ghost use Rattle.gtdesk_plans.specs.Commands.Same.{Asks, AsksFile, AsksHours, app, file_words, hours_words, words};
 ghost use Rattle.gtdesk_plans.specs.Readings.{AreStopped};
 
-use crate::arguments::{Argument, command_of};
+use crate::arguments::{Argument, with_arguments};
 use crate::given::{text, value};
 use crate::plans::{Moment, OnePlan, Plan};
 use crate::refusal::{WordName, WordsRefusal};
@@ -27,24 +27,29 @@ pub struct SamePlan {
     pub from: Moment,
 }
 
-/// The command for `clap`.
+/// The command for `clap`. Either both words or the option of a file are to be given, which the library does not see to.
 pub(crate) fn command<'a>(alloc: Global) -> Result<Command<'a>, AllocError>
     ensures { Builds app result }
 {
-    command_of(
+    let command = Command::new(alloc, "same")
+        .about(
+            "Print whether two time domains have the same seconds, or the first second that one of them has alone; \
+                or what the rows of a record file say more than once",
+        )
+        .override_usage("gtdesk same <[OPTIONS] <FIRST> <SECOND>|--file <FILE>>");
+    with_arguments(
         alloc,
-        "same",
-        "Print whether two time domains have the same seconds, or the first second that one of them has alone",
+        command,
         &[
             Argument::Flag {
                 name: "hours",
                 help: "Take FIRST and SECOND as opening hours",
             },
-            Argument::Word {
+            Argument::FreeWord {
                 name: "FIRST",
                 help: "A time domain",
             },
-            Argument::Word {
+            Argument::FreeWord {
                 name: "SECOND",
                 help: "Another time domain",
             },
@@ -52,6 +57,11 @@ pub(crate) fn command<'a>(alloc: Global) -> Result<Command<'a>, AllocError>
                 name: "from",
                 value: "MOMENT",
                 help: "The second, YYYY-MM-DDThh:mm:ss, to compare from; 1901-01-01T00:00:00 if none is given",
+            },
+            Argument::Option {
+                name: "file",
+                value: "FILE",
+                help: "The record file whose rows are compared with one another, or - for standard input",
             },
         ],
     )
@@ -99,5 +109,16 @@ pub(crate) fn plan_hours(alloc: Global, given: &ArgMatches<'_>) -> Result<Plan, 
             from,
         }))),
         Err(refusal) => Err(refusal),
+    }
+}
+
+/// The same of the rows of a file.
+pub(crate) fn plan_file(alloc: Global, given: &ArgMatches<'_>) -> Result<Plan, WordsRefusal>
+    ensures { MatchResult result (AsksFile (rows_of (found_of given.now)))
+        (AreStopped (file_words (rows_of (found_of given.now)))) }
+{
+    match String::from_str(alloc, text(given, "file")) {
+        Ok(file) => Ok(Plan::One(OnePlan::SameRows(file))),
+        Err(_) => Err(WordsRefusal::Memory),
     }
 }
