@@ -1,6 +1,7 @@
 #!/usr/bin/env python3
 """The words of domains by a plain model of the wording in crates/gtd_words/README.md: ends are looked up in the calendar, over
-twelve years of starts. The rows of tests/rows/desk_words.rows and the tables of docs/GALLERY.md must say what the model says.
+twelve years of starts. The rows of tests/rows/desk_words.rows, those in three
+languages of desk_words_in.rows, and the tables of docs/GALLERY.md must say what the model says.
 
 Usage: tests/words.py                 compares them
        tests/words.py [de] DOMAIN..   prints the words of domains
@@ -468,6 +469,12 @@ def rows():
                 cells = line.rstrip("\n").split("\t")
                 for domain, said in zip(cells[::2], cells[1::2]):
                     yield domain, "en", said.replace("\\n", "\n")
+    with open(os.path.join(TOP, "tests", "rows", "desk_words_in.rows"), encoding="utf-8") as file:
+        for line in file:
+            if "\t" in line:
+                domain, *said = line.rstrip("\n").split("\t")
+                for language, text in zip(("en", "de", "fr"), said):
+                    yield domain, language, text.replace("\\n", "\n")
     with open(os.path.join(TOP, "docs", "GALLERY.md"), encoding="utf-8") as file:
         text = file.read()
         for domain, *said in re.findall(r"^\| `([^`]+)` \| ([^|]+) \| ([^|]+) \| ([^|]+) \|$", text, re.M):

@@ -21,7 +21,7 @@ use Rattle.gtd_text.specs.facts.ReadingLaws.{one_fault}
 use Rattle.gtdesk_plans.specs.Arguments.{Text}
 use Rattle.gtdesk_plans.specs.HoursWords.{HasDomain, IsNoDomainOf}
 use Rattle.gtdesk_plans.specs.Readings.{AllStand, AreStopped, IsFaultOf, IsFirstFault, IsReason, Reading, Stands, Word}
-use Rattle.gtdesk_plans.specs.Words.{AreDays, numbers_of, parts_of}
+use Rattle.gtdesk_plans.specs.Words.{AreDays, language_in, numbers_of, parts_of}
 use Rattle.gtdesk_plans.specs.declared.refusal.NoDomain.{NoDomain}
 use Rattle.gtdesk_plans.specs.declared.refusal.NoDomain.TheVariants as none
 use Rattle.gtdesk_plans.specs.declared.refusal.Reason.{Reason}
@@ -124,6 +124,7 @@ one_reason text none.TooMany none.TooMany h k = refl
 
 stands_or_not : (reading : Reading) (why : Reason) → Stands reading → IsReason reading why → ⊥
 stands_or_not (Reading.element text) why s h = some_read (number_of text) s h.1
+stands_or_not (Reading.language text) why s h = some_read (language_in text) s h.1
 stands_or_not (Reading.elements text) why s h = some_read (numbers_of (parts_of text)) s h.1
 stands_or_not (Reading.direction text) why s h = some_read (direction_of text) s h.1
 stands_or_not (Reading.vehicle text) why s h = h.1 s.0 s.1.0 s.1.1
@@ -136,6 +137,7 @@ stands_or_not (Reading.hours text) why s h = no_reason text s h.0 h.2
 
 one_why : (reading : Reading) (a b : Reason) → IsReason reading a → IsReason reading b → a ≡ b
 one_why (Reading.element text) a b h k = h.0 ∙ sym k.0
+one_why (Reading.language text) a b h k = h.0 ∙ sym k.0
 one_why (Reading.elements text) a b h k = h.0 ∙ sym k.0
 one_why (Reading.direction text) a b h k = h.0 ∙ sym k.0
 one_why (Reading.vehicle text) a b h k = h.0 ∙ sym k.0

@@ -5,6 +5,7 @@ use Rattle.clap.specs.Walk.{Row, first_of}
 use Rattle.gtd_core.specs.declared.domain.Domain.{Domain}
 use Rattle.gtd_core.specs.declared.second.Sec.{Sec}
 use Rattle.gtdesk_plans.specs.Arguments.{Text}
+use Rattle.gtd_phrases.specs.declared.phrase.Language.{Language}
 use Rattle.gtdesk_plans.specs.Commands.{asks_of, words_of}
 use Rattle.gtdesk_plans.specs.Commands.Diff as diff
 use Rattle.gtdesk_plans.specs.Commands.Hours as hours
@@ -14,7 +15,7 @@ use Rattle.gtdesk_plans.specs.Commands.Same as same
 use Rattle.gtdesk_plans.specs.Commands.Words as words
 use Rattle.gtdesk_plans.specs.HoursWords.{HasDomain, IsHoursDomain}
 use Rattle.gtdesk_plans.specs.Readings.{AllStand, Reading, if_given, word_as}
-use Rattle.gtdesk_plans.specs.Words.{IsFromWord, elements_in}
+use Rattle.gtdesk_plans.specs.Words.{IsFromWord, elements_in, language_for}
 use Rattle.gtdesk_plans.specs.declared.commands.diff.DiffPlan.{DiffPlan}
 use Rattle.gtdesk_plans.specs.declared.commands.now.NowPlan.{NowPlan}
 use Rattle.gtdesk_plans.specs.declared.commands.picture.DomainPicturePlan.{DomainPicturePlan}
@@ -35,6 +36,11 @@ elements_stand : (text : Option Text) (elements : List ℕ) → elements_in text
     → AllStand (if_given text (λ t. word_as name.Element (Reading.elements t)))
 elements_stand None elements e = tt
 elements_stand (Some text) elements e = (ap is_some e, tt)
+
+language_stands : (text : Option Text) (language : Language) → language_for text ≡ Some language
+    → AllStand (if_given text (λ t. word_as name.Language (Reading.language t)))
+language_stands None language e = tt
+language_stands (Some text) language e = (ap is_some e, tt)
 
 from_stands : (text : Option Text) (second : Sec) → IsFromWord text second
     → AllStand (if_given text (λ t. word_as name.Moment (Reading.moment t)))
@@ -71,7 +77,9 @@ domain_stand rows p h = (h.1.faultless, ((p.year, h.2), tt))
 pub all_stand : (f : Form) (rows : List Row) (p : Plan) → asks_of f rows p → AllStand (words_of f rows)
 all_stand form.Now rows p h = let x = some_and (now.plan_in p) (now.IsPlan rows) h in now_stand rows x.0 x.1
 all_stand form.Faults rows p h = tt
-all_stand form.Words rows p h = let x = some_and (words.plan_in p) _ h in (x.1.faultless, tt)
+all_stand form.Words rows p h =
+    let x = some_and (words.plan_in p) (words.IsPlan rows) h in
+    (x.1.0.faultless, language_stands (first_of (codes "lang") rows) x.0.language x.1.1)
 all_stand form.Hours rows p h = tt
 all_stand form.HoursOf rows p h = let x = some_and (hours.plan_in p) _ h in (x.1.faultless, tt)
 all_stand form.Same rows p h = let x = some_and (same.plan_in p) (same.IsPlan rows) h in same_stand rows x.0 x.1

@@ -12,7 +12,8 @@ use Rattle.gtd_records.specs.Columns.{direction_of, number_of}
 use Rattle.gtd_text.specs.Reading.{HasNoFault, IsFault}
 use Rattle.gtdesk_plans.specs.Arguments.{Text}
 use Rattle.gtdesk_plans.specs.HoursWords.{HasDomain, IsNoDomainOf}
-use Rattle.gtdesk_plans.specs.Words.{AreDays, IsNoVehicle, IsNoYear, IsVehicleWord, IsYearWord, numbers_of, parts_of}
+use Rattle.gtdesk_plans.specs.Words.{AreDays, IsNoVehicle, IsNoYear, IsVehicleWord, IsYearWord, language_in}
+use Rattle.gtdesk_plans.specs.Words.{numbers_of, parts_of}
 use Rattle.gtdesk_plans.specs.declared.refusal.NoDomain.{NoDomain}
 use Rattle.gtdesk_plans.specs.declared.refusal.Reason.{Reason}
 use Rattle.gtdesk_plans.specs.declared.refusal.Reason.TheVariants as reason
@@ -22,7 +23,7 @@ use Rattle.gtdesk_plans.specs.declared.refusal.WordsRefusal.{WordsRefusal}
 use Rattle.gtdesk_plans.specs.declared.refusal.WordsRefusal.TheVariants as refusal
 
 -- What a word has to be: the number of an element, or such numbers with commas between them; a direction; a vehicle type; a year;
--- a moment; a date; a date that makes a horizon with the date before it; a time domain; opening hours that have one.
+-- a moment; a date; a date that makes a horizon with the date before it; a time domain; opening hours that have one; a language.
 pub data Reading : Type 0 where
   element : (text : Text) → Reading
   elements : (text : Text) → Reading
@@ -34,6 +35,7 @@ pub data Reading : Type 0 where
   days : (from to : Text) → Reading
   domain : (text : Text) → Reading
   hours : (text : Text) → Reading
+  language : (text : Text) → Reading
 
 -- The word is that.
 abbrev pub Stands : Reading → Type 0
@@ -47,6 +49,7 @@ Stands (Reading.date text) = (day : ℤ) × (date_in text ≡ Ok day)
 Stands (Reading.days from to) = (horizon : Horizon) × AreDays from to horizon
 Stands (Reading.domain text) = HasNoFault text
 Stands (Reading.hours text) = HasDomain text
+Stands (Reading.language text) = IsSome (language_in text)
 
 -- Why it is not.
 abbrev pub IsReason : Reading → Reason → Type 0
@@ -62,6 +65,7 @@ IsReason (Reading.days from to) why =
     × (date_in to ≡ Ok last) × IsHorizonFault fault first last
 IsReason (Reading.domain text) why = (fault : TextFault) × (why ≡ reason.Domain fault) × IsFault text fault
 IsReason (Reading.hours text) why = (none : NoDomain) × (why ≡ reason.Hours none) × IsNoDomainOf text none
+IsReason (Reading.language text) why = (why ≡ reason.Language) × (language_in text ≡ None)
 
 -- A word of a command, and what it has to be.
 pub record Word : Type 0 where

@@ -1,6 +1,8 @@
 -- What the single words of a command stand for.
 use Rattle.std.specs.Prelude.{◌≡◌, ◌==◌, ◌*ℤ◌, ℕ, pos, List, [], ◌∷◌, Option, Some, None, Ok}
+use Rattle.std.specs.Prelude.{codes, if◌then◌else◌}
 use Rattle.std.specs.List.{slice_split}
+use Rattle.std.specs.Str.{bytes_eq}
 use Rattle.gtd_calendar.specs.Read.{date_in}
 use Rattle.gtd_moments.specs.Moments.{moment_in}
 use Rattle.gtd_core.specs.Limits.{day_seconds, first_horizon_day}
@@ -9,6 +11,8 @@ use Rattle.gtd_core.specs.Whole.{from_day, to_day}
 use Rattle.gtd_core.specs.declared.domain.Domain.{Domain}
 use Rattle.gtd_core.specs.declared.horizon.Horizon.{Horizon}
 use Rattle.gtd_core.specs.declared.second.Sec.{Sec}
+use Rattle.gtd_phrases.specs.declared.phrase.Language.{Language}
+use Rattle.gtd_phrases.specs.declared.phrase.Language.TheVariants.{English, French, German}
 use Rattle.gtd_records.specs.Columns.{number_of}
 use Rattle.gtd_report.specs.Run.{IsTableYear, IsVehicleType}
 use Rattle.gtd_text.specs.Reading.{HasNoFault, StandsFor}
@@ -63,3 +67,16 @@ pub record AreDays (from to : Text) (horizon : Horizon) : Type 0 where
 abbrev pub IsFromWord : Option Text → Sec → Type 0
 IsFromWord None second = second.0 ≡ first_horizon_day *ℤ pos day_seconds
 IsFromWord (Some text) second = moment_in text ≡ Ok second
+
+-- The language that a word names.
+abbrev pub language_in : Text → Option Language
+language_in text =
+    if bytes_eq text (codes "en") then Some English
+    else if bytes_eq text (codes "de") then Some German
+    else if bytes_eq text (codes "fr") then Some French
+    else None
+
+-- The language that a word names, which may be left out: then it is English.
+abbrev pub language_for : Option Text → Option Language
+language_for None = Some English
+language_for (Some text) = language_in text

@@ -15,3 +15,4 @@ pub use faults::FaultsPlan;
 pub use now::NowPlan;
 pub use picture::{DomainPicturePlan, PicturePlan, PictureSubject};
 pub use same::SamePlan;
+pub use words::WordsPlan;

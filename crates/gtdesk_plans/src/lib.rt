@@ -18,6 +18,7 @@ mod words;
 
 pub use commands::{
     DiffPlan, DomainPicturePlan, FaultsPlan, NowPlan, PicturePlan, PictureSubject, SamePlan,
+    WordsPlan,
 };
 pub use hours::hours_domain;
 pub use planner::plan;

@@ -2,7 +2,9 @@
 
 ghost use Rattle.gtd_core.specs.Seconds.{IsMomentSecond};
 
-use crate::commands::{DiffPlan, DomainPicturePlan, FaultsPlan, NowPlan, PicturePlan, SamePlan};
+use crate::commands::{
+    DiffPlan, DomainPicturePlan, FaultsPlan, NowPlan, PicturePlan, SamePlan, WordsPlan,
+};
 use gtd_core::{Domain, Sec};
 
 /// A moment: a second from 1901-01-01T00:00:00 to 2199-12-31T23:59:59.
@@ -35,8 +37,8 @@ pub enum OnePlan {
     Picture(PicturePlan),
     /// To print the picture of a time domain.
     DomainPicture(DomainPicturePlan),
-    /// To print this time domain in plain English.
-    Words(Domain),
+    /// To print a time domain in plain words.
+    Words(WordsPlan),
     /// To print opening hours that are open at exactly the seconds of this time domain.
     HoursOf(Domain),
     /// To print the time domain with exactly the seconds at which the opening hours of this text are open.

@@ -30,6 +30,8 @@ pub enum WordName {
     From,
     /// `TO`
     To,
+    /// `LANGUAGE`
+    Language,
 }
 
 /// Why a text of opening hours has no time domain.
@@ -62,6 +64,8 @@ pub enum Reason {
     Domain(TextFault),
     /// It is not a text of opening hours with a time domain.
     Hours(NoDomain),
+    /// It is not `en`, `de` or `fr`.
+    Language,
 }
 
 /// A word that stands for nothing.

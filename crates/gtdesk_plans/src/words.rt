@@ -7,7 +7,7 @@ ghost use Rattle.gtd_records.specs.Columns.{direction_of, number_of};
 ghost use Rattle.gtdesk_plans.specs.HoursWords.{IsHoursDomain};
 ghost use Rattle.gtdesk_plans.specs.Readings.{AreStopped, Reading, if_given, word_as};
 ghost use Rattle.gtdesk_plans.specs.Words.{AreDays, IsFromWord, IsNoVehicle, IsNoYear, IsReadDomain, IsVehicleWord, IsYearWord};
-ghost use Rattle.gtdesk_plans.specs.Words.{elements_in, numbers_of, parts_of};
+ghost use Rattle.gtdesk_plans.specs.Words.{elements_in, language_for, language_in, numbers_of, parts_of};
 
 use crate::hours::hours_domain;
 use crate::plans::Moment;
@@ -16,6 +16,7 @@ use gtd_calendar::read_date;
 use gtd_core::limits::FIRST_MOMENT;
 use gtd_core::{Domain, Fault, Horizon, Sec, TextFault};
 use gtd_moments::read_moment;
+use gtd_phrases::Language;
 use gtd_records::{Direction, read_direction, read_number};
 use gtd_text::read_domain;
 use std::alloc::{AllocError, Global};
@@ -211,6 +212,43 @@ pub(crate) fn elements_of(alloc: Global, text: Option<&str>) -> Result<Vec<u64>,
     match text {
         Some(text) => numbers_of(alloc, text.as_bytes()),
         None => Ok(Vec::new(alloc)),
+    }
+}
+
+// The language that a text names.
+fn language_in(text: &str) -> Option<Language>
+    ensures { result ≡ language_in text.now }
+{
+    match text {
+        "en" => Some(Language::English),
+        "de" => Some(Language::German),
+        "fr" => Some(Language::French),
+        _ => None,
+    }
+}
+
+// The same, or the refusal of the text.
+fn language_named(text: &str) -> Result<Language, WordsRefusal>
+    ensures { MatchResult result (λ language. language_in text.now ≡ Some language)
+        (AreStopped (word_as WordName.Language (Reading.language text.now) ∷ [])) }
+{
+    match language_in(text) {
+        Some(language) => Ok(language),
+        None => Err(WordsRefusal::Word(WordFault {
+            word: WordName::Language,
+            why: Reason::Language,
+        })),
+    }
+}
+
+/// The language that a word names, which may be left out: then it is English.
+pub(crate) fn language_of(text: Option<&str>) -> Result<Language, WordsRefusal>
+    ensures { MatchResult result (λ language. language_for (option_map (λ s. s.now) text.entry) ≡ Some language)
+        (AreStopped (if_given (option_map (λ s. s.now) text.entry) (λ t. word_as WordName.Language (Reading.language t)))) }
+{
+    match text {
+        Some(text) => language_named(text),
+        None => Ok(Language::English),
     }
 }
 

@@ -68,6 +68,7 @@ word_name name.Year = codes "YEAR"
 word_name name.Moment = codes "MOMENT"
 word_name name.From = codes "FROM"
 word_name name.To = codes "TO"
+word_name name.Language = codes "LANGUAGE"
 
 -- why a word stands for nothing; of a domain, its first fault and the place
 abbrev pub reason_text : Reason → List ℕ
@@ -80,6 +81,7 @@ reason_text (reason.Date why) = date_reason why
 reason_text (reason.Horizon why) = horizon_reason why
 reason_text (reason.Domain why) = fault_name why.kind ++ codes " at " ++ decimal why.place
 reason_text (reason.Hours why) = no_domain_text why
+reason_text reason.Language = codes "not en, de or fr"
 
 -- the word that stands for nothing, and why
 abbrev pub word_text : WordFault → List ℕ

@@ -3,7 +3,7 @@ use Rattle.std.specs.Prelude.{◌≡◌, ◌≢◌, ◌↔◌, ◌⊎◌, ⊤, �
 use Rattle.std.specs.Prelude.{Any, IfErr, IfOk, IfSome, OnOk, string_bytes}
 use Rattle.std.specs.Io.KnownBytes.{Appends, Keeps}
 use Rattle.gtd_core.specs.Parts.{domain_tree}
-use Rattle.gtd_words.specs.Words.{words}
+use Rattle.gtd_words.specs.Words.{words_in}
 use Rattle.gtd_records.specs.declared.fault.RecordFault.TheVariants as records
 use Rattle.gtd_core.specs.declared.domain.Domain.{Domain}
 use Rattle.gtd_records.specs.Closing.{Restriction}
@@ -205,8 +205,8 @@ HasRunPlan (plan.Picture p) file old new silent ended errors result =
     RanPicture p.subject (string_bytes p.title) file old new silent ended result
 HasRunPlan (plan.DomainPicture p) file old new silent ended errors result =
     RanDomainPicture p.domain (string_bytes p.title) p.year old new ended result
-HasRunPlan (plan.Words domain) file old new silent ended errors result =
-    PutText (λ text. text ≡ words (domain_tree domain)) (λ r. r ≡ refusal.Memory) old new ended result
+HasRunPlan (plan.Words p) file old new silent ended errors result =
+    PutText (λ text. text ≡ words_in p.language (domain_tree p.domain)) (λ r. r ≡ refusal.Memory) old new ended result
 HasRunPlan (plan.HoursOf domain) file old new silent ended errors result =
     PutText (IsHoursLine domain) IsHoursRefusal old new ended result
 HasRunPlan (plan.DomainOf text) file old new silent ended errors result =

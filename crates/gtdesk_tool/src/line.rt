@@ -99,6 +99,7 @@ fn word_name(word: WordName) -> &'static str
         WordName::Moment => "MOMENT",
         WordName::From => "FROM",
         WordName::To => "TO",
+        WordName::Language => "LANGUAGE",
     }
 }
 
@@ -124,6 +125,7 @@ impl Display for ReasonText {
                 write!(f, "{kind} at {place}")
             }
             Reason::Hours(why) => write!(f, "{}", TextLine(why)),
+            Reason::Language => write!(f, "not en, de or fr"),
         }
     }
 }

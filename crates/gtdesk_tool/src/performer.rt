@@ -3,7 +3,7 @@
 ghost use Rattle.std.specs.Prelude.{◌≡◌, ◌<◌, None};
 ghost use Rattle.gtd_core.specs.Parts.{domain_tree};
 ghost use Rattle.gtd_core.specs.Seconds.{IsHorizonSecond};
-ghost use Rattle.gtd_words.specs.Words.{words};
+ghost use Rattle.gtd_words.specs.Words.{words_in};
 ghost use Rattle.gtdesk_plans.specs.Plans.{file_of};
 ghost use Rattle.gtdesk_tool.specs.Running.{HasRunPlan, IsQuiet, PutText, RanFaults, RanNow, failures_after_read};
 ghost use Rattle.gtdesk_tool.specs.Running.{failures_after_write, listing_outcome, outcome_of, refusal_for};
@@ -16,14 +16,13 @@ use crate::picture::{print_domain, print_picture};
 use crate::refusal::RunRefusal;
 use crate::repeats::print_repeats;
 use crate::same::print_comparison;
-use gtd_core::Domain;
 use gtd_devices::{Input, Output};
 use gtd_faults::{ListFault, run_faults};
 use gtd_now::{Asked, run_now};
 use gtd_records::RecordFault;
 use gtd_report::{Progress, RunFault, finish, put_line};
-use gtd_words::write_words;
-use gtdesk_plans::{OnePlan, Reason, WordFault, WordName};
+use gtd_words::write_words_in;
+use gtdesk_plans::{OnePlan, Reason, WordFault, WordName, WordsPlan};
 use std::alloc::Global;
 
 /// The refusal for a fault of a run.
@@ -147,15 +146,15 @@ pub(crate) fn print_bytes<O: Output>(output: &mut O, text: &[u8]) -> Result<Endi
 fn print_words<O: Output>(
     alloc: Global,
     output: &mut O,
-    domain: &Domain,
+    plan: &WordsPlan,
 ) -> Result<Ending, RunRefusal>
     requires writable { O.failure_count output.old < u64.MAX }
-    ensures put { PutText (λ t. t ≡ words (domain_tree domain.now)) (λ r. r ≡ RunRefusal.Memory)
+    ensures put { PutText (λ t. t ≡ words_in plan.now.language (domain_tree plan.now.domain)) (λ r. r ≡ RunRefusal.Memory)
         (O.taken output.old) (O.taken output.new) (O.is_ended output.new) result }
     ensures write_faults { O.failure_count output.new
         ≡ failures_after_write result (O.failure_count output.old) }
 {
-    match write_words(alloc, domain) {
+    match write_words_in(alloc, plan.language, &plan.domain) {
         Ok(text) => print_text(output, text.as_str()),
         Err(_) => Err(RunRefusal::Memory),
     }
@@ -222,7 +221,7 @@ pub fn perform<I: Input, O: Output, E: Output>(
             plan.title.as_str(),
             plan.year,
         ),
-        OnePlan::Words(domain) => print_words(alloc, output, domain),
+        OnePlan::Words(plan) => print_words(alloc, output, plan),
         OnePlan::HoursOf(domain) => print_hours_of(alloc, output, domain),
         OnePlan::DomainOf(text) => print_domain_of(alloc, output, text.as_str()),
         OnePlan::Same(plan) => {

@@ -7,13 +7,24 @@ ghost use Rattle.gtdesk_plans.specs.Arguments.{Builds};
 ghost use Rattle.gtdesk_plans.specs.Commands.Words.{Asks, app, words};
 ghost use Rattle.gtdesk_plans.specs.Readings.{AreStopped};
 
-use crate::arguments::{DOMAIN, command_of};
-use crate::given::text;
+use crate::arguments::{Argument, DOMAIN, command_of};
+use crate::given::{text, value};
 use crate::plans::{OnePlan, Plan};
 use crate::refusal::{WordName, WordsRefusal};
-use crate::words::domain_of;
+use crate::words::{domain_of, language_of};
 use clap::{ArgMatches, Command};
+use gtd_core::Domain;
+use gtd_phrases::Language;
 use std::alloc::{AllocError, Global};
+
+/// The words of a time domain.
+#[derive(Drop)]
+pub struct WordsPlan {
+    /// The domain.
+    pub domain: Domain,
+    /// The language.
+    pub language: Language,
+}
 
 /// The command for `clap`.
 pub(crate) fn command<'a>(alloc: Global) -> Result<Command<'a>, AllocError>
@@ -22,8 +33,15 @@ pub(crate) fn command<'a>(alloc: Global) -> Result<Command<'a>, AllocError>
     command_of(
         alloc,
         "words",
-        "Say in plain English when a time domain holds",
-        &[DOMAIN],
+        "Say in plain words when a time domain holds",
+        &[
+            DOMAIN,
+            Argument::Option {
+                name: "lang",
+                value: "LANGUAGE",
+                help: "The language: en, de or fr",
+            },
+        ],
     )
 }
 
@@ -31,8 +49,12 @@ pub(crate) fn command<'a>(alloc: Global) -> Result<Command<'a>, AllocError>
 pub(crate) fn plan(alloc: Global, given: &ArgMatches<'_>) -> Result<Plan, WordsRefusal>
     ensures { MatchResult result (Asks (rows_of (found_of given.now))) (AreStopped (words (rows_of (found_of given.now)))) }
 {
-    match domain_of(alloc, WordName::Domain, text(given, "DOMAIN")) {
-        Ok(domain) => Ok(Plan::One(OnePlan::Words(domain))),
+    let domain = match domain_of(alloc, WordName::Domain, text(given, "DOMAIN")) {
+        Ok(domain) => domain,
+        Err(refusal) => return Err(refusal),
+    };
+    match language_of(value(given, "lang")) {
+        Ok(language) => Ok(Plan::One(OnePlan::Words(WordsPlan { domain, language }))),
         Err(refusal) => Err(refusal),
     }
 }
