@@ -172,12 +172,15 @@ gtd() {
     try_command "$@"
 }
 
-# The file, if there is one, is the second word.
+# The file, if there is one, is the second word, or stands behind `--file`. `ask` reads its questions first.
 gtdesk() {
-    local at="gtdesk: ${3-}:"
+    local at="gtdesk: ${3-}:" read_at
+    [ "${3-}" != --file ] || at="gtdesk: ${4-}:"
+    read_at=$at
+    [ "${2-}" != ask ] || read_at='gtdesk: standard input:'
     name=gtdesk program=$gtdesk
-    line_of=([Open]="$at cannot be opened" [NoMemory]='gtdesk: memory: refused by the system' [ReadFault]="$at ReadFault"
-        [Endless]="$at Endless" [WriteFault]='gtdesk: standard output: cannot be written')
+    line_of=([Open]="$at cannot be opened" [NoMemory]='gtdesk: memory: refused by the system' [ReadFault]="$read_at ReadFault"
+        [Endless]="$read_at Endless" [WriteFault]='gtdesk: standard output: cannot be written')
     try_command "$@"
 }
 
@@ -187,6 +190,7 @@ header=element,direction,vehicle,domain
 printf '%s\n' $header "17,positive,0,$domain" 17,negative,11, > r.csv
 printf '%s\n' $header '17,both,0,(h0){h24}' > always.csv
 printf '%s\n' $header '17,both,0,[(h25){h4}]' > bad.csv
+printf '%s\n' $header 17,both,0, 17,both,0, > twice.csv
 printf '%s\n' element,direction,vehicles,hours '17,both,0,Fr 22:00-04:00' > hours.csv
 printf '%s\n' element,direction,vehicles,hours '17,both,0,Apr 10-31' > bad_hours.csv
 { echo $header; printf "%s,both,0,$domain\n" {1..300}; } > long.csv
@@ -219,8 +223,11 @@ gtdesk write words "$domain"
 gtdesk write hours 'Mo-Fr 08:00-17:00'
 gtdesk write hours --of '(t2h0m0){d1}*(h7m0){m120}'
 gtdesk write same --hours 24/7 00:00-24:00
+gtdesk 'open read write' same --file twice.csv
+gtdesk 'open read error' same --file bad.csv
 gtdesk 'open read write' diff r.csv r.csv 2024-04-01 2024-04-08 11
 gtdesk 'open read error' diff bad.csv bad.csv 2024-04-01 2024-04-08 11
+gtdesk 'open read error' ask r.csv
 gtdesk 'open read write' records hours.csv
 gtdesk 'open read error' records bad_hours.csv
 gtdesk 'open read write' picture r.csv 17 positive 11 2024

@@ -177,8 +177,11 @@ program_refused 0 same "$domain" "$domain"
 program_refused 1 same "$domain" '[(h25){h1}]'
 program_refused 0 same --hours 24/7 00:00-24:00
 program_refused 1 same --hours 24/7 'Mo-Fr PH off'
+program_refused 0 same --file r.csv
+program_refused 1 same --file faulty.csv
 program_refused 0 diff r.csv r.csv 2024-04-01 2024-04-08 11
 program_refused 1 diff r.csv faulty.csv 2024-04-01 2024-04-08 11
+program_refused 1 ask r.csv
 program_refused 0 records hours.csv
 program_refused 1 records faulty_hours.csv
 program_refused 0 picture r.csv 17 positive 12 2024
