@@ -158,6 +158,7 @@ of_domain text n (refusal.Records why) is = absurd is
 of_domain text n refusal.Open is = absurd is
 of_domain text n (refusal.Old why) is = absurd is
 of_domain text n refusal.OldOpen is = absurd is
+of_domain text n (refusal.Questions why) is = absurd is
 of_domain text n refusal.Write is = absurd is
 
 pub of_none : (n : ℕ) (r : RunRefusal) → ⊥ → TellsNone n r

@@ -152,16 +152,13 @@ impl Display for WordsLine {
 
     fn fmt<W: fmt::Write>(&self, f: &mut Formatter<W>) -> fmt::Result {
         match self.0 {
-            WordsRefusal::Usage { told, meant: None } => {
-                write!(f, "command line: {told} (see gtdesk --help)")
-            }
-            WordsRefusal::Usage {
-                told,
-                meant: Some(name),
-            } => write!(
-                f,
-                "command line: {told}: did you mean '{name}'? (see gtdesk --help)"
-            ),
+            WordsRefusal::Usage { told, meant } => match meant {
+                None => write!(f, "command line: {told} (see gtdesk --help)"),
+                Some(name) => write!(
+                    f,
+                    "command line: {told}: did you mean '{name}'? (see gtdesk --help)"
+                ),
+            },
             WordsRefusal::Word(fault) => write!(f, "{}", WordLine(fault)),
             WordsRefusal::Memory => write!(f, "memory: refused by the system"),
         }
