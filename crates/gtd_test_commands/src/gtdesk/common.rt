@@ -11,7 +11,7 @@ pub(crate) fn planned(rt: &impl Abort, alloc: Global, words: &[&str]) -> OnePlan
     let owned = owned(alloc, words).expect(rt, "memory");
     match plan(alloc, owned) {
         Ok(Plan::One(plan)) => plan,
-        Ok(Plan::Diff(_)) => panic!(rt; "{words:?} compares two files"),
+        Ok(_) => panic!(rt; "{words:?} reads two files"),
         Err(_) => panic!(rt; "{words:?} is refused"),
     }
 }
