@@ -39,7 +39,7 @@ def test_hours():
         ("Mo", "Mo-Fr 08:00-18:00; PH off", True, "Unsupported", 19),
         ("Mo", "", True, "Incomplete", 0),
         ("Mo", "Mo\0", True, "BadToken", 2),
-        ("Mo", "--from", True, "BadToken", 0),
+        ("Mo", "--from", True, "BadToken", 2),
         ("Mo", "1800-2056/2", True, "TooMany", 0),
     ],
 )
