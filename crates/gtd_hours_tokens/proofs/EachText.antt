@@ -2,7 +2,8 @@
 use Rattle.std.proofs.Common.{◌≡◌, ◌≢◌, ℕ, zero, suc, ◌+◌, ◌<◌, ◌≤◌, ◌⊎◌, inl, inr, List, length, Option, Some, None}
 use Rattle.std.proofs.Common.{Result, Ok, Err, refl, subst, arith}
 use Rattle.std.specs.Prelude.{slice_index}
-use Rattle.std.proofs.lemmas.Bool.{cases_eq, cases_lt, cases_order}
+use Rattle.std.proofs.lemmas.Bool.{cases_lt}
+use Rattle.gtd_scan.specs.facts.SpaceRuns.{spaces_from}
 use Rattle.gtd_hours_tokens.specs.declared.token.Token.{Token}
 use Rattle.gtd_hours_tokens.specs.declared.token.BadToken.{BadToken}
 use Rattle.gtd_hours_tokens.specs.Lexing.{AreSpaces, AreTokens, IsNext, IsToken, IsTokenFault}
@@ -10,43 +11,6 @@ use Rattle.gtd_hours_tokens.specs.TokenAt.{token_at}
 use Rattle.gtd_hours_tokens.specs.facts.NextToken.{stop_next, token_next}
 use Rattle.gtd_hours_tokens.specs.facts.TokenForms.{begins_inside, ends_inside, goes_on}
 use Rattle.gtd_hours_tokens.specs.facts.WholeText.{HasRead, all_read, at_front, fault_read, with_token}
-
--- spaces from one place up to another, with which the text ends or at which is none
-record Spaces (text : List ℕ) (from : ℕ) : Type 0 where
-  to : ℕ
-  spaces : AreSpaces text from to
-  inside : to ≤ length text
-  ends : to < length text → slice_index text to ≢ 32
-
-none_from : (text : List ℕ) (from : ℕ) → AreSpaces text from from
-none_from text from = (omega arith, λ i le lt. absurd (omega (arith, le, lt)))
-
-one_more : (text : List ℕ) (from to : ℕ) → slice_index text from ≡ 32 → AreSpaces text (from + 1) to → AreSpaces text from to
-one_more text from to space more = (
-  omega (arith, more.0),
-  λ i le lt. elim (cases_order from i) [
-    | inl same ↦ subst (λ (n : ℕ). slice_index text n ≡ 32) same space
-    | inr (inl less) ↦ more.1 i (omega (arith, less)) lt
-    | inr (inr over) ↦ absurd (omega (arith, over, le))
-  ],
-)
-
-spaces_from : (fuel : ℕ) (text : List ℕ) (from : ℕ) → from ≤ length text → length text ≤ from + fuel → Spaces text from
-spaces_from zero text from le all = record {
-  to = from;
-  spaces = none_from text from;
-  inside = le;
-  ends = λ lt. absurd (omega (arith, lt, all));
-}
-spaces_from (suc fuel) text from le all = elim (cases_lt from (length text)) [
-  | inr end ↦ record { to = from; spaces = none_from text from; inside = le; ends = λ lt. absurd (omega (arith, lt, end)) }
-  | inl lt ↦ elim (cases_eq (slice_index text from) 32) [
-    | inr other ↦ record { to = from; spaces = none_from text from; inside = le; ends = λ lt. other }
-    | inl space ↦
-        let more = spaces_from fuel text (from + 1) (omega (arith, lt)) (omega (arith, all)) in
-        record { to = more.to; spaces = one_more text from more.to space more.spaces; inside = more.inside; ends = more.ends }
-  ]
-]
 
 abbrev pub Next : List ℕ → ℕ → Type 0
 Next text from = (next : Result (Option Token) BadToken) × IsNext text from next

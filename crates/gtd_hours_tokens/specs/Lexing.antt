@@ -4,21 +4,16 @@ use Rattle.std.specs.Prelude.{slice_index, Option, Some, None, Result, Ok, Err}
 use Rattle.std.specs.Char.{is_ascii_alphabetic, is_ascii_digit}
 use Rattle.std.specs.List.{list_all}
 use Rattle.std.specs.Str.Parse.{digits_value}
+use Rattle.gtd_scan.specs.Tokens.{ReadsTokens}
+pub use Rattle.gtd_scan.specs.Runs.{begins, IsRun}
+pub use Rattle.gtd_scan.specs.Spaces.{AreSpaces}
 use Rattle.gtd_hours_tokens.specs.declared.token.Token.{Token}
 use Rattle.gtd_hours_tokens.specs.declared.token.BadToken.{BadToken}
 use Rattle.gtd_hours_tokens.specs.declared.token.TokenKind.{TokenKind}
-use Rattle.gtd_hours_tokens.specs.declared.token.TokenKind.TheVariants.{Comma, Semicolon, Dash, Slash, Colon, OpenBracket, CloseBracket}
+use Rattle.gtd_hours_tokens.specs.declared.token.TokenKind.TheVariants.{Comma, Semicolon, Dash, Slash, Colon, OpenBracket}
+use Rattle.gtd_hours_tokens.specs.declared.token.TokenKind.TheVariants.{CloseBracket}
 use Rattle.gtd_hours_tokens.specs.declared.token.TokenKind.TheVariants.{Unsupported, Number, Time}
 use Rattle.gtd_hours_tokens.specs.Words.{word_of}
-
--- The first byte is such a one.
-abbrev pub begins : (ℕ → Bool) → List ℕ → Bool
-begins is [] = false
-begins is (byte ∷ bytes) = is byte
-
--- These bytes are all of such a kind, and those that follow do not go on with it: they are a longest run.
-abbrev pub IsRun : (ℕ → Bool) → List ℕ → List ℕ → Type 0
-IsRun is run rest = (list_all is run ≡ true) × (begins is rest ≡ false)
 
 -- The bytes begin with a colon (58) and a digit.
 abbrev pub begins_minutes : List ℕ → Bool
@@ -74,10 +69,6 @@ pub record IsToken (text : List ℕ) (token : Token) : Type 0 where
 abbrev pub BeginsNoToken : List ℕ → ℕ → Type 0
 BeginsNoToken text place = (token : Token) → IsToken text token → token.from ≡ place → ⊥
 
--- Each byte from one place up to but not including another is a space.
-abbrev pub AreSpaces : List ℕ → ℕ → ℕ → Type 0
-AreSpaces text from to = (from ≤ to) × ((place : ℕ) → from ≤ place → place < to → slice_index text place ≡ 32)
-
 -- The first byte from a place on that is no space is here, and no token begins with it.
 pub record IsStop (text : List ℕ) (from place : ℕ) : Type 0 where
   pub spaces : AreSpaces text from place
@@ -93,9 +84,7 @@ IsNext text from (Err bad) = IsStop text from bad.place
 
 -- From one place to another the text is these tokens, with spaces or none before, between and after them.
 abbrev pub Reads : List ℕ → ℕ → List Token → ℕ → Type 0
-Reads text from [] to = AreSpaces text from to
-Reads text from (token ∷ tokens) to =
-    AreSpaces text from token.from × IsToken text token × Reads text token.to tokens to
+Reads text = ReadsTokens (λ (token : Token). token.from) (λ (token : Token). token.to) (IsToken text) text
 
 -- The whole text is spaces and these tokens, each at its place.
 abbrev pub AreTokens : List ℕ → List Token → Type 0

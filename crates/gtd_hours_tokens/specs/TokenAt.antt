@@ -7,7 +7,8 @@ use Rattle.std.specs.Char.{is_ascii_alphabetic, is_ascii_digit}
 use Rattle.std.specs.Str.Parse.{digits_value}
 use Rattle.gtd_hours_tokens.specs.declared.token.Token.{Token}
 use Rattle.gtd_hours_tokens.specs.declared.token.TokenKind.{TokenKind}
-use Rattle.gtd_hours_tokens.specs.declared.token.TokenKind.TheVariants.{Comma, Semicolon, Dash, Slash, Colon, OpenBracket, CloseBracket}
+use Rattle.gtd_hours_tokens.specs.declared.token.TokenKind.TheVariants.{Comma, Semicolon, Dash, Slash, Colon, OpenBracket}
+use Rattle.gtd_hours_tokens.specs.declared.token.TokenKind.TheVariants.{CloseBracket}
 use Rattle.gtd_hours_tokens.specs.declared.token.TokenKind.TheVariants.{Unsupported, Number, Time}
 use Rattle.gtd_hours_tokens.specs.Lexing.{begins_minutes, is_no_quote}
 use Rattle.gtd_hours_tokens.specs.Words.{word_of}

@@ -1,4 +1,3 @@
 pub mod NextToken
-pub mod Runs
 pub mod TokenForms
 pub mod WholeText

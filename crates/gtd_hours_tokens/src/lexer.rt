@@ -1,15 +1,15 @@
 //! From bytes to tokens.
 
-ghost use Rattle.std.specs.Prelude.{◌≡◌, ◌≢◌, ◌≤◌, ◌<◌, length, slice_index, IfErr, IfOk, IfSome, List};
-ghost use Rattle.gtd_hours_tokens.specs.Lexing.{AreSpaces, AreTokens, IsNext, IsTokenFault};
+ghost use Rattle.std.specs.Prelude.{◌≡◌, ◌≤◌, ◌<◌, length, IfErr, IfOk, IfSome, List};
+ghost use Rattle.gtd_hours_tokens.specs.Lexing.{AreTokens, IsNext, IsTokenFault};
 ghost use Rattle.gtd_hours_tokens.specs.TokenAt.{front, token_at};
 ghost use Rattle.gtd_hours_tokens.specs.declared.token.Token.{Token};
 
 use crate::numbers::number_front;
-use crate::runs::{after_digits, digits_at_front, letters_at_front};
 use crate::signs::sign_front;
 use crate::token::{BadToken, Token, TokenKind};
 use crate::words::word_front;
+use gtd_scan::{after_digits, after_spaces, digits_at_front, letters_at_front};
 
 /// The next token from a place on: the first after spaces, `None` where at most spaces are left, or the place of the first
 /// byte after spaces where no token begins. The next call begins at the end of the token. Takes no memory.
@@ -41,23 +41,6 @@ pub fn check_tokens(text: &[u8]) -> Result<(), BadToken>
         place = token.to;
     }
     Ok(())
-}
-
-// The first place from this one on that is not a space.
-fn after_spaces(text: &[u8], from: usize) -> usize
-    requires { from ≤ length text.now }
-    ensures spaces { AreSpaces text.now from result }
-    ensures inside { result ≤ length text.now }
-    ensures ends { result < length text.now → slice_index text.now result ≢ 32 }
-{
-    let mut place = from;
-    while place < text.len() {
-        if text[place] != b' ' {
-            return place;
-        }
-        place += 1;
-    }
-    place
 }
 
 // The token that begins at this place, if one does.

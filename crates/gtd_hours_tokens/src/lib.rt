@@ -8,7 +8,6 @@
 pub mod laws;
 mod lexer;
 mod numbers;
-mod runs;
 mod signs;
 mod token;
 mod words;

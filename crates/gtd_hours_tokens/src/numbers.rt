@@ -1,14 +1,14 @@
 //! Numbers and times.
 
-ghost use Rattle.std.specs.Prelude.{◌≡◌, ◌<◌, ◌≤◌, ◌^◌, length, true};
+ghost use Rattle.std.specs.Prelude.{◌≡◌, length, true};
 ghost use Rattle.std.specs.Char.{is_ascii_digit};
 ghost use Rattle.std.specs.List.{list_all};
 ghost use Rattle.std.specs.Str.Parse.{digits_value};
 ghost use Rattle.gtd_hours_tokens.specs.Lexing.{begins_minutes};
 ghost use Rattle.gtd_hours_tokens.specs.TokenAt.{number, number_front, time, time_front};
 
-use crate::runs::{after_digits, digits_at_front};
 use crate::token::TokenKind;
+use gtd_scan::{after_digits, digits_at_front, digits_value};
 
 /// The number or the time that begins with this longest run of digits and goes on with these bytes, and its length.
 pub fn number_front(digits: &[u8], rest: &[u8]) -> Option<(TokenKind, usize)>
@@ -75,17 +75,4 @@ fn two_digits(digits: &[u8]) -> u8
     ensures { result ≡ digits_value 10 digits.now }
 {
     digits_value(digits) as u8
-}
-
-fn digits_value(digits: &[u8]) -> u16
-    requires few { length digits.now ≤ 4 }
-    requires all { list_all is_ascii_digit digits.now ≡ true }
-    ensures value { result ≡ digits_value 10 digits.now }
-    ensures small { result < 10 ^ length digits.now }
-{
-    let mut number = 0;
-    for digit in digits {
-        number = number * 10 + u16::from(*digit - b'0');
-    }
-    number
 }

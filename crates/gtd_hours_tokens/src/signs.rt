@@ -1,9 +1,10 @@
 //! The signs of opening hours.
 
-ghost use Rattle.std.specs.Prelude.{◌≡◌};
+ghost use Rattle.std.specs.Prelude.{◌≡◌, ◌≤◌, length};
+ghost use Rattle.std.specs.List.{prefix_len};
+ghost use Rattle.gtd_hours_tokens.specs.Lexing.{is_no_quote};
 ghost use Rattle.gtd_hours_tokens.specs.TokenAt.{bars_front, comment_length, sign_front, sign_of};
 
-use crate::runs::comment_bytes;
 use crate::token::TokenKind;
 
 /// The sign or the comment that begins with this byte and goes on with these, and its length.
@@ -40,6 +41,14 @@ fn comment_length(rest: &[u8]) -> usize
     } else {
         inside + 1
     }
+}
+
+// How many bytes a comment holds, after its first quote.
+fn comment_bytes(bytes: &[u8]) -> usize
+    ensures count { result ≡ prefix_len is_no_quote bytes.now }
+    ensures within { result ≤ length bytes.now }
+{
+    bytes.iter().take_while(|byte| **byte != b'"').count()
 }
 
 fn sign_of(byte: u8) -> Option<TokenKind>

@@ -14,7 +14,8 @@ use Rattle.gtd_text.specs.facts.Lexed.{HasRead, all_read, found, read_more, read
 use Rattle.gtd_text.specs.facts.LexingForms.{fault_of_parts, tokens_of_parts}
 use Rattle.gtd_text.specs.facts.ReadingLaws.{no_fault, readable}
 use Rattle.gtd_text.specs.facts.Phases.{found_first}
-use Rattle.gtd_text.specs.facts.TokenForms.{fault_agrees, no_token}
+use Rattle.gtd_scan.specs.facts.Computed.{no_token}
+use Rattle.gtd_text.specs.facts.TokenForms.{are_computed, fault_agrees}
 
 -- the text is spaces and tokens
 record IsLexed (text : List ℕ) : Type 0 where
@@ -39,7 +40,7 @@ at_token text before place lt other h go None e = inr (
     reads = all_read text before place h;
     inside = lt;
     no_space = other;
-    no_token = no_token text place e;
+    no_token = no_token (are_computed text) place e;
     kind = (fault_agrees text place (fault_at_front (drop place text))).1 refl;
   },
 )

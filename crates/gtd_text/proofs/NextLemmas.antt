@@ -11,8 +11,10 @@ use Rattle.gtd_text.specs.ComputedLexing.{BeginsNoToken, IsFaultAt, IsTokenFault
 use Rattle.gtd_text.specs.TokenAt.{token_at, fault_at_front}
 use Rattle.gtd_text.specs.ToCome.{IsNextFrom}
 use Rattle.gtd_text.specs.facts.Lexed.{found}
-use Rattle.gtd_text.specs.facts.TokenForms.{computed, fault_agrees, no_token}
-use Rattle.gtd_text.specs.facts.Unique.{inside_at, begins_at_no_space, goes_on, ends_after}
+use Rattle.gtd_text.specs.facts.TokenForms.{are_computed, computed, fault_agrees}
+use Rattle.gtd_scan.specs.facts.Computed.{no_token}
+use Rattle.gtd_scan.specs.facts.OneReading.{ends_after}
+use Rattle.gtd_text.specs.facts.Unique.{inside_at, begins_at_no_space, goes_on, is_language}
 
 -- the first of the tokens begins where the spaces end
 begins_there : (text : List ℕ) (place from : ℕ) (token : Token) (others : List Token) → AreSpaces text place from
@@ -22,7 +24,7 @@ begins_there text place from token others spaces ends reads = elim (cases_order 
   | inr (inl less) ↦ absurd (begins_at_no_space text token reads.1 (spaces.1 token.from reads.0.0 less))
   | inr (inr more) ↦
       let inside : from < length text =
-      omega (arith, more, goes_on text token reads.1, ends_after text token.to others (length text) reads.2) in
+      omega (arith, more, goes_on text token reads.1, ends_after (is_language text) token.to others (length text) reads.2) in
       absurd (ends inside (reads.0.1 from spaces.0 more))
 ]
 
@@ -69,6 +71,6 @@ none_begins text before place fault reads inside no_space none kind at =
       reads = subst (λ n. Reads text 0 before n) same reads;
       inside = subst (λ n. n < length text) same inside;
       no_space = subst (λ n. slice_index text n ≢ 32) same no_space;
-      no_token = subst (BeginsNoToken text) same (no_token text place none);
+      no_token = subst (BeginsNoToken text) same (no_token (are_computed text) place none);
       kind = subst (λ n. IsFaultAt text n fault.kind) same ((fault_agrees text place fault.kind).1 kind);
     }

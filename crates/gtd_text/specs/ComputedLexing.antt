@@ -1,8 +1,10 @@
 -- Which tokens a text is made of, in the form in which proofs take them apart: the digits of a field are apart from what
 -- follows them, and each sign stands for itself. `Lexing` is the definition, and `facts/LexingForms` proves that both say the
 -- same.
-use Rattle.std.specs.Prelude.{List, reverse, ◌≡◌, ◌≢◌, ℕ, ◌+◌, ◌≤◌, ◌<◌, true, false, [], ◌∷◌, ◌++◌, length, drop}
+use Rattle.std.specs.Prelude.{List, reverse, ◌≡◌, ◌≢◌, ℕ, ◌+◌, ◌≤◌, ◌<◌, true, false, ◌∷◌, ◌++◌, length, drop}
 use Rattle.std.specs.Prelude.{slice_index}
+use Rattle.gtd_scan.specs.Runs.{begins}
+use Rattle.gtd_scan.specs.Tokens.{ReadsTokens}
 use Rattle.gtd_text.specs.declared.token.Token.{Token}
 use Rattle.gtd_text.specs.declared.token.TokenKind.{TokenKind}
 use Rattle.std.specs.Char.{is_ascii_digit}
@@ -14,7 +16,7 @@ use Rattle.gtd_core.specs.declared.fault.TextFault.{TextFault}
 use Rattle.gtd_text.specs.declared.token.TokenKind.TheVariants.{OpenBracket, CloseBracket, OpenParenthesis, CloseParenthesis}
 use Rattle.gtd_text.specs.declared.token.TokenKind.TheVariants.{OpenBrace, CloseBrace, Plus, Star, Minus, Field}
 use Rattle.gtd_text.specs.ComputedFields.{is_start_letter}
-use Rattle.gtd_text.specs.Lexing.{AreSpaces, kinds}
+use Rattle.gtd_text.specs.Lexing.{kinds}
 
 -- What each token is, the newest first.
 unfoldable pub newest_first : List Token → List TokenKind
@@ -35,8 +37,7 @@ IsSign (Field letter value digits) byte = ⊥
 
 -- The bytes do not begin with a decimal digit: there are none, or the first is another byte.
 abbrev pub BeginsNoDigit : List ℕ → Type 0
-BeginsNoDigit [] = Unit {0}
-BeginsNoDigit (byte ∷ bytes) = is_ascii_digit byte ≡ false
+BeginsNoDigit bytes = begins is_ascii_digit bytes ≡ false
 
 -- At this place of the text are the letter and all the decimal digits that directly follow it, one to six.
 pub record HasDigits (text : List ℕ) (place letter : ℕ) (digits : List ℕ) : Type 0 where
@@ -69,9 +70,7 @@ pub data IsFaultAt (text : List ℕ) (place : ℕ) (fault : Fault) : Type 0 wher
 
 -- From one place to another the text is these tokens, with spaces or none before, between and after them.
 abbrev pub Reads : List ℕ → ℕ → List Token → ℕ → Type 0
-Reads text from [] to = AreSpaces text from to
-Reads text from (token ∷ tokens) to =
-    AreSpaces text from token.from × IsToken text token × Reads text token.to tokens to
+Reads text = ReadsTokens (λ (token : Token). token.from) (λ (token : Token). token.to) (IsToken text) text
 
 -- The whole text is spaces and these tokens, each at its place.
 abbrev pub AreTokens : List ℕ → List Token → Type 0

@@ -1,34 +1,20 @@
 -- What comes next from a place on: there is one answer, and the one that is computed is it.
-use Rattle.std.proofs.Common.{◌≡◌, ◌≢◌, ℕ, ◌<◌, ◌≤◌, List, length, Option, Some, None, Result, Ok, Err, refl, sym, ap, subst, ◌∙◌}
-use Rattle.std.proofs.Common.{arith, inl, inr}
+use Rattle.std.proofs.Common.{◌≡◌, ◌≢◌, ℕ, ◌<◌, ◌≤◌, List, length, Option, Some, None, Result, Ok, Err, refl, sym, ap, subst}
+use Rattle.std.proofs.Common.{arith}
 use Rattle.std.specs.Prelude.{slice_index}
-use Rattle.std.proofs.lemmas.Bool.{cases_order}
+use Rattle.gtd_scan.specs.facts.Computed.{no_token, one_token}
+use Rattle.gtd_scan.specs.facts.SpaceRuns.{same_end}
 use Rattle.gtd_hours_tokens.specs.declared.token.Token.{Token}
 use Rattle.gtd_hours_tokens.specs.declared.token.BadToken.{BadToken}
 use Rattle.gtd_hours_tokens.specs.Lexing.{IsToken, AreSpaces, IsStop, IsNext}
 use Rattle.gtd_hours_tokens.specs.TokenAt.{token_at}
-use Rattle.gtd_hours_tokens.specs.facts.TokenForms.{computed, stands, no_token, begins_inside, no_space}
-
--- spaces that end at two places, at neither of which is a space
-same_end : (text : List ℕ) (from a b : ℕ) → AreSpaces text from a → AreSpaces text from b
-    → (a < length text → slice_index text a ≢ 32) → (b < length text → slice_index text b ≢ 32) → a ≤ length text
-    → b ≤ length text → a ≡ b
-same_end text from a b h k none also in_a in_b = elim (cases_order a b) [
-  | inl same ↦ same
-  | inr (inl less) ↦ absurd (none (omega (arith, less, in_b)) (k.1 a h.0 less))
-  | inr (inr more) ↦ absurd (also (omega (arith, more, in_a)) (h.1 b k.0 more))
-]
+use Rattle.gtd_hours_tokens.specs.facts.TokenForms.{are_computed, stands, begins_inside, no_space}
 
 token_end : (text : List ℕ) (token : Token) → IsToken text token → token.from < length text → slice_index text token.from ≢ 32
 token_end text token is lt space = no_space text token is space
 
 same_bad : (a b : BadToken) → a.place ≡ b.place → a ≡ b
 same_bad a b e = let make : ℕ → BadToken = λ n. record { place = n } in ap make e
-
-at_most_one : (text : List ℕ) (token other : Token) → IsToken text token → IsToken text other → token.from ≡ other.from
-    → token ≡ other
-at_most_one text token other h k same =
-    let both : Some token ≡ Some other = sym (computed text token h) ∙ ap (token_at text) same ∙ computed text other k in cc
 
 inside : (text : List ℕ) (token : Token) → IsToken text token → token.from ≤ length text
 inside text token is = let lt = begins_inside text token is in omega (arith, lt)
@@ -40,7 +26,7 @@ pub one_next : (text : List ℕ) (from : ℕ) (a b : Result (Option Token) BadTo
 one_next text from (Ok (Some x)) (Ok (Some y)) h k =
     let same = same_end text from x.from y.from h.0 k.0 (token_end text x h.1) (token_end text y k.1) (inside text x h.1)
     (inside text y k.1) in
-    ap (λ (t : Token). Ok (Some t)) (at_most_one text x y h.1 k.1 same)
+    ap (λ (t : Token). Ok (Some t)) (one_token (are_computed text) x y h.1 k.1 same)
 one_next text from (Ok (Some x)) (Ok None) h k =
     let same = same_end text from x.from (length text) h.0 k (token_end text x h.1) (at_end text) (inside text x h.1)
     (omega arith) in
@@ -71,10 +57,6 @@ one_next text from (Err bad) (Err other) h k =
     (omega (arith, h.inside)) (omega (arith, k.inside)) in
     ap Err (same_bad bad other same)
 
-pub one_token : (text : List ℕ) (token other : Token) → IsToken text token → IsToken text other → token.from ≡ other.from
-    → token ≡ other
-one_token = at_most_one
-
 -- ---- what is computed
 
 pub token_next : (text : List ℕ) (from place : ℕ) (token : Token) → AreSpaces text from place → token_at text place ≡ Some token
@@ -86,4 +68,4 @@ token_next text from place token spaces e =
 pub stop_next : (text : List ℕ) (from place : ℕ) → AreSpaces text from place → place < length text → slice_index text place ≢ 32
     → token_at text place ≡ None → IsStop text from place
 stop_next text from place spaces lt none e =
-    record { spaces = spaces; inside = lt; no_space = none; no_token = no_token text place e }
+    record { spaces = spaces; inside = lt; no_space = none; no_token = no_token (are_computed text) place e }

@@ -1,5 +1,5 @@
 -- What a token is and the token that is computed agree.
-use Rattle.std.proofs.Common.{◌≡◌, ℕ, ◌+◌, ◌-◌, ◌<◌, ◌≤◌, ◌↔◌, Bool, true, false, cond, List, [], ◌∷◌, ◌++◌, length, drop, take}
+use Rattle.std.proofs.Common.{◌≡◌, ℕ, ◌+◌, ◌-◌, ◌<◌, ◌≤◌, Bool, true, false, cond, List, [], ◌∷◌, ◌++◌, length, drop, take}
 use Rattle.std.proofs.Common.{Option, Some, None, refl, sym, ap, subst, ◌∙◌, arith, append_assoc, length-append, add-one}
 use Rattle.std.proofs.Common.{drop-cons}
 use Rattle.std.specs.Prelude.{◌==◌, ◌&&◌, not, nat_le, nat_lt, option_map, slice_index}
@@ -9,18 +9,24 @@ use Rattle.std.specs.Str.Parse.{digits_value}
 use Rattle.std.proofs.lemmas.Bool.{le-leb, leb-true, eqb-true, lt-ltb, le-ltb}
 use Rattle.std.proofs.lemmas.Bool.Decides.{nat_tests}
 use Rattle.std.proofs.lemmas.List.{length-drop, length-take}
+use Rattle.gtd_scan.specs.Tokens.{AreComputed, IsLanguage}
+use Rattle.gtd_scan.specs.facts.Computed.{one_token}
 use Rattle.gtd_hours_tokens.specs.declared.token.Token.{Token}
 use Rattle.gtd_hours_tokens.specs.declared.token.TokenKind.{TokenKind}
-use Rattle.gtd_hours_tokens.specs.declared.token.TokenKind.TheVariants.{Month, Weekday, Week, Open, Closed, Unsupported, Number, Time}
-use Rattle.gtd_hours_tokens.specs.declared.token.TokenKind.TheVariants.{Comma, Semicolon, Dash, Slash, Colon, OpenBracket, CloseBracket}
+use Rattle.gtd_hours_tokens.specs.declared.token.TokenKind.TheVariants.{Month, Weekday, Week, Open, Closed, Unsupported, Number}
+use Rattle.gtd_hours_tokens.specs.declared.token.TokenKind.TheVariants.{Time}
+use Rattle.gtd_hours_tokens.specs.declared.token.TokenKind.TheVariants.{Comma, Semicolon, Dash, Slash, Colon, OpenBracket}
+use Rattle.gtd_hours_tokens.specs.declared.token.TokenKind.TheVariants.{CloseBracket}
 use Rattle.gtd_hours_tokens.specs.Words.{word_of}
-use Rattle.gtd_hours_tokens.specs.Lexing.{begins, IsRun, begins_minutes, is_no_quote, IsSign, IsTokenText, word, number, time, sign}
+use Rattle.gtd_hours_tokens.specs.Lexing.{begins, IsRun, begins_minutes, is_no_quote, IsSign, IsTokenText, word, number, time}
+use Rattle.gtd_hours_tokens.specs.Lexing.{sign}
 use Rattle.gtd_hours_tokens.specs.Lexing.{bars}
-use Rattle.gtd_hours_tokens.specs.Lexing.{comment, last_comment, IsToken, BeginsNoToken}
-use Rattle.gtd_hours_tokens.specs.TokenAt.{Front, of_length, word_front, number as number_of, time as time_of, time_front, number_front}
+use Rattle.gtd_hours_tokens.specs.Lexing.{comment, last_comment, IsToken}
+use Rattle.gtd_hours_tokens.specs.TokenAt.{Front, of_length, word_front, number as number_of, time as time_of, time_front}
+use Rattle.gtd_hours_tokens.specs.TokenAt.{number_front}
 use Rattle.gtd_hours_tokens.specs.TokenAt.{sign_of, comment_length, bars_front, sign_front, front, placed, token_at}
-use Rattle.gtd_hours_tokens.specs.facts.Runs.{and_left, front_all, after_front, front_run, front_split, run_length, run_front}
-use Rattle.gtd_hours_tokens.specs.facts.Runs.{run_after, some_front}
+use Rattle.gtd_scan.specs.facts.Runs.{and_left, front_all, after_front, front_run, front_split, run_length, run_front}
+use Rattle.gtd_scan.specs.facts.Runs.{run_after, some_front}
 
 -- ---- from what a token is to what is computed
 
@@ -376,19 +382,8 @@ pub stands : (text : List ℕ) (place : ℕ) (token : Token) → token_at text p
     → (token.from ≡ place) × IsToken text token
 stands text place token e = found_at text place (front (drop place text)) token refl e
 
-pub token_agrees : (text : List ℕ) (token : Token) → IsToken text token ↔ (token_at text token.from ≡ Some token)
-token_agrees text token = (computed text token, λ e. (stands text token.from token e).1)
-
-none_by : (text : List ℕ) (place : ℕ) (o : Option Token) → token_at text place ≡ o → BeginsNoToken text place → o ≡ None
-none_by text place None e none = refl
-none_by text place (Some token) e none = let found = stands text place token e in absurd (none token found.1 found.0)
-
-pub no_token : (text : List ℕ) (place : ℕ) → token_at text place ≡ None → BeginsNoToken text place
-no_token text place none token is at =
-    let both : Some token ≡ None = sym (computed text token is) ∙ ap (token_at text) at ∙ none in cc
-
-pub none_agrees : (text : List ℕ) (place : ℕ) → BeginsNoToken text place ↔ (token_at text place ≡ None)
-none_agrees text place = (none_by text place (token_at text place) refl, no_token text place)
+pub are_computed : (text : List ℕ) → AreComputed (λ (token : Token). token.from) (IsToken text) (token_at text)
+are_computed text = record { computed = computed text; stands = stands text }
 
 -- ---- where tokens begin and end
 
@@ -433,3 +428,7 @@ no_space text token h space =
     (split ∙ ap (λ (b : ℕ). b ∷ drop (token.from + 1) text) space) in
     let both : Some token ≡ None = sym (computed text token h) ∙ none in
     cc
+
+-- the tokens of a text are a language
+pub is_language : (text : List ℕ) → IsLanguage (λ (token : Token). token.from) (λ (token : Token). token.to) (IsToken text) text
+is_language text = record { goes_on = goes_on text; no_space = no_space text; one_token = one_token (are_computed text) }

@@ -1,12 +1,12 @@
 -- What the lexer has read so far.
 use Rattle.std.proofs.Common.{◌≡◌, ℕ, ◌+◌, ◌<◌, ◌≤◌, Bool, true, false, cond, List, [], ◌∷◌, ◌++◌, length, drop, Option, Some}
-use Rattle.std.proofs.Common.{None, refl, sym, ap, subst, ◌∙◌, arith, append_assoc}
-use Rattle.std.proofs.Common.{inl, inr}
-use Rattle.std.proofs.lemmas.Bool.{cases_eq}
+use Rattle.std.proofs.Common.{None, refl, sym, ap, subst, ◌∙◌, arith}
 use Rattle.std.specs.Prelude.{slice_index, ◌==◌}
 use Rattle.std.proofs.lemmas.List.{append-nil, length-take, length-drop}
 use Rattle.std.specs.List.{take_while, prefix_len}
 use Rattle.std.specs.Char.{is_ascii_digit}
+use Rattle.gtd_scan.specs.facts.OneReading.{HasReadTokens, token_more}
+use Rattle.gtd_scan.specs.facts.SpaceRuns.{no_spaces, space_more}
 use Rattle.gtd_text.specs.declared.token.Token.{Token}
 use Rattle.gtd_text.specs.declared.token.TokenKind.{TokenKind}
 use Rattle.gtd_text.specs.declared.token.TokenKind.TheVariants.{OpenBracket, CloseBracket, OpenParenthesis, CloseParenthesis}
@@ -87,40 +87,23 @@ pub found : (text : List ℕ) (place : ℕ) (token : Token) → place < length t
     → Found text place token
 found text place token lt e = found_from text place (kind_at_front (drop place text)) token lt refl e
 
-no_spaces : (text : List ℕ) (place : ℕ) → AreSpaces text place place
-no_spaces text place = (omega arith, λ i le lt. absurd (omega arith))
-
-space_more : (text : List ℕ) (place to : ℕ) → slice_index text place ≡ 32 → AreSpaces text (place + 1) to
-    → AreSpaces text place to
-space_more text place to space h = (
-  omega (arith, h.0),
-  λ i le lt. elim (cases_eq i place) [
-    | inl same ↦ rw same space
-    | inr other ↦ h.1 i (omega (arith, other, le)) lt
-  ],
-)
-
 pub reads_space : (text : List ℕ) (place : ℕ) (tokens : List Token) (to : ℕ) → slice_index text place ≡ 32
     → Reads text (place + 1) tokens to → Reads text place tokens to
 reads_space text place [] to space h = space_more text place to space h
 reads_space text place (token ∷ tokens) to space h = (space_more text place token.from space h.0, h.1, h.2)
 
-pub reads_token : (text : List ℕ) (place : ℕ) (token : Token) (tokens : List Token) (to : ℕ) → Found text place token
-    → Reads text token.to tokens to → Reads text place (token ∷ tokens) to
-reads_token text place token tokens to f h = (subst (λ n. AreSpaces text place n) (sym f.from) (no_spaces text place), f.again, h)
-
--- whatever more is read from here comes after what was read
+-- these tokens were read up to this place
 abbrev pub HasRead : List ℕ → List Token → ℕ → Type 0
-HasRead text tokens place = (more : List Token) (to : ℕ) → Reads text place more to → Reads text 0 (tokens ++ more) to
+HasRead text = HasReadTokens (λ (token : Token). token.from) (λ (token : Token). token.to) (IsToken text) text
 
 pub all_read : (text : List ℕ) (tokens : List Token) (place : ℕ) → HasRead text tokens place → Reads text 0 tokens place
 all_read text tokens place h = subst (λ l. Reads text 0 l place) (append-nil tokens) (h [] place (no_spaces text place))
 
 pub read_more : (text : List ℕ) (tokens : List Token) (place : ℕ) (token : Token) → HasRead text tokens place
     → Found text place token → HasRead text (tokens ++ token ∷ []) token.to
-read_more text tokens place token h f more to r =
-    subst (λ l. Reads text 0 l to) (sym (append_assoc tokens (token ∷ []) more))
-    (h (token ∷ more) to (reads_token text place token more to f r))
+read_more text tokens place token h f =
+    token_more (λ (token : Token). token.from) (λ (token : Token). token.to) (IsToken text) text tokens place token h
+    (subst (λ n. AreSpaces text place n) (sym f.from) (no_spaces text place)) f.again
 
 pub read_space : (text : List ℕ) (tokens : List Token) (place : ℕ) → slice_index text place ≡ 32 → HasRead text tokens place
     → HasRead text tokens (place + 1)

@@ -2,6 +2,7 @@
 use Rattle.std.proofs.Common.{◌≡◌, ◌≢◌, ◌∙◌, ◌<◌, ◌↔◌, ◌⊎◌, refl, sym, ap, subst, arith, inl, inr, ℕ, zero, suc}
 use Rattle.std.proofs.Common.{List, [], ◌∷◌, ◌++◌, length, true, Some, None}
 use Rattle.std.specs.Prelude.{Contains, slice_index_or}
+use Rattle.gtd_scan.specs.facts.Computed.{none_agrees, token_agrees}
 use Rattle.gtd_core.specs.FieldTable.{is_from_to}
 use Rattle.gtd_core.specs.declared.fault.Fault.{Fault}
 use Rattle.gtd_core.specs.declared.fault.Fault.TheVariants as faults
@@ -14,7 +15,7 @@ use Rattle.gtd_text.specs.ComputedLexing as parts
 use Rattle.gtd_text.specs.ComputedLexing.{IsSign, IsFaultAt, fuzzy, bad}
 use Rattle.gtd_text.specs.Lexing.{AreTokens, HasDigits, IsToken, IsTokenFault, Reads, field, sign, signs}
 use Rattle.gtd_text.specs.TokenAt.{token_at}
-use Rattle.gtd_text.specs.facts.TokenForms.{few_digits, front_of, has_digits, none_agrees, token_agrees}
+use Rattle.gtd_text.specs.facts.TokenForms.{are_computed, few_digits, front_of, has_digits}
 
 -- ---- signs
 
@@ -134,13 +135,13 @@ fault_of_parts text fault h = record {
 
 pub token_computed : (text : List ℕ) (token : Token) → IsToken text token ↔ (token_at text token.from ≡ Some token)
 token_computed text token = (
-  λ is. (token_agrees text token).0 (token_in_parts text token is),
-  λ e. token_of_parts text token ((token_agrees text token).1 e),
+  λ is. (token_agrees (are_computed text) token).0 (token_in_parts text token is),
+  λ e. token_of_parts text token ((token_agrees (are_computed text) token).1 e),
 )
 
 pub none_computed : (text : List ℕ) (place : ℕ) → ((token : Token) → IsToken text token → token.from ≢ place)
     ↔ (token_at text place ≡ None)
 none_computed text place = (
-  λ none. (none_agrees text place).0 (λ token is at. none token (token_of_parts text token is) at),
-  λ e token is at. (none_agrees text place).1 e token (token_in_parts text token is) at,
+  λ none. (none_agrees (are_computed text) place).0 (λ token is at. none token (token_of_parts text token is) at),
+  λ e token is at. (none_agrees (are_computed text) place).1 e token (token_in_parts text token is) at,
 )

@@ -21,7 +21,8 @@ use Rattle.gtd_text.specs.facts.Phases.{first_found}
 use Rattle.gtd_text.specs.facts.BuiltIsMeant.{stood_whole}
 use Rattle.gtd_text.specs.facts.ShortNumbers.{are_short}
 use Rattle.gtd_text.specs.facts.Valid.{valid, leaves, few_open, fine}
-use Rattle.gtd_text.specs.facts.Unique.{one_list, stuck, one_stop}
+use Rattle.gtd_scan.specs.facts.OneReading.{one_list, stuck, one_stop}
+use Rattle.gtd_text.specs.facts.Unique.{is_language}
 use Rattle.gtd_text.specs.facts.OneMeaning.{one_meaning}
 use Rattle.gtd_text.specs.facts.TokenForms.{one_fault_at}
 use Rattle.gtd_text.specs.facts.LexingForms.{fault_in_parts, fault_of_parts, tokens_in_parts}
@@ -83,9 +84,9 @@ pub no_fault : (text : List ℕ) (tokens : List Token) → AreTokens text tokens
     → HasNoFault text
 no_fault text tokens are none fault (inl is) =
     let bad = fault_in_parts text fault is in
-    stuck text 0 bad.before fault.place tokens bad.reads bad.inside bad.no_space bad.no_token are
+    stuck (is_language text) 0 bad.before fault.place tokens bad.reads bad.inside bad.no_space bad.no_token are
 no_fault text tokens are none fault (inr bad) =
-    let same = one_list text 0 bad.0 tokens (length text) (tokens_in_parts text bad.0 bad.1) are in
+    let same = one_list (is_language text) 0 bad.0 tokens (length text) (tokens_in_parts text bad.0 bad.1) are in
     let both : Some fault ≡ None = sym (first_found (length text) bad.0 fault bad.2)
     ∙ ap (fault_of_tokens (length text)) same ∙ none in
     absurd cc
@@ -106,18 +107,19 @@ pub one_fault : (text : List ℕ) (f g : TextFault) → IsFault text f → IsFau
 one_fault text f g (inl is) (inl also) =
     let a = fault_in_parts text f is in
     let b = fault_in_parts text g also in
-    let place = one_stop text 0 a.before b.before f.place g.place a.reads b.reads a.inside b.inside a.no_space b.no_space
+    let place = one_stop (is_language text) 0 a.before b.before f.place g.place a.reads b.reads a.no_space b.no_space
     a.no_token b.no_token in
     same_fault f g (one_fault_at text f.place f.kind g.kind a.kind
     (subst (λ (n : ℕ). IsFaultAt text n g.kind) (sym place) b.kind)) place
 one_fault text f g (inl is) (inr b) =
     let a = fault_in_parts text f is in
-    absurd (stuck text 0 a.before f.place b.0 a.reads a.inside a.no_space a.no_token (tokens_in_parts text b.0 b.1))
+    absurd (stuck (is_language text) 0 a.before f.place b.0 a.reads a.inside a.no_space a.no_token (tokens_in_parts text b.0 b.1))
 one_fault text f g (inr a) (inl is) =
     let b = fault_in_parts text g is in
-    absurd (stuck text 0 b.before g.place a.0 b.reads b.inside b.no_space b.no_token (tokens_in_parts text a.0 a.1))
+    absurd (stuck (is_language text) 0 b.before g.place a.0 b.reads b.inside b.no_space b.no_token (tokens_in_parts text a.0 a.1))
 one_fault text f g (inr a) (inr b) =
-    let same = one_list text 0 a.0 b.0 (length text) (tokens_in_parts text a.0 a.1) (tokens_in_parts text b.0 b.1) in
+    let same = one_list (is_language text) 0 a.0 b.0 (length text) (tokens_in_parts text a.0 a.1)
+    (tokens_in_parts text b.0 b.1) in
     let both : Some f ≡ Some g = sym (first_found (length text) a.0 f a.2) ∙ ap (fault_of_tokens (length text)) same
     ∙ first_found (length text) b.0 g b.2 in
     cc
@@ -145,7 +147,7 @@ first_fault text (Err fault) h k first bad = elim k [
 pub first_token_fault : {V : Type 0} (items : V → List Token) (text : List ℕ) (r : Result V TextFault)
     → IfOk r (λ v. AreTokens text (items v)) → IfErr r (λ fault. (fault ≡ no_memory) ⊎ IsTokenFault text fault)
     → (first : TextFault) → IsTokenFault text first → MatchResult r (λ v. ⊥) (λ fault. (fault ≡ no_memory) ⊎ (fault ≡ first))
-first_token_fault items text (Ok v) h k first bad = stuck text 0 bad.before first.place
+first_token_fault items text (Ok v) h k first bad = stuck (is_language text) 0 bad.before first.place
     (items v) bad.reads bad.inside bad.no_space bad.no_token h
 first_token_fault items text (Err fault) h k first bad = elim k [
   | inl memory ↦ inl memory

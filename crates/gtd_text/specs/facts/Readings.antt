@@ -8,7 +8,8 @@ use Rattle.gtd_text.specs.FirstFault.{IsFirstFault}
 use Rattle.gtd_text.specs.Lexing.{AreTokens}
 use Rattle.gtd_text.specs.Reading.{HasNoFault, IsReading, StandsFor}
 use Rattle.gtd_text.specs.facts.LexingForms.{fault_in_parts, tokens_in_parts}
-use Rattle.gtd_text.specs.facts.Unique.{one_list, stuck}
+use Rattle.gtd_scan.specs.facts.OneReading.{one_list, stuck}
+use Rattle.gtd_text.specs.facts.Unique.{is_language}
 
 pub is_reading : (text : List ℕ) (e : Tree) → StandsFor text e → HasNoFault text → IsReading text (Ok e)
 is_reading text e is none = (is.tokens, is.read, is.stand, λ fault first. none fault (inr (is.tokens, is.read, first)))
@@ -21,10 +22,10 @@ faultless_tokens : (text : List ℕ) (tokens : List Token) → AreTokens text to
     → ((fault : TextFault) → IsFirstFault (length text) tokens fault → ⊥) → HasNoFault text
 faultless_tokens text tokens are none fault (inl is) =
     let bad = fault_in_parts text fault is in
-    stuck text 0 bad.before fault.place tokens bad.reads bad.inside bad.no_space bad.no_token
+    stuck (is_language text) 0 bad.before fault.place tokens bad.reads bad.inside bad.no_space bad.no_token
     (tokens_in_parts text tokens are)
 faultless_tokens text tokens are none fault (inr bad) =
-    let same = one_list text 0 bad.0 tokens (length text) (tokens_in_parts text bad.0 bad.1)
+    let same = one_list (is_language text) 0 bad.0 tokens (length text) (tokens_in_parts text bad.0 bad.1)
     (tokens_in_parts text tokens are) in
     none fault (subst (λ (l : List Token). IsFirstFault (length text) l fault) same bad.2)
 

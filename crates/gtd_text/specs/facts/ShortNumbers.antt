@@ -16,7 +16,8 @@ use Rattle.gtd_text.specs.Lexing.{kinds}
 use Rattle.gtd_text.specs.ComputedLexing.{Reads, AreTokens}
 use Rattle.gtd_text.specs.TokenAt.{field_number, sign_of, field_of, kind_at_front, length_of, token_from}
 use Rattle.gtd_text.specs.facts.Builds.{and_right}
-use Rattle.gtd_text.specs.facts.TokenForms.{own, front_digits, computed}
+use Rattle.gtd_scan.specs.facts.Runs.{front_all}
+use Rattle.gtd_text.specs.facts.TokenForms.{own, computed}
 use Rattle.gtd_text.specs.facts.Lexed.{each_sign}
 use Rattle.gtd_text.specs.facts.Ranges.{IsShort, AreShort}
 
@@ -38,7 +39,7 @@ short_sign = each_sign IsShort tt tt tt tt tt tt tt tt tt
 short_front : (b : Bool) (byte : ℕ) (bytes : List ℕ) (kind : TokenKind)
     → cond b (field_of byte (take_while is_ascii_digit bytes)) (sign_of byte) ≡ Some kind → IsShort kind
 short_front true byte bytes kind e = short_field (is_from_to 1 6 (length (take_while is_ascii_digit bytes))) byte
-    (take_while is_ascii_digit bytes) kind refl (front_digits bytes) e
+    (take_while is_ascii_digit bytes) kind refl (front_all is_ascii_digit bytes) e
 short_front false byte bytes kind e = short_sign byte kind e
 
 short_kind : (bytes : List ℕ) (kind : TokenKind) → kind_at_front bytes ≡ Some kind → IsShort kind

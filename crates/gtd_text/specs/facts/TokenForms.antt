@@ -1,6 +1,6 @@
 -- What a token is and the token that is computed agree.
-use Rattle.std.proofs.Common.{◌≡◌, ℕ, suc, ◌+◌, ◌-◌, ◌*◌, ◌≤◌, ◌↔◌, Bool, true, false, cond, List, [], ◌∷◌, ◌++◌, length, drop}
-use Rattle.std.proofs.Common.{take, Option, Some, None, refl, sym, ap, subst, ◌∙◌, arith, fold}
+use Rattle.std.proofs.Common.{◌≡◌, ℕ, ◌+◌, ◌-◌, ◌*◌, ◌≤◌, ◌↔◌, Bool, true, false, cond, List, [], ◌∷◌, ◌++◌, length, drop}
+use Rattle.std.proofs.Common.{Option, Some, None, refl, sym, ap, subst, ◌∙◌, arith, fold}
 use Rattle.std.specs.Prelude.{◌==◌, ◌&&◌, nat_le}
 use Rattle.std.specs.List.{take_while, prefix_len}
 use Rattle.std.specs.Char.{is_ascii_digit}
@@ -8,8 +8,9 @@ use Rattle.std.specs.Str.{all_ascii_digits}
 use Rattle.std.specs.Str.Parse.{digits_value}
 use Rattle.std.proofs.lemmas.Bool.{le-leb, leb-true, eqb-true}
 use Rattle.std.proofs.lemmas.List.{take-append-drop}
-use Rattle.std.proofs.Math.Seq.{take-append_seam}
 use Rattle.std.proofs.lemmas.Str.Parse.{IsNumeralModel, numerals_by_fold, tells_all_ascii_digits}
+use Rattle.gtd_scan.specs.Tokens.{AreComputed}
+use Rattle.gtd_scan.specs.facts.Runs.{and_left, and_right, after_front, front_all, run_front}
 use Rattle.gtd_core.specs.declared.fault.Fault.{Fault}
 use Rattle.gtd_core.specs.declared.fault.Fault.TheVariants as faults
 use Rattle.gtd_text.specs.declared.token.Token.{Token}
@@ -18,11 +19,10 @@ use Rattle.gtd_text.specs.declared.token.TokenKind.TheVariants.{OpenBracket, Clo
 use Rattle.gtd_text.specs.declared.token.TokenKind.TheVariants.{OpenBrace, CloseBrace, Plus, Star, Minus, Field}
 use Rattle.gtd_core.specs.FieldTable.{is_from_to}
 use Rattle.gtd_text.specs.ComputedFields.{is_start_letter}
-use Rattle.gtd_text.specs.ComputedLexing.{IsSign, BeginsNoDigit, HasDigits, IsToken, sign, field, BeginsNoToken, IsFaultAt, fuzzy}
+use Rattle.gtd_text.specs.ComputedLexing.{IsSign, HasDigits, IsToken, sign, field, IsFaultAt, fuzzy}
 use Rattle.gtd_text.specs.ComputedLexing.{bad}
 use Rattle.gtd_text.specs.TokenAt.{field_number, sign_of, field_of, kind_at_front, length_of, token_from, token_at}
 use Rattle.gtd_text.specs.TokenAt.{fault_at_front}
-use Rattle.gtd_text.specs.facts.Builds.{and_left, and_right}
 
 -- ---- the digits in front
 
@@ -33,50 +33,6 @@ own = numerals_by_fold (λ ds. all_ascii_digits ds ≡ true) tells_all_ascii_dig
 value_is : (digits : List ℕ) → all_ascii_digits digits ≡ true → field_number digits ≡ digits_value 10 digits
 value_is digits all = own.same digits (own.to digits all)
 
-by_first : (b : Bool) (x : ℕ) (xs : List ℕ) → is_ascii_digit x ≡ b → all_ascii_digits (take_while is_ascii_digit xs) ≡ true
-    → all_ascii_digits (take (cond b (1 + prefix_len is_ascii_digit xs) 0) (x ∷ xs)) ≡ true
-by_first true x xs e h =
-    let one : 1 + prefix_len is_ascii_digit xs ≡ suc (prefix_len is_ascii_digit xs) = omega arith in
-    ap (λ (n : ℕ). all_ascii_digits (take n (x ∷ xs))) one ∙ ap
-    (λ (b : Bool). b && all_ascii_digits (take_while is_ascii_digit xs)) e ∙ h
-by_first false x xs e h = refl
-
-pub front_digits : (bytes : List ℕ) → all_ascii_digits (take_while is_ascii_digit bytes) ≡ true
-front_digits [] = refl
-front_digits (x ∷ xs) = by_first (is_ascii_digit x) x xs refl (front_digits xs)
-
-after_first : (b : Bool) (x : ℕ) (xs : List ℕ) → is_ascii_digit x ≡ b → BeginsNoDigit (drop (prefix_len is_ascii_digit xs) xs)
-    → BeginsNoDigit (drop (cond b (1 + prefix_len is_ascii_digit xs) 0) (x ∷ xs))
-after_first true x xs e h =
-    let one : suc (prefix_len is_ascii_digit xs) ≡ 1 + prefix_len is_ascii_digit xs = omega arith in
-    subst (λ (n : ℕ). BeginsNoDigit (drop n (x ∷ xs))) one h
-after_first false x xs e h = e
-
-after_digits : (bytes : List ℕ) → BeginsNoDigit (drop (prefix_len is_ascii_digit bytes) bytes)
-after_digits [] = tt
-after_digits (x ∷ xs) = after_first (is_ascii_digit x) x xs refl (after_digits xs)
-
-prefix_step : (b : Bool) (n m : ℕ) → b ≡ true → n ≡ m → cond b (1 + n) 0 ≡ suc m
-prefix_step true n m e h = omega (arith, h)
-prefix_step false n m e h = absurd cc
-
-prefix_stop : (b : Bool) (n : ℕ) → b ≡ false → cond b (1 + n) 0 ≡ 0
-prefix_stop false n e = refl
-prefix_stop true n e = absurd cc
-
-prefix_digits : (digits rest : List ℕ) → all_ascii_digits digits ≡ true → BeginsNoDigit rest
-    → prefix_len is_ascii_digit (digits ++ rest) ≡ length digits
-prefix_digits [] [] all none = refl
-prefix_digits [] (byte ∷ rest) all none = prefix_stop (is_ascii_digit byte) _ none
-prefix_digits (digit ∷ digits) rest all none =
-    prefix_step (is_ascii_digit digit) _ _ (and_left (is_ascii_digit digit) (all_ascii_digits digits) all)
-    (prefix_digits digits rest (and_right (is_ascii_digit digit) _ all) none)
-
-pub digits_front : (digits rest : List ℕ) → all_ascii_digits digits ≡ true → BeginsNoDigit rest
-    → take_while is_ascii_digit (digits ++ rest) ≡ digits
-digits_front digits rest all none =
-    ap (λ (n : ℕ). take n (digits ++ rest)) (prefix_digits digits rest all none) ∙ take-append_seam digits rest
-
 pub few_digits : (digits : List ℕ) → 1 ≤ length digits → length digits ≤ 6 → is_from_to 1 6 (length digits) ≡ true
 few_digits digits some few = rw (le-leb 1 (length digits) some) (le-leb (length digits) 6 few)
 
@@ -84,7 +40,7 @@ few_digits digits some few = rw (le-leb 1 (length digits) some) (le-leb (length 
 
 pub front_of : (text : List ℕ) (place letter : ℕ) (digits : List ℕ) (h : HasDigits text place letter digits)
     → take_while is_ascii_digit (digits ++ h.rest) ≡ digits
-front_of text place letter digits h = digits_front digits h.rest h.all h.no_more
+front_of text place letter digits h = run_front is_ascii_digit digits h.rest (h.all, h.no_more)
 
 pub has_digits : (text : List ℕ) (place byte : ℕ) (bytes : List ℕ) → drop place text ≡ byte ∷ bytes
     → is_from_to 1 6 (length (take_while is_ascii_digit bytes)) ≡ true
@@ -92,12 +48,12 @@ pub has_digits : (text : List ℕ) (place byte : ℕ) (bytes : List ℕ) → dro
 has_digits text place byte bytes e few = record {
   rest = drop (prefix_len is_ascii_digit bytes) bytes;
   stand = e ∙ ap (λ (l : List ℕ). byte ∷ l) (sym (take-append-drop (prefix_len is_ascii_digit bytes) bytes));
-  all = front_digits bytes;
+  all = front_all is_ascii_digit bytes;
   some = leb-true 1 (length (take_while is_ascii_digit bytes))
       (and_left (nat_le 1 (length (take_while is_ascii_digit bytes))) _ few);
   few = leb-true (length (take_while is_ascii_digit bytes)) 6
       (and_right (nat_le 1 (length (take_while is_ascii_digit bytes))) _ few);
-  no_more = after_digits bytes;
+  no_more = after_front is_ascii_digit bytes;
 }
 
 -- ---- from what a token is to what is computed
@@ -193,7 +149,7 @@ field_stands text place byte bytes kind true e known few is =
     (take_while is_ascii_digit bytes)) ≡ kind = cc in
     let named : kind ≡ Field byte (digits_value 10 (take_while is_ascii_digit bytes)) (length (take_while is_ascii_digit bytes)) =
     sym same ∙ ap (λ (n : ℕ). Field byte n (length (take_while is_ascii_digit bytes)))
-    (value_is (take_while is_ascii_digit bytes) (front_digits bytes)) in
+    (value_is (take_while is_ascii_digit bytes) (front_all is_ascii_digit bytes)) in
     let long : length_of kind ≡ length (take_while is_ascii_digit bytes) + 1 = ap length_of named in
     record {
       token = field byte (take_while is_ascii_digit bytes) known (has_digits text place byte bytes e few) named
@@ -228,21 +184,10 @@ pub stands : (text : List ℕ) (place : ℕ) (token : Token) → token_at text p
     × IsToken text token
 stands text place token e = by_kind text place (kind_at_front (drop place text)) token refl e
 
-pub token_agrees : (text : List ℕ) (token : Token) → IsToken text token ↔ (token_at text token.from ≡ Some token)
-token_agrees text token = (computed text token, λ e. (stands text token.from token e).1)
+pub are_computed : (text : List ℕ) → AreComputed (λ (token : Token). token.from) (IsToken text) (token_at text)
+are_computed text = record { computed = computed text; stands = stands text }
 
--- ---- no token, and the fault
-
-none_by : (text : List ℕ) (place : ℕ) (o : Option Token) → token_at text place ≡ o → BeginsNoToken text place → o ≡ None
-none_by text place None e none = refl
-none_by text place (Some token) e none = let found = stands text place token e in absurd (none token found.1 found.0)
-
-pub no_token : (text : List ℕ) (place : ℕ) → token_at text place ≡ None → BeginsNoToken text place
-no_token text place none token is at =
-    let both : Some token ≡ None = sym (computed text token is) ∙ ap (token_at text) at ∙ none in cc
-
-pub none_agrees : (text : List ℕ) (place : ℕ) → BeginsNoToken text place ↔ (token_at text place ≡ None)
-none_agrees text place = (none_by text place (token_at text place) refl, no_token text place)
+-- ---- the fault where no token begins
 
 by_tests : (text : List ℕ) (place byte : ℕ) (bytes : List ℕ) (a b : Bool) → drop place text ≡ byte ∷ bytes → (byte == 122) ≡ a
     → is_from_to 1 6 (length (take_while is_ascii_digit bytes)) ≡ b

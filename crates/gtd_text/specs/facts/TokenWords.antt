@@ -12,7 +12,8 @@ use Rattle.gtd_text.specs.ComputedFields.{is_start_letter}
 use Rattle.gtd_text.specs.Lexing.{kinds}
 use Rattle.gtd_text.specs.ComputedLexing.{BeginsNoDigit, Reads, AreTokens}
 use Rattle.gtd_text.specs.TokenAt.{field_number, sign_of, field_of, kind_at_front, length_of}
-use Rattle.gtd_text.specs.facts.TokenForms.{digits_front, few_digits, stands_by_kind}
+use Rattle.gtd_scan.specs.facts.Runs.{run_front}
+use Rattle.gtd_text.specs.facts.TokenForms.{few_digits, stands_by_kind}
 
 -- a token and its text
 abbrev pub Word : Type 0
@@ -50,7 +51,7 @@ AreWords-append [] b h k = k
 AreWords-append (word ∷ a) b h k = (h.0, AreWords-append a b h.1 k)
 
 words_begin : (words : List Word) → AreWords words → BeginsNoDigit (text_of words)
-words_begin [] h = tt
+words_begin [] h = refl
 words_begin (word ∷ words) h = h.0.no_digit (text_of words)
 
 -- the tokens, one after the other from a place on
@@ -110,7 +111,7 @@ pub is_field_word : (letter : ℕ) (digits : List ℕ) → is_start_letter lette
 is_field_word letter digits known no_digit h = record {
   reads = λ rest none.
       ap (λ (b : Bool). cond b (field_of letter (take_while is_ascii_digit (digits ++ rest))) (sign_of letter)) known
-      ∙ ap (field_of letter) (digits_front digits rest h.all none)
+      ∙ ap (field_of letter) (run_front is_ascii_digit digits rest (h.all, none))
       ∙ reads_field letter digits h;
   long = omega arith;
   no_digit = λ rest. no_digit;

@@ -1,8 +1,9 @@
-use Rattle.gtd_hours_tokens.specs.facts.TokenForms.{token_agrees, none_agrees}
+use Rattle.gtd_scan.specs.facts.Computed.{token_agrees, none_agrees}
+use Rattle.gtd_hours_tokens.specs.facts.TokenForms.{are_computed}
 use Rattle.gtd_hours_tokens.proofs.laws.tokens_as_computed.Goals as goal
 
 pub returns-clause-token : goal.returns-clause-token
-returns-clause-token c = token_agrees
+returns-clause-token c = λ text. token_agrees (are_computed text)
 
 pub returns-clause-none : goal.returns-clause-none
-returns-clause-none c = none_agrees
+returns-clause-none c = λ text. none_agrees (are_computed text)

@@ -4,7 +4,8 @@ use Rattle.std.proofs.lemmas.Result.{IfOk-weaker}
 use Rattle.gtd_text.specs.Building.{build, at_front}
 use Rattle.gtd_text.specs.Lexing.{kinds}
 use Rattle.gtd_text.specs.BuilderStates.{fields_with, opened, stage_of}
-use Rattle.gtd_text.specs.facts.Unique.{one_list}
+use Rattle.gtd_scan.specs.facts.OneReading.{one_list}
+use Rattle.gtd_text.specs.facts.Unique.{is_language}
 use Rattle.gtd_text.proofs.StepLemmas.{opened_nil}
 use Rattle.gtd_text.proofs.BuildLemmas.{advance, front_state, at_end}
 use Rattle.gtd_text.proofs.ValidBuilds.{ends_in_range}
@@ -81,7 +82,7 @@ returns c tokens read =
     let k = at.goes in
     let end = at_end c.args.text.now c.loop-token.place at.rest
     (stage_of (opened c.loop-token.outer.items) k.fields c.loop-token.state) k.tree c.in_default.ensures.next at.reads k.onward in
-    let same = one_list c.args.text.now 0 tokens at.tokens (length c.args.text.now) read at.read in
+    let same = one_list (is_language c.args.text.now) 0 tokens at.tokens (length c.args.text.now) read at.read in
     IfOk-weaker c.finish.result (λ expr. tree_of expr ≡ k.tree)
     (λ expr. build at_front (kinds tokens) ≡ Some (tree_of expr))
     (λ expr is. ap (λ l. build at_front (kinds l)) same ∙ k.whole ∙ ap Some (sym is))

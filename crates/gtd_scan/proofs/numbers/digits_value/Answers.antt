@@ -8,8 +8,8 @@ use Rattle.std.proofs.lemmas.List.{take_all}
 use Rattle.std.specs.Char.{is_ascii_digit, digit_value}
 use Rattle.std.specs.List.{list_all}
 use Rattle.std.specs.Str.Parse.{digits_value, AllDigits}
-use Rattle.gtd_hours_tokens.specs.facts.Runs.{all_at}
-use Rattle.gtd_hours_tokens.proofs.numbers.digits_value.Goals as goal
+use Rattle.gtd_scan.specs.facts.Runs.{all_at}
+use Rattle.gtd_scan.proofs.numbers.digits_value.Goals as goal
 
 -- fewer than four digits stand for a number below 1000
 few : (digits : List ℕ) (i : ℕ) → AllDigits 10 (take i digits) → i < length digits → length digits ≤ 4

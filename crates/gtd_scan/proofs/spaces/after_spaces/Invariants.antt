@@ -1,6 +1,6 @@
 use Rattle.std.proofs.Common.{◌≤◌, ◌-◌, length}
-use Rattle.gtd_hours_tokens.specs.Lexing.{AreSpaces}
-use Rattle.gtd_hours_tokens.proofs.lexer.after_spaces.Given as goal
+use Rattle.gtd_scan.specs.Spaces.{AreSpaces}
+use Rattle.gtd_scan.proofs.spaces.after_spaces.Given as goal
 
 abbrev pub invariant-loop-place : goal.invariant-loop-place
 invariant-loop-place l = record { inside : l.place ≤ length l.text; spaces : AreSpaces l.text l.from l.place }

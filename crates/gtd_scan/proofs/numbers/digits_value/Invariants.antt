@@ -1,6 +1,6 @@
 use Rattle.std.proofs.Common.{◌≡◌, take}
 use Rattle.std.specs.Str.Parse.{digits_value, AllDigits}
-use Rattle.gtd_hours_tokens.proofs.numbers.digits_value.Given as goal
+use Rattle.gtd_scan.proofs.numbers.digits_value.Given as goal
 
 -- the bytes so far are digits, of this number
 abbrev pub invariant-loop-digit : goal.invariant-loop-digit

@@ -5,7 +5,7 @@ use Rattle.std.specs.Prelude.{◌&&◌}
 use Rattle.std.specs.List.{list_all, prefix_len, take_while}
 use Rattle.std.proofs.lemmas.List.{take-append-drop}
 use Rattle.std.proofs.Math.Seq.{take-append_seam}
-use Rattle.gtd_hours_tokens.specs.Lexing.{begins, IsRun}
+use Rattle.gtd_scan.specs.Runs.{begins, IsRun}
 
 pub and_left : (a b : Bool) → (a && b) ≡ true → a ≡ true
 and_left true b e = refl

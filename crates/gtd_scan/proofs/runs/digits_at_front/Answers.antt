@@ -1,8 +1,8 @@
 use Rattle.std.proofs.Common.{ℕ, ap, ◌∙◌, take}
 use Rattle.std.specs.Char.{is_ascii_digit}
 use Rattle.std.specs.List.{list_all}
-use Rattle.gtd_hours_tokens.specs.facts.Runs.{front_all}
-use Rattle.gtd_hours_tokens.proofs.runs.digits_at_front.Goals as goal
+use Rattle.gtd_scan.specs.facts.Runs.{front_all}
+use Rattle.gtd_scan.proofs.runs.digits_at_front.Goals as goal
 
 pub returns-clause-all : goal.returns-clause-all
 returns-clause-all c =

@@ -1,0 +1,4 @@
+pub mod Runs
+pub mod Spaces
+pub mod Tokens
+pub mod facts

@@ -1,0 +1,4 @@
+pub mod Computed
+pub mod OneReading
+pub mod Runs
+pub mod SpaceRuns
