@@ -1,5 +1,5 @@
 -- What the leaves of cursors stand for.
-use Rattle.std.proofs.Common.{◌≡◌, ◌∙◌, ap, arith, []}
+use Rattle.std.proofs.Common.{◌≡◌, ◌∙◌, ap, arith}
 use Rattle.gtd_core.specs.Whole.{whole}
 use Rattle.gtd_core.specs.declared.domain.Basic.{Basic}
 use Rattle.gtd_core.specs.declared.domain.Expr.TheVariants.{Leaf}

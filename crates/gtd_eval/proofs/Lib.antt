@@ -1,8 +1,8 @@
 pub mod ExtentLemmas
+pub mod JoinedStays
 pub mod Leaves
 pub mod OnwardFacts
 pub mod PeriodChanges
 pub mod RepeatLemmas
-pub mod StayChanges
 pub mod StayDays
 pub mod Unions

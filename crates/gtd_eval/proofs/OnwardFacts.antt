@@ -1,13 +1,12 @@
 -- The lists and stays of a basic domain that is asked at later and later seconds.
-use Rattle.std.proofs.Common.{◌≡◌, ◌∙◌, ◌↔◌, List, [], ◌∷◌, refl, sym, ap, subst, inl, inr, arith, true, false, length, ◌<◌}
+use Rattle.std.proofs.Common.{◌≡◌, ◌∙◌, List, [], ◌∷◌, refl, sym, subst, inl, inr, arith, true, false, length, ◌<◌}
 use Rattle.std.proofs.lemmas.Int.{ints, by_lt_z}
-use Rattle.std.specs.Prelude.{ℤ, pos, ◌-ℤ◌, ◌≤ℤ◌, ◌<ℤ◌, IsTrue, None, Some}
+use Rattle.std.specs.Prelude.{ℤ, pos, ◌-ℤ◌, ◌≤ℤ◌, ◌<ℤ◌, None, Some}
 use Rattle.gtd_core.specs.Whole.{whole}
 use Rattle.gtd_recur.specs.RunsToCome.{runs_to_come}
 use Rattle.gtd_core.specs.Parts.{start_parts, duration_parts}
 use Rattle.gtd_core.specs.Seconds.{Interval}
 use Rattle.gtd_core.specs.declared.domain.Basic.{Basic as BasicDomain}
-use Rattle.gtd_core.specs.declared.second.Sec.{Sec}
 use Rattle.gtd_spans.specs.Normal.{Holds, IsIn, IsNormal, IsNormalFor}
 use Rattle.gtd_spans.specs.facts.NormalFor.{normal-for, normal-of, one-normal-list}
 use Rattle.gtd_spans.specs.facts.OneList.{after-holds, first-holds}
@@ -31,6 +30,19 @@ basic-for d a b =
 
 pub basic-is : (d : BasicDomain) (a b : ℤ) (xs : List Interval) → IsNormalFor (InBasic d) a b xs → xs ≡ basic_list d a b
 basic-is d a b xs n = one-normal-list (InBasic d) a b xs (basic_list d a b) n (basic-for d a b)
+
+-- where it holds at no second from s on until another
+none-till : (d : BasicDomain) (s b until : ℤ) (stay : Stay) → stay.holds ≡ false → stay.until.0 ≡ until → s <ℤ until → until ≤ℤ b
+    → ((t : ℤ) → s ≤ℤ t → t <ℤ until → InBasic d t → ⊥) → IsStay (InBasic d) s b stay
+none-till d s b until stay holds is lt le out = record {
+  holds = rw holds ((λ h. absurd (cc)), (λ h. absurd (out s (omega (arith, ints)) lt h)));
+  later = omega (arith, ints, is, lt);
+  within = omega (arith, ints, is, le);
+  same = λ t after before. (
+    (λ h. absurd (out s (omega (arith, ints)) lt h)),
+    (λ h. absurd (out t (omega (arith, ints, after)) (omega (arith, ints, is, before)) h)),
+  );
+}
 
 module _ (d : BasicDomain) (a b : ℤ) (x : Interval) (xs : List Interval) (e : x ∷ xs ≡ basic_list d a b) where
   abbrev is-for : IsNormalFor (InBasic d) a b (x ∷ xs)
@@ -63,20 +75,12 @@ module _ (d : BasicDomain) (a b : ℤ) (x : Interval) (xs : List Interval) (e : 
   module _ (s : ℤ) (le : a ≤ℤ s) where
     -- before its first interval
     pub stays-out : (stay : Stay) → stay.holds ≡ false → stay.until.0 ≡ x.from → s <ℤ x.from → IsStay (InBasic d) s b stay
-    stays-out stay holds until lt = record {
-      holds = rw holds ((λ h. absurd (cc)), (λ h. absurd (out s le lt h)));
-      later = omega (arith, ints, until, lt);
-      within = (let i = begins.1 in omega (arith, ints, until, i));
-      same = λ t after before. (
-        (λ h. absurd (out s le lt h)),
-        (λ h. absurd (out t (omega (arith, ints, le, after)) (omega (arith, ints, until, before)) h)),
-      );
-    }
+    stays-out stay holds until lt = none-till d s b x.from stay holds until lt (let i = begins.1 in omega (arith, ints, i)) out
       where
-        out : (t : ℤ) → a ≤ℤ t → t <ℤ x.from → InBasic d t → ⊥
+        out : (t : ℤ) → s ≤ℤ t → t <ℤ x.from → InBasic d t → ⊥
         out t from before h =
             let within : t <ℤ b = (let i = begins.1 in omega (arith, ints, before, i)) in
-            let first = first-holds x xs t normal (is-for.complete t (from, within, h)) in
+            let first = first-holds x xs t normal (is-for.complete t (omega (arith, ints, le, from), within, h)) in
             omega (arith, ints, first, before)
 
     -- in its first interval
@@ -96,19 +100,12 @@ module _ (d : BasicDomain) (a b : ℤ) (x : Interval) (xs : List Interval) (e : 
 -- where nothing comes
 pub stays-none : (d : BasicDomain) (a b s : ℤ) (stay : Stay) → [] ≡ basic_list d a b → a ≤ℤ s → s <ℤ b → stay.holds ≡ false
     → stay.until.0 ≡ b → IsStay (InBasic d) s b stay
-stays-none d a b s stay e le lt holds until = record {
-  holds = rw holds ((λ h. absurd (cc)), (λ h. absurd (out s le lt h)));
-  later = omega (arith, ints, until, lt);
-  within = omega (arith, ints, until);
-  same = λ t after before. (
-    (λ h. absurd (out s le lt h)),
-    (λ h. absurd (out t (omega (arith, ints, le, after)) (omega (arith, ints, until, before)) h)),
-  );
-}
+stays-none d a b s stay e le lt holds until = none-till d s b b stay holds until lt (omega (arith, ints)) out
   where
-    out : (t : ℤ) → a ≤ℤ t → t <ℤ b → InBasic d t → ⊥
+    out : (t : ℤ) → s ≤ℤ t → t <ℤ b → InBasic d t → ⊥
     out t from before h =
-        subst (λ (l : List Interval). Holds l t) (sym e) ((basic-for d a b).complete t (from, before, h))
+        subst (λ (l : List Interval). Holds l t) (sym e)
+        ((basic-for d a b).complete t (omega (arith, ints, le, from), before, h))
 
 module _ (old new : BasicStays) (same : IsSameBasic old new) (s : ℤ) (le : new.at.0 ≤ℤ s) (stay : Stay) where
   -- where no run comes

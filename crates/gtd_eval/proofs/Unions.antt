@@ -17,11 +17,10 @@ use Rattle.gtd_spans.specs.facts.NormalFor.{combined-both, combined-in, normal-f
 use Rattle.gtd_eval.specs.Chains.{AllHold, ChainHolds, IsChainOf, IsChainOfLast, AreTerms}
 use Rattle.gtd_eval.specs.Exprs.{right_of, IsBasic, IsBasicChain, IsOfExpr, expr_work}
 use Rattle.gtd_eval.specs.Membership.{InTree, IsNormalOver}
-use Rattle.gtd_eval.specs.Nodes.{node_list, node_count, node_height, node_work, IsSoundNode}
+use Rattle.gtd_eval.specs.Nodes.{node_list, node_count, node_height, node_work}
 use Rattle.gtd_eval.specs.Periods.{AllRepeat}
 use Rattle.gtd_eval.specs.Repeating.{AreKept}
 use Rattle.gtd_eval.specs.declared.repeat.Stage.TheVariants.{Learning}
-use Rattle.gtd_eval.specs.facts.NodeFacts.{node_list-normal}
 use Rattle.gtd_eval.specs.facts.PeriodFacts.{tree-repeats-after, some-period}
 use Rattle.gtd_eval.proofs.RepeatLemmas.{repeat-fits}
 use Rattle.gtd_eval.specs.Cursors.{cursor_list, cursor_nodes, cursor_height, cursor_work, cursor_size}
@@ -137,6 +136,16 @@ module _ {L : Type 0} {g : Ghosts L} where
         (higher-both 1 left.terms right.terms x.0 y.0, omega (arith, length-append left.terms right.terms, x.1, y.1));
     lone = λ other k differ b le. absurd (differ b.0);
   }
+
+  -- the same of two expressions, and of others that are equal to them
+  pub both-terms : (op to : Op) (l r left right : Expr) (h : Horizon) (xs bs cs : List (SweepTree L g)) → l ≡ left → r ≡ right
+      → to ≡ right_of op → AreTerms op (tree_of l) h (expr_work l h) xs bs → AreTerms to (tree_of r) h (expr_work r h) bs cs
+      → AreTerms op (Joined op (tree_of left) (tree_of right)) h (expr_work left h + expr_work right h) xs cs
+  both-terms op to l r left right h xs bs cs el er eo a b =
+      joined-terms op (tree_of left) (tree_of right) h (expr_work left h) (expr_work right h) xs bs cs
+      (subst (λ (e : Expr). AreTerms op (tree_of e) h (expr_work e h) xs bs) el a)
+      (subst (λ (e : Expr). AreTerms (right_of op) (tree_of e) h (expr_work e h) bs cs) er
+      (subst (λ (o : Op). AreTerms o (tree_of r) h (expr_work r h) bs cs) eo b))
 
   -- the chain of all terms, which were taken off the list again
   pub chain-of-terms : (op : Op) (e : Tree) (h : Horizon) (w count : ℕ) (xs bs cs : List (SweepTree L g)) (n : Node L)

@@ -8,5 +8,6 @@ pub mod RepeatProps
 pub mod RunsFacts
 pub mod Repeats
 pub mod SingleFacts
+pub mod StayChanges
 pub mod StayFacts
 pub mod WeekFacts

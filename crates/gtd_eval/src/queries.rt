@@ -43,37 +43,6 @@ fn change_by_spans(
     Ok(gtd_spans::next_change(&mut cursor, second, horizon.until()))
 }
 
-// The same, found stay by stay: what a side that decides alone lets pass is not looked at. Where the domain changes that often
-// and nothing comes of it, the spans of a period that is kept are the shorter way.
-fn change_by_stays(
-    alloc: Global,
-    domain: &Domain,
-    second: Sec,
-    horizon: Horizon,
-) -> Result<Option<Sec>, AllocError>
-    requires inside { Within (whole horizon) second.0 }
-    ensures change { IfOk result (λ change. MatchOption change
-        (NeverChanges (InDomain domain.now) second.0 (whole horizon).until)
-        (λ c. IsNextChange (InDomain domain.now) second.0 (whole horizon).until c.0)) }
-{
-    let end = horizon.until();
-    let days = days_to_look(false, second, horizon);
-    let first = stay_of(domain, second, horizon);
-    let mut stays = stays_of(alloc, domain.expr(), days)?;
-    let mut at = first.until;
-    for _ in 0..MOST_STAYS / (basic_domains(domain.expr()) + 1) {
-        if at.0 >= end.0 {
-            return Ok(None);
-        }
-        let stay = stay_at(&mut stays, at, end);
-        if stay.holds != first.holds {
-            return Ok(Some(at));
-        }
-        at = stay.until;
-    }
-    change_by_spans(alloc, domain, second, horizon)
-}
-
 /// The least later second of the horizon at which membership in the domain differs from that at the given one, which
 /// must be in the horizon. `None` exactly if there is no such second.
 pub fn next_change(
@@ -90,5 +59,22 @@ pub fn next_change(
     if is_weekly(domain) {
         return change_by_spans(alloc, domain, second, horizon);
     }
-    change_by_stays(alloc, domain, second, horizon)
+    // Stay by stay: what a side that decides alone lets pass is not looked at. Where the domain changes that often and nothing
+    // comes of it, the spans of a period that is kept are the shorter way.
+    let end = horizon.until();
+    let days = days_to_look(false, second, horizon);
+    let first = stay_of(domain, second, horizon);
+    let mut stays = stays_of(alloc, domain.expr(), days)?;
+    let mut at = first.until;
+    for _ in 0..MOST_STAYS / (basic_domains(domain.expr()) + 1) {
+        if at.0 >= end.0 {
+            return Ok(None);
+        }
+        let stay = stay_at(&mut stays, at, end);
+        if stay.holds != first.holds {
+            return Ok(Some(at));
+        }
+        at = stay.until;
+    }
+    change_by_spans(alloc, domain, second, horizon)
 }

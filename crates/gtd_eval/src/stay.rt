@@ -131,6 +131,19 @@ fn basic_end(basic: &Basic, second: Sec, horizon: Horizon) -> Sec
     }
 }
 
+// The stay of a basic domain at a second.
+fn basic_stay(basic: &Basic, second: Sec, horizon: Horizon) -> Stay
+    requires inside { Within (whole horizon) second.0 }
+    ensures stays { IsStay (InBasic basic.now) second.0 (whole horizon).until result }
+    ensures far { (u : ℤ) → u ≤ℤ (whole horizon).until → NeverChanges (InBasic basic.now) second.0 u
+        → u ≤ℤ result.until.0 }
+{
+    Stay {
+        holds: covers(basic, second),
+        until: basic_end(basic, second, horizon),
+    }
+}
+
 // The stay of an expression at a second, by those of its basic domains.
 fn each_stay(expr: &Expr, second: Sec, horizon: Horizon) -> Stay
     requires inside { Within (whole horizon) second.0 }
@@ -139,10 +152,7 @@ fn each_stay(expr: &Expr, second: Sec, horizon: Horizon) -> Stay
         → u ≤ℤ result.until.0 }
 {
     match expr {
-        Expr::Leaf(basic) => Stay {
-            holds: covers(basic, second),
-            until: basic_end(basic, second, horizon),
-        },
+        Expr::Leaf(basic) => basic_stay(basic, second, horizon),
         Expr::Join(op, left, right) => {
             let left = each_stay(left, second, horizon);
             let right = each_stay(right, second, horizon);
@@ -224,10 +234,7 @@ fn expr_stay(expr: &Expr, second: Sec, horizon: Horizon) -> Stay
         return repeating_stay(expr, period, second, horizon);
     }
     match expr {
-        Expr::Leaf(basic) => Stay {
-            holds: covers(basic, second),
-            until: basic_end(basic, second, horizon),
-        },
+        Expr::Leaf(basic) => basic_stay(basic, second, horizon),
         Expr::Join(op, left, right) => {
             let left = expr_stay(left, second, horizon);
             let right = expr_stay(right, second, horizon);

@@ -1,5 +1,5 @@
 -- Facts about trees of sweeps.
-use Rattle.std.proofs.Common.{◌+◌, ◌*◌, ◌≤◌, arith}
+use Rattle.std.proofs.Common.{◌*◌, ◌≤◌, arith}
 use Rattle.std.proofs.Props.{props}
 use Rattle.std.specs.Prelude.{[]}
 use Rattle.gtd_spans.specs.Normal.{IsNormal}

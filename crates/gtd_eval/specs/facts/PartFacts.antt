@@ -1,6 +1,5 @@
 -- Facts of the leaves of cursors that keep spans.
 use Rattle.std.proofs.Common.{◌*◌, ◌≤◌, arith}
-use Rattle.gtd_recur.specs.declared.runs.Runs.{Runs}
 use Rattle.gtd_recur.specs.facts.StretchFacts.{runs_between-normal}
 use Rattle.gtd_spans.specs.Normal.{IsNormal}
 use Rattle.gtd_eval.specs.Cursors.{cursor_list}

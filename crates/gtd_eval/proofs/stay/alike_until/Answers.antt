@@ -1,10 +1,9 @@
 use Rattle.std.proofs.Common.{◌≡◌, arith, rules}
-use Rattle.std.specs.Prelude.{ℤ, ◌≤ℤ◌}
 use Rattle.std.proofs.lemmas.Int.{ints}
 use Rattle.gtd_core.specs.Trees.{tree_of}
 use Rattle.gtd_core.specs.Whole.{whole}
 use Rattle.gtd_eval.specs.Membership.{InTree}
-use Rattle.gtd_eval.proofs.StayChanges.{next_stays}
+use Rattle.gtd_eval.specs.facts.StayChanges.{next_stays}
 use Rattle.gtd_eval.proofs.stay.alike_until.Goals as goal
 
 pub loop-init : goal.loop-init
@@ -26,6 +25,6 @@ loop-preserved c =
       later = omega (arith, ints, l, i.later);
       within = is.within;
       never = next_stays (InTree (tree_of c.args.expr.now)) c.args.second.0 (whole c.args.horizon).until c.args.first
-          c.each_stay-stay.result c.loop.at.0 c.requires.first is same i.later i.never;
+          c.each_stay-stay.result c.each_stay-stay.result.holds c.loop.at.0 c.requires.first is is.holds same i.later i.never;
       long = omega (arith, ints, l, i.long);
     }

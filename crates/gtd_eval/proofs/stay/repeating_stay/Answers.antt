@@ -1,8 +1,7 @@
-use Rattle.std.proofs.Common.{◌≡◌, refl, arith, rules, FitsSigned, to_z-of_z, w64}
-use Rattle.std.specs.Prelude.{ℤ, ◌≤ℤ◌, ◌+ℤ◌}
+use Rattle.std.proofs.Common.{refl, arith, rules, FitsSigned, to_z-of_z, w64}
+use Rattle.std.specs.Prelude.{◌≤ℤ◌, ◌+ℤ◌}
 use Rattle.std.proofs.lemmas.Int.{ints}
 use Rattle.gtd_core.specs.Trees.{tree_of}
-use Rattle.gtd_core.specs.Whole.{whole}
 use Rattle.gtd_recur.specs.Periods.{period_seconds}
 use Rattle.gtd_eval.specs.Membership.{InTree}
 use Rattle.gtd_eval.specs.facts.PeriodFacts.{short-period, some-period, tree-repeats-after}

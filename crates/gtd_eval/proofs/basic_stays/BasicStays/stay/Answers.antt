@@ -1,5 +1,4 @@
 use Rattle.std.proofs.Common.{◌∙◌, refl}
-use Rattle.gtd_eval.specs.Onward.{IsSameBasic}
 use Rattle.gtd_eval.proofs.OnwardFacts.{none-left, some-left}
 use Rattle.gtd_eval.proofs.basic_stays.BasicStays.stay.Goals as goal
 

@@ -1,4 +1,4 @@
-use Rattle.std.proofs.Common.{arith, [], ◌+◌, ◌<◌}
+use Rattle.std.proofs.Common.{arith, []}
 use Rattle.gtd_eval.specs.facts.NodeFacts.{node_list-normal}
 use Rattle.gtd_eval.proofs.tree.SweepTree.outside.Goals as goal
 

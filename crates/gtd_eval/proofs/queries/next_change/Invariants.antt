@@ -4,7 +4,7 @@ use Rattle.gtd_core.specs.Whole.{whole}
 use Rattle.gtd_eval.specs.Asked.{EndAt, HaveCome, asked_tree}
 use Rattle.gtd_eval.specs.Membership.{InDomain}
 use Rattle.gtd_spans.specs.Change.{NeverChanges}
-use Rattle.gtd_eval.proofs.queries.change_by_stays.Given as goal
+use Rattle.gtd_eval.proofs.queries.next_change.Given as goal
 
 -- nothing changes so far
 abbrev pub invariant-loop : goal.invariant-loop

@@ -1,5 +1,5 @@
 use Rattle.std.proofs.Common.{◌≡◌, ◌∙◌, arith, rules, subst, inl, inr}
-use Rattle.std.specs.Prelude.{ℤ, ◌<ℤ◌, ◌≤ℤ◌}
+use Rattle.std.specs.Prelude.{ℤ}
 use Rattle.std.proofs.lemmas.Int.{ints}
 use Rattle.gtd_core.specs.Parts.{domain_tree}
 use Rattle.gtd_core.specs.Trees.{Tree}
@@ -9,8 +9,8 @@ use Rattle.gtd_eval.specs.Membership.{InDomain, InTree}
 use Rattle.gtd_eval.specs.Stays.{IsStay}
 use Rattle.gtd_eval.specs.declared.stay.Stay.{Stay}
 use Rattle.gtd_eval.proofs.OnwardFacts.{come-later}
-use Rattle.gtd_eval.proofs.StayChanges.{changes_at, next_stays}
-use Rattle.gtd_eval.proofs.queries.change_by_stays.Goals as goal
+use Rattle.gtd_eval.specs.facts.StayChanges.{next_stays}
+use Rattle.gtd_eval.proofs.queries.next_change.Goals as goal
 
 -- a stay of the tree that is asked is one of the domain
 of-tree : (asked tree : Tree) (s last end : ℤ) (stay : Stay) → asked ≡ tree → end ≡ last → IsStay (InTree asked) s end stay
@@ -56,5 +56,5 @@ loop-preserved c =
       later = (let l = is.later in let k = i.later in omega (arith, ints, l, k));
       within = is.within;
       never = next_stays (InDomain c.args.domain.now) c.args.second.0 last c.stay_of-first.result c.stay_at-stay.result
-          c.loop.at.0 c.stay_of-first.ensures.stays is same i.later i.never;
+          c.stay_at-stay.result.holds c.loop.at.0 c.stay_of-first.ensures.stays is is.holds same i.later i.never;
     }
