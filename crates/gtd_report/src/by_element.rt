@@ -7,36 +7,41 @@ ghost use Rattle.gtd_records.specs.declared.direction.Direction.{Direction};
 ghost use Rattle.gtd_report.specs.Putting.{AreElementLines, AreLinesOf, IsByElement, IsOneEach, PutsText, failures_after_stop};
 ghost use Rattle.gtd_report.specs.Putting.{most_direction_bytes, most_direction_lines, nothing_put};
 
-use crate::output::{Progress, Stop, finish, put_line};
+use crate::output::{Printer, Stop, finish, put_line};
 use gtd_devices::Output;
 use gtd_records::{Direction, Records};
-use std::alloc::Global;
+
+/// An element in a direction.
+#[derive(Clone, Copy, Debug, PartialEq, Eq)]
+pub struct DirectedElement {
+    /// The element.
+    pub element: u64,
+    /// The direction.
+    pub direction: Direction,
+}
 
 /// The lines of an element in a direction.
 pub trait DirectionLines {
     /// Which lines an element has in a direction.
     ghost are_lines: { Self → List Restriction → ℕ → Direction → List (List ℕ) → Type 0 };
 
-    /// Puts the lines of an element in a direction. `line` is room for a line: what it holds does not matter. Both
-    /// counts must stay within a `u64`. Before the call, the output's failures must be below `u64::MAX`.
+    /// Puts the lines of an element in a direction. Both counts must stay within a `u64`. Before the call, the output's
+    /// failures must be below `u64::MAX`.
     fn put_direction<O: Output>(
         &self,
-        alloc: Global,
         output: &mut O,
-        progress: &mut Progress,
-        line: &mut Vec<u8>,
+        printer: &mut Printer,
         found: &Records,
-        element: u64,
-        direction: Direction,
+        at: DirectedElement,
     ) -> Result<(), Stop>
         requires countable { O.failure_count output.old < u64.MAX }
         requires few { length found.now ≤ most_rows }
-        requires written { progress.old.written + most_direction_bytes < 2 ^ 64 }
-        requires lines { progress.old.lines + most_direction_lines < 2 ^ 64 }
-        ensures puts { PutsText (are_lines self.now found.now element direction) result
-            (O.taken output.old) (O.taken output.new) progress.old progress.new }
-        ensures near { OnOk result ((progress.new.written ≤ progress.old.written + most_direction_bytes)
-            × (progress.new.lines ≤ progress.old.lines + most_direction_lines)) }
+        requires written { printer.old.progress.written + most_direction_bytes < 2 ^ 64 }
+        requires lines { printer.old.progress.lines + most_direction_lines < 2 ^ 64 }
+        ensures puts { PutsText (are_lines self.now found.now at.element at.direction) result
+            (O.taken output.old) (O.taken output.new) printer.old.progress printer.new.progress }
+        ensures near { OnOk result ((printer.new.progress.written ≤ printer.old.progress.written + most_direction_bytes)
+            × (printer.new.progress.lines ≤ printer.old.progress.lines + most_direction_lines)) }
         ensures failures { O.failure_count output.new
             ≡ failures_after_stop result (O.failure_count output.old) };
 }
@@ -46,27 +51,25 @@ pub trait ElementLines {
     /// Which lines an element has in a direction.
     ghost are_lines: { Self → List Restriction → ℕ → Direction → List (List ℕ) → Type 0 };
 
-    /// Puts the lines of an element, positive before negative, as [`put_both`] does by a call for each direction. `line` is room
-    /// for a line: what it holds does not matter. The element must have at most one list of lines in a direction. Both counts
-    /// must stay within a `u64`. Before the call, the output's failures must be below `u64::MAX`.
+    /// Puts the lines of an element, positive before negative, as [`put_both`] does by a call for each direction. The element
+    /// must have at most one list of lines in a direction. Both counts must stay within a `u64`. Before the call, the output's
+    /// failures must be below `u64::MAX`.
     fn put_element<O: Output>(
         &self,
-        alloc: Global,
         output: &mut O,
-        progress: &mut Progress,
-        line: &mut Vec<u8>,
+        printer: &mut Printer,
         found: &Records,
         element: u64,
     ) -> Result<(), Stop>
         requires countable { O.failure_count output.old < u64.MAX }
         requires few { length found.now ≤ most_rows }
-        requires written { progress.old.written + 2 * most_direction_bytes < 2 ^ 64 }
-        requires lines { progress.old.lines + 2 * most_direction_lines < 2 ^ 64 }
+        requires written { printer.old.progress.written + 2 * most_direction_bytes < 2 ^ 64 }
+        requires lines { printer.old.progress.lines + 2 * most_direction_lines < 2 ^ 64 }
         requires one { IsOneEach (are_lines self.now found.now) }
         ensures puts { PutsText (AreElementLines (are_lines self.now found.now element)) result
-            (O.taken output.old) (O.taken output.new) progress.old progress.new }
-        ensures near { OnOk result ((progress.new.written ≤ progress.old.written + 2 * most_direction_bytes)
-            × (progress.new.lines ≤ progress.old.lines + 2 * most_direction_lines)) }
+            (O.taken output.old) (O.taken output.new) printer.old.progress printer.new.progress }
+        ensures near { OnOk result ((printer.new.progress.written ≤ printer.old.progress.written + 2 * most_direction_bytes)
+            × (printer.new.progress.lines ≤ printer.old.progress.lines + 2 * most_direction_lines)) }
         ensures failures { O.failure_count output.new
             ≡ failures_after_stop result (O.failure_count output.old) };
 }
@@ -74,37 +77,40 @@ pub trait ElementLines {
 /// Puts the lines of an element, positive before negative, by a call for each direction. The same must hold before the call as
 /// before [`ElementLines::put_element`].
 pub fn put_both<O: Output, L: DirectionLines>(
-    alloc: Global,
     output: &mut O,
-    progress: &mut Progress,
-    line: &mut Vec<u8>,
+    printer: &mut Printer,
     found: &Records,
     element: u64,
     text: &L,
 ) -> Result<(), Stop>
     requires countable { O.failure_count output.old < u64.MAX }
     requires few { length found.now ≤ most_rows }
-    requires written { progress.old.written + 2 * most_direction_bytes < 2 ^ 64 }
-    requires lines { progress.old.lines + 2 * most_direction_lines < 2 ^ 64 }
+    requires written { printer.old.progress.written + 2 * most_direction_bytes < 2 ^ 64 }
+    requires lines { printer.old.progress.lines + 2 * most_direction_lines < 2 ^ 64 }
     requires one { IsOneEach (L.are_lines text.now found.now) }
     ensures puts { PutsText (AreElementLines (L.are_lines text.now found.now element)) result
-        (O.taken output.old) (O.taken output.new) progress.old progress.new }
-    ensures near { OnOk result ((progress.new.written ≤ progress.old.written + 2 * most_direction_bytes)
-        × (progress.new.lines ≤ progress.old.lines + 2 * most_direction_lines)) }
+        (O.taken output.old) (O.taken output.new) printer.old.progress printer.new.progress }
+    ensures near { OnOk result ((printer.new.progress.written ≤ printer.old.progress.written + 2 * most_direction_bytes)
+        × (printer.new.progress.lines ≤ printer.old.progress.lines + 2 * most_direction_lines)) }
     ensures failures { O.failure_count output.new
         ≡ failures_after_stop result (O.failure_count output.old) }
 {
-    let positive = Direction::Positive;
-    text.put_direction(alloc, output, progress, line, found, element, positive)?;
-    let negative = Direction::Negative;
-    text.put_direction(alloc, output, progress, line, found, element, negative)
+    let positive = DirectedElement {
+        element,
+        direction: Direction::Positive,
+    };
+    text.put_direction(output, printer, found, positive)?;
+    let negative = DirectedElement {
+        element,
+        direction: Direction::Negative,
+    };
+    text.put_direction(output, printer, found, negative)
 }
 
 // Puts the lines of elements, in their order.
 fn put_elements<O: Output, L: ElementLines>(
-    alloc: Global,
     output: &mut O,
-    progress: &mut Progress,
+    printer: &mut Printer,
     found: &Records,
     elements: &[u64],
     text: &L,
@@ -112,17 +118,16 @@ fn put_elements<O: Output, L: ElementLines>(
     requires countable { O.failure_count output.old < u64.MAX }
     requires known { length found.now ≤ most_rows }
     requires few { length elements.now ≤ 2 * most_rows }
-    requires written { progress.old.written ≤ 1000 }
-    requires lines { progress.old.lines ≤ 1 }
+    requires written { printer.old.progress.written ≤ 1000 }
+    requires lines { printer.old.progress.lines ≤ 1 }
     requires one { IsOneEach (L.are_lines text.now found.now) }
     ensures puts { PutsText (AreLinesOf (L.are_lines text.now found.now) elements.now) result
-        (O.taken output.old) (O.taken output.new) progress.old progress.new }
+        (O.taken output.old) (O.taken output.new) printer.old.progress printer.new.progress }
     ensures failures { O.failure_count output.new
         ≡ failures_after_stop result (O.failure_count output.old) }
 {
-    let mut line = Vec::new(alloc);
     for element in elements {
-        text.put_element(alloc, output, progress, &mut line, found, *element)?;
+        text.put_element(output, printer, found, *element)?;
     }
     Ok(())
 }
@@ -132,29 +137,28 @@ fn put_elements<O: Output, L: ElementLines>(
 /// be twice as many as a file has rows. Before the call, the output's failures must be below `u64::MAX`. An element must have at
 /// most one list of lines in a direction.
 pub fn put_listed<O: Output, L: ElementLines>(
-    alloc: Global,
     output: &mut O,
-    progress: &mut Progress,
+    printer: &mut Printer,
     found: &Records,
     elements: &[u64],
     header: &[u8],
     text: &L,
 ) -> Result<(), Stop>
     requires countable { O.failure_count output.old < u64.MAX }
-    requires begins { progress.old ≡ nothing_put }
+    requires begins { printer.old.progress ≡ nothing_put }
     requires known { length found.now ≤ most_rows }
     requires few { length elements.now ≤ 2 * most_rows }
     requires short { length header.now ≤ 1000 }
     requires one { IsOneEach (L.are_lines text.now found.now) }
     ensures puts { (all : List Restriction) → AreElements all elements.now
         → PutsText (IsByElement all header.now (L.are_lines text.now found.now)) result
-        (O.taken output.old) (O.taken output.new) progress.old progress.new }
+        (O.taken output.old) (O.taken output.new) printer.old.progress printer.new.progress }
     ensures ended { OnOk result (IsTrue (O.is_ended output.new)) }
     ensures failures { O.failure_count output.new
         ≡ failures_after_stop result (O.failure_count output.old) }
 {
-    put_line(output, progress, header)?;
-    put_elements(alloc, output, progress, found, elements, text)?;
+    put_line(output, &mut printer.progress, header)?;
+    put_elements(output, printer, found, elements, text)?;
     finish(output)
 }
 
@@ -162,31 +166,22 @@ pub fn put_listed<O: Output, L: ElementLines>(
 /// order and positive before negative; then ends the output. Before the call, the output's failures must be below
 /// `u64::MAX`. An element must have at most one list of lines in a direction.
 pub fn put_by_element<O: Output, L: ElementLines>(
-    alloc: Global,
     output: &mut O,
-    progress: &mut Progress,
+    printer: &mut Printer,
     found: &Records,
     header: &[u8],
     text: &L,
 ) -> Result<(), Stop>
     requires countable { O.failure_count output.old < u64.MAX }
-    requires begins { progress.old ≡ nothing_put }
+    requires begins { printer.old.progress ≡ nothing_put }
     requires few { length found.now ≤ most_rows }
     requires short { length header.now ≤ 1000 }
     requires one { IsOneEach (L.are_lines text.now found.now) }
     ensures puts { PutsText (IsByElement found.now header.now (L.are_lines text.now found.now)) result
-        (O.taken output.old) (O.taken output.new) progress.old progress.new }
+        (O.taken output.old) (O.taken output.new) printer.old.progress printer.new.progress }
     ensures ended { OnOk result (IsTrue (O.is_ended output.new)) }
     ensures failures { O.failure_count output.new
         ≡ failures_after_stop result (O.failure_count output.old) }
 {
-    put_listed(
-        alloc,
-        output,
-        progress,
-        found,
-        found.elements(),
-        header,
-        text,
-    )
+    put_listed(output, printer, found, found.elements(), header, text)
 }

@@ -6,7 +6,7 @@ ghost use Rattle.gtd_report.specs.Putting.{after_line, answer_of, failures_after
 
 use crate::fault::RunFault;
 use gtd_devices::{Output, Put};
-use std::alloc::AllocError;
+use std::alloc::{AllocError, Global};
 
 /// The output failed when it had taken this many bytes of a line.
 #[derive(Clone, Copy, Debug, PartialEq, Eq)]
@@ -79,6 +79,30 @@ impl Progress {
             Err(Stop::Memory) => Err(RunFault::NoMemory {
                 written: self.written,
             }),
+        }
+    }
+}
+
+/// What a run puts its text with, besides the output.
+#[derive(Drop)]
+pub struct Printer {
+    /// How far the run has put its text.
+    pub progress: Progress,
+    /// Room for a line: what it holds between two lines does not matter.
+    pub line: Vec<u8>,
+    /// Where memory comes from.
+    pub alloc: Global,
+}
+
+impl Printer {
+    /// Nothing put yet.
+    pub fn new(alloc: Global) -> Printer
+        ensures begins { result.progress ≡ nothing_put }
+    {
+        Printer {
+            progress: Progress::new(),
+            line: Vec::new(alloc),
+            alloc,
         }
     }
 }

@@ -9,7 +9,7 @@ ghost use Rattle.gtd_report.specs.Run.{AcceptedFilesArePut, HasRun, IsLineCount,
 ghost use Rattle.gtd_report.specs.Run.{failures_after_read, failures_after_write, IsAccepted, IsVehicleInRange, IsYearInRange};
 
 use crate::fault::RunFault;
-use crate::output::{Progress, Stop};
+use crate::output::{Printer, Stop};
 use crate::subject::{Subject, is_accepted, is_vehicle_in_range, is_year_in_range};
 use gtd_devices::{Input, Output};
 use gtd_records::{RecordFault, Records, read_records};
@@ -31,18 +31,17 @@ pub trait Report {
     /// must be below `u64::MAX`.
     fn put<O: Output>(
         &self,
-        alloc: Global,
         output: &mut O,
-        progress: &mut Progress,
+        printer: &mut Printer,
         found: &Records,
     ) -> Result<(), Stop>
         requires countable { O.failure_count output.old < u64.MAX }
-        requires begins { progress.old ≡ nothing_put }
+        requires begins { printer.old.progress ≡ nothing_put }
         requires few { length found.now ≤ most_rows }
         requires vehicle { IsVehicleInRange (subject self.now) }
         requires year { IsYearInRange (subject self.now) }
         ensures puts { PutsText (is_text self.now found.now) result
-            (O.taken output.old) (O.taken output.new) progress.old progress.new }
+            (O.taken output.old) (O.taken output.new) printer.old.progress printer.new.progress }
         ensures ended { OnOk result (IsTrue (O.is_ended output.new)) }
         ensures failures { O.failure_count output.new
             ≡ failures_after_stop result (O.failure_count output.old) };
@@ -86,9 +85,9 @@ fn run<I: Input, O: Output, R: Report>(
     if !is_accepted(subject, &found) {
         return Err(RunFault::NoElement);
     }
-    let mut progress = Progress::new();
-    let put = report.put(alloc, output, &mut progress, &found);
-    progress.answer(put)
+    let mut printer = Printer::new(alloc);
+    let put = report.put(output, &mut printer, &found);
+    printer.progress.answer(put)
 }
 
 /// Puts a report of the record file that an input brings. Answers the number of its lines.

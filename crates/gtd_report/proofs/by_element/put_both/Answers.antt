@@ -1,4 +1,3 @@
-use Rattle.std.specs.Prelude.{Err}
 use Rattle.std.proofs.lemmas.Result.{err_from_is_err_and}
 use Rattle.gtd_report.specs.facts.ElementFacts.{both_cut, both_put}
 use Rattle.gtd_report.proofs.by_element.put_both.Goals as goal
@@ -9,7 +8,7 @@ returns-in_err-put_direction-clause-puts g c =
     let each = g.L.DirectionLines.are_lines c.args.text.now c.args.found.now in
     let a = g.O.Output.taken c.args.output.now in
     let b = g.O.Output.taken c.put_direction.new.output in
-    rw (p.1) (both_cut each c.args.element p.0 a b c.args.progress.now c.put_direction.new.progress
+    rw (p.1) (both_cut each c.args.element p.0 a b c.args.printer.now.progress c.put_direction.new.printer.progress
     c.in_err-put_direction.ensures.puts)
 
 pub returns-clause-puts : goal.returns-clause-puts
@@ -17,5 +16,6 @@ returns-clause-puts g c =
     let each = g.L.DirectionLines.are_lines c.args.text.now c.args.found.now in
     let taken = g.O.Output.taken in
     both_put each c.requires.one c.args.element c.put_direction-2.result (taken c.args.output.now)
-    (taken c.put_direction.new.output) (taken c.put_direction-2.new.output) c.args.progress.now c.put_direction.new.progress
-    c.put_direction-2.new.progress c.in_ok-put_direction.ensures.puts c.put_direction-2.ensures.puts
+    (taken c.put_direction.new.output) (taken c.put_direction-2.new.output) c.args.printer.now.progress
+    c.put_direction.new.printer.progress c.put_direction-2.new.printer.progress c.in_ok-put_direction.ensures.puts
+    c.put_direction-2.ensures.puts

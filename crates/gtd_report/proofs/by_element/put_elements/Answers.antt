@@ -65,9 +65,9 @@ returns-in_err-put_element-clause-puts g c =
     let p = err_from_is_err_and c.from_residual.result c.from_residual.ensures.1 in
     let taken = g.O.Output.taken in
     rw (p.1) (stopped (g.L.ElementLines.are_lines c.args.text.now c.args.found.now) c.args.elements.now
-    c.loop-element.element-index (taken c.args.output.now) (taken c.loop-element.output) c.args.progress.now
-    c.loop-element.progress c.loop-element.invariant.carries (omega arith) (taken c.put_element.new.output)
-    c.put_element.new.progress p.0 c.in_err-put_element.ensures.puts)
+    c.loop-element.element-index (taken c.args.output.now) (taken c.loop-element.output) c.args.printer.now.progress
+    c.loop-element.printer.progress c.loop-element.invariant.carries (omega arith) (taken c.put_element.new.output)
+    c.put_element.new.printer.progress p.0 c.in_err-put_element.ensures.puts)
 
 pub loop-element-preserved : goal.loop-element-preserved
 loop-element-preserved g c =
@@ -79,9 +79,9 @@ loop-element-preserved g c =
     let taken = g.O.Output.taken in
     record {
       carries = one_more (g.L.ElementLines.are_lines c.args.text.now c.args.found.now) c.args.elements.now
-          c.loop-element.element-index (taken c.args.output.now) (taken c.loop-element.output) c.args.progress.now
-          c.loop-element.progress i.carries (omega arith) (taken c.put_element.new.output) c.put_element.new.progress
-          c.requires.one put.puts;
+          c.loop-element.element-index (taken c.args.output.now) (taken c.loop-element.output) c.args.printer.now.progress
+          c.loop-element.printer.progress i.carries (omega arith) (taken c.put_element.new.output)
+          c.put_element.new.printer.progress c.requires.one put.puts;
       written = omega arith;
       lines = omega arith;
       failures = put.failures ∙ i.failures;
@@ -90,5 +90,6 @@ loop-element-preserved g c =
 pub returns-clause-puts : goal.returns-clause-puts
 returns-clause-puts g c =
     none_left (g.L.ElementLines.are_lines c.args.text.now c.args.found.now) c.args.elements.now c.loop-element.element-index
-    (g.O.Output.taken c.args.output.now) (g.O.Output.taken c.loop-element.output) c.args.progress.now c.loop-element.progress
+    (g.O.Output.taken c.args.output.now) (g.O.Output.taken c.loop-element.output) c.args.printer.now.progress
+    c.loop-element.printer.progress
     c.loop-element.invariant.carries (omega arith)

@@ -7,10 +7,10 @@ use Rattle.gtd_report.proofs.by_element.put_elements.Given as goal
 abbrev pub invariant-loop-element : goal.invariant-loop-element
 invariant-loop-element g l = record {
   carries : CarriesText (AreLinesOf (g.L.ElementLines.are_lines l.text l.found) l.elements)
-      (g.O.Output.taken l.fn.output) l.fn.progress
+      (g.O.Output.taken l.fn.output) l.fn.printer.progress
       (AreLinesOf (g.L.ElementLines.are_lines l.text l.found) (drop l.element-index l.elements))
-      (g.O.Output.taken l.output) l.progress;
-  written : l.progress.written ≤ 1000 + 2 * most_direction_bytes * l.element-index;
-  lines : l.progress.lines ≤ 1 + 2 * most_direction_lines * l.element-index;
+      (g.O.Output.taken l.output) l.printer.progress;
+  written : l.printer.progress.written ≤ 1000 + 2 * most_direction_bytes * l.element-index;
+  lines : l.printer.progress.lines ≤ 1 + 2 * most_direction_lines * l.element-index;
   failures : g.O.Output.failure_count l.output ≡ g.O.Output.failure_count l.fn.output;
 }

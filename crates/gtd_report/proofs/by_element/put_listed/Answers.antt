@@ -13,7 +13,7 @@ returns-in_err-put_line-clause-puts g c = λ found named.
     let a = g.O.Output.taken c.args.output.now in
     let b = g.O.Output.taken c.put_line.new.output in
     let e = c.in_err-put_line.ensures in
-    let before = c.args.progress.now in
+    let before = c.args.printer.now.progress in
     let after = c.put_line.new.progress in
     let first = c.args.header.now in
     let short = one_short p.0 first c.in_err-put_line.field-0.0.taken a b before after e.some.0 e.some.1 e.progress in
@@ -30,9 +30,9 @@ returns-in_err-put_elements-clause-puts g c = λ found named.
     let b = g.O.Output.taken c.put_line.new.output in
     let d = g.O.Output.taken c.put_elements.new.output in
     let e = c.in_ok-put_line.ensures in
-    let before = c.args.progress.now in
+    let before = c.args.printer.now.progress in
     let now = c.put_line.new.progress in
-    let after = c.put_elements.new.progress in
+    let after = c.put_elements.new.printer.progress in
     let put : PutsText (IsHeader first) (Ok tt) a b before now =
     (first ∷ [], refl, one_put first a b before now e.all e.progress) in
     rw (p.1) (texts_as (Then (IsHeader first) rest) (IsByElement found first each) (Err p.0) a d before after
@@ -51,9 +51,9 @@ returns-clause-puts g c = λ found named.
     let d = g.O.Output.taken c.put_elements.new.output in
     let f = g.O.Output.taken c.finish.new.output in
     let e = c.in_ok-put_line.ensures in
-    let before = c.args.progress.now in
+    let before = c.args.printer.now.progress in
     let now = c.put_line.new.progress in
-    let after = c.put_elements.new.progress in
+    let after = c.put_elements.new.printer.progress in
     let put : PutsText (IsHeader first) (Ok tt) a b before now =
     (first ∷ [], refl, one_put first a b before now e.all e.progress) in
     texts_ended (IsByElement found first each) c.finish.result a d f before after

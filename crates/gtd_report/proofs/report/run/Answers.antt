@@ -9,18 +9,18 @@ returns-clause-stands g c =
     rw c.answer.ensures.value
     (has_run (IsAccepted (g.R.Report.subject c.args.report.now)) (g.R.Report.is_text c.args.report.now) c.put-put.result
     (g.I.Input.to_come c.args.input.now)
-    (g.O.Output.taken c.args.output.now) (g.O.Output.taken c.put-put.new.output) c.in-Ok.found c.put-put.new.progress
+    (g.O.Output.taken c.args.output.now) (g.O.Output.taken c.put-put.new.output) c.in-Ok.found c.put-put.new.printer.progress
     c.in-Ok.ensures.file (rw c.subject-subject.ensures.value at accepted)
-    (rw c.new-progress.ensures.value at c.put-put.ensures.puts))
+    (rw c.new-printer.ensures.begins at c.put-put.ensures.puts))
 
 pub returns-clause-ended : goal.returns-clause-ended
 returns-clause-ended g c =
-    rw c.answer.ensures.value (answer_ended c.put-put.result c.put-put.new.progress
+    rw c.answer.ensures.value (answer_ended c.put-put.result c.put-put.new.printer.progress
     (g.O.Output.is_ended c.put-put.new.output) c.put-put.ensures.ended)
 
 pub returns-clause-lines : goal.returns-clause-lines
 returns-clause-lines g c =
     rw c.answer.ensures.value (answer_lines (g.R.Report.is_text c.args.report.now) c.put-put.result
     (g.O.Output.taken c.args.output.now)
-    (g.O.Output.taken c.put-put.new.output) c.in-Ok.found c.put-put.new.progress
-    (rw c.new-progress.ensures.value at c.put-put.ensures.puts))
+    (g.O.Output.taken c.put-put.new.output) c.in-Ok.found c.put-put.new.printer.progress
+    (rw c.new-printer.ensures.begins at c.put-put.ensures.puts))

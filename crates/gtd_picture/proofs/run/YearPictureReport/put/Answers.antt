@@ -1,0 +1,35 @@
+use Rattle.std.specs.Prelude.{Ok, Err, codes}
+use Rattle.std.proofs.lemmas.Result.{err_from_is_err_and}
+use Rattle.gtd_eval.specs.Cursors.{cursor_list}
+use Rattle.gtd_records.specs.Closing.{IsOpen}
+use Rattle.gtd_picture.specs.Picture.{IsPicture}
+use Rattle.gtd_picture.proofs.PictureFacts.{one_picture, picture_there, texts_ended}
+use Rattle.gtd_picture.proofs.run.YearPictureReport.put.Goals as goal
+
+pub returns-in_err-put_picture-clause-puts : goal.returns-in_err-put_picture-clause-puts
+returns-in_err-put_picture-clause-puts g c =
+    let r = err_from_is_err_and c.from_residual-in_err-put_picture.result c.from_residual-in_err-put_picture.ensures.1 in
+    let it = c.args.self.now in
+    let set = IsOpen c.args.found.now it.element it.direction it.vehicle in
+    let days = c.days_of_year in
+    let taken = g.O.Output.taken in
+    rw (r.1) (picture_there set days.result (cursor_list c.in_ok-open.open) it.year c.in_ok-open.ensures.seconds
+    days.ensures.first days.ensures.next (Err r.0) (taken c.args.output.now) (taken c.put_picture.new.output)
+    c.args.printer.now.progress c.put_picture.new.printer.progress it.title.now (codes "open") (codes "closed")
+    c.in_err-put_picture.ensures.puts)
+
+pub returns-clause-puts : goal.returns-clause-puts
+returns-clause-puts g c =
+    let it = c.args.self.now in
+    let set = IsOpen c.args.found.now it.element it.direction it.vehicle in
+    let days = c.days_of_year in
+    let taken = g.O.Output.taken in
+    let title = it.title.now in
+    texts_ended (IsPicture set title (codes "open") (codes "closed") it.year) c.finish.result
+    (taken c.args.output.now) (taken c.put_picture.new.output) (taken c.finish.new.output) c.args.printer.now.progress
+    c.put_picture.new.printer.progress (one_picture set title (codes "open") (codes "closed") it.year)
+    (picture_there set days.result (cursor_list c.in_ok-open.open) it.year c.in_ok-open.ensures.seconds
+    days.ensures.first days.ensures.next (Ok tt) (taken c.args.output.now) (taken c.put_picture.new.output)
+    c.args.printer.now.progress c.put_picture.new.printer.progress title (codes "open") (codes "closed")
+    c.in_ok-put_picture.ensures.puts)
+    c.finish.ensures.bytes
