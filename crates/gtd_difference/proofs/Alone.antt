@@ -1,11 +1,12 @@
 -- What one set has alone, by the spans that it has without those of the other.
-use Rattle.std.proofs.Common.{◌≡◌, ◌↔◌, ◌⊎◌, List, ◌∷◌, Option, Some, None, MatchOption, inl, inr, arith, true, false}
-use Rattle.std.specs.Prelude.{ℤ, ◌≤ℤ◌, ◌<ℤ◌, int_lt}
+use Rattle.std.proofs.Common.{◌≡◌, ◌↔◌, ◌⊎◌, List, ◌∷◌, Option, Some, None, MatchOption, inl, inr, arith, subst, true, false}
+use Rattle.std.specs.Prelude.{ℤ, pos, ◌-ℤ◌, ◌≤ℤ◌, ◌<ℤ◌, int_lt}
 use Rattle.std.proofs.lemmas.Int.{ints, by_lt_z}
 use Rattle.gtd_core.specs.Seconds.{Interval}
 use Rattle.gtd_core.specs.declared.second.Sec.{Sec}
 use Rattle.gtd_core.specs.facts.Deciding.{Decided}
 use Rattle.gtd_spans.specs.Normal.{Holds, IsNormal, IsNormalFor}
+use Rattle.gtd_spans.specs.facts.NormalFor.{normal-of}
 use Rattle.gtd_spans.specs.facts.OneList.{first-holds}
 use Rattle.gtd_difference.specs.Difference.{AgreeFrom, IsApart, HoldsNone, IsFirstHeld, HasNoneAlone, IsFirstAlone}
 use Rattle.gtd_difference.specs.Difference.{earlier, earlier_of}
@@ -22,6 +23,14 @@ first-of xs rest x from s normal same ends late is = record {
       let q : x.from ≤ℤ t = first-holds x rest t normal ((same t later).0 h) in
       omega (arith, ints, q, later, before, is);
 }
+
+-- the first interval of a list that is normal for a set ends before the end
+pub first-ends : (P : ℤ → Type 0) (begin until : ℤ) (xs rest : List Interval) (x : Interval) → IsNormalFor P begin until xs
+    → xs ≡ x ∷ rest → x.until ≤ℤ until
+first-ends P begin until xs rest x n e =
+    let normal : IsNormal (x ∷ rest) = subst IsNormal e (normal-of P begin until xs n) in
+    let i = n.inside (x.until -ℤ pos 1) (rw e (inl (omega (arith, ints, normal.0), omega (arith, ints)))) in
+    omega (arith, ints, i.1)
 
 -- ---- two lists that are normal for two sets, and a third that holds what the first holds alone
 

@@ -2,9 +2,11 @@
 use Rattle.std.specs.Prelude.{ℤ, pos, ◌*ℤ◌, ◌<ℤ◌, ◌≤ℤ◌, ◌↔◌, ◌⊎◌, int_lt, if◌then◌else◌, Option, Some, None}
 use Rattle.gtd_core.specs.Limits.{day_seconds, first_horizon_day, horizons_end}
 use Rattle.gtd_core.specs.Parts.{domain_tree}
+use Rattle.gtd_core.specs.Trees.{Tree, Single}
+use Rattle.gtd_core.specs.declared.domain.Basic.{Basic}
 use Rattle.gtd_core.specs.declared.domain.Domain.{Domain}
 use Rattle.gtd_core.specs.declared.second.Sec.{Sec}
-use Rattle.gtd_eval.specs.Membership.{InDomain, SomeGivesYear}
+use Rattle.gtd_eval.specs.Membership.{InDomain, InTree, SomeGivesYear}
 use Rattle.gtd_difference.specs.declared.comparison.Apart.{Apart}
 use Rattle.gtd_difference.specs.declared.comparison.Comparison.{Comparison}
 use Rattle.gtd_difference.specs.declared.comparison.Comparison.TheVariants.{Same, SameUntil2700, Apart as Differ}
@@ -70,6 +72,14 @@ pub record IsFirstHeld (set : ℤ → Type 0) (from s : ℤ) : Type 0 where
 -- each second of P from `from` on and before `until` is in Q, too
 abbrev pub HasNoneAlone : (ℤ → Type 0) → (ℤ → Type 0) → ℤ → ℤ → Type 0
 HasNoneAlone P Q from until = (t : ℤ) → from ≤ℤ t → t <ℤ until → P t → Q t
+
+-- the expression of a basic domain alone
+abbrev pub single_of : Basic → Tree
+single_of basic = Single basic.start.parts basic.duration.parts
+
+-- each second of an expression from 1901-01-01 on and before 2700-01-01 is in another, too
+abbrev pub IsPart : Tree → Tree → Type 0
+IsPart expr other = HasNoneAlone (InTree expr) (InTree other) first_begin last_end
 
 -- s is the first second from `from` on that is in P and not in Q, and is before `until`
 pub record IsFirstAlone (P Q : ℤ → Type 0) (from until s : ℤ) : Type 0 where

@@ -1,6 +1,6 @@
 //! How the seconds of two domains compare.
 
-ghost use Rattle.std.specs.Prelude.{◌≡◌, ◌⊎◌, ◌↔◌, ◌≤ℤ◌, pos, IfOk, IsTrue, MatchOption};
+ghost use Rattle.std.specs.Prelude.{◌≡◌, ◌⊎◌, ◌↔◌, ◌≤ℤ◌, pos, IfOk, IfSome, IsTrue, MatchOption};
 ghost use Rattle.gtd_core.specs.Horizons.{IsHorizon};
 ghost use Rattle.gtd_core.specs.Limits.{most_horizon_days};
 ghost use Rattle.gtd_core.specs.Parts.{domain_tree};
@@ -11,7 +11,7 @@ ghost use Rattle.gtd_core.specs.Whole.{whole};
 ghost use Rattle.gtd_eval.specs.Membership.{InDomain, SomeGivesYear};
 ghost use Rattle.gtd_eval.specs.Weekly.{AllWeekly};
 ghost use Rattle.gtd_difference.specs.Difference.{AgreeFrom, EitherGivesYear, IsApart, IsComparison};
-ghost use Rattle.gtd_difference.specs.Difference.{earlier, earlier_of};
+ghost use Rattle.gtd_difference.specs.Difference.{earlier, earlier_of, last_end};
 
 use crate::first::first_alone;
 use gtd_core::limits::{HORIZONS_END, MOST_HORIZON_DAYS};
@@ -21,6 +21,9 @@ use std::alloc::{AllocError, Global};
 
 // The days of a week, and one more: the rest of a second's own day.
 const WEEKLY_DAYS: i64 = 8;
+
+/// The days of four years, which are compared before all others: most domains that differ do so soon.
+pub(crate) const NEAR_DAYS: i64 = 1_461;
 
 /// One of two domains.
 #[derive(Clone, Copy, Debug, PartialEq, Eq)]
@@ -141,6 +144,42 @@ fn first_apart(
     Ok(earlier(of_first, of_second))
 }
 
+// The first second of the next four years that one of the domains has alone, if there is one. Of domains that both repeat after
+// 7 days a week decides anyway, so that none is looked for.
+fn near_apart(
+    alloc: Global,
+    first: &Domain,
+    second: &Domain,
+    from: Sec,
+) -> Result<Option<Apart>, AllocError>
+    requires moment { IsMomentSecond from.0 }
+    ensures apart { IfOk result (λ found. IfSome found (IsApart (InDomain first.now) (InDomain second.now) from.0 last_end)) }
+{
+    if is_weekly(first) && is_weekly(second) {
+        return Ok(None);
+    }
+    let day = from.day();
+    let near = days_between(day, day + NEAR_DAYS);
+    first_apart(alloc, first, second, from, near)
+}
+
+// How two domains without years compare, which may differ in the next four years.
+fn compare_soon(
+    alloc: Global,
+    first: &Domain,
+    second: &Domain,
+    from: Sec,
+) -> Result<Comparison, AllocError>
+    requires moment { IsMomentSecond from.0 }
+    requires no_year { EitherGivesYear first.now second.now → ⊥ }
+    ensures compared { IfOk result (IsComparison first.now second.now from.0) }
+{
+    match near_apart(alloc, first, second, from)? {
+        Some(apart) => Ok(Comparison::Apart(apart)),
+        None => compare_ever(alloc, first, second, from),
+    }
+}
+
 // How two domains without years compare.
 fn compare_ever(
     alloc: Global,
@@ -211,6 +250,6 @@ pub fn compare(
     if gives_year(first.expr()) || gives_year(second.expr()) {
         compare_in_years(alloc, first, second, from)
     } else {
-        compare_ever(alloc, first, second, from)
+        compare_soon(alloc, first, second, from)
     }
 }

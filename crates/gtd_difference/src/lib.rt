@@ -5,6 +5,7 @@
 pub use comparison::{Apart, Comparison, Side, compare};
 pub use within::is_within;
 
+mod basics;
 mod comparison;
 mod first;
 pub mod laws;

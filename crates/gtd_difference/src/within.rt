@@ -1,15 +1,24 @@
 //! Whether each second of one domain is in another.
 
-ghost use Rattle.std.specs.Prelude.{◌↔◌, IfOk, IsTrue};
+ghost use Rattle.std.specs.Prelude.{◌↔◌, ◌≤ℤ◌, IfOk, IsTrue};
+ghost use Rattle.gtd_core.specs.Seconds.{IsHorizonSecond, Within};
 ghost use Rattle.gtd_core.specs.Whole.{whole};
 ghost use Rattle.gtd_eval.specs.Membership.{InDomain};
 ghost use Rattle.gtd_difference.specs.Difference.{EitherGivesYear, HasNoneAlone, first_begin, last_end};
 
-use crate::comparison::{days_between, days_to_repeat, gives_year};
+use crate::basics::{have_few_parts, is_shown_within};
+use crate::comparison::{NEAR_DAYS, days_between, days_to_repeat, gives_year};
 use crate::first::first_alone;
 use gtd_core::limits::{FIRST_HORIZON_DAY, HORIZONS_END, MOST_HORIZON_DAYS};
-use gtd_core::{Domain, Horizon};
+use gtd_core::{Domain, Horizon, Sec, Span};
+use gtd_eval::{Cursor, holds, is_weekly};
+use gtd_spans::SpanSource;
 use std::alloc::{AllocError, Global};
+
+// The days of 2016-01-01 and of 2044-01-01, from which the first span of a domain is taken.
+const SEEN_FROM: i64 = 16_801;
+
+const SEEN_UNTIL: i64 = 27_028;
 
 // Whether each second of the days that the domain has is in the other, too.
 fn is_within_days(
@@ -57,6 +66,96 @@ fn is_within_years(alloc: Global, domain: &Domain, other: &Domain) -> Result<boo
     is_within_days(alloc, domain, other, days_between(middle, HORIZONS_END))
 }
 
+// Whether the other domain has not the first or not the last second of a span of horizon days.
+fn has_end_alone(other: &Domain, span: Span) -> bool
+    requires begins { IsHorizonSecond span.from }
+    requires ends { span.until ≤ℤ last_end }
+    ensures alone { IsTrue result → HasNoneAlone (Within span) (InDomain other.now) first_begin last_end → ⊥ }
+{
+    let first = span.from();
+    let last = Sec(span.until().0 - 1);
+    !holds(other, first) || !holds(other, last)
+}
+
+// Whether the first span that the domain has from 2016 to 2043 has an end that the other has not.
+fn is_seen_alone(alloc: Global, domain: &Domain, other: &Domain) -> Result<bool, AllocError>
+    ensures alone { IfOk result (λ alone. IsTrue alone
+        → HasNoneAlone (InDomain domain.now) (InDomain other.now) first_begin last_end → ⊥) }
+{
+    let mut cursor = Cursor::open(alloc, domain, days_between(SEEN_FROM, SEEN_UNTIL))?;
+    match cursor.next() {
+        Some(span) => Ok(has_end_alone(other, span)),
+        None => Ok(false),
+    }
+}
+
+// Whether the domain has a second in four years that the other has not. Of domains that both repeat after 7 days a week decides
+// anyway, so that none is looked for.
+fn is_soon_alone(alloc: Global, domain: &Domain, other: &Domain) -> Result<bool, AllocError>
+    ensures alone { IfOk result (λ alone. IsTrue alone
+        → HasNoneAlone (InDomain domain.now) (InDomain other.now) first_begin last_end → ⊥) }
+{
+    if is_weekly(domain) && is_weekly(other) {
+        return Ok(false);
+    }
+    let near = days_between(FIRST_HORIZON_DAY, FIRST_HORIZON_DAY + NEAR_DAYS);
+    let within = is_within_days(alloc, domain, other, near)?;
+    Ok(!within)
+}
+
+// Whether it is seen soon that the domain has a second that the other has not.
+fn is_soon_apart(alloc: Global, domain: &Domain, other: &Domain) -> Result<bool, AllocError>
+    ensures alone { IfOk result (λ alone. IsTrue alone
+        → HasNoneAlone (InDomain domain.now) (InDomain other.now) first_begin last_end → ⊥) }
+{
+    if is_seen_alone(alloc, domain, other)? {
+        return Ok(true);
+    }
+    is_soon_alone(alloc, domain, other)
+}
+
+// Whether each second from 1901-01-01 up to 2700-01-01 of a domain is in another: by going through all of them that are needed.
+fn is_within_all(alloc: Global, domain: &Domain, other: &Domain) -> Result<bool, AllocError>
+    ensures within { IfOk result (λ within. IsTrue within
+        ↔ HasNoneAlone (InDomain domain.now) (InDomain other.now) first_begin last_end) }
+{
+    if gives_year(domain.expr()) || gives_year(other.expr()) {
+        is_within_years(alloc, domain, other)
+    } else {
+        is_within_ever(alloc, domain, other)
+    }
+}
+
+/// The same without a look at the parts of the domains.
+pub(crate) fn is_within_whole(
+    alloc: Global,
+    domain: &Domain,
+    other: &Domain,
+) -> Result<bool, AllocError>
+    ensures within { IfOk result (λ within. IsTrue within
+        ↔ HasNoneAlone (InDomain domain.now) (InDomain other.now) first_begin last_end) }
+{
+    if is_soon_apart(alloc, domain, other)? {
+        return Ok(false);
+    }
+    is_within_all(alloc, domain, other)
+}
+
+// Whether the basic domains of two domains show that each second of the one is in the other. Domains that both repeat after 7
+// days are not asked.
+fn is_part_shown(alloc: Global, domain: &Domain, other: &Domain) -> Result<bool, AllocError>
+    ensures shown { IfOk result (λ shown. IsTrue shown
+        → HasNoneAlone (InDomain domain.now) (InDomain other.now) first_begin last_end) }
+{
+    if is_weekly(domain) && is_weekly(other) {
+        return Ok(false);
+    }
+    if !have_few_parts(domain.expr(), other.expr()) {
+        return Ok(false);
+    }
+    is_shown_within(alloc, domain.expr(), other.expr())
+}
+
 /// Whether each second of a domain is in another, too: of the seconds from 1901-01-01 up to 2700-01-01. If no start of either
 /// gives a year, these decide all time, by the law [`crate::laws::ever`]. Domains that both repeat after 7 days are compared for a
 /// week, and others without years for 400 years. Both together may have more than 128 basic domains.
@@ -71,9 +170,11 @@ pub fn is_within(alloc: Global, domain: &Domain, other: &Domain) -> Result<bool,
     ensures within { IfOk result (λ within. IsTrue within
         ↔ HasNoneAlone (InDomain domain.now) (InDomain other.now) first_begin last_end) }
 {
-    if gives_year(domain.expr()) || gives_year(other.expr()) {
-        is_within_years(alloc, domain, other)
-    } else {
-        is_within_ever(alloc, domain, other)
+    if is_soon_apart(alloc, domain, other)? {
+        return Ok(false);
     }
+    if is_part_shown(alloc, domain, other)? {
+        return Ok(true);
+    }
+    is_within_all(alloc, domain, other)
 }

@@ -1,3 +1,4 @@
+pub mod Answers
 pub mod Buckets
 pub mod Findings
 pub mod Firsts

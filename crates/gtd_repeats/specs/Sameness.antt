@@ -39,6 +39,12 @@ pub record IsSameRow (first second : Restriction) : Type 0 where
   pub vehicles : ServeSame first.vehicles second.vehicles
   pub seconds : HoldSame first.domain second.domain
 
+-- The rows have the same element, and the other closes each direction and vehicle type that the one closes.
+pub record MayBeWithin (row other : Restriction) : Type 0 where
+  pub element : row.element ≡ other.element
+  pub closed : ClosesWithin row.closed other.closed
+  pub vehicles : ServesWithin row.vehicles other.vehicles
+
 -- The row is within another of its element: each direction, vehicle type and second that it closes, the other closes.
 pub record IsWithinRow (row other : Restriction) : Type 0 where
   pub element : row.element ≡ other.element

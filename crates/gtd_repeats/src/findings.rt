@@ -2,7 +2,8 @@
 
 ghost use Rattle.std.specs.Prelude.{◌≡◌, ◌<◌, ◌≤◌, ◌+◌, ℕ, List, IfOk, OnOk, get_or, length};
 ghost use Rattle.gtd_core.specs.Limits.{most_rows};
-ghost use Rattle.gtd_repeats.specs.Findings.{AreFindings, IsFirstMeaning, IsFirstSame, IsFirstText, IsSaidOfRow, IsSaidOfText};
+ghost use Rattle.gtd_repeats.specs.Answers.{AreRight};
+ghost use Rattle.gtd_repeats.specs.Findings.{AreFindings, AreGrouped, IsFirstMeaning, IsFirstText, IsSaidOfRow, IsSaidOfText};
 ghost use Rattle.gtd_repeats.specs.Findings.{with_finding};
 ghost use Rattle.gtd_repeats.specs.Firsts.{AreFirsts};
 ghost use Rattle.gtd_repeats.specs.Known.{AreKnown};
@@ -10,9 +11,10 @@ ghost use Rattle.gtd_repeats.specs.Sameness.{AreAlikeIn};
 ghost use Rattle.gtd_repeats.specs.declared.alike.Kind.TheVariants as declared;
 
 use crate::alike::{Compared, Kind};
+use crate::answers::{Answer, first_answers};
 use crate::buckets::{Entry, entries_of};
 use crate::firsts::firsts_of;
-use crate::kin::{kin_of, within_of};
+use crate::kin::{Grouped, kin_of, within_of};
 use crate::known::known_rows;
 use crate::numbers::{mixed_numbers, numbers_of};
 use gtd_records::Record;
@@ -27,14 +29,6 @@ pub enum Finding {
     WithinRow { row: u32, of: u32 },
     /// The row is the first with its text, and an earlier one has another text that means the same.
     SameMeaning { row: u32, of: u32 },
-}
-
-// The first rows of a file that are like each row, in three ways.
-#[derive(Drop)]
-struct Likes {
-    texts: Vec<usize>,
-    meanings: Vec<usize>,
-    rows: Vec<usize>,
 }
 
 // For each row itself.
@@ -91,24 +85,28 @@ fn row_number(before: usize) -> u32
     before as u32 + 1
 }
 
-// What is said of a row, of which the first that says the same is known.
+// What is said of a row.
 fn said_of_row(
     alloc: Global,
-    rows: &[Record],
+    all: Grouped<'_>,
+    answers: &mut Vec<Answer>,
     entries: &[Entry],
-    same: usize,
     row: usize,
 ) -> Result<Option<Finding>, AllocError>
-    requires few { length rows.now ≤ most_rows }
-    requires inside { row < length rows.now }
-    ensures said { IsFirstSame rows.now row same → IfOk result (IsSaidOfRow rows.now row) }
+    requires few { length all.rows.now ≤ most_rows }
+    requires grouped { AreGrouped all.rows.now all.meanings.now all.sames.now }
+    requires inside { row < length all.rows.now }
+    requires right { AreRight all.rows.now answers.old.items }
+    ensures right { AreRight all.rows.now answers.new.items }
+    ensures said { IfOk result (IsSaidOfRow all.rows.now row) }
 {
     let number = row_number(row);
+    let same = all.sames[row];
     if same < row {
         let of = row_number(same);
         return Ok(Some(Finding::SameRow { row: number, of }));
     }
-    match within_of(alloc, rows, entries, row)? {
+    match within_of(alloc, all, answers, entries, row)? {
         Some(other) => {
             let of = row_number(other);
             Ok(Some(Finding::WithinRow { row: number, of }))
@@ -145,23 +143,23 @@ fn push_finding(findings: &mut Vec<Finding>, finding: Option<Finding>) -> Result
 // What is said of the rows, row by row.
 fn findings_by(
     alloc: Global,
-    rows: &[Record],
-    likes: &Likes,
+    all: Grouped<'_>,
+    texts: &[usize],
     kin: &[Vec<Entry>],
 ) -> Result<Vec<Finding>, AllocError>
-    requires few { length rows.now ≤ most_rows }
+    requires few { length all.rows.now ≤ most_rows }
+    requires grouped { AreGrouped all.rows.now all.meanings.now all.sames.now }
+    requires texts { AreFirsts (AreAlikeIn all.rows.now declared.Text) (length all.rows.now) texts.now }
     requires many { length kin.now ≡ 4093 }
-    requires texts { AreFirsts (AreAlikeIn rows.now declared.Text) (length rows.now) likes.now.texts.items }
-    requires meanings { AreFirsts (AreAlikeIn rows.now declared.Seconds) (length rows.now) likes.now.meanings.items }
-    requires sames { AreFirsts (AreAlikeIn rows.now declared.Row) (length rows.now) likes.now.rows.items }
-    ensures findings { IfOk result (λ findings. AreFindings rows.now findings.items) }
+    ensures findings { IfOk result (λ findings. AreFindings all.rows.now findings.items) }
 {
     let mut findings = Vec::new(alloc);
-    for row in 0..rows.len() {
-        let record = &rows[row];
+    let mut answers = first_answers(alloc)?;
+    for row in 0..all.rows.len() {
+        let record = &all.rows[row];
         let entries = entries_of(kin, record.element);
-        let of_row = said_of_row(alloc, rows, entries, likes.rows[row], row)?;
-        let of_text = said_of_text(rows, likes.texts[row], likes.meanings[row], row);
+        let of_row = said_of_row(alloc, all, &mut answers, entries, row)?;
+        let of_text = said_of_text(all.rows, texts[row], all.meanings[row], row);
         push_finding(&mut findings, of_row)?;
         push_finding(&mut findings, of_text)?;
     }
@@ -176,10 +174,10 @@ pub(crate) fn findings_of(alloc: Global, rows: &[Record]) -> Result<Vec<Finding>
     let (texts, meanings) = meanings_of(alloc, rows)?;
     let sames = sames_of(alloc, rows, meanings.as_slice())?;
     let kin = kin_of(alloc, rows)?;
-    let likes = Likes {
-        texts,
-        meanings,
-        rows: sames,
+    let all = Grouped {
+        rows,
+        meanings: meanings.as_slice(),
+        sames: sames.as_slice(),
     };
-    findings_by(alloc, rows, &likes, kin.as_slice())
+    findings_by(alloc, all, texts.as_slice(), kin.as_slice())
 }

@@ -1,10 +1,12 @@
 //! The first rows of each element, with which its rows are compared.
 
-ghost use Rattle.std.specs.Prelude.{◌≡◌, ◌<◌, IfOk, IfSome, length};
-ghost use Rattle.gtd_repeats.specs.Findings.{IsWithinOf};
+ghost use Rattle.std.specs.Prelude.{◌≡◌, ◌<◌, ◌↔◌, IfOk, IfSome, IsTrue, length};
+ghost use Rattle.gtd_repeats.specs.Answers.{AreRight, IsWithinSeconds};
+ghost use Rattle.gtd_repeats.specs.Findings.{AreGrouped, IsWithinOf};
 
+use crate::answers::{Answer, is_within_seconds};
 use crate::buckets::{Entry, add_entry, empty_buckets, entries_of};
-use crate::rows::is_only_within;
+use crate::rows::may_be_within;
 use gtd_records::Record;
 use std::alloc::{AllocError, Global};
 
@@ -40,41 +42,77 @@ pub(crate) fn kin_of(alloc: Global, rows: &[Record]) -> Result<Vec<Vec<Entry>>, 
     Ok(kin)
 }
 
-// The row of an entry, if the row is within it, and it does not say the same.
-fn within_by(
+/// The rows of a file, with the first rows that are like each.
+#[derive(Clone, Copy)]
+pub(crate) struct Grouped<'a> {
+    pub(crate) rows: &'a [Record],
+    /// For each row the first that closes at the same seconds.
+    pub(crate) meanings: &'a [usize],
+    /// For each row the first that says the same.
+    pub(crate) sames: &'a [usize],
+}
+
+// Whether a row closes at no second at which another does not: what is true of the first rows with their seconds.
+fn is_within_meaning(
     alloc: Global,
-    rows: &[Record],
-    entry: Entry,
+    all: Grouped<'_>,
+    answers: &mut Vec<Answer>,
     row: usize,
-) -> Result<Option<usize>, AllocError>
-    requires inside { row < length rows.now }
-    ensures within { IfOk result (λ found. IfSome found (IsWithinOf rows.now row)) }
+    other: usize,
+) -> Result<bool, AllocError>
+    requires grouped { AreGrouped all.rows.now all.meanings.now all.sames.now }
+    requires inside { row < length all.rows.now }
+    requires other { other < length all.rows.now }
+    requires right { AreRight all.rows.now answers.old.items }
+    ensures right { AreRight all.rows.now answers.new.items }
+    ensures within { IfOk result (λ is_within. IsTrue is_within ↔ IsWithinSeconds all.rows.now row other) }
 {
-    if entry.row == row {
-        return Ok(None);
+    let first = all.meanings[row];
+    let second = all.meanings[other];
+    if first == second {
+        return Ok(true);
     }
-    let Some(other) = rows.get(entry.row) else {
-        return Ok(None);
-    };
-    if is_only_within(alloc, &rows[row], other)? {
-        Ok(Some(entry.row))
-    } else {
-        Ok(None)
+    is_within_seconds(alloc, all.rows, answers, first, second)
+}
+
+// Whether a row is within another, and they do not say the same.
+fn is_only_within(
+    alloc: Global,
+    all: Grouped<'_>,
+    answers: &mut Vec<Answer>,
+    row: usize,
+    other: usize,
+) -> Result<bool, AllocError>
+    requires grouped { AreGrouped all.rows.now all.meanings.now all.sames.now }
+    requires inside { row < length all.rows.now }
+    requires other { other < length all.rows.now }
+    requires right { AreRight all.rows.now answers.old.items }
+    ensures right { AreRight all.rows.now answers.new.items }
+    ensures within { IfOk result (λ is_within. IsTrue is_within → IsWithinOf all.rows.now row other) }
+{
+    if all.sames[row] == all.sames[other] || !may_be_within(&all.rows[row], &all.rows[other]) {
+        return Ok(false);
     }
+    is_within_meaning(alloc, all, answers, row, other)
 }
 
 /// The first of these rows of its element that a row is within.
 pub(crate) fn within_of(
     alloc: Global,
-    rows: &[Record],
+    all: Grouped<'_>,
+    answers: &mut Vec<Answer>,
     entries: &[Entry],
     row: usize,
 ) -> Result<Option<usize>, AllocError>
-    requires inside { row < length rows.now }
-    ensures within { IfOk result (λ found. IfSome found (IsWithinOf rows.now row)) }
+    requires grouped { AreGrouped all.rows.now all.meanings.now all.sames.now }
+    requires inside { row < length all.rows.now }
+    requires right { AreRight all.rows.now answers.old.items }
+    ensures right { AreRight all.rows.now answers.new.items }
+    ensures within { IfOk result (λ found. IfSome found (IsWithinOf all.rows.now row)) }
 {
     for entry in entries {
-        if let Some(other) = within_by(alloc, rows, *entry, row)? {
+        let other = entry.row;
+        if other < all.rows.len() && is_only_within(alloc, all, answers, row, other)? {
             return Ok(Some(other));
         }
     }

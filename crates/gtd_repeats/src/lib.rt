@@ -6,6 +6,7 @@ pub use findings::Finding;
 pub use run::run_repeats;
 
 mod alike;
+mod answers;
 mod buckets;
 mod device;
 mod findings;

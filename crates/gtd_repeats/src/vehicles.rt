@@ -2,6 +2,7 @@
 
 ghost use Rattle.std.specs.Prelude.{◌≡◌, ◌↔◌, IsTrue};
 ghost use Rattle.gtd_records.specs.Closing.{Serves};
+ghost use Rattle.gtd_records.specs.declared.vehicles.Vehicles.TheVariants.{Every};
 ghost use Rattle.gtd_repeats.specs.Sameness.{ClosesWithin, ServeSame, ServesWithin};
 
 use gtd_records::{Closed, Direction, Vehicles};
@@ -28,10 +29,24 @@ fn serves_also(vehicles: &Vehicles, other: &Vehicles, vehicle: u8) -> bool
     }
 }
 
+// Whether they are all types, given as such.
+fn is_every(vehicles: &Vehicles) -> bool
+    ensures every { IsTrue result → vehicles.now ≡ Every }
+{
+    match vehicles {
+        Vehicles::Every => true,
+        Vehicles::Only(_) => false,
+        Vehicles::AllBut(_) => false,
+    }
+}
+
 /// Whether each of the types from 1 to 99 that the one has the other has, too.
 pub(crate) fn serves_within(vehicles: &Vehicles, other: &Vehicles) -> bool
     ensures within { IsTrue result ↔ ServesWithin vehicles.now other.now }
 {
+    if is_every(other) {
+        return true;
+    }
     for vehicle in 1..100u8 {
         if !serves_also(vehicles, other, vehicle) {
             return false;
