@@ -1,0 +1,2 @@
+pub mod Zones
+pub use Rattle.gtd_core.specs.Seconds
