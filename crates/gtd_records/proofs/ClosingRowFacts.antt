@@ -8,6 +8,7 @@ use Rattle.gtd_records.specs.Closing.{Closes, Restriction}
 use Rattle.gtd_records.specs.ClosingRows.{AreClosingRows, IsClosingRow}
 use Rattle.gtd_records.specs.Columns.{IsSortedSet}
 use Rattle.gtd_records.specs.declared.direction.Direction.{Direction}
+use Rattle.gtd_records.specs.Index.{AllSeen}
 use Rattle.gtd_records.specs.declared.index.RowPlace.{RowPlace}
 
 module _ (rows : List Restriction) (part : List RowPlace) (element : ℕ) (direction : Direction) (vehicle : ℕ) (second : ℤ) where
@@ -72,9 +73,7 @@ module _ (rows : List Restriction) (part : List RowPlace) (element : ℕ) (direc
 
   -- all of them
   pub all_rows : (i : ℕ) (numbers ordered : List ℕ) → AreSoFar i numbers → IsSortedSet numbers ordered
-      → ((row : ℕ) (r : Restriction) → row < length rows → slice_index_or rows row r ≡ r → r.element ≡ element
-      → (j : ℕ) × (j < i) × (slice_index_or part j (record { element = r.element; row = row })
-      ≡ record { element = r.element; row = row }))
+      → AllSeen rows part element i
       → AreClosingRows rows element direction vehicle second ordered
   all_rows i numbers ordered far is placed = record {
     ascending = is.order;

@@ -5,21 +5,13 @@ use Rattle.std.specs.Prelude.{Option, Some, None, MatchOption, Result, Ok, Err}
 use Rattle.std.proofs.lemmas.Bool.{cases_lt, cases_eq}
 use Rattle.csv.specs.Reading.{default_config, records, strip_bom}
 use Rattle.gtd_core.specs.Limits.{most_rows, most_file_bytes}
-use Rattle.gtd_core.specs.Trees.{Tree}
-use Rattle.gtd_core.specs.declared.fault.TextFault.{TextFault}
 use Rattle.gtd_text.specs.Reading.{HasNoFault, IsFault, StandsFor}
-use Rattle.gtd_records.specs.Closing.{Restriction}
-use Rattle.gtd_records.specs.Columns.{closed_of, Fields, IsOrdered, number_of, vehicles_of}
 use Rattle.gtd_records.specs.ComputedFile.{AreRecords, AreRows, IsFile, IsTable}
-use Rattle.gtd_records.specs.ComputedRow.{IsDomainColumn}
 use Rattle.gtd_records.specs.File.{header}
-use Rattle.gtd_records.specs.ComputedRow.{IsRow, with_domain}
-use Rattle.gtd_records.specs.declared.direction.Closed.{Closed}
-use Rattle.gtd_records.specs.declared.fault.RecordFault.{RecordFault}
+use Rattle.gtd_records.specs.ComputedRow.{IsRow}
+use Rattle.gtd_records.specs.facts.RowNames.{AllBut, Closed, Every, Fields, IsDomainColumn, IsOrdered, Only, RecordFault, Restriction}
+use Rattle.gtd_records.specs.facts.RowNames.{TextFault, Tree, Vehicles, Version, closed_of, number_of, vehicles_of, with_domain}
 use Rattle.gtd_records.specs.declared.fault.RecordFault.TheVariants as fault
-use Rattle.gtd_records.specs.declared.vehicles.Vehicles.{Vehicles}
-use Rattle.gtd_records.specs.declared.vehicles.Vehicles.TheVariants.{Every, Only, AllBut}
-use Rattle.gtd_records.specs.declared.vehicles.Version.{Version}
 use Rattle.gtd_records.specs.declared.vehicles.Version.TheVariants as version
 use Rattle.gtd_records.specs.facts.SortedCodes.{ascending}
 

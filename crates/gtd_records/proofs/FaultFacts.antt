@@ -4,15 +4,12 @@ use Rattle.std.proofs.Common.{[], ◌∷◌, ◌++◌, length, length-append, ap
 use Rattle.std.specs.Prelude.{Result, Ok, Err}
 use Rattle.std.proofs.lemmas.List.{append-nil}
 use Rattle.csv.specs.Reading.{default_config, records, strip_bom}
-use Rattle.csv.specs.declared.reader.Reader.{Reader}
 use Rattle.gtd_records.specs.Faults.{AreFaults, AreFileFaults, AreRowFaults, AreTableFaults, with_fault}
 use Rattle.gtd_core.specs.Limits.{most_file_bytes, most_rows}
 use Rattle.gtd_records.specs.ComputedFile.{AreRecords, FirstFault, IsFile, AreSoundRows, IsTable}
 use Rattle.gtd_records.specs.ComputedRow.{IsRow}
 use Rattle.gtd_records.specs.File.{header}
 use Rattle.gtd_records.specs.Closing.{Restriction}
-use Rattle.gtd_records.specs.facts.RowsRead.{IsListing, RowsRead, all_read, none_read, row_left, row_read}
-use Rattle.gtd_records.specs.Table.{HasLeft, TakesFirst}
 use Rattle.gtd_records.specs.Columns.{Fields}
 use Rattle.gtd_records.specs.declared.fault.RecordFault.{RecordFault}
 use Rattle.gtd_records.specs.declared.fault.RecordFault.TheVariants as fault
@@ -190,67 +187,7 @@ first_listed bytes why rest (inr p) = inr (p.0, head why fault.TooLarge rest (p.
         → ◌≡◌ {A = Result (List Restriction) RecordFault} (Err a) (Err b)
     head a b xs h = cc
 
--- ---- the rows that were read so far
-
-with_append : (a : Result Restriction RecordFault) (rest more : List RecordFault) → with_fault a rest ++ more
-    ≡ with_fault a (rest ++ more)
-with_append (Ok r) rest more = refl
-with_append (Err why) rest more = refl
-
-faults_listed : (v : Version) → IsListing with_fault (IsRow v) (AreRowFaults v)
-faults_listed v = record { joins = with_append; none = λ k l. ((λ e. e), (λ e. e)); more = λ k r rs l. ((λ a. a), (λ a. a)) }
-
--- the rows are those that were read with these faults, and those that the reader has left; the next has this number
-abbrev pub FaultsSoFar : Version → {R : Type 0} → (R → Option (List ℕ)) → Reader R → List Fields → List RecordFault → ℕ → Type 0
-FaultsSoFar v rem reader rows faults number = RowsRead (AreRowFaults v) rem reader rows faults number
-
-module _ (v : Version) {R : Type 0} (rem : R → Option (List ℕ)) (old : Reader R) (rows : List Fields) where
-  pub faults_at_start : HasLeft rem old rows → FaultsSoFar v rem old rows [] 1
-  faults_at_start has = none_read _ _ _ (faults_listed v) rem old rows has
-
-  pub faults_after_row : (new : Reader R) (faults : List RecordFault) (number : ℕ) (fields : Fields)
-      (a : Result Restriction RecordFault)
-      → FaultsSoFar v rem old rows faults number → TakesFirst rem old new true fields → IsRow v number fields a
-      → FaultsSoFar v rem new rows (faults ++ with_fault a []) (number + 1)
-  faults_after_row new faults number fields a far takes is =
-      row_read _ _ _ (faults_listed v) rem old new rows faults number fields a far takes is
-
-  pub faults_at_end : (faults : List RecordFault) (number : ℕ) → FaultsSoFar v rem old rows faults number → number ≤
-      most_rows + 1
-      → ((left : List Fields) → HasLeft rem old left → left ≡ []) → AreFaults v rows faults
-  faults_at_end faults number far few none =
-      let all = all_read (AreRowFaults v) rem old rows faults number far none in inl (omega (arith, all.0, few), all.1)
-
-  pub faults_too_many : (new : Reader R) (faults : List RecordFault) (fields : Fields)
-      → FaultsSoFar v rem old rows faults (most_rows + 1) → TakesFirst rem old new true fields
-      → AreFaults v rows (faults ++ (fault.TooManyRows ∷ []))
-  faults_too_many new faults fields far takes =
-      let next = row_left (AreRowFaults v) rem old rows faults (most_rows + 1) far new fields takes in
-      let count = far.count in
-      inr (record {
-        before = far.before;
-        row = fields;
-        after = next.0;
-        split = next.1;
-        many = omega arith;
-        listed = faults;
-        each = far.each;
-        whole = refl;
-      })
-
-  pub faults_after_sound : (new : Reader R) (faults : List RecordFault) (number : ℕ) (fields : Fields) (r : Restriction)
-      → FaultsSoFar v rem old rows faults number → TakesFirst rem old new true fields → IsRow v number fields (Ok r)
-      → FaultsSoFar v rem new rows faults (number + 1)
-  faults_after_sound new faults number fields r far takes is =
-      subst (λ (l : List RecordFault). FaultsSoFar v rem new rows l (number + 1)) (append-nil faults)
-      (faults_after_row new faults number fields (Ok r) far takes is)
-
 -- ---- a fault that comes alone
-
-pub no_header : (text : List Fields) → ((v : Version) (rows : List Fields) → text ≡ header v ∷ rows → ⊥)
-    → (faults : List RecordFault) → faults ≡ fault.Header ∷ []
-    → AreTableFaults text faults
-no_header text never faults is = inr (never, is)
 
 pub large : (bytes : List ℕ) → most_file_bytes < length bytes → (faults : List RecordFault) → faults ≡ fault.TooLarge ∷ []
     → AreFileFaults bytes faults

@@ -1,11 +1,12 @@
 pub mod ListFacts
 pub mod TableFacts
+pub mod TakingFacts
 pub mod ReadFacts
 pub mod OpenFacts
 pub mod CutFacts
 pub mod ClosingRowFacts
 pub mod FaultFacts
-pub mod WarningFacts
+pub mod TakerFacts
 pub mod PeriodFacts
 pub mod ListedFacts
 pub mod CutBytes

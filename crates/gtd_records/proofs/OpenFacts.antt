@@ -12,8 +12,8 @@ use Rattle.gtd_spans.specs.Normal.{Holds, IsNormal}
 use Rattle.gtd_spans.specs.facts.NormalFor.{normal-for}
 use Rattle.gtd_core.specs.Limits.{most_nodes}
 use Rattle.gtd_eval.specs.Cursors.{total_nodes}
-use Rattle.gtd_records.proofs.FoundPlaces.{AllSeen, NoneSoFar, none_more, none_of_seen}
-use Rattle.gtd_records.specs.Index.{AreClosing}
+use Rattle.gtd_records.proofs.FoundPlaces.{NoneSoFar, none_more, none_of_seen}
+use Rattle.gtd_records.specs.Index.{AllSeen, AreClosing}
 use Rattle.gtd_records.specs.Closing.{Closes, Concerns, HoldsAt, IsClosed, IsOpen, Restriction}
 use Rattle.gtd_records.specs.declared.index.RowPlace.{RowPlace}
 use Rattle.gtd_records.specs.declared.direction.Direction.{Direction}

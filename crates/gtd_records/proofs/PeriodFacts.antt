@@ -11,6 +11,7 @@ use Rattle.gtd_eval.specs.Ever.{week}
 use Rattle.gtd_eval.specs.Membership.{IsNormalOver}
 use Rattle.gtd_records.specs.Closing.{Concerns, HoldsAt, IsClosed, IsOpen, Restriction}
 use Rattle.gtd_records.specs.declared.direction.Direction.{Direction}
+use Rattle.gtd_records.specs.Index.{AllSeen}
 use Rattle.gtd_records.specs.declared.index.RowPlace.{RowPlace}
 
 -- the restrictions at the first places repeat from a period on, as far as they close the element
@@ -30,9 +31,7 @@ so-far-longer x y rows part element direction vehicle stop le so = λ k d r less
 pub all_repeat : (x : Period) (rows : List Restriction) (part : List RowPlace) (element : ℕ) (direction : Direction)
     (vehicle stop : ℕ)
     → RepeatSoFar x rows part element direction vehicle stop
-    → ((row : ℕ) (r : Restriction) → row < length rows → slice_index_or rows row r ≡ r → r.element ≡ element
-    → (j : ℕ) × (j < stop) × (slice_index_or part j (record { element = r.element; row = row })
-    ≡ record { element = r.element; row = row }))
+    → AllSeen rows part element stop
     → RepeatsFrom x (IsClosed rows element direction vehicle)
 all_repeat x rows part element direction vehicle stop so placed y le t = (
   moved t (t +ℤ period_seconds y) (λ row r w s n c. (own row r w s n c y le t).0),

@@ -1,15 +1,15 @@
--- How long an element stays open or closed, found place by place.
+-- How long an element stays closed, found place by place.
 use Rattle.std.proofs.Common.{◌≡◌, ◌∙◌, sym, refl, subst, arith, ◌<◌, ◌+◌, ◌⊎◌, inl, inr, ◌↔◌, ℕ, List, length, Bool, true, false}
-use Rattle.std.specs.Prelude.{ℤ, ◌<ℤ◌, ◌≤ℤ◌, Any, IsTrue, slice_index_or}
+use Rattle.std.specs.Prelude.{ℤ, ◌<ℤ◌, ◌≤ℤ◌, IsTrue, not, slice_index_or}
 use Rattle.std.proofs.lemmas.Int.{ints, by_lt_z}
 use Rattle.gtd_core.specs.declared.domain.Op.TheVariants.{Union}
 use Rattle.gtd_core.specs.declared.second.Sec.{Sec}
 use Rattle.gtd_eval.specs.Stays.{IsJoined, IsStay}
 use Rattle.gtd_eval.specs.facts.StayFacts.{joined_stays}
 use Rattle.gtd_eval.specs.declared.stay.Stay.{Stay}
-use Rattle.gtd_spans.specs.Change.{IsNextChange, NeverChanges, SameAt}
 use Rattle.gtd_records.specs.facts.IndexFacts.{any_default, by_le, one_record}
-use Rattle.gtd_records.specs.Closing.{Closes, Concerns, HoldsAt, IsClosed, IsOpen, Restriction}
+use Rattle.gtd_records.specs.Index.{AllSeen}
+use Rattle.gtd_records.specs.Closing.{Closes, Concerns, HoldsAt, IsClosed, Restriction}
 use Rattle.gtd_records.specs.declared.direction.Direction.{Direction}
 use Rattle.gtd_records.specs.declared.index.RowPlace.{RowPlace}
 
@@ -120,9 +120,7 @@ module _ (rows : List Restriction) (part : List RowPlace) (element : ℕ) (direc
 
   -- where the first places have all restrictions of the element, these close it
   pub all_stay : (stop : ℕ) (s last : ℤ) (stay : Stay) → IsStay (ClosesSoFar stop) s last stay
-      → ((row : ℕ) (r : Restriction) → row < length rows → slice_index_or rows row r ≡ r → r.element ≡ element
-      → (j : ℕ) × (j < stop) × (slice_index_or part j (record { element = r.element; row = row })
-      ≡ record { element = r.element; row = row }))
+      → AllSeen rows part element stop
       → IsStay (IsClosed rows element direction vehicle) s last stay
   all_stay stop s last stay is placed =
       same_set (ClosesSoFar stop) (IsClosed rows element direction vehicle) s last stay
@@ -142,55 +140,9 @@ module _ (rows : List Restriction) (part : List RowPlace) (element : ℕ) (direc
             }),
       )) is
 
--- ---- from one stay to the next
-
-module _ (rows : List Restriction) (element : ℕ) (direction : Direction) (vehicle : ℕ) (s last : ℤ) where
-  abbrev Set : ℤ → Type 0
-  Set = IsClosed rows element direction vehicle
-
-  opened : (t : ℤ) → SameAt Set s t → SameAt (IsOpen rows element direction vehicle) s t
-  opened t same = ((λ o c. o (same.1 c)), (λ o c. o (same.0 c)))
-
-  -- nothing changes in a stay
-  pub first_stays : (stay : Stay) → IsStay Set s last stay → NeverChanges (IsOpen rows element direction vehicle) s stay.until.0
-  first_stays stay is = λ t after before. opened t (is.same t after before)
-
-  told : (a b : Bool) (P Q : Type 0) → IsTrue a ↔ P → IsTrue b ↔ Q → a ≡ b → P ↔ Q
-  told a b P Q p q e = (
-    (λ h. q.0 (subst (λ (x : Bool). IsTrue x) e (p.1 h))),
-    (λ h. p.0 (subst (λ (x : Bool). IsTrue x) (sym e) (q.1 h))),
-  )
-
-  -- nor in the next, if it begins in the same state
-  pub next_stays : (first stay : Stay) (closed : Bool) (at : ℤ) → IsStay Set s last first → IsStay Set at last stay
-      → IsTrue closed ↔ Set at → closed ≡ first.holds
-      → s <ℤ at → NeverChanges (IsOpen rows element direction vehicle) s at
-      → NeverChanges (IsOpen rows element direction vehicle) s stay.until.0
-  next_stays first stay closed at is also tells same later never = λ t after before.
-      by_lt_z {P = SameAt (IsOpen rows element direction vehicle) s t} t at
-      (λ lt. never t after lt)
-      (λ ge. opened t (trans t (by_lt_z {P = SameAt Set at t} at t (λ lt. also.same t lt before)
-      (λ le. let e : at ≡ t = omega (arith, ints, ge, le) in subst (λ (u : ℤ). SameAt Set at u) e ((λ h. h), (λ h. h))))))
-    where
-      begins : SameAt Set s at
-      begins = told first.holds closed (Set s) (Set at) is.holds tells (sym same)
-
-      trans : (t : ℤ) → SameAt Set at t → SameAt Set s t
-      trans t q = ((λ h. q.0 (begins.0 h)), (λ h. begins.1 (q.1 h)))
-
-  decided : (a b : Bool) (P Q : Type 0) → IsTrue a ↔ P → IsTrue b ↔ Q → (a ≡ b → ⊥) → ((P → ⊥) ↔ (Q → ⊥)) → ⊥
-  decided true true P Q p q not e = not refl
-  decided false false P Q p q not e = not refl
-  decided true false P Q p q not e = (e.1 (λ h. absurd (let t = q.1 h in cc))) (p.0 refl)
-  decided false true P Q p q not e = (e.0 (λ h. absurd (let t = p.1 h in cc))) (q.0 refl)
-
-  -- it changes where the next begins in another state
-  pub changes_at : (first : Stay) (closed : Bool) (at : ℤ) → IsStay Set s last first → IsTrue closed ↔ Set at
-      → (closed ≡ first.holds → ⊥) → s <ℤ at → at <ℤ last → NeverChanges (IsOpen rows element direction vehicle) s at
-      → IsNextChange (IsOpen rows element direction vehicle) s last at
-  changes_at first closed at is tells differ later within never = record {
-    later = later;
-    within = within;
-    differs = λ e. decided first.holds closed (Set s) (Set at) is.holds tells (λ h. differ (sym h)) e;
-    least = never;
-  }
+-- two that differ differ from outside too
+pub differ_outside : (a b : Bool) → (a ≡ b → ⊥) → not a ≡ not b → ⊥
+differ_outside true true differ same = differ refl
+differ_outside false false differ same = differ refl
+differ_outside true false differ same = cc
+differ_outside false true differ same = cc

@@ -25,6 +25,20 @@ pub record ArePlaces (rows : List Restriction) (places : List RowPlace) : Type 0
       → Contains places (record { element = r.element; row = k })
   pub many : length places ≡ length rows
 
+-- each row of the element has its place among the first ones
+abbrev pub AllSeen : List Restriction → List RowPlace → ℕ → ℕ → Type 0
+AllSeen rows part element stop =
+    (row : ℕ) (r : Restriction) → row < length rows → slice_index_or rows row r ≡ r → r.element ≡ element
+    → (j : ℕ) × (j < stop) × (slice_index_or part j (record { element = r.element; row = row })
+    ≡ record { element = r.element; row = row })
+
+-- the places of the element's rows
+pub record AreElementPlaces (rows : List Restriction) (element : ℕ) (part : List RowPlace) : Type 0 where
+  pub sound : (k : ℕ) (d : RowPlace) → k < length part → ((slice_index_or part k d).row < length rows)
+      × ((r : Restriction) → r ≡ slice_index_or rows (slice_index_or part k d).row r → r.element ≡ element)
+  pub all : AllSeen rows part element (length part)
+  pub few : length part ≤ length rows
+
 -- the places and the elements of all rows, of which there are no more than a file may have
 pub record IsIndexed (rows : List Restriction) (places : List RowPlace) (elements : List ℕ) : Type 0 where
   pub placed : ArePlaces rows places

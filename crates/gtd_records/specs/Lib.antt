@@ -10,7 +10,9 @@ pub mod Index
 pub mod Reading
 pub mod RecordFaultNames
 pub mod Row
+pub mod RowTakers
 pub mod Table
+pub mod Taking
 pub mod Warnings
 pub mod facts
 pub use Rattle.gtd_core.specs.Seconds

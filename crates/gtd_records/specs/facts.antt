@@ -1,5 +1,6 @@
 pub mod OpenDecisions
 pub mod RowsRead
+pub mod TakenRows
 pub mod FileFacts
 pub mod FileForms
 pub mod IndexFacts
@@ -11,3 +12,4 @@ pub mod Rising
 pub mod SortedCodes
 pub mod RowFacts
 pub mod RowForms
+pub mod RowNames

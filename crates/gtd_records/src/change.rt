@@ -6,7 +6,7 @@ ghost use Rattle.gtd_core.specs.Whole.{whole};
 ghost use Rattle.gtd_records.specs.Closing.{IsOpen};
 ghost use Rattle.gtd_spans.specs.Change.{IsNextChange, NeverChanges};
 
-use crate::direction::Direction;
+use crate::direction::DirectedElement;
 use crate::index::Records;
 use crate::schedule::open_tree;
 use gtd_core::{Horizon, Sec};
@@ -21,20 +21,19 @@ const MOST_STAYS: usize = 16;
 fn change_by_spans(
     alloc: Global,
     records: &Records,
-    element: u64,
-    direction: Direction,
+    at: DirectedElement,
     vehicle: u8,
     second: Sec,
     horizon: Horizon,
 ) -> Result<Option<Sec>, AllocError>
     requires inside { Within (whole horizon) second.0 }
     ensures change { IfOk result (λ change. MatchOption change
-        (NeverChanges (IsOpen records.now element direction vehicle) second.0 (whole horizon).until)
-        (λ c. IsNextChange (IsOpen records.now element direction vehicle) second.0 (whole horizon).until c.0)) }
+        (NeverChanges (IsOpen records.now at.element at.direction vehicle) second.0 (whole horizon).until)
+        (λ c. IsNextChange (IsOpen records.now at.element at.direction vehicle) second.0 (whole horizon).until c.0)) }
 {
-    let weekly = records.period(element, direction, vehicle).is_some();
+    let weekly = records.period(at.element, at.direction, vehicle).is_some();
     let days = days_to_look(weekly, second, horizon);
-    let mut open: Cursor = open_tree(alloc, records, element, direction, vehicle, days)?;
+    let mut open: Cursor = open_tree(alloc, records, at, vehicle, days)?;
     Ok(gtd_spans::next_change(&mut open, second, days.until()))
 }
 
@@ -45,28 +44,28 @@ fn change_by_spans(
 pub fn next_change(
     alloc: Global,
     records: &Records,
-    element: u64,
-    direction: Direction,
+    at: DirectedElement,
     vehicle: u8,
     second: Sec,
     horizon: Horizon,
 ) -> Result<Option<Sec>, AllocError>
     requires inside { Within (whole horizon) second.0 }
     ensures change { IfOk result (λ change. MatchOption change
-        (NeverChanges (IsOpen records.now element direction vehicle) second.0 (whole horizon).until)
-        (λ c. IsNextChange (IsOpen records.now element direction vehicle) second.0 (whole horizon).until c.0)) }
+        (NeverChanges (IsOpen records.now at.element at.direction vehicle) second.0 (whole horizon).until)
+        (λ c. IsNextChange (IsOpen records.now at.element at.direction vehicle) second.0 (whole horizon).until c.0)) }
 {
+    let DirectedElement { element, direction } = at;
     let first = records.stay(element, direction, vehicle, second, horizon);
-    let mut at = first.until;
+    let mut until = first.until;
     for _ in 0..MOST_STAYS {
-        if at.0 >= horizon.until().0 {
+        if until.0 >= horizon.until().0 {
             return Ok(None);
         }
-        if records.closed_at(element, direction, vehicle, at) != first.holds {
-            return Ok(Some(at));
+        if records.closed_at(element, direction, vehicle, until) != first.holds {
+            return Ok(Some(until));
         }
-        let stay = records.stay(element, direction, vehicle, at, horizon);
-        at = stay.until;
+        let stay = records.stay(element, direction, vehicle, until, horizon);
+        until = stay.until;
     }
-    change_by_spans(alloc, records, element, direction, vehicle, second, horizon)
+    change_by_spans(alloc, records, at, vehicle, second, horizon)
 }

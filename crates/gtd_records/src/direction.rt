@@ -17,3 +17,12 @@ pub enum Closed {
     /// Both directions.
     Both,
 }
+
+/// An element in a direction.
+#[derive(Clone, Copy, Debug, PartialEq, Eq)]
+pub struct DirectedElement {
+    /// The element.
+    pub element: u64,
+    /// The direction.
+    pub direction: Direction,
+}

@@ -1,71 +1,45 @@
 //! All faults of a record file.
 
-ghost use Rattle.std.specs.Prelude.{◌≡◌, ◌<◌, [], ◌∷◌, List, Ok, Err, Some, MatchOption, MatchResult, IfOk, IfSome, IsErrOf};
+ghost use Rattle.std.specs.Prelude.{◌≡◌, ◌<◌, [], ◌∷◌, IfOk, IfSome, IsErrOf};
 ghost use Rattle.std.specs.Prelude.{IsTrue};
 ghost use Rattle.csv.specs.Reading.{default_config, records, strip_bom};
-ghost use Rattle.csv.specs.Records.{fields_of};
-ghost use Rattle.gtd_records.specs.Faults.{AreFaults, AreFileFaults, AreTableFaults};
+ghost use Rattle.gtd_records.specs.Faults.{AreFileFaults, AreTableFaults};
 ghost use Rattle.gtd_devices.specs.WholeInput.{failures_after_whole};
-ghost use Rattle.gtd_records.specs.Closing.{Restriction};
-ghost use Rattle.gtd_records.specs.ComputedRow.{IsRow};
-ghost use Rattle.gtd_records.specs.Table.{HasLeft};
-ghost use Rattle.gtd_records.specs.Columns.{Fields};
 
 use crate::fault::RecordFault;
-use crate::file::version_of;
-use crate::known::KnownTexts;
-use crate::row::read_row;
-use crate::rows::{next_row, table};
-use crate::vehicles::Version;
-use csv::{ByteRecord, Reader};
-use gtd_core::limits::{MOST_FILE_BYTES, MOST_ROWS};
+use crate::row::RowReader;
+use crate::rows::{RowTaker, RowsEnd, take_rows};
+use csv::ByteRecord;
+use gtd_core::limits::MOST_FILE_BYTES;
 use gtd_devices::{Input, InputFault, read_whole};
 use std::alloc::{AllocError, Global};
 
-// The fault of the row with this number, or `None` if it stands for a restriction.
-fn fault_of(
-    alloc: Global,
-    known: &mut KnownTexts,
-    version: Version,
-    number: u32,
-    row: &ByteRecord,
-) -> Result<Option<RecordFault>, AllocError>
-    ensures { IfOk result (λ found. MatchOption found
-        ((r : Restriction) × IsRow version number (fields_of row.now) (Ok r))
-        (λ why. IsRow version number (fields_of row.now) (Err why))) }
-{
-    match read_row(alloc, known, version, number, row) {
-        Ok(_) => Ok(None),
-        Err(RecordFault::NoMemory) => Err(AllocError),
-        Err(why) => Ok(Some(why)),
-    }
+/// The faults of the rows that were read.
+#[derive(Drop)]
+pub(crate) struct FaultList {
+    pub(crate) rows: RowReader,
+    pub(crate) faults: Vec<RecordFault>,
 }
 
-// The faults of the rows that a reader still has to give.
-fn faults_of_rows(
-    alloc: Global,
-    version: Version,
-    reader: &mut Reader<&[u8]>,
-    row: &mut ByteRecord,
-) -> Result<Vec<RecordFault>, AllocError>
-    ensures { (rows : List Fields) → HasLeft (λ source. Some source.now) reader.old rows
-        → IfOk result (λ faults. AreFaults version rows faults.items) }
-{
-    let mut known = KnownTexts::new(alloc);
-    let mut faults = Vec::new(alloc);
-    for number in 1..MOST_ROWS + 1 {
-        if !next_row(reader, row)? {
-            return Ok(faults);
-        }
-        match fault_of(alloc, &mut known, version, number, row)? {
-            Some(why) => faults.push(why)?,
-            None => {}
-        }
+impl RowTaker for FaultList {
+    ghost use Rattle.gtd_records.specs.RowTakers.{BeginsFaults, ListsFault};
+
+    ghost begins = { BeginsFaults };
+
+    ghost takes = { ListsFault };
+
+    fn take_header(&mut self, row: &ByteRecord) -> bool {
+        self.rows.take_header(row)
     }
-    if next_row(reader, row)? {
-        faults.push(RecordFault::TooManyRows)?;
+
+    fn take_row(&mut self, number: u32, row: &ByteRecord) -> Result<bool, AllocError> {
+        match self.rows.read(number, row) {
+            Ok(_) => {}
+            Err(RecordFault::NoMemory) => return Err(AllocError),
+            Err(why) => self.faults.push(why)?,
+        }
+        Ok(true)
     }
-    Ok(faults)
 }
 
 // A list of one fault.
@@ -82,14 +56,18 @@ fn faults_of_table(alloc: Global, bytes: &[u8]) -> Result<Vec<RecordFault>, Allo
     ensures { IfOk result
         (λ faults. AreTableFaults (records default_config (strip_bom bytes.now)) faults.items) }
 {
-    let mut reader = table(alloc, bytes);
-    let mut row = ByteRecord::new(alloc);
-    if !next_row(&mut reader, &mut row)? {
-        return alone(alloc, RecordFault::Header);
-    }
-    match version_of(&row) {
-        Some(version) => faults_of_rows(alloc, version, &mut reader, &mut row),
-        None => alone(alloc, RecordFault::Header),
+    let mut list = FaultList {
+        rows: RowReader::new(alloc),
+        faults: Vec::new(alloc),
+    };
+    match take_rows(alloc, bytes, &mut list)? {
+        RowsEnd::NoHeader => alone(alloc, RecordFault::Header),
+        RowsEnd::All => Ok(list.faults),
+        RowsEnd::Stopped => Ok(list.faults),
+        RowsEnd::TooMany => {
+            list.faults.push(RecordFault::TooManyRows)?;
+            Ok(list.faults)
+        }
     }
 }
 

@@ -10,7 +10,7 @@ ghost use Rattle.gtd_eval.specs.Periods.{RepeatsFrom};
 ghost use Rattle.gtd_eval.specs.Stays.{IsStay};
 ghost use Rattle.gtd_records.specs.Closing.{AreElements, ClosesOneWay, IsClosed};
 ghost use Rattle.gtd_records.specs.ClosingRows.{AreClosingRows};
-ghost use Rattle.gtd_records.specs.Index.{AreClosing, ArePlaces};
+ghost use Rattle.gtd_records.specs.Index.{AreClosing, AreElementPlaces, ArePlaces};
 ghost use Rattle.gtd_records.specs.Columns.{IsSortedSet};
 
 use crate::direction::Direction;
@@ -133,17 +133,28 @@ impl Records {
         self.elements.as_slice()
     }
 
+    // The places of the element's records.
+    fn places_of_element(&self, element: u64) -> &[RowPlace]
+        ensures places { AreElementPlaces self.now element result.now }
+    {
+        let places = self.places.as_slice();
+        let from = places_below(places, element);
+        for at in from..places.len() {
+            let place = places[at];
+            if place.element != element {
+                return &places[from..at];
+            }
+        }
+        &places[from..]
+    }
+
     /// Whether some record closes the element in the direction for the vehicle type at the second. The vehicle type
     /// must be from 1 to 99, and the second on a day that a horizon may have. Takes no memory.
     pub fn closed_at(&self, element: u64, direction: Direction, vehicle: u8, second: Sec) -> bool
         requires in_range { IsHorizonSecond second.0 }
         ensures closed { IsTrue result ↔ IsClosed self.now element direction vehicle second.0 }
     {
-        let from = places_below(self.places.as_slice(), element);
-        for place in &self.places[from..] {
-            if place.element != element {
-                return false;
-            }
+        for place in self.places_of_element(element) {
             if self.rows[place.row].closes(direction, vehicle, second) {
                 return true;
             }
@@ -156,11 +167,7 @@ impl Records {
     pub fn closes_one_way(&self, element: u64, vehicle: u8) -> bool
         ensures one_way { IsTrue result ↔ Any (ClosesOneWay element vehicle) self.now }
     {
-        let from = places_below(self.places.as_slice(), element);
-        for place in &self.places[from..] {
-            if place.element != element {
-                return false;
-            }
+        for place in self.places_of_element(element) {
             if self.rows[place.row].closes_one_way(vehicle) {
                 return true;
             }
@@ -183,12 +190,8 @@ impl Records {
         ensures rows { IfOk result
             (λ rows. AreClosingRows self.now element direction vehicle second.0 rows.items) }
     {
-        let from = places_below(self.places.as_slice(), element);
         let mut rows = Vec::new(alloc);
-        for place in &self.places[from..] {
-            if place.element != element {
-                return Ok(in_order(rows));
-            }
+        for place in self.places_of_element(element) {
             let restriction = &self.rows[place.row];
             if restriction.closes(direction, vehicle, second) {
                 rows.push(place.row + 1)?;
@@ -210,15 +213,11 @@ impl Records {
         requires inside { Within (whole horizon) second.0 }
         ensures stays { IsStay (IsClosed self.now element direction vehicle) second.0 (whole horizon).until result }
     {
-        let from = places_below(self.places.as_slice(), element);
         let mut stay = Stay {
             holds: false,
             until: horizon.until(),
         };
-        for place in &self.places[from..] {
-            if place.element != element {
-                return stay;
-            }
+        for place in self.places_of_element(element) {
             let restriction = &self.rows[place.row];
             if restriction.concerns(direction, vehicle) {
                 stay = Stay::joined(Op::Union, stay, restriction.stay(second, horizon));
@@ -231,12 +230,8 @@ impl Records {
     pub(crate) fn period(&self, element: u64, direction: Direction, vehicle: u8) -> Option<Period>
         ensures repeats { IfSome result (λ x. RepeatsFrom x (IsClosed self.now element direction vehicle)) }
     {
-        let from = places_below(self.places.as_slice(), element);
         let mut longest = Period::Minute;
-        for place in &self.places[from..] {
-            if place.element != element {
-                return Some(longest);
-            }
+        for place in self.places_of_element(element) {
             let restriction = &self.rows[place.row];
             if restriction.concerns(direction, vehicle) {
                 let period = restriction.period()?;
@@ -257,12 +252,8 @@ impl Records {
     ) -> Result<Vec<SweepTree<L>>, AllocError>
         ensures { IfOk result (λ cursors. AreClosing self.now element direction vehicle horizon cursors.items) }
     {
-        let from = places_below(self.places.as_slice(), element);
         let mut cursors = Vec::new(alloc);
-        for place in &self.places[from..] {
-            if place.element != element {
-                return Ok(cursors);
-            }
+        for place in self.places_of_element(element) {
             let restriction = &self.rows[place.row];
             if restriction.concerns(direction, vehicle) {
                 cursors.push(restriction.cursor::<L>(alloc, horizon)?)?;

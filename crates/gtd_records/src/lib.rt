@@ -8,14 +8,14 @@
 
 pub use change::next_change;
 pub use column::{read_closed, read_direction, read_number};
-pub use direction::{Closed, Direction};
+pub use direction::{Closed, DirectedElement, Direction};
 pub use fault::RecordFault;
 pub use faults::{faults_of, read_faults};
 pub use index::Records;
 pub use reader::read_records;
 pub use record::Record;
 pub use row::{Columns, four_columns};
-pub use rows::{next_row, table};
+pub use rows::{RowTaker, RowsEnd, next_row, table, take_rows};
 pub use schedule::{open_seconds, schedule_of};
 pub use vehicles::{Codes, Vehicles, Version, read_vehicles};
 pub use warnings::{Warning, warnings_of};

@@ -1,8 +1,11 @@
 //! The rows of a record file.
 
-ghost use Rattle.std.specs.Prelude.{◌≡◌, ◌≢◌, [], ◌∷◌, length, IfSome, IfNone, Err};
+ghost use Rattle.std.specs.Prelude.{◌≡◌, ◌≢◌, [], ◌∷◌, length, IfSome, IfNone, MatchOption, Err};
 ghost use Rattle.csv.specs.Records.{fields_of};
 ghost use Rattle.gtd_records.specs.ComputedRow.{IsRow, IsDomainRead};
+ghost use Rattle.gtd_records.specs.File.{header};
+ghost use Rattle.gtd_records.specs.RowTakers.{IsHeader};
+ghost use Rattle.gtd_records.specs.declared.vehicles.Version.{Version};
 
 use crate::column::{read_closed, read_number};
 use crate::fault::RecordFault;
@@ -55,6 +58,31 @@ pub fn four_columns(row: &ByteRecord) -> Option<Columns<'_>>
     })
 }
 
+// The version that a row is the header of.
+fn version_of(row: &ByteRecord) -> Option<Version>
+    ensures { MatchOption result ((v : Version) → fields_of row.now ≢ header v) (λ v. fields_of row.now ≡ header v) }
+{
+    let Some(columns) = four_columns(row) else {
+        return None;
+    };
+    if columns.element != b"element".as_slice() {
+        return None;
+    }
+    if columns.closed != b"direction".as_slice() {
+        return None;
+    }
+    if columns.last != b"domain".as_slice() {
+        return None;
+    }
+    if columns.vehicles == b"vehicle".as_slice() {
+        Some(Version::One)
+    } else if columns.vehicles == b"vehicles".as_slice() {
+        Some(Version::Two)
+    } else {
+        None
+    }
+}
+
 // The domain of a row's last column, which may be empty, or its fault in the row with this number.
 fn read_last(
     alloc: Global,
@@ -77,7 +105,7 @@ fn read_last(
 }
 
 // The record that a row of a file stands for, or its first fault from the left.
-pub(crate) fn read_row(
+fn read_row(
     alloc: Global,
     known: &mut KnownTexts,
     version: Version,
@@ -105,4 +133,44 @@ pub(crate) fn read_row(
         vehicles,
         domain,
     })
+}
+
+/// What reads the rows of a record file: its version, and the texts of domains that it repeats.
+#[derive(Drop)]
+pub(crate) struct RowReader {
+    alloc: Global,
+    known: KnownTexts,
+    pub(crate) version: Version,
+}
+
+impl RowReader {
+    /// A reader of rows, before their header. Takes no memory.
+    pub(crate) fn new(alloc: Global) -> RowReader {
+        RowReader {
+            alloc,
+            known: KnownTexts::new(alloc),
+            version: Version::One,
+        }
+    }
+
+    /// Whether a row is a header. If it is, the rows are read as those of its version.
+    pub(crate) fn take_header(&mut self, row: &ByteRecord) -> bool
+        ensures header { IsHeader (fields_of row.now) self.new.version result }
+    {
+        match version_of(row) {
+            Some(version) => {
+                self.version = version;
+                true
+            }
+            None => false,
+        }
+    }
+
+    /// The record that the row with this number stands for, or its first fault from the left.
+    pub(crate) fn read(&mut self, number: u32, row: &ByteRecord) -> Result<Record, RecordFault>
+        ensures read { result ≢ Err RecordFault.NoMemory → IsRow self.old.version number (fields_of row.now) result }
+        ensures version { self.new.version ≡ self.old.version }
+    {
+        read_row(self.alloc, &mut self.known, self.version, number, row)
+    }
 }

@@ -6,7 +6,7 @@ ghost use Rattle.gtd_eval.specs.Membership.{IsNormalOver};
 ghost use Rattle.gtd_records.specs.Closing.{IsOpen};
 ghost use Rattle.gtd_records.specs.Index.{AreClosing};
 
-use crate::direction::Direction;
+use crate::direction::{DirectedElement, Direction};
 use crate::index::Records;
 use gtd_core::Horizon;
 use gtd_eval::{Cursor, KeptCursor, Leaf, SweepTree};
@@ -17,15 +17,14 @@ use std::alloc::{AllocError, Global};
 pub(crate) fn open_tree<L: Leaf>(
     alloc: Global,
     records: &Records,
-    element: u64,
-    direction: Direction,
+    at: DirectedElement,
     vehicle: u8,
     horizon: Horizon,
 ) -> Result<SweepTree<L>, AllocError>
     ensures seconds { IfOk result
-        (λ c. IsNormalOver (IsOpen records.now element direction vehicle) horizon (cursor_list c)) }
+        (λ c. IsNormalOver (IsOpen records.now at.element at.direction vehicle) horizon (cursor_list c)) }
 {
-    let closing = records.closing::<L>(alloc, element, direction, vehicle, horizon)?;
+    let closing = records.closing::<L>(alloc, at.element, at.direction, vehicle, horizon)?;
     let closed = SweepTree::<L>::any(alloc, closing, horizon)?;
     SweepTree::<L>::outside(alloc, closed, horizon)
 }
@@ -45,10 +44,11 @@ pub fn open_seconds(
     ensures seconds { IfOk result
         (λ c. IsNormalOver (IsOpen records.now element direction vehicle) horizon (cursor_list c)) }
 {
+    let at = DirectedElement { element, direction };
     let Some(period) = records.period(element, direction, vehicle) else {
-        return open_tree(alloc, records, element, direction, vehicle, horizon);
+        return open_tree(alloc, records, at, vehicle, horizon);
     };
-    let open: Cursor = open_tree(alloc, records, element, direction, vehicle, horizon)?;
+    let open: Cursor = open_tree(alloc, records, at, vehicle, horizon)?;
     KeptCursor::repeating(alloc, open, period, horizon)
 }
 

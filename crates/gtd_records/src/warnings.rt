@@ -1,25 +1,19 @@
 //! The rows of a record file whose domain never holds, or always.
 
-ghost use Rattle.std.specs.Prelude.{◌≡◌, List, Some, IfOk, option_map, take};
+ghost use Rattle.std.specs.Prelude.{◌≡◌, IfOk, option_map};
 ghost use Rattle.csv.specs.Reading.{default_config, records, strip_bom};
 ghost use Rattle.csv.specs.Records.{fields_of};
-ghost use Rattle.gtd_core.specs.Limits.{most_rows};
 ghost use Rattle.gtd_core.specs.Parts.{domain_tree};
-ghost use Rattle.gtd_records.specs.Columns.{Fields};
-ghost use Rattle.gtd_records.specs.Table.{HasLeft};
 ghost use Rattle.gtd_records.specs.Warnings as spec;
-ghost use Rattle.gtd_records.specs.Warnings.{AreFileWarnings, AreRowWarnings, AreTableWarnings, IsDomainWarning};
+ghost use Rattle.gtd_records.specs.Warnings.{AreFileWarnings, AreTableWarnings, IsDomainWarning};
 ghost use Rattle.gtd_records.specs.Warnings.{IsRowWarning};
 
 use crate::fault::RecordFault;
-use crate::file::version_of;
-use crate::known::KnownTexts;
-use crate::row::read_row;
-use crate::rows::{next_row, table};
-use crate::vehicles::Version;
-use csv::{ByteRecord, Reader};
+use crate::row::RowReader;
+use crate::rows::{RowTaker, take_rows};
+use csv::ByteRecord;
 use gtd_core::Domain;
-use gtd_core::limits::{MOST_FILE_BYTES, MOST_ROWS};
+use gtd_core::limits::MOST_FILE_BYTES;
 use gtd_eval::{Extent, extent_of};
 use std::alloc::{AllocError, Global};
 
@@ -60,42 +54,46 @@ fn warning_of_domain(
 // The warning of the row with this number.
 fn warning_of(
     alloc: Global,
-    known: &mut KnownTexts,
-    version: Version,
+    rows: &mut RowReader,
     number: u32,
     row: &ByteRecord,
 ) -> Result<Option<Warning>, AllocError>
-    ensures { IfOk result (IsRowWarning version number (fields_of row.now)) }
+    ensures warning { IfOk result (IsRowWarning rows.old.version number (fields_of row.now)) }
+    ensures version { rows.new.version ≡ rows.old.version }
 {
-    match read_row(alloc, known, version, number, row) {
+    match rows.read(number, row) {
         Ok(record) => warning_of_domain(alloc, number, &record.domain),
         Err(RecordFault::NoMemory) => Err(AllocError),
         Err(_) => Ok(None),
     }
 }
 
-// The warnings of the rows that a reader still has to give, of no more than a file may have.
-fn warnings_of_rows(
+/// The warnings of the rows that were read.
+#[derive(Drop)]
+pub(crate) struct WarningList {
     alloc: Global,
-    version: Version,
-    reader: &mut Reader<&[u8]>,
-    row: &mut ByteRecord,
-) -> Result<Vec<Warning>, AllocError>
-    ensures { (rows : List Fields) → HasLeft (λ source. Some source.now) reader.old rows
-        → IfOk result (λ warnings. AreRowWarnings version 1 (take most_rows rows) warnings.items) }
-{
-    let mut known = KnownTexts::new(alloc);
-    let mut warnings = Vec::new(alloc);
-    for number in 1..MOST_ROWS + 1 {
-        if !next_row(reader, row)? {
-            return Ok(warnings);
-        }
-        match warning_of(alloc, &mut known, version, number, row)? {
-            Some(warning) => warnings.push(warning)?,
+    pub(crate) rows: RowReader,
+    pub(crate) warnings: Vec<Warning>,
+}
+
+impl RowTaker for WarningList {
+    ghost use Rattle.gtd_records.specs.RowTakers.{BeginsWarnings, ListsWarning};
+
+    ghost begins = { BeginsWarnings };
+
+    ghost takes = { ListsWarning };
+
+    fn take_header(&mut self, row: &ByteRecord) -> bool {
+        self.rows.take_header(row)
+    }
+
+    fn take_row(&mut self, number: u32, row: &ByteRecord) -> Result<bool, AllocError> {
+        match warning_of(self.alloc, &mut self.rows, number, row)? {
+            Some(warning) => self.warnings.push(warning)?,
             None => {}
         }
+        Ok(true)
     }
-    Ok(warnings)
 }
 
 // The warnings of a file's bytes, if there are not too many bytes.
@@ -103,15 +101,13 @@ fn warnings_of_table(alloc: Global, bytes: &[u8]) -> Result<Vec<Warning>, AllocE
     ensures { IfOk result
         (λ warnings. AreTableWarnings (records default_config (strip_bom bytes.now)) warnings.items) }
 {
-    let mut reader = table(alloc, bytes);
-    let mut row = ByteRecord::new(alloc);
-    if !next_row(&mut reader, &mut row)? {
-        return Ok(Vec::new(alloc));
-    }
-    match version_of(&row) {
-        Some(version) => warnings_of_rows(alloc, version, &mut reader, &mut row),
-        None => Ok(Vec::new(alloc)),
-    }
+    let mut list = WarningList {
+        alloc,
+        rows: RowReader::new(alloc),
+        warnings: Vec::new(alloc),
+    };
+    let _ = take_rows(alloc, bytes, &mut list)?;
+    Ok(list.warnings)
 }
 
 /// The warnings of a record file with these bytes, in row order: each row that stands for a restriction, and whose

@@ -7,7 +7,7 @@ use Rattle.std.specs.List.Sorted.{IsNonDecreasingBy, IsSorted}
 use Rattle.std.specs.Ordering.{nat_cmp}
 use Rattle.std.proofs.lemmas.List.{length-map, get_or-take, get_or-drop}
 use Rattle.std.proofs.lemmas.Bool.Decides.{nat_tests}
-use Rattle.gtd_records.specs.Index.{ArePlaces, IsPlaceOfRow}
+use Rattle.gtd_records.specs.Index.{AllSeen, AreElementPlaces, ArePlaces, IsPlaceOfRow}
 use Rattle.gtd_records.specs.Closing.{AreElements, Restriction}
 use Rattle.gtd_records.specs.Columns.{IsSortedSet}
 use Rattle.gtd_records.specs.declared.index.RowPlace.{RowPlace}
@@ -46,77 +46,74 @@ map_from_any f (y ∷ xs) (suc k) n x h e g =
     let r = map_from_any f xs k n x (omega arith) e g in
     (suc r.0, (let l = r.1 in omega arith), r.2)
 
--- the places from there on
-pub part_at : (places all : List RowPlace) → all ≡ places → (from k : ℕ) (d : RowPlace) → from + k < length places
-    → slice_index_or (take (length all - from) (drop from all)) k d ≡ slice_index_or places (from + k) d
-part_at places all same from k d h =
-    let l = ap length same in
-    get_or-take (length all - from) (drop from all) k d (omega (arith, l)) ∙ get_or-drop from all k d
-    ∙ ap (λ (xs : List RowPlace). get_or xs (from + k) d) same
-
--- the place of a row of the element is one of those up to one that is of a later element or past the end
-module _ (rows : List Restriction) (places all : List RowPlace) (same : all ≡ places) (placed : ArePlaces rows places)
-    (element from : ℕ)
-    (below : (k : ℕ) (d : RowPlace) → 0 ≤ k → k < from → (slice_index_or places k d).element < element)
-    (rest : (k : ℕ) (d : RowPlace) → from ≤ k → k < length places → element ≤ (slice_index_or places k d).element) where
-  abbrev pub IsPlaced : ℕ → RowPlace → Type 0
-  IsPlaced stop p = (j : ℕ) × (j < stop) × (slice_index_or (take (length all - from) (drop from all)) j p ≡ p)
-
-  pub row_placed : (stop : ℕ) → ((d : RowPlace) → from + stop < length places → (slice_index_or places (from + stop) d).element
-      ≡ element → ⊥)
-      → (row : ℕ) (r : Restriction) → row < length rows → slice_index_or rows row r ≡ r → r.element ≡ element
-      → IsPlaced stop (record { element = r.element; row = row })
-  row_placed stop after row r within stands names =
-      let p : RowPlace = record { element = r.element; row = row } in
-      let h = placed.each row r within stands in
-      let k = h.0 in
-      let name = ap (λ (q : RowPlace). q.element) h.2 in
-      by_le {P = IsPlaced stop p} from k
-      (λ ge.
-      by_le {P = IsPlaced stop p} (from + stop) k
-      (λ past.
-      let s = placed.sorted (from + stop) k p past h.1 in
-      let m = rest (from + stop) p (omega arith) (omega (arith, h.1, past)) in
-      absurd (after p (omega (arith, h.1, past)) (omega (arith, s, m, name, names))))
-      (λ before.
-      let e : from + (k - from) ≡ k = omega arith in (
-        k - from,
-        omega arith,
-        part_at places all same from (k - from) p (omega (arith, e, h.1))
-            ∙ ap (λ (n : ℕ). get_or places n p) e ∙ h.2,
-      )))
-      (λ lt. let b = below k p (omega arith) lt in absurd (omega (arith, b, name, names)))
-
--- how far the places from there on reach
-pub part_within : (all : List RowPlace) (from k : ℕ) → k < length (take (length all - from) (drop from all))
-    → from + k < length all
-part_within all from k h = let l = simp (length-take, length-drop) at h in omega (arith, l)
-
-pub part_past : (all : List RowPlace) (from k : ℕ) → length (take (length all - from) (drop from all)) ≤ k → length all ≤ from + k
-part_past all from k h = let l = simp (length-take, length-drop) at h in omega (arith, l)
-
 -- the record at a place is of its element
-pub place_element : (rows : List Restriction) (p : RowPlace) (r : Restriction) → IsPlaceOfRow rows p
+place_element : (rows : List Restriction) (p : RowPlace) (r : Restriction) → IsPlaceOfRow rows p
     → r ≡ slice_index_or rows p.row r
     → r.element ≡ p.element
 place_element rows p r h is =
     let e : r ≡ h.0 = is ∙ any_default rows p.row r h.0 h.1 ∙ h.2 in
     ap (λ (x : Restriction). x.element) e ∙ h.3
 
+-- the places of an element, which come one after another
+module _ (rows : List Restriction) (places : List RowPlace) (placed : ArePlaces rows places) (element from until : ℕ)
+    (le : from ≤ until) (within : until ≤ length places)
+    (below : (k : ℕ) (d : RowPlace) → 0 ≤ k → k < from → (slice_index_or places k d).element < element)
+    (rest : (k : ℕ) (d : RowPlace) → from ≤ k → k < length places → element ≤ (slice_index_or places k d).element)
+    (own : (k : ℕ) (d : RowPlace) → from ≤ k → k < until → (slice_index_or places k d).element ≡ element)
+    (other : (d : RowPlace) → until < length places → (slice_index_or places until d).element ≡ element → ⊥) where
+  abbrev part : List RowPlace
+  part = take (until - from) (drop from places)
+
+  part_length : length part ≡ until - from
+  part_length = simp (length-take, length-drop) (omega arith)
+
+  part_at : (k : ℕ) (d : RowPlace) → from + k < until → slice_index_or part k d ≡ slice_index_or places (from + k) d
+  part_at k d h = get_or-take (until - from) (drop from places) k d (omega (arith, le)) ∙ get_or-drop from places k d
+
+  part_sound : (k : ℕ) (d : RowPlace) → k < length part → ((slice_index_or part k d).row < length rows)
+      × ((r : Restriction) → r ≡ slice_index_or rows (slice_index_or part k d).row r → r.element ≡ element)
+  part_sound k d h =
+      let here : from + k < until = (let l = part_length in omega arith) in
+      let at = part_at k d here in
+      let s = placed.sound (from + k) d (omega (arith, here, within)) in (
+        subst (λ (p : RowPlace). p.row < length rows) (sym at) s.1,
+        (λ r is. place_element rows (slice_index_or places (from + k) d) r s
+            (subst (λ (p : RowPlace). r ≡ slice_index_or rows p.row r) at is)
+            ∙ own (from + k) d (omega arith) here),
+      )
+
+  row_placed : AllSeen rows part element (length part)
+  row_placed row r inside stands names =
+      let p : RowPlace = record { element = r.element; row = row } in
+      let h = placed.each row r inside stands in
+      let k = h.0 in
+      let name = ap (λ (q : RowPlace). q.element) h.2 in
+      by_le {P = (j : ℕ) × (j < length part) × (slice_index_or part j p ≡ p)} from k
+      (λ ge.
+      by_le {P = (j : ℕ) × (j < length part) × (slice_index_or part j p ≡ p)} until k
+      (λ past.
+      let s = placed.sorted until k p past h.1 in
+      let m = rest until p le (omega (arith, h.1, past)) in
+      absurd (other p (omega (arith, h.1, past)) (omega (arith, s, m, name, names))))
+      (λ before.
+      let e : from + (k - from) ≡ k = omega arith in (
+        k - from,
+        (let l = part_length in omega arith),
+        part_at (k - from) p (omega (arith, e, before)) ∙ ap (λ (n : ℕ). get_or places n p) e ∙ h.2,
+      )))
+      (λ lt. let b = below k p (omega arith) lt in absurd (omega (arith, b, name, names)))
+
+  pub element_places : AreElementPlaces rows element part
+  element_places = record {
+    sound = part_sound;
+    all = row_placed;
+    few = (let l = part_length in let m = placed.many in omega arith);
+  }
+
 -- two records at a place are one
 pub one_record : (rows : List Restriction) (n : ℕ) (r s : Restriction) → n < length rows → slice_index_or rows n r ≡ r → s
     ≡ slice_index_or rows n s → r ≡ s
 one_record rows n r s h a b = sym a ∙ any_default rows n r s h ∙ sym b
-
--- what comes from there on are places
-pub part_sound : (rows : List Restriction) (places all : List RowPlace) (same : all ≡ places) → ArePlaces rows places
-    → (from k : ℕ) (d : RowPlace) → k < length (take (length all - from) (drop from all))
-    → IsPlaceOfRow rows (slice_index_or (take (length all - from) (drop from all)) k d)
-part_sound rows places all same placed from k d h =
-    let within = part_within all from k h in
-    let l = ap length same in
-    subst (IsPlaceOfRow rows) (sym (part_at places all same from k d (omega (arith, within, l))))
-    (placed.sound (from + k) d (omega (arith, within, l)))
 
 not_less : (a b : ℕ) → b ≤ a → is_lt (nat_cmp a b) ≡ false
 not_less a b h = grind (arith, nat_tests)
@@ -156,11 +153,3 @@ module _ (rows : List Restriction) (places : List RowPlace) (placed : ArePlaces 
     ascending = is.order;
     named = λ x. ((λ h. place_named x ((is.same x).0 h)), (λ a. (is.same x).1 (named_place x a)));
   }
-
--- so many cursors of 255 nodes are few enough to be united and complemented
-pub fewer : (all places : List RowPlace) {rows : ℕ} → all ≡ places → length places ≡ rows → rows ≤ 65536 → length all ≤ 65536
-fewer all places same many few = let l = ap length same in omega (arith, l, many, few)
-
-pub few_nodes : (n i : ℕ) (all : List RowPlace) (from : ℕ) → i ≤ length (take (length all - from) (drop from all))
-    → length all ≤ 65536 → n ≤ 256 * i → n ≤ 16777216
-few_nodes n i all from within few nodes = let l = simp (length-take, length-drop) at within in omega (arith, l)

@@ -3,26 +3,20 @@ use Rattle.std.proofs.Common.{◌≡◌, ◌∙◌, sym, ap, refl, subst, ◌<�
 use Rattle.std.proofs.Common.{length-append, add-zero}
 use Rattle.std.specs.Prelude.{Option, Some, None, MatchOption, Result, Ok, Err}
 use Rattle.csv.specs.Reading.{default_config, records, strip_bom}
-use Rattle.gtd_core.specs.Trees.{Tree}
-use Rattle.gtd_core.specs.declared.fault.TextFault.{TextFault}
 use Rattle.gtd_text.specs.facts.OneMeaning.{one_meaning}
 use Rattle.gtd_text.specs.facts.ReadingLaws.{one_fault}
 use Rattle.gtd_text.specs.Reading.{StandsFor, IsFault}
 use Rattle.gtd_records.specs.facts.FileForms.{computed_file}
 use Rattle.gtd_records.specs.facts.Rising.{one_list}
 use Rattle.gtd_records.specs.File as file
-use Rattle.gtd_records.specs.Columns.{number_of, closed_of, Fields, IsSortedSet, IsOrdered, vehicles_of}
+use Rattle.gtd_records.specs.Columns.{IsSortedSet}
 use Rattle.gtd_core.specs.Limits.{most_rows}
 use Rattle.gtd_records.specs.ComputedFile.{AreRecords, AreRows, FirstFault, IsFile, AreSoundRows, IsTable}
-use Rattle.gtd_records.specs.ComputedRow.{IsDomainColumn}
 use Rattle.gtd_records.specs.File.{header}
-use Rattle.gtd_records.specs.ComputedRow.{IsFullRow, IsRow, with_domain}
-use Rattle.gtd_records.specs.Closing.{Restriction}
-use Rattle.gtd_records.specs.declared.fault.RecordFault.{RecordFault}
+use Rattle.gtd_records.specs.ComputedRow.{IsFullRow, IsRow}
+use Rattle.gtd_records.specs.facts.RowNames.{AllBut, Every, Fields, IsDomainColumn, IsOrdered, Only, RecordFault, Restriction, TextFault}
+use Rattle.gtd_records.specs.facts.RowNames.{Tree, Vehicles, Version, closed_of, number_of, vehicles_of, with_domain}
 use Rattle.gtd_records.specs.declared.fault.RecordFault.TheVariants as fault
-use Rattle.gtd_records.specs.declared.vehicles.Vehicles.{Vehicles}
-use Rattle.gtd_records.specs.declared.vehicles.Vehicles.TheVariants.{Every, Only, AllBut}
-use Rattle.gtd_records.specs.declared.vehicles.Version.{Version}
 use Rattle.gtd_records.specs.declared.vehicles.Version.TheVariants as version
 
 one_ascending : (codes xs ys : List ℕ) → IsSortedSet codes xs → IsSortedSet codes ys → xs ≡ ys

@@ -10,24 +10,17 @@ use Rattle.std.proofs.lemmas.Bool.{cases_Bool, eqb-true}
 use Rattle.std.proofs.lemmas.Bool.Decides.{nat_tests}
 use Rattle.std.proofs.lemmas.List.Elements.{All-cons, All-head, All-tail}
 use Rattle.std.proofs.lemmas.List.Splits.{slice_split_none}
-use Rattle.gtd_core.specs.Trees.{Tree}
-use Rattle.gtd_core.specs.declared.fault.TextFault.{TextFault}
 use Rattle.gtd_text.specs.facts.Readings.{is_reading, stands_for, faultless}
-use Rattle.gtd_records.specs.Closing.{Restriction}
-use Rattle.gtd_records.specs.Columns.{Fields, IsOrdered, IsSortedSet, and_code, closed_of, code_of, codes_of, direction_of, is_word}
-use Rattle.gtd_records.specs.Columns.{is_zero, items_of, named, number_of, single, type_of, types_listed, vehicles_of}
-use Rattle.gtd_records.specs.ComputedRow.{IsDomainColumn, with_domain}
+use Rattle.gtd_records.specs.Columns.{IsSortedSet, and_code, code_of, codes_of, direction_of, is_word}
+use Rattle.gtd_records.specs.Columns.{is_zero, items_of, named, single, type_of, types_listed}
 use Rattle.gtd_records.specs.ComputedRow as computed
 use Rattle.gtd_records.specs.Row.{AreCodes, AreTypes, Column, IsDomain, IsNumber, IsRow, IsWordFor, items}
-use Rattle.gtd_records.specs.declared.direction.Closed.{Closed}
 use Rattle.gtd_records.specs.declared.direction.Closed.TheVariants.{One, Both}
 use Rattle.gtd_records.specs.declared.direction.Direction.{Direction}
 use Rattle.gtd_records.specs.declared.direction.Direction.TheVariants.{Positive, Negative}
-use Rattle.gtd_records.specs.declared.fault.RecordFault.{RecordFault}
+use Rattle.gtd_records.specs.facts.RowNames.{AllBut, Closed, Every, Fields, IsDomainColumn, IsOrdered, Only, RecordFault, Restriction}
+use Rattle.gtd_records.specs.facts.RowNames.{TextFault, Tree, Vehicles, Version, closed_of, number_of, vehicles_of, with_domain}
 use Rattle.gtd_records.specs.declared.fault.RecordFault.TheVariants as fault
-use Rattle.gtd_records.specs.declared.vehicles.Vehicles.{Vehicles}
-use Rattle.gtd_records.specs.declared.vehicles.Vehicles.TheVariants.{Every, Only, AllBut}
-use Rattle.gtd_records.specs.declared.vehicles.Version.{Version}
 use Rattle.gtd_records.specs.declared.vehicles.Version.TheVariants as version
 use Rattle.gtd_records.specs.facts.SortedCodes.{ascending}
 

@@ -12,12 +12,12 @@ use Rattle.gtd_records.proofs.change.change_by_spans.Goals as goal
 pub returns : goal.returns
 returns c =
     let days = whole c.days_to_look-days.result in
-    let set = IsOpen c.args.records.now c.args.element c.args.direction c.args.vehicle in
+    let set = IsOpen c.args.records.now c.args.at.element c.args.at.direction c.args.vehicle in
     let found = changes-in set days.from days.until c.args.second.0 (cursor_list c.in_ok-open.open) c.in_ok-open.ensures.seconds
     c.days_to_look-days.ensures.inside.0 c.next_change.result (rw (← c.until.ensures.value) c.next_change.ensures.change) in
     record {
       change = changes-to-end set (IsTrue c.is_some-weekly.result)
-          (λ yes. opened c.args.records.now c.args.element c.args.direction c.args.vehicle week
+          (λ yes. opened c.args.records.now c.args.at.element c.args.at.direction c.args.vehicle week
           (if-weekly c.period.result _ (sym c.is_some-weekly.ensures ∙ yes) c.period.ensures.repeats)) c.args.second.0 days.until
           (whole c.args.horizon).until c.days_to_look-days.ensures.within c.days_to_look-days.ensures.until
           c.next_change.result found;

@@ -7,7 +7,7 @@ use Rattle.gtd_records.proofs.change.next_change.Given as goal
 -- nothing changes so far
 abbrev pub invariant-loop : goal.invariant-loop
 invariant-loop l = record {
-  later : l.second.0 <ℤ l.at.0;
-  within : l.at.0 ≤ℤ (whole l.horizon).until;
-  never : NeverChanges (IsOpen l.records l.element l.direction l.vehicle) l.second.0 l.at.0;
+  later : l.second.0 <ℤ l.until.0;
+  within : l.until.0 ≤ℤ (whole l.horizon).until;
+  never : NeverChanges (IsOpen l.records l.at.element l.at.direction l.vehicle) l.second.0 l.until.0;
 }

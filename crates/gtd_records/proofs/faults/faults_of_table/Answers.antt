@@ -1,29 +1,10 @@
-use Rattle.std.proofs.Common.{◌≡◌, ◌∙◌, ap, inl, [], ◌∷◌}
-use Rattle.std.proofs.lemmas.Result.{IfOk-weaker}
-use Rattle.csv.specs.Reading.{default_config, records, strip_bom}
-use Rattle.csv.specs.Records.{fields_of}
-use Rattle.gtd_records.specs.File.{header}
-use Rattle.gtd_records.proofs.FaultFacts.{no_header}
+use Rattle.gtd_records.proofs.TakerFacts.{faults_read, faults_too_many}
 use Rattle.gtd_records.proofs.faults.faults_of_table.Goals as goal
 
-pub returns-then-not-branch : goal.returns-then-not-branch
-returns-then-not-branch c =
-    let text = records default_config (strip_bom c.args.bytes.now) in
-    let nil : text ≡ [] = (rw c.if-not-branch.true at c.in_ok-next_row.ensures) text c.table-reader.ensures in
-    IfOk-weaker c.alone.result _ _ (λ faults is. no_header text (λ v rows e. cc) faults.items is) c.alone.ensures
+pub returns-in-All : goal.returns-in-All
+returns-in-All c = faults_read _ _ _ c.new-2.ensures.items (rw c.in-All.is at c.in_ok-take_rows.ensures.taken)
 
-pub returns : goal.returns
-returns c =
-    let text = records default_config (strip_bom c.args.bytes.now) in
-    let t = (rw c.if-not-branch.false at c.in_ok-next_row.ensures) text c.table-reader.ensures in
-    IfOk-weaker c.alone-in-None.result _ _ (λ faults is.
-    no_header text (λ v rows e. let same : fields_of c.next_row.new.row ≡ header v = cc in c.in-None.ensures v same) faults.items
-    is) c.alone-in-None.ensures
-
-pub returns-in-Some : goal.returns-in-Some
-returns-in-Some c =
-    let text = records default_config (strip_bom c.args.bytes.now) in
-    let t = (rw c.if-not-branch.false at c.in_ok-next_row.ensures) text c.table-reader.ensures in
-    IfOk-weaker c.faults_of_rows.result _ _
-    (λ faults are. inl (c.in-Some.version, t.0, t.1 ∙ ap (λ f. f ∷ t.0) c.in-Some.ensures, are))
-    (c.faults_of_rows.ensures t.0 t.2)
+pub returns-in_ok-push-in-TooMany : goal.returns-in_ok-push-in-TooMany
+returns-in_ok-push-in-TooMany c =
+    rw c.in_ok-push-in-TooMany.ensures.items
+    (faults_too_many _ _ _ c.new-2.ensures.items (rw c.in-TooMany.is at c.in_ok-take_rows.ensures.taken))

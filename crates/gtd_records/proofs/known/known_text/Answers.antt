@@ -1,4 +1,4 @@
-use Rattle.std.proofs.Common.{◌≡◌, sym, List, ℕ}
+use Rattle.std.proofs.Common.{◌≡◌, sym}
 use Rattle.gtd_records.proofs.DomainTexts.{moved}
 use Rattle.gtd_records.proofs.known.known_text.Goals as goal
 

@@ -5,47 +5,38 @@ use Rattle.gtd_eval.specs.facts.PeriodFacts.{from-longer}
 use Rattle.gtd_records.specs.Closing.{Concerns, HoldsAt, Restriction}
 use Rattle.gtd_records.specs.declared.index.RowPlace.{RowPlace}
 use Rattle.gtd_records.proofs.PeriodFacts.{all_repeat, so-far-longer}
-use Rattle.gtd_records.specs.facts.IndexFacts.{any_default, by_le, one_record, part_sound}
-use Rattle.gtd_records.proofs.FoundPlaces.{nowhere, seen_till_end, seen_till_other}
+use Rattle.gtd_records.specs.facts.IndexFacts.{any_default, by_le, one_record}
+use Rattle.gtd_records.proofs.FoundPlaces.{nowhere, places_kept}
 use Rattle.gtd_records.proofs.index.Records.period.Goals as goal
 use Rattle.gtd_records.proofs.index.Records.period.Goals.{then-concerns+in_ok-period, else-concerns}
 
 pub index-restriction-requires : goal.index-restriction-requires
 index-restriction-requires c =
-    let p = part_sound _ _ _ c.deref.ensures.value c.self.invariant.placed _ _ nowhere c.loop-place-test.true in omega
-    (arith, p.1)
-
-pub returns-then-place-element : goal.returns-then-place-element
-returns-then-place-element c = record {
-  repeats = rw (sym c.self.view_is) (all_repeat _ _ _ _ _ _ _ c.loop-place.invariant
-      (seen_till_other _ _ _ _ c.deref.ensures.value c.as_slice.ensures.value c.self.invariant.placed _ _
-      c.places_below-from.ensures.below c.places_below-from.ensures.rest _ nowhere c.loop-place-test.true
-      c.if-place-element.true));
-}
+    let part = places_kept _ _ _ _ c.self.view_is c.places_of_element-place-items.ensures.places in
+    omega (arith, (part.sound _ nowhere c.loop-place-test.true).0)
 
 pub returns : goal.returns
-returns c = record {
-  repeats = rw (sym c.self.view_is) (all_repeat _ _ _ _ _ _ _ c.loop-place.invariant
-      (seen_till_end _ _ _ _ c.deref.ensures.value c.as_slice.ensures.value c.self.invariant.placed _ _
-      c.places_below-from.ensures.below c.places_below-from.ensures.rest _ (omega arith)));
-}
+returns c =
+    let part = places_kept _ _ _ _ c.self.view_is c.places_of_element-place-items.ensures.places in
+    record {
+      repeats = rw (sym c.self.view_is) (all_repeat _ _ _ _ _ _ _ c.loop-place.invariant
+          (λ row r within stands names. let at = part.all row r within stands names in (at.0, omega (arith, at.1), at.2)));
+    }
 
 pub loop-place-preserved : goal.loop-place-preserved
 loop-place-preserved c =
     let i = c.loop-place.place-index in
     let rows = c.self.inside.rows.items in
-    let part = take (length c.deref.result.now - c.places_below-from.result)
-    (drop c.places_below-from.result c.deref.result.now) in
-    let p = part_sound rows c.self.inside.places.items c.deref.result.now c.deref.ensures.value c.self.invariant.placed
-    c.places_below-from.result i nowhere c.loop-place-test.true in
+    let part = c.places_of_element-place-items.result.now in
     let s = c.index-restriction.result.now in
+    let p = (places_kept _ _ _ _ c.self.view_is c.places_of_element-place-items.ensures.places).sound i nowhere c.loop-place-test.true in
     let old = c.loop-place.invariant in
     let own : (k : ℕ) (d : RowPlace) (r : Restriction) → k < i + 1 → i ≤ k
     → slice_index_or rows (slice_index_or part k d).row r ≡ r → r ≡ s =
     λ k d r lt ge is.
     let e : k ≡ i = omega arith in
     let at = ap (λ (n : ℕ). slice_index_or part n d) e ∙ any_default part i d nowhere c.loop-place-test.true in
-    one_record rows _ r s p.1 (subst (λ (q : RowPlace). slice_index_or rows q.row r ≡ r) at is) c.index-restriction.ensures in
+    one_record rows _ r s p.0 (subst (λ (q : RowPlace). slice_index_or rows q.row r ≡ r) at is) c.index-restriction.ensures in
     elim c.if-concerns.branch [
       | then-concerns+in_ok-period w ↦
           rw w.longest-is (λ k d r lt is name concerns.

@@ -1,0 +1,208 @@
+-- What reading a record file, listing its faults and listing its warnings make of all its rows.
+use Rattle.std.proofs.Common.{◌≡◌, ◌∙◌, ◌<◌, ◌≤◌, ◌+◌, ◌⊎◌, inl, inr, sym, ap, refl, subst, arith, ℕ, true, false, List, [], ◌∷◌}
+use Rattle.std.proofs.Common.{◌++◌, length, length-append, Option, Some, None, take}
+use Rattle.std.proofs.lemmas.List.{take_all}
+use Rattle.std.proofs.Math.Seq.{take-append_seam}
+use Rattle.std.specs.Prelude.{Result, Ok, Err}
+use Rattle.gtd_core.specs.Limits.{most_rows}
+use Rattle.gtd_records.specs.Closing.{Restriction}
+use Rattle.gtd_records.specs.Columns.{Fields}
+use Rattle.gtd_records.specs.ComputedFile.{AreRecords, IsTable}
+use Rattle.gtd_records.specs.ComputedRow.{IsRow}
+use Rattle.gtd_records.specs.Faults.{AreRowFaults, AreTableFaults, with_fault}
+use Rattle.gtd_records.specs.File.{header}
+use Rattle.gtd_records.specs.RowTakers.{BeginsFaults, BeginsReading, BeginsWarnings, IsHeader, ListsFault, ListsWarning, Reads}
+use Rattle.gtd_records.specs.Taking.{AreAllTaken, AreTableTaken, HasHeader}
+use Rattle.gtd_records.specs.Warnings.{AreRowWarnings, AreTableWarnings, IsRowWarning, with_warning}
+use Rattle.gtd_records.specs.facts.RowsRead.{IsListing}
+use Rattle.gtd_records.specs.facts.TakenRows.{taken_from_none}
+use Rattle.gtd_records.specs.declared.fault.RecordFault.{RecordFault}
+use Rattle.gtd_records.specs.declared.fault.RecordFault.TheVariants as fault
+use Rattle.gtd_records.specs.declared.faults.FaultList.{FaultList}
+use Rattle.gtd_records.specs.declared.file.Reading.{Reading}
+use Rattle.gtd_records.specs.declared.rows.RowsEnd.{RowsEnd}
+use Rattle.gtd_records.specs.declared.rows.RowsEnd.TheVariants.{NoHeader, All, Stopped, TooMany}
+use Rattle.gtd_records.specs.declared.vehicles.Version.{Version}
+use Rattle.gtd_records.specs.declared.warnings.Warning.{Warning}
+use Rattle.gtd_records.specs.declared.warnings.WarningList.{WarningList}
+
+-- a first record that is no header
+no_header : (text : List Fields) (first : Fields) (rows : List Fields) (v : Version) → text ≡ first ∷ rows
+    → IsHeader first v false → (w : Version) (others : List Fields) → text ≡ header w ∷ others → ⊥
+no_header text first rows v split is w others e = is w (let same : first ≡ header w = cc in same)
+
+-- the header of a text
+headed : (text : List Fields) (first : Fields) (rows : List Fields) (v : Version) → text ≡ first ∷ rows → IsHeader first v true
+    → text ≡ header v ∷ rows
+headed text first rows v split is = split ∙ ap (λ (f : Fields). f ∷ rows) is
+
+-- ---- reading
+
+records_listed : (v : Version) → IsListing (λ (r : Restriction) (rest : List Restriction). r ∷ rest)
+    (λ (k : ℕ) (row : Fields) (r : Restriction). IsRow v k row (Ok r)) (AreRecords v)
+records_listed v = record { joins = λ r rest more. refl; none = λ k l. ((λ e. e), (λ e. e)); more = λ k r rs l. ((λ a. a), (λ a. a)) }
+
+records_taken : (v : Version) (rows : List Fields) (old new : Reading) → old.rows.version ≡ v → old.found.items ≡ []
+    → AreAllTaken Reads 1 rows old new → (new.rows.version ≡ v) × AreRecords v 1 rows new.found.items
+records_taken v rows old new same none taken =
+    taken_from_none (λ (r : Restriction) (rest : List Restriction). r ∷ rest)
+    (λ (k : ℕ) (row : Fields) (r : Restriction). IsRow v k row (Ok r)) (AreRecords v) (records_listed v) Reads (λ (s : Reading). s.rows.version ≡ v) (λ (s : Reading). s.found.items)
+    (λ a b k row keeps t.
+    (t.0 ∙ keeps, (t.1.0, subst (λ (w : Version). IsRow w k row (Ok t.1.0)) keeps t.1.1, t.1.2)))
+    rows old new same none taken
+
+module _ (text : List Fields) (old new : Reading) (none : old.found.items ≡ []) where
+  pub table_unread : AreTableTaken BeginsReading Reads text old new NoHeader → IsTable text (Err fault.Header)
+  table_unread (inl p) = inr ((λ v rows e. let nil = p.0 in cc), refl)
+  table_unread (inr h) = inr (no_header text h.0 h.1 new.rows.version h.2 h.3.0, refl)
+
+  pub table_read : HasHeader BeginsReading Reads text old new All → IsTable text (Ok new.found.items)
+  table_read h =
+      let v = h.at.rows.version in
+      inl (
+        v,
+        h.rows,
+        headed text h.first h.rows v h.split h.begun.0,
+        (h.taken.0, (records_taken v h.rows h.at new refl (h.begun.1 ∙ none) h.taken.1).1),
+      )
+
+  pub table_at_fault : HasHeader BeginsReading Reads text old new Stopped → IsTable text (Err new.fault)
+  table_at_fault h =
+      let v = h.at.rows.version in
+      let s = h.taken in
+      let few = s.few in
+      let r = records_taken v s.before h.at s.at refl (h.begun.1 ∙ none) s.taken in
+      inl (
+        v,
+        h.rows,
+        headed text h.first h.rows v h.split h.begun.0,
+        record {
+          before = s.before;
+          row = s.row;
+          after = s.after;
+          split = s.split;
+          found = s.at.found.items;
+          sound = (omega (arith, few), r.1);
+          fault = inr (few, subst (λ (w : Version). IsRow w (length s.before + 1) s.row (Err new.fault)) r.0 s.stops);
+        },
+      )
+
+  pub table_too_long : HasHeader BeginsReading Reads text old new TooMany → IsTable text (Err fault.TooManyRows)
+  table_too_long h =
+      let v = h.at.rows.version in
+      let m = h.taken in
+      let many = m.many in
+      inl (
+        v,
+        h.rows,
+        headed text h.first h.rows v h.split h.begun.0,
+        record {
+          before = m.before;
+          row = m.row;
+          after = m.after;
+          split = m.split;
+          found = new.found.items;
+          sound = (omega (arith, many), (records_taken v m.before h.at new refl (h.begun.1 ∙ none) m.taken).1);
+          fault = inl (many, refl);
+        },
+      )
+
+-- ---- faults
+
+with_fault_append : (a : Result Restriction RecordFault) (rest more : List RecordFault) → with_fault a rest ++ more
+    ≡ with_fault a (rest ++ more)
+with_fault_append (Ok r) rest more = refl
+with_fault_append (Err why) rest more = refl
+
+faults_listed : (v : Version) → IsListing with_fault (IsRow v) (AreRowFaults v)
+faults_listed v = record { joins = with_fault_append; none = λ k l. ((λ e. e), (λ e. e)); more = λ k r rs l. ((λ a. a), (λ a. a)) }
+
+faults_taken : (v : Version) (rows : List Fields) (old new : FaultList) → old.rows.version ≡ v → old.faults.items ≡ []
+    → AreAllTaken ListsFault 1 rows old new → (new.rows.version ≡ v) × AreRowFaults v 1 rows new.faults.items
+faults_taken v rows old new same none taken =
+    taken_from_none with_fault (IsRow v) (AreRowFaults v) (faults_listed v) ListsFault (λ (s : FaultList). s.rows.version ≡ v) (λ (s : FaultList). s.faults.items)
+    (λ a b k row keeps t. (t.0 ∙ keeps, (t.1.0, subst (λ (w : Version). IsRow w k row t.1.0) keeps t.1.1, t.1.2)))
+    rows old new same none taken
+
+module _ (text : List Fields) (old new : FaultList) (none : old.faults.items ≡ []) where
+  pub faults_unread : AreTableTaken BeginsFaults ListsFault text old new NoHeader → AreTableFaults text (fault.Header ∷ [])
+  faults_unread (inl p) = inr ((λ v rows e. let nil = p.0 in cc), refl)
+  faults_unread (inr h) = inr (no_header text h.0 h.1 new.rows.version h.2 h.3.0, refl)
+
+  pub faults_read : HasHeader BeginsFaults ListsFault text old new All → AreTableFaults text new.faults.items
+  faults_read h =
+      let v = h.at.rows.version in
+      inl (
+        v,
+        h.rows,
+        headed text h.first h.rows v h.split h.begun.0,
+        inl (h.taken.0, (faults_taken v h.rows h.at new refl (h.begun.1 ∙ none) h.taken.1).1),
+      )
+
+  pub faults_too_many : HasHeader BeginsFaults ListsFault text old new TooMany
+      → AreTableFaults text (new.faults.items ++ (fault.TooManyRows ∷ []))
+  faults_too_many h =
+      let v = h.at.rows.version in
+      let m = h.taken in
+      inl (
+        v,
+        h.rows,
+        headed text h.first h.rows v h.split h.begun.0,
+        inr (record {
+          before = m.before;
+          row = m.row;
+          after = m.after;
+          split = m.split;
+          many = m.many;
+          listed = new.faults.items;
+          each = (faults_taken v m.before h.at new refl (h.begun.1 ∙ none) m.taken).1;
+          whole = refl;
+        }),
+      )
+
+-- ---- warnings
+
+with_warning_append : (w : Option Warning) (rest more : List Warning) → with_warning w rest ++ more
+    ≡ with_warning w (rest ++ more)
+with_warning_append None rest more = refl
+with_warning_append (Some w) rest more = refl
+
+warnings_listed : (v : Version) → IsListing with_warning (IsRowWarning v) (AreRowWarnings v)
+warnings_listed v =
+    record { joins = with_warning_append; none = λ k l. ((λ e. e), (λ e. e)); more = λ k r rs l. ((λ a. a), (λ a. a)) }
+
+warnings_taken : (v : Version) (rows : List Fields) (old new : WarningList) → old.rows.version ≡ v → old.warnings.items ≡ []
+    → AreAllTaken ListsWarning 1 rows old new → AreRowWarnings v 1 rows new.warnings.items
+warnings_taken v rows old new same none taken =
+    (taken_from_none with_warning (IsRowWarning v) (AreRowWarnings v) (warnings_listed v) ListsWarning (λ (s : WarningList). s.rows.version ≡ v) (λ (s : WarningList). s.warnings.items)
+    (λ a b k row keeps t. (t.0 ∙ keeps, (t.1.0, subst (λ (w : Version). IsRowWarning w k row t.1.0) keeps t.1.1, t.1.2)))
+    rows old new same none taken).1
+
+pub warnings_read : (text : List Fields) (old new : WarningList) → old.warnings.items ≡ [] → (end : RowsEnd)
+    → AreTableTaken BeginsWarnings ListsWarning text old new end → AreTableWarnings text new.warnings.items
+warnings_read text old new none NoHeader (inl p) =
+    inr ((λ v rows e. let nil = p.0 in cc), ap (λ (s : WarningList). s.warnings.items) p.1 ∙ none)
+warnings_read text old new none NoHeader (inr h) = inr (no_header text h.0 h.1 new.rows.version h.2 h.3.0, h.3.1 ∙ none)
+warnings_read text old new none Stopped h = absurd (h.taken.stops)
+warnings_read text old new none All h =
+    let v = h.at.rows.version in
+    inl (
+      v,
+      h.rows,
+      headed text h.first h.rows v h.split h.begun.0,
+      subst (λ (l : List Fields). AreRowWarnings v 1 l new.warnings.items) (sym (take_all most_rows h.rows h.taken.0))
+          (warnings_taken v h.rows h.at new refl (h.begun.1 ∙ none) h.taken.1),
+    )
+warnings_read text old new none TooMany h =
+    let v = h.at.rows.version in
+    let m = h.taken in
+    let cut : take most_rows h.rows ≡ m.before =
+    ap (λ (l : List Fields). take most_rows l) m.split ∙ ap (λ (n : ℕ). take n (m.before ++ m.row ∷ m.after)) (sym m.many)
+    ∙ take-append_seam m.before (m.row ∷ m.after) in
+    inl (
+      v,
+      h.rows,
+      headed text h.first h.rows v h.split h.begun.0,
+      subst (λ (l : List Fields). AreRowWarnings v 1 l new.warnings.items) (sym cut)
+          (warnings_taken v m.before h.at new refl (h.begun.1 ∙ none) m.taken),
+    )

@@ -1,0 +1,45 @@
+use Rattle.std.proofs.Common.{◌≡◌, ◌∙◌, sym, ap, subst, arith, ℕ, List, length}
+use Rattle.std.specs.Prelude.{slice_index_or}
+use Rattle.gtd_records.specs.Index.{ArePlaces}
+use Rattle.gtd_records.specs.declared.index.RowPlace.{RowPlace}
+use Rattle.gtd_records.specs.facts.IndexFacts.{any_default, by_le, element_places}
+use Rattle.gtd_records.proofs.FoundPlaces.{places_kept}
+use Rattle.gtd_records.proofs.index.Records.places_of_element.Goals as goal
+
+pub loop-at-init : goal.loop-at-init
+loop-at-init c = λ k d ge lt. absurd (omega arith)
+
+pub loop-at-preserved : goal.loop-at-preserved
+loop-at-preserved c = λ k d ge lt.
+    let places = c.as_slice-places.result.now in
+    by_le {P = (slice_index_or places k d).element ≡ c.args.element} c.loop-at.at k
+    (λ le.
+    let e : k ≡ c.loop-at.at = omega arith in
+    ap (λ (n : ℕ). (slice_index_or places n d).element) e
+    ∙ ap (λ (p : RowPlace). p.element) (any_default places c.loop-at.at d _ (omega arith)) ∙ c.if-place-element.false)
+    (λ less. c.loop-at.invariant k d ge less)
+
+pub returns-then-place-element : goal.returns-then-place-element
+returns-then-place-element c =
+    let places = c.as_slice-places.result.now in
+    let placed = subst (λ (l : List RowPlace). ArePlaces c.self.inside.rows.items l) (sym c.as_slice-places.ensures.value)
+    c.self.invariant.placed in
+    record {
+      places = places_kept _ _ _ _ (sym c.self.view_is)
+          (element_places c.self.inside.rows.items places placed c.args.element c.places_below-from.result c.loop-at.at
+          (omega arith) (omega arith) c.places_below-from.ensures.below c.places_below-from.ensures.rest c.loop-at.invariant
+          (λ d lt is. c.if-place-element.true
+          (ap (λ (p : RowPlace). p.element) (any_default places c.loop-at.at _ d lt) ∙ is)));
+    }
+
+pub returns : goal.returns
+returns c =
+    let places = c.as_slice-places.result.now in
+    let placed = subst (λ (l : List RowPlace). ArePlaces c.self.inside.rows.items l) (sym c.as_slice-places.ensures.value)
+    c.self.invariant.placed in
+    record {
+      places = places_kept _ _ _ _ (sym c.self.view_is)
+          (element_places c.self.inside.rows.items places placed c.args.element c.places_below-from.result (length places)
+          c.places_below-from.ensures.within (omega arith) c.places_below-from.ensures.below c.places_below-from.ensures.rest
+          (λ k d ge lt. c.loop-at.invariant k d ge (omega arith)) (λ d lt is. absurd (omega arith)));
+    }
