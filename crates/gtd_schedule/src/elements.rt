@@ -10,39 +10,49 @@ ghost use Rattle.gtd_schedule.specs.Schedule.{AreLines};
 
 use crate::line::{FirstMoments, write_first_moments, write_head, write_span};
 use crate::put::put_whole;
-use gtd_core::Horizon;
+use crate::run::Schedule;
 use gtd_devices::Output;
-use gtd_records::{Direction, Records, open_seconds};
-use gtd_report::{Progress, Stop};
+use gtd_records::{Records, open_seconds};
+use gtd_report::{DirectedElement, DirectionLines, ElementLines, Printer, Stop, put_both};
 use gtd_spans::SpanSource;
-use std::alloc::Global;
+
+/// The lines of a schedule, and the moments over which the first of an element in a direction is written.
+#[derive(Drop)]
+pub(crate) struct ScheduleLines {
+    pub(crate) schedule: Schedule,
+    pub(crate) first: FirstMoments,
+}
 
 // Puts a line for each span that a source hands out.
 fn put_spans<O: Output, S: SpanSource>(
     output: &mut O,
-    progress: &mut Progress,
-    line: &mut Vec<u8>,
-    element: u64,
-    direction: Direction,
-    vehicle: u8,
-    first: &FirstMoments,
+    printer: &mut Printer,
+    at: DirectedElement,
+    lines: &ScheduleLines,
     spans: &mut S,
 ) -> Result<(), Stop>
     requires countable { O.failure_count output.old < u64.MAX }
     requires shown { AreShown (S.rest spans.old) }
-    requires written { progress.old.written + 80 * length (S.rest spans.old) < 2 ^ 64 }
-    requires lines { progress.old.lines + length (S.rest spans.old) < 2 ^ 64 }
-    ensures puts { Puts result (O.taken output.old) (O.taken output.new) progress.old progress.new
-        (map (span_line element direction vehicle) (S.rest spans.old)) }
+    requires written { printer.old.progress.written + 80 * length (S.rest spans.old) < 2 ^ 64 }
+    requires lines { printer.old.progress.lines + length (S.rest spans.old) < 2 ^ 64 }
+    ensures puts { Puts result (O.taken output.old) (O.taken output.new) printer.old.progress printer.new.progress
+        (map (span_line at.element at.direction lines.now.schedule.vehicle) (S.rest spans.old)) }
+    ensures near { OnOk result ((printer.new.progress.written ≤ printer.old.progress.written + 80 * length (S.rest spans.old))
+        × (printer.new.progress.lines ≤ printer.old.progress.lines + length (S.rest spans.old))) }
     ensures failures { O.failure_count output.new
         ≡ failures_after_stop result (O.failure_count output.old) }
 {
-    write_head(line, element, direction, vehicle)?;
-    let head = line.len();
-    let mut shown = write_first_moments(line, first)?;
+    write_head(
+        &mut printer.line,
+        at.element,
+        at.direction,
+        lines.schedule.vehicle,
+    )?;
+    let head = printer.line.len();
+    let mut shown = write_first_moments(&mut printer.line, &lines.first)?;
     while let Some(span) = spans.next() {
-        write_span(line, head, &mut shown, span);
-        put_whole(output, progress, line.as_slice())?;
+        write_span(&mut printer.line, head, &mut shown, span);
+        put_whole(output, &mut printer.progress, printer.line.as_slice())?;
     }
     Ok(())
 }
@@ -50,57 +60,54 @@ fn put_spans<O: Output, S: SpanSource>(
 // Puts the lines of an element in a direction. A source hands out the spans in which it is open.
 fn put_direction_spans<O: Output, S: SpanSource>(
     output: &mut O,
-    progress: &mut Progress,
-    line: &mut Vec<u8>,
+    printer: &mut Printer,
     _found: &Records,
-    element: u64,
-    direction: Direction,
-    vehicle: u8,
-    _horizon: Horizon,
-    first: &FirstMoments,
+    at: DirectedElement,
+    lines: &ScheduleLines,
     spans: &mut S,
 ) -> Result<(), Stop>
     requires countable { O.failure_count output.old < u64.MAX }
-    requires written { progress.old.written + most_direction_bytes < 2 ^ 64 }
-    requires lines { progress.old.lines + most_direction_lines < 2 ^ 64 }
-    requires seconds { IsNormalOver (IsOpen _found.now element direction vehicle) _horizon (S.rest spans.old) }
-    ensures puts { PutsText (AreLines _found.now vehicle _horizon element direction) result
-        (O.taken output.old) (O.taken output.new) progress.old progress.new }
-    ensures near { OnOk result ((progress.new.written ≤ progress.old.written + most_direction_bytes)
-        × (progress.new.lines ≤ progress.old.lines + most_direction_lines)) }
+    requires written { printer.old.progress.written + most_direction_bytes < 2 ^ 64 }
+    requires lines { printer.old.progress.lines + most_direction_lines < 2 ^ 64 }
+    requires seconds { IsNormalOver (IsOpen _found.now at.element at.direction lines.now.schedule.vehicle)
+        lines.now.schedule.horizon (S.rest spans.old) }
+    ensures puts { PutsText (AreLines _found.now lines.now.schedule.vehicle lines.now.schedule.horizon at.element at.direction)
+        result (O.taken output.old) (O.taken output.new) printer.old.progress printer.new.progress }
+    ensures near { OnOk result ((printer.new.progress.written ≤ printer.old.progress.written + most_direction_bytes)
+        × (printer.new.progress.lines ≤ printer.old.progress.lines + most_direction_lines)) }
     ensures failures { O.failure_count output.new
         ≡ failures_after_stop result (O.failure_count output.old) }
 {
-    put_spans(
-        output, progress, line, element, direction, vehicle, first, spans,
-    )
+    put_spans(output, printer, at, lines, spans)
 }
 
-/// Puts the lines of an element in a direction: at most one for each second of the longest horizon.
-pub(crate) fn put_open_spans<O: Output>(
-    alloc: Global,
-    output: &mut O,
-    progress: &mut Progress,
-    line: &mut Vec<u8>,
-    found: &Records,
-    element: u64,
-    direction: Direction,
-    vehicle: u8,
-    horizon: Horizon,
-    first: &FirstMoments,
-) -> Result<(), Stop>
-    requires countable { O.failure_count output.old < u64.MAX }
-    requires written { progress.old.written + most_direction_bytes < 2 ^ 64 }
-    requires lines { progress.old.lines + most_direction_lines < 2 ^ 64 }
-    ensures puts { PutsText (AreLines found.now vehicle horizon element direction) result
-        (O.taken output.old) (O.taken output.new) progress.old progress.new }
-    ensures near { OnOk result ((progress.new.written ≤ progress.old.written + most_direction_bytes)
-        × (progress.new.lines ≤ progress.old.lines + most_direction_lines)) }
-    ensures failures { O.failure_count output.new
-        ≡ failures_after_stop result (O.failure_count output.old) }
-{
-    let mut spans = open_seconds(alloc, found, element, direction, vehicle, horizon)?;
-    put_direction_spans(
-        output, progress, line, found, element, direction, vehicle, horizon, first, &mut spans,
-    )
+impl DirectionLines for ScheduleLines {
+    ghost are_lines = { λ lines found. AreLines found lines.schedule.vehicle lines.schedule.horizon };
+
+    fn put_direction<O: Output>(
+        &self,
+        output: &mut O,
+        printer: &mut Printer,
+        found: &Records,
+        at: DirectedElement,
+    ) -> Result<(), Stop> {
+        let (element, direction) = (at.element, at.direction);
+        let (vehicle, horizon) = (self.schedule.vehicle, self.schedule.horizon);
+        let mut spans = open_seconds(printer.alloc, found, element, direction, vehicle, horizon)?;
+        put_direction_spans(output, printer, found, at, self, &mut spans)
+    }
+}
+
+impl ElementLines for ScheduleLines {
+    ghost are_lines = { λ lines found. AreLines found lines.schedule.vehicle lines.schedule.horizon };
+
+    fn put_element<O: Output>(
+        &self,
+        output: &mut O,
+        printer: &mut Printer,
+        found: &Records,
+        element: u64,
+    ) -> Result<(), Stop> {
+        put_both(output, printer, found, element, self)
+    }
 }

@@ -3,18 +3,15 @@
 ghost use Rattle.std.specs.Prelude.{◌≡◌, ◌<◌, ◌↔◌, ⊤, None, Some, IsErrOf, IsTrue, List, OnOk};
 ghost use Rattle.gtd_records.specs.Closing.{Restriction};
 ghost use Rattle.gtd_report.specs.Run.{HasRun, failures_after_read, failures_after_write, IsVehicleType};
-ghost use Rattle.gtd_schedule.specs.Schedule.{AreLines, IsSchedule};
+ghost use Rattle.gtd_schedule.specs.Schedule.{IsSchedule};
 ghost use Rattle.gtd_schedule.specs.Theorem.{Headline};
 
-use crate::elements::put_open_spans;
+use crate::elements::ScheduleLines;
 use crate::line::FirstMoments;
 use gtd_core::Horizon;
 use gtd_devices::{Input, Output};
-use gtd_records::{Direction, RecordFault, Records};
-use gtd_report::{
-    DirectionLines, ElementLines, Progress, Report, RunFault, Stop, Subject, put_both,
-    put_by_element, run_report,
-};
+use gtd_records::{RecordFault, Records};
+use gtd_report::{Printer, Report, RunFault, Stop, Subject, put_by_element, run_report};
 use std::alloc::Global;
 
 /// The schedule over the days of a horizon, for a vehicle type.
@@ -24,58 +21,6 @@ pub struct Schedule {
     pub horizon: Horizon,
     /// The vehicle type.
     pub vehicle: u8,
-}
-
-// The lines of a schedule, and the moments over which the first of an element in a direction is written.
-#[derive(Drop)]
-struct ScheduleLines {
-    horizon: Horizon,
-    vehicle: u8,
-    first: FirstMoments,
-}
-
-impl DirectionLines for ScheduleLines {
-    ghost are_lines = { λ text found. AreLines found text.vehicle text.horizon };
-
-    fn put_direction<O: Output>(
-        &self,
-        alloc: Global,
-        output: &mut O,
-        progress: &mut Progress,
-        line: &mut Vec<u8>,
-        found: &Records,
-        element: u64,
-        direction: Direction,
-    ) -> Result<(), Stop> {
-        put_open_spans(
-            alloc,
-            output,
-            progress,
-            line,
-            found,
-            element,
-            direction,
-            self.vehicle,
-            self.horizon,
-            &self.first,
-        )
-    }
-}
-
-impl ElementLines for ScheduleLines {
-    ghost are_lines = { λ text found. AreLines found text.vehicle text.horizon };
-
-    fn put_element<O: Output>(
-        &self,
-        alloc: Global,
-        output: &mut O,
-        progress: &mut Progress,
-        line: &mut Vec<u8>,
-        found: &Records,
-        element: u64,
-    ) -> Result<(), Stop> {
-        put_both(alloc, output, progress, line, found, element, self)
-    }
 }
 
 impl Report for Schedule {
@@ -93,19 +38,17 @@ impl Report for Schedule {
 
     fn put<O: Output>(
         &self,
-        alloc: Global,
         output: &mut O,
-        progress: &mut Progress,
+        printer: &mut Printer,
         found: &Records,
     ) -> Result<(), Stop> {
         let header = b"element,direction,vehicle,from,until\n";
         let first = FirstMoments::of(self.horizon.from());
         let lines = ScheduleLines {
-            horizon: self.horizon,
-            vehicle: self.vehicle,
+            schedule: *self,
             first,
         };
-        put_by_element(alloc, output, progress, found, header, &lines)
+        put_by_element(output, printer, found, header, &lines)
     }
 }
 

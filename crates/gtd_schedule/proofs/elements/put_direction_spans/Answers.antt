@@ -1,50 +1,48 @@
-use Rattle.std.proofs.Common.{ap, arith, ◌<◌, ◌≤◌, ◌+◌, ◌^◌, ℕ, List, length, map, Option}
+use Rattle.std.proofs.Common.{arith, ◌≤◌, ◌+◌, ◌*◌, ℕ, length, map}
 use Rattle.std.specs.Prelude.{Ok, Err, OnOk, Result}
-use Rattle.std.proofs.lemmas.List.{length-map}
-use Rattle.gtd_core.specs.Seconds.{Interval}
 use Rattle.gtd_records.specs.Closing.{IsOpen}
-use Rattle.gtd_records.specs.declared.direction.Direction.{Direction}
-use Rattle.gtd_report.specs.Putting.{Puts}
 use Rattle.gtd_report.specs.declared.output.Progress.{Progress}
 use Rattle.gtd_report.specs.declared.output.Stop.{Stop}
 use Rattle.gtd_report.specs.Putting.{most_direction_bytes, most_direction_lines}
 use Rattle.gtd_schedule.specs.Lines.{span_line}
 use Rattle.gtd_schedule.specs.Schedule.{AreLines}
 use Rattle.gtd_schedule.proofs.SpanLines.{lines_are}
-use Rattle.gtd_schedule.specs.facts.LineFacts.{length-lines}
 use Rattle.gtd_schedule.specs.facts.SpansShown.{normal_few, normal_shown}
 use Rattle.gtd_schedule.proofs.ScheduleFacts.{one_lines}
 use Rattle.gtd_report.specs.facts.TextFacts.{texts_of}
 use Rattle.gtd_schedule.proofs.elements.put_direction_spans.Goals as goal
 
 -- what was put of so few spans
-near : (e : ℕ) (d : Direction) (v : ℕ) (r : Result (Unit {0}) Stop) (a b : Option (List ℕ)) (p q : Progress)
-    (spans : List Interval)
-    → e < 2 ^ 64 → v < 256 → length spans ≤ most_direction_lines → Puts r a b p q (map (span_line e d v) spans)
+near : (r : Result (Unit {0}) Stop) (p q : Progress) (count : ℕ) → count ≤ most_direction_lines
+    → OnOk r ((q.written ≤ p.written + 80 * count) × (q.lines ≤ p.lines + count))
     → OnOk r ((q.written ≤ p.written + most_direction_bytes) × (q.lines ≤ p.lines + most_direction_lines))
-near e d v (Ok x) a b p q spans small type few puts =
-    let w = ap (λ (t : Progress). t.written) puts.1 in
-    let l = ap (λ (t : Progress). t.lines) puts.1 in
-    let long = length-lines e d v spans small type in
-    let same = length-map spans (span_line e d v) in
+near (Ok x) p q count few put =
+    let written = put.0 in
+    let lines = put.1 in
     (omega arith, omega arith)
-near e d v (Err x) a b p q spans small type few puts = tt
+near (Err x) p q count few put = tt
 
 pub put_spans-requires-clause-shown : goal.put_spans-requires-clause-shown
 put_spans-requires-clause-shown g c =
-    normal_shown (IsOpen c.args._found.now c.args.element c.args.direction c.args.vehicle) c.args._horizon
+    let at = c.args.at in
+    let schedule = c.args.lines.now.schedule in
+    normal_shown (IsOpen c.args._found.now at.element at.direction schedule.vehicle) schedule.horizon
     (g.S.SpanSource.rest c.args.spans.now) c.requires.seconds
 
 pub put_spans-requires-clause-written : goal.put_spans-requires-clause-written
 put_spans-requires-clause-written g c =
-    let few = normal_few (IsOpen c.args._found.now c.args.element c.args.direction c.args.vehicle) c.args._horizon
+    let at = c.args.at in
+    let schedule = c.args.lines.now.schedule in
+    let few = normal_few (IsOpen c.args._found.now at.element at.direction schedule.vehicle) schedule.horizon
     (g.S.SpanSource.rest c.args.spans.now) c.requires.seconds in
     let room = c.requires.written in
     omega arith
 
 pub put_spans-requires-clause-lines : goal.put_spans-requires-clause-lines
 put_spans-requires-clause-lines g c =
-    let few = normal_few (IsOpen c.args._found.now c.args.element c.args.direction c.args.vehicle) c.args._horizon
+    let at = c.args.at in
+    let schedule = c.args.lines.now.schedule in
+    let few = normal_few (IsOpen c.args._found.now at.element at.direction schedule.vehicle) schedule.horizon
     (g.S.SpanSource.rest c.args.spans.now) c.requires.seconds in
     let room = c.requires.lines in
     omega arith
@@ -52,16 +50,18 @@ put_spans-requires-clause-lines g c =
 pub returns-clause-puts : goal.returns-clause-puts
 returns-clause-puts g c =
     let taken = g.O.Output.taken in
+    let at = c.args.at in
+    let schedule = c.args.lines.now.schedule in
     let spans = g.S.SpanSource.rest c.args.spans.now in
-    texts_of (AreLines c.args._found.now c.args.vehicle c.args._horizon c.args.element c.args.direction) c.put_spans.result
-    (taken c.args.output.now) (taken c.put_spans.new.output) c.args.progress.now c.put_spans.new.progress
-    (map (span_line c.args.element c.args.direction c.args.vehicle) spans)
-    (one_lines c.args._found.now c.args.vehicle c.args._horizon c.args.element c.args.direction)
+    texts_of (AreLines c.args._found.now schedule.vehicle schedule.horizon at.element at.direction) c.put_spans.result
+    (taken c.args.output.now) (taken c.put_spans.new.output) c.args.printer.now.progress c.put_spans.new.printer.progress
+    (map (span_line at.element at.direction schedule.vehicle) spans)
+    (one_lines c.args._found.now schedule.vehicle schedule.horizon at.element at.direction)
     (record {
       spans = spans;
       normal = c.requires.seconds;
-      each = lines_are c.args.element c.args.direction c.args.vehicle spans (
-          normal_shown (IsOpen c.args._found.now c.args.element c.args.direction c.args.vehicle) c.args._horizon
+      each = lines_are at.element at.direction schedule.vehicle spans (
+          normal_shown (IsOpen c.args._found.now at.element at.direction schedule.vehicle) schedule.horizon
           spans c.requires.seconds
           );
     })
@@ -69,11 +69,9 @@ returns-clause-puts g c =
 
 pub returns-clause-near : goal.returns-clause-near
 returns-clause-near g c =
-    let taken = g.O.Output.taken in
+    let at = c.args.at in
+    let schedule = c.args.lines.now.schedule in
     let spans = g.S.SpanSource.rest c.args.spans.now in
-    near c.args.element c.args.direction c.args.vehicle c.put_spans.result
-    (taken c.args.output.now) (taken c.put_spans.new.output) c.args.progress.now c.put_spans.new.progress spans (omega arith)
-    (omega arith)
-    (normal_few (IsOpen c.args._found.now c.args.element c.args.direction c.args.vehicle) c.args._horizon spans
-    c.requires.seconds)
-    c.put_spans.ensures.puts
+    near c.put_spans.result c.args.printer.now.progress c.put_spans.new.printer.progress (length spans)
+    (normal_few (IsOpen c.args._found.now at.element at.direction schedule.vehicle) schedule.horizon spans
+    c.requires.seconds) c.put_spans.ensures.near

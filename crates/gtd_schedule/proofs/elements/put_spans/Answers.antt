@@ -89,23 +89,23 @@ pub put_whole-requires-clause-written : goal.put_whole-requires-clause-written
 put_whole-requires-clause-written g c =
     let rest = g.S.SpanSource.rest in
     let i = c.loop-span.invariant in
-    let e = c.args.element in
-    let d = c.args.direction in
-    let v = c.args.vehicle in
+    let e = c.args.at.element in
+    let d = c.args.at.direction in
+    let v = c.args.lines.now.schedule.vehicle in
     let x = c.in-Some.span in
     let line = c.as_slice.result.now in
-    let is = whole_line e d v x (take c.len-head.result c.loop-span.line.items) c.write_span.new.line.items line i.head
+    let is = whole_line e d v x (take c.len-head.result c.loop-span.printer.line.items) c.write_span.new.line.items line i.head
     c.write_span.ensures.line c.as_slice.ensures.value in
     let short : length line ≤ 80 = rw is (length-put_line e d v x (omega arith) (omega arith)) in
-    (room_written c.loop-span.progress.written c.args.progress.now.written (length (rest c.args.spans.now)) (length line)
-    (length (rest c.next.new.self))
+    (room_written c.loop-span.printer.progress.written c.args.printer.now.progress.written (length (rest c.args.spans.now))
+    (length line) (length (rest c.next.new.self))
     (rw (c.in-Some.ensures.takes) at i.written) c.requires.written short).0
 
 pub put_whole-requires-clause-lines : goal.put_whole-requires-clause-lines
 put_whole-requires-clause-lines g c =
     let rest = g.S.SpanSource.rest in
     let i = c.loop-span.invariant in
-    (room_lines c.loop-span.progress.lines c.args.progress.now.lines (length (rest c.args.spans.now))
+    (room_lines c.loop-span.printer.progress.lines c.args.printer.now.progress.lines (length (rest c.args.spans.now))
     (length (rest c.next.new.self))
     (rw (c.in-Some.ensures.takes) at i.lines) c.requires.lines).0
 
@@ -115,12 +115,12 @@ some_bytes front = let count = length-append front (10 ∷ []) in omega arith
 
 pub put_whole-requires-clause-offered : goal.put_whole-requires-clause-offered
 put_whole-requires-clause-offered g c =
-    let e = c.args.element in
-    let d = c.args.direction in
-    let v = c.args.vehicle in
+    let e = c.args.at.element in
+    let d = c.args.at.direction in
+    let v = c.args.lines.now.schedule.vehicle in
     let x = c.in-Some.span in
     let line = c.as_slice.result.now in
-    let is = whole_line e d v x (take c.len-head.result c.loop-span.line.items) c.write_span.new.line.items line
+    let is = whole_line e d v x (take c.len-head.result c.loop-span.printer.line.items) c.write_span.new.line.items line
     c.loop-span.invariant.head c.write_span.ensures.line c.as_slice.ensures.value in
     rw is (some_bytes _)
 
@@ -128,12 +128,12 @@ pub loop-span-preserved : goal.loop-span-preserved
 loop-span-preserved g c =
     let rest = g.S.SpanSource.rest in
     let i = c.loop-span.invariant in
-    let e = c.args.element in
-    let d = c.args.direction in
-    let v = c.args.vehicle in
+    let e = c.args.at.element in
+    let d = c.args.at.direction in
+    let v = c.args.lines.now.schedule.vehicle in
     let f = span_line e d v in
     let x = c.in-Some.span in
-    let now = c.loop-span.line.items in
+    let now = c.loop-span.printer.line.items in
     let n = c.len-head.result in
     let line = c.as_slice.result.now in
     let more = rest c.next.new.self in
@@ -147,12 +147,14 @@ loop-span-preserved g c =
     let a = g.O.Output.taken c.args.output.now in
     let b = g.O.Output.taken c.loop-span.output in
     let t = g.O.Output.taken c.put_whole.new.output in
-    let one : Puts (Ok tt) b t c.loop-span.progress c.put_whole.new.progress (f x ∷ []) =
-    one_put (f x) b t c.loop-span.progress c.put_whole.new.progress (rw is at put.all) (rw is at put.progress) in
-    let written = (room_written c.loop-span.progress.written c.args.progress.now.written (length (rest c.args.spans.now))
-    (length line) (length more) (rw takes at i.written) c.requires.written short).1 in
-    let lines = (room_lines c.loop-span.progress.lines c.args.progress.now.lines (length (rest c.args.spans.now)) (length more)
-    (rw takes at i.lines) c.requires.lines).1 in
+    let before = c.args.printer.now.progress in
+    let so_far = c.loop-span.printer.progress in
+    let one : Puts (Ok tt) b t so_far c.put_whole.new.progress (f x ∷ []) =
+    one_put (f x) b t so_far c.put_whole.new.progress (rw is at put.all) (rw is at put.progress) in
+    let written = (room_written so_far.written before.written (length (rest c.args.spans.now)) (length line) (length more)
+    (rw takes at i.written) c.requires.written short).1 in
+    let lines = (room_lines so_far.lines before.lines (length (rest c.args.spans.now)) (length more) (rw takes at i.lines)
+    c.requires.lines).1 in
     let after = put.progress in
     record {
       shown = (shown_first x more (rest c.loop-span.spans) i.shown takes).2;
@@ -163,7 +165,7 @@ loop-span-preserved g c =
       written = rw after written;
       lines = rw after lines;
       failures = put.failures ∙ i.failures;
-      carries = carries_one a b t c.args.progress.now c.loop-span.progress c.put_whole.new.progress
+      carries = carries_one a b t before so_far c.put_whole.new.progress
           (map f (rest c.args.spans.now)) (map f (rest c.loop-span.spans)) (map f more) (f x) i.carries
           (next_lines f x more (rest c.loop-span.spans) takes) one;
     }
@@ -173,31 +175,38 @@ returns-in_err-put_whole-clause-puts g c =
     let p = err_from_is_err_and c.from_residual-in_err-put_whole.result c.from_residual-in_err-put_whole.ensures.1 in
     let rest = g.S.SpanSource.rest in
     let i = c.loop-span.invariant in
-    let e = c.args.element in
-    let d = c.args.direction in
-    let v = c.args.vehicle in
+    let e = c.args.at.element in
+    let d = c.args.at.direction in
+    let v = c.args.lines.now.schedule.vehicle in
     let f = span_line e d v in
     let x = c.in-Some.span in
     let line = c.as_slice.result.now in
     let more = rest c.next.new.self in
-    let is = whole_line e d v x (take c.len-head.result c.loop-span.line.items) c.write_span.new.line.items line i.head
+    let is = whole_line e d v x (take c.len-head.result c.loop-span.printer.line.items) c.write_span.new.line.items line i.head
     c.write_span.ensures.line c.as_slice.ensures.value in
     let put = c.in_err-put_whole.ensures in
     let a = g.O.Output.taken c.args.output.now in
     let b = g.O.Output.taken c.loop-span.output in
     let t = g.O.Output.taken c.put_whole.new.output in
-    let short : Puts (Err p.0) b t c.loop-span.progress c.put_whole.new.progress (f x ∷ []) =
-    one_short p.0 (f x) c.in_err-put_whole.field-0.0.taken b t c.loop-span.progress c.put_whole.new.progress (rw is at put.some.0)
+    let so_far = c.loop-span.printer.progress in
+    let short : Puts (Err p.0) b t so_far c.put_whole.new.progress (f x ∷ []) =
+    one_short p.0 (f x) c.in_err-put_whole.field-0.0.taken b t so_far c.put_whole.new.progress (rw is at put.some.0)
     (rw is at put.some.1) put.progress in
-    rw (p.1) (carries_short a b t c.args.progress.now c.loop-span.progress c.put_whole.new.progress
+    rw (p.1) (carries_short a b t c.args.printer.now.progress so_far c.put_whole.new.progress
     (map f (rest c.args.spans.now)) (map f (rest c.loop-span.spans)) (map f more) (f x) p.0 i.carries
     (next_lines f x more (rest c.loop-span.spans) c.in-Some.ensures.takes) short)
 
 pub returns-clause-puts : goal.returns-clause-puts
 returns-clause-puts g c =
     let rest = g.S.SpanSource.rest in
-    let f = span_line c.args.element c.args.direction c.args.vehicle in
-    carries_none (g.O.Output.taken c.args.output.now) (g.O.Output.taken c.loop-span.output) c.args.progress.now
-    c.loop-span.progress
+    let f = span_line c.args.at.element c.args.at.direction c.args.lines.now.schedule.vehicle in
+    carries_none (g.O.Output.taken c.args.output.now) (g.O.Output.taken c.loop-span.output) c.args.printer.now.progress
+    c.loop-span.printer.progress
     (map f (rest c.args.spans.now)) (map f (rest c.loop-span.spans)) c.loop-span.invariant.carries
     (ap (map f) c.in_default.ensures.takes.0)
+
+pub returns-clause-near : goal.returns-clause-near
+returns-clause-near g c =
+    let written = c.loop-span.invariant.written in
+    let lines = c.loop-span.invariant.lines in
+    (omega arith, omega arith)

@@ -9,18 +9,18 @@ use Rattle.gtd_schedule.proofs.elements.put_spans.Given as goal
 abbrev pub invariant-loop-span : goal.invariant-loop-span
 invariant-loop-span g l = record {
   shown : AreShown (g.S.SpanSource.rest l.spans);
-  room : l.head ≤ length l.line.items;
-  head : take l.head l.line.items ≡ line_head l.element l.fn.direction l.vehicle;
-  moments : AreMoments l.shown (drop l.head l.line.items);
-  written : l.progress.written + 80 * length (g.S.SpanSource.rest l.spans)
-      ≤ l.fn.progress.written + 80 * length (g.S.SpanSource.rest l.fn.spans);
-  lines : l.progress.lines + length (g.S.SpanSource.rest l.spans)
-      ≤ l.fn.progress.lines + length (g.S.SpanSource.rest l.fn.spans);
+  room : l.head ≤ length l.printer.line.items;
+  head : take l.head l.printer.line.items ≡ line_head l.fn.at.element l.fn.at.direction l.lines.schedule.vehicle;
+  moments : AreMoments l.shown (drop l.head l.printer.line.items);
+  written : l.printer.progress.written + 80 * length (g.S.SpanSource.rest l.spans)
+      ≤ l.fn.printer.progress.written + 80 * length (g.S.SpanSource.rest l.fn.spans);
+  lines : l.printer.progress.lines + length (g.S.SpanSource.rest l.spans)
+      ≤ l.fn.printer.progress.lines + length (g.S.SpanSource.rest l.fn.spans);
   failures : g.O.Output.failure_count l.output ≡ g.O.Output.failure_count l.fn.output;
-  carries : Carries (g.O.Output.taken l.fn.output) l.fn.progress
-      (map (span_line l.element l.fn.direction l.vehicle) (g.S.SpanSource.rest l.fn.spans))
-      (g.O.Output.taken l.output) l.progress
-      (map (span_line l.element l.fn.direction l.vehicle) (g.S.SpanSource.rest l.spans));
+  carries : Carries (g.O.Output.taken l.fn.output) l.fn.printer.progress
+      (map (span_line l.fn.at.element l.fn.at.direction l.lines.schedule.vehicle) (g.S.SpanSource.rest l.fn.spans))
+      (g.O.Output.taken l.output) l.printer.progress
+      (map (span_line l.fn.at.element l.fn.at.direction l.lines.schedule.vehicle) (g.S.SpanSource.rest l.spans));
 }
 
 abbrev pub decreases-loop-span : goal.decreases-loop-span
