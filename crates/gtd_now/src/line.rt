@@ -8,9 +8,11 @@ ghost use Rattle.gtd_now.specs.Lines.{state_head, most_state_bytes, none_closes,
 ghost use Rattle.gtd_now.specs.Now.{IsLine, change_text, rows_text, state_line, state_word};
 
 use crate::change::change_after;
+use crate::run::Asked;
 use gtd_calendar::write_stamp;
 use gtd_core::Sec;
 use gtd_records::{Direction, Records};
+use gtd_report::DirectedElement;
 use itoa::Buffer;
 use std::alloc::{AllocError, Global};
 
@@ -76,40 +78,39 @@ fn push_rows(line: &mut Vec<u8>, rows: &[usize]) -> Result<(), AllocError>
 // Writes a line, in place of what the buffer held.
 fn write_state(
     line: &mut Vec<u8>,
-    element: u64,
-    direction: Direction,
+    at: DirectedElement,
     vehicle: u8,
     change: Option<Sec>,
     rows: &[usize],
 ) -> Result<(), AllocError>
     requires day { MatchOption change ⊤ (λ c. IsCalendarDay (day_of_second c.0)) }
     ensures line { OnOk result (line.new.items
-        ≡ state_line element direction vehicle (none_closes rows.now) (second_of change) rows.now) }
+        ≡ state_line at.element at.direction vehicle (none_closes rows.now) (second_of change) rows.now) }
     ensures short { OnOk result (length line.new.items ≤ 100 + 21 * length rows.now) }
 {
-    write_head(line, element, direction, vehicle)?;
+    write_head(line, at.element, at.direction, vehicle)?;
     push_state(line, rows)?;
     push_change(line, change)?;
     push_rows(line, rows)?;
     line.extend_from_slice(b"\n")
 }
 
-// Writes the line of an element in a direction at a second, in place of what the buffer held.
+// Writes the line of an element in a direction at the second that is asked about, in place of what the buffer held.
 pub(crate) fn write_line(
     alloc: Global,
     line: &mut Vec<u8>,
     found: &Records,
-    element: u64,
-    direction: Direction,
-    vehicle: u8,
-    second: Sec,
+    at: DirectedElement,
+    asked: &Asked<'_>,
 ) -> Result<(), AllocError>
-    requires in_range { IsHorizonSecond second.0 }
+    requires in_range { IsHorizonSecond asked.now.second.0 }
     requires few { length found.now ≤ most_rows }
-    ensures line { OnOk result (IsLine found.now vehicle second.0 element direction line.new.items) }
+    ensures line { OnOk result (IsLine found.now asked.now.vehicle asked.now.second.0 at.element at.direction line.new.items) }
     ensures short { OnOk result (length line.new.items ≤ most_state_bytes) }
 {
+    let (element, direction) = (at.element, at.direction);
+    let (vehicle, second) = (asked.vehicle, asked.second);
     let rows = found.closing_rows(alloc, element, direction, vehicle, second)?;
     let change = change_after(alloc, found, element, direction, vehicle, second)?;
-    write_state(line, element, direction, vehicle, change, rows.as_slice())
+    write_state(line, at, vehicle, change, rows.as_slice())
 }

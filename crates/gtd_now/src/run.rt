@@ -10,10 +10,10 @@ ghost use Rattle.gtd_now.specs.Now.{AreLines, IsNow};
 use crate::now::put_state;
 use gtd_core::Sec;
 use gtd_devices::{Input, Output};
-use gtd_records::{Direction, RecordFault, Records};
+use gtd_records::{RecordFault, Records};
 use gtd_report::{
-    DirectionLines, ElementLines, Progress, Report, RunFault, Stop, Subject, put_both,
-    put_by_element, run_report,
+    DirectedElement, DirectionLines, ElementLines, Printer, Report, RunFault, Stop, Subject,
+    put_both, put_by_element, run_report,
 };
 use std::alloc::Global;
 
@@ -43,24 +43,12 @@ impl DirectionLines for State<'_> {
 
     fn put_direction<O: Output>(
         &self,
-        alloc: Global,
         output: &mut O,
-        progress: &mut Progress,
-        line: &mut Vec<u8>,
+        printer: &mut Printer,
         found: &Records,
-        element: u64,
-        direction: Direction,
+        at: DirectedElement,
     ) -> Result<(), Stop> {
-        put_state(
-            alloc,
-            output,
-            progress,
-            line,
-            found,
-            element,
-            direction,
-            &self.asked,
-        )
+        put_state(output, printer, found, at, &self.asked)
     }
 }
 
@@ -70,14 +58,12 @@ impl ElementLines for State<'_> {
 
     fn put_element<O: Output>(
         &self,
-        alloc: Global,
         output: &mut O,
-        progress: &mut Progress,
-        line: &mut Vec<u8>,
+        printer: &mut Printer,
         found: &Records,
         element: u64,
     ) -> Result<(), Stop> {
-        put_both(alloc, output, progress, line, found, element, self)
+        put_both(output, printer, found, element, self)
     }
 }
 
@@ -97,13 +83,12 @@ impl Report for State<'_> {
 
     fn put<O: Output>(
         &self,
-        alloc: Global,
         output: &mut O,
-        progress: &mut Progress,
+        printer: &mut Printer,
         found: &Records,
     ) -> Result<(), Stop> {
         let header = b"element,direction,vehicle,state,until,rows\n";
-        put_by_element(alloc, output, progress, found, header, self)
+        put_by_element(output, printer, found, header, self)
     }
 }
 

@@ -10,13 +10,13 @@ use Rattle.gtd_now.proofs.now.put_state.Goals as goal
 pub returns-in_err-write_line-clause-puts : goal.returns-in_err-write_line-clause-puts
 returns-in_err-write_line-clause-puts g c =
     let p = err_from_is_err_and c.from_residual.result c.from_residual.ensures.1 in
-    rw (p.1) (λ lines are. puts_nothing p.0 (g.O.Output.taken c.args.output.now) c.args.progress.now lines)
+    rw (p.1) (λ lines are. puts_nothing p.0 (g.O.Output.taken c.args.output.now) c.args.printer.now.progress lines)
 
 pub returns-then-not-is_shown-clause-puts : goal.returns-then-not-is_shown-clause-puts
 returns-then-not-is_shown-clause-puts g c = (
   [],
   AreLines.hidden (λ shows. true≢false (sym (c.is_shown.ensures.1 shows) ∙ c.if-not-is_shown.true)) refl,
-  puts_none (g.O.Output.taken c.args.output.now) c.args.progress.now,
+  puts_none (g.O.Output.taken c.args.output.now) c.args.printer.now.progress,
 )
 
 pub put_line-requires-clause-written : goal.put_line-requires-clause-written
@@ -34,13 +34,14 @@ returns-in_err-put_line-clause-puts g c =
     let line = c.as_slice.result.now in
     let e = c.in_err-put_line.ensures in
     rw (p.1) (texts_of (AreLines c.args.found.now c.args.asked.now.vehicle c.args.asked.now.second.0 c.args.asked.now.closed
-    c.args.asked.now.elements.now c.args.element c.args.direction)
-    (Err p.0) a b c.args.progress.now c.put_line.new.progress
+    c.args.asked.now.elements.now c.args.at.element c.args.at.direction)
+    (Err p.0) a b c.args.printer.now.progress c.put_line.new.progress
     (line ∷ []) (one_lines c.args.found.now c.args.asked.now.vehicle c.args.asked.now.second.0 c.args.asked.now.closed
-    c.args.asked.now.elements.now c.args.element c.args.direction)
+    c.args.asked.now.elements.now c.args.at.element c.args.at.direction)
     (AreLines.shown (c.is_shown.ensures.0 c.if-not-is_shown.false) line
     (rw (c.as_slice.ensures.value) (c.in_ok-write_line.ensures.line)) refl)
-    (one_short p.0 line c.in_err-put_line.field-0.0.taken a b c.args.progress.now c.put_line.new.progress e.some.0 e.some.1
+    (one_short p.0 line c.in_err-put_line.field-0.0.taken a b c.args.printer.now.progress c.put_line.new.progress e.some.0
+    e.some.1
     e.progress))
 
 pub returns-clause-puts : goal.returns-clause-puts
@@ -52,7 +53,7 @@ returns-clause-puts g c =
       line ∷ [],
       AreLines.shown (c.is_shown.ensures.0 c.if-not-is_shown.false) line
           (rw (c.as_slice.ensures.value) (c.in_ok-write_line.ensures.line)) refl,
-      one_put line a b c.args.progress.now c.put_line.new.progress e.all e.progress,
+      one_put line a b c.args.printer.now.progress c.put_line.new.progress e.all e.progress,
     )
 
 pub returns-clause-near : goal.returns-clause-near
