@@ -11,11 +11,11 @@ ghost use Rattle.gtd_c.specs.Changes.{HasRange, IsHorizonAfter, IsWayHorizon, St
 ghost use Rattle.gtd_handles.specs.Handles.{OfDomain, OfRecords};
 ghost use Rattle.gtd_handles.specs.Holding.{thing_of};
 
-use crate::horizons::{direction_of, is_vehicle};
-use crate::records::Way;
+use crate::horizons::is_vehicle;
+use crate::records::{Way, way_of};
 use gtd_core::{Domain, Horizon, Sec};
 use gtd_handles::{Handle, KIND, MEMORY, NO, RANGE, Thing, YES};
-use gtd_records::{Records, next_change};
+use gtd_records::{DirectedElement, Records, next_change};
 use std::alloc::Global;
 
 // The horizon from the day of the second up to the other day.
@@ -27,6 +27,15 @@ fn horizon_after(second: i64, until_day: i64) -> Option<Horizon>
         Ok(horizon) => Some(horizon),
         Err(_) => None,
     }
+}
+
+// Writes a change that was found.
+fn write_change(change: &mut i64, found: Sec) -> u32
+    ensures answer { result ≡ gtd_yes }
+    ensures written { change.new ≡ found.0 }
+{
+    *change = found.0;
+    YES
 }
 
 // The next change of the domain in the horizon.
@@ -45,10 +54,7 @@ fn domain_change(
     ensures untouched { ((result ≡ gtd_yes) → ⊥) → change.new ≡ change.old }
 {
     match gtd_eval::next_change(alloc, domain, second, horizon) {
-        Ok(Some(found)) => {
-            *change = found.0;
-            YES
-        }
+        Ok(Some(found)) => write_change(change, found),
         Ok(None) => NO,
         Err(_) => MEMORY,
     }
@@ -128,19 +134,12 @@ fn way_change(
     ensures answers { (result ≤ gtd_memory) × ((result ≡ gtd_range) → ⊥) × ((result ≡ gtd_kind) → ⊥) }
     ensures untouched { ((result ≡ gtd_yes) → ⊥) → change.new ≡ change.old }
 {
-    match next_change(
-        alloc,
-        records,
-        way.element,
-        way.direction,
-        way.vehicle,
-        second,
-        horizon,
-    ) {
-        Ok(Some(found)) => {
-            *change = found.0;
-            YES
-        }
+    let at = DirectedElement {
+        element: way.element,
+        direction: way.direction,
+    };
+    match next_change(alloc, records, at, way.vehicle, second, horizon) {
+        Ok(Some(found)) => write_change(change, found),
         Ok(None) => NO,
         Err(_) => MEMORY,
     }
@@ -195,11 +194,7 @@ pub extern "C" fn gtd_records_next(
     let Some(thing) = records.take(alloc) else {
         return KIND;
     };
-    let way = Way {
-        element,
-        direction: direction_of(negative),
-        vehicle,
-    };
+    let way = way_of(element, negative, vehicle);
     let answer = match &*thing {
         Thing::Records(shared) => way_next(alloc, shared.records(), way, second, until_day, change),
         _ => KIND,

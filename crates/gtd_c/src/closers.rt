@@ -11,8 +11,8 @@ ghost use Rattle.gtd_c.specs.Rows.{AreClosersWritten, AreRowNumbers};
 ghost use Rattle.gtd_handles.specs.Writing.{IsWritten};
 ghost use Rattle.gtd_handles.specs.Holding.{thing_of};
 
-use crate::horizons::{direction_of, is_second, is_vehicle};
-use crate::records::Way;
+use crate::horizons::{is_second, is_vehicle};
+use crate::records::{Way, way_of};
 use gtd_core::Sec;
 use gtd_handles::{Handle, KIND, MEMORY, RANGE, SHORT, Thing, YES};
 use gtd_records::Records;
@@ -98,11 +98,7 @@ pub extern "C" fn gtd_records_closers(
     let Some(thing) = records.take(alloc) else {
         return KIND;
     };
-    let way = Way {
-        element,
-        direction: direction_of(negative),
-        vehicle,
-    };
+    let way = way_of(element, negative, vehicle);
     let found = match &*thing {
         Thing::Records(shared) => closers_of(alloc, shared.records(), way, second),
         _ => Err(KIND),

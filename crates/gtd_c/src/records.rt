@@ -148,11 +148,8 @@ pub(crate) fn closed_at(
     if !is_vehicle(vehicle) || !is_second(second) {
         return RANGE;
     }
-    if records.closed_at(element, direction_of(negative), vehicle, Sec(second)) {
-        YES
-    } else {
-        NO
-    }
+    let closed = records.closed_at(element, direction_of(negative), vehicle, Sec(second));
+    if closed { YES } else { NO }
 }
 
 /// Whether some record closes the element in the direction for the vehicle type at the second. An element that no record names
@@ -187,6 +184,19 @@ pub(crate) struct Way {
     pub(crate) element: u64,
     pub(crate) direction: Direction,
     pub(crate) vehicle: u8,
+}
+
+/// The way of an element in the direction that a truth value names.
+pub(crate) fn way_of(element: u64, negative: bool, vehicle: u8) -> Way
+    ensures element { result.element ≡ element }
+    ensures direction { result.direction ≡ direction_of negative }
+    ensures vehicle { result.vehicle ≡ vehicle }
+{
+    Way {
+        element,
+        direction: direction_of(negative),
+        vehicle,
+    }
 }
 
 // The spans in which the way is open over the days, or why there are none.
@@ -248,11 +258,7 @@ pub extern "C" fn gtd_records_spans(
     let Some(thing) = records.take(alloc) else {
         return KIND;
     };
-    let way = Way {
-        element,
-        direction: direction_of(negative),
-        vehicle,
-    };
+    let way = way_of(element, negative, vehicle);
     let opened = match &*thing {
         Thing::Records(shared) => spans_of(alloc, shared.records(), way, from_day, until_day),
         _ => Err(KIND),

@@ -10,7 +10,7 @@ ghost use Rattle.gtd_core.specs.Limits.{day_seconds};
 
 use gtd_core::limits::{HORIZONS_END, MOST_HORIZON_DAYS};
 use gtd_core::{Horizon, Sec};
-use gtd_records::{Direction, Records, next_change};
+use gtd_records::{DirectedElement, Direction, Records, next_change};
 use std::alloc::{AllocError, Global};
 
 // The day before which a change is looked for, when the search begins on a day.
@@ -54,13 +54,6 @@ pub fn change_after(
         (NeverChanges (IsOpen found.now element direction vehicle) second.0 (last *ℤ pos day_seconds))
         (λ c. IsNextChange (IsOpen found.now element direction vehicle) second.0 (last *ℤ pos day_seconds) c.0)) }
 {
-    next_change(
-        alloc,
-        found,
-        element,
-        direction,
-        vehicle,
-        second,
-        days_from(second),
-    )
+    let at = DirectedElement { element, direction };
+    next_change(alloc, found, at, vehicle, second, days_from(second))
 }
