@@ -9,16 +9,7 @@ ghost use Rattle.gtd_report.specs.Putting.{most_direction_bytes, most_direction_
 
 use crate::output::{Printer, Stop, finish, put_line};
 use gtd_devices::Output;
-use gtd_records::{Direction, Records};
-
-/// An element in a direction.
-#[derive(Clone, Copy, Debug, PartialEq, Eq)]
-pub struct DirectedElement {
-    /// The element.
-    pub element: u64,
-    /// The direction.
-    pub direction: Direction,
-}
+use gtd_records::{DirectedElement, Direction, Records};
 
 /// The lines of an element in a direction.
 pub trait DirectionLines {

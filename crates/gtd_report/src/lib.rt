@@ -4,10 +4,9 @@
 //! Each line is offered whole, and then the rest of it until all is taken.
 #![tactic(auto)]
 
-pub use by_element::{
-    DirectedElement, DirectionLines, ElementLines, put_both, put_by_element, put_listed,
-};
+pub use by_element::{DirectionLines, ElementLines, put_both, put_by_element, put_listed};
 pub use fault::RunFault;
+pub use gtd_records::DirectedElement;
 pub use output::{Printer, Progress, ShortPut, Stop, finish, put_line};
 pub use report::{Report, run_report};
 pub use subject::Subject;
