@@ -173,8 +173,11 @@ HoldsOfBasic rule.ProductFirst whole start duration = ⊥
 HoldsOfBasic rule.DaysOfYear whole start duration = IsDaysOfYear start duration
 HoldsOfBasic rule.ThirtyFirst whole start duration = IsTrue whole × IsThirtyFirst start
 HoldsOfBasic rule.NoSuchDay whole start duration = IsNoSuchDay start
+HoldsOfBasic rule.NeverHolds whole start duration = ⊥
+HoldsOfBasic rule.AlwaysHolds whole start duration = ⊥
 HoldsOfBasic rule.Past whole start duration = ⊥
 HoldsOfBasic rule.EndsSoon whole start duration = ⊥
+HoldsOfBasic rule.LoneCode whole start duration = ⊥
 
 -- The rule holds of two parts and what joins them.
 abbrev pub HoldsOfJoin : Rule → Op → Tree → Tree → Type 0

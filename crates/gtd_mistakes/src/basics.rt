@@ -231,7 +231,10 @@ pub(crate) fn holds_of_basic(rule: Rule, whole: bool, basic: &Basic) -> bool
         Rule::DaysOfYear => is_days_of_year(&start, duration),
         Rule::ThirtyFirst => whole && is_thirty_first(&start),
         Rule::NoSuchDay => is_no_such_day(&start),
+        Rule::NeverHolds => false,
+        Rule::AlwaysHolds => false,
         Rule::Past => false,
         Rule::EndsSoon => false,
+        Rule::LoneCode => false,
     }
 }

@@ -40,14 +40,20 @@ pub enum Rule {
     ThirtyFirst,
     /// `no-such-day`: a day that the month never has.
     NoSuchDay,
-    /// `past`: no second from the day that is asked about on. It holds of rows, and of no part of a domain.
+    /// `never-holds`: no second at all. This rule and those after it hold of rows, and of no part of a domain.
+    NeverHolds,
+    /// `always-holds`: each second.
+    AlwaysHolds,
+    /// `past`: no second from the day that is asked about on.
     Past,
-    /// `ends-soon`: the last second within 30 days from that day on. It holds of rows, and of no part of a domain.
+    /// `ends-soon`: the last second within 30 days from that day on.
     EndsSoon,
+    /// `lone-code`: a vehicle code that no other row names.
+    LoneCode,
 }
 
 /// All rules, in the order in which they are told.
-pub const RULES: [Rule; 19] = [
+pub const RULES: [Rule; 22] = [
     Rule::FirstOfMonth,
     Rule::EachDayOfMonth,
     Rule::EachDayOfYear,
@@ -65,8 +71,11 @@ pub const RULES: [Rule; 19] = [
     Rule::DaysOfYear,
     Rule::ThirtyFirst,
     Rule::NoSuchDay,
+    Rule::NeverHolds,
+    Rule::AlwaysHolds,
     Rule::Past,
     Rule::EndsSoon,
+    Rule::LoneCode,
 ];
 
 impl Rule {
@@ -92,8 +101,11 @@ impl Rule {
             Rule::DaysOfYear => "days-of-year",
             Rule::ThirtyFirst => "thirty-first",
             Rule::NoSuchDay => "no-such-day",
+            Rule::NeverHolds => "never-holds",
+            Rule::AlwaysHolds => "always-holds",
             Rule::Past => "past",
             Rule::EndsSoon => "ends-soon",
+            Rule::LoneCode => "lone-code",
         }
     }
 }

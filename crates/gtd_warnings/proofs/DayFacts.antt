@@ -1,12 +1,17 @@
--- Which rule holds of an expression on a day.
-use Rattle.std.proofs.Common.{◌≡◌, subst, refl, inl, inr, ℕ, List, [], ◌∷◌, Option, Some, Contains}
+-- Which rules hold of an expression, of which at most one does.
+use Rattle.std.proofs.Common.{◌≡◌, sym, subst, ap, refl, inl, inr, arith, ℕ, List, [], ◌∷◌, Option, Some, None, Contains}
+use Rattle.std.specs.Prelude.{MatchOption, ℤ}
 use Rattle.gtd_mistakes.specs.Told.{told_at}
 use Rattle.gtd_core.specs.Trees.{Tree}
 use Rattle.gtd_core.specs.declared.horizon.Horizon.{Horizon}
+use Rattle.gtd_eval.specs.Extent.{IsLookedAt, IsTreeExtent}
+use Rattle.gtd_eval.specs.declared.extent.Extent.TheVariants.{Never, Sometimes, Always}
 use Rattle.gtd_mistakes.specs.declared.rule.Rule.{Rule}
 use Rattle.gtd_mistakes.specs.declared.rule.Rule.TheVariants as rule
+use Rattle.gtd_mistakes.specs.declared.told.Told.{Told}
 use Rattle.gtd_warnings.specs.Days.{HoldsNever, HoldsOn, IsLater}
-use Rattle.gtd_warnings.specs.RowsTold.{AreToldOn}
+use Rattle.gtd_warnings.specs.Extents.{HoldsThroughout}
+use Rattle.gtd_warnings.specs.RowsTold.{AreToldOnce, IsOnDay}
 
 module _ (tree : Tree) (days : Horizon) where
   -- the expression contains some second, and some that is late enough, or there are no such days
@@ -32,14 +37,44 @@ module _ (tree : Tree) (days : Horizon) where
   one_rule rule.EndsSoon b h k = with_soon h.0 b k
   one_rule other b h k = absurd h
 
-  -- the rule that holds is turned off
-  pub told_off : (row : ℕ) (off : List Rule) (given : Option Horizon) (found : Rule) → given ≡ Some days
-      → HoldsOn found days tree → Contains off found → AreToldOn row off given tree []
-  told_off row off given found is holds has =
-      rw is (inr ((λ rule told. told.1 (subst (λ (r : Rule). Contains off r) (one_rule found rule holds told.0) has)), refl))
+-- on the days that are given
+pub one_on_day : (tree : Tree) (days : Option Horizon) (a b : Rule) → IsOnDay days tree a → IsOnDay days tree b → a ≡ b
+one_on_day tree None a b h k = absurd h
+one_on_day tree (Some days) a b h k = one_rule tree days a b h k
 
-  -- and is not
-  pub told_once : (row : ℕ) (off : List Rule) (given : Option Horizon) (found : Rule) → given ≡ Some days
-      → HoldsOn found days tree → (Contains off found → ⊥)
-      → AreToldOn row off given tree (told_at row 0 tree found ∷ [])
-  told_once row off given found is holds has = rw is (inl (found, (holds, has), refl))
+-- an expression that contains some second, but not all, neither never nor always holds
+pub none_throughout : (tree : Tree) → IsTreeExtent tree Sometimes → (rule : Rule) → HoldsThroughout tree rule → ⊥
+none_throughout tree some rule.NeverHolds h = h some.0.0 some.0.1 some.0.2
+none_throughout tree some rule.AlwaysHolds h = some.1.2 (h some.1.0 some.1.1)
+none_throughout tree some other h = h
+
+module _ (tree : Tree) (t : ℤ) (looked : IsLookedAt tree t) where
+  never_alone : IsTreeExtent tree Never → (b : Rule) → HoldsThroughout tree b → rule.NeverHolds ≡ b
+  never_alone never rule.NeverHolds k = refl
+  never_alone never rule.AlwaysHolds k = absurd (never t looked (k t looked))
+  never_alone never other k = absurd k
+
+  always_alone : IsTreeExtent tree Always → (b : Rule) → HoldsThroughout tree b → rule.AlwaysHolds ≡ b
+  always_alone always rule.NeverHolds k = absurd (k t looked (always t looked))
+  always_alone always rule.AlwaysHolds k = refl
+  always_alone always other k = absurd k
+
+  pub one_throughout : (a b : Rule) → HoldsThroughout tree a → HoldsThroughout tree b → a ≡ b
+  one_throughout rule.NeverHolds b h k = never_alone h b k
+  one_throughout rule.AlwaysHolds b h k = always_alone h b k
+  one_throughout other b h k = absurd h
+
+module _ (row : ℕ) (off : List Rule) (tree : Tree) (Holds : Rule → Type 0)
+    (one : (a b : Rule) → Holds a → Holds b → a ≡ b) where
+  same_some : (a b : Rule) → ◌≡◌ {A = Option Rule} (Some a) (Some b) → a ≡ b
+  same_some a b e = cc
+
+  -- what is told of the rule that was found is what is told of those that hold
+  pub told_as_found : (found : Option Rule) → MatchOption found ((rule : Rule) → Holds rule → ⊥) Holds
+      → (told : List Told) → AreToldOnce row off (λ rule. found ≡ Some rule) tree told → AreToldOnce row off Holds tree told
+  told_as_found None none told (inl is) = absurd (let e = is.1 in cc)
+  told_as_found None none told (inr is) = inr ((λ rule holds. absurd (none rule holds)), is.1)
+  told_as_found (Some found) holds told (inl is) =
+      inl (is.0, subst Holds (same_some found is.0 is.1) holds, is.2, is.3)
+  told_as_found (Some found) holds told (inr is) =
+      inr ((λ rule also. subst (λ (r : Rule). Contains off r) (one found rule holds also) (is.0 found refl)), is.1)

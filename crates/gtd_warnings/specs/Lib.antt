@@ -1,2 +1,6 @@
+pub mod Codes
 pub mod Days
+pub mod Extents
+pub mod Naming
 pub mod RowsTold
+pub mod Vehicles

@@ -14,6 +14,7 @@ use Rattle.gtd_mistakes.specs.Told.{AreToldOfDomain, told_at}
 use Rattle.gtd_mistakes.specs.declared.rule.Rule.{Rule}
 use Rattle.gtd_mistakes.specs.declared.told.Told.{Told}
 use Rattle.gtd_warnings.specs.Days.{HoldsOn}
+use Rattle.gtd_warnings.specs.Extents.{HoldsThroughout}
 use Rattle.gtd_warnings.specs.declared.file.Asked.{Asked}
 
 -- The domain of a row: the expression that its last field stands for, if it has four fields and the last is a domain.
@@ -23,24 +24,27 @@ IsDomainOf (element ∷ closed ∷ vehicles ∷ text ∷ []) None = (fault : Tex
 IsDomainOf other (Some tree) = ⊥
 IsDomainOf other None = ⊤
 
--- the rule holds on the first of these days, if some are given, and is not turned off
-abbrev pub IsToldOn : List Rule → Option Horizon → Tree → Rule → Type 0
-IsToldOn off None tree rule = ⊥
-IsToldOn off (Some days) tree rule = HoldsOn rule days tree × (Contains off rule → ⊥)
+-- the rule holds on the first of these days, if some are given
+abbrev pub IsOnDay : Option Horizon → Tree → Rule → Type 0
+IsOnDay None tree rule = ⊥
+IsOnDay (Some days) tree rule = HoldsOn rule days tree
 
--- what is told of a row's domain on a day: the rule that holds, or nothing
-abbrev pub AreToldOn : ℕ → List Rule → Option Horizon → Tree → List Told → Type 0
-AreToldOn row off days tree told =
-    ((rule : Rule) × IsToldOn off days tree rule × (told ≡ told_at row 0 tree rule ∷ []))
-    ⊎ (((rule : Rule) → IsToldOn off days tree rule → ⊥) × (told ≡ []))
+-- what is told of a row's domain by rules of which at most one holds: that rule, if it is not turned off, or nothing
+abbrev pub AreToldOnce : ℕ → List Rule → (Rule → Type 0) → Tree → List Told → Type 0
+AreToldOnce row off Holds tree told =
+    ((rule : Rule) × Holds rule × (Contains off rule → ⊥) × (told ≡ told_at row 0 tree rule ∷ []))
+    ⊎ (((rule : Rule) → Holds rule → Contains off rule) × (told ≡ []))
 
--- what is told of a row with this domain, or without one: first of the domain, and then on the day
+-- What is told of a row with this domain, or without one: first of the domain's parts, then whether it never or always holds,
+-- and then whether it is over.
 abbrev pub AreToldOfRow : Asked → ℕ → Option Tree → List Told → Type 0
 AreToldOfRow asked row None told = told ≡ []
 AreToldOfRow asked row (Some tree) told =
-    (first : List Told) × (second : List Told)
-    × AreToldOfDomain row asked.off.items tree first × AreToldOn row asked.off.items asked.days tree second
-    × (told ≡ first ++ second)
+    (first : List Told) × (second : List Told) × (third : List Told)
+    × AreToldOfDomain row asked.off.items tree first
+    × AreToldOnce row asked.off.items (HoldsThroughout tree) tree second
+    × AreToldOnce row asked.off.items (IsOnDay asked.days tree) tree third
+    × (told ≡ (first ++ second) ++ third)
 
 abbrev pub IsToldOfRow : Asked → ℕ → Fields → List Told → Type 0
 IsToldOfRow asked row fields told =

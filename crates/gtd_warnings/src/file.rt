@@ -8,9 +8,11 @@ ghost use Rattle.gtd_records.specs.Columns.{Fields};
 ghost use Rattle.gtd_records.specs.File.{header};
 ghost use Rattle.gtd_records.specs.Table.{HasLeft};
 ghost use Rattle.gtd_records.specs.declared.vehicles.Version.{Version};
+ghost use Rattle.gtd_warnings.specs.Codes.{AreLoneOfFile, AreLoneOfTable};
 ghost use Rattle.gtd_warnings.specs.RowsTold.{AreToldOfFile, AreToldOfRows, AreToldOfTable};
 
-use crate::row::push_told_of_row;
+use crate::codes::{LoneCode, lone_of_rows};
+use crate::row::{is_off, push_told_of_row};
 use csv::{ByteRecord, Reader};
 use gtd_core::Horizon;
 use gtd_core::limits::{MOST_FILE_BYTES, MOST_ROWS};
@@ -98,4 +100,34 @@ pub fn told_of_file(alloc: Global, asked: &Asked, bytes: &[u8]) -> Result<Vec<To
         return Ok(Vec::new(alloc));
     }
     told_of_table(alloc, asked, bytes)
+}
+
+// The codes that one row alone of a file's bytes names.
+fn lone_of_table(alloc: Global, bytes: &[u8]) -> Result<Vec<LoneCode>, AllocError>
+    ensures { IfOk result (λ lone. AreLoneOfTable (records default_config (strip_bom bytes.now)) lone.items) }
+{
+    let mut reader = table(alloc, bytes);
+    let mut row = ByteRecord::new(alloc);
+    if !next_row(&mut reader, &mut row)? {
+        return Ok(Vec::new(alloc));
+    }
+    match version_of(&row) {
+        Some(version) => lone_of_rows(alloc, version, &mut reader, &mut row),
+        None => Ok(Vec::new(alloc)),
+    }
+}
+
+/// The vehicle codes that one row alone of a record file with these bytes names, in ascending order, if at least 20 of its rows
+/// name a code and `LoneCode` is not turned off. A row counts if it has four fields and the third stands for vehicle types,
+/// whatever the others hold. Rows after the 65,536th are not looked at. A file without a header, or with too many bytes, has none.
+pub fn lone_codes(alloc: Global, asked: &Asked, bytes: &[u8]) -> Result<Vec<LoneCode>, AllocError>
+    ensures lone { IfOk result (λ lone. AreLoneOfFile asked.now bytes.now lone.items) }
+{
+    if is_off(asked.off.as_slice(), Rule::LoneCode) {
+        return Ok(Vec::new(alloc));
+    }
+    if bytes.len() > MOST_FILE_BYTES {
+        return Ok(Vec::new(alloc));
+    }
+    lone_of_table(alloc, bytes)
 }

@@ -1,16 +1,18 @@
 //! What is told of a row.
 
-ghost use Rattle.std.specs.Prelude.{◌≡◌, ◌++◌, ◌↔◌, List, IfOk, IsTrue, OnOk, option_map};
+ghost use Rattle.std.specs.Prelude.{◌≡◌, ◌++◌, ◌↔◌, List, IfOk, IsTrue, MatchOption, OnOk, Some, option_map};
 ghost use Rattle.std.specs.List.{Contains};
 ghost use Rattle.csv.specs.Records.{fields_of};
 ghost use Rattle.gtd_core.specs.Parts.{domain_tree};
+ghost use Rattle.gtd_mistakes.specs.declared.rule.Rule.{Rule};
 ghost use Rattle.gtd_mistakes.specs.declared.told.Told.{Told};
-ghost use Rattle.gtd_warnings.specs.RowsTold.{AreToldOfRow, AreToldOn, IsDomainOf, IsToldOfRow};
+ghost use Rattle.gtd_warnings.specs.RowsTold.{AreToldOfRow, AreToldOnce, IsDomainOf, IsOnDay, IsToldOfRow};
 
 use crate::days::rule_on;
+use crate::extents::rule_throughout;
 use crate::file::Asked;
 use csv::ByteRecord;
-use gtd_core::{Domain, Fault};
+use gtd_core::{Domain, Fault, Horizon};
 use gtd_mistakes::{Rule, Told, first_part, push_told};
 use gtd_records::four_columns;
 use gtd_text::read_domain;
@@ -33,31 +35,43 @@ fn domain_of(alloc: Global, row: &ByteRecord) -> Result<Option<Domain>, AllocErr
 }
 
 // Whether a rule is turned off.
-fn is_off(off: &[Rule], rule: Rule) -> bool
+pub(crate) fn is_off(off: &[Rule], rule: Rule) -> bool
     ensures { IsTrue result ↔ Contains off.now rule }
 {
     off.contains(&rule)
 }
 
-// Appends what is told of the domain of the row with this number on the day that is asked about.
-fn push_told_on(
+// The rule that holds of a domain on the first of these days, if some are given and one does.
+fn rule_on_given(
     alloc: Global,
+    domain: &Domain,
+    days: Option<Horizon>,
+) -> Result<Option<Rule>, AllocError>
+    ensures { IfOk result (λ found. MatchOption found
+        ((rule : Rule) → IsOnDay days (domain_tree domain.now) rule → ⊥) (IsOnDay days (domain_tree domain.now))) }
+{
+    match days {
+        Some(days) => rule_on(alloc, domain, days),
+        None => Ok(None),
+    }
+}
+
+// Appends the rule that was found to hold of the domain of the row with this number, if one was and is not turned off.
+fn push_found(
     told: &mut Vec<Told>,
-    asked: &Asked,
+    off: &[Rule],
     row: u32,
     domain: &Domain,
+    found: Option<Rule>,
 ) -> Result<(), AllocError>
     ensures { OnOk result ((more : List Told)
-        × AreToldOn row asked.now.off.items asked.now.days (domain_tree domain.now) more
+        × AreToldOnce row off.now (λ rule. found ≡ Some rule) (domain_tree domain.now) more
         × (told.new.items ≡ told.old.items ++ more)) }
 {
-    let Some(days) = asked.days else {
+    let Some(rule) = found else {
         return Ok(());
     };
-    let Some(rule) = rule_on(alloc, domain, days)? else {
-        return Ok(());
-    };
-    if is_off(asked.off.as_slice(), rule) {
+    if is_off(off, rule) {
         return Ok(());
     }
     let part = first_part(0, domain.expr());
@@ -76,13 +90,15 @@ fn push_told_of(
     ensures { OnOk result ((more : List Told) × AreToldOfRow asked.now row (option_map domain_tree domain.now) more
         × (told.new.items ≡ told.old.items ++ more)) }
 {
-    match domain {
-        None => Ok(()),
-        Some(domain) => {
-            push_told(told, asked.off.as_slice(), row, domain)?;
-            push_told_on(alloc, told, asked, row, domain)
-        }
-    }
+    let Some(domain) = domain else {
+        return Ok(());
+    };
+    let off = asked.off.as_slice();
+    push_told(told, off, row, domain)?;
+    let throughout = rule_throughout(alloc, domain)?;
+    push_found(told, off, row, domain, throughout)?;
+    let on_day = rule_on_given(alloc, domain, asked.days)?;
+    push_found(told, off, row, domain, on_day)
 }
 
 /// Appends what is told of the row with this number.

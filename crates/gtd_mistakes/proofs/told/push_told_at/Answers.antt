@@ -41,7 +41,7 @@ loop-rule-preserved c =
 pub returns : goal.returns
 returns c =
     let far = c.loop-rule.invariant in
-    let many : length RULES ≡ 19 = refl in
+    let many : length RULES ≡ 22 = refl in
     let all : take c.loop-rule.rule-index RULES ≡ RULES = take_all c.loop-rule.rule-index RULES (omega arith) in (
       far.0,
       subst (λ (rules : List Rule). AreToldAt c.args.place.row c.args.off.now c.args.place.whole c.args.place.before
