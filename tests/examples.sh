@@ -100,10 +100,9 @@ asked() {
 }
 
 # The domains of the recipe, those that are easily mistaken, and those of restrictions in words.
-page=$top/docs/LANGUAGE.md
 {
-    sed -n '/^## From A until B/,/^## Easily/s/^|.* | `\([^`]*\)` |$/\1/p' "$page"
-    sed -n '/^## Easily mistaken/,/^## /s/^| [^|]* | `\([^`]*\)` |.*/\1/p' "$page"
+    sed -n '/^## From A until B/,/^## Easily/s/^|.* | `\([^`]*\)` |$/\1/p' "$top/docs/LANGUAGE.md"
+    sed -n '1,/^## /s/^| `[^|]*` | [^|]* | `\([^`]*\)` |.*/\1/p' "$top/docs/WARNINGS.md"
 } > "$room/domains"
 asked docs/LANGUAGE.md tests/rows/language.rows
 sed -n '/^## Restrictions/,/^## Words/s/^|.* | `\([^`]*\)` |$/\1/p' "$top/docs/GALLERY.md" > "$room/domains"

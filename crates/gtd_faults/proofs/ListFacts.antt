@@ -12,11 +12,11 @@ use Rattle.gtd_records.specs.File.{IsFile, header}
 use Rattle.gtd_records.specs.facts.OneAnswer.{one_version}
 use Rattle.gtd_records.specs.declared.fault.RecordFault.{RecordFault}
 use Rattle.gtd_records.specs.declared.vehicles.Version.{Version}
-use Rattle.gtd_records.specs.declared.warnings.Warning.{Warning}
-use Rattle.gtd_faults.specs.Below.{IsBelow}
+use Rattle.gtd_faults.specs.Below.{IsBelow, IsOfField, below_text}
 use Rattle.gtd_mistakes.specs.declared.told.Told.{Told}
-use Rattle.gtd_faults.specs.Doubts.{AreDoubtLines, IsOfPart, doubt_below, doubt_line}
-use Rattle.gtd_faults.specs.Listing.{AreLines, AreWarningLines, fault_line, fault_text, lines_below, row_of, warned_row, warning_line}
+use Rattle.gtd_warnings.specs.declared.codes.LoneCode.{LoneCode}
+use Rattle.gtd_faults.specs.Doubts.{AreDoubtLines, AreLoneLines, IsOfPart, doubt_below, doubt_line, lone_line}
+use Rattle.gtd_faults.specs.Listing.{AreLines, fault_line, fault_text, lines_below, row_of}
 use Rattle.gtd_faults.specs.Places.{IsLine, IsLineAt, field_of}
 use Rattle.gtd_faults.specs.Printable.{printable}
 use Rattle.gtd_faults.specs.declared.below.Below.{Below}
@@ -48,20 +48,6 @@ lines_more path bytes (x ∷ faults) why text line below on at is =
       rw (is.6) (append_assoc (fault_line path is.0 x ++ lines_below x is.2) is.4 more),
     )
 
--- the line of one warning more
-pub warning_lines_more : (path bytes : List ℕ) (warnings : List Warning) (said : Warning) (text : List ℕ) (line : ℕ)
-    → IsLine bytes (warned_row said) line → AreWarningLines path bytes warnings text
-    → AreWarningLines path bytes (warnings ++ said ∷ []) (text ++ warning_line path line said)
-warning_lines_more path bytes [] said text line on is =
-    (line, on, [], refl, rw is (sym (append-nil (warning_line path line said))))
-warning_lines_more path bytes (x ∷ warnings) said text line on is = (
-  is.0,
-  is.1,
-  is.2 ++ warning_line path line said,
-  warning_lines_more path bytes warnings said is.2 line on is.3,
-  rw (is.4) (append_assoc (warning_line path is.0 x) is.2 (warning_line path line said)),
-)
-
 -- the lines of one thing more that is told
 pub doubt_lines_more : (path bytes : List ℕ) (told : List Told) (one : Told) (text : List ℕ) (line : ℕ) (below : Below)
     → IsLine bytes one.row line → IsOfPart (field_of bytes one.row 3) one.part.before below
@@ -78,6 +64,23 @@ doubt_lines_more path bytes (x ∷ told) one text line below on at is =
       is.4 ++ more,
       doubt_lines_more path bytes told one is.4 line below on at is.5,
       rw (is.6) (append_assoc (doubt_line path is.0 x ++ doubt_below x is.2) is.4 more),
+    )
+
+-- the lines of one code more
+pub lone_lines_more : (path bytes : List ℕ) (lone : List LoneCode) (one : LoneCode) (text : List ℕ) (line : ℕ) (below : Below)
+    → IsLine bytes one.row line → IsOfField (field_of bytes one.row 2) 0 below → AreLoneLines path bytes lone text
+    → AreLoneLines path bytes (lone ++ one ∷ []) (text ++ (lone_line path line one ++ below_text below))
+lone_lines_more path bytes [] one text line below on at is =
+    (line, on, below, at, [], refl, rw is (sym (append-nil (lone_line path line one ++ below_text below))))
+lone_lines_more path bytes (x ∷ lone) one text line below on at is =
+    let more = lone_line path line one ++ below_text below in (
+      is.0,
+      is.1,
+      is.2,
+      is.3,
+      is.4 ++ more,
+      lone_lines_more path bytes lone one is.4 line below on at is.5,
+      rw (is.6) (append_assoc (lone_line path is.0 x ++ below_text is.2) is.4 more),
     )
 
 abbrev Accepted : List ℕ → Type 0

@@ -89,6 +89,11 @@ below_text (below.Header found expected hint) =
     codes "    found:    "
     ++ (stretch_text found ++ (codes "\n    expected: " ++ (expected.now ++ (codes "\n" ++ hint_line hint))))
 
+-- the byte at the place around which a field is shown; 0 if there is none
+abbrev pub byte_at : Below → ℕ
+byte_at (below.Field field) = get_or field.after.now 0 0
+byte_at other = 0
+
 -- What is shown of a field is the stretch around a place; nothing, if there is no such field or it ends before the place.
 abbrev pub IsOfField : Option (List ℕ) → ℕ → Below → Type 0
 IsOfField None place shown = shown ≡ below.Nothing

@@ -1,9 +1,11 @@
--- The lines of the rules that hold of the rows' domains.
+-- The lines of warnings.
 use Rattle.std.specs.Prelude.{◌≡◌, ◌+◌, ◌-◌, ◌++◌, ◌==◌, ℕ, suc, List, [], ◌∷◌, Option, Some, None, codes, decimal}
 use Rattle.std.specs.Prelude.{if◌then◌else◌}
 use Rattle.gtd_mistakes.specs.RuleNames.{name_of}
 use Rattle.gtd_mistakes.specs.declared.told.Told.{Told}
+use Rattle.gtd_warnings.specs.Codes.{AreLoneOfFile}
 use Rattle.gtd_warnings.specs.RowsTold.{AreToldOfFile}
+use Rattle.gtd_warnings.specs.declared.codes.LoneCode.{LoneCode}
 use Rattle.gtd_warnings.specs.declared.file.Asked.{Asked}
 use Rattle.gtd_faults.specs.Below.{IsOfField, below_text}
 use Rattle.gtd_faults.specs.Places.{IsLine, field_of}
@@ -45,7 +47,30 @@ AreDoubtLines path bytes (told ∷ rest) text =
     × (after : List ℕ) × AreDoubtLines path bytes rest after
     × (text ≡ doubt_line path line told ++ doubt_below told below ++ after)
 
--- all lines of what is told of a file
-abbrev pub AreDoubts : List ℕ → Asked → List ℕ → List ℕ → Type 0
-AreDoubts path asked bytes text =
-    (told : List Told) × AreToldOfFile asked bytes told × AreDoubtLines path bytes told text
+-- what is said of a code that one row alone names: the row, the rule's name, and the code
+abbrev pub lone_text : LoneCode → List ℕ
+lone_text lone =
+    codes "row " ++ decimal lone.row ++ codes ": lone-code: a vehicle type that no other row names: " ++ decimal lone.code
+
+abbrev pub lone_line : List ℕ → ℕ → LoneCode → List ℕ
+lone_line path line lone = printable path ++ codes ":" ++ decimal line ++ codes ": " ++ lone_text lone ++ codes "\n"
+
+-- the lines of such codes of a file with these bytes, in order, with the row's field of vehicle types below each
+abbrev pub AreLoneLines : List ℕ → List ℕ → List LoneCode → List ℕ → Type 0
+AreLoneLines path bytes [] text = text ≡ []
+AreLoneLines path bytes (lone ∷ rest) text =
+    (line : ℕ) × IsLine bytes lone.row line × (below : Below) × IsOfField (field_of bytes lone.row 2) 0 below
+    × (after : List ℕ) × AreLoneLines path bytes rest after
+    × (text ≡ lone_line path line lone ++ below_text below ++ after)
+
+-- the lines of all warnings of a file: of what is told of its rows, and then of the codes that one row alone names
+pub record AreDoubts (path : List ℕ) (asked : Asked) (bytes text : List ℕ) : Type 0 where
+  pub told : List Told
+  pub all_told : AreToldOfFile asked bytes told
+  pub first : List ℕ
+  pub told_lines : AreDoubtLines path bytes told first
+  pub lone : List LoneCode
+  pub all_lone : AreLoneOfFile asked bytes lone
+  pub last : List ℕ
+  pub lone_lines : AreLoneLines path bytes lone last
+  pub whole : text ≡ first ++ last

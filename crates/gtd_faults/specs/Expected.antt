@@ -1,5 +1,5 @@
 -- What is accepted where a fault is.
-use Rattle.std.specs.Prelude.{◌++◌, ℕ, List, [], codes, Option, Some, None}
+use Rattle.std.specs.Prelude.{◌++◌, ◌||◌, ◌==◌, ℕ, List, [], codes, if◌then◌else◌, Option, Some, None}
 use Rattle.gtd_core.specs.declared.fault.Fault.{Fault}
 use Rattle.gtd_core.specs.declared.fault.Fault.TheVariants as kind
 use Rattle.gtd_records.specs.declared.fault.RecordFault.{RecordFault}
@@ -49,6 +49,30 @@ accepted (fault.Domain row why) = accepted_text why.kind
 accepted fault.TooManyRows = Some accepted_rows
 accepted fault.TooLarge = Some accepted_bytes
 accepted why = None
+
+-- the numbers of a field of a start with this letter
+abbrev pub range_text : ℕ → List ℕ
+range_text letter =
+    if letter == 121 then codes "4 digits for a year, 0000 to 9999"
+    else if letter == 77 then codes "1 to 12 for a month"
+    else if letter == 119 then codes "1 to 53 for a week"
+    else if letter == 102 || letter == 108
+    then codes "2 digits for a weekday's place in the month: 1 to 5, and the weekday, 1 to 7"
+    else if letter == 100 then codes "1 to 31 for a day of the month"
+    else if letter == 116 then codes "1 to 7 for a weekday, from Sunday on"
+    else if letter == 104 then codes "0 to 23 for an hour"
+    else if letter == 109 then codes "0 to 59 for a minute"
+    else if letter == 115 then codes "0 to 59 for a second"
+    else codes "a number in the range of its letter, with its digits"
+
+abbrev pub accepted_field : Fault → ℕ → Option (List ℕ)
+accepted_field kind.FieldRange letter = Some (range_text letter)
+accepted_field other letter = accepted_text other
+
+-- the same where the fault is at this byte of a domain: for `FieldRange`, the range of the field with this letter
+abbrev pub accepted_at : RecordFault → ℕ → Option (List ℕ)
+accepted_at (fault.Domain row why) letter = accepted_field why.kind letter
+accepted_at why letter = accepted why
 
 -- its line, or nothing
 abbrev pub expected_line : Option (List ℕ) → List ℕ

@@ -2,7 +2,7 @@
 use Rattle.std.specs.Prelude.{◌++◌, ◌||◌, ◌==◌, not, ℕ, Bool, List, [], ◌∷◌, codes, drop, length, take, if◌then◌else◌}
 use Rattle.std.specs.Prelude.{Option, Some, None}
 use Rattle.std.specs.Char.{is_ascii_uppercase, to_ascii_lowercase}
-use Rattle.std.specs.List.{list_any, take_while}
+use Rattle.std.specs.List.{count_by, list_any, take_while}
 use Rattle.gtd_records.specs.Columns.{is_word}
 use Rattle.gtd_faults.specs.declared.hint.Hint.{Hint}
 use Rattle.gtd_faults.specs.declared.hint.Hint.TheVariants as hint
@@ -64,11 +64,21 @@ hint_of_header line =
     else if has 34 line then Some hint.Quotes
     else None
 
--- the hint for a first line: one for a line with a mark of UTF-16, and for a line whose plain form is a header
+-- a byte that is a comma in the plain form
+abbrev pub is_comma : ℕ → Bool
+is_comma byte = byte == 44 || (byte == 59 || byte == 9)
+
+-- how many commas the plain form has
+abbrev pub commas : List ℕ → ℕ
+commas line = count_by is_comma line
+
+-- the hint for a first line: one for a line with a mark of UTF-16, for a line whose plain form is a header, and for one with as
+-- many fields
 abbrev pub hint_of : List ℕ → Option Hint
 hint_of line =
     if begins_as_utf16 line then Some hint.Utf16
     else if is_nearly_header (without_mark line) then hint_of_header (without_mark line)
+    else if commas (without_mark line) == 3 then Some hint.Names
     else None
 
 -- a hint in words
@@ -79,6 +89,7 @@ hint_text hint.Tabs = codes "the fields are separated by tabs; use commas"
 hint_text hint.Spaces = codes "there are spaces in the header; remove them"
 hint_text hint.Capitals = codes "there are capital letters in the header; use small ones"
 hint_text hint.Quotes = codes "quotes make one field of several; remove them"
+hint_text hint.Names = codes "it has four fields, but other names; write the header in its place, or above it"
 
 -- its line, or nothing
 abbrev pub hint_line : Option Hint → List ℕ

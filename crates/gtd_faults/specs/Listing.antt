@@ -1,16 +1,15 @@
 -- The list of a file's faults and warnings, in words.
-use Rattle.std.specs.Prelude.{◌≡◌, ◌+◌, ◌++◌, ℕ, Bool, false, true, List, [], ◌∷◌, codes, decimal, length}
+use Rattle.std.specs.Prelude.{◌≡◌, ◌+◌, ◌++◌, ℕ, List, [], ◌∷◌, codes, decimal, length}
 use Rattle.std.specs.Prelude.{Option, Some, None}
 use Rattle.gtd_core.specs.Limits.{most_rows}
 use Rattle.gtd_core.specs.Names.{fault_name}
 use Rattle.gtd_records.specs.declared.fault.RecordFault.{RecordFault}
 use Rattle.gtd_records.specs.declared.fault.RecordFault.TheVariants as fault
 use Rattle.gtd_records.specs.Faults.{AreFileFaults}
-use Rattle.gtd_records.specs.Warnings.{AreFileWarnings}
-use Rattle.gtd_records.specs.declared.warnings.Warning.{Warning}
-use Rattle.gtd_records.specs.declared.warnings.Warning.TheVariants as warning
-use Rattle.gtd_faults.specs.Below.{IsBelow, below_text}
-use Rattle.gtd_faults.specs.Expected.{accepted, expected_line}
+use Rattle.gtd_warnings.specs.declared.file.Asked.{Asked}
+use Rattle.gtd_faults.specs.Below.{IsBelow, below_text, byte_at}
+use Rattle.gtd_faults.specs.Doubts.{AreDoubts}
+use Rattle.gtd_faults.specs.Expected.{accepted_at, expected_line}
 use Rattle.gtd_faults.specs.Places.{IsLine, IsLineAt}
 use Rattle.gtd_faults.specs.Printable.{printable}
 use Rattle.gtd_faults.specs.declared.below.Below.{Below}
@@ -50,7 +49,7 @@ row_of why = None
 
 -- the lines below that of a fault: what is shown of the file, and what is accepted there
 abbrev pub lines_below : RecordFault → Below → List ℕ
-lines_below why below = below_text below ++ expected_line (accepted why)
+lines_below why below = below_text below ++ expected_line (accepted_at why (byte_at below))
 
 -- The lines of the faults of a file with these bytes, in order: for each its line, and those below it.
 abbrev pub AreLines : List ℕ → List ℕ → List RecordFault → List ℕ → Type 0
@@ -59,40 +58,18 @@ AreLines path bytes (why ∷ rest) text =
     (line : ℕ) × IsLineAt bytes (row_of why) line × (below : Below) × IsBelow bytes why below × (after : List ℕ)
     × AreLines path bytes rest after × (text ≡ fault_line path line why ++ lines_below why below ++ after)
 
--- the words of a warning: its row, and what is said of its domain
-abbrev pub warning_text : Warning → List ℕ
-warning_text (warning.NeverHolds row) = codes "row " ++ decimal row ++ codes ": never holds"
-warning_text (warning.AlwaysHolds row) = codes "row " ++ decimal row ++ codes ": always holds"
-
--- the line of a warning
-abbrev pub warning_line : List ℕ → ℕ → Warning → List ℕ
-warning_line path line said = line_text path line (warning_text said)
-
--- the row that a warning is of
-abbrev pub warned_row : Warning → ℕ
-warned_row (warning.NeverHolds row) = row
-warned_row (warning.AlwaysHolds row) = row
-
--- the lines of the warnings of a file with these bytes, in order, each with the line on which its row begins
-abbrev pub AreWarningLines : List ℕ → List ℕ → List Warning → List ℕ → Type 0
-AreWarningLines path bytes [] text = text ≡ []
-AreWarningLines path bytes (said ∷ rest) text =
-    (line : ℕ) × IsLine bytes (warned_row said) line × (after : List ℕ)
-    × AreWarningLines path bytes rest after × (text ≡ warning_line path line said ++ after)
-
 -- what is added for a file's warnings: their lines if they are asked for, otherwise nothing
-abbrev pub IsWarned : Bool → List ℕ → List ℕ → List ℕ → Type 0
-IsWarned false path bytes text = text ≡ []
-IsWarned true path bytes text =
-    (warnings : List Warning) × AreFileWarnings bytes warnings × AreWarningLines path bytes warnings text
+abbrev pub IsWarned : Option Asked → List ℕ → List ℕ → List ℕ → Type 0
+IsWarned None path bytes text = text ≡ []
+IsWarned (Some asked) path bytes text = AreDoubts path asked bytes text
 
 -- the list of a file with these bytes: the lines of all its faults, of which there are so many, and then of its warnings
-pub record IsList (path bytes : List ℕ) (warn : Bool) (count : ℕ) (text : List ℕ) : Type 0 where
+pub record IsList (path bytes : List ℕ) (asked : Option Asked) (count : ℕ) (text : List ℕ) : Type 0 where
   pub faults : List RecordFault
   pub all : AreFileFaults bytes faults
   pub counted : count ≡ length faults
   pub first : List ℕ
   pub lines : AreLines path bytes faults first
   pub last : List ℕ
-  pub warned : IsWarned warn path bytes last
+  pub warned : IsWarned asked path bytes last
   pub whole : text ≡ first ++ last

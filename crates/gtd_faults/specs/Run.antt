@@ -1,8 +1,9 @@
 -- What listing the faults of a file did, by its answer.
-use Rattle.std.specs.Prelude.{◌≡◌, ◌≤◌, ℕ, ◌+◌, Bool, List, length, take, Option, Result, Ok, Err}
+use Rattle.std.specs.Prelude.{◌≡◌, ◌≤◌, ℕ, ◌+◌, List, length, take, Option, Result, Ok, Err}
 use Rattle.std.specs.Io.KnownBytes.{Appends, Keeps}
 use Rattle.gtd_devices.specs.declared.whole.InputFault.{InputFault}
 use Rattle.gtd_devices.specs.declared.whole.InputFault.TheVariants as input
+use Rattle.gtd_warnings.specs.declared.file.Asked.{Asked}
 use Rattle.gtd_faults.specs.Listing.{IsList}
 use Rattle.gtd_faults.specs.declared.list_fault.ListFault.{ListFault}
 use Rattle.gtd_faults.specs.declared.list_fault.ListFault.TheVariants as fault
@@ -20,14 +21,14 @@ HasPut text number old new (Err fault.ReadFault) = Keeps old new
 HasPut text number old new (Err fault.Endless) = Keeps old new
 HasPut text number old new (Err fault.NoMemory) = Keeps old new
 
--- What the output took of the list of a file with these bytes, with or without warnings. The answer is the number of its
+-- What the output took of the list of a file with these bytes, with its warnings if they are asked for. The answer is the number of its
 -- faults.
-abbrev pub HasListed : List ℕ → Bool → List ℕ → Option (List ℕ) → Option (List ℕ) → Result ℕ ListFault → Type 0
-HasListed path warn bytes old new (Ok count) =
-    (text : List ℕ) × IsList path bytes warn count text × Appends old new text
-HasListed path warn bytes old new (Err fault.WriteFault) =
-    (text : List ℕ) × (count : ℕ) × IsList path bytes warn count text × TookSome old new text
-HasListed path warn bytes old new (Err why) = Keeps old new
+abbrev pub HasListed : List ℕ → Option Asked → List ℕ → Option (List ℕ) → Option (List ℕ) → Result ℕ ListFault → Type 0
+HasListed path asked bytes old new (Ok count) =
+    (text : List ℕ) × IsList path bytes asked count text × Appends old new text
+HasListed path asked bytes old new (Err fault.WriteFault) =
+    (text : List ℕ) × (count : ℕ) × IsList path bytes asked count text × TookSome old new text
+HasListed path asked bytes old new (Err why) = Keeps old new
 
 -- Why a list is not put, for a fault of the input.
 abbrev pub list_fault_of : InputFault → ListFault

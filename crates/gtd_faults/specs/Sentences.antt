@@ -38,10 +38,13 @@ says rule.ProductFirst part = codes "* binds before +, and joins one of the time
 says rule.DaysOfYear part = codes "not as many days as the year has"
 says rule.ThirtyFirst part = codes "the 31st, which only seven months have"
 says rule.NoSuchDay part = codes "never; the month has no such day"
+says rule.NeverHolds part = codes "at no second"
+says rule.AlwaysHolds part = codes "at each second, as if no domain were given"
 says rule.Past part = codes "over before the day that is asked about"
 says rule.EndsSoon part = codes "over within 30 days of the day that is asked about"
+says rule.LoneCode part = codes "a vehicle type that no other row names"
 
--- what may be meant; of an end, its time is said instead, and of rows that are over, nothing
+-- what may be meant; of an end, its time is said instead, and of whole rows nothing
 abbrev pub meant : Rule → List ℕ
 meant rule.FirstOfMonth = codes "the whole month: {M1}"
 meant rule.EachDayOfMonth = codes "one day of it: give the day by d"
@@ -60,13 +63,19 @@ meant rule.ProductFirst = codes "all the times: [..+..]*.."
 meant rule.DaysOfYear = codes "the whole year: {y1}"
 meant rule.ThirtyFirst = codes "the last day of each month"
 meant rule.NoSuchDay = codes "the last day of the month"
+meant rule.NeverHolds = []
+meant rule.AlwaysHolds = []
 meant rule.Past = []
 meant rule.EndsSoon = []
+meant rule.LoneCode = []
 
 -- the line that says what may be meant
 abbrev pub perhaps_line : Rule → Part → List ℕ
 perhaps_line rule.EndAsDuration part = codes "    perhaps:  until " ++ (clock_text part.clock ++ codes "\n")
 perhaps_line rule.EndPastMidnight part = codes "    perhaps:  until " ++ (clock_text part.clock ++ codes "\n")
+perhaps_line rule.NeverHolds part = []
+perhaps_line rule.AlwaysHolds part = []
 perhaps_line rule.Past part = []
 perhaps_line rule.EndsSoon part = []
+perhaps_line rule.LoneCode part = []
 perhaps_line rule part = codes "    perhaps:  " ++ (meant rule ++ codes "\n")

@@ -1,6 +1,7 @@
 //! What is shown below the line of a fault.
 
-ghost use Rattle.std.specs.Prelude.{Some};
+ghost use Rattle.std.specs.Prelude.{◌≡◌, Some};
+ghost use Rattle.gtd_faults.specs.Below as spec;
 ghost use Rattle.gtd_faults.specs.Below.{below_text};
 
 use crate::hint::{Hint, HintLine};
@@ -31,6 +32,19 @@ pub enum Below<'a> {
         /// What is wrong with it, if it is nearly a header.
         hint: Option<Hint>,
     },
+}
+
+/// The byte at the place around which a field is shown; 0 if there is none.
+pub(crate) fn byte_at(below: Below<'_>) -> u8
+    ensures { result ≡ spec.byte_at below.entry }
+{
+    match below {
+        Below::Field(stretch) => match stretch.after.first() {
+            Some(byte) => *byte,
+            None => 0,
+        },
+        _ => 0,
+    }
 }
 
 impl Display for Below<'_> {

@@ -1,6 +1,6 @@
 //! What is wrong with a first line that is nearly a header.
 
-ghost use Rattle.std.specs.Prelude.{◌≡◌, Some};
+ghost use Rattle.std.specs.Prelude.{◌≡◌, ◌≤◌, Some, length};
 ghost use Rattle.gtd_records.specs.Columns.{is_word};
 ghost use Rattle.gtd_faults.specs.Hints as spec;
 
@@ -22,6 +22,8 @@ pub enum Hint {
     Capitals,
     /// Quotes join fields.
     Quotes,
+    /// It has four fields, but other names.
+    Names,
 }
 
 // Whether a line begins with a byte order mark of UTF-16.
@@ -77,6 +79,27 @@ fn is_nearly_header(line: &[u8]) -> bool
         || is_plainly(line, b"element,direction,vehicles,domain")
 }
 
+// Whether a byte is a comma in the plain form.
+fn is_comma(byte: u8) -> bool
+    ensures value { result ≡ spec.is_comma byte }
+{
+    byte == 44 || byte == 59 || byte == 9
+}
+
+// How many commas the plain form of a line has.
+fn commas(line: &[u8]) -> usize
+    ensures few { result ≤ length line.now }
+    ensures count { result ≡ spec.commas line.now }
+{
+    let mut count = 0;
+    for byte in line {
+        if is_comma(*byte) {
+            count += 1;
+        }
+    }
+    count
+}
+
 // Whether a line has a capital letter.
 fn has_capitals(line: &[u8]) -> bool
     ensures value { result ≡ spec.has_capitals line.now }
@@ -115,6 +138,8 @@ pub(crate) fn hint_of(line: &[u8]) -> Option<Hint>
     let line = without_mark(line);
     if is_nearly_header(line) {
         hint_of_header(line)
+    } else if commas(line) == 3 {
+        Some(Hint::Names)
     } else {
         None
     }
@@ -153,6 +178,9 @@ impl Display for HintText {
             Hint::Spaces => write!(f, "there are spaces in the header; remove them"),
             Hint::Capitals => write!(f, "there are capital letters in the header; use small ones"),
             Hint::Quotes => write!(f, "quotes make one field of several; remove them"),
+            Hint::Names => {
+                write!(f, "it has four fields, but other names; write the header in its place, or above it")
+            }
         }
     }
 }

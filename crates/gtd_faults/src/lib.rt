@@ -2,16 +2,16 @@
 #![tactic(auto)]
 
 pub use below::Below;
-pub use doubts::lines_of_told;
+pub use doubts::doubts_of;
 pub use hint::Hint;
 pub use lines::first_line;
 pub use list_fault::ListFault;
 pub use places::Rows;
 pub use printable::Printable;
 pub use run::run_faults;
-pub use sentences::{DoubtText, PerhapsLine};
+pub use sentences::{DoubtText, LoneText, PerhapsLine};
 pub use stretch::Stretch;
-pub use words::{Expected, FaultText, WarningText, accepted};
+pub use words::{Expected, FaultText, accepted, accepted_at};
 
 mod below;
 mod cut;

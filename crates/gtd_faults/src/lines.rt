@@ -1,21 +1,23 @@
-//! The lines of faults and of warnings.
+//! The lines of faults.
 
 ghost use Rattle.std.specs.Prelude.{◌≡◌, ◌++◌, ℕ, IfOk, IfSome, OnOk, length, string_bytes};
 ghost use Rattle.gtd_faults.specs.Below.{IsBelow};
 ghost use Rattle.gtd_records.specs.Faults.{AreFileFaults};
 ghost use Rattle.gtd_faults.specs.Hints as spec;
 ghost use Rattle.gtd_faults.specs.Listing as list;
-ghost use Rattle.gtd_faults.specs.Listing.{AreLines, AreWarningLines, IsList, fault_line, lines_below, warning_line};
+ghost use Rattle.gtd_faults.specs.Listing.{AreLines, IsList, fault_line, lines_below};
 ghost use Rattle.gtd_faults.specs.Standing.{StandsAt};
 
-use crate::below::Below;
+use crate::below::{Below, byte_at};
+use crate::doubts::doubts_of;
 use crate::hint::hint_of;
 use crate::places::Rows;
 use crate::printable::Printable;
 use crate::stretch::Stretch;
-use crate::words::{Expected, FaultText, WarningText, accepted};
+use crate::words::{Expected, FaultText, accepted_at};
 use gtd_core::limits::MOST_ROWS;
-use gtd_records::{RecordFault, Warning, warnings_of};
+use gtd_records::RecordFault;
+use gtd_warnings::Asked;
 use std::alloc::{AllocError, Global};
 
 // Appends the line of a fault, and those below it, to the text.
@@ -31,7 +33,7 @@ fn push_fault(
 {
     let path = Printable(path.as_bytes());
     let words = FaultText(fault);
-    let expected = Expected(accepted(fault));
+    let expected = Expected(accepted_at(fault, byte_at(below)));
     write!(text, "{path}:{line}: {words}\n{below}{expected}")
 }
 
@@ -105,64 +107,22 @@ pub(crate) fn lines_of(
     Ok(text)
 }
 
-// The row of a warning.
-fn warned_row(warning: Warning) -> u32
-    ensures { result ≡ list.warned_row warning }
-{
-    match warning {
-        Warning::NeverHolds { row } => row,
-        Warning::AlwaysHolds { row } => row,
-    }
-}
-
-// Appends the line of a warning to the text.
-fn push_warning(
-    text: &mut String,
-    path: &str,
-    line: u64,
-    warning: Warning,
-) -> Result<(), AllocError>
-    ensures { OnOk result (string_bytes text.new ≡ string_bytes text.old ++ warning_line path.now line warning) }
-{
-    let path = Printable(path.as_bytes());
-    let words = WarningText(warning);
-    write!(text, "{path}:{line}: {words}\n")
-}
-
-// The lines of these warnings, in order, for the file with this path and these bytes.
-fn warning_lines(
-    alloc: Global,
-    path: &str,
-    bytes: &[u8],
-    warnings: &[Warning],
-) -> Result<String, AllocError>
-    ensures { IfOk result (λ text. AreWarningLines path.now bytes.now warnings.now (string_bytes text)) }
-{
-    let mut text = String::new(alloc);
-    let mut rows = Rows::new(alloc, bytes)?;
-    for warning in warnings {
-        let line = rows.line_at(Some(warned_row(*warning)))?;
-        push_warning(&mut text, path, line, *warning)?;
-    }
-    Ok(text)
-}
-
-// The list of a file with this path, these bytes and these faults, with or without its warnings.
+// The list of a file with this path, these bytes and these faults, with its warnings if they are asked for.
 pub(crate) fn list_of(
     alloc: Global,
     path: &str,
     bytes: &[u8],
     faults: &[RecordFault],
-    warn: bool,
+    asked: &Option<Asked>,
 ) -> Result<String, AllocError>
     requires all { AreFileFaults bytes.now faults.now }
-    ensures { IfOk result (λ text. IsList path.now bytes.now warn (length faults.now) (string_bytes text)) }
+    ensures { IfOk result (λ text. IsList path.now bytes.now asked.now (length faults.now) (string_bytes text)) }
 {
     let mut text = lines_of(alloc, path, bytes, faults)?;
-    if warn {
-        let warnings = warnings_of(alloc, bytes)?;
-        let added = warning_lines(alloc, path, bytes, warnings.as_slice())?;
-        text.push_str(added.as_str())?;
-    }
+    let Some(asked) = asked else {
+        return Ok(text);
+    };
+    let added = doubts_of(alloc, path, bytes, asked)?;
+    text.push_str(added.as_str())?;
     Ok(text)
 }

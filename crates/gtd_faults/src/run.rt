@@ -1,8 +1,9 @@
 //! The run that lists the faults of a record file.
 
-ghost use Rattle.std.specs.Prelude.{◌≡◌, ◌≢◌, ◌⊎◌, ◌<◌, ℕ, Bool, IfErr, IfSome, IsErrOf, IsTrue, List, OnErr, OnOk, length};
+ghost use Rattle.std.specs.Prelude.{◌≡◌, ◌≢◌, ◌⊎◌, ◌<◌, ℕ, IfErr, IfSome, IsErrOf, IsTrue, List, OnErr, OnOk, Option, length};
 ghost use Rattle.gtd_core.specs.Limits.{most_file_bytes};
 ghost use Rattle.std.specs.Io.KnownBytes.{Appends, Keeps};
+ghost use Rattle.gtd_warnings.specs.declared.file.Asked.{Asked};
 ghost use Rattle.gtd_faults.specs.Run.{HasListed, HasPut, TookSome, failures_after_listing, failures_after_reading};
 
 use crate::lines::{lines_of, list_of};
@@ -11,6 +12,7 @@ use gtd_core::limits::MOST_FILE_BYTES;
 use gtd_devices::{Input, InputFault, Output, read_whole};
 use gtd_records::{RecordFault, faults_of};
 use gtd_report::{Progress, finish, put_line};
+use gtd_warnings::Asked;
 use std::alloc::Global;
 
 // Puts a text, and ends the output.
@@ -48,16 +50,16 @@ fn put_numbered<O: Output>(output: &mut O, text: &str, number: usize) -> Result<
     }
 }
 
-// Puts the list of the file with this path and these bytes, with or without its warnings.
+// Puts the list of the file with this path and these bytes, with its warnings if they are asked for.
 fn put_list<O: Output>(
     alloc: Global,
     output: &mut O,
     path: &str,
     bytes: &[u8],
-    warn: bool,
+    asked: &Option<Asked>,
 ) -> Result<usize, ListFault>
     requires writable { O.failure_count output.old < u64.MAX }
-    ensures listed { HasListed path.now warn bytes.now (O.taken output.old) (O.taken output.new) result }
+    ensures listed { HasListed path.now asked.now bytes.now (O.taken output.old) (O.taken output.new) result }
     ensures cause { IfErr result (λ why. (why ≡ ListFault.WriteFault) ⊎ ((why ≡ ListFault.NoMemory)
         × Keeps (O.taken output.old) (O.taken output.new))) }
     ensures ended { OnOk result (IsTrue (O.is_ended output.new)) }
@@ -67,7 +69,7 @@ fn put_list<O: Output>(
     let Ok(faults) = faults_of(alloc, bytes) else {
         return Err(ListFault::NoMemory);
     };
-    let Ok(text) = list_of(alloc, path, bytes, faults.as_slice(), warn) else {
+    let Ok(text) = list_of(alloc, path, bytes, faults.as_slice(), asked) else {
         return Err(ListFault::NoMemory);
     };
     put_numbered(output, text.as_str(), faults.len())
@@ -76,8 +78,8 @@ fn put_list<O: Output>(
 // Puts the list of a file with this path and too many bytes: its only fault, and no warnings.
 fn put_too_large<O: Output>(alloc: Global, output: &mut O, path: &str) -> Result<usize, ListFault>
     requires writable { O.failure_count output.old < u64.MAX }
-    ensures listed { (bytes : List ℕ) (warn : Bool) → most_file_bytes < length bytes
-        → HasListed path.now warn bytes (O.taken output.old) (O.taken output.new) result }
+    ensures listed { (bytes : List ℕ) (asked : Option Asked) → most_file_bytes < length bytes
+        → HasListed path.now asked bytes (O.taken output.old) (O.taken output.new) result }
     ensures cause { IfErr result (λ why. (why ≡ ListFault.WriteFault) ⊎ ((why ≡ ListFault.NoMemory)
         × Keeps (O.taken output.old) (O.taken output.new))) }
     ensures ended { OnOk result (IsTrue (O.is_ended output.new)) }
@@ -91,7 +93,7 @@ fn put_too_large<O: Output>(alloc: Global, output: &mut O, path: &str) -> Result
 }
 
 /// Puts the list of all faults of the record file that an input brings, and answers their number. If they are asked for, the
-/// list goes on with a line for each warning ([`gtd_records::warnings_of`]). Each fault has a line: the file's path, as
+/// list goes on with the lines of all warnings ([`crate::doubts_of`]). Each fault has a line: the file's path, as
 /// [`crate::Printable`] shows it, the line of the file on which its row begins, the row, and its kind. Below it is the field at
 /// fault with a caret at the place, or the first line of a file that has no header.
 ///
@@ -104,13 +106,13 @@ pub fn run_faults<I: Input, O: Output>(
     input: &mut I,
     output: &mut O,
     path: &str,
-    warn: bool,
+    asked: &Option<Asked>,
 ) -> Result<usize, ListFault>
     requires readable { I.failure_count input.old < u64.MAX }
     requires writable { O.failure_count output.old < u64.MAX }
     // What the output took, by the answer: all lines of the file's list or, after a failure, a first part of them.
     ensures listed { IfSome (I.to_come input.old)
-        (λ bytes. HasListed path.now warn bytes (O.taken output.old) (O.taken output.new) result) }
+        (λ bytes. HasListed path.now asked.now bytes (O.taken output.old) (O.taken output.new) result) }
     // If the input failed or memory was refused, nothing was put.
     ensures kept { IfErr result (λ why. why ≢ ListFault.WriteFault → Keeps (O.taken output.old) (O.taken output.new)) }
     // An output that took the whole list was then ended.
@@ -122,7 +124,7 @@ pub fn run_faults<I: Input, O: Output>(
         ≡ failures_after_listing result (O.failure_count output.old) }
 {
     match read_whole(alloc, input, MOST_FILE_BYTES) {
-        Ok(bytes) => put_list(alloc, output, path, bytes.as_slice(), warn),
+        Ok(bytes) => put_list(alloc, output, path, bytes.as_slice(), asked),
         Err(InputFault::TooLarge) => put_too_large(alloc, output, path),
         Err(why) => Err(fault_of_input(why)),
     }

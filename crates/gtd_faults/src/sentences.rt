@@ -1,10 +1,11 @@
 //! What is said of a rule that holds of a row's domain.
 
 ghost use Rattle.std.specs.Prelude.{◌≡◌, ◌<◌, Some};
-ghost use Rattle.gtd_faults.specs.Doubts.{doubt_text};
+ghost use Rattle.gtd_faults.specs.Doubts.{doubt_text, lone_text};
 ghost use Rattle.gtd_faults.specs.Sentences as spec;
 
 use gtd_mistakes::{Part, Rule, Told};
+use gtd_warnings::LoneCode;
 use std::fmt;
 use std::fmt::{Display, Formatter};
 
@@ -86,8 +87,11 @@ impl Display for SaysText {
             Rule::DaysOfYear => write!(f, "not as many days as the year has"),
             Rule::ThirtyFirst => write!(f, "the 31st, which only seven months have"),
             Rule::NoSuchDay => write!(f, "never; the month has no such day"),
+            Rule::NeverHolds => write!(f, "at no second"),
+            Rule::AlwaysHolds => write!(f, "at each second, as if no domain were given"),
             Rule::Past => write!(f, "over before the day that is asked about"),
             Rule::EndsSoon => write!(f, "over within 30 days of the day that is asked about"),
+            Rule::LoneCode => write!(f, "a vehicle type that no other row names"),
         }
     }
 }
@@ -107,7 +111,21 @@ impl Display for DoubtText {
     }
 }
 
-// What may be meant. Of an end, its time is said instead, and of rows that are over, nothing.
+/// What is said of a code that one row alone names: the row, the rule's name, and the code.
+#[derive(Clone, Copy)]
+pub struct LoneText(pub LoneCode);
+
+impl Display for LoneText {
+    ghost output = { λ shown. Some (lone_text shown.0) };
+
+    fn fmt<W: fmt::Write>(&self, f: &mut Formatter<W>) -> fmt::Result {
+        let row = self.0.row;
+        let code = self.0.code;
+        write!(f, "row {row}: lone-code: a vehicle type that no other row names: {code}")
+    }
+}
+
+// What may be meant. Of an end, its time is said instead, and of whole rows nothing.
 fn meant(rule: Rule) -> &'static str
     ensures { result.now ≡ spec.meant rule }
 {
@@ -129,8 +147,11 @@ fn meant(rule: Rule) -> &'static str
         Rule::DaysOfYear => "the whole year: {y1}",
         Rule::ThirtyFirst => "the last day of each month",
         Rule::NoSuchDay => "the last day of the month",
+        Rule::NeverHolds => "",
+        Rule::AlwaysHolds => "",
         Rule::Past => "",
         Rule::EndsSoon => "",
+        Rule::LoneCode => "",
     }
 }
 
@@ -147,8 +168,11 @@ impl Display for PerhapsLine {
         match self.0.rule {
             Rule::EndAsDuration => write!(f, "    perhaps:  until {named}\n"),
             Rule::EndPastMidnight => write!(f, "    perhaps:  until {named}\n"),
+            Rule::NeverHolds => Ok(()),
+            Rule::AlwaysHolds => Ok(()),
             Rule::Past => Ok(()),
             Rule::EndsSoon => Ok(()),
+            Rule::LoneCode => Ok(()),
             _ => write!(f, "    perhaps:  {text}\n"),
         }
     }

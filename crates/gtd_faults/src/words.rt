@@ -1,12 +1,12 @@
-//! The words of a fault, and of a warning.
+//! The words of a fault.
 
 ghost use Rattle.std.specs.Prelude.{◌≡◌, Some, option_map};
 ghost use Rattle.gtd_faults.specs.Expected as spec;
 ghost use Rattle.gtd_faults.specs.Expected.{expected_line};
-ghost use Rattle.gtd_faults.specs.Listing.{fault_text, warning_text};
+ghost use Rattle.gtd_faults.specs.Listing.{fault_text};
 
 use gtd_core::Fault;
-use gtd_records::{RecordFault, Warning};
+use gtd_records::RecordFault;
 use std::fmt;
 use std::fmt::{Display, Formatter};
 
@@ -34,21 +34,6 @@ impl Display for FaultText {
             RecordFault::TooManyRows => write!(f, "row 65537: TooManyRows"),
             RecordFault::NoMemory => write!(f, "NoMemory"),
             RecordFault::Endless => write!(f, "Endless"),
-        }
-    }
-}
-
-/// A warning in words: its row, and what is said of its domain.
-#[derive(Clone, Copy)]
-pub struct WarningText(pub Warning);
-
-impl Display for WarningText {
-    ghost output = { λ shown. Some (warning_text shown.0) };
-
-    fn fmt<W: fmt::Write>(&self, f: &mut Formatter<W>) -> fmt::Result {
-        match self.0 {
-            Warning::NeverHolds { row } => write!(f, "row {row}: never holds"),
-            Warning::AlwaysHolds { row } => write!(f, "row {row}: always holds"),
         }
     }
 }
@@ -91,6 +76,39 @@ pub fn accepted(fault: RecordFault) -> Option<&'static str>
         RecordFault::TooManyRows => Some("at most 65536 rows"),
         RecordFault::TooLarge => Some("at most 16777216 bytes"),
         _ => None,
+    }
+}
+
+// The numbers of a field of a start with this letter.
+fn range_text(letter: u8) -> &'static str
+    ensures { result.now ≡ spec.range_text letter }
+{
+    match letter {
+        b'y' => "4 digits for a year, 0000 to 9999",
+        b'M' => "1 to 12 for a month",
+        b'w' => "1 to 53 for a week",
+        b'f' | b'l' => {
+            "2 digits for a weekday's place in the month: 1 to 5, and the weekday, 1 to 7"
+        }
+        b'd' => "1 to 31 for a day of the month",
+        b't' => "1 to 7 for a weekday, from Sunday on",
+        b'h' => "0 to 23 for an hour",
+        b'm' => "0 to 59 for a minute",
+        b's' => "0 to 59 for a second",
+        _ => "a number in the range of its letter, with its digits",
+    }
+}
+
+/// The same where the fault is at this byte of a domain: for `FieldRange`, the range of the field with this letter.
+pub fn accepted_at(fault: RecordFault, letter: u8) -> Option<&'static str>
+    ensures { option_map (λ text. text.now) result ≡ spec.accepted_at fault letter }
+{
+    match fault {
+        RecordFault::Domain { fault: why, .. } => match why.kind {
+            Fault::FieldRange => Some(range_text(letter)),
+            _ => accepted(fault),
+        },
+        _ => accepted(fault),
     }
 }
 

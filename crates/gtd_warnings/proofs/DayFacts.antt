@@ -1,10 +1,11 @@
 -- Which rules hold of an expression, of which at most one does.
-use Rattle.std.proofs.Common.{◌≡◌, sym, subst, ap, refl, inl, inr, arith, ℕ, List, [], ◌∷◌, Option, Some, None, Contains}
+use Rattle.std.proofs.Common.{◌≡◌, ◌∙◌, subst, ap, refl, inl, inr, ℕ, List, [], ◌∷◌, ◌++◌, Option, Some, None, Contains, append_assoc, arith}
+use Rattle.std.proofs.lemmas.Int.{ints}
 use Rattle.std.specs.Prelude.{MatchOption, ℤ}
 use Rattle.gtd_mistakes.specs.Told.{told_at}
 use Rattle.gtd_core.specs.Trees.{Tree}
 use Rattle.gtd_core.specs.declared.horizon.Horizon.{Horizon}
-use Rattle.gtd_eval.specs.Extent.{IsLookedAt, IsTreeExtent}
+use Rattle.gtd_eval.specs.Extent.{IsLookedAt, IsTreeExtent, first_second}
 use Rattle.gtd_eval.specs.declared.extent.Extent.TheVariants.{Never, Sometimes, Always}
 use Rattle.gtd_mistakes.specs.declared.rule.Rule.{Rule}
 use Rattle.gtd_mistakes.specs.declared.rule.Rule.TheVariants as rule
@@ -78,3 +79,25 @@ module _ (row : ℕ) (off : List Rule) (tree : Tree) (Holds : Rule → Type 0)
       inl (is.0, subst Holds (same_some found is.0 is.1) holds, is.2, is.3)
   told_as_found (Some found) holds told (inr is) =
       inr ((λ rule also. subst (λ (r : Rule). Contains off r) (one found rule holds also) (is.0 found refl)), is.1)
+
+-- some second is looked at
+looked_at : (tree : Tree) → IsLookedAt tree first_second
+looked_at tree years = (omega (arith, ints), omega (arith, ints))
+
+pub throughout : (row : ℕ) (off : List Rule) (tree : Tree) (found : Option Rule)
+    → MatchOption found ((rule : Rule) → HoldsThroughout tree rule → ⊥) (HoldsThroughout tree) → (told : List Told)
+    → AreToldOnce row off (λ rule. found ≡ Some rule) tree told → AreToldOnce row off (HoldsThroughout tree) tree told
+throughout row off tree found is told are =
+    told_as_found row off tree (HoldsThroughout tree) (one_throughout tree first_second (looked_at tree)) found is told are
+
+pub on_day : (row : ℕ) (off : List Rule) (tree : Tree) (days : Option Horizon) (found : Option Rule)
+    → MatchOption found ((rule : Rule) → IsOnDay days tree rule → ⊥) (IsOnDay days tree) → (told : List Told)
+    → AreToldOnce row off (λ rule. found ≡ Some rule) tree told → AreToldOnce row off (IsOnDay days tree) tree told
+on_day row off tree days found is told are =
+    told_as_found row off tree (IsOnDay days tree) (one_on_day tree days) found is told are
+
+pub three_parts : (old a b c first second third : List Told) → a ≡ old ++ first → b ≡ a ++ second → c ≡ b ++ third
+    → c ≡ old ++ ((first ++ second) ++ third)
+three_parts old a b c first second third e f g =
+    g ∙ ap (λ (l : List Told). l ++ third) (f ∙ ap (λ (l : List Told). l ++ second) e ∙ append_assoc old first second)
+    ∙ append_assoc old (first ++ second) third

@@ -1,2 +1,4 @@
+pub mod CodeFacts
 pub mod DayFacts
 pub mod RowFacts
+pub mod VehicleFacts

@@ -1,10 +1,10 @@
 -- What was read of the vehicle types that rows name.
-use Rattle.std.specs.Prelude.{◌≡◌, ◌↔◌, ◌<◌, ◌≤◌, ◌+◌, ℕ, List, [], ◌∷◌, get_or, Option, None}
+use Rattle.std.specs.Prelude.{◌≡◌, ◌↔◌, ◌<◌, ◌≤◌, ◌+◌, ℕ, Bool, List, [], ◌∷◌, length, nat_lt, Option}
 use Rattle.std.specs.List.{Contains}
 use Rattle.gtd_records.specs.Columns.{Fields}
 use Rattle.gtd_records.specs.declared.vehicles.Vehicles.{Vehicles}
 use Rattle.gtd_records.specs.declared.vehicles.Version.{Version}
-use Rattle.gtd_warnings.specs.Codes.{codes_listed, codes_named}
+use Rattle.gtd_warnings.specs.Codes.{Names, codes_listed, codes_named}
 
 -- the types that were read name the codes that the row names
 abbrev pub IsNaming : Version → Fields → Option Vehicles → Type 0
@@ -17,20 +17,16 @@ AreNamings v number (row ∷ rows) types =
     (here : Option Vehicles) × (rest : List (Option Vehicles))
     × IsNaming v row here × AreNamings v (number + 1) rows rest × (types ≡ here ∷ rest)
 
--- of rows with these types, the one after so many others names the code
-abbrev pub NamesAt : List (Option Vehicles) → ℕ → ℕ → Type 0
-NamesAt types code before = Contains (codes_listed (get_or types before None)) code
+-- they name some code
+abbrev pub names_some : Option Vehicles → Bool
+names_some types = nat_lt 0 (length (codes_listed types))
 
--- from this row on, the first that names the code
-abbrev pub IsFirstFrom : List (Option Vehicles) → ℕ → ℕ → ℕ → Type 0
-IsFirstFrom types code from before =
-    (from ≤ before) × NamesAt types code before
-    × ((other : ℕ) → from ≤ other → other < before → NamesAt types code other → ⊥)
+-- of rows that name these codes, from this one on, the first that names the code
+abbrev pub IsFirstFrom : List (List ℕ) → ℕ → ℕ → ℕ → Type 0
+IsFirstFrom named code from before =
+    (from ≤ before) × Names named code before
+    × ((other : ℕ) → from ≤ other → other < before → Names named code other → ⊥)
 
 -- from this row on, none does
-abbrev pub NoneFrom : List (Option Vehicles) → ℕ → ℕ → Type 0
-NoneFrom types code from = (other : ℕ) → from ≤ other → NamesAt types code other → ⊥
-
--- one row alone does
-abbrev pub IsOnlyOne : List (Option Vehicles) → ℕ → ℕ → Type 0
-IsOnlyOne types code before = NamesAt types code before × ((other : ℕ) → NamesAt types code other → other ≡ before)
+abbrev pub NoneFrom : List (List ℕ) → ℕ → ℕ → Type 0
+NoneFrom named code from = (other : ℕ) → from ≤ other → Names named code other → ⊥

@@ -1,14 +1,14 @@
 //! Vehicle codes that one row alone names.
 
-ghost use Rattle.std.specs.Prelude.{◌≡◌, ◌≤◌, ◌+◌, ℕ, List, IfOk, MatchOption, OnOk, Some, length, map, nat_lt, take};
+ghost use Rattle.std.specs.Prelude.{◌≡◌, ◌<◌, ◌≤◌, ◌+◌, ◌↔◌, ℕ, List, IfOk, IfSome, IsTrue, MatchOption, OnOk, Some, length, map, take};
 ghost use Rattle.std.specs.List.{Contains, count_by};
 ghost use Rattle.csv.specs.Records.{fields_of};
 ghost use Rattle.gtd_core.specs.Limits.{most_rows};
 ghost use Rattle.gtd_records.specs.Columns.{Fields};
 ghost use Rattle.gtd_records.specs.Table.{HasLeft};
-ghost use Rattle.gtd_records.specs.declared.vehicles.Vehicles.{Vehicles};
-ghost use Rattle.gtd_warnings.specs.Codes.{AreLoneBelow, AreLoneOfRows, codes_listed, codes_named, naming};
-ghost use Rattle.gtd_warnings.specs.Naming.{AreNamings, IsFirstFrom, IsNaming, IsOnlyOne, NoneFrom};
+ghost use Rattle.gtd_warnings.specs.Codes.{AreLoneBelow, AreLoneOfRows, NamesAlone, codes_listed, codes_named};
+ghost use Rattle.gtd_warnings.specs.Naming as spec;
+ghost use Rattle.gtd_warnings.specs.Naming.{AreNamings, IsFirstFrom, IsNaming, NoneFrom};
 
 use csv::{ByteRecord, Reader};
 use gtd_core::limits::MOST_ROWS;
@@ -48,7 +48,8 @@ fn types_of_rows(
     reader: &mut Reader<&[u8]>,
     row: &mut ByteRecord,
 ) -> Result<Vec<Option<Vehicles>>, AllocError>
-    ensures { (rows : List Fields) → HasLeft (λ source. Some source.now) reader.old rows
+    ensures few { IfOk result (λ types. length types.items ≤ most_rows) }
+    ensures named { (rows : List Fields) → HasLeft (λ source. Some source.now) reader.old rows
         → IfOk result (λ types. AreNamings version 1 (take most_rows rows) types.items) }
 {
     let mut types = Vec::new(alloc);
@@ -75,14 +76,28 @@ fn codes_of(types: &Option<Vehicles>) -> &[u8]
     }
 }
 
+// Whether a column names a code.
+fn names(types: &Option<Vehicles>, code: u8) -> bool
+    ensures { IsTrue result ↔ Contains (codes_listed types.now) code }
+{
+    codes_of(types).contains(&code)
+}
+
+// Whether it names some.
+fn names_some(types: &Option<Vehicles>) -> bool
+    ensures { result ≡ spec.names_some types.now }
+{
+    !codes_of(types).is_empty()
+}
+
 // How many of these rows name a code.
 fn count_naming(types: &[Option<Vehicles>]) -> usize
     ensures few { result ≤ length types.now }
-    ensures count { result ≡ naming (map codes_listed types.now) }
+    ensures count { result ≡ count_by spec.names_some types.now }
 {
     let mut count = 0;
     for one in types {
-        if !codes_of(one).is_empty() {
+        if names_some(one) {
             count += 1;
         }
     }
@@ -91,11 +106,12 @@ fn count_naming(types: &[Option<Vehicles>]) -> usize
 
 // The first row from this one on that names a code: how many rows stand before it.
 fn first_from(types: &[Option<Vehicles>], from: usize, code: u8) -> Option<usize>
-    ensures first { MatchOption result (NoneFrom types.now code from) (IsFirstFrom types.now code from) }
-    ensures within { MatchOption result (from ≤ from) (λ before. before ≤ length types.now) }
+    ensures first { MatchOption result (NoneFrom (map codes_listed types.now) code from)
+        (IsFirstFrom (map codes_listed types.now) code from) }
+    ensures within { IfSome result (λ before. before < length types.now) }
 {
     for before in from..types.len() {
-        if codes_of(&types[before]).contains(&code) {
+        if names(&types[before], code) {
             return Some(before);
         }
     }
@@ -104,7 +120,9 @@ fn first_from(types: &[Option<Vehicles>], from: usize, code: u8) -> Option<usize
 
 // The row that names a code alone: how many rows stand before it.
 fn only_one(types: &[Option<Vehicles>], code: u8) -> Option<usize>
-    ensures { MatchOption result ((before : ℕ) → IsOnlyOne types.now code before → ⊥) (IsOnlyOne types.now code) }
+    ensures one { MatchOption result ((before : ℕ) → NamesAlone (map codes_listed types.now) code before → ⊥)
+        (NamesAlone (map codes_listed types.now) code) }
+    ensures within { IfSome result (λ before. before < length types.now) }
 {
     let Some(before) = first_from(types, 0, code) else {
         return None;

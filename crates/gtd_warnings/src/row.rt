@@ -98,7 +98,8 @@ fn push_told_of(
     let throughout = rule_throughout(alloc, domain)?;
     push_found(told, off, row, domain, throughout)?;
     let on_day = rule_on_given(alloc, domain, asked.days)?;
-    push_found(told, off, row, domain, on_day)
+    push_found(told, off, row, domain, on_day)?;
+    Ok(())
 }
 
 /// Appends what is told of the row with this number.

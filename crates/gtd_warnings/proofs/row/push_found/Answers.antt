@@ -4,7 +4,7 @@ use Rattle.gtd_mistakes.specs.declared.rule.Rule.{Rule}
 use Rattle.gtd_mistakes.specs.Told.{told_at}
 use Rattle.gtd_warnings.proofs.row.push_found.Goals as goal
 
-abbrev same_some : (a b : Rule) → ◌≡◌ {A = Option Rule} (Some a) (Some b) → a ≡ b
+same_some : (a b : Rule) → ◌≡◌ {A = Option Rule} (Some a) (Some b) → a ≡ b
 same_some a b e = cc
 
 pub returns-then-is_off : goal.returns-then-is_off

@@ -1,0 +1,28 @@
+use Rattle.std.proofs.Common.{◌≡◌, ◌∙◌, ap, refl, append_assoc, ◌++◌, List, ℕ}
+use Rattle.gtd_core.specs.Parts.{domain_tree}
+use Rattle.gtd_mistakes.specs.declared.told.Told.{Told}
+use Rattle.gtd_warnings.specs.Extents.{HoldsThroughout}
+use Rattle.gtd_warnings.specs.RowsTold.{IsOnDay}
+use Rattle.gtd_warnings.proofs.DayFacts.{on_day, throughout, three_parts}
+use Rattle.gtd_warnings.proofs.row.push_told_of.Goals as goal
+
+pub returns : goal.returns
+returns c =
+    let tree = domain_tree c.in-Some.domain in
+    let off = c.args.asked.now.off.items in
+    let first = rw c.as_slice-off.ensures.value at c.in_ok-push_told.ensures.told in
+    let second = rw c.as_slice-off.ensures.value at c.in_ok-push_found.ensures in
+    let third = rw c.as_slice-off.ensures.value at c.in_ok-push_found-2.ensures in
+    rw (c.in-Some.is) (
+      (first.0 ++ second.0) ++ third.0,
+      (
+        first.0,
+        second.0,
+        third.0,
+        first.1,
+        throughout c.args.row off tree c.in_ok-throughout.throughout c.in_ok-throughout.ensures second.0 second.1,
+        on_day c.args.row off tree c.args.asked.now.days c.in_ok-on_day.on_day c.in_ok-on_day.ensures third.0 third.1,
+        refl,
+      ),
+      three_parts c.args.told.now.items _ _ _ first.0 second.0 third.0 first.2 second.2 third.2,
+    )
