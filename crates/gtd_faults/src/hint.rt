@@ -179,7 +179,10 @@ impl Display for HintText {
             Hint::Capitals => write!(f, "there are capital letters in the header; use small ones"),
             Hint::Quotes => write!(f, "quotes make one field of several; remove them"),
             Hint::Names => {
-                write!(f, "it has four fields, but other names; write the header in its place, or above it")
+                write!(
+                    f,
+                    "it has four fields, but other names; write the header in its place, or above it"
+                )
             }
         }
     }

@@ -121,7 +121,10 @@ impl Display for LoneText {
     fn fmt<W: fmt::Write>(&self, f: &mut Formatter<W>) -> fmt::Result {
         let row = self.0.row;
         let code = self.0.code;
-        write!(f, "row {row}: lone-code: a vehicle type that no other row names: {code}")
+        write!(
+            f,
+            "row {row}: lone-code: a vehicle type that no other row names: {code}"
+        )
     }
 }
 
