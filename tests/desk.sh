@@ -224,9 +224,9 @@ listed 'a field of 100 columns' "$top_line$(times 100 x)"$',both,0,\n' \
 listed 'a longer field' "$top_line$(times 101 x)"$',both,0,\n' \
     $'bad.csv:2: row 1: Element\n    '"$(times 50 x)"$'...\n    ^\n    expected: 1 to 10 digits'
 listed 'a domain cut on both sides' "$top_line"$'1,both,0,'"$(times 60 ' ')(h25){h1}$(times 60 ' ')"$'\n' \
-    $'bad.csv:2: row 1: Domain FieldRange at 61\n    ...'"$(times 39 ' ')(h25){h1}$(times 42 ' ')"$'...\n'"$(times 47 ' ')^"$'\n    expected: a number in the range of its letter, with its digits'
+    $'bad.csv:2: row 1: Domain FieldRange at 61\n    ...'"$(times 39 ' ')(h25){h1}$(times 42 ' ')"$'...\n'"$(times 47 ' ')^"$'\n    expected: 0 to 23 for an hour'
 listed 'a domain cut on the left' "$top_line"$'1,both,0,'"$(times 100 ' ')(h25){h1}"$'\n' \
-    $'bad.csv:2: row 1: Domain FieldRange at 101\n    ...'"$(times 39 ' ')(h25){h1}"$'\n'"$(times 47 ' ')^"$'\n    expected: a number in the range of its letter, with its digits'
+    $'bad.csv:2: row 1: Domain FieldRange at 101\n    ...'"$(times 39 ' ')(h25){h1}"$'\n'"$(times 47 ' ')^"$'\n    expected: 0 to 23 for an hour'
 listed 'a field cut where bytes are shown escaped' "$top_line$(times 26 '\\')"$',both,0,\n' \
     $'bad.csv:2: row 1: Element\n    '"$(times 12 '\\x5c')"$'...\n    ^\n    expected: 1 to 10 digits'
 listed 'a first line that is cut' "$(times 101 x)"$'\n' $'bad.csv:1: Header\n    found:    '"$(times 50 x)"$'...\n'"$expected"
@@ -316,18 +316,18 @@ expect 'a domain too large' 1 '' 'gtdesk: TEXT: TooMany at 0'
 run hours $'Mo\xff'
 expect 'hours that are no text' 2 '' "gtdesk: command line: a word is no text $see"
 
-# Warnings: after the faults, of rows whose domain never or always holds.
+# Warnings: after the faults.
 printf '%s\n' element,direction,vehicle,domain '1,both,0,[(h5){h1}]*[(h7){h1}]' '2,both,0,(h0){h24}' '3,up,0,' \
-    '4,both,0,(h7){h2}' 5,both,0, '6,both,0,(y1800){y1}' '7,both,0,(M2d30){d1}' > warn.csv
+    '4,both,0,(h7){h2}' 5,both,0, '6,both,0,(y1800){y1}' > warn.csv
+never=$'never-holds: at no second\n    ' always=$'always-holds: at each second, as if no domain were given\n    (h0){h24}\n    ^'
 run faults --warn warn.csv
-expect 'faults and warnings' 1 $'warn.csv:4: row 3: Direction\n    up\n    ^\n    expected: positive, negative or both\nwarn.csv:2: row 1: never holds
-warn.csv:3: row 2: always holds\nwarn.csv:7: row 6: never holds\nwarn.csv:8: row 7: never holds' ''
+expect 'faults and warnings' 1 $'warn.csv:4: row 3: Direction\n    up\n    ^\n    expected: positive, negative or both\nwarn.csv:2: row 1: '\
+"$never"$'[(h5){h1}]*[(h7){h1}]\n     ^\nwarn.csv:3: row 2: '"$always"$'\nwarn.csv:7: row 6: '"$never"$'(y1800){y1}\n    ^' ''
 run faults warn.csv
 expect 'faults without warnings' 1 $'warn.csv:4: row 3: Direction\n    up\n    ^\n    expected: positive, negative or both' ''
-sed -i 4d warn.csv
+sed -i -e 4d -e 2d warn.csv
 run faults warn.csv --warn
-expect 'warnings alone' 0 $'warn.csv:2: row 1: never holds\nwarn.csv:3: row 2: always holds
-warn.csv:6: row 5: never holds\nwarn.csv:7: row 6: never holds' ''
+expect 'warnings alone' 0 "warn.csv:2: row 1: $always"$'\nwarn.csv:5: row 4: '"$never"$'(y1800){y1}\n    ^' ''
 
 # Scripts of their own: a long file that is mended by what is printed of it, and the words and pictures of the gallery.
 for script in mend.py gallery.py; do
