@@ -12,6 +12,7 @@ use crate::change::Change;
 use gtd_calendar::write_stamp;
 use gtd_core::Sec;
 use gtd_records::Direction;
+use gtd_report::DirectedElement;
 use itoa::Buffer;
 use std::alloc::AllocError;
 
@@ -54,18 +55,17 @@ fn push_moment(line: &mut Vec<u8>, second: Sec, end: &[u8]) -> Result<(), AllocE
 // Writes the line of a change up to its last moment, and what stands behind it, in place of what the buffer held.
 fn write_start(
     line: &mut Vec<u8>,
-    element: u64,
-    direction: Direction,
+    at: DirectedElement,
     vehicle: u8,
     change: &Change,
     end: &[u8],
 ) -> Result<(), AllocError>
     requires from { IsCalendarDay (day_of_second (span_of change.now).from) }
     requires until { IsCalendarDay (day_of_second (span_of change.now).until) }
-    ensures start { OnOk result (line.new.items ≡ change_start element direction vehicle change.now ++ end.now) }
+    ensures start { OnOk result (line.new.items ≡ change_start at.element at.direction vehicle change.now ++ end.now) }
 {
     let span = change.span();
-    write_head(line, element, direction, vehicle)?;
+    write_head(line, at.element, at.direction, vehicle)?;
     push_word(line, change)?;
     push_moment(line, span.from(), b",")?;
     push_moment(line, span.until(), end)
@@ -74,16 +74,15 @@ fn write_start(
 /// Writes the line of a change, in place of what the buffer held.
 pub(crate) fn write_change(
     line: &mut Vec<u8>,
-    element: u64,
-    direction: Direction,
+    at: DirectedElement,
     vehicle: u8,
     change: &Change,
 ) -> Result<(), AllocError>
     requires from { IsCalendarDay (day_of_second (span_of change.now).from) }
     requires until { IsCalendarDay (day_of_second (span_of change.now).until) }
-    ensures line { OnOk result (line.new.items ≡ change_line element direction vehicle change.now) }
+    ensures line { OnOk result (line.new.items ≡ change_line at.element at.direction vehicle change.now) }
 {
-    write_start(line, element, direction, vehicle, change, b"\n")
+    write_start(line, at, vehicle, change, b"\n")
 }
 
 // Appends numbers to the buffer, in their order, with spaces between them.
@@ -104,8 +103,7 @@ fn push_numbers(line: &mut Vec<u8>, numbers: &[usize]) -> Result<(), AllocError>
 /// Writes the line of a change with rows of either file, in place of what the buffer held.
 pub(crate) fn write_rows(
     line: &mut Vec<u8>,
-    element: u64,
-    direction: Direction,
+    at: DirectedElement,
     vehicle: u8,
     change: &Change,
     old_rows: &[usize],
@@ -113,9 +111,9 @@ pub(crate) fn write_rows(
 ) -> Result<(), AllocError>
     requires from { IsCalendarDay (day_of_second (span_of change.now).from) }
     requires until { IsCalendarDay (day_of_second (span_of change.now).until) }
-    ensures line { OnOk result (line.new.items ≡ rows_line element direction vehicle change.now old_rows.now new_rows.now) }
+    ensures line { OnOk result (line.new.items ≡ rows_line at.element at.direction vehicle change.now old_rows.now new_rows.now) }
 {
-    write_start(line, element, direction, vehicle, change, b",")?;
+    write_start(line, at, vehicle, change, b",")?;
     push_numbers(line, old_rows)?;
     line.extend_from_slice(b",")?;
     push_numbers(line, new_rows)?;

@@ -11,18 +11,19 @@ use crate::change::Change;
 use crate::line::{write_change, write_rows};
 use gtd_core::Horizon;
 use gtd_eval::KeptCursor;
-use gtd_records::{Direction, Records, open_seconds};
+use gtd_records::{Records, open_seconds};
+use gtd_report::DirectedElement;
 use gtd_spans::{SpanSource, Without};
 use std::alloc::{AllocError, Global};
 
-/// An element in a direction and for a vehicle type, by two files.
+/// An element in a direction, for a vehicle type and over the days of a horizon, by two files.
 #[derive(Drop)]
 pub(crate) struct Place<'a> {
     pub(crate) old: &'a Records,
     pub(crate) new: &'a Records,
-    pub(crate) element: u64,
-    pub(crate) direction: Direction,
+    pub(crate) at: DirectedElement,
     pub(crate) vehicle: u8,
+    pub(crate) horizon: Horizon,
 }
 
 impl Place<'_> {
@@ -30,13 +31,13 @@ impl Place<'_> {
     pub(crate) fn opened(
         &self,
         alloc: Global,
-        horizon: Horizon,
     ) -> Result<Without<KeptCursor, KeptCursor>, AllocError>
         ensures opened { IfOk result (λ spans. IsNormalOver
-            (WasOpened self.now.old.now self.now.new.now self.now.element self.now.direction self.now.vehicle) horizon
-            (⟦<Without<KeptCursor, KeptCursor> as SpanSource>⟧.rest spans)) }
+            (WasOpened self.now.old.now self.now.new.now self.now.at.element self.now.at.direction self.now.vehicle)
+            self.now.horizon (⟦<Without<KeptCursor, KeptCursor> as SpanSource>⟧.rest spans)) }
     {
-        let (element, direction, vehicle) = (self.element, self.direction, self.vehicle);
+        let (element, direction) = (self.at.element, self.at.direction);
+        let (vehicle, horizon) = (self.vehicle, self.horizon);
         let is_open = open_seconds(alloc, self.new, element, direction, vehicle, horizon)?;
         let was_open = open_seconds(alloc, self.old, element, direction, vehicle, horizon)?;
         Ok(Without::new(is_open, was_open))
@@ -46,13 +47,13 @@ impl Place<'_> {
     pub(crate) fn closed(
         &self,
         alloc: Global,
-        horizon: Horizon,
     ) -> Result<Without<KeptCursor, KeptCursor>, AllocError>
         ensures closed { IfOk result (λ spans. IsNormalOver
-            (WasClosed self.now.old.now self.now.new.now self.now.element self.now.direction self.now.vehicle) horizon
-            (⟦<Without<KeptCursor, KeptCursor> as SpanSource>⟧.rest spans)) }
+            (WasClosed self.now.old.now self.now.new.now self.now.at.element self.now.at.direction self.now.vehicle)
+            self.now.horizon (⟦<Without<KeptCursor, KeptCursor> as SpanSource>⟧.rest spans)) }
     {
-        let (element, direction, vehicle) = (self.element, self.direction, self.vehicle);
+        let (element, direction) = (self.at.element, self.at.direction);
+        let (vehicle, horizon) = (self.vehicle, self.horizon);
         let was_open = open_seconds(alloc, self.old, element, direction, vehicle, horizon)?;
         let is_open = open_seconds(alloc, self.new, element, direction, vehicle, horizon)?;
         Ok(Without::new(was_open, is_open))
@@ -69,20 +70,20 @@ impl Place<'_> {
         requires from { IsCalendarDay (day_of_second (span_of change.now).from) }
         requires until { IsCalendarDay (day_of_second (span_of change.now).until) }
         requires in_range { IsHorizonSecond (span_of change.now).from }
-        ensures line { OnOk result (line.new.items ≡ full_line self.now.old.now self.now.new.now self.now.vehicle self.now.element
-            self.now.direction change.now) }
+        ensures line { OnOk result (line.new.items ≡ full_line self.now.old.now self.now.new.now self.now.vehicle
+            self.now.at.element self.now.at.direction change.now) }
     {
         let first = change.span().from();
+        let (element, direction, vehicle) = (self.at.element, self.at.direction, self.vehicle);
         let old_rows = self
             .old
-            .closing_rows(alloc, self.element, self.direction, self.vehicle, first)?;
+            .closing_rows(alloc, element, direction, vehicle, first)?;
         let new_rows = self
             .new
-            .closing_rows(alloc, self.element, self.direction, self.vehicle, first)?;
+            .closing_rows(alloc, element, direction, vehicle, first)?;
         write_rows(
             line,
-            self.element,
-            self.direction,
+            self.at,
             self.vehicle,
             change,
             old_rows.as_slice(),
@@ -102,12 +103,12 @@ impl Place<'_> {
         requires until { IsCalendarDay (day_of_second (span_of change.now).until) }
         requires in_range { IsHorizonSecond (span_of change.now).from }
         ensures line { OnOk result (line.new.items ≡ line_with self.now.old.now self.now.new.now self.now.vehicle
-            self.now.element self.now.direction with_rows change.now) }
+            self.now.at.element self.now.at.direction with_rows change.now) }
     {
         if with_rows {
             self.write_full(alloc, line, change)
         } else {
-            write_change(line, self.element, self.direction, self.vehicle, change)
+            write_change(line, self.at, self.vehicle, change)
         }
     }
 }

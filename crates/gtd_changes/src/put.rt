@@ -12,11 +12,9 @@ ghost use Rattle.gtd_changes.specs.facts.ToldFacts.{AreTold};
 
 use crate::ahead::{Ahead, next_change};
 use crate::place::Place;
-use gtd_core::Horizon;
 use gtd_devices::Output;
-use gtd_report::{Progress, Stop, put_line};
+use gtd_report::{Printer, Progress, Stop, put_line};
 use gtd_spans::SpanSource;
-use std::alloc::Global;
 
 /// The most bytes that are put of an element in a direction: 80 for each second of the longest horizon. Lines without rows never
 /// have more.
@@ -49,10 +47,8 @@ fn put_within<O: Output>(
 
 // Puts a line for each change that two sources hand out.
 fn put_changed<O: Output, A: SpanSource, B: SpanSource>(
-    alloc: Global,
     output: &mut O,
-    progress: &mut Progress,
-    line: &mut Vec<u8>,
+    printer: &mut Printer,
     place: &Place<'_>,
     with_rows: bool,
     opened: &mut A,
@@ -61,12 +57,12 @@ fn put_changed<O: Output, A: SpanSource, B: SpanSource>(
     requires countable { O.failure_count output.old < u64.MAX }
     requires opened { AreTold (A.rest opened.old) }
     requires closed { AreTold (B.rest closed.old) }
-    requires written { progress.old.written + most_direction_bytes < 2 ^ 64 }
-    requires lines { progress.old.lines + (length (A.rest opened.old) + length (B.rest closed.old)) < 2 ^ 64 }
-    ensures puts { Puts result (O.taken output.old) (O.taken output.new) progress.old progress.new
-        (map (line_with place.now.old.now place.now.new.now place.now.vehicle place.now.element place.now.direction with_rows)
-        (by_from (A.rest opened.old) (B.rest closed.old))) }
-    ensures near { OnOk result (progress.new.written ≤ progress.old.written + most_direction_bytes) }
+    requires written { printer.old.progress.written + most_direction_bytes < 2 ^ 64 }
+    requires lines { printer.old.progress.lines + (length (A.rest opened.old) + length (B.rest closed.old)) < 2 ^ 64 }
+    ensures puts { Puts result (O.taken output.old) (O.taken output.new) printer.old.progress printer.new.progress
+        (map (line_with place.now.old.now place.now.new.now place.now.vehicle place.now.at.element place.now.at.direction
+        with_rows) (by_from (A.rest opened.old) (B.rest closed.old))) }
+    ensures near { OnOk result (printer.new.progress.written ≤ printer.old.progress.written + most_direction_bytes) }
     ensures failures { O.failure_count output.new
         ≡ failures_after_stop result (O.failure_count output.old) }
 {
@@ -76,77 +72,66 @@ fn put_changed<O: Output, A: SpanSource, B: SpanSource>(
         closed: closed.next(),
     };
     while let Some(change) = next_change(opened, closed, &mut ahead) {
-        place.write(alloc, line, with_rows, &change)?;
-        put_within(output, progress, line.as_slice(), &mut room)?;
+        place.write(printer.alloc, &mut printer.line, with_rows, &change)?;
+        put_within(
+            output,
+            &mut printer.progress,
+            printer.line.as_slice(),
+            &mut room,
+        )?;
     }
     Ok(())
 }
 
 // Puts the lines of an element in a direction. Two sources hand out the spans in which it was opened and closed.
 fn put_changed_spans<O: Output, A: SpanSource, B: SpanSource>(
-    alloc: Global,
     output: &mut O,
-    progress: &mut Progress,
-    line: &mut Vec<u8>,
+    printer: &mut Printer,
     place: &Place<'_>,
     with_rows: bool,
-    _horizon: Horizon,
     opened: &mut A,
     closed: &mut B,
 ) -> Result<(), Stop>
     requires countable { O.failure_count output.old < u64.MAX }
-    requires written { progress.old.written + most_direction_bytes < 2 ^ 64 }
-    requires lines { progress.old.lines + most_direction_lines < 2 ^ 64 }
+    requires written { printer.old.progress.written + most_direction_bytes < 2 ^ 64 }
+    requires lines { printer.old.progress.lines + most_direction_lines < 2 ^ 64 }
     requires opened { IsNormalOver
-        (WasOpened place.now.old.now place.now.new.now place.now.element place.now.direction place.now.vehicle) _horizon
-        (A.rest opened.old) }
+        (WasOpened place.now.old.now place.now.new.now place.now.at.element place.now.at.direction place.now.vehicle)
+        place.now.horizon (A.rest opened.old) }
     requires closed { IsNormalOver
-        (WasClosed place.now.old.now place.now.new.now place.now.element place.now.direction place.now.vehicle) _horizon
-        (B.rest closed.old) }
-    ensures puts { PutsText (AreLinesIn (form_with with_rows) place.now.old.now place.now.new.now place.now.vehicle _horizon
-        place.now.element place.now.direction) result (O.taken output.old) (O.taken output.new) progress.old progress.new }
-    ensures near { OnOk result ((progress.new.written ≤ progress.old.written + most_direction_bytes)
-        × (progress.new.lines ≤ progress.old.lines + most_direction_lines)) }
+        (WasClosed place.now.old.now place.now.new.now place.now.at.element place.now.at.direction place.now.vehicle)
+        place.now.horizon (B.rest closed.old) }
+    ensures puts { PutsText (AreLinesIn (form_with with_rows) place.now.old.now place.now.new.now place.now.vehicle
+        place.now.horizon place.now.at.element place.now.at.direction) result
+        (O.taken output.old) (O.taken output.new) printer.old.progress printer.new.progress }
+    ensures near { OnOk result ((printer.new.progress.written ≤ printer.old.progress.written + most_direction_bytes)
+        × (printer.new.progress.lines ≤ printer.old.progress.lines + most_direction_lines)) }
     ensures failures { O.failure_count output.new
         ≡ failures_after_stop result (O.failure_count output.old) }
 {
-    put_changed(
-        alloc, output, progress, line, place, with_rows, opened, closed,
-    )
+    put_changed(output, printer, place, with_rows, opened, closed)
 }
 
 /// Puts the lines of the changes of an element in a direction, with the rows that close it or without them: at most one for each
 /// second of the longest horizon.
 pub(crate) fn put_changes<O: Output>(
-    alloc: Global,
     output: &mut O,
-    progress: &mut Progress,
-    line: &mut Vec<u8>,
+    printer: &mut Printer,
     place: &Place<'_>,
     with_rows: bool,
-    horizon: Horizon,
 ) -> Result<(), Stop>
     requires countable { O.failure_count output.old < u64.MAX }
-    requires written { progress.old.written + most_direction_bytes < 2 ^ 64 }
-    requires lines { progress.old.lines + most_direction_lines < 2 ^ 64 }
-    ensures puts { PutsText (AreLinesIn (form_with with_rows) place.now.old.now place.now.new.now place.now.vehicle horizon
-        place.now.element place.now.direction) result (O.taken output.old) (O.taken output.new) progress.old progress.new }
-    ensures near { OnOk result ((progress.new.written ≤ progress.old.written + most_direction_bytes)
-        × (progress.new.lines ≤ progress.old.lines + most_direction_lines)) }
+    requires written { printer.old.progress.written + most_direction_bytes < 2 ^ 64 }
+    requires lines { printer.old.progress.lines + most_direction_lines < 2 ^ 64 }
+    ensures puts { PutsText (AreLinesIn (form_with with_rows) place.now.old.now place.now.new.now place.now.vehicle
+        place.now.horizon place.now.at.element place.now.at.direction) result
+        (O.taken output.old) (O.taken output.new) printer.old.progress printer.new.progress }
+    ensures near { OnOk result ((printer.new.progress.written ≤ printer.old.progress.written + most_direction_bytes)
+        × (printer.new.progress.lines ≤ printer.old.progress.lines + most_direction_lines)) }
     ensures failures { O.failure_count output.new
         ≡ failures_after_stop result (O.failure_count output.old) }
 {
-    let mut opened = place.opened(alloc, horizon)?;
-    let mut closed = place.closed(alloc, horizon)?;
-    put_changed_spans(
-        alloc,
-        output,
-        progress,
-        line,
-        place,
-        with_rows,
-        horizon,
-        &mut opened,
-        &mut closed,
-    )
+    let mut opened = place.opened(printer.alloc)?;
+    let mut closed = place.closed(printer.alloc)?;
+    put_changed_spans(output, printer, place, with_rows, &mut opened, &mut closed)
 }

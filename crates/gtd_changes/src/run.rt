@@ -16,7 +16,7 @@ use crate::text::{ChangeLines, header_in};
 use gtd_core::Horizon;
 use gtd_devices::{Input, Output};
 use gtd_records::{RecordFault, Records, read_records};
-use gtd_report::{Progress, Report, RunFault, Stop, Subject, put_listed, run_report};
+use gtd_report::{Printer, Report, RunFault, Stop, Subject, put_listed, run_report};
 use std::alloc::Global;
 
 // What two files say differently: the old one is read.
@@ -43,26 +43,18 @@ impl Report for Changes<'_> {
 
     fn put<O: Output>(
         &self,
-        alloc: Global,
         output: &mut O,
-        progress: &mut Progress,
+        printer: &mut Printer,
         found: &Records,
     ) -> Result<(), Stop> {
-        let elements = elements_of_both(alloc, self.old, found)?;
-        let pair = Pair::new(alloc, self.old, found)?;
+        let elements = elements_of_both(printer.alloc, self.old, found)?;
+        let pair = Pair::new(printer.alloc, self.old, found)?;
         let lines = ChangeLines {
             pair: &pair,
             asked: self.asked,
         };
-        put_listed(
-            alloc,
-            output,
-            progress,
-            found,
-            elements.as_slice(),
-            header_in(self.asked.form),
-            &lines,
-        )
+        let header = header_in(self.asked.form);
+        put_listed(output, printer, found, elements.as_slice(), header, &lines)
     }
 }
 

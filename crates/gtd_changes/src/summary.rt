@@ -14,21 +14,22 @@ use crate::place::Place;
 use gtd_core::{Horizon, Span};
 use gtd_devices::Output;
 use gtd_records::{Direction, Records, open_seconds};
-use gtd_report::{Progress, Stop, put_line};
+use gtd_report::{Printer, Stop, put_line};
 use gtd_spans::SpanSource;
 use itoa::Buffer;
 use std::alloc::{AllocError, Global};
 
 // Whether it was opened or closed at some second of the horizon.
-fn differs(alloc: Global, place: &Place<'_>, horizon: Horizon) -> Result<bool, AllocError>
+fn differs(alloc: Global, place: &Place<'_>) -> Result<bool, AllocError>
     ensures differs { IfOk result (λ is. IsTrue is
-        ↔ Differs place.now.old.now place.now.new.now place.now.vehicle horizon place.now.element place.now.direction) }
+        ↔ Differs place.now.old.now place.now.new.now place.now.vehicle place.now.horizon
+        place.now.at.element place.now.at.direction) }
 {
-    let mut opened = place.opened(alloc, horizon)?;
+    let mut opened = place.opened(alloc)?;
     if opened.next().is_some() {
         return Ok(true);
     }
-    let mut closed = place.closed(alloc, horizon)?;
+    let mut closed = place.closed(alloc)?;
     Ok(closed.next().is_some())
 }
 
@@ -87,17 +88,13 @@ fn write_seconds(
 }
 
 // Writes the line of an element in a direction, in place of what the buffer held.
-fn write_summary(
-    alloc: Global,
-    line: &mut Vec<u8>,
-    place: &Place<'_>,
-    horizon: Horizon,
-) -> Result<(), AllocError>
-    ensures line { OnOk result (IsSummaryLine place.now.old.now place.now.new.now place.now.vehicle horizon place.now.element
-        place.now.direction line.new.items) }
+fn write_summary(alloc: Global, line: &mut Vec<u8>, place: &Place<'_>) -> Result<(), AllocError>
+    ensures line { OnOk result (IsSummaryLine place.now.old.now place.now.new.now place.now.vehicle place.now.horizon
+        place.now.at.element place.now.at.direction line.new.items) }
     ensures short { OnOk result (length line.new.items ≤ 100) }
 {
-    let (element, direction, vehicle) = (place.element, place.direction, place.vehicle);
+    let (element, direction) = (place.at.element, place.at.direction);
+    let (vehicle, horizon) = (place.vehicle, place.horizon);
     let old_seconds = open_count(alloc, place.old, element, direction, vehicle, horizon)?;
     let new_seconds = open_count(alloc, place.new, element, direction, vehicle, horizon)?;
     write_seconds(line, element, direction, vehicle, old_seconds, new_seconds)
@@ -105,27 +102,25 @@ fn write_summary(
 
 /// Puts the line of an element in a direction, if it differs.
 pub(crate) fn put_summary<O: Output>(
-    alloc: Global,
     output: &mut O,
-    progress: &mut Progress,
-    line: &mut Vec<u8>,
+    printer: &mut Printer,
     place: &Place<'_>,
-    horizon: Horizon,
 ) -> Result<(), Stop>
     requires countable { O.failure_count output.old < u64.MAX }
-    requires written { progress.old.written + most_direction_bytes < 2 ^ 64 }
-    requires lines { progress.old.lines + most_direction_lines < 2 ^ 64 }
-    ensures puts { PutsText (AreSummaryLines place.now.old.now place.now.new.now place.now.vehicle horizon place.now.element
-        place.now.direction) result (O.taken output.old) (O.taken output.new) progress.old progress.new }
-    ensures near { OnOk result ((progress.new.written ≤ progress.old.written + most_direction_bytes)
-        × (progress.new.lines ≤ progress.old.lines + most_direction_lines)) }
+    requires written { printer.old.progress.written + most_direction_bytes < 2 ^ 64 }
+    requires lines { printer.old.progress.lines + most_direction_lines < 2 ^ 64 }
+    ensures puts { PutsText (AreSummaryLines place.now.old.now place.now.new.now place.now.vehicle place.now.horizon
+        place.now.at.element place.now.at.direction) result
+        (O.taken output.old) (O.taken output.new) printer.old.progress printer.new.progress }
+    ensures near { OnOk result ((printer.new.progress.written ≤ printer.old.progress.written + most_direction_bytes)
+        × (printer.new.progress.lines ≤ printer.old.progress.lines + most_direction_lines)) }
     ensures failures { O.failure_count output.new
         ≡ failures_after_stop result (O.failure_count output.old) }
 {
-    if !differs(alloc, place, horizon)? {
+    if !differs(printer.alloc, place)? {
         return Ok(());
     }
-    write_summary(alloc, line, place, horizon)?;
-    put_line(output, progress, line.as_slice())?;
+    write_summary(printer.alloc, &mut printer.line, place)?;
+    put_line(output, &mut printer.progress, printer.line.as_slice())?;
     Ok(())
 }

@@ -10,9 +10,8 @@ use crate::place::Place;
 use crate::put::put_changes;
 use crate::summary::put_summary;
 use gtd_devices::Output;
-use gtd_records::{Direction, Records};
-use gtd_report::{DirectionLines, ElementLines, Progress, Stop, put_both};
-use std::alloc::Global;
+use gtd_records::Records;
+use gtd_report::{DirectedElement, DirectionLines, ElementLines, Printer, Stop, put_both};
 
 /// The lines of what two files say differently.
 #[derive(Drop)]
@@ -39,31 +38,25 @@ impl DirectionLines for ChangeLines<'_> {
 
     fn put_direction<O: Output>(
         &self,
-        alloc: Global,
         output: &mut O,
-        progress: &mut Progress,
-        line: &mut Vec<u8>,
+        printer: &mut Printer,
         _found: &Records,
-        element: u64,
-        direction: Direction,
+        at: DirectedElement,
     ) -> Result<(), Stop> {
-        if !self.pair.may_differ(element) {
+        if !self.pair.may_differ(at.element) {
             return Ok(());
         }
         let place = Place {
             old: self.pair.old,
             new: self.pair.new,
-            element,
-            direction,
+            at,
             vehicle: self.asked.vehicle,
+            horizon: self.asked.horizon,
         };
-        let horizon = self.asked.horizon;
         match self.asked.form {
-            Form::Intervals => {
-                put_changes(alloc, output, progress, line, &place, false, horizon)
-            }
-            Form::Rows => put_changes(alloc, output, progress, line, &place, true, horizon),
-            Form::Summary => put_summary(alloc, output, progress, line, &place, horizon),
+            Form::Intervals => put_changes(output, printer, &place, false),
+            Form::Rows => put_changes(output, printer, &place, true),
+            Form::Summary => put_summary(output, printer, &place),
         }
     }
 }
@@ -74,13 +67,11 @@ impl ElementLines for ChangeLines<'_> {
 
     fn put_element<O: Output>(
         &self,
-        alloc: Global,
         output: &mut O,
-        progress: &mut Progress,
-        line: &mut Vec<u8>,
+        printer: &mut Printer,
         found: &Records,
         element: u64,
     ) -> Result<(), Stop> {
-        put_both(alloc, output, progress, line, found, element, self)
+        put_both(output, printer, found, element, self)
     }
 }

@@ -6,7 +6,7 @@ use Rattle.gtd_changes.proofs.line.write_change.Goals as goal
 pub returns : goal.returns
 returns c = record {
   line = on_ok c.write_start.result _
-      (c.write_start.new.line.items ≡ change_line c.args.element c.args.direction c.args.vehicle c.args.change.now)
-      (λ e. e ∙ line_of c.args.element c.args.direction c.args.vehicle c.args.change.now)
+      (c.write_start.new.line.items ≡ change_line c.args.at.element c.args.at.direction c.args.vehicle c.args.change.now)
+      (λ e. e ∙ line_of c.args.at.element c.args.at.direction c.args.vehicle c.args.change.now)
       c.write_start.ensures.start;
 }

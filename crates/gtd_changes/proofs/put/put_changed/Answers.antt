@@ -46,11 +46,11 @@ pub returns-in_err-write-clause-puts : goal.returns-in_err-write-clause-puts
 returns-in_err-write-clause-puts g c =
     let p = err_from_is_err_and c.from_residual.result c.from_residual.ensures.1 in
     let b = g.O.Output.taken c.loop-change.output in
-    let q = c.loop-change.progress in
+    let q = c.loop-change.printer.progress in
     let left = by_from (with_ahead c.loop-change.ahead.opened (g.A.SpanSource.rest c.loop-change.opened))
     (with_ahead c.loop-change.ahead.closed (g.B.SpanSource.rest c.loop-change.closed)) in
-    let f = line_with c.args.place.now.old.now c.args.place.now.new.now c.args.place.now.vehicle c.args.place.now.element
-    c.args.place.now.direction c.args.with_rows in
+    let f = line_with c.args.place.now.old.now c.args.place.now.new.now c.args.place.now.vehicle c.args.place.now.at.element
+    c.args.place.now.at.direction c.args.with_rows in
     rw (p.1) (c.loop-change.invariant.carries (Err p.0) b q (puts_nothing p.0 b q (map f left)))
 
 pub put_within-requires-clause-written : goal.put_within-requires-clause-written
@@ -62,15 +62,15 @@ put_within-requires-clause-written g c =
 pub put_within-requires-clause-lines : goal.put_within-requires-clause-lines
 put_within-requires-clause-lines g c =
     let i = c.loop-change.invariant in
-    (room_lines c.loop-change.progress.lines c.args.progress.now.lines
+    (room_lines c.loop-change.printer.progress.lines c.args.printer.now.progress.lines
     (length (g.A.SpanSource.rest c.args.opened.now) + length (g.B.SpanSource.rest c.args.closed.now)) _
     (rw (c.in-Some.ensures.takes) at i.lines) c.requires.lines).0
 
 pub loop-change-preserved : goal.loop-change-preserved
 loop-change-preserved g c =
     let i = c.loop-change.invariant in
-    let f = line_with c.args.place.now.old.now c.args.place.now.new.now c.args.place.now.vehicle c.args.place.now.element
-    c.args.place.now.direction c.args.with_rows in
+    let f = line_with c.args.place.now.old.now c.args.place.now.new.now c.args.place.now.vehicle c.args.place.now.at.element
+    c.args.place.now.at.direction c.args.with_rows in
     let x = c.in-Some.change in
     let takes = c.in-Some.ensures.takes in
     let is = c.as_slice.ensures.value ∙ c.in_ok-write.ensures.line in
@@ -78,45 +78,45 @@ loop-change-preserved g c =
     let a = g.O.Output.taken c.args.output.now in
     let b = g.O.Output.taken c.loop-change.output in
     let t = g.O.Output.taken c.put_within.new.output in
-    let one : Puts (Ok tt) b t c.loop-change.progress c.put_within.new.progress (f x ∷ []) =
+    let one : Puts (Ok tt) b t c.loop-change.printer.progress c.put_within.new.progress (f x ∷ []) =
     put_is (f x) c.as_slice.result.now
-    (λ (line : List ℕ). Puts (Ok tt) b t c.loop-change.progress c.put_within.new.progress (line ∷ [])) is put.puts in
+    (λ (line : List ℕ). Puts (Ok tt) b t c.loop-change.printer.progress c.put_within.new.progress (line ∷ [])) is put.puts in
     let many = length (g.A.SpanSource.rest c.args.opened.now) + length (g.B.SpanSource.rest c.args.closed.now) in
-    let lines = (room_lines c.loop-change.progress.lines c.args.progress.now.lines many _
+    let lines = (room_lines c.loop-change.printer.progress.lines c.args.printer.now.progress.lines many _
     (rw takes at i.lines) c.requires.lines).1 in
     record {
       told = (told_first x _ _ i.told takes).1;
       written = put.room ∙ i.written;
       lines = rw put.lines lines;
       failures = put.failures ∙ i.failures;
-      carries = carries_one a b t c.args.progress.now c.loop-change.progress c.put_within.new.progress _ _ _ (f x) i.carries
-          (next_lines f x _ _ takes) one;
+      carries = carries_one a b t c.args.printer.now.progress c.loop-change.printer.progress c.put_within.new.progress _ _ _
+          (f x) i.carries (next_lines f x _ _ takes) one;
     }
 
 pub returns-in_err-put_within-clause-puts : goal.returns-in_err-put_within-clause-puts
 returns-in_err-put_within-clause-puts g c =
     let p = err_from_is_err_and c.from_residual-in_err-put_within.result c.from_residual-in_err-put_within.ensures.1 in
     let i = c.loop-change.invariant in
-    let f = line_with c.args.place.now.old.now c.args.place.now.new.now c.args.place.now.vehicle c.args.place.now.element
-    c.args.place.now.direction c.args.with_rows in
+    let f = line_with c.args.place.now.old.now c.args.place.now.new.now c.args.place.now.vehicle c.args.place.now.at.element
+    c.args.place.now.at.direction c.args.with_rows in
     let x = c.in-Some.change in
     let is = c.as_slice.ensures.value ∙ c.in_ok-write.ensures.line in
     let a = g.O.Output.taken c.args.output.now in
     let b = g.O.Output.taken c.loop-change.output in
     let t = g.O.Output.taken c.put_within.new.output in
-    let short : Puts (Err p.0) b t c.loop-change.progress c.put_within.new.progress (f x ∷ []) =
+    let short : Puts (Err p.0) b t c.loop-change.printer.progress c.put_within.new.progress (f x ∷ []) =
     put_is (f x) c.as_slice.result.now
-    (λ (line : List ℕ). Puts (Err p.0) b t c.loop-change.progress c.put_within.new.progress (line ∷ [])) is
+    (λ (line : List ℕ). Puts (Err p.0) b t c.loop-change.printer.progress c.put_within.new.progress (line ∷ [])) is
     c.in_err-put_within.ensures.puts in
-    rw (p.1) (carries_short a b t c.args.progress.now c.loop-change.progress c.put_within.new.progress _ _ _ (f x) p.0 i.carries
-    (next_lines f x _ _ c.in-Some.ensures.takes) short)
+    rw (p.1) (carries_short a b t c.args.printer.now.progress c.loop-change.printer.progress c.put_within.new.progress _ _ _
+    (f x) p.0 i.carries (next_lines f x _ _ c.in-Some.ensures.takes) short)
 
 pub returns-clause-puts : goal.returns-clause-puts
 returns-clause-puts g c =
-    carries_none (g.O.Output.taken c.args.output.now) (g.O.Output.taken c.loop-change.output) c.args.progress.now
-    c.loop-change.progress _ _ c.loop-change.invariant.carries
-    (ap (map (line_with c.args.place.now.old.now c.args.place.now.new.now c.args.place.now.vehicle c.args.place.now.element
-    c.args.place.now.direction c.args.with_rows)) c.in_default.ensures.takes.0)
+    carries_none (g.O.Output.taken c.args.output.now) (g.O.Output.taken c.loop-change.output) c.args.printer.now.progress
+    c.loop-change.printer.progress _ _ c.loop-change.invariant.carries
+    (ap (map (line_with c.args.place.now.old.now c.args.place.now.new.now c.args.place.now.vehicle c.args.place.now.at.element
+    c.args.place.now.at.direction c.args.with_rows)) c.in_default.ensures.takes.0)
 
 pub returns-clause-near : goal.returns-clause-near
 returns-clause-near g c = let i = c.loop-change.invariant.written in omega arith

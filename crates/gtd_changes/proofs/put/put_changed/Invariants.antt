@@ -11,16 +11,16 @@ abbrev pub invariant-loop-change : goal.invariant-loop-change
 invariant-loop-change g l = record {
   told : AllTold (by_from (with_ahead l.ahead.opened (g.A.SpanSource.rest l.opened))
       (with_ahead l.ahead.closed (g.B.SpanSource.rest l.closed)));
-  written : l.progress.written + l.room ≡ l.fn.progress.written + most_direction_bytes;
-  lines : l.progress.lines + length (by_from (with_ahead l.ahead.opened (g.A.SpanSource.rest l.opened))
+  written : l.printer.progress.written + l.room ≡ l.fn.printer.progress.written + most_direction_bytes;
+  lines : l.printer.progress.lines + length (by_from (with_ahead l.ahead.opened (g.A.SpanSource.rest l.opened))
       (with_ahead l.ahead.closed (g.B.SpanSource.rest l.closed)))
-      ≤ l.fn.progress.lines + (length (g.A.SpanSource.rest l.fn.opened) + length (g.B.SpanSource.rest l.fn.closed));
+      ≤ l.fn.printer.progress.lines + (length (g.A.SpanSource.rest l.fn.opened) + length (g.B.SpanSource.rest l.fn.closed));
   failures : g.O.Output.failure_count l.output ≡ g.O.Output.failure_count l.fn.output;
-  carries : Carries (g.O.Output.taken l.fn.output) l.fn.progress
-      (map (line_with l.place.old.now l.place.new.now l.place.vehicle l.place.element l.place.direction l.with_rows)
+  carries : Carries (g.O.Output.taken l.fn.output) l.fn.printer.progress
+      (map (line_with l.place.old.now l.place.new.now l.place.vehicle l.place.at.element l.place.at.direction l.with_rows)
       (by_from (g.A.SpanSource.rest l.fn.opened) (g.B.SpanSource.rest l.fn.closed)))
-      (g.O.Output.taken l.output) l.progress
-      (map (line_with l.place.old.now l.place.new.now l.place.vehicle l.place.element l.place.direction l.with_rows)
+      (g.O.Output.taken l.output) l.printer.progress
+      (map (line_with l.place.old.now l.place.new.now l.place.vehicle l.place.at.element l.place.at.direction l.with_rows)
       (by_from (with_ahead l.ahead.opened (g.A.SpanSource.rest l.opened))
       (with_ahead l.ahead.closed (g.B.SpanSource.rest l.closed))));
 }

@@ -29,22 +29,22 @@ near (Err x) a b p q f changes few puts written = tt
 pub put_changed-requires-clause-opened : goal.put_changed-requires-clause-opened
 put_changed-requires-clause-opened g c =
     let p = c.args.place.now in
-    normal_told (WasOpened p.old.now p.new.now p.element p.direction p.vehicle) c.args._horizon
+    normal_told (WasOpened p.old.now p.new.now p.at.element p.at.direction p.vehicle) p.horizon
     (g.A.SpanSource.rest c.args.opened.now) c.requires.opened
 
 pub put_changed-requires-clause-closed : goal.put_changed-requires-clause-closed
 put_changed-requires-clause-closed g c =
     let p = c.args.place.now in
-    normal_told (WasClosed p.old.now p.new.now p.element p.direction p.vehicle) c.args._horizon
+    normal_told (WasClosed p.old.now p.new.now p.at.element p.at.direction p.vehicle) p.horizon
     (g.B.SpanSource.rest c.args.closed.now) c.requires.closed
 
 pub put_changed-requires-clause-lines : goal.put_changed-requires-clause-lines
 put_changed-requires-clause-lines g c =
     let p = c.args.place.now in
     let few = few_both (length (g.A.SpanSource.rest c.args.opened.now)) (length (g.B.SpanSource.rest c.args.closed.now))
-    (few_normal (WasOpened p.old.now p.new.now p.element p.direction p.vehicle) c.args._horizon
+    (few_normal (WasOpened p.old.now p.new.now p.at.element p.at.direction p.vehicle) p.horizon
     (g.A.SpanSource.rest c.args.opened.now) c.requires.opened)
-    (few_normal (WasClosed p.old.now p.new.now p.element p.direction p.vehicle) c.args._horizon
+    (few_normal (WasClosed p.old.now p.new.now p.at.element p.at.direction p.vehicle) p.horizon
     (g.B.SpanSource.rest c.args.closed.now) c.requires.closed) in
     let room = c.requires.lines in
     omega arith
@@ -55,12 +55,12 @@ returns-clause-puts g c =
     let taken = g.O.Output.taken in
     let opened = g.A.SpanSource.rest c.args.opened.now in
     let closed = g.B.SpanSource.rest c.args.closed.now in
-    texts_of (AreLinesIn (form_with c.args.with_rows) p.old.now p.new.now p.vehicle c.args._horizon p.element p.direction)
+    texts_of (AreLinesIn (form_with c.args.with_rows) p.old.now p.new.now p.vehicle p.horizon p.at.element p.at.direction)
     c.put_changed.result
-    (taken c.args.output.now) (taken c.put_changed.new.output) c.args.progress.now c.put_changed.new.progress
-    (map (line_with p.old.now p.new.now p.vehicle p.element p.direction c.args.with_rows) (by_from opened closed))
-    (one_in p.old.now p.new.now p.vehicle c.args._horizon (form_with c.args.with_rows) p.element p.direction)
-    (lines_with p.old.now p.new.now p.vehicle c.args._horizon p.element p.direction c.args.with_rows opened closed
+    (taken c.args.output.now) (taken c.put_changed.new.output) c.args.printer.now.progress c.put_changed.new.printer.progress
+    (map (line_with p.old.now p.new.now p.vehicle p.at.element p.at.direction c.args.with_rows) (by_from opened closed))
+    (one_in p.old.now p.new.now p.vehicle p.horizon (form_with c.args.with_rows) p.at.element p.at.direction)
+    (lines_with p.old.now p.new.now p.vehicle p.horizon p.at.element p.at.direction c.args.with_rows opened closed
     c.requires.opened c.requires.closed)
     c.put_changed.ensures.puts
 
@@ -71,9 +71,9 @@ returns-clause-near g c =
     let opened = g.A.SpanSource.rest c.args.opened.now in
     let closed = g.B.SpanSource.rest c.args.closed.now in
     let few = few_both (length opened) (length closed)
-    (few_normal (WasOpened p.old.now p.new.now p.element p.direction p.vehicle) c.args._horizon opened c.requires.opened)
-    (few_normal (WasClosed p.old.now p.new.now p.element p.direction p.vehicle) c.args._horizon closed c.requires.closed) in
+    (few_normal (WasOpened p.old.now p.new.now p.at.element p.at.direction p.vehicle) p.horizon opened c.requires.opened)
+    (few_normal (WasClosed p.old.now p.new.now p.at.element p.at.direction p.vehicle) p.horizon closed c.requires.closed) in
     let many = many_both opened closed in
-    near c.put_changed.result (taken c.args.output.now) (taken c.put_changed.new.output) c.args.progress.now
-    c.put_changed.new.progress (line_with p.old.now p.new.now p.vehicle p.element p.direction c.args.with_rows)
+    near c.put_changed.result (taken c.args.output.now) (taken c.put_changed.new.output) c.args.printer.now.progress
+    c.put_changed.new.printer.progress (line_with p.old.now p.new.now p.vehicle p.at.element p.at.direction c.args.with_rows)
     (by_from opened closed) (omega (arith, few, many)) c.put_changed.ensures.puts c.put_changed.ensures.near

@@ -6,7 +6,7 @@ pub returns-then-is_some : goal.returns-then-is_some
 returns-then-is_some c =
     let p = c.args.place.now in
     record {
-      differs = told_by_opened p.old.now p.new.now p.vehicle c.args.horizon p.element p.direction _ _ c.next.result
+      differs = told_by_opened p.old.now p.new.now p.vehicle p.horizon p.at.element p.at.direction _ _ c.next.result
           c.next.ensures.takes (sym c.is_some.ensures ∙ c.if-is_some.true) c.in_ok-opened.ensures.opened;
     }
 
@@ -14,7 +14,7 @@ pub returns : goal.returns
 returns c =
     let p = c.args.place.now in
     record {
-      differs = told_by_closed p.old.now p.new.now p.vehicle c.args.horizon p.element p.direction _ _ _ _ c.next.result
+      differs = told_by_closed p.old.now p.new.now p.vehicle p.horizon p.at.element p.at.direction _ _ _ _ c.next.result
           c.next-2.result c.is_some-2.result c.next.ensures.takes (sym c.is_some.ensures ∙ c.if-is_some.false)
           c.next-2.ensures.takes c.is_some-2.ensures c.in_ok-opened.ensures.opened c.in_ok-closed.ensures.closed;
     }

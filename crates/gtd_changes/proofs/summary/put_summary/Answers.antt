@@ -10,19 +10,19 @@ use Rattle.gtd_changes.proofs.summary.put_summary.Goals as goal
 pub returns-in_err-differs-clause-puts : goal.returns-in_err-differs-clause-puts
 returns-in_err-differs-clause-puts g c =
     let p = err_from_is_err_and c.from_residual.result c.from_residual.ensures.1 in
-    rw (p.1) (λ lines are. puts_nothing p.0 (g.O.Output.taken c.args.output.now) c.args.progress.now lines)
+    rw (p.1) (λ lines are. puts_nothing p.0 (g.O.Output.taken c.args.output.now) c.args.printer.now.progress lines)
 
 pub returns-then-not-branch-clause-puts : goal.returns-then-not-branch-clause-puts
 returns-then-not-branch-clause-puts g c = (
   [],
   AreSummaryLines.same (λ d. true≢false (sym (c.in_ok-differs.ensures.differs.1 d) ∙ c.if-not-branch.true)) refl,
-  puts_none (g.O.Output.taken c.args.output.now) c.args.progress.now,
+  puts_none (g.O.Output.taken c.args.output.now) c.args.printer.now.progress,
 )
 
 pub returns-in_err-write_summary-clause-puts : goal.returns-in_err-write_summary-clause-puts
 returns-in_err-write_summary-clause-puts g c =
     let p = err_from_is_err_and c.from_residual-in_err-write_summary.result c.from_residual-in_err-write_summary.ensures.1 in
-    rw (p.1) (λ lines are. puts_nothing p.0 (g.O.Output.taken c.args.output.now) c.args.progress.now lines)
+    rw (p.1) (λ lines are. puts_nothing p.0 (g.O.Output.taken c.args.output.now) c.args.printer.now.progress lines)
 
 pub put_line-requires-clause-written : goal.put_line-requires-clause-written
 put_line-requires-clause-written g c =
@@ -39,12 +39,13 @@ returns-in_err-put_line-clause-puts g c =
     let b = g.O.Output.taken c.put_line.new.output in
     let line = c.as_slice.result.now in
     let e = c.in_err-put_line.ensures in
-    rw (p.1) (texts_of (AreSummaryLines at.old.now at.new.now at.vehicle c.args.horizon at.element at.direction)
-    (Err p.0) a b c.args.progress.now c.put_line.new.progress (line ∷ [])
-    (one_summary at.old.now at.new.now at.vehicle c.args.horizon at.element at.direction)
+    rw (p.1) (texts_of (AreSummaryLines at.old.now at.new.now at.vehicle at.horizon at.at.element at.at.direction)
+    (Err p.0) a b c.args.printer.now.progress c.put_line.new.progress (line ∷ [])
+    (one_summary at.old.now at.new.now at.vehicle at.horizon at.at.element at.at.direction)
     (AreSummaryLines.differing (c.in_ok-differs.ensures.differs.0 c.if-not-branch.false) line
     (rw (c.as_slice.ensures.value) (c.in_ok-write_summary.ensures.line)) refl)
-    (one_short p.0 line c.in_err-put_line.field-0.0.taken a b c.args.progress.now c.put_line.new.progress e.some.0 e.some.1
+    (one_short p.0 line c.in_err-put_line.field-0.0.taken a b c.args.printer.now.progress c.put_line.new.progress e.some.0
+    e.some.1
     e.progress))
 
 pub returns-clause-puts : goal.returns-clause-puts
@@ -56,7 +57,7 @@ returns-clause-puts g c =
       line ∷ [],
       AreSummaryLines.differing (c.in_ok-differs.ensures.differs.0 c.if-not-branch.false) line
           (rw (c.as_slice.ensures.value) (c.in_ok-write_summary.ensures.line)) refl,
-      one_put line a b c.args.progress.now c.put_line.new.progress e.all e.progress,
+      one_put line a b c.args.printer.now.progress c.put_line.new.progress e.all e.progress,
     )
 
 pub returns-clause-near : goal.returns-clause-near

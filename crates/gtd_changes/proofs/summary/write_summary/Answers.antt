@@ -7,7 +7,8 @@ pub returns-clause-short : goal.returns-clause-short
 returns-clause-short c =
     let p = c.args.place.now in
     on_ok c.write_seconds.result _ (length c.write_seconds.new.line.items ≤ 100)
-    (λ e. rw e (short_summary p.element p.direction p.vehicle c.in_ok-old_seconds.old_seconds c.in_ok-new_seconds.new_seconds
+    (λ e. rw e (short_summary p.at.element p.at.direction p.vehicle c.in_ok-old_seconds.old_seconds
+    c.in_ok-new_seconds.new_seconds
     (omega arith) (omega arith)
     (omega arith) (omega arith)))
     c.write_seconds.ensures.line

@@ -10,9 +10,9 @@ pub returns : goal.returns
 returns c =
     let p = c.args.self.now in
     record {
-      closed = subst (λ (xs : List Interval). IsNormalOver (WasClosed p.old.now p.new.now p.element p.direction p.vehicle)
-          c.args.horizon xs) (sym c.new.ensures.list)
-          (closed_of_open p.old.now p.new.now p.element p.direction p.vehicle c.args.horizon
+      closed = subst (λ (xs : List Interval). IsNormalOver (WasClosed p.old.now p.new.now p.at.element p.at.direction p.vehicle)
+          p.horizon xs) (sym c.new.ensures.list)
+          (closed_of_open p.old.now p.new.now p.at.element p.at.direction p.vehicle p.horizon
           (cursor_list c.in_ok-is_open.is_open) (cursor_list c.in_ok-was_open.was_open) c.in_ok-is_open.ensures.seconds
           c.in_ok-was_open.ensures.seconds);
     }

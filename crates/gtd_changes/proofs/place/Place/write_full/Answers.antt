@@ -23,12 +23,12 @@ returns c =
     let first = c.from-first.ensures.value ∙ ap (λ (x : Interval). x.from) c.span.ensures.value in
     record {
       line = on_ok c.write_rows.result _
-          (c.write_rows.new.line.items ≡ full_line p.old.now p.new.now p.vehicle p.element p.direction change)
-          (λ e. one_full p.old.now p.new.now p.vehicle p.element p.direction change c.in_ok-old_rows.old_rows.items
+          (c.write_rows.new.line.items ≡ full_line p.old.now p.new.now p.vehicle p.at.element p.at.direction change)
+          (λ e. one_full p.old.now p.new.now p.vehicle p.at.element p.at.direction change c.in_ok-old_rows.old_rows.items
           c.in_ok-new_rows.new_rows.items c.write_rows.new.line.items
-          (at_first p.old.now p.element p.direction p.vehicle c.from-first.result.0 (span_of change).from
+          (at_first p.old.now p.at.element p.at.direction p.vehicle c.from-first.result.0 (span_of change).from
           c.in_ok-old_rows.old_rows.items first c.in_ok-old_rows.ensures.rows)
-          (at_first p.new.now p.element p.direction p.vehicle c.from-first.result.0 (span_of change).from
+          (at_first p.new.now p.at.element p.at.direction p.vehicle c.from-first.result.0 (span_of change).from
           c.in_ok-new_rows.new_rows.items first c.in_ok-new_rows.ensures.rows)
           (rw (c.as_slice.ensures.value, c.as_slice-2.ensures.value) at e))
           c.write_rows.ensures.line;

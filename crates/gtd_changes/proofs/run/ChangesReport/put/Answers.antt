@@ -29,12 +29,12 @@ put_of form vehicle horizon one two old new header r a b p q e f h puts =
 pub returns-in_err-elements-clause-puts : goal.returns-in_err-elements-clause-puts
 returns-in_err-elements-clause-puts g c =
     let p = err_from_is_err_and c.from_residual.result c.from_residual.ensures.1 in
-    rw (p.1) (λ lines is. puts_nothing p.0 (g.O.Output.taken c.args.output.now) c.args.progress.now lines)
+    rw (p.1) (λ lines is. puts_nothing p.0 (g.O.Output.taken c.args.output.now) c.args.printer.now.progress lines)
 
 pub returns-in_err-pair-clause-puts : goal.returns-in_err-pair-clause-puts
 returns-in_err-pair-clause-puts g c =
     let p = err_from_is_err_and c.from_residual-in_err-pair.result c.from_residual-in_err-pair.ensures.1 in
-    rw (p.1) (λ lines is. puts_nothing p.0 (g.O.Output.taken c.args.output.now) c.args.progress.now lines)
+    rw (p.1) (λ lines is. puts_nothing p.0 (g.O.Output.taken c.args.output.now) c.args.printer.now.progress lines)
 
 pub put_listed-requires-clause-few : goal.put_listed-requires-clause-few
 put_listed-requires-clause-few g c =
@@ -56,7 +56,8 @@ returns-clause-puts g c =
     let asked = c.args.self.now.asked in
     let taken = g.O.Output.taken in
     put_of asked.form asked.vehicle asked.horizon pair.old.now pair.new.now c.args.self.now.old.now c.args.found.now
-    c.header_in.result.now c.put_listed.result (taken c.args.output.now) (taken c.put_listed.new.output) c.args.progress.now
-    c.put_listed.new.progress c.in_ok-pair.ensures.files.0 c.in_ok-pair.ensures.files.1 c.header_in.ensures.value
+    c.header_in-header.result.now c.put_listed.result (taken c.args.output.now) (taken c.put_listed.new.output)
+    c.args.printer.now.progress c.put_listed.new.printer.progress c.in_ok-pair.ensures.files.0 c.in_ok-pair.ensures.files.1
+    c.header_in-header.ensures.value
     (c.put_listed.ensures.puts (c.args.self.now.old.now ++ c.args.found.now)
     (rw (c.as_slice.ensures.value) c.in_ok-elements.ensures.named))

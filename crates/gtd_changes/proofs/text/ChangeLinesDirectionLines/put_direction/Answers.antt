@@ -8,9 +8,9 @@ returns-then-not-may_differ-clause-puts g c =
     let pair = c.args.self.now.pair.now in
     let asked = c.args.self.now.asked in (
       [],
-      no_lines pair.old.now pair.new.now asked.vehicle asked.horizon c.args.element c.args.direction
+      no_lines pair.old.now pair.new.now asked.vehicle asked.horizon c.args.at.element c.args.at.direction
           (c.may_differ.ensures.alike c.if-not-may_differ.true) asked.form,
-      puts_none (g.O.Output.taken c.args.output.now) c.args.progress.now,
+      puts_none (g.O.Output.taken c.args.output.now) c.args.printer.now.progress,
     )
 
 pub returns-in-Intervals-clause-puts : goal.returns-in-Intervals-clause-puts
