@@ -11,7 +11,7 @@ use crate::table::put_days;
 use gtd_calendar::days_of_year;
 use gtd_devices::{Input, Output};
 use gtd_records::{Direction, RecordFault, Records, open_seconds};
-use gtd_report::{Progress, Report, RunFault, Stop, Subject, finish, run_report};
+use gtd_report::{Printer, Report, RunFault, Stop, Subject, finish, run_report};
 use gtd_spans::ByDay;
 use std::alloc::Global;
 
@@ -45,14 +45,13 @@ impl Report for YearTable {
 
     fn put<O: Output>(
         &self,
-        alloc: Global,
         output: &mut O,
-        progress: &mut Progress,
+        printer: &mut Printer,
         found: &Records,
     ) -> Result<(), Stop> {
         let days = days_of_year(self.year);
         let open = open_seconds(
-            alloc,
+            printer.alloc,
             found,
             self.element,
             self.direction,
@@ -60,16 +59,9 @@ impl Report for YearTable {
             days,
         )?;
         let mut seconds = ByDay::new(open);
-        let mut line = Vec::new(alloc);
         let first = days.from_day();
-        put_days(
-            output,
-            progress,
-            &mut line,
-            &mut seconds,
-            first,
-            (days.to_day() - first) as u16,
-        )?;
+        let count = (days.to_day() - first) as u16;
+        put_days(output, printer, &mut seconds, first, count)?;
         finish(output)
     }
 }
@@ -85,38 +77,30 @@ pub fn run_year<I: Input, O: Output>(
     alloc: Global,
     input: &mut I,
     output: &mut O,
-    element: u64,
-    direction: Direction,
-    vehicle: u8,
-    year: u16,
+    table: YearTable,
 ) -> Result<u64, RunFault>
     requires readable { I.failure_count input.old < u64.MAX }
     requires writable { O.failure_count output.old < u64.MAX }
     // If nothing hindered the run: of a file that names the element the output took the table, and the answer is the
     // number of its lines; of any other file it took nothing, and the answer says why.
-    ensures claim { IsVehicleType vehicle → IsTableYear year → YearClaim element direction vehicle year
+    ensures claim { IsVehicleType table.vehicle → IsTableYear table.year →
+        YearClaim table.element table.direction table.vehicle table.year
         (I.to_come input.old) (O.taken output.old) (O.taken output.new) result }
     // What each answer means: after a failure or a refusal of memory, the first bytes of the same table.
     ensures stands { HasRun
-        (λ found. Any (λ (r : Restriction). r.element ≡ element) found)
-        (λ found lines. IsYearTable found element direction vehicle year lines)
+        (λ found. Any (λ (r : Restriction). r.element ≡ table.element) found)
+        (λ found lines. IsYearTable found table.element table.direction table.vehicle table.year lines)
         (I.to_come input.old) (O.taken output.old) (O.taken output.new) result }
-    ensures days { IfOk result (λ count. count ≡ year_length (pos year)) }
+    ensures days { IfOk result (λ count. count ≡ year_length (pos table.year)) }
     // An output that took the whole text was then ended, last of all.
     ensures ended { OnOk result (IsTrue (O.is_ended output.new)) }
-    ensures vehicle { IsErrOf result RunFault.VehicleRange ↔ (IsVehicleType vehicle → ⊥) }
-    ensures year { IsErrOf result RunFault.YearRange ↔ (IsVehicleType vehicle × (IsTableYear year → ⊥)) }
+    ensures vehicle { IsErrOf result RunFault.VehicleRange ↔ (IsVehicleType table.vehicle → ⊥) }
+    ensures year { IsErrOf result RunFault.YearRange ↔ (IsVehicleType table.vehicle × (IsTableYear table.year → ⊥)) }
     ensures endless { IsErrOf result (RunFault.Records RecordFault.Endless) → IsTrue (I.may_fall_silent input.old) }
     ensures read_faults { I.failure_count input.new
         ≡ failures_after_read result (I.failure_count input.old) }
     ensures write_faults { O.failure_count output.new
         ≡ failures_after_write result (O.failure_count output.old) }
 {
-    let table = YearTable {
-        element,
-        direction,
-        vehicle,
-        year,
-    };
     run_report(alloc, input, output, &table)
 }

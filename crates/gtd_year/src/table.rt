@@ -12,7 +12,7 @@ use gtd_calendar::write_date;
 use gtd_core::Sec;
 use gtd_core::limits::DAY_SECONDS;
 use gtd_devices::Output;
-use gtd_report::{Progress, Stop, put_line};
+use gtd_report::{Printer, Stop, put_line};
 use gtd_spans::{ByDay, SpanSource};
 use itoa::Buffer;
 use std::alloc::AllocError;
@@ -57,24 +57,23 @@ fn count_day<S: SpanSource>(
 /// counted.
 pub(crate) fn put_days<O: Output, S: SpanSource>(
     output: &mut O,
-    progress: &mut Progress,
-    line: &mut Vec<u8>,
+    printer: &mut Printer,
     seconds: &mut ByDay<S>,
     first: i64,
     days: u16,
 ) -> Result<(), Stop>
     requires countable { O.failure_count output.old < u64.MAX }
-    requires begins { progress.old ≡ nothing_put }
+    requires begins { printer.old.progress ≡ nothing_put }
     requires not_early { first_horizon_day ≤ℤ first }
     requires not_late { (first +ℤ pos days) ≤ℤ horizons_end }
     ensures puts { (lines : List (List ℕ)) × AreDayLines (Holds seconds.old) first days lines
-        × Puts result (O.taken output.old) (O.taken output.new) progress.old progress.new lines }
+        × Puts result (O.taken output.old) (O.taken output.new) printer.old.progress printer.new.progress lines }
     ensures failures { O.failure_count output.new
         ≡ failures_after_stop result (O.failure_count output.old) }
 {
     for place in 0..days {
-        count_day(seconds, line, first + i64::from(place))?;
-        put_line(output, progress, line.as_slice())?;
+        count_day(seconds, &mut printer.line, first + i64::from(place))?;
+        put_line(output, &mut printer.progress, printer.line.as_slice())?;
     }
     Ok(())
 }

@@ -13,7 +13,7 @@ returns-clause-claim g c = λ vehicle year.
 
 pub returns-clause-days : goal.returns-clause-days
 returns-clause-days g c =
-    let a = c.args in
+    let a = c.args.table in
     let y = pos a.year in
     IfOk-weaker c.run_report.result _ _ (λ count is.
     is.3 ∙ (length-days (IsOpen is.0 a.element a.direction a.vehicle) (first_day y) (year_length y) is.1 is.2).0)

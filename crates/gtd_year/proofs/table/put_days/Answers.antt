@@ -34,7 +34,7 @@ loop-place-init g c = record {
   done = [];
   are = no_days (Holds c.args.seconds.now) _;
   left = λ t h. ((λ k. k), (λ k. k));
-  puts = puts_none (g.O.Output.taken c.args.output.now) c.args.progress.now;
+  puts = puts_none (g.O.Output.taken c.args.output.now) c.args.printer.now.progress;
   failures = refl;
 }
 
@@ -49,8 +49,9 @@ returns-in_err-count_day-clause-puts g c =
     let t = whole_table c.args.seconds.now c.args.first c.loop-place.place c.args.days i.done (omega arith) before in (
       i.done ++ t.0,
       t.1,
-      rw (p.1) (puts_then (Err p.0) a b b c.args.progress.now c.loop-place.progress c.loop-place.progress i.done t.0 i.puts
-          (puts_nothing p.0 b c.loop-place.progress t.0)),
+      rw (p.1) (puts_then (Err p.0) a b b c.args.printer.now.progress c.loop-place.printer.progress
+          c.loop-place.printer.progress i.done t.0 i.puts
+          (puts_nothing p.0 b c.loop-place.printer.progress t.0)),
     )
 
 pub put_line-requires-clause-written : goal.put_line-requires-clause-written
@@ -88,12 +89,14 @@ returns-in_err-put_line-clause-puts g c =
     (search rules) (omega (arith, signed_arith)) i.are i.left it.1 (c.as_slice.ensures.value ∙ it.2) in
     let t = whole_table c.args.seconds.now c.args.first (c.loop-place.place + 1) c.args.days (i.done ++ (line ∷ []))
     (omega arith) are in
-    let one : Puts (Err p.0) b d c.loop-place.progress c.put_line.new.progress (line ∷ []) =
-    one_short p.0 line c.in_err-put_line.field-0.0.taken b d c.loop-place.progress c.put_line.new.progress e.some.0 e.some.1
+    let one : Puts (Err p.0) b d c.loop-place.printer.progress c.put_line.new.progress (line ∷ []) =
+    one_short p.0 line c.in_err-put_line.field-0.0.taken b d c.loop-place.printer.progress c.put_line.new.progress e.some.0
+    e.some.1
     e.progress in
-    let puts = puts_then (Err p.0) (g.O.Output.taken c.args.output.now) b d c.args.progress.now c.loop-place.progress
+    let puts = puts_then (Err p.0) (g.O.Output.taken c.args.output.now) b d c.args.printer.now.progress
+    c.loop-place.printer.progress
     c.put_line.new.progress i.done ((line ∷ []) ++ t.0) i.puts
-    (puts_cut p.0 b d c.loop-place.progress c.put_line.new.progress (line ∷ []) t.0 one) in
+    (puts_cut p.0 b d c.loop-place.printer.progress c.put_line.new.progress (line ∷ []) t.0 one) in
     ((i.done ++ (line ∷ [])) ++ t.0, t.1, rw (p.1) (rw (append_assoc i.done (line ∷ []) t.0) puts))
 
 pub loop-place-preserved : goal.loop-place-preserved
@@ -116,7 +119,7 @@ loop-place-preserved g c =
           let p = left t (omega (arith, signed_arith, h)) in
           let q = c.count_day.ensures.later t (omega (arith, signed_arith, h)) in
           ((λ k. q.0 (p.0 k)), (λ k. p.1 (q.1 k))));
-      puts = puts_then (Ok tt) _ _ _ c.args.progress.now c.loop-place.progress c.put_line.new.progress i.done
-          (line ∷ []) i.puts (one_put line _ _ c.loop-place.progress c.put_line.new.progress e.all e.progress);
+      puts = puts_then (Ok tt) _ _ _ c.args.printer.now.progress c.loop-place.printer.progress c.put_line.new.progress i.done
+          (line ∷ []) i.puts (one_put line _ _ c.loop-place.printer.progress c.put_line.new.progress e.all e.progress);
       failures = e.failures ∙ i.failures;
     }

@@ -11,6 +11,6 @@ invariant-loop-place g l = record {
   done : List (List ℕ);
   are : AreDayLines (Holds l.fn.seconds) l.fn.first l.place done;
   left : (t : ℤ) → ((l.fn.first +ℤ pos l.place) *ℤ pos 86400) ≤ℤ t → Holds l.fn.seconds t ↔ Holds l.seconds t;
-  puts : Puts (Ok tt) (g.O.Output.taken l.fn.output) (g.O.Output.taken l.output) l.fn.progress l.progress done;
+  puts : Puts (Ok tt) (g.O.Output.taken l.fn.output) (g.O.Output.taken l.output) l.fn.printer.progress l.printer.progress done;
   failures : g.O.Output.failure_count l.output ≡ g.O.Output.failure_count l.fn.output;
 }

@@ -33,7 +33,7 @@ returns-clause-puts g c =
     let y = pos c.args.self.now.year in
     puts_text (IsYearTable c.args.found.now c.args.self.now.element c.args.self.now.direction c.args.self.now.vehicle
     c.args.self.now.year) c.finish.result
-    (taken c.args.output.now) (taken c.finish.new.output) c.args.progress.now c.put_days.new.progress put.0 table
+    (taken c.args.output.now) (taken c.finish.new.output) c.args.printer.now.progress c.put_days.new.printer.progress put.0 table
     (λ other is. one_table set (first_day y) (year_length y) other put.0 is table)
     (puts_ended c.finish.result (taken c.args.output.now) (taken c.put_days.new.output) (taken c.finish.new.output)
-    c.args.progress.now c.put_days.new.progress put.0 put.2 c.finish.ensures.bytes)
+    c.args.printer.now.progress c.put_days.new.printer.progress put.0 put.2 c.finish.ensures.bytes)
