@@ -11,29 +11,23 @@ ghost use Rattle.gtd_migrate.specs.Theorem.{MigrationClaim};
 use crate::line::write_line;
 use gtd_devices::{Input, Output};
 use gtd_records::{Record, RecordFault, Records};
-use gtd_report::{Progress, Report, RunFault, Stop, Subject, finish, put_line, run_report};
+use gtd_report::{Printer, Report, RunFault, Stop, Subject, finish, put_line, run_report};
 use std::alloc::Global;
 
 // Puts the lines of records, in their order, after the header line.
-fn put_rows<O: Output>(
-    alloc: Global,
-    output: &mut O,
-    progress: &mut Progress,
-    line: &mut Vec<u8>,
-    rows: &[Record],
-) -> Result<(), Stop>
+fn put_rows<O: Output>(output: &mut O, printer: &mut Printer, rows: &[Record]) -> Result<(), Stop>
     requires countable { O.failure_count output.old < u64.MAX }
     requires few { length rows.now ≤ most_rows }
-    requires written { progress.old.written ≤ 34 }
-    requires lines { progress.old.lines ≤ 1 }
+    requires written { printer.old.progress.written ≤ 34 }
+    requires lines { printer.old.progress.lines ≤ 1 }
     ensures puts { Puts result (O.taken output.old) (O.taken output.new)
-        progress.old progress.new (map row_line rows.now) }
+        printer.old.progress printer.new.progress (map row_line rows.now) }
     ensures failures { O.failure_count output.new
         ≡ failures_after_stop result (O.failure_count output.old) }
 {
     for row in rows {
-        write_line(alloc, line, row)?;
-        put_line(output, progress, line.as_slice())?;
+        write_line(printer.alloc, &mut printer.line, row)?;
+        put_line(output, &mut printer.progress, printer.line.as_slice())?;
     }
     Ok(())
 }
@@ -57,14 +51,13 @@ impl Report for Migration {
 
     fn put<O: Output>(
         &self,
-        alloc: Global,
         output: &mut O,
-        progress: &mut Progress,
+        printer: &mut Printer,
         found: &Records,
     ) -> Result<(), Stop> {
-        let mut line = Vec::new(alloc);
-        put_line(output, progress, b"element,direction,vehicles,domain\n")?;
-        put_rows(alloc, output, progress, &mut line, found.rows())?;
+        let header = b"element,direction,vehicles,domain\n";
+        put_line(output, &mut printer.progress, header)?;
+        put_rows(output, printer, found.rows())?;
         finish(output)
     }
 }

@@ -16,9 +16,9 @@ returns-in_err-write_line-clause-puts g c =
     let left = map row_line (drop at rows) in
     rw (p.1, rows_left rows at)
     (puts_then (Err p.0) (taken c.args.output.now) (taken c.loop-row.output)
-    (taken c.loop-row.output) c.args.progress.now c.loop-row.progress c.loop-row.progress
+    (taken c.loop-row.output) c.args.printer.now.progress c.loop-row.printer.progress c.loop-row.printer.progress
     (map row_line (take at rows)) left c.loop-row.invariant.puts
-    (puts_nothing p.0 (taken c.loop-row.output) c.loop-row.progress left))
+    (puts_nothing p.0 (taken c.loop-row.output) c.loop-row.printer.progress left))
 
 pub returns-in_err-put_line-clause-puts : goal.returns-in_err-put_line-clause-puts
 returns-in_err-put_line-clause-puts g c =
@@ -31,12 +31,12 @@ returns-in_err-put_line-clause-puts g c =
     let a = taken c.args.output.now in
     let b = taken c.loop-row.output in
     let d = taken c.put_line.new.output in
-    let q = c.loop-row.progress in
+    let q = c.loop-row.printer.progress in
     let s = c.put_line.new.progress in
     let more = map row_line (drop (suc at) rows) in
     let is : c.as_slice.result.now ≡ row_line r = c.as_slice.ensures.value ∙ c.in_ok-write_line.ensures.text in
     rw (p.1, rows_split rows at r c.loop-row-test.true (sym c.row-item.is))
-    (puts_then (Err p.0) a b d c.args.progress.now q s (map row_line (take at rows))
+    (puts_then (Err p.0) a b d c.args.printer.now.progress q s (map row_line (take at rows))
     ((row_line r ∷ []) ++ more) c.loop-row.invariant.puts
     (puts_cut p.0 b d q s (row_line r ∷ []) more
     (one_short p.0 (row_line r) c.in_err-put_line.field-0.0.taken b d q s (rw is at e.some.0) (rw is at e.some.1) e.progress)))
@@ -51,7 +51,7 @@ loop-row-preserved g c =
     let e = c.in_ok-put_line.ensures in
     let b = taken c.loop-row.output in
     let d = taken c.put_line.new.output in
-    let q = c.loop-row.progress in
+    let q = c.loop-row.printer.progress in
     let s = c.put_line.new.progress in
     let text = c.in_ok-write_line.ensures.text in
     let few = c.in_ok-write_line.ensures.short in
@@ -61,7 +61,7 @@ loop-row-preserved g c =
     let written = ap (λ (t : Progress). t.written) e.progress in
     record {
       puts = rw (more_rows rows at r c.loop-row-test.true (sym c.row-item.is))
-          (puts_then (Ok tt) (taken c.args.output.now) b d c.args.progress.now q s (map row_line (take at rows))
+          (puts_then (Ok tt) (taken c.args.output.now) b d c.args.printer.now.progress q s (map row_line (take at rows))
           (row_line r ∷ []) i.puts
           (one_put (row_line r) b d q s (rw is at e.all) (rw is at e.progress)));
       written = (let w = i.written in omega arith);

@@ -28,17 +28,18 @@ returns-in_err-put_line-clause-puts g c =
     let e = c.in_err-put_line.ensures in
     let found = c.args.found.now in
     rw (p.1)
-    (puts_text (λ lines. lines ≡ migrated found) (Err p.0) a b c.args.progress.now q (migrated found) refl (λ other is. is)
-    (puts_cut p.0 a b c.args.progress.now q (header_line ∷ []) (map row_line found)
-    (one_short p.0 header_line c.in_err-put_line.field-0.0.taken a b c.args.progress.now q e.some.0 e.some.1 e.progress)))
+    (puts_text (λ lines. lines ≡ migrated found) (Err p.0) a b c.args.printer.now.progress q (migrated found) refl (λ other is.
+    is)
+    (puts_cut p.0 a b c.args.printer.now.progress q (header_line ∷ []) (map row_line found)
+    (one_short p.0 header_line c.in_err-put_line.field-0.0.taken a b c.args.printer.now.progress q e.some.0 e.some.1 e.progress)))
 
 pub returns-in_err-put_rows-clause-puts : goal.returns-in_err-put_rows-clause-puts
 returns-in_err-put_rows-clause-puts g c =
     let p = err_from_is_err_and c.from_residual-in_err-put_rows.result c.from_residual-in_err-put_rows.ensures.1 in
     let e = c.in_ok-put_line.ensures in
-    rw (p.1) (puts_text (λ lines. lines ≡ migrated c.args.found.now) (Err p.0) _ _ c.args.progress.now
-    c.put_rows.new.progress _ refl (λ other is. is)
-    (put_after_header (Err p.0) _ _ _ c.args.progress.now c.put_line.new.progress c.put_rows.new.progress
+    rw (p.1) (puts_text (λ lines. lines ≡ migrated c.args.found.now) (Err p.0) _ _ c.args.printer.now.progress
+    c.put_rows.new.printer.progress _ refl (λ other is. is)
+    (put_after_header (Err p.0) _ _ _ c.args.printer.now.progress c.put_line.new.progress c.put_rows.new.printer.progress
     c.args.found.now e.all e.progress
     (rw c.rows.ensures.rows at c.in_err-put_rows.ensures.puts)))
 
@@ -48,5 +49,6 @@ returns-clause-puts g c =
     let found = c.args.found.now in
     puts_text (λ lines. lines ≡ migrated found) c.finish.result _ _ _ _ (migrated found) refl (λ other is. is)
     (puts_ended c.finish.result _ (g.O.Output.taken c.put_rows.new.output) _ _ _ (migrated found)
-    (put_after_header (Ok tt) _ _ _ c.args.progress.now c.put_line.new.progress c.put_rows.new.progress found e.all e.progress
+    (put_after_header (Ok tt) _ _ _ c.args.printer.now.progress c.put_line.new.progress c.put_rows.new.printer.progress found
+    e.all e.progress
     (rw c.rows.ensures.rows at c.in_ok-put_rows.ensures.puts)) c.finish.ensures.bytes)
