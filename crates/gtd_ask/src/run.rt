@@ -14,7 +14,7 @@ use crate::question::Question;
 use crate::reader::read_questions;
 use gtd_devices::{Input, Output};
 use gtd_records::{RecordFault, Records};
-use gtd_report::{Progress, Report, RunFault, Stop, Subject, run_report};
+use gtd_report::{Printer, Report, RunFault, Stop, Subject, run_report};
 use std::alloc::Global;
 
 // The answers to questions.
@@ -40,12 +40,11 @@ impl Report for Answers<'_> {
 
     fn put<O: Output>(
         &self,
-        alloc: Global,
         output: &mut O,
-        progress: &mut Progress,
+        printer: &mut Printer,
         found: &Records,
     ) -> Result<(), Stop> {
-        put_text(alloc, output, progress, found, self.questions)
+        put_text(output, printer, found, self.questions)
     }
 }
 

@@ -11,7 +11,7 @@ use Rattle.gtd_ask.proofs.put.put_answer.Goals as goal
 pub returns-in_err-write_answer-clause-puts : goal.returns-in_err-write_answer-clause-puts
 returns-in_err-write_answer-clause-puts g c =
     let p = err_from_is_err_and c.from_residual.result c.from_residual.ensures.1 in
-    rw (p.1) (λ lines are. puts_nothing p.0 (g.O.Output.taken c.args.output.now) c.args.progress.now lines)
+    rw (p.1) (λ lines are. puts_nothing p.0 (g.O.Output.taken c.args.output.now) c.args.printer.now.progress lines)
 
 pub put_line-requires-clause-written : goal.put_line-requires-clause-written
 put_line-requires-clause-written g c =
@@ -28,10 +28,11 @@ returns-in_err-put_line-clause-puts g c =
     let line = c.as_slice.result.now in
     let e = c.in_err-put_line.ensures in
     rw (p.1) (texts_of (IsOnly (IsAnswer c.args.found.now c.args.question.now))
-    (Err p.0) a b c.args.progress.now c.put_line.new.progress
+    (Err p.0) a b c.args.printer.now.progress c.put_line.new.progress
     (line ∷ []) (one_only c.args.found.now c.args.question.now)
     (line, rw (c.as_slice.ensures.value) (c.in_ok-write_answer.ensures.line), refl)
-    (one_short p.0 line c.in_err-put_line.field-0.0.taken a b c.args.progress.now c.put_line.new.progress e.some.0 e.some.1
+    (one_short p.0 line c.in_err-put_line.field-0.0.taken a b c.args.printer.now.progress c.put_line.new.progress e.some.0
+    e.some.1
     e.progress))
 
 pub returns-clause-puts : goal.returns-clause-puts
@@ -42,7 +43,7 @@ returns-clause-puts g c =
     let e = c.in_ok-put_line.ensures in (
       line ∷ [],
       (line, rw (c.as_slice.ensures.value) (c.in_ok-write_answer.ensures.line), refl),
-      one_put line a b c.args.progress.now c.put_line.new.progress e.all e.progress,
+      one_put line a b c.args.printer.now.progress c.put_line.new.progress e.all e.progress,
     )
 
 pub returns-clause-near : goal.returns-clause-near

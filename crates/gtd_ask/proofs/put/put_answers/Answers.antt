@@ -16,8 +16,8 @@ returns-in_err-put_answer-clause-puts g c =
     let p = err_from_is_err_and c.from_residual.result c.from_residual.ensures.1 in
     let taken = g.O.Output.taken in
     rw (p.1) (stopped c.args.found.now c.args.questions.now c.loop-question.question-index
-    (taken c.args.output.now) (taken c.loop-question.output) c.args.progress.now c.loop-question.progress
-    c.loop-question.invariant.carries (omega arith) _ (taken c.put_answer.new.output) c.put_answer.new.progress p.0
+    (taken c.args.output.now) (taken c.loop-question.output) c.args.printer.now.progress c.loop-question.printer.progress
+    c.loop-question.invariant.carries (omega arith) _ (taken c.put_answer.new.output) c.put_answer.new.printer.progress p.0
     c.in_err-put_answer.ensures.puts)
 
 pub loop-question-preserved : goal.loop-question-preserved
@@ -30,8 +30,9 @@ loop-question-preserved g c =
     let taken = g.O.Output.taken in
     record {
       carries = one_more c.args.found.now c.args.questions.now c.loop-question.question-index
-          (taken c.args.output.now) (taken c.loop-question.output) c.args.progress.now c.loop-question.progress i.carries
-          (omega arith) _ (taken c.put_answer.new.output) c.put_answer.new.progress put.puts;
+          (taken c.args.output.now) (taken c.loop-question.output) c.args.printer.now.progress c.loop-question.printer.progress
+          i.carries
+          (omega arith) _ (taken c.put_answer.new.output) c.put_answer.new.printer.progress put.puts;
       written = omega arith;
       lines = omega arith;
       failures = put.failures ∙ i.failures;
@@ -40,5 +41,6 @@ loop-question-preserved g c =
 pub returns-clause-puts : goal.returns-clause-puts
 returns-clause-puts g c =
     none_left c.args.found.now c.args.questions.now c.loop-question.question-index (g.O.Output.taken c.args.output.now)
-    (g.O.Output.taken c.loop-question.output) c.args.progress.now c.loop-question.progress c.loop-question.invariant.carries
+    (g.O.Output.taken c.loop-question.output) c.args.printer.now.progress c.loop-question.printer.progress
+    c.loop-question.invariant.carries
     (omega arith)

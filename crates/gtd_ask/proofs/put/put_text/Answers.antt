@@ -15,7 +15,7 @@ returns-in_err-put_line-clause-puts g c =
     let a = g.O.Output.taken c.args.output.now in
     let b = g.O.Output.taken c.put_line.new.output in
     let e = c.in_err-put_line.ensures in
-    let before = c.args.progress.now in
+    let before = c.args.printer.now.progress in
     let after = c.put_line.new.progress in
     let short = one_short p.0 header_line c.in_err-put_line.field-0.0.taken a b before after e.some.0 e.some.1 e.progress in
     rw (p.1) (λ lines is. rw (is.whole) (puts_cut p.0 a b before after (header_line ∷ []) is.rest short))
@@ -29,9 +29,9 @@ returns-in_err-put_answers-clause-puts g c =
     let b = g.O.Output.taken c.put_line.new.output in
     let d = g.O.Output.taken c.put_answers.new.output in
     let e = c.in_ok-put_line.ensures in
-    let before = c.args.progress.now in
+    let before = c.args.printer.now.progress in
     let now = c.put_line.new.progress in
-    let after = c.put_answers.new.progress in
+    let after = c.put_answers.new.printer.progress in
     let put : PutsText (IsOnly (λ line. line ≡ header_line)) (Ok tt) a b before now =
     (header_line ∷ [], (header_line, refl, refl), one_put header_line a b before now e.all e.progress) in
     rw (p.1) (texts_as (Then (IsOnly (λ line. line ≡ header_line)) (AreAnswers found questions)) (IsText found questions)
@@ -48,9 +48,9 @@ returns-clause-puts g c =
     let d = g.O.Output.taken c.put_answers.new.output in
     let f = g.O.Output.taken c.finish.new.output in
     let e = c.in_ok-put_line.ensures in
-    let before = c.args.progress.now in
+    let before = c.args.printer.now.progress in
     let now = c.put_line.new.progress in
-    let after = c.put_answers.new.progress in
+    let after = c.put_answers.new.printer.progress in
     let put : PutsText (IsOnly (λ line. line ≡ header_line)) (Ok tt) a b before now =
     (header_line ∷ [], (header_line, refl, refl), one_put header_line a b before now e.all e.progress) in
     texts_ended (IsText found questions) c.finish.result a d f before after (one_text found questions)
