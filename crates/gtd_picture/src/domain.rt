@@ -5,43 +5,39 @@ ghost use Rattle.gtd_picture.specs.Domain.{HasPut, IsDomainPicture};
 ghost use Rattle.gtd_report.specs.Putting.{PutsText, failures_after_stop, nothing_put};
 ghost use Rattle.gtd_report.specs.Run.{IsTableYear, failures_after_write};
 
-use crate::picture::put_picture;
+use crate::picture::{Caption, put_picture};
 use gtd_calendar::days_of_year;
 use gtd_core::Domain;
 use gtd_devices::Output;
 use gtd_eval::KeptCursor;
-use gtd_report::{Progress, RunFault, Stop, finish};
+use gtd_report::{Printer, RunFault, Stop, finish};
 use std::alloc::Global;
 
 // Puts the picture of a domain, and ends the output.
 fn put_seconds<O: Output>(
-    alloc: Global,
     output: &mut O,
-    progress: &mut Progress,
+    printer: &mut Printer,
     domain: &Domain,
     title: &str,
     year: u16,
 ) -> Result<(), Stop>
     requires countable { O.failure_count output.old < u64.MAX }
-    requires begins { progress.old ≡ nothing_put }
+    requires begins { printer.old.progress ≡ nothing_put }
     requires year { IsTableYear year }
     ensures puts { PutsText (IsDomainPicture domain.now title.now year) result
-        (O.taken output.old) (O.taken output.new) progress.old progress.new }
+        (O.taken output.old) (O.taken output.new) printer.old.progress printer.new.progress }
     ensures ended { OnOk result (IsTrue (O.is_ended output.new)) }
     ensures failures { O.failure_count output.new
         ≡ failures_after_stop result (O.failure_count output.old) }
 {
-    let seconds = KeptCursor::open(alloc, domain, days_of_year(year))?;
-    put_picture(
-        alloc,
-        output,
-        progress,
-        seconds,
+    let seconds = KeptCursor::open(printer.alloc, domain, days_of_year(year))?;
+    let caption = Caption {
         title,
-        "in the domain",
-        "not in the domain",
+        inside: "in the domain",
+        outside: "not in the domain",
         year,
-    )?;
+    };
+    put_picture(output, printer, seconds, &caption)?;
     finish(output)
 }
 
@@ -69,7 +65,7 @@ pub fn put_domain_picture<O: Output>(
     if year < 1901 || year > 2199 {
         return Err(RunFault::YearRange);
     }
-    let mut progress = Progress::new();
-    let put = put_seconds(alloc, output, &mut progress, domain, title, year);
-    progress.answer(put)
+    let mut printer = Printer::new(alloc);
+    let put = put_seconds(output, &mut printer, domain, title, year);
+    printer.progress.answer(put)
 }

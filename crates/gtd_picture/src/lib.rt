@@ -2,8 +2,8 @@
 #![tactic(auto)]
 
 pub use domain::put_domain_picture;
-pub use picture::put_picture;
-pub use run::run_picture;
+pub use picture::{Caption, put_picture};
+pub use run::{YearPicture, run_picture};
 
 mod domain;
 mod head;

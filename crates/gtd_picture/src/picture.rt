@@ -12,69 +12,78 @@ use crate::head::{write_foot, write_head};
 use crate::line::write_day;
 use gtd_calendar::{length_of_year, new_year};
 use gtd_devices::Output;
-use gtd_report::{Progress, Stop, put_line};
+use gtd_report::{Printer, Stop, put_line};
 use gtd_spans::{ByDay, SpanSource};
-use std::alloc::Global;
 
 /// How many bytes the line before the days may have. More are answered like refused memory, so that all bytes can be counted.
 const MOST_HEAD: usize = 1 << 63;
 
+/// What is written in the picture of a source's seconds in a year.
+#[derive(Clone, Copy)]
+pub struct Caption<'a> {
+    /// The title.
+    pub title: &'a str,
+    /// The words for the seconds of the source.
+    pub inside: &'a str,
+    /// The words for the other seconds.
+    pub outside: &'a str,
+    /// The year.
+    pub year: u16,
+}
+
 // Puts the line before the days.
 fn put_head<O: Output>(
     output: &mut O,
-    progress: &mut Progress,
-    line: &mut Vec<u8>,
-    title: &str,
-    inside: &str,
-    outside: &str,
-    year: u16,
+    printer: &mut Printer,
+    caption: &Caption<'_>,
 ) -> Result<(), Stop>
     requires countable { O.failure_count output.old < u64.MAX }
-    requires begins { progress.old ≡ nothing_put }
-    requires year { IsTableYear year }
-    ensures puts { Puts result (O.taken output.old) (O.taken output.new) progress.old progress.new
-        (head_text title.now inside.now outside.now (year_length (pos year)) ∷ []) }
-    ensures small { OnOk result (progress.new.written ≤ 2 ^ 63) }
+    requires begins { printer.old.progress ≡ nothing_put }
+    requires year { IsTableYear caption.now.year }
+    ensures puts { Puts result (O.taken output.old) (O.taken output.new) printer.old.progress printer.new.progress
+        (head_text caption.now.title.now caption.now.inside.now caption.now.outside.now
+        (year_length (pos caption.now.year)) ∷ []) }
+    ensures small { OnOk result (printer.new.progress.written ≤ 2 ^ 63) }
     ensures failures { O.failure_count output.new
         ≡ failures_after_stop result (O.failure_count output.old) }
 {
     write_head(
-        line,
-        title.as_bytes(),
-        inside.as_bytes(),
-        outside.as_bytes(),
-        length_of_year(year),
+        &mut printer.line,
+        caption.title.as_bytes(),
+        caption.inside.as_bytes(),
+        caption.outside.as_bytes(),
+        length_of_year(caption.year),
     )?;
-    if line.len() > MOST_HEAD {
+    if printer.line.len() > MOST_HEAD {
         return Err(Stop::Memory);
     }
-    put_line(output, progress, line.as_slice())?;
+    put_line(output, &mut printer.progress, printer.line.as_slice())?;
     Ok(())
 }
 
 // Puts the lines of so many days from a first one on.
 fn put_days<O: Output, S: SpanSource>(
     output: &mut O,
-    progress: &mut Progress,
-    line: &mut Vec<u8>,
+    printer: &mut Printer,
     seconds: &mut ByDay<S>,
     first: i64,
     days: u16,
 ) -> Result<(), Stop>
     requires countable { O.failure_count output.old < u64.MAX }
-    requires small { progress.old.written ≤ 2 ^ 63 }
-    requires few { progress.old.lines ≤ 1 }
+    requires small { printer.old.progress.written ≤ 2 ^ 63 }
+    requires few { printer.old.progress.lines ≤ 1 }
     requires not_early { first_horizon_day ≤ℤ first }
     requires not_late { (first +ℤ pos days) ≤ℤ horizons_end }
     requires in_year { days ≤ 366 }
     ensures puts { (columns : List (List Rect)) × AreColumns (Holds seconds.old) first 0 days columns
-        × Puts result (O.taken output.old) (O.taken output.new) progress.old progress.new (day_lines first 0 columns) }
+        × Puts result (O.taken output.old) (O.taken output.new) printer.old.progress printer.new.progress
+        (day_lines first 0 columns) }
     ensures failures { O.failure_count output.new
         ≡ failures_after_stop result (O.failure_count output.old) }
 {
     for place in 0..days {
-        write_day(line, seconds, first + i64::from(place), place)?;
-        put_line(output, progress, line.as_slice())?;
+        write_day(&mut printer.line, seconds, first + i64::from(place), place)?;
+        put_line(output, &mut printer.progress, printer.line.as_slice())?;
     }
     Ok(())
 }
@@ -82,26 +91,24 @@ fn put_days<O: Output, S: SpanSource>(
 // Puts the lines of the days of a year.
 fn put_year<O: Output, S: SpanSource>(
     output: &mut O,
-    progress: &mut Progress,
-    line: &mut Vec<u8>,
+    printer: &mut Printer,
     seconds: &mut ByDay<S>,
     year: u16,
 ) -> Result<(), Stop>
     requires countable { O.failure_count output.old < u64.MAX }
-    requires small { progress.old.written ≤ 2 ^ 63 }
-    requires few { progress.old.lines ≤ 1 }
+    requires small { printer.old.progress.written ≤ 2 ^ 63 }
+    requires few { printer.old.progress.lines ≤ 1 }
     requires year { IsTableYear year }
     ensures puts { (columns : List (List Rect))
         × AreColumns (Holds seconds.old) (first_day (pos year)) 0 (year_length (pos year)) columns
-        × Puts result (O.taken output.old) (O.taken output.new) progress.old progress.new
+        × Puts result (O.taken output.old) (O.taken output.new) printer.old.progress printer.new.progress
         (day_lines (first_day (pos year)) 0 columns) }
     ensures failures { O.failure_count output.new
         ≡ failures_after_stop result (O.failure_count output.old) }
 {
     put_days(
         output,
-        progress,
-        line,
+        printer,
         seconds,
         new_year(year),
         length_of_year(year),
@@ -109,50 +116,41 @@ fn put_year<O: Output, S: SpanSource>(
 }
 
 // Puts the line after the days.
-fn put_foot<O: Output>(
-    output: &mut O,
-    progress: &mut Progress,
-    line: &mut Vec<u8>,
-    year: u16,
-) -> Result<(), Stop>
+fn put_foot<O: Output>(output: &mut O, printer: &mut Printer, year: u16) -> Result<(), Stop>
     requires countable { O.failure_count output.old < u64.MAX }
-    requires small { progress.old.written + 5000 < 2 ^ 64 }
-    requires few { progress.old.lines + 1 < 2 ^ 64 }
+    requires small { printer.old.progress.written + 5000 < 2 ^ 64 }
+    requires few { printer.old.progress.lines + 1 < 2 ^ 64 }
     requires year { IsTableYear year }
-    ensures puts { Puts result (O.taken output.old) (O.taken output.new) progress.old progress.new
+    ensures puts { Puts result (O.taken output.old) (O.taken output.new) printer.old.progress printer.new.progress
         (foot_text (pos year) ∷ []) }
     ensures failures { O.failure_count output.new
         ≡ failures_after_stop result (O.failure_count output.old) }
 {
-    write_foot(line, year)?;
-    put_line(output, progress, line.as_slice())?;
+    write_foot(&mut printer.line, year)?;
+    put_line(output, &mut printer.progress, printer.line.as_slice())?;
     Ok(())
 }
 
-/// Puts the picture of a source's seconds in a year from 1901 to 2199, with a title, and words for the seconds of the
-/// source and for the others. Of a title of more than 100 bytes the first 100 are shown, and the tooltip has all. The caller
-/// ends the output. Before the call, its failures must be below `u64::MAX`.
+/// Puts the picture of a source's seconds in a year from 1901 to 2199, under a caption. Of a title of more than 100 bytes the
+/// first 100 are shown, and the tooltip has all. The caller ends the output. Before the call, its failures must be below
+/// `u64::MAX`.
 pub fn put_picture<O: Output, S: SpanSource + Drop>(
-    alloc: Global,
     output: &mut O,
-    progress: &mut Progress,
+    printer: &mut Printer,
     seconds: S,
-    title: &str,
-    inside: &str,
-    outside: &str,
-    year: u16,
+    caption: &Caption<'_>,
 ) -> Result<(), Stop>
     requires countable { O.failure_count output.old < u64.MAX }
-    requires begins { progress.old ≡ nothing_put }
-    requires year { IsTableYear year }
-    ensures puts { PutsText (IsPicture (Holds (S.rest seconds)) title.now inside.now outside.now year) result
-        (O.taken output.old) (O.taken output.new) progress.old progress.new }
+    requires begins { printer.old.progress ≡ nothing_put }
+    requires year { IsTableYear caption.now.year }
+    ensures puts { PutsText (IsPicture (Holds (S.rest seconds)) caption.now.title.now caption.now.inside.now
+        caption.now.outside.now caption.now.year) result
+        (O.taken output.old) (O.taken output.new) printer.old.progress printer.new.progress }
     ensures failures { O.failure_count output.new
         ≡ failures_after_stop result (O.failure_count output.old) }
 {
-    let mut line = Vec::new(alloc);
     let mut seconds = ByDay::new(seconds);
-    put_head(output, progress, &mut line, title, inside, outside, year)?;
-    put_year(output, progress, &mut line, &mut seconds, year)?;
-    put_foot(output, progress, &mut line, year)
+    put_head(output, printer, caption)?;
+    put_year(output, printer, &mut seconds, caption.year)?;
+    put_foot(output, printer, caption.year)
 }

@@ -7,24 +7,29 @@ ghost use Rattle.gtd_report.specs.Run.{AcceptedFilesArePut, HasRun, IsTableYear,
 ghost use Rattle.gtd_report.specs.Run.{UnacceptedFilesPutNothing, failures_after_read, failures_after_write};
 ghost use Rattle.gtd_picture.specs.Open.{IsOpenPicture};
 
-use crate::picture::put_picture;
+use crate::picture::{Caption, put_picture};
 use gtd_calendar::days_of_year;
 use gtd_devices::{Input, Output};
 use gtd_records::{Direction, RecordFault, Records, open_seconds};
-use gtd_report::{Progress, Report, RunFault, Stop, Subject, finish, run_report};
+use gtd_report::{Printer, Report, RunFault, Stop, Subject, finish, run_report};
 use std::alloc::Global;
 
 /// The picture of a year, for an element in a direction and a vehicle type, under a title.
 #[derive(Clone, Copy)]
-struct Picture<'a> {
-    element: u64,
-    direction: Direction,
-    vehicle: u8,
-    year: u16,
-    title: &'a str,
+pub struct YearPicture<'a> {
+    /// The element.
+    pub element: u64,
+    /// The direction.
+    pub direction: Direction,
+    /// The vehicle type.
+    pub vehicle: u8,
+    /// The year.
+    pub year: u16,
+    /// The title.
+    pub title: &'a str,
 }
 
-impl Report for Picture<'_> {
+impl Report for YearPicture<'_> {
     ghost subject = { λ report.
         record { vehicle = Some report.vehicle; year = Some report.year; element = Some report.element } };
 
@@ -41,22 +46,25 @@ impl Report for Picture<'_> {
 
     fn put<O: Output>(
         &self,
-        alloc: Global,
         output: &mut O,
-        progress: &mut Progress,
+        printer: &mut Printer,
         found: &Records,
     ) -> Result<(), Stop> {
         let open = open_seconds(
-            alloc,
+            printer.alloc,
             found,
             self.element,
             self.direction,
             self.vehicle,
             days_of_year(self.year),
         )?;
-        put_picture(
-            alloc, output, progress, open, self.title, "open", "closed", self.year,
-        )?;
+        let caption = Caption {
+            title: self.title,
+            inside: "open",
+            outside: "closed",
+            year: self.year,
+        };
+        put_picture(output, printer, open, &caption)?;
         finish(output)
     }
 }
@@ -72,49 +80,40 @@ pub fn run_picture<I: Input, O: Output>(
     alloc: Global,
     input: &mut I,
     output: &mut O,
-    title: &str,
-    element: u64,
-    direction: Direction,
-    vehicle: u8,
-    year: u16,
+    picture: &YearPicture<'_>,
 ) -> Result<u64, RunFault>
     requires readable { I.failure_count input.old < u64.MAX }
     requires writable { O.failure_count output.old < u64.MAX }
     // Accepted files are shown: if nothing hinders it, the output took the picture of an element that the file names, and
     // the answer is the number of its lines.
-    ensures accepted { IsVehicleType vehicle → IsTableYear year → AcceptedFilesArePut
-        (λ found. Any (λ (r : Restriction). r.element ≡ element) found)
-        (λ found lines. IsOpenPicture found element direction vehicle title.now year lines)
+    ensures accepted { IsVehicleType picture.now.vehicle → IsTableYear picture.now.year → AcceptedFilesArePut
+        (λ found. Any (λ (r : Restriction). r.element ≡ picture.now.element) found)
+        (λ found lines. IsOpenPicture found picture.now.element picture.now.direction picture.now.vehicle
+        picture.now.title.now picture.now.year lines)
         (I.to_come input.old) (O.taken output.old) (O.taken output.new) result }
     // Refused files print nothing: if nothing hinders it, the answer is the first fault of the file.
-    ensures refused { IsVehicleType vehicle → IsTableYear year → RefusedFilesPutNothing
+    ensures refused { IsVehicleType picture.now.vehicle → IsTableYear picture.now.year → RefusedFilesPutNothing
         (I.to_come input.old) (O.taken output.old) (O.taken output.new) result }
     // An element that the file does not name has no picture: if nothing hinders it, the answer says so.
-    ensures unnamed { IsVehicleType vehicle → IsTableYear year → UnacceptedFilesPutNothing
-        (λ found. Any (λ (r : Restriction). r.element ≡ element) found)
+    ensures unnamed { IsVehicleType picture.now.vehicle → IsTableYear picture.now.year → UnacceptedFilesPutNothing
+        (λ found. Any (λ (r : Restriction). r.element ≡ picture.now.element) found)
         (I.to_come input.old) (O.taken output.old) (O.taken output.new) result }
     // What each answer means: after a failure or a refusal of memory, the first bytes of the same picture.
     ensures stands { HasRun
-        (λ found. Any (λ (r : Restriction). r.element ≡ element) found)
-        (λ found lines. IsOpenPicture found element direction vehicle title.now year lines)
+        (λ found. Any (λ (r : Restriction). r.element ≡ picture.now.element) found)
+        (λ found lines. IsOpenPicture found picture.now.element picture.now.direction picture.now.vehicle
+        picture.now.title.now picture.now.year lines)
         (I.to_come input.old) (O.taken output.old) (O.taken output.new) result }
-    ensures lines { IfOk result (λ count. count ≡ year_length (pos year) + 2) }
+    ensures lines { IfOk result (λ count. count ≡ year_length (pos picture.now.year) + 2) }
     // An output that took the whole text was then ended, last of all.
     ensures ended { OnOk result (IsTrue (O.is_ended output.new)) }
-    ensures vehicle { IsErrOf result RunFault.VehicleRange ↔ (IsVehicleType vehicle → ⊥) }
-    ensures year { IsErrOf result RunFault.YearRange ↔ (IsVehicleType vehicle × (IsTableYear year → ⊥)) }
+    ensures vehicle { IsErrOf result RunFault.VehicleRange ↔ (IsVehicleType picture.now.vehicle → ⊥) }
+    ensures year { IsErrOf result RunFault.YearRange ↔ (IsVehicleType picture.now.vehicle × (IsTableYear picture.now.year → ⊥)) }
     ensures endless { IsErrOf result (RunFault.Records RecordFault.Endless) → IsTrue (I.may_fall_silent input.old) }
     ensures read_faults { I.failure_count input.new
         ≡ failures_after_read result (I.failure_count input.old) }
     ensures write_faults { O.failure_count output.new
         ≡ failures_after_write result (O.failure_count output.old) }
 {
-    let picture = Picture {
-        element,
-        direction,
-        vehicle,
-        year,
-        title,
-    };
-    run_report(alloc, input, output, &picture)
+    run_report(alloc, input, output, picture)
 }

@@ -5,5 +5,5 @@ use Rattle.gtd_picture.proofs.domain.put_domain_picture.Goals as goal
 pub returns-clause-stands : goal.returns-clause-stands
 returns-clause-stands g c =
     rw (c.answer.ensures.value) (has_put (IsDomainPicture c.args.domain.now c.args.title.now c.args.year) c.put_seconds-put.result
-    (g.O.Output.taken c.args.output.now) (g.O.Output.taken c.put_seconds-put.new.output) c.put_seconds-put.new.progress
-    (rw (c.new-progress.ensures.value) at c.put_seconds-put.ensures.puts))
+    (g.O.Output.taken c.args.output.now) (g.O.Output.taken c.put_seconds-put.new.output) c.put_seconds-put.new.printer.progress
+    (rw (c.new-printer.ensures.begins) at c.put_seconds-put.ensures.puts))

@@ -13,8 +13,8 @@ returns-in_err-put_picture-clause-puts g c =
     let taken = g.O.Output.taken in
     rw (r.1) (picture_there (InDomain c.args.domain.now) days.result (cursor_list c.in_ok-seconds.seconds) c.args.year
     c.in_ok-seconds.ensures.normal days.ensures.first days.ensures.next (Err r.0) (taken c.args.output.now)
-    (taken c.put_picture.new.output) c.args.progress.now c.put_picture.new.progress c.args.title.now (codes "in the domain")
-    (codes "not in the domain") c.in_err-put_picture.ensures.puts)
+    (taken c.put_picture.new.output) c.args.printer.now.progress c.put_picture.new.printer.progress c.args.title.now
+    (codes "in the domain") (codes "not in the domain") c.in_err-put_picture.ensures.puts)
 
 pub returns-clause-puts : goal.returns-clause-puts
 returns-clause-puts g c =
@@ -23,10 +23,10 @@ returns-clause-puts g c =
     let taken = g.O.Output.taken in
     let title = c.args.title.now in
     texts_ended (IsPicture set title (codes "in the domain") (codes "not in the domain") c.args.year) c.finish.result
-    (taken c.args.output.now) (taken c.put_picture.new.output) (taken c.finish.new.output) c.args.progress.now
-    c.put_picture.new.progress (one_picture set title (codes "in the domain") (codes "not in the domain") c.args.year)
+    (taken c.args.output.now) (taken c.put_picture.new.output) (taken c.finish.new.output) c.args.printer.now.progress
+    c.put_picture.new.printer.progress (one_picture set title (codes "in the domain") (codes "not in the domain") c.args.year)
     (picture_there set days.result (cursor_list c.in_ok-seconds.seconds) c.args.year c.in_ok-seconds.ensures.normal
     days.ensures.first days.ensures.next (Ok tt) (taken c.args.output.now) (taken c.put_picture.new.output)
-    c.args.progress.now c.put_picture.new.progress title (codes "in the domain") (codes "not in the domain")
+    c.args.printer.now.progress c.put_picture.new.printer.progress title (codes "in the domain") (codes "not in the domain")
     c.in_ok-put_picture.ensures.puts)
     c.finish.ensures.bytes

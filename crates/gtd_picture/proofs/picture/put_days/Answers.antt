@@ -31,7 +31,7 @@ loop-place-init g c = record {
   done = [];
   are = no_columns (Holds c.args.seconds.now) _ _;
   left = λ t h. ((λ k. k), (λ k. k));
-  puts = puts_none (g.O.Output.taken c.args.output.now) c.args.progress.now;
+  puts = puts_none (g.O.Output.taken c.args.output.now) c.args.printer.now.progress;
   failures = refl;
 }
 
@@ -53,9 +53,10 @@ returns-in_err-write_day-clause-puts g c =
     let more = day_lines (c.args.first +ℤ pos c.loop-place.place) c.loop-place.place t.0 in (
       i.done ++ t.0,
       t.1,
-      rw (p.1, lines) (puts_then (Err p.0) a b b c.args.progress.now c.loop-place.progress c.loop-place.progress (day_lines
+      rw (p.1, lines) (puts_then (Err p.0) a b b c.args.printer.now.progress c.loop-place.printer.progress
+          c.loop-place.printer.progress (day_lines
           c.args.first 0 i.done) more put
-          (puts_nothing p.0 b c.loop-place.progress more)),
+          (puts_nothing p.0 b c.loop-place.printer.progress more)),
     )
 
 pub put_line-requires-clause-written : goal.put_line-requires-clause-written
@@ -73,7 +74,8 @@ put_line-requires-clause-written g c =
     c.loop-place.place it.0 (omega arith) it.1) in
     let line = ap length (c.as_slice.ensures.value ∙ it.2) in
     let more = l.1 in
-    room c.loop-place.progress.written c.args.progress.now.written (length c.as_slice.result.now) c.loop-place.place c.args.days
+    room c.loop-place.printer.progress.written c.args.printer.now.progress.written (length c.as_slice.result.now)
+    c.loop-place.place c.args.days
     (omega (arith, more, w)) (omega arith) (omega (arith, line, short)) (omega arith) (omega arith)
 
 pub put_line-requires-clause-lines : goal.put_line-requires-clause-lines
@@ -112,13 +114,16 @@ returns-in_err-put_line-clause-puts g c =
     it.1 in
     let t = whole_picture c.args.seconds.now c.args.first (c.loop-place.place + 1) c.args.days (i.done
     ++ (it.0 ∷ [])) (omega arith) are in
-    let one : Puts (Err p.0) b d c.loop-place.progress c.put_line.new.progress (line ∷ []) =
-    one_short p.0 line c.in_err-put_line.field-0.0.taken b d c.loop-place.progress c.put_line.new.progress (rw is at e.some.0)
+    let one : Puts (Err p.0) b d c.loop-place.printer.progress c.put_line.new.progress (line ∷ []) =
+    one_short p.0 line c.in_err-put_line.field-0.0.taken b d c.loop-place.printer.progress c.put_line.new.progress (rw is at
+    e.some.0)
     (rw is at e.some.1) e.progress in
     let lines = lines_then c.args.first day c.loop-place.place i.done t.0 it.0 long at in
-    let puts = puts_then (Err p.0) a b d c.args.progress.now c.loop-place.progress c.put_line.new.progress (day_lines
+    let puts = puts_then (Err p.0) a b d c.args.printer.now.progress c.loop-place.printer.progress c.put_line.new.progress
+    (day_lines
     c.args.first 0 i.done) _ put
-    (puts_cut p.0 b d c.loop-place.progress c.put_line.new.progress (line ∷ []) (day_lines (day +ℤ pos 1) (c.loop-place.place
+    (puts_cut p.0 b d c.loop-place.printer.progress c.put_line.new.progress (line ∷ []) (day_lines (day +ℤ pos 1)
+    (c.loop-place.place
     + 1) t.0) one) in
     ((i.done ++ (it.0 ∷ [])) ++ t.0, t.1, rw (p.1) (rw (append_assoc i.done (it.0 ∷ []) t.0, lines) puts))
 
@@ -140,13 +145,14 @@ loop-place-preserved g c =
     let left = rw same at i.left in
     let line = day_line day c.loop-place.place it.0 in
     let is : c.as_slice.result.now ≡ line = c.as_slice.ensures.value ∙ it.2 in
-    let one : Puts (Ok tt) b d c.loop-place.progress c.put_line.new.progress (line ∷ []) =
-    one_put line b d c.loop-place.progress c.put_line.new.progress (rw is at e.all) (rw is at e.progress) in
+    let one : Puts (Ok tt) b d c.loop-place.printer.progress c.put_line.new.progress (line ∷ []) =
+    one_put line b d c.loop-place.printer.progress c.put_line.new.progress (rw is at e.all) (rw is at e.progress) in
     let long = length-columns (Holds c.args.seconds.now) c.args.first 0 c.loop-place.place i.done before in
     let are = one_more c.args.seconds.now c.loop-place.seconds c.args.first day c.loop-place.place i.done it.0 at before left
     it.1 in
     let lines = lines_then c.args.first day c.loop-place.place i.done [] it.0 long at in
-    let puts = puts_then (Ok tt) a b d c.args.progress.now c.loop-place.progress c.put_line.new.progress (day_lines
+    let puts = puts_then (Ok tt) a b d c.args.printer.now.progress c.loop-place.printer.progress c.put_line.new.progress
+    (day_lines
     c.args.first 0 i.done) (line ∷ []) put one in
     record {
       done = i.done ++ (it.0 ∷ []);

@@ -9,7 +9,8 @@ use Rattle.gtd_picture.proofs.picture.put_foot.Goals as goal
 pub returns-in_err-write_foot-clause-puts : goal.returns-in_err-write_foot-clause-puts
 returns-in_err-write_foot-clause-puts g c =
     let r = err_from_is_err_and c.from_residual.result c.from_residual.ensures.1 in
-    rw (r.1) (puts_nothing r.0 (g.O.Output.taken c.args.output.now) c.args.progress.now (foot_text (pos c.args.year) ∷ []))
+    rw (r.1) (puts_nothing r.0 (g.O.Output.taken c.args.output.now) c.args.printer.now.progress (foot_text (pos c.args.year) ∷
+    []))
 
 pub put_line-requires-clause-written : goal.put_line-requires-clause-written
 put_line-requires-clause-written g c =
@@ -25,7 +26,8 @@ returns-in_err-put_line-clause-puts g c =
     let r = err_from_is_err_and c.from_residual-in_err-put_line.result c.from_residual-in_err-put_line.ensures.1 in
     let e = c.in_err-put_line.ensures in
     rw (r.1) (one_short r.0 foot c.in_err-put_line.field-0.0.taken (g.O.Output.taken c.args.output.now)
-    (g.O.Output.taken c.put_line.new.output) c.args.progress.now c.put_line.new.progress (rw is at e.some.0) (rw is at e.some.1)
+    (g.O.Output.taken c.put_line.new.output) c.args.printer.now.progress c.put_line.new.progress (rw is at e.some.0) (rw is at
+    e.some.1)
     e.progress)
 
 pub returns-clause-puts : goal.returns-clause-puts
@@ -33,5 +35,5 @@ returns-clause-puts g c =
     let foot = foot_text (pos c.args.year) in
     let is : c.as_slice.result.now ≡ foot = c.as_slice.ensures.value ∙ c.in_ok-write_foot.ensures.foot in
     let e = c.in_ok-put_line.ensures in
-    one_put foot (g.O.Output.taken c.args.output.now) (g.O.Output.taken c.put_line.new.output) c.args.progress.now
+    one_put foot (g.O.Output.taken c.args.output.now) (g.O.Output.taken c.put_line.new.output) c.args.printer.now.progress
     c.put_line.new.progress (rw is at e.all) (rw is at e.progress)

@@ -7,7 +7,7 @@ use Rattle.gtd_picture.proofs.run.run_picture.Goals as goal
 
 pub returns-clause-lines : goal.returns-clause-lines
 returns-clause-lines g c =
-    let a = c.args in
+    let a = c.args.picture.now in
     IfOk-weaker c.run_report.result _ _ (λ count is.
     is.3 ∙ picture_lines (IsOpen is.0 a.element a.direction a.vehicle) a.title.now (codes "open") (codes "closed") a.year is.1
     is.2)
