@@ -13,7 +13,7 @@ use crate::horizons::is_vehicle;
 use gtd_core::Horizon;
 use gtd_handles::{Collected, Handle, KIND, MEMORY, RANGE, Thing, open_text};
 use gtd_records::Records;
-use gtd_report::{Progress, Report};
+use gtd_report::{Printer, Report};
 use gtd_schedule::Schedule;
 use std::alloc::Global;
 
@@ -40,8 +40,8 @@ fn schedule_of(
     };
     let schedule = Schedule { horizon, vehicle };
     let mut output = Collected::new(alloc);
-    let mut progress = Progress::new();
-    match schedule.put(alloc, &mut output, &mut progress, records) {
+    let mut printer = Printer::new(alloc);
+    match schedule.put(&mut output, &mut printer, records) {
         Ok(()) => Ok(output.into_bytes()),
         Err(_) => Err(MEMORY),
     }

@@ -176,23 +176,19 @@ fn schedules(rt: HostRuntime) {
 fn tables_and_migrated_files(rt: HostRuntime) {
     let alloc = rt.alloc();
     let mut table = room(&rt, alloc, None);
-    let days = run_year(
-        alloc,
-        &mut file(&rt, alloc, None),
-        &mut table,
-        17,
-        Direction::Positive,
-        11,
-        2024,
-    );
+    let asked = YearTable {
+        element: 17,
+        direction: Direction::Positive,
+        vehicle: 11,
+        year: 2024,
+    };
+    let days = run_year(alloc, &mut file(&rt, alloc, None), &mut table, asked);
     assert!(rt; days == Ok(366));
     assert!(rt; table.bytes().len() == 366 * 17);
     let mut other = room(&rt, alloc, None);
     let report = YearTable {
         element: 18,
-        direction: Direction::Positive,
-        vehicle: 11,
-        year: 2024,
+        ..asked
     };
     let unnamed = run_report(alloc, &mut file(&rt, alloc, None), &mut other, &report);
     assert!(rt; unnamed == Err(RunFault::NoElement));

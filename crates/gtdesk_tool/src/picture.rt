@@ -8,7 +8,7 @@ use crate::performer::outcome;
 use crate::refusal::RunRefusal;
 use gtd_core::Domain;
 use gtd_devices::{Input, Output};
-use gtd_picture::{put_domain_picture, run_picture};
+use gtd_picture::{YearPicture, put_domain_picture, run_picture};
 use gtdesk_plans::PictureSubject;
 use std::alloc::Global;
 
@@ -29,16 +29,14 @@ pub(crate) fn print_picture<I: Input, O: Output>(
     ensures write_faults { O.failure_count output.new
         ≡ failures_after_write result (O.failure_count output.old) }
 {
-    outcome(run_picture(
-        alloc,
-        input,
-        output,
+    let picture = YearPicture {
+        element: subject.element,
+        direction: subject.direction,
+        vehicle: subject.vehicle,
+        year: subject.year,
         title,
-        subject.element,
-        subject.direction,
-        subject.vehicle,
-        subject.year,
-    ))
+    };
+    outcome(run_picture(alloc, input, output, &picture))
 }
 
 /// Prints the picture of a domain.

@@ -141,24 +141,28 @@ fn lists_with_too_little_room(rt: HostRuntime) {
     }
 }
 
+// A writer that is interrupted so often before each write.
+fn busy(interruptions: u32, takes: bool, flushes: bool) -> Busy {
+    Busy {
+        interruptions,
+        left: interruptions,
+        takes,
+        flushes,
+    }
+}
+
 // What each command of the list answers over such a writer.
 fn expect_over_writer(
     rt: &impl Abort,
     alloc: Global,
     words: &[&str],
-    interruptions: u32,
-    takes: bool,
-    flushes: bool,
+    writer: Busy,
     expected: Result<Ending, RunRefusal>,
 ) {
     let plan = planned(rt, alloc, words);
     let mut input = two_rows(rt, alloc);
-    let mut output = HostOut::new(Busy {
-        interruptions,
-        left: interruptions,
-        takes,
-        flushes,
-    });
+    let interruptions = writer.interruptions;
+    let mut output = HostOut::new(writer);
     let mut errors = MemoryOut::new(alloc, 100, 100, None).expect(rt, "memory");
     let done = perform(alloc, &plan, &mut input, &mut output, &mut errors);
     assert!(rt;
@@ -181,15 +185,21 @@ fn writers_that_are_interrupted(rt: HostRuntime) {
         hours,
         OTHER_COMMANDS[4],
     ] {
-        expect_over_writer(&rt, alloc, words, 999, true, true, Ok(Ending::Done));
-        expect_over_writer(&rt, alloc, words, 1_000, true, true, refused);
-        expect_over_writer(&rt, alloc, words, 0, true, false, refused);
-        expect_over_writer(&rt, alloc, words, 0, false, true, refused);
+        expect_over_writer(&rt, alloc, words, busy(999, true, true), Ok(Ending::Done));
+        expect_over_writer(&rt, alloc, words, busy(1_000, true, true), refused);
+        expect_over_writer(&rt, alloc, words, busy(0, true, false), refused);
+        expect_over_writer(&rt, alloc, words, busy(0, false, true), refused);
     }
     // No fault is listed of `R`: nothing is written, and only the flush can fail.
     for words in [FILE_COMMANDS[1], FILE_COMMANDS[2]] {
-        expect_over_writer(&rt, alloc, words, 1_000, false, true, Ok(Ending::Done));
-        expect_over_writer(&rt, alloc, words, 0, true, false, refused);
+        expect_over_writer(
+            &rt,
+            alloc,
+            words,
+            busy(1_000, false, true),
+            Ok(Ending::Done),
+        );
+        expect_over_writer(&rt, alloc, words, busy(0, true, false), refused);
     }
 }
 

@@ -76,13 +76,5 @@ pub fn print<I: Input, W: Write>(
         (I.failure_count input.old) (I.failure_count input.new) result }
 {
     let mut output = HostOut::new(Lent { writer: &mut *out });
-    outcome(run_year(
-        alloc,
-        input,
-        &mut output,
-        table.element,
-        table.direction,
-        table.vehicle,
-        table.year,
-    ))
+    outcome(run_year(alloc, input, &mut output, table))
 }
