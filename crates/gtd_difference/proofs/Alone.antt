@@ -24,13 +24,14 @@ first-of xs rest x from s normal same ends late is = record {
       omega (arith, ints, q, later, before, is);
 }
 
--- the first interval of a list that is normal for a set ends before the end
-pub first-ends : (P : ℤ → Type 0) (begin until : ℤ) (xs rest : List Interval) (x : Interval) → IsNormalFor P begin until xs
-    → xs ≡ x ∷ rest → x.until ≤ℤ until
-first-ends P begin until xs rest x n e =
+-- the first interval of a list that is normal for a set is within its bounds
+pub first-in : (P : ℤ → Type 0) (begin until : ℤ) (xs rest : List Interval) (x : Interval) → IsNormalFor P begin until xs
+    → xs ≡ x ∷ rest → (begin ≤ℤ x.from) × (x.from <ℤ x.until) × (x.until ≤ℤ until)
+first-in P begin until xs rest x n e =
     let normal : IsNormal (x ∷ rest) = subst IsNormal e (normal-of P begin until xs n) in
-    let i = n.inside (x.until -ℤ pos 1) (rw e (inl (omega (arith, ints, normal.0), omega (arith, ints)))) in
-    omega (arith, ints, i.1)
+    let i = n.inside x.from (rw e (inl (omega (arith, ints), omega (arith, ints, normal.0)))) in
+    let j = n.inside (x.until -ℤ pos 1) (rw e (inl (omega (arith, ints, normal.0), omega (arith, ints)))) in
+    (i.0, omega (arith, ints, normal.0), omega (arith, ints, j.1))
 
 -- ---- two lists that are normal for two sets, and a third that holds what the first holds alone
 

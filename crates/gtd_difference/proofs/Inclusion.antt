@@ -1,5 +1,5 @@
 -- Where one set has no second alone, in parts of time.
-use Rattle.std.proofs.Common.{◌≡◌, ◌↔◌, arith}
+use Rattle.std.proofs.Common.{◌≡◌, ◌↔◌, arith, Bool, true, false, not, IsTrue}
 use Rattle.std.specs.Prelude.{ℤ, ◌≤ℤ◌, ◌<ℤ◌, ◌+ℤ◌, ◌-ℤ◌, ◌*ℤ◌, pos}
 use Rattle.std.proofs.lemmas.Int.{ints}
 use Rattle.gtd_core.specs.Limits.{day_seconds}
@@ -7,6 +7,10 @@ use Rattle.gtd_core.specs.declared.domain.Domain.{Domain}
 use Rattle.gtd_eval.specs.Membership.{InDomain}
 use Rattle.gtd_difference.specs.Difference.{EitherGivesYear, HasNoneAlone, first_begin, last_end}
 use Rattle.gtd_difference.proofs.Ever.{IsRepeating, within-ever}
+
+pub not-both : (b : Bool) → IsTrue (not b) → IsTrue b → ⊥
+not-both true h k = let e : false ≡ true = h in cc
+not-both false h k = let e : false ≡ true = k in cc
 
 module _ (P Q : ℤ → Type 0) where
   pub narrowed : (early from until late : ℤ) → early ≤ℤ from → until ≤ℤ late → HasNoneAlone P Q early late

@@ -1,7 +1,7 @@
 //! Whether each second of one domain is in another.
 
 ghost use Rattle.std.specs.Prelude.{◌↔◌, ◌≤ℤ◌, IfOk, IsTrue};
-ghost use Rattle.gtd_core.specs.Seconds.{IsHorizonSecond, Within};
+ghost use Rattle.gtd_core.specs.Seconds.{IsHorizonSecond, IsMomentSecond, Within};
 ghost use Rattle.gtd_core.specs.Whole.{whole};
 ghost use Rattle.gtd_eval.specs.Membership.{InDomain};
 ghost use Rattle.gtd_difference.specs.Difference.{EitherGivesYear, HasNoneAlone, first_begin, last_end};
@@ -77,41 +77,43 @@ fn has_end_alone(other: &Domain, span: Span) -> bool
     !holds(other, first) || !holds(other, last)
 }
 
-// Whether the first span that the domain has from 2016 to 2043 has an end that the other has not.
-fn is_seen_alone(alloc: Global, domain: &Domain, other: &Domain) -> Result<bool, AllocError>
-    ensures alone { IfOk result (λ alone. IsTrue alone
-        → HasNoneAlone (InDomain domain.now) (InDomain other.now) first_begin last_end → ⊥) }
-{
-    let mut cursor = Cursor::open(alloc, domain, days_between(SEEN_FROM, SEEN_UNTIL))?;
-    match cursor.next() {
-        Some(span) => Ok(has_end_alone(other, span)),
-        None => Ok(false),
-    }
-}
-
-// Whether the domain has a second in four years that the other has not. Of domains that both repeat after 7 days a week decides
-// anyway, so that none is looked for.
-fn is_soon_alone(alloc: Global, domain: &Domain, other: &Domain) -> Result<bool, AllocError>
+// Whether the domain has a second in the four years from a second's day on that the other has not. Of domains that both repeat after 7 days
+// a week decides anyway, so that none is looked for.
+fn is_alone_near(
+    alloc: Global,
+    domain: &Domain,
+    other: &Domain,
+    from: Sec,
+) -> Result<bool, AllocError>
+    requires moment { IsMomentSecond from.0 }
     ensures alone { IfOk result (λ alone. IsTrue alone
         → HasNoneAlone (InDomain domain.now) (InDomain other.now) first_begin last_end → ⊥) }
 {
     if is_weekly(domain) && is_weekly(other) {
         return Ok(false);
     }
-    let near = days_between(FIRST_HORIZON_DAY, FIRST_HORIZON_DAY + NEAR_DAYS);
+    let day = from.day();
+    let near = days_between(day, day + NEAR_DAYS);
     let within = is_within_days(alloc, domain, other, near)?;
     Ok(!within)
 }
 
-// Whether it is seen soon that the domain has a second that the other has not.
+// Whether it is seen soon that the domain has a second that the other has not: by the first span that it has from 2016 to 2043,
+// and the four years from there on.
 fn is_soon_apart(alloc: Global, domain: &Domain, other: &Domain) -> Result<bool, AllocError>
     ensures alone { IfOk result (λ alone. IsTrue alone
         → HasNoneAlone (InDomain domain.now) (InDomain other.now) first_begin last_end → ⊥) }
 {
-    if is_seen_alone(alloc, domain, other)? {
-        return Ok(true);
+    let mut cursor = Cursor::open(alloc, domain, days_between(SEEN_FROM, SEEN_UNTIL))?;
+    match cursor.next() {
+        Some(span) => {
+            if has_end_alone(other, span) {
+                return Ok(true);
+            }
+            is_alone_near(alloc, domain, other, span.from())
+        }
+        None => Ok(false),
     }
-    is_soon_alone(alloc, domain, other)
 }
 
 // Whether each second from 1901-01-01 up to 2700-01-01 of a domain is in another: by going through all of them that are needed.
