@@ -1,0 +1,6 @@
+mod CutFacts
+mod DecodeFacts
+mod FieldFacts
+mod MendFacts
+mod PrintFacts
+mod TableFacts

@@ -1,0 +1,8 @@
+use Rattle.std.proofs.Common.{◌≡◌, take}
+use Rattle.std.specs.Prelude.{map}
+use Rattle.std.specs.Char.{to_ascii_lowercase}
+use Rattle.gtd_mend.proofs.field.in_small_letters.Given as goal
+
+-- the bytes so far, in small letters
+abbrev pub invariant-loop-byte : goal.invariant-loop-byte
+invariant-loop-byte l = l.small.items ≡ map to_ascii_lowercase (take l.byte-index l.field)
