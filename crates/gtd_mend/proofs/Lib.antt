@@ -3,4 +3,5 @@ mod DecodeFacts
 mod FieldFacts
 mod MendFacts
 mod PrintFacts
+mod RowsFacts
 mod TableFacts

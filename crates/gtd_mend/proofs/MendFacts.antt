@@ -45,10 +45,14 @@ decided bytes (why ∷ faults) false e are accepted first one = λ is.
 
 -- ---- whether a text has a header
 
-same_fields : (a b : Fields) (s t : State) (x y : List ℕ) → ◌≡◌ {A = Option Read} (Some (a, s, x)) (Some (b, t, y)) → a ≡ b
-same_fields a b s t x y e = cc
+abbrev fields_read : Option Read → Fields
+fields_read None = []
+fields_read (Some read) = read.0
 
-read_apart : (a : Fields) (s : State) (x : List ℕ) → ◌≡◌ {A = Option Read} None (Some (a, s, x)) → ⊥
+pub same_fields : (a b : Fields) (s t : State) (x y : List ℕ) → ◌≡◌ {A = Option Read} (Some (a, s, x)) (Some (b, t, y)) → a ≡ b
+same_fields a b s t x y e = ap fields_read e
+
+pub read_apart : (a : Fields) (s : State) (x : List ℕ) → ◌≡◌ {A = Option Read} None (Some (a, s, x)) → ⊥
 read_apart a s x e = cc
 
 pub no_row_no_header : (separator : Separator) (text : List ℕ)
