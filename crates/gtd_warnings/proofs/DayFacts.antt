@@ -81,7 +81,7 @@ module _ (row : ℕ) (off : List Rule) (tree : Tree) (Holds : Rule → Type 0)
       inr ((λ rule also. subst (λ (r : Rule). Contains off r) (one found rule holds also) (is.0 found refl)), is.1)
 
 -- some second is looked at
-looked_at : (tree : Tree) → IsLookedAt tree first_second
+pub looked_at : (tree : Tree) → IsLookedAt tree first_second
 looked_at tree years = (omega (arith, ints), omega (arith, ints))
 
 pub throughout : (row : ℕ) (off : List Rule) (tree : Tree) (found : Option Rule)

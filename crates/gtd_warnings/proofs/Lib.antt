@@ -1,4 +1,5 @@
 pub mod CodeFacts
 pub mod DayFacts
+pub mod OneAnswer
 pub mod RowFacts
 pub mod VehicleFacts

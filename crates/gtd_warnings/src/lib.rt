@@ -15,5 +15,6 @@ mod codes;
 mod days;
 mod extents;
 mod file;
+pub mod laws;
 mod row;
 mod vehicles;

@@ -1,0 +1,5 @@
+use Rattle.gtd_warnings.proofs.OneAnswer.{one_lone, one_told}
+use Rattle.gtd_warnings.proofs.laws.one_answer.Goals as goal
+
+pub returns : goal.returns
+returns c = record { told = one_told; lone = one_lone }
