@@ -118,7 +118,8 @@ const FAULTY: &str = "element,direction,vehicle,domain\n1,up,0,\nx,both,0,\n2,bo
 
 const LIST: &str =
     "r.csv:2: row 1: Direction\n    up\n    ^\n    expected: positive, negative or both\n\
-    r.csv:3: row 2: Element\n    x\n    ^\n    expected: 1 to 10 digits\nr.csv:4: row 3: always holds\n";
+    r.csv:3: row 2: Element\n    x\n    ^\n    expected: 1 to 10 digits\n\
+    r.csv:4: row 3: always-holds: at each second, as if no domain were given\n    (h0){h24}\n    ^\n";
 
 // A list of faults is put whole: with less room than it takes, its first bytes.
 #[test]
