@@ -1,7 +1,9 @@
 mod AlikeFacts
+mod AnswerFacts
 mod BucketFacts
 mod FindingFacts
 mod FirstFacts
+mod KinFacts
 mod LineFacts
 mod ListFacts
 mod NumberFacts

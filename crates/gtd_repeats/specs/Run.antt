@@ -1,5 +1,5 @@
 -- What listing the repeats of a file did, by its answer.
-use Rattle.std.specs.Prelude.{◌≡◌, ◌≤◌, ℕ, List, length, take, Option, IfSome, Result, Ok, Err}
+use Rattle.std.specs.Prelude.{◌≡◌, ◌≤◌, ℕ, ⊤, List, length, take, Option, IfSome, Result, Ok, Err}
 use Rattle.std.specs.Io.KnownBytes.{Appends, Keeps}
 use Rattle.gtd_records.specs.Closing.{Restriction}
 use Rattle.gtd_records.specs.File.{IsFile, IsOfFile}
@@ -31,3 +31,9 @@ HasListed path bytes old new (Err (fault.WriteFault written)) = PutsListing path
 HasListed path bytes old new (Err (fault.Records why)) = Keeps old new × (IsOfFile why → IsFile bytes (Err why))
 HasListed path bytes old new (Err (fault.NoMemory written)) = Keeps old new × (written ≡ 0)
 HasListed path bytes old new (Err why) = ⊥
+
+-- Where the file is refused, or memory, nothing was put: whatever the input tells of its bytes.
+abbrev pub KeepsRefused : Option (List ℕ) → Option (List ℕ) → Result ℕ RunFault → Type 0
+KeepsRefused old new (Err (fault.Records why)) = Keeps old new
+KeepsRefused old new (Err (fault.NoMemory written)) = Keeps old new × (written ≡ 0)
+KeepsRefused old new answer = ⊤

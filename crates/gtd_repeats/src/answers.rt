@@ -88,7 +88,9 @@ pub(crate) fn is_within_seconds(
     if let Some(is_within) = answer_at(answers.as_slice(), place, row, other) {
         return Ok(is_within);
     }
-    let is_within = holds_within(alloc, &rows[row].domain, &rows[other].domain)?;
+    let first = &rows[row];
+    let second = &rows[other];
+    let is_within = holds_within(alloc, &first.domain, &second.domain)?;
     let answer = Answer {
         row,
         other,

@@ -88,17 +88,17 @@ fn row_number(before: usize) -> u32
 // What is said of a row.
 fn said_of_row(
     alloc: Global,
-    all: Grouped<'_>,
+    all: &Grouped<'_>,
     answers: &mut Vec<Answer>,
     entries: &[Entry],
     row: usize,
 ) -> Result<Option<Finding>, AllocError>
-    requires few { length all.rows.now ≤ most_rows }
-    requires grouped { AreGrouped all.rows.now all.meanings.now all.sames.now }
-    requires inside { row < length all.rows.now }
-    requires right { AreRight all.rows.now answers.old.items }
-    ensures right { AreRight all.rows.now answers.new.items }
-    ensures said { IfOk result (IsSaidOfRow all.rows.now row) }
+    requires few { length all.now.rows.now ≤ most_rows }
+    requires grouped { AreGrouped all.now.rows.now all.now.meanings.now all.now.sames.now }
+    requires inside { row < length all.now.rows.now }
+    requires right { AreRight all.now.rows.now answers.old.items }
+    ensures right { AreRight all.now.rows.now answers.new.items }
+    ensures said { IfOk result (IsSaidOfRow all.now.rows.now row) }
 {
     let number = row_number(row);
     let same = all.sames[row];
@@ -143,20 +143,21 @@ fn push_finding(findings: &mut Vec<Finding>, finding: Option<Finding>) -> Result
 // What is said of the rows, row by row.
 fn findings_by(
     alloc: Global,
-    all: Grouped<'_>,
+    all: &Grouped<'_>,
     texts: &[usize],
     kin: &[Vec<Entry>],
 ) -> Result<Vec<Finding>, AllocError>
-    requires few { length all.rows.now ≤ most_rows }
-    requires grouped { AreGrouped all.rows.now all.meanings.now all.sames.now }
-    requires texts { AreFirsts (AreAlikeIn all.rows.now declared.Text) (length all.rows.now) texts.now }
+    requires few { length all.now.rows.now ≤ most_rows }
+    requires grouped { AreGrouped all.now.rows.now all.now.meanings.now all.now.sames.now }
+    requires texts { AreFirsts (AreAlikeIn all.now.rows.now declared.Text) (length all.now.rows.now) texts.now }
     requires many { length kin.now ≡ 4093 }
-    ensures findings { IfOk result (λ findings. AreFindings all.rows.now findings.items) }
+    ensures findings { IfOk result (λ findings. AreFindings all.now.rows.now findings.items) }
 {
     let mut findings = Vec::new(alloc);
     let mut answers = first_answers(alloc)?;
     for row in 0..all.rows.len() {
-        let record = &all.rows[row];
+        let rows = all.rows;
+        let record = &rows[row];
         let entries = entries_of(kin, record.element);
         let of_row = said_of_row(alloc, all, &mut answers, entries, row)?;
         let of_text = said_of_text(all.rows, texts[row], all.meanings[row], row);
@@ -179,5 +180,5 @@ pub(crate) fn findings_of(alloc: Global, rows: &[Record]) -> Result<Vec<Finding>
         meanings: meanings.as_slice(),
         sames: sames.as_slice(),
     };
-    findings_by(alloc, all, texts.as_slice(), kin.as_slice())
+    findings_by(alloc, &all, texts.as_slice(), kin.as_slice())
 }

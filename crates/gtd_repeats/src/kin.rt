@@ -55,17 +55,17 @@ pub(crate) struct Grouped<'a> {
 // Whether a row closes at no second at which another does not: what is true of the first rows with their seconds.
 fn is_within_meaning(
     alloc: Global,
-    all: Grouped<'_>,
+    all: &Grouped<'_>,
     answers: &mut Vec<Answer>,
     row: usize,
     other: usize,
 ) -> Result<bool, AllocError>
-    requires grouped { AreGrouped all.rows.now all.meanings.now all.sames.now }
-    requires inside { row < length all.rows.now }
-    requires other { other < length all.rows.now }
-    requires right { AreRight all.rows.now answers.old.items }
-    ensures right { AreRight all.rows.now answers.new.items }
-    ensures within { IfOk result (λ is_within. IsTrue is_within ↔ IsWithinSeconds all.rows.now row other) }
+    requires grouped { AreGrouped all.now.rows.now all.now.meanings.now all.now.sames.now }
+    requires inside { row < length all.now.rows.now }
+    requires other { other < length all.now.rows.now }
+    requires right { AreRight all.now.rows.now answers.old.items }
+    ensures right { AreRight all.now.rows.now answers.new.items }
+    ensures within { IfOk result (λ is_within. IsTrue is_within ↔ IsWithinSeconds all.now.rows.now row other) }
 {
     let first = all.meanings[row];
     let second = all.meanings[other];
@@ -78,19 +78,25 @@ fn is_within_meaning(
 // Whether a row is within another, and they do not say the same.
 fn is_only_within(
     alloc: Global,
-    all: Grouped<'_>,
+    all: &Grouped<'_>,
     answers: &mut Vec<Answer>,
     row: usize,
     other: usize,
 ) -> Result<bool, AllocError>
-    requires grouped { AreGrouped all.rows.now all.meanings.now all.sames.now }
-    requires inside { row < length all.rows.now }
-    requires other { other < length all.rows.now }
-    requires right { AreRight all.rows.now answers.old.items }
-    ensures right { AreRight all.rows.now answers.new.items }
-    ensures within { IfOk result (λ is_within. IsTrue is_within → IsWithinOf all.rows.now row other) }
+    requires grouped { AreGrouped all.now.rows.now all.now.meanings.now all.now.sames.now }
+    requires inside { row < length all.now.rows.now }
+    requires other { other < length all.now.rows.now }
+    requires right { AreRight all.now.rows.now answers.old.items }
+    ensures right { AreRight all.now.rows.now answers.new.items }
+    ensures within { IfOk result (λ is_within. IsTrue is_within → IsWithinOf all.now.rows.now row other) }
 {
-    if all.sames[row] == all.sames[other] || !may_be_within(&all.rows[row], &all.rows[other]) {
+    if all.sames[row] == all.sames[other] {
+        return Ok(false);
+    }
+    let rows = all.rows;
+    let one = &rows[row];
+    let two = &rows[other];
+    if !may_be_within(one, two) {
         return Ok(false);
     }
     is_within_meaning(alloc, all, answers, row, other)
@@ -99,21 +105,26 @@ fn is_only_within(
 /// The first of these rows of its element that a row is within.
 pub(crate) fn within_of(
     alloc: Global,
-    all: Grouped<'_>,
+    all: &Grouped<'_>,
     answers: &mut Vec<Answer>,
     entries: &[Entry],
     row: usize,
 ) -> Result<Option<usize>, AllocError>
-    requires grouped { AreGrouped all.rows.now all.meanings.now all.sames.now }
-    requires inside { row < length all.rows.now }
-    requires right { AreRight all.rows.now answers.old.items }
-    ensures right { AreRight all.rows.now answers.new.items }
-    ensures within { IfOk result (λ found. IfSome found (IsWithinOf all.rows.now row)) }
+    requires grouped { AreGrouped all.now.rows.now all.now.meanings.now all.now.sames.now }
+    requires inside { row < length all.now.rows.now }
+    requires right { AreRight all.now.rows.now answers.old.items }
+    ensures right { AreRight all.now.rows.now answers.new.items }
+    ensures within { IfOk result (λ found. IfSome found (IsWithinOf all.now.rows.now row)) }
 {
+    let rows = all.rows;
+    let record = &rows[row];
+    let element = record.element;
     for entry in entries {
         let other = entry.row;
-        if other < all.rows.len() && is_only_within(alloc, all, answers, row, other)? {
-            return Ok(Some(other));
+        if entry.number == element && other < rows.len() {
+            if is_only_within(alloc, all, answers, row, other)? {
+                return Ok(Some(other));
+            }
         }
     }
     Ok(None)

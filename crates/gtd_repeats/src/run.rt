@@ -7,7 +7,7 @@ ghost use Rattle.gtd_records.specs.Closing.{Restriction};
 ghost use Rattle.gtd_records.specs.File.{IsFile, IsOfFile};
 ghost use Rattle.gtd_report.specs.Run.{failures_after_read, failures_after_write};
 ghost use Rattle.gtd_repeats.specs.Listing.{IsListing};
-ghost use Rattle.gtd_repeats.specs.Run.{HasListed, HasPut};
+ghost use Rattle.gtd_repeats.specs.Run.{HasListed, HasPut, KeepsRefused};
 
 use crate::device::ReadBytes;
 use crate::findings::findings_of;
@@ -88,7 +88,11 @@ fn put_listing<O: Output>(
 ) -> Result<u64, RunFault>
     requires writable { O.failure_count output.old < u64.MAX }
     ensures listed { HasListed path.now bytes.now (O.taken output.old) (O.taken output.new) result }
+    ensures kept { KeepsRefused (O.taken output.old) (O.taken output.new) result }
     ensures ended { OnOk result (IsTrue (O.is_ended output.new)) }
+    ensures vehicle { IsErrOf result RunFault.VehicleRange → ⊥ }
+    ensures year { IsErrOf result RunFault.YearRange → ⊥ }
+    ensures element { IsErrOf result RunFault.NoElement → ⊥ }
     ensures endless { IsErrOf result (RunFault.Records RecordFault.Endless) → ⊥ }
     ensures read_faults { (count : ℕ) → count ≡ failures_after_read result count }
     ensures write_faults { O.failure_count output.new ≡ failures_after_write result (O.failure_count output.old) }
@@ -123,8 +127,13 @@ pub fn run_repeats<I: Input, O: Output>(
     // What the output took, by the answer: the list of a file or, after a failure, its first bytes.
     ensures listed { IfSome (I.to_come input.old)
         (λ bytes. HasListed path.now bytes (O.taken output.old) (O.taken output.new) result) }
+    // Nothing was put where the file or memory was refused, whatever the input tells of its bytes.
+    ensures kept { KeepsRefused (O.taken output.old) (O.taken output.new) result }
     // An output that took the whole list was then ended.
     ensures ended { OnOk result (IsTrue (O.is_ended output.new)) }
+    ensures vehicle { IsErrOf result RunFault.VehicleRange → ⊥ }
+    ensures year { IsErrOf result RunFault.YearRange → ⊥ }
+    ensures element { IsErrOf result RunFault.NoElement → ⊥ }
     ensures endless { IsErrOf result (RunFault.Records RecordFault.Endless) → IsTrue (I.may_fall_silent input.old) }
     ensures read_faults { I.failure_count input.new
         ≡ failures_after_read result (I.failure_count input.old) }
