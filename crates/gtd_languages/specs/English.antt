@@ -1,22 +1,11 @@
 -- The words of English.
 use Rattle.std.specs.Prelude.{ℕ, Bool, true, false, List, [], ◌∷◌, codes}
-use Rattle.gtd_languages.specs.declared.word.Role.{Role}
-use Rattle.gtd_languages.specs.declared.word.Role.TheVariants.{On, From, If}
-use Rattle.gtd_languages.specs.declared.word.Form.{Form}
-use Rattle.gtd_languages.specs.declared.word.Form.TheVariants.{Zero, One, EndsInOne, EndsInTwo, EndsInThree, Other}
-use Rattle.gtd_languages.specs.declared.word.Unit.{Unit}
-use Rattle.gtd_languages.specs.declared.word.Unit.TheVariants.{Years, Months, Weeks, Days, Hours, Minutes, Seconds}
-use Rattle.gtd_languages.specs.declared.word.Fixed.{Fixed}
-use Rattle.gtd_languages.specs.declared.word.Fixed.TheVariants.{EachDay, FromBeginning, OfEachMonth, EveryYear}
-use Rattle.gtd_languages.specs.declared.word.Fixed.TheVariants.{WholeMinute, Sharp, AllDay, NextDay, Included}
-use Rattle.gtd_languages.specs.declared.word.Counted.{Counted}
-use Rattle.gtd_languages.specs.declared.word.Counted.TheVariants.{InWeek, YearAlone, OfYear, FromHour, FromMinute}
-use Rattle.gtd_languages.specs.declared.word.Counted.TheVariants.{FromMinuteAnd, SecondOfEveryHour, FromSecond}
-use Rattle.gtd_languages.specs.declared.word.Counted.TheVariants.{FromSecondOf, OfHour, AtMinute, AtSecond, EndHour}
-use Rattle.gtd_languages.specs.declared.word.Counted.TheVariants.{EndMinute, EndSecond, DaysLater}
-use Rattle.gtd_languages.specs.declared.word.Word.{Word}
-use Rattle.gtd_languages.specs.declared.word.Word.TheVariants.{OfEach, For, And, Comma, UntilTime, UntilDay, UntilThe}
-use Rattle.gtd_languages.specs.declared.word.Word.TheVariants.{UntilTheEnd, Or, OnlyIn, ExceptIn}
+use Rattle.gtd_languages.specs.Shared.{Role, On, From, If, Form, Zero, One, EndsInOne, EndsInTwo, EndsInThree, Other, Unit, Years}
+use Rattle.gtd_languages.specs.Shared.{Months, Weeks, Days, Hours, Minutes, Seconds, Fixed, EachDay, FromBeginning, OfEachMonth}
+use Rattle.gtd_languages.specs.Shared.{EveryYear, WholeMinute, Sharp, AllDay, NextDay, Included, Counted, InWeek, YearAlone}
+use Rattle.gtd_languages.specs.Shared.{OfYear, FromHour, FromMinute, FromMinuteAnd, SecondOfEveryHour, FromSecond, FromSecondOf}
+use Rattle.gtd_languages.specs.Shared.{DaysLater, Word, OfEach, For, And, Comma, UntilTime, UntilDay, UntilThe, UntilTheEnd, Or}
+use Rattle.gtd_languages.specs.Shared.{OnlyIn, ExceptIn, by_role, one_or, time_lead, time_end}
 use Rattle.gtd_languages.specs.Names.{name_from}
 
 abbrev pub english_weekdays : List (List ℕ)
@@ -62,39 +51,27 @@ english_beginning n = name_from 1 english_beginnings n
 
 -- The name of a weekday in a list.
 unfoldable pub english_day : Role → ℕ → List ℕ
-english_day On n = english_weekday n
-english_day From n = english_weekday n
-english_day If n = english_weekday n
+english_day role n = by_role role (english_weekday n) (english_weekday n) (english_weekday n)
 
 -- What comes before a list of weekdays.
 unfoldable pub english_list_lead : Role → List ℕ
-english_list_lead On = codes "every "
-english_list_lead From = codes "from every "
-english_list_lead If = codes "if it falls on "
+english_list_lead role = by_role role (codes "every ") (codes "from every ") (codes "if it falls on ")
 
 -- What comes before neighbouring weekdays.
 unfoldable pub english_run_lead : Role → List ℕ
-english_run_lead On = codes "every "
-english_run_lead From = codes "from every "
-english_run_lead If = codes "if it falls on "
+english_run_lead role = by_role role (codes "every ") (codes "from every ") (codes "if it falls on ")
 
 -- What comes before the last weekday of a list.
 unfoldable pub english_list_last : Role → List ℕ
-english_list_last On = codes " and "
-english_list_last From = codes " and "
-english_list_last If = codes " or "
+english_list_last role = by_role role (codes " and ") (codes " and ") (codes " or ")
 
 -- What comes before the last of neighbouring weekdays.
 unfoldable pub english_run_to : Role → List ℕ
-english_run_to On = codes " to "
-english_run_to From = codes " to "
-english_run_to If = codes " to "
+english_run_to role = by_role role (codes " to ") (codes " to ") (codes " to ")
 
 -- What comes after weekdays.
 unfoldable pub english_list_end : Role → List ℕ
-english_list_end On = codes " "
-english_list_end From = codes " "
-english_list_end If = codes " "
+english_list_end role = by_role role (codes " ") (codes " ") (codes " ")
 
 -- A place of a weekday from the beginning of the month.
 unfoldable pub english_place_lead : Role → ℕ → List ℕ
@@ -110,15 +87,11 @@ english_place_lead If n = name_from 1
 
 -- What comes after that weekday.
 unfoldable pub english_place_end : Role → List ℕ
-english_place_end On = codes " "
-english_place_end From = codes " "
-english_place_end If = codes " of the month "
+english_place_end role = by_role role (codes " ") (codes " ") (codes " of the month ")
 
 -- A place of a weekday from the end of the month.
 unfoldable pub english_back_lead : Role → ℕ → List ℕ
-english_back_lead On n = codes "on the last "
-english_back_lead From n = codes "from the last "
-english_back_lead If n = codes "if it is also the last "
+english_back_lead role n = by_role role (codes "on the last ") (codes "from the last ") (codes "if it is also the last ")
 
 -- What comes after that weekday.
 unfoldable pub english_back_end : Role → ℕ → List ℕ
@@ -156,12 +129,7 @@ english_ordinal Other = codes "th"
 
 -- The same for a day of a month.
 unfoldable pub english_date_ending : Form → List ℕ
-english_date_ending Zero = []
-english_date_ending One = []
-english_date_ending EndsInOne = []
-english_date_ending EndsInTwo = []
-english_date_ending EndsInThree = []
-english_date_ending Other = []
+english_date_ending form = []
 
 -- Words without a number or a name.
 unfoldable pub english_fixed : Fixed → List ℕ
@@ -186,32 +154,21 @@ english_lead FromMinuteAnd = codes "from minute "
 english_lead SecondOfEveryHour = []
 english_lead FromSecond = codes "from second "
 english_lead FromSecondOf = codes "from second "
-english_lead OfHour = []
-english_lead AtMinute = []
-english_lead AtSecond = codes ":"
-english_lead EndHour = codes " "
-english_lead EndMinute = []
-english_lead EndSecond = codes ":"
 english_lead DaysLater = codes ", "
+english_lead counted = time_lead counted
 
 -- What comes after a number.
 unfoldable pub english_end : Counted → List ℕ
 english_end InWeek = codes " "
 english_end YearAlone = codes " "
 english_end OfYear = codes " "
-english_end FromHour = codes ":"
 english_end FromMinute = codes " of every hour "
 english_end FromMinuteAnd = codes " and second "
 english_end SecondOfEveryHour = codes " of every hour "
 english_end FromSecond = codes " of every minute of every hour "
 english_end FromSecondOf = codes " of every minute of hour "
-english_end OfHour = codes " "
-english_end AtMinute = []
-english_end AtSecond = codes " "
-english_end EndHour = codes ":"
-english_end EndMinute = []
-english_end EndSecond = []
 english_end DaysLater = codes " days later"
+english_end counted = time_end counted
 
 -- Other words.
 unfoldable pub english_word : Word → List ℕ
@@ -249,6 +206,4 @@ english_several Seconds = codes "seconds"
 
 -- A unit of time after a number.
 unfoldable pub english_unit : Unit → Form → List ℕ
-english_unit unit One = english_one unit
-english_unit unit Zero = english_several unit
-english_unit unit form = english_several unit
+english_unit unit form = one_or form (english_one unit) (english_several unit)

@@ -1,22 +1,11 @@
 -- The words of French.
 use Rattle.std.specs.Prelude.{ℕ, Bool, true, false, List, [], ◌∷◌, codes}
-use Rattle.gtd_languages.specs.declared.word.Role.{Role}
-use Rattle.gtd_languages.specs.declared.word.Role.TheVariants.{On, From, If}
-use Rattle.gtd_languages.specs.declared.word.Form.{Form}
-use Rattle.gtd_languages.specs.declared.word.Form.TheVariants.{Zero, One, EndsInOne, EndsInTwo, EndsInThree, Other}
-use Rattle.gtd_languages.specs.declared.word.Unit.{Unit}
-use Rattle.gtd_languages.specs.declared.word.Unit.TheVariants.{Years, Months, Weeks, Days, Hours, Minutes, Seconds}
-use Rattle.gtd_languages.specs.declared.word.Fixed.{Fixed}
-use Rattle.gtd_languages.specs.declared.word.Fixed.TheVariants.{EachDay, FromBeginning, OfEachMonth, EveryYear}
-use Rattle.gtd_languages.specs.declared.word.Fixed.TheVariants.{WholeMinute, Sharp, AllDay, NextDay, Included}
-use Rattle.gtd_languages.specs.declared.word.Counted.{Counted}
-use Rattle.gtd_languages.specs.declared.word.Counted.TheVariants.{InWeek, YearAlone, OfYear, FromHour, FromMinute}
-use Rattle.gtd_languages.specs.declared.word.Counted.TheVariants.{FromMinuteAnd, SecondOfEveryHour, FromSecond}
-use Rattle.gtd_languages.specs.declared.word.Counted.TheVariants.{FromSecondOf, OfHour, AtMinute, AtSecond, EndHour}
-use Rattle.gtd_languages.specs.declared.word.Counted.TheVariants.{EndMinute, EndSecond, DaysLater}
-use Rattle.gtd_languages.specs.declared.word.Word.{Word}
-use Rattle.gtd_languages.specs.declared.word.Word.TheVariants.{OfEach, For, And, Comma, UntilTime, UntilDay, UntilThe}
-use Rattle.gtd_languages.specs.declared.word.Word.TheVariants.{UntilTheEnd, Or, OnlyIn, ExceptIn}
+use Rattle.gtd_languages.specs.Shared.{Role, On, From, If, Form, Zero, One, Unit, Years, Months, Weeks, Days, Hours, Minutes}
+use Rattle.gtd_languages.specs.Shared.{Seconds, Fixed, EachDay, FromBeginning, OfEachMonth, EveryYear, WholeMinute, Sharp, AllDay}
+use Rattle.gtd_languages.specs.Shared.{NextDay, Included, Counted, InWeek, YearAlone, OfYear, FromHour, FromMinute, FromMinuteAnd}
+use Rattle.gtd_languages.specs.Shared.{SecondOfEveryHour, FromSecond, FromSecondOf, DaysLater, Word, OfEach, For, And, Comma}
+use Rattle.gtd_languages.specs.Shared.{UntilTime, UntilDay, UntilThe, UntilTheEnd, Or, OnlyIn, ExceptIn, by_role, one_or}
+use Rattle.gtd_languages.specs.Shared.{time_lead, time_end}
 use Rattle.gtd_languages.specs.Names.{name_from, utf8}
 
 abbrev pub french_weekdays : List (List ℕ)
@@ -62,39 +51,27 @@ french_beginning n = name_from 1 french_beginnings n
 
 -- The name of a weekday in a list.
 unfoldable pub french_day : Role → ℕ → List ℕ
-french_day On n = french_weekday n
-french_day From n = french_weekday n
-french_day If n = french_weekday n
+french_day role n = by_role role (french_weekday n) (french_weekday n) (french_weekday n)
 
 -- What comes before a list of weekdays.
 unfoldable pub french_list_lead : Role → List ℕ
-french_list_lead On = codes "chaque "
-french_list_lead From = codes "de chaque "
-french_list_lead If = codes "(s'il tombe un "
+french_list_lead role = by_role role (codes "chaque ") (codes "de chaque ") (codes "(s'il tombe un ")
 
 -- What comes before neighbouring weekdays.
 unfoldable pub french_run_lead : Role → List ℕ
-french_run_lead On = codes "du "
-french_run_lead From = codes "de chaque jour du "
-french_run_lead If = codes "(s'il tombe du "
+french_run_lead role = by_role role (codes "du ") (codes "de chaque jour du ") (codes "(s'il tombe du ")
 
 -- What comes before the last weekday of a list.
 unfoldable pub french_list_last : Role → List ℕ
-french_list_last On = codes " et "
-french_list_last From = codes " et "
-french_list_last If = codes " ou "
+french_list_last role = by_role role (codes " et ") (codes " et ") (codes " ou ")
 
 -- What comes before the last of neighbouring weekdays.
 unfoldable pub french_run_to : Role → List ℕ
-french_run_to On = codes " au "
-french_run_to From = codes " au "
-french_run_to If = codes " au "
+french_run_to role = by_role role (codes " au ") (codes " au ") (codes " au ")
 
 -- What comes after weekdays.
 unfoldable pub french_list_end : Role → List ℕ
-french_list_end On = codes " "
-french_list_end From = codes " "
-french_list_end If = codes ") "
+french_list_end role = by_role role (codes " ") (codes " ") (codes ") ")
 
 -- A place of a weekday from the beginning of the month.
 unfoldable pub french_place_lead : Role → ℕ → List ℕ
@@ -110,9 +87,7 @@ french_place_lead If n = name_from 1
 
 -- What comes after that weekday.
 unfoldable pub french_place_end : Role → List ℕ
-french_place_end On = codes " "
-french_place_end From = codes " "
-french_place_end If = codes " du mois) "
+french_place_end role = by_role role (codes " ") (codes " ") (codes " du mois) ")
 
 -- A place of a weekday from the end of the month.
 unfoldable pub french_back_lead : Role → ℕ → List ℕ
@@ -144,8 +119,7 @@ french_date_lead false = codes "du "
 
 -- What comes before a day of each month.
 unfoldable pub french_each_lead : Bool → List ℕ
-french_each_lead true = codes "le "
-french_each_lead false = codes "du "
+french_each_lead named = french_date_lead named
 
 -- The Monday of a week.
 unfoldable pub french_monday : Bool → List ℕ
@@ -154,21 +128,11 @@ french_monday false = utf8 (codes "à partir du lundi ")
 
 -- What makes the number of a day of each month an ordinal number.
 unfoldable pub french_ordinal : Form → List ℕ
-french_ordinal Zero = []
-french_ordinal One = codes "er"
-french_ordinal EndsInOne = []
-french_ordinal EndsInTwo = []
-french_ordinal EndsInThree = []
-french_ordinal Other = []
+french_ordinal form = one_or form (codes "er") []
 
 -- The same for a day of a month.
 unfoldable pub french_date_ending : Form → List ℕ
-french_date_ending Zero = []
-french_date_ending One = codes "er"
-french_date_ending EndsInOne = []
-french_date_ending EndsInTwo = []
-french_date_ending EndsInThree = []
-french_date_ending Other = []
+french_date_ending form = one_or form (codes "er") []
 
 -- Words without a number or a name.
 unfoldable pub french_fixed : Fixed → List ℕ
@@ -193,32 +157,21 @@ french_lead FromMinuteAnd = codes "de la minute "
 french_lead SecondOfEveryHour = []
 french_lead FromSecond = codes "de la seconde "
 french_lead FromSecondOf = codes "de la seconde "
-french_lead OfHour = []
-french_lead AtMinute = []
-french_lead AtSecond = codes ":"
-french_lead EndHour = codes " "
-french_lead EndMinute = []
-french_lead EndSecond = codes ":"
 french_lead DaysLater = codes ", "
+french_lead counted = time_lead counted
 
 -- What comes after a number.
 unfoldable pub french_end : Counted → List ℕ
 french_end InWeek = codes " "
 french_end YearAlone = codes " "
 french_end OfYear = codes " "
-french_end FromHour = codes ":"
 french_end FromMinute = codes " de chaque heure "
 french_end FromMinuteAnd = codes " et de la seconde "
 french_end SecondOfEveryHour = codes " de chaque heure "
 french_end FromSecond = codes " de chaque minute de chaque heure "
 french_end FromSecondOf = codes " de chaque minute de l'heure "
-french_end OfHour = codes " "
-french_end AtMinute = []
-french_end AtSecond = codes " "
-french_end EndHour = codes ":"
-french_end EndMinute = []
-french_end EndSecond = []
 french_end DaysLater = codes " jours plus tard"
+french_end counted = time_end counted
 
 -- Other words.
 unfoldable pub french_word : Word → List ℕ

@@ -1,22 +1,11 @@
 -- The words of German.
 use Rattle.std.specs.Prelude.{ℕ, Bool, true, false, List, [], ◌∷◌, codes}
-use Rattle.gtd_languages.specs.declared.word.Role.{Role}
-use Rattle.gtd_languages.specs.declared.word.Role.TheVariants.{On, From, If}
-use Rattle.gtd_languages.specs.declared.word.Form.{Form}
-use Rattle.gtd_languages.specs.declared.word.Form.TheVariants.{Zero, One, EndsInOne, EndsInTwo, EndsInThree, Other}
-use Rattle.gtd_languages.specs.declared.word.Unit.{Unit}
-use Rattle.gtd_languages.specs.declared.word.Unit.TheVariants.{Years, Months, Weeks, Days, Hours, Minutes, Seconds}
-use Rattle.gtd_languages.specs.declared.word.Fixed.{Fixed}
-use Rattle.gtd_languages.specs.declared.word.Fixed.TheVariants.{EachDay, FromBeginning, OfEachMonth, EveryYear}
-use Rattle.gtd_languages.specs.declared.word.Fixed.TheVariants.{WholeMinute, Sharp, AllDay, NextDay, Included}
-use Rattle.gtd_languages.specs.declared.word.Counted.{Counted}
-use Rattle.gtd_languages.specs.declared.word.Counted.TheVariants.{InWeek, YearAlone, OfYear, FromHour, FromMinute}
-use Rattle.gtd_languages.specs.declared.word.Counted.TheVariants.{FromMinuteAnd, SecondOfEveryHour, FromSecond}
-use Rattle.gtd_languages.specs.declared.word.Counted.TheVariants.{FromSecondOf, OfHour, AtMinute, AtSecond, EndHour}
-use Rattle.gtd_languages.specs.declared.word.Counted.TheVariants.{EndMinute, EndSecond, DaysLater}
-use Rattle.gtd_languages.specs.declared.word.Word.{Word}
-use Rattle.gtd_languages.specs.declared.word.Word.TheVariants.{OfEach, For, And, Comma, UntilTime, UntilDay, UntilThe}
-use Rattle.gtd_languages.specs.declared.word.Word.TheVariants.{UntilTheEnd, Or, OnlyIn, ExceptIn}
+use Rattle.gtd_languages.specs.Shared.{Role, On, From, If, Form, Unit, Years, Months, Weeks, Days, Hours, Minutes, Seconds, Fixed}
+use Rattle.gtd_languages.specs.Shared.{EachDay, FromBeginning, OfEachMonth, EveryYear, WholeMinute, Sharp, AllDay, NextDay}
+use Rattle.gtd_languages.specs.Shared.{Included, Counted, InWeek, YearAlone, OfYear, FromHour, FromMinute, FromMinuteAnd}
+use Rattle.gtd_languages.specs.Shared.{SecondOfEveryHour, FromSecond, FromSecondOf, DaysLater, Word, OfEach, For, And, Comma}
+use Rattle.gtd_languages.specs.Shared.{UntilTime, UntilDay, UntilThe, UntilTheEnd, Or, OnlyIn, ExceptIn, by_role, one_or}
+use Rattle.gtd_languages.specs.Shared.{time_lead, time_end}
 use Rattle.gtd_languages.specs.Names.{name_from, utf8}
 
 abbrev pub german_weekdays : List (List ℕ)
@@ -68,33 +57,23 @@ german_day If n = german_weekday n
 
 -- What comes before a list of weekdays.
 unfoldable pub german_list_lead : Role → List ℕ
-german_list_lead On = []
-german_list_lead From = codes "von jedem "
-german_list_lead If = codes "(wenn er auf "
+german_list_lead role = by_role role [] (codes "von jedem ") (codes "(wenn er auf ")
 
 -- What comes before neighbouring weekdays.
 unfoldable pub german_run_lead : Role → List ℕ
-german_run_lead On = []
-german_run_lead From = codes "von jedem Tag von "
-german_run_lead If = codes "(wenn er auf "
+german_run_lead role = by_role role [] (codes "von jedem Tag von ") (codes "(wenn er auf ")
 
 -- What comes before the last weekday of a list.
 unfoldable pub german_list_last : Role → List ℕ
-german_list_last On = codes " und "
-german_list_last From = codes " und "
-german_list_last If = codes " oder "
+german_list_last role = by_role role (codes " und ") (codes " und ") (codes " oder ")
 
 -- What comes before the last of neighbouring weekdays.
 unfoldable pub german_run_to : Role → List ℕ
-german_run_to On = codes " bis "
-german_run_to From = codes " bis "
-german_run_to If = codes " bis "
+german_run_to role = by_role role (codes " bis ") (codes " bis ") (codes " bis ")
 
 -- What comes after weekdays.
 unfoldable pub german_list_end : Role → List ℕ
-german_list_end On = codes " "
-german_list_end From = codes " "
-german_list_end If = utf8 (codes " fällt) ")
+german_list_end role = by_role role (codes " ") (codes " ") (utf8 (codes " fällt) "))
 
 -- A place of a weekday from the beginning of the month.
 unfoldable pub german_place_lead : Role → ℕ → List ℕ
@@ -110,9 +89,7 @@ german_place_lead If n = name_from 1
 
 -- What comes after that weekday.
 unfoldable pub german_place_end : Role → List ℕ
-german_place_end On = codes " "
-german_place_end From = codes " "
-german_place_end If = codes " im Monat ist) "
+german_place_end role = by_role role (codes " ") (codes " ") (codes " im Monat ist) ")
 
 -- A place of a weekday from the end of the month.
 unfoldable pub german_back_lead : Role → ℕ → List ℕ
@@ -128,9 +105,7 @@ german_back_lead If n = name_from 1
 
 -- What comes after that weekday.
 unfoldable pub german_back_end : Role → ℕ → List ℕ
-german_back_end On n = codes " "
-german_back_end From n = codes " "
-german_back_end If n = codes " im Monat ist) "
+german_back_end role n = by_role role (codes " ") (codes " ") (codes " im Monat ist) ")
 
 -- What comes before a day of a month.
 unfoldable pub german_date_lead : Bool → List ℕ
@@ -139,8 +114,7 @@ german_date_lead false = codes "vom "
 
 -- What comes before a day of each month.
 unfoldable pub german_each_lead : Bool → List ℕ
-german_each_lead true = codes "am "
-german_each_lead false = codes "vom "
+german_each_lead named = german_date_lead named
 
 -- The Monday of a week.
 unfoldable pub german_monday : Bool → List ℕ
@@ -149,21 +123,11 @@ german_monday false = codes "vom Montag "
 
 -- What makes the number of a day of each month an ordinal number.
 unfoldable pub german_ordinal : Form → List ℕ
-german_ordinal Zero = codes "."
-german_ordinal One = codes "."
-german_ordinal EndsInOne = codes "."
-german_ordinal EndsInTwo = codes "."
-german_ordinal EndsInThree = codes "."
-german_ordinal Other = codes "."
+german_ordinal form = codes "."
 
 -- The same for a day of a month.
 unfoldable pub german_date_ending : Form → List ℕ
-german_date_ending Zero = codes "."
-german_date_ending One = codes "."
-german_date_ending EndsInOne = codes "."
-german_date_ending EndsInTwo = codes "."
-german_date_ending EndsInThree = codes "."
-german_date_ending Other = codes "."
+german_date_ending form = codes "."
 
 -- Words without a number or a name.
 unfoldable pub german_fixed : Fixed → List ℕ
@@ -188,32 +152,21 @@ german_lead FromMinuteAnd = codes "von Minute "
 german_lead SecondOfEveryHour = []
 german_lead FromSecond = codes "von Sekunde "
 german_lead FromSecondOf = codes "von Sekunde "
-german_lead OfHour = []
-german_lead AtMinute = []
-german_lead AtSecond = codes ":"
-german_lead EndHour = codes " "
-german_lead EndMinute = []
-german_lead EndSecond = codes ":"
 german_lead DaysLater = codes ", "
+german_lead counted = time_lead counted
 
 -- What comes after a number.
 unfoldable pub german_end : Counted → List ℕ
 german_end InWeek = codes " "
 german_end YearAlone = codes " "
 german_end OfYear = codes " "
-german_end FromHour = codes ":"
 german_end FromMinute = codes " jeder Stunde "
 german_end FromMinuteAnd = codes " und Sekunde "
 german_end SecondOfEveryHour = codes " jeder Stunde "
 german_end FromSecond = codes " jeder Minute jeder Stunde "
 german_end FromSecondOf = codes " jeder Minute der Stunde "
-german_end OfHour = codes " "
-german_end AtMinute = []
-german_end AtSecond = codes " "
-german_end EndHour = codes ":"
-german_end EndMinute = []
-german_end EndSecond = []
 german_end DaysLater = utf8 (codes " Tage später")
+german_end counted = time_end counted
 
 -- Other words.
 unfoldable pub german_word : Word → List ℕ
@@ -251,6 +204,4 @@ german_several Seconds = codes "Sekunden"
 
 -- A unit of time after a number.
 unfoldable pub german_unit : Unit → Form → List ℕ
-german_unit unit One = german_one unit
-german_unit unit Zero = german_several unit
-german_unit unit form = german_several unit
+german_unit unit form = one_or form (german_one unit) (german_several unit)

@@ -3,3 +3,4 @@ pub mod Forms
 pub mod French
 pub mod German
 pub mod Names
+pub mod Shared

@@ -10,6 +10,7 @@ ghost use Rattle.gtd_languages.specs.English.{english_lead, english_end, english
 ghost use Rattle.gtd_languages.specs.English.{english_several};
 ghost use Rattle.gtd_languages.specs.declared.word.Role.TheVariants.{On, From, If};
 
+use crate::shared::{by_role, one_or, time_end, time_lead};
 use crate::word::{Counted, Fixed, Form, Role, Unit, Word};
 
 /// The name of a weekday.
@@ -96,11 +97,7 @@ pub fn beginning(n: u8) -> &'static str
 pub fn day(role: Role, n: u8) -> &'static str
     ensures { result.now ≡ english_day role n }
 {
-    match role {
-        Role::On => weekday(n),
-        Role::From => weekday(n),
-        Role::If => weekday(n),
-    }
+    by_role(role, weekday(n), weekday(n), weekday(n))
 }
 
 /// What comes before a list of weekdays.
@@ -108,11 +105,7 @@ pub fn day(role: Role, n: u8) -> &'static str
 pub fn list_lead(role: Role) -> &'static str
     ensures { result.now ≡ english_list_lead role }
 {
-    match role {
-        Role::On => "every ",
-        Role::From => "from every ",
-        Role::If => "if it falls on ",
-    }
+    by_role(role, "every ", "from every ", "if it falls on ")
 }
 
 /// What comes before neighbouring weekdays.
@@ -120,11 +113,7 @@ pub fn list_lead(role: Role) -> &'static str
 pub fn run_lead(role: Role) -> &'static str
     ensures { result.now ≡ english_run_lead role }
 {
-    match role {
-        Role::On => "every ",
-        Role::From => "from every ",
-        Role::If => "if it falls on ",
-    }
+    by_role(role, "every ", "from every ", "if it falls on ")
 }
 
 /// What comes before the last weekday of a list.
@@ -132,11 +121,7 @@ pub fn run_lead(role: Role) -> &'static str
 pub fn list_last(role: Role) -> &'static str
     ensures { result.now ≡ english_list_last role }
 {
-    match role {
-        Role::On => " and ",
-        Role::From => " and ",
-        Role::If => " or ",
-    }
+    by_role(role, " and ", " and ", " or ")
 }
 
 /// What comes before the last of neighbouring weekdays.
@@ -144,11 +129,7 @@ pub fn list_last(role: Role) -> &'static str
 pub fn run_to(role: Role) -> &'static str
     ensures { result.now ≡ english_run_to role }
 {
-    match role {
-        Role::On => " to ",
-        Role::From => " to ",
-        Role::If => " to ",
-    }
+    by_role(role, " to ", " to ", " to ")
 }
 
 /// What comes after weekdays.
@@ -156,11 +137,7 @@ pub fn run_to(role: Role) -> &'static str
 pub fn list_end(role: Role) -> &'static str
     ensures { result.now ≡ english_list_end role }
 {
-    match role {
-        Role::On => " ",
-        Role::From => " ",
-        Role::If => " ",
-    }
+    by_role(role, " ", " ", " ")
 }
 
 #[tactic(auto, unfolding(crate::specs::English::english_place_lead))]
@@ -207,11 +184,7 @@ fn place_lead_if(n: u8) -> &'static str
 pub fn place_lead(role: Role, n: u8) -> &'static str
     ensures { result.now ≡ english_place_lead role n }
 {
-    match role {
-        Role::On => place_lead_on(n),
-        Role::From => place_lead_from(n),
-        Role::If => place_lead_if(n),
-    }
+    by_role(role, place_lead_on(n), place_lead_from(n), place_lead_if(n))
 }
 
 /// What comes after that weekday.
@@ -219,11 +192,7 @@ pub fn place_lead(role: Role, n: u8) -> &'static str
 pub fn place_end(role: Role) -> &'static str
     ensures { result.now ≡ english_place_end role }
 {
-    match role {
-        Role::On => " ",
-        Role::From => " ",
-        Role::If => " of the month ",
-    }
+    by_role(role, " ", " ", " of the month ")
 }
 
 /// A place of a weekday from the end of the month.
@@ -231,11 +200,12 @@ pub fn place_end(role: Role) -> &'static str
 pub fn back_lead(role: Role, n: u8) -> &'static str
     ensures { result.now ≡ english_back_lead role n }
 {
-    match role {
-        Role::On => "on the last ",
-        Role::From => "from the last ",
-        Role::If => "if it is also the last ",
-    }
+    by_role(
+        role,
+        "on the last ",
+        "from the last ",
+        "if it is also the last ",
+    )
 }
 
 #[tactic(auto, unfolding(crate::specs::English::english_back_end))]
@@ -269,11 +239,7 @@ fn back_end_if(n: u8) -> &'static str
 pub fn back_end(role: Role, n: u8) -> &'static str
     ensures { result.now ≡ english_back_end role n }
 {
-    match role {
-        Role::On => back_end_on(n),
-        Role::From => back_end_on(n),
-        Role::If => back_end_if(n),
-    }
+    by_role(role, back_end_on(n), back_end_on(n), back_end_if(n))
 }
 
 /// What comes before a day of a month.
@@ -329,14 +295,7 @@ pub fn ordinal(form: Form) -> &'static str
 pub fn date_ending(form: Form) -> &'static str
     ensures { result.now ≡ english_date_ending form }
 {
-    match form {
-        Form::Zero => "",
-        Form::One => "",
-        Form::EndsInOne => "",
-        Form::EndsInTwo => "",
-        Form::EndsInThree => "",
-        Form::Other => "",
-    }
+    ""
 }
 
 /// Words without a number or a name.
@@ -372,13 +331,8 @@ pub fn lead(counted: Counted) -> &'static str
         Counted::SecondOfEveryHour => "",
         Counted::FromSecond => "from second ",
         Counted::FromSecondOf => "from second ",
-        Counted::OfHour => "",
-        Counted::AtMinute => "",
-        Counted::AtSecond => ":",
-        Counted::EndHour => " ",
-        Counted::EndMinute => "",
-        Counted::EndSecond => ":",
         Counted::DaysLater => ", ",
+        _ => time_lead(counted),
     }
 }
 
@@ -391,19 +345,13 @@ pub fn end(counted: Counted) -> &'static str
         Counted::InWeek => " ",
         Counted::YearAlone => " ",
         Counted::OfYear => " ",
-        Counted::FromHour => ":",
         Counted::FromMinute => " of every hour ",
         Counted::FromMinuteAnd => " and second ",
         Counted::SecondOfEveryHour => " of every hour ",
         Counted::FromSecond => " of every minute of every hour ",
         Counted::FromSecondOf => " of every minute of hour ",
-        Counted::OfHour => " ",
-        Counted::AtMinute => "",
-        Counted::AtSecond => " ",
-        Counted::EndHour => ":",
-        Counted::EndMinute => "",
-        Counted::EndSecond => "",
         Counted::DaysLater => " days later",
+        _ => time_end(counted),
     }
 }
 
@@ -462,12 +410,5 @@ fn several(unit: Unit) -> &'static str
 pub fn unit(unit: Unit, form: Form) -> &'static str
     ensures { result.now ≡ english_unit unit form }
 {
-    match form {
-        Form::One => one(unit),
-        Form::Zero => several(unit),
-        Form::EndsInOne => several(unit),
-        Form::EndsInTwo => several(unit),
-        Form::EndsInThree => several(unit),
-        Form::Other => several(unit),
-    }
+    one_or(form, one(unit), several(unit))
 }

@@ -9,6 +9,7 @@ ghost use Rattle.gtd_languages.specs.French.{french_ordinal, french_date_ending,
 ghost use Rattle.gtd_languages.specs.French.{french_word, french_unit, french_one, french_several};
 ghost use Rattle.gtd_languages.specs.declared.word.Role.TheVariants.{On, From, If};
 
+use crate::shared::{by_role, one_or, time_end, time_lead};
 use crate::word::{Counted, Fixed, Form, Role, Unit, Word};
 
 /// The name of a weekday.
@@ -95,11 +96,7 @@ pub fn beginning(n: u8) -> &'static str
 pub fn day(role: Role, n: u8) -> &'static str
     ensures { result.now ≡ french_day role n }
 {
-    match role {
-        Role::On => weekday(n),
-        Role::From => weekday(n),
-        Role::If => weekday(n),
-    }
+    by_role(role, weekday(n), weekday(n), weekday(n))
 }
 
 /// What comes before a list of weekdays.
@@ -107,11 +104,7 @@ pub fn day(role: Role, n: u8) -> &'static str
 pub fn list_lead(role: Role) -> &'static str
     ensures { result.now ≡ french_list_lead role }
 {
-    match role {
-        Role::On => "chaque ",
-        Role::From => "de chaque ",
-        Role::If => "(s'il tombe un ",
-    }
+    by_role(role, "chaque ", "de chaque ", "(s'il tombe un ")
 }
 
 /// What comes before neighbouring weekdays.
@@ -119,11 +112,7 @@ pub fn list_lead(role: Role) -> &'static str
 pub fn run_lead(role: Role) -> &'static str
     ensures { result.now ≡ french_run_lead role }
 {
-    match role {
-        Role::On => "du ",
-        Role::From => "de chaque jour du ",
-        Role::If => "(s'il tombe du ",
-    }
+    by_role(role, "du ", "de chaque jour du ", "(s'il tombe du ")
 }
 
 /// What comes before the last weekday of a list.
@@ -131,11 +120,7 @@ pub fn run_lead(role: Role) -> &'static str
 pub fn list_last(role: Role) -> &'static str
     ensures { result.now ≡ french_list_last role }
 {
-    match role {
-        Role::On => " et ",
-        Role::From => " et ",
-        Role::If => " ou ",
-    }
+    by_role(role, " et ", " et ", " ou ")
 }
 
 /// What comes before the last of neighbouring weekdays.
@@ -143,11 +128,7 @@ pub fn list_last(role: Role) -> &'static str
 pub fn run_to(role: Role) -> &'static str
     ensures { result.now ≡ french_run_to role }
 {
-    match role {
-        Role::On => " au ",
-        Role::From => " au ",
-        Role::If => " au ",
-    }
+    by_role(role, " au ", " au ", " au ")
 }
 
 /// What comes after weekdays.
@@ -155,11 +136,7 @@ pub fn run_to(role: Role) -> &'static str
 pub fn list_end(role: Role) -> &'static str
     ensures { result.now ≡ french_list_end role }
 {
-    match role {
-        Role::On => " ",
-        Role::From => " ",
-        Role::If => ") ",
-    }
+    by_role(role, " ", " ", ") ")
 }
 
 #[tactic(auto, unfolding(crate::specs::French::french_place_lead))]
@@ -206,11 +183,7 @@ fn place_lead_if(n: u8) -> &'static str
 pub fn place_lead(role: Role, n: u8) -> &'static str
     ensures { result.now ≡ french_place_lead role n }
 {
-    match role {
-        Role::On => place_lead_on(n),
-        Role::From => place_lead_from(n),
-        Role::If => place_lead_if(n),
-    }
+    by_role(role, place_lead_on(n), place_lead_from(n), place_lead_if(n))
 }
 
 /// What comes after that weekday.
@@ -218,11 +191,7 @@ pub fn place_lead(role: Role, n: u8) -> &'static str
 pub fn place_end(role: Role) -> &'static str
     ensures { result.now ≡ french_place_end role }
 {
-    match role {
-        Role::On => " ",
-        Role::From => " ",
-        Role::If => " du mois) ",
-    }
+    by_role(role, " ", " ", " du mois) ")
 }
 
 #[tactic(auto, unfolding(crate::specs::French::french_back_lead))]
@@ -269,11 +238,7 @@ fn back_lead_if(n: u8) -> &'static str
 pub fn back_lead(role: Role, n: u8) -> &'static str
     ensures { result.now ≡ french_back_lead role n }
 {
-    match role {
-        Role::On => back_lead_on(n),
-        Role::From => back_lead_from(n),
-        Role::If => back_lead_if(n),
-    }
+    by_role(role, back_lead_on(n), back_lead_from(n), back_lead_if(n))
 }
 
 #[tactic(auto, unfolding(crate::specs::French::french_back_end))]
@@ -307,11 +272,7 @@ fn back_end_if(n: u8) -> &'static str
 pub fn back_end(role: Role, n: u8) -> &'static str
     ensures { result.now ≡ french_back_end role n }
 {
-    match role {
-        Role::On => back_end_on(n),
-        Role::From => back_end_on(n),
-        Role::If => back_end_if(n),
-    }
+    by_role(role, back_end_on(n), back_end_on(n), back_end_if(n))
 }
 
 /// What comes before a day of a month.
@@ -330,10 +291,7 @@ pub fn date_lead(named: bool) -> &'static str
 pub fn each_lead(named: bool) -> &'static str
     ensures { result.now ≡ french_each_lead named }
 {
-    match named {
-        true => "le ",
-        false => "du ",
-    }
+    date_lead(named)
 }
 
 /// The Monday of a week.
@@ -352,14 +310,7 @@ pub fn monday(named: bool) -> &'static str
 pub fn ordinal(form: Form) -> &'static str
     ensures { result.now ≡ french_ordinal form }
 {
-    match form {
-        Form::Zero => "",
-        Form::One => "er",
-        Form::EndsInOne => "",
-        Form::EndsInTwo => "",
-        Form::EndsInThree => "",
-        Form::Other => "",
-    }
+    one_or(form, "er", "")
 }
 
 /// The same for a day of a month.
@@ -367,14 +318,7 @@ pub fn ordinal(form: Form) -> &'static str
 pub fn date_ending(form: Form) -> &'static str
     ensures { result.now ≡ french_date_ending form }
 {
-    match form {
-        Form::Zero => "",
-        Form::One => "er",
-        Form::EndsInOne => "",
-        Form::EndsInTwo => "",
-        Form::EndsInThree => "",
-        Form::Other => "",
-    }
+    one_or(form, "er", "")
 }
 
 /// Words without a number or a name.
@@ -410,13 +354,8 @@ pub fn lead(counted: Counted) -> &'static str
         Counted::SecondOfEveryHour => "",
         Counted::FromSecond => "de la seconde ",
         Counted::FromSecondOf => "de la seconde ",
-        Counted::OfHour => "",
-        Counted::AtMinute => "",
-        Counted::AtSecond => ":",
-        Counted::EndHour => " ",
-        Counted::EndMinute => "",
-        Counted::EndSecond => ":",
         Counted::DaysLater => ", ",
+        _ => time_lead(counted),
     }
 }
 
@@ -429,19 +368,13 @@ pub fn end(counted: Counted) -> &'static str
         Counted::InWeek => " ",
         Counted::YearAlone => " ",
         Counted::OfYear => " ",
-        Counted::FromHour => ":",
         Counted::FromMinute => " de chaque heure ",
         Counted::FromMinuteAnd => " et de la seconde ",
         Counted::SecondOfEveryHour => " de chaque heure ",
         Counted::FromSecond => " de chaque minute de chaque heure ",
         Counted::FromSecondOf => " de chaque minute de l'heure ",
-        Counted::OfHour => " ",
-        Counted::AtMinute => "",
-        Counted::AtSecond => " ",
-        Counted::EndHour => ":",
-        Counted::EndMinute => "",
-        Counted::EndSecond => "",
         Counted::DaysLater => " jours plus tard",
+        _ => time_end(counted),
     }
 }
 

@@ -9,6 +9,7 @@ ghost use Rattle.gtd_languages.specs.German.{german_ordinal, german_date_ending,
 ghost use Rattle.gtd_languages.specs.German.{german_word, german_unit, german_one, german_several};
 ghost use Rattle.gtd_languages.specs.declared.word.Role.TheVariants.{On, From, If};
 
+use crate::shared::{by_role, one_or, time_end, time_lead};
 use crate::word::{Counted, Fixed, Form, Role, Unit, Word};
 
 /// The name of a weekday.
@@ -110,11 +111,7 @@ fn day_on(n: u8) -> &'static str
 pub fn day(role: Role, n: u8) -> &'static str
     ensures { result.now ≡ german_day role n }
 {
-    match role {
-        Role::On => day_on(n),
-        Role::From => weekday(n),
-        Role::If => weekday(n),
-    }
+    by_role(role, day_on(n), weekday(n), weekday(n))
 }
 
 /// What comes before a list of weekdays.
@@ -122,11 +119,7 @@ pub fn day(role: Role, n: u8) -> &'static str
 pub fn list_lead(role: Role) -> &'static str
     ensures { result.now ≡ german_list_lead role }
 {
-    match role {
-        Role::On => "",
-        Role::From => "von jedem ",
-        Role::If => "(wenn er auf ",
-    }
+    by_role(role, "", "von jedem ", "(wenn er auf ")
 }
 
 /// What comes before neighbouring weekdays.
@@ -134,11 +127,7 @@ pub fn list_lead(role: Role) -> &'static str
 pub fn run_lead(role: Role) -> &'static str
     ensures { result.now ≡ german_run_lead role }
 {
-    match role {
-        Role::On => "",
-        Role::From => "von jedem Tag von ",
-        Role::If => "(wenn er auf ",
-    }
+    by_role(role, "", "von jedem Tag von ", "(wenn er auf ")
 }
 
 /// What comes before the last weekday of a list.
@@ -146,11 +135,7 @@ pub fn run_lead(role: Role) -> &'static str
 pub fn list_last(role: Role) -> &'static str
     ensures { result.now ≡ german_list_last role }
 {
-    match role {
-        Role::On => " und ",
-        Role::From => " und ",
-        Role::If => " oder ",
-    }
+    by_role(role, " und ", " und ", " oder ")
 }
 
 /// What comes before the last of neighbouring weekdays.
@@ -158,11 +143,7 @@ pub fn list_last(role: Role) -> &'static str
 pub fn run_to(role: Role) -> &'static str
     ensures { result.now ≡ german_run_to role }
 {
-    match role {
-        Role::On => " bis ",
-        Role::From => " bis ",
-        Role::If => " bis ",
-    }
+    by_role(role, " bis ", " bis ", " bis ")
 }
 
 /// What comes after weekdays.
@@ -170,11 +151,7 @@ pub fn run_to(role: Role) -> &'static str
 pub fn list_end(role: Role) -> &'static str
     ensures { result.now ≡ german_list_end role }
 {
-    match role {
-        Role::On => " ",
-        Role::From => " ",
-        Role::If => " fällt) ",
-    }
+    by_role(role, " ", " ", " fällt) ")
 }
 
 #[tactic(auto, unfolding(crate::specs::German::german_place_lead))]
@@ -221,11 +198,7 @@ fn place_lead_if(n: u8) -> &'static str
 pub fn place_lead(role: Role, n: u8) -> &'static str
     ensures { result.now ≡ german_place_lead role n }
 {
-    match role {
-        Role::On => place_lead_on(n),
-        Role::From => place_lead_from(n),
-        Role::If => place_lead_if(n),
-    }
+    by_role(role, place_lead_on(n), place_lead_from(n), place_lead_if(n))
 }
 
 /// What comes after that weekday.
@@ -233,11 +206,7 @@ pub fn place_lead(role: Role, n: u8) -> &'static str
 pub fn place_end(role: Role) -> &'static str
     ensures { result.now ≡ german_place_end role }
 {
-    match role {
-        Role::On => " ",
-        Role::From => " ",
-        Role::If => " im Monat ist) ",
-    }
+    by_role(role, " ", " ", " im Monat ist) ")
 }
 
 #[tactic(auto, unfolding(crate::specs::German::german_back_lead))]
@@ -284,11 +253,7 @@ fn back_lead_if(n: u8) -> &'static str
 pub fn back_lead(role: Role, n: u8) -> &'static str
     ensures { result.now ≡ german_back_lead role n }
 {
-    match role {
-        Role::On => back_lead_on(n),
-        Role::From => back_lead_from(n),
-        Role::If => back_lead_if(n),
-    }
+    by_role(role, back_lead_on(n), back_lead_from(n), back_lead_if(n))
 }
 
 /// What comes after that weekday.
@@ -296,11 +261,7 @@ pub fn back_lead(role: Role, n: u8) -> &'static str
 pub fn back_end(role: Role, n: u8) -> &'static str
     ensures { result.now ≡ german_back_end role n }
 {
-    match role {
-        Role::On => " ",
-        Role::From => " ",
-        Role::If => " im Monat ist) ",
-    }
+    by_role(role, " ", " ", " im Monat ist) ")
 }
 
 /// What comes before a day of a month.
@@ -319,10 +280,7 @@ pub fn date_lead(named: bool) -> &'static str
 pub fn each_lead(named: bool) -> &'static str
     ensures { result.now ≡ german_each_lead named }
 {
-    match named {
-        true => "am ",
-        false => "vom ",
-    }
+    date_lead(named)
 }
 
 /// The Monday of a week.
@@ -341,14 +299,7 @@ pub fn monday(named: bool) -> &'static str
 pub fn ordinal(form: Form) -> &'static str
     ensures { result.now ≡ german_ordinal form }
 {
-    match form {
-        Form::Zero => ".",
-        Form::One => ".",
-        Form::EndsInOne => ".",
-        Form::EndsInTwo => ".",
-        Form::EndsInThree => ".",
-        Form::Other => ".",
-    }
+    "."
 }
 
 /// The same for a day of a month.
@@ -356,14 +307,7 @@ pub fn ordinal(form: Form) -> &'static str
 pub fn date_ending(form: Form) -> &'static str
     ensures { result.now ≡ german_date_ending form }
 {
-    match form {
-        Form::Zero => ".",
-        Form::One => ".",
-        Form::EndsInOne => ".",
-        Form::EndsInTwo => ".",
-        Form::EndsInThree => ".",
-        Form::Other => ".",
-    }
+    "."
 }
 
 /// Words without a number or a name.
@@ -399,13 +343,8 @@ pub fn lead(counted: Counted) -> &'static str
         Counted::SecondOfEveryHour => "",
         Counted::FromSecond => "von Sekunde ",
         Counted::FromSecondOf => "von Sekunde ",
-        Counted::OfHour => "",
-        Counted::AtMinute => "",
-        Counted::AtSecond => ":",
-        Counted::EndHour => " ",
-        Counted::EndMinute => "",
-        Counted::EndSecond => ":",
         Counted::DaysLater => ", ",
+        _ => time_lead(counted),
     }
 }
 
@@ -418,19 +357,13 @@ pub fn end(counted: Counted) -> &'static str
         Counted::InWeek => " ",
         Counted::YearAlone => " ",
         Counted::OfYear => " ",
-        Counted::FromHour => ":",
         Counted::FromMinute => " jeder Stunde ",
         Counted::FromMinuteAnd => " und Sekunde ",
         Counted::SecondOfEveryHour => " jeder Stunde ",
         Counted::FromSecond => " jeder Minute jeder Stunde ",
         Counted::FromSecondOf => " jeder Minute der Stunde ",
-        Counted::OfHour => " ",
-        Counted::AtMinute => "",
-        Counted::AtSecond => " ",
-        Counted::EndHour => ":",
-        Counted::EndMinute => "",
-        Counted::EndSecond => "",
         Counted::DaysLater => " Tage später",
+        _ => time_end(counted),
     }
 }
 
@@ -489,12 +422,5 @@ fn several(unit: Unit) -> &'static str
 pub fn unit(unit: Unit, form: Form) -> &'static str
     ensures { result.now ≡ german_unit unit form }
 {
-    match form {
-        Form::One => one(unit),
-        Form::Zero => several(unit),
-        Form::EndsInOne => several(unit),
-        Form::EndsInTwo => several(unit),
-        Form::EndsInThree => several(unit),
-        Form::Other => several(unit),
-    }
+    one_or(form, one(unit), several(unit))
 }

@@ -7,6 +7,7 @@
 pub mod english;
 pub mod french;
 pub mod german;
+mod shared;
 mod word;
 
 pub use word::{Counted, Fixed, Form, Role, Unit, Word, form_of};
