@@ -6,12 +6,12 @@ use Rattle.std.proofs.lemmas.Bool.{cases_order, lt-ltb}
 use Rattle.std.proofs.lemmas.List.Sums.{sum_by-cons}
 use Rattle.std.specs.Prelude.{⊤}
 use Rattle.std.specs.List.{count_by}
-use Rattle.gtd_records.specs.Columns.{AreTypesRead, Fields, vehicles_of}
+use Rattle.gtd_records.specs.Columns.{AreTypesRead, Fields}
 use Rattle.gtd_records.specs.declared.vehicles.Vehicles.{Vehicles}
 use Rattle.gtd_records.specs.declared.vehicles.Vehicles.TheVariants.{Every, Only, AllBut}
 use Rattle.gtd_records.specs.declared.vehicles.Version.{Version}
 use Rattle.gtd_warnings.specs.Codes.{AreLoneBelow, Names, NamesAlone, codes_listed, codes_named, naming}
-use Rattle.gtd_warnings.specs.Naming.{AreNamings, IsFirstFrom, IsNaming, NoneFrom, names_some}
+use Rattle.gtd_warnings.specs.Naming.{AreNamings, IsFirstFrom, NoneFrom, names_some}
 use Rattle.gtd_warnings.specs.declared.codes.LoneCode.{LoneCode}
 
 -- ---- what was read names what the column names

@@ -1,8 +1,7 @@
 -- Which rules hold of an expression, of which at most one does.
-use Rattle.std.proofs.Common.{◌≡◌, ◌∙◌, subst, ap, refl, inl, inr, ℕ, List, [], ◌∷◌, ◌++◌, Option, Some, None, Contains, append_assoc, arith}
+use Rattle.std.proofs.Common.{◌≡◌, ◌∙◌, subst, ap, refl, inl, inr, ℕ, List, ◌++◌, Option, Some, None, Contains, append_assoc, arith}
 use Rattle.std.proofs.lemmas.Int.{ints}
 use Rattle.std.specs.Prelude.{MatchOption, ℤ}
-use Rattle.gtd_mistakes.specs.Told.{told_at}
 use Rattle.gtd_core.specs.Trees.{Tree}
 use Rattle.gtd_core.specs.declared.horizon.Horizon.{Horizon}
 use Rattle.gtd_eval.specs.Extent.{IsLookedAt, IsTreeExtent, first_second}

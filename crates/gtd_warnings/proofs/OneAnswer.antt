@@ -1,8 +1,7 @@
 -- What is told of a file is one list, and so are its lone codes.
-use Rattle.std.proofs.Common.{◌≡◌, ◌∙◌, ◌<◌, ◌≤◌, ◌+◌, sym, ap, subst, refl, inl, inr, arith, ℕ, zero, suc, Bool, true, false, List, [], ◌∷◌}
-use Rattle.std.proofs.Common.{◌++◌, length, map, take, Option, Some, None, Contains}
-use Rattle.csv.specs.Reading.{default_config, records, strip_bom}
-use Rattle.gtd_core.specs.Limits.{most_file_bytes, most_rows}
+use Rattle.std.proofs.Common.{◌≡◌, ◌∙◌, ◌+◌, sym, ap, subst, refl, inl, inr, arith, ℕ, zero, suc, Bool, true, false, List, [], ◌∷◌}
+use Rattle.std.proofs.Common.{◌++◌, map, take, Option, Some, None}
+use Rattle.gtd_core.specs.Limits.{most_rows}
 use Rattle.gtd_core.specs.Trees.{Tree, Single, Joined, leaf_count}
 use Rattle.gtd_text.specs.facts.OneMeaning.{one_meaning}
 use Rattle.gtd_records.specs.Columns.{Fields}
@@ -14,7 +13,7 @@ use Rattle.gtd_mistakes.specs.declared.rule.TheConstants.{RULES}
 use Rattle.gtd_mistakes.specs.declared.rule.Rule.{Rule}
 use Rattle.gtd_mistakes.specs.declared.told.Told.{Told}
 use Rattle.gtd_warnings.proofs.DayFacts.{looked_at, one_on_day, one_throughout}
-use Rattle.gtd_warnings.specs.Codes.{AreLoneBelow, AreLoneOfFile, AreLoneOfRows, AreLoneOfTable, codes_named, naming}
+use Rattle.gtd_warnings.specs.Codes.{AreLoneBelow, AreLoneOfFile, AreLoneOfRows, AreLoneOfTable, codes_named}
 use Rattle.gtd_warnings.specs.Extents.{HoldsThroughout}
 use Rattle.gtd_warnings.specs.RowsTold.{AreToldOfFile, AreToldOfRow, AreToldOfRows, AreToldOfTable, AreToldOnce, IsDomainOf}
 use Rattle.gtd_warnings.specs.RowsTold.{IsOnDay, IsToldOfRow}

@@ -13,5 +13,4 @@ pub fn one_answer()
         → a ≡ b }
     ensures lone { (asked : Asked) (bytes : List ℕ) (a b : List LoneCode) → AreLoneOfFile asked bytes a
         → AreLoneOfFile asked bytes b → a ≡ b }
-{
-}
+{}

@@ -1,5 +1,5 @@
-use Rattle.std.proofs.Common.{◌≡◌, arith, map}
-use Rattle.gtd_warnings.specs.Codes.{AreLoneBelow, codes_listed}
+use Rattle.std.proofs.Common.{◌≡◌, arith}
+use Rattle.gtd_warnings.specs.Codes.{AreLoneBelow}
 use Rattle.gtd_warnings.proofs.codes.lone_of.Goals as goal
 
 pub loop-code-init : goal.loop-code-init

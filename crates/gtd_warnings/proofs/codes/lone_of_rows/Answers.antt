@@ -1,8 +1,8 @@
-use Rattle.std.proofs.Common.{◌≡◌, ◌<◌, ◌≤◌, ◌∙◌, sym, ap, inl, inr, arith, map, length, take}
+use Rattle.std.proofs.Common.{◌≡◌, ◌∙◌, sym, inl, inr, arith, map, take}
 use Rattle.std.proofs.lemmas.Result.{IfOk-weaker}
 use Rattle.gtd_core.specs.Limits.{most_rows}
-use Rattle.gtd_warnings.specs.Codes.{codes_listed, codes_named, naming, rows_needed}
-use Rattle.gtd_warnings.proofs.CodeFacts.{lone_same, naming_of, naming_same, namings_length, namings_same}
+use Rattle.gtd_warnings.specs.Codes.{codes_listed, codes_named, naming}
+use Rattle.gtd_warnings.proofs.CodeFacts.{lone_same, naming_of, naming_same, namings_same}
 use Rattle.gtd_warnings.proofs.codes.lone_of_rows.Goals as goal
 
 pub returns-then-count_naming-lt-ROWS_NEEDED : goal.returns-then-count_naming-lt-ROWS_NEEDED

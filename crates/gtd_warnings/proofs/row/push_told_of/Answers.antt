@@ -1,8 +1,5 @@
-use Rattle.std.proofs.Common.{◌≡◌, ◌∙◌, ap, refl, append_assoc, ◌++◌, List, ℕ}
+use Rattle.std.proofs.Common.{refl, ◌++◌}
 use Rattle.gtd_core.specs.Parts.{domain_tree}
-use Rattle.gtd_mistakes.specs.declared.told.Told.{Told}
-use Rattle.gtd_warnings.specs.Extents.{HoldsThroughout}
-use Rattle.gtd_warnings.specs.RowsTold.{IsOnDay}
 use Rattle.gtd_warnings.proofs.DayFacts.{on_day, throughout, three_parts}
 use Rattle.gtd_warnings.proofs.row.push_told_of.Goals as goal
 

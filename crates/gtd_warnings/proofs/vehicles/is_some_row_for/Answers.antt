@@ -1,4 +1,4 @@
-use Rattle.std.proofs.Common.{◌≡◌, sym, ap, subst, arith, refl}
+use Rattle.std.proofs.Common.{sym, ap, subst, arith, refl}
 use Rattle.gtd_records.specs.Closing.{Restriction, Serves}
 use Rattle.gtd_records.specs.declared.vehicles.Vehicles.{Vehicles}
 use Rattle.gtd_warnings.proofs.VehicleFacts.{none_serves, one_serves, serves_more}
