@@ -1,4 +1,5 @@
 pub mod ListFacts
+pub mod OneList
 pub mod PlaceFacts
 pub mod RowsFacts
 pub mod RunFacts

@@ -10,10 +10,13 @@ ghost use Rattle.gtd_records.specs.Faults.{AreFileFaults, IsFaultyRow, row_numbe
 ghost use Rattle.gtd_records.specs.File.{IsFile, header};
 ghost use Rattle.gtd_records.specs.declared.fault.RecordFault.{RecordFault};
 ghost use Rattle.gtd_records.specs.declared.vehicles.Version.{Version};
+ghost use Rattle.gtd_warnings.specs.declared.file.Asked.{Asked};
+ghost use Rattle.gtd_faults.specs.Doubts.{AreDoubts};
 ghost use Rattle.gtd_faults.specs.Listing.{AreLines, fault_line, row_of};
 ghost use Rattle.gtd_faults.specs.Places.{IsLine, IsLineAt};
 
 use gtd_records::laws::{listed_faults, one_answer};
+use gtd_warnings::laws as warnings;
 
 /// What the list of a file's faults says. Nothing is listed exactly if the file is accepted. The first line names the fault
 /// for which the file is refused, and the line on which its row begins. For a file with a header and within the limits of
@@ -31,6 +34,14 @@ pub fn listed_lines()
 {
     listed_faults();
     one_answer();
+}
+
+/// The lines of a file's warnings are one text.
+pub fn one_list_of_warnings()
+    ensures one { (path bytes : List ℕ) (asked : Asked) (a b : List ℕ) → AreDoubts path asked bytes a
+        → AreDoubts path asked bytes b → a ≡ b }
+{
+    warnings::one_answer();
 }
 
 /// A row of a file begins on one line.
