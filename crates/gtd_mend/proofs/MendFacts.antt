@@ -1,9 +1,8 @@
 -- What is put of a file, from what is decided of it.
-use Rattle.std.proofs.Common.{◌≡◌, ◌≢◌, ◌∙◌, ap, refl, sym, arith, inl, inr, ℕ, Bool, true, false, List, [], ◌∷◌, ◌==◌, length}
+use Rattle.std.proofs.Common.{◌≡◌, ◌≢◌, ◌∙◌, ap, refl, sym, arith, ℕ, Bool, true, false, List, [], ◌∷◌, ◌==◌, length}
 use Rattle.std.proofs.Common.{Option, Some, None}
 use Rattle.std.specs.Bool.{MatchBool}
-use Rattle.std.specs.Prelude.{IfSome, Ok, Err, Result, string_bytes}
-use Rattle.std.specs.Io.KnownBytes.{Appends, Keeps}
+use Rattle.std.specs.Prelude.{Ok, Err, Result}
 use Rattle.csv.specs.Machine.{Read, next_record}
 use Rattle.csv.specs.declared.parser.State.{State}
 use Rattle.csv.specs.declared.parser.State.TheVariants.{StartRecord}

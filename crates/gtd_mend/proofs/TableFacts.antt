@@ -2,7 +2,6 @@
 use Rattle.std.proofs.Common.{◌≡◌, ◌∙◌, ap, refl, sym, arith, ℕ, zero, suc, ◌+◌, ◌<◌, ◌≤◌, Bool, true, false}
 use Rattle.std.proofs.Common.{List, [], ◌∷◌, ◌++◌, drop, take, get_or, length, append_assoc, drop-drop, length-append}
 use Rattle.std.specs.Prelude.{None, map, flat_map, string_bytes}
-use Rattle.std.specs.List.{count_by}
 use Rattle.std.proofs.lemmas.Grind.{flat_map-append}
 use Rattle.std.proofs.Common.{◌-◌, ◌^◌, min}
 use Rattle.std.proofs.lemmas.List.{append-nil, drop_all, length-take, map-append, take_more}

@@ -4,7 +4,6 @@ use Rattle.csv.specs.Machine.{field_after, fields_after, is_end, next_record, st
 use Rattle.csv.specs.declared.parser.Config.{Config}
 use Rattle.csv.specs.declared.parser.State.{State}
 use Rattle.csv.specs.declared.parser.State.TheVariants as state
-use Rattle.csv.specs.declared.parser.Action.{Action}
 use Rattle.csv.specs.declared.parser.Action.TheVariants as action
 use Rattle.gtd_records.specs.Columns.{Fields}
 use Rattle.gtd_mend.specs.Reading.{by_byte}

@@ -1,4 +1,4 @@
-use Rattle.std.proofs.Common.{◌≡◌, ◌++◌, [], refl, ap, List, ℕ}
+use Rattle.std.proofs.Common.{◌++◌, [], ap, List}
 use Rattle.gtd_mend.specs.Lines.{file_lines, table_lines}
 use Rattle.gtd_mend.specs.Standing.{Lists}
 use Rattle.gtd_mend.specs.declared.change.FileChange.{FileChange}

@@ -1,4 +1,4 @@
-use Rattle.std.proofs.Common.{◌∙◌, arith, sym}
+use Rattle.std.proofs.Common.{◌∙◌, arith}
 use Rattle.csv.specs.Records.{fields_of}
 use Rattle.gtd_mend.specs.Mended.{writer_of}
 use Rattle.gtd_mend.proofs.PrintFacts.{blank_many, blank_none, blank_one}

@@ -1,4 +1,4 @@
-use Rattle.std.proofs.Common.{◌∙◌, ap, refl, sym, arith, List, ℕ, ◌++◌}
+use Rattle.std.proofs.Common.{refl, arith}
 use Rattle.csv.proofs.WriteFacts.{escaped-double, escaped-other}
 use Rattle.gtd_mend.specs.Mended.{writer_of}
 use Rattle.gtd_mend.proofs.print.push_byte.Goals as goal

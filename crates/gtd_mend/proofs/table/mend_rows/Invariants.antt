@@ -1,6 +1,5 @@
 use Rattle.std.proofs.Common.{◌-◌, length}
 use Rattle.gtd_mend.proofs.TableFacts.{RowsSoFar}
-use Rattle.gtd_mend.specs.Reading.{separated_by}
 use Rattle.gtd_mend.proofs.table.mend_rows.Given as goal
 
 -- the rows so far
