@@ -81,6 +81,7 @@ part tests/same.py 1000 1
 part tests/diff.py 300 1
 part tests/repeats.py 300 1
 part tests/warned.py 150 1
+part tests/mended.py 2000 1
 part tests/pictures.py
 part tests/library.sh
 part tests/sql.sh

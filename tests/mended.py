@@ -1,9 +1,8 @@
 #!/usr/bin/env python3
 """`gtdesk mend` on random record files that are written as people and spreadsheets write them.
 
-Each file is an accepted one to begin with. Then its fields get spaces, quotation marks, capital letters, decimals and dashes, its
-fields other separators, its rows other ends, quotes that nothing needs and empty lines between them, and its bytes another
-encoding. Each of these changes is noted when it is made. The mended file must be the accepted one, byte for byte, and the changes
+Each file is an accepted one to begin with. Then its fields get spaces, quotation marks, capital letters, decimals and dashes, and
+other separators; its rows other ends, quotes that nothing needs and empty lines between them; and its bytes another encoding. Each of these changes is noted when it is made. The mended file must be the accepted one, byte for byte, and the changes
 that are listed must be those that were noted, in order. A file that is still accepted must come out as it is. Run it after
 `rt ci`, which builds the programs.
 
@@ -21,11 +20,17 @@ TOP = os.path.dirname(os.path.dirname(os.path.abspath(__file__)))
 GTD = os.environ.get("GTD", os.path.join(TOP, "crates", "gtd", "out", "gtd"))
 DESK = os.environ.get("GTDESK", os.path.join(TOP, "crates", "gtdesk", "out", "gtdesk"))
 NAMES = {False: ["element", "direction", "vehicle", "domain"], True: ["element", "direction", "vehicles", "domain"]}
-DOMAINS = ["", "(h10){h4}", "[(M4d1){M3}]*[(h10){h4}]", "[(h0){h24}]-[(M8){M1}]", "[[(h0){h24}]-[(t7){d1}]]-[(M7){M2}]", "(t2 t3){d1}"]
+DOMAINS = [
+    "", "(h10){h4}", "[(M4d1){M3}]*[(h10){h4}]", "[(h0){h24}]-[(M8){M1}]", "[[(h0){h24}]-[(t7){d1}]]-[(M7){M2}]", "(t2 t3){d1}",
+]
 SPACES = [" ", "  ", "\t", " \t ", "\r", "\n"]
-QUOTES = [("\"", "\""), ("'", "'"), ("\u201c", "\u201d"), ("\u201e", "\u201c"), ("\u2018", "\u2019"), ("\u00ab", "\u00bb"), ("\u2039", "\u203a")]
+QUOTES = [it.split() for it in ("\" \"", "' '", "\u201c \u201d", "\u201e \u201c", "\u2018 \u2019", "\u00ab \u00bb", "\u2039 \u203a")]
 DASHES = "\u2010\u2011\u2012\u2013\u2014\u2015\u2212"
-ENCODINGS = {"": ("", "utf-8"), "byte order mark": ("\ufeff", "utf-8"), "UTF-16": ("\ufeff", "utf-16-le"), "UTF-16 ": ("\ufeff", "utf-16-be")}
+# What is listed of an encoding; the mark that it begins with; and its name. Two are listed in the same words.
+ENCODINGS = [
+    ("", "", "utf-8"), ("", "", "utf-8"), ("byte order mark", "\ufeff", "utf-8"), ("UTF-16", "\ufeff", "utf-16-le"),
+    ("UTF-16", "\ufeff", "utf-16-be"),
+]
 
 
 def good_rows(draw, second):
@@ -91,13 +96,12 @@ def made(draw):
     rows = good_rows(draw, draw.random() < 0.5)
     separator = draw.choice(",,,;\t")
     text, fields, plain = written(draw, rows, separator, draw.random() < 0.5)
-    encoding = draw.choice(["", "", "", *ENCODINGS])
-    noted = [f"1: {encoding.strip()}"] if encoding else []
+    encoding, mark, name = draw.choice(ENCODINGS)
+    noted = [f"1: {encoding}"] if encoding else []
     noted += ["1: separators"] if separator != "," else []
     noted += [] if plain else ["1: quotes or line ends"]
-    mark, name = ENCODINGS[encoding]
     given = (mark + text).encode(name)
-    if separator == "," and not fields and not encoding.startswith("UTF-16"):
+    if separator == "," and not fields and encoding != "UTF-16":
         return given, given, []
     return "".join(",".join(row) + "\n" for row in rows).encode(), given, noted + fields
 

@@ -51,7 +51,8 @@ module _ (separator : ℕ) (text : List ℕ) (at : ℕ) (here : Within) (fields 
       → IsFed separator (state_of here) (get_or text at 0) fields field fields_new field_new (Some next)
       → Follows (by_byte separator) text (at + 1) (state_of next) fields_new field_new
   fed next fields_new field_new lt is =
-      rw (sym is.1, is.2, is.3) (so_far ∙ ap (next_record (by_byte separator) (state_of here) fields field) (drop_more text at 0 lt)
+      rw (sym is.1, is.2, is.3) (so_far
+      ∙ ap (next_record (by_byte separator) (state_of here) fields field) (drop_more text at 0 lt)
       ∙ goes_on (by_byte separator) (state_of here) fields field (get_or text at 0) (drop (at + 1) text) is.0)
 
   pub ended : (fields_new : Fields) (field_new : List ℕ) → at < length text

@@ -31,7 +31,8 @@ both : (found : List Restriction) (why : RecordFault)
     → ◌≡◌ {A = Result (List Restriction) RecordFault} (Ok found) (Err why) → ⊥
 both found why e = cc
 
-pub decided : (bytes : List ℕ) (faults : List RecordFault) (none : Bool) → none ≡ (length faults == 0) → AreFileFaults bytes faults
+pub decided : (bytes : List ℕ) (faults : List RecordFault) (none : Bool) → none ≡ (length faults == 0)
+    → AreFileFaults bytes faults
     → (AreFileFaults bytes [] → IsAccepted bytes)
     → ((why : RecordFault) (rest : List RecordFault) → AreFileFaults bytes (why ∷ rest) → IsFile bytes (Err why))
     → ((a b : Result (List Restriction) RecordFault) → IsFile bytes a → IsFile bytes b → a ≡ b)

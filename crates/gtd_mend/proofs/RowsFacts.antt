@@ -1,6 +1,6 @@
 -- The rows of a mended file, as they are read again.
-use Rattle.std.proofs.Common.{◌≡◌, ◌∙◌, ◌⊎◌, ap, refl, sym, arith, cond, inl, inr, ℕ, zero, suc, ◌+◌, ◌<◌, ◌≤◌, Bool, true, false}
-use Rattle.std.proofs.Common.{List, [], ◌∷◌, ◌++◌, length, length-append, Option, Some, None}
+use Rattle.std.proofs.Common.{◌≡◌, ◌∙◌, ◌⊎◌, ap, refl, sym, arith, cond, inl, inr, ℕ, zero, suc, ◌+◌, ◌<◌, ◌≤◌}
+use Rattle.std.proofs.Common.{Bool, true, false, List, [], ◌∷◌, ◌++◌, length, length-append, Option, Some, None}
 use Rattle.std.specs.Prelude.{map, ⊤}
 use Rattle.std.proofs.lemmas.Bool.Decides.{nat_tests}
 use Rattle.csv.proofs.RoundTrip.{read-write}
@@ -119,7 +119,8 @@ from_between b s text (inr e) = rw e (after_cr b text)
 abbrev Chain : ℕ → List ℕ → List Fields → Type 0
 Chain b text [] = next_record (by_byte b) st.StartRecord [] [] text ≡ None
 Chain b text (fields ∷ rows) =
-    (s : State) × (rest : List ℕ) × (next_record (by_byte b) st.StartRecord [] [] text ≡ Some (fields, s, rest)) × Chain b rest rows
+    (s : State) × (rest : List ℕ) × (next_record (by_byte b) st.StartRecord [] [] text ≡ Some (fields, s, rest))
+    × Chain b rest rows
 
 records_are : (b n : ℕ) (s : State) (text : List ℕ) (rows : List Fields) → IsBetween s → length text < n → Chain b text rows
     → records_from (by_byte b) n s text ≡ rows
@@ -198,6 +199,7 @@ rows_kept path separator marks text mended lines has is =
     let chain = chain_of_read b 1 text is.rows is.read in
     ap (λ (m : List ℕ). records default_config (strip_bom m)) is.written
     ∙ ap (λ (m : List ℕ). records default_config m) (table_stays separator text rows has chain)
-    ∙ all_records 44 (table_text 44 (mended_table rows)) (map read_back (mended_table rows)) (chain_of_written (mended_table rows))
+    ∙ all_records 44 (table_text 44 (mended_table rows)) (map read_back (mended_table rows))
+    (chain_of_written (mended_table rows))
     ∙ table_back rows (all_some b text rows chain)
     ∙ sym (ap mended_table (all_records b text rows chain))

@@ -150,7 +150,8 @@ written_more byte rows row =
     ∙ ap (λ (t : List ℕ). table_text byte rows ++ t) (append-nil (row_text (writer_of byte) row))
 
 table_more : (rows : List ReadRow) (row : ReadRow)
-    → mended_table (fields_in rows ++ row.fields ∷ []) ≡ mended_table (fields_in rows) ++ mended_row (is_nil rows) row.fields ∷ []
+    → mended_table (fields_in rows ++ row.fields ∷ [])
+    ≡ mended_table (fields_in rows) ++ mended_row (is_nil rows) row.fields ∷ []
 table_more [] row = refl
 table_more (first ∷ rows) row =
     ap (λ (t : List Fields). mended_row true first.fields ∷ t)
@@ -170,8 +171,8 @@ not_nil [] row = refl
 not_nil (first ∷ rows) row = refl
 
 -- one more row
-pub holds_more : (path : List ℕ) (separator : Separator) (rows : List ReadRow) (row : ReadRow) (mended : Fields) (old new : Table)
-    → Holds path separator rows old → new.separator ≡ old.separator → new.empty ≡ false
+pub holds_more : (path : List ℕ) (separator : Separator) (rows : List ReadRow) (row : ReadRow) (mended : Fields)
+    (old new : Table) → Holds path separator rows old → new.separator ≡ old.separator → new.empty ≡ false
     → mended ≡ mended_row old.empty row.fields
     → new.mended.items ≡ old.mended.items ++ row_text (writer_of 44) mended
     → new.written.items ≡ old.written.items ++ row_text (writer_of (separator_byte old.separator)) row.fields
@@ -191,7 +192,8 @@ holds_more path separator rows row mended old new is same begun fields added cop
   written =
       copied
       ∙ ap (λ (t : List ℕ). t ++ row_text (writer_of (separator_byte old.separator)) row.fields) is.written
-      ∙ ap (λ (s : Separator). table_text (separator_byte separator) (fields_in rows) ++ row_text (writer_of (separator_byte s)) row.fields)
+      ∙ ap (λ (s : Separator). table_text (separator_byte separator) (fields_in rows)
+      ++ row_text (writer_of (separator_byte s)) row.fields)
       is.separator
       ∙ sym (ap (table_text (separator_byte separator)) (fields_of_more rows row)
       ∙ written_more (separator_byte separator) (fields_in rows) row.fields);

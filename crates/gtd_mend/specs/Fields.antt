@@ -63,7 +63,8 @@ back_quote field =
 -- marks at both ends are taken off, if there is something between them
 abbrev pub without_quotes : List ℕ → List ℕ
 without_quotes field =
-    if nat_lt 0 (front_quote field) && (nat_lt 0 (back_quote field) && nat_lt (front_quote field + back_quote field) (length field))
+    if nat_lt 0 (front_quote field)
+    && (nat_lt 0 (back_quote field) && nat_lt (front_quote field + back_quote field) (length field))
     then take (length field - back_quote field - front_quote field) (drop (front_quote field) field)
     else field
 

@@ -1,7 +1,7 @@
 //! Record files that are nearly accepted, with what can be mended without a guess.
 //!
-//! [`run_mend`] reads a file whole and puts it as it is if it is accepted. Of another file that has a header, it puts the rows with
-//! commas between their fields, each field mended by its column, and lists each change by its line.
+//! [`run_mend`] reads a file whole and puts it as it is if it is accepted. Of another file that has a header, it puts the rows
+//! with commas between their fields, each field mended by its column, and lists each change by its line.
 #![tactic(auto)]
 
 pub use change::{FieldChange, FileChange};

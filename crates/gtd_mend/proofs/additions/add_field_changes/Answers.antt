@@ -20,7 +20,8 @@ loop-change-preserved c = λ path before is.
     let words = printable path ++ codes ":" ++ decimal c.args.line ++ codes ": "
     ++ (codes "field " ++ decimal c.args.number ++ codes ": " ++ field_change_name change) in
     rw (one_more line c.args.changes.now i Spaces before (omega arith)) at
-    (lists_more path _ words c.loop-change.listing c.add_field_change.new.self so_far e.path (rw so_far.path at e.text) e.count e.small)
+    (lists_more path _ words c.loop-change.listing c.add_field_change.new.self so_far e.path
+    (rw so_far.path at e.text) e.count e.small)
 
 pub returns : goal.returns
 returns c = record {

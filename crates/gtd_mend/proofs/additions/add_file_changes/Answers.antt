@@ -18,7 +18,8 @@ loop-change-preserved c = λ path before is.
     let change = get_or c.args.changes.now i Utf16 in
     let words = printable path ++ codes ":" ++ decimal 1 ++ codes ": " ++ file_change_name change in
     rw (one_more (file_line path) c.args.changes.now i Utf16 before (omega arith)) at
-    (lists_more path _ words c.loop-change.listing c.add_file_change.new.self so_far e.path (rw so_far.path at e.text) e.count e.small)
+    (lists_more path _ words c.loop-change.listing c.add_file_change.new.self so_far e.path
+    (rw so_far.path at e.text) e.count e.small)
 
 pub returns : goal.returns
 returns c = record {

@@ -1,7 +1,8 @@
 use Rattle.std.proofs.Common.{◌∙◌, arith, sym}
 use Rattle.gtd_mend.proofs.FieldFacts.{dash, hyphens_end, other}
 use Rattle.gtd_mend.proofs.field.with_hyphens.Goals as goal
-use Rattle.gtd_mend.proofs.field.with_hyphens.Goals.{else-field-at-gt2-via-then-field-at-gt2+else-is_dash, else-field-at-gt2-via-else-field-at-gt2}
+use Rattle.gtd_mend.proofs.field.with_hyphens.Goals.{else-field-at-gt2-via-then-field-at-gt2+else-is_dash}
+use Rattle.gtd_mend.proofs.field.with_hyphens.Goals.{else-field-at-gt2-via-else-field-at-gt2}
 
 pub loop-at-preserved-then-is_dash : goal.loop-at-preserved-then-is_dash
 loop-at-preserved-then-is_dash c = (

@@ -6,6 +6,7 @@ returns c =
     let bytes = c.args.bytes.now in
     let listed = c.listed_faults.ensures in
     record {
-      value = decided bytes c.in_ok-faults.faults.items c.is_empty.result (rw c.as_slice.ensures.value at c.is_empty.ensures) c.in_ok-faults.ensures.file
+      value = decided bytes c.in_ok-faults.faults.items c.is_empty.result (rw c.as_slice.ensures.value at c.is_empty.ensures)
+          c.in_ok-faults.ensures.file
           (λ are. (listed.accepted bytes).0 are) (listed.first bytes) (c.one_answer.ensures.one bytes);
     }

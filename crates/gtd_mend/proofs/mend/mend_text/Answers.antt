@@ -13,7 +13,8 @@ returns c =
     let separator = c.in-Some.separator in
     record {
       mended = λ bytes.
-          IfOk-weaker c.rewrite.result (Gives bytes (IsRewritten path separator marks text)) (Gives bytes (IsOfText path bytes marks text))
+          IfOk-weaker c.rewrite.result (Gives bytes (IsRewritten path separator marks text))
+          (Gives bytes (IsOfText path bytes marks text))
           (λ given is. gives_weaker bytes (IsRewritten path separator marks text) (IsOfText path bytes marks text) given
           (λ mended lines rewritten. inl (record {
             separator = separator;

@@ -12,7 +12,8 @@ returns c =
     let rows = found.0 in
     let holds = found.2 in
     let changes = c.in_ok-changes.changes.items in
-    let none = no_lines path c.new-listing.result c.new-listing.ensures.path c.new-listing.ensures.text c.new-listing.ensures.count in
+    let none = no_lines path c.new-listing.result c.new-listing.ensures.path c.new-listing.ensures.text
+    c.new-listing.ensures.count in
     let first : Lists path (file_lines path changes) c.add_file_changes.new.listing =
     rw c.as_slice-2.ensures.value at (c.in_ok-add_file_changes.ensures.added path [] none) in
     let joined = c.in_ok-join.ensures in

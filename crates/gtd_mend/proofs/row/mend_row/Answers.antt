@@ -6,7 +6,8 @@ use Rattle.gtd_mend.proofs.TableFacts.{adds_more, fields_more}
 use Rattle.gtd_mend.proofs.row.mend_row.Goals as goal
 
 pub returns-in_default : goal.returns-in_default
-returns-in_default c = absurd (not_absent (fields_of c.args.row.now) c.loop-column.column (omega arith) c.in_default.ensures.value)
+returns-in_default c =
+    absurd (not_absent (fields_of c.args.row.now) c.loop-column.column (omega arith) c.in_default.ensures.value)
 
 pub loop-column-preserved : goal.loop-column-preserved
 loop-column-preserved c =
@@ -25,8 +26,13 @@ loop-column-preserved c =
         so_far.1,
         here,
       ) (sym (fields_more c.args.head fields i (omega arith))),
-      adds_more c.args.line c.args.head fields i c.args.listing.now c.loop-column.listing c.add_field_changes.new.listing (omega arith)
-          so_far.2 (rw (c.as_slice-in-loop-column.ensures.value, c.in_ok-found.ensures.changes, c.content_of.ensures.value, here) at
+      adds_more c.args.line c.args.head fields i c.args.listing.now c.loop-column.listing c.add_field_changes.new.listing
+          (omega arith) so_far.2 (rw (
+            c.as_slice-in-loop-column.ensures.value,
+            c.in_ok-found.ensures.changes,
+            c.content_of.ensures.value,
+            here,
+          ) at
           c.in_ok-add_field_changes.ensures.added),
     )
 
