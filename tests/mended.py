@@ -1,10 +1,11 @@
 #!/usr/bin/env python3
 """`gtdesk mend` on random record files that are written as people and spreadsheets write them.
 
-Each file is an accepted one to begin with. Then its fields get spaces, quotation marks, capital letters, decimals and dashes, and
-other separators; its rows other ends, quotes that nothing needs and empty lines between them; and its bytes another encoding. Each of these changes is noted when it is made. The mended file must be the accepted one, byte for byte, and the changes
-that are listed must be those that were noted, in order. A file that is still accepted must come out as it is. Run it after
-`rt ci`, which builds the programs.
+Each file is an accepted one to begin with. Then its fields get spaces, quotation marks, capital letters, decimals and dashes,
+and other separators; its rows other ends, quotes that nothing needs and empty lines between them; and its bytes another
+encoding. Each of these changes is noted when it is made. The mended file must be the accepted one, byte for byte, and the
+changes that are listed must be those that were noted, in order. A file that is still accepted must come out as it is. Run it
+after `rt ci`, which builds the programs.
 
 Usage: tests/mended.py [COUNT [SEED]]
 """
@@ -24,7 +25,9 @@ DOMAINS = [
     "", "(h10){h4}", "[(M4d1){M3}]*[(h10){h4}]", "[(h0){h24}]-[(M8){M1}]", "[[(h0){h24}]-[(t7){d1}]]-[(M7){M2}]", "(t2 t3){d1}",
 ]
 SPACES = [" ", "  ", "\t", " \t ", "\r", "\n"]
-QUOTES = [it.split() for it in ("\" \"", "' '", "\u201c \u201d", "\u201e \u201c", "\u2018 \u2019", "\u00ab \u00bb", "\u2039 \u203a")]
+# A domain may have spaces.
+TABS = ["\t", " \t ", "\r", " \n"]
+QUOTES = ["\"\"", "\'\'", "\u201c\u201d", "\u201e\u201c", "\u2018\u2019", "\u00ab\u00bb", "\u2039\u203a"]
 DASHES = "\u2010\u2011\u2012\u2013\u2014\u2015\u2212"
 # What is listed of an encoding; the mark that it begins with; and its name. Two are listed in the same words.
 ENCODINGS = [
@@ -63,7 +66,8 @@ def blemished(draw, text, column, head):
         text, kinds = before + text + after, ["quotes", *kinds]
     if draw.random() < 0.1:
         before, after = draw.choice([("", 1), (1, ""), (1, 1)])
-        text = (draw.choice(SPACES) if before else "") + text + (draw.choice(SPACES) if after else "")
+        spaces = SPACES if head or column < 3 else TABS
+        text = (draw.choice(spaces) if before else "") + text + (draw.choice(spaces) if after else "")
         kinds = ["spaces", *kinds]
     return text, kinds
 
@@ -120,7 +124,7 @@ def main(count=2000, seed=1):
             lines = "".join(f"r.csv:{it}\n" for it in noted).encode()
             found = (done.returncode, done.stdout, done.stderr)
             check(found == (0, wanted, lines), f"{number}: {given!r}: {found}, wanted {wanted!r} and {lines!r}")
-            read = subprocess.run([GTD, "migrate", "/dev/stdin"], input=done.stdout, capture_output=True, check=False, timeout=60)
+            read = subprocess.run([GTD, "migrate", "/dev/stdin"], input=done.stdout, capture_output=True, check=False)
             check(read.returncode == 0, f"{number}: {given!r} is not accepted once it is mended: {read.stderr!r}")
     return check.end()
 
