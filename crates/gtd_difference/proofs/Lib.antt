@@ -2,3 +2,4 @@ pub mod Alone
 pub mod Ever
 pub mod Inclusion
 pub mod Parts
+pub mod Weeks

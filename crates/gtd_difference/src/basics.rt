@@ -5,6 +5,7 @@ ghost use Rattle.gtd_core.specs.Parts.{domain_tree};
 ghost use Rattle.gtd_core.specs.Trees.{tree_of};
 ghost use Rattle.gtd_difference.specs.Difference.{IsPart, single_of};
 
+use crate::week::is_shown_by_week;
 use crate::within::is_within_whole;
 use gtd_core::{Basic, Domain, Expr, Op};
 use std::alloc::{AllocError, Global};
@@ -38,8 +39,8 @@ pub(crate) fn have_few_parts(expr: &Expr, other: &Expr) -> bool {
     rest_of(expr, MOST_PARTS).is_some() && rest_of(other, MOST_PARTS).is_some()
 }
 
-// The domain of a basic domain.
-fn single(basic: &Basic) -> Domain
+/// The domain of a basic domain.
+pub(crate) fn single(basic: &Basic) -> Domain
     ensures tree { domain_tree result ≡ single_of basic.now }
 {
     match Domain::new(Expr::Leaf(*basic)) {
@@ -52,7 +53,11 @@ fn single(basic: &Basic) -> Domain
 fn is_basic_within(alloc: Global, basic: &Basic, other: &Basic) -> Result<bool, AllocError>
     ensures shown { IfOk result (λ shown. IsTrue shown → IsPart (single_of basic.now) (single_of other.now)) }
 {
-    is_within_whole(alloc, &single(basic), &single(other))
+    let whole = single(other);
+    if is_shown_by_week(alloc, basic, &whole)? {
+        return Ok(true);
+    }
+    is_within_whole(alloc, &single(basic), &whole)
 }
 
 // Whether the basic domains of an expression show that each of its seconds is in a basic domain.

@@ -155,7 +155,7 @@ fn near_apart(
     requires moment { IsMomentSecond from.0 }
     ensures apart { IfOk result (λ found. IfSome found (IsApart (InDomain first.now) (InDomain second.now) from.0 last_end)) }
 {
-    if is_weekly(first) && is_weekly(second) {
+    if days_to_repeat(first, second) == WEEKLY_DAYS {
         return Ok(None);
     }
     let day = from.day();

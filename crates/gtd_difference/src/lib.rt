@@ -9,4 +9,5 @@ mod basics;
 mod comparison;
 mod first;
 pub mod laws;
+mod week;
 mod within;

@@ -9,8 +9,9 @@ ghost use Rattle.gtd_difference.specs.Difference.{EitherGivesYear, HasNoneAlone,
 use crate::basics::{have_few_parts, is_shown_within};
 use crate::comparison::{NEAR_DAYS, days_between, days_to_repeat, gives_year};
 use crate::first::first_alone;
+use crate::week::is_shown_by_week;
 use gtd_core::limits::{FIRST_HORIZON_DAY, HORIZONS_END, MOST_HORIZON_DAYS};
-use gtd_core::{Domain, Horizon, Sec, Span};
+use gtd_core::{Domain, Expr, Horizon, Sec, Span};
 use gtd_eval::{Cursor, holds, is_weekly};
 use gtd_spans::SpanSource;
 use std::alloc::{AllocError, Global};
@@ -151,6 +152,11 @@ fn is_part_shown(alloc: Global, domain: &Domain, other: &Domain) -> Result<bool,
 {
     if is_weekly(domain) && is_weekly(other) {
         return Ok(false);
+    }
+    if let Expr::Leaf(basic) = domain.expr() {
+        if is_shown_by_week(alloc, basic, other)? {
+            return Ok(true);
+        }
     }
     if !have_few_parts(domain.expr(), other.expr()) {
         return Ok(false);
