@@ -5,12 +5,10 @@ use Rattle.std.specs.Prelude.{◌↔◌, IfSome}
 use Rattle.gtd_core.specs.facts.Deciding.{Decided}
 use Rattle.gtd_hours_tokens.specs.Lexing.{AreTokens, IsNext, IsTokenFault, Reads}
 use Rattle.gtd_hours_tokens.specs.facts.TokenForms.{ends_inside, goes_on}
-use Rattle.gtd_hours_tokens.specs.declared.token.Token.{Token}
 use Rattle.gtd_hours_grammar.specs.declared.fault.FaultKind.TheVariants as fault
 use Rattle.gtd_hours_grammar.specs.declared.fault.HoursFault.{HoursFault}
-use Rattle.gtd_hours_grammar.specs.declared.piece.Piece.{Piece}
+use Rattle.gtd_hours_grammar.specs.Terms.{Token, Piece, Move}
 use Rattle.gtd_hours_grammar.specs.declared.place.Place.TheVariants as places
-use Rattle.gtd_hours_grammar.specs.declared.place.Move.{Move}
 use Rattle.gtd_hours_grammar.specs.declared.reading.Reading.{Reading}
 use Rattle.gtd_hours_grammar.specs.Faults.{IsFirstFault, IsHoursText}
 use Rattle.gtd_hours_grammar.specs.Kinds.{misfit_of}

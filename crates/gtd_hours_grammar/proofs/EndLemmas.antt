@@ -4,13 +4,10 @@ use Rattle.std.proofs.Common.{refl, sym, ap, subst, ◌∙◌, append_assoc}
 use Rattle.std.specs.Prelude.{IfErr}
 use Rattle.std.proofs.lemmas.List.{append-nil}
 use Rattle.gtd_hours_tokens.specs.Lexing.{AreTokens, IsNext}
-use Rattle.gtd_hours_tokens.specs.declared.token.Token.{Token}
-use Rattle.gtd_hours_tokens.specs.declared.token.TokenKind.{TokenKind}
 use Rattle.gtd_hours_tokens.specs.declared.token.TokenKind.TheVariants as token
 use Rattle.gtd_hours_grammar.specs.declared.fault.FaultKind.TheVariants as fault
-use Rattle.gtd_hours_grammar.specs.declared.piece.Piece.{Piece}
+use Rattle.gtd_hours_grammar.specs.Terms.{Token, TokenKind, Piece, Place}
 use Rattle.gtd_hours_grammar.specs.declared.stage.Stage.TheVariants as stage
-use Rattle.gtd_hours_grammar.specs.declared.place.Place.{Place}
 use Rattle.gtd_hours_grammar.specs.declared.place.Place.TheVariants as places
 use Rattle.gtd_hours_grammar.specs.declared.reading.Reading.{Reading}
 use Rattle.gtd_hours_grammar.specs.Grammar.{AreHours, CanGoOn, Follow, More, in_full, so_far, by_place}
@@ -78,7 +75,8 @@ incomplete text r given is h goes e =
 
 -- ---- a token that does not go on
 
-first_runs : (before : List TokenKind) (t : TokenKind) (after : List TokenKind) → (before ++ t ∷ []) ++ after ≡ before ++ t ∷ after
+first_runs : (before : List TokenKind) (t : TokenKind) (after : List TokenKind)
+    → (before ++ t ∷ []) ++ after ≡ before ++ t ∷ after
 first_runs before t after = append_assoc before (t ∷ []) after
 
 number_never : (text : List ℕ) (r : Reading) (given : List Piece) (is : IsReading text r given) (v d : ℕ) (other : TokenKind)
@@ -111,7 +109,8 @@ number_kind text r given is v d true e =
       after = end.ts;
       follow = is.read.leads by_place end.p (token.Number end.v end.d ∷ end.ts) end.rest;
     }
-number_kind text r given is v d false e = λ fits. number_never text r given is v d fits.other fits.alike e fits.p fits.after fits.follow
+number_kind text r given is v d false e =
+    λ fits. number_never text r given is v d fits.other fits.alike e fits.p fits.after fits.follow
 
 time_kind : (text : List ℕ) (r : Reading) (given : List Piece) (is : IsReading text r given) (h m : ℕ) (b : Bool)
     → takes_time r.behind ≡ b → IsMisfitKind (kinds is.read.before) (token.Time h m) (range_if b)
@@ -124,7 +123,8 @@ time_kind text r given is h m true e =
       after = end.ts;
       follow = is.read.leads by_place end.p (token.Time end.h end.m ∷ end.ts) end.rest;
     }
-time_kind text r given is h m false e = λ fits. time_never text r given is h m fits.other fits.alike e fits.p fits.after fits.follow
+time_kind text r given is h m false e =
+    λ fits. time_never text r given is h m fits.other fits.alike e fits.p fits.after fits.follow
 
 misfit_kind : (text : List ℕ) (r : Reading) (given : List Piece) (is : IsReading text r given) (t : TokenKind)
     → IsMisfitKind (kinds is.read.before) t (misfit_of r.behind t)

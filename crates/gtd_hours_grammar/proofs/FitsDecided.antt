@@ -5,7 +5,6 @@ use Rattle.std.proofs.lemmas.Bool.{cases_eq, cases_lt}
 use Rattle.gtd_core.specs.facts.Deciding.{Decided, at_most as at_most_z, below as below_z}
 use Rattle.gtd_hours.specs.Calendar.{IsDate, day_number, month_length}
 use Rattle.gtd_hours.specs.Ranges.{IsDatedRange, IsTimeRange, IsYearDate, end_of}
-use Rattle.gtd_hours_tokens.specs.declared.token.TokenKind.{TokenKind}
 use Rattle.gtd_hours_tokens.specs.declared.token.TokenKind.TheVariants as token
 use Rattle.gtd_hours_parts.specs.Dates.{EndsOn, IsDayOfYear, IsWrittenDay, last_year}
 use Rattle.gtd_hours_parts.specs.Numbers.{IsDayNumber, IsPlaceNumber, IsStepNumber, IsWeekNumber, IsYearNumber}
@@ -15,9 +14,8 @@ use Rattle.gtd_hours_parts.specs.declared.digits.Digits.{Digits}
 use Rattle.gtd_hours_grammar.specs.declared.piece.LastDate.{LastDate}
 use Rattle.gtd_hours_grammar.specs.declared.piece.LastDate.TheVariants as last_date
 use Rattle.gtd_hours_grammar.specs.declared.piece.WrittenDate.{WrittenDate}
-use Rattle.gtd_hours_grammar.specs.declared.place.Place.{Place}
+use Rattle.gtd_hours_grammar.specs.Terms.{TokenKind, Stage, Place}
 use Rattle.gtd_hours_grammar.specs.declared.place.Place.TheVariants as places
-use Rattle.gtd_hours_grammar.specs.declared.stage.Stage.{Stage}
 use Rattle.gtd_hours_grammar.specs.declared.stage.Stage.TheVariants as stage
 use Rattle.gtd_hours_grammar.specs.Pieces.{AreWrittenTimes, EndsRange, IsDay, IsLastDay, IsRange}
 use Rattle.gtd_hours_grammar.specs.Sound.{Fits, ListedFits, NumberFits, TimeFits, YearOrDay, is_last_year}

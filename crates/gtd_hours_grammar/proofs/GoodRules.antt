@@ -1,15 +1,11 @@
 -- Which moves are right at the beginning of a rule, and behind a part of one.
 use Rattle.std.proofs.Common.{◌≡◌, ℕ, Bool, true, false, Option, Some, None, List, ◌∷◌, IfSome, refl, subst, sym, arith, rules}
 use Rattle.gtd_hours.specs.declared.hours.Link.TheVariants as link
-use Rattle.gtd_hours_tokens.specs.declared.token.TokenKind.{TokenKind}
 use Rattle.gtd_hours_tokens.specs.declared.token.TokenKind.TheVariants as token
-use Rattle.gtd_hours_grammar.specs.declared.piece.Piece.{Piece}
+use Rattle.gtd_hours_grammar.specs.Terms.{TokenKind, Piece, Stage, Place, Move}
 use Rattle.gtd_hours_grammar.specs.declared.piece.Piece.TheVariants as piece
-use Rattle.gtd_hours_grammar.specs.declared.stage.Stage.{Stage}
 use Rattle.gtd_hours_grammar.specs.declared.stage.Stage.TheVariants as stage
-use Rattle.gtd_hours_grammar.specs.declared.place.Place.{Place}
 use Rattle.gtd_hours_grammar.specs.declared.place.Place.TheVariants as places
-use Rattle.gtd_hours_grammar.specs.declared.place.Move.{Move}
 use Rattle.gtd_hours_grammar.specs.Grammar.{Demand, Follow, IsOne, More, goes_on, list_goes_on, precedes}
 use Rattle.gtd_hours_grammar.specs.Places.{Behind, From, Rest}
 use Rattle.gtd_hours_grammar.specs.Sound.{Fits, IsPlace, ListedFits}

@@ -1,16 +1,12 @@
 -- Where no number and no time can come next, none does.
 use Rattle.std.proofs.Common.{◌≡◌, ℕ, Bool, true, false, List, ◌∷◌, Some, None, refl, sym, subst, ◌∙◌}
 use Rattle.std.specs.Prelude.{◌&&◌}
-use Rattle.gtd_hours_tokens.specs.declared.token.TokenKind.{TokenKind}
 use Rattle.gtd_hours_tokens.specs.declared.token.TokenKind.TheVariants as token
 use Rattle.gtd_hours_parts.specs.declared.digits.Digits.{Digits}
-use Rattle.gtd_hours_grammar.specs.declared.piece.Piece.{Piece}
+use Rattle.gtd_hours_grammar.specs.Terms.{TokenKind, Piece, Stage, Place, Move}
 use Rattle.gtd_hours_grammar.specs.declared.piece.Piece.TheVariants as piece
-use Rattle.gtd_hours_grammar.specs.declared.stage.Stage.{Stage}
 use Rattle.gtd_hours_grammar.specs.declared.stage.Stage.TheVariants as stage
-use Rattle.gtd_hours_grammar.specs.declared.place.Place.{Place}
 use Rattle.gtd_hours_grammar.specs.declared.place.Place.TheVariants as places
-use Rattle.gtd_hours_grammar.specs.declared.place.Move.{Move}
 use Rattle.gtd_hours_grammar.specs.Grammar.{Demand, precedes}
 use Rattle.gtd_hours_grammar.specs.Sound.{takes_number, takes_time}
 use Rattle.gtd_hours_grammar.specs.Moves.{next_move, give, take, complete, written, clock}
@@ -67,7 +63,8 @@ given_place : (demand : Demand) (k : ℕ) (n : Digits) (p : List Piece) (t : Tok
     → next_move (places.Nth k n) (Some t) true ≡ give (piece.Places k n None) (places.BracketEnd k)
     → next_move (places.BracketEnd k) (Some t) true ≡ None → Runs demand (places.Nth k n) p (t ∷ ts) → ⊥
 given_place demand k n p t ts gives none go =
-    let behind = behind_piece demand (places.Nth k n) (places.BracketEnd k) (piece.Places k n None) p t ts refl (λ fits. gives) go in
+    let behind = behind_piece demand (places.Nth k n) (places.BracketEnd k) (piece.Places k n None) p t ts refl (λ fits. gives)
+    go in
     no_token demand (places.BracketEnd k) behind.q t ts refl (λ fits. none) behind.runs
 
 pub no_number : (demand : Demand) (at : Place) (p : List Piece) (v d : ℕ) (ts : List TokenKind) → takes_number at ≡ false

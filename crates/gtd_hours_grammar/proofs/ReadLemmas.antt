@@ -1,17 +1,14 @@
 -- A reading from token to token, and what it comes to.
-use Rattle.std.proofs.Common.{◌≡◌, ℕ, ◌≤◌, ◌<◌, Bool, true, false, List, [], ◌∷◌, ◌++◌, length, Option, Some, None, Result, Ok, Err}
+use Rattle.std.proofs.Common.{◌≡◌, ℕ, ◌≤◌, ◌<◌, Bool, true, false, List, [], ◌∷◌, ◌++◌, length, Option, Some, None, Result, Ok}
+use Rattle.std.proofs.Common.{Err}
 use Rattle.std.proofs.Common.{refl, sym, ap, subst, ◌∙◌, arith, append_assoc}
 use Rattle.std.specs.Prelude.{◌↔◌, IfSome}
 use Rattle.std.proofs.lemmas.List.{append-nil}
 use Rattle.gtd_hours_tokens.specs.Lexing.{AreTokens, IsNext, Reads}
 use Rattle.gtd_hours_tokens.specs.facts.NextToken.{one_next}
 use Rattle.gtd_hours_tokens.specs.declared.token.BadToken.{BadToken}
-use Rattle.gtd_hours_tokens.specs.declared.token.Token.{Token}
-use Rattle.gtd_hours_tokens.specs.declared.token.TokenKind.{TokenKind}
-use Rattle.gtd_hours_grammar.specs.declared.piece.Piece.{Piece}
-use Rattle.gtd_hours_grammar.specs.declared.place.Place.{Place}
+use Rattle.gtd_hours_grammar.specs.Terms.{Token, TokenKind, Piece, Place, Move}
 use Rattle.gtd_hours_grammar.specs.declared.place.Place.TheVariants as places
-use Rattle.gtd_hours_grammar.specs.declared.place.Move.{Move}
 use Rattle.gtd_hours_grammar.specs.declared.reading.Reading.{Reading}
 use Rattle.gtd_hours_grammar.specs.Grammar.{Demand}
 use Rattle.gtd_hours_grammar.specs.Faults.{kinds}
@@ -278,7 +275,8 @@ pub keeps_more : (text : List ℕ) (start now : Reading) (next : Option Token) (
 keeps_more text start now next move k s e = record {
   some = k.some;
   same = λ given is. subst (λ (q : List Piece). IsReading text (advanced now next move) q)
-      (ap (λ (x : Option Piece). given ++ with_piece x []) e ∙ append-nil given) (advance text now given next move (k.same given is) s);
+      (ap (λ (x : Option Piece). given ++ with_piece x []) e ∙ append-nil given)
+      (advance text now given next move (k.same given is) s);
   left = let less = fewer text now next move (inside text start now k) s in omega (arith, less, k.left);
 }
 

@@ -2,19 +2,16 @@
 use Rattle.std.proofs.Common.{◌≡◌, Bool, true, false, Option, Some, refl, sym, subst}
 use Rattle.std.specs.Prelude.{IfSome, ◌&&◌, ◌==◌, if◌then◌else◌}
 use Rattle.gtd_hours.specs.declared.hours.Link.TheVariants as link
-use Rattle.gtd_hours_tokens.specs.declared.token.TokenKind.{TokenKind}
 use Rattle.gtd_hours_tokens.specs.declared.token.TokenKind.TheVariants as token
 use Rattle.gtd_hours_parts.specs.declared.digits.Digits.{Digits}
 use Rattle.gtd_hours_grammar.specs.declared.piece.LastDate.TheVariants as last_date
-use Rattle.gtd_hours_grammar.specs.declared.piece.Piece.{Piece}
+use Rattle.gtd_hours_grammar.specs.Terms.{TokenKind, Piece, Stage, Place, Move}
 use Rattle.gtd_hours_grammar.specs.declared.piece.Piece.TheVariants as piece
 use Rattle.gtd_hours_grammar.specs.declared.piece.WrittenDate.{WrittenDate}
-use Rattle.gtd_hours_grammar.specs.declared.stage.Stage.{Stage}
 use Rattle.gtd_hours_grammar.specs.declared.stage.Stage.TheVariants as stage
-use Rattle.gtd_hours_grammar.specs.declared.place.Place.{Place}
 use Rattle.gtd_hours_grammar.specs.declared.place.Place.TheVariants as places
-use Rattle.gtd_hours_grammar.specs.declared.place.Move.{Move}
-use Rattle.gtd_hours_grammar.specs.Moves.{complete, give, later, listed, listed_number, next_goes_on, next_move, take, when, written}
+use Rattle.gtd_hours_grammar.specs.Moves.{complete, give, later, listed, listed_number, next_goes_on, next_move, take, when}
+use Rattle.gtd_hours_grammar.specs.Moves.{written}
 use Rattle.gtd_hours_grammar.specs.Pieces.{IsWrittenDate}
 use Rattle.gtd_hours_grammar.specs.Sound.{Fits, IsPlace, YearOrDay, is_last_year}
 use Rattle.gtd_hours_grammar.specs.SoundPieces.{IsPiece}

@@ -1,13 +1,11 @@
 -- Which texts are opening hours, and what the first fault of another text is.
 use Rattle.std.specs.Prelude.{List, ◌≡◌, ℕ, Bool, true, false, [], ◌∷◌, ◌++◌, length}
 use Rattle.gtd_hours_tokens.specs.Lexing.{AreTokens, IsTokenFault}
-use Rattle.gtd_hours_tokens.specs.declared.token.Token.{Token}
-use Rattle.gtd_hours_tokens.specs.declared.token.TokenKind.{TokenKind}
 use Rattle.gtd_hours_tokens.specs.declared.token.TokenKind.TheVariants as token
 use Rattle.gtd_hours_grammar.specs.declared.fault.FaultKind.{FaultKind}
 use Rattle.gtd_hours_grammar.specs.declared.fault.FaultKind.TheVariants as fault
 use Rattle.gtd_hours_grammar.specs.declared.fault.HoursFault.{HoursFault}
-use Rattle.gtd_hours_grammar.specs.declared.piece.Piece.{Piece}
+use Rattle.gtd_hours_grammar.specs.Terms.{Token, TokenKind, Piece}
 use Rattle.gtd_hours_grammar.specs.declared.stage.Stage.TheVariants as stage
 use Rattle.gtd_hours_grammar.specs.Grammar.{AreHours, CanGoOn, Follow, by_place}
 

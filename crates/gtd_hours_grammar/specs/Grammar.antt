@@ -2,7 +2,6 @@
 use Rattle.std.specs.Prelude.{List, ◌≡◌, ℕ, Bool, true, false, ◌==◌, nat_lt, [], ◌∷◌, ◌++◌, Option, Some, None, IfSome, is_some}
 use Rattle.gtd_hours.specs.Ranges.{IsMonth, IsWeekday}
 use Rattle.gtd_hours.specs.declared.hours.Link.TheVariants as link
-use Rattle.gtd_hours_tokens.specs.declared.token.TokenKind.{TokenKind}
 use Rattle.gtd_hours_tokens.specs.declared.token.TokenKind.TheVariants as token
 use Rattle.gtd_hours_parts.specs.declared.digits.Digits.{Digits}
 use Rattle.gtd_hours_parts.specs.declared.clock.ClockTime.{ClockTime}
@@ -10,9 +9,8 @@ use Rattle.gtd_hours_parts.specs.Numbers.{IsPlaceNumber, IsStepNumber, IsWeekNum
 use Rattle.gtd_hours_grammar.specs.declared.piece.WrittenDate.{WrittenDate}
 use Rattle.gtd_hours_grammar.specs.declared.piece.LastDate.{LastDate}
 use Rattle.gtd_hours_grammar.specs.declared.piece.LastDate.TheVariants as last_date
-use Rattle.gtd_hours_grammar.specs.declared.piece.Piece.{Piece}
+use Rattle.gtd_hours_grammar.specs.Terms.{TokenKind, Piece, Stage}
 use Rattle.gtd_hours_grammar.specs.declared.piece.Piece.TheVariants as piece
-use Rattle.gtd_hours_grammar.specs.declared.stage.Stage.{Stage}
 use Rattle.gtd_hours_grammar.specs.declared.stage.Stage.TheVariants as stage
 use Rattle.gtd_hours_grammar.specs.Pieces.{AreWrittenTimes, EndsRange, IsRange, IsWrittenDate}
 
@@ -45,11 +43,12 @@ pub data More (IsOne : Text) (later : List Piece) (rest : List TokenKind) : List
       → More IsOne later rest q vs → More IsOne later rest p ts
 
 -- a list of one or more, with commas between
-pub record Listed (IsOne : Text) (p : List Piece) (ts : List TokenKind) (later : List Piece) (rest : List TokenKind) : Type 0 where
-  pub q : List Piece
-  pub us : List TokenKind
-  pub one : IsOne p ts q us
-  pub more : More IsOne later rest q us
+pub record Listed (IsOne : Text) (p : List Piece) (ts : List TokenKind) (later : List Piece) (rest : List TokenKind) : Type 0
+  where
+    pub q : List Piece
+    pub us : List TokenKind
+    pub one : IsOne p ts q us
+    pub more : More IsOne later rest q us
 
 -- ---- what stands in lists
 

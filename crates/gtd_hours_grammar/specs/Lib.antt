@@ -1,3 +1,4 @@
+pub mod Terms
 pub mod Pieces
 pub mod Grammar
 pub mod Places

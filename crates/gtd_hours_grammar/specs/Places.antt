@@ -1,13 +1,10 @@
 -- What follows behind a place of the reading: the grammar from there on. The tokens of the part that is not finished are put
 -- before those that follow.
 use Rattle.std.specs.Prelude.{List, ℕ, ◌∷◌}
-use Rattle.gtd_hours_tokens.specs.declared.token.TokenKind.{TokenKind}
 use Rattle.gtd_hours_tokens.specs.declared.token.TokenKind.TheVariants as token
-use Rattle.gtd_hours_grammar.specs.declared.piece.Piece.{Piece}
+use Rattle.gtd_hours_grammar.specs.Terms.{TokenKind, Piece, Stage, Place}
 use Rattle.gtd_hours_grammar.specs.declared.piece.Piece.TheVariants as piece
-use Rattle.gtd_hours_grammar.specs.declared.stage.Stage.{Stage}
 use Rattle.gtd_hours_grammar.specs.declared.stage.Stage.TheVariants as stage
-use Rattle.gtd_hours_grammar.specs.declared.place.Place.{Place}
 use Rattle.gtd_hours_grammar.specs.declared.place.Place.TheVariants as places
 use Rattle.gtd_hours_grammar.specs.Grammar.{Demand, Follow, IsOne, IsPlaces, Listed, More, date_before, dated, number, time}
 

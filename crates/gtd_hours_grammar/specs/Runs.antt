@@ -1,12 +1,8 @@
 -- The run of the moves over tokens, and which moves are right.
 use Rattle.std.specs.Prelude.{List, ◌≡◌, ◌↔◌, ℕ, Bool, true, false, [], ◌∷◌, ◌<◌, Option, Some, None}
-use Rattle.gtd_hours_tokens.specs.declared.token.TokenKind.{TokenKind}
 use Rattle.gtd_hours_tokens.specs.declared.token.TokenKind.TheVariants as token
-use Rattle.gtd_hours_grammar.specs.declared.piece.Piece.{Piece}
-use Rattle.gtd_hours_grammar.specs.declared.stage.Stage.{Stage}
-use Rattle.gtd_hours_grammar.specs.declared.place.Place.{Place}
+use Rattle.gtd_hours_grammar.specs.Terms.{TokenKind, Piece, Stage, Place, Move}
 use Rattle.gtd_hours_grammar.specs.declared.place.Place.TheVariants as places
-use Rattle.gtd_hours_grammar.specs.declared.place.Move.{Move}
 use Rattle.gtd_hours_grammar.specs.Grammar.{Demand, Follow, by_place, may_break_off}
 use Rattle.gtd_hours_grammar.specs.Places.{Rest}
 use Rattle.gtd_hours_grammar.specs.Sound.{Fits, IsPlace}
@@ -54,7 +50,8 @@ awaits_day place = false
 -- The moves lead from a place over all tokens and give these pieces.
 pub data Runs (demand : Demand) : Place → List Piece → List TokenKind → Type 0 where
   ends : (at : Place) → (p : List Piece) → (ts : List TokenKind) → is_after at ≡ true → p ≡ [] → ts ≡ [] → Runs demand at p ts
-  cut : (at : Place) → (p : List Piece) → (ts : List TokenKind) → may_break_off demand ≡ true → is_cut at ≡ true → p ≡ [] → ts ≡ []
+  cut : (at : Place) → (p : List Piece) → (ts : List TokenKind) → may_break_off demand ≡ true → is_cut at ≡ true → p ≡ []
+      → ts ≡ []
       → Runs demand at p ts
   any_day : (at : Place) → (p : List Piece) → (ts : List TokenKind) → (v d : ℕ) → demand ≡ by_place → awaits_day at ≡ true
       → p ≡ [] → ts ≡ token.Number v d ∷ [] → Runs demand at p ts
@@ -76,7 +73,8 @@ pub record IsGood (at : Place) (next : Option TokenKind) (move : Move) : Type 0 
 
 -- A move is right behind a part of a rule.
 pub record IsLater (s : Stage) (next : Option TokenKind) (move : Move) : Type 0 where
-  pub leads : (demand : Demand) → (p : List Piece) → (ts : List TokenKind) → Rest demand move.to p (left move.takes (from next ts))
+  pub leads : (demand : Demand) → (p : List Piece) → (ts : List TokenKind)
+      → Rest demand move.to p (left move.takes (from next ts))
       → Follow demand s (with_piece move.piece p) (from next ts)
   pub stands : IsPlace move.to
   pub takes : move.takes ≡ true

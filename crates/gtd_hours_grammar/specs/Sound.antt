@@ -1,7 +1,6 @@
 -- What is known of the numbers and times that a place keeps, and which ones fit next.
 use Rattle.std.specs.Prelude.{◌≡◌, Bool, true, false, ◌&&◌, ◌==◌, Option, Some, None, IfSome, is_some}
 use Rattle.gtd_hours.specs.Ranges.{IsMonth, IsWeekday}
-use Rattle.gtd_hours_tokens.specs.declared.token.TokenKind.{TokenKind}
 use Rattle.gtd_hours_tokens.specs.declared.token.TokenKind.TheVariants as token
 use Rattle.gtd_hours_parts.specs.declared.digits.Digits.{Digits}
 use Rattle.gtd_hours_parts.specs.declared.clock.ClockTime.{ClockTime}
@@ -9,9 +8,8 @@ use Rattle.gtd_hours_parts.specs.Numbers.{IsPlaceNumber, IsStepNumber, IsWeekNum
 use Rattle.gtd_hours_parts.specs.Times.{IsBegin}
 use Rattle.gtd_hours_grammar.specs.declared.piece.WrittenDate.{WrittenDate}
 use Rattle.gtd_hours_grammar.specs.declared.piece.LastDate.TheVariants as last_date
-use Rattle.gtd_hours_grammar.specs.declared.stage.Stage.{Stage}
+use Rattle.gtd_hours_grammar.specs.Terms.{TokenKind, Stage, Place}
 use Rattle.gtd_hours_grammar.specs.declared.stage.Stage.TheVariants as stage
-use Rattle.gtd_hours_grammar.specs.declared.place.Place.{Place}
 use Rattle.gtd_hours_grammar.specs.declared.place.Place.TheVariants as places
 use Rattle.gtd_hours_grammar.specs.Grammar.{precedes}
 use Rattle.gtd_hours_grammar.specs.Pieces.{AreWrittenTimes, EndsRange, IsDay, IsRange, IsWrittenDate}

@@ -89,7 +89,8 @@ last_day_runs : (demand : Demand) (x : WrittenDate) (last : Digits) (q : List Pi
     → Runs demand (places.DateDash x) (piece.Dates x (Some (last_date.Day last)) ∷ q) (number last ∷ ts)
 last_day_runs demand x last q ts is go =
     let day = day_no_year x last is in
-    fit_completed demand (places.DateDash x) (places.After stage.MonthDays) (piece.Dates x (Some (last_date.Day last))) q (number last)
+    fit_completed demand (places.DateDash x) (places.After stage.MonthDays) (piece.Dates x (Some (last_date.Day last))) q
+    (number last)
     ts (subst (λ (b : Bool). YearOrDay b x last) (sym day) is)
     (ap (λ (b : Bool). if b then take (places.DateDashYear x last)
     else complete (piece.Dates x (Some (last_date.Day last))) (places.After stage.MonthDays)) day) go
@@ -195,7 +196,8 @@ days_begin demand p q ts us (IsMonthDays.months a b e f is also) go =
     by_month a (token.Dash ∷ token.Month b ∷ us) e is
     (sign_taken demand (places.Month a) (places.MonthDash a) p token.Dash (token.Month b ∷ us) (λ x. x) refl
     (renamed demand (places.MonthDash a) p (piece.Months a (Some b) ∷ q) (token.Month b ∷ us) (token.Month b ∷ us) f refl
-    (fit_completed demand (places.MonthDash a) (places.After stage.MonthDays) (piece.Months a (Some b)) q (token.Month b) us also refl
+    (fit_completed demand (places.MonthDash a) (places.After stage.MonthDays) (piece.Months a (Some b)) q (token.Month b) us also
+    refl
     go)))
 days_begin demand p q ts us (IsMonthDays.date x e f is) go =
     date_begins demand x p ts us e is
@@ -222,7 +224,8 @@ pub year_runs : (demand : Demand) (n : Digits) (m : ℕ) (day : Digits) (p : Lis
     → Runs demand (places.DateYear n) p (token.Month m ∷ number day ∷ us)
 year_runs demand n m day p us month fit go =
     fit_taken demand (places.DateYear n) (places.DateYearMonth n m) p (token.Month m) (number day ∷ us) month refl
-    (fit_taken demand (places.DateYearMonth n m) (places.Date (record { year = Some n; month = m; day = day })) p (number day) us fit
+    (fit_taken demand (places.DateYearMonth n m) (places.Date (record { year = Some n; month = m; day = day })) p (number day) us
+    fit
     refl go)
 
 -- and at the beginning of a rule

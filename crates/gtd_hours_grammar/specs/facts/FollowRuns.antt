@@ -2,15 +2,12 @@
 use Rattle.std.proofs.Common.{◌≡◌, ℕ, Bool, true, false, List, [], ◌∷◌, Some, refl, sym, ap, subst, ◌∙◌, arith}
 use Rattle.std.specs.Prelude.{if◌then◌else◌}
 use Rattle.gtd_hours.specs.declared.hours.Link.TheVariants as link
-use Rattle.gtd_hours_tokens.specs.declared.token.TokenKind.{TokenKind}
 use Rattle.gtd_hours_tokens.specs.declared.token.TokenKind.TheVariants as token
 use Rattle.gtd_hours_parts.specs.declared.clock.ClockTime.{ClockTime}
 use Rattle.gtd_hours_parts.specs.Times.{IsBegin}
-use Rattle.gtd_hours_grammar.specs.declared.piece.Piece.{Piece}
+use Rattle.gtd_hours_grammar.specs.Terms.{TokenKind, Piece, Stage, Place}
 use Rattle.gtd_hours_grammar.specs.declared.piece.Piece.TheVariants as piece
-use Rattle.gtd_hours_grammar.specs.declared.stage.Stage.{Stage}
 use Rattle.gtd_hours_grammar.specs.declared.stage.Stage.TheVariants as stage
-use Rattle.gtd_hours_grammar.specs.declared.place.Place.{Place}
 use Rattle.gtd_hours_grammar.specs.declared.place.Place.TheVariants as places
 use Rattle.gtd_hours_grammar.specs.Grammar.{Demand, Follow, list_goes_on, number, precedes, time}
 use Rattle.gtd_hours_grammar.specs.Sound.{TimeFits}
@@ -90,7 +87,8 @@ weekdays_at : (demand : Demand) (s : Stage) (p : List Piece) (ts : List TokenKin
     → WeekdayBegins demand p ts → Runs demand (at_stage s) (piece.Kind ∷ p) ts
 weekdays_at demand s p ts e b =
     subst (Runs demand (at_stage s) (piece.Kind ∷ p)) (sym b.tokens)
-    (fit_completed demand (at_stage s) (places.Weekday b.k) piece.Kind p (token.Weekday b.k) b.us b.is (weekday_move s b.k e) b.runs)
+    (fit_completed demand (at_stage s) (places.Weekday b.k) piece.Kind p (token.Weekday b.k) b.us b.is (weekday_move s b.k e)
+    b.runs)
 
 times_at : (demand : Demand) (s : Stage) (p : List Piece) (ts : List TokenKind) → precedes s stage.Times ≡ true
     → TimeBegins demand p ts → Runs demand (at_stage s) p ts

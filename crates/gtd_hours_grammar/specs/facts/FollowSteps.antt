@@ -1,11 +1,8 @@
 -- Runs behind the parts of a rule, and through lists.
 use Rattle.std.proofs.Common.{◌≡◌, Bool, List, [], ◌∷◌, Some, None, refl, sym, ap, subst, ◌∙◌}
-use Rattle.gtd_hours_tokens.specs.declared.token.TokenKind.{TokenKind}
 use Rattle.gtd_hours_tokens.specs.declared.token.TokenKind.TheVariants as token
 use Rattle.gtd_hours_parts.specs.declared.digits.Digits.{Digits}
-use Rattle.gtd_hours_grammar.specs.declared.piece.Piece.{Piece}
-use Rattle.gtd_hours_grammar.specs.declared.stage.Stage.{Stage}
-use Rattle.gtd_hours_grammar.specs.declared.place.Place.{Place}
+use Rattle.gtd_hours_grammar.specs.Terms.{TokenKind, Piece, Stage, Place}
 use Rattle.gtd_hours_grammar.specs.declared.place.Place.TheVariants as places
 use Rattle.gtd_hours_grammar.specs.Grammar.{Demand, More, Text, number}
 use Rattle.gtd_hours_grammar.specs.Grammar.More.{none, comma}
@@ -28,7 +25,8 @@ renamed demand at p q ts us e f go =
     subst (λ (l : List TokenKind). Runs demand at p l) (sym f) (subst (λ (l : List Piece). Runs demand at l us) (sym e) go)
 
 -- a text that ends behind a part of a rule has no further piece
-pub after_nothing : (demand : Demand) (s : Stage) (p : List Piece) (ts : List TokenKind) → ts ≡ [] → Runs demand (places.After s) p ts
+pub after_nothing : (demand : Demand) (s : Stage) (p : List Piece) (ts : List TokenKind) → ts ≡ []
+    → Runs demand (places.After s) p ts
     → p ≡ []
 after_nothing demand s p ts nothing (ends at p' ts' after e f) = e
 after_nothing demand s p ts nothing (cut at p' ts' may is e f) = absurd cc
@@ -40,12 +38,13 @@ after_nothing demand s p ts nothing (step at p' q ts' move fits is m e go) =
     cc
 
 -- one that begins with a number of a kind, and runs on from a place that keeps it
-pub record Begins (demand : Demand) (Is : Digits → Type 0) (at : Digits → Place) (p : List Piece) (ts : List TokenKind) : Type 0 where
-  pub n : Digits
-  pub us : List TokenKind
-  pub tokens : ts ≡ number n ∷ us
-  pub is : Is n
-  pub runs : Runs demand (at n) p us
+pub record Begins (demand : Demand) (Is : Digits → Type 0) (at : Digits → Place) (p : List Piece) (ts : List TokenKind) : Type 0
+  where
+    pub n : Digits
+    pub us : List TokenKind
+    pub tokens : ts ≡ number n ∷ us
+    pub is : Is n
+    pub runs : Runs demand (at n) p us
 
 -- a run over what goes on behind one of a list
 pub more_runs : (demand : Demand) (IsOne : Text) (behind next : Place)

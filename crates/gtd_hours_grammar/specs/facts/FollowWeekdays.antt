@@ -43,7 +43,8 @@ one_place demand k p q ts us (IsPlaces.range a b e f is) go =
     (fit_completed demand (places.NthDash k a) (places.BracketEnd k) (piece.Places k a (Some b)) q (number b) us is refl go)))
 one_place demand k p q ts us (IsPlaces.back n e f is) go =
     renamed demand (places.Bracket k) p (piece.PlaceBack k n ∷ q) ts (token.Dash ∷ number n ∷ us) f e
-    (sign_taken demand (places.Bracket k) (places.BracketDash k) (piece.PlaceBack k n ∷ q) token.Dash (number n ∷ us) (λ x. x) refl
+    (sign_taken demand (places.Bracket k) (places.BracketDash k) (piece.PlaceBack k n ∷ q) token.Dash (number n ∷ us) (λ x. x)
+    refl
     (fit_completed demand (places.BracketDash k) (places.BracketEnd k) (piece.PlaceBack k n) q (number n) us is refl go))
 
 comma_place : (demand : Demand) (k : ℕ) (p : List Piece) (ts : List TokenKind) → Runs demand (places.Bracket k) p ts
@@ -89,8 +90,10 @@ weekdays_begin demand p q ts us (IsWeekdays.range a b e f is also) go = record {
   tokens = e;
   is = is;
   runs = sign_taken demand (places.Weekday a) (places.WeekdayDash a) p token.Dash (token.Weekday b ∷ us) (λ x. x) refl
-      (renamed demand (places.WeekdayDash a) p (piece.Weekdays a (Some b) ∷ q) (token.Weekday b ∷ us) (token.Weekday b ∷ us) f refl
-      (fit_completed demand (places.WeekdayDash a) (places.After stage.Weekdays) (piece.Weekdays a (Some b)) q (token.Weekday b) us
+      (renamed demand (places.WeekdayDash a) p (piece.Weekdays a (Some b) ∷ q) (token.Weekday b ∷ us) (token.Weekday b ∷ us) f
+      refl
+      (fit_completed demand (places.WeekdayDash a) (places.After stage.Weekdays) (piece.Weekdays a (Some b)) q (token.Weekday b)
+      us
       also refl go));
 }
 weekdays_begin demand p q ts us (IsWeekdays.places k vs e is l) go = record {
@@ -139,7 +142,8 @@ times_begin demand p q ts us is go = record {
   is = is.range.0;
   runs = sign_taken demand (places.Time is.begin) (places.TimeDash is.begin) p token.Dash (time is.last ∷ us) (λ x. x) refl
       (subst (λ (l : List Piece). Runs demand (places.TimeDash is.begin) l (time is.last ∷ us)) (sym is.pieces)
-      (fit_completed demand (places.TimeDash is.begin) (places.After stage.Times) (piece.Times is.begin is.last) q (time is.last) us
+      (fit_completed demand (places.TimeDash is.begin) (places.After stage.Times) (piece.Times is.begin is.last) q (time is.last)
+      us
       is.range refl go));
 }
 

@@ -20,12 +20,14 @@ week_given : (demand : Demand) (n : Digits) (q : List Piece) (ts : List TokenKin
 week_given demand n q (token.Dash ∷ ts) go =
     absurd (no_token demand (places.After stage.Weeks) q token.Dash ts refl (λ fits. refl) go)
 week_given demand n q [] go =
-    given_by demand (places.Week n) (places.After stage.Weeks) (piece.Weeks n None None) q [] (no_bit ⊥ (λ x. x)) (λ fits. refl) go
+    given_by demand (places.Week n) (places.After stage.Weeks) (piece.Weeks n None None) q [] (no_bit ⊥ (λ x. x)) (λ fits. refl)
+    go
 week_given demand n q (t ∷ ts) go =
     given_by demand (places.Week n) (places.After stage.Weeks) (piece.Weeks n None None) q (t ∷ ts)
     (next_bit (places.Week n) (Some t) (λ v d e. no_bit ⊥ (λ x. x)) begin_bit) (λ fits. refl) go
 
-range_given : (demand : Demand) (a b : Digits) (q : List Piece) (ts : List TokenKind) → Runs demand (places.After stage.Weeks) q ts
+range_given : (demand : Demand) (a b : Digits) (q : List Piece) (ts : List TokenKind)
+    → Runs demand (places.After stage.Weeks) q ts
     → Runs demand (places.WeekRange a b) (piece.Weeks a (Some b) None ∷ q) ts
 range_given demand a b q (token.Slash ∷ ts) go =
     absurd (no_token demand (places.After stage.Weeks) q token.Slash ts refl (λ fits. refl) go)
@@ -68,7 +70,8 @@ weeks_begin demand p q ts us (IsWeeks.every a b n e f is also) go = record {
   runs = to_range demand a b p (token.Slash ∷ number n ∷ us) is
       (sign_taken demand (places.WeekRange a b) (places.WeekStep a b) p token.Slash (number n ∷ us) (λ x. x) refl
       (renamed demand (places.WeekStep a b) p (piece.Weeks a (Some b) (Some n) ∷ q) (number n ∷ us) (number n ∷ us) f refl
-      (fit_completed demand (places.WeekStep a b) (places.After stage.Weeks) (piece.Weeks a (Some b) (Some n)) q (number n) us also
+      (fit_completed demand (places.WeekStep a b) (places.After stage.Weeks) (piece.Weeks a (Some b) (Some n)) q (number n) us
+      also
       refl go)));
 }
 

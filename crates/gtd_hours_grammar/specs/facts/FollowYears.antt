@@ -4,15 +4,13 @@ use Rattle.std.specs.Prelude.{◌==◌, ◌&&◌, if◌then◌else◌}
 use Rattle.std.proofs.lemmas.Bool.{eq-eqb}
 use Rattle.gtd_hours.specs.Ranges.{IsMonth}
 use Rattle.gtd_hours.specs.declared.hours.Link.TheVariants as link
-use Rattle.gtd_hours_tokens.specs.declared.token.TokenKind.{TokenKind}
 use Rattle.gtd_hours_tokens.specs.declared.token.TokenKind.TheVariants as token
 use Rattle.gtd_hours_parts.specs.declared.digits.Digits.{Digits}
 use Rattle.gtd_hours_parts.specs.Numbers.{IsYearNumber}
-use Rattle.gtd_hours_grammar.specs.declared.piece.Piece.{Piece}
+use Rattle.gtd_hours_grammar.specs.Terms.{TokenKind, Piece, Move}
 use Rattle.gtd_hours_grammar.specs.declared.piece.Piece.TheVariants as piece
 use Rattle.gtd_hours_grammar.specs.declared.stage.Stage.TheVariants as stage
 use Rattle.gtd_hours_grammar.specs.declared.place.Place.TheVariants as places
-use Rattle.gtd_hours_grammar.specs.declared.place.Move.{Move}
 use Rattle.gtd_hours_grammar.specs.Grammar.{Demand, IsYears, Listed, begins_with_date, number}
 use Rattle.gtd_hours_grammar.specs.Moves.{complete, give, take, when}
 use Rattle.gtd_hours_grammar.specs.Runs.{Runs, first, left, with_piece}
@@ -101,7 +99,8 @@ year_given demand n q (t ∷ ts) no_date go =
 
 -- ---- ranges of years
 
-range_given : (demand : Demand) (a b : Digits) (q : List Piece) (ts : List TokenKind) → Runs demand (places.After stage.Years) q ts
+range_given : (demand : Demand) (a b : Digits) (q : List Piece) (ts : List TokenKind)
+    → Runs demand (places.After stage.Years) q ts
     → Runs demand (places.YearRange a b) (piece.Years a (Some b) None ∷ q) ts
 range_given demand a b q (token.Slash ∷ ts) go =
     absurd (no_token demand (places.After stage.Years) q token.Slash ts refl (λ fits. refl) go)

@@ -1,9 +1,6 @@
 -- Tokens run in full give one list of pieces.
 use Rattle.std.proofs.Common.{◌≡◌, Bool, true, List, [], Some, None, sym, ap, subst, ◌∙◌}
-use Rattle.gtd_hours_tokens.specs.declared.token.TokenKind.{TokenKind}
-use Rattle.gtd_hours_grammar.specs.declared.piece.Piece.{Piece}
-use Rattle.gtd_hours_grammar.specs.declared.place.Place.{Place}
-use Rattle.gtd_hours_grammar.specs.declared.place.Move.{Move}
+use Rattle.gtd_hours_grammar.specs.Terms.{TokenKind, Piece, Place, Move}
 use Rattle.gtd_hours_grammar.specs.Grammar.{in_full}
 use Rattle.gtd_hours_grammar.specs.Moves.{next_move}
 use Rattle.gtd_hours_grammar.specs.Runs.{Runs, first, left, with_piece, is_after}

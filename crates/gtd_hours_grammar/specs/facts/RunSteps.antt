@@ -1,15 +1,12 @@
 -- Steps of a run: the first step is the one that the table says.
 use Rattle.std.proofs.Common.{◌≡◌, ℕ, ◌↔◌, Bool, true, false, List, [], ◌∷◌, Option, Some, None, refl, sym, ap, subst, ◌∙◌}
 use Rattle.std.specs.Prelude.{◌&&◌}
-use Rattle.gtd_hours_tokens.specs.declared.token.TokenKind.{TokenKind}
 use Rattle.gtd_hours_tokens.specs.declared.token.TokenKind.TheVariants as token
-use Rattle.gtd_hours_grammar.specs.declared.piece.Piece.{Piece}
+use Rattle.gtd_hours_grammar.specs.Terms.{TokenKind, Piece, Place, Move}
 use Rattle.gtd_hours_grammar.specs.declared.piece.Piece.TheVariants as piece
 use Rattle.gtd_hours_grammar.specs.declared.piece.LastDate.TheVariants as last_date
 use Rattle.gtd_hours_grammar.specs.declared.stage.Stage.TheVariants as stage
-use Rattle.gtd_hours_grammar.specs.declared.place.Place.{Place}
 use Rattle.gtd_hours_grammar.specs.declared.place.Place.TheVariants as places
-use Rattle.gtd_hours_grammar.specs.declared.place.Move.{Move}
 use Rattle.gtd_hours_grammar.specs.Grammar.{Demand, in_full, so_far}
 use Rattle.gtd_hours_grammar.specs.Sound.{Fits}
 use Rattle.gtd_hours_grammar.specs.Moves.{next_move, give, take, complete, when, written}
