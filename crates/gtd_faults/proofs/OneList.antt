@@ -1,5 +1,5 @@
 -- The lines of a file's warnings are one text.
-use Rattle.std.proofs.Common.{◌≡◌, ◌∙◌, ◌+◌, sym, ap, subst, refl, arith, ℕ, List, [], ◌∷◌, ◌++◌, Option, Some, None}
+use Rattle.std.proofs.Common.{◌≡◌, ◌∙◌, sym, ap, subst, refl, arith, ℕ, List, [], ◌∷◌, ◌++◌, Option, Some, None}
 use Rattle.gtd_mistakes.specs.declared.told.Told.{Told}
 use Rattle.gtd_warnings.specs.Codes.{AreLoneOfFile}
 use Rattle.gtd_warnings.specs.RowsTold.{AreToldOfFile}

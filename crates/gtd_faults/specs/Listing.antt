@@ -10,7 +10,7 @@ use Rattle.gtd_warnings.specs.declared.file.Asked.{Asked}
 use Rattle.gtd_faults.specs.Below.{IsBelow, below_text, byte_at}
 use Rattle.gtd_faults.specs.Doubts.{AreDoubts}
 use Rattle.gtd_faults.specs.Expected.{accepted_at, expected_line}
-use Rattle.gtd_faults.specs.Places.{IsLine, IsLineAt}
+use Rattle.gtd_faults.specs.Places.{IsLineAt}
 use Rattle.gtd_faults.specs.Printable.{printable}
 use Rattle.gtd_faults.specs.declared.below.Below.{Below}
 
