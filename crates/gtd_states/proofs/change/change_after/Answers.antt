@@ -1,5 +1,5 @@
-use Rattle.gtd_now.proofs.DayFacts.{looks_at}
-use Rattle.gtd_now.proofs.change.change_after.Goals as goal
+use Rattle.gtd_states.specs.facts.DayFacts.{looks_at}
+use Rattle.gtd_states.proofs.change.change_after.Goals as goal
 
 pub next_change-requires : goal.next_change-requires
 next_change-requires c = record {

@@ -5,7 +5,7 @@ ghost use Rattle.gtd_core.specs.Seconds.{day_of_second, IsHorizonSecond};
 ghost use Rattle.gtd_core.specs.Whole.{from_day, to_day};
 ghost use Rattle.gtd_records.specs.Closing.{IsOpen};
 ghost use Rattle.gtd_spans.specs.Change.{IsNextChange, NeverChanges};
-ghost use Rattle.gtd_now.specs.Now.{IsLookEnd};
+ghost use Rattle.gtd_states.specs.States.{IsLookEnd};
 ghost use Rattle.gtd_core.specs.Limits.{day_seconds};
 
 use gtd_core::limits::{HORIZONS_END, MOST_HORIZON_DAYS};

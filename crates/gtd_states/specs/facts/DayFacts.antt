@@ -6,7 +6,7 @@ use Rattle.gtd_calendar.specs.facts.ClockLemmas.{second-parts}
 use Rattle.gtd_calendar.specs.Calendar.{IsCalendarDay}
 use Rattle.gtd_calendar.specs.Clock.{second_of_day}
 use Rattle.gtd_core.specs.Seconds.{day_of_second, IsHorizonSecond}
-use Rattle.gtd_now.specs.Now.{IsLookEnd}
+use Rattle.gtd_states.specs.States.{IsLookEnd}
 
 within : (t n first last : ℤ) (k : ℕ) → IsHorizonSecond t → t ≡ pos 86400 *ℤ n +ℤ pos k → k < 86400 → first ≡ n → IsLookEnd n last
     → ((first *ℤ pos 86400) ≤ℤ t) × (t <ℤ (last *ℤ pos 86400))

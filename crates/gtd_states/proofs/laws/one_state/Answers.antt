@@ -1,0 +1,6 @@
+use Rattle.gtd_states.specs.facts.OneState.{one_state}
+use Rattle.gtd_states.specs.facts.SomeState.{some_state}
+use Rattle.gtd_states.proofs.laws.one_state.Goals as goal
+
+pub returns : goal.returns
+returns c = record { has = some_state; only = one_state }

@@ -1,0 +1,4 @@
+pub mod DayFacts
+pub mod OneState
+pub mod RowFacts
+pub mod SomeState

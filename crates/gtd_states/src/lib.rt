@@ -1,0 +1,11 @@
+//! The state of a road element at a second: open or closed, until when, and by which rows.
+#![tactic(auto)]
+
+pub use change::change_after;
+pub use lookup::state_at;
+pub use state::ElementState;
+
+mod change;
+pub mod laws;
+mod lookup;
+mod state;
