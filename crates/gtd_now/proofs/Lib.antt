@@ -1,5 +1,1 @@
-pub mod DayFacts
-pub mod LineFacts
-pub mod NowFacts
-pub mod SomeNow
 pub mod ShownFacts

@@ -1,12 +1,12 @@
 //! The state of the road elements of a record file at a moment: open or closed, until when, and by which rows; of all elements, or
-//! of some of them.
+//! of some of them. As lines of fields, as JSON, or in columns for a screen.
 #![tactic(auto)]
 
-pub use change::change_after;
-pub use run::{Asked, run_now};
+pub use asked::{Asked, Form};
 
-mod change;
-pub mod laws;
+mod asked;
+mod entry;
 mod line;
-mod now;
-mod run;
+mod object;
+mod reasons;
+mod table;

@@ -1,0 +1,43 @@
+-- What is told of the rows that close an element.
+use Rattle.std.specs.Prelude.{◌++◌, ◌-◌, ℕ, List, [], ◌∷◌, Option, Some, None, codes, decimal, flat_map, option_and_then}
+use Rattle.std.specs.List.{slice_get}
+use Rattle.gtd_core.specs.Trees.{Tree}
+use Rattle.gtd_records.specs.Closing.{Restriction}
+use Rattle.gtd_text.specs.Canonical.{canonical}
+use Rattle.gtd_words.specs.Words.{words}
+
+-- the domain of the row with this number, counted from 1, if it has one
+abbrev pub row_domain : List Restriction → ℕ → Option Tree
+row_domain found row = option_and_then (λ (r : Restriction). r.domain) (slice_get found (row - 1))
+
+-- the canonical text of a domain: nothing, if there is none
+abbrev pub domain_text : Option Tree → List ℕ
+domain_text None = []
+domain_text (Some tree) = canonical tree
+
+-- the words of a domain: a row without one closes its element always
+abbrev pub domain_words : Option Tree → List ℕ
+domain_words None = codes "always\n"
+domain_words (Some tree) = words tree
+
+-- the eight columns by which lines after the first are indented
+abbrev pub indent_before : ℕ → List ℕ → List ℕ
+indent_before 10 (next ∷ rest) = codes "        "
+indent_before byte rest = []
+
+-- lines, of which those after the first are indented
+abbrev pub below : List ℕ → List ℕ
+below [] = []
+below (byte ∷ rest) = byte ∷ (indent_before byte rest ++ below rest)
+
+-- the row, the text of its domain if it has one, and its words
+abbrev pub reason_start : ℕ → Option Tree → List ℕ
+reason_start row None = codes "    row " ++ decimal row ++ codes ": "
+reason_start row (Some tree) = codes "    row " ++ decimal row ++ codes ": " ++ canonical tree ++ codes ": "
+
+abbrev pub reason : ℕ → Option Tree → List ℕ
+reason row domain = reason_start row domain ++ below (domain_words domain)
+
+-- the lines of rows, in their order
+abbrev pub reasons : List Restriction → List ℕ → List ℕ
+reasons found rows = flat_map (λ row. reason row (row_domain found row)) rows
