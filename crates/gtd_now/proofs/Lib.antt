@@ -1,1 +1,7 @@
+pub mod Appending
+pub mod ColumnFacts
+pub mod NowFacts
+pub mod ObjectFacts
+pub mod ReadBack
 pub mod ShownFacts
+pub mod StampFacts

@@ -1,5 +1,6 @@
 pub mod Lines
 pub mod Now
+pub mod ObjectTokens
 pub mod Objects
 pub mod Query
 pub mod Reasons

@@ -1,5 +1,5 @@
 -- States as JSON (RFC 8259), in the words of the kit's crate `json`: values, and the text of a value without spaces.
-use Rattle.std.specs.Prelude.{◌++◌, ℕ, ℤ, Bool, true, false, List, [], ◌∷◌, Option, Some, None, codes, decimal}
+use Rattle.std.specs.Prelude.{◌++◌, ◌<◌, ◌^◌, ⊤, ℕ, ℤ, Bool, true, false, List, [], ◌∷◌, Option, Some, None, codes, decimal}
 use Rattle.gtd_calendar.specs.Stamp.{stamp_text}
 use Rattle.gtd_core.specs.Trees.{Tree}
 use Rattle.gtd_records.specs.Closing.{Restriction}
@@ -21,6 +21,11 @@ change_value (Some second) = string (stamp_text second)
 abbrev pub row_items : List ℕ → Items
 row_items [] = no_items
 row_items (row ∷ rows) = item (number (decimal row)) (row_items rows)
+
+-- each of them fits 64 bits
+abbrev pub AreRowNumbers : List ℕ → Type 0
+AreRowNumbers [] = ⊤
+AreRowNumbers (row ∷ rows) = (row < 2 ^ 64) × AreRowNumbers rows
 
 -- what is told of a row: its number, the text of its domain, and its words
 abbrev pub reason_value : ℕ → Option Tree → Json

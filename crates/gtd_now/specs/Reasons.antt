@@ -1,5 +1,6 @@
 -- What is told of the rows that close an element.
 use Rattle.std.specs.Prelude.{◌++◌, ◌-◌, ℕ, List, [], ◌∷◌, Option, Some, None, codes, decimal, flat_map, option_and_then}
+use Rattle.std.specs.Prelude.{nat_eq, if◌then◌else◌}
 use Rattle.std.specs.List.{slice_get}
 use Rattle.gtd_core.specs.Trees.{Tree}
 use Rattle.gtd_records.specs.Closing.{Restriction}
@@ -22,8 +23,8 @@ domain_words (Some tree) = words tree
 
 -- the eight columns by which lines after the first are indented
 abbrev pub indent_before : ℕ → List ℕ → List ℕ
-indent_before 10 (next ∷ rest) = codes "        "
-indent_before byte rest = []
+indent_before byte [] = []
+indent_before byte (next ∷ rest) = if nat_eq byte 10 then codes "        " else []
 
 -- lines, of which those after the first are indented
 abbrev pub below : List ℕ → List ℕ

@@ -3,10 +3,14 @@
 #![tactic(auto)]
 
 pub use asked::{Asked, Form};
+pub use run::run_now;
 
 mod asked;
 mod entry;
+pub mod laws;
 mod line;
+mod now;
 mod object;
 mod reasons;
+mod run;
 mod table;

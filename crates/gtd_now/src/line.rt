@@ -34,16 +34,6 @@ pub(crate) fn state_word(state: &ElementState) -> &'static str
     }
 }
 
-/// Appends the moment of a change, if there is one.
-pub(crate) fn push_change(line: &mut Vec<u8>, state: &ElementState) -> Result<(), AllocError>
-    ensures change { OnOk result (line.new.items ≡ line.old.items ++ change_text (state_of state.now).change) }
-{
-    match state.change {
-        Some(second) => line.extend_from_slice(&write_stamp(second)),
-        None => Ok(()),
-    }
-}
-
 /// Appends numbers, in their order, with semicolons between them.
 pub(crate) fn push_rows(line: &mut Vec<u8>, rows: &[usize]) -> Result<(), AllocError>
     ensures text { OnOk result (line.new.items ≡ line.old.items ++ rows_text rows.now) }
@@ -60,27 +50,43 @@ pub(crate) fn push_rows(line: &mut Vec<u8>, rows: &[usize]) -> Result<(), AllocE
 }
 
 // Appends what a line begins with.
-fn push_head(line: &mut Vec<u8>, entry: Entry<'_>) -> Result<(), AllocError>
-    ensures head { OnOk result (line.new.items ≡ line.old.items ++ state_head entry.element entry.direction entry.vehicle) }
+fn push_head(line: &mut Vec<u8>, entry: &Entry<'_>) -> Result<(), AllocError>
+    ensures head { OnOk result (line.new.items ≡ line.old.items ++ state_head entry.now.at.element entry.now.at.direction entry.now.vehicle) }
 {
-    line.extend_from_slice(Buffer::new().format(entry.element).as_bytes())?;
+    line.extend_from_slice(Buffer::new().format(entry.at.element).as_bytes())?;
     line.extend_from_slice(b",")?;
-    line.extend_from_slice(direction_word(entry.direction).as_bytes())?;
+    line.extend_from_slice(direction_word(entry.at.direction).as_bytes())?;
     line.extend_from_slice(b",")?;
     line.extend_from_slice(Buffer::new().format(entry.vehicle).as_bytes())?;
     line.extend_from_slice(b",")
 }
 
+// Appends the state and a comma.
+fn push_state(line: &mut Vec<u8>, state: &ElementState) -> Result<(), AllocError>
+    ensures state { OnOk result (line.new.items ≡ line.old.items ++ (state_word (state_of state.now).is_open ++ (44 ∷ []))) }
+{
+    line.extend_from_slice(state_word(state).as_bytes())?;
+    line.extend_from_slice(b",")
+}
+
+// Appends the moment of a change, if there is one, and a comma.
+fn push_change(line: &mut Vec<u8>, state: &ElementState) -> Result<(), AllocError>
+    ensures change { OnOk result (line.new.items ≡ line.old.items ++ (change_text (state_of state.now).change ++ (44 ∷ []))) }
+{
+    if let Some(second) = state.change {
+        line.extend_from_slice(&write_stamp(second))?;
+    }
+    line.extend_from_slice(b",")
+}
+
 /// Appends a line.
-pub(crate) fn push_line(line: &mut Vec<u8>, entry: Entry<'_>) -> Result<(), AllocError>
+pub(crate) fn push_line(line: &mut Vec<u8>, entry: &Entry<'_>) -> Result<(), AllocError>
     ensures line { OnOk result (line.new.items ≡ line.old.items
-        ++ state_line entry.element entry.direction entry.vehicle (state_of entry.state.now)) }
+        ++ state_line entry.now.at.element entry.now.at.direction entry.now.vehicle (state_of entry.now.state.now)) }
 {
     push_head(line, entry)?;
-    line.extend_from_slice(state_word(entry.state).as_bytes())?;
-    line.extend_from_slice(b",")?;
+    push_state(line, entry.state)?;
     push_change(line, entry.state)?;
-    line.extend_from_slice(b",")?;
     push_rows(line, entry.state.rows.as_slice())?;
     line.extend_from_slice(b"\n")
 }

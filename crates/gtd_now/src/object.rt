@@ -1,13 +1,18 @@
 //! States as JSON.
 
-ghost use Rattle.std.specs.Prelude.{◌≡◌, ◌++◌, [], ◌∷◌, IfOk, OnOk, codes, decimal, option_map};
+ghost use Rattle.std.specs.Prelude.{◌≡◌, ◌++◌, [], ◌∷◌, OnOk, codes, decimal, flat_map, option_map};
+ghost use Rattle.gtd_calendar.specs.Calendar.{IsCalendarDay};
+ghost use Rattle.gtd_calendar.specs.Stamp.{stamp_text};
 ghost use Rattle.gtd_core.specs.Parts.{domain_tree};
+ghost use Rattle.gtd_core.specs.Seconds.{day_of_second};
 ghost use Rattle.gtd_now.specs.Objects.{change_value, json_line, reason_items, reason_value, row_items, state_value, why_members};
+ghost use Rattle.gtd_now.specs.Reasons.{row_domain};
 ghost use Rattle.gtd_states.specs.States.{state_of};
-ghost use Rattle.json.specs.Token.{begin_object, end_object, begin_array, end_array, key, string, number, null};
+ghost use Rattle.json.specs.Json.{array};
+ghost use Rattle.json.specs.Token.{key, string};
+ghost use Rattle.json.specs.Token.{number as number_of};
+ghost use Rattle.gtd_now.specs.ObjectTokens.{state_tokens, subject_tokens};
 ghost use Rattle.json.specs.Tree.{items_tokens, json_tokens, members_tokens};
-ghost use Rattle.gtd_report.specs.Putting.{direction_word};
-ghost use Rattle.gtd_states.specs.Lines.{state_word};
 
 use crate::entry::Entry;
 use crate::line::{direction_word, state_word};
@@ -18,22 +23,47 @@ use gtd_records::Record;
 use gtd_states::ElementState;
 use json::Writer;
 use std::alloc::{AllocError, Global};
-use std::mem;
-use std::str;
+use std::{mem, str};
+
+// Writes a member whose value is a number.
+fn write_number(out: &mut Writer, name: &str, number: u64) -> Result<(), AllocError>
+    ensures before { out.new.before ≡ out.old.before }
+    ensures tokens { OnOk result (out.new.tokens ≡ out.old.tokens ++ (key name.now ∷ number_of (decimal number) ∷ [])) }
+{
+    out.key(name)?;
+    out.u64(number)
+}
+
+// Writes a member whose value is a text.
+fn write_text(out: &mut Writer, name: &str, text: &str) -> Result<(), AllocError>
+    ensures before { out.new.before ≡ out.old.before }
+    ensures tokens { OnOk result (out.new.tokens ≡ out.old.tokens ++ (key name.now ∷ string text.now ∷ [])) }
+{
+    out.key(name)?;
+    out.string(text)
+}
 
 // Writes the element, the direction and the vehicle type.
-fn write_subject(out: &mut Writer, entry: Entry<'_>) -> Result<(), AllocError>
+fn write_subject(out: &mut Writer, entry: &Entry<'_>) -> Result<(), AllocError>
     ensures before { out.new.before ≡ out.old.before }
-    ensures tokens { OnOk result (out.new.tokens ≡ out.old.tokens ++ (key (codes "element") ∷ number (decimal entry.element)
-        ∷ key (codes "direction") ∷ string (direction_word entry.direction)
-        ∷ key (codes "vehicle") ∷ number (decimal entry.vehicle) ∷ [])) }
+    ensures tokens { OnOk result (out.new.tokens ≡ out.old.tokens ++ subject_tokens
+        entry.now.at.element entry.now.at.direction entry.now.vehicle) }
 {
-    out.key("element")?;
-    out.u64(entry.element)?;
-    out.key("direction")?;
-    out.string(direction_word(entry.direction))?;
-    out.key("vehicle")?;
-    out.u64(u64::from(entry.vehicle))
+    write_number(out, "element", entry.at.element)?;
+    write_text(out, "direction", direction_word(entry.at.direction))?;
+    write_number(out, "vehicle", u64::from(entry.vehicle))
+}
+
+// Writes a moment.
+fn write_moment(out: &mut Writer, second: Sec) -> Result<(), AllocError>
+    requires day { IsCalendarDay (day_of_second second.0) }
+    ensures before { out.new.before ≡ out.old.before }
+    ensures tokens { OnOk result (out.new.tokens ≡ out.old.tokens ++ (string (stamp_text second.0) ∷ [])) }
+{
+    match str::from_utf8(&write_stamp(second)) {
+        Ok(text) => out.string(text),
+        Err(_) => unreachable!(),
+    }
 }
 
 // Writes the moment of a change, or null if there is none.
@@ -41,44 +71,71 @@ fn write_change(out: &mut Writer, state: &ElementState) -> Result<(), AllocError
     ensures before { out.new.before ≡ out.old.before }
     ensures tokens { OnOk result (out.new.tokens ≡ out.old.tokens ++ json_tokens (change_value (state_of state.now).change)) }
 {
-    let Some(second) = state.change else {
-        return out.null();
-    };
-    match str::from_utf8(&write_stamp(second)) {
-        Ok(text) => out.string(text),
-        Err(_) => unreachable!(),
+    match state.change {
+        Some(second) => write_moment(out, second),
+        None => out.null(),
     }
 }
 
-// Writes numbers, in their order, and the end of their list.
-fn write_rows(out: &mut Writer, rows: &[usize]) -> Result<(), AllocError>
+// Writes the member of a change.
+fn write_until(out: &mut Writer, state: &ElementState) -> Result<(), AllocError>
     ensures before { out.new.before ≡ out.old.before }
-    ensures tokens { OnOk result (out.new.tokens ≡ out.old.tokens ++ items_tokens (row_items rows.now)) }
+    ensures tokens { OnOk result (out.new.tokens ≡ out.old.tokens
+        ++ (key (codes "until") ∷ json_tokens (change_value (state_of state.now).change))) }
+{
+    out.key("until")?;
+    write_change(out, state)
+}
+
+// Writes numbers, in their order.
+fn write_numbers(out: &mut Writer, rows: &[usize]) -> Result<(), AllocError>
+    ensures before { out.new.before ≡ out.old.before }
+    ensures tokens { OnOk result (out.new.tokens
+        ≡ out.old.tokens ++ flat_map (λ row. number_of (decimal row) ∷ []) rows.now) }
 {
     for row in rows {
         out.u64(*row as u64)?;
     }
+    Ok(())
+}
+
+// Writes numbers, in their order, and the end of their list.
+fn write_list(out: &mut Writer, rows: &[usize]) -> Result<(), AllocError>
+    ensures before { out.new.before ≡ out.old.before }
+    ensures tokens { OnOk result (out.new.tokens ≡ out.old.tokens ++ items_tokens (row_items rows.now)) }
+{
+    write_numbers(out, rows)?;
     out.end_array()
+}
+
+// Writes the member of the rows that close an element.
+fn write_rows(out: &mut Writer, rows: &[usize]) -> Result<(), AllocError>
+    ensures before { out.new.before ≡ out.old.before }
+    ensures tokens { OnOk result (out.new.tokens ≡ out.old.tokens
+        ++ (key (codes "rows") ∷ json_tokens (array (row_items rows.now)))) }
+{
+    out.key("rows")?;
+    out.begin_array()?;
+    write_list(out, rows)
 }
 
 // Writes whether an element is open, until when, and which rows close it.
 fn write_state(out: &mut Writer, state: &ElementState) -> Result<(), AllocError>
     ensures before { out.new.before ≡ out.old.before }
-    ensures tokens { OnOk result (out.new.tokens ≡ out.old.tokens ++ (key (codes "state") ∷ string (state_word (state_of state.now).is_open)
-        ∷ key (codes "until") ∷ (json_tokens (change_value (state_of state.now).change)
-        ++ (key (codes "rows") ∷ begin_array ∷ items_tokens (row_items (state_of state.now).rows))))) }
+    ensures tokens { OnOk result (out.new.tokens ≡ out.old.tokens ++ state_tokens (state_of state.now)) }
 {
-    out.key("state")?;
-    out.string(state_word(state))?;
-    out.key("until")?;
-    write_change(out, state)?;
-    out.key("rows")?;
-    out.begin_array()?;
+    write_text(out, "state", state_word(state))?;
+    write_until(out, state)?;
     write_rows(out, state.rows.as_slice())
 }
 
 // Writes what is told of a row.
-fn write_reason(alloc: Global, out: &mut Writer, row: usize, domain: Option<&Domain>) -> Result<(), AllocError>
+fn write_reason(
+    alloc: Global,
+    out: &mut Writer,
+    row: usize,
+    domain: Option<&Domain>,
+) -> Result<(), AllocError>
     ensures before { out.new.before ≡ out.old.before }
     ensures tokens { OnOk result (out.new.tokens
         ≡ out.old.tokens ++ json_tokens (reason_value row (option_map (λ domain. domain_tree domain.now) domain.entry))) }
@@ -86,44 +143,73 @@ fn write_reason(alloc: Global, out: &mut Writer, row: usize, domain: Option<&Dom
     let text = text_of(alloc, domain)?;
     let words = words_of(alloc, domain)?;
     out.begin_object()?;
-    out.key("row")?;
-    out.u64(row as u64)?;
-    out.key("domain")?;
-    out.string(text.as_str())?;
-    out.key("words")?;
-    out.string(words.as_str())?;
+    write_number(out, "row", row as u64)?;
+    write_text(out, "domain", text.as_str())?;
+    write_text(out, "words", words.as_str())?;
     out.end_object()
 }
 
-// Writes what is told of the rows with these numbers, in their order, and the end of their list.
-fn write_reasons(alloc: Global, out: &mut Writer, found: &[Record], rows: &[usize]) -> Result<(), AllocError>
+// Writes what is told of the rows with these numbers, in their order.
+fn write_reasons(
+    alloc: Global,
+    out: &mut Writer,
+    found: &[Record],
+    rows: &[usize],
+) -> Result<(), AllocError>
     ensures before { out.new.before ≡ out.old.before }
-    ensures tokens { OnOk result (out.new.tokens ≡ out.old.tokens ++ items_tokens (reason_items found.now rows.now)) }
+    ensures tokens { OnOk result (out.new.tokens ≡ out.old.tokens
+        ++ flat_map (λ row. json_tokens (reason_value row (row_domain found.now row))) rows.now) }
 {
     for row in rows {
         write_reason(alloc, out, *row, domain_of(found, *row))?;
     }
+    Ok(())
+}
+
+// Writes the same, and the end of the list.
+fn write_reason_list(
+    alloc: Global,
+    out: &mut Writer,
+    found: &[Record],
+    rows: &[usize],
+) -> Result<(), AllocError>
+    ensures before { out.new.before ≡ out.old.before }
+    ensures tokens { OnOk result (out.new.tokens ≡ out.old.tokens ++ items_tokens (reason_items found.now rows.now)) }
+{
+    write_reasons(alloc, out, found, rows)?;
     out.end_array()
 }
 
 // Writes the last member, if the rows are told, and the end of the object.
-fn write_why(alloc: Global, out: &mut Writer, found: &[Record], rows: &[usize], why: bool) -> Result<(), AllocError>
+fn write_why(
+    alloc: Global,
+    out: &mut Writer,
+    found: &[Record],
+    rows: &[usize],
+    why: bool,
+) -> Result<(), AllocError>
     ensures before { out.new.before ≡ out.old.before }
     ensures tokens { OnOk result (out.new.tokens ≡ out.old.tokens ++ members_tokens (why_members why found.now rows.now)) }
 {
     if why {
         out.key("why")?;
         out.begin_array()?;
-        write_reasons(alloc, out, found, rows)?;
+        write_reason_list(alloc, out, found, rows)?;
     }
     out.end_object()
 }
 
 // Writes the object of an entry.
-fn write_object(alloc: Global, out: &mut Writer, found: &[Record], entry: Entry<'_>, why: bool) -> Result<(), AllocError>
+fn write_object(
+    alloc: Global,
+    out: &mut Writer,
+    found: &[Record],
+    entry: &Entry<'_>,
+    why: bool,
+) -> Result<(), AllocError>
     ensures before { out.new.before ≡ out.old.before }
     ensures tokens { OnOk result (out.new.tokens ≡ out.old.tokens ++ json_tokens (state_value why found.now
-        entry.element entry.direction entry.vehicle (state_of entry.state.now))) }
+        entry.now.at.element entry.now.at.direction entry.now.vehicle (state_of entry.now.state.now))) }
 {
     out.begin_object()?;
     write_subject(out, entry)?;
@@ -136,11 +222,11 @@ pub(crate) fn push_object(
     alloc: Global,
     line: &mut Vec<u8>,
     found: &[Record],
-    entry: Entry<'_>,
+    entry: &Entry<'_>,
     why: bool,
 ) -> Result<(), AllocError>
     ensures object { OnOk result (line.new.items ≡ line.old.items ++ json_line (state_value why found.now
-        entry.element entry.direction entry.vehicle (state_of entry.state.now))) }
+        entry.now.at.element entry.now.at.direction entry.now.vehicle (state_of entry.now.state.now))) }
 {
     let mut out = Writer::new(mem::replace(line, Vec::new(alloc)));
     write_object(alloc, &mut out, found, entry, why)?;

@@ -59,7 +59,12 @@ fn push_below(line: &mut Vec<u8>, lines: &[u8]) -> Result<(), AllocError>
 }
 
 // Appends the number of a row, and the text of its domain if it has one.
-fn push_start(alloc: Global, line: &mut Vec<u8>, row: usize, domain: Option<&Domain>) -> Result<(), AllocError>
+fn push_start(
+    alloc: Global,
+    line: &mut Vec<u8>,
+    row: usize,
+    domain: Option<&Domain>,
+) -> Result<(), AllocError>
     ensures { OnOk result (line.new.items
         ≡ line.old.items ++ reason_start row (option_map (λ domain. domain_tree domain.now) domain.entry)) }
 {
@@ -74,7 +79,12 @@ fn push_start(alloc: Global, line: &mut Vec<u8>, row: usize, domain: Option<&Dom
 }
 
 // Appends what is told of a row.
-fn push_reason(alloc: Global, line: &mut Vec<u8>, row: usize, domain: Option<&Domain>) -> Result<(), AllocError>
+fn push_reason(
+    alloc: Global,
+    line: &mut Vec<u8>,
+    row: usize,
+    domain: Option<&Domain>,
+) -> Result<(), AllocError>
     ensures { OnOk result (line.new.items
         ≡ line.old.items ++ reason row (option_map (λ domain. domain_tree domain.now) domain.entry)) }
 {

@@ -1,8 +1,7 @@
 //! The lines of states, in columns for a screen.
 
 ghost use Rattle.std.specs.Prelude.{◌≡◌, ◌++◌, OnOk, codes};
-ghost use Rattle.std.proofs.Math.ListN.{replicate};
-ghost use Rattle.gtd_now.specs.Table.{change_shown, left, right, rows_shown, table_row};
+ghost use Rattle.gtd_now.specs.Table.{change_shown, left, right, rows_shown, spaces, table_row};
 ghost use Rattle.gtd_states.specs.States.{second_of, state_of};
 
 use crate::entry::Entry;
@@ -14,12 +13,13 @@ use std::alloc::AllocError;
 
 // Appends so many spaces.
 fn push_spaces(line: &mut Vec<u8>, count: usize) -> Result<(), AllocError>
-    ensures { OnOk result (line.new.items ≡ line.old.items ++ replicate count 32) }
+    ensures { OnOk result (line.new.items ≡ line.old.items ++ spaces count) }
 {
-    for _ in 0..count {
-        line.push(b' ')?;
+    if count == 0 {
+        return Ok(());
     }
-    Ok(())
+    line.push(b' ')?;
+    push_spaces(line, count - 1)
 }
 
 // Appends a text at the right edge of a column, and the space after that.
@@ -62,12 +62,12 @@ fn push_closing(line: &mut Vec<u8>, rows: &[usize]) -> Result<(), AllocError>
 }
 
 /// Appends a line.
-pub(crate) fn push_table_row(line: &mut Vec<u8>, entry: Entry<'_>) -> Result<(), AllocError>
+pub(crate) fn push_table_row(line: &mut Vec<u8>, entry: &Entry<'_>) -> Result<(), AllocError>
     ensures row { OnOk result (line.new.items ≡ line.old.items
-        ++ table_row entry.element entry.direction (state_of entry.state.now)) }
+        ++ table_row entry.now.at.element entry.now.at.direction (state_of entry.now.state.now)) }
 {
-    push_right(line, 20, Buffer::new().format(entry.element).as_bytes())?;
-    push_left(line, 9, direction_word(entry.direction).as_bytes())?;
+    push_right(line, 10, Buffer::new().format(entry.at.element).as_bytes())?;
+    push_left(line, 9, direction_word(entry.at.direction).as_bytes())?;
     push_left(line, 6, state_word(entry.state).as_bytes())?;
     push_until(line, entry.state)?;
     push_closing(line, entry.state.rows.as_slice())?;

@@ -1,0 +1,152 @@
+//! Putting the entry of an element in a direction, if it is asked about.
+
+ghost use Rattle.std.specs.Prelude.{◌≡◌, ◌↔◌, ◌+◌, ◌<◌, ◌≤◌, ◌++◌, ◌^◌, length, IsTrue, OnOk};
+ghost use Rattle.gtd_core.specs.Limits.{most_rows};
+ghost use Rattle.gtd_core.specs.Seconds.{IsHorizonSecond};
+ghost use Rattle.gtd_report.specs.Putting.{PutsText, failures_after_stop, most_direction_bytes};
+ghost use Rattle.gtd_now.specs.Now as spec;
+ghost use Rattle.gtd_now.specs.Now.{AreEntries, IsEntry, IsShown, entry_in, told};
+ghost use Rattle.gtd_now.specs.Query.{query_of};
+ghost use Rattle.gtd_states.specs.States.{state_of};
+
+use crate::asked::{Asked, Form};
+use crate::entry::Entry;
+use crate::line::push_line;
+use crate::object::push_object;
+use crate::reasons::push_reasons;
+use crate::table::push_table_row;
+use gtd_devices::Output;
+use gtd_records::Records;
+use gtd_report::{DirectedElement, Printer, Stop, put_line};
+use gtd_states::state_at;
+use std::alloc::{AllocError, Global};
+
+// No memory holds an entry of so many bytes: the bound keeps the count of all bytes within its type.
+const MOST_ENTRY_BYTES: usize = 1_009_829_376_000;
+
+// Whether an element is one of those that are asked about. If none is named, all are.
+fn is_wanted(wanted: &[u64], element: u64) -> bool
+    ensures { result ≡ spec.is_wanted wanted.now element }
+{
+    match wanted.split_first() {
+        Some(_) => wanted.contains(&element),
+        None => true,
+    }
+}
+
+// Whether the entry of an element in a direction is put.
+fn is_shown(found: &Records, at: DirectedElement, asked: &Asked<'_>) -> bool
+    requires { IsHorizonSecond asked.now.second.0 }
+    ensures { IsTrue result ↔ IsShown found.now (query_of asked.now) at.element at.direction }
+{
+    if !is_wanted(asked.elements, at.element) {
+        return false;
+    }
+    if !asked.closed {
+        return true;
+    }
+    found.closed_at(at.element, at.direction, asked.vehicle, asked.second)
+}
+
+// Appends the lines of the rows that close an element, if they are told.
+fn push_told(
+    alloc: Global,
+    line: &mut Vec<u8>,
+    found: &Records,
+    rows: &[usize],
+    why: bool,
+) -> Result<(), AllocError>
+    ensures told { OnOk result (line.new.items ≡ line.old.items ++ told why found.now rows.now) }
+{
+    if why {
+        push_reasons(alloc, line, found.rows(), rows)
+    } else {
+        Ok(())
+    }
+}
+
+// Appends an entry.
+fn push_entry(
+    alloc: Global,
+    line: &mut Vec<u8>,
+    found: &Records,
+    entry: &Entry<'_>,
+    asked: &Asked<'_>,
+) -> Result<(), AllocError>
+    ensures entry { OnOk result (line.new.items ≡ line.old.items ++ entry_in asked.now.form asked.now.why found.now
+        entry.now.at.element entry.now.at.direction entry.now.vehicle (state_of entry.now.state.now)) }
+{
+    let rows = entry.state.rows.as_slice();
+    match asked.form {
+        Form::Lines => {
+            push_line(line, entry)?;
+            push_told(alloc, line, found, rows, asked.why)
+        }
+        Form::Json => push_object(alloc, line, found.rows(), entry, asked.why),
+        Form::Table => {
+            push_table_row(line, entry)?;
+            push_told(alloc, line, found, rows, asked.why)
+        }
+    }
+}
+
+// Refuses an entry that is too long.
+fn check_length(entry: &[u8]) -> Result<(), AllocError>
+    ensures { OnOk result (length entry.now ≤ most_direction_bytes) }
+{
+    if entry.len() > MOST_ENTRY_BYTES {
+        return Err(AllocError);
+    }
+    Ok(())
+}
+
+// Writes the entry of an element in a direction, in place of what the buffer held.
+fn write_entry(
+    alloc: Global,
+    line: &mut Vec<u8>,
+    found: &Records,
+    at: DirectedElement,
+    asked: &Asked<'_>,
+) -> Result<(), AllocError>
+    requires in_range { IsHorizonSecond asked.now.second.0 }
+    ensures entry { OnOk result (IsEntry found.now (query_of asked.now) at.element at.direction line.new.items) }
+    ensures short { OnOk result (length line.new.items ≤ most_direction_bytes) }
+{
+    let vehicle = asked.vehicle;
+    let state = state_at(alloc, found, at, vehicle, asked.second)?;
+    let entry = Entry {
+        at,
+        vehicle,
+        state: &state,
+    };
+    line.clear();
+    push_entry(alloc, line, found, &entry, asked)?;
+    check_length(line.as_slice())
+}
+
+/// Puts the entry of an element in a direction, if it is asked about.
+pub(crate) fn put_state<O: Output>(
+    output: &mut O,
+    printer: &mut Printer,
+    found: &Records,
+    at: DirectedElement,
+    asked: &Asked<'_>,
+) -> Result<(), Stop>
+    requires countable { O.failure_count output.old < u64.MAX }
+    requires in_range { IsHorizonSecond asked.now.second.0 }
+    requires written { printer.old.progress.written + most_direction_bytes < 2 ^ 64 }
+    requires lines { printer.old.progress.lines + 1 < 2 ^ 64 }
+    ensures puts { PutsText (AreEntries found.now (query_of asked.now) at.element at.direction)
+        result (O.taken output.old) (O.taken output.new) printer.old.progress printer.new.progress }
+    ensures near { OnOk result ((printer.new.progress.written ≤ printer.old.progress.written + most_direction_bytes)
+        × (printer.new.progress.lines ≤ printer.old.progress.lines + 1)) }
+    ensures failures { O.failure_count output.new
+        ≡ failures_after_stop result (O.failure_count output.old) }
+{
+    if !is_shown(found, at, asked) {
+        return Ok(());
+    }
+    write_entry(printer.alloc, &mut printer.line, found, at, asked)?;
+    put_line(output, &mut printer.progress, printer.line.as_slice())?;
+    Ok(())
+}
