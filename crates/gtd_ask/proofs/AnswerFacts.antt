@@ -5,7 +5,7 @@ use Rattle.std.specs.Prelude.{ℤ, pos, ◌*ℤ◌, IsTrue, MatchOption, Ok, Err
 use Rattle.std.proofs.Math.Seq.{drop-cons, drop-length}
 use Rattle.std.proofs.lemmas.Int.{ints, by_lt_z}
 use Rattle.gtd_core.specs.Seconds.{day_of_second}
-use Rattle.gtd_now.specs.Now.{IsLookEnd}
+use Rattle.gtd_states.specs.States.{IsLookEnd}
 use Rattle.gtd_records.specs.Closing.{IsOpen, Restriction}
 use Rattle.gtd_report.specs.Putting.{IsOne, PutsText}
 use Rattle.gtd_report.specs.declared.output.Progress.{Progress}

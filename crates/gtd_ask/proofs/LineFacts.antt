@@ -9,8 +9,8 @@ use Rattle.gtd_calendar.specs.Stamp.{stamp_text}
 use Rattle.gtd_calendar.specs.facts.ClockLemmas.{second-parts}
 use Rattle.gtd_core.specs.Seconds.{day_of_second, IsHorizonSecond, IsMomentSecond}
 use Rattle.gtd_core.specs.declared.second.Sec.{Sec}
-use Rattle.gtd_now.specs.Lines.{second_of}
-use Rattle.gtd_now.specs.Now.{IsLookEnd, change_text, state_word}
+use Rattle.gtd_states.specs.Lines.{change_text, state_word}
+use Rattle.gtd_states.specs.States.{IsLookEnd, second_of}
 use Rattle.gtd_records.specs.Closing.{IsClosed, IsOpen, Restriction}
 use Rattle.gtd_spans.specs.Change.{IsNextChange, NeverChanges}
 use Rattle.gtd_ask.specs.Answers.{IsAnswer, answer_line}

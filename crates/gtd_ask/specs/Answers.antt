@@ -3,10 +3,11 @@ use Rattle.std.specs.Prelude.{◌≡◌, ◌++◌, ◌↔◌, ◌*ℤ◌, pos, �
 use Rattle.gtd_calendar.specs.Stamp.{stamp_text}
 use Rattle.gtd_core.specs.Limits.{day_seconds}
 use Rattle.gtd_core.specs.Seconds.{day_of_second}
-use Rattle.gtd_now.specs.Now.{IsLookEnd, change_text, state_word}
 use Rattle.gtd_records.specs.Closing.{IsOpen, Restriction}
 use Rattle.gtd_report.specs.Putting.{direction_word}
 use Rattle.gtd_spans.specs.Change.{IsNextChange, NeverChanges}
+use Rattle.gtd_states.specs.Lines.{change_text, state_word}
+use Rattle.gtd_states.specs.States.{IsLookEnd}
 use Rattle.gtd_ask.specs.declared.question.Question.{Question}
 
 -- the header line

@@ -4,15 +4,15 @@ ghost use Rattle.std.specs.Prelude.{[], ◌∷◌, ◌≡◌, ◌++◌, ◌≤�
 ghost use Rattle.gtd_calendar.specs.Calendar.{IsCalendarDay};
 ghost use Rattle.gtd_calendar.specs.Stamp.{stamp_text};
 ghost use Rattle.gtd_core.specs.Seconds.{day_of_second, IsMomentSecond};
-ghost use Rattle.gtd_now.specs.Lines.{second_of, state_head};
-ghost use Rattle.gtd_now.specs.Now.{change_text, state_word};
+ghost use Rattle.gtd_states.specs.Lines.{change_text, state_head, state_word};
+ghost use Rattle.gtd_states.specs.States.{second_of};
 ghost use Rattle.gtd_ask.specs.Answers.{IsAnswer, answer_line};
 
 use crate::question::Question;
 use gtd_calendar::write_stamp;
 use gtd_core::Sec;
-use gtd_now::change_after;
 use gtd_records::{Direction, Records};
+use gtd_states::change_after;
 use itoa::Buffer;
 use std::alloc::{AllocError, Global};
 

@@ -26,6 +26,7 @@ pub use Rattle.gtd_records.specs.Closing
 pub use Rattle.gtd_report.specs.Putting
 pub use Rattle.gtd_report.specs.Run
 pub use Rattle.gtd_now.specs.Now
+pub use Rattle.gtd_now.specs.Query
 pub use Rattle.gtd_picture.specs.Domain
 pub use Rattle.gtd_picture.specs.Open
 pub use Rattle.gtd_faults.specs.Run as FaultRun

@@ -26,6 +26,8 @@ use Rattle.gtd_hours_file.specs.Run.{HasTranslated}
 use Rattle.gtd_hours_file.specs.declared.untranslated.Untranslated.{Untranslated}
 use Rattle.gtd_hours_file.specs.declared.untranslated.Untranslated.TheVariants as hours
 use Rattle.gtd_now.specs.Now.{IsNow}
+use Rattle.gtd_now.specs.Query.{Query}
+use Rattle.gtd_now.specs.declared.asked.Form.TheVariants as form
 use Rattle.gtd_repeats.specs.Run as repeats
 use Rattle.gtdesk_tool.specs.declared.ending.Ending.{Ending}
 use Rattle.gtdesk_tool.specs.declared.ending.Ending.TheVariants as ending
@@ -54,16 +56,16 @@ outcome_of (Ok count) = Ok ending.Done
 outcome_of (Err why) = Err (refusal_for why)
 
 -- The run of `now` had an answer, and all that the run promises for this answer holds.
-pub record RanNow (vehicle : ℕ) (second : ℤ) (closed : Bool) (wanted : List ℕ) (file old new : Option (List ℕ))
-    (silent ended : Bool) (result : Result Ending RunRefusal) : Type 0 where
+pub record RanNow (query : Query) (file old new : Option (List ℕ)) (silent ended : Bool) (result : Result Ending RunRefusal)
+    : Type 0 where
   pub answer : Result ℕ RunFault
   pub outcome : result ≡ outcome_of answer
-  pub accepted : IsVehicleType vehicle
-      → AcceptedFilesArePut (λ found. ⊤) (λ found. IsNow found vehicle second closed wanted) file old new answer
-  pub refused : IsVehicleType vehicle → RefusedFilesPutNothing file old new answer
-  pub stands : HasRun (λ found. ⊤) (λ found. IsNow found vehicle second closed wanted) file old new answer
+  pub accepted : IsVehicleType query.vehicle
+      → AcceptedFilesArePut (λ found. ⊤) (λ found. IsNow found query) file old new answer
+  pub refused : IsVehicleType query.vehicle → RefusedFilesPutNothing file old new answer
+  pub stands : HasRun (λ found. ⊤) (λ found. IsNow found query) file old new answer
   pub whole : OnOk answer (IsTrue ended)
-  pub vehicle_range : IsErrOf answer run.VehicleRange ↔ (IsVehicleType vehicle → ⊥)
+  pub vehicle_range : IsErrOf answer run.VehicleRange ↔ (IsVehicleType query.vehicle → ⊥)
   pub year : IsErrOf answer run.YearRange → ⊥
   pub element : IsErrOf answer run.NoElement → ⊥
   pub endless : IsErrOf answer (run.Records records.Endless) → IsTrue silent
@@ -198,7 +200,14 @@ IsQuiet other = ⊤
 abbrev pub HasRunPlan : OnePlan → Option (List ℕ) → Option (List ℕ) → Option (List ℕ) → Bool → Bool → Telling
     → Result Ending RunRefusal → Type 0
 HasRunPlan (plan.Now p) file old new silent ended errors result =
-    RanNow p.vehicle p.moment.second.0 p.closed p.elements.items file old new silent ended result
+    RanNow (record {
+      vehicle = p.vehicle;
+      second = p.moment.second.0;
+      closed = p.closed;
+      wanted = p.elements.items;
+      form = form.Lines;
+      why = false;
+    }) file old new silent ended result
 HasRunPlan (plan.Faults p) file old new silent ended errors result =
     RanFaults (string_bytes p.file) p.warn file old new silent ended result
 HasRunPlan (plan.Picture p) file old new silent ended errors result =

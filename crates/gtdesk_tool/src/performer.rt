@@ -3,6 +3,7 @@
 ghost use Rattle.std.specs.Prelude.{◌≡◌, ◌<◌, None};
 ghost use Rattle.gtd_core.specs.Parts.{domain_tree};
 ghost use Rattle.gtd_core.specs.Seconds.{IsHorizonSecond};
+ghost use Rattle.gtd_now.specs.Query.{query_of};
 ghost use Rattle.gtd_words.specs.Words.{words_in};
 ghost use Rattle.gtdesk_plans.specs.Plans.{file_of};
 ghost use Rattle.gtdesk_tool.specs.Running.{HasRunPlan, IsQuiet, PutText, RanFaults, RanNow, failures_after_read};
@@ -18,7 +19,7 @@ use crate::repeats::print_repeats;
 use crate::same::print_comparison;
 use gtd_devices::{Input, Output};
 use gtd_faults::{ListFault, run_faults};
-use gtd_now::{Asked, run_now};
+use gtd_now::{Asked, Form, run_now};
 use gtd_records::RecordFault;
 use gtd_report::{Progress, RunFault, finish, put_line};
 use gtd_words::write_words_in;
@@ -68,8 +69,7 @@ fn print_now<I: Input, O: Output>(
     requires in_range { IsHorizonSecond asked.now.second.0 }
     requires readable { I.failure_count input.old < u64.MAX }
     requires writable { O.failure_count output.old < u64.MAX }
-    ensures ran { RanNow asked.now.vehicle asked.now.second.0 asked.now.closed asked.now.elements.now
-        (I.to_come input.old) (O.taken output.old) (O.taken output.new) (I.may_fall_silent input.old)
+    ensures ran { RanNow (query_of asked.now) (I.to_come input.old) (O.taken output.old) (O.taken output.new) (I.may_fall_silent input.old)
         (O.is_ended output.new) result }
     ensures read_faults { I.failure_count input.new
         ≡ failures_after_read result (I.failure_count input.old) }
@@ -203,6 +203,8 @@ pub fn perform<I: Input, O: Output, E: Output>(
                 second: plan.moment.second,
                 closed: plan.closed,
                 elements: plan.elements.as_slice(),
+                form: Form::Lines,
+                why: false,
             };
             print_now(alloc, input, output, &asked)
         }

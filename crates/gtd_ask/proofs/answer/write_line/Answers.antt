@@ -1,5 +1,5 @@
 use Rattle.std.proofs.Common.{◌≤◌, length}
-use Rattle.gtd_now.specs.Lines.{second_of}
+use Rattle.gtd_states.specs.States.{second_of}
 use Rattle.gtd_ask.proofs.LineFacts.{on_ok, short_line}
 use Rattle.gtd_ask.proofs.answer.write_line.Goals as goal
 
