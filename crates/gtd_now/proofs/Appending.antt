@@ -1,5 +1,5 @@
 -- What is appended in steps.
-use Rattle.std.proofs.Common.{◌≡◌, ◌≢◌, ◌∙◌, refl, ap, arith, ℕ, zero, suc, ◌-◌, List, [], ◌∷◌, ◌++◌, append_assoc}
+use Rattle.std.proofs.Common.{◌≡◌, ◌≢◌, ◌∙◌, refl, ap, arith, ℕ, zero, suc, ◌-◌, List, ◌∷◌, ◌++◌, append_assoc}
 use Rattle.std.specs.Prelude.{OnOk, Result, Ok, Err}
 use Rattle.gtd_now.specs.Table.{spaces}
 

@@ -1,6 +1,6 @@
 -- The columns of a table are as wide as they should be.
-use Rattle.std.proofs.Common.{◌≡◌, ◌∙◌, refl, ap, arith, ◌<◌, ◌≤◌, ◌+◌, ◌-◌, ◌^◌, ℕ, zero, suc, Bool, true, false}
-use Rattle.std.proofs.Common.{List, ◌++◌, length, length-append, Option, Some, None}
+use Rattle.std.proofs.Common.{◌≡◌, refl, ap, arith, ◌<◌, ◌≤◌, ◌-◌, ◌^◌, ℕ, zero, suc, Bool, true, false}
+use Rattle.std.proofs.Common.{List, length, length-append, Option, Some, None}
 use Rattle.std.specs.Prelude.{ℤ, decimal}
 use Rattle.std.proofs.lemmas.Fmt.{length-decimal-le}
 use Rattle.gtd_records.specs.declared.direction.Direction.{Direction}

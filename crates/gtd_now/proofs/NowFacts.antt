@@ -1,5 +1,5 @@
 -- A query has one text.
-use Rattle.std.proofs.Common.{◌≡◌, ◌∙◌, sym, ap, refl, ◌<◌, ℕ, Bool, true, false, true≢false, List, [], ◌∷◌, inl, inr}
+use Rattle.std.proofs.Common.{◌≡◌, ◌∙◌, sym, ap, refl, ℕ, Bool, true, false, true≢false, List, [], ◌∷◌, inl, inr}
 use Rattle.std.specs.Prelude.{IsTrue}
 use Rattle.gtd_core.specs.Seconds.{IsHorizonSecond}
 use Rattle.gtd_core.specs.facts.Deciding.{Decided}

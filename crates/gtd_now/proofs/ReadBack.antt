@@ -1,8 +1,7 @@
 -- The text of an object reads as that object.
-use Rattle.std.proofs.Common.{◌≡◌, refl, arith, ◌<◌, ◌≤◌, ◌^◌, ℕ, zero, suc, Bool, true, false, List, [], ◌∷◌, Option, Some, None}
+use Rattle.std.proofs.Common.{◌≡◌, arith, ◌<◌, ◌≤◌, ◌^◌, ℕ, Bool, true, false, List, [], ◌∷◌, Option, Some, None}
 use Rattle.std.proofs.Math.Nat.{max-le}
 use Rattle.std.specs.Prelude.{ℤ, codes, decimal}
-use Rattle.gtd_core.specs.Trees.{Tree}
 use Rattle.gtd_records.specs.Closing.{Restriction}
 use Rattle.gtd_records.specs.declared.direction.Direction.{Direction}
 use Rattle.gtd_report.specs.Putting.{direction_word}
@@ -13,8 +12,7 @@ use Rattle.json.proofs.Printed.Trees.{document-print}
 use Rattle.json.specs.Json.{Json, Members, array, document, member, number, object, string}
 use Rattle.json.specs.Print.{print}
 use Rattle.json.specs.Tree.{HasNumbers, ItemsHaveNumbers, MembersHaveNumbers, depth, items_depth, json_tokens, members_depth}
-use Rattle.gtd_now.specs.Objects.{AreRowNumbers, change_value, reason_items, reason_value, row_items, state_value, why_members}
-use Rattle.gtd_now.specs.Reasons.{row_domain}
+use Rattle.gtd_now.specs.Objects.{AreRowNumbers, change_value, reason_items, row_items, state_value, why_members}
 
 -- ---- numbers
 

@@ -1,6 +1,6 @@
 use Rattle.std.specs.Prelude.{◌++◌, [], ◌∷◌, codes}
 use Rattle.json.specs.Token.{begin_object, end_object}
-use Rattle.gtd_now.proofs.Appending.{both, on_ok, three}
+use Rattle.gtd_now.proofs.Appending.{on_ok, three}
 use Rattle.gtd_now.specs.ObjectTokens.{number_member, text_member}
 use Rattle.gtd_now.proofs.object.write_reason.Goals as goal
 
