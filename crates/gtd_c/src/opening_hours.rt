@@ -13,7 +13,8 @@ ghost use Rattle.gtd_handles.specs.Holding.{thing_of};
 use crate::hours_faults::{HoursFaultNumbers, TOO_MANY, numbers_of};
 use gtd_core::Domain;
 use gtd_handles::{Handle, MEMORY, NO, Thing, open};
-use gtd_hours::{Hours, TranslationFault, domain_of};
+use gtd_hours::Hours;
+use gtd_hours_domain::{TranslationFault, domain_of};
 use gtd_hours_text::{HoursTextFault, read_hours};
 use std::alloc::Global;
 

@@ -1,13 +1,9 @@
 pub mod Cost
 pub mod Opening
 pub mod Ranges
-pub mod Translation
 pub mod Writable
 pub mod Written
 pub use Rattle.gtd_core.specs.Limits
-pub use Rattle.gtd_core.specs.Parts
 pub use Rattle.gtd_core.specs.Seconds
-pub use Rattle.gtd_core.specs.Trees
 pub use Rattle.gtd_calendar.specs.Calendar
 pub use Rattle.gtd_calendar.specs.declared.day.DayFields
-pub use Rattle.gtd_eval.specs.Membership

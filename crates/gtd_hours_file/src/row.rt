@@ -7,7 +7,8 @@ ghost use Rattle.gtd_hours_file.specs.Reading.{IsColumnRead, IsRowRead};
 use crate::fault::HoursFileFault;
 use csv::ByteRecord;
 use gtd_core::limits::MOST_BASIC_DOMAINS;
-use gtd_hours::{Hours, cost_of};
+use gtd_hours::Hours;
+use gtd_hours_domain::cost_of;
 use gtd_hours_text::{HoursTextFault, read_hours};
 use gtd_records::{
     Closed, Vehicles, Version, four_columns, read_closed, read_number, read_vehicles,

@@ -1,4 +1,2 @@
-pub mod RunLemmas
-pub mod LexingLemmas
 pub mod MendingLemmas
 pub mod ReadingLemmas

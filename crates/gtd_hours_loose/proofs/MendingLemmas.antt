@@ -8,11 +8,11 @@ use Rattle.std.specs.Prelude.{if◌then◌else◌, nat_lt}
 use Rattle.gtd_hours_loose.specs.declared.behind.Behind.{Behind}
 use Rattle.gtd_hours_loose.specs.declared.strict.Part.{Part}
 use Rattle.gtd_hours_loose.specs.declared.strict.StrictForm.{StrictForm}
-use Rattle.gtd_hours_loose.specs.declared.token.LooseToken.{LooseToken}
+use Rattle.gtd_hours_loose_tokens.specs.declared.token.LooseToken.{LooseToken}
 use Rattle.gtd_hours_loose.specs.Mending.{Holds, Mended, behind_at, mended_from, mended_token, parts_from}
 use Rattle.gtd_hours_loose.specs.Mending.{spaces_in}
 use Rattle.gtd_hours_loose.specs.Mending.{stretch, strict_text}
-use Rattle.gtd_hours_loose.specs.Signs.{other_space}
+use Rattle.gtd_hours_loose_tokens.specs.Signs.{other_space}
 use Rattle.gtd_hours_loose.specs.StrictForms.{IsPushed}
 
 strict_more : (ms : List Mended) (m : Mended) → strict_text (ms ++ m ∷ []) ≡ strict_text ms ++ (m.form ++ 32 ∷ [])

@@ -11,10 +11,10 @@ use Rattle.gtd_hours_text.specs.declared.reader.HoursTextFault.TheVariants as te
 use Rattle.gtd_hours_loose.specs.declared.reader.LooseHours.{LooseHours}
 use Rattle.gtd_hours_loose.specs.declared.reader.LooseReadFault.{LooseReadFault}
 use Rattle.gtd_hours_loose.specs.declared.reader.LooseReadFault.TheVariants as reading
-use Rattle.gtd_hours_loose.specs.declared.stop.LooseStop.{LooseStop}
-use Rattle.gtd_hours_loose.specs.declared.stop.LooseStop.TheVariants as stop
+use Rattle.gtd_hours_loose_tokens.specs.declared.stop.LooseStop.{LooseStop}
+use Rattle.gtd_hours_loose_tokens.specs.declared.stop.LooseStop.TheVariants as stop
 use Rattle.gtd_hours_loose.specs.declared.strict.StrictForm.{StrictForm}
-use Rattle.gtd_hours_loose.specs.declared.token.DayNames.{DayNames}
+use Rattle.gtd_hours_loose_tokens.specs.declared.token.DayNames.{DayNames}
 use Rattle.gtd_hours_loose.specs.Reading.{IsLooseReading, IsMendedStop, IsReadFault, IsStrict, placed, stopped, strict}
 use Rattle.gtd_hours_loose.specs.Reading.{mended, token, hours}
 use Rattle.gtd_hours_loose.specs.StrictForms.{IsLooseStop, IsStrictForm}

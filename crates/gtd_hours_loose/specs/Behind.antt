@@ -4,9 +4,9 @@ use Rattle.gtd_hours_loose.specs.declared.behind.Behind.{Behind}
 use Rattle.gtd_hours_loose.specs.declared.behind.Behind.TheVariants as behind
 use Rattle.gtd_hours_loose.specs.declared.behind.Fate.{Fate}
 use Rattle.gtd_hours_loose.specs.declared.behind.Fate.TheVariants as fate
-use Rattle.gtd_hours_loose.specs.declared.token.LooseKind.{LooseKind}
-use Rattle.gtd_hours_loose.specs.declared.token.LooseKind.TheVariants as kind
-use Rattle.gtd_hours_loose.specs.declared.token.LooseToken.{LooseToken}
+use Rattle.gtd_hours_loose_tokens.specs.declared.token.LooseKind.{LooseKind}
+use Rattle.gtd_hours_loose_tokens.specs.declared.token.LooseKind.TheVariants as kind
+use Rattle.gtd_hours_loose_tokens.specs.declared.token.LooseToken.{LooseToken}
 use Rattle.gtd_hours_loose.specs.Pairs.{begins_read, clock_of, is_clock_number, names_days}
 
 abbrev pub is_days : Behind → Bool

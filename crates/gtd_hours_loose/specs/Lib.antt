@@ -1,10 +1,10 @@
-pub mod Words
-pub mod Signs
-pub mod Clock
-pub mod Lexing
-pub mod Stops
 pub mod Pairs
 pub mod Behind
 pub mod Mending
 pub mod StrictForms
 pub mod Reading
+pub use Rattle.gtd_hours_loose_tokens.specs.Clock
+pub use Rattle.gtd_hours_loose_tokens.specs.Lexing
+pub use Rattle.gtd_hours_loose_tokens.specs.Signs
+pub use Rattle.gtd_hours_loose_tokens.specs.Stops
+pub use Rattle.gtd_hours_loose_tokens.specs.Words

@@ -9,11 +9,11 @@ use Rattle.gtd_hours_loose.specs.declared.behind.Fate.{Fate}
 use Rattle.gtd_hours_loose.specs.declared.behind.Fate.TheVariants as fate
 use Rattle.gtd_hours_loose.specs.declared.strict.Part.{Part}
 use Rattle.gtd_hours_loose.specs.declared.strict.StrictForm.{StrictForm}
-use Rattle.gtd_hours_loose.specs.declared.token.LooseKind.{LooseKind}
-use Rattle.gtd_hours_loose.specs.declared.token.LooseKind.TheVariants as kind
-use Rattle.gtd_hours_loose.specs.declared.token.LooseToken.{LooseToken}
+use Rattle.gtd_hours_loose_tokens.specs.declared.token.LooseKind.{LooseKind}
+use Rattle.gtd_hours_loose_tokens.specs.declared.token.LooseKind.TheVariants as kind
+use Rattle.gtd_hours_loose_tokens.specs.declared.token.LooseToken.{LooseToken}
 use Rattle.gtd_hours_loose.specs.Behind.{after, fate_of, kind_here}
-use Rattle.gtd_hours_loose.specs.Signs.{other_space}
+use Rattle.gtd_hours_loose_tokens.specs.Signs.{other_space}
 
 -- From one place of a text up to but not including another.
 abbrev pub stretch : List ℕ → ℕ → ℕ → List ℕ

@@ -2,9 +2,9 @@
 use Rattle.std.specs.Prelude.{ℕ, zero, suc, ◌/◌, ◌%◌, ◌&&◌, ◌||◌, ◌==◌, nat_le, nat_lt, Bool, true, false, List, [], ◌∷◌}
 use Rattle.std.specs.Prelude.{Option, Some, None}
 use Rattle.std.specs.Prelude.{if◌then◌else◌}
-use Rattle.gtd_hours_loose.specs.declared.token.LooseKind.{LooseKind}
-use Rattle.gtd_hours_loose.specs.declared.token.LooseKind.TheVariants as kind
-use Rattle.gtd_hours_loose.specs.declared.token.LooseToken.{LooseToken}
+use Rattle.gtd_hours_loose_tokens.specs.declared.token.LooseKind.{LooseKind}
+use Rattle.gtd_hours_loose_tokens.specs.declared.token.LooseKind.TheVariants as kind
+use Rattle.gtd_hours_loose_tokens.specs.declared.token.LooseToken.{LooseToken}
 
 -- A weekday, a holiday, or the bracket behind places of a weekday.
 abbrev pub names_days : LooseKind → Bool

@@ -12,13 +12,13 @@ use Rattle.gtd_hours_loose.specs.declared.reader.LooseFault.TheVariants as loose
 use Rattle.gtd_hours_loose.specs.declared.reader.LooseHours.{LooseHours}
 use Rattle.gtd_hours_loose.specs.declared.reader.LooseReadFault.{LooseReadFault}
 use Rattle.gtd_hours_loose.specs.declared.reader.LooseReadFault.TheVariants as reading
-use Rattle.gtd_hours_loose.specs.declared.stop.LooseStop.{LooseStop}
-use Rattle.gtd_hours_loose.specs.declared.stop.LooseStop.TheVariants as stop
+use Rattle.gtd_hours_loose_tokens.specs.declared.stop.LooseStop.{LooseStop}
+use Rattle.gtd_hours_loose_tokens.specs.declared.stop.LooseStop.TheVariants as stop
 use Rattle.gtd_hours_loose.specs.declared.strict.Part.{Part}
 use Rattle.gtd_hours_loose.specs.declared.strict.StrictForm.{StrictForm}
-use Rattle.gtd_hours_loose.specs.declared.token.DayNames.{DayNames}
-use Rattle.gtd_hours_loose.specs.declared.token.TokenFault.{TokenFault}
-use Rattle.gtd_hours_loose.specs.declared.token.TokenFault.TheVariants as fault
+use Rattle.gtd_hours_loose_tokens.specs.declared.token.DayNames.{DayNames}
+use Rattle.gtd_hours_loose_tokens.specs.declared.token.TokenFault.{TokenFault}
+use Rattle.gtd_hours_loose_tokens.specs.declared.token.TokenFault.TheVariants as fault
 use Rattle.gtd_hours_loose.specs.Mending.{written_place}
 use Rattle.gtd_hours_loose.specs.StrictForms.{IsLooseFault, IsStrictForm}
 

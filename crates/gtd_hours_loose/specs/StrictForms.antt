@@ -2,14 +2,14 @@
 use Rattle.std.specs.Prelude.{ℕ, List, [], ◌∷◌, ◌≡◌, ◌++◌, map, Some, None, Result, Ok, Err}
 use Rattle.std.specs.Char.{to_ascii_lowercase}
 use Rattle.gtd_hours_loose.specs.declared.behind.Behind.{Behind}
-use Rattle.gtd_hours_loose.specs.declared.stop.LooseStop.{LooseStop}
-use Rattle.gtd_hours_loose.specs.declared.stop.LooseStop.TheVariants as stop
+use Rattle.gtd_hours_loose_tokens.specs.declared.stop.LooseStop.{LooseStop}
+use Rattle.gtd_hours_loose_tokens.specs.declared.stop.LooseStop.TheVariants as stop
 use Rattle.gtd_hours_loose.specs.declared.strict.StrictForm.{StrictForm}
-use Rattle.gtd_hours_loose.specs.declared.token.DayNames.{DayNames}
-use Rattle.gtd_hours_loose.specs.declared.token.LooseToken.{LooseToken}
-use Rattle.gtd_hours_loose.specs.declared.token.TokenFault.{TokenFault}
-use Rattle.gtd_hours_loose.specs.declared.token.TokenFault.TheVariants as fault
-use Rattle.gtd_hours_loose.specs.Lexing.{tokens_of}
+use Rattle.gtd_hours_loose_tokens.specs.declared.token.DayNames.{DayNames}
+use Rattle.gtd_hours_loose_tokens.specs.declared.token.LooseToken.{LooseToken}
+use Rattle.gtd_hours_loose_tokens.specs.declared.token.TokenFault.{TokenFault}
+use Rattle.gtd_hours_loose_tokens.specs.declared.token.TokenFault.TheVariants as fault
+use Rattle.gtd_hours_loose_tokens.specs.Lexing.{tokens_of}
 use Rattle.gtd_hours_loose.specs.Mending.{Holds, Mended, behind_at, mended, mended_token}
 use Rattle.gtd_hours_loose.specs.Pairs.{pair_fault}
 

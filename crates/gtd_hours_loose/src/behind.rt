@@ -7,7 +7,7 @@ ghost use Rattle.gtd_hours_loose.specs.Behind.{is_clock_here, is_comma, is_days,
 ghost use Rattle.gtd_hours_loose.specs.Behind.{kind_here, may_end, semicolon_fate};
 
 use crate::pairs::{begins_read, clock_of, is_clock_number, names_days};
-use crate::token::{LooseKind, LooseToken};
+use gtd_hours_loose_tokens::{LooseKind, LooseToken};
 
 /// What stands behind the tokens that have been read.
 #[derive(Clone, Copy)]

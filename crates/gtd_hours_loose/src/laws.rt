@@ -5,7 +5,7 @@ ghost use Rattle.gtd_hours_text.specs.Standing.{StandsFor};
 ghost use Rattle.gtd_hours_loose.specs.Reading.{IsLooseReading, IsStrict};
 ghost use Rattle.gtd_hours_loose.specs.declared.reader.LooseHours.{LooseHours};
 ghost use Rattle.gtd_hours_loose.specs.declared.strict.StrictForm.{StrictForm};
-ghost use Rattle.gtd_hours_loose.specs.declared.token.DayNames.{DayNames};
+ghost use Rattle.gtd_hours_loose_tokens.specs.declared.token.DayNames.{DayNames};
 
 /// A text that is hours as it is written has no other strict form. The strict form of a text that is read is hours as it is
 /// written, and stands for the same hours.

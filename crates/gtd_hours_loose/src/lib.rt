@@ -4,25 +4,15 @@
 #![tactic(auto)]
 
 mod behind;
-mod clock;
 pub mod laws;
-mod lexer;
 mod mending;
 mod pairs;
 mod reader;
-mod runs;
-mod signs;
-mod stop;
 mod strict;
-mod token;
 mod warnings;
-mod words;
 
-pub use lexer::tokens_of;
 pub use mending::strict_form;
 pub use pairs::pair_fault;
 pub use reader::{LooseFault, LooseHours, LooseReadFault, read_loose_hours};
-pub use stop::LooseStop;
 pub use strict::{Part, StrictForm};
-pub use token::{DayNames, LooseKind, LooseToken, TokenFault};
 pub use warnings::{push_warnings, written_place};

@@ -5,12 +5,9 @@ ghost use Rattle.gtd_hours_loose.specs.Mending.{Holds, Mended, by_fate, mended, 
 ghost use Rattle.gtd_hours_loose.specs.StrictForms.{IsLooseStop, IsPushed, IsStrictForm};
 
 use crate::behind::{Behind, Fate, after, fate_of, kind_here};
-use crate::lexer::tokens_of;
 use crate::pairs::pair_fault;
-use crate::signs::other_space;
-use crate::stop::LooseStop;
 use crate::strict::{StrictForm, form_of, nothing, push_part, stretch};
-use crate::token::{DayNames, LooseToken, TokenFault};
+use gtd_hours_loose_tokens::{DayNames, LooseStop, LooseToken, TokenFault, other_space, tokens_of};
 use std::alloc::{AllocError, Global};
 
 /// The strict form of a loosely written text, or the first place where a token is wrong.

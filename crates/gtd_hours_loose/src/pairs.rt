@@ -4,7 +4,7 @@ ghost use Rattle.std.specs.Prelude.{◌≡◌, false, true};
 ghost use Rattle.gtd_hours_loose.specs.Pairs.{begins_pair, begins_read, clock_of, is_before_years, is_clock_number, is_dash};
 ghost use Rattle.gtd_hours_loose.specs.Pairs.{is_pair, is_read, names_days, pair_fault, pair_left, reads_pair};
 
-use crate::token::{LooseKind, LooseToken};
+use gtd_hours_loose_tokens::{LooseKind, LooseToken};
 
 /// Whether it is a weekday, a holiday, or the bracket behind places of a weekday.
 pub fn names_days(kind: LooseKind) -> bool

@@ -8,12 +8,11 @@ ghost use Rattle.gtd_hours_loose.specs.StrictForms.{IsStrictForm};
 ghost use Rattle.gtd_hours_loose.specs.declared.reader.LooseReadFault.TheVariants as reading;
 
 use crate::mending::strict_form;
-use crate::stop::LooseStop;
 use crate::strict::StrictForm;
-use crate::token::{DayNames, TokenFault};
 use crate::warnings::written_place;
 use gtd_hours::Hours;
 use gtd_hours_grammar::{FaultKind, HoursFault, check_hours};
+use gtd_hours_loose_tokens::{DayNames, LooseStop, TokenFault};
 use gtd_hours_text::{HoursTextFault, read_hours};
 use std::alloc::Global;
 use thiserror::Error;

@@ -4,7 +4,7 @@ ghost use Rattle.std.specs.Prelude.{◌≡◌, ◌+◌, ◌≤◌, ◌<◌, ◌+
 ghost use Rattle.std.specs.Char.{to_ascii_lowercase};
 ghost use Rattle.gtd_hours_loose.specs.Mending.{Holds, Mended, form_of, month_form, stretch, two_digits, weekday_form};
 
-use crate::token::LooseKind;
+use gtd_hours_loose_tokens::LooseKind;
 use std::alloc::{AllocError, Global};
 
 /// A part of a text, and its strict form.

@@ -1,7 +1,8 @@
 //! Whether a selector has a chain of basic domains as its days.
 
 use gtd_core::{Basic, Expr, StartParts};
-use gtd_hours::{Hours, Kind, Link, Modifier, Rule, Selector, TranslationFault, domain_of};
+use gtd_hours::{Hours, Kind, Link, Modifier, Rule, Selector};
+use gtd_hours_domain::{TranslationFault, domain_of};
 use std::alloc::{AllocError, Global};
 
 fn without_clock(parts: StartParts) -> StartParts {

@@ -8,7 +8,8 @@ ghost use Rattle.gtd_hours.specs.Writable.{IsWritable};
 use crate::rules::rules_of;
 use crate::writable::can_be_written;
 use gtd_core::Domain;
-use gtd_hours::{Hours, TranslationFault, domain_of};
+use gtd_hours::Hours;
+use gtd_hours_domain::{TranslationFault, domain_of};
 use std::alloc::{AllocError, Global};
 
 // Whether the domains are equal. Then they have the same seconds.

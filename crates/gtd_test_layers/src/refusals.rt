@@ -13,7 +13,7 @@ use crate::texts::{horizon, leaf};
 use gtd_core::{Domain, Expr, Fault, Horizon, Op, Sec, Span, TextFault};
 use gtd_devices::{MemoryIn, MemoryOut};
 use gtd_eval::{Cursor, EverFault, KeptCursor, next_change, next_change_ever, spans};
-use gtd_hours::{TranslationFault, domain_of};
+use gtd_hours_domain::{TranslationFault, domain_of};
 use gtd_hours_text::read_hours;
 use gtd_records::{Direction, RecordFault, Records, open_seconds, read_records, schedule_of};
 use gtd_recur::spans_of;

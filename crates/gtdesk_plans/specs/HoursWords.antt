@@ -2,7 +2,7 @@
 use Rattle.std.specs.Prelude.{◌↔◌, ◌<◌, ◌≤◌, ℤ}
 use Rattle.gtd_core.specs.Limits.{most_basic_domains}
 use Rattle.gtd_core.specs.declared.domain.Domain.{Domain}
-use Rattle.gtd_hours.specs.Membership.{InDomain}
+use Rattle.gtd_hours_domain.specs.Membership.{InDomain}
 use Rattle.gtd_hours.specs.Cost.{hours_cost}
 use Rattle.gtd_hours.specs.Opening.{IsOpen}
 use Rattle.gtd_hours.specs.declared.hours.Hours.{Hours}

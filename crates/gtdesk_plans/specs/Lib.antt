@@ -15,7 +15,7 @@ pub use Rattle.gtd_core.specs.Parts
 pub use Rattle.gtd_text.specs.Reading
 pub use Rattle.gtd_calendar.specs.Read
 pub use Rattle.gtd_moments.specs.Moments
-pub use Rattle.gtd_hours.specs.Membership
+pub use Rattle.gtd_hours_domain.specs.Membership
 pub use Rattle.gtd_hours.specs.Cost
 pub use Rattle.gtd_hours.specs.Opening
 pub use Rattle.gtd_hours_grammar.specs.Faults

@@ -8,7 +8,8 @@ ghost use Rattle.gtdesk_plans.specs.HoursWords.{IsHoursDomain, IsNoDomainOf, IsT
 
 use crate::refusal::NoDomain;
 use gtd_core::Domain;
-use gtd_hours::{Hours, TranslationFault, domain_of};
+use gtd_hours::Hours;
+use gtd_hours_domain::{TranslationFault, domain_of};
 use gtd_hours_text::{HoursTextFault, read_hours};
 use std::alloc::Global;
 

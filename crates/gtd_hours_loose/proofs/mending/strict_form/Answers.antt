@@ -1,6 +1,6 @@
 use Rattle.std.proofs.Common.{◌≡◌, ◌∙◌, ℕ, List, Ok, ap, map, refl, subst, sym}
 use Rattle.std.specs.Char.{to_ascii_lowercase}
-use Rattle.gtd_hours_loose.specs.Lexing.{tokens_of}
+use Rattle.gtd_hours_loose_tokens.specs.Lexing.{tokens_of}
 use Rattle.gtd_hours_loose.specs.Pairs.{pair_fault}
 use Rattle.gtd_hours_loose.specs.StrictForms.{pair}
 use Rattle.gtd_hours_loose.proofs.mending.strict_form.Goals as goal

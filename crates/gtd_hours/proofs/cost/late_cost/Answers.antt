@@ -1,8 +1,0 @@
-use Rattle.std.proofs.Common.{◌≡◌, [], length, rules}
-use Rattle.gtd_hours.proofs.CostLemmas.{done, nothing-left}
-use Rattle.gtd_hours.proofs.cost.late_cost.Goals as goal
-
-pub returns : goal.returns
-returns c =
-    let none : c.loop-time.rest.now ≡ [] = nothing-left _ (let k : length c.loop-time.rest.now ≡ 0 = search rules in k) in
-    done _ _ c.loop-time.invariant.0 (rw none at c.loop-time.invariant.1)

@@ -1,8 +1,0 @@
-use Rattle.std.proofs.Common.{◌≡◌, [], length, rules}
-use Rattle.gtd_hours.proofs.CostLemmas.{done, nothing-left}
-use Rattle.gtd_hours.proofs.cost.selectors_cost.Goals as goal
-
-pub returns : goal.returns
-returns c =
-    let none : c.loop-selector.rest.now ≡ [] = nothing-left _ (let k : length c.loop-selector.rest.now ≡ 0 = search rules in k) in
-    done _ _ c.loop-selector.invariant.0 (rw none at c.loop-selector.invariant.1)

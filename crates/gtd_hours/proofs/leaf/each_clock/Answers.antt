@@ -1,5 +1,0 @@
-use Rattle.gtd_hours.proofs.LeafLemmas.{clock-held}
-use Rattle.gtd_hours.proofs.leaf.each_clock.Goals as goal
-
-pub returns-clause-seconds : goal.returns-clause-seconds
-returns-clause-seconds c s = clock-held _ c.args.clock c.args.minutes c.leaf.ensures c.requires s

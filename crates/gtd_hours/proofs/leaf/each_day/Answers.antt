@@ -1,7 +1,0 @@
-use Rattle.gtd_hours.specs.Translation.{minutes_of, moved_day}
-use Rattle.gtd_hours.proofs.LeafLemmas.{each-day}
-use Rattle.gtd_hours.proofs.leaf.each_day.Goals as goal
-
-pub returns-clause-days : goal.returns-clause-days
-returns-clause-days c s =
-    each-day _ c.args.parts (moved_day (minutes_of c.args.clock) s) (c.each_days.ensures.days s)

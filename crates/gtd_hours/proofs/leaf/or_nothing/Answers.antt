@@ -1,6 +1,0 @@
-use Rattle.gtd_core.specs.Trees.{tree_of}
-use Rattle.gtd_hours.proofs.LeafLemmas.{no-less}
-use Rattle.gtd_hours.proofs.leaf.or_nothing.Goals as goal
-
-pub returns-in-Some-clause-leaves : goal.returns-in-Some-clause-leaves
-returns-in-Some-clause-leaves c = rw c.in-Some.is (no-less (tree_of c.in-Some.expr))

@@ -1,6 +1,0 @@
-use Rattle.gtd_hours.proofs.WeekLemmas.{week-run}
-use Rattle.gtd_hours.proofs.numbers.week_run.Goals as goal
-
-pub returns-clause-days : goal.returns-clause-days
-returns-clause-days c s =
-    week-run _ c.args.clock c.args.first c.args.last (rw c.from.ensures at c.leaf.ensures) c.requires s

@@ -1,6 +1,0 @@
-use Rattle.gtd_hours.proofs.MonthLemmas.{year-run}
-use Rattle.gtd_hours.proofs.numbers.year_run.Goals as goal
-
-pub returns-clause-days : goal.returns-clause-days
-returns-clause-days c s =
-    year-run _ c.args.clock c.args.first c.args.last (rw c.from.ensures at c.leaf.ensures) c.requires.0 s

@@ -1,0 +1,9 @@
+pub mod CostLemmas
+pub mod DateLemmas
+pub mod DayLemmas
+pub mod LeafLemmas
+pub mod MonthLemmas
+pub mod PieceLemmas
+pub mod SpanLemmas
+pub mod StretchLemmas
+pub mod WeekLemmas

@@ -1,0 +1,9 @@
+use Rattle.gtd_hours_domain.specs.Translation.{minutes_of, moved_day}
+use Rattle.gtd_hours_domain.proofs.DateLemmas.{stretch-holds}
+use Rattle.gtd_hours_domain.proofs.dates.stretch.Goals as goal
+
+pub returns-clause-days : goal.returns-clause-days
+returns-clause-days c s =
+    stretch-holds _ c.args.month c.args.day c.args.days (moved_day (minutes_of c.args.clock) s) c.requires.date.1.0
+    c.requires.fits
+    (c.each_days.ensures.days s)

@@ -1,0 +1,5 @@
+use Rattle.gtd_hours_domain.proofs.LeafLemmas.{each-days}
+use Rattle.gtd_hours_domain.proofs.leaf.each_days.Goals as goal
+
+pub returns-clause-days : goal.returns-clause-days
+returns-clause-days c s = each-days _ c.args.parts c.args.clock c.args.days c.leaf.ensures s

@@ -1,0 +1,14 @@
+use Rattle.std.proofs.Common.{arith}
+use Rattle.std.proofs.lemmas.Result.{IfOk-weaker}
+use Rattle.gtd_hours_domain.specs.Translation.{HasNumber, minutes_of, moved_day}
+use Rattle.gtd_hours_domain.specs.declared.level.Level.TheVariants.{Week}
+use Rattle.gtd_hours_domain.proofs.PieceLemmas.{with-last}
+use Rattle.gtd_hours_domain.proofs.numbers.straight_weeks.Goals as goal
+
+pub returns-clause-days : goal.returns-clause-days
+returns-clause-days c =
+    IfOk-weaker c.unite.result _ _
+    (λ e h s. with-last _ _ _ (λ k. HasNumber Week k (moved_day (minutes_of c.args.clock) s)) c.args.first c.args.last
+    (omega (arith, c.requires, c.if-first-eq53.false)) (omega (arith, c.requires, c.if-last-lt53.false))
+    (c.week_run-before.ensures.days s) (c.week_run-2.ensures.days s) (h s))
+    c.unite.ensures.seconds

@@ -1,0 +1,6 @@
+use Rattle.gtd_hours_domain.proofs.WeekLemmas.{week-run}
+use Rattle.gtd_hours_domain.proofs.numbers.week_run.Goals as goal
+
+pub returns-clause-days : goal.returns-clause-days
+returns-clause-days c s =
+    week-run _ c.args.clock c.args.first c.args.last (rw c.from.ensures at c.leaf.ensures) c.requires s

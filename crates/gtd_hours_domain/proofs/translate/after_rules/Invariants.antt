@@ -1,0 +1,14 @@
+use Rattle.std.proofs.Common.{◌≡◌, ◌↔◌, length, ℤ}
+use Rattle.gtd_hours.specs.Cost.{cost_after}
+use Rattle.gtd_hours.specs.Opening.{IsOpenAfter}
+use Rattle.gtd_hours_domain.specs.Translation.{InMaybe, maybe_leaves}
+use Rattle.gtd_hours_domain.proofs.translate.after_rules.Given as goal
+
+-- what the rules that are left make of what is open so far
+abbrev pub invariant-loop-rule : goal.invariant-loop-rule
+invariant-loop-rule l =
+    ((s : ℤ) → IsOpenAfter l.rest (InMaybe l.so_far s) s ↔ IsOpenAfter l.rules ⊥ s)
+    × (cost_after l.rest (maybe_leaves l.so_far) ≡ cost_after l.rules 0)
+
+abbrev pub decreases-loop-rule : goal.decreases-loop-rule
+decreases-loop-rule l = length l.rest

@@ -1,0 +1,11 @@
+pub mod Translation
+pub use Rattle.gtd_core.specs.Limits
+pub use Rattle.gtd_core.specs.Parts
+pub use Rattle.gtd_core.specs.Seconds
+pub use Rattle.gtd_core.specs.Trees
+pub use Rattle.gtd_calendar.specs.Calendar
+pub use Rattle.gtd_calendar.specs.declared.day.DayFields
+pub use Rattle.gtd_eval.specs.Membership
+pub use Rattle.gtd_hours.specs.Cost
+pub use Rattle.gtd_hours.specs.Opening
+pub use Rattle.gtd_hours.specs.Ranges

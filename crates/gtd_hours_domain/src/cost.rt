@@ -1,0 +1,217 @@
+//! How many basic domains the translation has, counted before memory is taken.
+
+ghost use Rattle.std.specs.Prelude.{◌≡◌, ◌+◌, ◌≤◌, max};
+ghost use Rattle.gtd_hours.specs.Cost.{cost_after, cost_by, counted, dates_cost, days_cost, early_cost, hours_cost, kinds_cost};
+ghost use Rattle.gtd_hours.specs.Cost.{late_cost, month_cost, rule_cost, selector_cost, selectors_cost, spans_cost};
+ghost use Rattle.gtd_hours.specs.Cost.{steps_cost, weeks_cost, years_cost};
+
+use crate::dates::{is_one_stretch, month_after};
+use crate::numbers::MOST_YEARS;
+use crate::spans::is_early;
+use gtd_hours::{Dates, Hours, Kind, Link, Modifier, Rule, Selector, TimeRange, Weeks, Years};
+
+fn add(a: u32, b: u32) -> u32
+    ensures { result ≡ counted (a + b) }
+{
+    a.saturating_add(b)
+}
+
+fn greater(a: u32, b: u32) -> u32
+    ensures { result ≡ max a b }
+{
+    if a < b { b } else { a }
+}
+
+fn steps_cost(first: u16, last: u16, step: u16) -> u32
+    requires order { first ≤ last }
+    requires some { 1 ≤ step }
+    ensures value { result ≡ steps_cost first last step }
+    ensures few { result ≤ 65536 }
+{
+    u32::from((last - first) / step) + 1
+}
+
+fn years_cost(years: Years) -> u32
+    ensures value { result ≡ years_cost years.first years.last years.step }
+    ensures few { result ≤ 65536 }
+{
+    if years.step == 1 {
+        return steps_cost(years.first, years.last, MOST_YEARS);
+    }
+    steps_cost(years.first, years.last, years.step)
+}
+
+fn weeks_cost(weeks: Weeks) -> u32
+    ensures value { result ≡ weeks_cost weeks.first weeks.last weeks.step }
+    ensures few { result ≤ 65536 }
+{
+    if weeks.step != 1 {
+        return steps_cost(weeks.first, weeks.last, weeks.step);
+    }
+    if weeks.first < 53 && weeks.last == 53 {
+        return 2;
+    }
+    1
+}
+
+fn month_cost(month: u8, low: u8, high: u8) -> u32
+    ensures value { result ≡ month_cost month low high }
+    ensures few { result ≤ 2 }
+{
+    if month == 2 && low < 29 && 28 < high {
+        2
+    } else {
+        1
+    }
+}
+
+fn dates_cost(dates: Dates) -> u32
+    ensures value { result ≡ dates_cost dates.first dates.last }
+    ensures few { result ≤ 5 }
+{
+    if is_one_stretch(dates) {
+        return 1;
+    }
+    let first = dates.first;
+    let last = dates.last;
+    if first.month == last.month && first.day <= last.day {
+        return month_cost(first.month, first.day, last.day);
+    }
+    let ends = month_cost(first.month, first.day, 31) + month_cost(last.month, 1, last.day);
+    if month_after(first.month) == last.month {
+        return ends;
+    }
+    ends + 1
+}
+
+fn selector_cost(selector: Selector) -> u32
+    ensures value { result ≡ selector_cost selector }
+    ensures few { result ≤ 65536 }
+{
+    match selector {
+        Selector::Years(years) => years_cost(years),
+        Selector::Months(_) => 1,
+        Selector::Dates(dates) => dates_cost(dates),
+        Selector::Dated(_) => 1,
+        Selector::Weeks(weeks) => weeks_cost(weeks),
+        Selector::Weekdays(_) => 1,
+        Selector::Nth(_) => 1,
+        Selector::NthBack(_) => 1,
+    }
+}
+
+fn selectors_cost(selectors: &[Selector]) -> u32
+    ensures { result ≡ counted (selectors_cost selectors.now) }
+{
+    let mut total = 0;
+    let mut rest = selectors;
+    while let Some((selector, more)) = rest.split_first() {
+        total = add(total, selector_cost(*selector));
+        rest = more;
+    }
+    total
+}
+
+fn kinds_cost(kinds: &[Kind]) -> u32
+    ensures { result ≡ counted (kinds_cost kinds.now) }
+{
+    let mut total = 0;
+    let mut rest = kinds;
+    while let Some((kind, more)) = rest.split_first() {
+        let selectors = selectors_cost(kind.selectors.as_slice());
+        total = add(total, greater(1, selectors));
+        rest = more;
+    }
+    total
+}
+
+fn days_cost(kinds: &[Kind]) -> u32
+    ensures { result ≡ counted (days_cost kinds.now) }
+{
+    greater(1, kinds_cost(kinds))
+}
+
+fn early_cost(times: &[TimeRange]) -> u32
+    ensures { result ≡ counted (early_cost times.now) }
+{
+    let mut total = 0;
+    let mut rest = times;
+    while let Some((time, more)) = rest.split_first() {
+        if is_early(*time) {
+            total = add(total, 1);
+        }
+        rest = more;
+    }
+    total
+}
+
+fn late_cost(days: u32, times: &[TimeRange]) -> u32
+    ensures { result ≡ counted (late_cost days times.now) }
+{
+    let each = add(days, 1);
+    let mut total = 0;
+    let mut rest = times;
+    while let Some((time, more)) = rest.split_first() {
+        if !is_early(*time) {
+            total = add(total, each);
+        }
+        rest = more;
+    }
+    total
+}
+
+fn spans_cost(days: u32, times: &[TimeRange]) -> u32
+    ensures { result ≡ counted (spans_cost days times.now) }
+{
+    if times.is_empty() {
+        return days;
+    }
+    let early = early_cost(times);
+    let late = late_cost(days, times);
+    if early == 0 {
+        return late;
+    }
+    add(add(days, early), late)
+}
+
+// The spans of a rule, whose days take so many.
+fn rule_cost(rule: &Rule, days: u32) -> u32
+    requires { days ≡ counted (days_cost rule.now.kinds.items) }
+    ensures { result ≡ counted (rule_cost rule.now) }
+{
+    spans_cost(days, rule.times.as_slice())
+}
+
+// What is open after a rule, if what was open before it takes so many.
+fn cost_by(rule: &Rule, before: u32) -> u32
+    ensures { result ≡ counted (cost_by rule.now.modifier rule.now.link rule.now before) }
+{
+    let days = days_cost(rule.kinds.as_slice());
+    let spans = rule_cost(rule, days);
+    match rule.modifier {
+        Modifier::Closed => { if before == 0 { 0 } else { add(before, spans) } }
+        Modifier::Open => match rule.link {
+            Link::Also => add(before, spans),
+            Link::Instead => {
+                if before == 0 {
+                    spans
+                } else {
+                    add(add(before, days), spans)
+                }
+            }
+        },
+    }
+}
+
+/// How many basic domains the translation of the hours has, or `u32::MAX` if there are more. No memory is taken.
+pub fn cost_of(hours: &Hours) -> u32
+    ensures value { result ≡ counted (hours_cost hours.now) }
+{
+    let mut total = 0;
+    let mut rest = hours.rules.as_slice();
+    while let Some((rule, more)) = rest.split_first() {
+        total = cost_by(rule, total);
+        rest = more;
+    }
+    greater(1, total)
+}

@@ -1,0 +1,5 @@
+pub mod Words
+pub mod Signs
+pub mod Clock
+pub mod Lexing
+pub mod Stops
