@@ -1,5 +1,5 @@
 -- Where the days of dates with years lie.
-use Rattle.std.proofs.Common.{ℕ, ◌≤◌, ◌<◌, ℤ, pos, neg_ℤ, ◌+ℤ◌, ◌≤ℤ◌, ◌<ℤ◌, arith}
+use Rattle.std.proofs.Common.{ℕ, ◌≤◌, ℤ, pos, neg_ℤ, ◌+ℤ◌, ◌≤ℤ◌, ◌<ℤ◌, arith}
 use Rattle.gtd_calendar.specs.facts.Signed.{signed_arith}
 use Rattle.gtd_calendar.specs.Calendar.{IsDateOf, day_number, first_day, year_length}
 use Rattle.gtd_calendar.specs.facts.DateLemmas.{day_number-in_year}
