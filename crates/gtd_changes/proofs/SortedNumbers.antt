@@ -82,3 +82,15 @@ either_elements old new xs ys zs p q set = record {
     ]))),
   );
 }
+
+-- elements that both name are those of both together
+pub same_elements : (old new : List Restriction) (xs : List ℕ) → AreElements old xs → AreElements new xs
+    → AreElements (old ++ new) xs
+same_elements old new xs p q = record {
+  ascending = p.ascending;
+  named = λ n. (
+    (λ c. any_left (λ (r : Restriction). r.element ≡ n) old new ((p.named n).0 c)),
+    (λ a. elim (any_either (λ (r : Restriction). r.element ≡ n) old new a)
+        [ inl h ↦ (p.named n).1 h | inr h ↦ (q.named n).1 h ]),
+  );
+}

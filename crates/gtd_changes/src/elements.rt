@@ -18,7 +18,7 @@ fn either(alloc: Global, first: &[u64], second: &[u64]) -> Result<Vec<u64>, Allo
     Ok(numbers)
 }
 
-/// The elements that the records of either file name, in ascending order, each once.
+/// The elements that the records of either file name, in ascending order, each once. Mostly both name the same.
 pub(crate) fn elements_of_both(
     alloc: Global,
     old: &Records,
@@ -26,5 +26,10 @@ pub(crate) fn elements_of_both(
 ) -> Result<Vec<u64>, AllocError>
     ensures named { IfOk result (λ elements. AreElements (old.now ++ new.now) elements.items) }
 {
-    either(alloc, old.elements(), new.elements())
+    let first = old.elements();
+    let second = new.elements();
+    if first == second {
+        return Vec::from_slice(alloc, first);
+    }
+    either(alloc, first, second)
 }

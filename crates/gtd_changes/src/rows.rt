@@ -9,6 +9,9 @@ use gtd_core::Domain;
 use gtd_records::{Record, Records, Vehicles};
 use std::alloc::{AllocError, Global};
 
+/// Of so many rows one may differ, so that rows are seen to stand where they stood.
+const MOST_SHARE: usize = 8;
+
 /// What the rows of two files say that come next, by their elements.
 #[derive(Clone, Copy)]
 pub(crate) enum Meeting {
@@ -132,8 +135,27 @@ fn row_at<'a>(rows: &[&'a Record], place: usize) -> Option<&'a Record>
     }
 }
 
-// What two records say that come next, of which there may be none.
-fn meet(one: Option<&Record>, two: Option<&Record>) -> Option<Meeting>
+// The record after a place, if records are compared in the order of their rows.
+fn row_after<'a>(rows: &[&'a Record], place: usize, in_place: bool) -> Option<&'a Record> {
+    if in_place && place < rows.len() {
+        row_at(rows, place + 1)
+    } else {
+        None
+    }
+}
+
+// Whether the new file's record is done with before the old one's, from which it differs: in the order of rows, if the record after
+// it is the old one's; otherwise if its element is less.
+fn is_new_first(one: &Record, two: &Record, after: Option<&Record>) -> bool {
+    match after {
+        Some(next) => is_same(one, next),
+        None => two.element < one.element,
+    }
+}
+
+// What two records say that come next, of which there may be none, and the new file's after that, if rows are compared in their
+// order.
+fn meet(one: Option<&Record>, two: Option<&Record>, after: Option<&Record>) -> Option<Meeting>
     ensures meets { Meets (option_map (λ row. row.now) one.entry) (option_map (λ row. row.now) two.entry) result }
 {
     let Some(one) = one else {
@@ -148,7 +170,7 @@ fn meet(one: Option<&Record>, two: Option<&Record>) -> Option<Meeting>
     if is_same(one, two) {
         return Some(Meeting::Same);
     }
-    if two.element < one.element {
+    if is_new_first(one, two, after) {
         Some(Meeting::New(two.element))
     } else {
         Some(Meeting::Old(one.element))
@@ -156,7 +178,12 @@ fn meet(one: Option<&Record>, two: Option<&Record>) -> Option<Meeting>
 }
 
 // The elements of the rows that stand in one file and not, in the same place, in the other.
-fn differing_of(alloc: Global, old: &[&Record], new: &[&Record]) -> Result<Vec<u64>, AllocError>
+fn differing_of(
+    alloc: Global,
+    old: &[&Record],
+    new: &[&Record],
+    in_place: bool,
+) -> Result<Vec<u64>, AllocError>
     ensures old { IfOk result (λ elements.
         AreFound (map (λ row. row.now) old.now) (map (λ row. row.now) new.now) elements.items) }
     ensures new { IfOk result (λ elements.
@@ -165,7 +192,11 @@ fn differing_of(alloc: Global, old: &[&Record], new: &[&Record]) -> Result<Vec<u
     let mut elements = Vec::new(alloc);
     let mut at = 0usize;
     let mut next = 0usize;
-    while let Some(meeting) = meet(row_at(old, at), row_at(new, next)) {
+    while let Some(meeting) = meet(
+        row_at(old, at),
+        row_at(new, next),
+        row_after(new, next, in_place),
+    ) {
         meeting.list(&mut elements)?;
         at += meeting.old_rows();
         next += meeting.new_rows();
@@ -173,15 +204,45 @@ fn differing_of(alloc: Global, old: &[&Record], new: &[&Record]) -> Result<Vec<u
     Ok(elements)
 }
 
-/// The elements of which some row stands in one file and not, in the same place among those of its element, in the other: in
-/// ascending order. All others have the same rows.
+// The elements of the rows that stand in one file and not in the other, if rows are compared in the order of the files.
+fn differing_in_place(alloc: Global, old: &Records, new: &Records) -> Result<Vec<u64>, AllocError>
+    ensures old { IfOk result (λ elements. AreFound old.now new.now elements.items) }
+    ensures new { IfOk result (λ elements. AreFound new.now old.now elements.items) }
+{
+    let old = refs_of(alloc, old.rows())?;
+    let new = refs_of(alloc, new.rows())?;
+    differing_of(alloc, old.as_slice(), new.as_slice(), true)
+}
+
+// The same, if those of one element are compared.
+fn differing_by_element(alloc: Global, old: &Records, new: &Records) -> Result<Vec<u64>, AllocError>
+    ensures old { IfOk result (λ elements. AreFound old.now new.now elements.items) }
+    ensures new { IfOk result (λ elements. AreFound new.now old.now elements.items) }
+{
+    let old = by_element(alloc, old.rows())?;
+    let new = by_element(alloc, new.rows())?;
+    differing_of(alloc, old.as_slice(), new.as_slice(), false)
+}
+
+// The same, in the way that finds few: most often rows stand where they stood, and are not sorted then.
+fn differing_soon(alloc: Global, old: &Records, new: &Records) -> Result<Vec<u64>, AllocError>
+    ensures old { IfOk result (λ elements. AreFound old.now new.now elements.items) }
+    ensures new { IfOk result (λ elements. AreFound new.now old.now elements.items) }
+{
+    let elements = differing_in_place(alloc, old, new)?;
+    if elements.len() <= old.rows().len() / MOST_SHARE {
+        return Ok(elements);
+    }
+    differing_by_element(alloc, old, new)
+}
+
+/// The elements of which some row stands in one file and not, in the same place, in the other: in ascending order. Rows are compared
+/// in the order of the files and, where this finds many, among those of their element. All other elements have the same rows.
 pub(crate) fn differing(alloc: Global, old: &Records, new: &Records) -> Result<Vec<u64>, AllocError>
     ensures ascending { IfOk result (λ elements. IsNonDecreasing elements.items) }
     ensures alike { IfOk result (λ elements. AreAlikeBut old.now new.now elements.items) }
 {
-    let old = by_element(alloc, old.rows())?;
-    let new = by_element(alloc, new.rows())?;
-    let mut elements = differing_of(alloc, old.as_slice(), new.as_slice())?;
+    let mut elements = differing_soon(alloc, old, new)?;
     elements.sort_unstable();
     Ok(elements)
 }

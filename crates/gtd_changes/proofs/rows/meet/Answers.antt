@@ -32,8 +32,8 @@ returns-then-is_same c = record {
   );
 }
 
-pub returns-then-two-one : goal.returns-then-two-one
-returns-then-two-one c = record {
+pub returns-then-is_new_first : goal.returns-then-is_new_first
+returns-then-is_new_first c = record {
   meets = (
     c.in-Some-two-2.two.now,
     told_row c.args.two c.in-Some-two-2.two c.in-Some-two-2.is (λ row. row.now),
@@ -41,8 +41,8 @@ returns-then-two-one c = record {
   );
 }
 
-pub returns-else-two-one : goal.returns-else-two-one
-returns-else-two-one c = record {
+pub returns-else-is_new_first : goal.returns-else-is_new_first
+returns-else-is_new_first c = record {
   meets = (
     c.in-Some.one.now,
     told_row c.args.one c.in-Some.one c.in-Some.is (λ row. row.now),

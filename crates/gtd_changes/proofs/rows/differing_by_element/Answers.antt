@@ -1,0 +1,17 @@
+use Rattle.std.proofs.lemmas.Result.{IfOk-weaker}
+use Rattle.gtd_changes.proofs.RowFacts.{found_in}
+use Rattle.gtd_changes.proofs.rows.differing_by_element.Goals as goal
+
+pub returns-clause-old : goal.returns-clause-old
+returns-clause-old c =
+    IfOk-weaker c.differing_of.result _ _ (λ elements found.
+    found_in c.args.old.now c.args.new.now _ _ elements.items (rw (c.rows.ensures.rows) at c.in_ok-old.ensures.moved)
+    (rw (c.rows-2.ensures.rows) at c.in_ok-new.ensures.moved)
+    (rw (c.as_slice.ensures.value, c.as_slice-2.ensures.value) at found)) c.differing_of.ensures.old
+
+pub returns-clause-new : goal.returns-clause-new
+returns-clause-new c =
+    IfOk-weaker c.differing_of.result _ _ (λ elements found.
+    found_in c.args.new.now c.args.old.now _ _ elements.items (rw (c.rows-2.ensures.rows) at c.in_ok-new.ensures.moved)
+    (rw (c.rows.ensures.rows) at c.in_ok-old.ensures.moved)
+    (rw (c.as_slice.ensures.value, c.as_slice-2.ensures.value) at found)) c.differing_of.ensures.new
