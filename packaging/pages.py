@@ -66,9 +66,23 @@ def programs():
     return made
 
 
+# How many words of its kind completions offer for a word that may be followed by more.
+MORE = 8
+
+
 def parts_of(word):
     """The words that a word of a command stands for: two for an option that is given with a word."""
     return word.strip("[]").split()
+
+
+def name_of(word):
+    """The name of a word, which may be followed by more of its kind, and whether it may."""
+    return word.removesuffix(".."), word.endswith("..")
+
+
+def kind_of(program, word):
+    """What a shell completes for a word. One in small letters stands for itself."""
+    return f"one of {word}" if word.islower() else program.words[name_of(word)[0]][0]
 
 
 def mdoc(words):
@@ -78,8 +92,10 @@ def mdoc(words):
         shown = []
         for name in parts_of(word):
             is_option, follows = name.startswith("--"), in_words and word == name
-            shown.append(f"Fl Fl {name[2:]}" if is_option else name.lower() if follows else f"Ar {name.lower()}")
-            in_words = not is_option and word == name
+            text = name_of(name)[0].lower() + " ..." * name_of(name)[1]
+            shown.append(f"Fl Fl {name[2:]}" if is_option else f"Cm {name}" if name.islower() else
+                         text if follows else f"Ar {text}")
+            in_words = not is_option and word == name and not name.islower()
         made.append(" ".join(["Oo", *shown, "Oc"] if word[0] == "[" else shown))
     return " ".join(made)
 
@@ -143,10 +159,12 @@ def patterns(program, first, kinds):
     for command, place, word in places(program):
         if word.startswith("--"):
             options.setdefault(f"{command}:{place + first}:-*", []).append(word)
-        elif kinds(program.words[word][0]):
-            found.setdefault(program.words[word][0], []).append(f"{command}:{place + first}:*")
+        elif kinds(kind_of(program, word)):
+            for more in range(MORE if name_of(word)[1] else 1):
+                found.setdefault(kind_of(program, word), []).append(f"{command}:{place + first + more}:*")
     for where, names in options.items():
         found.setdefault(" ".join(sorted(set(names))), []).append(where)
+    found = {kind: list(dict.fromkeys(where)) for kind, where in found.items()}
     return sorted(found.items(), key=lambda it: not it[0].startswith("--"))
 
 
@@ -223,13 +241,16 @@ def zsh(program):
 
 def usage_of(program, command):
     """The words of a command as the help of a program shows them."""
+    def shown_as(word):
+        return word if word.islower() else f"<{name_of(word)[0]}>" + "..." * name_of(word)[1]
+
     if len(command.ways) == 1:
         words = command.ways[0][0]
-        shown = ["[OPTIONS]"] * any(it.startswith("[--") for it in words) + [f"<{it}>" for it in words if it[0] != "["]
+        shown = ["[OPTIONS]"] * any(it.startswith("[--") for it in words) + [shown_as(it) for it in words if it[0] != "["]
         return " ".join([program.name, command.name, *shown])
     def way(words):
         needed = [it for it in words if not it.startswith("[--")]
-        shown = [it if it.startswith("--") or len(words) == 1 else f"<{it}>" for it in needed]
+        shown = [it if it.startswith("--") or len(words) == 1 else shown_as(it) for it in needed]
         return " ".join(["[OPTIONS]"] * (needed != words) + shown)
 
     return f"{program.name} {command.name} <{'|'.join(way(words) for words, _ in command.ways)}>"

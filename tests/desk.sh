@@ -160,6 +160,18 @@ expect 'faults of standard input' 1 "$(sed 's/^bad.csv:/-:/' "$top/tests/desk/fa
 run now bad.csv 2024-04-01T10:00:00 11
 expect 'the first of them refuses the file' 1 '' 'gtdesk: bad.csv: row 2: Element'
 cp bad.csv $'b\n.csv'
+# One file after the other: the first that is refused gives the status, or else the first that has faults.
+listed=$(cat "$top/tests/desk/faults_of_rows.txt")
+run faults a.csv bad.csv none.csv
+expect 'faults of one of three files' 1 "$listed" ''
+run faults gone.csv bad.csv . a.csv
+expect 'faults of two files that are not read' 3 "$listed" $'gtdesk: gone.csv: cannot be opened\ngtdesk: .: ReadFault'
+run faults bad.csv bad.csv
+expect 'faults of a file twice' 1 "$listed"$'\n'"$listed" ''
+"$program" faults a.csv - < bad.csv > out 2> err
+status=$?
+expect 'faults of a file and of standard input' 1 "$(sed 's/^bad.csv:/-:/' <<< "$listed")" ''
+
 run faults $'b\n.csv'
 expect 'a name that is listed escaped' 1 "$(sed 's/^bad.csv:/b\\x0a.csv:/' "$top/tests/desk/faults_of_rows.txt")" ''
 listed() {
@@ -304,6 +316,10 @@ expect 'a text of hours' 0 '[[(t2t3t4t5t6h0m0){d1}]*[(h8m0){m540}]]' ''
 run hours '24/7; Dec 25 off'
 expect 'a text of two rules' 0 '[[(h0m0){d1}]-[(M12d25h0m0){d1}]]' ''
 run hours 'Mo-Fr 7:30-12:00'
+expect 'a text that is written loosely' 0 '[[(t2t3t4t5t6h0m0){d1}]*[(h7m30){m270}]]' 'gtdesk: TEXT: warning Loose at 6: 07:30'
+run mend hours 'Mo-Fr 7:30-12:00'
+expect 'its strict form' 0 'Mo-Fr 07:30-12:00' ''
+run hours --strict 'Mo-Fr 7:30-12:00'
 expect 'a byte that begins no token' 1 '' 'gtdesk: TEXT: BadToken at 6'
 run hours 'Mo-Fr 08:00-18:00; PH off'
 expect 'holidays' 1 '' 'gtdesk: TEXT: Unsupported at 19'

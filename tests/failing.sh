@@ -221,6 +221,9 @@ gtdesk 'open read write' faults long_bad.csv
 try WriteFault write:1 1000 EINTR
 gtdesk write words "$domain"
 gtdesk write hours 'Mo-Fr 08:00-17:00'
+gtdesk 'write error' hours 'Mo-Fr 8:00-17:00'
+gtdesk write hours --strict 'Mo-Fr 08:00-17:00'
+gtdesk write mend hours 'Mo-Fr 8:00-17:00'
 gtdesk write hours --of '(t2h0m0){d1}*(h7m0){m120}'
 gtdesk write same --hours 24/7 00:00-24:00
 gtdesk 'open read write' same --file twice.csv

@@ -3,6 +3,8 @@
 
 For each row of tests/hours/texts.csv, the domain that is printed contains the same minutes of four years as the hours by the
 model of hours, and as the domain beside them. For each row of tests/hours/faults.csv, that fault is printed, and nothing else.
+These texts are read with `--strict`, and printed alike without it. For each row of tests/hours/loose.csv, `gtdesk hours` prints
+the domain of its mended text and tells its warnings, `gtdesk mend hours` prints that text, or both tell its fault.
 For these texts, for those of tests/rows/desk_hour*.rows that have a domain, and for texts of each form (every range of weekdays,
 months, weeks and so on that differs in how it is translated), `gtdesk hours --of DOMAIN` answers hours, whose domain is the same
 again. Then, for SECONDS, random texts of the grammar, whose domains are compared at random seconds and around each change and
@@ -34,9 +36,13 @@ FEWEST_ROWS, FEWEST_FORMS = 100, 1000
 DAYS, CHANGES, SAMPLES = 120, 60, 60
 
 
+def told(*words):
+    return subprocess.run([PROGRAM, *words], capture_output=True, text=True, check=False)
+
+
 def run(text):
-    """What the program prints for a text: the domain, or None and the fault."""
-    done = subprocess.run([PROGRAM, "hours", "--", text], capture_output=True, text=True, check=False)
+    """What the program prints for a text that is written strictly: the domain, or None and the fault."""
+    done = told("hours", "--strict", "--", text)
     if done.returncode == 0:
         expect(done.stderr == "" and done.stdout.endswith("\n"), f"{text!r}: {done.stdout!r}, {done.stderr!r}")
         return done.stdout[:-1], None
@@ -50,6 +56,8 @@ def check_text(row):
     text = row["hours"]
     domain, fault = run(text)
     expect(fault is None, f"{text}: {fault}")
+    loosely = told("hours", "--", text)
+    expect((loosely.returncode, loosely.stdout, loosely.stderr) == (0, domain + "\n", ""), f"{text}: {loosely}")
     opened = hours_model.open_minutes(hours_model.read(text.encode()), hours.FIRST, hours.DAYS)
     printed, beside = model.read(domain.encode()), model.read(row["domain"].encode())
     check_back(text, domain)
@@ -64,9 +72,24 @@ def check_fault(row):
     expect((domain, fault) == (None, f"{row['kind']} at {row['place']}"), f"{row['text']!r}: {domain}, {fault}")
 
 
+def check_loose(row):
+    """The domain of a text and its warnings, and the text as it is mended; or its fault."""
+    text = row["text"]
+    read, mended = told("hours", "--", text), told("mend", "hours", "--", text)
+    if row["fault"]:
+        fault = (1, "", f"{NO_DOMAIN}{row['fault']}\n")
+        expect((read.returncode, read.stdout, read.stderr) == fault, f"{text!r}: {read}")
+        expect((mended.returncode, mended.stdout, mended.stderr) == fault, f"{text!r}: {mended}")
+        return
+    warnings = "".join(f"{NO_DOMAIN}warning {warning}\n" for warning in row["warnings"].split("; ") if warning)
+    domain = (0, f"{run(row['mended'])[0]}\n", warnings)
+    expect((read.returncode, read.stdout, read.stderr) == domain, f"{text!r}: {read}")
+    expect((mended.returncode, mended.stdout, mended.stderr) == (0, row["mended"] + "\n", ""), f"{text!r}: {mended}")
+
+
 def check_back(text, domain):
     """Hours are answered for the domain of a text, and they have this domain."""
-    done = subprocess.run([PROGRAM, "hours", "--of", domain], capture_output=True, text=True, check=False)
+    done = told("hours", "--of", domain)
     expect(done.returncode == 0 and done.stderr == "", f"{text}: no hours for {domain}: {done.stderr!r}")
     again, fault = run(done.stdout[:-1])
     expect(again == domain, f"{text}: {domain} gives {done.stdout!r}, which gives {again} {fault or ''}")
@@ -208,6 +231,8 @@ def main():
     worked, forms = list(row_texts()), list(form_texts())
     checks = [lambda row=row: check_text(row) for row in texts] + [lambda row=row: check_fault(row) for row in faults]
     checks += [lambda text=text: check_round(text) for text in worked + forms]
+    loose = [row for row in hours.rows_of("loose.csv") if not row["names"]]
+    checks += [lambda row=row: check_loose(row) for row in loose]
     failed = 0
     with concurrent.futures.ThreadPoolExecutor(len(os.sched_getaffinity(0))) as pool:
         for failure in pool.map(judged, checks):
@@ -228,7 +253,7 @@ def main():
     if 2 * domains < rounds:
         print(f"FAILED only {domains} of {rounds} random texts have a domain")
         failed += 1
-    known = f"{len(texts)} texts, {len(faults)} faults, {len(worked)} texts of rows and {len(forms)} of forms"
+    known = f"{len(texts)} texts, {len(faults)} faults, {len(loose)} loose texts, {len(worked)} texts of rows and {len(forms)} of forms"
     print(f"{known}, and {rounds} random texts (seed {seed})")
     print(f"hours_program: {max(0, len(checks) + rounds - failed)} passed, {failed} failed")
     sys.exit(1 if failed else 0)

@@ -188,7 +188,7 @@ def check_domains(browser, address):
         settle_domain(browser)
         same(browser.run("document.getElementById('text').value"), text, f"{name}: the text in the field")
         if not browser.run("document.getElementById('answers').hidden"):
-            check_domain(browser, text, text if text[0] in "[(" else told(DESK, "hours", "--", text).rstrip("\n"))
+            check_domain(browser, text, text if text[0] in "[(" else told(DESK, "hours", "--strict", "--", text).rstrip("\n"))
     # The deepest that is read, on either side.
     right = "[(M5h1){h2}-" * 127 + "(M5h1){h1}" + "]" * 127
     left = "[" * 128 + "(h1){h1}]" + "-(h2){h1}]" * 127
@@ -201,7 +201,7 @@ def check_domains(browser, address):
     fill(browser, "moment", MOMENT)
     for text in ("Sa 05:00-15:00", "Apr-Sep 08:00-18:00", "24/7; Aug off", "We[-1] 10:00-12:00", "22:00-06:00"):
         type_text(browser, text)
-        check_domain(browser, text, told(DESK, "hours", "--", text).rstrip("\n"))
+        check_domain(browser, text, told(DESK, "hours", "--strict", "--", text).rstrip("\n"))
 
 
 def check_typing(browser, address):
@@ -245,7 +245,7 @@ def check_faults(browser, address):
     texts, hours = documented_faults()
     check(len(texts) > 15 and len(hours) > 5, f"{len(texts)} and {len(hours)} texts with faults")
     for text in texts + hours:
-        said = told(GTD, "check", text) if text in texts else told(DESK, "hours", "--", text)
+        said = told(GTD, "check", text) if text in texts else told(DESK, "hours", "--strict", "--", text)
         type_text(browser, text)
         wanted = re.sub(r"^(fault |gtdesk: TEXT: )", "", said).strip()
         same(browser.run("document.querySelector('#fault strong')?.textContent"), wanted, f"{text[:40]}: fault")

@@ -167,10 +167,16 @@ program_refused 1 now r.csv now 11
 program_refused 0 faults r.csv
 program_refused 1 faults faulty.csv
 program_refused 1 faults --warn faulty.csv
+program_refused 1 faults --warn --allow past,minutes --at 2024-04-01 faulty.csv
+program_refused 2 faults --warn --allow past,none faulty.csv
 program_refused 0 words "$domain"
 program_refused 1 words '[(h25){h1}]'
 program_refused 0 hours 'Mo-Fr 07:00-09:00,16:00-18:00; Dec 25 off'
 program_refused 1 hours 'Mo-Fr PH off'
+program_refused 0 hours 'mo-fr 8:00-9:00 10:00-11:00;'
+program_refused 0 hours --strict 'Mo-Fr 08:00-09:00'
+program_refused 0 mend hours 'mo-fr 8:00-9:00 10:00-11:00;'
+program_refused 1 mend hours 'Mo-Fr PH off'
 program_refused 0 hours --of '(t2t3t4t5t6h0m0){d1}*[(h7m0){m120}+(h16m0){m120}]'
 program_refused 1 hours --of '(h7){h2}'
 program_refused 0 same "$domain" "$domain"

@@ -7,18 +7,23 @@
 //! 2 for usage, 3 if opening, reading, writing or memory failed.
 #![tactic(auto)]
 
-use gtd_devices::{Host, HostOut};
+use gtd_devices::{Host, HostOut, InputFault, read_whole};
 use gtdesk_tool::{
-    DiffPlan, Ending, OnePlan, Plan, Refusal, RefusalLine, RunRefusal, WordsRefusal, perform,
-    perform_ask, perform_diff, plan, refused_file,
+    DiffPlan, Ending, Files, Moment, OnePlan, Plan, Refusal, RefusalLine, RunRefusal, Turn,
+    WordsRefusal, ZonePlan, joined, moment_in_zone, no_zone, perform, perform_ask, perform_diff,
+    plan, refused_file, zone_path,
 };
 use std::fs::File;
 use std::io::{BufWriter, ErrorKind, Read};
 use std::process::ExitCode;
+use std::time::{SystemTime, UNIX_EPOCH};
 use std::{env, io};
 
 // How many bytes are buffered before a write to standard output: as many as a pipe holds.
 const OUTPUT_BUFFER: usize = 65_536;
+
+// How many bytes the file of a time zone has at most: far more than any has.
+const MOST_ZONE_BYTES: usize = 1_048_576;
 
 // The words after the program's name. A word that is not UTF-8 is a fault of usage.
 fn words_of(rt: &HostRuntime) -> Result<Vec<String>, WordsRefusal> {
@@ -43,25 +48,50 @@ fn open(rt: &HostRuntime, path: &str) -> Result<File, RunRefusal> {
     })
 }
 
-// Carries the plan out, from a reader to standard output.
+// Carries the plan out for the file of this path, from a reader to standard output.
 fn print<R: Read + Drop>(
     rt: &HostRuntime,
-    plan: &OnePlan,
+    turn: Turn<'_>,
     reader: R,
 ) -> Result<Ending, RunRefusal> {
     let mut input = Host::new(reader);
     let made = BufWriter::with_capacity(rt.alloc(), OUTPUT_BUFFER, io::writer(rt));
     let mut output = HostOut::new(made.map_err(|_| RunRefusal::Memory)?);
     let mut errors = HostOut::new(rt.stderr());
-    perform(rt.alloc(), plan, &mut input, &mut output, &mut errors)
+    perform(rt.alloc(), turn, &mut input, &mut output, &mut errors)
 }
 
-// Carries a plan out that reads one file at most.
-fn run_one(rt: &HostRuntime, plan: &OnePlan) -> Result<Ending, RunRefusal> {
-    match plan.file() {
-        Some("-") => print(rt, plan, rt.stdin()),
-        Some(path) => print(rt, plan, open(rt, path)?),
-        None => print(rt, plan, io::empty()),
+// Carries a plan out for the file of this path.
+fn run_file(rt: &HostRuntime, turn: Turn<'_>) -> Result<Ending, RunRefusal> {
+    match turn.path {
+        "-" => print(rt, turn, rt.stdin()),
+        path => print(rt, turn, open(rt, path)?),
+    }
+}
+
+// Carries a plan out for one file after the other, and tells why a file is refused. After an output that failed, no file follows.
+fn run_files(rt: &HostRuntime, plan: &OnePlan, paths: &[String]) -> ExitCode {
+    let mut ended = Ok(Ending::Done);
+    for path in paths {
+        let path = path.as_str();
+        let answer = run_file(rt, Turn { plan, path });
+        if let Err(refusal) = answer {
+            tell(rt, Refusal::Run(refusal), path);
+        }
+        ended = joined(ended, answer);
+        if answer == Err(RunRefusal::Write) {
+            break;
+        }
+    }
+    status_of(ended)
+}
+
+// Carries a plan out that reads one file at a time, or none.
+fn run_one(rt: &HostRuntime, plan: &OnePlan) -> ExitCode {
+    match plan.files() {
+        Files::Several(paths) => run_files(rt, plan, paths),
+        Files::One(path) => finish(rt, run_file(rt, Turn { plan, path }), path),
+        Files::None => finish(rt, print(rt, Turn { plan, path: "" }, io::empty()), ""),
     }
 }
 
@@ -108,24 +138,90 @@ fn print_answers<R: Read + Drop>(rt: &HostRuntime, records: R) -> Result<Ending,
     perform_ask(rt.alloc(), &mut questions, &mut records, &mut output)
 }
 
-fn run(rt: &HostRuntime, plan: &Plan) -> Result<Ending, RunRefusal> {
+// Carries the plan of `diff` out, from the paths of its files.
+fn run_paths(rt: &HostRuntime, plan: &DiffPlan) -> Result<Ending, RunRefusal> {
+    match plan.old.as_str() {
+        "-" => run_diff(rt, plan, rt.stdin()),
+        path => run_diff(rt, plan, open_old(rt, path)?),
+    }
+}
+
+// The moment that the clock of a time zone shows now.
+fn now_in(rt: &HostRuntime, zone: &str) -> Result<Moment, RunRefusal> {
+    let Ok(path) = zone_path(rt.alloc(), zone) else {
+        return Err(RunRefusal::Memory);
+    };
+    let file = open(rt, path.as_str()).map_err(|refusal| match refusal {
+        RunRefusal::Open => no_zone(),
+        _ => refusal,
+    })?;
+    let Ok(clock) = SystemTime::now(rt) else {
+        return Err(no_zone());
+    };
+    let Ok(passed) = clock.duration_since(UNIX_EPOCH) else {
+        return Err(no_zone());
+    };
+    match read_whole(rt.alloc(), &mut Host::new(file), MOST_ZONE_BYTES) {
+        Ok(bytes) => moment_in_zone(rt.alloc(), bytes.as_slice(), passed.as_secs() as i64),
+        Err(InputFault::NoMemory) => Err(RunRefusal::Memory),
+        Err(_) => Err(no_zone()),
+    }
+}
+
+// Carries the plan of `now --zone` out.
+fn run_zone(rt: &HostRuntime, plan: ZonePlan) -> ExitCode {
+    match now_in(rt, plan.zone.as_str()) {
+        Ok(moment) => run_one(rt, &plan.at(moment)),
+        Err(refusal) => finish(rt, Err(refusal), ""),
+    }
+}
+
+// Answers the questions on standard input about the record file of this path.
+fn run_ask(rt: &HostRuntime, path: &str) -> Result<Ending, RunRefusal> {
+    match path {
+        "-" => print_answers(rt, rt.stdin()),
+        path => print_answers(rt, open(rt, path)?),
+    }
+}
+
+// Carries the plan of `diff` out, and tells why one of its files is refused.
+fn run_both(rt: &HostRuntime, plan: &DiffPlan) -> ExitCode {
+    let answer = run_paths(rt, plan);
+    let path = match answer {
+        Err(refusal) => refused_file(plan, refusal),
+        Ok(_) => "",
+    };
+    finish(rt, answer, path)
+}
+
+fn run(rt: &HostRuntime, plan: Plan) -> ExitCode {
     match plan {
-        Plan::One(plan) => run_one(rt, plan),
-        Plan::Diff(diff) => match diff.old.as_str() {
-            "-" => run_diff(rt, diff, rt.stdin()),
-            path => run_diff(rt, diff, open_old(rt, path)?),
-        },
-        Plan::Ask(file) => match file.as_str() {
-            "-" => print_answers(rt, rt.stdin()),
-            path => print_answers(rt, open(rt, path)?),
-        },
+        Plan::One(plan) => run_one(rt, &plan),
+        Plan::NowIn(plan) => run_zone(rt, plan),
+        Plan::Diff(plan) => run_both(rt, &plan),
+        Plan::Ask(path) => finish(rt, run_ask(rt, path.as_str()), path.as_str()),
+    }
+}
+
+// The status of an answer.
+fn status_of(answer: Result<Ending, RunRefusal>) -> ExitCode {
+    match answer {
+        Ok(ending) => ExitCode::from(ending.status()),
+        Err(refusal) => ExitCode::from(refusal.status()),
     }
 }
 
 // Writes the line of a refusal. If standard error fails, the status stays the same.
-fn refuse(rt: &HostRuntime, refusal: Refusal, file: &str) -> ExitCode {
+fn tell(rt: &HostRuntime, refusal: Refusal, file: &str) {
     let _ = rt.eprintln(&RefusalLine { refusal, file });
-    ExitCode::from(refusal.status())
+}
+
+// The status of an answer. If it is a refusal about the file of this path, its line is written.
+fn finish(rt: &HostRuntime, answer: Result<Ending, RunRefusal>, path: &str) -> ExitCode {
+    if let Err(refusal) = answer {
+        tell(rt, Refusal::Run(refusal), path);
+    }
+    status_of(answer)
 }
 
 fn main(rt: HostRuntime) -> ExitCode {
@@ -134,13 +230,11 @@ fn main(rt: HostRuntime) -> ExitCode {
         Err(refusal) => Err(refusal),
     };
     match planned {
-        Ok(plan) => match run(&rt, &plan) {
-            Ok(ending) => ExitCode::from(ending.status()),
-            Err(refusal) => {
-                let file = refused_file(&plan, refusal).unwrap_or("");
-                refuse(&rt, Refusal::Run(refusal), file)
-            }
-        },
-        Err(refusal) => refuse(&rt, Refusal::Words(refusal), ""),
+        Ok(plan) => run(&rt, plan),
+        Err(refusal) => {
+            let refusal = Refusal::Words(refusal);
+            tell(&rt, refusal, "");
+            ExitCode::from(refusal.status())
+        }
     }
 }

@@ -1,5 +1,3 @@
 pub mod ClapWords
-pub mod NumberFacts
 pub mod PlanFacts
-pub mod ReadingFacts
 pub mod StandFacts

@@ -1,7 +1,7 @@
 -- Words give one command at most, and a command has one plan or one first fault.
 use Rattle.std.proofs.Common.{◌≡◌, ◌∙◌, ◌⊎◌, inl, inr, ap, sym, subst, refl, true, false, true≢false, List}
-use Rattle.std.proofs.Common.{Option, Some, None, is_some, arith, [], ◌∷◌, length, map}
-use Rattle.std.specs.Prelude.{Result, Ok, Err, MatchResult, option_and_then, unwrap_or}
+use Rattle.std.proofs.Common.{Bool, Option, None, arith, [], ◌∷◌, length, map}
+use Rattle.std.specs.Prelude.{Result, Ok, Err, MatchResult}
 use Rattle.clap.specs.Faults.{fault_of}
 use Rattle.clap.specs.Kinds.{HasKind, IsAmong}
 use Rattle.clap.specs.Simple.{subcommand_rows_of}
@@ -14,20 +14,28 @@ use Rattle.clap.specs.declared.parser.matches.ArgMatches.{ArgMatches}
 use Rattle.gtdesk_plans.specs.Arguments.{Text}
 use Rattle.gtdesk_plans.specs.CommandLine.{HasWords, desk_app, is_memory, is_request}
 use Rattle.gtdesk_plans.specs.Commands.{words_of}
-use Rattle.gtdesk_plans.specs.Given.{AreMistaken, Give, Given, asked_words, given_by, given_in, help_words, told_of}
+use Rattle.gtdesk_plans.specs.Given.{AreMistaken, Give, Given, asked_words, given_by, given_in, help_words}
 use Rattle.gtdesk_plans.specs.Plans.{AreRefused, AskFor, Asks, IsRefused, IsShown, IsWordFault}
-use Rattle.gtdesk_plans.proofs.ReadingFacts.{no_first_fault, one_first}
+use Rattle.gtdesk_words.specs.facts.Readings.{no_first_fault, one_first}
 use Rattle.gtdesk_plans.proofs.StandFacts.{all_stand}
 use Rattle.gtdesk_plans.specs.declared.plans.Plan.{Plan}
-use Rattle.gtdesk_plans.specs.declared.refusal.WordFault.{WordFault}
-use Rattle.gtdesk_plans.specs.declared.refusal.WordsRefusal.{WordsRefusal}
-use Rattle.gtdesk_plans.specs.declared.refusal.WordsRefusal.TheVariants as refusal
+use Rattle.gtdesk_words.specs.declared.refusal.WordFault.{WordFault}
+use Rattle.gtdesk_words.specs.declared.refusal.WordsRefusal.{WordsRefusal}
+use Rattle.gtdesk_words.specs.declared.refusal.WordsRefusal.TheVariants as refusal
 
-one_read : {T : Type 0} (o : Option T) (x y : T) → o ≡ Some x → o ≡ Some y → x ≡ y
-one_read o x y e f = ap (λ (p : Option _). unwrap_or p x) (sym e ∙ f)
+abbrev ok_or : {T E : Type 0} → Result T E → T → T
+ok_or (Ok x) other = x
+ok_or (Err why) other = other
 
-none_read : {T : Type 0} (o : Option T) (x : T) → o ≡ Some x → o ≡ None → ⊥
-none_read o x e f = true≢false (ap is_some (sym e ∙ f))
+abbrev is_ok : {T E : Type 0} → Result T E → Bool
+is_ok (Ok x) = true
+is_ok (Err why) = false
+
+one_read : {T E : Type 0} (r : Result T E) (x y : T) → r ≡ Ok x → r ≡ Ok y → x ≡ y
+one_read r x y e f = ap (λ (p : Result _ _). ok_or p x) (sym e ∙ f)
+
+none_read : {T E : Type 0} (r : Result T E) (x : T) (why : E) → r ≡ Ok x → r ≡ Err why → ⊥
+none_read r x why e f = true≢false (ap is_ok (sym e ∙ f))
 
 -- ---- words of which there may be none
 
@@ -51,7 +59,7 @@ none_among words given give kind among = subst (λ kinds. IsAmong kind kinds) gi
 not_mistaken : (words : List Text) (told : Text) (meant : Option Text) (given : Given) → Give words given
     → AreMistaken words told meant → ⊥
 not_mistaken words told meant given give (inl x) = none_among words given give x.0 x.1
-not_mistaken words told meant given give (inr x) = none_read (given_by words) given give.is x.1
+not_mistaken words told meant given give (inr x) = none_read (given_by words) given x.0 give.is x.2
 
 refused_word : (words : List Text) (given : Given) (fault : WordFault) → Give words given
     → ((g : Given) × Give words g × IsWordFault g (refusal.Word fault)) → IsWordFault given (refusal.Word fault)
@@ -98,21 +106,8 @@ planned_words given (Err refusal.Memory) is none = refl
 -- ---- what is answered for the command that the matches hold
 
 pub give_of : (words : List Text) (m : ArgMatches) (given : Given) → HasWords words m
-    → Some given ≡ option_and_then given_in (subcommand_rows_of m) → Give words given
-give_of words m given has e = record {
-  faultless = has.faultless;
-  is = ap (λ (o : Option (Text × List Row)). option_and_then given_in o) (sym has.entered) ∙ sym e;
-}
-
-pub none_given_by : (words : List Text) (told : Text) (m : ArgMatches) → HasWords words m
-    → None ≡ option_and_then given_in (subcommand_rows_of m) → told ≡ told_of (subcommand_rows_of m) → AreMistaken words told None
-none_given_by words told m has e is =
-    inr (
-      has.faultless,
-      ap (λ (o : Option (Text × List Row)). option_and_then given_in o) (sym has.entered) ∙ sym e,
-      is ∙ ap told_of has.entered,
-      refl,
-    )
+    → given_in (subcommand_rows_of m) ≡ Ok given → Give words given
+give_of words m given has e = record { faultless = has.faultless; is = ap given_in (sym has.entered) ∙ e }
 
 pub answered : (words : List Text) (given : Given) (result : Result Plan WordsRefusal) → Give words given
     → MatchResult result (Asks given) (IsRefused given) → MatchResult result (AskFor words) (AreRefused words)

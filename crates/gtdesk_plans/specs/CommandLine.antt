@@ -13,6 +13,7 @@ use Rattle.gtdesk_plans.specs.Commands.Ask as ask
 use Rattle.gtdesk_plans.specs.Commands.Diff as diff
 use Rattle.gtdesk_plans.specs.Commands.Faults as faults
 use Rattle.gtdesk_plans.specs.Commands.Hours as hours
+use Rattle.gtdesk_plans.specs.Commands.Mend as mend
 use Rattle.gtdesk_plans.specs.Commands.Now as now
 use Rattle.gtdesk_plans.specs.Commands.Picture as picture
 use Rattle.gtdesk_plans.specs.Commands.Records as records
@@ -30,8 +31,8 @@ none_given = record {
 abbrev pub desk_app : App
 desk_app =
     fold (λ program command. with_subcommand program command.top) none_given
-    (now.app ∷ faults.app ∷ words.app ∷ hours.app ∷ same.app ∷ diff.app ∷ ask.app ∷ records.app ∷ picture.app
-    ∷ picture.domain_app ∷ [])
+    (now.app ∷ faults.app ∷ words.app ∷ hours.app ∷ same.app ∷ diff.app ∷ ask.app ∷ records.app ∷ mend.app
+    ∷ picture.app ∷ picture.domain_app ∷ [])
 
 -- The words have no fault, and the matches are theirs.
 pub record HasWords (words : List Text) (m : ArgMatches) : Type 0 where
@@ -60,10 +61,3 @@ version_line = codes "gtdesk 0.1.0\n"
 -- What is wrong with words that have a fault of this kind, as the library names it.
 abbrev pub usage_text : ErrorKind → Text
 usage_text kind = unwrap_or (kind_text kind) (codes "the words are not understood")
-
--- What is wrong with words that have no fault and give no command with all of its words.
-abbrev pub neither_or_both : Text
-neither_or_both = codes "hours takes either TEXT or --of DOMAIN"
-
-abbrev pub words_or_file : Text
-words_or_file = codes "same takes either FIRST and SECOND or --file FILE alone"

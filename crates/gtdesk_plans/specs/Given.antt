@@ -1,77 +1,126 @@
 -- Which words of a command are given.
-use Rattle.std.specs.Prelude.{◌≡◌, ◌⊎◌, Bool, false, List, [], ◌∷◌, Option, Some, None, codes, option_and_then, option_map}
+use Rattle.std.specs.Prelude.{◌≡◌, ◌⊎◌, ◌||◌, ◌&&◌, Bool, false, List, [], ◌∷◌, Option, Some, None, Result, Ok, Err, codes}
 use Rattle.std.specs.Prelude.{if◌then◌else◌}
 use Rattle.std.specs.Str.{bytes_eq}
-use Rattle.clap.specs.Walk.{Row, first_of}
+use Rattle.clap.specs.Walk.{Row}
 use Rattle.clap.specs.Simple.{subcommand_of}
 use Rattle.clap.specs.Kinds.{IsAmong}
 use Rattle.clap.specs.Faults.{fault_of}
 use Rattle.clap.specs.declared.error.kind.ErrorKind.{ErrorKind}
 use Rattle.gtdesk_plans.specs.Arguments.{Text}
-use Rattle.gtdesk_plans.specs.CommandLine.{desk_app, is_request, neither_or_both, usage_text, words_or_file}
+use Rattle.gtdesk_plans.specs.CommandLine.{desk_app, is_request, usage_text}
 use Rattle.gtdesk_plans.specs.Hints.{meant_by}
-use Rattle.gtdesk_plans.specs.Rows.{is_given}
+use Rattle.gtdesk_plans.specs.Rows.{has_value, is_given, is_read_once, text_of, texts_of}
 use Rattle.gtdesk_plans.specs.declared.forms.Form.{Form}
 use Rattle.gtdesk_plans.specs.declared.forms.Form.TheVariants as form
+use Rattle.gtdesk_plans.specs.declared.forms.Misuse.{Misuse}
+use Rattle.gtdesk_plans.specs.declared.forms.Misuse.TheVariants as misuse
 
--- One form of two, if the word or the option of the other is not there.
-abbrev pub hours_form : Option Text → Option Text → Option Form
-hours_form (Some text) None = Some form.Hours
-hours_form None (Some domain) = Some form.HoursOf
-hours_form text domain = None
+-- What is wrong with the words of a command that have no fault and do not give all that it takes, or more.
+abbrev pub told_of : Misuse → Text
+told_of misuse.TextOrDomain = codes "hours takes either TEXT or --of DOMAIN"
+told_of misuse.StrictDomain = codes "hours takes --strict with TEXT alone"
+told_of misuse.WordsOrFile = codes "same takes either FIRST and SECOND or --file FILE alone"
+told_of misuse.NoWarnings = codes "faults takes --allow and --at with --warn alone"
+told_of misuse.FileOrHours = codes "mend takes either FILE or hours TEXT"
+told_of misuse.MomentOrZone = codes "now takes either MOMENT or --zone NAME"
+told_of misuse.TwoForms = codes "now takes either --json or --table"
+told_of misuse.InputTwice = codes "standard input is given more than once"
+told_of misuse.Nothing = codes "the words are not understood"
 
--- The form of `same` with both of its words, of domains or of opening hours; and with neither, of which the option of a file is
--- given alone.
-abbrev pub pair_form : Bool → Form
-pair_form hours = if hours then form.SameHours else form.Same
+-- `now` at a moment or by the clock of a zone, by whether the zone and a third word are given: with a zone, the second word is the
+-- last.
+abbrev pub moment_form : Bool → Bool → Result Form Misuse
+moment_form zone third =
+    if zone then (if third then Err misuse.MomentOrZone else Ok form.NowIn)
+    else if third then Ok form.Now
+    else Err misuse.MomentOrZone
 
-abbrev pub rows_form : Bool → Option Text → Option Form
-rows_form hours None = if hours then None else Some form.SameRows
-rows_form hours (Some from) = None
+-- An answer has one form.
+abbrev pub now_form : List Row → Result Form Misuse
+now_form rows =
+    if is_given (codes "json") rows && is_given (codes "table") rows then Err misuse.TwoForms
+    else moment_form (has_value (codes "zone") rows) (has_value (codes "VEHICLE") rows)
 
-abbrev pub pair_or_none : Bool → Option Text → Option Form
-pair_or_none hours (Some second) = Some (pair_form hours)
-pair_or_none hours None = None
+-- A form whose files are these: standard input is one of them at most.
+abbrev pub form_with : Form → List Text → Result Form Misuse
+form_with form files = if is_read_once files then Ok form else Err misuse.InputTwice
 
-abbrev pub rows_or_none : Bool → Option Text → Option Text → Option Form
-rows_or_none hours None from = rows_form hours from
-rows_or_none hours (Some first) from = None
+-- Options of warnings go with warnings.
+abbrev pub warned_form : Bool → Bool → Bool → List Text → Result Form Misuse
+warned_form warn allow at files =
+    if warn then form_with form.Faults files
+    else if allow then Err misuse.NoWarnings
+    else if at then Err misuse.NoWarnings
+    else form_with form.Faults files
 
-abbrev pub by_file : Option Text → Bool → Option Text → Option Text → Option Text → Option Form
-by_file None hours first second from = pair_or_none hours second
-by_file (Some file) hours first second from = rows_or_none hours first from
+abbrev pub faults_form : List Row → Result Form Misuse
+faults_form rows =
+    warned_form (is_given (codes "warn") rows) (has_value (codes "allow") rows) (has_value (codes "at") rows)
+    (texts_of (codes "FILE") rows)
 
-abbrev pub same_form : List Row → Option Form
+-- `hours` of a text or of a domain, of which one is given; a domain is not read strictly.
+abbrev pub hours_form : Bool → Bool → Bool → Result Form Misuse
+hours_form text domain strict =
+    if text then (if domain then Err misuse.TextOrDomain else Ok form.Hours)
+    else if domain then (if strict then Err misuse.StrictDomain else Ok form.HoursOf)
+    else Err misuse.TextOrDomain
+
+-- `same` of two words, of domains or of opening hours; or of files, which stand alone.
+abbrev pub pair_form : Bool → Bool → Result Form Misuse
+pair_form hours second =
+    if second then (if hours then Ok form.SameHours else Ok form.Same) else Err misuse.WordsOrFile
+
+abbrev pub rows_form : Bool → List Text → Result Form Misuse
+rows_form more files = if more then Err misuse.WordsOrFile else form_with form.SameRows files
+
+abbrev pub same_form : List Row → Result Form Misuse
 same_form rows =
-    by_file (first_of (codes "file") rows) (is_given (codes "hours") rows) (first_of (codes "FIRST") rows)
-    (first_of (codes "SECOND") rows) (first_of (codes "from") rows)
+    if has_value (codes "file") rows
+    then rows_form (is_given (codes "hours") rows || (has_value (codes "FIRST") rows || has_value (codes "from") rows))
+    (texts_of (codes "file") rows)
+    else pair_form (is_given (codes "hours") rows) (has_value (codes "SECOND") rows)
+
+-- `mend` of a file, or of a text behind the word `hours`.
+abbrev pub mend_form : List Row → Result Form Misuse
+mend_form rows =
+    if has_value (codes "TEXT") rows
+    then (if bytes_eq (text_of (codes "FILE") rows) (codes "hours") then Ok form.MendHours else Err misuse.FileOrHours)
+    else Ok form.Mend
 
 -- The form of the command of a name, from what was found for it.
-abbrev pub form_in : Text × List Row → Option Form
+abbrev pub form_in : Text × List Row → Result Form Misuse
 form_in found =
-    if bytes_eq found.0 (codes "now") then Some form.Now
-    else if bytes_eq found.0 (codes "faults") then Some form.Faults
-    else if bytes_eq found.0 (codes "words") then Some form.Words
-    else if bytes_eq found.0 (codes "hours") then hours_form (first_of (codes "TEXT") found.1) (first_of (codes "of") found.1)
+    if bytes_eq found.0 (codes "now") then now_form found.1
+    else if bytes_eq found.0 (codes "faults") then faults_form found.1
+    else if bytes_eq found.0 (codes "words") then Ok form.Words
+    else if bytes_eq found.0 (codes "hours")
+    then hours_form (has_value (codes "TEXT") found.1) (has_value (codes "of") found.1) (is_given (codes "strict") found.1)
     else if bytes_eq found.0 (codes "same") then same_form found.1
-    else if bytes_eq found.0 (codes "diff") then Some form.Diff
-    else if bytes_eq found.0 (codes "ask") then Some form.Ask
-    else if bytes_eq found.0 (codes "records") then Some form.Records
-    else if bytes_eq found.0 (codes "picture") then Some form.Picture
-    else if bytes_eq found.0 (codes "picture-domain") then Some form.PictureDomain
-    else None
+    else if bytes_eq found.0 (codes "diff") then Ok form.Diff
+    else if bytes_eq found.0 (codes "ask") then Ok form.Ask
+    else if bytes_eq found.0 (codes "records") then form_with form.Records (texts_of (codes "FILE") found.1)
+    else if bytes_eq found.0 (codes "mend") then mend_form found.1
+    else if bytes_eq found.0 (codes "picture") then Ok form.Picture
+    else if bytes_eq found.0 (codes "picture-domain") then Ok form.PictureDomain
+    else Err misuse.Nothing
 
 -- A command, by its form, with what was found for it.
 pub record Given : Type 0 where
   pub form : Form
   pub rows : List Row
 
-abbrev pub given_in : Text × List Row → Option Given
-given_in found = option_map (λ form. record { form = form; rows = found.1 }) (form_in found)
+abbrev pub with_rows : List Row → Result Form Misuse → Result Given Misuse
+with_rows rows (Ok form) = Ok (record { form = form; rows = rows })
+with_rows rows (Err misuse) = Err misuse
 
--- The command among the words of a command line.
-abbrev pub given_by : List Text → Option Given
-given_by words = option_and_then given_in (subcommand_of desk_app words)
+abbrev pub given_in : Option (Text × List Row) → Result Given Misuse
+given_in None = Err misuse.Nothing
+given_in (Some found) = with_rows found.1 (form_in found)
+
+-- The command among the words of a command line, or what is wrong with them.
+abbrev pub given_by : List Text → Result Given Misuse
+given_by words = given_in (subcommand_of desk_app words)
 
 -- What is read: without words, the program is asked for its help.
 abbrev pub help_words : List Text
@@ -81,24 +130,16 @@ abbrev pub asked_words : List Text → List Text
 asked_words [] = help_words
 asked_words (word ∷ words) = word ∷ words
 
--- What is wrong with the words of a command that have no fault and do not give all that it takes.
-abbrev pub left_to_see : Text → Text
-left_to_see name = if bytes_eq name (codes "same") then words_or_file else neither_or_both
-
-abbrev pub told_of : Option (Text × List Row) → Text
-told_of None = neither_or_both
-told_of (Some found) = left_to_see found.0
-
 -- The words give this command, with all of its words and no fault.
 pub record Give (words : List Text) (given : Given) : Type 0 where
   pub faultless : fault_of desk_app words ≡ []
-  pub is : given_by words ≡ Some given
+  pub is : given_by words ≡ Ok given
 
--- The words have a fault that is not a request for help; or they have none, and do not give a command with all of its words. The
+-- The words have a fault that is not a request for help; or they have none, and do not give a command with what it takes. The
 -- text says which fault it is, and a command may be meant.
 abbrev pub AreMistaken : List Text → Text → Option Text → Type 0
 AreMistaken words told meant =
     ((kind : ErrorKind) × IsAmong kind (fault_of desk_app words) × (is_request kind ≡ false) × (told ≡ usage_text kind)
     × (meant ≡ meant_by kind words))
-    ⊎ ((fault_of desk_app words ≡ []) × (given_by words ≡ None) × (told ≡ told_of (subcommand_of desk_app words))
+    ⊎ ((misuse : Misuse) × (fault_of desk_app words ≡ []) × (given_by words ≡ Err misuse) × (told ≡ told_of misuse)
     × (meant ≡ None))

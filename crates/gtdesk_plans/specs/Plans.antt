@@ -1,18 +1,22 @@
 -- What a command line asks for, and why it is refused.
-use Rattle.std.specs.Prelude.{◌≡◌, List, Option, Some, None, option_map, string_bytes}
+use Rattle.std.specs.Prelude.{◌≡◌, List, [], ◌∷◌, Option, map, option_map, string_bytes}
 use Rattle.clap.specs.declared.error.kind.ErrorKind.{ErrorKind}
 use Rattle.clap.specs.declared.error.kind.ErrorKind.TheVariants.{DisplayVersion}
 use Rattle.gtdesk_plans.specs.Arguments.{Text}
 use Rattle.gtdesk_plans.specs.CommandLine.{AskForText, version_line}
 use Rattle.gtdesk_plans.specs.Commands.{asks_of, words_of}
 use Rattle.gtdesk_plans.specs.Given.{AreMistaken, Give, Given}
-use Rattle.gtdesk_plans.specs.Readings.{AreStopped, IsFirstFault}
+use Rattle.gtdesk_words.specs.declared.moment.Moment.{Moment}
+use Rattle.gtdesk_words.specs.Readings.{AreStopped, IsFirstFault}
+use Rattle.gtdesk_plans.specs.declared.commands.now.ZonePlan.{ZonePlan}
+use Rattle.gtdesk_plans.specs.declared.plans.Files.{Files}
+use Rattle.gtdesk_plans.specs.declared.plans.Files.TheVariants as files
 use Rattle.gtdesk_plans.specs.declared.plans.OnePlan.{OnePlan}
 use Rattle.gtdesk_plans.specs.declared.plans.OnePlan.TheVariants as one
 use Rattle.gtdesk_plans.specs.declared.plans.Plan.{Plan}
 use Rattle.gtdesk_plans.specs.declared.plans.Plan.TheVariants as plan
-use Rattle.gtdesk_plans.specs.declared.refusal.WordsRefusal.{WordsRefusal}
-use Rattle.gtdesk_plans.specs.declared.refusal.WordsRefusal.TheVariants as refusal
+use Rattle.gtdesk_words.specs.declared.refusal.WordsRefusal.{WordsRefusal}
+use Rattle.gtdesk_words.specs.declared.refusal.WordsRefusal.TheVariants as refusal
 
 -- The command asks for what the plan carries out.
 abbrev pub Asks : Given → Plan → Type 0
@@ -45,11 +49,22 @@ AreRefused words (refusal.Usage told meant) = AreMistaken words told.now (option
 AreRefused words (refusal.Word fault) = (given : Given) × Give words given × IsWordFault given (refusal.Word fault)
 AreRefused words refusal.Memory = Unit {0}
 
--- The path of the file that a plan reads which reads one at most.
-abbrev pub file_of : OnePlan → Option Text
-file_of (one.Now p) = Some (string_bytes p.file)
-file_of (one.Faults p) = Some (string_bytes p.file)
-file_of (one.Picture p) = Some (string_bytes p.file)
-file_of (one.SameRows file) = Some (string_bytes file)
-file_of (one.Records file) = Some (string_bytes file)
-file_of other = None
+-- The paths of the files that a plan reads, one after the other.
+abbrev pub files_of : OnePlan → List Text
+files_of (one.Now p) = string_bytes p.file ∷ []
+files_of (one.Faults p) = map string_bytes p.files.items
+files_of (one.Picture p) = string_bytes p.file ∷ []
+files_of (one.SameRows files) = map string_bytes files.items
+files_of (one.Records files) = map string_bytes files.items
+files_of (one.Mend file) = string_bytes file ∷ []
+files_of other = []
+
+-- The same of what a plan answers.
+abbrev pub texts_in : Files → List Text
+texts_in files.None = []
+texts_in (files.One path) = path.now ∷ []
+texts_in (files.Several paths) = map string_bytes paths.now
+
+-- The plan of a zone, once it is known which moment its clock shows.
+abbrev pub plan_at : ZonePlan → Moment → OnePlan
+plan_at p moment = one.Now (record { file = p.file; moment = moment; view = p.view })

@@ -16,6 +16,11 @@ pub(crate) enum Argument {
         name: &'static str,
         help: &'static str,
     },
+    /// A word that must be given, and may be followed by more of its kind.
+    Words {
+        name: &'static str,
+        help: &'static str,
+    },
     /// A word that may be left out.
     FreeWord {
         name: &'static str,
@@ -28,6 +33,12 @@ pub(crate) enum Argument {
     },
     /// An option with a value, for which help shows a name.
     Option {
+        name: &'static str,
+        value: &'static str,
+        help: &'static str,
+    },
+    /// An option with one value or more.
+    Options {
         name: &'static str,
         value: &'static str,
         help: &'static str,
@@ -68,6 +79,11 @@ fn arg_of<'a>(alloc: Global, argument: Argument) -> Arg<'a>
             .required(true)
             .action(ArgAction::Set)
             .help(help),
+        Argument::Words { name, help } => Arg::new(alloc, name)
+            .required(true)
+            .num_args(1..)
+            .action(ArgAction::Append)
+            .help(help),
         Argument::FreeWord { name, help } => {
             Arg::new(alloc, name).action(ArgAction::Set).help(help)
         }
@@ -79,6 +95,12 @@ fn arg_of<'a>(alloc: Global, argument: Argument) -> Arg<'a>
             .long(name)
             .value_name(value)
             .action(ArgAction::Set)
+            .help(help),
+        Argument::Options { name, value, help } => Arg::new(alloc, name)
+            .long(name)
+            .value_name(value)
+            .num_args(1..)
+            .action(ArgAction::Append)
             .help(help),
     }
 }

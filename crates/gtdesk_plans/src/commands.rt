@@ -4,6 +4,7 @@ pub(crate) mod ask;
 pub(crate) mod diff;
 pub(crate) mod faults;
 pub(crate) mod hours;
+pub(crate) mod mend;
 pub(crate) mod now;
 pub(crate) mod picture;
 pub(crate) mod records;
@@ -12,7 +13,8 @@ pub(crate) mod words;
 
 pub use diff::DiffPlan;
 pub use faults::FaultsPlan;
-pub use now::NowPlan;
+pub use hours::HoursPlan;
+pub use now::{NowPlan, NowView, ZonePlan};
 pub use picture::{DomainPicturePlan, PicturePlan, PictureSubject};
 pub use same::SamePlan;
 pub use words::WordsPlan;

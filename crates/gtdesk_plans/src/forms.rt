@@ -1,19 +1,21 @@
 //! The forms of commands.
 
-ghost use Rattle.std.specs.Prelude.{◌≡◌, option_map, option_and_then};
+ghost use Rattle.std.specs.Prelude.{◌≡◌};
 ghost use Rattle.clap.specs.Matches.{found_of};
-ghost use Rattle.clap.specs.Simple.{subcommand_rows_of};
 ghost use Rattle.clap.specs.Walk.{rows_of};
 ghost use Rattle.gtdesk_plans.specs.Given as spec;
+ghost use Rattle.gtdesk_plans.specs.Rows.{texts_of};
 
-use crate::given::{is_given, value};
+use crate::given::{has_value, is_given, is_read_once, text};
 use clap::ArgMatches;
 
-/// The form of a command. Some commands have two.
+/// The form of a command. Some commands have two or three.
 #[derive(Clone, Copy)]
 pub(crate) enum Form {
     /// `now`
     Now,
+    /// `now --zone`
+    NowIn,
     /// `faults`
     Faults,
     /// `words`
@@ -34,77 +36,197 @@ pub(crate) enum Form {
     Ask,
     /// `records`
     Records,
+    /// `mend FILE`
+    Mend,
+    /// `mend hours TEXT`
+    MendHours,
     /// `picture`
     Picture,
     /// `picture-domain`
     PictureDomain,
 }
 
-// The form of `hours`, if either its word or its option is given.
-fn hours_form(text: Option<&str>, domain: Option<&str>) -> Option<Form>
-    ensures { result ≡ spec.hours_form (option_map (λ s. s.now) text.entry) (option_map (λ s. s.now) domain.entry) }
-{
-    match text {
-        Some(_) => match domain {
-            Some(_) => None,
-            None => Some(Form::Hours),
-        },
-        None => match domain {
-            Some(_) => Some(Form::HoursOf),
-            None => None,
-        },
+/// What is wrong with the words of a command that the library takes.
+#[derive(Clone, Copy)]
+pub(crate) enum Misuse {
+    /// `hours` has both its word and its option of a domain, or neither.
+    TextOrDomain,
+    /// `hours --strict` has no text.
+    StrictDomain,
+    /// `same` has neither both its words nor its option of a file alone.
+    WordsOrFile,
+    /// `faults` has options of warnings, and is not asked for these.
+    NoWarnings,
+    /// `mend` has two words, of which the first is not `hours`.
+    FileOrHours,
+    /// `now` has both a moment and a zone, or neither.
+    MomentOrZone,
+    /// `now` is to print two forms.
+    TwoForms,
+    /// Standard input is among the files more than once.
+    InputTwice,
+    /// No command is given.
+    Nothing,
+}
+
+impl Misuse {
+    ghost use Rattle.std.specs.Prelude.{◌≡◌};
+    ghost use Rattle.gtdesk_plans.specs.Given.{told_of};
+
+    /// The same in words.
+    pub(crate) fn told(self) -> &'static str
+        ensures { result.now ≡ told_of self }
+    {
+        match self {
+            Misuse::TextOrDomain => "hours takes either TEXT or --of DOMAIN",
+            Misuse::StrictDomain => "hours takes --strict with TEXT alone",
+            Misuse::WordsOrFile => "same takes either FIRST and SECOND or --file FILE alone",
+            Misuse::NoWarnings => "faults takes --allow and --at with --warn alone",
+            Misuse::FileOrHours => "mend takes either FILE or hours TEXT",
+            Misuse::MomentOrZone => "now takes either MOMENT or --zone NAME",
+            Misuse::TwoForms => "now takes either --json or --table",
+            Misuse::InputTwice => "standard input is given more than once",
+            Misuse::Nothing => "the words are not understood",
+        }
     }
 }
 
-// The form of `same` with both of its words, of domains or of opening hours.
-fn pair_form(hours: bool) -> Form
-    ensures { result ≡ spec.pair_form hours }
+// A form whose files are the words of this name, or the values of the option.
+fn form_with(form: Form, given: &ArgMatches<'_>, name: &str) -> Result<Form, Misuse>
+    ensures { result ≡ spec.form_with form (texts_of name.now (rows_of (found_of given.now))) }
 {
-    if hours { Form::SameHours } else { Form::Same }
+    if is_read_once(given, name) {
+        Ok(form)
+    } else {
+        Err(Misuse::InputTwice)
+    }
 }
 
-// The form of `same` with neither of its words, of which the option of a file is to be given alone.
-fn rows_form(hours: bool, from: Option<&str>) -> Option<Form>
-    ensures { result ≡ spec.rows_form hours (option_map (λ s. s.now) from.entry) }
+// The form of `now`, by whether its zone and its third word are given.
+fn moment_form(zone: bool, third: bool) -> Result<Form, Misuse>
+    ensures { result ≡ spec.moment_form zone third }
 {
-    match from {
-        Some(_) => None,
-        None => { if hours { None } else { Some(Form::SameRows) } }
+    if zone {
+        if third {
+            Err(Misuse::MomentOrZone)
+        } else {
+            Ok(Form::NowIn)
+        }
+    } else if third {
+        Ok(Form::Now)
+    } else {
+        Err(Misuse::MomentOrZone)
+    }
+}
+
+// The form of `now`.
+fn now_form(given: &ArgMatches<'_>) -> Result<Form, Misuse>
+    ensures { result ≡ spec.now_form (rows_of (found_of given.now)) }
+{
+    if is_given(given, "json") && is_given(given, "table") {
+        return Err(Misuse::TwoForms);
+    }
+    moment_form(has_value(given, "zone"), has_value(given, "VEHICLE"))
+}
+
+// The form of `faults`.
+fn faults_form(given: &ArgMatches<'_>) -> Result<Form, Misuse>
+    ensures { result ≡ spec.faults_form (rows_of (found_of given.now)) }
+{
+    if !is_given(given, "warn") {
+        if has_value(given, "allow") {
+            return Err(Misuse::NoWarnings);
+        }
+        if has_value(given, "at") {
+            return Err(Misuse::NoWarnings);
+        }
+    }
+    form_with(Form::Faults, given, "FILE")
+}
+
+// The form of `hours`, by whether its text, its domain and its option are given.
+fn hours_form(text: bool, domain: bool, strict: bool) -> Result<Form, Misuse>
+    ensures { result ≡ spec.hours_form text domain strict }
+{
+    if text {
+        if domain {
+            Err(Misuse::TextOrDomain)
+        } else {
+            Ok(Form::Hours)
+        }
+    } else if domain {
+        if strict {
+            Err(Misuse::StrictDomain)
+        } else {
+            Ok(Form::HoursOf)
+        }
+    } else {
+        Err(Misuse::TextOrDomain)
+    }
+}
+
+// The form of `same` of two words, of domains or of opening hours.
+fn pair_form(hours: bool, second: bool) -> Result<Form, Misuse>
+    ensures { result ≡ spec.pair_form hours second }
+{
+    if second {
+        if hours {
+            Ok(Form::SameHours)
+        } else {
+            Ok(Form::Same)
+        }
+    } else {
+        Err(Misuse::WordsOrFile)
     }
 }
 
 // The form of `same`.
-fn same_form(given: &ArgMatches<'_>) -> Option<Form>
+fn same_form(given: &ArgMatches<'_>) -> Result<Form, Misuse>
     ensures { result ≡ spec.same_form (rows_of (found_of given.now)) }
 {
     let hours = is_given(given, "hours");
-    match value(given, "file") {
-        None => match value(given, "SECOND") {
-            Some(_) => Some(pair_form(hours)),
-            None => None,
-        },
-        Some(_) => match value(given, "FIRST") {
-            Some(_) => None,
-            None => rows_form(hours, value(given, "from")),
-        },
+    if !has_value(given, "file") {
+        return pair_form(hours, has_value(given, "SECOND"));
+    }
+    if hours || has_value(given, "FIRST") || has_value(given, "from") {
+        return Err(Misuse::WordsOrFile);
+    }
+    form_with(Form::SameRows, given, "file")
+}
+
+// The form of `mend`.
+fn mend_form(given: &ArgMatches<'_>) -> Result<Form, Misuse>
+    ensures { result ≡ spec.mend_form (rows_of (found_of given.now)) }
+{
+    if !has_value(given, "TEXT") {
+        Ok(Form::Mend)
+    } else if text(given, "FILE") == "hours" {
+        Ok(Form::MendHours)
+    } else {
+        Err(Misuse::FileOrHours)
     }
 }
 
-/// The form of the command of this name.
-pub(crate) fn form_of(name: &str, given: &ArgMatches<'_>) -> Option<Form>
+/// The form of the command of this name, or what is wrong with its words.
+pub(crate) fn form_of(name: &str, given: &ArgMatches<'_>) -> Result<Form, Misuse>
     ensures { result ≡ spec.form_in (name.now, rows_of (found_of given.now)) }
 {
     match name {
-        "now" => Some(Form::Now),
-        "faults" => Some(Form::Faults),
-        "words" => Some(Form::Words),
-        "hours" => hours_form(value(given, "TEXT"), value(given, "of")),
+        "now" => now_form(given),
+        "faults" => faults_form(given),
+        "words" => Ok(Form::Words),
+        "hours" => hours_form(
+            has_value(given, "TEXT"),
+            has_value(given, "of"),
+            is_given(given, "strict"),
+        ),
         "same" => same_form(given),
-        "diff" => Some(Form::Diff),
-        "ask" => Some(Form::Ask),
-        "records" => Some(Form::Records),
-        "picture" => Some(Form::Picture),
-        "picture-domain" => Some(Form::PictureDomain),
-        _ => None,
+        "diff" => Ok(Form::Diff),
+        "ask" => Ok(Form::Ask),
+        "records" => form_with(Form::Records, given, "FILE"),
+        "mend" => mend_form(given),
+        "picture" => Ok(Form::Picture),
+        "picture-domain" => Ok(Form::PictureDomain),
+        _ => Err(Misuse::Nothing),
     }
 }

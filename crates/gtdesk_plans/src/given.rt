@@ -1,11 +1,12 @@
 //! The words of a command, as they were given.
 
-ghost use Rattle.std.specs.Prelude.{◌≡◌, option_map};
+ghost use Rattle.std.specs.Prelude.{◌≡◌, IfOk, map, option_map, string_bytes};
 ghost use Rattle.clap.specs.Matches.{found_of};
-ghost use Rattle.clap.specs.Walk.{first_of, rows_of};
-ghost use Rattle.gtdesk_plans.specs.Rows.{is_given, is_set, text_of};
+ghost use Rattle.clap.specs.Walk.{all_of, first_of, rows_of};
+ghost use Rattle.gtdesk_plans.specs.Rows as spec;
 
 use clap::ArgMatches;
+use std::alloc::{AllocError, Global};
 
 /// The value of the word or the option of this name, if it was given.
 pub(crate) fn value<'a>(given: &ArgMatches<'a>, name: &str) -> Option<&'a str>
@@ -16,7 +17,7 @@ pub(crate) fn value<'a>(given: &ArgMatches<'a>, name: &str) -> Option<&'a str>
 
 /// The word of this name.
 pub(crate) fn text<'a>(given: &ArgMatches<'a>, name: &str) -> &'a str
-    ensures { result.now ≡ text_of name.now (rows_of (found_of given.now)) }
+    ensures { result.now ≡ spec.text_of name.now (rows_of (found_of given.now)) }
 {
     match value(given, name) {
         Some(text) => text,
@@ -24,9 +25,41 @@ pub(crate) fn text<'a>(given: &ArgMatches<'a>, name: &str) -> &'a str
     }
 }
 
+// Its values, if it was given.
+fn values<'m, 'a>(given: &'m ArgMatches<'a>, name: &str) -> Option<&'m [&'a str]>
+    ensures { option_map (λ s. map (λ t. t.now) s.now) result ≡ all_of name.now (rows_of (found_of given.now)) }
+{
+    given.get_raw(name)
+}
+
+// The same texts, to be kept.
+fn owned(alloc: Global, texts: &[&str]) -> Result<Vec<String>, AllocError>
+    ensures { IfOk result (λ owned. map string_bytes owned.items ≡ map (λ t. t.now) texts.now) }
+{
+    let mut owned = Vec::new(alloc);
+    for text in texts {
+        owned.push(String::from_str(alloc, *text)?)?;
+    }
+    Ok(owned)
+}
+
+/// The words of this name, or the values of the option.
+pub(crate) fn texts(
+    alloc: Global,
+    given: &ArgMatches<'_>,
+    name: &str,
+) -> Result<Vec<String>, AllocError>
+    ensures { IfOk result (λ texts. map string_bytes texts.items ≡ spec.texts_of name.now (rows_of (found_of given.now))) }
+{
+    match values(given, name) {
+        Some(texts) => owned(alloc, texts),
+        None => Ok(Vec::new(alloc)),
+    }
+}
+
 // Whether an option without a value was given, by what is kept of it.
 fn is_set(kept: Option<&str>) -> bool
-    ensures { result ≡ is_set (option_map (λ s. s.now) kept.entry) }
+    ensures { result ≡ spec.is_set (option_map (λ s. s.now) kept.entry) }
 {
     match kept {
         Some(text) => text == "true",
@@ -36,7 +69,53 @@ fn is_set(kept: Option<&str>) -> bool
 
 /// Whether the option of this name was given, which has no value.
 pub(crate) fn is_given(given: &ArgMatches<'_>, name: &str) -> bool
-    ensures { result ≡ is_given name.now (rows_of (found_of given.now)) }
+    ensures { result ≡ spec.is_given name.now (rows_of (found_of given.now)) }
 {
     is_set(value(given, name))
+}
+
+/// Whether the word or the option of this name was given, which has a value.
+pub(crate) fn has_value(given: &ArgMatches<'_>, name: &str) -> bool
+    ensures { result ≡ spec.has_value name.now (rows_of (found_of given.now)) }
+{
+    match value(given, name) {
+        Some(_) => true,
+        None => false,
+    }
+}
+
+// Whether standard input is among these files.
+fn has_input(files: &[&str]) -> bool
+    ensures { result ≡ spec.has_input (map (λ f. f.now) files.now) }
+{
+    match files {
+        [] => false,
+        [file, rest @ ..] => *file == "-" || has_input(rest),
+    }
+}
+
+// Whether it is among them once at most.
+fn is_once(files: &[&str]) -> bool
+    ensures { result ≡ spec.is_read_once (map (λ f. f.now) files.now) }
+{
+    match files {
+        [] => true,
+        [file, rest @ ..] => {
+            if *file == "-" {
+                !has_input(rest)
+            } else {
+                is_once(rest)
+            }
+        }
+    }
+}
+
+/// Whether standard input is once at most among the files that the words of this name give, or the values of the option.
+pub(crate) fn is_read_once(given: &ArgMatches<'_>, name: &str) -> bool
+    ensures { result ≡ spec.is_read_once (spec.texts_of name.now (rows_of (found_of given.now))) }
+{
+    match values(given, name) {
+        Some(files) => is_once(files),
+        None => true,
+    }
 }

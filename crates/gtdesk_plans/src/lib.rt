@@ -10,17 +10,12 @@ mod commands;
 mod forms;
 mod given;
 mod hints;
-mod hours;
 mod planner;
 mod plans;
-mod refusal;
-mod words;
 
 pub use commands::{
-    DiffPlan, DomainPicturePlan, FaultsPlan, NowPlan, PicturePlan, PictureSubject, SamePlan,
-    WordsPlan,
+    DiffPlan, DomainPicturePlan, FaultsPlan, HoursPlan, NowPlan, NowView, PicturePlan,
+    PictureSubject, SamePlan, WordsPlan, ZonePlan,
 };
-pub use hours::hours_domain;
 pub use planner::plan;
-pub use plans::{Moment, OnePlan, Plan};
-pub use refusal::{NoDomain, Reason, WordFault, WordName, WordsRefusal};
+pub use plans::{Files, OnePlan, Plan};

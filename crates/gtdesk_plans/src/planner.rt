@@ -1,6 +1,6 @@
 //! From the words of a command line to a plan.
 
-ghost use Rattle.std.specs.Prelude.{◌≡◌, ◌⊎◌, IfErr, IfOk, MatchResult, map, option_and_then, option_map, string_bytes};
+ghost use Rattle.std.specs.Prelude.{◌≡◌, ◌⊎◌, Err, IfErr, IfOk, MatchResult, Ok, map, string_bytes};
 ghost use Rattle.clap.specs.Faults.{fault_of};
 ghost use Rattle.clap.specs.Kinds.{HasKind};
 ghost use Rattle.clap.specs.Matches.{found_of};
@@ -10,26 +10,20 @@ ghost use Rattle.clap.specs.declared.error.kind.ErrorKind.TheVariants.{DisplayVe
 ghost use Rattle.gtdesk_plans.specs.CommandLine as spec;
 ghost use Rattle.gtdesk_plans.specs.CommandLine.{desk_app, version_line};
 ghost use Rattle.gtdesk_plans.specs.Commands.{asks_of, words_of};
-ghost use Rattle.gtdesk_plans.specs.Given.{Give, Given, asked_words, given_in, help_words, told_of};
+ghost use Rattle.gtdesk_plans.specs.Given.{Give, Given, asked_words, given_in, help_words};
 ghost use Rattle.gtdesk_plans.specs.Plans.{AreRefused, AskFor, Asks, IsRefused, IsShown, IsWordFault};
-ghost use Rattle.gtdesk_plans.specs.Readings.{AreStopped};
-ghost use Rattle.gtdesk_plans.specs.declared.refusal.WordsRefusal.{WordsRefusal};
+ghost use Rattle.gtdesk_words.specs.Readings.{AreStopped};
+ghost use Rattle.gtdesk_words.specs.declared.refusal.WordsRefusal.{WordsRefusal};
 
 use crate::command_line::parse;
-use crate::commands::{ask, diff, faults, hours, now, picture, records, same, words};
-use crate::forms::{Form, form_of};
+use crate::commands::{ask, diff, faults, hours, mend, now, picture, records, same, words};
+use crate::forms::{Form, Misuse, form_of};
 use crate::hints::meant_by;
 use crate::plans::{OnePlan, Plan};
-use crate::refusal::WordsRefusal;
 use clap::ArgMatches;
 use clap::error::ErrorKind;
+use gtdesk_words::WordsRefusal;
 use std::alloc::{AllocError, Global};
-
-// Why the words of a command are refused that the library takes: it leaves nothing to see to but this.
-const NEITHER_OR_BOTH: &str = "hours takes either TEXT or --of DOMAIN";
-
-// The same of `same`.
-const WORDS_OR_FILE: &str = "same takes either FIRST and SECOND or --file FILE alone";
 
 // The line of the version.
 const VERSION_LINE: &str = "gtdesk 0.1.0\n";
@@ -109,6 +103,7 @@ fn plan_form(alloc: Global, form: Form, given: &ArgMatches<'_>) -> Result<Plan, 
 {
     match form {
         Form::Now => now::plan(alloc, given),
+        Form::NowIn => now::plan_zone(alloc, given),
         Form::Faults => faults::plan(alloc, given),
         Form::Words => words::plan(alloc, given),
         Form::Hours => hours::plan(alloc, given),
@@ -119,35 +114,26 @@ fn plan_form(alloc: Global, form: Form, given: &ArgMatches<'_>) -> Result<Plan, 
         Form::Diff => diff::plan(alloc, given),
         Form::Ask => ask::plan(alloc, given),
         Form::Records => records::plan(alloc, given),
+        Form::Mend => mend::plan(alloc, given),
+        Form::MendHours => mend::plan_hours(alloc, given),
         Form::Picture => picture::plan(alloc, given),
         Form::PictureDomain => picture::plan_domain(alloc, given),
     }
 }
 
-// The command that the matches hold, with what was found for it.
-fn given<'m, 'a>(matches: &'m ArgMatches<'a>) -> Option<(Form, &'m ArgMatches<'a>)>
-    ensures { option_map (λ found. record { form = found.0; rows = rows_of (found_of found.1.now) }) result
-        ≡ option_and_then given_in (subcommand_rows_of matches.now) }
+// The command that the matches hold, with what was found for it; or what is wrong with its words.
+fn given<'m, 'a>(matches: &'m ArgMatches<'a>) -> Result<(Form, &'m ArgMatches<'a>), Misuse>
+    ensures { MatchResult result
+        (λ found. given_in (subcommand_rows_of matches.now)
+        ≡ Ok (record { form = found.0; rows = rows_of (found_of found.1.now) }))
+        (λ misuse. given_in (subcommand_rows_of matches.now) ≡ Err misuse) }
 {
     match matches.subcommand() {
         Some((name, given)) => match form_of(name, given) {
-            Some(form) => Some((form, given)),
-            None => None,
+            Ok(form) => Ok((form, given)),
+            Err(misuse) => Err(misuse),
         },
-        None => None,
-    }
-}
-
-// What is wrong with the words of a command that the library takes, and that do not give all that it takes.
-fn left_to_see(matches: &ArgMatches<'_>) -> &'static str
-    ensures { result.now ≡ told_of (subcommand_rows_of matches.now) }
-{
-    match matches.subcommand() {
-        Some((name, _)) => match name {
-            "same" => WORDS_OR_FILE,
-            _ => NEITHER_OR_BOTH,
-        },
-        None => NEITHER_OR_BOTH,
+        None => Err(Misuse::Nothing),
     }
 }
 
@@ -157,9 +143,9 @@ fn plan_line(alloc: Global, words: &[String]) -> Result<Plan, WordsRefusal>
 {
     match parse(alloc, words) {
         Ok(matches) => match given(&matches) {
-            Some((form, given)) => plan_form(alloc, form, given),
-            None => Err(WordsRefusal::Usage {
-                told: left_to_see(&matches),
+            Ok((form, given)) => plan_form(alloc, form, given),
+            Err(misuse) => Err(WordsRefusal::Usage {
+                told: misuse.told(),
                 meant: None,
             }),
         },

@@ -19,7 +19,8 @@ use Rattle.gtd_picture.specs.Domain.{HasPut}
 use Rattle.gtdesk_tool.specs.declared.refusal.RunRefusal.{RunRefusal}
 use Rattle.gtdesk_tool.specs.declared.refusal.RunRefusal.TheVariants as refusal
 use Rattle.gtdesk_tool.specs.declared.ending.Ending.{Ending}
-use Rattle.gtdesk_tool.specs.Running.{IsHoursRefusal, IsTextRefusal, PutText, RanDomainPicture, Telling, Told, failures_after_read}
+use Rattle.gtdesk_tool.specs.Running.{IsHoursRefusal, IsTextRefusal, PutText, RanDomainPicture, failures_after_read}
+use Rattle.gtdesk_tool.specs.Telling.{Telling, Told}
 use Rattle.gtdesk_tool.specs.Running.{failures_after_write, listing_outcome, outcome_of, records_outcome}
 
 -- ---- a failure of a device is told by the run, and by the command
@@ -138,7 +139,7 @@ module _ (P : List ℕ → Type 0) (C : RunRefusal → Type 0) (text : List ℕ)
 -- ---- a refusal before anything is put
 
 -- no failure of a device is told by this refusal
-abbrev TellsNone : ℕ → RunRefusal → Type 0
+abbrev pub TellsNone : ℕ → RunRefusal → Type 0
 TellsNone n r = (n ≡ failures_after_read (Err r) n) × (n ≡ failures_after_write (Err r) n)
 
 pub of_memory : (n : ℕ) (r : RunRefusal) → r ≡ refusal.Memory → TellsNone n r

@@ -3,22 +3,27 @@ pub mod Comparing
 pub mod Diff
 pub mod Hours
 pub mod Lines
+pub mod LooseHours
+pub mod Mended
 pub mod Refusals
 pub mod Running
+pub mod Telling
+pub mod Zones
 pub use Rattle.gtd_core.specs.Seconds
 pub use Rattle.gtdesk_plans.specs.Arguments
 pub use Rattle.gtdesk_plans.specs.CommandLine
 pub use Rattle.gtdesk_plans.specs.Commands
 pub use Rattle.gtdesk_plans.specs.Given
-pub use Rattle.gtdesk_plans.specs.HoursWords
+pub use Rattle.gtdesk_words.specs.HoursWords
 pub use Rattle.gtdesk_plans.specs.Plans
-pub use Rattle.gtdesk_plans.specs.Readings
+pub use Rattle.gtdesk_words.specs.Readings
 pub use Rattle.gtdesk_plans.specs.Rows
-pub use Rattle.gtdesk_plans.specs.Statuses
-pub use Rattle.gtdesk_plans.specs.Words
+pub use Rattle.gtdesk_words.specs.Statuses
+pub use Rattle.gtdesk_words.specs.Words
 pub use Rattle.gtd_changes.specs.Changes
 pub use Rattle.gtd_changes.specs.Run as ChangesRun
 pub use Rattle.gtd_difference.specs.Difference
+pub use Rattle.gtd_hours_loose.specs.Reading as LooseReading
 pub use Rattle.gtd_hours_search.specs.Membership
 pub use Rattle.gtd_hours.specs.Opening
 pub use Rattle.gtd_hours.specs.Written

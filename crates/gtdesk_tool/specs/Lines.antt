@@ -10,15 +10,15 @@ use Rattle.gtd_faults.specs.Listing.{fault_text}
 use Rattle.gtd_faults.specs.Printable.{printable}
 use Rattle.gtd_hours_grammar.specs.declared.fault.FaultKind.{FaultKind}
 use Rattle.gtd_hours_grammar.specs.declared.fault.FaultKind.TheVariants as kind
-use Rattle.gtdesk_plans.specs.declared.refusal.NoDomain.{NoDomain}
-use Rattle.gtdesk_plans.specs.declared.refusal.NoDomain.TheVariants as none
-use Rattle.gtdesk_plans.specs.declared.refusal.Reason.{Reason}
-use Rattle.gtdesk_plans.specs.declared.refusal.Reason.TheVariants as reason
-use Rattle.gtdesk_plans.specs.declared.refusal.WordFault.{WordFault}
-use Rattle.gtdesk_plans.specs.declared.refusal.WordName.{WordName}
-use Rattle.gtdesk_plans.specs.declared.refusal.WordName.TheVariants as name
-use Rattle.gtdesk_plans.specs.declared.refusal.WordsRefusal.{WordsRefusal}
-use Rattle.gtdesk_plans.specs.declared.refusal.WordsRefusal.TheVariants as words
+use Rattle.gtdesk_words.specs.declared.refusal.NoDomain.{NoDomain}
+use Rattle.gtdesk_words.specs.declared.refusal.NoDomain.TheVariants as none
+use Rattle.gtdesk_words.specs.declared.refusal.Reason.{Reason}
+use Rattle.gtdesk_words.specs.declared.refusal.Reason.TheVariants as reason
+use Rattle.gtdesk_words.specs.declared.refusal.WordFault.{WordFault}
+use Rattle.gtdesk_words.specs.declared.refusal.WordName.{WordName}
+use Rattle.gtdesk_words.specs.declared.refusal.WordName.TheVariants as name
+use Rattle.gtdesk_words.specs.declared.refusal.WordsRefusal.{WordsRefusal}
+use Rattle.gtdesk_words.specs.declared.refusal.WordsRefusal.TheVariants as words
 use Rattle.gtdesk_tool.specs.declared.refusal.Refusal.{Refusal}
 use Rattle.gtdesk_tool.specs.declared.refusal.Refusal.TheVariants as refusal
 use Rattle.gtdesk_tool.specs.declared.refusal.RunRefusal.{RunRefusal}
@@ -54,6 +54,7 @@ kind_name kind.Incomplete = codes "Incomplete"
 -- why it has no domain: its first fault and the place, or that the domain is too large
 abbrev pub no_domain_text : NoDomain → List ℕ
 no_domain_text (none.Fault why) = kind_name why.kind ++ codes " at " ++ decimal why.place
+no_domain_text (none.Ambiguous place) = codes "Ambiguous at " ++ decimal place
 no_domain_text none.TooMany = codes "TooMany at 0"
 
 -- the name of a word
@@ -69,6 +70,18 @@ word_name name.Moment = codes "MOMENT"
 word_name name.From = codes "FROM"
 word_name name.To = codes "TO"
 word_name name.Language = codes "LANGUAGE"
+word_name name.Rule = codes "RULE"
+word_name name.Day = codes "DAY"
+word_name name.Zone = codes "ZONE"
+
+-- why a word names no rules: the rules that there are
+abbrev pub rule_reason : List ℕ
+rule_reason =
+    codes "not names of rules with commas between them; the rules are first-of-month, each-day-of-month, "
+    ++ codes "each-day-of-year, each-hour, sunday-to-thursday, monday-and-friday, "
+    ++ codes "sunday-and-monday, minutes, end-as-duration, end-past-midnight, days-cut-nights, season-cuts-nights, "
+    ++ codes "weekday-on-date, product-first, days-of-year, thirty-first, no-such-day, never-holds, always-holds, past, "
+    ++ codes "ends-soon, lone-code"
 
 -- why a word stands for nothing; of a domain, its first fault and the place
 abbrev pub reason_text : Reason → List ℕ
@@ -82,6 +95,9 @@ reason_text (reason.Horizon why) = horizon_reason why
 reason_text (reason.Domain why) = fault_name why.kind ++ codes " at " ++ decimal why.place
 reason_text (reason.Hours why) = no_domain_text why
 reason_text reason.Language = codes "not en, de or fr"
+reason_text reason.Rule = rule_reason
+reason_text reason.Day = codes "not from 1901-01-01 to 2699-12-31"
+reason_text reason.Zone = codes "not the name of a time zone"
 
 -- the word that stands for nothing, and why
 abbrev pub word_text : WordFault → List ℕ

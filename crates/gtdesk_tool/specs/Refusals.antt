@@ -1,14 +1,12 @@
 -- The exit status of a refusal, and the file that it is about.
-use Rattle.std.specs.Prelude.{ℕ, Option, Some, None, string_bytes}
+use Rattle.std.specs.Prelude.{ℕ, string_bytes}
 use Rattle.gtd_ask.specs.declared.fault.QuestionFault.{QuestionFault}
 use Rattle.gtd_ask.specs.declared.fault.QuestionFault.TheVariants as question
 use Rattle.gtd_records.specs.declared.fault.RecordFault.{RecordFault}
 use Rattle.gtd_records.specs.declared.fault.RecordFault.TheVariants as records
 use Rattle.gtdesk_plans.specs.Arguments.{Text}
-use Rattle.gtdesk_plans.specs.Plans.{file_of}
-use Rattle.gtdesk_plans.specs.Statuses.{words_status}
-use Rattle.gtdesk_plans.specs.declared.plans.Plan.{Plan}
-use Rattle.gtdesk_plans.specs.declared.plans.Plan.TheVariants as plan
+use Rattle.gtdesk_words.specs.Statuses.{words_status}
+use Rattle.gtdesk_plans.specs.declared.commands.diff.DiffPlan.{DiffPlan}
 use Rattle.gtdesk_tool.specs.declared.refusal.Refusal.{Refusal}
 use Rattle.gtdesk_tool.specs.declared.refusal.Refusal.TheVariants as refusal
 use Rattle.gtdesk_tool.specs.declared.refusal.RunRefusal.{RunRefusal}
@@ -44,20 +42,8 @@ abbrev pub status_of : Refusal → ℕ
 status_of (refusal.Words why) = words_status why
 status_of (refusal.Run why) = run_status why
 
--- The path of the file that a plan reads: of two files, the new one's.
-abbrev pub new_file_of : Plan → Option Text
-new_file_of (plan.One p) = file_of p
-new_file_of (plan.Diff p) = Some (string_bytes p.new)
-new_file_of (plan.Ask file) = Some (string_bytes file)
-
--- The path of the old of two files.
-abbrev pub old_file_of : Plan → Option Text
-old_file_of (plan.One p) = None
-old_file_of (plan.Diff p) = Some (string_bytes p.old)
-old_file_of (plan.Ask file) = None
-
--- The path of the file that a refusal is about.
-abbrev pub refused_file : RunRefusal → Plan → Option Text
-refused_file (run.Old why) p = old_file_of p
-refused_file run.OldOpen p = old_file_of p
-refused_file other p = new_file_of p
+-- The path of the one of two files that a refusal is about: the old one, if it is not opened or not read.
+abbrev pub refused_file : RunRefusal → DiffPlan → Text
+refused_file (run.Old why) p = string_bytes p.old
+refused_file run.OldOpen p = string_bytes p.old
+refused_file other p = string_bytes p.new

@@ -1,6 +1,6 @@
 -- What a plan prints, and how it ends.
-use Rattle.std.specs.Prelude.{◌≡◌, ◌≢◌, ◌↔◌, ◌⊎◌, ⊤, ℕ, ◌+◌, zero, suc, ℤ, Bool, List, Option, Result, Ok, Err, IsErrOf, IsTrue}
-use Rattle.std.specs.Prelude.{Any, IfErr, IfOk, IfSome, OnOk, string_bytes}
+use Rattle.std.specs.Prelude.{◌≡◌, ◌≢◌, ◌↔◌, ◌⊎◌, ⊤, ℕ, ◌+◌, zero, suc, ℤ, Bool, true, false, List, Option, Result, Ok}
+use Rattle.std.specs.Prelude.{Err, IsErrOf, IsTrue, Any, IfErr, IfOk, IfSome, OnOk, string_bytes, if◌then◌else◌}
 use Rattle.std.specs.Io.KnownBytes.{Appends, Keeps}
 use Rattle.gtd_core.specs.Parts.{domain_tree}
 use Rattle.gtd_words.specs.Words.{words_in}
@@ -12,11 +12,15 @@ use Rattle.gtd_report.specs.Run.{UnacceptedFilesPutNothing}
 use Rattle.gtd_picture.specs.Domain.{HasPut, IsDomainPicture}
 use Rattle.gtd_picture.specs.Open.{IsOpenPicture}
 use Rattle.gtdesk_tool.specs.Hours.{IsDomainLine, IsHoursLine}
+use Rattle.gtdesk_tool.specs.LooseHours.{IsMendedLine, IsUnread, PutsLoose}
+use Rattle.gtdesk_tool.specs.Mended.{RanMended}
+use Rattle.gtdesk_tool.specs.Telling.{IsUntold, Telling, Told}
+use Rattle.gtd_warnings.specs.declared.file.Asked.{Asked}
 use Rattle.gtdesk_tool.specs.Comparing.{HasCompared}
-use Rattle.gtdesk_plans.specs.HoursWords.{IsNoDomainOf}
+use Rattle.gtdesk_words.specs.HoursWords.{IsNoDomainOf}
 use Rattle.gtdesk_plans.specs.declared.commands.picture.PictureSubject.{PictureSubject}
-use Rattle.gtdesk_plans.specs.declared.refusal.Reason.TheVariants as reason
-use Rattle.gtdesk_plans.specs.declared.refusal.WordName.TheVariants as name
+use Rattle.gtdesk_words.specs.declared.refusal.Reason.TheVariants as reason
+use Rattle.gtdesk_words.specs.declared.refusal.WordName.TheVariants as name
 use Rattle.gtd_report.specs.declared.fault.RunFault.{RunFault}
 use Rattle.gtd_report.specs.declared.fault.RunFault.TheVariants as run
 use Rattle.gtd_faults.specs.declared.list_fault.ListFault.{ListFault}
@@ -27,10 +31,12 @@ use Rattle.gtd_hours_file.specs.declared.untranslated.Untranslated.{Untranslated
 use Rattle.gtd_hours_file.specs.declared.untranslated.Untranslated.TheVariants as hours
 use Rattle.gtd_now.specs.Now.{IsNow}
 use Rattle.gtd_now.specs.Query.{Query}
+use Rattle.gtd_now.specs.declared.asked.Form.{Form}
 use Rattle.gtd_now.specs.declared.asked.Form.TheVariants as form
 use Rattle.gtd_repeats.specs.Run as repeats
 use Rattle.gtdesk_tool.specs.declared.ending.Ending.{Ending}
 use Rattle.gtdesk_tool.specs.declared.ending.Ending.TheVariants as ending
+use Rattle.gtdesk_plans.specs.declared.commands.now.NowView.{NowView}
 use Rattle.gtdesk_plans.specs.declared.plans.OnePlan.{OnePlan}
 use Rattle.gtdesk_plans.specs.declared.plans.OnePlan.TheVariants as plan
 use Rattle.gtdesk_tool.specs.declared.refusal.RunRefusal.{RunRefusal}
@@ -54,6 +60,10 @@ refusal_for run.NoElement = refusal.NoElement
 abbrev pub outcome_of : Result ℕ RunFault → Result Ending RunRefusal
 outcome_of (Ok count) = Ok ending.Done
 outcome_of (Err why) = Err (refusal_for why)
+
+-- The form in which the state is printed.
+abbrev pub form_of : NowView → Form
+form_of view = if view.json then form.Json else if view.table then form.Table else form.Lines
 
 -- The run of `now` had an answer, and all that the run promises for this answer holds.
 pub record RanNow (query : Query) (file old new : Option (List ℕ)) (silent ended : Bool) (result : Result Ending RunRefusal)
@@ -108,11 +118,11 @@ listing_outcome (Err list.WriteFault) = Err refusal.Write
 listing_outcome (Err list.NoMemory) = Err refusal.Memory
 
 -- The run of `faults` had an answer, and all that the run promises for this answer holds.
-pub record RanFaults (path : List ℕ) (warn : Bool) (file old new : Option (List ℕ)) (silent ended : Bool)
+pub record RanFaults (path : List ℕ) (asked : Option Asked) (file old new : Option (List ℕ)) (silent ended : Bool)
     (result : Result Ending RunRefusal) : Type 0 where
   pub answer : Result ℕ ListFault
   pub outcome : result ≡ listing_outcome answer
-  pub listed : IfSome file (λ bytes. HasListed path warn bytes old new answer)
+  pub listed : IfSome file (λ bytes. HasListed path asked bytes old new answer)
   pub kept : IfErr answer (λ why. why ≢ list.WriteFault → Keeps old new)
   pub whole : OnOk answer (IsTrue ended)
   pub endless : IsErrOf answer list.Endless → IsTrue silent
@@ -129,6 +139,10 @@ pub record RanRepeats (path : List ℕ) (file old new : Option (List ℕ)) (sile
   pub answer : Result ℕ RunFault
   pub outcome : result ≡ repeats_outcome answer
   pub listed : IfSome file (λ bytes. repeats.HasListed path bytes old new answer)
+  pub kept : repeats.KeepsRefused old new answer
+  pub vehicle : IsErrOf answer run.VehicleRange → ⊥
+  pub year : IsErrOf answer run.YearRange → ⊥
+  pub element : IsErrOf answer run.NoElement → ⊥
   pub whole : OnOk answer (IsTrue ended)
   pub endless : IsErrOf answer (run.Records records.Endless) → IsTrue silent
 
@@ -150,24 +164,7 @@ IsTextRefusal text (refusal.NoDomain why) = IsNoDomainOf text why
 IsTextRefusal text refusal.Memory = Unit {0}
 IsTextRefusal text other = ⊥
 
--- What the output for errors took: before and after, and how often it had failed.
-pub record Telling : Type 0 where
-  pub before : Option (List ℕ)
-  pub after : Option (List ℕ)
-  pub failed_before : ℕ
-  pub failed_after : ℕ
-
--- It took a text whole; or it failed once, and had taken a first part, which may be none or all of it.
-abbrev pub Told : Telling → List ℕ → Type 0
-Told errors text =
-    (Appends errors.before errors.after text × (errors.failed_after ≡ errors.failed_before))
-    ⊎ (TookSome errors.before errors.after text × (errors.failed_after ≡ errors.failed_before + 1))
-
--- It took nothing, and did not fail.
-abbrev pub IsUntold : Telling → Type 0
-IsUntold errors = Keeps errors.before errors.after × (errors.failed_after ≡ errors.failed_before)
-
--- What it took for the answer of a run that translates a file of hours: the list of the faults, if there are any.
+-- What the output for errors took for the answer of a run that translates a file of hours: the list of the faults, if there are any.
 abbrev pub IsToldOf : Telling → Result ℕ Untranslated → Type 0
 IsToldOf errors (Err (hours.Faults list)) = Told errors (string_bytes list)
 IsToldOf errors other = IsUntold errors
@@ -191,42 +188,53 @@ pub record RanRecords (path : List ℕ) (file old new : Option (List ℕ)) (sile
   pub whole : OnOk answer (IsTrue ended)
   pub endless : IsErrOf answer hours.Endless → IsTrue silent
 
+-- What `hours` did for a text that is to be written strictly, or may be written loosely.
+abbrev pub RanHours : Bool → List ℕ → Option (List ℕ) → Option (List ℕ) → Bool → Telling → Result Ending RunRefusal → Type 0
+RanHours true text old new ended errors result = PutText (IsDomainLine text) (IsTextRefusal text) old new ended result
+RanHours false text old new ended errors result = PutsLoose text old new ended errors result
+
 -- The plan puts nothing to the output for errors.
 abbrev pub IsQuiet : OnePlan → Type 0
-IsQuiet (plan.Records path) = ⊥
+IsQuiet (plan.Records files) = ⊥
+IsQuiet (plan.Mend file) = ⊥
+IsQuiet (plan.DomainOf p) = IsTrue p.strict
 IsQuiet other = ⊤
 
--- What a plan did to the output, by its answer.
-abbrev pub HasRunPlan : OnePlan → Option (List ℕ) → Option (List ℕ) → Option (List ℕ) → Bool → Bool → Telling
+-- What a plan did to the output for the file of this path, by its answer.
+abbrev pub HasRunPlan : OnePlan → List ℕ → Option (List ℕ) → Option (List ℕ) → Option (List ℕ) → Bool → Bool → Telling
     → Result Ending RunRefusal → Type 0
-HasRunPlan (plan.Now p) file old new silent ended errors result =
+HasRunPlan (plan.Now p) path file old new silent ended errors result =
     RanNow (record {
-      vehicle = p.vehicle;
+      vehicle = p.view.vehicle;
       second = p.moment.second.0;
-      closed = p.closed;
-      wanted = p.elements.items;
-      form = form.Lines;
-      why = false;
+      closed = p.view.closed;
+      wanted = p.view.elements.items;
+      form = form_of p.view;
+      why = p.view.why;
     }) file old new silent ended result
-HasRunPlan (plan.Faults p) file old new silent ended errors result =
-    RanFaults (string_bytes p.file) p.warn file old new silent ended result
-HasRunPlan (plan.Picture p) file old new silent ended errors result =
+HasRunPlan (plan.Faults p) path file old new silent ended errors result =
+    RanFaults path p.asked file old new silent ended result
+HasRunPlan (plan.Picture p) path file old new silent ended errors result =
     RanPicture p.subject (string_bytes p.title) file old new silent ended result
-HasRunPlan (plan.DomainPicture p) file old new silent ended errors result =
+HasRunPlan (plan.DomainPicture p) path file old new silent ended errors result =
     RanDomainPicture p.domain (string_bytes p.title) p.year old new ended result
-HasRunPlan (plan.Words p) file old new silent ended errors result =
+HasRunPlan (plan.Words p) path file old new silent ended errors result =
     PutText (λ text. text ≡ words_in p.language (domain_tree p.domain)) (λ r. r ≡ refusal.Memory) old new ended result
-HasRunPlan (plan.HoursOf domain) file old new silent ended errors result =
+HasRunPlan (plan.HoursOf domain) path file old new silent ended errors result =
     PutText (IsHoursLine domain) IsHoursRefusal old new ended result
-HasRunPlan (plan.DomainOf text) file old new silent ended errors result =
-    PutText (IsDomainLine (string_bytes text)) (IsTextRefusal (string_bytes text)) old new ended result
-HasRunPlan (plan.Same p) file old new silent ended errors result =
+HasRunPlan (plan.DomainOf p) path file old new silent ended errors result =
+    RanHours p.strict (string_bytes p.text) old new ended errors result
+HasRunPlan (plan.Same p) path file old new silent ended errors result =
     HasCompared p.first p.second p.from.second.0 old new ended result
-HasRunPlan (plan.SameRows path) file old new silent ended errors result =
-    RanRepeats (string_bytes path) file old new silent ended result
-HasRunPlan (plan.Records path) file old new silent ended errors result =
-    RanRecords (string_bytes path) file old new silent ended errors result
-HasRunPlan (plan.Show text) file old new silent ended errors result =
+HasRunPlan (plan.SameRows files) path file old new silent ended errors result =
+    RanRepeats path file old new silent ended result
+HasRunPlan (plan.Records files) path file old new silent ended errors result =
+    RanRecords path file old new silent ended errors result
+HasRunPlan (plan.Mend name) path file old new silent ended errors result =
+    RanMended path file old new silent ended errors result
+HasRunPlan (plan.MendHours text) path file old new silent ended errors result =
+    PutText (IsMendedLine (string_bytes text)) (IsUnread (string_bytes text)) old new ended result
+HasRunPlan (plan.Show text) path file old new silent ended errors result =
     PutText (λ t. t ≡ string_bytes text) (λ r. ⊥) old new ended result
 
 -- one more failure of the input exactly if the refusal is that it failed
@@ -244,3 +252,17 @@ abbrev pub ending_status : Ending → ℕ
 ending_status ending.Done = 0
 ending_status ending.FaultsListed = 1
 ending_status ending.Differ = 4
+
+-- How a plan ended for several files, from how it ended for the first of them and for those that come next: the first refusal; or
+-- else the first ending that is not that nothing is to be told.
+abbrev pub joined_endings : Ending → Ending → Ending
+joined_endings ending.Done next = next
+joined_endings first next = first
+
+abbrev pub joined_next : Ending → Result Ending RunRefusal → Result Ending RunRefusal
+joined_next first (Ok next) = Ok (joined_endings first next)
+joined_next first (Err why) = Err why
+
+abbrev pub joined : Result Ending RunRefusal → Result Ending RunRefusal → Result Ending RunRefusal
+joined (Ok first) next = joined_next first next
+joined (Err why) next = Err why

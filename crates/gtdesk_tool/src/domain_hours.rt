@@ -15,8 +15,8 @@ use gtd_hours_search::hours_of;
 use gtd_hours_text::writing_laws::printed_hours_read_back;
 use std::alloc::{AllocError, Global};
 
-// The hours in one line, with its end.
-fn line_of(alloc: Global, hours: &Hours) -> Result<String, AllocError>
+/// The hours in one line, with its end.
+pub(crate) fn hours_line_of(alloc: Global, hours: &Hours) -> Result<String, AllocError>
     ensures exact { IfOk result (λ line. string_bytes line ≡ hours_text hours.now ++ codes "\n") }
 {
     let mut line = print_hours(alloc, hours)?;
@@ -31,7 +31,7 @@ fn hours_line(alloc: Global, domain: &Domain) -> Result<String, RunRefusal>
 {
     printed_hours_read_back();
     match hours_of(alloc, domain) {
-        Ok(Some(hours)) => match line_of(alloc, &hours) {
+        Ok(Some(hours)) => match hours_line_of(alloc, &hours) {
             Ok(line) => Ok(line),
             Err(_) => Err(RunRefusal::Memory),
         },

@@ -1,7 +1,9 @@
 //! How a plan ended that was carried out.
 
 ghost use Rattle.std.specs.Prelude.{◌≡◌};
-ghost use Rattle.gtdesk_tool.specs.Running.{ending_status};
+ghost use Rattle.gtdesk_tool.specs.Running.{ending_status, joined};
+
+use crate::refusal::RunRefusal;
 
 /// How a plan ended that was carried out.
 #[derive(Clone, Copy, Debug, PartialEq, Eq)]
@@ -24,5 +26,23 @@ impl Ending {
             Ending::FaultsListed => 1,
             Ending::Differ => 4,
         }
+    }
+}
+
+/// How a plan ended for several files, from how it ended for the first of them and for those that come next: refused as the first
+/// file that is refused; or else as the first ending that is not [`Ending::Done`].
+pub fn joined(
+    first: Result<Ending, RunRefusal>,
+    next: Result<Ending, RunRefusal>,
+) -> Result<Ending, RunRefusal>
+    ensures value { result ≡ joined first next }
+{
+    match first {
+        Err(_) => first,
+        Ok(Ending::Done) => next,
+        Ok(_) => match next {
+            Err(_) => next,
+            Ok(_) => first,
+        },
     }
 }

@@ -1,4 +1,4 @@
-//! The command `hours` of a text: the time domain with exactly the seconds at which opening hours are open.
+//! The command `hours --strict` of a text: the time domain with exactly the seconds at which opening hours are open.
 
 ghost use Rattle.std.specs.Prelude.{◌≡◌, ◌++◌, ◌<◌, IfErr, IfOk, codes, string_bytes};
 ghost use Rattle.gtd_core.specs.Parts.{domain_tree};
@@ -12,11 +12,11 @@ use crate::refusal::RunRefusal;
 use gtd_core::Domain;
 use gtd_devices::Output;
 use gtd_text::print_domain;
-use gtdesk_plans::hours_domain;
+use gtdesk_words::hours_domain;
 use std::alloc::{AllocError, Global};
 
-// The canonical text of a domain in one line, with its end.
-fn line_of(alloc: Global, domain: &Domain) -> Result<String, AllocError>
+/// The canonical text of a domain in one line, with its end.
+pub(crate) fn domain_line_of(alloc: Global, domain: &Domain) -> Result<String, AllocError>
     ensures exact { IfOk result (λ line. string_bytes line ≡ canonical (domain_tree domain.now) ++ codes "\n") }
 {
     let mut line = print_domain(alloc, domain)?;
@@ -34,7 +34,7 @@ fn domain_line(alloc: Global, text: &str) -> Result<String, RunRefusal>
         Err(Some(why)) => return Err(RunRefusal::NoDomain(why)),
         Err(None) => return Err(RunRefusal::Memory),
     };
-    match line_of(alloc, &domain) {
+    match domain_line_of(alloc, &domain) {
         Ok(line) => Ok(line),
         Err(_) => Err(RunRefusal::Memory),
     }

@@ -1,7 +1,8 @@
 //! The command `records`: the record file of a file of opening hours.
 
 ghost use Rattle.std.specs.Prelude.{◌≡◌, ◌<◌};
-ghost use Rattle.gtdesk_tool.specs.Running.{RanRecords, Told, failures_after_read, failures_after_write, records_outcome};
+ghost use Rattle.gtdesk_tool.specs.Running.{RanRecords, failures_after_read, failures_after_write, records_outcome};
+ghost use Rattle.gtdesk_tool.specs.Telling.{Told, telling};
 
 use crate::ending::Ending;
 use crate::refusal::RunRefusal;
@@ -25,18 +26,14 @@ fn records_outcome(answer: &Result<u64, Untranslated>) -> Result<Ending, RunRefu
     }
 }
 
-// Puts a list of faults. If that fails, a first part of it stands, and nobody is told.
-fn tell<E: Output>(errors: &mut E, list: &str)
+/// Puts lines. If that fails, a first part of them stands, and nobody is told.
+pub(crate) fn tell<E: Output>(errors: &mut E, lines: &[u8])
     requires tellable { E.failure_count errors.old < u64.MAX }
-    ensures told { Told (record {
-      before = E.taken errors.old;
-      after = E.taken errors.new;
-      failed_before = E.failure_count errors.old;
-      failed_after = E.failure_count errors.new;
-    }) list.now }
+    ensures told { Told
+        (telling (E.taken errors.old) (E.taken errors.new) (E.failure_count errors.old) (E.failure_count errors.new)) lines.now }
 {
     let mut progress = Progress::new();
-    let _ = put_line(errors, &mut progress, list.as_bytes());
+    let _ = put_line(errors, &mut progress, lines);
 }
 
 /// Prints the record file of the file of hours that the input brings, or lists all its faults on the output for errors.
@@ -52,12 +49,7 @@ pub(crate) fn print_records<I: Input, O: Output, E: Output>(
     requires tellable { E.failure_count errors.old < u64.MAX }
     ensures ran { RanRecords path.now (I.to_come input.old) (O.taken output.old) (O.taken output.new)
         (I.may_fall_silent input.old) (O.is_ended output.new)
-        (record {
-          before = E.taken errors.old;
-          after = E.taken errors.new;
-          failed_before = E.failure_count errors.old;
-          failed_after = E.failure_count errors.new;
-        }) result }
+        (telling (E.taken errors.old) (E.taken errors.new) (E.failure_count errors.old) (E.failure_count errors.new)) result }
     ensures read_faults { I.failure_count input.new
         ≡ failures_after_read result (I.failure_count input.old) }
     ensures write_faults { O.failure_count output.new
@@ -65,7 +57,7 @@ pub(crate) fn print_records<I: Input, O: Output, E: Output>(
 {
     let answer = run_hours_records(alloc, input, output, path);
     if let Err(Untranslated::Faults(list)) = &answer {
-        tell(errors, list.as_str());
+        tell(errors, list.as_bytes());
     }
     records_outcome(&answer)
 }

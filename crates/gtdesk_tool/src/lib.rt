@@ -1,7 +1,8 @@
 //! The commands of `gtdesk`.
 //!
-//! [`plan`] reads the words after the program's name, and [`perform`] carries out what they ask for, or
-//! [`perform_diff`] if they ask for what two files say differently, or [`perform_ask`] if they ask for answers to questions.
+//! [`plan`] reads the words after the program's name, and [`perform`] carries out what they ask for, for one file after the
+//! other; or [`perform_diff`] if they ask for what two files say differently, or [`perform_ask`] if they ask for answers to
+//! questions.
 #![tactic(auto)]
 
 mod ask;
@@ -11,19 +12,25 @@ mod ending;
 mod hours_domain;
 mod hours_records;
 mod line;
+mod loose_hours;
+mod mended;
 mod performer;
 mod picture;
 mod refusal;
 mod repeats;
 mod same;
+mod zone;
 
 pub use ask::perform_ask;
 pub use diff::perform_diff;
-pub use ending::Ending;
+pub use ending::{Ending, joined};
+pub use gtd_zones::zone_path;
 pub use gtdesk_plans::{
-    DiffPlan, DomainPicturePlan, FaultsPlan, Moment, NoDomain, NowPlan, OnePlan, PicturePlan,
-    PictureSubject, Plan, Reason, SamePlan, WordFault, WordName, WordsRefusal, plan,
+    DiffPlan, DomainPicturePlan, FaultsPlan, Files, HoursPlan, NowPlan, NowView, OnePlan,
+    PicturePlan, PictureSubject, Plan, SamePlan, ZonePlan, plan,
 };
+pub use gtdesk_words::{Moment, NoDomain, Reason, WordFault, WordName, WordsRefusal};
 pub use line::RefusalLine;
-pub use performer::perform;
+pub use performer::{Turn, perform};
 pub use refusal::{Refusal, RunRefusal, refused_file};
+pub use zone::{moment_in_zone, no_zone};

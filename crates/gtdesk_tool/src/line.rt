@@ -10,13 +10,21 @@ use gtd_calendar::StampFault;
 use gtd_core::HorizonFault;
 use gtd_faults::{FaultText, Printable};
 use gtd_hours_grammar::FaultKind;
-use gtdesk_plans::{NoDomain, Reason, WordFault, WordName, WordsRefusal};
+use gtdesk_words::{NoDomain, Reason, WordFault, WordName, WordsRefusal};
 use std::fmt;
 use std::fmt::{Display, Formatter};
 
 // Why no hours are printed: the domain is not of the form that hours are sought for.
 const NO_HOURS: &str =
     "DOMAIN: no opening hours: not of the form of days from midnight and ranges of times in minutes";
+
+// Why a word names no rules: the rules that there are.
+const NO_RULES: &str =
+    "not names of rules with commas between them; the rules are first-of-month, each-day-of-month, \
+    each-day-of-year, each-hour, sunday-to-thursday, monday-and-friday, \
+    sunday-and-monday, minutes, end-as-duration, end-past-midnight, days-cut-nights, season-cuts-nights, \
+    weekday-on-date, product-first, days-of-year, thirty-first, no-such-day, never-holds, always-holds, past, \
+    ends-soon, lone-code";
 
 // Why a text is not a moment, in words.
 fn moment_reason(fault: StampFault) -> &'static str
@@ -79,6 +87,7 @@ impl Display for TextLine {
                 let place = fault.place;
                 write!(f, "{kind} at {place}")
             }
+            NoDomain::Ambiguous { place } => write!(f, "Ambiguous at {place}"),
             NoDomain::TooMany => write!(f, "TooMany at 0"),
         }
     }
@@ -100,6 +109,9 @@ fn word_name(word: WordName) -> &'static str
         WordName::From => "FROM",
         WordName::To => "TO",
         WordName::Language => "LANGUAGE",
+        WordName::Rule => "RULE",
+        WordName::Day => "DAY",
+        WordName::Zone => "ZONE",
     }
 }
 
@@ -126,6 +138,9 @@ impl Display for ReasonText {
             }
             Reason::Hours(why) => write!(f, "{}", TextLine(why)),
             Reason::Language => write!(f, "not en, de or fr"),
+            Reason::Rule => write!(f, "{NO_RULES}"),
+            Reason::Day => write!(f, "not from 1901-01-01 to 2699-12-31"),
+            Reason::Zone => write!(f, "not the name of a time zone"),
         }
     }
 }

@@ -1,18 +1,20 @@
 //! Carrying a plan out.
 
-ghost use Rattle.std.specs.Prelude.{◌≡◌, ◌<◌, None};
+ghost use Rattle.std.specs.Prelude.{◌≡◌, ◌<◌, []};
 ghost use Rattle.gtd_core.specs.Parts.{domain_tree};
 ghost use Rattle.gtd_core.specs.Seconds.{IsHorizonSecond};
 ghost use Rattle.gtd_now.specs.Query.{query_of};
 ghost use Rattle.gtd_words.specs.Words.{words_in};
-ghost use Rattle.gtdesk_plans.specs.Plans.{file_of};
+ghost use Rattle.gtdesk_plans.specs.Plans.{files_of};
 ghost use Rattle.gtdesk_tool.specs.Running.{HasRunPlan, IsQuiet, PutText, RanFaults, RanNow, failures_after_read};
-ghost use Rattle.gtdesk_tool.specs.Running.{failures_after_write, listing_outcome, outcome_of, refusal_for};
+ghost use Rattle.gtdesk_tool.specs.Running.{failures_after_write, form_of, listing_outcome, outcome_of, refusal_for};
+ghost use Rattle.gtdesk_tool.specs.Telling.{telling};
 
 use crate::domain_hours::print_hours_of;
 use crate::ending::Ending;
-use crate::hours_domain::print_domain_of;
 use crate::hours_records::print_records;
+use crate::loose_hours::{print_hours_domain, print_mended_hours};
+use crate::mended::print_mended;
 use crate::picture::{print_domain, print_picture};
 use crate::refusal::RunRefusal;
 use crate::repeats::print_repeats;
@@ -22,8 +24,10 @@ use gtd_faults::{ListFault, run_faults};
 use gtd_now::{Asked, Form, run_now};
 use gtd_records::RecordFault;
 use gtd_report::{Progress, RunFault, finish, put_line};
+use gtd_warnings::Asked as Warned;
 use gtd_words::write_words_in;
-use gtdesk_plans::{OnePlan, Reason, WordFault, WordName, WordsPlan};
+use gtdesk_plans::{NowView, OnePlan, WordsPlan};
+use gtdesk_words::{Reason, WordFault, WordName};
 use std::alloc::Global;
 
 /// The refusal for a fault of a run.
@@ -56,6 +60,19 @@ pub(crate) fn outcome(answer: Result<u64, RunFault>) -> Result<Ending, RunRefusa
     match answer {
         Ok(_) => Ok(Ending::Done),
         Err(fault) => Err(run_refusal(fault)),
+    }
+}
+
+// The form in which the state is printed.
+fn form_of(view: &NowView) -> Form
+    ensures value { result ≡ form_of view.now }
+{
+    if view.json {
+        Form::Json
+    } else if view.table {
+        Form::Table
+    } else {
+        Form::Lines
     }
 }
 
@@ -99,18 +116,18 @@ fn list_faults<I: Input, O: Output>(
     input: &mut I,
     output: &mut O,
     path: &str,
-    warn: bool,
+    asked: &Option<Warned>,
 ) -> Result<Ending, RunRefusal>
     requires readable { I.failure_count input.old < u64.MAX }
     requires writable { O.failure_count output.old < u64.MAX }
-    ensures ran { RanFaults path.now warn (I.to_come input.old) (O.taken output.old) (O.taken output.new)
+    ensures ran { RanFaults path.now asked.now (I.to_come input.old) (O.taken output.old) (O.taken output.new)
         (I.may_fall_silent input.old) (O.is_ended output.new) result }
     ensures read_faults { I.failure_count input.new
         ≡ failures_after_read result (I.failure_count input.old) }
     ensures write_faults { O.failure_count output.new
         ≡ failures_after_write result (O.failure_count output.old) }
 {
-    listing_outcome(run_faults(alloc, input, output, path, warn))
+    listing_outcome(run_faults(alloc, input, output, path, asked))
 }
 
 /// Puts a text, and ends the output.
@@ -160,9 +177,19 @@ fn print_words<O: Output>(
     }
 }
 
-/// Carries a plan out that reads one file at most: puts what it asks for, and ends the output. The input brings the bytes of the
-/// plan's file; if the plan reads none, nothing is pulled. Only `records` puts anything to the output for errors: all faults of a file of hours, if it has
-/// any. If that output fails, a first part of the list stands, and the answer is the same.
+/// A plan, and the path of the one of its files whose bytes the input brings.
+#[derive(Clone, Copy)]
+pub struct Turn<'a> {
+    /// The plan.
+    pub plan: &'a OnePlan,
+    /// The path; any, if the plan reads no file.
+    pub path: &'a str,
+}
+
+/// Carries a plan out for one of its files, whose bytes the input brings: puts what it asks for, and ends the output. If the plan
+/// reads none, nothing is pulled. Three plans put something to the output for errors: `records` all faults of a file of hours, if
+/// it has any; `mend` what it changed; and `hours` where a text is written loosely. If that output fails, a first part of this
+/// stands, and the answer is the same.
 ///
 /// `Records` is the file's first fault, or why the input failed; `NoHours` is answered if no opening hours are found for a
 /// domain, and `NoDomain` if a text is no opening hours or the domain of these is too large. `Write` is answered exactly if the
@@ -170,7 +197,7 @@ fn print_words<O: Output>(
 /// failures of each device must be below `u64::MAX`.
 pub fn perform<I: Input, O: Output, E: Output>(
     alloc: Global,
-    plan: &OnePlan,
+    turn: Turn<'_>,
     input: &mut I,
     output: &mut O,
     errors: &mut E,
@@ -178,37 +205,33 @@ pub fn perform<I: Input, O: Output, E: Output>(
     requires readable { I.failure_count input.old < u64.MAX }
     requires writable { O.failure_count output.old < u64.MAX }
     requires tellable { E.failure_count errors.old < u64.MAX }
-    // What the output took, by the answer; of `records`, what the output for errors took, too.
-    ensures ran { HasRunPlan plan.now (I.to_come input.old) (O.taken output.old) (O.taken output.new)
-        (I.may_fall_silent input.old) (O.is_ended output.new)
-        (record {
-          before = E.taken errors.old;
-          after = E.taken errors.new;
-          failed_before = E.failure_count errors.old;
-          failed_after = E.failure_count errors.new;
-        }) result }
+    // What the output took, by the answer; of some plans, what the output for errors took, too.
+    ensures ran { HasRunPlan turn.entry.plan.now turn.entry.path.now (I.to_come input.old) (O.taken output.old)
+        (O.taken output.new) (I.may_fall_silent input.old) (O.is_ended output.new)
+        (telling (E.taken errors.old) (E.taken errors.new) (E.failure_count errors.old) (E.failure_count errors.new)) result }
     // Each failure of the input or of the output is told, and nothing else is told as one.
     ensures read_faults { I.failure_count input.new
         ≡ failures_after_read result (I.failure_count input.old) }
     ensures write_faults { O.failure_count output.new
         ≡ failures_after_write result (O.failure_count output.old) }
-    // A plan without a file leaves the input as it was, and a plan other than `records` the output for errors.
-    ensures untouched { file_of plan.now ≡ None → input.new ≡ input.old }
-    ensures quiet { IsQuiet plan.now → errors.new ≡ errors.old }
+    // A plan without a file leaves the input as it was, and a quiet plan the output for errors.
+    ensures untouched { files_of turn.entry.plan.now ≡ [] → input.new ≡ input.old }
+    ensures quiet { IsQuiet turn.entry.plan.now → errors.new ≡ errors.old }
 {
-    match plan {
+    let path = turn.path;
+    match turn.plan {
         OnePlan::Now(plan) => {
             let asked = Asked {
-                vehicle: plan.vehicle,
+                vehicle: plan.view.vehicle,
                 second: plan.moment.second,
-                closed: plan.closed,
-                elements: plan.elements.as_slice(),
-                form: Form::Lines,
-                why: false,
+                closed: plan.view.closed,
+                elements: plan.view.elements.as_slice(),
+                form: form_of(&plan.view),
+                why: plan.view.why,
             };
             print_now(alloc, input, output, &asked)
         }
-        OnePlan::Faults(plan) => list_faults(alloc, input, output, plan.file.as_str(), plan.warn),
+        OnePlan::Faults(plan) => list_faults(alloc, input, output, path, &plan.asked),
         OnePlan::Picture(plan) => print_picture(
             alloc,
             input,
@@ -225,12 +248,14 @@ pub fn perform<I: Input, O: Output, E: Output>(
         ),
         OnePlan::Words(plan) => print_words(alloc, output, plan),
         OnePlan::HoursOf(domain) => print_hours_of(alloc, output, domain),
-        OnePlan::DomainOf(text) => print_domain_of(alloc, output, text.as_str()),
+        OnePlan::DomainOf(plan) => print_hours_domain(alloc, output, errors, plan),
         OnePlan::Same(plan) => {
             print_comparison(alloc, output, &plan.first, &plan.second, plan.from)
         }
-        OnePlan::SameRows(file) => print_repeats(alloc, input, output, file.as_str()),
-        OnePlan::Records(file) => print_records(alloc, input, output, errors, file.as_str()),
+        OnePlan::SameRows(_) => print_repeats(alloc, input, output, path),
+        OnePlan::Records(_) => print_records(alloc, input, output, errors, path),
+        OnePlan::Mend(_) => print_mended(alloc, input, output, errors, path),
+        OnePlan::MendHours(text) => print_mended_hours(alloc, output, text.as_str()),
         OnePlan::Show(text) => print_text(output, text.as_str()),
     }
 }

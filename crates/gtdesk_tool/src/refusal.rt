@@ -1,11 +1,12 @@
 //! Why a command line is not carried out.
 
-ghost use Rattle.std.specs.Prelude.{◌≡◌, option_map};
-ghost use Rattle.gtdesk_tool.specs.Refusals.{new_file_of, old_file_of, questions_status, records_status, refused_file, run_status, status_of};
+ghost use Rattle.std.specs.Prelude.{◌≡◌};
+ghost use Rattle.gtdesk_tool.specs.Refusals.{questions_status, records_status, refused_file, run_status, status_of};
 
 use gtd_ask::QuestionFault;
 use gtd_records::RecordFault;
-use gtdesk_plans::{NoDomain, Plan, WordFault, WordsRefusal};
+use gtdesk_plans::DiffPlan;
+use gtdesk_words::{NoDomain, WordFault, WordsRefusal};
 
 /// Why a plan is not carried out.
 #[derive(Clone, Copy, Debug, PartialEq, Eq)]
@@ -96,36 +97,14 @@ impl Refusal {
     }
 }
 
-// The path of the file that a plan reads: of two files, the new one's.
-fn file_of(plan: &Plan) -> Option<&str>
-    ensures value { option_map (λ path. path.now) result ≡ new_file_of plan.now }
-{
-    match plan {
-        Plan::One(plan) => plan.file(),
-        Plan::Diff(diff) => Some(diff.new.as_str()),
-        Plan::Ask(file) => Some(file.as_str()),
-    }
-}
-
-// The path of the old of two files.
-fn old_file_of(plan: &Plan) -> Option<&str>
-    ensures value { option_map (λ path. path.now) result ≡ old_file_of plan.now }
-{
-    match plan {
-        Plan::One(_) => None,
-        Plan::Diff(diff) => Some(diff.old.as_str()),
-        Plan::Ask(_) => None,
-    }
-}
-
-/// The path of the file that a refusal is about: the old one's of two if it is not opened or not read, and otherwise that of the
-/// file that is to be read.
-pub fn refused_file(plan: &Plan, refusal: RunRefusal) -> Option<&str>
-    ensures value { option_map (λ path. path.now) result ≡ refused_file refusal plan.now }
+/// The path of the one of two files that a refusal is about: the old one's if it is not opened or not read, and otherwise that of
+/// the new one.
+pub fn refused_file(plan: &DiffPlan, refusal: RunRefusal) -> &str
+    ensures value { result.now ≡ refused_file refusal plan.now }
 {
     match refusal {
-        RunRefusal::Old(_) => old_file_of(plan),
-        RunRefusal::OldOpen => old_file_of(plan),
-        _ => file_of(plan),
+        RunRefusal::Old(_) => plan.old.as_str(),
+        RunRefusal::OldOpen => plan.old.as_str(),
+        _ => plan.new.as_str(),
     }
 }

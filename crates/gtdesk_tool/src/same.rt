@@ -14,7 +14,7 @@ use gtd_calendar::write_stamp;
 use gtd_core::Domain;
 use gtd_devices::Output;
 use gtd_difference::{Apart, Comparison, Side, compare};
-use gtdesk_plans::Moment;
+use gtdesk_words::Moment;
 use std::alloc::{AllocError, Global};
 
 // The word for the domain that has a second alone.

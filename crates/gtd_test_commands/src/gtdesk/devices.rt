@@ -2,10 +2,10 @@
 
 ghost use Rattle.std.specs.Prelude.{◌≡◌, ◌<◌};
 
-use crate::gtdesk::common::{performed, planned};
+use crate::gtdesk::common::{PATH, performed, planned};
 use gtd_devices::{HostOut, Input, MemoryIn, MemoryOut, Output};
 use gtd_test_devices::{Busy, Counting, R, in_pieces};
-use gtdesk_tool::{Ending, OnePlan, RunRefusal, perform};
+use gtdesk_tool::{Ending, OnePlan, RunRefusal, Turn, perform};
 use std::alloc::Global;
 use std::process::Abort;
 
@@ -48,7 +48,13 @@ fn perform_into(
     let mut input = two_rows(rt, alloc);
     let mut output = MemoryOut::new(alloc, room, piece, fail_call).expect(rt, "memory");
     let mut errors = MemoryOut::new(alloc, 100, 100, None).expect(rt, "memory");
-    let done = perform(alloc, plan, &mut input, &mut output, &mut errors);
+    let done = perform(
+        alloc,
+        Turn { plan, path: PATH },
+        &mut input,
+        &mut output,
+        &mut errors,
+    );
     (done, output)
 }
 
@@ -131,7 +137,16 @@ fn lists_with_too_little_room(rt: HostRuntime) {
         let mut input = MemoryIn::new(bytes, 7, None, None);
         let mut output = MemoryOut::new(alloc, room, 3, None).expect(&rt, "memory");
         let mut errors = MemoryOut::new(alloc, 100, 100, None).expect(&rt, "memory");
-        let done = perform(alloc, &plan, &mut input, &mut output, &mut errors);
+        let done = perform(
+            alloc,
+            Turn {
+                plan: &plan,
+                path: PATH,
+            },
+            &mut input,
+            &mut output,
+            &mut errors,
+        );
         let expected = if room == LIST.len() {
             Ok(Ending::FaultsListed)
         } else {
@@ -165,7 +180,16 @@ fn expect_over_writer(
     let interruptions = writer.interruptions;
     let mut output = HostOut::new(writer);
     let mut errors = MemoryOut::new(alloc, 100, 100, None).expect(rt, "memory");
-    let done = perform(alloc, &plan, &mut input, &mut output, &mut errors);
+    let done = perform(
+        alloc,
+        Turn {
+            plan: &plan,
+            path: PATH,
+        },
+        &mut input,
+        &mut output,
+        &mut errors,
+    );
     assert!(rt;
         done == expected,
         "{words:?}, {interruptions} interruptions"
@@ -228,7 +252,16 @@ fn lines_and_ends_of_outputs(rt: HostRuntime) {
             is_ended: false,
         };
         let mut errors = MemoryOut::new(alloc, 100, 100, None).expect(&rt, "memory");
-        let done = perform(alloc, &plan, &mut input, &mut output, &mut errors);
+        let done = perform(
+            alloc,
+            Turn {
+                plan: &plan,
+                path: PATH,
+            },
+            &mut input,
+            &mut output,
+            &mut errors,
+        );
         assert!(rt; done == Ok(Ending::Done), "{words:?}");
         assert!(rt; (output.puts, output.ends) == (puts, 1), "{words:?}");
         assert!(rt; output.is_ended, "{words:?}");

@@ -1,8 +1,8 @@
 //! Files of opening hours over devices that have too little room.
 
-use crate::gtdesk::common::planned;
+use crate::gtdesk::common::{PATH, planned};
 use gtd_devices::{MemoryIn, MemoryOut};
-use gtdesk_tool::{Ending, RunRefusal, perform};
+use gtdesk_tool::{Ending, RunRefusal, Turn, perform};
 
 const WORDS: [&str; 2] = ["records", "r.csv"];
 
@@ -49,7 +49,16 @@ fn records_with_too_little_room(rt: HostRuntime) {
         let mut input = MemoryIn::new(bytes, 7, None, None);
         let mut output = MemoryOut::new(alloc, room, 5, None).expect(&rt, "memory");
         let mut errors = MemoryOut::new(alloc, 0, 1, None).expect(&rt, "memory");
-        let done = perform(alloc, &plan, &mut input, &mut output, &mut errors);
+        let done = perform(
+            alloc,
+            Turn {
+                plan: &plan,
+                path: PATH,
+            },
+            &mut input,
+            &mut output,
+            &mut errors,
+        );
         assert!(rt; done == Err(RunRefusal::Write), "{room} bytes of room");
         assert!(rt; RECORDS.as_bytes().starts_with(output.bytes()));
         assert!(rt; output.bytes().len() == room);
@@ -66,7 +75,16 @@ fn lists_that_are_cut(rt: HostRuntime) {
         let mut input = MemoryIn::new(bytes, 7, None, None);
         let mut output = MemoryOut::new(alloc, 0, 1, None).expect(&rt, "memory");
         let mut errors = MemoryOut::new(alloc, room, 3, None).expect(&rt, "memory");
-        let done = perform(alloc, &plan, &mut input, &mut output, &mut errors);
+        let done = perform(
+            alloc,
+            Turn {
+                plan: &plan,
+                path: PATH,
+            },
+            &mut input,
+            &mut output,
+            &mut errors,
+        );
         assert!(rt; done == Ok(Ending::FaultsListed));
         assert!(rt; LIST.as_bytes().starts_with(errors.bytes()));
         assert!(rt; errors.bytes().len() == room);

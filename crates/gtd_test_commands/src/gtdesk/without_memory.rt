@@ -2,13 +2,13 @@
 //! ample memory, but for a text that is put once.
 
 use crate::growth::switch;
-use crate::gtdesk::common::planned;
+use crate::gtdesk::common::{PATH, planned};
 use gtd_devices::{MemoryIn, MemoryOut};
 use gtd_records::RecordFault;
 use gtd_test_devices::R;
 use gtdesk_tool::{
-    Ending, NoDomain, OnePlan, Reason, Refusal, RunRefusal, WordFault, WordName, WordsRefusal,
-    perform,
+    Ending, Files, NoDomain, OnePlan, Reason, Refusal, RunRefusal, Turn, WordFault, WordName,
+    WordsRefusal, joined, perform,
 };
 use std::process::Abort;
 
@@ -58,15 +58,49 @@ fn statuses(rt: HostRuntime) {
     switch(rt.alloc());
 }
 
+// The first file of a plan, and how many there are.
+fn first_of(plan: &OnePlan) -> (&str, usize) {
+    match plan.files() {
+        Files::None => ("", 0),
+        Files::One(path) => (path, 1),
+        Files::Several(paths) => match paths {
+            [] => ("", 0),
+            [path, ..] => (path.as_str(), paths.len()),
+        },
+    }
+}
+
 #[test]
 fn files_of_plans(rt: HostRuntime) {
     let alloc = rt.alloc();
-    let faults = planned(&rt, alloc, &["faults", "r.csv"]);
+    let faults = planned(&rt, alloc, &["faults", "r.csv", "-"]);
     let words = planned(&rt, alloc, &["words", "(h1){h1}"]);
-    assert!(rt; (faults.file(), words.file()) == (Some("r.csv"), None));
+    assert!(rt; (first_of(&faults), first_of(&words)) == (("r.csv", 2), ("", 0)));
     switch(alloc);
-    assert!(rt; (faults.file(), words.file()) == (Some("r.csv"), None));
+    assert!(rt; (first_of(&faults), first_of(&words)) == (("r.csv", 2), ("", 0)));
     switch(alloc);
+}
+
+// The first refusal of several files, or else the first ending that tells something.
+#[test]
+fn endings_of_files(rt: HostRuntime) {
+    let (done, listed, differ) = (
+        Ok(Ending::Done),
+        Ok(Ending::FaultsListed),
+        Ok(Ending::Differ),
+    );
+    let (open, memory) = (Err(RunRefusal::Open), Err(RunRefusal::Memory));
+    for (first, next, all) in [
+        (done, done, done),
+        (done, listed, listed),
+        (listed, done, listed),
+        (listed, differ, listed),
+        (listed, open, open),
+        (open, listed, open),
+        (open, memory, open),
+    ] {
+        assert!(rt; joined(first, next) == all);
+    }
 }
 
 // A text that was asked for is put without memory.
@@ -79,7 +113,16 @@ fn texts(rt: HostRuntime) {
     let mut output = MemoryOut::new(alloc, 1_000, 5, None).expect(&rt, "memory");
     let mut errors = MemoryOut::new(alloc, 100, 100, None).expect(&rt, "memory");
     switch(alloc);
-    let done = perform(alloc, &plan, &mut input, &mut output, &mut errors);
+    let done = perform(
+        alloc,
+        Turn {
+            plan: &plan,
+            path: PATH,
+        },
+        &mut input,
+        &mut output,
+        &mut errors,
+    );
     assert!(rt; done == Ok(Ending::Done));
     assert!(rt; output.bytes() == b"gtdesk 0.1.0\n".as_slice());
     switch(alloc);

@@ -3,7 +3,7 @@ use Rattle.std.specs.Prelude.{◌≡◌, [], ◌∷◌, List, codes, string_byte
 use Rattle.clap.specs.Simple.{App}
 use Rattle.clap.specs.Walk.{Row}
 use Rattle.gtdesk_plans.specs.Arguments.{command_of, word_rule}
-use Rattle.gtdesk_plans.specs.Readings.{Word}
+use Rattle.gtdesk_words.specs.Readings.{Word}
 use Rattle.gtdesk_plans.specs.Rows.{text_of}
 use Rattle.gtdesk_plans.specs.declared.plans.Plan.{Plan}
 use Rattle.gtdesk_plans.specs.declared.plans.Plan.TheVariants as plan

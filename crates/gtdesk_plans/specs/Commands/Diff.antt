@@ -3,13 +3,13 @@ use Rattle.std.specs.Prelude.{◌≡◌, [], ◌∷◌, List, Option, Some, None
 use Rattle.clap.specs.Simple.{App}
 use Rattle.clap.specs.Walk.{Row}
 use Rattle.gtdesk_plans.specs.Arguments.{command_of, flag_rule, word_rule}
-use Rattle.gtdesk_plans.specs.Readings.{Reading, Word, word_as}
+use Rattle.gtdesk_words.specs.Readings.{Reading, Word, word_as}
 use Rattle.gtdesk_plans.specs.Rows.{is_given, text_of}
-use Rattle.gtdesk_plans.specs.Words.{AreDays, IsVehicleWord}
+use Rattle.gtdesk_words.specs.Words.{AreDays, IsVehicleWord}
 use Rattle.gtdesk_plans.specs.declared.commands.diff.DiffPlan.{DiffPlan}
 use Rattle.gtdesk_plans.specs.declared.plans.Plan.{Plan}
 use Rattle.gtdesk_plans.specs.declared.plans.Plan.TheVariants as plan
-use Rattle.gtdesk_plans.specs.declared.refusal.WordName.TheVariants as name
+use Rattle.gtdesk_words.specs.declared.refusal.WordName.TheVariants as name
 
 abbrev pub app : App
 app =

@@ -4,16 +4,16 @@ use Rattle.clap.specs.Simple.{App}
 use Rattle.clap.specs.Walk.{Row}
 use Rattle.gtd_records.specs.Columns.{direction_of, number_of}
 use Rattle.gtdesk_plans.specs.Arguments.{Text, command_of, word_rule}
-use Rattle.gtdesk_plans.specs.Readings.{Reading, Word, word_as}
+use Rattle.gtdesk_words.specs.Readings.{Reading, Word, word_as}
 use Rattle.gtdesk_plans.specs.Rows.{text_of}
-use Rattle.gtdesk_plans.specs.Words.{IsReadDomain, IsVehicleWord, IsYearWord}
+use Rattle.gtdesk_words.specs.Words.{IsReadDomain, IsVehicleWord, IsYearWord}
 use Rattle.gtdesk_plans.specs.declared.commands.picture.DomainPicturePlan.{DomainPicturePlan}
 use Rattle.gtdesk_plans.specs.declared.commands.picture.PicturePlan.{PicturePlan}
 use Rattle.gtdesk_plans.specs.declared.commands.picture.PictureSubject.{PictureSubject}
 use Rattle.gtdesk_plans.specs.declared.plans.OnePlan.TheVariants as one
 use Rattle.gtdesk_plans.specs.declared.plans.Plan.{Plan}
 use Rattle.gtdesk_plans.specs.declared.plans.Plan.TheVariants as plan
-use Rattle.gtdesk_plans.specs.declared.refusal.WordName.TheVariants as name
+use Rattle.gtdesk_words.specs.declared.refusal.WordName.TheVariants as name
 
 abbrev pub app : App
 app =

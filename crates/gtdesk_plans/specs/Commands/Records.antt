@@ -1,20 +1,20 @@
--- The command `records FILE`.
-use Rattle.std.specs.Prelude.{◌≡◌, [], ◌∷◌, List, codes, string_bytes}
+-- The command `records FILE..`.
+use Rattle.std.specs.Prelude.{◌≡◌, [], ◌∷◌, List, codes, map, string_bytes}
 use Rattle.clap.specs.Simple.{App}
 use Rattle.clap.specs.Walk.{Row}
-use Rattle.gtdesk_plans.specs.Arguments.{command_of, word_rule}
-use Rattle.gtdesk_plans.specs.Readings.{Word}
-use Rattle.gtdesk_plans.specs.Rows.{text_of}
+use Rattle.gtdesk_plans.specs.Arguments.{command_of, words_rule}
+use Rattle.gtdesk_words.specs.Readings.{Word}
+use Rattle.gtdesk_plans.specs.Rows.{texts_of}
 use Rattle.gtdesk_plans.specs.declared.plans.OnePlan.TheVariants as one
 use Rattle.gtdesk_plans.specs.declared.plans.Plan.{Plan}
 use Rattle.gtdesk_plans.specs.declared.plans.Plan.TheVariants as plan
 
 abbrev pub app : App
-app = command_of (codes "records") (word_rule (codes "FILE") ∷ [])
+app = command_of (codes "records") (words_rule (codes "FILE") ∷ [])
 
 abbrev pub words : List Row → List Word
 words rows = []
 
 abbrev pub Asks : List Row → Plan → Type 0
-Asks rows (plan.One (one.Records file)) = string_bytes file ≡ text_of (codes "FILE") rows
+Asks rows (plan.One (one.Records files)) = map string_bytes files.items ≡ texts_of (codes "FILE") rows
 Asks rows other = ⊥

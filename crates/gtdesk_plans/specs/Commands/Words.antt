@@ -3,14 +3,14 @@ use Rattle.std.specs.Prelude.{◌≡◌, [], ◌∷◌, List, Option, Some, None
 use Rattle.clap.specs.Simple.{App}
 use Rattle.clap.specs.Walk.{Row, first_of}
 use Rattle.gtdesk_plans.specs.Arguments.{command_of, option_rule, word_rule}
-use Rattle.gtdesk_plans.specs.Readings.{Reading, Word, if_given, word_as}
+use Rattle.gtdesk_words.specs.Readings.{Reading, Word, if_given, word_as}
 use Rattle.gtdesk_plans.specs.Rows.{text_of}
-use Rattle.gtdesk_plans.specs.Words.{IsReadDomain, language_for}
+use Rattle.gtdesk_words.specs.Words.{IsReadDomain, language_for}
 use Rattle.gtdesk_plans.specs.declared.commands.words.WordsPlan.{WordsPlan}
 use Rattle.gtdesk_plans.specs.declared.plans.OnePlan.TheVariants as one
 use Rattle.gtdesk_plans.specs.declared.plans.Plan.{Plan}
 use Rattle.gtdesk_plans.specs.declared.plans.Plan.TheVariants as plan
-use Rattle.gtdesk_plans.specs.declared.refusal.WordName.TheVariants as name
+use Rattle.gtdesk_words.specs.declared.refusal.WordName.TheVariants as name
 
 abbrev pub app : App
 app = command_of (codes "words") (word_rule (codes "DOMAIN") ∷ option_rule (codes "lang") ∷ [])

@@ -5,15 +5,14 @@ ghost use Rattle.clap.specs.Matches.{found_of};
 ghost use Rattle.clap.specs.Walk.{rows_of};
 ghost use Rattle.gtdesk_plans.specs.Arguments.{Builds};
 ghost use Rattle.gtdesk_plans.specs.Commands.Diff.{Asks, app, words};
-ghost use Rattle.gtdesk_plans.specs.Readings.{AreStopped};
+ghost use Rattle.gtdesk_words.specs.Readings.{AreStopped};
 
 use crate::arguments::{Argument, VEHICLE, command_of};
 use crate::given::{is_given, text};
 use crate::plans::Plan;
-use crate::refusal::WordsRefusal;
-use crate::words::{days_of, vehicle_of};
 use clap::{ArgMatches, Command};
 use gtd_core::Horizon;
+use gtdesk_words::{WordsRefusal, days_of, vehicle_of};
 use std::alloc::{AllocError, Global};
 
 /// Two record files, and for what they are compared.
@@ -33,42 +32,44 @@ pub struct DiffPlan {
     pub summary: bool,
 }
 
+// What help says of it.
+const ABOUT: &str =
+    "Print when each element of either of two record files was opened or closed from the one to the other";
+
+// Its words and options.
+const ARGUMENTS: [Argument; 7] = [
+    Argument::Word {
+        name: "OLD",
+        help: "The record file as it was",
+    },
+    Argument::Word {
+        name: "NEW",
+        help: "The record file as it is to be",
+    },
+    Argument::Word {
+        name: "FROM",
+        help: "The first day, YYYY-MM-DD",
+    },
+    Argument::Word {
+        name: "TO",
+        help: "The day after the last, YYYY-MM-DD",
+    },
+    VEHICLE,
+    Argument::Flag {
+        name: "rows",
+        help: "Print the rows of either file that close the element when an interval begins, too",
+    },
+    Argument::Flag {
+        name: "summary",
+        help: "Print the seconds in which each element that differs is open, in place of the intervals",
+    },
+];
+
 /// The command for `clap`.
 pub(crate) fn command<'a>(alloc: Global) -> Result<Command<'a>, AllocError>
     ensures { Builds app result }
 {
-    command_of(
-        alloc,
-        "diff",
-        "Print when each element of either of two record files was opened or closed from the one to the other",
-        &[
-            Argument::Word {
-                name: "OLD",
-                help: "The record file as it was",
-            },
-            Argument::Word {
-                name: "NEW",
-                help: "The record file as it is to be",
-            },
-            Argument::Word {
-                name: "FROM",
-                help: "The first day, YYYY-MM-DD",
-            },
-            Argument::Word {
-                name: "TO",
-                help: "The day after the last, YYYY-MM-DD",
-            },
-            VEHICLE,
-            Argument::Flag {
-                name: "rows",
-                help: "Print the rows of either file that close the element when an interval begins, too",
-            },
-            Argument::Flag {
-                name: "summary",
-                help: "Print the seconds in which each element that differs is open, in place of the intervals",
-            },
-        ],
-    )
+    command_of(alloc, "diff", ABOUT, &ARGUMENTS)
 }
 
 /// What the words given ask for.

@@ -5,15 +5,23 @@ ghost use Rattle.clap.specs.Matches.{found_of};
 ghost use Rattle.clap.specs.Walk.{rows_of};
 ghost use Rattle.gtdesk_plans.specs.Arguments.{Builds};
 ghost use Rattle.gtdesk_plans.specs.Commands.Hours.{Asks, AsksOf, app, words, words_of};
-ghost use Rattle.gtdesk_plans.specs.Readings.{AreStopped};
+ghost use Rattle.gtdesk_words.specs.Readings.{AreStopped};
 
 use crate::arguments::{Argument, with_arguments};
-use crate::given::text;
+use crate::given::{is_given, text};
 use crate::plans::{OnePlan, Plan};
-use crate::refusal::{WordName, WordsRefusal};
-use crate::words::domain_of;
 use clap::{ArgMatches, Command};
+use gtdesk_words::{WordName, WordsRefusal, domain_of};
 use std::alloc::{AllocError, Global};
+
+/// A text of opening hours.
+#[derive(Drop)]
+pub struct HoursPlan {
+    /// The text.
+    pub text: String,
+    /// Whether it is refused if it is written loosely.
+    pub strict: bool,
+}
 
 // What help says at the end.
 const EXAMPLES: &str = "\
@@ -21,40 +29,46 @@ Examples:
   gtdesk hours 'Mo-Fr 08:00-17:00' prints [[(t2t3t4t5t6h0m0){d1}]*[(h8m0){m540}]]
   gtdesk hours --of '(t6h22m0){d1}*(h22m0){m360}' prints Fr 22:00-04:00";
 
+// What help says of it.
+const ABOUT: &str =
+    "Print the time domain with exactly the seconds at which opening hours of OpenStreetMap are open, \
+    or opening hours that are open at exactly the seconds of a time domain";
+
+// Its words and options.
+const ARGUMENTS: [Argument; 3] = [
+    Argument::Flag {
+        name: "strict",
+        help: "Refuse a text that is written loosely",
+    },
+    Argument::FreeWord {
+        name: "TEXT",
+        help: "The opening hours",
+    },
+    Argument::Option {
+        name: "of",
+        value: "DOMAIN",
+        help: "The time domain, made of days from midnight and ranges of times in minutes",
+    },
+];
+
 /// The command for `clap`. Of its word and its option one is to be given, which the library does not see to.
 pub(crate) fn command<'a>(alloc: Global) -> Result<Command<'a>, AllocError>
     ensures { Builds app result }
 {
     let command = Command::new(alloc, "hours")
-        .about(
-            "Print the time domain with exactly the seconds at which opening hours of OpenStreetMap are open, \
-                or opening hours that are open at exactly the seconds of a time domain",
-        )
-        .override_usage("gtdesk hours <TEXT|--of <DOMAIN>>")
+        .about(ABOUT)
+        .override_usage("gtdesk hours <[OPTIONS] <TEXT>|--of <DOMAIN>>")
         .after_help(EXAMPLES);
-    with_arguments(
-        alloc,
-        command,
-        &[
-            Argument::FreeWord {
-                name: "TEXT",
-                help: "The opening hours",
-            },
-            Argument::Option {
-                name: "of",
-                value: "DOMAIN",
-                help: "The time domain, made of days from midnight and ranges of times in minutes",
-            },
-        ],
-    )
+    with_arguments(alloc, command, &ARGUMENTS)
 }
 
 /// What the words given ask for, if there is a text.
 pub(crate) fn plan(alloc: Global, given: &ArgMatches<'_>) -> Result<Plan, WordsRefusal>
     ensures { MatchResult result (Asks (rows_of (found_of given.now))) (AreStopped (words (rows_of (found_of given.now)))) }
 {
+    let strict = is_given(given, "strict");
     match String::from_str(alloc, text(given, "TEXT")) {
-        Ok(text) => Ok(Plan::One(OnePlan::DomainOf(text))),
+        Ok(text) => Ok(Plan::One(OnePlan::DomainOf(HoursPlan { text, strict }))),
         Err(_) => Err(WordsRefusal::Memory),
     }
 }

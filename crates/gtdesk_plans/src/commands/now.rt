@@ -1,64 +1,155 @@
-//! The command `now`.
+//! The command `now`, at a moment and by the clock of a time zone.
 
-ghost use Rattle.std.specs.Prelude.{MatchResult};
+ghost use Rattle.std.specs.Prelude.{◌≡◌, MatchResult};
 ghost use Rattle.clap.specs.Matches.{found_of};
 ghost use Rattle.clap.specs.Walk.{rows_of};
 ghost use Rattle.gtdesk_plans.specs.Arguments.{Builds};
-ghost use Rattle.gtdesk_plans.specs.Commands.Now.{Asks, app, words};
-ghost use Rattle.gtdesk_plans.specs.Readings.{AreStopped};
+ghost use Rattle.gtdesk_plans.specs.Commands.Now.{Asks, AsksIn, IsView, app, view_words, words, zone_words};
+ghost use Rattle.gtdesk_words.specs.Readings.{AreStopped};
 
-use crate::arguments::{Argument, FILE, VEHICLE, command_of};
+use crate::arguments::{Argument, FILE, with_arguments};
 use crate::given::{is_given, text, value};
-use crate::plans::{Moment, OnePlan, Plan};
-use crate::refusal::WordsRefusal;
-use crate::words::{elements_of, moment_of, vehicle_of};
+use crate::plans::{OnePlan, Plan};
 use clap::{ArgMatches, Command};
+use gtdesk_words::{Moment, WordsRefusal, elements_of, moment_of, vehicle_of, zone_of};
 use std::alloc::{AllocError, Global};
 
-/// The state of the elements of a record file.
+/// What is printed of the state of elements.
 #[derive(Drop)]
-pub struct NowPlan {
-    /// The file's path, or `-` for standard input.
-    pub file: String,
-    /// The moment.
-    pub moment: Moment,
+pub struct NowView {
     /// The vehicle type, from 1 to 99.
     pub vehicle: u8,
     /// Whether closed elements alone are printed.
     pub closed: bool,
     /// The elements that are printed; all, if none is named.
     pub elements: Vec<u64>,
+    /// Whether the rows that close an element are told.
+    pub why: bool,
+    /// Whether each element is an object of JSON.
+    pub json: bool,
+    /// Whether the elements are a table for a screen.
+    pub table: bool,
 }
 
-/// The command for `clap`.
+/// The state of the elements of a record file at a moment.
+#[derive(Drop)]
+pub struct NowPlan {
+    /// The file's path, or `-` for standard input.
+    pub file: String,
+    /// The moment.
+    pub moment: Moment,
+    /// What is printed.
+    pub view: NowView,
+}
+
+/// The same at the moment that the clock of a time zone shows.
+#[derive(Drop)]
+pub struct ZonePlan {
+    /// The file's path, or `-` for standard input.
+    pub file: String,
+    /// The name of the zone.
+    pub zone: String,
+    /// What is printed.
+    pub view: NowView,
+}
+
+impl ZonePlan {
+    ghost use Rattle.std.specs.Prelude.{◌≡◌};
+    ghost use Rattle.gtdesk_plans.specs.Plans.{plan_at};
+
+    /// The plan at this moment.
+    pub fn at(self, moment: Moment) -> OnePlan
+        ensures plan { result ≡ plan_at self moment }
+    {
+        let ZonePlan {
+            file,
+            zone: _,
+            view,
+        } = self;
+        OnePlan::Now(NowPlan { file, moment, view })
+    }
+}
+
+// What help says of it.
+const ABOUT: &str =
+    "Print whether each element of a record file is open at a moment, until when, and by which rows it is closed";
+
+// Its words and options.
+const ARGUMENTS: [Argument; 9] = [
+    FILE,
+    Argument::Word {
+        name: "MOMENT",
+        help: "The second, YYYY-MM-DDThh:mm:ss, of the local clock; left out with --zone",
+    },
+    Argument::FreeWord {
+        name: "VEHICLE",
+        help: "The vehicle type, from 1 to 99",
+    },
+    Argument::Flag {
+        name: "closed",
+        help: "Print closed elements alone",
+    },
+    Argument::Option {
+        name: "element",
+        value: "N[,N..]",
+        help: "Print these elements alone",
+    },
+    Argument::Flag {
+        name: "why",
+        help: "Tell the rows that close an element, with their domains in words",
+    },
+    Argument::Flag {
+        name: "json",
+        help: "Print an object of JSON for each line",
+    },
+    Argument::Flag {
+        name: "table",
+        help: "Print columns for a screen",
+    },
+    Argument::Option {
+        name: "zone",
+        value: "NAME",
+        help: "Take the second that the clock of this time zone shows now, such as Europe/Vienna",
+    },
+];
+
+/// The command for `clap`. Of its words one is to be left out with an option, which the library does not see to.
 pub(crate) fn command<'a>(alloc: Global) -> Result<Command<'a>, AllocError>
     ensures { Builds app result }
 {
-    command_of(
-        alloc,
-        "now",
-        "Print whether each element of a record file is open at a moment, until when, and by which rows it is closed",
-        &[
-            FILE,
-            Argument::Word {
-                name: "MOMENT",
-                help: "The second, YYYY-MM-DDThh:mm:ss, of the local clock",
-            },
-            VEHICLE,
-            Argument::Flag {
-                name: "closed",
-                help: "Print closed elements alone",
-            },
-            Argument::Option {
-                name: "element",
-                value: "N[,N..]",
-                help: "Print these elements alone",
-            },
-        ],
-    )
+    let command = Command::new(alloc, "now").about(ABOUT).override_usage(
+        "gtdesk now <[OPTIONS] <FILE> <MOMENT> <VEHICLE>|[OPTIONS] <FILE> <VEHICLE> --zone <NAME>>",
+    );
+    with_arguments(alloc, command, &ARGUMENTS)
 }
 
-/// What the words given ask for.
+// What is printed, for the vehicle type that this word stands for.
+fn view_of(alloc: Global, given: &ArgMatches<'_>, vehicle: &str) -> Result<NowView, WordsRefusal>
+    ensures { MatchResult result (IsView (rows_of (found_of given.now)) vehicle.now)
+        (AreStopped (view_words (rows_of (found_of given.now)) vehicle.now)) }
+{
+    let vehicle = match vehicle_of(vehicle) {
+        Ok(vehicle) => vehicle,
+        Err(refusal) => return Err(refusal),
+    };
+    let closed = is_given(given, "closed");
+    let why = is_given(given, "why");
+    let json = is_given(given, "json");
+    let table = is_given(given, "table");
+    match elements_of(alloc, value(given, "element")) {
+        Ok(elements) => Ok(NowView {
+            vehicle,
+            closed,
+            elements,
+            why,
+            json,
+            table,
+        }),
+        Err(refusal) => Err(refusal),
+    }
+}
+
+/// What the words given ask for at a moment.
 pub(crate) fn plan(alloc: Global, given: &ArgMatches<'_>) -> Result<Plan, WordsRefusal>
     ensures { MatchResult result (Asks (rows_of (found_of given.now))) (AreStopped (words (rows_of (found_of given.now)))) }
 {
@@ -66,23 +157,35 @@ pub(crate) fn plan(alloc: Global, given: &ArgMatches<'_>) -> Result<Plan, WordsR
         Ok(moment) => moment,
         Err(refusal) => return Err(refusal),
     };
-    let vehicle = match vehicle_of(text(given, "VEHICLE")) {
-        Ok(vehicle) => vehicle,
-        Err(refusal) => return Err(refusal),
-    };
-    let closed = is_given(given, "closed");
-    let elements = match elements_of(alloc, value(given, "element")) {
-        Ok(elements) => elements,
+    let view = match view_of(alloc, given, text(given, "VEHICLE")) {
+        Ok(view) => view,
         Err(refusal) => return Err(refusal),
     };
     match String::from_str(alloc, text(given, "FILE")) {
-        Ok(file) => Ok(Plan::One(OnePlan::Now(NowPlan {
-            file,
-            moment,
-            vehicle,
-            closed,
-            elements,
-        }))),
+        Ok(file) => Ok(Plan::One(OnePlan::Now(NowPlan { file, moment, view }))),
+        Err(_) => Err(WordsRefusal::Memory),
+    }
+}
+
+/// What they ask for by the clock of a time zone. Their second word is the vehicle type.
+pub(crate) fn plan_zone(alloc: Global, given: &ArgMatches<'_>) -> Result<Plan, WordsRefusal>
+    ensures { MatchResult result (AsksIn (rows_of (found_of given.now)))
+        (AreStopped (zone_words (rows_of (found_of given.now)))) }
+{
+    let view = match view_of(alloc, given, text(given, "MOMENT")) {
+        Ok(view) => view,
+        Err(refusal) => return Err(refusal),
+    };
+    let zone = match zone_of(text(given, "zone")) {
+        Ok(zone) => zone,
+        Err(refusal) => return Err(refusal),
+    };
+    let zone = match String::from_str(alloc, zone) {
+        Ok(zone) => zone,
+        Err(_) => return Err(WordsRefusal::Memory),
+    };
+    match String::from_str(alloc, text(given, "FILE")) {
+        Ok(file) => Ok(Plan::NowIn(ZonePlan { file, zone, view })),
         Err(_) => Err(WordsRefusal::Memory),
     }
 }

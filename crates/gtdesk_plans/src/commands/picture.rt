@@ -5,16 +5,17 @@ ghost use Rattle.clap.specs.Matches.{found_of};
 ghost use Rattle.clap.specs.Walk.{rows_of};
 ghost use Rattle.gtdesk_plans.specs.Arguments.{Builds};
 ghost use Rattle.gtdesk_plans.specs.Commands.Picture.{Asks, AsksDomain, AreSubject, app, domain_app, domain_words, title_of, words};
-ghost use Rattle.gtdesk_plans.specs.Readings.{AreStopped};
+ghost use Rattle.gtdesk_words.specs.Readings.{AreStopped};
 
 use crate::arguments::{Argument, DOMAIN, FILE, VEHICLE, YEAR, command_of};
 use crate::given::text;
 use crate::plans::{OnePlan, Plan};
-use crate::refusal::{WordName, WordsRefusal};
-use crate::words::{direction_of, domain_of, element_of, vehicle_of, year_of};
 use clap::{ArgMatches, Command};
 use gtd_core::Domain;
 use gtd_records::Direction;
+use gtdesk_words::{
+    WordName, WordsRefusal, direction_of, domain_of, element_of, vehicle_of, year_of,
+};
 use std::alloc::{AllocError, Global};
 
 /// What a picture of an element is about. The vehicle type of a plan is from 1 to 99, and its year from 1901 to 2199.
@@ -52,28 +53,30 @@ pub struct DomainPicturePlan {
     pub year: u16,
 }
 
+// What help says of it.
+const ABOUT: &str =
+    "Print a picture, in SVG, of the seconds of a year in which an element of a record file is open";
+
+// Its words and options.
+const ARGUMENTS: [Argument; 5] = [
+    FILE,
+    Argument::Word {
+        name: "ELEMENT",
+        help: "The number of the element",
+    },
+    Argument::Word {
+        name: "DIRECTION",
+        help: "The direction: positive or negative",
+    },
+    VEHICLE,
+    YEAR,
+];
+
 /// The command `picture` for `clap`.
 pub(crate) fn command<'a>(alloc: Global) -> Result<Command<'a>, AllocError>
     ensures { Builds app result }
 {
-    command_of(
-        alloc,
-        "picture",
-        "Print a picture, in SVG, of the seconds of a year in which an element of a record file is open",
-        &[
-            FILE,
-            Argument::Word {
-                name: "ELEMENT",
-                help: "The number of the element",
-            },
-            Argument::Word {
-                name: "DIRECTION",
-                help: "The direction: positive or negative",
-            },
-            VEHICLE,
-            YEAR,
-        ],
-    )
+    command_of(alloc, "picture", ABOUT, &ARGUMENTS)
 }
 
 // What the words given are about.
@@ -138,16 +141,18 @@ pub(crate) fn plan(alloc: Global, given: &ArgMatches<'_>) -> Result<Plan, WordsR
     }
 }
 
+// What help says of it.
+const DOMAIN_ABOUT: &str =
+    "Print a picture, in SVG, of the seconds of a year that a time domain contains";
+
+// Its words and options.
+const DOMAIN_ARGUMENTS: [Argument; 2] = [DOMAIN, YEAR];
+
 /// The command `picture-domain` for `clap`.
 pub(crate) fn domain_command<'a>(alloc: Global) -> Result<Command<'a>, AllocError>
     ensures { Builds domain_app result }
 {
-    command_of(
-        alloc,
-        "picture-domain",
-        "Print a picture, in SVG, of the seconds of a year that a time domain contains",
-        &[DOMAIN, YEAR],
-    )
+    command_of(alloc, "picture-domain", DOMAIN_ABOUT, &DOMAIN_ARGUMENTS)
 }
 
 /// What the words given of `picture-domain` ask for.

@@ -5,36 +5,38 @@ ghost use Rattle.clap.specs.Matches.{found_of};
 ghost use Rattle.clap.specs.Walk.{rows_of};
 ghost use Rattle.gtdesk_plans.specs.Arguments.{Builds};
 ghost use Rattle.gtdesk_plans.specs.Commands.Records.{Asks, app, words};
-ghost use Rattle.gtdesk_plans.specs.Readings.{AreStopped};
+ghost use Rattle.gtdesk_words.specs.Readings.{AreStopped};
 
 use crate::arguments::{Argument, command_of};
-use crate::given::text;
+use crate::given::texts;
 use crate::plans::{OnePlan, Plan};
-use crate::refusal::WordsRefusal;
 use clap::{ArgMatches, Command};
+use gtdesk_words::WordsRefusal;
 use std::alloc::{AllocError, Global};
+
+// What help says of it.
+const ABOUT: &str =
+    "Print the record file of each file of opening hours, with a time domain for the hours of each row";
+
+// Its words and options.
+const ARGUMENTS: [Argument; 1] = [Argument::Words {
+    name: "FILE",
+    help: "The files, with the columns element, direction, vehicles and hours; one may be - for standard input",
+}];
 
 /// The command for `clap`.
 pub(crate) fn command<'a>(alloc: Global) -> Result<Command<'a>, AllocError>
     ensures { Builds app result }
 {
-    command_of(
-        alloc,
-        "records",
-        "Print the record file of a file of opening hours, with a time domain for the hours of each row",
-        &[Argument::Word {
-            name: "FILE",
-            help: "The file, with the columns element, direction, vehicles and hours, or - for standard input",
-        }],
-    )
+    command_of(alloc, "records", ABOUT, &ARGUMENTS)
 }
 
 /// What the words given ask for.
 pub(crate) fn plan(alloc: Global, given: &ArgMatches<'_>) -> Result<Plan, WordsRefusal>
     ensures { MatchResult result (Asks (rows_of (found_of given.now))) (AreStopped (words (rows_of (found_of given.now)))) }
 {
-    match String::from_str(alloc, text(given, "FILE")) {
-        Ok(file) => Ok(Plan::One(OnePlan::Records(file))),
+    match texts(alloc, given, "FILE") {
+        Ok(files) => Ok(Plan::One(OnePlan::Records(files))),
         Err(_) => Err(WordsRefusal::Memory),
     }
 }

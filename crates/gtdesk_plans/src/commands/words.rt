@@ -5,16 +5,15 @@ ghost use Rattle.clap.specs.Matches.{found_of};
 ghost use Rattle.clap.specs.Walk.{rows_of};
 ghost use Rattle.gtdesk_plans.specs.Arguments.{Builds};
 ghost use Rattle.gtdesk_plans.specs.Commands.Words.{Asks, app, words};
-ghost use Rattle.gtdesk_plans.specs.Readings.{AreStopped};
+ghost use Rattle.gtdesk_words.specs.Readings.{AreStopped};
 
 use crate::arguments::{Argument, DOMAIN, command_of};
 use crate::given::{text, value};
 use crate::plans::{OnePlan, Plan};
-use crate::refusal::{WordName, WordsRefusal};
-use crate::words::{domain_of, language_of};
 use clap::{ArgMatches, Command};
 use gtd_core::Domain;
 use gtd_phrases::Language;
+use gtdesk_words::{WordName, WordsRefusal, domain_of, language_of};
 use std::alloc::{AllocError, Global};
 
 /// The words of a time domain.
@@ -26,23 +25,24 @@ pub struct WordsPlan {
     pub language: Language,
 }
 
+// What help says of it.
+const ABOUT: &str = "Say in plain words when a time domain holds";
+
+// Its words and options.
+const ARGUMENTS: [Argument; 2] = [
+    DOMAIN,
+    Argument::Option {
+        name: "lang",
+        value: "LANGUAGE",
+        help: "The language: en, de or fr",
+    },
+];
+
 /// The command for `clap`.
 pub(crate) fn command<'a>(alloc: Global) -> Result<Command<'a>, AllocError>
     ensures { Builds app result }
 {
-    command_of(
-        alloc,
-        "words",
-        "Say in plain words when a time domain holds",
-        &[
-            DOMAIN,
-            Argument::Option {
-                name: "lang",
-                value: "LANGUAGE",
-                help: "The language: en, de or fr",
-            },
-        ],
-    )
+    command_of(alloc, "words", ABOUT, &ARGUMENTS)
 }
 
 /// What the words given ask for.

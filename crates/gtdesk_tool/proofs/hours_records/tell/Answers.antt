@@ -1,5 +1,5 @@
 use Rattle.std.proofs.Common.{subst}
-use Rattle.gtdesk_tool.specs.Running.{Telling, Told}
+use Rattle.gtdesk_tool.specs.Telling.{Telling, Told}
 use Rattle.gtdesk_tool.proofs.RunningFacts.{told_of}
 use Rattle.gtdesk_tool.proofs.hours_records.tell.Goals as goal
 

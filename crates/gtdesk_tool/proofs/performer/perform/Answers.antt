@@ -1,5 +1,6 @@
-use Rattle.gtdesk_tool.proofs.RunningFacts.{of_domain, of_hours, of_memory, of_none, unread_picture, unread_text}
+use Rattle.gtdesk_tool.proofs.RunningFacts.{of_hours, of_memory, of_none, unread_picture, unread_text}
 use Rattle.gtdesk_tool.proofs.ComparingFacts.{unread_comparison}
+use Rattle.gtdesk_tool.proofs.LooseFacts.{of_unread, unread_hours}
 use Rattle.gtdesk_tool.proofs.performer.perform.Goals as goal
 
 pub returns-in-DomainPicture-clause-read_faults : goal.returns-in-DomainPicture-clause-read_faults
@@ -12,7 +13,10 @@ pub returns-in-HoursOf-clause-read_faults : goal.returns-in-HoursOf-clause-read_
 returns-in-HoursOf-clause-read_faults g c = unread_text _ _ _ _ _ _ (of_hours _) _ c.print_hours_of.ensures.put
 
 pub returns-in-DomainOf-clause-read_faults : goal.returns-in-DomainOf-clause-read_faults
-returns-in-DomainOf-clause-read_faults g c = unread_text _ _ _ _ _ _ (of_domain _ _) _ c.print_domain_of.ensures.put
+returns-in-DomainOf-clause-read_faults g c = unread_hours _ _ _ _ _ _ _ _ c.print_hours_domain.ensures.ran
+
+pub returns-in-MendHours-clause-read_faults : goal.returns-in-MendHours-clause-read_faults
+returns-in-MendHours-clause-read_faults g c = unread_text _ _ _ _ _ _ (of_unread _ _) _ c.print_mended_hours.ensures.put
 
 pub returns-in-Same-clause-read_faults : goal.returns-in-Same-clause-read_faults
 returns-in-Same-clause-read_faults g c = unread_comparison _ _ _ _ _ _ _ _ c.print_comparison.ensures.compared

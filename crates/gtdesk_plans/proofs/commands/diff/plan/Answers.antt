@@ -1,7 +1,7 @@
 use Rattle.clap.specs.Matches.{found_of}
 use Rattle.clap.specs.Walk.{rows_of}
 use Rattle.gtdesk_plans.specs.Commands.Diff.{words}
-use Rattle.gtdesk_plans.proofs.ReadingFacts.{stopped_past}
+use Rattle.gtdesk_words.specs.facts.Readings.{stopped_past}
 use Rattle.gtdesk_plans.proofs.commands.diff.plan.Goals as goal
 
 pub returns-in-Err-vehicle_of : goal.returns-in-Err-vehicle_of

@@ -1,7 +1,7 @@
 use Rattle.clap.specs.Matches.{found_of}
 use Rattle.clap.specs.Walk.{rows_of}
 use Rattle.gtdesk_plans.specs.Commands.Picture.{domain_words}
-use Rattle.gtdesk_plans.proofs.ReadingFacts.{stopped_past, stopped_upto}
+use Rattle.gtdesk_words.specs.facts.Readings.{stopped_past, stopped_upto}
 use Rattle.gtdesk_plans.proofs.commands.picture.plan_domain.Goals as goal
 
 pub returns-in-Err : goal.returns-in-Err

@@ -1,7 +1,7 @@
 use Rattle.clap.specs.Matches.{found_of}
 use Rattle.clap.specs.Walk.{rows_of}
 use Rattle.gtdesk_plans.specs.Commands.Same.{words}
-use Rattle.gtdesk_plans.proofs.ReadingFacts.{stopped_at, stopped_past, stopped_upto}
+use Rattle.gtdesk_words.specs.facts.Readings.{stopped_at, stopped_past, stopped_upto}
 use Rattle.gtdesk_plans.proofs.commands.same.plan.Goals as goal
 
 pub returns-in-Err : goal.returns-in-Err

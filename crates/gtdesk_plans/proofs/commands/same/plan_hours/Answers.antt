@@ -1,7 +1,7 @@
 use Rattle.clap.specs.Matches.{found_of}
 use Rattle.clap.specs.Walk.{rows_of}
 use Rattle.gtdesk_plans.specs.Commands.Same.{hours_words}
-use Rattle.gtdesk_plans.proofs.ReadingFacts.{stopped_at, stopped_past, stopped_upto}
+use Rattle.gtdesk_words.specs.facts.Readings.{stopped_at, stopped_past, stopped_upto}
 use Rattle.gtdesk_plans.proofs.StandFacts.{has_domain}
 use Rattle.gtdesk_plans.proofs.commands.same.plan_hours.Goals as goal
 

@@ -1,0 +1,95 @@
+-- What the command `hours` did for a text that may be written loosely, from what its parts did.
+use Rattle.std.proofs.Common.{◌≡◌, ◌⊎◌, ◌≢◌, inl, inr, refl, sym, ap, subst, true, false, ℕ, List, Bool, Option}
+use Rattle.std.specs.Prelude.{Result, Ok, Err}
+use Rattle.std.specs.Io.KnownBytes.{Appends, Keeps}
+use Rattle.gtd_faults.specs.Run.{TookSome}
+use Rattle.gtd_hours.specs.declared.hours.Hours.{Hours}
+use Rattle.gtd_hours_loose.specs.declared.reader.LooseFault.TheVariants as loose
+use Rattle.gtd_hours_loose.specs.declared.reader.LooseReadFault.{LooseReadFault}
+use Rattle.gtd_hours_loose.specs.declared.reader.LooseReadFault.TheVariants as reading
+use Rattle.gtdesk_plans.specs.Arguments.{Text}
+use Rattle.gtdesk_tool.specs.LooseHours.{AreLines, IsRefusal, IsUnread, IsUntranslated, PutLines, PutsLoose, unread}
+use Rattle.gtdesk_tool.specs.Running.{PutText, RanHours, failures_after_read}
+use Rattle.gtdesk_tool.specs.Telling.{IsUntold, Telling, Told}
+use Rattle.gtdesk_tool.specs.declared.ending.Ending.{Ending}
+use Rattle.gtdesk_tool.specs.declared.refusal.RunRefusal.{RunRefusal}
+use Rattle.gtdesk_tool.specs.declared.refusal.RunRefusal.TheVariants as refusal
+use Rattle.gtdesk_tool.proofs.RunningFacts.{TellsNone, of_domain, unread_text}
+
+-- ---- a refusal of a text tells no failure of a device
+
+tells_unread : (n : ℕ) (fault : LooseReadFault) → TellsNone n (unread fault)
+tells_unread n (reading.Fault (loose.Hours why)) = (refl, refl)
+tells_unread n (reading.Fault (loose.Ambiguous place)) = (refl, refl)
+tells_unread n reading.NoMemory = (refl, refl)
+
+pub of_unread : (text : Text) (n : ℕ) (r : RunRefusal) → IsUnread text r → TellsNone n r
+of_unread text n r is = subst (λ (x : RunRefusal). TellsNone n x) (sym is.2) (tells_unread n is.0)
+
+of_untranslated : (hours : Hours) (n : ℕ) (r : RunRefusal) → IsUntranslated hours r → TellsNone n r
+of_untranslated hours n r (inl is) = subst (λ (x : RunRefusal). TellsNone n x) (sym is) (refl, refl)
+of_untranslated hours n r (inr is) = subst (λ (x : RunRefusal). TellsNone n x) (sym is.0) (refl, refl)
+
+pub of_refusal : (text : Text) (n : ℕ) (r : RunRefusal) → IsRefusal text r → TellsNone n r
+of_refusal text n r (inl is) = of_unread text n r is
+of_refusal text n r (inr is) = of_untranslated is.0.hours n r is.2
+
+-- ---- the line of a domain, and warnings
+
+module _ (domain warnings : List ℕ) (old new : Option (List ℕ)) (ended : Bool) (errors : Telling) where
+  pub lines_told : (text told : List ℕ) (e : Ending) → text ≡ domain → told ≡ warnings
+      → PutText (λ t. t ≡ text) (λ r. ⊥) old new ended (Ok e) → Told errors told
+      → PutLines domain warnings old new ended errors (Ok e)
+  lines_told text told e is same put tells = record {
+    whole = (
+      put.whole.0,
+      subst (λ (t : List ℕ). Appends old new t) is
+          (subst (λ (t : List ℕ). Appends old new t) put.whole.1.1 put.whole.1.2),
+      put.whole.2,
+      subst (Told errors) same tells,
+    );
+    refused = tt;
+  }
+
+  part_of : (text : List ℕ) (r : RunRefusal) → text ≡ domain
+      → ((r ≡ refusal.Write) × ((t : List ℕ) × (t ≡ text) × TookSome old new t)) ⊎ (⊥ × Keeps old new)
+      → (r ≡ refusal.Write) × TookSome old new domain
+  part_of text r is (inl part) = (part.0, subst (TookSome old new) is (subst (TookSome old new) part.1.1 part.1.2))
+  part_of text r is (inr none) = absurd none.0
+
+  pub lines_refused : (text : List ℕ) (r : RunRefusal) → text ≡ domain
+      → PutText (λ t. t ≡ text) (λ r. ⊥) old new ended (Err r) → IsUntold errors
+      → PutLines domain warnings old new ended errors (Err r)
+  lines_refused text r is put untold =
+      let part = part_of text r is put.refused in
+      record { whole = tt; refused = (part.0, part.1, untold) }
+
+  pub loose_put : (text : Text) (result : Result Ending RunRefusal) → AreLines text domain warnings
+      → PutLines domain warnings old new ended errors result → PutsLoose text old new ended errors result
+  loose_put text (Ok e) are put = record {
+    whole = (put.whole.0, (domain, warnings, are, put.whole.1, put.whole.3), put.whole.2);
+    refused = tt;
+  }
+  loose_put text (Err r) are put = record {
+    whole = tt;
+    refused = (put.refused.2, inl (put.refused.0, (domain, warnings, are, put.refused.1)));
+  }
+
+-- ---- nothing is read
+
+module _ (text : Text) (old new : Option (List ℕ)) (ended : Bool) (errors : Telling) (n : ℕ) where
+  unread_loose_part : (r : RunRefusal)
+      → ((r ≡ refusal.Write) × ((domain : List ℕ) × (warnings : List ℕ) × AreLines text domain warnings
+      × TookSome old new domain)) ⊎ (IsRefusal text r × Keeps old new) → n ≡ failures_after_read (Err r) n
+  unread_loose_part r (inl part) = sym (ap (λ (x : RunRefusal). failures_after_read (Err x) n) part.0)
+  unread_loose_part r (inr is) = (of_refusal text n r is.0).0
+
+  unread_loose : (result : Result Ending RunRefusal) → PutsLoose text old new ended errors result
+      → n ≡ failures_after_read result n
+  unread_loose (Ok e) put = refl
+  unread_loose (Err r) put = unread_loose_part r put.refused.1
+
+  pub unread_hours : (strict : Bool) (result : Result Ending RunRefusal) → RanHours strict text old new ended errors result
+      → n ≡ failures_after_read result n
+  unread_hours true result ran = unread_text _ _ old new ended n (of_domain text n) result ran
+  unread_hours false result ran = unread_loose result ran
