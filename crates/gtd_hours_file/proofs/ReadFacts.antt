@@ -1,127 +1,101 @@
 -- What the rows that were read so far say, and what all of them do.
-use Rattle.std.proofs.Common.{◌≡◌, ◌∙◌, sym, ap, refl, arith, ◌<◌, ◌≤◌, ◌+◌, inl, inr, ℕ, zero, suc, true, false, Bool}
-use Rattle.std.proofs.Common.{List, [], ◌∷◌, ◌++◌, length, length-append, append_assoc, add-zero, Option}
+use Rattle.std.proofs.Common.{◌≡◌, ◌∙◌, sym, ap, refl, subst, arith, ◌<◌, ◌≤◌, ◌+◌, inl, inr, ℕ, zero, suc}
+use Rattle.std.proofs.Common.{List, [], ◌∷◌, ◌++◌, length, length-append, append_assoc}
 use Rattle.std.specs.Prelude.{Result, Ok, Err, IfOk}
 use Rattle.std.specs.List.{All}
 use Rattle.std.proofs.lemmas.List.{append-nil}
 use Rattle.csv.specs.Reading.{default_config, records, strip_bom}
-use Rattle.csv.specs.declared.reader.Reader.{Reader}
 use Rattle.gtd_core.specs.Limits.{most_file_bytes, most_rows}
 use Rattle.gtd_records.specs.Columns.{Fields}
-use Rattle.gtd_records.specs.Table.{HasLeft, TakesFirst}
+use Rattle.gtd_records.specs.Taking.{AreAllTaken, AreTableTaken, HasHeader}
+use Rattle.gtd_records.specs.declared.rows.RowsEnd.TheVariants.{All as AllRows, NoHeader, TooMany}
 use Rattle.gtd_hours_file.specs.HoursFile.{AreEach, AreOfFile, AreRows, AreTable, IsRow, faults_of, header, sound_of}
 use Rattle.gtd_hours_file.specs.PuttingRows.{IsWithin}
+use Rattle.gtd_hours_file.specs.TakenRows.{BeginsReading, TakesRow}
 use Rattle.gtd_hours_file.specs.declared.fault.HoursFileFault.{HoursFileFault}
 use Rattle.gtd_hours_file.specs.declared.fault.HoursFileFault.TheVariants as fault
 use Rattle.gtd_hours_file.specs.declared.file.Found.{Found}
+use Rattle.gtd_hours_file.specs.declared.file.Reading.{Reading}
 use Rattle.gtd_hours_file.specs.declared.row.HoursRow.{HoursRow}
 use Rattle.gtd_hours_file.proofs.RowFacts.{row_within}
 
--- the rows are those that were read, which say this, and those that the reader has left; the next has this number
-pub record SoFar {R : Type 0} (rem : R → Option (List ℕ)) (reader : Reader R) (rows : List Fields) (sound : List HoursRow)
-    (faults : List HoursFileFault) (number : ℕ) : Type 0 where
-  pub before : List Fields
-  pub left : List Fields
-  pub split : rows ≡ before ++ left
-  pub has : HasLeft rem reader left
-  pub each : AreEach 1 before sound faults
-  pub count : length before + 1 ≡ number
-
-one_more : (k : ℕ) (before : List Fields) (sound : List HoursRow) (faults : List HoursFileFault) (row : Fields)
-    (a : Result HoursRow HoursFileFault)
-    → AreEach k before sound faults → IsRow (k + length before) row a
-    → AreEach k (before ++ row ∷ []) (sound ++ sound_of a) (faults ++ faults_of a)
-one_more k [] sound faults row a each is =
-    let at : IsRow k row a = rw (add-zero k) at is in (
-      a,
-      [],
-      [],
-      at,
-      (refl, refl),
-      ap (λ (l : List HoursRow). l ++ sound_of a) each.0 ∙ sym (append-nil (sound_of a)),
-      ap (λ (l : List HoursFileFault). l ++ faults_of a) each.1 ∙ sym (append-nil (faults_of a)),
-    )
-one_more k (b ∷ before) sound faults row a each is =
-    let at : IsRow (k + 1 + length before) row a = (let e : k + length (b ∷ before) ≡ k + 1 + length before = omega arith in
-    rw e at is) in (
-      each.0,
-      each.1 ++ sound_of a,
-      each.2 ++ faults_of a,
-      each.3,
-      one_more (k + 1) before each.1 each.2 row a each.4 at,
-      ap (λ (l : List HoursRow). l ++ sound_of a) each.5 ∙ append_assoc (sound_of each.0) each.1 (sound_of a),
-      ap (λ (l : List HoursFileFault). l ++ faults_of a) each.6 ∙ append_assoc (faults_of each.0) each.2 (faults_of a),
+-- what the rows add that were taken one after another
+each_taken : (k : ℕ) (rows : List Fields) (old new : Reading) → AreAllTaken TakesRow k rows old new
+    → (sound : List HoursRow) × (faults : List HoursFileFault) × AreEach k rows sound faults
+    × (new.found.sound.items ≡ old.found.sound.items ++ sound) × (new.found.faults.items ≡ old.found.faults.items ++ faults)
+each_taken k [] old new same = (
+  [],
+  [],
+  (refl, refl),
+  ap (λ (r : Reading). r.found.sound.items) same ∙ sym (append-nil old.found.sound.items),
+  ap (λ (r : Reading). r.found.faults.items) same ∙ sym (append-nil old.found.faults.items),
+)
+each_taken k (row ∷ rows) old new taken =
+    let one = taken.1 in
+    let a = one.0 in
+    let more = each_taken (k + 1) rows taken.0 new taken.2 in (
+      sound_of a ++ more.0,
+      faults_of a ++ more.1,
+      (a, more.0, more.1, one.1, more.2, refl, refl),
+      more.3 ∙ ap (λ (l : List HoursRow). l ++ more.0) one.2 ∙ append_assoc old.found.sound.items (sound_of a) more.0,
+      more.4 ∙ ap (λ (l : List HoursFileFault). l ++ more.1) one.3
+          ∙ append_assoc old.found.faults.items (faults_of a) more.1,
     )
 
-module _ {R : Type 0} (rem : R → Option (List ℕ)) (old : Reader R) (rows : List Fields) where
-  pub at_start : HasLeft rem old rows → SoFar rem old rows [] [] 1
-  at_start has = record { before = []; left = rows; split = refl; has = has; each = (refl, refl); count = refl }
+-- the same, where nothing was found before
+all_taken : (rows : List Fields) (old new : Reading) → old.found.sound.items ≡ [] → old.found.faults.items ≡ []
+    → AreAllTaken TakesRow 1 rows old new → AreEach 1 rows new.found.sound.items new.found.faults.items
+all_taken rows old new sound faults taken =
+    let all = each_taken 1 rows old new taken in
+    let s : new.found.sound.items ≡ all.0 = all.3 ∙ ap (λ (l : List HoursRow). l ++ all.0) sound in
+    let f : new.found.faults.items ≡ all.1 = all.4 ∙ ap (λ (l : List HoursFileFault). l ++ all.1) faults in
+    subst (λ (l : List HoursRow). AreEach 1 rows l new.found.faults.items) (sym s)
+    (subst (λ (l : List HoursFileFault). AreEach 1 rows all.0 l) (sym f) all.2)
 
-  pub after_row : (new : Reader R) (sound : List HoursRow) (faults : List HoursFileFault) (number : ℕ) (fields : Fields)
-      (a : Result HoursRow HoursFileFault)
-      → SoFar rem old rows sound faults number → TakesFirst rem old new true fields → IsRow number fields a
-      → SoFar rem new rows (sound ++ sound_of a) (faults ++ faults_of a) (number + 1)
-  after_row new sound faults number fields a far takes is =
-      let t = takes far.left far.has in
-      let e : 1 + length far.before ≡ number = (let c = far.count in omega arith) in
-      record {
-        before = far.before ++ fields ∷ [];
-        left = t.0;
-        split = far.split ∙ ap (λ (l : List Fields). far.before ++ l) t.1 ∙ sym (append_assoc far.before (fields ∷ []) t.0);
-        has = t.2;
-        each = one_more 1 far.before sound faults fields a far.each (rw e is);
-        count = (let c = far.count in let l = length-append far.before (fields ∷ []) in omega arith);
-      }
+module _ (text : List Fields) (old new : Reading) (sound : old.found.sound.items ≡ []) (faults : old.found.faults.items ≡ []) where
+  pub table_read : HasHeader BeginsReading TakesRow text old new AllRows
+      → AreTable text new.found.sound.items new.found.faults.items
+  table_read h =
+      let e = h.begun in
+      inl (
+        h.rows,
+        h.split ∙ ap (λ (f : Fields). f ∷ h.rows) (e.0.0 refl),
+        inl (h.taken.0, all_taken h.rows h.at new (e.1 ∙ sound) (e.2 ∙ faults) h.taken.1),
+      )
 
-  pub at_end : (new : Reader R) (sound : List HoursRow) (faults : List HoursFileFault) (number : ℕ) (fields : Fields)
-      → SoFar rem old rows sound faults number → number ≤ most_rows + 1 → TakesFirst rem old new false fields
-      → AreRows rows sound faults
-  at_end new sound faults number fields far few takes =
-      let nil = takes far.left far.has in
-      let all : rows ≡ far.before = far.split ∙ ap (λ (l : List Fields). far.before ++ l) nil ∙ append-nil far.before in
-      let count = far.count in
-      rw all (inl (omega arith, far.each))
-
-  pub too_many_rows : (new : Reader R) (sound : List HoursRow) (faults : List HoursFileFault) (fields : Fields)
-      → SoFar rem old rows sound faults (most_rows + 1) → TakesFirst rem old new true fields
-      → AreRows rows sound (faults ++ (fault.TooManyRows ∷ []))
-  too_many_rows new sound faults fields far takes =
-      let t = takes far.left far.has in
-      let count = far.count in
-      inr (record {
-        before = far.before;
-        row = fields;
-        after = t.0;
-        split = far.split ∙ ap (λ (l : List Fields). far.before ++ l) t.1;
-        many = omega arith;
-        listed = faults;
-        each = far.each;
-        whole = refl;
-      })
+  pub table_too_long : HasHeader BeginsReading TakesRow text old new TooMany
+      → AreTable text new.found.sound.items (new.found.faults.items ++ (fault.TooManyRows ∷ []))
+  table_too_long h =
+      let e = h.begun in
+      let m = h.taken in
+      inl (
+        h.rows,
+        h.split ∙ ap (λ (f : Fields). f ∷ h.rows) (e.0.0 refl),
+        inr (record {
+          before = m.before;
+          row = m.row;
+          after = m.after;
+          split = m.split;
+          many = m.many;
+          listed = new.found.faults.items;
+          each = all_taken m.before h.at new (e.1 ∙ sound) (e.2 ∙ faults) m.taken;
+          whole = refl;
+        }),
+      )
 
 -- ---- a fault that comes alone
 
-first_is : (x y : Fields) (xs ys : List Fields) → x ∷ xs ≡ y ∷ ys → x ≡ y
-first_is x y xs ys e = cc
+no_first : (text : List Fields) (old new : Reading) → AreTableTaken BeginsReading TakesRow text old new NoHeader
+    → (rows : List Fields) → text ≡ header ∷ rows → ⊥
+no_first text old new (inl p) rows e = let nil = p.0 in cc
+no_first text old new (inr h) rows e = let no = h.3.0.1 (let same : h.0 ≡ header = (let s = h.2 in cc) in same) in cc
 
-not_both : (b : Bool) → b ≡ true → b ≡ false → ⊥
-not_both b e f = cc
-
--- no first row
-pub none_first : (text rows : List Fields) → text ≡ [] → text ≡ header ∷ rows → ⊥
-none_first text rows nil e = let n = ap length nil in let m = ap length e in omega arith
-
--- a first row that is not the header
-pub other_first : (text rest rows : List Fields) (fields : Fields) (is_header : Bool) → text ≡ fields ∷ rest
-    → (fields ≡ header → is_header ≡ true) → is_header ≡ false → text ≡ header ∷ rows → ⊥
-other_first text rest rows fields is_header is so other e =
-    not_both is_header (so (first_is fields header rest rows (sym is ∙ e))) other
-
-pub no_header : {E : Type 0} (r : Result Found E) (text : List Fields) → ((rows : List Fields) → text ≡ header ∷ rows → ⊥)
+pub no_header : {E : Type 0} (r : Result Found E) (text : List Fields) (old new : Reading)
+    → AreTableTaken BeginsReading TakesRow text old new NoHeader
     → IfOk r (λ found. found.sound.items ≡ []) → IfOk r (λ found. found.faults.items ≡ fault.Header ∷ [])
     → IfOk r (λ found. AreTable text found.sound.items found.faults.items)
-no_header (Ok found) text never sound faults = inr (never, sound, faults)
-no_header (Err why) text never sound faults = tt
+no_header (Ok found) text old new taken sound faults = inr (no_first text old new taken, sound, faults)
+no_header (Err why) text old new taken sound faults = tt
 
 pub large : {E : Type 0} (r : Result Found E) (bytes : List ℕ) → most_file_bytes < length bytes
     → IfOk r (λ found. found.sound.items ≡ []) → IfOk r (λ found. found.faults.items ≡ fault.TooLarge ∷ [])

@@ -4,6 +4,7 @@ pub mod PuttingRows
 pub mod Reading
 pub mod Run
 pub mod SameAnswers
+pub mod TakenRows
 pub mod Translated
 pub use Rattle.gtd_migrate.specs.Migrated
 pub use Rattle.gtd_records.specs.Closing

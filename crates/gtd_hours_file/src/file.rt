@@ -1,19 +1,17 @@
 //! What a file of hours says: its sound rows, and all its faults.
 
-ghost use Rattle.std.specs.Prelude.{◌≡◌, ◌≢◌, ◌++◌, [], ◌∷◌, List, Result, Some, IfOk, IsTrue, OnOk, ◌↔◌};
+ghost use Rattle.std.specs.Prelude.{◌≡◌, ◌++◌, [], ◌∷◌, Result, IfOk, IsTrue, OnOk, ◌↔◌};
 ghost use Rattle.csv.specs.Reading.{default_config, records, strip_bom};
 ghost use Rattle.csv.specs.Records.{fields_of};
-ghost use Rattle.gtd_records.specs.Columns.{Fields};
-ghost use Rattle.gtd_records.specs.Table.{HasLeft};
-ghost use Rattle.gtd_hours_file.specs.HoursFile.{AreOfFile, AreRows, AreTable, IsRow, faults_of, header, sound_of};
+ghost use Rattle.gtd_hours_file.specs.HoursFile.{AreOfFile, AreTable, IsRow, faults_of, header, sound_of};
 ghost use Rattle.gtd_hours_file.specs.declared.fault.HoursFileFault.{HoursFileFault};
 ghost use Rattle.gtd_hours_file.specs.declared.row.HoursRow.{HoursRow};
 
 use crate::fault::HoursFileFault;
 use crate::row::{HoursRow, RowStop, read_row};
-use csv::{ByteRecord, Reader};
-use gtd_core::limits::{MOST_FILE_BYTES, MOST_ROWS};
-use gtd_records::{four_columns, next_row, table};
+use csv::ByteRecord;
+use gtd_core::limits::MOST_FILE_BYTES;
+use gtd_records::{RowTaker, RowsEnd, four_columns, take_rows};
 use std::alloc::{AllocError, Global};
 
 /// What the rows of a file say.
@@ -78,26 +76,28 @@ fn is_header(row: &ByteRecord) -> bool
         && columns.last == b"hours".as_slice()
 }
 
-// What the rows say that a reader still has to give.
-fn read_rows(
+/// What the rows say that were read.
+#[derive(Drop)]
+pub(crate) struct Reading {
     alloc: Global,
-    reader: &mut Reader<&[u8]>,
-    row: &mut ByteRecord,
-) -> Result<Found, AllocError>
-    ensures { (rows : List Fields) → HasLeft (λ source. Some source.now) reader.old rows
-        → IfOk result (λ found. AreRows rows found.sound.items found.faults.items) }
-{
-    let mut found = nothing(alloc);
-    for number in 1..MOST_ROWS + 1 {
-        if !next_row(reader, row)? {
-            return Ok(found);
-        }
-        add_row(alloc, &mut found, number, row)?;
+    pub(crate) found: Found,
+}
+
+impl RowTaker for Reading {
+    ghost use Rattle.gtd_hours_file.specs.TakenRows.{BeginsReading, TakesRow};
+
+    ghost begins = { BeginsReading };
+
+    ghost takes = { TakesRow };
+
+    fn take_header(&mut self, row: &ByteRecord) -> bool {
+        is_header(row)
     }
-    if next_row(reader, row)? {
-        found.faults.push(HoursFileFault::TooManyRows)?;
+
+    fn take_row(&mut self, number: u32, row: &ByteRecord) -> Result<bool, AllocError> {
+        add_row(self.alloc, &mut self.found, number, row)?;
+        Ok(true)
     }
-    Ok(found)
 }
 
 // What the records of a file's bytes say, if there are not too many bytes.
@@ -105,15 +105,19 @@ fn read_table(alloc: Global, bytes: &[u8]) -> Result<Found, AllocError>
     ensures { IfOk result (λ found.
         AreTable (records default_config (strip_bom bytes.now)) found.sound.items found.faults.items) }
 {
-    let mut reader = table(alloc, bytes);
-    let mut row = ByteRecord::new(alloc);
-    if !next_row(&mut reader, &mut row)? {
-        return alone(alloc, HoursFileFault::Header);
+    let mut reading = Reading {
+        alloc,
+        found: nothing(alloc),
+    };
+    match take_rows(alloc, bytes, &mut reading)? {
+        RowsEnd::NoHeader => alone(alloc, HoursFileFault::Header),
+        RowsEnd::All => Ok(reading.found),
+        RowsEnd::Stopped => Ok(reading.found),
+        RowsEnd::TooMany => {
+            reading.found.faults.push(HoursFileFault::TooManyRows)?;
+            Ok(reading.found)
+        }
     }
-    if !is_header(&row) {
-        return alone(alloc, HoursFileFault::Header);
-    }
-    read_rows(alloc, &mut reader, &mut row)
 }
 
 /// What a file with these bytes says.
