@@ -101,7 +101,8 @@ with_years draft years = record {
 
 pub years_added : (draft : Draft) (x : Piece) (years : Vec Selector Global) → names_years x ≡ true
     → AddsSelectors draft.years.items x years.items → IsAdded draft x (with_years draft years)
-years_added draft (piece.Years a b d) v e adds = added draft (piece.Years a b d) (with_years draft v) refl adds refl refl refl refl refl refl
+years_added draft (piece.Years a b d) v e adds =
+    added draft (piece.Years a b d) (with_years draft v) refl adds refl refl refl refl refl refl
 years_added draft x v e adds = absurd cc
 
 abbrev with_month_days : Draft → Vec Selector Global → Draft
@@ -117,8 +118,10 @@ with_month_days draft month_days = record {
 
 pub month_days_added : (draft : Draft) (x : Piece) (month_days : Vec Selector Global) → names_month_days x ≡ true
     → AddsSelectors draft.month_days.items x month_days.items → IsAdded draft x (with_month_days draft month_days)
-month_days_added draft (piece.Months a b) v e adds = added draft (piece.Months a b) (with_month_days draft v) refl refl adds refl refl refl refl refl
-month_days_added draft (piece.Dates a b) v e adds = added draft (piece.Dates a b) (with_month_days draft v) refl refl adds refl refl refl refl refl
+month_days_added draft (piece.Months a b) v e adds =
+    added draft (piece.Months a b) (with_month_days draft v) refl refl adds refl refl refl refl refl
+month_days_added draft (piece.Dates a b) v e adds =
+    added draft (piece.Dates a b) (with_month_days draft v) refl refl adds refl refl refl refl refl
 month_days_added draft x v e adds = absurd cc
 
 abbrev with_weeks : Draft → Vec Selector Global → Draft
@@ -134,7 +137,8 @@ with_weeks draft weeks = record {
 
 pub weeks_added : (draft : Draft) (x : Piece) (weeks : Vec Selector Global) → names_weeks x ≡ true
     → AddsSelectors draft.weeks.items x weeks.items → IsAdded draft x (with_weeks draft weeks)
-weeks_added draft (piece.Weeks a b d) v e adds = added draft (piece.Weeks a b d) (with_weeks draft v) refl refl refl adds refl refl refl refl
+weeks_added draft (piece.Weeks a b d) v e adds =
+    added draft (piece.Weeks a b d) (with_weeks draft v) refl refl refl adds refl refl refl refl
 weeks_added draft x v e adds = absurd cc
 
 abbrev with_weekdays : Draft → Vec Selector Global → Draft
@@ -150,9 +154,12 @@ with_weekdays draft weekdays = record {
 
 pub weekdays_added : (draft : Draft) (x : Piece) (weekdays : Vec Selector Global) → names_weekdays x ≡ true
     → AddsSelectors draft.weekdays.items x weekdays.items → IsAdded draft x (with_weekdays draft weekdays)
-weekdays_added draft (piece.Weekdays a b) v e adds = added draft (piece.Weekdays a b) (with_weekdays draft v) refl refl refl refl adds refl refl refl
-weekdays_added draft (piece.Places k a b) v e adds = added draft (piece.Places k a b) (with_weekdays draft v) refl refl refl refl adds refl refl refl
-weekdays_added draft (piece.PlaceBack k a) v e adds = added draft (piece.PlaceBack k a) (with_weekdays draft v) refl refl refl refl adds refl refl refl
+weekdays_added draft (piece.Weekdays a b) v e adds =
+    added draft (piece.Weekdays a b) (with_weekdays draft v) refl refl refl refl adds refl refl refl
+weekdays_added draft (piece.Places k a b) v e adds =
+    added draft (piece.Places k a b) (with_weekdays draft v) refl refl refl refl adds refl refl refl
+weekdays_added draft (piece.PlaceBack k a) v e adds =
+    added draft (piece.PlaceBack k a) (with_weekdays draft v) refl refl refl refl adds refl refl refl
 weekdays_added draft x v e adds = absurd cc
 
 abbrev with_times : Draft → Vec TimeRange Global → Draft

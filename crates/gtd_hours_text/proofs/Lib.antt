@@ -2,6 +2,7 @@ pub mod DraftLemmas
 pub mod AddingLemmas
 pub mod BuildingLemmas
 pub mod PlaceLemmas
+pub mod WrittenTerms
 pub mod WrittenTokens
 pub mod WrittenParts
 pub mod WrittenItems

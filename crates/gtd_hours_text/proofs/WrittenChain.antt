@@ -9,9 +9,7 @@ use Rattle.gtd_hours.specs.declared.hours.Kind.{Kind}
 use Rattle.gtd_hours.specs.declared.hours.Selector.{Selector}
 use Rattle.gtd_hours.specs.Writable.{is_month_days, is_weekdays, is_weeks, is_years, kind_if, selectors}
 use Rattle.gtd_hours.specs.Written.{is_some_kind, kind_text, kinds_text}
-use Rattle.gtd_hours_tokens.specs.declared.token.TokenKind.{TokenKind}
-use Rattle.gtd_hours_grammar.specs.declared.piece.Piece.{Piece}
-use Rattle.gtd_hours_grammar.specs.declared.stage.Stage.{Stage}
+use Rattle.gtd_hours_text.proofs.WrittenTerms.{TokenKind, Piece, Stage}
 use Rattle.gtd_hours_grammar.specs.declared.stage.Stage.TheVariants as stage
 use Rattle.gtd_hours_grammar.specs.Grammar.{Follow, in_full, list_goes_on, order, precedes}
 use Rattle.gtd_hours_text.proofs.WrittenTokens.{Anything, Apart, Spelt, empty_spelt, joined, space_spelt}

@@ -33,33 +33,22 @@ use Rattle.gtd_hours_text.specs.Standing.{ArePlaces, AreSelectors}
 use Rattle.gtd_hours_text.proofs.WrittenTokens.{Anything, Apart, Spelt, decimal_spelt, joined, sign_spelt}
 use Rattle.gtd_hours_text.proofs.WrittenParts.{clock_spelt, dashed, month_spelt, spaced, weekday_spelt, year_spelt}
 use Rattle.gtd_hours_text.proofs.WrittenItems.{Item, Says, no_selectors, one_piece, only_month_days, only_times, only_weekdays}
+use Rattle.gtd_hours_text.proofs.WrittenItems.{says_of}
 use Rattle.gtd_hours_text.proofs.WrittenSelectors.{and_both, digits, is_day, is_place, year_digits}
 
 -- ---- what each piece says
 
 says_months : (a : ℕ) (b : Option ℕ) (xs : List Selector) → AreSelectors (piece.Months a b) xs
     → Says (piece.Months a b ∷ []) (only_month_days xs)
-says_months a b xs are = record {
-  years = no_selectors;
-  month_days = one_piece (piece.Months a b) xs are;
-  weeks = no_selectors;
-  weekdays = no_selectors;
-  times = record {};
-  closed = refl;
-  one = refl;
-}
+says_months a b xs are =
+    says_of (piece.Months a b ∷ []) (only_month_days xs) no_selectors (one_piece (piece.Months a b) xs are) no_selectors
+    no_selectors (record {}) refl refl
 
 says_dates : (a : WrittenDate) (b : Option LastDate) (xs : List Selector) → AreSelectors (piece.Dates a b) xs
     → Says (piece.Dates a b ∷ []) (only_month_days xs)
-says_dates a b xs are = record {
-  years = no_selectors;
-  month_days = one_piece (piece.Dates a b) xs are;
-  weeks = no_selectors;
-  weekdays = no_selectors;
-  times = record {};
-  closed = refl;
-  one = refl;
-}
+says_dates a b xs are =
+    says_of (piece.Dates a b ∷ []) (only_month_days xs) no_selectors (one_piece (piece.Dates a b) xs are) no_selectors
+    no_selectors (record {}) refl refl
 
 -- ---- months
 
@@ -200,15 +189,9 @@ dated_item follows x =
 
 says_weekdays : (k : ℕ) (b : Option ℕ) (xs : List Selector) → AreSelectors (piece.Weekdays k b) xs
     → Says (piece.Weekdays k b ∷ []) (only_weekdays xs)
-says_weekdays k b xs are = record {
-  years = no_selectors;
-  month_days = no_selectors;
-  weeks = no_selectors;
-  weekdays = one_piece (piece.Weekdays k b) xs are;
-  times = record {};
-  closed = refl;
-  one = refl;
-}
+says_weekdays k b xs are =
+    says_of (piece.Weekdays k b ∷ []) (only_weekdays xs) no_selectors no_selectors no_selectors
+    (one_piece (piece.Weekdays k b) xs are) (record {}) refl refl
 
 weekdays_by : (x : Weekdays) (b : Bool) → (x.first == x.last) ≡ b
     → Item IsWeekdays (cond b (weekday_name x.first) (weekday_name x.first ++ codes "-" ++ weekday_name x.last))
@@ -276,17 +259,10 @@ nth_item follows x =
             one = IsPlaces.one (digits x.number) refl refl (is_place x.number r.1 r.2);
             more = no_more later (token.CloseBracket ∷ rest) refl refl;
           });
-      says = record {
-        years = no_selectors;
-        month_days = no_selectors;
-        weeks = no_selectors;
-        weekdays = one_piece (piece.Places x.weekday (digits x.number) None) (selector.Nth x ∷ [])
-            (ArePlaces.place x.number x.number (selector.Nth x) [] (selector.Nth x ∷ []) (omega arith) refl (refl, refl)
-            (ArePlaces.past (x.number + 1) x.number [] (omega arith) refl));
-        times = record {};
-        closed = refl;
-        one = refl;
-      };
+      says = says_of (piece.Places x.weekday (digits x.number) None ∷ []) (only_weekdays (selector.Nth x ∷ [])) no_selectors
+          no_selectors no_selectors (one_piece (piece.Places x.weekday (digits x.number) None) (selector.Nth x ∷ [])
+          (ArePlaces.place x.number x.number (selector.Nth x) [] (selector.Nth x ∷ []) (omega arith) refl (refl, refl)
+          (ArePlaces.past (x.number + 1) x.number [] (omega arith) refl))) (record {}) refl refl;
       front = λ rest. refl;
     }
 
@@ -322,15 +298,9 @@ back_item follows x =
             one = IsPlaces.back (digits x.number) refl refl (is_place x.number r.1 r.2);
             more = no_more later (token.CloseBracket ∷ rest) refl refl;
           });
-      says = record {
-        years = no_selectors;
-        month_days = no_selectors;
-        weeks = no_selectors;
-        weekdays = one_piece (piece.PlaceBack x.weekday (digits x.number)) (selector.NthBack x ∷ []) (refl, refl);
-        times = record {};
-        closed = refl;
-        one = refl;
-      };
+      says = says_of (piece.PlaceBack x.weekday (digits x.number) ∷ []) (only_weekdays (selector.NthBack x ∷ [])) no_selectors
+          no_selectors no_selectors
+          (one_piece (piece.PlaceBack x.weekday (digits x.number)) (selector.NthBack x ∷ []) (refl, refl)) (record {}) refl refl;
       front = λ rest. refl;
     }
 

@@ -11,11 +11,9 @@ use Rattle.gtd_hours.specs.declared.hours.Rule.{Rule}
 use Rattle.gtd_hours.specs.Writable.{AreWritable, BeginAnew, IsWritable}
 use Rattle.gtd_hours.specs.Written.{goes_into, hours_text, is_also, is_some_kind, is_some_time, link_text, more_rules_text}
 use Rattle.gtd_hours.specs.Written.{needs_word, rule_text, rules_text}
-use Rattle.gtd_hours_tokens.specs.declared.token.TokenKind.{TokenKind}
 use Rattle.gtd_hours_tokens.specs.declared.token.TokenKind.TheVariants as token
-use Rattle.gtd_hours_grammar.specs.declared.piece.Piece.{Piece}
+use Rattle.gtd_hours_text.proofs.WrittenTerms.{TokenKind, Piece, Stage}
 use Rattle.gtd_hours_grammar.specs.declared.piece.Piece.TheVariants as piece
-use Rattle.gtd_hours_grammar.specs.declared.stage.Stage.{Stage}
 use Rattle.gtd_hours_grammar.specs.declared.stage.Stage.TheVariants as stage
 use Rattle.gtd_hours_grammar.specs.Faults.{IsHoursText}
 use Rattle.gtd_hours_grammar.specs.Grammar.{Follow, in_full, list_goes_on, precedes}

@@ -6,9 +6,8 @@ use Rattle.std.proofs.lemmas.List.{append-nil}
 use Rattle.std.proofs.lemmas.List.Elements.{filter-append}
 use Rattle.gtd_hours.specs.declared.hours.Selector.{Selector}
 use Rattle.gtd_hours.specs.declared.hours.TimeRange.{TimeRange}
-use Rattle.gtd_hours_tokens.specs.declared.token.TokenKind.{TokenKind}
 use Rattle.gtd_hours_tokens.specs.declared.token.TokenKind.TheVariants as token
-use Rattle.gtd_hours_grammar.specs.declared.piece.Piece.{Piece}
+use Rattle.gtd_hours_text.proofs.WrittenTerms.{TokenKind, Piece}
 use Rattle.gtd_hours_grammar.specs.declared.piece.Piece.TheVariants as piece
 use Rattle.gtd_hours_grammar.specs.declared.stage.Stage.TheVariants as stage
 use Rattle.gtd_hours_grammar.specs.Grammar.{Listed, More, Text, list_goes_on, none as no_more, comma as one_more}
@@ -64,6 +63,13 @@ pub record Says (q : List Piece) (c : Contents) : Type 0 where
   pub closed : is_closed q ≡ c.closed
   pub one : is_one_rule q ≡ true
 
+pub says_of : (q : List Piece) (c : Contents) → AllSelectors (filter names_years q) c.years
+    → AllSelectors (filter names_month_days q) c.month_days → AllSelectors (filter names_weeks q) c.weeks
+    → AllSelectors (filter names_weekdays q) c.weekdays → AllTimes (filter names_times q) c.times → is_closed q ≡ c.closed
+    → is_one_rule q ≡ true → Says q c
+says_of q c y m w d t closes rule =
+    record { years = y; month_days = m; weeks = w; weekdays = d; times = t; closed = closes; one = rule }
+
 pub no_selectors : AllSelectors [] []
 no_selectors = AllSelectors.none [] [] refl refl
 
@@ -117,15 +123,7 @@ says_joined p q c d a b = record {
 }
 
 pub says_nothing : Says [] (only_years [])
-says_nothing = record {
-  years = no_selectors;
-  month_days = no_selectors;
-  weeks = no_selectors;
-  weekdays = no_selectors;
-  times = record {};
-  closed = refl;
-  one = refl;
-}
+says_nothing = says_of [] (only_years []) no_selectors no_selectors no_selectors no_selectors (record {}) refl refl
 
 -- a kind of selectors begins before them
 pub says_kind : (q : List Piece) (c : Contents) → Says q c → Says (piece.Kind ∷ q) c

@@ -13,11 +13,9 @@ use Rattle.gtd_hours.specs.declared.hours.TimeRange.{TimeRange}
 use Rattle.gtd_hours.specs.Writable.{IsWritableRule, selectors}
 use Rattle.gtd_hours.specs.Written.{is_some_kind, is_some_time, kinds_text, modifier_text, more_times_text, spans_text, time_text}
 use Rattle.gtd_hours.specs.Written.{times_text}
-use Rattle.gtd_hours_tokens.specs.declared.token.TokenKind.{TokenKind}
 use Rattle.gtd_hours_tokens.specs.declared.token.TokenKind.TheVariants as token
-use Rattle.gtd_hours_grammar.specs.declared.piece.Piece.{Piece}
+use Rattle.gtd_hours_text.proofs.WrittenTerms.{TokenKind, Piece, Stage}
 use Rattle.gtd_hours_grammar.specs.declared.piece.Piece.TheVariants as piece
-use Rattle.gtd_hours_grammar.specs.declared.stage.Stage.{Stage}
 use Rattle.gtd_hours_grammar.specs.declared.stage.Stage.TheVariants as stage
 use Rattle.gtd_hours_grammar.specs.Grammar.{Follow, IsTimes, in_full, list_goes_on, precedes}
 use Rattle.gtd_hours_text.specs.Standing.{AllSelectors, AllTimes, IsRule, is_one_rule, modifier_of, names_month_days}
@@ -26,6 +24,7 @@ use Rattle.gtd_hours_text.proofs.WrittenTokens.{Anything, Apart, Spelt, empty_sp
 use Rattle.gtd_hours_text.proofs.WrittenTokens.{word_spelt}
 use Rattle.gtd_hours_text.proofs.WrittenParts.{slashed}
 use Rattle.gtd_hours_text.proofs.WrittenItems.{Contents, Items, MoreItems, Says, items, more_items, no_items, no_selectors}
+use Rattle.gtd_hours_text.proofs.WrittenItems.{says_of}
 use Rattle.gtd_hours_text.proofs.WrittenItems.{only_closed, only_times, plus, says_joined, says_nothing}
 use Rattle.gtd_hours_text.proofs.WrittenSelectors.{Dateless}
 use Rattle.gtd_hours_text.proofs.WrittenDays.{time_item}
@@ -205,15 +204,8 @@ modifier_follow modifier.Closed needed ks ts later rest tail s p e =
 
 modifier_says : (m : Modifier) → Says (modifier_pieces m) (only_closed (closes m))
 modifier_says modifier.Open = says_nothing
-modifier_says modifier.Closed = record {
-  years = no_selectors;
-  month_days = no_selectors;
-  weeks = no_selectors;
-  weekdays = no_selectors;
-  times = record {};
-  closed = refl;
-  one = refl;
-}
+modifier_says modifier.Closed =
+    says_of (piece.Closed ∷ []) (only_closed true) no_selectors no_selectors no_selectors no_selectors (record {}) refl refl
 
 modifier_is : (m : Modifier) → m ≡ modifier_of (closes m)
 modifier_is modifier.Open = refl

@@ -9,11 +9,10 @@ use Rattle.gtd_hours.specs.declared.hours.Years.{Years}
 use Rattle.gtd_hours.specs.declared.hours.Weeks.{Weeks}
 use Rattle.gtd_hours.specs.Written.{four_digits, selector_text}
 use Rattle.gtd_hours.specs.Written.{step_text}
-use Rattle.gtd_hours_tokens.specs.declared.token.TokenKind.{TokenKind}
 use Rattle.gtd_hours_tokens.specs.declared.token.TokenKind.TheVariants as token
 use Rattle.gtd_hours_parts.specs.declared.digits.Digits.{Digits}
 use Rattle.gtd_hours_parts.specs.Numbers.{IsDayNumber, IsPlaceNumber, IsStepNumber, IsWeekNumber, IsYearNumber, step_of}
-use Rattle.gtd_hours_grammar.specs.declared.piece.Piece.{Piece}
+use Rattle.gtd_hours_text.proofs.WrittenTerms.{TokenKind, Piece}
 use Rattle.gtd_hours_grammar.specs.declared.piece.Piece.TheVariants as piece
 use Rattle.gtd_hours_grammar.specs.Pieces.{IsRange}
 use Rattle.gtd_hours_grammar.specs.Grammar.{IsWeeks, IsYears, begins_with_date}
@@ -21,7 +20,7 @@ use Rattle.gtd_hours_text.specs.Standing.{AreSelectors}
 use Rattle.gtd_hours_text.proofs.WrittenTokens.{decimal_spelt}
 use Rattle.gtd_hours_text.proofs.WrittenParts.{length_of_decimal, ranged, step_kinds}
 use Rattle.gtd_hours_text.proofs.WrittenParts.{year_spelt}
-use Rattle.gtd_hours_text.proofs.WrittenItems.{Item, Says, no_selectors, one_piece}
+use Rattle.gtd_hours_text.proofs.WrittenItems.{Item, Says, no_selectors, one_piece, says_of}
 use Rattle.gtd_hours_text.proofs.WrittenItems.{only_weeks, only_years}
 
 -- ---- numbers
@@ -63,27 +62,15 @@ is_place n low high =
 
 says_years : (a : Digits) (b d : Option Digits) (xs : List Selector) → AreSelectors (piece.Years a b d) xs
     → Says (piece.Years a b d ∷ []) (only_years xs)
-says_years a b d xs are = record {
-  years = one_piece (piece.Years a b d) xs are;
-  month_days = no_selectors;
-  weeks = no_selectors;
-  weekdays = no_selectors;
-  times = record {};
-  closed = refl;
-  one = refl;
-}
+says_years a b d xs are =
+    says_of (piece.Years a b d ∷ []) (only_years xs) (one_piece (piece.Years a b d) xs are) no_selectors no_selectors
+    no_selectors (record {}) refl refl
 
 says_weeks : (a : Digits) (b d : Option Digits) (xs : List Selector) → AreSelectors (piece.Weeks a b d) xs
     → Says (piece.Weeks a b d ∷ []) (only_weeks xs)
-says_weeks a b d xs are = record {
-  years = no_selectors;
-  month_days = no_selectors;
-  weeks = one_piece (piece.Weeks a b d) xs are;
-  weekdays = no_selectors;
-  times = record {};
-  closed = refl;
-  one = refl;
-}
+says_weeks a b d xs are =
+    says_of (piece.Weeks a b d ∷ []) (only_weeks xs) no_selectors no_selectors (one_piece (piece.Weeks a b d) xs are)
+    no_selectors (record {}) refl refl
 
 -- ---- years
 

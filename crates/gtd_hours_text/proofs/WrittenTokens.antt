@@ -10,8 +10,7 @@ use Rattle.std.proofs.lemmas.Bool.{cases_order}
 use Rattle.std.proofs.lemmas.Bool.Decides.{nat_tests}
 use Rattle.std.proofs.lemmas.Fmt.{decimal_is_IsNumeral, length-decimal-le}
 use Rattle.std.proofs.lemmas.List.{append-nil}
-use Rattle.gtd_hours_tokens.specs.declared.token.Token.{Token}
-use Rattle.gtd_hours_tokens.specs.declared.token.TokenKind.{TokenKind}
+use Rattle.gtd_hours_text.proofs.WrittenTerms.{Token, TokenKind}
 use Rattle.gtd_hours_tokens.specs.declared.token.TokenKind.TheVariants as token
 use Rattle.gtd_hours_tokens.specs.Lexing.{AreSpaces, IsSign, IsToken, IsTokenText, Reads, begins, begins_minutes}
 use Rattle.gtd_hours_tokens.specs.Lexing.{word as is_word, number as is_number, sign as is_sign}

@@ -5,7 +5,8 @@ use Rattle.gtd_hours.specs.declared.hours.TimeRange.{TimeRange}
 use Rattle.gtd_hours_parts.specs.declared.clock.ClockTime.{ClockTime}
 use Rattle.gtd_hours_parts.specs.Times.{minute_of}
 use Rattle.gtd_hours_grammar.specs.declared.piece.Piece.{Piece}
-use Rattle.gtd_hours_text.specs.Standing.{ArePlaces, AreSelectors, IsPlace, names_month_days, names_weekdays, names_weeks, names_years}
+use Rattle.gtd_hours_text.specs.Standing.{ArePlaces, AreSelectors, IsPlace, names_month_days, names_weekdays, names_weeks}
+use Rattle.gtd_hours_text.specs.Standing.{names_years}
 
 -- the piece is selectors
 abbrev pub names_selectors : Piece → Bool

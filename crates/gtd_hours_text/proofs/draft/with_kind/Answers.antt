@@ -11,4 +11,5 @@ pub returns : goal.returns
 returns c =
     let kind : Kind = record { selectors = c.args.more } in
     kind_more c.args.list.items c.push.new.self.items kind c.in_ok-push.ensures.items
-    (λ e. not_empty c.as_slice.result.now (sym c.if-is_empty.ensures) (same c.as_slice.result.now c.args.more.items c.as_slice.ensures.value e))
+    (λ e. not_empty c.as_slice.result.now (sym c.if-is_empty.ensures)
+    (same c.as_slice.result.now c.args.more.items c.as_slice.ensures.value e))
