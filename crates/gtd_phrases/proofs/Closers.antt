@@ -1,21 +1,14 @@
 -- What closes a line without an end closes no end: read from their last bytes on, they differ.
-use Rattle.std.proofs.Common.{◌≡◌, ℕ, ◌^◌, ◌<◌, Bool, true, false, List, [], ◌∷◌, ◌++◌, refl, sym, ap, subst, ◌∙◌, ◌⊎◌, inl}
+use Rattle.std.proofs.Common.{◌≡◌, ℕ, Bool, true, false, List, [], ◌∷◌, ◌++◌, refl, sym, ap, subst, ◌∙◌, inl}
 use Rattle.std.proofs.Common.{inr}
-use Rattle.std.proofs.Common.{append_assoc}
 use Rattle.std.specs.Prelude.{◌&&◌}
-use Rattle.std.specs.Char.{is_ascii_digit}
 use Rattle.std.proofs.lemmas.Bool.{false≢true, and_parts}
 use Rattle.gtd_phrases.specs.Grammar.{IsIn, closers, end_closers}
 use Rattle.gtd_languages.specs.Forms.{form_of}
 use Rattle.gtd_phrases.specs.Pieces.{after, before, figures_of, number_text, phrase_text}
 use Rattle.gtd_phrases.specs.Ranges.{IsWritten}
-use Rattle.gtd_phrases.specs.declared.phrase.Figures.{Figures}
-use Rattle.gtd_phrases.specs.declared.phrase.Figures.TheVariants.{Nothing, Plain, Two, Four}
-use Rattle.gtd_languages.specs.declared.word.Form.{Form}
-use Rattle.gtd_languages.specs.declared.word.Form.TheVariants.{Zero, One, EndsInOne, EndsInTwo, EndsInThree, Other}
-use Rattle.gtd_phrases.specs.declared.phrase.Language.{Language}
-use Rattle.gtd_phrases.specs.declared.phrase.Phrase.{Phrase}
-use Rattle.gtd_phrases.specs.declared.phrase.Piece.{Piece}
+use Rattle.gtd_phrases.proofs.PhraseTerms.{Form, Zero, One, EndsInOne, EndsInTwo, EndsInThree, Other}
+use Rattle.gtd_phrases.proofs.PhraseTerms.{Language, Phrase, Piece}
 use Rattle.gtd_phrases.proofs.Numbers.{AreDigits}
 use Rattle.gtd_phrases.proofs.Reading.{digits_of, empty_after, no_number, some_digits}
 use Rattle.gtd_phrases.proofs.Skeletons.{Byte, Digit, Fits, Sym, apart, no_fit}

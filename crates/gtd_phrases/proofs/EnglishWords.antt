@@ -6,7 +6,7 @@ use Rattle.gtd_languages.specs.English.{english_list_end, english_place_lead, en
 use Rattle.gtd_languages.specs.English.{english_back_end, english_date_lead, english_each_lead, english_monday}
 use Rattle.gtd_languages.specs.English.{english_ordinal, english_date_ending, english_fixed, english_lead, english_end}
 use Rattle.gtd_languages.specs.English.{english_word, english_unit, english_one, english_several}
-use Rattle.gtd_phrases.specs.Grammar.{Group, First, Later, NoMonth, AfterHour, AfterMinute, AfterMinuteAnd, AfterSecondOf}
+use Rattle.gtd_phrases.specs.Grammar.{First, Later, NoMonth, AfterHour, AfterMinute, AfterMinuteAnd, AfterSecondOf}
 use Rattle.gtd_phrases.specs.Grammar.{AfterEndHour}
 use Rattle.gtd_phrases.specs.Grammar.{AfterEnd, AfterEndDay}
 use Rattle.gtd_phrases.specs.Runs.{run_of}
@@ -15,7 +15,7 @@ use Rattle.gtd_phrases.specs.declared.phrase.Language.TheVariants.{English}
 use Rattle.gtd_phrases.proofs.Beginnings.{is_begun}
 use Rattle.gtd_phrases.proofs.Closers.{is_closed}
 use Rattle.gtd_phrases.proofs.Marks.{is_marked}
-use Rattle.gtd_phrases.proofs.Tables.{Good, is_good}
+use Rattle.gtd_phrases.proofs.Tables.{Good, by_place, is_good}
 
 first_good : is_good English First ≡ true
 unfolding after before days_words figures_of weekday_if_set weekday_list run_of english_weekday english_month
@@ -122,16 +122,7 @@ unfolding after before days_words figures_of weekday_if_set weekday_list run_of 
 english_marked = refl
 
 pub english_good : Good English
-english_good = record { places = by_place }
-  where
-    by_place : (g : Group) → is_good English g ≡ true
-    by_place First = first_good
-    by_place Later = later_good
-    by_place NoMonth = nomonth_good
-    by_place AfterHour = minutes_good
-    by_place AfterMinute = seconds_good
-    by_place AfterMinuteAnd = secondsofhours_good
-    by_place AfterSecondOf = hours_good
-    by_place AfterEndHour = after_end_hour_good
-    by_place AfterEnd = endtimes_good
-    by_place AfterEndDay = dayends_good
+english_good = record {
+  places = by_place English first_good later_good nomonth_good minutes_good seconds_good secondsofhours_good hours_good
+      after_end_hour_good endtimes_good dayends_good;
+}

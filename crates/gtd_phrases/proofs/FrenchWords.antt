@@ -6,7 +6,7 @@ use Rattle.gtd_languages.specs.French.{french_place_lead, french_place_end, fren
 use Rattle.gtd_languages.specs.French.{french_date_lead, french_each_lead, french_monday, french_ordinal}
 use Rattle.gtd_languages.specs.French.{french_date_ending, french_fixed, french_lead, french_end, french_word, french_unit}
 use Rattle.gtd_languages.specs.French.{french_one, french_several}
-use Rattle.gtd_phrases.specs.Grammar.{Group, First, Later, NoMonth, AfterHour, AfterMinute, AfterMinuteAnd, AfterSecondOf}
+use Rattle.gtd_phrases.specs.Grammar.{First, Later, NoMonth, AfterHour, AfterMinute, AfterMinuteAnd, AfterSecondOf}
 use Rattle.gtd_phrases.specs.Grammar.{AfterEndHour}
 use Rattle.gtd_phrases.specs.Grammar.{AfterEnd, AfterEndDay}
 use Rattle.gtd_phrases.specs.Runs.{run_of}
@@ -15,7 +15,7 @@ use Rattle.gtd_phrases.specs.declared.phrase.Language.TheVariants.{French}
 use Rattle.gtd_phrases.proofs.Beginnings.{is_begun}
 use Rattle.gtd_phrases.proofs.Closers.{is_closed}
 use Rattle.gtd_phrases.proofs.Marks.{is_marked}
-use Rattle.gtd_phrases.proofs.Tables.{Good, is_good}
+use Rattle.gtd_phrases.proofs.Tables.{Good, by_place, is_good}
 
 first_good : is_good French First ≡ true
 unfolding after before days_words figures_of weekday_if_set weekday_list run_of french_weekday french_month
@@ -122,16 +122,7 @@ unfolding after before days_words figures_of weekday_if_set weekday_list run_of 
 french_marked = refl
 
 pub french_good : Good French
-french_good = record { places = by_place }
-  where
-    by_place : (g : Group) → is_good French g ≡ true
-    by_place First = first_good
-    by_place Later = later_good
-    by_place NoMonth = nomonth_good
-    by_place AfterHour = minutes_good
-    by_place AfterMinute = seconds_good
-    by_place AfterMinuteAnd = secondsofhours_good
-    by_place AfterSecondOf = hours_good
-    by_place AfterEndHour = after_end_hour_good
-    by_place AfterEnd = endtimes_good
-    by_place AfterEndDay = dayends_good
+french_good = record {
+  places = by_place French first_good later_good nomonth_good minutes_good seconds_good secondsofhours_good hours_good
+      after_end_hour_good endtimes_good dayends_good;
+}

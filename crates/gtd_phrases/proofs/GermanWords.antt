@@ -6,7 +6,7 @@ use Rattle.gtd_languages.specs.German.{german_place_lead, german_place_end, germ
 use Rattle.gtd_languages.specs.German.{german_date_lead, german_each_lead, german_monday, german_ordinal}
 use Rattle.gtd_languages.specs.German.{german_date_ending, german_fixed, german_lead, german_end, german_word, german_unit}
 use Rattle.gtd_languages.specs.German.{german_one, german_several}
-use Rattle.gtd_phrases.specs.Grammar.{Group, First, Later, NoMonth, AfterHour, AfterMinute, AfterMinuteAnd, AfterSecondOf}
+use Rattle.gtd_phrases.specs.Grammar.{First, Later, NoMonth, AfterHour, AfterMinute, AfterMinuteAnd, AfterSecondOf}
 use Rattle.gtd_phrases.specs.Grammar.{AfterEndHour}
 use Rattle.gtd_phrases.specs.Grammar.{AfterEnd, AfterEndDay}
 use Rattle.gtd_phrases.specs.Runs.{run_of}
@@ -15,7 +15,7 @@ use Rattle.gtd_phrases.specs.declared.phrase.Language.TheVariants.{German}
 use Rattle.gtd_phrases.proofs.Beginnings.{is_begun}
 use Rattle.gtd_phrases.proofs.Closers.{is_closed}
 use Rattle.gtd_phrases.proofs.Marks.{is_marked}
-use Rattle.gtd_phrases.proofs.Tables.{Good, is_good}
+use Rattle.gtd_phrases.proofs.Tables.{Good, by_place, is_good}
 
 first_good : is_good German First ≡ true
 unfolding after before days_words figures_of weekday_if_set weekday_list run_of german_weekday german_month
@@ -122,16 +122,7 @@ unfolding after before days_words figures_of weekday_if_set weekday_list run_of 
 german_marked = refl
 
 pub german_good : Good German
-german_good = record { places = by_place }
-  where
-    by_place : (g : Group) → is_good German g ≡ true
-    by_place First = first_good
-    by_place Later = later_good
-    by_place NoMonth = nomonth_good
-    by_place AfterHour = minutes_good
-    by_place AfterMinute = seconds_good
-    by_place AfterMinuteAnd = secondsofhours_good
-    by_place AfterSecondOf = hours_good
-    by_place AfterEndHour = after_end_hour_good
-    by_place AfterEnd = endtimes_good
-    by_place AfterEndDay = dayends_good
+german_good = record {
+  places = by_place German first_good later_good nomonth_good minutes_good seconds_good secondsofhours_good hours_good
+      after_end_hour_good endtimes_good dayends_good;
+}

@@ -1,3 +1,4 @@
+pub mod PhraseTerms
 pub mod Numbers
 pub mod Skeletons
 pub mod Tables

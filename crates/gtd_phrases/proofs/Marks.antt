@@ -6,21 +6,16 @@ use Rattle.std.specs.Prelude.{◌==◌, ◌&&◌, ◌||◌, not, codes}
 use Rattle.std.specs.Char.{is_ascii_digit}
 use Rattle.std.proofs.lemmas.Bool.{false≢true, eqb-true, and_parts}
 use Rattle.std.proofs.lemmas.List.{append-nil}
-use Rattle.gtd_phrases.specs.Grammar.{Group, First, Later, NoMonth, AfterHour, AfterMinute, AfterMinuteAnd, AfterSecondOf}
+use Rattle.gtd_phrases.specs.Grammar.{Group}
 use Rattle.gtd_phrases.specs.Grammar.{AfterEndHour, AfterEnd, AfterEndDay, IsEndLine, IsIn, IsLine, each, ends_alone}
 use Rattle.gtd_phrases.specs.Grammar.{members, next}
 use Rattle.gtd_phrases.specs.declared.phrase.Phrase.TheVariants.{UntilDate, UntilWeekday}
 use Rattle.gtd_languages.specs.Forms.{form_of}
 use Rattle.gtd_phrases.specs.Pieces.{after, before, figures_of, number_text, phrase_text, text}
 use Rattle.gtd_phrases.specs.Ranges.{IsWritten}
-use Rattle.gtd_phrases.specs.declared.phrase.Figures.{Figures}
-use Rattle.gtd_phrases.specs.declared.phrase.Figures.TheVariants.{Nothing, Plain, Two, Four}
-use Rattle.gtd_languages.specs.declared.word.Form.{Form}
-use Rattle.gtd_languages.specs.declared.word.Form.TheVariants.{Zero, One, EndsInOne, EndsInTwo, EndsInThree, Other}
-use Rattle.gtd_phrases.specs.declared.phrase.Language.{Language}
+use Rattle.gtd_phrases.proofs.PhraseTerms.{Figures, Form, Zero, One, EndsInOne, EndsInTwo, EndsInThree, Other}
+use Rattle.gtd_phrases.proofs.PhraseTerms.{Language, Phrase, Piece}
 use Rattle.gtd_phrases.specs.declared.phrase.Language.TheVariants.{English, German, French}
-use Rattle.gtd_phrases.specs.declared.phrase.Phrase.{Phrase}
-use Rattle.gtd_phrases.specs.declared.phrase.Piece.{Piece}
 use Rattle.gtd_phrases.proofs.Numbers.{AreDigits}
 use Rattle.gtd_phrases.proofs.Reading.{digits_of, no_number, one_after, text_is}
 use Rattle.gtd_phrases.proofs.Skeletons.{Byte, apart, bytes, clash, no_way}

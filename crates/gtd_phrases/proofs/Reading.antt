@@ -1,33 +1,27 @@
 -- A line is read off its words: two lines of the grammar with the same words are the same.
-use Rattle.std.proofs.Common.{◌≡◌, ℕ, ◌+◌, ◌/◌, ◌%◌, ◌^◌, ◌<◌, ◌≤◌, Bool, true, false, List, [], ◌∷◌, ◌++◌, length, refl}
+use Rattle.std.proofs.Common.{◌≡◌, ℕ, ◌/◌, ◌%◌, ◌<◌, Bool, true, false, List, [], ◌∷◌, ◌++◌, length, refl}
 use Rattle.std.proofs.Common.{sym, ap, subst}
 use Rattle.std.proofs.Common.{◌∙◌, arith, append_assoc, ◌⊎◌, inl, inr}
-use Rattle.std.specs.Prelude.{◌==◌, ◌&&◌, ◌||◌, not, decimal}
+use Rattle.std.specs.Prelude.{◌==◌, ◌||◌, not, decimal}
 use Rattle.std.specs.Char.{is_ascii_digit}
 use Rattle.std.proofs.lemmas.Bool.{false≢true, eqb-true, and_parts}
 use Rattle.std.proofs.lemmas.List.{append_cancel_left}
 use Rattle.std.proofs.lemmas.Fmt.{decimal_nonempty}
-use Rattle.gtd_phrases.specs.Grammar.{Group, First, Later, NoMonth, AfterHour, AfterMinute, AfterMinuteAnd, AfterSecondOf}
-use Rattle.gtd_phrases.specs.Grammar.{AfterEndHour}
-use Rattle.gtd_phrases.specs.Grammar.{AfterEnd, AfterEndDay, IsIn, IsLine, members, next}
+use Rattle.gtd_phrases.specs.Grammar.{Group, Later, NoMonth}
+use Rattle.gtd_phrases.specs.Grammar.{IsIn, IsLine, members, next}
 use Rattle.gtd_languages.specs.Forms.{form_of}
-use Rattle.gtd_phrases.specs.Pieces.{after, before, figures_of, four_digits, number_text, phrase_text, text, two_digits}
+use Rattle.gtd_phrases.specs.Pieces.{after, before, figures_of, number_text, phrase_text, text}
 use Rattle.gtd_phrases.specs.Ranges.{IsWritten}
-use Rattle.gtd_phrases.specs.declared.phrase.Figures.{Figures}
-use Rattle.gtd_phrases.specs.declared.phrase.Figures.TheVariants.{Nothing, Plain, Two, Four}
-use Rattle.gtd_languages.specs.declared.word.Form.{Form}
-use Rattle.gtd_languages.specs.declared.word.Form.TheVariants.{Zero, One, EndsInOne, EndsInTwo, EndsInThree, Other}
-use Rattle.gtd_phrases.specs.declared.phrase.Language.{Language}
-use Rattle.gtd_phrases.specs.declared.phrase.Phrase.{Phrase}
-use Rattle.gtd_phrases.specs.declared.phrase.Piece.{Piece}
+use Rattle.gtd_phrases.proofs.PhraseTerms.{Figures, Nothing, Plain, Two, Four, Form, Zero, One, EndsInOne, EndsInTwo, EndsInThree, Other}
+use Rattle.gtd_phrases.proofs.PhraseTerms.{Language, Phrase, Piece}
 use Rattle.gtd_phrases.proofs.Numbers.{AreDigits, Both, NoDigit, are_digits, decimal_then, digit, four_then, split_digits}
 use Rattle.gtd_phrases.proofs.Numbers.{two_then}
 use Rattle.gtd_phrases.proofs.Skeletons.{Byte, Digit, Fits, Sym, apart, bytes, fits-after, no_fit, no_way}
-use Rattle.gtd_phrases.proofs.Tables.{Entry, Good, afters_of, ahead_of, all_apart_from, all_differ, all_sound, apart_from}
+use Rattle.gtd_phrases.proofs.Tables.{Good, afters_of, ahead_of, all_apart_from, all_differ, all_sound, apart_from}
 use Rattle.gtd_phrases.proofs.Tables.{differ}
-use Rattle.gtd_phrases.proofs.Tables.{differs_from_all, digit_of, entries, entry, good_place, head_of, heads, is_counted}
+use Rattle.gtd_phrases.proofs.Tables.{differs_from_all, digit_of, entries, entry, head_of, heads, is_counted}
 use Rattle.gtd_phrases.proofs.Tables.{is_plain}
-use Rattle.gtd_phrases.proofs.Tables.{is_good, is_sound, later_heads, nexts_by, no_digit, no_digits, no_month_heads, same_text}
+use Rattle.gtd_phrases.proofs.Tables.{is_sound, later_heads, nexts_by, no_digit, no_digits, no_month_heads, same_text}
 use Rattle.gtd_phrases.proofs.Tables.{told_after, told_ahead, all_empty, is_empty}
 
 -- ---- the words of one phrase, and what follows

@@ -1,17 +1,13 @@
 -- What is tried of a table of words: of two phrases that may stand in the same place, no text is as both say.
-use Rattle.std.proofs.Common.{◌≡◌, ℕ, Bool, true, false, List, [], ◌∷◌, ◌++◌, refl}
+use Rattle.std.proofs.Common.{◌≡◌, ℕ, Bool, true, false, List, [], ◌∷◌, ◌++◌}
 use Rattle.std.specs.Prelude.{◌==◌, ◌&&◌, ◌||◌, not}
 use Rattle.std.specs.Char.{is_ascii_digit}
 use Rattle.gtd_phrases.specs.Grammar.{Group, First, Later, NoMonth, AfterHour, AfterMinute, AfterMinuteAnd, AfterSecondOf}
 use Rattle.gtd_phrases.specs.Grammar.{AfterEndHour}
 use Rattle.gtd_phrases.specs.Grammar.{AfterEnd, AfterEndDay, members, next}
 use Rattle.gtd_phrases.specs.Pieces.{after, before, figures_of}
-use Rattle.gtd_phrases.specs.declared.phrase.Figures.{Figures}
-use Rattle.gtd_phrases.specs.declared.phrase.Figures.TheVariants.{Nothing, Plain, Two, Four}
-use Rattle.gtd_languages.specs.declared.word.Form.{Form}
-use Rattle.gtd_languages.specs.declared.word.Form.TheVariants.{Zero, One, EndsInOne, EndsInTwo, EndsInThree, Other}
-use Rattle.gtd_phrases.specs.declared.phrase.Language.{Language}
-use Rattle.gtd_phrases.specs.declared.phrase.Phrase.{Phrase}
+use Rattle.gtd_phrases.proofs.PhraseTerms.{Figures, Nothing, Plain, Zero, One, EndsInOne, EndsInTwo, EndsInThree, Other}
+use Rattle.gtd_phrases.proofs.PhraseTerms.{Language, Phrase}
 use Rattle.gtd_phrases.proofs.Skeletons.{Byte, Digit, Sym, apart, bytes}
 
 -- ---- what is known of a phrase
@@ -156,3 +152,19 @@ is_good l g = good_place (later_heads l) (no_month_heads l) (entries l (members 
 
 pub record Good (l : Language) : Type 0 where
   pub places : (g : Group) → is_good l g ≡ true
+
+-- a table is good if it is so at each place
+pub by_place : (l : Language) → is_good l First ≡ true → is_good l Later ≡ true → is_good l NoMonth ≡ true
+    → is_good l AfterHour ≡ true → is_good l AfterMinute ≡ true → is_good l AfterMinuteAnd ≡ true
+    → is_good l AfterSecondOf ≡ true → is_good l AfterEndHour ≡ true → is_good l AfterEnd ≡ true
+    → is_good l AfterEndDay ≡ true → (g : Group) → is_good l g ≡ true
+by_place l a b c d e f g h i j First = a
+by_place l a b c d e f g h i j Later = b
+by_place l a b c d e f g h i j NoMonth = c
+by_place l a b c d e f g h i j AfterHour = d
+by_place l a b c d e f g h i j AfterMinute = e
+by_place l a b c d e f g h i j AfterMinuteAnd = f
+by_place l a b c d e f g h i j AfterSecondOf = g
+by_place l a b c d e f g h i j AfterEndHour = h
+by_place l a b c d e f g h i j AfterEnd = i
+by_place l a b c d e f g h i j AfterEndDay = j
