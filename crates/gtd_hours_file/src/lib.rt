@@ -6,6 +6,7 @@
 #![tactic(auto)]
 
 pub use fault::HoursFileFault;
+pub use refused::{RefusedBelow, below_domain, below_hours, below_too_many};
 pub use row::HoursRow;
 pub use run::run_hours_records;
 pub use untranslated::Untranslated;
@@ -15,6 +16,7 @@ mod fault;
 mod fault_list;
 mod file;
 pub mod laws;
+mod refused;
 mod row;
 mod run;
 mod translation;
