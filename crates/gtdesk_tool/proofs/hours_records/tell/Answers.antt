@@ -1,5 +1,4 @@
-use Rattle.std.proofs.Common.{subst}
-use Rattle.gtdesk_tool.specs.Telling.{Telling, Told}
+use Rattle.gtdesk_tool.specs.Telling.{Telling}
 use Rattle.gtdesk_tool.proofs.RunningFacts.{told_of}
 use Rattle.gtdesk_tool.proofs.hours_records.tell.Goals as goal
 
@@ -12,6 +11,6 @@ returns g c =
       failed_after = g.E.Output.failure_count c.put_line.new.output;
     } in
     record {
-      told = subst (Told errors) c.as_bytes.ensures.value
-          (told_of errors _ c.put_line.result c.put_line.ensures.all c.put_line.ensures.some c.put_line.ensures.failures);
+      told = told_of errors c.args.lines.now c.put_line.result c.put_line.ensures.all c.put_line.ensures.some
+          c.put_line.ensures.failures;
     }
