@@ -173,6 +173,15 @@ def declared_type(name):
     return type_in(path, parts[-1]) if os.path.exists(path) else None
 
 
+def declared_constant(module, name):
+    """The constant of a source file that a generated module has by its name, as a definition, or None."""
+    found = re.match(r"^Rattle\.(gtd\w*)\.specs\.declared\.(?P<path>.*)\.TheConstants$", module)
+    if not found:
+        return None
+    path = os.path.join(CRATES, found.group(1), "src", *found.group("path").split(".")) + ".rt"
+    return declared_in(path, name, r"^pub(\(crate\))? const %s\b" % name)
+
+
 def crate_of(path):
     """The crate that a file is of."""
     return os.path.relpath(path, CRATES).split(os.sep)[0]
@@ -222,7 +231,7 @@ class Statement:
 
     def reach(self, target, name):
         """The definition that a name of a module stands for."""
-        kind = declared_type(target)
+        kind = declared_constant(target, name) or declared_type(target)
         if kind:
             self.add(kind, None)
             return
