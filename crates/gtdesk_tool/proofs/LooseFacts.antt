@@ -1,5 +1,5 @@
 -- What the command `hours` did for a text that may be written loosely, from what its parts did.
-use Rattle.std.proofs.Common.{◌≡◌, ◌⊎◌, ◌≢◌, inl, inr, refl, sym, ap, subst, true, false, ℕ, List, Bool, Option}
+use Rattle.std.proofs.Common.{◌≡◌, ◌⊎◌, inl, inr, refl, sym, ap, subst, true, false, ℕ, List, Bool, Option, Some, None}
 use Rattle.std.specs.Prelude.{Result, Ok, Err}
 use Rattle.std.specs.Io.KnownBytes.{Appends, Keeps}
 use Rattle.gtd_faults.specs.Run.{TookSome}
@@ -10,7 +10,7 @@ use Rattle.gtd_hours_loose.specs.declared.reader.LooseReadFault.TheVariants as r
 use Rattle.gtdesk_plans.specs.Arguments.{Text}
 use Rattle.gtdesk_tool.specs.LooseHours.{AreLines, IsRefusal, IsUnread, IsUntranslated, PutLines, PutsLoose, unread}
 use Rattle.gtdesk_tool.specs.Running.{PutText, RanHours, failures_after_read}
-use Rattle.gtdesk_tool.specs.Telling.{IsUntold, Telling, Told}
+use Rattle.gtdesk_tool.specs.Telling.{IsUntold, Telling, Told, telling}
 use Rattle.gtdesk_tool.specs.declared.ending.Ending.{Ending}
 use Rattle.gtdesk_tool.specs.declared.refusal.RunRefusal.{RunRefusal}
 use Rattle.gtdesk_tool.specs.declared.refusal.RunRefusal.TheVariants as refusal
@@ -74,6 +74,15 @@ module _ (domain warnings : List ℕ) (old new : Option (List ℕ)) (ended : Boo
     whole = tt;
     refused = (put.refused.2, inl (put.refused.0, (domain, warnings, are, put.refused.1)));
   }
+
+keeps_same : (o : Option (List ℕ)) → Keeps o o
+keeps_same None = tt
+keeps_same (Some bytes) = refl
+
+pub loose_refused : (text : Text) (old : Option (List ℕ)) (ended : Bool) (told : Option (List ℕ)) (n : ℕ) (r : RunRefusal)
+    → IsRefusal text r → PutsLoose text old old ended (telling told told n n) (Err r)
+loose_refused text old ended told n r is =
+    record { whole = tt; refused = ((keeps_same told, refl), inr (is, keeps_same old)) }
 
 -- ---- nothing is read
 

@@ -200,6 +200,16 @@ IsQuiet (plan.Mend file) = ⊥
 IsQuiet (plan.DomainOf p) = IsTrue p.strict
 IsQuiet other = ⊤
 
+-- The plan reads no file.
+abbrev pub ReadsNone : OnePlan → Type 0
+ReadsNone (plan.Now p) = ⊥
+ReadsNone (plan.Faults p) = ⊥
+ReadsNone (plan.Picture p) = ⊥
+ReadsNone (plan.SameRows files) = ⊥
+ReadsNone (plan.Records files) = ⊥
+ReadsNone (plan.Mend file) = ⊥
+ReadsNone other = ⊤
+
 -- What a plan did to the output for the file of this path, by its answer.
 abbrev pub HasRunPlan : OnePlan → List ℕ → Option (List ℕ) → Option (List ℕ) → Option (List ℕ) → Bool → Bool → Telling
     → Result Ending RunRefusal → Type 0

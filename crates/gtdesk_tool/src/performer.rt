@@ -1,13 +1,18 @@
 //! Carrying a plan out.
 
-ghost use Rattle.std.specs.Prelude.{◌≡◌, ◌<◌, []};
+ghost use Rattle.std.specs.Prelude.{◌≡◌, ◌<◌};
 ghost use Rattle.gtd_core.specs.Parts.{domain_tree};
 ghost use Rattle.gtd_core.specs.Seconds.{IsHorizonSecond};
 ghost use Rattle.gtd_now.specs.Query.{query_of};
 ghost use Rattle.gtd_words.specs.Words.{words_in};
+<<<<<<< ours
 ghost use Rattle.gtdesk_plans.specs.Plans.{files_of};
 ghost use Rattle.gtdesk_tool.specs.Running.{HasRunPlan, IsQuiet, PutText, RanFaults, RanNow, failures_after_read};
 ghost use Rattle.gtdesk_tool.specs.Running.{failures_after_write, form_of, listing_outcome, outcome_of, refusal_for};
+=======
+ghost use Rattle.gtdesk_tool.specs.Running.{HasRunPlan, IsQuiet, PutText, ReadsNone, RanFaults, RanNow, failures_after_read};
+ghost use Rattle.gtdesk_tool.specs.Running.{failures_after_write, listing_outcome, outcome_of, refusal_for};
+>>>>>>> theirs
 ghost use Rattle.gtdesk_tool.specs.Telling.{telling};
 
 use crate::domain_hours::print_hours_of;
@@ -215,7 +220,7 @@ pub fn perform<I: Input, O: Output, E: Output>(
     ensures write_faults { O.failure_count output.new
         ≡ failures_after_write result (O.failure_count output.old) }
     // A plan without a file leaves the input as it was, and a quiet plan the output for errors.
-    ensures untouched { files_of turn.entry.plan.now ≡ [] → input.new ≡ input.old }
+    ensures untouched { ReadsNone turn.entry.plan.now → input.new ≡ input.old }
     ensures quiet { IsQuiet turn.entry.plan.now → errors.new ≡ errors.old }
 {
     let path = turn.path;

@@ -1,4 +1,4 @@
-use Rattle.gtdesk_tool.proofs.LooseFacts.{loose_put, of_refusal}
+use Rattle.gtdesk_tool.proofs.LooseFacts.{loose_put, loose_refused, of_refusal}
 use Rattle.gtdesk_tool.proofs.loose_hours.print_loose.Goals as goal
 
 pub returns-in-Ok-clause-put : goal.returns-in-Ok-clause-put
@@ -7,3 +7,6 @@ returns-in-Ok-clause-put g c =
 
 pub returns-in-Err-clause-write_faults : goal.returns-in-Err-clause-write_faults
 returns-in-Err-clause-write_faults g c = (of_refusal c.args.text.now _ c.in-Err.refusal c.in-Err.ensures.refused).1
+
+pub returns-in-Err-clause-put : goal.returns-in-Err-clause-put
+returns-in-Err-clause-put g c = loose_refused c.args.text.now _ _ _ _ c.in-Err.refusal c.in-Err.ensures.refused

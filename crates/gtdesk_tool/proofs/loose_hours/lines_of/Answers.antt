@@ -1,0 +1,6 @@
+use Rattle.std.proofs.Common.{inr}
+use Rattle.gtdesk_tool.proofs.loose_hours.lines_of.Goals as goal
+
+pub returns-in-Err-domain_line-clause-refused : goal.returns-in-Err-domain_line-clause-refused
+returns-in-Err-domain_line-clause-refused c =
+    inr (c.in-Ok.read, c.in-Ok.ensures.read, c.in-Err-domain_line.ensures.refused)
