@@ -15,6 +15,13 @@ use gtd_difference::{Comparison, compare, is_within};
 use gtd_eval::{holds, next_change};
 use std::alloc::{AllocError, Global};
 
+// 2016-01-01T00:00:00; a week, 13 hours, 25 minutes and 23 seconds; and how many such steps are two years.
+const SEEN_FROM: i64 = 1_451_606_400;
+
+const SEEN_STEP: u32 = 653_123;
+
+const SEEN_SECONDS: u32 = 96;
+
 // The days from one up to but not including another.
 pub(crate) fn days_between(from_day: i64, to_day: i64) -> Horizon
     requires days { IsHorizon from_day to_day }
@@ -52,11 +59,29 @@ fn is_always(alloc: Global, domain: &Domain) -> Result<bool, AllocError>
     is_always_on(alloc, domain, days_between(middle, HORIZONS_END))
 }
 
+// Whether at one of some seconds of two years one of the domains alone holds: most that differ are told apart by these. They are
+// at many hours, and some in each month.
+fn are_seen_apart(first: &Domain, second: &Domain) -> bool
+    ensures apart { IsTrue result
+        → ((t : ℤ) → IsHorizonSecond t → InDomain first.now t ↔ InDomain second.now t) → ⊥ }
+{
+    for k in 0..SEEN_SECONDS {
+        let seen = Sec(SEEN_FROM + i64::from(k * SEEN_STEP));
+        if holds(first, seen) != holds(second, seen) {
+            return true;
+        }
+    }
+    false
+}
+
 // Whether the domains contain the same seconds from 1901-01-01 to 2699-12-31.
 fn are_same(alloc: Global, first: &Domain, second: &Domain) -> Result<bool, AllocError>
     ensures same { IfOk result (λ same. IsTrue same
         ↔ ((t : ℤ) → IsHorizonSecond t → InDomain first.now t ↔ InDomain second.now t)) }
 {
+    if are_seen_apart(first, second) {
+        return Ok(false);
+    }
     match compare(alloc, first, second, Sec(FIRST_MOMENT))? {
         Comparison::Same => Ok(true),
         Comparison::SameUntil2700 => Ok(true),

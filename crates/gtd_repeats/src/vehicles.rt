@@ -2,7 +2,6 @@
 
 ghost use Rattle.std.specs.Prelude.{◌≡◌, ◌↔◌, IsTrue};
 ghost use Rattle.gtd_records.specs.Closing.{Serves};
-ghost use Rattle.gtd_records.specs.declared.vehicles.Vehicles.TheVariants.{Every};
 ghost use Rattle.gtd_repeats.specs.Sameness.{ClosesWithin, ServeSame, ServesWithin};
 
 use gtd_records::{Closed, Direction, Vehicles};
@@ -29,13 +28,16 @@ fn serves_also(vehicles: &Vehicles, other: &Vehicles, vehicle: u8) -> bool
     }
 }
 
-// Whether they are all types, given as such.
-fn is_every(vehicles: &Vehicles) -> bool
-    ensures every { IsTrue result → vehicles.now ≡ Every }
+// Whether the others are all types, or the same types, by the way in which they are given.
+fn are_seen_within(vehicles: &Vehicles, other: &Vehicles) -> bool
+    ensures seen { IsTrue result → ServesWithin vehicles.now other.now }
 {
-    match vehicles {
+    match other {
         Vehicles::Every => true,
-        Vehicles::Only(_) => false,
+        Vehicles::Only(types) => match vehicles {
+            Vehicles::Only(those) => types.as_slice() == those.as_slice(),
+            _ => false,
+        },
         Vehicles::AllBut(_) => false,
     }
 }
@@ -44,7 +46,7 @@ fn is_every(vehicles: &Vehicles) -> bool
 pub(crate) fn serves_within(vehicles: &Vehicles, other: &Vehicles) -> bool
     ensures within { IsTrue result ↔ ServesWithin vehicles.now other.now }
 {
-    if is_every(other) {
+    if are_seen_within(vehicles, other) {
         return true;
     }
     for vehicle in 1..100u8 {
