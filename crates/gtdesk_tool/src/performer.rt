@@ -5,14 +5,8 @@ ghost use Rattle.gtd_core.specs.Parts.{domain_tree};
 ghost use Rattle.gtd_core.specs.Seconds.{IsHorizonSecond};
 ghost use Rattle.gtd_now.specs.Query.{query_of};
 ghost use Rattle.gtd_words.specs.Words.{words_in};
-<<<<<<< ours
-ghost use Rattle.gtdesk_plans.specs.Plans.{files_of};
-ghost use Rattle.gtdesk_tool.specs.Running.{HasRunPlan, IsQuiet, PutText, RanFaults, RanNow, failures_after_read};
-ghost use Rattle.gtdesk_tool.specs.Running.{failures_after_write, form_of, listing_outcome, outcome_of, refusal_for};
-=======
 ghost use Rattle.gtdesk_tool.specs.Running.{HasRunPlan, IsQuiet, PutText, ReadsNone, RanFaults, RanNow, failures_after_read};
-ghost use Rattle.gtdesk_tool.specs.Running.{failures_after_write, listing_outcome, outcome_of, refusal_for};
->>>>>>> theirs
+ghost use Rattle.gtdesk_tool.specs.Running.{failures_after_write, form_of, listing_outcome, outcome_of, refusal_for};
 ghost use Rattle.gtdesk_tool.specs.Telling.{telling};
 
 use crate::domain_hours::print_hours_of;
