@@ -82,6 +82,7 @@ part tests/diff.py 300 1
 part tests/repeats.py 300 1
 part tests/warned.py 150 1
 part tests/mended.py 2000 1
+part tests/now_forms.py 40 1
 part tests/pictures.py
 part tests/library.sh
 part tests/sql.sh
