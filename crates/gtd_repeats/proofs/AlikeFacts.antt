@@ -1,10 +1,10 @@
 -- The ways in which rows are alike are likenesses.
-use Rattle.std.proofs.Common.{◌≡◌, ◌∙◌, sym, refl, ◌<◌, ℕ, List, length}
+use Rattle.std.proofs.Common.{◌≡◌, ◌∙◌, sym, refl, ℕ, List}
 use Rattle.std.specs.Prelude.{Option}
 use Rattle.gtd_core.specs.Trees.{Tree}
 use Rattle.gtd_records.specs.Closing.{Restriction}
 use Rattle.gtd_repeats.specs.Firsts.{IsLikeness}
-use Rattle.gtd_repeats.specs.Sameness.{AreAlike, AreAlikeIn, HoldSame, IsSameRow, row_at}
+use Rattle.gtd_repeats.specs.Sameness.{AreAlike, AreAlikeIn, HoldSame, row_at}
 use Rattle.gtd_repeats.specs.declared.alike.Kind.{Kind}
 use Rattle.gtd_repeats.specs.declared.alike.Kind.TheVariants as kind
 

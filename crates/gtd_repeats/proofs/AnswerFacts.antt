@@ -1,5 +1,5 @@
 -- Answers that are remembered stay right.
-use Rattle.std.proofs.Common.{◌≡◌, ◌↔◌, refl, ℕ, zero, suc, List, [], ◌∷◌, ◌++◌, get_or, true}
+use Rattle.std.proofs.Common.{refl, ℕ, zero, suc, List, [], ◌∷◌, ◌++◌, get_or, true}
 use Rattle.std.specs.Prelude.{slice_set}
 use Rattle.gtd_records.specs.Closing.{Restriction}
 use Rattle.gtd_repeats.specs.Answers.{AreRight, IsRight}

@@ -1,5 +1,5 @@
 -- What is true of the first rows that are like others is true of these.
-use Rattle.std.proofs.Common.{◌≡◌, ◌↔◌, ◌∙◌, sym, ap, subst, refl, ◌<◌, ℕ, List, length, get_or}
+use Rattle.std.proofs.Common.{◌≡◌, ◌↔◌, ◌∙◌, subst, ◌<◌, ℕ, List, length, get_or}
 use Rattle.std.specs.Prelude.{None, slice_index_or}
 use Rattle.gtd_records.specs.Closing.{Restriction}
 use Rattle.gtd_records.specs.declared.direction.Closed.TheVariants.{Both}

@@ -1,5 +1,5 @@
 -- The lines of findings, with the line of one finding more.
-use Rattle.std.proofs.Common.{◌≡◌, sym, refl, ℕ, List, [], ◌∷◌, ◌++◌, append-nil, append_assoc}
+use Rattle.std.proofs.Common.{sym, refl, ℕ, List, [], ◌∷◌, ◌++◌, append-nil, append_assoc}
 use Rattle.gtd_faults.specs.Places.{IsLine}
 use Rattle.gtd_repeats.specs.Listing.{AreFindingLines, finding_line, row_of}
 use Rattle.gtd_repeats.specs.declared.findings.Finding.{Finding}

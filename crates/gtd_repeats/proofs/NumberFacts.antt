@@ -1,7 +1,7 @@
 -- Rows that are alike have the same number.
-use Rattle.std.proofs.Common.{◌≡◌, ◌∙◌, sym, ap, subst, refl, arith, inl, inr, ◌<◌, ℕ, ◌+◌, ◌-◌, ◌*◌, ◌%◌, ◌==◌}
+use Rattle.std.proofs.Common.{◌≡◌, ◌∙◌, sym, ap, subst, refl, arith, inl, inr, ℕ}
 use Rattle.std.proofs.Common.{List, [], ◌∷◌, length, get_or, add-zero}
-use Rattle.std.specs.Prelude.{ℤ, ◌<ℤ◌, ◌≤ℤ◌, pos, ◌-ℤ◌, Option, None}
+use Rattle.std.specs.Prelude.{ℤ, Option, None}
 use Rattle.std.proofs.lemmas.Int.{ints}
 use Rattle.gtd_core.specs.Seconds.{Interval, IsHorizonSecond}
 use Rattle.gtd_core.specs.Trees.{Tree}

@@ -1,5 +1,5 @@
 -- Numbers that rows with the same seconds share, and that few others have.
-use Rattle.std.specs.Prelude.{◌≡◌, ◌<◌, ◌+◌, ◌-◌, ◌*◌, ◌%◌, ◌==◌, ℕ, ℤ, pos, ◌*ℤ◌, unsigned_abs, if◌then◌else◌}
+use Rattle.std.specs.Prelude.{◌≡◌, ◌<◌, ◌+◌, ◌-◌, ◌*◌, ◌%◌, ◌==◌, ℕ, ℤ, pos, unsigned_abs, if◌then◌else◌}
 use Rattle.std.specs.Prelude.{List, [], ◌∷◌, length, get_or, Option}
 use Rattle.gtd_core.specs.Seconds.{Interval}
 use Rattle.gtd_core.specs.Trees.{Tree}

@@ -1,5 +1,5 @@
 -- What listing the repeats of a file did, by its answer.
-use Rattle.std.specs.Prelude.{◌≡◌, ◌≤◌, ℕ, ⊤, List, length, take, Option, IfSome, Result, Ok, Err}
+use Rattle.std.specs.Prelude.{◌≡◌, ℕ, ⊤, List, Option, Result, Ok, Err}
 use Rattle.std.specs.Io.KnownBytes.{Appends, Keeps}
 use Rattle.gtd_records.specs.Closing.{Restriction}
 use Rattle.gtd_records.specs.File.{IsFile, IsOfFile}

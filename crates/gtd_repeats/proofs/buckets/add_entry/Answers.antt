@@ -1,5 +1,4 @@
-use Rattle.std.proofs.Common.{◌≡◌, ◌<◌, sym, subst, arith, rules, length}
-use Rattle.gtd_repeats.specs.Buckets.{IsListed, place_of}
+use Rattle.std.proofs.Common.{sym, arith}
 use Rattle.gtd_repeats.proofs.BucketFacts.{now_listed, still_listed}
 use Rattle.gtd_repeats.proofs.buckets.add_entry.Goals as goal
 

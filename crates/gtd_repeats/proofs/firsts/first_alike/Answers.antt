@@ -1,5 +1,4 @@
-use Rattle.std.proofs.Common.{◌≡◌, arith, rules, length}
-use Rattle.gtd_repeats.specs.declared.buckets.Entry.{Entry}
+use Rattle.std.proofs.Common.{arith, rules, length}
 use Rattle.gtd_repeats.proofs.FirstFacts.{none_at_all, none_first, none_more}
 use Rattle.gtd_repeats.proofs.firsts.first_alike.Goals as goal
 

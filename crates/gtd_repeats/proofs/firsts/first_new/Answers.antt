@@ -1,4 +1,4 @@
-use Rattle.std.proofs.Common.{◌≡◌, Some, None, length, get_or}
+use Rattle.std.proofs.Common.{◌≡◌, Some, None}
 use Rattle.std.proofs.lemmas.Option.{MatchOption-at_some, MatchOption-at_none}
 use Rattle.gtd_repeats.proofs.FirstFacts.{alone, joined, later}
 use Rattle.gtd_repeats.proofs.firsts.first_new.Goals as goal

@@ -1,5 +1,4 @@
 use Rattle.std.proofs.Common.{◌≡◌, ◌∙◌, ◌≤◌, arith, subst, length, get_or, ℕ}
-use Rattle.std.proofs.lemmas.Result.{IfOk-weaker}
 use Rattle.gtd_repeats.proofs.FirstFacts.{joined}
 use Rattle.gtd_repeats.proofs.ListFacts.{any_default}
 use Rattle.gtd_repeats.proofs.firsts.first_of.Goals as goal

@@ -1,4 +1,4 @@
-use Rattle.std.proofs.Common.{◌≡◌, ◌<◌, arith, rules, length, length-append, [], ◌∷◌}
+use Rattle.std.proofs.Common.{◌<◌, arith, rules, length, length-append, [], ◌∷◌}
 use Rattle.gtd_repeats.proofs.FirstFacts.{so_far_more}
 use Rattle.gtd_repeats.proofs.firsts.firsts_of.Goals as goal
 

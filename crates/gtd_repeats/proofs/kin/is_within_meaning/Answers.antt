@@ -1,4 +1,3 @@
-use Rattle.std.proofs.Common.{IsTrue}
 use Rattle.std.proofs.lemmas.Result.{IfOk-weaker}
 use Rattle.gtd_repeats.proofs.KinFacts.{of_firsts}
 use Rattle.gtd_repeats.proofs.kin.is_within_meaning.Goals as goal

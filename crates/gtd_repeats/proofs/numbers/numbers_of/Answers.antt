@@ -1,4 +1,4 @@
-use Rattle.std.proofs.Common.{◌≡◌, ◌<◌, arith, refl, length, length-append, ℕ, [], ◌∷◌}
+use Rattle.std.proofs.Common.{◌<◌, arith, refl, length, length-append, ℕ, [], ◌∷◌}
 use Rattle.gtd_repeats.specs.Numbers.{IsNumberOf}
 use Rattle.gtd_repeats.specs.Sameness.{row_at}
 use Rattle.gtd_repeats.proofs.ListFacts.{all_more}

@@ -1,4 +1,4 @@
-use Rattle.std.proofs.Common.{◌≡◌, ◌<◌, arith, rules, subst, ℕ}
+use Rattle.std.proofs.Common.{◌≡◌, arith, rules, subst, ℕ}
 use Rattle.gtd_records.specs.Closing.{Serves}
 use Rattle.gtd_repeats.proofs.ListFacts.{by_lt}
 use Rattle.gtd_repeats.proofs.vehicles.serves_within.Goals as goal
