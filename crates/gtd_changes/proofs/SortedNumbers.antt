@@ -30,25 +30,25 @@ sorted_set all numbers sorted kept moved order filtered same =
 
 -- ---- what one of two lists has
 
-in_both : (n : ℕ) (xs ys : List ℕ) → In n (xs ++ ys) → In n xs ⊎ In n ys
+pub in_both : (n : ℕ) (xs ys : List ℕ) → In n (xs ++ ys) → In n xs ⊎ In n ys
 in_both n [] ys i = inr i
 in_both n (x ∷ xs) ys (inl e) = inl (inl e)
 in_both n (x ∷ xs) ys (inr i) = elim (in_both n xs ys i) [ inl j ↦ inl (inr j) | inr j ↦ inr j ]
 
-in_first : (n : ℕ) (xs ys : List ℕ) → In n xs → In n (xs ++ ys)
+pub in_first : (n : ℕ) (xs ys : List ℕ) → In n xs → In n (xs ++ ys)
 in_first n [] ys i = absurd i
 in_first n (x ∷ xs) ys (inl e) = inl e
 in_first n (x ∷ xs) ys (inr i) = inr (in_first n xs ys i)
 
-in_second : (n : ℕ) (xs ys : List ℕ) → In n ys → In n (xs ++ ys)
+pub in_second : (n : ℕ) (xs ys : List ℕ) → In n ys → In n (xs ++ ys)
 in_second n [] ys i = i
 in_second n (x ∷ xs) ys i = inr (in_second n xs ys i)
 
-in_of : (n : ℕ) (xs : List ℕ) → Contains xs n → In n xs
+pub in_of : (n : ℕ) (xs : List ℕ) → Contains xs n → In n xs
 in_of n xs c = to_in n xs c.0 c.1 c.2
 
 module _ (P : Restriction → Type 0) where
-  any_either : (a b : List Restriction) → Any P (a ++ b) → Any P a ⊎ Any P b
+  pub any_either : (a b : List Restriction) → Any P (a ++ b) → Any P a ⊎ Any P b
   any_either [] b h = inr h
   any_either (r ∷ a) b h = elim (any_split P r (a ++ b) h) [
     | inl p ↦ inl (any_first P r a p)
