@@ -21,14 +21,18 @@ pub fn no_zone() -> RunRefusal
     })
 }
 
-// The refusal of a clock that shows no moment.
-fn no_moment() -> RunRefusal
-    ensures value { result ≡ spec.no_moment }
+// The refusal for a fault of a zone.
+fn zone_refusal(fault: ZoneFault) -> RunRefusal
+    ensures value { result ≡ spec.zone_refusal fault }
 {
-    RunRefusal::Word(WordFault {
-        word: WordName::Zone,
-        why: Reason::Moment(StampFault::Range),
-    })
+    match fault {
+        ZoneFault::File => no_zone(),
+        ZoneFault::Range => RunRefusal::Word(WordFault {
+            word: WordName::Zone,
+            why: Reason::Moment(StampFault::Range),
+        }),
+        ZoneFault::Memory => RunRefusal::Memory,
+    }
 }
 
 /// The moment that the clock of a time zone shows at an instant, which is given by its seconds from 1970-01-01T00:00:00Z on.
@@ -39,8 +43,6 @@ pub fn moment_in_zone(alloc: Global, file: &[u8], instant: i64) -> Result<Moment
 {
     match second_in_zone(alloc, file, instant) {
         Ok(second) => Ok(Moment { second }),
-        Err(ZoneFault::File) => Err(no_zone()),
-        Err(ZoneFault::Range) => Err(no_moment()),
-        Err(ZoneFault::Memory) => Err(RunRefusal::Memory),
+        Err(fault) => Err(zone_refusal(fault)),
     }
 }
