@@ -1,12 +1,11 @@
 -- Words give one command at most, and a command has one plan or one first fault.
 use Rattle.std.proofs.Common.{◌≡◌, ◌∙◌, ◌⊎◌, inl, inr, ap, sym, subst, refl, true, false, true≢false, List}
-use Rattle.std.proofs.Common.{Bool, Option, None, arith, [], ◌∷◌, length, map}
+use Rattle.std.proofs.Common.{Bool, Option, arith, [], ◌∷◌, length, map}
 use Rattle.std.specs.Prelude.{Result, Ok, Err, MatchResult}
 use Rattle.clap.specs.Faults.{fault_of}
 use Rattle.clap.specs.Kinds.{HasKind, IsAmong}
 use Rattle.clap.specs.Simple.{subcommand_rows_of}
 use Rattle.clap.specs.Values.{kind_of}
-use Rattle.clap.specs.Walk.{Row}
 use Rattle.clap.specs.declared.error.Error.{Error}
 use Rattle.clap.specs.declared.error.kind.ErrorKind.{ErrorKind}
 use Rattle.clap.specs.declared.error.kind.ErrorKind.TheVariants as error

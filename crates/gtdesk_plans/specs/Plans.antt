@@ -1,5 +1,5 @@
 -- What a command line asks for, and why it is refused.
-use Rattle.std.specs.Prelude.{◌≡◌, List, [], ◌∷◌, Option, map, option_map, string_bytes}
+use Rattle.std.specs.Prelude.{◌≡◌, List, [], ◌∷◌, map, option_map, string_bytes}
 use Rattle.clap.specs.declared.error.kind.ErrorKind.{ErrorKind}
 use Rattle.clap.specs.declared.error.kind.ErrorKind.TheVariants.{DisplayVersion}
 use Rattle.gtdesk_plans.specs.Arguments.{Text}
