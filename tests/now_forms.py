@@ -20,7 +20,7 @@ HERE = os.path.dirname(os.path.abspath(__file__))
 CRATES = os.path.join(os.path.dirname(HERE), "crates")
 PROGRAMS = {it: os.path.abspath(os.environ.get(it.upper(), os.path.join(CRATES, it, "out", it))) for it in ("gtd", "gtdesk")}
 DOMAINS = ["", "(h10){h4}", "[(M4d1){M3}]*[(h10){h4}]", "(h22){h8}", "(t7h5){h10}", "(h0){h24}-(M8){M1}",
-           "((h1){h1}+(h3){h2})*((t2){d1}+(t3){d1})", "(y2024M3d5){d1}", "(h0){d1}", "(m30){m5}", "(h8){s0}"]
+           "[(h1){h1}+[(h3){h2}-(h4){h1}]]*[(t2){d1}+(t3){d1}]", "(y2024M3d5){d1}", "(h0){d1}", "(m30){m5}", "(h8){s0}"]
 ELEMENTS = [1, 7, 17, 20, 101, 65_536, 4_294_967_295, 4_294_967_296, 9_999_999_999]
 ZONES = ["UTC", "Europe/Vienna", "America/Argentina/Buenos_Aires", "Asia/Kathmandu", "Etc/GMT+12", "Pacific/Kiritimati"]
 

@@ -1,6 +1,6 @@
 -- Why the clock of a zone shows no moment, by the fault.
 use Rattle.std.proofs.Common.{◌≡◌, refl, ℕ, List}
-use Rattle.std.specs.Prelude.{ℤ, Result, Ok, Err}
+use Rattle.std.specs.Prelude.{ℤ, Result, Err}
 use Rattle.gtd_core.specs.declared.second.Sec.{Sec}
 use Rattle.gtd_zones.specs.Zones.{IsNoZone, IsOutOfRange}
 use Rattle.gtd_zones.specs.declared.zone.ZoneFault.{ZoneFault}
