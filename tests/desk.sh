@@ -224,10 +224,11 @@ for order in LE BE; do
 done
 hinted 'UTF-16 with a mark' '\xff\xfex\0' '\xff\xfex\x00' "$utf16"
 hinted 'UTF-16 with the other mark' '\xfe\xff\0x' '\xfe\xff\x00x' "$utf16"
-hinted 'another word' 'element;direction;vehicle;domains\n' 'element;direction;vehicle;domains' ''
+names='it has four fields, but other names; write the header in its place, or above it'
+hinted 'another word' 'element;direction;vehicle;domains\n' 'element;direction;vehicle;domains' "$names"
 hinted 'a fifth field' 'element;direction;vehicle;domain;\n' 'element;direction;vehicle;domain;' ''
 hinted 'a field left out' 'Element,Direction,Vehicle\n' 'Element,Direction,Vehicle' ''
-hinted 'a mark in another place' "$commas\\xef\\xbb\\xbf\n" "$commas\xef\xbb\xbf" ''
+hinted 'a mark in another place' "$commas\\xef\\xbb\\xbf\n" "$commas\xef\xbb\xbf" "$names"
 hinted 'half a mark' '\xff\n' '\xff' ''
 # Texts of more than 100 columns are cut: 40 columns before the place and 50 from it on are left.
 times() { printf "$2%.0s" $(seq "$1"); }
