@@ -8,7 +8,7 @@ use gtd_records::RecordFault;
 use gtd_test_devices::R;
 use gtdesk_tool::{
     Ending, Files, NoDomain, OnePlan, Reason, Refusal, RunRefusal, Turn, WordFault, WordName,
-    WordsRefusal, joined, perform,
+    WordsRefusal, perform,
 };
 use std::process::Abort;
 
@@ -79,28 +79,6 @@ fn files_of_plans(rt: HostRuntime) {
     switch(alloc);
     assert!(rt; (first_of(&faults), first_of(&words)) == (("r.csv", 2), ("", 0)));
     switch(alloc);
-}
-
-// The first refusal of several files, or else the first ending that tells something.
-#[test]
-fn endings_of_files(rt: HostRuntime) {
-    let (done, listed, differ) = (
-        Ok(Ending::Done),
-        Ok(Ending::FaultsListed),
-        Ok(Ending::Differ),
-    );
-    let (open, memory) = (Err(RunRefusal::Open), Err(RunRefusal::Memory));
-    for (first, next, all) in [
-        (done, done, done),
-        (done, listed, listed),
-        (listed, done, listed),
-        (listed, differ, listed),
-        (listed, open, open),
-        (open, listed, open),
-        (open, memory, open),
-    ] {
-        assert!(rt; joined(first, next) == all);
-    }
 }
 
 // A text that was asked for is put without memory.
