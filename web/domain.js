@@ -40,7 +40,7 @@ function speak() {
 // What the text stands for: a domain, or a fault, and how it was read.
 async function reading(text) {
   if (isDomain(text)) return { kind: "domain", ...library.domain(text) };
-  const { status, output, errors } = await program.run(["hours", "--", text]);
+  const { status, output, errors } = await program.run(["hours", "--strict", "--", text]);
   if (status !== 0) return { kind: "hours", fault: hoursFault(errors) };
   return { kind: "hours", ...library.domain(output.trimEnd()) };
 }

@@ -190,7 +190,7 @@ class RecordsByProgram:
 
 def domain_of_hours(hours: str) -> str:
     """The canonical text of the domain of opening hours, which must be a word of a command line."""
-    return run_desk("hours", "--", hours.encode("utf-8", "replace").decode()).decode().rstrip("\n")
+    return run_desk("hours", "--strict", "--", hours.encode("utf-8", "replace").decode()).decode().rstrip("\n")
 
 
 def _short(text: str) -> str:
