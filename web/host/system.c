@@ -16,11 +16,12 @@ static int error;
 int rattle_errno(void) { return error; }
 void rattle_set_errno(int number) { error = number; }
 
-// Those of the C library. Whatever file is named is the one that the page gave, and so is standard input.
+// Those of the C library. Whatever file is named is the one that the page gave, and so is standard input. There is no clock.
 int open(const char *path, int flags, ...) { return (void)path, (void)flags, 3; }
 int close(int file) { return (void)file, 0; }
 answer read(int file, void *into, size_t room) { return (void)file, page_read(into, room); }
 answer write(int file, const void *bytes, size_t count) { return page_write(file, bytes, count); }
+int clock_gettime(int clock, void *into) { return (void)clock, (void)into, -1; }
 void *__sysv_signal(int number, void *action) { return (void)number, action; }
 
 extern int gtdesk_main(void);
