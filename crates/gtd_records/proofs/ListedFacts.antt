@@ -1,69 +1,19 @@
 -- Which rows are listed: just those that stand for no restriction.
 use Rattle.std.proofs.Common.{◌≡◌, ◌∙◌, sym, ap, refl, subst, arith, ◌<◌, ◌+◌, inl, inr, ◌↔◌, map, ℕ, zero, suc, List, []}
-use Rattle.std.proofs.Common.{◌∷◌, length, Option, Some, None}
-use Rattle.std.specs.Prelude.{MatchOption, Result, Ok, Err, slice_index_or}
+use Rattle.std.proofs.Common.{◌∷◌, length}
+use Rattle.std.specs.Prelude.{Result, Ok, Err, slice_index_or}
 use Rattle.std.specs.List.{Contains}
-use Rattle.gtd_core.specs.Trees.{Tree}
-use Rattle.gtd_core.specs.declared.fault.TextFault.{TextFault}
 use Rattle.gtd_text.specs.facts.OneMeaning.{one_meaning}
 use Rattle.gtd_text.specs.facts.ReadingLaws.{one_fault}
 use Rattle.gtd_records.specs.facts.OneAnswer.{one_row}
 use Rattle.gtd_records.specs.facts.Rising.{In, from_in, to_in}
-use Rattle.gtd_records.specs.Columns.{closed_of, number_of, Fields, IsOrdered, vehicles_of}
+use Rattle.gtd_records.specs.facts.RowFaults.{number_is}
+use Rattle.gtd_records.specs.Columns.{Fields}
 use Rattle.gtd_records.specs.Faults.{AreRowFaults, IsFaultyRow, row_number, with_fault}
 use Rattle.gtd_records.specs.Closing.{Restriction}
-use Rattle.gtd_records.specs.ComputedRow.{IsDomainColumn, IsRow, with_domain}
-use Rattle.gtd_records.specs.declared.direction.Closed.{Closed}
+use Rattle.gtd_records.specs.ComputedRow.{IsRow}
 use Rattle.gtd_records.specs.declared.fault.RecordFault.{RecordFault}
-use Rattle.gtd_records.specs.declared.fault.RecordFault.TheVariants as fault
-use Rattle.gtd_records.specs.declared.vehicles.Vehicles.{Vehicles}
 use Rattle.gtd_records.specs.declared.vehicles.Version.{Version}
-
--- ---- a row's fault has the row's number
-
-abbrev number_in : Result Restriction RecordFault → ℕ
-number_in (Ok r) = 0
-number_in (Err why) = row_number why
-
-number_read : (k x : ℕ) (c : Closed) (types : Vehicles) (read : Result (Option Tree) TextFault) (why : RecordFault)
-    → ◌≡◌ {A = Result Restriction RecordFault} (Err why) (with_domain k x c types read) → row_number why ≡ k
-number_read k x c types (Ok domain) why e = cc
-number_read k x c types (Err w) why e = ap number_in e
-
-abbrev Last : Version → List ℕ → RecordFault → ℕ → ℕ → Closed → Option Vehicles → Type 0
-Last v d why k x closed o = MatchOption o (◌≡◌ {A = Result Restriction RecordFault} (Err why) (Err (fault.Vehicle k))) (λ named.
-    (types : Vehicles) × (read : Result (Option Tree) TextFault)
-    × IsOrdered named types × IsDomainColumn d read × (◌≡◌ {A = Result Restriction RecordFault} (Err why)
-    (with_domain k x closed types read)))
-
-number_is : (v : Version) (k : ℕ) (row : Fields) (why : RecordFault) → IsRow v k row (Err why) → row_number why ≡ k
-number_is v k [] why is = ap number_in is
-number_is v k (e ∷ []) why is = ap number_in is
-number_is v k (e ∷ c ∷ []) why is = ap number_in is
-number_is v k (e ∷ c ∷ w ∷ []) why is = ap number_in is
-number_is v k (e ∷ c ∷ w ∷ d ∷ []) why is = by_number (number_of e) is
-  where
-    by_types : (x : ℕ) (closed : Closed) (o : Option Vehicles) → Last v d why k x closed o → row_number why ≡ k
-    by_types x closed None h = ap number_in h
-    by_types x closed (Some named) h = number_read k x closed h.0 h.1 why h.4
-
-    by_closed : (x : ℕ) (o : Option Closed)
-        → MatchOption o (◌≡◌ {A = Result Restriction RecordFault} (Err why) (Err (fault.Direction k)))
-        (λ closed. Last v d why k x closed (vehicles_of v w))
-        → row_number why ≡ k
-    by_closed x None h = ap number_in h
-    by_closed x (Some closed) h = by_types x closed (vehicles_of v w) h
-
-    by_number : (o : Option ℕ)
-        → MatchOption o (◌≡◌ {A = Result Restriction RecordFault} (Err why) (Err (fault.Element k))) (λ x.
-        MatchOption (closed_of c) (◌≡◌ {A = Result Restriction RecordFault} (Err why) (Err (fault.Direction k)))
-        (λ closed. Last v d why k x closed (vehicles_of v w)))
-        → row_number why ≡ k
-    by_number None h = ap number_in h
-    by_number (Some x) h = by_closed x (closed_of c) h
-number_is v k (e ∷ c ∷ w ∷ d ∷ more ∷ rest) why is = ap number_in is
-
--- ---- the rows
 
 -- the row with this number stands for no restriction, where the first has number k
 record Faulty (v : Version) (k : ℕ) (rows : List Fields) (n : ℕ) : Type 0 where

@@ -1,30 +1,23 @@
--- What reading a record file, listing its faults and listing its warnings make of all its rows.
-use Rattle.std.proofs.Common.{◌≡◌, ◌∙◌, ◌<◌, ◌≤◌, ◌+◌, ◌⊎◌, inl, inr, sym, ap, refl, subst, arith, ℕ, true, false, List, [], ◌∷◌}
-use Rattle.std.proofs.Common.{◌++◌, length, length-append, Option, Some, None, take}
-use Rattle.std.proofs.lemmas.List.{take_all}
-use Rattle.std.proofs.Math.Seq.{take-append_seam}
-use Rattle.std.specs.Prelude.{Result, Ok, Err}
-use Rattle.gtd_core.specs.Limits.{most_rows}
+-- What reading a record file and listing its faults make of all its rows.
+use Rattle.std.proofs.Common.{◌≡◌, ◌∙◌, ◌+◌, inl, inr, ap, refl, subst, arith, ℕ, true, false, List, [], ◌∷◌, ◌++◌, length}
+use Rattle.std.specs.Prelude.{Ok, Err}
 use Rattle.gtd_records.specs.Closing.{Restriction}
 use Rattle.gtd_records.specs.Columns.{Fields}
 use Rattle.gtd_records.specs.ComputedFile.{AreRecords, IsTable}
 use Rattle.gtd_records.specs.ComputedRow.{IsRow}
 use Rattle.gtd_records.specs.Faults.{AreRowFaults, AreTableFaults, with_fault}
 use Rattle.gtd_records.specs.File.{header}
-use Rattle.gtd_records.specs.RowTakers.{BeginsFaults, BeginsReading, BeginsWarnings, IsHeader, ListsFault, ListsWarning, Reads}
+use Rattle.gtd_records.specs.RowTakers.{BeginsFaults, BeginsReading, IsHeader, ListsFault, Reads}
 use Rattle.gtd_records.specs.Taking.{AreAllTaken, AreTableTaken, HasHeader}
-use Rattle.gtd_records.specs.Warnings.{AreRowWarnings, AreTableWarnings, IsRowWarning, with_warning}
+use Rattle.gtd_records.specs.facts.RowFaults.{faults_listed}
 use Rattle.gtd_records.specs.facts.RowsRead.{IsListing}
 use Rattle.gtd_records.specs.facts.TakenRows.{taken_from_none}
 use Rattle.gtd_records.specs.declared.fault.RecordFault.{RecordFault}
 use Rattle.gtd_records.specs.declared.fault.RecordFault.TheVariants as fault
 use Rattle.gtd_records.specs.declared.faults.FaultList.{FaultList}
 use Rattle.gtd_records.specs.declared.file.Reading.{Reading}
-use Rattle.gtd_records.specs.declared.rows.RowsEnd.{RowsEnd}
 use Rattle.gtd_records.specs.declared.rows.RowsEnd.TheVariants.{NoHeader, All, Stopped, TooMany}
 use Rattle.gtd_records.specs.declared.vehicles.Version.{Version}
-use Rattle.gtd_records.specs.declared.warnings.Warning.{Warning}
-use Rattle.gtd_records.specs.declared.warnings.WarningList.{WarningList}
 
 -- a first record that is no header
 no_header : (text : List Fields) (first : Fields) (rows : List Fields) (v : Version) → text ≡ first ∷ rows
@@ -109,14 +102,6 @@ module _ (text : List Fields) (old new : Reading) (none : old.found.items ≡ []
 
 -- ---- faults
 
-with_fault_append : (a : Result Restriction RecordFault) (rest more : List RecordFault) → with_fault a rest ++ more
-    ≡ with_fault a (rest ++ more)
-with_fault_append (Ok r) rest more = refl
-with_fault_append (Err why) rest more = refl
-
-faults_listed : (v : Version) → IsListing with_fault (IsRow v) (AreRowFaults v)
-faults_listed v = record { joins = with_fault_append; none = λ k l. ((λ e. e), (λ e. e)); more = λ k r rs l. ((λ a. a), (λ a. a)) }
-
 faults_taken : (v : Version) (rows : List Fields) (old new : FaultList) → old.rows.version ≡ v → old.faults.items ≡ []
     → AreAllTaken ListsFault 1 rows old new → (new.rows.version ≡ v) × AreRowFaults v 1 rows new.faults.items
 faults_taken v rows old new same none taken =
@@ -159,50 +144,3 @@ module _ (text : List Fields) (old new : FaultList) (none : old.faults.items ≡
           whole = refl;
         }),
       )
-
--- ---- warnings
-
-with_warning_append : (w : Option Warning) (rest more : List Warning) → with_warning w rest ++ more
-    ≡ with_warning w (rest ++ more)
-with_warning_append None rest more = refl
-with_warning_append (Some w) rest more = refl
-
-warnings_listed : (v : Version) → IsListing with_warning (IsRowWarning v) (AreRowWarnings v)
-warnings_listed v =
-    record { joins = with_warning_append; none = λ k l. ((λ e. e), (λ e. e)); more = λ k r rs l. ((λ a. a), (λ a. a)) }
-
-warnings_taken : (v : Version) (rows : List Fields) (old new : WarningList) → old.rows.version ≡ v → old.warnings.items ≡ []
-    → AreAllTaken ListsWarning 1 rows old new → AreRowWarnings v 1 rows new.warnings.items
-warnings_taken v rows old new same none taken =
-    (taken_from_none with_warning (IsRowWarning v) (AreRowWarnings v) (warnings_listed v) ListsWarning (λ (s : WarningList). s.rows.version ≡ v) (λ (s : WarningList). s.warnings.items)
-    (λ a b k row keeps t. (t.0 ∙ keeps, (t.1.0, subst (λ (w : Version). IsRowWarning w k row t.1.0) keeps t.1.1, t.1.2)))
-    rows old new same none taken).1
-
-pub warnings_read : (text : List Fields) (old new : WarningList) → old.warnings.items ≡ [] → (end : RowsEnd)
-    → AreTableTaken BeginsWarnings ListsWarning text old new end → AreTableWarnings text new.warnings.items
-warnings_read text old new none NoHeader (inl p) =
-    inr ((λ v rows e. let nil = p.0 in cc), ap (λ (s : WarningList). s.warnings.items) p.1 ∙ none)
-warnings_read text old new none NoHeader (inr h) = inr (no_header text h.0 h.1 new.rows.version h.2 h.3.0, h.3.1 ∙ none)
-warnings_read text old new none Stopped h = absurd (h.taken.stops)
-warnings_read text old new none All h =
-    let v = h.at.rows.version in
-    inl (
-      v,
-      h.rows,
-      headed text h.first h.rows v h.split h.begun.0,
-      subst (λ (l : List Fields). AreRowWarnings v 1 l new.warnings.items) (sym (take_all most_rows h.rows h.taken.0))
-          (warnings_taken v h.rows h.at new refl (h.begun.1 ∙ none) h.taken.1),
-    )
-warnings_read text old new none TooMany h =
-    let v = h.at.rows.version in
-    let m = h.taken in
-    let cut : take most_rows h.rows ≡ m.before =
-    ap (λ (l : List Fields). take most_rows l) m.split ∙ ap (λ (n : ℕ). take n (m.before ++ m.row ∷ m.after)) (sym m.many)
-    ∙ take-append_seam m.before (m.row ∷ m.after) in
-    inl (
-      v,
-      h.rows,
-      headed text h.first h.rows v h.split h.begun.0,
-      subst (λ (l : List Fields). AreRowWarnings v 1 l new.warnings.items) (sym cut)
-          (warnings_taken v m.before h.at new refl (h.begun.1 ∙ none) m.taken),
-    )

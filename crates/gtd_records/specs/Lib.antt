@@ -13,7 +13,6 @@ pub mod Row
 pub mod RowTakers
 pub mod Table
 pub mod Taking
-pub mod Warnings
 pub mod facts
 pub use Rattle.gtd_core.specs.Seconds
 pub use Rattle.gtd_core.specs.Limits

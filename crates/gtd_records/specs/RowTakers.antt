@@ -1,17 +1,14 @@
--- What reading a record file, listing its faults and listing its warnings make of its rows.
-use Rattle.std.specs.Prelude.{◌≡◌, ◌≢◌, ℕ, Bool, true, false, List, [], ◌∷◌, ◌++◌, Option, Result, Ok, Err}
+-- What reading a record file and listing its faults make of its rows.
+use Rattle.std.specs.Prelude.{◌≡◌, ◌≢◌, ℕ, Bool, true, false, List, [], ◌∷◌, ◌++◌, Result, Ok, Err}
 use Rattle.gtd_records.specs.Closing.{Restriction}
 use Rattle.gtd_records.specs.Columns.{Fields}
 use Rattle.gtd_records.specs.ComputedRow.{IsRow}
 use Rattle.gtd_records.specs.Faults.{with_fault}
 use Rattle.gtd_records.specs.File.{header}
-use Rattle.gtd_records.specs.Warnings.{IsRowWarning, with_warning}
 use Rattle.gtd_records.specs.declared.fault.RecordFault.{RecordFault}
 use Rattle.gtd_records.specs.declared.faults.FaultList.{FaultList}
 use Rattle.gtd_records.specs.declared.file.Reading.{Reading}
 use Rattle.gtd_records.specs.declared.vehicles.Version.{Version}
-use Rattle.gtd_records.specs.declared.warnings.Warning.{Warning}
-use Rattle.gtd_records.specs.declared.warnings.WarningList.{WarningList}
 
 -- the first record is the header of the version, or of none
 abbrev pub IsHeader : Fields → Version → Bool → Type 0
@@ -23,9 +20,6 @@ BeginsReading old first new is = IsHeader first new.rows.version is × (new.foun
 
 abbrev pub BeginsFaults : FaultList → Fields → FaultList → Bool → Type 0
 BeginsFaults old first new is = IsHeader first new.rows.version is × (new.faults.items ≡ old.faults.items)
-
-abbrev pub BeginsWarnings : WarningList → Fields → WarningList → Bool → Type 0
-BeginsWarnings old first new is = IsHeader first new.rows.version is × (new.warnings.items ≡ old.warnings.items)
 
 -- one more record, or the first fault
 abbrev pub Reads : Reading → ℕ → Fields → Reading → Bool → Type 0
@@ -41,11 +35,3 @@ ListsFault old number row new true =
     (new.rows.version ≡ old.rows.version)
     × ((a : Result Restriction RecordFault) × IsRow old.rows.version number row a
     × (new.faults.items ≡ old.faults.items ++ with_fault a []))
-
--- the warning of the row, if it has one, is listed
-abbrev pub ListsWarning : WarningList → ℕ → Fields → WarningList → Bool → Type 0
-ListsWarning old number row new false = ⊥
-ListsWarning old number row new true =
-    (new.rows.version ≡ old.rows.version)
-    × ((w : Option Warning) × IsRowWarning old.rows.version number row w
-    × (new.warnings.items ≡ old.warnings.items ++ with_warning w []))

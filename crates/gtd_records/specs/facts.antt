@@ -11,5 +11,6 @@ pub mod RestrictionCode
 pub mod Rising
 pub mod SortedCodes
 pub mod RowFacts
+pub mod RowFaults
 pub mod RowForms
 pub mod RowNames

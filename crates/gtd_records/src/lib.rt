@@ -14,11 +14,10 @@ pub use faults::{faults_of, read_faults};
 pub use index::Records;
 pub use reader::read_records;
 pub use record::Record;
-pub use row::{Columns, four_columns};
+pub use row::{Columns, RowReader, four_columns};
 pub use rows::{RowTaker, RowsEnd, next_row, table, take_rows};
 pub use schedule::{open_seconds, schedule_of};
 pub use vehicles::{Codes, Vehicles, Version, read_vehicles};
-pub use warnings::{Warning, warnings_of};
 
 mod change;
 mod column;
@@ -35,4 +34,3 @@ mod row;
 mod rows;
 mod schedule;
 mod vehicles;
-mod warnings;

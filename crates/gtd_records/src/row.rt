@@ -137,15 +137,16 @@ fn read_row(
 
 /// What reads the rows of a record file: its version, and the texts of domains that it repeats.
 #[derive(Drop)]
-pub(crate) struct RowReader {
+pub struct RowReader {
     alloc: Global,
     known: KnownTexts,
-    pub(crate) version: Version,
+    /// The version of the header that was taken.
+    pub version: Version,
 }
 
 impl RowReader {
     /// A reader of rows, before their header. Takes no memory.
-    pub(crate) fn new(alloc: Global) -> RowReader {
+    pub fn new(alloc: Global) -> RowReader {
         RowReader {
             alloc,
             known: KnownTexts::new(alloc),
@@ -154,7 +155,7 @@ impl RowReader {
     }
 
     /// Whether a row is a header. If it is, the rows are read as those of its version.
-    pub(crate) fn take_header(&mut self, row: &ByteRecord) -> bool
+    pub fn take_header(&mut self, row: &ByteRecord) -> bool
         ensures header { IsHeader (fields_of row.now) self.new.version result }
     {
         match version_of(row) {
@@ -166,8 +167,9 @@ impl RowReader {
         }
     }
 
-    /// The record that the row with this number stands for, or its first fault from the left.
-    pub(crate) fn read(&mut self, number: u32, row: &ByteRecord) -> Result<Record, RecordFault>
+    /// The record that the row with this number stands for, or its first fault from the left. `NoMemory` is answered only if
+    /// memory was refused.
+    pub fn read(&mut self, number: u32, row: &ByteRecord) -> Result<Record, RecordFault>
         ensures read { result ≢ Err RecordFault.NoMemory → IsRow self.old.version number (fields_of row.now) result }
         ensures version { self.new.version ≡ self.old.version }
     {

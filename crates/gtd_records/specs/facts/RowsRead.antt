@@ -27,7 +27,8 @@ pub record RowsRead {X : Type 0} (Are : ℕ → List Fields → List X → Type 
 
 module _ {A X : Type 0} (put : A → List X → List X) (Is : ℕ → Fields → A → Type 0) (Are : ℕ → List Fields → List X → Type 0)
     (listing : IsListing put Is Are) where
-  one_more : (k : ℕ) (before : List Fields) (xs : List X) (row : Fields) (a : A) → Are k before xs
+  -- one row more gives its part
+  pub one_more : (k : ℕ) (before : List Fields) (xs : List X) (row : Fields) (a : A) → Are k before xs
       → Is (k + length before) row a → Are k (before ++ row ∷ []) (xs ++ put a [])
   one_more k [] xs row a each is =
       (listing.more k row [] (xs ++ put a [])).1 (
