@@ -1,8 +1,10 @@
 -- What a search among the places of an element's records has seen.
-use Rattle.std.proofs.Common.{◌≡◌, ◌∙◌, sym, ap, subst, ◌<◌, ◌+◌, ◌↔◌, ℕ, List, length, true, false, Bool, arith}
-use Rattle.std.specs.Prelude.{Any, IsTrue, slice_index_or}
-use Rattle.gtd_records.specs.Closing.{Restriction}
-use Rattle.gtd_records.specs.Index.{AllSeen, AreElementPlaces}
+use Rattle.std.proofs.Common.{◌≡◌, ◌∙◌, sym, ap, subst, ◌<◌, ◌≤◌, ◌+◌, ◌↔◌, ℕ, List, length, true, false, Bool, arith}
+use Rattle.std.specs.Prelude.{Any, IsTrue, Option, ℤ, slice_index_or}
+use Rattle.gtd_core.specs.Trees.{Tree}
+use Rattle.gtd_records.specs.Closing.{Closes, HoldsAt, Restriction}
+use Rattle.gtd_records.specs.Index.{AllSeen, AreElementPlaces, IsRepeated}
+use Rattle.gtd_records.specs.declared.direction.Direction.{Direction}
 use Rattle.gtd_records.specs.declared.index.RowPlace.{RowPlace}
 use Rattle.gtd_records.specs.facts.IndexFacts.{any_default, by_le, one_record}
 
@@ -14,6 +16,26 @@ nowhere = record { element = 0; row = 0 }
 pub places_kept : (kept told : List Restriction) (element : ℕ) (part : List RowPlace) → kept ≡ told
     → AreElementPlaces told element part → AreElementPlaces kept element part
 places_kept kept told element part same are = subst (λ (rows : List Restriction). AreElementPlaces rows element part) (sym same) are
+
+-- what is told of the rows holds of those that are kept
+pub repeats_kept : (kept told : List Restriction) (part : List RowPlace) (direction : Direction) (vehicle stop : ℕ)
+    (domain : Option Tree) → kept ≡ told → IsRepeated told part direction vehicle stop domain
+    → IsRepeated kept part direction vehicle stop domain
+repeats_kept kept told part direction vehicle stop domain same is =
+    subst (λ (rows : List Restriction). IsRepeated rows part direction vehicle stop domain) (sym same) is
+
+-- where the restriction at an earlier place is repeated, it closes the element at the seconds of the domain
+pub repeated_closes : (rows : List Restriction) (part : List RowPlace) (element : ℕ) (direction : Direction) (vehicle : ℕ) (i : ℕ)
+    (domain : Option Tree) (t : ℤ) → AreElementPlaces rows element part → i ≤ length part
+    → (again : IsRepeated rows part direction vehicle i domain) → HoldsAt domain t → Closes element direction vehicle t again.row
+repeated_closes rows part element direction vehicle i domain t placed within again holds =
+    let early = again.early in
+    let p = placed.sound again.before again.place (omega arith) in
+    record {
+      names = p.1 again.row (sym (subst (λ (q : RowPlace). slice_index_or rows q.row again.row ≡ again.row) (sym again.at) again.stands));
+      concerns = again.concerns;
+      holds = subst (λ (d : Option Tree). HoldsAt d t) (sym again.same) holds;
+    }
 
 module _ (rows : List Restriction) (part : List RowPlace) (P : Restriction → Type 0) where
   -- no restriction at the first places has it

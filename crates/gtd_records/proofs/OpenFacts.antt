@@ -1,5 +1,5 @@
 -- The cursors of the restrictions that close an element.
-use Rattle.std.proofs.Common.{◌≡◌, sym, ◌<◌, ◌≤◌, ◌+◌, ◌⊎◌, inl, inr, ◌↔◌, ℕ, List, [], ◌∷◌, ◌++◌, length}
+use Rattle.std.proofs.Common.{◌≡◌, sym, subst, arith, ◌<◌, ◌≤◌, ◌+◌, ◌⊎◌, inl, inr, ◌↔◌, ℕ, List, [], ◌∷◌, ◌++◌, length}
 use Rattle.std.specs.Prelude.{slice_index_or, ℤ, Result, Ok, Err, IfOk}
 use Rattle.gtd_core.specs.Seconds.{Interval, Within}
 use Rattle.gtd_core.specs.Whole.{whole}
@@ -12,8 +12,8 @@ use Rattle.gtd_spans.specs.Normal.{Holds, IsNormal}
 use Rattle.gtd_spans.specs.facts.NormalFor.{normal-for}
 use Rattle.gtd_core.specs.Limits.{most_nodes}
 use Rattle.gtd_eval.specs.Cursors.{total_nodes}
-use Rattle.gtd_records.proofs.FoundPlaces.{NoneSoFar, none_more, none_of_seen}
-use Rattle.gtd_records.specs.Index.{AllSeen, AreClosing}
+use Rattle.gtd_records.proofs.FoundPlaces.{NoneSoFar, none_more, none_of_seen, repeated_closes}
+use Rattle.gtd_records.specs.Index.{AllSeen, AreClosing, AreElementPlaces, IsRepeated}
 use Rattle.gtd_records.specs.Closing.{Closes, Concerns, HoldsAt, IsClosed, IsOpen, Restriction}
 use Rattle.gtd_records.specs.declared.index.RowPlace.{RowPlace}
 use Rattle.gtd_records.specs.declared.direction.Direction.{Direction}
@@ -44,14 +44,19 @@ module _ {L : Type 0} {g : Ghosts L} (rows : List Restriction) (part : List RowP
     pub complete : (t : ℤ) → Within (whole horizon) t → (SomeHolds cursors t → ⊥)
         → NoneSoFar rows part (Closes element direction vehicle t) stop
 
-  -- a restriction that concerns nothing asked for adds none
-  pub same_cursors : (i : ℕ) (cursors : List (SweepTree L g)) (p : RowPlace) (s : Restriction) → i < length part
-      → (slice_index_or part i p).row < length rows
-      → s ≡ slice_index_or rows (slice_index_or part i p).row s → (Concerns direction vehicle s → ⊥) → AreClosingSoFar i cursors
+  -- a restriction adds none that concerns nothing asked for, or that is repeated
+  pub same_cursors : (i : ℕ) (cursors : List (SweepTree L g)) (p : RowPlace) (s : Restriction) → AreElementPlaces rows element part
+      → i < length part → s ≡ slice_index_or rows (slice_index_or part i p).row s
+      → (Concerns direction vehicle s → IsRepeated rows part direction vehicle i s.domain) → AreClosingSoFar i cursors
       → AreClosingSoFar (i + 1) cursors
-  same_cursors i cursors p s here there at none are = record {
+  same_cursors i cursors p s placed here at again are = record {
     sound = are.sound;
-    complete = λ t within not. none_more rows part _ i p s here there at (λ c. none c.concerns) (are.complete t within not);
+    complete = λ t within not. none_more rows part _ i p s here (placed.sound i p here).0 at
+        (λ c. let r = again c.concerns in
+        are.complete t within not r.before r.place r.row r.early
+        (subst (λ (q : RowPlace). slice_index_or rows q.row r.row ≡ r.row) (sym r.at) r.stands)
+        (repeated_closes rows part element direction vehicle i s.domain t placed (omega arith) r c.holds))
+        (are.complete t within not);
   }
 
   -- one that does adds its cursor

@@ -8,7 +8,8 @@ use Rattle.gtd_eval.specs.Stays.{IsJoined, IsStay}
 use Rattle.gtd_eval.specs.facts.StayFacts.{joined_stays}
 use Rattle.gtd_eval.specs.declared.stay.Stay.{Stay}
 use Rattle.gtd_records.specs.facts.IndexFacts.{any_default, by_le, one_record}
-use Rattle.gtd_records.specs.Index.{AllSeen}
+use Rattle.gtd_records.specs.Index.{AllSeen, AreElementPlaces, IsRepeated}
+use Rattle.gtd_records.proofs.FoundPlaces.{repeated_closes}
 use Rattle.gtd_records.specs.Closing.{Closes, Concerns, HoldsAt, IsClosed, Restriction}
 use Rattle.gtd_records.specs.declared.direction.Direction.{Direction}
 use Rattle.gtd_records.specs.declared.index.RowPlace.{RowPlace}
@@ -85,12 +86,34 @@ module _ (rows : List Restriction) (part : List RowPlace) (element : ℕ) (direc
           closes = c.closes;
         }))
 
-    -- a restriction that concerns nothing asked for
-    pub skipped : (stay : Stay) → (Concerns direction vehicle r → ⊥) → IsStay (ClosesSoFar i) s last stay
+    -- a restriction at an earlier place that is repeated closes the element
+    earlier_one : AreElementPlaces rows element part → (t : ℤ) → IsRepeated rows part direction vehicle i r.domain
+        → HoldsAt r.domain t → ClosesSoFar i t
+    earlier_one placed t again holds =
+        let early = again.early in
+        let p = placed.sound again.before again.place (omega arith) in
+        record {
+          before = again.before;
+          place = again.place;
+          row = again.row;
+          early = again.early;
+          at = again.at;
+          within = subst (λ (q : RowPlace). q.row < length rows) again.at p.0;
+          stands = again.stands;
+          closes = repeated_closes rows part element direction vehicle i r.domain t placed (omega arith) again holds;
+        }
+
+    -- a restriction that concerns nothing asked for, or that is repeated
+    pub skipped : (stay : Stay) → AreElementPlaces rows element part
+        → (Concerns direction vehicle r → IsRepeated rows part direction vehicle i r.domain) → IsStay (ClosesSoFar i) s last stay
         → IsStay (ClosesSoFar (i + 1)) s last stay
-    skipped stay never is =
+    skipped stay placed again is =
         same_set (ClosesSoFar i) (ClosesSoFar (i + 1)) s last stay
-        (λ t. (more t, (λ c. last_one {P = ClosesSoFar i t} t c (λ old. old) (λ h. absurd (never h.concerns))))) is
+        (λ t. (
+          more t,
+          (λ c. last_one {P = ClosesSoFar i t} t c (λ old. old)
+              (λ h. earlier_one placed t (again h.concerns) h.holds)),
+        )) is
 
     here_too : (t : ℤ) → Closes element direction vehicle t r → ClosesSoFar (i + 1) t
     here_too t closes = record {

@@ -1,15 +1,16 @@
 -- How the restrictions of a file are found by their element.
-use Rattle.std.specs.Prelude.{◌≡◌, ◌<◌, ◌≤◌, ◌+◌, ℕ, ℤ, List, length, slice_index_or}
+use Rattle.std.specs.Prelude.{◌≡◌, ◌<◌, ◌≤◌, ◌+◌, ℕ, ℤ, List, Option, length, slice_index_or}
 use Rattle.std.specs.List.{All, Contains}
 use Rattle.std.specs.List.Sorted.{IsNonDecreasingBy}
 use Rattle.gtd_core.specs.Limits.{most_rows, most_nodes}
+use Rattle.gtd_core.specs.Trees.{Tree}
 use Rattle.gtd_core.specs.Seconds.{Within}
 use Rattle.gtd_core.specs.Whole.{whole}
 use Rattle.gtd_core.specs.declared.horizon.Horizon.{Horizon}
 use Rattle.gtd_eval.specs.Cursors.{SomeHolds, total_nodes}
 use Rattle.gtd_eval.specs.declared.leaf.Leaf.{Ghosts}
 use Rattle.gtd_eval.specs.declared.tree.SweepTree.{SweepTree}
-use Rattle.gtd_records.specs.Closing.{AreElements, IsClosed, IsOpen, Restriction}
+use Rattle.gtd_records.specs.Closing.{AreElements, Concerns, IsClosed, IsOpen, Restriction}
 use Rattle.gtd_records.specs.declared.direction.Direction.{Direction}
 use Rattle.gtd_records.specs.declared.index.RowPlace.{RowPlace}
 
@@ -38,6 +39,22 @@ pub record AreElementPlaces (rows : List Restriction) (element : ℕ) (part : Li
       × ((r : Restriction) → r ≡ slice_index_or rows (slice_index_or part k d).row r → r.element ≡ element)
   pub all : AllSeen rows part element (length part)
   pub few : length part ≤ length rows
+
+-- each of the places is that of a row
+abbrev pub ArePlacesWithin : List Restriction → List RowPlace → Type 0
+ArePlacesWithin rows part = (k : ℕ) (d : RowPlace) → k < length part → (slice_index_or part k d).row < length rows
+
+-- the restriction at a place before this one has this domain, and concerns the direction and the vehicle type
+pub record IsRepeated (rows : List Restriction) (part : List RowPlace) (direction : Direction) (vehicle : ℕ) (stop : ℕ)
+    (domain : Option Tree) : Type 0 where
+  pub before : ℕ
+  pub place : RowPlace
+  pub row : Restriction
+  pub early : before < stop
+  pub at : slice_index_or part before place ≡ place
+  pub stands : slice_index_or rows place.row row ≡ row
+  pub concerns : Concerns direction vehicle row
+  pub same : row.domain ≡ domain
 
 -- the places and the elements of all rows, of which there are no more than a file may have
 pub record IsIndexed (rows : List Restriction) (places : List RowPlace) (elements : List ℕ) : Type 0 where

@@ -1,6 +1,6 @@
 //! The records of a file in memory, found by their element.
 
-ghost use Rattle.std.specs.Prelude.{Any, ◌≡◌, ◌↔◌, ◌<◌, ◌≤◌, ℕ, ℤ, List, length, map, IfOk, IfSome, IsTrue};
+ghost use Rattle.std.specs.Prelude.{Any, ◌≡◌, ◌↔◌, ◌<◌, ◌≤◌, ℕ, ℤ, List, length, map, IfOk, IfSome, IsFalse, IsTrue};
 ghost use Rattle.std.specs.List.{AllWithin};
 ghost use Rattle.std.specs.List.Sorted.{IsNonDecreasingBy, IsStrictlyIncreasing};
 ghost use Rattle.gtd_core.specs.Limits.{most_rows};
@@ -8,9 +8,9 @@ ghost use Rattle.gtd_core.specs.Seconds.{IsHorizonSecond, Within};
 ghost use Rattle.gtd_core.specs.Whole.{whole};
 ghost use Rattle.gtd_eval.specs.Periods.{RepeatsFrom};
 ghost use Rattle.gtd_eval.specs.Stays.{IsStay};
-ghost use Rattle.gtd_records.specs.Closing.{AreElements, ClosesOneWay, IsClosed};
+ghost use Rattle.gtd_records.specs.Closing.{AreElements, ClosesOneWay, Concerns, IsClosed};
 ghost use Rattle.gtd_records.specs.ClosingRows.{AreClosingRows};
-ghost use Rattle.gtd_records.specs.Index.{AreClosing, AreElementPlaces, ArePlaces};
+ghost use Rattle.gtd_records.specs.Index.{AreClosing, AreElementPlaces, ArePlaces, ArePlacesWithin, IsRepeated};
 ghost use Rattle.gtd_records.specs.Columns.{IsSortedSet};
 
 use crate::direction::Direction;
@@ -19,6 +19,12 @@ use gtd_core::{Horizon, Op, Sec};
 use gtd_eval::{Leaf, Period, Stay, SweepTree};
 use std::alloc::{AllocError, Global};
 use std::marker::Model;
+
+// How many records of an element are not compared with one another: so few are joined sooner than compared.
+const FEW: usize = 16;
+
+// With how many of the records before it a later one is compared.
+const MOST_COMPARED: usize = 64;
 
 /// The place of an element's record in the file.
 #[derive(Clone, Copy, Debug)]
@@ -200,6 +206,51 @@ impl Records {
         Ok(in_order(rows))
     }
 
+    // Whether the record at one of the places just before has the same domain, and concerns the direction and the vehicle type.
+    fn is_repeated(
+        &self,
+        places: &[RowPlace],
+        at: usize,
+        other: &Record,
+        direction: Direction,
+        vehicle: u8,
+    ) -> bool
+        requires placed { ArePlacesWithin self.now places.now }
+        requires at_in { at ≤ length places.now }
+        ensures repeated { IsTrue result
+            → IsRepeated self.now places.now direction vehicle at other.now.domain }
+    {
+        for before in at.saturating_sub(MOST_COMPARED)..at {
+            let place = places[before];
+            if self.rows[place.row].closes_alike(other, direction, vehicle) {
+                return true;
+            }
+        }
+        false
+    }
+
+    // Whether the record at one of the places of an element concerns the direction and the vehicle type, and may close the
+    // element at seconds at which those before it do not. Where an element has many records, equal ones add nothing.
+    fn adds(
+        &self,
+        places: &[RowPlace],
+        at: usize,
+        other: &Record,
+        direction: Direction,
+        vehicle: u8,
+    ) -> bool
+        requires placed { ArePlacesWithin self.now places.now }
+        requires at_in { at ≤ length places.now }
+        ensures concerns { IsTrue result → Concerns direction vehicle other.now }
+        ensures repeated { IsFalse result → Concerns direction vehicle other.now
+            → IsRepeated self.now places.now direction vehicle at other.now.domain }
+    {
+        if !other.concerns(direction, vehicle) {
+            return false;
+        }
+        at < FEW || !self.is_repeated(places, at, other, direction, vehicle)
+    }
+
     // Whether some record closes the element in the direction for the vehicle type at the second, and how long that does
     // not change.
     pub(crate) fn stay(
@@ -217,9 +268,10 @@ impl Records {
             holds: false,
             until: horizon.until(),
         };
-        for place in self.places_of_element(element) {
+        let places = self.places_of_element(element);
+        for (at, place) in places.iter().enumerate() {
             let restriction = &self.rows[place.row];
-            if restriction.concerns(direction, vehicle) {
+            if self.adds(places, at, restriction, direction, vehicle) {
                 stay = Stay::joined(Op::Union, stay, restriction.stay(second, horizon));
             }
         }
@@ -241,7 +293,7 @@ impl Records {
         Some(longest)
     }
 
-    // The cursors of the records that close the element in the direction for the vehicle type.
+    // The cursors of the records that close the element in the direction for the vehicle type, of equal ones perhaps one.
     pub(crate) fn closing<L: Leaf>(
         &self,
         alloc: Global,
@@ -252,10 +304,11 @@ impl Records {
     ) -> Result<Vec<SweepTree<L>>, AllocError>
         ensures { IfOk result (λ cursors. AreClosing self.now element direction vehicle horizon cursors.items) }
     {
+        let places = self.places_of_element(element);
         let mut cursors = Vec::new(alloc);
-        for place in self.places_of_element(element) {
+        for (at, place) in places.iter().enumerate() {
             let restriction = &self.rows[place.row];
-            if restriction.concerns(direction, vehicle) {
+            if self.adds(places, at, restriction, direction, vehicle) {
                 cursors.push(restriction.cursor::<L>(alloc, horizon)?)?;
             }
         }

@@ -1,6 +1,6 @@
 //! One restriction record.
 
-ghost use Rattle.std.specs.Prelude.{◌↔◌, ◌≤◌, ℤ, IfOk, IfSome, IsTrue};
+ghost use Rattle.std.specs.Prelude.{◌≡◌, ◌↔◌, ◌≤◌, ℤ, IfOk, IfSome, IsTrue};
 ghost use Rattle.gtd_core.specs.Seconds.{Within, IsHorizonSecond};
 ghost use Rattle.gtd_core.specs.Whole.{whole};
 ghost use Rattle.gtd_eval.specs.Cursors.{cursor_list, cursor_nodes};
@@ -59,6 +59,27 @@ impl Record {
             Closed::One(closed) => closed == direction,
             Closed::Both => true,
         }
+    }
+
+    // Whether the record has the same domain as another.
+    fn has_domain_of(&self, other: &Record) -> bool
+        ensures { IsTrue result → self.now.domain ≡ other.now.domain }
+    {
+        match &self.domain {
+            None => other.domain.is_none(),
+            Some(domain) => match &other.domain {
+                None => false,
+                Some(other) => *domain == *other,
+            },
+        }
+    }
+
+    // Whether the record closes its element in a direction for a vehicle type, and has the same domain as another.
+    pub(crate) fn closes_alike(&self, other: &Record, direction: Direction, vehicle: u8) -> bool
+        ensures concerns { IsTrue result → Concerns direction vehicle self.now }
+        ensures same { IsTrue result → self.now.domain ≡ other.now.domain }
+    {
+        self.has_domain_of(other) && self.concerns(direction, vehicle)
     }
 
     // Whether the record closes its element for a vehicle type in one direction alone, whatever the second.

@@ -4,9 +4,9 @@ use Rattle.gtd_records.proofs.OpenFacts.{AreClosingSoFar}
 use Rattle.gtd_records.proofs.index.Records.closing.Given as goal
 
 -- the cursors of the records so far
-abbrev pub invariant-loop-place : goal.invariant-loop-place
-invariant-loop-place g l = record {
-  few : total_nodes l.cursors.items + length l.cursors.items ≤ 256 * l.place-index;
-  so_far : AreClosingSoFar l.self-inside.rows.items l.place-items l.element l.direction l.vehicle l.horizon l.place-index
+abbrev pub invariant-loop-at : goal.invariant-loop-at
+invariant-loop-at g l = record {
+  few : total_nodes l.cursors.items + length l.cursors.items ≤ 256 * l.at;
+  so_far : AreClosingSoFar l.self-inside.rows.items l.places l.element l.direction l.vehicle l.horizon l.at
       l.cursors.items;
 }
