@@ -153,6 +153,16 @@ class Maker(random.Random):
         step = f"/{self.randint(1, most_step)}" if self.random() < 0.5 else ""
         return self.choice([f"{first:0{digits}}", f"{first:0{digits}}-{last:0{digits}}{step}"])
 
+    def years(self):
+        if self.random() < 0.8:
+            return self.span(2022, 2028, 4, 3)
+        return f"{self.randint(2022, 2028)}{self.choice(['+', f'/{self.randint(7, 99)}'])}"
+
+    def weeks(self):
+        if self.random() < 0.8:
+            return self.span(1, 53, 1, 9)
+        return "-".join(f"{self.randint(1, 53):0{self.randint(1, 2)}}" for _ in range(2))
+
     def date(self, year=False, leap_day=True):
         month = self.randint(1, 12)
         day = self.randint(1, (29 if leap_day and not year else 28) if month == 2 else 30)
@@ -188,9 +198,9 @@ class Maker(random.Random):
         if self.random() < 0.1:
             return self.choice(["24/7", "off", "24/7 off", "open", "08:00-12:00"])
         parts = [
-            self.listed(lambda: self.span(2022, 2028, 4, 3)) if self.random() < 0.2 else "",
+            self.listed(self.years) if self.random() < 0.2 else "",
             self.listed(self.month_day) if self.random() < 0.4 else "",
-            f"week {self.listed(lambda: self.span(1, 53, 1, 9))}" if self.random() < 0.2 else "",
+            f"week {self.listed(self.weeks)}" if self.random() < 0.2 else "",
             self.listed(self.weekday, 3) if self.random() < 0.6 else "",
             self.listed(self.time_range, 3) if self.random() < 0.6 else "",
         ]
@@ -232,7 +242,7 @@ class Maker(random.Random):
     def damaged(self, text):
         """The tokens of a text, some of them removed, doubled, or changed for others."""
         found = [token.text for token in hours_model.tokens(text.encode())]
-        others = "Mo Jan week off 24 / 7 - , ; : [ ] 0 5 40 2024 1700 10:00 25:00 30:00 49:00 PH + || day".split()
+        others = "Mo Jan week off 24 / 7 - , ; : [ ] 0 5 40 2024 1700 10:00 25:00 30:00 49:00 PH + || day 2026+ 2025/8 2025/2 46-12".split()
         for _ in range(self.randint(1, 2)):
             at = self.randrange(len(found) + 1)
             found[at:at + self.randint(0, 1)] = self.choices(others, k=self.randint(0, 2))

@@ -16,12 +16,13 @@ WEEKDAYS = "Mo Tu We Th Fr Sa Su".split()
 OPENS = {"open": True, "on": True, "closed": False, "off": False}
 NOT_READ = "PH SH easter sunrise sunset dawn dusk unknown day days".split()
 LONGEST = 36600
+LAST_YEAR, MOST_YEARS = 2799, 128
 TOKENS = [
     (rb"[A-Za-z]+", "word"),
     (rb"[0-9]{2}:[0-9]{2}(?![0-9])(?!:[0-9])", "time"),
     (rb"[0-9]{1,4}(?![0-9])(?!:[0-9])", "number"),
-    (rb"[,;/:\[\]-]", "sign"),
-    (rb'\+|\|\||"[^"]*"?', "not read"),
+    (rb"[,;/:\[\]+-]", "sign"),
+    (rb'\|\||"[^"]*"?', "not read"),
 ]
 
 
@@ -96,7 +97,7 @@ class Reader:
     def refuse(self):
         if self.at == len(self.found):
             raise Fault("Incomplete", self.end)
-        raise Fault("Unsupported" if self.peek() == "not read" else "Unexpected", self.found[self.at].place)
+        raise Fault("Unsupported" if self.peek() in ("not read", "+") else "Unexpected", self.found[self.at].place)
 
     def check(self, holds):
         """The token that was read last is in its range."""
@@ -122,7 +123,7 @@ class Reader:
         return int(text)
 
     def year(self):
-        return self.number([4], 1800, 2799)
+        return self.number([4], 1800, LAST_YEAR)
 
     def is_year(self, ahead):
         """Whether a number of four digits follows."""
@@ -194,10 +195,27 @@ class Reader:
         return [(kind, first, last, step)]
 
     def years(self):
-        return self.stepped("years", self.year)
+        """Without a last year, years go on to that of the calendar. There are at most 128 with a step."""
+        if self.peek(1) not in ("+", "/"):
+            return self.stepped("years", self.year)
+        first, sign = self.year(), self.take(self.peek())
+        step = self.number([1, 2, 3, 4], 1, 9999) if sign == "/" else 1
+        self.check(sign == "+" or len(range(first, LAST_YEAR + 1, step)) <= MOST_YEARS)
+        return [("years", first, LAST_YEAR, step)]
+
+    def week(self):
+        return self.number([1, 2], 1, 53)
 
     def weeks(self):
-        return self.stepped("weeks", lambda: self.number([1, 2], 1, 53))
+        """Ranges of weeks. One without a step may go over New Year."""
+        at = self.at
+        first = last = self.week()
+        if self.goes("-"):
+            last = self.week()
+            if last < first:
+                return [("weeks", first, 53, 1), ("weeks", 1, last, 1)]
+        self.at = at
+        return self.stepped("weeks", self.week)
 
     def month_days(self):
         year = self.year() if self.peek() == "number" else None
@@ -221,7 +239,7 @@ class Reader:
         month = self.month() if given or self.peek() == "month" else first.month
         following = (month, int(self.text()) if self.peek() == "number" else 0) < (first.month, first.day)
         last = self.day(given or year + following, month)
-        self.check(first <= last and (last - first).days < LONGEST and last.year <= 2799)
+        self.check(first <= last and (last - first).days < LONGEST and last.year <= LAST_YEAR)
         return last
 
     def weekdays(self):

@@ -131,6 +131,7 @@ misfit_kind : (text : List ℕ) (r : Reading) (given : List Piece) (is : IsReadi
 misfit_kind text r given is (token.Number v d) = number_kind text r given is v d (takes_number r.behind) refl
 misfit_kind text r given is (token.Time h m) = time_kind text r given is h m (takes_time r.behind) refl
 misfit_kind text r given is token.Unsupported = refl
+misfit_kind text r given is token.Plus = refl
 misfit_kind text r given is t = λ fits. absurd cc
 
 pub misfits : (text : List ℕ) (r : Reading) (given : List Piece) (t : Token) → IsReading text r given

@@ -16,7 +16,8 @@ use Rattle.gtd_hours_grammar.specs.declared.place.Place.TheVariants as places
 use Rattle.gtd_hours_grammar.specs.Grammar.{Demand, Follow, IsMonthDays, IsPlaces, IsWeekdays, IsWeeks, IsYears, by_place}
 use Rattle.gtd_hours_grammar.specs.Grammar.{date_before, dated, goes_on, may_break_off, number, precedes, so_far}
 use Rattle.gtd_hours_grammar.specs.Grammar.{time, unfinished}
-use Rattle.gtd_hours_grammar.specs.Pieces.{IsDay, IsLastDay, IsRange, IsWrittenDate}
+use Rattle.gtd_hours_grammar.specs.Pieces.{AreBackWeeks, IsDay, IsLastDay, IsRange, IsWrittenDate, final_week, final_year}
+use Rattle.gtd_hours_grammar.specs.Pieces.{week_one}
 use Rattle.gtd_hours_grammar.specs.Places.{From, Rest}
 use Rattle.gtd_hours_grammar.specs.Sound.{IsLastYear, IsPlace, takes_number, takes_time}
 use Rattle.gtd_hours_grammar.proofs.EndingsOfParts.{a_date, a_month, a_month_day, a_year, after_number, another, behind}
@@ -106,6 +107,13 @@ week_range_then d a b p ts h follow =
     then d stage.Weeks (piece.Weeks a (Some b) None ∷ p) p (number a ∷ token.Dash ∷ number b ∷ ts) ts
     (IsWeeks.range a b refl refl h) follow
 
+week_back_then : (d : Demand) (a b : Digits) (p : List Piece) (ts : List TokenKind) → AreBackWeeks a b
+    → Follow d stage.Weeks p ts → Rest d (places.WeekBack a b)
+    (piece.Weeks a (Some final_week) None ∷ piece.Weeks week_one (Some b) None ∷ p) ts
+week_back_then d a b p ts h follow =
+    then d stage.Weeks (piece.Weeks a (Some final_week) None ∷ piece.Weeks week_one (Some b) None ∷ p) p
+    (number a ∷ token.Dash ∷ number b ∷ ts) ts (IsWeeks.back a b refl refl h) follow
+
 weekday_then : (d : Demand) (k : ℕ) (p : List Piece) (ts : List TokenKind) → IsWeekday k → Follow d stage.Weekdays p ts
     → Rest d (places.Weekday k) (piece.Weekdays k None ∷ p) ts
 weekday_then d k p ts h follow =
@@ -130,6 +138,18 @@ to_step d a b h =
     then d stage.Years (piece.Years a (Some b) (Some digit_one) ∷ [])
     [] (number a ∷ token.Dash ∷ number b ∷ token.Slash ∷ token.Number 1 1 ∷ []) []
     (IsYears.every a b digit_one refl refl h (omega arith, omega arith, omega arith, omega arith)) (done d stage.Years refl)
+
+abbrev pub digit_eight : Digits
+digit_eight = record { value = 8; count = 1 }
+
+-- each eighth year
+to_eighth : (d : Demand) (n : Digits) → IsYearNumber n
+    → Rest d (places.YearSlash n) (piece.Years n (Some final_year) (Some digit_eight) ∷ []) (token.Number 8 1 ∷ [])
+to_eighth d n h =
+    then d stage.Years (piece.Years n (Some final_year) (Some digit_eight) ∷ [])
+    [] (number n ∷ token.Slash ∷ token.Number 8 1 ∷ []) []
+    (IsYears.every_on n digit_eight refl refl h
+    ((omega arith, omega arith, omega arith, omega arith), omega (arith, h.1))) (done d stage.Years refl)
 
 to_week : (d : Demand) (n : Digits) → IsWeekNumber n
     → Rest d (places.WeekDash n) (piece.Weeks n (Some n) None ∷ []) (number n ∷ [])
@@ -396,6 +416,7 @@ ending (places.YearDash n) h = record { p = _; ts = _; rest = to_year so_far n h
 ending (places.YearRange a b) h =
     record { p = _; ts = []; rest = year_range_then so_far a b [] [] h (done so_far stage.Years refl) }
 ending (places.YearStep a b) h = record { p = _; ts = _; rest = to_step so_far a b h }
+ending (places.YearSlash n) h = record { p = _; ts = _; rest = to_eighth so_far n h }
 ending (places.DateYear n) h = record {
   p = _;
   ts = after_number;
@@ -415,6 +436,10 @@ ending (places.WeekDash n) h = record { p = _; ts = _; rest = to_week so_far n h
 ending (places.WeekRange a b) h =
     record { p = _; ts = []; rest = week_range_then so_far a b [] [] h (done so_far stage.Weeks refl) }
 ending (places.WeekStep a b) h = record { p = _; ts = _; rest = to_week_step so_far a b h }
+ending (places.WeekBack a b) h =
+    record { p = _; ts = []; rest = week_back_then so_far a b [] [] h (done so_far stage.Weeks refl) }
+ending (places.WeekAgain a b) h =
+    record { p = _; ts = []; rest = week_back_then so_far a b [] [] h (done so_far stage.Weeks refl) }
 ending (places.Weekday k) h =
     record { p = _; ts = []; rest = weekday_then so_far k [] [] h (done so_far stage.Weekdays refl) }
 ending (places.WeekdayDash k) h = record { p = _; ts = _; rest = to_weekday so_far k h }
@@ -445,6 +470,7 @@ number_ending (places.YearRange a b) h e =
     dated_on (places.YearRange a b) _
     (year_range_then by_place a b dated_next dated_tokens h (dated_after by_place stage.Years refl))
 number_ending (places.YearStep a b) h e = record { v = 1; d = 1; p = _; ts = []; rest = to_step by_place a b h }
+number_ending (places.YearSlash n) h e = record { v = 8; d = 1; p = _; ts = []; rest = to_eighth by_place n h }
 number_ending (places.DateYear n) h e = absurd cc
 number_ending (places.DateYearMonth n m) h e =
     record { v = 1; d = 1; p = _; ts = []; rest = to_day_of by_place n m h.one h.other }
@@ -459,6 +485,8 @@ number_ending (places.Week n) h e = absurd cc
 number_ending (places.WeekDash n) h e = record { v = n.value; d = n.count; p = _; ts = []; rest = to_week by_place n h }
 number_ending (places.WeekRange a b) h e = absurd cc
 number_ending (places.WeekStep a b) h e = record { v = 1; d = 1; p = _; ts = []; rest = to_week_step by_place a b h }
+number_ending (places.WeekBack a b) h e = absurd cc
+number_ending (places.WeekAgain a b) h e = absurd cc
 number_ending (places.Weekday k) h e = absurd cc
 number_ending (places.WeekdayDash k) h e = absurd cc
 number_ending (places.Bracket k) h e =
@@ -495,6 +523,7 @@ time_ending (places.YearRange a b) h e =
     timed_on (places.YearRange a b) _
     (year_range_then by_place a b timed_next timed_tokens h (times_after by_place stage.Years refl))
 time_ending (places.YearStep a b) h e = absurd cc
+time_ending (places.YearSlash n) h e = absurd cc
 time_ending (places.DateYear n) h e = absurd cc
 time_ending (places.DateYearMonth n m) h e = absurd cc
 time_ending (places.Month m) h e =
@@ -513,6 +542,12 @@ time_ending (places.WeekRange a b) h e =
     timed_on (places.WeekRange a b) _
     (week_range_then by_place a b timed_next timed_tokens h (times_after by_place stage.Weeks refl))
 time_ending (places.WeekStep a b) h e = absurd cc
+time_ending (places.WeekBack a b) h e =
+    timed_on (places.WeekBack a b) _
+    (week_back_then by_place a b timed_next timed_tokens h (times_after by_place stage.Weeks refl))
+time_ending (places.WeekAgain a b) h e =
+    timed_on (places.WeekAgain a b) _
+    (week_back_then by_place a b timed_next timed_tokens h (times_after by_place stage.Weeks refl))
 time_ending (places.Weekday k) h e =
     timed_on (places.Weekday k) _ (weekday_then by_place k timed_next timed_tokens h (times_after by_place stage.Weekdays refl))
 time_ending (places.WeekdayDash k) h e = absurd cc

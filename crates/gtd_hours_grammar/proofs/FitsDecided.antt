@@ -134,13 +134,14 @@ number_fits places.TwentyFourSlash n = two (cases_eq n.value 7) (cases_eq n.coun
 number_fits (places.YearMonth y m) n = day_fits (Some y) m n
 number_fits (places.YearDash first) n = range IsYearNumber year first n
 number_fits (places.YearStep first last) n = step n
+number_fits (places.YearSlash first) n = two (step n) (below 2799 (first.value + 128 * n.value))
 number_fits (places.DateYearMonth y m) n = day_fits (Some y) m n
 number_fits (places.Month m) n = day_fits None m n
 number_fits (places.DateDash first) n = year_or_day (is_last_year first n) first n
 number_fits (places.DateDashMonth first y m) n =
     ends_range first (last_date.Date (record { year = y; month = m; day = n }))
 number_fits places.WeekWord n = week n
-number_fits (places.WeekDash first) n = range IsWeekNumber week first n
+number_fits (places.WeekDash first) n = week n
 number_fits (places.WeekStep first last) n = step n
 number_fits (places.Bracket k) n = place n
 number_fits (places.BracketDash k) n = place n

@@ -1,6 +1,8 @@
 -- Which moves are right that complete a part of a list.
 use Rattle.std.proofs.Common.{◌≡◌, ℕ, Bool, true, false, Option, Some, None, List, ◌∷◌, IfSome, if◌then◌else◌}
 use Rattle.std.proofs.Common.{refl, subst, sym, arith, rules}
+use Rattle.std.specs.Prelude.{nat_le}
+use Rattle.std.proofs.lemmas.Bool.{leb-false, leb-true}
 use Rattle.gtd_hours.specs.Ranges.{IsMonth, IsWeekday}
 use Rattle.gtd_hours_tokens.specs.declared.token.TokenKind.{TokenKind}
 use Rattle.gtd_hours_tokens.specs.declared.token.TokenKind.TheVariants as token
@@ -14,9 +16,10 @@ use Rattle.gtd_hours_grammar.specs.declared.stage.Stage.TheVariants as stage
 use Rattle.gtd_hours_grammar.specs.declared.place.Place.TheVariants as places
 use Rattle.gtd_hours_grammar.specs.Grammar.{Follow, IsMonthDays, IsPlaces, IsWeekdays, IsWeeks, IsYears, More}
 use Rattle.gtd_hours_grammar.specs.Grammar.{begins_with_date, number}
-use Rattle.gtd_hours_grammar.specs.Pieces.{IsRange, IsWrittenDate}
+use Rattle.gtd_hours_grammar.specs.Pieces.{AreBackWeeks, IsRange, IsWrittenDate, final_week, final_year, week_one}
 use Rattle.gtd_hours_grammar.specs.Sound.{Both, Fits, IsPlace, YearOrDay, is_last_year}
-use Rattle.gtd_hours_grammar.specs.Moves.{clock, complete, take, written, year_or_day}
+use Rattle.gtd_hours_grammar.specs.Moves.{clock, complete, take, week_pair, written, year_or_day}
+use Rattle.gtd_hours_grammar.specs.Terms.{Move}
 use Rattle.gtd_hours_grammar.specs.Runs.{IsGood, from}
 use Rattle.gtd_hours_grammar.proofs.GoodLemmas.{completes, gives, month_days_follow, sign_good, takes_to, token_good}
 use Rattle.gtd_hours_grammar.proofs.GoodLemmas.{years_follow}
@@ -48,6 +51,38 @@ week_range_good a b next sound = record {
   stands = refl;
   nearer = λ h. omega arith;
 }
+
+pub week_back_good : (a b : Digits) (next : Option TokenKind) → AreBackWeeks a b
+    → IsGood (places.WeekBack a b) next (gives (piece.Weeks a (Some final_week) None) (places.WeekAgain a b))
+week_back_good a b next sound = record { leads = λ d p ts rest. rest; stands = sound; nearer = λ h. omega arith }
+
+pub week_again_good : (a b : Digits) (next : Option TokenKind) → AreBackWeeks a b
+    → IsGood (places.WeekAgain a b) next (gives (piece.Weeks week_one (Some b) None) (places.After stage.Weeks))
+week_again_good a b next sound = record {
+  leads = λ d p ts rest. record {
+    later = p;
+    rest = from next ts;
+    one = IsWeeks.back a b refl refl sound;
+    behind = rest;
+  };
+  stands = refl;
+  nearer = λ h. omega arith;
+}
+
+week_pair_by : (a : Digits) (v c : ℕ) (b : Bool) → nat_le a.value v ≡ b → IsWeekNumber (written v c) → IsWeekNumber a
+    → IfSome (if b then take (places.WeekRange a (written v c)) else take (places.WeekBack a (written v c)))
+    (λ move. IsGood (places.WeekDash a) (Some (token.Number v c)) move)
+week_pair_by a v c true e last sound =
+    record { leads = λ d p ts rest. rest; stands = (sound, last, leb-true a.value v e); nearer = λ h. absurd cc }
+week_pair_by a v c false e last sound =
+    record { leads = λ d p ts rest. rest; stands = (sound, last, leb-false a.value v e); nearer = λ h. absurd cc }
+
+pub week_pair_good : (a : Digits) (v c : ℕ) (next : Option TokenKind) (fits : Bool) → next ≡ Some (token.Number v c)
+    → fits ≡ true → (fits ≡ true → Fits (places.WeekDash a) next) → IsWeekNumber a
+    → IfSome (week_pair a (written v c)) (λ move. IsGood (places.WeekDash a) next move)
+week_pair_good a v c next fits same holds fit sound =
+    subst (λ n. IfSome (week_pair a (written v c)) (λ move. IsGood (places.WeekDash a) n move)) (sym same)
+    (week_pair_by a v c (nat_le a.value v) refl (subst (Fits (places.WeekDash a)) same (fit holds)) sound)
 
 pub week_step_good : (a b : Digits) (v c : ℕ) (next : Option TokenKind) (fits : Bool) → next ≡ Some (token.Number v c)
     → fits ≡ true → (fits ≡ true → Fits (places.WeekStep a b) next) → IsRange IsWeekNumber a b
@@ -221,6 +256,50 @@ year_dash_good n next same sound = sign_good (places.Year n) next token.Dash (ta
   stands = sound;
   nearer = λ h. absurd cc;
 })
+
+pub year_slash_good : (n : Digits) (next : Option TokenKind) → next ≡ Some token.Slash → IsYearNumber n
+    → IsGood (places.Year n) next (takes_to (places.YearSlash n))
+year_slash_good n next same sound = sign_good (places.Year n) next token.Slash (takes_to (places.YearSlash n)) same (record {
+  leads = λ d p ts rest. years_follow d stage.Front p (number n ∷ token.Slash ∷ ts) refl refl rest;
+  stands = sound;
+  nearer = λ h. absurd cc;
+})
+
+-- years from one on
+abbrev pub all_years : Digits → Option Digits → Move
+all_years n step = completes (piece.Years n (Some final_year) step) (places.After stage.Years)
+
+pub year_plus_good : (n : Digits) (next : Option TokenKind) → next ≡ Some token.Plus → IsYearNumber n
+    → IsGood (places.Year n) next (all_years n None)
+year_plus_good n next same sound = sign_good (places.Year n) next token.Plus (all_years n None) same (record {
+  leads = λ d p ts rest. years_follow d stage.Front (piece.Years n (Some final_year) None ∷ p) (number n ∷ token.Plus ∷ ts) refl
+      refl (record { later = p; rest = ts; one = IsYears.on n refl refl sound; behind = rest });
+  stands = refl;
+  nearer = λ h. absurd cc;
+})
+
+pub listed_plus_good : (n : Digits) (next : Option TokenKind) → next ≡ Some token.Plus → IsYearNumber n
+    → IsGood (places.ListedYear n) next (all_years n None)
+listed_plus_good n next same sound = sign_good (places.ListedYear n) next token.Plus (all_years n None) same (record {
+  leads = λ d p ts rest. record { later = p; rest = ts; one = IsYears.on n refl refl sound; behind = rest };
+  stands = refl;
+  nearer = λ h. absurd cc;
+})
+
+pub slash_step_good : (n : Digits) (v c : ℕ) (next : Option TokenKind) (fits : Bool) → next ≡ Some (token.Number v c)
+    → fits ≡ true → (fits ≡ true → Fits (places.YearSlash n) next) → IsYearNumber n
+    → IsGood (places.YearSlash n) next (all_years n (Some (written v c)))
+slash_step_good n v c next fits same holds fit sound =
+    token_good (places.YearSlash n) next (token.Number v c) fits (all_years n (Some (written v c))) same holds fit λ few. record {
+      leads = λ d p ts rest. record {
+        later = p;
+        rest = ts;
+        one = IsYears.every_on n (written v c) refl refl sound few;
+        behind = rest;
+      };
+      stands = refl;
+      nearer = λ h. absurd cc;
+    }
 
 -- a year and a month that begin a rule, where no number comes next
 pub year_month_good : (n : Digits) (m : ℕ) (next : Option TokenKind)

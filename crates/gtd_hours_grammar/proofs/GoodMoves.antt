@@ -20,7 +20,9 @@ use Rattle.gtd_hours_grammar.proofs.GoodItems.{date_dash_month_good, date_good, 
 use Rattle.gtd_hours_grammar.proofs.GoodItems.{month_dash_good, month_good, nth_dash_good, nth_good, time_dash_good}
 use Rattle.gtd_hours_grammar.proofs.GoodItems.{week_good, week_range_good, week_step_good, weekday_bracket_good}
 use Rattle.gtd_hours_grammar.proofs.GoodItems.{weekday_dash_good, weekday_good, year_dash_good, year_date_good, year_good}
-use Rattle.gtd_hours_grammar.proofs.GoodItems.{year_month_good, year_range_good, year_step_good}
+use Rattle.gtd_hours_grammar.proofs.GoodItems.{year_month_good, year_range_good, year_step_good, listed_plus_good}
+use Rattle.gtd_hours_grammar.proofs.GoodItems.{slash_step_good, week_again_good, week_back_good, week_pair_good}
+use Rattle.gtd_hours_grammar.proofs.GoodItems.{year_plus_good, year_slash_good}
 use Rattle.gtd_hours_grammar.proofs.GoodRules.{after_colon_good, after_later_good, after_semicolon_good, after_year_good}
 use Rattle.gtd_hours_grammar.proofs.GoodRules.{also_good, always_good, later_closed, later_month, later_open, later_time}
 use Rattle.gtd_hours_grammar.proofs.GoodRules.{later_week, later_weekday, listed_month_good, listed_number_good}
@@ -133,6 +135,8 @@ move_right (places.Year n) (Some (token.Month m)) true h f =
     on (places.Year n) (places.YearMonth n m) (token.Month m) (λ d p ts rest. rest) (record { one = h; other = f refl })
 move_right (places.Year n) (Some (token.Month m)) false h f = record {}
 move_right (places.Year n) (Some token.Dash) fits h f = year_dash_good n (Some token.Dash) refl h
+move_right (places.Year n) (Some token.Slash) fits h f = year_slash_good n (Some token.Slash) refl h
+move_right (places.Year n) (Some token.Plus) fits h f = year_plus_good n (Some token.Plus) refl h
 move_right (places.Year n) next fits h f = year_good n next (λ ts. refl) h
 move_right (places.YearMonth n m) (Some (token.Number v d)) true h f =
     year_date_good n m v d (Some (token.Number v d)) true refl refl f h
@@ -141,7 +145,12 @@ move_right (places.YearMonth n m) next fits h f = year_month_good n m next (λ t
 move_right (places.MonthAfterYear m) next fits h f = month_after_year_good m next h
 move_right (places.ListedYear n) (Some token.Dash) fits h f =
     on (places.ListedYear n) (places.YearDash n) token.Dash (λ d p ts rest. rest) h
+move_right (places.ListedYear n) (Some token.Slash) fits h f =
+    on (places.ListedYear n) (places.YearSlash n) token.Slash (λ d p ts rest. rest) h
+move_right (places.ListedYear n) (Some token.Plus) fits h f = listed_plus_good n (Some token.Plus) refl h
 move_right (places.ListedYear n) next fits h f = listed_year_good n next h
+move_right (places.YearSlash n) (Some (token.Number v d)) true h f =
+    slash_step_good n v d (Some (token.Number v d)) true refl refl f h
 move_right (places.YearDash n) (Some (token.Number v d)) true h f =
     on (places.YearDash n) (places.YearRange n (written v d)) (token.Number v d) (λ e p ts rest. rest) (f refl)
 move_right (places.YearRange a b) (Some token.Slash) fits h f =
@@ -185,7 +194,9 @@ move_right (places.Week n) (Some token.Dash) fits h f =
     on (places.Week n) (places.WeekDash n) token.Dash (λ d p ts rest. rest) h
 move_right (places.Week n) next fits h f = week_good n next h
 move_right (places.WeekDash n) (Some (token.Number v d)) true h f =
-    on (places.WeekDash n) (places.WeekRange n (written v d)) (token.Number v d) (λ e p ts rest. rest) (f refl)
+    week_pair_good n v d (Some (token.Number v d)) true refl refl f h
+move_right (places.WeekBack a b) next fits h f = week_back_good a b next h
+move_right (places.WeekAgain a b) next fits h f = week_again_good a b next h
 move_right (places.WeekRange a b) (Some token.Slash) fits h f =
     on (places.WeekRange a b) (places.WeekStep a b) token.Slash (λ d p ts rest. rest) h
 move_right (places.WeekRange a b) next fits h f = week_range_good a b next h

@@ -8,6 +8,7 @@ use Rattle.gtd_hours_grammar.specs.declared.piece.Piece.TheVariants as piece
 use Rattle.gtd_hours_grammar.specs.declared.stage.Stage.TheVariants as stage
 use Rattle.gtd_hours_grammar.specs.declared.place.Place.TheVariants as places
 use Rattle.gtd_hours_grammar.specs.Grammar.{Demand, precedes}
+use Rattle.gtd_hours_grammar.specs.Pieces.{final_week, week_one}
 use Rattle.gtd_hours_grammar.specs.Sound.{takes_number, takes_time}
 use Rattle.gtd_hours_grammar.specs.Moves.{next_move, give, take, complete, written, clock}
 use Rattle.gtd_hours_grammar.specs.Runs.{Runs, awaits_day, is_after, left}
@@ -83,6 +84,13 @@ no_number demand (places.Week n) p v d ts e =
     given_number demand (places.Week n) stage.Weeks (piece.Weeks n None None) p v d ts refl refl (λ fits. refl)
 no_number demand (places.WeekRange a b) p v d ts e =
     given_number demand (places.WeekRange a b) stage.Weeks (piece.Weeks a (Some b) None) p v d ts refl refl (λ fits. refl)
+no_number demand (places.WeekBack a b) p v d ts e = λ go.
+    let again = behind_piece demand (places.WeekBack a b) (places.WeekAgain a b) (piece.Weeks a (Some final_week) None) p
+    (token.Number v d) ts refl (λ fits. refl) go in
+    given_number demand (places.WeekAgain a b) stage.Weeks (piece.Weeks week_one (Some b) None) again.q v d ts refl refl
+    (λ fits. refl) again.runs
+no_number demand (places.WeekAgain a b) p v d ts e =
+    given_number demand (places.WeekAgain a b) stage.Weeks (piece.Weeks week_one (Some b) None) p v d ts refl refl (λ fits. refl)
 no_number demand (places.Weekday k) p v d ts e =
     given_number demand (places.Weekday k) stage.Weekdays (piece.Weekdays k None) p v d ts refl refl (λ fits. refl)
 no_number demand (places.WeekdayDash k) p v d ts e =
@@ -103,6 +111,7 @@ time_refused places.TwentyFour h m fits e f g = refl
 time_refused places.TwentyFourSlash h m fits e f g = refl
 time_refused (places.YearDash n) h m fits e f g = refl
 time_refused (places.YearStep a b) h m fits e f g = refl
+time_refused (places.YearSlash n) h m fits e f g = refl
 time_refused (places.DateYear n) h m fits e f g = refl
 time_refused (places.DateYearMonth n k) h m fits e f g = refl
 time_refused (places.MonthDash k) h m fits e f g = refl

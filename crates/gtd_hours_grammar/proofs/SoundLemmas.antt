@@ -1,6 +1,6 @@
 -- The numbers and times of the pieces that moves complete are in range.
-use Rattle.std.proofs.Common.{◌≡◌, Bool, true, false, Option, Some, refl, sym, subst}
-use Rattle.std.specs.Prelude.{IfSome, ◌&&◌, ◌==◌, if◌then◌else◌}
+use Rattle.std.proofs.Common.{◌≡◌, Bool, true, false, Option, Some, None, refl, sym, subst, arith}
+use Rattle.std.specs.Prelude.{IfSome, ◌&&◌, ◌==◌, if◌then◌else◌, nat_le}
 use Rattle.gtd_hours.specs.declared.hours.Link.TheVariants as link
 use Rattle.gtd_hours_tokens.specs.declared.token.TokenKind.TheVariants as token
 use Rattle.gtd_hours_parts.specs.declared.digits.Digits.{Digits}
@@ -11,8 +11,9 @@ use Rattle.gtd_hours_grammar.specs.declared.piece.WrittenDate.{WrittenDate}
 use Rattle.gtd_hours_grammar.specs.declared.stage.Stage.TheVariants as stage
 use Rattle.gtd_hours_grammar.specs.declared.place.Place.TheVariants as places
 use Rattle.gtd_hours_grammar.specs.Moves.{complete, give, later, listed, listed_number, next_goes_on, next_move, take, when}
-use Rattle.gtd_hours_grammar.specs.Moves.{written}
-use Rattle.gtd_hours_grammar.specs.Pieces.{IsWrittenDate}
+use Rattle.gtd_hours_grammar.specs.Moves.{week_pair, written}
+use Rattle.gtd_hours_parts.specs.Numbers.{IsYearNumber}
+use Rattle.gtd_hours_grammar.specs.Pieces.{IsRange, IsWrittenDate, final_year}
 use Rattle.gtd_hours_grammar.specs.Sound.{Fits, IsPlace, YearOrDay, is_last_year}
 use Rattle.gtd_hours_grammar.specs.SoundPieces.{IsPiece}
 use Rattle.gtd_hours_grammar.specs.Steps.{IsMove}
@@ -74,6 +75,13 @@ year_or_day_sound : (x : WrittenDate) (n : Digits) (b : Bool) → YearOrDay b x 
 year_or_day_sound x n true fits h = record {}
 year_or_day_sound x n false fits h = (h, fits)
 
+years_on : (n : Digits) → IsYearNumber n → IsRange IsYearNumber n final_year
+years_on n h = (h, (refl, omega arith, omega arith), h.2)
+
+pair_taken : (b : Bool) (to there : Place) → IsSound (if b then take to else take there)
+pair_taken true to there = record {}
+pair_taken false to there = record {}
+
 pub move_sound : (at : Place) (next : Option TokenKind) (fits : Bool) → IsPlace at → (fits ≡ true → Fits at next)
     → IsSound (next_move at next fits)
 move_sound places.Front (Some (token.Number v d)) fits h f =
@@ -89,11 +97,17 @@ move_sound (places.Comma s) next fits h f =
     (listed_sound s next fits)
 move_sound (places.Year n) (Some (token.Month m)) fits h f = if_taken _ _
 move_sound (places.Year n) (Some token.Dash) fits h f = record {}
+move_sound (places.Year n) (Some token.Slash) fits h f = record {}
+move_sound (places.Year n) (Some token.Plus) fits h f = (years_on n h, record {})
 move_sound (places.Year n) next fits h f = h
 move_sound (places.YearMonth n m) (Some (token.Number v d)) fits h f = if_taken _ _
 move_sound (places.YearMonth n m) next fits h f = h.one
 move_sound (places.ListedYear n) (Some token.Dash) fits h f = record {}
+move_sound (places.ListedYear n) (Some token.Slash) fits h f = record {}
+move_sound (places.ListedYear n) (Some token.Plus) fits h f = (years_on n h, record {})
 move_sound (places.ListedYear n) next fits h f = h
+move_sound (places.YearSlash n) (Some (token.Number v d)) true h f = (years_on n h, (f refl).0)
+move_sound (places.YearSlash n) (Some (token.Number v d)) false h f = record {}
 move_sound (places.YearRange a b) (Some token.Slash) fits h f = record {}
 move_sound (places.YearRange a b) next fits h f = (h, record {})
 move_sound (places.YearStep a b) (Some (token.Number v d)) true h f = (h, f refl)
@@ -116,6 +130,10 @@ move_sound (places.WeekRange a b) (Some token.Slash) fits h f = record {}
 move_sound (places.WeekRange a b) next fits h f = (h, record {})
 move_sound (places.WeekStep a b) (Some (token.Number v d)) true h f = (h, f refl)
 move_sound (places.WeekStep a b) (Some (token.Number v d)) false h f = record {}
+move_sound (places.WeekBack a b) next fits h f =
+    ((h.0, (omega arith, omega arith, omega arith, omega arith), omega (arith, h.0.3)), record {})
+move_sound (places.WeekAgain a b) next fits h f =
+    (((omega arith, omega arith, omega arith, omega arith), h.1, omega (arith, h.1.2)), record {})
 move_sound (places.Weekday k) (Some token.Dash) fits h f = record {}
 move_sound (places.Weekday k) (Some token.OpenBracket) fits h f = record {}
 move_sound (places.Weekday k) next fits h f = (h, record {})
@@ -138,7 +156,8 @@ move_sound (places.DateYearMonth n m) (Some (token.Number v d)) fits h f = if_ta
 move_sound (places.DateDash x) (Some (token.Month m)) fits h f = if_taken _ _
 move_sound (places.DateDashYear x n) (Some (token.Month m)) fits h f = if_taken _ _
 move_sound places.WeekWord (Some (token.Number v d)) fits h f = if_taken _ _
-move_sound (places.WeekDash n) (Some (token.Number v d)) fits h f = if_taken _ _
+move_sound (places.WeekDash n) (Some (token.Number v d)) fits h f =
+    if_any fits (week_pair n (written v d)) (pair_taken (nat_le n.value v) _ _)
 move_sound (places.Bracket k) (Some (token.Number v d)) fits h f = if_taken _ _
 move_sound (places.Bracket k) (Some token.Dash) fits h f = record {}
 move_sound (places.BracketEnd k) (Some token.Comma) fits h f = record {}

@@ -36,6 +36,7 @@ pub record FitsByPlace (before : List TokenKind) (t : TokenKind) : Type 0 where
 -- what is wrong with the first token that does not go on
 abbrev pub IsMisfitKind : List TokenKind → TokenKind → FaultKind → Type 0
 IsMisfitKind before token.Unsupported kind = kind ≡ fault.Unsupported
+IsMisfitKind before token.Plus kind = kind ≡ fault.Unsupported
 IsMisfitKind before t fault.Range = FitsByPlace before t
 IsMisfitKind before t fault.Unexpected = FitsByPlace before t → ⊥
 IsMisfitKind before t kind = ⊥

@@ -12,7 +12,8 @@ use Rattle.gtd_hours_grammar.specs.declared.piece.LastDate.TheVariants as last_d
 use Rattle.gtd_hours_grammar.specs.Terms.{TokenKind, Piece, Stage}
 use Rattle.gtd_hours_grammar.specs.declared.piece.Piece.TheVariants as piece
 use Rattle.gtd_hours_grammar.specs.declared.stage.Stage.TheVariants as stage
-use Rattle.gtd_hours_grammar.specs.Pieces.{AreWrittenTimes, EndsRange, IsRange, IsWrittenDate}
+use Rattle.gtd_hours_grammar.specs.Pieces.{AreBackWeeks, AreFewYears, AreWrittenTimes, EndsRange, IsRange, IsWrittenDate}
+use Rattle.gtd_hours_grammar.specs.Pieces.{final_week, final_year, week_one}
 
 -- What is asked of tokens: that they are a text in full; that they can be its beginning so far, where a text that has come to
 -- the last date of a range is judged at that date's day; or the same, where a number that comes last need only fit by its place.
@@ -52,7 +53,7 @@ pub record Listed (IsOne : Text) (p : List Piece) (ts : List TokenKind) (later :
 
 -- ---- what stands in lists
 
--- `2024`, `2024-2030`, `2024-2030/2`
+-- `2024`, `2024-2030`, `2024-2030/2`, `2024+`, `2024/8`: without a last year the years go on to the last one of the calendar.
 pub data IsYears (p : List Piece) (ts : List TokenKind) (later : List Piece) (rest : List TokenKind) : Type 0 where
   one : (year : Digits) → ts ≡ number year ∷ rest → p ≡ piece.Years year None None ∷ later → IsYearNumber year
       → IsYears p ts later rest
@@ -62,8 +63,13 @@ pub data IsYears (p : List Piece) (ts : List TokenKind) (later : List Piece) (re
       → ts ≡ number first ∷ token.Dash ∷ number last ∷ token.Slash ∷ number step ∷ rest
       → p ≡ piece.Years first (Some last) (Some step) ∷ later → IsRange IsYearNumber first last → IsStepNumber step
       → IsYears p ts later rest
+  on : (first : Digits) → ts ≡ number first ∷ token.Plus ∷ rest → p ≡ piece.Years first (Some final_year) None ∷ later
+      → IsYearNumber first → IsYears p ts later rest
+  every_on : (first step : Digits) → ts ≡ number first ∷ token.Slash ∷ number step ∷ rest
+      → p ≡ piece.Years first (Some final_year) (Some step) ∷ later → IsYearNumber first → AreFewYears first step
+      → IsYears p ts later rest
 
--- `10`, `10-20`, `10-20/2`
+-- `10`, `10-20`, `10-20/2`, `46-12`: a range that goes back is that to week 53 and that from week 1 on.
 pub data IsWeeks (p : List Piece) (ts : List TokenKind) (later : List Piece) (rest : List TokenKind) : Type 0 where
   one : (week : Digits) → ts ≡ number week ∷ rest → p ≡ piece.Weeks week None None ∷ later → IsWeekNumber week
       → IsWeeks p ts later rest
@@ -73,6 +79,9 @@ pub data IsWeeks (p : List Piece) (ts : List TokenKind) (later : List Piece) (re
       → ts ≡ number first ∷ token.Dash ∷ number last ∷ token.Slash ∷ number step ∷ rest
       → p ≡ piece.Weeks first (Some last) (Some step) ∷ later → IsRange IsWeekNumber first last → IsStepNumber step
       → IsWeeks p ts later rest
+  back : (first last : Digits) → ts ≡ number first ∷ token.Dash ∷ number last ∷ rest
+      → p ≡ piece.Weeks first (Some final_week) None ∷ piece.Weeks week_one (Some last) None ∷ later
+      → AreBackWeeks first last → IsWeeks p ts later rest
 
 -- the tokens of a month, after a year if there is one, and what follows them
 abbrev pub dated : Option Digits → ℕ → List TokenKind → List TokenKind

@@ -14,4 +14,5 @@ abbrev pub misfit_of : Place → TokenKind → FaultKind
 misfit_of place (token.Number value digits) = range_if (takes_number place)
 misfit_of place (token.Time hour minute) = range_if (takes_time place)
 misfit_of place token.Unsupported = fault.Unsupported
+misfit_of place token.Plus = fault.Unsupported
 misfit_of place t = fault.Unexpected

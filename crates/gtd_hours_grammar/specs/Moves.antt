@@ -1,6 +1,6 @@
 -- Which move a token, or the end of the text, makes at a place: the table that the code goes by. Whether a number, a time, a
 -- month or a weekday fits next is given.
-use Rattle.std.specs.Prelude.{ℕ, Bool, true, false, ◌&&◌, ◌==◌, if◌then◌else◌, Option, Some, None}
+use Rattle.std.specs.Prelude.{ℕ, nat_le, Bool, true, false, ◌&&◌, ◌==◌, if◌then◌else◌, Option, Some, None}
 use Rattle.gtd_hours.specs.declared.hours.Link.TheVariants as link
 use Rattle.gtd_hours_tokens.specs.declared.token.TokenKind.TheVariants as token
 use Rattle.gtd_hours_parts.specs.declared.digits.Digits.{Digits}
@@ -12,6 +12,7 @@ use Rattle.gtd_hours_grammar.specs.declared.piece.Piece.TheVariants as piece
 use Rattle.gtd_hours_grammar.specs.declared.stage.Stage.TheVariants as stage
 use Rattle.gtd_hours_grammar.specs.declared.place.Place.TheVariants as places
 use Rattle.gtd_hours_grammar.specs.Grammar.{goes_on, precedes}
+use Rattle.gtd_hours_grammar.specs.Pieces.{final_week, final_year, week_one}
 use Rattle.gtd_hours_grammar.specs.Sound.{is_last_year}
 
 abbrev pub written : ℕ → ℕ → Digits
@@ -100,9 +101,15 @@ always next fits = None
 
 -- ---- years
 
+-- the years from one on
+abbrev pub years_on : Digits → Option Digits → Option Move
+years_on n step = complete (piece.Years n (Some final_year) step) (places.After stage.Years)
+
 abbrev pub year : Digits → Option TokenKind → Bool → Option Move
 year n (Some (token.Month m)) fits = when fits (take (places.YearMonth n m))
 year n (Some token.Dash) fits = take (places.YearDash n)
+year n (Some token.Slash) fits = take (places.YearSlash n)
+year n (Some token.Plus) fits = years_on n None
 year n next fits = give (piece.Years n None None) (places.After stage.Years)
 
 abbrev pub year_month : Digits → ℕ → Option TokenKind → Bool → Option Move
@@ -112,6 +119,8 @@ year_month n m next fits = give (piece.Years n None None) (places.MonthAfterYear
 
 abbrev pub listed_year : Digits → Option TokenKind → Option Move
 listed_year n (Some token.Dash) = take (places.YearDash n)
+listed_year n (Some token.Slash) = take (places.YearSlash n)
+listed_year n (Some token.Plus) = years_on n None
 listed_year n next = give (piece.Years n None None) (places.After stage.Years)
 
 abbrev pub year_dash : Digits → Option TokenKind → Bool → Option Move
@@ -126,6 +135,10 @@ abbrev pub year_step : Digits → Digits → Option TokenKind → Bool → Optio
 year_step a b (Some (token.Number v d)) fits =
     when fits (complete (piece.Years a (Some b) (Some (written v d))) (places.After stage.Years))
 year_step a b next fits = None
+
+abbrev pub year_slash : Digits → Option TokenKind → Bool → Option Move
+year_slash n (Some (token.Number v d)) fits = when fits (years_on n (Some (written v d)))
+year_slash n next fits = None
 
 -- ---- month days
 
@@ -183,13 +196,24 @@ abbrev pub week : Digits → Option TokenKind → Option Move
 week n (Some token.Dash) = take (places.WeekDash n)
 week n next = give (piece.Weeks n None None) (places.After stage.Weeks)
 
+-- from one week to another, which may be before it
+abbrev pub week_pair : Digits → Digits → Option Move
+week_pair a b = if nat_le a.value b.value then take (places.WeekRange a b) else take (places.WeekBack a b)
+
 abbrev pub week_dash : Digits → Option TokenKind → Bool → Option Move
-week_dash n (Some (token.Number v d)) fits = when fits (take (places.WeekRange n (written v d)))
+week_dash n (Some (token.Number v d)) fits = when fits (week_pair n (written v d))
 week_dash n next fits = None
 
 abbrev pub week_range : Digits → Digits → Option TokenKind → Option Move
 week_range a b (Some token.Slash) = take (places.WeekStep a b)
 week_range a b next = give (piece.Weeks a (Some b) None) (places.After stage.Weeks)
+
+-- the weeks to the last one, and those from the first one on
+abbrev pub week_back : Digits → Digits → Option Move
+week_back a b = give (piece.Weeks a (Some final_week) None) (places.WeekAgain a b)
+
+abbrev pub week_again : Digits → Option Move
+week_again b = give (piece.Weeks week_one (Some b) None) (places.After stage.Weeks)
 
 abbrev pub week_step : Digits → Digits → Option TokenKind → Bool → Option Move
 week_step a b (Some (token.Number v d)) fits =
@@ -256,6 +280,7 @@ next_move (places.ListedYear n) next fits = listed_year n next
 next_move (places.YearDash n) next fits = year_dash n next fits
 next_move (places.YearRange a b) next fits = year_range a b next
 next_move (places.YearStep a b) next fits = year_step a b next fits
+next_move (places.YearSlash n) next fits = year_slash n next fits
 next_move (places.DateYear n) next fits = date_year n next fits
 next_move (places.DateYearMonth n m) next fits = date_year_month n m next fits
 next_move (places.Month m) next fits = month m next fits
@@ -269,6 +294,8 @@ next_move (places.Week n) next fits = week n next
 next_move (places.WeekDash n) next fits = week_dash n next fits
 next_move (places.WeekRange a b) next fits = week_range a b next
 next_move (places.WeekStep a b) next fits = week_step a b next fits
+next_move (places.WeekBack a b) next fits = week_back a b
+next_move (places.WeekAgain a b) next fits = week_again b
 next_move (places.Weekday k) next fits = weekday k next
 next_move (places.WeekdayDash k) next fits = weekday_dash k next fits
 next_move (places.Bracket k) next fits = bracket k next fits
@@ -285,6 +312,7 @@ next_move (places.Comma s) next fits = comma s next fits
 abbrev pub rank : Place → ℕ
 rank (places.YearMonth n m) = 3
 rank (places.MonthAfterYear m) = 2
+rank (places.WeekBack a b) = 2
 rank places.Front = 0
 rank (places.After s) = 0
 rank (places.BracketEnd k) = 0

@@ -1,9 +1,9 @@
 -- Which written numbers and times stand together in one piece of a text of opening hours.
-use Rattle.std.specs.Prelude.{ℕ, ◌≤◌, Option, Some, None, IfSome}
+use Rattle.std.specs.Prelude.{ℕ, ◌≤◌, ◌<◌, ◌+◌, ◌*◌, Option, Some, None, IfSome}
 use Rattle.gtd_hours.specs.Ranges.{IsTimeRange}
 use Rattle.gtd_hours_parts.specs.declared.digits.Digits.{Digits}
 use Rattle.gtd_hours_parts.specs.declared.clock.ClockTime.{ClockTime}
-use Rattle.gtd_hours_parts.specs.Numbers.{IsYearNumber}
+use Rattle.gtd_hours_parts.specs.Numbers.{IsStepNumber, IsWeekNumber, IsYearNumber}
 use Rattle.gtd_hours_parts.specs.Dates.{EndsOn, IsDayOfYear, IsWrittenDay, last_year}
 use Rattle.gtd_hours_parts.specs.Times.{IsBegin, IsEnd, minute_of}
 use Rattle.gtd_hours_grammar.specs.declared.piece.WrittenDate.{WrittenDate}
@@ -13,6 +13,24 @@ use Rattle.gtd_hours_grammar.specs.declared.piece.LastDate.TheVariants as last_d
 -- two numbers of a kind, the second not before the first
 abbrev pub IsRange : (Digits → Type 0) → Digits → Digits → Type 0
 IsRange Is first last = Is first × Is last × (first.value ≤ last.value)
+
+-- the last year of the calendar that is computed with, and the first and the last week
+abbrev pub final_year : Digits
+final_year = record { value = 2799; count = 4 }
+
+abbrev pub week_one : Digits
+week_one = record { value = 1; count = 1 }
+
+abbrev pub final_week : Digits
+final_week = record { value = 53; count = 2 }
+
+-- every so many years from one to the last of the calendar: at most 128 of them, since a domain holds no more
+abbrev pub AreFewYears : Digits → Digits → Type 0
+AreFewYears first step = IsStepNumber step × (2799 < first.value + 128 * step.value)
+
+-- two weeks, the second before the first
+abbrev pub AreBackWeeks : Digits → Digits → Type 0
+AreBackWeeks first last = IsWeekNumber first × IsWeekNumber last × (last.value < first.value)
 
 -- a day that the month has: in that year, or in leap years if no year is written
 abbrev pub IsDay : Option Digits → ℕ → Digits → Type 0

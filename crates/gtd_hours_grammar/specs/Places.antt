@@ -1,11 +1,12 @@
 -- What follows behind a place of the reading: the grammar from there on. The tokens of the part that is not finished are put
 -- before those that follow.
-use Rattle.std.specs.Prelude.{List, ℕ, ◌∷◌}
+use Rattle.std.specs.Prelude.{List, ℕ, ◌∷◌, Some, None}
 use Rattle.gtd_hours_tokens.specs.declared.token.TokenKind.TheVariants as token
 use Rattle.gtd_hours_grammar.specs.Terms.{TokenKind, Piece, Stage, Place}
 use Rattle.gtd_hours_grammar.specs.declared.piece.Piece.TheVariants as piece
 use Rattle.gtd_hours_grammar.specs.declared.stage.Stage.TheVariants as stage
 use Rattle.gtd_hours_grammar.specs.declared.place.Place.TheVariants as places
+use Rattle.gtd_hours_grammar.specs.Pieces.{final_week}
 use Rattle.gtd_hours_grammar.specs.Grammar.{Demand, Follow, IsOne, IsPlaces, Listed, More, date_before, dated, number, time}
 
 -- the rest behind one of a list
@@ -47,6 +48,7 @@ Rest d (places.ListedYear n) p ts = From d stage.Years p (number n ∷ ts)
 Rest d (places.YearDash n) p ts = From d stage.Years p (number n ∷ token.Dash ∷ ts)
 Rest d (places.YearRange a b) p ts = From d stage.Years p (number a ∷ token.Dash ∷ number b ∷ ts)
 Rest d (places.YearStep a b) p ts = From d stage.Years p (number a ∷ token.Dash ∷ number b ∷ token.Slash ∷ ts)
+Rest d (places.YearSlash n) p ts = From d stage.Years p (number n ∷ token.Slash ∷ ts)
 Rest d (places.DateYear n) p ts = From d stage.MonthDays p (number n ∷ ts)
 Rest d (places.DateYearMonth n m) p ts = From d stage.MonthDays p (number n ∷ token.Month m ∷ ts)
 Rest d (places.Month m) p ts = From d stage.MonthDays p (token.Month m ∷ ts)
@@ -60,6 +62,9 @@ Rest d (places.Week n) p ts = From d stage.Weeks p (number n ∷ ts)
 Rest d (places.WeekDash n) p ts = From d stage.Weeks p (number n ∷ token.Dash ∷ ts)
 Rest d (places.WeekRange a b) p ts = From d stage.Weeks p (number a ∷ token.Dash ∷ number b ∷ ts)
 Rest d (places.WeekStep a b) p ts = From d stage.Weeks p (number a ∷ token.Dash ∷ number b ∷ token.Slash ∷ ts)
+Rest d (places.WeekBack a b) p ts = From d stage.Weeks p (number a ∷ token.Dash ∷ number b ∷ ts)
+Rest d (places.WeekAgain a b) p ts =
+    From d stage.Weeks (piece.Weeks a (Some final_week) None ∷ p) (number a ∷ token.Dash ∷ number b ∷ ts)
 Rest d (places.Weekday k) p ts = From d stage.Weekdays p (token.Weekday k ∷ ts)
 Rest d (places.WeekdayDash k) p ts = From d stage.Weekdays p (token.Weekday k ∷ token.Dash ∷ ts)
 Rest d (places.Bracket k) p ts = InBrackets d k p ts

@@ -12,7 +12,7 @@ use Rattle.gtd_hours_grammar.specs.Terms.{TokenKind, Stage, Place}
 use Rattle.gtd_hours_grammar.specs.declared.stage.Stage.TheVariants as stage
 use Rattle.gtd_hours_grammar.specs.declared.place.Place.TheVariants as places
 use Rattle.gtd_hours_grammar.specs.Grammar.{precedes}
-use Rattle.gtd_hours_grammar.specs.Pieces.{AreWrittenTimes, EndsRange, IsDay, IsRange, IsWrittenDate}
+use Rattle.gtd_hours_grammar.specs.Pieces.{AreBackWeeks, AreFewYears, AreWrittenTimes, EndsRange, IsDay, IsRange, IsWrittenDate}
 
 pub record Both (A B : Type 0) : Type 0 where
   pub one : A
@@ -31,6 +31,7 @@ IsPlace (places.ListedYear n) = IsYearNumber n
 IsPlace (places.YearDash n) = IsYearNumber n
 IsPlace (places.YearRange a b) = IsRange IsYearNumber a b
 IsPlace (places.YearStep a b) = IsRange IsYearNumber a b
+IsPlace (places.YearSlash n) = IsYearNumber n
 IsPlace (places.DateYear n) = IsYearNumber n
 IsPlace (places.DateYearMonth n m) = Both (IsYearNumber n) (IsMonth m)
 IsPlace (places.Month m) = IsMonth m
@@ -43,6 +44,8 @@ IsPlace (places.Week n) = IsWeekNumber n
 IsPlace (places.WeekDash n) = IsWeekNumber n
 IsPlace (places.WeekRange a b) = IsRange IsWeekNumber a b
 IsPlace (places.WeekStep a b) = IsRange IsWeekNumber a b
+IsPlace (places.WeekBack a b) = AreBackWeeks a b
+IsPlace (places.WeekAgain a b) = AreBackWeeks a b
 IsPlace (places.Weekday k) = IsWeekday k
 IsPlace (places.WeekdayDash k) = IsWeekday k
 IsPlace (places.Bracket k) = IsWeekday k
@@ -81,13 +84,14 @@ NumberFits places.TwentyFourSlash n = (n.value ≡ 7) × (n.count ≡ 1)
 NumberFits (places.YearMonth year m) n = IsDay (Some year) m n
 NumberFits (places.YearDash first) n = IsRange IsYearNumber first n
 NumberFits (places.YearStep first last) n = IsStepNumber n
+NumberFits (places.YearSlash first) n = AreFewYears first n
 NumberFits (places.DateYearMonth year m) n = IsDay (Some year) m n
 NumberFits (places.Month m) n = IsDay None m n
 NumberFits (places.DateDash first) n = YearOrDayFits first n
 NumberFits (places.DateDashMonth first year m) n =
     EndsRange first (last_date.Date (record { year = year; month = m; day = n }))
 NumberFits places.WeekWord n = IsWeekNumber n
-NumberFits (places.WeekDash first) n = IsRange IsWeekNumber first n
+NumberFits (places.WeekDash first) n = IsWeekNumber n
 NumberFits (places.WeekStep first last) n = IsStepNumber n
 NumberFits (places.Bracket k) n = IsPlaceNumber n
 NumberFits (places.BracketDash k) n = IsPlaceNumber n
@@ -120,6 +124,7 @@ takes_number (places.ListedYear n) = true
 takes_number (places.YearDash n) = true
 takes_number (places.YearRange a b) = true
 takes_number (places.YearStep a b) = true
+takes_number (places.YearSlash n) = true
 takes_number (places.DateYearMonth n m) = true
 takes_number (places.Month m) = true
 takes_number (places.DateDash x) = true
@@ -146,6 +151,8 @@ takes_time (places.Month m) = true
 takes_time (places.Date x) = true
 takes_time (places.Week n) = true
 takes_time (places.WeekRange a b) = true
+takes_time (places.WeekBack a b) = true
+takes_time (places.WeekAgain a b) = true
 takes_time (places.Weekday k) = true
 takes_time (places.TimeDash t) = true
 takes_time (places.After s) = precedes s stage.Times

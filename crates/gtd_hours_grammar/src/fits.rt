@@ -3,7 +3,7 @@
 ghost use Rattle.std.specs.Prelude.{◌≡◌, ◌↔◌, true};
 ghost use Rattle.gtd_hours.specs.Ranges.{IsMonth, IsWeekday};
 ghost use Rattle.gtd_hours_parts.specs.Numbers.{IsPlaceNumber, IsWeekNumber, IsYearNumber};
-ghost use Rattle.gtd_hours_grammar.specs.Pieces.{EndsRange, IsDay, IsLastDay, IsRange, IsWrittenDate};
+ghost use Rattle.gtd_hours_grammar.specs.Pieces.{AreFewYears, EndsRange, IsDay, IsLastDay, IsRange, IsWrittenDate};
 ghost use Rattle.gtd_hours_grammar.specs.Sound.{Fits, IsPlace, ListedFits, NumberFits, TimeFits, YearOrDayFits};
 ghost use Rattle.gtd_hours_grammar.specs.Sound.{is_last_year, takes_number, takes_time};
 
@@ -12,7 +12,7 @@ use crate::place::Place;
 use crate::stage::Stage;
 use gtd_hours::{MonthDay, YearDate};
 use gtd_hours_parts::{
-    ClockTime, Digits, month_day, times, to_month_day, to_year_date, weeks, year_date, years,
+    ClockTime, Digits, month_day, times, to_month_day, to_year_date, year_date, years,
 };
 use gtd_hours_tokens::TokenKind;
 
@@ -87,6 +87,14 @@ fn year_or_day_fits(first: WrittenDate, number: Digits) -> bool
     }
 }
 
+// Every so many years from one to the last of the calendar, of which a domain can hold all.
+fn are_few_years(first: Digits, step: Digits) -> bool
+    requires year { IsYearNumber first }
+    ensures { (result ≡ true) ↔ AreFewYears first step }
+{
+    step.step().is_some() && 2799 < u32::from(first.value) + 128 * u32::from(step.value)
+}
+
 // A place in the month that is not before the first one of a range.
 fn last_place_fits(first: Digits, number: Digits) -> bool
     ensures { (result ≡ true) ↔ IsRange IsPlaceNumber first number }
@@ -116,12 +124,13 @@ fn number_fits(place: Place, number: Digits) -> bool
         Place::YearMonth { year, month } => day_fits(Some(year), month, number),
         Place::YearDash(first) => years(first, number, None).is_some(),
         Place::YearStep { .. } => number.step().is_some(),
+        Place::YearSlash(first) => are_few_years(first, number),
         Place::DateYearMonth { year, month } => day_fits(Some(year), month, number),
         Place::Month(month) => day_fits(None, month, number),
         Place::DateDash(first) => year_or_day_fits(first, number),
         Place::DateDashMonth { first, year, month } => { last_day_fits(first, year, month, number) }
         Place::WeekWord => number.week().is_some(),
-        Place::WeekDash(first) => weeks(first, number, None).is_some(),
+        Place::WeekDash(_) => number.week().is_some(),
         Place::WeekStep { .. } => number.step().is_some(),
         Place::Bracket(_) => number.place().is_some(),
         Place::BracketDash(_) => number.place().is_some(),
@@ -173,6 +182,8 @@ pub fn takes_number(place: Place) -> bool
         Place::DateDashYear { .. } => false,
         Place::Week(_) => false,
         Place::WeekRange { .. } => false,
+        Place::WeekBack { .. } => false,
+        Place::WeekAgain { .. } => false,
         Place::Weekday(_) => false,
         Place::WeekdayDash(_) => false,
         Place::Nth { .. } => false,
@@ -199,6 +210,8 @@ pub fn takes_time(place: Place) -> bool
         Place::Date(_) => true,
         Place::Week(_) => true,
         Place::WeekRange { .. } => true,
+        Place::WeekBack { .. } => true,
+        Place::WeekAgain { .. } => true,
         Place::Weekday(_) => true,
         Place::TimeDash(_) => true,
         Place::After(stage) => stage.precedes(Stage::Times),

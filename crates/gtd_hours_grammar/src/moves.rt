@@ -34,6 +34,7 @@ pub fn next_move(place: Place, next: Option<TokenKind>, fits: bool) -> Option<Mo
         Place::YearDash(first) => years::year_dash(first, next, fits),
         Place::YearRange { first, last } => years::year_range(first, last, next),
         Place::YearStep { first, last } => years::year_step(first, last, next, fits),
+        Place::YearSlash(first) => years::year_slash(first, next, fits),
         Place::DateYear(year) => month_days::date_year(year, next, fits),
         Place::DateYearMonth { year, month } => {
             month_days::date_year_month(year, month, next, fits)
@@ -51,6 +52,8 @@ pub fn next_move(place: Place, next: Option<TokenKind>, fits: bool) -> Option<Mo
         Place::WeekDash(n) => weeks::week_dash(n, next, fits),
         Place::WeekRange { first, last } => weeks::week_range(first, last, next),
         Place::WeekStep { first, last } => weeks::week_step(first, last, next, fits),
+        Place::WeekBack { first, last } => weeks::week_back(first, last),
+        Place::WeekAgain { first, last } => weeks::week_again(first, last),
         Place::Weekday(day) => weekdays::weekday(day, next),
         Place::WeekdayDash(first) => weekdays::weekday_dash(first, next, fits),
         Place::Bracket(weekday) => weekdays::bracket(weekday, next, fits),

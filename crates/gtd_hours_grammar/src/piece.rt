@@ -30,7 +30,7 @@ pub enum Piece {
     Rule(Link),
     /// Selectors of another kind begin: of a list of years, of month days, of weeks or of weekdays.
     Kind,
-    /// `2024`, `2024-2030`, `2024-2030/2`
+    /// `2024`, `2024-2030`, `2024-2030/2`; `2024+` and `2024/8`, which go on to the last year of the calendar
     Years {
         /// The year, or the first one.
         first: Digits,
@@ -53,7 +53,7 @@ pub enum Piece {
         /// The last one of a range.
         last: Option<LastDate>,
     },
-    /// `10`, `10-20`, `10-20/2`, after `week`
+    /// `10`, `10-20`, `10-20/2`, after `week`; `46-12` is two of them
     Weeks {
         /// The week, or the first one.
         first: Digits,

@@ -45,6 +45,8 @@ pub enum Place {
         /// The last one.
         last: Digits,
     },
+    /// `2024/`
+    YearSlash(Digits),
     /// `2024`, the year of a date.
     DateYear(Digits),
     /// `2024 Dec`, of a date.
@@ -93,6 +95,20 @@ pub enum Place {
     },
     /// `10-20/`
     WeekStep {
+        /// The first week.
+        first: Digits,
+        /// The last one.
+        last: Digits,
+    },
+    /// `46-12`, which goes back.
+    WeekBack {
+        /// The first week.
+        first: Digits,
+        /// The last one.
+        last: Digits,
+    },
+    /// `46-12`, where the weeks up to the last one of the year are given.
+    WeekAgain {
         /// The first week.
         first: Digits,
         /// The last one.

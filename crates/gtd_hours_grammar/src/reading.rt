@@ -163,6 +163,7 @@ fn misfit(place: Place, kind: TokenKind) -> FaultKind
         TokenKind::Number { .. } => range_if(takes_number(place)),
         TokenKind::Time { .. } => range_if(takes_time(place)),
         TokenKind::Unsupported => FaultKind::Unsupported,
+        TokenKind::Plus => FaultKind::Unsupported,
         _ => FaultKind::Unexpected,
     }
 }

@@ -11,7 +11,7 @@ use Rattle.gtd_hours_tokens.specs.declared.token.Token.{Token}
 use Rattle.gtd_hours_tokens.specs.declared.token.BadToken.{BadToken}
 use Rattle.gtd_hours_tokens.specs.declared.token.TokenKind.{TokenKind}
 use Rattle.gtd_hours_tokens.specs.declared.token.TokenKind.TheVariants.{Comma, Semicolon, Dash, Slash, Colon, OpenBracket}
-use Rattle.gtd_hours_tokens.specs.declared.token.TokenKind.TheVariants.{CloseBracket}
+use Rattle.gtd_hours_tokens.specs.declared.token.TokenKind.TheVariants.{CloseBracket, Plus}
 use Rattle.gtd_hours_tokens.specs.declared.token.TokenKind.TheVariants.{Unsupported, Number, Time}
 use Rattle.gtd_hours_tokens.specs.Words.{word_of}
 
@@ -24,8 +24,7 @@ begins_minutes (byte ∷ bytes) = byte == 58 && begins is_ascii_digit bytes
 abbrev pub is_no_quote : ℕ → Bool
 is_no_quote byte = not (byte == 34)
 
--- The byte is the sign: , 44, ; 59, - 45, / 47, : 58, [ 91, ] 93, and + 43, which is not read here. A word, a number or a time
--- is not a sign.
+-- The byte is the sign: , 44, ; 59, - 45, / 47, : 58, [ 91, ] 93, + 43. A word, a number or a time is not a sign.
 abbrev pub IsSign : TokenKind → ℕ → Type 0
 IsSign Comma byte = byte ≡ 44
 IsSign Semicolon byte = byte ≡ 59
@@ -34,7 +33,7 @@ IsSign Slash byte = byte ≡ 47
 IsSign Colon byte = byte ≡ 58
 IsSign OpenBracket byte = byte ≡ 91
 IsSign CloseBracket byte = byte ≡ 93
-IsSign Unsupported byte = byte ≡ 43
+IsSign Plus byte = byte ≡ 43
 IsSign kind byte = ⊥
 
 -- The bytes are a token of this kind where the rest follows:

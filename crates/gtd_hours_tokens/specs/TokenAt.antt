@@ -8,7 +8,7 @@ use Rattle.std.specs.Str.Parse.{digits_value}
 use Rattle.gtd_hours_tokens.specs.declared.token.Token.{Token}
 use Rattle.gtd_hours_tokens.specs.declared.token.TokenKind.{TokenKind}
 use Rattle.gtd_hours_tokens.specs.declared.token.TokenKind.TheVariants.{Comma, Semicolon, Dash, Slash, Colon, OpenBracket}
-use Rattle.gtd_hours_tokens.specs.declared.token.TokenKind.TheVariants.{CloseBracket}
+use Rattle.gtd_hours_tokens.specs.declared.token.TokenKind.TheVariants.{CloseBracket, Plus}
 use Rattle.gtd_hours_tokens.specs.declared.token.TokenKind.TheVariants.{Unsupported, Number, Time}
 use Rattle.gtd_hours_tokens.specs.Lexing.{begins_minutes, is_no_quote}
 use Rattle.gtd_hours_tokens.specs.Words.{word_of}
@@ -52,7 +52,7 @@ sign_of byte =
     else if byte == 58 then Some Colon
     else if byte == 91 then Some OpenBracket
     else if byte == 93 then Some CloseBracket
-    else if byte == 43 then Some Unsupported
+    else if byte == 43 then Some Plus
     else None
 
 -- How long a comment is, with its first quote, after which come these bytes.

@@ -62,7 +62,7 @@ fn sign_of(byte: u8) -> Option<TokenKind>
         b':' => Some(TokenKind::Colon),
         b'[' => Some(TokenKind::OpenBracket),
         b']' => Some(TokenKind::CloseBracket),
-        b'+' => Some(TokenKind::Unsupported),
+        b'+' => Some(TokenKind::Plus),
         _ => None,
     }
 }

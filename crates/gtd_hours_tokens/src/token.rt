@@ -16,7 +16,7 @@ pub enum TokenKind {
     /// `closed` or `off`
     Closed,
     /// A word or a sign that OpenStreetMap has and that is not read here: `PH`, `SH`, `easter`, `sunrise`, `sunset`, `dawn`,
-    /// `dusk`, `unknown`, `day`, `days`, `+`, `||`, or a comment from `"` to the next `"` or the end of the text.
+    /// `dusk`, `unknown`, `day`, `days`, `||`, or a comment from `"` to the next `"` or the end of the text.
     Unsupported,
     /// One to four digits.
     Number {
@@ -46,6 +46,8 @@ pub enum TokenKind {
     OpenBracket,
     /// `]`
     CloseBracket,
+    /// `+`
+    Plus,
 }
 
 /// A token, and its place in the text.

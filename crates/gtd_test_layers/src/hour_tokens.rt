@@ -82,7 +82,7 @@ fn signs(rt: HostRuntime) {
         (":30", TokenKind::Colon, 0, 1),
         ("[1]", TokenKind::OpenBracket, 0, 1),
         (" ]", TokenKind::CloseBracket, 1, 2),
-        ("+", TokenKind::Unsupported, 0, 1),
+        ("+", TokenKind::Plus, 0, 1),
         ("|||", TokenKind::Unsupported, 0, 2),
         ("\"a\" \"b\"", TokenKind::Unsupported, 0, 3),
         ("\"\"", TokenKind::Unsupported, 0, 2),

@@ -111,6 +111,7 @@ splits (x ∷ a) (y ∷ b) c d t u e =
 same_kind : (before : List TokenKind) (t : TokenKind) (a b : FaultKind) → IsMisfitKind before t a → IsMisfitKind before t b
     → a ≡ b
 same_kind before token.Unsupported a b h k = h ∙ sym k
+same_kind before token.Plus a b h k = h ∙ sym k
 same_kind before t fault.Range fault.Range h k = refl
 same_kind before t fault.Unexpected fault.Unexpected h k = refl
 same_kind before t fault.Range fault.Unexpected h k = absurd (k h)

@@ -1,5 +1,7 @@
 -- The run over a list of weeks.
-use Rattle.std.proofs.Common.{List, [], ◌∷◌, Some, None, refl, sym, subst}
+use Rattle.std.proofs.Common.{◌≡◌, Bool, true, false, List, [], ◌∷◌, Some, None, refl, sym, ap, subst}
+use Rattle.std.specs.Prelude.{nat_le, if◌then◌else◌}
+use Rattle.std.proofs.lemmas.Bool.{le-leb, lt-leb}
 use Rattle.gtd_hours_tokens.specs.declared.token.TokenKind.{TokenKind}
 use Rattle.gtd_hours_tokens.specs.declared.token.TokenKind.TheVariants as token
 use Rattle.gtd_hours_parts.specs.declared.digits.Digits.{Digits}
@@ -9,8 +11,9 @@ use Rattle.gtd_hours_grammar.specs.declared.piece.Piece.TheVariants as piece
 use Rattle.gtd_hours_grammar.specs.declared.stage.Stage.TheVariants as stage
 use Rattle.gtd_hours_grammar.specs.declared.place.Place.TheVariants as places
 use Rattle.gtd_hours_grammar.specs.Grammar.{Demand, IsWeeks, Listed, number}
-use Rattle.gtd_hours_grammar.specs.Runs.{Runs}
-use Rattle.gtd_hours_grammar.specs.Pieces.{IsRange}
+use Rattle.gtd_hours_grammar.specs.Moves.{take, week_pair}
+use Rattle.gtd_hours_grammar.specs.Runs.{Runs, first}
+use Rattle.gtd_hours_grammar.specs.Pieces.{AreBackWeeks, IsRange, final_week, week_one}
 use Rattle.gtd_hours_grammar.specs.facts.RunSteps.{fit_taken, fit_completed, sign_taken, no_token}
 use Rattle.gtd_hours_grammar.specs.facts.FollowBits.{begin_bit, next_bit, no_bit}
 use Rattle.gtd_hours_grammar.specs.facts.FollowSteps.{Begins, comma_runs, given_by, more_runs, renamed}
@@ -38,12 +41,36 @@ range_given demand a b q (t ∷ ts) go =
     given_by demand (places.WeekRange a b) (places.After stage.Weeks) (piece.Weeks a (Some b) None) q (t ∷ ts)
     (next_bit (places.WeekRange a b) (Some t) (λ v d e. no_bit ⊥ (λ x. x)) begin_bit) (λ fits. refl) go
 
+-- the second week of a pair, behind the first or before it
+pair_by : (a b : Digits) (c : Bool) → nat_le a.value b.value ≡ c
+    → week_pair a b ≡ (if c then take (places.WeekRange a b) else take (places.WeekBack a b))
+pair_by a b c e = ap (λ (x : Bool). if x then take (places.WeekRange a b) else take (places.WeekBack a b)) e
+
 -- the dash and the last week of a range
 to_range : (demand : Demand) (a b : Digits) (p : List Piece) (ts : List TokenKind) → IsRange IsWeekNumber a b
     → Runs demand (places.WeekRange a b) p ts → Runs demand (places.Week a) p (token.Dash ∷ number b ∷ ts)
 to_range demand a b p ts is go =
     sign_taken demand (places.Week a) (places.WeekDash a) p token.Dash (number b ∷ ts) (λ x. x) refl
-    (fit_taken demand (places.WeekDash a) (places.WeekRange a b) p (number b) ts is refl go)
+    (fit_taken demand (places.WeekDash a) (places.WeekRange a b) p (number b) ts is.1
+    (pair_by a b true (le-leb a.value b.value is.2)) go)
+
+-- a range that goes back
+back_given : (demand : Demand) (a b : Digits) (q : List Piece) (ts : List TokenKind)
+    → Runs demand (places.After stage.Weeks) q ts → Runs demand (places.WeekBack a b)
+    (piece.Weeks a (Some final_week) None ∷ piece.Weeks week_one (Some b) None ∷ q) ts
+back_given demand a b q ts go =
+    given_by demand (places.WeekBack a b) (places.WeekAgain a b) (piece.Weeks a (Some final_week) None)
+    (piece.Weeks week_one (Some b) None ∷ q) ts
+    (next_bit (places.WeekBack a b) (first ts) (λ v d e. no_bit ⊥ (λ x. x)) begin_bit) (λ fits. refl)
+    (given_by demand (places.WeekAgain a b) (places.After stage.Weeks) (piece.Weeks week_one (Some b) None) q ts
+    (next_bit (places.WeekAgain a b) (first ts) (λ v d e. no_bit ⊥ (λ x. x)) begin_bit) (λ fits. refl) go)
+
+to_back : (demand : Demand) (a b : Digits) (p : List Piece) (ts : List TokenKind) → AreBackWeeks a b
+    → Runs demand (places.WeekBack a b) p ts → Runs demand (places.Week a) p (token.Dash ∷ number b ∷ ts)
+to_back demand a b p ts is go =
+    sign_taken demand (places.Week a) (places.WeekDash a) p token.Dash (number b ∷ ts) (λ x. x) refl
+    (fit_taken demand (places.WeekDash a) (places.WeekBack a b) p (number b) ts is.1
+    (pair_by a b false (lt-leb a.value b.value is.2)) go)
 
 pub weeks_begin : (demand : Demand) (p q : List Piece) (ts us : List TokenKind) → IsWeeks p ts q us
     → Runs demand (places.After stage.Weeks) q us → Begins demand IsWeekNumber places.Week p ts
@@ -73,6 +100,16 @@ weeks_begin demand p q ts us (IsWeeks.every a b n e f is also) go = record {
       (fit_completed demand (places.WeekStep a b) (places.After stage.Weeks) (piece.Weeks a (Some b) (Some n)) q (number n) us
       also
       refl go)));
+}
+weeks_begin demand p q ts us (IsWeeks.back a b e f is) go = record {
+  n = a;
+  us = token.Dash ∷ number b ∷ us;
+  tokens = e;
+  is = is.0;
+  runs = to_back demand a b p us is
+      (renamed demand (places.WeekBack a b) p
+      (piece.Weeks a (Some final_week) None ∷ piece.Weeks week_one (Some b) None ∷ q) us us f refl
+      (back_given demand a b q us go));
 }
 
 -- a number of a week, behind the word or a comma

@@ -7,16 +7,17 @@ use Rattle.gtd_hours.specs.declared.hours.Link.TheVariants as link
 use Rattle.gtd_hours_tokens.specs.declared.token.TokenKind.TheVariants as token
 use Rattle.gtd_hours_parts.specs.declared.digits.Digits.{Digits}
 use Rattle.gtd_hours_parts.specs.Numbers.{IsYearNumber}
-use Rattle.gtd_hours_grammar.specs.Terms.{TokenKind, Piece, Move}
+use Rattle.gtd_hours_grammar.specs.Terms.{TokenKind, Piece, Place, Move}
 use Rattle.gtd_hours_grammar.specs.declared.piece.Piece.TheVariants as piece
 use Rattle.gtd_hours_grammar.specs.declared.stage.Stage.TheVariants as stage
 use Rattle.gtd_hours_grammar.specs.declared.place.Place.TheVariants as places
 use Rattle.gtd_hours_grammar.specs.Grammar.{Demand, IsYears, Listed, begins_with_date, number}
-use Rattle.gtd_hours_grammar.specs.Moves.{complete, give, take, when}
+use Rattle.gtd_hours_grammar.specs.Moves.{complete, give, next_move, take, when}
 use Rattle.gtd_hours_grammar.specs.Runs.{Runs, first, left, with_piece}
 use Rattle.gtd_hours_grammar.specs.Runs.Runs.{ends, cut, any_day, step}
-use Rattle.gtd_hours_grammar.specs.Pieces.{IsRange}
-use Rattle.gtd_hours_grammar.specs.facts.RunSteps.{fit_taken, fit_completed, sign_taken, no_token, not_fit}
+use Rattle.gtd_hours_grammar.specs.Pieces.{AreFewYears, IsRange, final_year}
+use Rattle.gtd_hours_grammar.specs.Sound.{Fits}
+use Rattle.gtd_hours_grammar.specs.facts.RunSteps.{fit_taken, fit_completed, sign_completed, sign_taken, no_token, not_fit}
 use Rattle.gtd_hours_grammar.specs.facts.FollowBits.{begin_bit, next_bit, no_bit}
 use Rattle.gtd_hours_grammar.specs.facts.FollowSteps.{Begins, comma_runs, given_by, more_runs, renamed}
 
@@ -26,6 +27,10 @@ listed_given : (demand : Demand) (n : Digits) (q : List Piece) (ts : List TokenK
     → Runs demand (places.ListedYear n) (piece.Years n None None ∷ q) ts
 listed_given demand n q (token.Dash ∷ ts) go =
     absurd (no_token demand (places.After stage.Years) q token.Dash ts refl (λ fits. refl) go)
+listed_given demand n q (token.Slash ∷ ts) go =
+    absurd (no_token demand (places.After stage.Years) q token.Slash ts refl (λ fits. refl) go)
+listed_given demand n q (token.Plus ∷ ts) go =
+    absurd (no_token demand (places.After stage.Years) q token.Plus ts refl (λ fits. refl) go)
 listed_given demand n q [] go =
     given_by demand (places.ListedYear n) (places.After stage.Years) (piece.Years n None None) q [] (no_bit ⊥ (λ x. x))
     (λ fits. refl) go
@@ -85,6 +90,10 @@ year_given : (demand : Demand) (n : Digits) (q : List Piece) (ts : List TokenKin
     → Runs demand (places.After stage.Years) q ts → Runs demand (places.Year n) (piece.Years n None None ∷ q) ts
 year_given demand n q (token.Dash ∷ ts) no_date go =
     absurd (no_token demand (places.After stage.Years) q token.Dash ts refl (λ fits. refl) go)
+year_given demand n q (token.Slash ∷ ts) no_date go =
+    absurd (no_token demand (places.After stage.Years) q token.Slash ts refl (λ fits. refl) go)
+year_given demand n q (token.Plus ∷ ts) no_date go =
+    absurd (no_token demand (places.After stage.Years) q token.Plus ts refl (λ fits. refl) go)
 year_given demand n q (token.Month m ∷ ts) no_date go =
     let b = month_behind demand m q ts go in
     subst (λ (l : List Piece). Runs demand (places.Year n) (piece.Years n None None ∷ l) (token.Month m ∷ ts)) (sym b.pieces)
@@ -121,6 +130,26 @@ data Years (demand : Demand) (p q : List Piece) (ts us : List TokenKind) : Type 
   single : (n : Digits) → ts ≡ number n ∷ us → p ≡ piece.Years n None None ∷ q → IsYearNumber n → Years demand p q ts us
   several : (n : Digits) → (vs : List TokenKind) → ts ≡ number n ∷ token.Dash ∷ vs → IsYearNumber n
       → Runs demand (places.YearDash n) p vs → Years demand p q ts us
+  endless : (n : Digits) → (t : TokenKind) → (vs : List TokenKind) → ts ≡ number n ∷ t ∷ vs → IsYearNumber n
+      → Runs demand (places.Year n) p (t ∷ vs) → Runs demand (places.ListedYear n) p (t ∷ vs) → Years demand p q ts us
+
+-- the step of years without a last one
+slash_given : (demand : Demand) (n s : Digits) (p q : List Piece) (us : List TokenKind)
+    → p ≡ piece.Years n (Some final_year) (Some s) ∷ q → AreFewYears n s → Runs demand (places.After stage.Years) q us
+    → Runs demand (places.YearSlash n) p (number s ∷ us)
+slash_given demand n s p q us f few go =
+    renamed demand (places.YearSlash n) p (piece.Years n (Some final_year) (Some s) ∷ q) (number s ∷ us) (number s ∷ us) f refl
+    (fit_completed demand (places.YearSlash n) (places.After stage.Years) (piece.Years n (Some final_year) (Some s)) q (number s)
+    us few refl go)
+
+-- the sign of years without a last one
+plus_given : (demand : Demand) (at : Place) (n : Digits) (p q : List Piece) (us : List TokenKind)
+    → p ≡ piece.Years n (Some final_year) None ∷ q → (Fits at (Some token.Plus) → ⊥)
+    → next_move at (Some token.Plus) false ≡ complete (piece.Years n (Some final_year) None) (places.After stage.Years)
+    → Runs demand (places.After stage.Years) q us → Runs demand at p (token.Plus ∷ us)
+plus_given demand at n p q us f never m go =
+    renamed demand at p (piece.Years n (Some final_year) None ∷ q) (token.Plus ∷ us) (token.Plus ∷ us) f refl
+    (sign_completed demand at (places.After stage.Years) (piece.Years n (Some final_year) None) q token.Plus us never m go)
 
 years : (demand : Demand) (p q : List Piece) (ts us : List TokenKind) → IsYears p ts q us
     → Runs demand (places.After stage.Years) q us → Years demand p q ts us
@@ -134,6 +163,14 @@ years demand p q ts us (IsYears.every a b n e f is also) go =
     (renamed demand (places.YearStep a b) p (piece.Years a (Some b) (Some n) ∷ q) (number n ∷ us) (number n ∷ us) f refl
     (fit_completed demand (places.YearStep a b) (places.After stage.Years) (piece.Years a (Some b) (Some n)) q (number n) us also
     refl go))))
+years demand p q ts us (IsYears.on n e f is) go =
+    endless n token.Plus us e is (plus_given demand (places.Year n) n p q us f (λ x. x) refl go)
+    (plus_given demand (places.ListedYear n) n p q us f (λ x. x) refl go)
+years demand p q ts us (IsYears.every_on n s e f is few) go =
+    let run = slash_given demand n s p q us f few go in
+    endless n token.Slash (number s ∷ us) e is
+    (sign_taken demand (places.Year n) (places.YearSlash n) p token.Slash (number s ∷ us) (λ x. x) refl run)
+    (sign_taken demand (places.ListedYear n) (places.YearSlash n) p token.Slash (number s ∷ us) (λ x. x) refl run)
 
 first_year : (demand : Demand) (p q : List Piece) (ts us : List TokenKind) → begins_with_date ts ≡ false
     → Runs demand (places.After stage.Years) q us → Years demand p q ts us → Begins demand IsYearNumber places.Year p ts
@@ -152,6 +189,13 @@ first_year demand p q ts us no_date go (several n vs e is run) = record {
   is = is;
   runs = sign_taken demand (places.Year n) (places.YearDash n) p token.Dash vs (λ x. x) refl run;
 }
+first_year demand p q ts us no_date go (endless n t vs e is run other) = record {
+  n = n;
+  us = t ∷ vs;
+  tokens = e;
+  is = is;
+  runs = run;
+}
 
 listed_year : (demand : Demand) (p q : List Piece) (ts us : List TokenKind) → Runs demand (places.After stage.Years) q us
     → Years demand p q ts us → Begins demand IsYearNumber places.ListedYear p ts
@@ -168,6 +212,13 @@ listed_year demand p q ts us go (several n vs e is run) = record {
   tokens = e;
   is = is;
   runs = sign_taken demand (places.ListedYear n) (places.YearDash n) p token.Dash vs (λ x. x) refl run;
+}
+listed_year demand p q ts us go (endless n t vs e is other run) = record {
+  n = n;
+  us = t ∷ vs;
+  tokens = e;
+  is = is;
+  runs = run;
 }
 
 -- ---- lists of years

@@ -1,8 +1,10 @@
 //! The moves in a list of weeks.
 
-ghost use Rattle.std.specs.Prelude.{◌≡◌, true, IfSome};
+ghost use Rattle.std.specs.Prelude.{◌≡◌, true, IfSome, Option};
+ghost use Rattle.gtd_hours_tokens.specs.declared.token.TokenKind.{TokenKind};
 ghost use Rattle.gtd_hours_grammar.specs.declared.place.Place.TheVariants as places;
-ghost use Rattle.gtd_hours_grammar.specs.Moves.{week, week_dash, week_range, week_step, week_word};
+ghost use Rattle.gtd_hours_grammar.specs.Moves.{week, week_again, week_back, week_dash, week_pair, week_range, week_step};
+ghost use Rattle.gtd_hours_grammar.specs.Moves.{week_word};
 ghost use Rattle.gtd_hours_grammar.specs.Runs.{IsGood};
 ghost use Rattle.gtd_hours_grammar.specs.Sound.{Fits, IsPlace};
 
@@ -54,12 +56,52 @@ pub fn week_dash(n: Digits, next: Option<TokenKind>, fits: bool) -> Option<Move>
     ensures good { IfSome result (λ move. IsGood (places.WeekDash n) next move) }
 {
     match next {
-        Some(TokenKind::Number { value, digits }) if fits => take(Place::WeekRange {
-            first: n,
-            last: written(value, digits),
-        }),
+        Some(TokenKind::Number { value, digits }) if fits => week_pair(n, written(value, digits)),
         _ => None,
     }
+}
+
+// From one week to another, which may be before it.
+fn week_pair(first: Digits, last: Digits) -> Option<Move>
+    ensures { result ≡ week_pair first last }
+{
+    if first.value <= last.value {
+        take(Place::WeekRange { first, last })
+    } else {
+        take(Place::WeekBack { first, last })
+    }
+}
+
+/// `46-12`, which goes back
+pub fn week_back(first: Digits, last: Digits) -> Option<Move>
+    requires sound { IsPlace (places.WeekBack first last) }
+    ensures computed { result ≡ week_back first last }
+    ensures good { (next : Option TokenKind) → IfSome result (λ move. IsGood (places.WeekBack first last) next move) }
+{
+    give(
+        Piece::Weeks {
+            first,
+            last: Some(written(53, 2)),
+            step: None,
+        },
+        Place::WeekAgain { first, last },
+    )
+}
+
+/// `46-12`, where the weeks up to the last one of the year are given
+pub fn week_again(first: Digits, last: Digits) -> Option<Move>
+    requires sound { IsPlace (places.WeekAgain first last) }
+    ensures computed { result ≡ week_again last }
+    ensures good { (next : Option TokenKind) → IfSome result (λ move. IsGood (places.WeekAgain first last) next move) }
+{
+    give(
+        Piece::Weeks {
+            first: written(1, 1),
+            last: Some(last),
+            step: None,
+        },
+        Place::After(Stage::Weeks),
+    )
 }
 
 /// `10-20`

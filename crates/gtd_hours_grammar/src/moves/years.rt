@@ -4,7 +4,8 @@ ghost use Rattle.std.specs.Prelude.{◌≡◌, true, IfSome, None, Option};
 ghost use Rattle.gtd_hours_tokens.specs.declared.token.TokenKind.{TokenKind};
 ghost use Rattle.gtd_hours_grammar.specs.declared.piece.Piece.TheVariants as piece;
 ghost use Rattle.gtd_hours_grammar.specs.declared.place.Place.TheVariants as places;
-ghost use Rattle.gtd_hours_grammar.specs.Moves.{give, listed_year, year, year_dash, year_month, year_range, year_step};
+ghost use Rattle.gtd_hours_grammar.specs.Moves.{give, listed_year, year, year_dash, year_month, year_range, year_slash};
+ghost use Rattle.gtd_hours_grammar.specs.Moves.{year_step, years_on};
 ghost use Rattle.gtd_hours_grammar.specs.Runs.{IsGood};
 ghost use Rattle.gtd_hours_grammar.specs.Sound.{Fits, IsPlace};
 
@@ -31,6 +32,8 @@ pub fn year(n: Digits, next: Option<TokenKind>, fits: bool) -> Option<Move>
             }
         }
         Some(TokenKind::Dash) => take(Place::YearDash(n)),
+        Some(TokenKind::Slash) => take(Place::YearSlash(n)),
+        Some(TokenKind::Plus) => years_on(n, None),
         _ => give(one_year(n), Place::After(Stage::Years)),
     }
 }
@@ -75,7 +78,24 @@ pub fn listed_year(n: Digits, next: Option<TokenKind>) -> Option<Move>
 {
     match next {
         Some(TokenKind::Dash) => take(Place::YearDash(n)),
+        Some(TokenKind::Slash) => take(Place::YearSlash(n)),
+        Some(TokenKind::Plus) => years_on(n, None),
         _ => give(one_year(n), Place::After(Stage::Years)),
+    }
+}
+
+/// `2024/`
+pub fn year_slash(n: Digits, next: Option<TokenKind>, fits: bool) -> Option<Move>
+    requires sound { IsPlace (places.YearSlash n) }
+    requires fit { fits ≡ true → Fits (places.YearSlash n) next }
+    ensures computed { result ≡ year_slash n next fits }
+    ensures good { IfSome result (λ move. IsGood (places.YearSlash n) next move) }
+{
+    match next {
+        Some(TokenKind::Number { value, digits }) if fits => {
+            years_on(n, Some(written(value, digits)))
+        }
+        _ => None,
     }
 }
 
@@ -133,6 +153,17 @@ pub fn year_step(first: Digits, last: Digits, next: Option<TokenKind>, fits: boo
         ),
         _ => None,
     }
+}
+
+// The years from one on, to the last of the calendar.
+fn years_on(first: Digits, step: Option<Digits>) -> Option<Move>
+    ensures { result ≡ years_on first step }
+{
+    let last = Some(written(2799, 4));
+    complete(
+        Piece::Years { first, last, step },
+        Place::After(Stage::Years),
+    )
 }
 
 // A year alone.

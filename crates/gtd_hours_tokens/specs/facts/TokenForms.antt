@@ -16,7 +16,7 @@ use Rattle.gtd_hours_tokens.specs.declared.token.TokenKind.{TokenKind}
 use Rattle.gtd_hours_tokens.specs.declared.token.TokenKind.TheVariants.{Month, Weekday, Week, Open, Closed, Unsupported, Number}
 use Rattle.gtd_hours_tokens.specs.declared.token.TokenKind.TheVariants.{Time}
 use Rattle.gtd_hours_tokens.specs.declared.token.TokenKind.TheVariants.{Comma, Semicolon, Dash, Slash, Colon, OpenBracket}
-use Rattle.gtd_hours_tokens.specs.declared.token.TokenKind.TheVariants.{CloseBracket}
+use Rattle.gtd_hours_tokens.specs.declared.token.TokenKind.TheVariants.{CloseBracket, Plus}
 use Rattle.gtd_hours_tokens.specs.Words.{word_of}
 use Rattle.gtd_hours_tokens.specs.Lexing.{begins, IsRun, begins_minutes, is_no_quote, IsSign, IsTokenText, word, number, time}
 use Rattle.gtd_hours_tokens.specs.Lexing.{sign}
@@ -104,7 +104,8 @@ sign_is Slash byte rest e = ap (λ (b : ℕ). front (b ∷ rest)) e
 sign_is Colon byte rest e = ap (λ (b : ℕ). front (b ∷ rest)) e
 sign_is OpenBracket byte rest e = ap (λ (b : ℕ). front (b ∷ rest)) e
 sign_is CloseBracket byte rest e = ap (λ (b : ℕ). front (b ∷ rest)) e
-sign_is Unsupported byte rest e = ap (λ (b : ℕ). front (b ∷ rest)) e
+sign_is Plus byte rest e = ap (λ (b : ℕ). front (b ∷ rest)) e
+sign_is Unsupported byte rest e = absurd e
 sign_is (Month n) byte rest e = absurd e
 sign_is (Weekday n) byte rest e = absurd e
 sign_is Week byte rest e = absurd e
@@ -255,7 +256,7 @@ is_sign byte kind =
     (made_sign (byte == 58) byte kind Colon _ (eqb-true byte 58)
     (made_sign (byte == 91) byte kind OpenBracket _ (eqb-true byte 91)
     (made_sign (byte == 93) byte kind CloseBracket _ (eqb-true byte 93)
-    (made_sign (byte == 43) byte kind Unsupported None (eqb-true byte 43) (λ e. absurd cc))))))))
+    (made_sign (byte == 43) byte kind Plus None (eqb-true byte 43) (λ e. absurd cc))))))))
 
 is_quote : (y : ℕ) (b : Bool) → (y == 34) ≡ b → not b ≡ false → y ≡ 34
 is_quote y true e h = eqb-true y 34 e

@@ -1,5 +1,10 @@
-use Rattle.gtd_hours_grammar.proofs.GoodItems.{listed_year_good}
+use Rattle.std.proofs.Common.{rules}
+use Rattle.gtd_hours_grammar.proofs.GoodItems.{listed_plus_good, listed_year_good}
 use Rattle.gtd_hours_grammar.proofs.moves.years.listed_year.Goals as goal
+
+pub returns-in-Some-Plus-clause-good : goal.returns-in-Some-Plus-clause-good
+returns-in-Some-Plus-clause-good c =
+    rw (c.years_on.ensures) (listed_plus_good c.args.n c.args.next (search rules) c.requires.sound)
 
 pub returns-in_default-clause-good : goal.returns-in_default-clause-good
 returns-in_default-clause-good c =
