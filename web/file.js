@@ -96,7 +96,7 @@ function accepted() {
 function showWarnings({ output, failure }) {
   stopLooking();
   if (failure) at("looked").textContent = `This could not be done: ${failure}`;
-  else if (!output) at("looked").textContent = "Each row holds at some moments, and at others not.";
+  else if (!output) at("looked").textContent = "No row looks like a mistake.";
   else at("looked").replaceChildren("These rows look like mistakes:", make("pre", { className: "list", tabIndex: 0 }, output));
 }
 

@@ -178,11 +178,11 @@ unfoldable pub french_word : Word → List ℕ
 french_word OfEach = codes " de chaque mois "
 french_word For = utf8 (codes "pour une durée de ")
 french_word And = codes " et "
-french_word Comma = codes ", jusqu'"
-french_word UntilTime = utf8 (codes "à ")
-french_word UntilDay = codes "au "
-french_word UntilThe = codes "au "
-french_word UntilTheEnd = utf8 (codes "à la fin de février")
+french_word Comma = codes ", "
+french_word UntilTime = utf8 (codes "jusqu'à ")
+french_word UntilDay = codes "jusqu'au "
+french_word UntilThe = codes "jusqu'au "
+french_word UntilTheEnd = utf8 (codes "jusqu'à la fin de février")
 french_word Or = codes "ou :"
 french_word OnlyIn = codes "et tout cela seulement :"
 french_word ExceptIn = codes "et tout cela sauf :"

@@ -379,7 +379,7 @@ pub fn word(word: Word) -> &'static str
         Word::Comma => ", ",
         Word::UntilTime => "bis ",
         Word::UntilDay => "bis ",
-        Word::UntilThe => "bis ",
+        Word::UntilThe => "bis zum ",
         Word::UntilTheEnd => "bis Ende Februar",
         Word::Or => "oder:",
         Word::OnlyIn => "und all dies nur:",

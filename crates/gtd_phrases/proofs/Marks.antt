@@ -130,7 +130,7 @@ no_mark m ms (c ∷ x) (d ∷ y) r i h e =
 abbrev marks_of : Language → List Mark
 marks_of English = (117, codes "ntil ") ∷ []
 marks_of German = (98, codes "is ") ∷ []
-marks_of French = (195, 160 ∷ 32 ∷ []) ∷ (97, codes "u ") ∷ []
+marks_of French = (106, codes "usqu'") ∷ []
 
 abbrev all_free : List Mark → List (List ℕ) → Bool
 all_free ms [] = true
