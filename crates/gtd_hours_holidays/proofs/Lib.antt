@@ -1,0 +1,6 @@
+pub mod DateFacts
+pub mod MarkFacts
+pub mod TableFacts
+pub mod RowFacts
+pub mod HolidayFacts
+pub mod EasterFacts

@@ -1,0 +1,12 @@
+pub mod Dates
+pub mod Days
+pub mod Easter
+pub mod FaultTexts
+pub mod Marks
+pub mod Reading
+pub mod Rows
+pub mod Table
+pub mod TakenRows
+pub use Rattle.gtd_calendar.specs.Calendar
+pub use Rattle.gtd_calendar.specs.Stamp
+pub use Rattle.gtd_records.specs.Columns

@@ -1,0 +1,221 @@
+//! A table of holidays, and what it says of days.
+
+ghost use Rattle.std.specs.Prelude.{◌≡◌, ◌↔◌, ◌⊎◌, ◌≤◌, ℤ, List, length, true, IfOk, IsTrue, MatchOption, OnOk};
+ghost use Rattle.gtd_calendar.specs.Calendar.{IsCalendarDay};
+ghost use Rattle.gtd_hours_holidays.specs.Days.{AreAll, IsFirstWithout, IsIn};
+ghost use Rattle.gtd_hours_holidays.specs.Table.{AreOutside, IsCovered, IsHoliday, IsInside, IsOfRow, IsOfRows};
+ghost use Rattle.gtd_hours_holidays.specs.declared.row.HolidayRow.{HolidayRow};
+ghost use Rattle.gtd_hours_holidays.specs.Reading.{IsAdded, IsRead};
+
+use crate::days::Days;
+use crate::fault::HolidaysFault;
+use crate::row::{HolidayKind, HolidayRow};
+use crate::table::read_rows;
+use std::alloc::{AllocError, Global};
+
+/// A table of holidays: what its rows say, in their order.
+#[derive(Drop)]
+pub struct Holidays {
+    /// The rows, the first of which is row 1.
+    pub rows: Vec<HolidayRow>,
+}
+
+/// Why a table of holidays is not read.
+#[derive(Drop)]
+pub enum Unread {
+    /// All its faults, at least one, and the first of them first.
+    Faults(Vec<HolidaysFault>),
+    /// Memory was refused.
+    NoMemory,
+}
+
+impl From<AllocError> for Unread {
+    ghost use Rattle.std.specs.Prelude.{◌≡◌};
+    ghost use Rattle.gtd_hours_holidays.specs.declared.holidays.Unread.TheVariants.{NoMemory};
+
+    ghost from_gives = { λ _ why. why ≡ NoMemory };
+
+    fn from(_: AllocError) -> Unread {
+        Unread::NoMemory
+    }
+}
+
+// Whether a kind is another one's.
+fn is_kind(one: HolidayKind, other: HolidayKind) -> bool
+    ensures { IsTrue result ↔ (one ≡ other) }
+{
+    match one {
+        HolidayKind::Public => match other {
+            HolidayKind::Public => true,
+            HolidayKind::School => false,
+        },
+        HolidayKind::School => match other {
+            HolidayKind::Public => false,
+            HolidayKind::School => true,
+        },
+    }
+}
+
+// Whether a row is of this kind, and covers days or not.
+fn says(row: &HolidayRow, kind: HolidayKind, covers: bool) -> bool
+    ensures { IsTrue result ↔ ((row.now.kind ≡ kind) × (row.now.covers ≡ covers)) }
+{
+    is_kind(row.kind, kind) && row.covers == covers
+}
+
+// Whether a row is of this kind, covers days or not, and has this day.
+fn has(row: &HolidayRow, kind: HolidayKind, covers: bool, day: i64) -> bool
+    ensures { IsTrue result ↔ IsOfRow kind covers day row.now }
+{
+    says(row, kind, covers) && row.first <= day && day <= row.last
+}
+
+// Adds the days of a row, if it is of this kind, and covers days or not.
+fn add_row(
+    days: &mut Days,
+    row: &HolidayRow,
+    kind: HolidayKind,
+    covers: bool,
+) -> Result<(), AllocError>
+    ensures { OnOk result ((n : ℤ) → IsIn days.new n ↔ (IsIn days.old n ⊎ IsOfRow kind covers n row.now)) }
+{
+    if says(row, kind, covers) {
+        days.add(row.first, row.last)?;
+    }
+    Ok(())
+}
+
+// The days of the rows of a kind, of those that cover days or of the others.
+fn days_of(
+    alloc: Global,
+    rows: &[HolidayRow],
+    kind: HolidayKind,
+    covers: bool,
+) -> Result<Days, AllocError>
+    ensures { IfOk result (λ days. (n : ℤ) → IsIn days n ↔ IsOfRows kind covers n rows.now) }
+{
+    let mut days = Days::new(alloc);
+    for row in rows {
+        add_row(&mut days, row, kind, covers)?;
+    }
+    Ok(days)
+}
+
+// Whether all days of a row are in a set.
+fn has_days(days: &Days, row: &HolidayRow) -> bool
+    ensures { IsTrue result ↔ AreAll (IsIn days.now) row.now.first row.now.last }
+{
+    match days.first_missing(row.first, row.last) {
+        Some(_) => false,
+        None => true,
+    }
+}
+
+// Whether a row's days, if they are holidays, are all covered.
+fn is_inside(public: &Days, school: &Days, row: &HolidayRow) -> bool
+    ensures { (all : List HolidayRow)
+        → ((n : ℤ) → IsIn public.now n ↔ IsOfRows HolidayKind.Public true n all)
+        → ((n : ℤ) → IsIn school.now n ↔ IsOfRows HolidayKind.School true n all)
+        → IsTrue result ↔ IsInside all row.now }
+{
+    if row.covers {
+        return true;
+    }
+    match row.kind {
+        HolidayKind::Public => has_days(public, row),
+        HolidayKind::School => has_days(school, row),
+    }
+}
+
+// Adds the fault of the row with this number, if a holiday of it is not covered.
+fn add_outside(
+    faults: &mut Vec<HolidaysFault>,
+    public: &Days,
+    school: &Days,
+    row: &HolidayRow,
+    number: u32,
+) -> Result<(), AllocError>
+    ensures { (all : List HolidayRow)
+        → ((n : ℤ) → IsIn public.now n ↔ IsOfRows HolidayKind.Public true n all)
+        → ((n : ℤ) → IsIn school.now n ↔ IsOfRows HolidayKind.School true n all)
+        → OnOk result (IsAdded all row.now number faults.old.items faults.new.items) }
+{
+    if !is_inside(public, school, row) {
+        faults.push(HolidaysFault::Outside { row: number })?;
+    }
+    Ok(())
+}
+
+// The faults of rows with holidays that no row covers.
+fn outside_of(alloc: Global, rows: &[HolidayRow]) -> Result<Vec<HolidaysFault>, AllocError>
+    requires { length rows.now ≤ 4096 }
+    ensures { IfOk result (λ faults. AreOutside rows.now 1 rows.now faults.items) }
+{
+    let public = days_of(alloc, rows, HolidayKind::Public, true)?;
+    let school = days_of(alloc, rows, HolidayKind::School, true)?;
+    let mut faults = Vec::new(alloc);
+    for place in 0..rows.len() {
+        let number = place as u32 + 1;
+        add_outside(&mut faults, &public, &school, &rows[place], number)?;
+    }
+    Ok(faults)
+}
+
+/// The table of holidays that a file's bytes are, or all its faults.
+///
+/// `TooLarge` and `Header` come alone. Otherwise each row that is at fault has its first one from the left, `FieldCount`, `First`,
+/// `Last` or `Kind`, in the order of the rows, and `TooManyRows` comes after those of the first 4,096 rows. If there are none of
+/// these, each row with a holiday that no row covers has `Outside`. `NoMemory` is answered only if memory was refused.
+pub fn read_holidays(alloc: Global, bytes: &[u8]) -> Result<Holidays, Unread>
+    ensures table { IsRead bytes.now result }
+{
+    let found = read_rows(alloc, bytes)?;
+    if !found.faults.is_empty() {
+        return Err(Unread::Faults(found.faults));
+    }
+    let outside = outside_of(alloc, found.rows.as_slice())?;
+    if !outside.is_empty() {
+        return Err(Unread::Faults(outside));
+    }
+    Ok(Holidays { rows: found.rows })
+}
+
+impl Holidays {
+    /// Whether a day is a holiday of this kind. Takes no memory.
+    pub fn is_holiday(&self, kind: HolidayKind, day: i64) -> bool
+        ensures is { IsTrue result ↔ IsHoliday self.now.rows.items kind day }
+    {
+        for row in self.rows.as_slice() {
+            if has(row, kind, false, day) {
+                return true;
+            }
+        }
+        false
+    }
+
+    /// The holidays of this kind, as a set of days. `AllocError` is answered only if memory was refused.
+    pub fn days(&self, alloc: Global, kind: HolidayKind) -> Result<Days, AllocError>
+        ensures days { IfOk result (λ days. (n : ℤ) → IsIn days n ↔ IsHoliday self.now.rows.items kind n) }
+    {
+        days_of(alloc, self.rows.as_slice(), kind, false)
+    }
+
+    /// The first day from one to another, both included, on which the table does not say all holidays of this kind, or `None` if it
+    /// says them on all these days. Both must be of the years 1800 to 2799. `AllocError` is answered only if memory was refused.
+    pub fn first_uncovered(
+        &self,
+        alloc: Global,
+        kind: HolidayKind,
+        from: i64,
+        to: i64,
+    ) -> Result<Option<i64>, AllocError>
+        requires from_in { IsCalendarDay from }
+        requires to_in { IsCalendarDay to }
+        ensures first { IfOk result (λ first. MatchOption first
+            (AreAll (IsCovered self.now.rows.items kind) from to)
+            (IsFirstWithout (IsCovered self.now.rows.items kind) from to)) }
+    {
+        let covered = days_of(alloc, self.rows.as_slice(), kind, true)?;
+        Ok(covered.first_missing(from, to))
+    }
+}
