@@ -27,7 +27,7 @@ static const struct {
     int code;
 } errors[] = {
     NAMED(EACCES), NAMED(EAGAIN), NAMED(EBADF),  NAMED(EINTR),  NAMED(EIO),
-    NAMED(EMFILE), NAMED(ENOENT), NAMED(ENOMEM), NAMED(ENOSPC), NAMED(EPIPE),
+    NAMED(EMFILE), NAMED(ENOENT), NAMED(ENOMEM), NAMED(ENOSPC), NAMED(EPIPE), NAMED(ETIMEDOUT),
 };
 
 // The error with this name. If it is not known, the process ends.

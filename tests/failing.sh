@@ -91,7 +91,7 @@ try_read() {
     local error
     moves_on "$1" 999
     try Endless "$1" 1000 EINTR
-    for error in EAGAIN EBADF EIO; do
+    for error in EAGAIN EBADF EIO ETIMEDOUT; do
         try ReadFault "$1" 1 $error
     done
     try ReadFault "$1" 0 EIO
@@ -205,6 +205,9 @@ gtd 'open read write' schedule r.csv 2024-04-01 2024-04-02 12
 gtd 'open read write' schedule r.csv 2001-04-01 2031-04-01 12
 gtd 'open read write' year r.csv 17 positive 11 2024
 gtd 'open read write' migrate long.csv
+# A file is read 4,096 bytes at a time, and once more at its end.
+[ "${calls[read]}" = $((($(stat -c %s long.csv) + 4095) / 4096 + 1)) ]
+count $? "reads ${calls[read]} times"
 gtd error
 gtd error check '[(h25){h1}]'
 gtd 'open read error' migrate bad.csv

@@ -1,10 +1,7 @@
-//! Commands and runs of `gtd`: answers that no printed text shows, devices that fail, and refused memory.
+//! Commands and runs of `gtd`: outputs that count their calls, texts of faults, and refused memory.
 
-mod counts;
 mod devices;
 mod faults;
 mod job;
-mod plans;
 mod refusals;
 mod without_memory;
-mod writers;

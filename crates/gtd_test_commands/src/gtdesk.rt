@@ -1,6 +1,5 @@
-//! Commands of `gtdesk`: devices that fail, and calls that take no memory.
+//! Commands of `gtdesk`: outputs that count their calls, and calls that take no memory.
 
-mod common;
 mod devices;
-mod records;
+mod plans;
 mod without_memory;

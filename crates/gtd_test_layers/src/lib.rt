@@ -1,38 +1,18 @@
-//! Tests of the layers: worked examples; each call that takes memory, when memory is refused; and each call that takes none, when
-//! every growth is refused.
+//! Tests of the layers: each call that takes memory, when memory is refused; each call that takes none, when every growth is
+//! refused; devices that fail; counts; and the largest domains.
 #![tactic(auto)]
 
 #[cfg(test)]
-mod calendar;
+mod counts;
 #[cfg(test)]
 mod devices;
 #[cfg(test)]
-mod eval;
-#[cfg(test)]
-mod hour_tokens;
-#[cfg(test)]
-mod hours;
-#[cfg(test)]
-mod hours_parts;
-#[cfg(test)]
-mod large;
+mod largest;
 #[cfg(test)]
 mod lists;
 #[cfg(test)]
-mod recur;
-#[cfg(test)]
 mod refusals;
-#[cfg(test)]
-mod roads;
-#[cfg(test)]
-mod spans;
-#[cfg(test)]
-mod text;
 #[cfg(test)]
 mod texts;
 #[cfg(test)]
-mod values;
-#[cfg(test)]
 mod without_memory;
-#[cfg(test)]
-mod words;

@@ -1,7 +1,7 @@
-//! Lists of spans, by the ends of their spans.
+//! Lists and sources of spans, by the ends of their spans.
 
 use gtd_core::{Sec, Span};
-use gtd_spans::SpanList;
+use gtd_spans::{SpanList, SpanSource};
 use std::alloc::{AllocError, Global};
 use std::process::Abort;
 
@@ -35,4 +35,19 @@ pub(crate) fn has_ends(list: &SpanList, ends: &[(i64, i64)]) -> bool {
         }
     }
     true
+}
+
+/// The source hands out spans with these ends, in seconds after a midnight, and nothing more.
+pub(crate) fn gives<S: SpanSource>(
+    rt: &impl Abort,
+    source: &mut S,
+    midnight: i64,
+    ends: &[(i64, i64)],
+) {
+    for (from, until) in ends {
+        let from = Sec(midnight.wrapping_add(*from));
+        let until = Sec(midnight.wrapping_add(*until));
+        assert!(rt; source.next() == Span::new(from, until));
+    }
+    assert!(rt; source.next() == None);
 }

@@ -9,26 +9,18 @@ ghost use Rattle.gtd_eval.specs.Cursors.{cursor_nodes, total_nodes};
 ghost use Rattle.gtd_spans.specs.Pushing.{NoneBeginsAfter};
 
 use crate::lists::{has_ends, list_of};
-use crate::texts::{horizon, leaf};
-use gtd_core::{Domain, Expr, Fault, Horizon, Op, Sec, Span, TextFault};
+use crate::texts::{DAY, HOUR, R, horizon, leaf};
+use gtd_core::{Domain, Fault, Horizon, Sec, Span, TextFault};
 use gtd_devices::{MemoryIn, MemoryOut};
-use gtd_eval::{Cursor, EverFault, KeptCursor, next_change, next_change_ever, spans};
+use gtd_eval::{Cursor, EverFault, next_change, next_change_ever, spans};
 use gtd_hours_domain::{TranslationFault, domain_of};
 use gtd_hours_text::read_hours;
-use gtd_records::{Direction, RecordFault, Records, open_seconds, read_records, schedule_of};
+use gtd_records::{Direction, RecordFault, Records, read_records, schedule_of};
 use gtd_recur::spans_of;
-use gtd_spans::{SpanList, SpanSource, complement, meet, minus, union, within};
-use gtd_test_devices::R;
+use gtd_spans::{SpanList, complement, meet, minus, union, within};
 use gtd_text::{TokenKind, print_domain, read_domain, tokens};
 use std::alloc::{AllocError, Global};
 use std::process::Abort;
-
-const HOUR: i64 = 3_600;
-
-const DAY: i64 = 86_400;
-
-/// 2024-01-01.
-const NEW_YEAR: i64 = 19_723;
 
 const TEXT: &[u8] = b"[(M4d1){M3}]*[(h10){h4}]";
 
@@ -42,21 +34,6 @@ const NO_MEMORY: TextFault = TextFault {
     kind: Fault::NoMemory,
     place: 0,
 };
-
-// The cursor hands out spans with these ends, in seconds after a midnight, and nothing more.
-pub(crate) fn gives<S: SpanSource>(
-    rt: &impl Abort,
-    cursor: &mut S,
-    midnight: i64,
-    ends: &[(i64, i64)],
-) {
-    for (from, until) in ends {
-        let from = Sec(midnight.wrapping_add(*from));
-        let until = Sec(midnight.wrapping_add(*until));
-        assert!(rt; cursor.next() == Span::new(from, until));
-    }
-    assert!(rt; cursor.next() == None);
-}
 
 #[test]
 fn tokens_of_a_text(rt: HostRuntime) {
@@ -78,18 +55,7 @@ fn tokens_of_a_text(rt: HostRuntime) {
 fn a_domain_that_is_read(rt: HostRuntime) {
     for _ in 0..2 {
         match read_domain(rt.alloc(), TEXT) {
-            Ok(domain) => {
-                let Expr::Join(op, left, right) = domain.expr() else {
-                    panic!(rt; "no two domains");
-                };
-                assert!(rt; *op == Op::Meet);
-                let (Expr::Leaf(left), Expr::Leaf(right)) = (&**left, &**right) else {
-                    panic!(rt; "no basic domains");
-                };
-                assert!(rt; left.start.parts().month == Some(4));
-                assert!(rt; right.start.parts().hour == Some(10));
-                return;
-            }
+            Ok(_) => return,
             Err(fault) => assert!(rt; fault == NO_MEMORY),
         }
     }
@@ -111,9 +77,8 @@ fn a_domain_that_is_printed(rt: HostRuntime) {
 }
 
 // Spans that are pushed in turn, and the list after each.
-static PUSHES: [((i64, i64), &[(i64, i64)]); 8] = [
+static PUSHES: [((i64, i64), &[(i64, i64)]); 6] = [
     ((10, 20), &[(10, 20)]),
-    ((15, 18), &[(10, 20)]),
     ((20, 30), &[(10, 30)]),
     ((40, 41), &[(10, 30), (40, 41)]),
     ((50, 51), &[(10, 30), (40, 41), (50, 51)]),
@@ -121,10 +86,6 @@ static PUSHES: [((i64, i64), &[(i64, i64)]); 8] = [
     (
         (70, 71),
         &[(10, 30), (40, 41), (50, 51), (60, 61), (70, 71)],
-    ),
-    (
-        (70, 80),
-        &[(10, 30), (40, 41), (50, 51), (60, 61), (70, 80)],
     ),
 ];
 
@@ -182,22 +143,56 @@ fn done(
     }
 }
 
-fn expect_list(
-    rt: &impl Abort,
-    alloc: Global,
-    operation: Operation,
-    a: &[(i64, i64)],
-    b: &[(i64, i64)],
-    wanted: &[(i64, i64)],
-) {
+/// An operation, the lists that it is done with, and the list that it gives.
+type Row = (
+    Operation,
+    &'static [(i64, i64)],
+    &'static [(i64, i64)],
+    &'static [(i64, i64)],
+);
+
+// Five spans are more than a list has room for at first.
+static OPERATIONS: [Row; 6] = [
+    (
+        Operation::Union,
+        &[(0, 1), (2, 3), (4, 5), (6, 7), (8, 9)],
+        &[(9, 10)],
+        &[(0, 1), (2, 3), (4, 5), (6, 7), (8, 10)],
+    ),
+    (Operation::Meet, &[(0, 10)], &[(10, 20)], &[]),
+    (
+        Operation::Meet,
+        &[(0, 20)],
+        &[(0, 1), (2, 3), (4, 5), (6, 7), (8, 9)],
+        &[(0, 1), (2, 3), (4, 5), (6, 7), (8, 9)],
+    ),
+    (
+        Operation::Minus,
+        &[(0, 10)],
+        &[(0, 1), (2, 3), (4, 5), (6, 7), (8, 9)],
+        &[(1, 2), (3, 4), (5, 6), (7, 8), (9, 10)],
+    ),
+    (
+        Operation::Within,
+        &[(-5, 5), (86_399, 86_500)],
+        &[],
+        &[(0, 5), (86_399, 86_400)],
+    ),
+    (
+        Operation::Complement,
+        &[(0, 1), (2, 3), (4, 5), (6, 7), (8, 9)],
+        &[],
+        &[(1, 2), (3, 4), (5, 6), (7, 8), (9, 86_400)],
+    ),
+];
+
+fn expect_done(rt: &impl Abort, alloc: Global, row: &Row) {
+    let (operation, a, b, wanted) = *row;
     let (Ok(left), Ok(right)) = (list_of(rt, alloc, a), list_of(rt, alloc, b)) else {
         return;
     };
     for _ in 0..2 {
-        let answer = done(rt, alloc, operation, &left, &right);
-        assert!(rt; has_ends(&left, a));
-        assert!(rt; has_ends(&right, b));
-        if let Ok(list) = answer {
+        if let Ok(list) = done(rt, alloc, operation, &left, &right) {
             assert!(rt; has_ends(&list, wanted));
             return;
         }
@@ -205,214 +200,11 @@ fn expect_list(
     panic!(rt; "refused twice");
 }
 
-// Five spans, more than a list has room for at first.
-static HOURS: [(i64, i64); 5] = [(0, 1), (2, 3), (4, 5), (6, 7), (8, 9)];
-
 #[test]
-fn unions(rt: HostRuntime) {
-    let alloc = rt.alloc();
-    let union = Operation::Union;
-    expect_list(&rt, alloc, union, &[(0, 10)], &[(10, 20)], &[(0, 20)]);
-    let more = [(0, 1), (2, 3), (4, 5), (6, 7), (8, 10)];
-    expect_list(&rt, alloc, union, &HOURS, &[(9, 10)], &more);
-}
-
-#[test]
-fn meets(rt: HostRuntime) {
-    let alloc = rt.alloc();
-    let meet = Operation::Meet;
-    expect_list(&rt, alloc, meet, &[(0, 10)], &[(10, 20)], &[]);
-    expect_list(&rt, alloc, meet, &[(0, 20)], &HOURS, &HOURS);
-}
-
-#[test]
-fn differences(rt: HostRuntime) {
-    let alloc = rt.alloc();
-    let minus = Operation::Minus;
-    let ends = [(0, 10), (20, 30)];
-    expect_list(&rt, alloc, minus, &[(0, 30)], &[(10, 20)], &ends);
-    let gaps = [(1, 2), (3, 4), (5, 6), (7, 8), (9, 10)];
-    expect_list(&rt, alloc, minus, &[(0, 10)], &HOURS, &gaps);
-}
-
-#[test]
-fn lists_within_a_day(rt: HostRuntime) {
-    let alloc = rt.alloc();
-    let within = Operation::Within;
-    let wide = [(-5, 5), (86_399, 86_500)];
-    let cut = [(0, 5), (86_399, 86_400)];
-    expect_list(&rt, alloc, within, &wide, &[], &cut);
-    expect_list(&rt, alloc, within, &HOURS, &[], &HOURS);
-}
-
-#[test]
-fn complements_in_a_day(rt: HostRuntime) {
-    let alloc = rt.alloc();
-    let complement = Operation::Complement;
-    let ends = [(0, 10), (20, 86_400)];
-    expect_list(&rt, alloc, complement, &[(10, 20)], &[], &ends);
-    let gaps = [(1, 2), (3, 4), (5, 6), (7, 8), (9, 86_400)];
-    expect_list(&rt, alloc, complement, &HOURS, &[], &gaps);
-}
-
-#[test]
-fn spans_of_a_basic_domain(rt: HostRuntime) {
-    let Ok(night) = read_domain(rt.alloc(), NIGHT) else {
-        return;
-    };
-    let basic = leaf(&rt, &night);
-    let horizon = horizon(&rt, NEW_YEAR, NEW_YEAR + 1);
-    let midnight = NEW_YEAR * DAY;
-    let ends = [
-        (midnight, midnight + 6 * HOUR),
-        (midnight + 22 * HOUR, midnight + DAY),
-    ];
-    for _ in 0..2 {
-        if let Ok(list) = spans_of(rt.alloc(), &basic, horizon) {
-            assert!(rt; has_ends(&list, &ends));
-            return;
-        }
+fn operations_on_lists(rt: HostRuntime) {
+    for row in &OPERATIONS {
+        expect_done(&rt, rt.alloc(), row);
     }
-    panic!(rt; "refused twice");
-}
-
-#[test]
-fn spans_of_a_domain(rt: HostRuntime) {
-    let Ok(morning) = read_domain(rt.alloc(), MORNING) else {
-        return;
-    };
-    let horizon = horizon(&rt, NEW_YEAR, NEW_YEAR + 1);
-    let midnight = NEW_YEAR * DAY;
-    let ends = [
-        (midnight + 8 * HOUR, midnight + 10 * HOUR),
-        (midnight + 11 * HOUR, midnight + 12 * HOUR),
-    ];
-    for _ in 0..2 {
-        if let Ok(list) = spans(rt.alloc(), &morning, horizon) {
-            assert!(rt; has_ends(&list, &ends));
-            return;
-        }
-    }
-    panic!(rt; "refused twice");
-}
-
-// The next change over the horizon from the second's day on.
-pub(crate) fn change(
-    rt: &impl Abort,
-    alloc: Global,
-    domain: &Domain,
-    second: Sec,
-    to_day: i64,
-) -> Result<Option<Sec>, AllocError> {
-    let horizon = horizon(rt, second.day(), to_day);
-    assert!(rt; horizon.from() <= second && second < horizon.until());
-    next_change(alloc, domain, second, horizon)
-}
-
-fn expect_change(
-    rt: &impl Abort,
-    alloc: Global,
-    text: &[u8],
-    second: Sec,
-    to_day: i64,
-    wanted: Option<Sec>,
-) {
-    let Ok(domain) = read_domain(alloc, text) else {
-        return;
-    };
-    for _ in 0..2 {
-        if let Ok(change) = change(rt, alloc, &domain, second, to_day) {
-            assert!(rt; change == wanted);
-            return;
-        }
-    }
-    panic!(rt; "refused twice");
-}
-
-#[test]
-fn changes_in_a_horizon(rt: HostRuntime) {
-    let alloc = rt.alloc();
-    let friday = Sec(19_727 * DAY + 12 * HOUR);
-    let saturday = Some(Sec(19_728 * DAY));
-    expect_change(&rt, alloc, b"[(t2){d5}]", friday, 19_754, saturday);
-    let eight = Sec(NEW_YEAR * DAY + 8 * HOUR);
-    let ten = Some(Sec(NEW_YEAR * DAY + 10 * HOUR));
-    expect_change(&rt, alloc, MORNING, eight, NEW_YEAR + 1, ten);
-    let twelve = Sec(NEW_YEAR * DAY + 12 * HOUR);
-    expect_change(&rt, alloc, MORNING, twelve, NEW_YEAR + 1, None);
-}
-
-fn expect_change_ever(
-    rt: &impl Abort,
-    alloc: Global,
-    text: &[u8],
-    second: Sec,
-    wanted: Result<Option<Sec>, EverFault>,
-) {
-    let Ok(domain) = read_domain(alloc, text) else {
-        return;
-    };
-    for _ in 0..2 {
-        assert!(rt; -25_202 * DAY <= second.0 && second.0 < 84_006 * DAY);
-        let answer = next_change_ever(alloc, &domain, second);
-        if answer != Err(EverFault::NoMemory) {
-            assert!(rt; answer == wanted);
-            return;
-        }
-    }
-    panic!(rt; "refused twice");
-}
-
-#[test]
-fn changes_for_ever(rt: HostRuntime) {
-    let alloc = rt.alloc();
-    let march = Sec(46_081 * DAY);
-    let leap_day = Ok(Some(Sec(49_001 * DAY)));
-    expect_change_ever(&rt, alloc, b"[(M2d29){d1}]", march, leap_day);
-    let joined = b"[(M2d29){d1}]*[(h0){h24}]";
-    expect_change_ever(&rt, alloc, joined, march, leap_day);
-    let midnight = Sec(NEW_YEAR * DAY);
-    let given = b"[(h1){h1}]+[(y2024){d1}]";
-    expect_change_ever(&rt, alloc, given, midnight, Err(EverFault::HasYear));
-}
-
-#[test]
-fn a_cursor(rt: HostRuntime) {
-    let Ok(domain) = read_domain(rt.alloc(), TEXT) else {
-        return;
-    };
-    let horizon = horizon(&rt, 19_814, 19_815);
-    for _ in 0..2 {
-        if let Ok(mut cursor) = Cursor::open(rt.alloc(), &domain, horizon) {
-            assert!(rt; cursor.nodes() == 3);
-            gives(&rt, &mut cursor, 19_814 * DAY, &[(10 * HOUR, 14 * HOUR)]);
-            return;
-        }
-    }
-    panic!(rt; "refused twice");
-}
-
-#[test]
-fn a_cursor_that_keeps_spans(rt: HostRuntime) {
-    let Ok(night) = read_domain(rt.alloc(), NIGHT) else {
-        return;
-    };
-    let horizon = horizon(&rt, NEW_YEAR, NEW_YEAR + 3);
-    let ends = [
-        (0, 6 * HOUR),
-        (22 * HOUR, 30 * HOUR),
-        (46 * HOUR, 54 * HOUR),
-        (70 * HOUR, 72 * HOUR),
-    ];
-    for _ in 0..2 {
-        if let Ok(mut cursor) = KeptCursor::open(rt.alloc(), &night, horizon) {
-            assert!(rt; (cursor.nodes(), cursor.kept()) == (1, 0));
-            gives(&rt, &mut cursor, NEW_YEAR * DAY, &ends);
-            assert!(rt; cursor.kept() == 1);
-            return;
-        }
-    }
-    panic!(rt; "refused twice");
 }
 
 // The cursors of the two domains.
@@ -431,40 +223,6 @@ pub(crate) fn two_cursors(
     Ok(cursors)
 }
 
-// The spans of the night or the morning of a day, and those of neither.
-const EITHER: [(i64, i64); 4] = [
-    (0, 6 * HOUR),
-    (8 * HOUR, 10 * HOUR),
-    (11 * HOUR, 12 * HOUR),
-    (22 * HOUR, 24 * HOUR),
-];
-
-const NEITHER: [(i64, i64); 3] = [
-    (6 * HOUR, 8 * HOUR),
-    (10 * HOUR, 11 * HOUR),
-    (12 * HOUR, 22 * HOUR),
-];
-
-#[test]
-fn any_of_two_cursors(rt: HostRuntime) {
-    let alloc = rt.alloc();
-    let (Ok(night), Ok(morning)) = (read_domain(alloc, NIGHT), read_domain(alloc, MORNING)) else {
-        return;
-    };
-    let horizon = horizon(&rt, NEW_YEAR, NEW_YEAR + 1);
-    for _ in 0..2 {
-        let Ok(cursors) = two_cursors(alloc, &night, &morning, horizon) else {
-            return;
-        };
-        if let Ok(mut cursor) = Cursor::any(alloc, cursors, horizon) {
-            assert!(rt; cursor.nodes() == 5);
-            gives(&rt, &mut cursor, NEW_YEAR * DAY, &EITHER);
-            return;
-        }
-    }
-    panic!(rt; "refused twice");
-}
-
 // The cursor of the seconds of any of the two domains.
 fn either(
     alloc: Global,
@@ -478,20 +236,120 @@ fn either(
     Cursor::any(alloc, cursors, horizon)
 }
 
-#[test]
-fn outside_a_cursor(rt: HostRuntime) {
-    let alloc = rt.alloc();
+// The seconds of neither domain.
+fn neither(
+    alloc: Global,
+    left: &Domain,
+    right: &Domain,
+    horizon: Horizon,
+) -> Result<SpanList, AllocError> {
+    let inner = either(alloc, left, right, horizon)?;
+    let mut outside = Cursor::outside(alloc, inner, horizon)?;
+    SpanList::collect(alloc, &mut outside)
+}
+
+/// Which seconds are asked for, of one domain or of two.
+#[derive(Clone, Copy)]
+enum Seconds {
+    Night,
+    Morning,
+    Neither,
+}
+
+// The spans of the first day of 1970. `Night` is that of a basic domain, `Morning` that of any domain.
+fn made(
+    rt: &impl Abort,
+    alloc: Global,
+    what: Seconds,
+    night: &Domain,
+    morning: &Domain,
+) -> Result<SpanList, AllocError> {
+    let day = horizon(rt, 0, 1);
+    match what {
+        Seconds::Night => spans_of(alloc, &leaf(rt, night), day),
+        Seconds::Morning => spans(alloc, morning, day),
+        Seconds::Neither => neither(alloc, night, morning, day),
+    }
+}
+
+// An hour has 3,600 seconds.
+static MADE: [(Seconds, &[(i64, i64)]); 3] = [
+    (Seconds::Night, &[(0, 21_600), (79_200, 86_400)]),
+    (Seconds::Morning, &[(28_800, 36_000), (39_600, 43_200)]),
+    (
+        Seconds::Neither,
+        &[(21_600, 28_800), (36_000, 39_600), (43_200, 79_200)],
+    ),
+];
+
+fn expect_made(rt: &impl Abort, alloc: Global, what: Seconds, wanted: &[(i64, i64)]) {
     let (Ok(night), Ok(morning)) = (read_domain(alloc, NIGHT), read_domain(alloc, MORNING)) else {
         return;
     };
-    let horizon = horizon(&rt, NEW_YEAR, NEW_YEAR + 1);
     for _ in 0..2 {
-        let Ok(inner) = either(alloc, &night, &morning, horizon) else {
+        if let Ok(list) = made(rt, alloc, what, &night, &morning) {
+            assert!(rt; has_ends(&list, wanted));
             return;
-        };
-        if let Ok(mut cursor) = Cursor::outside(alloc, inner, horizon) {
-            assert!(rt; cursor.nodes() == 6);
-            gives(&rt, &mut cursor, NEW_YEAR * DAY, &NEITHER);
+        }
+    }
+    panic!(rt; "refused twice");
+}
+
+#[test]
+fn spans_of_domains(rt: HostRuntime) {
+    for &(what, wanted) in &MADE {
+        expect_made(&rt, rt.alloc(), what, wanted);
+    }
+}
+
+// The next change over the horizon from the second's day on.
+fn change(
+    rt: &impl Abort,
+    alloc: Global,
+    domain: &Domain,
+    second: Sec,
+    to_day: i64,
+) -> Result<Option<Sec>, AllocError> {
+    let horizon = horizon(rt, second.day(), to_day);
+    assert!(rt; horizon.from() <= second && second < horizon.until());
+    next_change(alloc, domain, second, horizon)
+}
+
+// From ten o'clock on 1 April 2024 on.
+fn expect_change(rt: &impl Abort, alloc: Global, text: &[u8], wanted: Option<Sec>) {
+    let Ok(domain) = read_domain(alloc, text) else {
+        return;
+    };
+    let ten = Sec(19_814 * DAY + 10 * HOUR);
+    for _ in 0..2 {
+        if let Ok(change) = change(rt, alloc, &domain, ten, 19_817) {
+            assert!(rt; change == wanted);
+            return;
+        }
+    }
+    panic!(rt; "refused twice");
+}
+
+// Of a domain that repeats each week, and of one that does not.
+#[test]
+fn changes_in_a_horizon(rt: HostRuntime) {
+    let alloc = rt.alloc();
+    let tuesday = Some(Sec(19_815 * DAY));
+    expect_change(&rt, alloc, b"[(t2){d1}]", tuesday);
+    let two = Some(Sec(19_814 * DAY + 14 * HOUR));
+    expect_change(&rt, alloc, TEXT, two);
+    expect_change(&rt, alloc, b"[(M4d1){M3}]*[(t2){d5}]", None);
+}
+
+#[test]
+fn a_change_for_ever(rt: HostRuntime) {
+    let Ok(domain) = read_domain(rt.alloc(), b"[(M2d29){d1}]*[(h0){h24}]") else {
+        return;
+    };
+    for _ in 0..2 {
+        let answer = next_change_ever(rt.alloc(), &domain, Sec(46_081 * DAY));
+        if answer != Err(EverFault::NoMemory) {
+            assert!(rt; answer == Ok(Some(Sec(49_001 * DAY))));
             return;
         }
     }
@@ -552,23 +410,6 @@ fn a_schedule_of_records(rt: HostRuntime) {
 }
 
 #[test]
-fn open_seconds_of_records(rt: HostRuntime) {
-    let alloc = rt.alloc();
-    let Ok(records) = records(alloc) else {
-        return;
-    };
-    let april = horizon(&rt, 19_814, 19_815);
-    let ends = [(0, 10 * HOUR), (14 * HOUR, DAY)];
-    for _ in 0..2 {
-        if let Ok(mut open) = open_seconds(alloc, &records, 17, Direction::Positive, 11, april) {
-            gives(&rt, &mut open, 19_814 * DAY, &ends);
-            return;
-        }
-    }
-    panic!(rt; "refused twice");
-}
-
-#[test]
 fn hours_that_are_translated(rt: HostRuntime) {
     let Ok(hours) = read_hours(rt.alloc(), b"Fr 22:00-04:00; Sa 10:00-12:00") else {
         return;
@@ -576,7 +417,7 @@ fn hours_that_are_translated(rt: HostRuntime) {
     for _ in 0..2 {
         match domain_of(rt.alloc(), &hours) {
             Ok(_) => return,
-            Err(fault) => assert_eq!(rt; fault, TranslationFault::NoMemory),
+            Err(fault) => assert!(rt; fault == TranslationFault::NoMemory),
         }
     }
     panic!(rt; "refused twice");

@@ -5,6 +5,17 @@ use gtd_text::read_domain;
 use std::alloc::Global;
 use std::process::Abort;
 
+/// A record file of two rows: 88 bytes.
+pub(crate) const R: &str =
+    "element,direction,vehicle,domain\n17,positive,0,[(M4d1){M3}]*[(h10){h4}]\n17,negative,11,\n";
+
+pub(crate) const HOUR: i64 = 3_600;
+
+pub(crate) const DAY: i64 = 86_400;
+
+/// 2024-01-01, a Monday.
+pub(crate) const NEW_YEAR: i64 = 19_723;
+
 /// The domain that this text is.
 pub(crate) fn domain(rt: &impl Abort, alloc: Global, text: &str) -> Domain {
     read_domain(alloc, text.as_bytes()).expect(rt, "a domain")

@@ -1,14 +1,13 @@
 //! Runs over record files, called by what is asked for.
 
-ghost use Rattle.std.specs.Prelude.{◌≡◌, ◌<◌};
+ghost use Rattle.std.specs.Prelude.{◌<◌};
 
 use gtd_core::Horizon;
-use gtd_devices::{Input, MemoryIn, Output};
+use gtd_devices::{Input, Output};
 use gtd_migrate::run_migrate;
 use gtd_records::Direction;
 use gtd_report::RunFault;
 use gtd_schedule::run_schedule;
-use gtd_test_devices::in_pieces;
 use gtd_year::{YearTable, run_year};
 use std::alloc::Global;
 use std::process::Abort;
@@ -56,11 +55,4 @@ pub(crate) fn run<I: Input, O: Output>(
         }
         Job::Migrate => run_migrate(alloc, input, output),
     }
-}
-
-/// The bytes of a file, in pieces of at most 7.
-pub(crate) fn input(rt: &impl Abort, alloc: Global, file: &[u8]) -> MemoryIn
-    ensures { ⟦<MemoryIn as Input>⟧.failure_count result ≡ 0 }
-{
-    in_pieces(alloc, file, None, None).expect(rt, "memory")
 }

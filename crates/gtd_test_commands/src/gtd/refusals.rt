@@ -4,20 +4,20 @@
 //! A refused call is made once more, and must then succeed. So with ample memory it succeeds, and a refusal leaves nothing
 //! behind. A test that is refused the memory that it needs for itself ends.
 
+use crate::devices::R;
 use crate::gtd::job::{APRIL, Job, run};
 use gtd_devices::{MemoryIn, MemoryOut};
 use gtd_records::RecordFault;
 use gtd_report::RunFault;
-use gtd_test_devices::R;
 use std::alloc::Global;
 use std::process::Abort;
 
-/// The schedule of `R` for 2024-04-01 and vehicle type 11: 147 bytes.
+/// The schedule of `R` for 2024-04-01 and vehicle type 11.
 const SCHEDULE: &str = "element,direction,vehicle,from,until\n\
     17,positive,11,2024-04-01T00:00:00,2024-04-01T10:00:00\n\
     17,positive,11,2024-04-01T14:00:00,2024-04-02T00:00:00\n";
 
-/// `R` as a file of version 2: 91 bytes.
+/// `R` as a file of version 2.
 const MIGRATED: &str =
     "element,direction,vehicles,domain\n17,positive,0,[[(M4d1){M3}]*[(h10){h4}]]\n17,negative,11,\n";
 
@@ -54,12 +54,10 @@ fn expect_put(rt: &impl Abort, alloc: Global, job: Job, text: &[u8], lines: u64)
 
 #[test]
 fn a_schedule_that_is_run(rt: HostRuntime) {
-    assert!(rt; SCHEDULE.len() == 147);
     expect_put(&rt, rt.alloc(), APRIL, SCHEDULE.as_bytes(), 3);
 }
 
 #[test]
 fn a_file_that_is_migrated(rt: HostRuntime) {
-    assert!(rt; MIGRATED.len() == 91);
     expect_put(&rt, rt.alloc(), Job::Migrate, MIGRATED.as_bytes(), 3);
 }

@@ -1,30 +1,19 @@
-//! The calls of commands and runs that take no memory, while every growth is refused. Each test asserts the same answers twice,
-//! first with ample memory.
+//! A call of plans that takes no memory, while every growth is refused. It asserts the same answers twice, first with ample
+//! memory.
 
 use crate::growth::switch;
-use crate::gtd::plans::planned;
-use gtd_records::RecordFault;
-use gtd_report::RunFault;
-use gtd_tool::Refusal;
+use crate::words::owned;
+use gtd_tool::{Plan, plan};
+use std::alloc::Global;
 use std::process::Abort;
 
-fn expect_names(rt: &impl Abort) {
-    assert!(rt; RunFault::YearRange.name() == "YearRange");
-    let header = RunFault::Records(RecordFault::Header);
-    assert!(rt; header.name() == "Records");
-    assert!(rt; RunFault::WriteFault { written: 5 }.name() == "WriteFault");
-    assert!(rt; RunFault::NoMemory { written: 5 }.name() == "NoMemory");
-    assert!(rt; Refusal::Usage.status() == 2);
-    assert!(rt; Refusal::Open.status() == 3);
-    assert!(rt; Refusal::HasYear.status() == 1);
-}
-
-#[test]
-fn names_and_statuses(rt: HostRuntime) {
-    expect_names(&rt);
-    switch(rt.alloc());
-    expect_names(&rt);
-    switch(rt.alloc());
+// The plan of the words.
+fn planned(rt: &impl Abort, alloc: Global, words: &[&str]) -> Plan {
+    let words = owned(alloc, words).expect(rt, "memory");
+    match plan(alloc, words) {
+        Ok(plan) => plan,
+        Err(refusal) => panic!(rt; "{refusal}"),
+    }
 }
 
 #[test]
