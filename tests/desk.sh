@@ -121,6 +121,18 @@ expect 'interrupted while it reads' 130 '' ''
 run now gone.csv 2024-04-01T10:00:00 11
 expect 'no file' 3 '' 'gtdesk: gone.csv: cannot be opened'
 run now $'a\nb\\\xc3\xa9' 2024-04-01T10:00:00 11
+# Ctrl-C while the output takes no more: a first part was printed, and nothing else.
+{ head -n 1 a.csv; printf '%s,both,0,\n' {1..3000}; } > long.csv
+"$program" now long.csv 2024-04-01T10:00:00 11 > whole
+mkfifo full
+exec 4<> full
+timeout --preserve-status -s INT 0.5 "$program" now long.csv 2024-04-01T10:00:00 11 >&4 2> err
+status=$?
+timeout 0.5 cat full > part
+exec 4>&-
+: > out
+[ -s part ] && [ "$(stat -c %s part)" -lt "$(stat -c %s whole)" ] && cmp -s -n "$(stat -c %s part)" part whole || status=wrong
+expect 'interrupted while it writes' 130 '' ''
 expect 'a name that is shown escaped' 3 '' 'gtdesk: a\x0ab\x5c\xc3\xa9: cannot be opened'
 run now . 2024-04-01T10:00:00 11
 expect 'a folder' 3 '' 'gtdesk: .: ReadFault'
