@@ -73,9 +73,9 @@ expect 'no words' 0 "$(cat "$top/tests/desk/help.txt")" ''
 see='(see gtdesk --help)'
 run yesterday
 expect 'no command' 2 '' "gtdesk: command line: unrecognized subcommand $see"
-run now a.csv
+run now
 expect 'words left out' 2 '' "gtdesk: command line: one or more required arguments were not provided $see"
-run now a.csv 2024-04-01T10:00:00 11 12
+run words '(h1){h1}' '(h1){h1}'
 expect 'a word too many' 2 '' "gtdesk: command line: unexpected argument found $see"
 run now a.csv 2024-04-01T10:00:00 $'\xff'
 expect 'a word that is no text' 2 '' "gtdesk: command line: a word is no text $see"
@@ -107,6 +107,11 @@ expect 'standard input' 0 "$header"$'\n'"$at_ten"$'\n'"$always" ''
 head -n 1 a.csv > none.csv
 run now none.csv 2024-04-01T10:00:00 11
 expect 'no rows' 0 "$header" ''
+
+run now a.csv none.csv 2024-04-01T10:00:00 11
+expect 'two files' 0 "$header"$'\n'"$at_ten"$'\n'"$always"$'\n'"$header" ''
+run now gone.csv none.csv 2024-04-01T10:00:00 11
+expect 'a file that is gone, and another' 3 "$header" 'gtdesk: gone.csv: cannot be opened'
 
 # Ctrl-C while the file is read: the shell reports status 130, and nothing was printed.
 mkfifo waits

@@ -83,9 +83,8 @@ now_stand rows p h = ((p.moment.second, h.1), view_stands rows _ p.view h.2)
 
 zone_stand : (rows : List Row) (p : ZonePlan) → now.IsZonePlan rows p → AllStand (now.zone_words rows)
 zone_stand rows p h =
-    both_stand (now.view_words rows (text_of (codes "MOMENT") rows))
-    (word_as name.Zone (Reading.zone (text_of (codes "zone") rows)) ∷ [])
-    (view_stands rows (text_of (codes "MOMENT") rows) p.view h.view_is) (h.names_zone, tt)
+    both_stand (now.view_words rows (now.vehicle_word rows)) (word_as name.Zone (Reading.zone (text_of (codes "zone") rows)) ∷ [])
+    (view_stands rows (now.vehicle_word rows) p.view h.view_is) (h.names_zone, tt)
 
 same_stand : (rows : List Row) (p : SamePlan) → same.IsPlan rows p → AllStand (same.words rows)
 same_stand rows p h =

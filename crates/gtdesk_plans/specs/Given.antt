@@ -1,6 +1,6 @@
 -- Which words of a command are given.
 use Rattle.std.specs.Prelude.{◌≡◌, ◌⊎◌, ◌||◌, ◌&&◌, Bool, false, List, [], ◌∷◌, Option, Some, None, Result, Ok, Err, codes}
-use Rattle.std.specs.Prelude.{if◌then◌else◌}
+use Rattle.std.specs.Prelude.{if◌then◌else◌, is_ok, length, nat_lt, not}
 use Rattle.std.specs.Str.{bytes_eq}
 use Rattle.clap.specs.Walk.{Row}
 use Rattle.clap.specs.Simple.{subcommand_of}
@@ -10,7 +10,8 @@ use Rattle.clap.specs.declared.error.kind.ErrorKind.{ErrorKind}
 use Rattle.gtdesk_plans.specs.Arguments.{Text}
 use Rattle.gtdesk_plans.specs.CommandLine.{desk_app, is_request, usage_text}
 use Rattle.gtdesk_plans.specs.Hints.{meant_by}
-use Rattle.gtdesk_plans.specs.Rows.{has_value, is_given, is_read_once, text_of, texts_of}
+use Rattle.gtd_moments.specs.Moments.{moment_in}
+use Rattle.gtdesk_plans.specs.Rows.{but_last, from_last, has_value, is_given, is_read_once, text_of, texts_of}
 use Rattle.gtdesk_plans.specs.declared.forms.Form.{Form}
 use Rattle.gtdesk_plans.specs.declared.forms.Form.TheVariants as form
 use Rattle.gtdesk_plans.specs.declared.forms.Misuse.{Misuse}
@@ -23,28 +24,33 @@ told_of misuse.StrictDomain = codes "hours takes --strict with TEXT alone"
 told_of misuse.WordsOrFile = codes "same takes either FIRST and SECOND or --file FILE alone"
 told_of misuse.NoWarnings = codes "faults takes --allow and --at with --warn alone"
 told_of misuse.FileOrHours = codes "mend takes either FILE or hours TEXT"
-told_of misuse.MomentOrZone = codes "now takes either MOMENT or --zone NAME"
+told_of misuse.MomentOrZone = codes "now takes FILE.. MOMENT VEHICLE, or FILE.. VEHICLE --zone NAME"
 told_of misuse.TwoForms = codes "now takes either --json or --table"
 told_of misuse.InputTwice = codes "standard input is given more than once"
 told_of misuse.Nothing = codes "the words are not understood"
 
--- `now` at a moment or by the clock of a zone, by whether the zone and a third word are given: with a zone, the second word is the
--- last.
-abbrev pub moment_form : Bool → Bool → Result Form Misuse
-moment_form zone third =
-    if zone then (if third then Err misuse.MomentOrZone else Ok form.NowIn)
-    else if third then Ok form.Now
+-- A form whose files are these: standard input is one of them at most.
+abbrev pub form_with : Form → List Text → Result Form Misuse
+form_with form files = if is_read_once files then Ok form else Err misuse.InputTwice
+
+-- `now` of files, at a moment, for a vehicle type: the last word but one is the moment.
+abbrev pub moment_form : List Text → Result Form Misuse
+moment_form words = if nat_lt 2 (length words) then form_with form.Now (but_last 2 words) else Err misuse.MomentOrZone
+
+-- The same by the clock of a zone: all words but the last are files, and the last of these is no moment.
+abbrev pub zone_form : List Text → Result Form Misuse
+zone_form words =
+    if nat_lt 1 (length words) && not (is_ok (moment_in (from_last 1 words))) then form_with form.NowIn (but_last 1 words)
     else Err misuse.MomentOrZone
+
+abbrev pub words_form : List Text → Bool → Result Form Misuse
+words_form words zone = if zone then zone_form words else moment_form words
 
 -- An answer has one form.
 abbrev pub now_form : List Row → Result Form Misuse
 now_form rows =
     if is_given (codes "json") rows && is_given (codes "table") rows then Err misuse.TwoForms
-    else moment_form (has_value (codes "zone") rows) (has_value (codes "VEHICLE") rows)
-
--- A form whose files are these: standard input is one of them at most.
-abbrev pub form_with : Form → List Text → Result Form Misuse
-form_with form files = if is_read_once files then Ok form else Err misuse.InputTwice
+    else words_form (texts_of (codes "FILE") rows) (has_value (codes "zone") rows)
 
 -- Options of warnings go with warnings.
 abbrev pub warned_form : Bool → Bool → Bool → List Text → Result Form Misuse

@@ -51,7 +51,7 @@ AreRefused words refusal.Memory = Unit {0}
 
 -- The paths of the files that a plan reads, one after the other.
 abbrev pub files_of : OnePlan → List Text
-files_of (one.Now p) = string_bytes p.file ∷ []
+files_of (one.Now p) = map string_bytes p.files.items
 files_of (one.Faults p) = map string_bytes p.files.items
 files_of (one.Picture p) = string_bytes p.file ∷ []
 files_of (one.SameRows files) = map string_bytes files.items
@@ -67,4 +67,10 @@ texts_in (files.Several paths) = map string_bytes paths.now
 
 -- The plan of a zone, once it is known which moment its clock shows.
 abbrev pub plan_at : ZonePlan → Moment → OnePlan
-plan_at p moment = one.Now (record { file = p.file; moment = moment; view = p.view })
+plan_at p moment = one.Now (record { files = p.files; moment = moment; view = p.view })
+
+-- The text of opening hours that a plan reads when it is carried out; nothing, if it reads none.
+abbrev pub hours_text_of : OnePlan → Text
+hours_text_of (one.DomainOf p) = string_bytes p.text
+hours_text_of (one.MendHours given) = string_bytes given
+hours_text_of other = []

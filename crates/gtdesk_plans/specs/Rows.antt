@@ -1,6 +1,6 @@
 -- The words and options of a command, in what `clap` found for it.
-use Rattle.std.specs.Prelude.{◌||◌, Bool, true, false, not, List, [], ◌∷◌, Option, Some, None, codes, is_some, unwrap_or}
-use Rattle.std.specs.Prelude.{if◌then◌else◌}
+use Rattle.std.specs.Prelude.{◌||◌, ◌-◌, ℕ, Bool, true, false, not, List, [], ◌∷◌, Option, Some, None, codes, get_or, is_some}
+use Rattle.std.specs.Prelude.{if◌then◌else◌, length, nat_lt, take, unwrap_or}
 use Rattle.std.specs.Str.{bytes_eq}
 use Rattle.clap.specs.Walk.{Row, all_of, first_of}
 use Rattle.gtdesk_plans.specs.Arguments.{Text}
@@ -12,6 +12,14 @@ text_of name rows = unwrap_or (first_of name rows) []
 -- The words of this name, or the values of the option.
 abbrev pub texts_of : Text → List Row → List Text
 texts_of name rows = unwrap_or (all_of name rows) []
+
+-- Words without their last ones, of which there are so many.
+abbrev pub but_last : ℕ → List Text → List Text
+but_last count words = take (length words - count) words
+
+-- The word that stands before so many others at the end.
+abbrev pub from_last : ℕ → List Text → Text
+from_last behind words = if nat_lt behind (length words) then get_or words (length words - 1 - behind) [] else []
 
 -- What `clap` keeps of an option without a value says that it was given.
 abbrev pub is_set : Option Text → Bool

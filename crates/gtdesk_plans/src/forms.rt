@@ -1,13 +1,15 @@
 //! The forms of commands.
 
-ghost use Rattle.std.specs.Prelude.{◌≡◌};
+ghost use Rattle.std.specs.Prelude.{◌≡◌, is_ok, map};
 ghost use Rattle.clap.specs.Matches.{found_of};
 ghost use Rattle.clap.specs.Walk.{rows_of};
+ghost use Rattle.gtd_moments.specs.Moments.{moment_in};
 ghost use Rattle.gtdesk_plans.specs.Given as spec;
 ghost use Rattle.gtdesk_plans.specs.Rows.{texts_of};
 
-use crate::given::{has_value, is_given, is_read_once, text};
+use crate::given::{but_last, from_last, has_value, is_given, is_once, is_read_once, text, values};
 use clap::ArgMatches;
+use gtd_moments::read_moment;
 
 /// The form of a command. Some commands have two or three.
 #[derive(Clone, Copy)]
@@ -59,7 +61,7 @@ pub(crate) enum Misuse {
     NoWarnings,
     /// `mend` has two words, of which the first is not `hours`.
     FileOrHours,
-    /// `now` has both a moment and a zone, or neither.
+    /// `now` has both a moment and a zone, or neither; or no file or vehicle type.
     MomentOrZone,
     /// `now` is to print two forms.
     TwoForms,
@@ -83,7 +85,9 @@ impl Misuse {
             Misuse::WordsOrFile => "same takes either FIRST and SECOND or --file FILE alone",
             Misuse::NoWarnings => "faults takes --allow and --at with --warn alone",
             Misuse::FileOrHours => "mend takes either FILE or hours TEXT",
-            Misuse::MomentOrZone => "now takes either MOMENT or --zone NAME",
+            Misuse::MomentOrZone => {
+                "now takes FILE.. MOMENT VEHICLE, or FILE.. VEHICLE --zone NAME"
+            }
             Misuse::TwoForms => "now takes either --json or --table",
             Misuse::InputTwice => "standard input is given more than once",
             Misuse::Nothing => "the words are not understood",
@@ -102,20 +106,57 @@ fn form_with(form: Form, given: &ArgMatches<'_>, name: &str) -> Result<Form, Mis
     }
 }
 
-// The form of `now`, by whether its zone and its third word are given.
-fn moment_form(zone: bool, third: bool) -> Result<Form, Misuse>
-    ensures { result ≡ spec.moment_form zone third }
+// The same of these files.
+fn form_of_files(form: Form, files: &[&str]) -> Result<Form, Misuse>
+    ensures { result ≡ spec.form_with form (map (λ f. f.now) files.now) }
 {
-    if zone {
-        if third {
-            Err(Misuse::MomentOrZone)
-        } else {
-            Ok(Form::NowIn)
-        }
-    } else if third {
-        Ok(Form::Now)
+    if is_once(files) {
+        Ok(form)
+    } else {
+        Err(Misuse::InputTwice)
+    }
+}
+
+// The form of `now` with these words, of which the last but one is to be a moment.
+fn moment_form(words: &[&str]) -> Result<Form, Misuse>
+    ensures { result ≡ spec.moment_form (map (λ w. w.now) words.now) }
+{
+    if words.len() > 2 {
+        form_of_files(Form::Now, but_last(words, 2))
     } else {
         Err(Misuse::MomentOrZone)
+    }
+}
+
+// Whether a word is a moment.
+fn is_moment(word: &str) -> bool
+    ensures { result ≡ is_ok (moment_in word.now) }
+{
+    match read_moment(word.as_bytes()) {
+        Ok(_) => true,
+        Err(_) => false,
+    }
+}
+
+// The form of `now` with these words, if a zone is given.
+fn zone_form(words: &[&str]) -> Result<Form, Misuse>
+    ensures { result ≡ spec.zone_form (map (λ w. w.now) words.now) }
+{
+    if words.len() > 1 && !is_moment(from_last(words, 1)) {
+        form_of_files(Form::NowIn, but_last(words, 1))
+    } else {
+        Err(Misuse::MomentOrZone)
+    }
+}
+
+// The form of `now` with these words, by whether a zone is given.
+fn words_form(words: &[&str], zone: bool) -> Result<Form, Misuse>
+    ensures { result ≡ spec.words_form (map (λ w. w.now) words.now) zone }
+{
+    if zone {
+        zone_form(words)
+    } else {
+        moment_form(words)
     }
 }
 
@@ -126,7 +167,10 @@ fn now_form(given: &ArgMatches<'_>) -> Result<Form, Misuse>
     if is_given(given, "json") && is_given(given, "table") {
         return Err(Misuse::TwoForms);
     }
-    moment_form(has_value(given, "zone"), has_value(given, "VEHICLE"))
+    match values(given, "FILE") {
+        Some(words) => words_form(words, has_value(given, "zone")),
+        None => Err(Misuse::MomentOrZone),
+    }
 }
 
 // The form of `faults`.

@@ -25,15 +25,32 @@ pub(crate) fn text<'a>(given: &ArgMatches<'a>, name: &str) -> &'a str
     }
 }
 
-// Its values, if it was given.
-fn values<'m, 'a>(given: &'m ArgMatches<'a>, name: &str) -> Option<&'m [&'a str]>
+/// Its values, if it was given.
+pub(crate) fn values<'m, 'a>(given: &'m ArgMatches<'a>, name: &str) -> Option<&'m [&'a str]>
     ensures { option_map (λ s. map (λ t. t.now) s.now) result ≡ all_of name.now (rows_of (found_of given.now)) }
 {
     given.get_raw(name)
 }
 
-// The same texts, to be kept.
-fn owned(alloc: Global, texts: &[&str]) -> Result<Vec<String>, AllocError>
+/// Words without their last ones, of which there are so many.
+pub(crate) fn but_last<'m, 'a>(words: &'m [&'a str], count: usize) -> &'m [&'a str]
+    ensures { map (λ t. t.now) result.now ≡ spec.but_last count (map (λ t. t.now) words.now) }
+{
+    &words[..words.len().saturating_sub(count)]
+}
+
+/// The word that stands before so many others at the end.
+pub(crate) fn from_last<'a>(words: &[&'a str], behind: usize) -> &'a str
+    ensures { result.now ≡ spec.from_last behind (map (λ t. t.now) words.now) }
+{
+    if words.len() <= behind {
+        return "";
+    }
+    words[words.len() - 1 - behind]
+}
+
+/// The same texts, to be kept.
+pub(crate) fn owned(alloc: Global, texts: &[&str]) -> Result<Vec<String>, AllocError>
     ensures { IfOk result (λ owned. map string_bytes owned.items ≡ map (λ t. t.now) texts.now) }
 {
     let mut owned = Vec::new(alloc);
@@ -94,8 +111,8 @@ fn has_input(files: &[&str]) -> bool
     }
 }
 
-// Whether it is among them once at most.
-fn is_once(files: &[&str]) -> bool
+/// Whether standard input is among these files once at most.
+pub(crate) fn is_once(files: &[&str]) -> bool
     ensures { result ≡ spec.is_read_once (map (λ f. f.now) files.now) }
 {
     match files {

@@ -11,7 +11,7 @@ use gtd_core::Domain;
 pub enum Plan {
     /// What reads one file at a time, or none.
     One(OnePlan),
-    /// To print the state of the elements of a record file at the moment that the clock of a time zone shows.
+    /// To print the state of the elements of record files at the moment that the clock of a time zone shows.
     NowIn(ZonePlan),
     /// To print what two record files say differently.
     Diff(DiffPlan),
@@ -22,7 +22,7 @@ pub enum Plan {
 /// What a command line asks for that reads one file at a time, or none.
 #[derive(Drop)]
 pub enum OnePlan {
-    /// To print the state of the elements of a record file.
+    /// To print the state of the elements of record files.
     Now(NowPlan),
     /// To list the faults of record files.
     Faults(FaultsPlan),
@@ -70,7 +70,7 @@ impl OnePlan {
         ensures value { texts_in result ≡ files_of self.now }
     {
         match self {
-            OnePlan::Now(plan) => Files::One(plan.file.as_str()),
+            OnePlan::Now(plan) => Files::Several(plan.files.as_slice()),
             OnePlan::Faults(plan) => Files::Several(plan.files.as_slice()),
             OnePlan::Picture(plan) => Files::One(plan.file.as_str()),
             OnePlan::SameRows(files) => Files::Several(files.as_slice()),

@@ -1,14 +1,16 @@
 //! The command `now`, at a moment and by the clock of a time zone.
 
-ghost use Rattle.std.specs.Prelude.{◌≡◌, MatchResult};
+ghost use Rattle.std.specs.Prelude.{◌≡◌, IfOk, MatchResult, codes, map, string_bytes};
 ghost use Rattle.clap.specs.Matches.{found_of};
 ghost use Rattle.clap.specs.Walk.{rows_of};
 ghost use Rattle.gtdesk_plans.specs.Arguments.{Builds};
+ghost use Rattle.gtdesk_plans.specs.Commands.Now as spec;
 ghost use Rattle.gtdesk_plans.specs.Commands.Now.{Asks, AsksIn, IsView, app, view_words, words, zone_words};
+ghost use Rattle.gtdesk_plans.specs.Rows.{but_last, texts_of};
 ghost use Rattle.gtdesk_words.specs.Readings.{AreStopped};
 
-use crate::arguments::{Argument, FILE, with_arguments};
-use crate::given::{is_given, text, value};
+use crate::arguments::{Argument, with_arguments};
+use crate::given::{but_last, from_last, is_given, owned, text, value, values};
 use crate::plans::{OnePlan, Plan};
 use clap::{ArgMatches, Command};
 use gtdesk_words::{Moment, WordsRefusal, elements_of, moment_of, vehicle_of, zone_of};
@@ -31,11 +33,11 @@ pub struct NowView {
     pub table: bool,
 }
 
-/// The state of the elements of a record file at a moment.
+/// The state of the elements of record files at a moment.
 #[derive(Drop)]
 pub struct NowPlan {
-    /// The file's path, or `-` for standard input.
-    pub file: String,
+    /// The files' paths, or `-` for standard input, which is one of them at most.
+    pub files: Vec<String>,
     /// The moment.
     pub moment: Moment,
     /// What is printed.
@@ -45,8 +47,8 @@ pub struct NowPlan {
 /// The same at the moment that the clock of a time zone shows.
 #[derive(Drop)]
 pub struct ZonePlan {
-    /// The file's path, or `-` for standard input.
-    pub file: String,
+    /// The files' paths, or `-` for standard input, which is one of them at most.
+    pub files: Vec<String>,
     /// The name of the zone.
     pub zone: String,
     /// What is printed.
@@ -62,28 +64,28 @@ impl ZonePlan {
         ensures plan { result ≡ plan_at self moment }
     {
         let ZonePlan {
-            file,
+            files,
             zone: _,
             view,
         } = self;
-        OnePlan::Now(NowPlan { file, moment, view })
+        OnePlan::Now(NowPlan {
+            files,
+            moment,
+            view,
+        })
     }
 }
 
 // What help says of it.
 const ABOUT: &str =
-    "Print whether each element of a record file is open at a moment, until when, and by which rows it is closed";
+    "Print whether each element of record files is open at a moment, until when, and by which rows it is closed";
 
 // Its words and options.
-const ARGUMENTS: [Argument; 9] = [
-    FILE,
-    Argument::Word {
-        name: "MOMENT",
-        help: "The second, YYYY-MM-DDThh:mm:ss, of the local clock; left out with --zone",
-    },
-    Argument::FreeWord {
-        name: "VEHICLE",
-        help: "The vehicle type, from 1 to 99",
+const ARGUMENTS: [Argument; 7] = [
+    Argument::Words {
+        name: "FILE",
+        help: "The record files, of which one may be - for standard input; then MOMENT, the second, \
+            YYYY-MM-DDThh:mm:ss, of the local clock, left out with --zone; then VEHICLE, the vehicle type, from 1 to 99",
     },
     Argument::Flag {
         name: "closed",
@@ -113,12 +115,12 @@ const ARGUMENTS: [Argument; 9] = [
     },
 ];
 
-/// The command for `clap`. Of its words one is to be left out with an option, which the library does not see to.
+/// The command for `clap`. Its words are one list, of which one is left out with an option, which the library does not see to.
 pub(crate) fn command<'a>(alloc: Global) -> Result<Command<'a>, AllocError>
     ensures { Builds app result }
 {
     let command = Command::new(alloc, "now").about(ABOUT).override_usage(
-        "gtdesk now <[OPTIONS] <FILE> <MOMENT> <VEHICLE>|[OPTIONS] <FILE> <VEHICLE> --zone <NAME>>",
+        "gtdesk now <[OPTIONS] <FILE>... <MOMENT> <VEHICLE>|[OPTIONS] <FILE>... <VEHICLE> --zone <NAME>>",
     );
     with_arguments(alloc, command, &ARGUMENTS)
 }
@@ -149,30 +151,69 @@ fn view_of(alloc: Global, given: &ArgMatches<'_>, vehicle: &str) -> Result<NowVi
     }
 }
 
+/// The word of the vehicle type.
+pub(crate) fn vehicle_word<'a>(given: &ArgMatches<'a>) -> &'a str
+    ensures { result.now ≡ spec.vehicle_word (rows_of (found_of given.now)) }
+{
+    match values(given, "FILE") {
+        Some(words) => from_last(words, 0),
+        None => "",
+    }
+}
+
+/// The word of the moment, if no zone is given.
+pub(crate) fn moment_word<'a>(given: &ArgMatches<'a>) -> &'a str
+    ensures { result.now ≡ spec.moment_word (rows_of (found_of given.now)) }
+{
+    match values(given, "FILE") {
+        Some(words) => from_last(words, 1),
+        None => "",
+    }
+}
+
+// The words before the last ones, of which there are so many.
+fn files_before(
+    alloc: Global,
+    given: &ArgMatches<'_>,
+    count: usize,
+) -> Result<Vec<String>, AllocError>
+    ensures { IfOk result (λ files. map string_bytes files.items
+        ≡ but_last count (texts_of (codes "FILE") (rows_of (found_of given.now)))) }
+{
+    match values(given, "FILE") {
+        Some(words) => owned(alloc, but_last(words, count)),
+        None => Ok(Vec::new(alloc)),
+    }
+}
+
 /// What the words given ask for at a moment.
 pub(crate) fn plan(alloc: Global, given: &ArgMatches<'_>) -> Result<Plan, WordsRefusal>
     ensures { MatchResult result (Asks (rows_of (found_of given.now))) (AreStopped (words (rows_of (found_of given.now)))) }
 {
-    let moment = match moment_of(text(given, "MOMENT")) {
+    let moment = match moment_of(moment_word(given)) {
         Ok(moment) => moment,
         Err(refusal) => return Err(refusal),
     };
-    let view = match view_of(alloc, given, text(given, "VEHICLE")) {
+    let view = match view_of(alloc, given, vehicle_word(given)) {
         Ok(view) => view,
         Err(refusal) => return Err(refusal),
     };
-    match String::from_str(alloc, text(given, "FILE")) {
-        Ok(file) => Ok(Plan::One(OnePlan::Now(NowPlan { file, moment, view }))),
+    match files_before(alloc, given, 2) {
+        Ok(files) => Ok(Plan::One(OnePlan::Now(NowPlan {
+            files,
+            moment,
+            view,
+        }))),
         Err(_) => Err(WordsRefusal::Memory),
     }
 }
 
-/// What they ask for by the clock of a time zone. Their second word is the vehicle type.
+/// What they ask for by the clock of a time zone.
 pub(crate) fn plan_zone(alloc: Global, given: &ArgMatches<'_>) -> Result<Plan, WordsRefusal>
     ensures { MatchResult result (AsksIn (rows_of (found_of given.now)))
         (AreStopped (zone_words (rows_of (found_of given.now)))) }
 {
-    let view = match view_of(alloc, given, text(given, "MOMENT")) {
+    let view = match view_of(alloc, given, vehicle_word(given)) {
         Ok(view) => view,
         Err(refusal) => return Err(refusal),
     };
@@ -184,8 +225,8 @@ pub(crate) fn plan_zone(alloc: Global, given: &ArgMatches<'_>) -> Result<Plan, W
         Ok(zone) => zone,
         Err(_) => return Err(WordsRefusal::Memory),
     };
-    match String::from_str(alloc, text(given, "FILE")) {
-        Ok(file) => Ok(Plan::NowIn(ZonePlan { file, zone, view })),
+    match files_before(alloc, given, 1) {
+        Ok(files) => Ok(Plan::NowIn(ZonePlan { files, zone, view })),
         Err(_) => Err(WordsRefusal::Memory),
     }
 }

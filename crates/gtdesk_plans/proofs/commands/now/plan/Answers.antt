@@ -6,6 +6,6 @@ use Rattle.gtdesk_words.specs.facts.Readings.{stopped_past}
 
 pub returns-in-Err-view_of : goal.returns-in-Err-view_of
 returns-in-Err-view_of c =
-    let moment = rw c.text.ensures at c.in-Ok.ensures in
+    let moment = rw c.moment_word.ensures at c.in-Ok.ensures in
     stopped_past 1 (words (rows_of (found_of c.args.given.now))) c.in-Err-view_of.refusal
-    ((c.in-Ok.moment.second, moment), tt) (rw c.text-2.ensures at c.in-Err-view_of.ensures)
+    ((c.in-Ok.moment.second, moment), tt) (rw c.vehicle_word.ensures at c.in-Err-view_of.ensures)
