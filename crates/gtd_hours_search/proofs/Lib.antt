@@ -1,2 +1,3 @@
+pub mod Ever
 pub mod FormLemmas
 pub mod OrderLemmas
