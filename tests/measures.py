@@ -24,6 +24,9 @@ LONG = 7
 COMMAND = ("gtd", r"\b[Mm]igrate\b", ["gtd_tool"])
 DESK_COMMAND = ("gtdesk", r"DomainPicture|picture-domain|domain_picture", ["gtdesk_plans", "gtdesk_tool"])
 REPORT = "gtd_year"
+# What begins to read the rows of a file. The walk over rows in `places.rt` is for the lists of other commands.
+READING = r"\b(?:take_rows|table|faults_of|read_records|Rows::new)\("
+LISTING = ["gtd_warnings", "gtd_faults"]
 
 
 def tracked(*patterns):
@@ -102,6 +105,8 @@ def measured():
         shown = " and ".join(f"`{it}`" for it in owners)
         yield f"files of {shown} that name one command of `{program}`", len(naming(words, owners))
     yield f"files of the smallest report, `{REPORT}`", len(code_of(REPORT))
+    listing = [name for crate in LISTING for name in code_of(crate) if name.endswith(".rt") and not name.endswith("/places.rt")]
+    yield "readings of a file for `gtdesk faults --warn`", sum(len(re.findall(READING, text_of(name))) for name in listing)
     yield "bytes of the documents (README, CONTRIBUTING, `docs/`)", sum(len(text_of(it).encode()) for it in documents)
     yield "bytes of the printed definitions, `STATEMENT.txt`", len(text_of("STATEMENT.txt").encode())
 

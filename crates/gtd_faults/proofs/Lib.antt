@@ -1,4 +1,6 @@
 pub mod ListFacts
+pub mod ListedFacts
+pub mod NamingFacts
 pub mod OneList
 pub mod PlaceFacts
 pub mod RowsFacts

@@ -12,7 +12,7 @@ use Rattle.gtd_records.specs.File.{IsFile, header}
 use Rattle.gtd_records.specs.facts.OneAnswer.{one_version}
 use Rattle.gtd_records.specs.declared.fault.RecordFault.{RecordFault}
 use Rattle.gtd_records.specs.declared.vehicles.Version.{Version}
-use Rattle.gtd_faults.specs.Below.{IsBelow, IsOfField, below_text}
+use Rattle.gtd_faults.specs.Below.{IsBelow, below_text}
 use Rattle.gtd_mistakes.specs.declared.told.Told.{Told}
 use Rattle.gtd_warnings.specs.declared.codes.LoneCode.{LoneCode}
 use Rattle.gtd_faults.specs.Doubts.{AreDoubtLines, AreLoneLines, IsOfPart, doubt_below, doubt_line, lone_line}
@@ -66,22 +66,19 @@ doubt_lines_more path bytes (x ∷ told) one text line below on at is =
       rw (is.6) (append_assoc (doubt_line path is.0 x ++ doubt_below x is.2) is.4 more),
     )
 
--- the lines of one code more
-pub lone_lines_more : (path bytes : List ℕ) (lone : List LoneCode) (one : LoneCode) (text : List ℕ) (line : ℕ) (below : Below)
-    → IsLine bytes one.row line → IsOfField (field_of bytes one.row 2) 0 below → AreLoneLines path bytes lone text
-    → AreLoneLines path bytes (lone ++ one ∷ []) (text ++ (lone_line path line one ++ below_text below))
-lone_lines_more path bytes [] one text line below on at is =
-    (line, on, below, at, [], refl, rw is (sym (append-nil (lone_line path line one ++ below_text below))))
-lone_lines_more path bytes (x ∷ lone) one text line below on at is =
-    let more = lone_line path line one ++ below_text below in (
-      is.0,
-      is.1,
-      is.2,
-      is.3,
-      is.4 ++ more,
-      lone_lines_more path bytes lone one is.4 line below on at is.5,
-      rw (is.6) (append_assoc (lone_line path is.0 x ++ below_text is.2) is.4 more),
-    )
+-- the lines of codes, and of those after them
+pub lone_lines_join : (path bytes : List ℕ) (lone more : List LoneCode) (text last : List ℕ) → AreLoneLines path bytes lone text
+    → AreLoneLines path bytes more last → AreLoneLines path bytes (lone ++ more) (text ++ last)
+lone_lines_join path bytes [] more text last is also = rw is also
+lone_lines_join path bytes (x ∷ lone) more text last is also = (
+  is.0,
+  is.1,
+  is.2,
+  is.3,
+  is.4 ++ last,
+  lone_lines_join path bytes lone more is.4 last is.5 also,
+  rw (is.6) (append_assoc (lone_line path is.0 x ++ below_text is.2) is.4 last),
+)
 
 abbrev Accepted : List ℕ → Type 0
 Accepted bytes = (found : List Restriction) × IsFile bytes (Ok found)

@@ -1,10 +1,8 @@
 -- What the output took, if a text is the list of a file.
-use Rattle.std.proofs.Common.{◌≡◌, ◌<◌, inr, refl, ℕ, List, [], ◌∷◌, ◌++◌, length}
+use Rattle.std.proofs.Common.{◌<◌, inr, refl, ℕ, List, [], ◌∷◌, length}
 use Rattle.std.proofs.Common.{Option, Some, None, append-nil, sym}
 use Rattle.std.specs.Prelude.{IfSome, Result, Ok, Err}
 use Rattle.gtd_core.specs.Limits.{most_file_bytes}
-use Rattle.gtd_records.specs.Faults.{AreFileFaults}
-use Rattle.gtd_records.specs.declared.fault.RecordFault.{RecordFault}
 use Rattle.gtd_records.specs.declared.fault.RecordFault.TheVariants as records
 use Rattle.gtd_warnings.specs.declared.file.Asked.{Asked}
 use Rattle.gtd_faults.specs.Doubts.{AreDoubts}
@@ -58,32 +56,3 @@ pub large_listed : (path : List ℕ) (file old new : Option (List ℕ)) (asked :
     → IfSome file (λ bytes. HasListed path asked bytes old new result)
 large_listed path None old new asked result more listed = tt
 large_listed path (Some bytes) old new asked result more listed = listed bytes asked more
-
--- the list of a file's faults alone
-pub plain_list : (path bytes text : List ℕ) (asked : Option Asked) (faults : List RecordFault) → asked ≡ None
-    → AreFileFaults bytes faults → AreLines path bytes faults text → IsList path bytes asked (length faults) text
-plain_list path bytes text asked faults off all lines = rw off (record {
-  faults = faults;
-  all = all;
-  counted = refl;
-  first = text;
-  lines = lines;
-  last = [];
-  warned = refl;
-  whole = sym (append-nil text);
-})
-
--- the list with its warnings
-pub warned_list : (path bytes first last text : List ℕ) (asked : Option Asked) (faults : List RecordFault) (what : Asked)
-    → asked ≡ Some what → AreFileFaults bytes faults → AreLines path bytes faults first → AreDoubts path what bytes last
-    → text ≡ first ++ last → IsList path bytes asked (length faults) text
-warned_list path bytes first last text asked faults what on all lines added whole = rw on (record {
-  faults = faults;
-  all = all;
-  counted = refl;
-  first = first;
-  lines = lines;
-  last = last;
-  warned = added;
-  whole = whole;
-})

@@ -3,7 +3,9 @@ pub mod Cut
 pub mod Doubts
 pub mod Expected
 pub mod Hints
+pub mod ListedRows
 pub mod Listing
+pub mod Naming
 pub mod Places
 pub mod Printable
 pub mod Run

@@ -1,4 +1,4 @@
--- At which record of a file its rows stand.
+-- Rows of a file, and at which of them a walk over them stands.
 use Rattle.std.specs.Prelude.{◌≡◌, ℕ, Bool, true, false, List, [], ◌∷◌, Some, drop}
 use Rattle.std.specs.Borrow.{Bor}
 use Rattle.csv.specs.Reading.{default_config, records, strip_bom}
@@ -8,6 +8,14 @@ use Rattle.gtd_records.specs.Columns.{Fields}
 use Rattle.gtd_records.specs.Table.{HasLeft}
 use Rattle.gtd_faults.specs.Cut.{IsPlace}
 use Rattle.gtd_faults.specs.declared.places.Rows.{Rows}
+use Rattle.gtd_faults.specs.declared.row.Row.{Row}
+
+-- the row has its number among the records of these bytes, where the header is record 0, and begins at its place
+pub record IsRowOf (bytes : List ℕ) (row : Row) : Type 0 where
+  pub text : row.bytes.now ≡ bytes
+  pub rest : List Fields
+  pub given : drop row.number (records default_config (strip_bom bytes)) ≡ fields_of row.fields.now ∷ rest
+  pub place : IsPlace bytes row.number row.place
 
 -- a reader gave the record with this number, which has these fields, and has those after it left; or there is none
 abbrev pub HasGiven : Bool → Reader (Bor (List ℕ)) → Fields → ℕ → List Fields → Type 0

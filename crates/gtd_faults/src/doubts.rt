@@ -1,16 +1,29 @@
 //! The lines of warnings.
 
-ghost use Rattle.std.specs.Prelude.{◌≡◌, ◌++◌, IfOk, OnOk, string_bytes};
-ghost use Rattle.gtd_faults.specs.Below.{below_text};
-ghost use Rattle.gtd_faults.specs.Doubts.{AreDoubtLines, AreDoubts, AreLoneLines, doubt_below, doubt_line, lone_line};
+ghost use Rattle.std.specs.Prelude.{◌≡◌, ◌+◌, ◌++◌, ◌∷◌, [], ℕ, List, Option, OnOk, IfOk, cond, length, map, min, nat_lt, string_bytes};
+ghost use Rattle.std.specs.List.{All};
+ghost use Rattle.csv.specs.Records.{fields_of};
+ghost use Rattle.gtd_mistakes.specs.declared.told.Told.{Told};
+ghost use Rattle.gtd_records.specs.Columns.{Fields};
+ghost use Rattle.gtd_records.specs.declared.vehicles.Version.{Version};
+ghost use Rattle.gtd_warnings.specs.Codes.{rows_needed};
+ghost use Rattle.gtd_warnings.specs.declared.file.Asked.{Asked};
+ghost use Rattle.gtd_faults.specs.Doubts.{AreDoubtLines, doubt_below, doubt_line};
+ghost use Rattle.gtd_faults.specs.ListedRows.{AreDoubted, AreDoubtsOfRows};
+ghost use Rattle.gtd_faults.specs.Standing.{IsRowOf};
 
 use crate::below::Below;
-use crate::places::Rows;
+use crate::codes::{Naming, none_named, push_all_lone, take_codes};
 use crate::printable::Printable;
-use crate::sentences::{DoubtText, LoneText, PerhapsLine};
-use gtd_mistakes::Told;
-use gtd_warnings::{Asked, LoneCode, lone_codes, told_of_file};
+use crate::row::Row;
+use crate::sentences::{DoubtText, PerhapsLine};
+use gtd_mistakes::{Rule, Told};
+use gtd_records::Version;
+use gtd_warnings::{Asked, codes_listed, is_off, told_of_row, types_of_row};
 use std::alloc::{AllocError, Global};
+
+// How many rows of a file must name a vehicle code, so that its codes are looked at.
+const ROWS_NEEDED: usize = 20;
 
 // Appends the line of what is told.
 fn push_line(text: &mut String, path: &str, line: u64, told: &Told) -> Result<(), AllocError>
@@ -29,73 +42,92 @@ fn push_below(text: &mut String, told: &Told, below: Below<'_>) -> Result<(), Al
     write!(text, "{below}{perhaps}")
 }
 
-// The lines of what is told of the file with this path and these bytes, in order.
-fn lines_of_told(
-    alloc: Global,
-    path: &str,
-    bytes: &[u8],
-    told: &[Told],
-) -> Result<String, AllocError>
-    ensures { IfOk result (λ text. AreDoubtLines path.now bytes.now told.now (string_bytes text)) }
+// Appends the lines of what is told of this row, in order.
+fn push_told(text: &mut String, path: &str, row: &Row<'_>, told: &[Told]) -> Result<(), AllocError>
+    ensures { (bytes : List ℕ) (before : List Told) → IsRowOf bytes row.now → All (λ one. one.row ≡ row.now.number) told.now
+        → AreDoubtLines path.now bytes before (string_bytes text.old)
+        → OnOk result (AreDoubtLines path.now bytes (before ++ told.now) (string_bytes text.new)) }
 {
-    let mut text = String::new(alloc);
-    let mut rows = Rows::new(alloc, bytes)?;
     for one in told {
-        let line = rows.line_at(Some(one.row))?;
-        push_line(&mut text, path, line, one)?;
-        push_below(&mut text, one, rows.part(one.part.before))?;
+        push_line(text, path, row.place.line, one)?;
+        push_below(text, one, row.part(one.part.before))?;
     }
-    Ok(text)
+    Ok(())
 }
 
-// Appends the lines of a code that one row alone names.
-fn push_lone(
-    text: &mut String,
-    path: &str,
-    line: u64,
-    lone: LoneCode,
-    below: Below<'_>,
-) -> Result<(), AllocError>
-    ensures { OnOk result (string_bytes text.new
-        ≡ string_bytes text.old ++ (lone_line path.now line lone ++ below_text below.entry)) }
+// How many rows name a code, once one with these codes is among them; no more than are needed are counted.
+fn counted_on(naming: usize, codes: &[u8]) -> usize
+    ensures { (before : ℕ) → naming ≡ min before rows_needed
+        → result ≡ min (before + cond (nat_lt 0 (length codes.now)) 1 0) rows_needed }
 {
-    let path = Printable(path.as_bytes());
-    let words = LoneText(lone);
-    write!(text, "{path}:{line}: {words}\n{below}")
-}
-
-// The lines of these codes, in order, for the file with this path and these bytes.
-fn lines_of_lone(
-    alloc: Global,
-    path: &str,
-    bytes: &[u8],
-    lone: &[LoneCode],
-) -> Result<String, AllocError>
-    ensures { IfOk result (λ text. AreLoneLines path.now bytes.now lone.now (string_bytes text)) }
-{
-    let mut text = String::new(alloc);
-    let mut rows = Rows::new(alloc, bytes)?;
-    for one in lone {
-        let line = rows.line_at(Some(one.row))?;
-        push_lone(&mut text, path, line, *one, rows.field(2, 0))?;
+    if codes.is_empty() {
+        return naming;
     }
-    Ok(text)
+    if naming >= ROWS_NEEDED {
+        return naming;
+    }
+    naming + 1
 }
 
-/// The lines of all warnings of the file with this path and these bytes: of what is told of its rows, in row order, and then of
-/// the vehicle codes that one row alone names.
-pub fn doubts_of(
+/// The lines of the warnings of a file's rows so far.
+#[derive(Drop)]
+pub(crate) struct DoubtLines<'a> {
     alloc: Global,
-    path: &str,
-    bytes: &[u8],
-    asked: &Asked,
-) -> Result<String, AllocError>
-    ensures doubts { IfOk result (λ text. AreDoubts path.now asked.now bytes.now (string_bytes text)) }
-{
-    let told = told_of_file(alloc, asked, bytes)?;
-    let mut text = lines_of_told(alloc, path, bytes, told.as_slice())?;
-    let lone = lone_codes(alloc, asked, bytes)?;
-    let last = lines_of_lone(alloc, path, bytes, lone.as_slice())?;
-    text.push_str(last.as_str())?;
-    Ok(text)
+    path: &'a str,
+    asked: &'a Asked,
+    // How many rows name a vehicle code, of no more than must.
+    naming: usize,
+    by_code: Vec<Naming>,
+    pub(crate) text: String,
+}
+
+impl<'a> DoubtLines<'a> {
+    /// No lines, for a file with this path. `AllocError` is answered only if memory was refused.
+    pub(crate) fn new(
+        alloc: Global,
+        path: &'a str,
+        asked: &'a Asked,
+    ) -> Result<DoubtLines<'a>, AllocError>
+        ensures { (bytes : List ℕ) (version : Version) → IfOk result (AreDoubted path.now asked.now bytes version []) }
+    {
+        Ok(DoubtLines {
+            alloc,
+            path,
+            asked,
+            naming: 0,
+            by_code: none_named(alloc)?,
+            text: String::new(alloc),
+        })
+    }
+
+    /// Appends the lines of what is told of this row, which comes after those so far, and keeps which codes it names.
+    pub(crate) fn take(&mut self, version: Version, row: &Row<'_>) -> Result<(), AllocError>
+        ensures { (path bytes : List ℕ) (asked : Asked) (rows : List Fields) → IsRowOf bytes row.now
+            → row.now.number ≡ length rows + 1 → AreDoubted path asked bytes version rows self.old
+            → OnOk result (AreDoubted path asked bytes version (rows ++ fields_of row.now.fields.now ∷ []) self.new) }
+    {
+        let told = told_of_row(self.alloc, self.asked, row.number, row.fields)?;
+        push_told(&mut self.text, self.path, row, told.as_slice())?;
+        let types = types_of_row(self.alloc, version, row.fields)?;
+        let codes = codes_listed(&types);
+        self.naming = counted_on(self.naming, codes);
+        take_codes(self.alloc, self.path, &mut self.by_code, row, codes)?;
+        Ok(())
+    }
+
+    /// Appends the lines of the vehicle codes that one row alone names, if enough rows name one.
+    pub(crate) fn end(&mut self) -> Result<(), AllocError>
+        ensures { (path bytes : List ℕ) (asked : Asked) (version : Version) (rows : List Fields)
+            → AreDoubted path asked bytes version rows self.old
+            → OnOk result (AreDoubtsOfRows path asked bytes version rows (string_bytes self.new.text)) }
+    {
+        if is_off(self.asked.off.as_slice(), Rule::LoneCode) {
+            return Ok(());
+        }
+        if self.naming < ROWS_NEEDED {
+            return Ok(());
+        }
+        push_all_lone(&mut self.text, self.by_code.as_slice())?;
+        Ok(())
+    }
 }

@@ -2,7 +2,6 @@
 #![tactic(auto)]
 
 pub use below::Below;
-pub use doubts::doubts_of;
 pub use hint::Hint;
 pub use lines::first_line;
 pub use list_fault::ListFault;
@@ -14,14 +13,17 @@ pub use stretch::Stretch;
 pub use words::{Expected, FaultText, accepted, accepted_at};
 
 mod below;
+mod codes;
 mod cut;
 mod doubts;
 mod hint;
 pub mod laws;
 mod lines;
 mod list_fault;
+mod listing;
 mod places;
 mod printable;
+mod row;
 mod run;
 mod sentences;
 mod stretch;

@@ -1,23 +1,21 @@
 //! The lines of faults.
 
-ghost use Rattle.std.specs.Prelude.{◌≡◌, ◌++◌, ℕ, IfOk, IfSome, OnOk, length, string_bytes};
+ghost use Rattle.std.specs.Prelude.{◌≡◌, ◌++◌, ◌∷◌, [], ℕ, List, IfOk, IfSome, OnOk, string_bytes};
 ghost use Rattle.gtd_faults.specs.Below.{IsBelow};
-ghost use Rattle.gtd_records.specs.Faults.{AreFileFaults};
 ghost use Rattle.gtd_faults.specs.Hints as spec;
+ghost use Rattle.gtd_faults.specs.ListedRows.{HasOneMore};
 ghost use Rattle.gtd_faults.specs.Listing as list;
-ghost use Rattle.gtd_faults.specs.Listing.{AreLines, IsList, fault_line, lines_below};
-ghost use Rattle.gtd_faults.specs.Standing.{StandsAt};
+ghost use Rattle.gtd_faults.specs.Listing.{AreLines, fault_line, lines_below};
+ghost use Rattle.gtd_faults.specs.Places.{IsLineAt};
+ghost use Rattle.gtd_faults.specs.Standing.{IsRowOf};
 
 use crate::below::{Below, byte_at};
-use crate::doubts::doubts_of;
 use crate::hint::hint_of;
-use crate::places::Rows;
 use crate::printable::Printable;
+use crate::row::Row;
 use crate::stretch::Stretch;
 use crate::words::{Expected, FaultText, accepted_at};
-use gtd_core::limits::MOST_ROWS;
 use gtd_records::RecordFault;
-use gtd_warnings::Asked;
 use std::alloc::{AllocError, Global};
 
 // Appends the line of a fault, and those below it, to the text.
@@ -49,80 +47,96 @@ pub fn first_line(bytes: &[u8]) -> &[u8]
     bytes
 }
 
-// The row of a fault, if it has one.
-fn row_of(fault: RecordFault) -> Option<u32>
-    ensures { result ≡ list.row_of fault }
+// What is shown below the line of a file without a header: its first line.
+fn below_header(bytes: &[u8]) -> Below<'_>
+    ensures below { IsBelow bytes.now RecordFault.Header result }
 {
-    match fault {
-        RecordFault::FieldCount { row } => Some(row),
-        RecordFault::Element { row } => Some(row),
-        RecordFault::Direction { row } => Some(row),
-        RecordFault::Vehicle { row } => Some(row),
-        RecordFault::Domain { row, .. } => Some(row),
-        RecordFault::TooManyRows => Some(MOST_ROWS + 1),
-        _ => None,
+    let line = first_line(bytes);
+    Below::Header {
+        found: Stretch::around(line, 0),
+        expected: "element,direction,vehicle,domain (or vehicles)",
+        hint: hint_of(line),
     }
 }
 
-// What is shown below the line of a fault, if the rows stand at its row: of a field in it, of the row, or of the file's first
-// line if that is no header.
-fn below_fault<'a>(bytes: &'a [u8], rows: &'a Rows<'_>, fault: RecordFault) -> Below<'a>
-    ensures below { (number : ℕ) → StandsAt bytes.now number rows.now → IfSome (list.row_of fault) (λ row. number ≡ row)
-        → IsBelow bytes.now fault result }
+// What is shown below the line of a row's fault: a field of it, or the row.
+fn below_row<'a>(row: &Row<'a>, fault: RecordFault) -> Below<'a>
+    ensures below { (bytes : List ℕ) → IsRowOf bytes row.now → IfSome (list.row_of fault) (λ number. row.now.number ≡ number)
+        → IsBelow bytes fault result }
 {
     match fault {
-        RecordFault::Header => {
-            let line = first_line(bytes);
-            Below::Header {
-                found: Stretch::around(line, 0),
-                expected: "element,direction,vehicle,domain (or vehicles)",
-                hint: hint_of(line),
-            }
-        }
-        RecordFault::FieldCount { .. } => rows.row(),
-        RecordFault::Element { .. } => rows.field(0, 0),
-        RecordFault::Direction { .. } => rows.field(1, 0),
-        RecordFault::Vehicle { .. } => rows.field(2, 0),
-        RecordFault::Domain { fault, .. } => rows.field(3, fault.place),
+        RecordFault::Header => below_header(row.bytes),
+        RecordFault::FieldCount { .. } => row.whole(),
+        RecordFault::Element { .. } => row.field(0, 0),
+        RecordFault::Direction { .. } => row.field(1, 0),
+        RecordFault::Vehicle { .. } => row.field(2, 0),
+        RecordFault::Domain { fault, .. } => row.field(3, fault.place),
         _ => Below::Nothing,
     }
 }
 
-// The lines of these faults, in order, for the file with this path and these bytes.
-pub(crate) fn lines_of(
-    alloc: Global,
-    path: &str,
-    bytes: &[u8],
-    faults: &[RecordFault],
-) -> Result<String, AllocError>
-    ensures { IfOk result (λ text. AreLines path.now bytes.now faults.now (string_bytes text)) }
-{
-    let mut text = String::new(alloc);
-    let mut rows = Rows::new(alloc, bytes)?;
-    for fault in faults {
-        let line = rows.line_at(row_of(*fault))?;
-        let below = below_fault(bytes, &rows, *fault);
-        push_fault(&mut text, path, line, *fault, below)?;
-    }
-    Ok(text)
+/// Faults of a file, and their lines.
+#[derive(Drop)]
+pub(crate) struct FaultLines<'a> {
+    path: &'a str,
+    pub(crate) faults: Vec<RecordFault>,
+    pub(crate) text: String,
 }
 
-// The list of a file with this path, these bytes and these faults, with its warnings if they are asked for.
-pub(crate) fn list_of(
-    alloc: Global,
-    path: &str,
-    bytes: &[u8],
-    faults: &[RecordFault],
-    asked: &Option<Asked>,
-) -> Result<String, AllocError>
-    requires all { AreFileFaults bytes.now faults.now }
-    ensures { IfOk result (λ text. IsList path.now bytes.now asked.now (length faults.now) (string_bytes text)) }
-{
-    let mut text = lines_of(alloc, path, bytes, faults)?;
-    let Some(asked) = asked else {
-        return Ok(text);
-    };
-    let added = doubts_of(alloc, path, bytes, asked)?;
-    text.push_str(added.as_str())?;
-    Ok(text)
+impl<'a> FaultLines<'a> {
+    /// No fault, of a file with this path. Takes no memory.
+    pub(crate) fn new(alloc: Global, path: &'a str) -> FaultLines<'a>
+        ensures path { result.path.now ≡ path.now }
+        ensures faults { result.faults.items ≡ [] }
+        ensures lines { (bytes : List ℕ) → AreLines path.now bytes [] (string_bytes result.text) }
+    {
+        FaultLines {
+            path,
+            faults: Vec::new(alloc),
+            text: String::new(alloc),
+        }
+    }
+
+    /// The only fault of a file with this path and too many bytes, of which none is known. `AllocError` is answered only if
+    /// memory was refused.
+    pub(crate) fn too_large(alloc: Global, path: &'a str) -> Result<FaultLines<'a>, AllocError>
+        ensures { IfOk result (λ list. AreLines path.now [] (RecordFault.TooLarge ∷ []) (string_bytes list.text)) }
+    {
+        let mut list = FaultLines::new(alloc, path);
+        list.add(1, RecordFault::TooLarge, Below::Nothing)?;
+        Ok(list)
+    }
+
+    // Adds a fault on this line, with what is shown below it.
+    fn add(&mut self, line: u64, fault: RecordFault, below: Below<'_>) -> Result<(), AllocError>
+        ensures { (bytes : List ℕ) → IsLineAt bytes (list.row_of fault) line → IsBelow bytes fault below.entry
+            → OnOk result (HasOneMore bytes fault self.old self.new) }
+    {
+        push_fault(&mut self.text, self.path, line, fault, below)?;
+        self.faults.push(fault)?;
+        Ok(())
+    }
+
+    /// Adds a fault of this row.
+    pub(crate) fn add_of_row(&mut self, row: &Row<'_>, fault: RecordFault) -> Result<(), AllocError>
+        ensures { (bytes : List ℕ) → IsRowOf bytes row.now → list.row_of fault ≡ Some row.now.number
+            → OnOk result (HasOneMore bytes fault self.old self.new) }
+    {
+        self.add(row.place.line, fault, below_row(row, fault))
+    }
+
+    /// Adds that the first record of these bytes is no header.
+    pub(crate) fn add_header(&mut self, bytes: &[u8]) -> Result<(), AllocError>
+        ensures { OnOk result (HasOneMore bytes.now RecordFault.Header self.old self.new) }
+    {
+        self.add(1, RecordFault::Header, below_header(bytes))
+    }
+
+    /// Adds that there is a row too many, which begins on this line.
+    pub(crate) fn add_too_many(&mut self, line: u64) -> Result<(), AllocError>
+        ensures { (bytes : List ℕ) → IsLineAt bytes (list.row_of RecordFault.TooManyRows) line
+            → OnOk result (HasOneMore bytes RecordFault.TooManyRows self.old self.new) }
+    {
+        self.add(line, RecordFault::TooManyRows, Below::Nothing)
+    }
 }

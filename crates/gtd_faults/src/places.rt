@@ -1,18 +1,15 @@
 //! The rows of a file: where each begins, and what is shown of its fields.
 
-ghost use Rattle.std.specs.Prelude.{◌≡◌, ◌≤◌, ◌+◌, ℕ, List, IfOk, IfSome, OnOk, option_map};
+ghost use Rattle.std.specs.Prelude.{◌≡◌, ◌≤◌, ◌+◌, ℕ, true, List, IfOk, IfSome, OnOk};
 ghost use Rattle.csv.specs.Records.{fields_of};
 ghost use Rattle.gtd_records.specs.Columns.{Fields};
 ghost use Rattle.gtd_faults.specs.Below.{IsOfField, IsOfRowAt};
-ghost use Rattle.gtd_faults.specs.Doubts as spec;
-ghost use Rattle.gtd_faults.specs.Doubts.{IsOfPart};
 ghost use Rattle.gtd_faults.specs.Places.{IsLine, IsLineAt, field_of};
-ghost use Rattle.gtd_faults.specs.Standing.{HasGiven, StandsAt};
+ghost use Rattle.gtd_faults.specs.Standing.{HasGiven, IsRowOf, StandsAt};
 
 use crate::below::Below;
 use crate::cut::Place;
-use crate::lines::first_line;
-use crate::stretch::Stretch;
+use crate::row::Row;
 use csv::{ByteRecord, Reader};
 use gtd_records::{next_row, table};
 use std::alloc::{AllocError, Global};
@@ -43,45 +40,6 @@ fn read_on(
         return Ok(false);
     }
     next_row(reader, row)
-}
-
-// The bytes of a text before the parenthesis that opens after so many others: all of them, if there is none.
-fn opening(text: &[u8], before: u32) -> usize
-    ensures value { result ≡ spec.opening before text.now }
-{
-    let mut left = before;
-    for (at, byte) in text.iter().enumerate() {
-        if *byte == b'(' {
-            if left == 0 {
-                return at;
-            }
-            left -= 1;
-        }
-    }
-    text.len()
-}
-
-// What is shown of a domain around its basic domain after so many others, if there is one.
-fn part_of(field: Option<&[u8]>, before: u32) -> Below<'_>
-    ensures { IsOfPart (option_map (λ f. f.now) field.entry) before result }
-{
-    let Some(text) = field else {
-        return Below::Nothing;
-    };
-    shown_of(Some(text), opening(text, before))
-}
-
-// What is shown of a field, if there is one.
-fn shown_of(field: Option<&[u8]>, place: usize) -> Below<'_>
-    ensures { IsOfField (option_map (λ f. f.now) field.entry) place result }
-{
-    let Some(field) = field else {
-        return Below::Nothing;
-    };
-    if place > field.len() {
-        return Below::Nothing;
-    }
-    Below::Field(Stretch::around(field, place))
 }
 
 impl<'a> Rows<'a> {
@@ -167,6 +125,19 @@ impl<'a> Rows<'a> {
         Ok(self.line())
     }
 
+    // The row at which it stands, if there is one.
+    fn here(&self) -> Row<'_>
+        ensures row { (bytes : List ℕ) (number : ℕ) → StandsAt bytes number self.now → self.now.found ≡ true
+            → IsRowOf bytes result × (result.number ≡ number) }
+    {
+        Row {
+            bytes: self.bytes,
+            number: self.number,
+            place: self.place,
+            fields: &self.row,
+        }
+    }
+
     /// What is shown of the field with this index, from 0 on: its stretch around the place, with a caret below the byte
     /// there. It is nothing if the row has no such field, or the field ends before the place.
     pub fn field(&self, index: usize, place: usize) -> Below<'_>
@@ -176,19 +147,7 @@ impl<'a> Rows<'a> {
         if !self.found {
             return Below::Nothing;
         }
-        shown_of(self.row.get(index), place)
-    }
-
-    /// What is shown of the domain of the row, its fourth field: its stretch around the basic domain that stands after so many
-    /// others, with a caret below the first byte of that. It is nothing if the row has no such field.
-    pub fn part(&self, before: u32) -> Below<'_>
-        ensures part { (bytes : List ℕ) (number : ℕ) → StandsAt bytes number self.now
-            → IsOfPart (field_of bytes number 3) before result }
-    {
-        if !self.found {
-            return Below::Nothing;
-        }
-        part_of(self.row.get(3), before)
+        self.here().field(index, place)
     }
 
     /// What is shown of the whole row: its first line, and how many fields it has. It is nothing if there is no such row.
@@ -198,13 +157,6 @@ impl<'a> Rows<'a> {
         if !self.found {
             return Below::Nothing;
         }
-        if self.place.at > self.bytes.len() {
-            return Below::Nothing;
-        }
-        let line = first_line(&self.bytes[self.place.at..]);
-        Below::Row {
-            found: Stretch::around(line, 0),
-            fields: self.row.len(),
-        }
+        self.here().whole()
     }
 }

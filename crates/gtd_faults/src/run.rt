@@ -1,16 +1,16 @@
 //! The run that lists the faults of a record file.
 
-ghost use Rattle.std.specs.Prelude.{◌≡◌, ◌≢◌, ◌⊎◌, ◌<◌, ℕ, IfErr, IfSome, IsErrOf, IsTrue, List, OnErr, OnOk, Option, length};
+ghost use Rattle.std.specs.Prelude.{◌≡◌, ◌≢◌, ◌⊎◌, ◌<◌, ◌≤◌, ℕ, IfErr, IfSome, IsErrOf, IsTrue, List, OnErr, OnOk, Option, length};
 ghost use Rattle.gtd_core.specs.Limits.{most_file_bytes};
 ghost use Rattle.std.specs.Io.KnownBytes.{Appends, Keeps};
 ghost use Rattle.gtd_warnings.specs.declared.file.Asked.{Asked};
 ghost use Rattle.gtd_faults.specs.Run.{HasListed, HasPut, TookSome, failures_after_listing, failures_after_reading};
 
-use crate::lines::{lines_of, list_of};
+use crate::lines::FaultLines;
 use crate::list_fault::{ListFault, fault_of_input};
+use crate::listing::list_of;
 use gtd_core::limits::MOST_FILE_BYTES;
 use gtd_devices::{Input, InputFault, Output, read_whole};
-use gtd_records::{RecordFault, faults_of};
 use gtd_report::{Progress, finish, put_line};
 use gtd_warnings::Asked;
 use std::alloc::Global;
@@ -58,6 +58,7 @@ fn put_list<O: Output>(
     bytes: &[u8],
     asked: &Option<Asked>,
 ) -> Result<usize, ListFault>
+    requires few { length bytes.now ≤ most_file_bytes }
     requires writable { O.failure_count output.old < u64.MAX }
     ensures listed { HasListed path.now asked.now bytes.now (O.taken output.old) (O.taken output.new) result }
     ensures cause { IfErr result (λ why. (why ≡ ListFault.WriteFault) ⊎ ((why ≡ ListFault.NoMemory)
@@ -66,13 +67,10 @@ fn put_list<O: Output>(
     ensures failures { O.failure_count output.new
         ≡ failures_after_listing result (O.failure_count output.old) }
 {
-    let Ok(faults) = faults_of(alloc, bytes) else {
+    let Ok(list) = list_of(alloc, path, bytes, asked) else {
         return Err(ListFault::NoMemory);
     };
-    let Ok(text) = list_of(alloc, path, bytes, faults.as_slice(), asked) else {
-        return Err(ListFault::NoMemory);
-    };
-    put_numbered(output, text.as_str(), faults.len())
+    put_numbered(output, list.text.as_str(), list.faults.len())
 }
 
 // Puts the list of a file with this path and too many bytes: its only fault, and no warnings.
@@ -86,14 +84,14 @@ fn put_too_large<O: Output>(alloc: Global, output: &mut O, path: &str) -> Result
     ensures failures { O.failure_count output.new
         ≡ failures_after_listing result (O.failure_count output.old) }
 {
-    let Ok(text) = lines_of(alloc, path, &[], &[RecordFault::TooLarge]) else {
+    let Ok(list) = FaultLines::too_large(alloc, path) else {
         return Err(ListFault::NoMemory);
     };
-    put_numbered(output, text.as_str(), 1)
+    put_numbered(output, list.text.as_str(), 1)
 }
 
 /// Puts the list of all faults of the record file that an input brings, and answers their number. If they are asked for, the
-/// list goes on with the lines of all warnings ([`crate::doubts_of`]). Each fault has a line: the file's path, as
+/// list goes on with the lines of all warnings. Each fault has a line: the file's path, as
 /// [`crate::Printable`] shows it, the line of the file on which its row begins, the row, and its kind. Below it is the field at
 /// fault with a caret at the place, or the first line of a file that has no header.
 ///

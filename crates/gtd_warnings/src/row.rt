@@ -1,7 +1,7 @@
 //! What is told of a row.
 
 ghost use Rattle.std.specs.Prelude.{◌≡◌, ◌++◌, ◌↔◌, List, IfOk, IsTrue, MatchOption, OnOk, Some, option_map};
-ghost use Rattle.std.specs.List.{Contains};
+ghost use Rattle.std.specs.List.{All, Contains};
 ghost use Rattle.csv.specs.Records.{fields_of};
 ghost use Rattle.gtd_core.specs.Parts.{domain_tree};
 ghost use Rattle.gtd_mistakes.specs.declared.rule.Rule.{Rule};
@@ -34,8 +34,8 @@ fn domain_of(alloc: Global, row: &ByteRecord) -> Result<Option<Domain>, AllocErr
     }
 }
 
-// Whether a rule is turned off.
-pub(crate) fn is_off(off: &[Rule], rule: Rule) -> bool
+/// Whether a rule is turned off.
+pub fn is_off(off: &[Rule], rule: Rule) -> bool
     ensures { IsTrue result ↔ Contains off.now rule }
 {
     off.contains(&rule)
@@ -102,17 +102,20 @@ fn push_told_of(
     Ok(())
 }
 
-/// Appends what is told of the row with this number.
-pub(crate) fn push_told_of_row(
+/// What is told of the row with this number, in order: of the parts of its domain; whether that never or always holds; and whether
+/// it is over. A row counts if it has four fields and the last is a time domain, whatever the others hold. `AllocError` is answered
+/// only if memory was refused.
+pub fn told_of_row(
     alloc: Global,
-    told: &mut Vec<Told>,
     asked: &Asked,
     number: u32,
     row: &ByteRecord,
-) -> Result<(), AllocError>
-    ensures { OnOk result ((more : List Told) × IsToldOfRow asked.now number (fields_of row.now) more
-        × (told.new.items ≡ told.old.items ++ more)) }
+) -> Result<Vec<Told>, AllocError>
+    ensures told { IfOk result (λ told. IsToldOfRow asked.now number (fields_of row.now) told.items) }
+    ensures rows { IfOk result (λ told. All (λ one. one.row ≡ number) told.items) }
 {
+    let mut told = Vec::new(alloc);
     let domain = domain_of(alloc, row)?;
-    push_told_of(alloc, told, asked, number, &domain)
+    push_told_of(alloc, &mut told, asked, number, &domain)?;
+    Ok(told)
 }

@@ -1,7 +1,6 @@
-use Rattle.std.proofs.Common.{refl, sym}
+use Rattle.std.proofs.Common.{refl}
 use Rattle.csv.specs.Reading.{default_config, records, strip_bom}
-use Rattle.csv.specs.Records.{fields_of}
-use Rattle.gtd_faults.proofs.RowsFacts.{field_here, field_past}
+use Rattle.gtd_faults.proofs.RowsFacts.{field_past}
 use Rattle.gtd_faults.proofs.places.Rows.field.Goals as goal
 
 pub returns-then-not-self : goal.returns-then-not-self
@@ -14,8 +13,6 @@ returns-then-not-self c = record {
 pub returns : goal.returns
 returns c = record {
   field = λ bytes number stands.
-      let given = rw c.if-not-self.false at stands.given in
-      let fields = fields_of c.args.self.now.row in
-      let here = field_here number (records default_config (strip_bom bytes)) given.0 fields c.args.index given.1 in
-      rw (here, sym c.get.ensures.value) c.shown_of.ensures;
+      let here = c.here.ensures.row bytes number stands c.if-not-self.false in
+      rw (here.1) at (c.field.ensures.field bytes here.0);
 }

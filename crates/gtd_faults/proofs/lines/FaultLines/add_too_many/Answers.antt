@@ -1,0 +1,5 @@
+use Rattle.std.proofs.Common.{refl}
+use Rattle.gtd_faults.proofs.lines.FaultLines.add_too_many.Goals as goal
+
+pub returns : goal.returns
+returns c = λ bytes on. c.add.ensures bytes on refl

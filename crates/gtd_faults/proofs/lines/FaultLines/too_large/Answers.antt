@@ -1,0 +1,8 @@
+use Rattle.std.proofs.Common.{[], refl}
+use Rattle.gtd_faults.proofs.lines.FaultLines.too_large.Goals as goal
+
+pub returns : goal.returns
+returns c =
+    let more = c.in_ok-add.ensures [] refl refl in
+    let new = c.new-list.ensures in
+    rw (more.faults, new.faults, new.path) at (more.lines (rw (new.path, new.faults) (new.lines [])))

@@ -1,0 +1,14 @@
+use Rattle.std.proofs.Common.{refl}
+use Rattle.gtd_faults.proofs.listing.nothing_listed.Goals as goal
+
+pub returns : goal.returns
+returns c = λ version. record {
+  of_file = refl;
+  place = c.first.ensures;
+  faulted = record {
+    of_file = c.new-2.ensures.path;
+    each = c.new-2.ensures.faults;
+    text = rw (c.new-2.ensures.faults) (c.new-2.ensures.lines c.args.bytes.now);
+  };
+  doubted = c.in_ok-doubts.ensures c.args.bytes.now version;
+}
