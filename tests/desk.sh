@@ -121,11 +121,6 @@ timeout --preserve-status -s INT 0.5 "$program" now - 2024-04-01T10:00:00 11 <&3
 status=$?
 exec 3>&-
 expect 'interrupted while it reads' 130 '' ''
-
-# Files that are refused.
-run now gone.csv 2024-04-01T10:00:00 11
-expect 'no file' 3 '' 'gtdesk: gone.csv: cannot be opened'
-run now $'a\nb\\\xc3\xa9' 2024-04-01T10:00:00 11
 # Ctrl-C while the output takes no more: a first part was printed, and nothing else.
 { head -n 1 a.csv; printf '%s,both,0,\n' {1..3000}; } > long.csv
 "$program" now long.csv 2024-04-01T10:00:00 11 > whole
@@ -138,6 +133,11 @@ exec 4>&-
 : > out
 [ -s part ] && [ "$(stat -c %s part)" -lt "$(stat -c %s whole)" ] && cmp -s -n "$(stat -c %s part)" part whole || status=wrong
 expect 'interrupted while it writes' 130 '' ''
+
+# Files that are refused.
+run now gone.csv 2024-04-01T10:00:00 11
+expect 'no file' 3 '' 'gtdesk: gone.csv: cannot be opened'
+run now $'a\nb\\\xc3\xa9' 2024-04-01T10:00:00 11
 expect 'a name that is shown escaped' 3 '' 'gtdesk: a\x0ab\x5c\xc3\xa9: cannot be opened'
 run now . 2024-04-01T10:00:00 11
 expect 'a folder' 3 '' 'gtdesk: .: ReadFault'
@@ -293,18 +293,18 @@ expect 'a picture of no file' 3 '' 'gtdesk: gone.csv: cannot be opened'
 run picture a.csv 17 positive 1
 expect 'a picture of no year' 2 '' "gtdesk: command line: one or more required arguments were not provided $see"
 run picture-domain '(h25){h1}' 1900
-expect 'no domain' 1 '' 'gtdesk: DOMAIN: FieldRange at 1'
+expect 'no domain' 1 '' $'gtdesk: DOMAIN: FieldRange at 1\n    (h25){h1}\n     ^\n    expected: 0 to 23 for an hour'
 run picture-domain '(h5){h1}' 1900
 expect 'no year of a domain' 1 '' 'gtdesk: YEAR: not a number from 1901 to 2199'
 # The words of a domain.
 run words '[(M4d1){M3}]*[(h22){h8}]'
 expect 'words' 0 $'from 1 April every year until 30 June (included)\nand all this only in: each day from 22:00 until 06:00 the next day' ''
 run words '(h25){h1}'
-expect 'words of no domain' 1 '' 'gtdesk: DOMAIN: FieldRange at 1'
+expect 'words of no domain' 1 '' $'gtdesk: DOMAIN: FieldRange at 1\n    (h25){h1}\n     ^\n    expected: 0 to 23 for an hour'
 run words ''
-expect 'words of nothing' 1 '' 'gtdesk: DOMAIN: Incomplete at 0'
+expect 'words of nothing' 1 '' $'gtdesk: DOMAIN: Incomplete at 0\n    \n    ^\n    expected: (start){duration} in full, and a ] for each ['
 run words -- '-(h10){h1}'
-expect 'words of a domain with a sign in front' 1 '' 'gtdesk: DOMAIN: Unexpected at 0'
+expect 'words of a domain with a sign in front' 1 '' $'gtdesk: DOMAIN: Unexpected at 0\n    -(h10){h1}\n    ^\n    expected: (start){duration} or [..] at the beginning and after an operator, and + * - or ] after one of them'
 run words
 expect 'words without a domain' 2 '' "gtdesk: command line: one or more required arguments were not provided $see"
 
@@ -316,9 +316,9 @@ expect 'hours of a domain in one word with its option' 0 '24/7; Dec 25 off' ''
 run hours --of '(M3l11){M8}'
 expect 'no hours' 1 '' 'gtdesk: DOMAIN: no opening hours: not of the form of days from midnight and ranges of times in minutes'
 run hours --of '(h25){h1}'
-expect 'hours of no domain' 1 '' 'gtdesk: DOMAIN: FieldRange at 1'
+expect 'hours of no domain' 1 '' $'gtdesk: DOMAIN: FieldRange at 1\n    (h25){h1}\n     ^\n    expected: 0 to 23 for an hour'
 run hours --of ''
-expect 'hours of nothing' 1 '' 'gtdesk: DOMAIN: Incomplete at 0'
+expect 'hours of nothing' 1 '' $'gtdesk: DOMAIN: Incomplete at 0\n    \n    ^\n    expected: (start){duration} in full, and a ] for each ['
 run hours
 expect 'hours of neither' 2 '' "gtdesk: command line: hours takes either TEXT or --of DOMAIN $see"
 run hours Mo-Fr --of '(h0m0){d1}'
@@ -338,15 +338,24 @@ expect 'a text that is written loosely' 0 '[[(t2t3t4t5t6h0m0){d1}]*[(h7m30){m270
 run mend hours 'Mo-Fr 7:30-12:00'
 expect 'its strict form' 0 'Mo-Fr 07:30-12:00' ''
 run hours --strict 'Mo-Fr 7:30-12:00'
-expect 'a byte that begins no token' 1 '' 'gtdesk: TEXT: BadToken at 6'
+expect 'a byte that begins no token' 1 '' $'gtdesk: TEXT: BadToken at 6\n    Mo-Fr 7:30-12:00\n          ^\n    expected: words, numbers and signs of opening hours, such as Mo-Fr 08:00-18:00'
 run hours 'Mo-Fr 08:00-18:00; PH off'
-expect 'holidays' 1 '' 'gtdesk: TEXT: Unsupported at 19'
+expect 'holidays' 1 '' $'gtdesk: TEXT: Unsupported at 19\n    Mo-Fr 08:00-18:00; PH off\n                       ^\n    expected: weeks, years, dates, weekdays and times, without holidays, times of the sun and comments'
 run hours 'Apr 10-31'
-expect 'a day that its month never has' 1 '' 'gtdesk: TEXT: Range at 7'
+expect 'a day that its month never has' 1 '' $'gtdesk: TEXT: Range at 7\n    Apr 10-31\n           ^\n    expected: a number or a time in its range, such as 08:00 or Apr 30'
 run hours ''
-expect 'an empty text of hours' 1 '' 'gtdesk: TEXT: Incomplete at 0'
+expect 'an empty text of hours' 1 '' $'gtdesk: TEXT: Incomplete at 0\n    \n    ^\n    expected: more: the second part of a range, or what follows a sign'
+run hours 'Mo-Fr 12am-5am'
+expect 'hours that are read in two ways' 1 '' $'gtdesk: TEXT: Ambiguous at 6\n    Mo-Fr 12am-5am\n          ^\n    expected: what is read in one way: weekdays in English, and times such as 08:00'
+run same --hours 24/7 'Mo-Fr PH off'
+expect 'the second of two texts' 1 '' $'gtdesk: SECOND: Unsupported at 6\n    Mo-Fr PH off\n          ^\n    expected: weeks, years, dates, weekdays and times, without holidays, times of the sun and comments'
+run words "$(printf '%70s' '')(M13){M1}$(printf '%70s' '')"
+expect 'a long word' 1 '' "gtdesk: DOMAIN: FieldRange at 71
+    ...$(printf '%39s' '')(M13){M1}$(printf '%42s' '')...
+    $(printf '%43s' '')^
+    expected: 1 to 12 for a month"
 run hours '1800-2056/2'
-expect 'a domain too large' 1 '' 'gtdesk: TEXT: TooMany at 0'
+expect 'a domain too large' 1 '' $'gtdesk: TEXT: TooMany at 0\n    1800-2056/2\n    ^\n    expected: hours that take at most 128 basic domains'
 run hours $'Mo\xff'
 expect 'hours that are no text' 2 '' "gtdesk: command line: a word is no text $see"
 

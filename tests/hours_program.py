@@ -40,15 +40,20 @@ def told(*words):
     return subprocess.run([PROGRAM, *words], capture_output=True, text=True, check=False)
 
 
+def line_of(done, text):
+    """The line on standard error, without the text that stands below with a caret."""
+    return rows.without_text(done.stderr.encode(), [text.encode()]).decode()
+
+
 def run(text):
     """What the program prints for a text that is written strictly: the domain, or None and the fault."""
     done = told("hours", "--strict", "--", text)
     if done.returncode == 0:
         expect(done.stderr == "" and done.stdout.endswith("\n"), f"{text!r}: {done.stdout!r}, {done.stderr!r}")
         return done.stdout[:-1], None
-    one_line = done.stderr.startswith(NO_DOMAIN) and done.stderr.count("\n") == 1
-    expect(done.returncode == 1 and done.stdout == "" and one_line, f"{text!r}: {done.returncode}, {done.stderr!r}")
-    return None, done.stderr[len(NO_DOMAIN):-1]
+    line = line_of(done, text)
+    expect(done.returncode == 1 and done.stdout == "" and line.startswith(NO_DOMAIN), f"{text!r}: {done.returncode}, {line!r}")
+    return None, line[len(NO_DOMAIN):-1]
 
 
 def check_text(row):
@@ -78,8 +83,8 @@ def check_loose(row):
     read, mended = told("hours", "--", text), told("mend", "hours", "--", text)
     if row["fault"]:
         fault = (1, "", f"{NO_DOMAIN}{row['fault']}\n")
-        expect((read.returncode, read.stdout, read.stderr) == fault, f"{text!r}: {read}")
-        expect((mended.returncode, mended.stdout, mended.stderr) == fault, f"{text!r}: {mended}")
+        expect((read.returncode, read.stdout, line_of(read, text)) == fault, f"{text!r}: {read}")
+        expect((mended.returncode, mended.stdout, line_of(mended, text)) == fault, f"{text!r}: {mended}")
         return
     warnings = "".join(f"{NO_DOMAIN}warning {warning}\n" for warning in row["warnings"].split("; ") if warning)
     domain = (0, f"{run(row['mended'])[0]}\n", warnings)

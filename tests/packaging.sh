@@ -171,7 +171,7 @@ complete_in() {
     tab "$1" 'gtdesk records town.hours' '<records><town.hours.csv>'
     tab "$1" 'gtdesk picture town.csv 103 p' '<picture><town.csv><103><positive>'
     tab "$1" 'gtdesk words restr' '<words><restr>'
-    tab "$1" 'gtdesk now town.csv restr' '<now><town.csv><restr>'
+    tab "$1" 'gtdesk now town.csv restr' '<now><town.csv><restrictions.csv>'
 }
 
 # Not each program lists its commands, so they are taken from the definitions that the programs are proved to meet.

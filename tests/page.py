@@ -247,7 +247,7 @@ def check_faults(browser, address):
     for text in texts + hours:
         said = told(GTD, "check", text) if text in texts else told(DESK, "hours", "--strict", "--", text)
         type_text(browser, text)
-        wanted = re.sub(r"^(fault |gtdesk: TEXT: )", "", said).strip()
+        wanted = re.sub(r"^(fault |gtdesk: TEXT: )", "", said.partition("\n")[0])
         same(browser.run("document.querySelector('#fault strong')?.textContent"), wanted, f"{text[:40]}: fault")
         before, mark, meaning = browser.run("""(() => { const fault = document.getElementById("fault"),
             mark = fault.querySelector("mark"); return [mark.previousSibling?.data ?? "", mark.textContent,

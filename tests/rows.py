@@ -22,6 +22,9 @@ An empty file `roads.csv` is there, too. What is wanted:
     =>1 TEXT !! LINE    the status 1, the text on standard output, and the line on standard error
     =>4 TEXT !!         the status 4, the text on standard output, and nothing on standard error
 
+Below a line `gtdesk: WORD: KIND at PLACE` of a text, one of the words must stand with a caret at that place, and then a line that
+says what is accepted there. They are not among what is wanted.
+
 A text has a name in capitals, and is used as `$NAME` in rows and in the lines of tables:
 
     text NAME:
@@ -45,6 +48,8 @@ import tempfile
 HERE = os.path.dirname(os.path.abspath(__file__))
 CRATES = os.path.join(os.path.dirname(HERE), "crates")
 PROGRAMS = {it: os.path.abspath(os.environ.get(it.upper(), os.path.join(CRATES, it, "out", it))) for it in ("gtd", "gtdesk")}
+OF_TEXT = re.compile(rb"gtdesk: (?:DOMAIN|TEXT|FIRST|SECOND): \w+ at (\d+)\n")
+ACCEPTED = re.compile(rb"    expected: .+\n")
 LETTERS = {b"t": b"\t", b"n": b"\n", b"r": b"\r", b"\\": b"\\"}
 REPEATED = re.compile(r"\\(\d+)\{\{(.*?)\}\}(?!\})")
 
@@ -99,6 +104,33 @@ def filled(word, columns, texts, room):
     return [made]
 
 
+def with_caret(text, place):
+    """A text as it is shown around a place, and a caret below the byte there."""
+    shown = [bytes([it]) if 32 <= it <= 126 and it != 92 else b"\\x%02x" % it for it in text]
+    begin, end = 0, len(shown)
+    if sum(map(len, shown)) > 100:
+        begin = end = place
+        while begin > 0 and sum(map(len, shown[begin - 1:place])) <= 40:
+            begin -= 1
+        while end < len(shown) and sum(map(len, shown[place:end + 1])) <= 50:
+            end += 1
+    before = b"..." * (begin > 0) + b"".join(shown[begin:place])
+    return b"    " + before + b"".join(shown[place:end]) + b"..." * (end < len(shown)) + b"\n    " + b" " * len(before) + b"^\n"
+
+
+def without_text(told, words):
+    """What was told, without the lines below a line that refuses one of these words as a text."""
+    found = OF_TEXT.match(told)
+    if not found:
+        return told
+    below = told[found.end():]
+    for word in [*words, *(it.partition(b"=")[2] for it in words)]:
+        shown = with_caret(word, int(found[1])) if int(found[1]) <= len(word) else None
+        if shown and below.startswith(shown) and ACCEPTED.fullmatch(below[len(shown):]):
+            return found[0]
+    return told + b"(no word of the line is shown below)"
+
+
 class Case:
     """One command line, and what it must answer."""
 
@@ -135,7 +167,7 @@ class Case:
             out = subprocess.run(["bash", "-c", self.filter], cwd=HERE, input=out, capture_output=True, timeout=120,
                                  check=False).stdout
         wanted = (self.status, self.wanted(self.out, room), self.wanted(self.err, room))
-        if (done.returncode, out, done.stderr) == wanted:
+        if (done.returncode, out, without_text(done.stderr, words)) == wanted:
             return None
         shown = f"{self.program} {[it[:60] for it in words]}: status {done.returncode}"
         return f"{shown}, wrote {out[:300]!r} and {done.stderr[:200]!r}; wanted {wanted!r}"[:2000]

@@ -116,7 +116,7 @@ def _run(
 
 def _failure(path: str, command: str, status: int, said: str) -> Exception:
     """The exception for a run that ended with a status other than 0."""
-    fault = read_fault(said)
+    fault = read_fault(said.partition("\n")[0])
     if fault is not None and status == 1:
         return fault
     if fault is not None and status == 3:

@@ -235,7 +235,7 @@ def ask_hours(asked, text):
         return False
     status, said = gtd("hours", "--", text.decode(), program=GTDESK)
     if status:
-        assert said == b"gtdesk: TEXT: TooMany at 0\n", (text, said)
+        assert said.startswith(b"gtdesk: TEXT: TooMany at 0\n"), (text, said)
         asked.ask(f"hours {hexed(text)}", f"no {HOURS_FAULTS.index('TooMany') + 1} 0")
         return False
     asked.ask(f"hours {hexed(text)}", "yes")

@@ -6,7 +6,7 @@
 #![tactic(auto)]
 
 pub use fault::HoursFileFault;
-pub use refused::{RefusedBelow, below_domain, below_hours, below_too_many};
+pub use refused::{RefusedBelow, below_ambiguous, below_domain, below_hours, below_too_many};
 pub use row::HoursRow;
 pub use run::run_hours_records;
 pub use untranslated::Untranslated;

@@ -1,15 +1,15 @@
 //! What is shown below the line that refuses a text.
 
-ghost use Rattle.std.specs.Prelude.{◌≡◌, Some, option_map};
+ghost use Rattle.std.specs.Prelude.{◌≡◌, Some, get_or, option_map};
 ghost use Rattle.gtd_faults.specs.Below.{IsOfField};
 ghost use Rattle.gtd_faults.specs.Expected as of_records;
 ghost use Rattle.gtd_hours_file.specs.Listing as spec;
-ghost use Rattle.gtd_hours_file.specs.Refused.{refused_below};
+ghost use Rattle.gtd_hours_file.specs.Refused.{accepted_once, refused_below};
 
 use crate::fault::HoursFileFault;
 use crate::words::accepted;
 use gtd_core::TextFault;
-use gtd_faults::{Below, Expected, Stretch, accepted as accepted_of_record};
+use gtd_faults::{Below, Expected, Stretch, accepted_at};
 use gtd_hours_grammar::HoursFault;
 use gtd_records::RecordFault;
 use std::fmt;
@@ -45,14 +45,26 @@ fn around(text: &str, place: usize) -> Below<'_>
     Below::Field(Stretch::around(text.as_bytes(), place))
 }
 
+// The byte of a text at a place; 0 if there is none.
+fn byte_at(text: &str, place: usize) -> u8
+    ensures { result ≡ get_or text.now place 0 }
+{
+    match text.as_bytes().get(place) {
+        Some(byte) => *byte,
+        None => 0,
+    }
+}
+
 /// What is shown below the line that refuses a text as a time domain, for this fault.
 pub fn below_domain(text: &str, fault: TextFault) -> RefusedBelow<'_>
     ensures below { IsOfField (Some text.now) fault.place result.below }
-    ensures accepted { option_map (λ words. words.now) result.accepted ≡ of_records.accepted (RecordFault.Domain 1 fault) }
+    ensures accepted { option_map (λ words. words.now) result.accepted
+        ≡ of_records.accepted_at (RecordFault.Domain 1 fault) (get_or text.now fault.place 0) }
 {
+    let letter = byte_at(text, fault.place);
     RefusedBelow {
         below: around(text, fault.place),
-        accepted: accepted_of_record(RecordFault::Domain { row: 1, fault }),
+        accepted: accepted_at(RecordFault::Domain { row: 1, fault }, letter),
     }
 }
 
@@ -64,6 +76,17 @@ pub fn below_hours(text: &str, fault: HoursFault) -> RefusedBelow<'_>
     RefusedBelow {
         below: around(text, fault.place),
         accepted: accepted(HoursFileFault::Hours { row: 1, fault }),
+    }
+}
+
+/// What is shown below the line that refuses a text that people read in two ways at this place.
+pub fn below_ambiguous(text: &str, place: usize) -> RefusedBelow<'_>
+    ensures below { IsOfField (Some text.now) place result.below }
+    ensures accepted { option_map (λ words. words.now) result.accepted ≡ Some accepted_once }
+{
+    RefusedBelow {
+        below: around(text, place),
+        accepted: Some("what is read in one way: weekdays in English, and times such as 08:00"),
     }
 }
 

@@ -3,15 +3,15 @@
 //! record files of files of opening hours, and draws pictures of a year.
 //!
 //! It writes its answer to standard output and ends with status 0, or 1 if it listed faults, or 4 if the two differ; faults of
-//! a file of opening hours go to standard error. Or it writes one line to standard error and ends with the status of its refusal: 1 if the input is refused,
+//! a file of opening hours go to standard error. Or it writes one line to standard error, with the text at fault below it, and ends with the status of its refusal: 1 if the input is refused,
 //! 2 for usage, 3 if opening, reading, writing or memory failed.
 #![tactic(auto)]
 
 use gtd_devices::{Host, HostOut, InputFault, read_whole};
 use gtdesk_tool::{
-    DiffPlan, Ending, Files, Moment, OnePlan, Plan, Refusal, RefusalLine, RunRefusal, Turn,
-    WordsRefusal, ZonePlan, joined, moment_in_zone, no_zone, perform, perform_ask, perform_diff,
-    plan, refused_file, zone_path,
+    DiffPlan, Ending, Files, LineRefusal, Moment, OnePlan, Plan, Refusal, RefusalLines, RunRefusal,
+    Turn, WordsRefusal, ZonePlan, below_refusal, joined, moment_in_zone, no_zone, perform,
+    perform_ask, perform_diff, plan, refused_file, zone_path,
 };
 use std::fs::File;
 use std::io::{BufWriter, ErrorKind, Read};
@@ -76,7 +76,7 @@ fn run_files(rt: &HostRuntime, plan: &OnePlan, paths: &[String]) -> ExitCode {
         let path = path.as_str();
         let answer = run_file(rt, Turn { plan, path });
         if let Err(refusal) = answer {
-            tell(rt, Refusal::Run(refusal), path);
+            tell(rt, Refusal::Run(refusal), path, "");
         }
         ended = joined(ended, answer);
         if answer == Err(RunRefusal::Write) {
@@ -90,8 +90,11 @@ fn run_files(rt: &HostRuntime, plan: &OnePlan, paths: &[String]) -> ExitCode {
 fn run_one(rt: &HostRuntime, plan: &OnePlan) -> ExitCode {
     match plan.files() {
         Files::Several(paths) => run_files(rt, plan, paths),
-        Files::One(path) => finish(rt, run_file(rt, Turn { plan, path }), path),
-        Files::None => finish(rt, print(rt, Turn { plan, path: "" }, io::empty()), ""),
+        Files::One(path) => finish(rt, run_file(rt, Turn { plan, path }), path, ""),
+        Files::None => {
+            let answer = print(rt, Turn { plan, path: "" }, io::empty());
+            finish(rt, answer, "", plan.hours_text())
+        }
     }
 }
 
@@ -172,7 +175,7 @@ fn now_in(rt: &HostRuntime, zone: &str) -> Result<Moment, RunRefusal> {
 fn run_zone(rt: &HostRuntime, plan: ZonePlan) -> ExitCode {
     match now_in(rt, plan.zone.as_str()) {
         Ok(moment) => run_one(rt, &plan.at(moment)),
-        Err(refusal) => finish(rt, Err(refusal), ""),
+        Err(refusal) => finish(rt, Err(refusal), "", ""),
     }
 }
 
@@ -191,7 +194,7 @@ fn run_both(rt: &HostRuntime, plan: &DiffPlan) -> ExitCode {
         Err(refusal) => refused_file(plan, refusal),
         Ok(_) => "",
     };
-    finish(rt, answer, path)
+    finish(rt, answer, path, "")
 }
 
 fn run(rt: &HostRuntime, plan: Plan) -> ExitCode {
@@ -199,7 +202,7 @@ fn run(rt: &HostRuntime, plan: Plan) -> ExitCode {
         Plan::One(plan) => run_one(rt, &plan),
         Plan::NowIn(plan) => run_zone(rt, plan),
         Plan::Diff(plan) => run_both(rt, &plan),
-        Plan::Ask(path) => finish(rt, run_ask(rt, path.as_str()), path.as_str()),
+        Plan::Ask(path) => finish(rt, run_ask(rt, path.as_str()), path.as_str(), ""),
     }
 }
 
@@ -211,15 +214,25 @@ fn status_of(answer: Result<Ending, RunRefusal>) -> ExitCode {
     }
 }
 
-// Writes the line of a refusal. If standard error fails, the status stays the same.
-fn tell(rt: &HostRuntime, refusal: Refusal, file: &str) {
-    let _ = rt.eprintln(&RefusalLine { refusal, file });
+// Writes the lines of a refusal about this file or this text. If standard error fails, the status stays the same.
+fn tell(rt: &HostRuntime, refusal: Refusal, file: &str, text: &str) {
+    let below = below_refusal(text, refusal);
+    let _ = rt.eprint(&RefusalLines {
+        refusal,
+        file,
+        below,
+    });
 }
 
-// The status of an answer. If it is a refusal about the file of this path, its line is written.
-fn finish(rt: &HostRuntime, answer: Result<Ending, RunRefusal>, path: &str) -> ExitCode {
+// The status of an answer. If it is a refusal about the file of this path, or about this text, its lines are written.
+fn finish(
+    rt: &HostRuntime,
+    answer: Result<Ending, RunRefusal>,
+    path: &str,
+    text: &str,
+) -> ExitCode {
     if let Err(refusal) = answer {
-        tell(rt, Refusal::Run(refusal), path);
+        tell(rt, Refusal::Run(refusal), path, text);
     }
     status_of(answer)
 }
@@ -227,13 +240,16 @@ fn finish(rt: &HostRuntime, answer: Result<Ending, RunRefusal>, path: &str) -> E
 fn main(rt: HostRuntime) -> ExitCode {
     let planned = match words_of(&rt) {
         Ok(words) => plan(rt.alloc(), words),
-        Err(refusal) => Err(refusal),
+        Err(why) => Err(LineRefusal {
+            why,
+            text: String::new(rt.alloc()),
+        }),
     };
     match planned {
         Ok(plan) => run(&rt, plan),
-        Err(refusal) => {
-            let refusal = Refusal::Words(refusal);
-            tell(&rt, refusal, "");
+        Err(refused) => {
+            let refusal = Refusal::Words(refused.why);
+            tell(&rt, refusal, "", refused.text.as_str());
             ExitCode::from(refusal.status())
         }
     }

@@ -1,3 +1,4 @@
 pub mod ClapWords
 pub mod PlanFacts
+pub mod RefusedFacts
 pub mod StandFacts

@@ -5,6 +5,7 @@ pub mod CommandLine
 pub mod Hints
 pub mod Given
 pub mod Plans
+pub mod Refused
 pub use Rattle.gtdesk_words.specs.Text
 pub use Rattle.gtdesk_words.specs.Words
 pub use Rattle.gtdesk_words.specs.HoursWords

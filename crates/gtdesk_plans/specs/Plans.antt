@@ -1,11 +1,12 @@
 -- What a command line asks for, and why it is refused.
-use Rattle.std.specs.Prelude.{◌≡◌, List, [], ◌∷◌, map, option_map, string_bytes}
+use Rattle.std.specs.Prelude.{◌≡◌, ⊤, List, [], ◌∷◌, map, option_map, string_bytes}
 use Rattle.clap.specs.declared.error.kind.ErrorKind.{ErrorKind}
 use Rattle.clap.specs.declared.error.kind.ErrorKind.TheVariants.{DisplayVersion}
 use Rattle.gtdesk_plans.specs.Arguments.{Text}
 use Rattle.gtdesk_plans.specs.CommandLine.{AskForText, version_line}
 use Rattle.gtdesk_plans.specs.Commands.{asks_of, words_of}
 use Rattle.gtdesk_plans.specs.Given.{AreMistaken, Give, Given}
+use Rattle.gtdesk_plans.specs.Refused.{IsRefusedText}
 use Rattle.gtdesk_words.specs.declared.moment.Moment.{Moment}
 use Rattle.gtdesk_words.specs.Readings.{AreStopped, IsFirstFault}
 use Rattle.gtdesk_plans.specs.declared.commands.now.ZonePlan.{ZonePlan}
@@ -48,6 +49,17 @@ abbrev pub AreRefused : List Text → WordsRefusal → Type 0
 AreRefused words (refusal.Usage told meant) = AreMistaken words told.now (option_map (λ name. name.now) meant)
 AreRefused words (refusal.Word fault) = (given : Given) × Give words given × IsWordFault given (refusal.Word fault)
 AreRefused words refusal.Memory = Unit {0}
+
+-- The refusal is for no word.
+abbrev pub IsWordless : WordsRefusal → Type 0
+IsWordless (refusal.Word fault) = ⊥
+IsWordless other = ⊤
+
+-- A refusal of a word keeps it: the text of the first word of the command that stands for nothing. Any other keeps nothing.
+abbrev pub KeepsWord : List Text → WordsRefusal → Text → Type 0
+KeepsWord words (refusal.Word fault) word =
+    (given : Given) × Give words given × IsRefusedText (words_of given.form given.rows) fault word
+KeepsWord words other word = word ≡ []
 
 -- The paths of the files that a plan reads, one after the other.
 abbrev pub files_of : OnePlan → List Text

@@ -12,6 +12,7 @@ mod given;
 mod hints;
 mod planner;
 mod plans;
+mod refused;
 
 pub use commands::{
     DiffPlan, DomainPicturePlan, FaultsPlan, HoursPlan, NowPlan, NowView, PicturePlan,
@@ -19,3 +20,4 @@ pub use commands::{
 };
 pub use planner::plan;
 pub use plans::{Files, OnePlan, Plan};
+pub use refused::LineRefusal;

@@ -11,7 +11,8 @@ ghost use Rattle.gtdesk_plans.specs.CommandLine as spec;
 ghost use Rattle.gtdesk_plans.specs.CommandLine.{desk_app, version_line};
 ghost use Rattle.gtdesk_plans.specs.Commands.{asks_of, words_of};
 ghost use Rattle.gtdesk_plans.specs.Given.{Give, Given, asked_words, given_in, help_words};
-ghost use Rattle.gtdesk_plans.specs.Plans.{AreRefused, AskFor, Asks, IsRefused, IsShown, IsWordFault};
+ghost use Rattle.gtdesk_plans.specs.Plans.{AreRefused, AskFor, Asks, IsRefused, IsShown, IsWordFault, IsWordless, KeepsWord};
+ghost use Rattle.gtdesk_plans.specs.Refused.{IsKept};
 ghost use Rattle.gtdesk_words.specs.Readings.{AreStopped};
 ghost use Rattle.gtdesk_words.specs.declared.refusal.WordsRefusal.{WordsRefusal};
 
@@ -20,6 +21,7 @@ use crate::commands::{ask, diff, faults, hours, mend, now, picture, records, sam
 use crate::forms::{Form, Misuse, form_of};
 use crate::hints::meant_by;
 use crate::plans::{OnePlan, Plan};
+use crate::refused::{LineRefusal, refused, word_at, wordless};
 use clap::ArgMatches;
 use clap::error::ErrorKind;
 use gtdesk_words::WordsRefusal;
@@ -81,8 +83,9 @@ fn usage_text(kind: ErrorKind) -> &'static str
 
 // The plan for words in which `clap` finds no command: to show the text that they ask for. Otherwise their refusal.
 fn plan_error(alloc: Global, error: &clap::Error, words: &[String]) -> Result<Plan, WordsRefusal>
-    ensures { HasKind (fault_of desk_app (map string_bytes words.now)) error.now
+    ensures asked { HasKind (fault_of desk_app (map string_bytes words.now)) error.now
         → MatchResult result (AskFor (map string_bytes words.now)) (AreRefused (map string_bytes words.now)) }
+    ensures wordless { IfErr result IsWordless }
 {
     let kind = error.kind();
     if is_memory(kind) {
@@ -121,6 +124,18 @@ fn plan_form(alloc: Global, form: Form, given: &ArgMatches<'_>) -> Result<Plan, 
     }
 }
 
+// The same, with the word that is refused.
+fn plan_given(alloc: Global, form: Form, given: &ArgMatches<'_>) -> Result<Plan, LineRefusal>
+    ensures asked { MatchResult result (asks_of form (rows_of (found_of given.now)))
+        (λ r. AreStopped (words_of form (rows_of (found_of given.now))) r.why) }
+    ensures kept { IfErr result (λ r. IsKept (words_of form (rows_of (found_of given.now))) r.why (string_bytes r.text)) }
+{
+    match plan_form(alloc, form, given) {
+        Ok(plan) => Ok(plan),
+        Err(why) => Err(refused(alloc, why, word_at(form, why, given))),
+    }
+}
+
 // The command that the matches hold, with what was found for it; or what is wrong with its words.
 fn given<'m, 'a>(matches: &'m ArgMatches<'a>) -> Result<(Form, &'m ArgMatches<'a>), Misuse>
     ensures { MatchResult result
@@ -138,35 +153,42 @@ fn given<'m, 'a>(matches: &'m ArgMatches<'a>) -> Result<(Form, &'m ArgMatches<'a
 }
 
 // The plan of the words after the program's name.
-fn plan_line(alloc: Global, words: &[String]) -> Result<Plan, WordsRefusal>
-    ensures { MatchResult result (AskFor (map string_bytes words.now)) (AreRefused (map string_bytes words.now)) }
+fn plan_line(alloc: Global, words: &[String]) -> Result<Plan, LineRefusal>
+    ensures asked { MatchResult result (AskFor (map string_bytes words.now))
+        (λ r. AreRefused (map string_bytes words.now) r.why) }
+    ensures kept { IfErr result (λ r. KeepsWord (map string_bytes words.now) r.why (string_bytes r.text)) }
 {
     match parse(alloc, words) {
         Ok(matches) => match given(&matches) {
-            Ok((form, given)) => plan_form(alloc, form, given),
-            Err(misuse) => Err(WordsRefusal::Usage {
-                told: misuse.told(),
-                meant: None,
-            }),
+            Ok((form, given)) => plan_given(alloc, form, given),
+            Err(misuse) => {
+                let told = misuse.told();
+                Err(wordless(alloc, WordsRefusal::Usage { told, meant: None }))
+            }
         },
-        Err(error) => plan_error(alloc, &error, words),
+        Err(error) => match plan_error(alloc, &error, words) {
+            Ok(plan) => Ok(plan),
+            Err(why) => Err(wordless(alloc, why)),
+        },
     }
 }
 
 // The plan of a program that is given no words: it is asked for its help.
-fn plan_help(alloc: Global) -> Result<Plan, WordsRefusal>
-    ensures { MatchResult result (AskFor help_words) (AreRefused help_words) }
+fn plan_help(alloc: Global) -> Result<Plan, LineRefusal>
+    ensures asked { MatchResult result (AskFor help_words) (λ r. AreRefused help_words r.why) }
+    ensures kept { IfErr result (λ r. KeepsWord help_words r.why (string_bytes r.text)) }
 {
     match String::from_str(alloc, "--help") {
         Ok(help) => plan_line(alloc, &[help]),
-        Err(_) => Err(WordsRefusal::Memory),
+        Err(_) => Err(wordless(alloc, WordsRefusal::Memory)),
     }
 }
 
 // The plan of the words after the program's name, of which there may be none.
-fn plan_asked(alloc: Global, words: &[String]) -> Result<Plan, WordsRefusal>
-    ensures { MatchResult result (AskFor (asked_words (map string_bytes words.now)))
-        (AreRefused (asked_words (map string_bytes words.now))) }
+fn plan_asked(alloc: Global, words: &[String]) -> Result<Plan, LineRefusal>
+    ensures asked { MatchResult result (AskFor (asked_words (map string_bytes words.now)))
+        (λ r. AreRefused (asked_words (map string_bytes words.now)) r.why) }
+    ensures kept { IfErr result (λ r. KeepsWord (asked_words (map string_bytes words.now)) r.why (string_bytes r.text)) }
 {
     match words.split_first() {
         Some(_) => plan_line(alloc, words),
@@ -177,24 +199,27 @@ fn plan_asked(alloc: Global, words: &[String]) -> Result<Plan, WordsRefusal>
 /// What the words after the program's name ask for, or why they are refused. Without words, they ask for help.
 ///
 /// In order: `Usage` if they neither give a command with its words nor ask for help; then `Word` for the first of the command's
-/// words that stands for nothing, from left to right and its options last. If memory was refused, `Memory` is the answer in place
-/// of these.
-pub fn plan(alloc: Global, words: Vec<String>) -> Result<Plan, WordsRefusal>
+/// words that stands for nothing, from left to right and its options last, with that word. If memory was refused, `Memory` is the
+/// answer in place of these.
+pub fn plan(alloc: Global, words: Vec<String>) -> Result<Plan, LineRefusal>
     // The plan is what the words ask for.
     ensures asked { IfOk result (AskFor (asked_words (map string_bytes words.items))) }
     // The refusal is one that the words have, unless memory was refused.
-    ensures refused { IfErr result (AreRefused (asked_words (map string_bytes words.items))) }
+    ensures refused { IfErr result (λ r. AreRefused (asked_words (map string_bytes words.items)) r.why) }
+    // If it is for a word, it keeps that word.
+    ensures kept { IfErr result (λ r. KeepsWord (asked_words (map string_bytes words.items)) r.why (string_bytes r.text)) }
     // If the words give a command, the plan is what that command asks for; or the refusal is for the first of its words that
     // stands for nothing, unless memory was refused.
     ensures only { (given : Given) → Give (asked_words (map string_bytes words.items)) given
-        → MatchResult result (Asks given) (IsRefused given) }
+        → MatchResult result (Asks given) (λ r. IsRefused given r.why) }
     // If a word of the command stands for nothing, the first such word gives the refusal, unless memory is refused.
     ensures first { (given : Given) (refusal : WordsRefusal) → Give (asked_words (map string_bytes words.items)) given
-        → IsWordFault given refusal → MatchResult result (λ plan. ⊥) (λ r. (r ≡ WordsRefusal.Memory) ⊎ (r ≡ refusal)) }
+        → IsWordFault given refusal
+        → MatchResult result (λ plan. ⊥) (λ r. (r.why ≡ WordsRefusal.Memory) ⊎ (r.why ≡ refusal)) }
     // If each of its words stands for something, they are planned, unless memory is refused.
     ensures planned { (given : Given) → Give (asked_words (map string_bytes words.items)) given
         → ((refusal : WordsRefusal) → IsWordFault given refusal → ⊥)
-        → MatchResult result (Asks given) (λ r. r ≡ WordsRefusal.Memory) }
+        → MatchResult result (Asks given) (λ r. r.why ≡ WordsRefusal.Memory) }
 {
     plan_asked(alloc, words.as_slice())
 }

@@ -63,7 +63,7 @@ pub enum Files<'a> {
 
 impl OnePlan {
     ghost use Rattle.std.specs.Prelude.{◌≡◌};
-    ghost use Rattle.gtdesk_plans.specs.Plans.{files_of, texts_in};
+    ghost use Rattle.gtdesk_plans.specs.Plans.{files_of, hours_text_of, texts_in};
 
     /// The paths of the files that are to be read.
     pub fn files(&self) -> Files<'_>
@@ -77,6 +77,17 @@ impl OnePlan {
             OnePlan::Records(files) => Files::Several(files.as_slice()),
             OnePlan::Mend(file) => Files::One(file.as_str()),
             _ => Files::None,
+        }
+    }
+
+    /// The text of opening hours that is read when the plan is carried out; nothing, if there is none.
+    pub fn hours_text(&self) -> &str
+        ensures value { result.now ≡ hours_text_of self.now }
+    {
+        match self {
+            OnePlan::DomainOf(plan) => plan.text.as_str(),
+            OnePlan::MendHours(text) => text.as_str(),
+            _ => "",
         }
     }
 }

@@ -7,6 +7,7 @@ pub mod LooseHours
 pub mod Mended
 pub mod Refusals
 pub mod Running
+pub mod Shown
 pub mod Telling
 pub mod Zones
 pub use Rattle.gtd_core.specs.Seconds

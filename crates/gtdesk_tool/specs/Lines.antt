@@ -1,4 +1,4 @@
--- The line for standard error that reports a refusal.
+-- The lines for standard error that report a refusal.
 use Rattle.std.specs.Prelude.{◌++◌, ℕ, List, Some, None, codes, decimal}
 use Rattle.gtd_ask.specs.Texts.{question_fault_text}
 use Rattle.gtd_calendar.specs.declared.stamp.StampFault.{StampFault}
@@ -8,6 +8,8 @@ use Rattle.gtd_core.specs.declared.horizon.HorizonFault.{HorizonFault}
 use Rattle.gtd_core.specs.declared.horizon.HorizonFault.TheVariants as horizon
 use Rattle.gtd_faults.specs.Listing.{fault_text}
 use Rattle.gtd_faults.specs.Printable.{printable}
+use Rattle.gtd_hours_file.specs.Refused.{refused_below}
+use Rattle.gtd_hours_file.specs.declared.refused.RefusedBelow.{RefusedBelow}
 use Rattle.gtd_hours_grammar.specs.declared.fault.FaultKind.{FaultKind}
 use Rattle.gtd_hours_grammar.specs.declared.fault.FaultKind.TheVariants as kind
 use Rattle.gtdesk_words.specs.declared.refusal.NoDomain.{NoDomain}
@@ -129,7 +131,7 @@ run_text file (run.Questions why) = codes "standard input: " ++ question_fault_t
 run_text file run.Write = codes "standard output: cannot be written"
 run_text file run.Memory = codes "memory: refused by the system"
 
--- the line without its line end: the program, where the fault is, and what it is
-abbrev pub refusal_line : List ℕ → Refusal → List ℕ
-refusal_line file (refusal.Words why) = codes "gtdesk: " ++ words_text why
-refusal_line file (refusal.Run why) = codes "gtdesk: " ++ run_text file why
+-- the line, which says where the fault is and what it is, and below it what is shown
+abbrev pub refusal_lines : List ℕ → Refusal → RefusedBelow → List ℕ
+refusal_lines file (refusal.Words why) shown = codes "gtdesk: " ++ (words_text why ++ (codes "\n" ++ refused_below shown))
+refusal_lines file (refusal.Run why) shown = codes "gtdesk: " ++ (run_text file why ++ (codes "\n" ++ refused_below shown))

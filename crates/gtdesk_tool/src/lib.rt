@@ -19,6 +19,7 @@ mod picture;
 mod refusal;
 mod repeats;
 mod same;
+mod shown;
 mod zone;
 
 pub use ask::perform_ask;
@@ -26,11 +27,12 @@ pub use diff::perform_diff;
 pub use ending::{Ending, joined};
 pub use gtd_zones::zone_path;
 pub use gtdesk_plans::{
-    DiffPlan, DomainPicturePlan, FaultsPlan, Files, HoursPlan, NowPlan, NowView, OnePlan,
-    PicturePlan, PictureSubject, Plan, SamePlan, ZonePlan, plan,
+    DiffPlan, DomainPicturePlan, FaultsPlan, Files, HoursPlan, LineRefusal, NowPlan, NowView,
+    OnePlan, PicturePlan, PictureSubject, Plan, SamePlan, ZonePlan, plan,
 };
 pub use gtdesk_words::{Moment, NoDomain, Reason, WordFault, WordName, WordsRefusal};
-pub use line::RefusalLine;
+pub use line::RefusalLines;
 pub use performer::{Turn, perform};
 pub use refusal::{Refusal, RunRefusal, refused_file};
+pub use shown::below_refusal;
 pub use zone::{moment_in_zone, no_zone};

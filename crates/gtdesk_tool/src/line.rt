@@ -1,14 +1,15 @@
-//! The line for standard error that reports a refusal.
+//! The lines for standard error that report a refusal.
 
 ghost use Rattle.std.specs.Prelude.{◌≡◌, Some};
 ghost use Rattle.gtdesk_tool.specs.Lines as spec;
-ghost use Rattle.gtdesk_tool.specs.Lines.{kind_name, no_domain_text, reason_text, refusal_line, run_text, word_text, words_text};
+ghost use Rattle.gtdesk_tool.specs.Lines.{kind_name, no_domain_text, reason_text, refusal_lines, run_text, word_text, words_text};
 
 use crate::refusal::{Refusal, RunRefusal};
 use gtd_ask::QuestionText;
 use gtd_calendar::StampFault;
 use gtd_core::HorizonFault;
 use gtd_faults::{FaultText, Printable};
+use gtd_hours_file::RefusedBelow;
 use gtd_hours_grammar::FaultKind;
 use gtdesk_words::{NoDomain, Reason, WordFault, WordName, WordsRefusal};
 use std::fmt;
@@ -208,29 +209,26 @@ impl Display for RunLine<'_> {
     }
 }
 
-/// The line for standard error that reports a refusal, without its line end: `gtdesk: WHERE: WHAT`.
+/// The lines for standard error that report a refusal: `gtdesk: WHERE: WHAT`, and what is shown below.
 #[derive(Drop)]
-pub struct RefusalLine<'a> {
+pub struct RefusalLines<'a, 'b> {
     /// The refusal.
     pub refusal: Refusal,
     /// The name of the record file that it is about, if it is about one.
     pub file: &'a str,
+    /// What is shown below its line.
+    pub below: RefusedBelow<'b>,
 }
 
-impl Display for RefusalLine<'_> {
-    ghost output = { λ line. Some (refusal_line line.file.now line.refusal) };
+impl Display for RefusalLines<'_, '_> {
+    ghost output = { λ lines. Some (refusal_lines lines.file.now lines.refusal lines.below) };
 
     fn fmt<W: fmt::Write>(&self, f: &mut Formatter<W>) -> fmt::Result {
+        let file = self.file;
+        let below = self.below;
         match self.refusal {
-            Refusal::Words(refusal) => write!(f, "gtdesk: {}", WordsLine(refusal)),
-            Refusal::Run(refusal) => write!(
-                f,
-                "gtdesk: {}",
-                RunLine {
-                    refusal,
-                    file: self.file
-                }
-            ),
+            Refusal::Words(refusal) => write!(f, "gtdesk: {}\n{below}", WordsLine(refusal)),
+            Refusal::Run(refusal) => write!(f, "gtdesk: {}\n{below}", RunLine { refusal, file }),
         }
     }
 }

@@ -1,0 +1,65 @@
+//! What is shown below the line of a refusal.
+
+ghost use Rattle.gtdesk_tool.specs.Shown.{IsNothing, IsOfHours, IsOfRun, IsOfWord, IsShownBelow};
+
+use crate::refusal::{Refusal, RunRefusal};
+use gtd_faults::Below;
+use gtd_hours_file::{RefusedBelow, below_ambiguous, below_domain, below_hours, below_too_many};
+use gtdesk_words::{NoDomain, Reason, WordsRefusal};
+
+// Nothing, of whatever text.
+fn nothing(_text: &str) -> RefusedBelow<'_>
+    ensures { IsNothing result }
+{
+    RefusedBelow {
+        below: Below::Nothing,
+        accepted: None,
+    }
+}
+
+// What is shown of a text of opening hours without a domain.
+fn of_hours(text: &str, why: NoDomain) -> RefusedBelow<'_>
+    ensures { IsOfHours text.now why result }
+{
+    match why {
+        NoDomain::Fault(fault) => below_hours(text, fault),
+        NoDomain::Ambiguous { place } => below_ambiguous(text, place),
+        NoDomain::TooMany => below_too_many(text),
+    }
+}
+
+// What is shown of a word.
+fn of_word(text: &str, why: Reason) -> RefusedBelow<'_>
+    ensures { IsOfWord text.now why result }
+{
+    match why {
+        Reason::Domain(fault) => below_domain(text, fault),
+        Reason::Hours(why) => of_hours(text, why),
+        _ => nothing(text),
+    }
+}
+
+// What is shown of the text that a plan reads.
+fn of_run(text: &str, why: RunRefusal) -> RefusedBelow<'_>
+    ensures { IsOfRun text.now why result }
+{
+    match why {
+        RunRefusal::NoDomain(why) => of_hours(text, why),
+        _ => nothing(text),
+    }
+}
+
+/// What is shown below the line of a refusal: of a time domain or of opening hours the text, or a stretch of it around the place
+/// of its fault, with a caret, and what is accepted there; otherwise nothing. The text is the word that is refused, or that of
+/// the opening hours that the plan reads.
+pub fn below_refusal(text: &str, refusal: Refusal) -> RefusedBelow<'_>
+    ensures shown { IsShownBelow text.now refusal result }
+{
+    match refusal {
+        Refusal::Words(why) => match why {
+            WordsRefusal::Word(fault) => of_word(text, fault.why),
+            _ => nothing(text),
+        },
+        Refusal::Run(why) => of_run(text, why),
+    }
+}
