@@ -192,7 +192,7 @@ def main():
         if found != row["faults"].split(";") and (found or row["faults"]):
             wrong += 1
             print(f"{row['bytes']!r}: {found}, not {row['faults']}", file=sys.stderr)
-    print(f"holidays: {len(worked) + len(faults)} rows, {wrong} wrong")
+    print(f"holidays: {len(worked) + len(faults) - wrong} passed, {wrong} failed")
     return wrong > 0
 
 

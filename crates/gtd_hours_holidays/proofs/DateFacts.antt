@@ -81,7 +81,8 @@ day_read text y m d None shown exists date = (never, tt)
     never n is =
         let same = same_ymd text is.year is.month is.day y m d is.shown shown in
         let has : IsCalendarYear (pos y) × IsDate (pos y) m d =
-        rw (same.0, same.1, same.2) at (pair (IsCalendarYear (pos is.year)) (IsDate (pos is.year) is.month is.day) is.year_in is.date.0) in
+        rw (same.0, same.1, same.2) at
+        (pair (IsCalendarYear (pos is.year)) (IsDate (pos is.year) is.month is.day) is.year_in is.date.0) in
         let e = exists.1 has in
         cc
 day_read text y m d (Some n) shown exists date = (text_of, in_calendar n (pos y) m d (exists.0 refl).0 date)

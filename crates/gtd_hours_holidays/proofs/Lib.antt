@@ -4,3 +4,5 @@ pub mod TableFacts
 pub mod RowFacts
 pub mod HolidayFacts
 pub mod EasterFacts
+pub mod RunFacts
+pub mod YearFacts

@@ -44,7 +44,8 @@ marked_more old now first at are from inside k = elim (cases_order k at) [
     (λ h. inr (omega (arith, e, from), omega (arith, e))),
     (λ h. rw e (get_or-set_same now at true false inside)),
   )
-  | inr (inl lt) ↦ other_mark old now first at k are (λ h. lt) (get_or-set_other now at k true false (λ e. absurd (omega (arith, e, lt))))
+  | inr (inl lt) ↦ other_mark old now first at k are (λ h. lt)
+      (get_or-set_other now at k true false (λ e. absurd (omega (arith, e, lt))))
   | inr (inr gt) ↦ other_mark old now first at k are (λ h. absurd (omega (arith, h, gt)))
       (get_or-set_other now at k true false (λ e. absurd (omega (arith, e, gt))))
 ]

@@ -2,9 +2,11 @@ pub mod Dates
 pub mod Days
 pub mod Easter
 pub mod FaultTexts
+pub mod KnownYears
 pub mod Marks
 pub mod Reading
 pub mod Rows
+pub mod Runs
 pub mod Table
 pub mod TakenRows
 pub use Rattle.gtd_calendar.specs.Calendar

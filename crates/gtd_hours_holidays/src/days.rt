@@ -9,8 +9,11 @@ ghost use Rattle.gtd_hours_holidays.specs.Marks.{AreMarked, IsFirstMark};
 
 use std::alloc::{AllocError, Global};
 
-// The first day of a set: 1800-01-01.
-const FIRST_DAY: i64 = -62_091;
+/// The first day of a set: 1800-01-01.
+pub(crate) const FIRST_DAY: i64 = -62_091;
+
+/// The last day of a set: 2799-12-31.
+pub(crate) const LAST_DAY: i64 = 303_150;
 
 /// A set of days of the years 1800 to 2799.
 #[derive(Drop)]

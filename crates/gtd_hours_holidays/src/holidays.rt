@@ -163,9 +163,10 @@ fn outside_of(alloc: Global, rows: &[HolidayRow]) -> Result<Vec<HolidaysFault>, 
 
 /// The table of holidays that a file's bytes are, or all its faults.
 ///
-/// `TooLarge` and `Header` come alone. Otherwise each row that is at fault has its first one from the left, `FieldCount`, `First`,
-/// `Last` or `Kind`, in the order of the rows, and `TooManyRows` comes after those of the first 4,096 rows. If there are none of
-/// these, each row with a holiday that no row covers has `Outside`. `NoMemory` is answered only if memory was refused.
+/// `TooLarge` and `Header` come alone. Otherwise each row that is at fault has its first one from the left, `FieldCount`,
+/// `First`, `Last` or `Kind`, in the order of the rows, and `TooManyRows` comes after those of the first 4,096 rows. If there
+/// are none of these, each row with a holiday that no row covers has `Outside`. `NoMemory` is answered only if memory was
+/// refused.
 pub fn read_holidays(alloc: Global, bytes: &[u8]) -> Result<Holidays, Unread>
     ensures table { IsRead bytes.now result }
 {
@@ -200,8 +201,8 @@ impl Holidays {
         days_of(alloc, self.rows.as_slice(), kind, false)
     }
 
-    /// The first day from one to another, both included, on which the table does not say all holidays of this kind, or `None` if it
-    /// says them on all these days. Both must be of the years 1800 to 2799. `AllocError` is answered only if memory was refused.
+    /// The first day from one to another, both included, on which the table does not say all holidays of this kind, or `None` if
+    /// there is none. Both must be of the years 1800 to 2799. `AllocError` is answered only if memory was refused.
     pub fn first_uncovered(
         &self,
         alloc: Global,

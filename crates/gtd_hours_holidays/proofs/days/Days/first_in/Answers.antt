@@ -7,7 +7,9 @@ returns-in-Some c =
     let fits : FitsSigned w64 c.day_at.result = search rules in
     record {
       first = rw (to_z-of_z fits) (marks.first_in c.args.self.now c.place_of-first.result c.place_of-until.result c.args.from
-          c.args.to c.requires.from_in c.requires.to_in (rw (to_z-of_z c.ranges.from) at c.place_of-first.ensures.place) (rw (to_z-of_z c.ranges.to) at c.place_of-until.ensures.place)
+          c.args.to c.requires.from_in c.requires.to_in
+          (rw (to_z-of_z c.ranges.from) at c.place_of-first.ensures.place)
+          (rw (to_z-of_z c.ranges.to) at c.place_of-until.ensures.place)
           c.in-Some.place c.day_at.result c.day_at.ensures.day c.day_at.ensures.near
           (rw c.as_slice.ensures.value at c.in-Some.ensures));
     }
