@@ -182,6 +182,15 @@ class Maker(random.Random):
             return self.date(True)
         return f"{self.date(True)}-{self.choice([self.date(leap_day=False), '2028 ' + self.date()])}"
 
+    def month_days(self):
+        """Months and dates, some with days of their month behind them."""
+        return self.listed(lambda: self.with_days(self.month_day()))
+
+    def with_days(self, text):
+        if not text[-1].isdigit() or self.random() < 0.7:
+            return text
+        return ",".join([text] + self.choices(["1", "05", "28", "24", "5-7", "27-Mar 3"], k=self.randint(1, 2)))
+
     def weekday(self):
         first, last = self.choices(hours_model.WEEKDAYS, k=2)
         return self.choice([first, f"{first}-{last}", f"{first}[{self.listed(self.place)}]"])
@@ -199,7 +208,7 @@ class Maker(random.Random):
             return self.choice(["24/7", "off", "24/7 off", "open", "08:00-12:00"])
         parts = [
             self.listed(self.years) if self.random() < 0.2 else "",
-            self.listed(self.month_day) if self.random() < 0.4 else "",
+            self.month_days() if self.random() < 0.4 else "",
             f"week {self.listed(self.weeks)}" if self.random() < 0.2 else "",
             self.listed(self.weekday, 3) if self.random() < 0.6 else "",
             self.listed(self.time_range, 3) if self.random() < 0.6 else "",

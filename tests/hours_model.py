@@ -162,7 +162,7 @@ class Reader:
         if self.peek() == "number" and not (self.peek(1) == "month" and self.peek(2) == "number"):
             kinds["years"] = self.listed(self.years, lambda: self.is_year(1))
         if self.peek() in ("month", "number"):
-            kinds["month days"] = self.listed(self.month_days, lambda: self.peek(1) == "month" or self.is_year(1))
+            kinds["month days"] = self.month_days()
         if self.goes("week"):
             kinds["weeks"] = self.listed(self.weeks, lambda: self.peek(1) == "number")
         if kinds:
@@ -218,10 +218,31 @@ class Reader:
         return self.stepped("weeks", self.week)
 
     def month_days(self):
+        """Months and dates. Behind a date go on days of the month and the year of the last one, but `24/7` is another rule."""
+        items = self.month_day()
+        while self.peek() == ",":
+            dated = items[-1][0] != "months" and self.peek(1) == "number" and not self.is_year(1)
+            if dated and (self.peek(2) != "/" or self.text(1) != "24"):
+                self.take(",")
+                last = items[-1][2]
+                year, month = (None, last[0]) if items[-1][0] == "dates" else (last.year, last.month)
+                items += self.dates(year, month)
+            elif self.peek(1) == "month" or self.is_year(1):
+                self.take(",")
+                items += self.month_day()
+            else:
+                break
+        return items
+
+    def month_day(self):
         year = self.year() if self.peek() == "number" else None
         month = self.month()
         if year is None and self.peek() != "number":
             return [("months", month, self.month() if self.goes("-") else month)]
+        return self.dates(year, month)
+
+    def dates(self, year, month):
+        """A date of this year and month, or a range from it on."""
         first = self.day(year, month)
         last = self.last_date(year, first) if self.goes("-") else first
         return [("dates" if year is None else "dated", first, last)]

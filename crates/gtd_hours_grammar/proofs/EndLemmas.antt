@@ -14,6 +14,7 @@ use Rattle.gtd_hours_grammar.specs.Grammar.{AreHours, CanGoOn, Follow, More, in_
 use Rattle.gtd_hours_grammar.specs.Faults.{IsFirstFault, IsHoursText, IsMisfitKind, are_alike, kinds}
 use Rattle.gtd_hours_grammar.specs.Kinds.{misfit_of, range_if}
 use Rattle.gtd_hours_grammar.specs.Places.{Rest}
+use Rattle.gtd_hours_grammar.specs.Places.BehindDate.{none}
 use Rattle.gtd_hours_grammar.specs.Sound.{IsPlace, takes_number, takes_time}
 use Rattle.gtd_hours_grammar.specs.Runs.{Runs, is_after}
 use Rattle.gtd_hours_grammar.specs.Steps.{GivesTo, IsMove, IsReading, end_or_fault, ended, kind_of}
@@ -28,6 +29,9 @@ use Rattle.gtd_hours_grammar.proofs.ReadLemmas.{known, none_later, same_next, sp
 rest_ends : (at : Place) → is_after at ≡ true → IsPlace at → Rest in_full at [] []
 rest_ends (places.After s) e h =
     record { later = []; rest = []; more = More.none [] [] refl refl; follow = Follow.ends s [] [] h refl refl }
+rest_ends (places.AfterDate year m) e h =
+    let follow = Follow.ends stage.MonthDays [] [] refl refl refl in
+    none (record { later = []; rest = []; more = More.none [] [] refl refl; follow = follow })
 rest_ends at e h = absurd cc
 
 pub all_read : (text : List ℕ) (r : Reading) (given : List Piece) → IsReading text r given → IsNext text r.place (Ok None)

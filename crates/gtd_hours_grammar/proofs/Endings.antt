@@ -13,18 +13,21 @@ use Rattle.gtd_hours_grammar.specs.Terms.{TokenKind, Piece, Stage, Place}
 use Rattle.gtd_hours_grammar.specs.declared.piece.Piece.TheVariants as piece
 use Rattle.gtd_hours_grammar.specs.declared.stage.Stage.TheVariants as stage
 use Rattle.gtd_hours_grammar.specs.declared.place.Place.TheVariants as places
-use Rattle.gtd_hours_grammar.specs.Grammar.{Demand, Follow, IsMonthDays, IsPlaces, IsWeekdays, IsWeeks, IsYears, by_place}
+use Rattle.gtd_hours_grammar.specs.Grammar.{Demand, Follow, IsDates, IsMonthDays, IsPlaces, IsWeekdays, IsWeeks, IsYears}
+use Rattle.gtd_hours_grammar.specs.Grammar.{by_place}
 use Rattle.gtd_hours_grammar.specs.Grammar.{date_before, dated, goes_on, may_break_off, number, precedes, so_far}
 use Rattle.gtd_hours_grammar.specs.Grammar.{time, unfinished}
 use Rattle.gtd_hours_grammar.specs.Pieces.{AreBackWeeks, IsDay, IsLastDay, IsRange, IsWrittenDate, final_week, final_year}
 use Rattle.gtd_hours_grammar.specs.Pieces.{week_one}
-use Rattle.gtd_hours_grammar.specs.Places.{From, Rest}
+use Rattle.gtd_hours_grammar.specs.Places.{Behind, BehindDate, FromDate, Rest}
+use Rattle.gtd_hours_grammar.specs.Places.BehindDate.{day, none}
+use Rattle.gtd_hours.specs.declared.hours.Link.TheVariants as link
 use Rattle.gtd_hours_grammar.specs.Sound.{IsLastYear, IsPlace, takes_number, takes_time}
 use Rattle.gtd_hours_grammar.proofs.EndingsOfParts.{a_date, a_month, a_month_day, a_year, after_number, another, behind}
 use Rattle.gtd_hours_grammar.proofs.EndingsOfParts.{bracket_closed, dated_after, digit_one, done, first_day, first_of}
 use Rattle.gtd_hours_grammar.proofs.EndingsOfParts.{first_of-is, in_brackets, midnight, midnight-is, opened, other_rule}
 use Rattle.gtd_hours_grammar.proofs.EndingsOfParts.{some_date, some_date-is, some_times, some_year, some_year-is, then}
-use Rattle.gtd_hours_grammar.proofs.EndingsOfParts.{times_after, to_same}
+use Rattle.gtd_hours_grammar.proofs.EndingsOfParts.{dates_then, times_after, to_same}
 
 -- a text that goes on from a place
 pub record Ending (at : Place) : Type 0 where
@@ -94,7 +97,7 @@ later_month d m p ts h follow =
 date_then : (d : Demand) (x : WrittenDate) (p : List Piece) (ts : List TokenKind) → IsWrittenDate x
     → Follow d stage.MonthDays p ts → Rest d (places.Date x) (piece.Dates x None ∷ p) ts
 date_then d x p ts h follow =
-    then d stage.MonthDays (piece.Dates x None ∷ p) p (date_before x ts) ts (a_date d x p ts h) follow
+    dates_then d x (piece.Dates x None ∷ p) p ts ts (IsDates.one x None (piece.Dates x None ∷ p) ts refl refl (record {})) follow
 
 week_then : (d : Demand) (n : Digits) (p : List Piece) (ts : List TokenKind) → IsWeekNumber n → Follow d stage.Weeks p ts
     → Rest d (places.Week n) (piece.Weeks n None None ∷ p) ts
@@ -170,7 +173,10 @@ first_week d = week_then d digit_one [] [] (omega arith, omega arith, omega arit
 -- the first day of the month
 to_day_of : (d : Demand) (n : Digits) (m : ℕ) → IsYearNumber n → IsMonth m
     → Rest d (places.DateYearMonth n m) (piece.Dates (first_of (Some n) m) None ∷ []) (token.Number 1 1 ∷ [])
-to_day_of d n m y h = date_then d (first_of (Some n) m) [] [] (first_of-is (Some n) m y h) (done d stage.MonthDays refl)
+to_day_of d n m y h =
+    let x = first_of (Some n) m in
+    then d stage.MonthDays (piece.Dates x None ∷ []) [] (date_before x []) [] (a_date d x [] [] (first_of-is (Some n) m y h))
+    (done d stage.MonthDays refl)
 
 to_day_of_year : (d : Demand) (n : Digits) (m : ℕ) → IsYearNumber n → IsMonth m
     → Rest d (places.YearMonth n m) (piece.Dates (first_of (Some n) m) None ∷ []) (token.Number 1 1 ∷ [])
@@ -181,7 +187,10 @@ to_day_of_year d n m y h =
 
 to_day_of_month : (d : Demand) (m : ℕ) → IsMonth m
     → Rest d (places.Month m) (piece.Dates (first_of None m) None ∷ []) (token.Number 1 1 ∷ [])
-to_day_of_month d m h = date_then d (first_of None m) [] [] (first_of-is None m tt h) (done d stage.MonthDays refl)
+to_day_of_month d m h =
+    let x = first_of None m in
+    then d stage.MonthDays (piece.Dates x None ∷ []) [] (date_before x []) [] (a_date d x [] [] (first_of-is None m tt h))
+    (done d stage.MonthDays refl)
 
 to_day_after_year : (d : Demand) (m : ℕ) → IsMonth m
     → Rest d (places.MonthAfterYear m) (piece.Kind ∷ piece.Dates (first_of None m) None ∷ []) (token.Number 1 1 ∷ [])
@@ -241,11 +250,11 @@ month_in (Some y) m n h = h.1.1.0
 
 -- a text that breaks off before the day of a last date
 breaks_off : (d : Demand) (x : WrittenDate) (year : Option Digits) (m : Option ℕ) → may_break_off d ≡ true
-    → is_some x.year ≡ true → IsWrittenDate x → IfSome year IsYearNumber → IfSome m IsMonth
-    → From d stage.MonthDays [] (date_before x (token.Dash ∷ unfinished year m))
-breaks_off d x year m may dated h y k =
-    then d stage.MonthDays [] [] (date_before x (token.Dash ∷ unfinished year m)) []
-    (IsMonthDays.cut x year m may dated h y k refl refl refl) (done d stage.MonthDays refl)
+    → is_some x.year ≡ true → IfSome year IsYearNumber → IfSome m IsMonth
+    → FromDate d x [] (token.Dash ∷ unfinished year m)
+breaks_off d x year m may dated y k =
+    dates_then d x [] [] (token.Dash ∷ unfinished year m) []
+    (IsDates.cut x year m [] (token.Dash ∷ unfinished year m) may dated y k refl refl refl) (done d stage.MonthDays refl)
 
 -- after a date without a year the first day of the month, or of another one
 to_last : (x : WrittenDate) (m : ℕ) → x.year ≡ None → IsMonth m → IsLastDay x.year x.month x.day None m digit_one
@@ -254,36 +263,38 @@ to_last x m e h = subst (λ (y : Option Digits). IsLastDay y x.month x.day None 
 to_last_day : (d : Demand) (x : WrittenDate) → x.year ≡ None → IsWrittenDate x
     → Rest d (places.DateDash x) (piece.Dates x (Some (last_date.Day digit_one)) ∷ []) (token.Number 1 1 ∷ [])
 to_last_day d x e h =
-    then d stage.MonthDays (piece.Dates x (Some (last_date.Day digit_one)) ∷ []) []
-    (date_before x (token.Dash ∷ token.Number 1 1 ∷ [])) []
-    (IsMonthDays.dates x (last_date.Day digit_one) refl refl h (to_last x x.month e (month_in x.year x.month x.day h.1)))
+    dates_then d x (piece.Dates x (Some (last_date.Day digit_one)) ∷ []) [] (token.Dash ∷ token.Number 1 1 ∷ []) []
+    (IsDates.one x (Some (last_date.Day digit_one)) (piece.Dates x (Some (last_date.Day digit_one)) ∷ [])
+    (token.Dash ∷ token.Number 1 1 ∷ []) refl refl (to_last x x.month e (month_in x.year x.month x.day h.1)))
     (done d stage.MonthDays refl)
 
 to_last_date : (d : Demand) (x : WrittenDate) (m : ℕ) → x.year ≡ None → IsWrittenDate x → IsMonth m
     → Rest d (places.DateDashMonth x None m) (piece.Dates x (Some (last_date.Date (first_of None m))) ∷ [])
     (token.Number 1 1 ∷ [])
 to_last_date d x m e h k =
-    then d stage.MonthDays (piece.Dates x (Some (last_date.Date (first_of None m))) ∷ []) []
-    (date_before x (token.Dash ∷ token.Month m ∷ token.Number 1 1 ∷ [])) []
-    (IsMonthDays.dates x (last_date.Date (first_of None m)) refl refl h (to_last x m e k)) (done d stage.MonthDays refl)
+    dates_then d x (piece.Dates x (Some (last_date.Date (first_of None m))) ∷ []) []
+    (token.Dash ∷ token.Month m ∷ token.Number 1 1 ∷ []) []
+    (IsDates.one x (Some (last_date.Date (first_of None m))) (piece.Dates x (Some (last_date.Date (first_of None m))) ∷ [])
+    (token.Dash ∷ token.Month m ∷ token.Number 1 1 ∷ []) refl refl (to_last x m e k)) (done d stage.MonthDays refl)
 
 -- by its place any day fits
 to_any_day : (x : WrittenDate) (year : Option Digits) (m : ℕ) → is_some x.year ≡ true → IsWrittenDate x
     → IfSome year IsYearNumber → IsMonth m → Rest by_place (places.DateDashMonth x year m) [] (token.Number 1 1 ∷ [])
 to_any_day x year m dated h y k =
-    then by_place stage.MonthDays [] [] (date_before x (token.Dash ∷ date_before (first_of year m) [])) []
-    (IsMonthDays.any_day x (first_of year m) refl dated h y k refl refl refl) (done by_place stage.MonthDays refl)
+    dates_then by_place x [] [] (token.Dash ∷ date_before (first_of year m) []) []
+    (IsDates.any_day x (first_of year m) [] (token.Dash ∷ date_before (first_of year m) []) refl dated y k refl refl refl)
+    (done by_place stage.MonthDays refl)
 
 month_breaks_off : (d : Demand) (x : WrittenDate) (year : Option Digits) (m : ℕ) → may_break_off d ≡ true
     → is_some x.year ≡ true → IsWrittenDate x → IfSome year IsYearNumber → IsMonth m
     → Rest d (places.DateDashMonth x year m) [] []
-month_breaks_off d x None m may dated h y k = breaks_off d x None (Some m) may dated h y k
-month_breaks_off d x (Some n) m may dated h y k = breaks_off d x (Some n) (Some m) may dated h y k
+month_breaks_off d x None m may dated h y k = breaks_off d x None (Some m) may dated y k
+month_breaks_off d x (Some n) m may dated h y k = breaks_off d x (Some n) (Some m) may dated y k
 
 -- the place after the first date and the dash
 dash_ending : (x : WrittenDate) (year : Option Digits) → x.year ≡ year → IsWrittenDate x → Ending (places.DateDash x)
 dash_ending x None e h = record { p = _; ts = _; rest = to_last_day so_far x e h }
-dash_ending x (Some n) e h = record { p = _; ts = _; rest = breaks_off so_far x None None refl (ap is_some e) h tt tt }
+dash_ending x (Some n) e h = record { p = _; ts = _; rest = breaks_off so_far x None None refl (ap is_some e) tt tt }
 
 dash_number : (x : WrittenDate) (year : Option Digits) → x.year ≡ year → IsWrittenDate x → NumberEnding (places.DateDash x)
 dash_number x None e h = record { v = 1; d = 1; p = _; ts = _; rest = to_last_day by_place x e h }
@@ -292,7 +303,7 @@ dash_number x (Some n) e h = record {
   d = 4;
   p = _;
   ts = [];
-  rest = breaks_off by_place x (Some some_year) None refl (ap is_some e) h some_year-is tt;
+  rest = breaks_off by_place x (Some some_year) None refl (ap is_some e) some_year-is tt;
 }
 
 -- the place after the month of the last date
@@ -395,6 +406,23 @@ comma_time stage.Weekdays e = other_time stage.Weekdays e refl
 comma_time stage.Always e = other_time stage.Always e refl
 comma_time stage.Modifier e = other_time stage.Modifier e refl
 
+-- ---- behind a date
+
+behind_date : (d : Demand) (year : Option Digits) (m : ℕ) (p : List Piece) (ts : List TokenKind)
+    → Behind d stage.MonthDays p ts → BehindDate d year m p ts
+behind_date d year m p ts h = none h
+
+-- a day of the month
+comma_day : (d : Demand) (year : Option Digits) (m : ℕ) → IfSome year IsYearNumber → IsMonth m
+    → Rest d (places.CommaDate year m) (piece.Dates (first_of year m) None ∷ []) (token.Number 1 1 ∷ [])
+comma_day d year m y h =
+    day digit_one [] refl (first_of-is year m y h).1 (date_then d (first_of year m) [] [] (first_of-is year m y h)
+    (done d stage.MonthDays refl))
+
+listed_then : (d : Demand) (x : WrittenDate) (p : List Piece) (ts : List TokenKind) → IsWrittenDate x
+    → Follow d stage.MonthDays p ts → Rest d (places.ListedDay x) (piece.Dates x None ∷ p) ts
+listed_then d x p ts h follow = day x.day ts refl h.1 (date_then d x p ts h follow)
+
 -- ---- every place
 
 pub ending : (at : Place) → IsPlace at → Ending at
@@ -426,9 +454,10 @@ ending (places.DateYearMonth n m) h = record { p = _; ts = _; rest = to_day_of s
 ending (places.Month m) h = record { p = _; ts = []; rest = month_then so_far m [] [] h (done so_far stage.MonthDays refl) }
 ending (places.MonthDash m) h = record { p = _; ts = _; rest = to_month so_far m h }
 ending (places.Date x) h = record { p = _; ts = []; rest = date_then so_far x [] [] h (done so_far stage.MonthDays refl) }
+ending (places.ListedDay x) h = record { p = _; ts = []; rest = listed_then so_far x [] [] h (done so_far stage.MonthDays refl) }
 ending (places.DateDash x) h = dash_ending x x.year refl h
 ending (places.DateDashYear x n) h =
-    record { p = _; ts = []; rest = breaks_off so_far x (Some n) None refl h.other.one h.one h.other.other tt }
+    record { p = _; ts = []; rest = breaks_off so_far x (Some n) None refl h.other.one h.other.other tt }
 ending (places.DateDashMonth x year m) h = dash_month_ending x x.year year m refl h.one h.other.one h.other.other
 ending places.WeekWord h = record { p = _; ts = _; rest = first_week so_far }
 ending (places.Week n) h = record { p = _; ts = []; rest = week_then so_far n [] [] h (done so_far stage.Weeks refl) }
@@ -451,6 +480,10 @@ ending (places.BracketEnd k) h =
     record { p = _; ts = _; rest = bracket_closed so_far k [] [] (done so_far stage.Weekdays refl) }
 ending (places.Time t) h = record { p = _; ts = to_same t; rest = to_time so_far t h }
 ending (places.TimeDash t) h = record { p = _; ts = _; rest = to_time so_far t h }
+ending (places.AfterDate y m) h =
+    let follow = done so_far stage.MonthDays refl in
+    record { p = _; ts = _; rest = behind_date so_far y m [] [] (behind so_far stage.MonthDays [] [] follow) }
+ending (places.CommaDate y m) h = record { p = _; ts = _; rest = comma_day so_far y m h.one h.other }
 ending (places.After s) h = record { p = _; ts = _; rest = behind so_far s [] [] (done so_far s h) }
 ending (places.Comma s) h = comma_ending s h
 
@@ -477,6 +510,7 @@ number_ending (places.DateYearMonth n m) h e =
 number_ending (places.Month m) h e = record { v = 1; d = 1; p = _; ts = []; rest = to_day_of_month by_place m h }
 number_ending (places.MonthDash m) h e = absurd cc
 number_ending (places.Date x) h e = absurd cc
+number_ending (places.ListedDay x) h e = absurd cc
 number_ending (places.DateDash x) h e = dash_number x x.year refl h
 number_ending (places.DateDashYear x n) h e = absurd cc
 number_ending (places.DateDashMonth x year m) h e = dash_month_number x x.year year m refl h.one h.other.one h.other.other
@@ -499,6 +533,9 @@ number_ending (places.NthDash k n) h e =
 number_ending (places.BracketEnd k) h e = absurd cc
 number_ending (places.Time t) h e = absurd cc
 number_ending (places.TimeDash t) h e = absurd cc
+number_ending (places.AfterDate y m) h e = absurd cc
+number_ending (places.CommaDate y m) h e =
+    record { v = 1; d = 1; p = _; ts = []; rest = comma_day by_place y m h.one h.other }
 number_ending (places.After s) h e =
     dated_on (places.After s) _ (behind by_place s dated_next dated_tokens (dated_after by_place s e))
 number_ending (places.Comma s) h e = comma_number s h
@@ -531,6 +568,9 @@ time_ending (places.Month m) h e =
 time_ending (places.MonthDash m) h e = absurd cc
 time_ending (places.Date x) h e =
     timed_on (places.Date x) _ (date_then by_place x timed_next timed_tokens h (times_after by_place stage.MonthDays refl))
+time_ending (places.ListedDay x) h e =
+    timed_on (places.ListedDay x) _
+    (listed_then by_place x timed_next timed_tokens h (times_after by_place stage.MonthDays refl))
 time_ending (places.DateDash x) h e = absurd cc
 time_ending (places.DateDashYear x n) h e = absurd cc
 time_ending (places.DateDashMonth x year m) h e = absurd cc
@@ -558,6 +598,14 @@ time_ending (places.NthDash k n) h e = absurd cc
 time_ending (places.BracketEnd k) h e = absurd cc
 time_ending (places.Time t) h e = absurd cc
 time_ending (places.TimeDash t) h e = record { h = t.hour; m = t.minute; p = _; ts = []; rest = to_time by_place t h }
+time_ending (places.AfterDate y m) h e =
+    timed_on (places.AfterDate y m) _
+    (behind_date by_place y m timed_next timed_tokens
+    (behind by_place stage.MonthDays timed_next timed_tokens (times_after by_place stage.MonthDays refl)))
+time_ending (places.CommaDate y m) h e =
+    timed_on (places.CommaDate y m) _
+    (behind_date by_place y m (piece.Rule link.Also ∷ timed_next) (token.Comma ∷ timed_tokens)
+    (other_rule by_place stage.MonthDays timed_next timed_tokens refl refl (times_after by_place stage.Front refl)))
 time_ending (places.After s) h e =
     timed_on (places.After s) _ (behind by_place s timed_next timed_tokens (times_after by_place s e))
 time_ending (places.Comma s) h e = comma_time s h

@@ -16,11 +16,11 @@ use Rattle.gtd_hours_grammar.specs.declared.piece.WrittenDate.{WrittenDate}
 use Rattle.gtd_hours_grammar.specs.Terms.{TokenKind, Piece, Stage}
 use Rattle.gtd_hours_grammar.specs.declared.piece.Piece.TheVariants as piece
 use Rattle.gtd_hours_grammar.specs.declared.stage.Stage.TheVariants as stage
-use Rattle.gtd_hours_grammar.specs.Grammar.{Demand, Follow, IsMonthDays, IsOne, IsPlaces, IsTimes, IsYears}
+use Rattle.gtd_hours_grammar.specs.Grammar.{Demand, Follow, IsDates, IsMonthDays, IsOne, IsPlaces, IsTimes, IsYears}
 use Rattle.gtd_hours_grammar.specs.Grammar.{Listed, More, Text, begins_with_date, date_before, list_goes_on, number, precedes}
 use Rattle.gtd_hours_grammar.specs.Grammar.{time}
 use Rattle.gtd_hours_grammar.specs.Pieces.{AreWrittenTimes, IsWrittenDate}
-use Rattle.gtd_hours_grammar.specs.Places.{Behind, BehindPlace, From, InBrackets}
+use Rattle.gtd_hours_grammar.specs.Places.{Behind, BehindPlace, From, FromDate, InBrackets}
 
 -- ---- numbers and times that fit
 
@@ -72,6 +72,12 @@ behind d s p ts h = record { later = p; rest = ts; more = More.none p ts refl re
 pub then : (d : Demand) (s : Stage) (p later : List Piece) (ts rest : List TokenKind) → IsOne d s p ts later rest
     → Follow d s later rest → From d s p ts
 then d s p later ts rest h k = record { later = later; rest = rest; one = h; behind = behind d s later rest k }
+
+-- a date, and what stands behind it and behind its list
+pub dates_then : (d : Demand) (x : WrittenDate) (p later : List Piece) (ts rest : List TokenKind)
+    → IsDates d later rest x p ts → Follow d stage.MonthDays later rest → FromDate d x p ts
+dates_then d x p later ts rest h k =
+    record { later = later; rest = rest; dates = h; behind = behind d stage.MonthDays later rest k }
 
 pub in_brackets : (d : Demand) (k : ℕ) (p later : List Piece) (ts rest : List TokenKind)
     → IsPlaces k p ts later (token.CloseBracket ∷ rest) → Follow d stage.Weekdays later rest → InBrackets d k p ts
@@ -131,7 +137,8 @@ a_month d m p ts h = IsMonthDays.month m refl refl h
 
 pub a_date : (d : Demand) (x : WrittenDate) (p : List Piece) (ts : List TokenKind) → IsWrittenDate x
     → IsMonthDays d (piece.Dates x None ∷ p) (date_before x ts) p ts
-a_date d x p ts h = IsMonthDays.date x refl refl h
+a_date d x p ts h =
+    IsMonthDays.dates x ts refl h (IsDates.one x None (piece.Dates x None ∷ p) ts refl refl (record {}))
 
 -- `2000 Jan 1`
 abbrev pub some_date : WrittenDate

@@ -1,6 +1,6 @@
 -- Whether the number, time, month or weekday that comes next fits is decided.
 use Rattle.std.proofs.Common.{ℕ, ◌+◌, ◌*◌, ◌<◌, ◌≤◌, inl, inr, arith, Bool, true, false, ℤ, pos, Option, Some, None}
-use Rattle.std.specs.Prelude.{◌+ℤ◌}
+use Rattle.std.specs.Prelude.{◌+ℤ◌, ◌==◌}
 use Rattle.std.proofs.lemmas.Bool.{cases_eq, cases_lt}
 use Rattle.gtd_core.specs.facts.Deciding.{Decided, at_most as at_most_z, below as below_z}
 use Rattle.gtd_hours.specs.Calendar.{IsDate, day_number, month_length}
@@ -18,7 +18,7 @@ use Rattle.gtd_hours_grammar.specs.Terms.{TokenKind, Stage, Place}
 use Rattle.gtd_hours_grammar.specs.declared.place.Place.TheVariants as places
 use Rattle.gtd_hours_grammar.specs.declared.stage.Stage.TheVariants as stage
 use Rattle.gtd_hours_grammar.specs.Pieces.{AreWrittenTimes, EndsRange, IsDay, IsLastDay, IsRange}
-use Rattle.gtd_hours_grammar.specs.Sound.{Fits, ListedFits, NumberFits, TimeFits, YearOrDay, is_last_year}
+use Rattle.gtd_hours_grammar.specs.Sound.{Fits, ListedFits, NumberFits, TimeFits, YearOrDay, YearOrListed, is_last_year}
 
 -- ---- what is decided part by part
 
@@ -108,6 +108,10 @@ year_or_day : (b : Bool) (first : WrittenDate) (n : Digits) → Decided (YearOrD
 year_or_day true first n = year n
 year_or_day false first n = ends_range first (last_date.Day n)
 
+year_or_listed : (b : Bool) (y : Option Digits) (m : ℕ) (n : Digits) → Decided (YearOrListed b y m n)
+year_or_listed true y m n = year n
+year_or_listed false y m n = day_fits y m n
+
 -- ---- times
 
 begin : (t : ClockTime) → Decided (IsBegin t)
@@ -146,6 +150,8 @@ number_fits (places.WeekStep first last) n = step n
 number_fits (places.Bracket k) n = place n
 number_fits (places.BracketDash k) n = place n
 number_fits (places.NthDash k first) n = range IsPlaceNumber place first n
+number_fits (places.AfterDate y m) n = year n
+number_fits (places.CommaDate y m) n = year_or_listed (n.count == 4) y m n
 number_fits (places.After s) n = year n
 number_fits (places.Comma s) n = listed_fits s n
 number_fits at n = inr (λ h. h)

@@ -1,7 +1,7 @@
 -- Which moves are right that complete a part of a list.
 use Rattle.std.proofs.Common.{◌≡◌, ℕ, Bool, true, false, Option, Some, None, List, ◌∷◌, IfSome, if◌then◌else◌}
-use Rattle.std.proofs.Common.{refl, subst, sym, arith, rules}
-use Rattle.std.specs.Prelude.{nat_le}
+use Rattle.std.proofs.Common.{refl, ap, subst, sym, arith, rules}
+use Rattle.std.specs.Prelude.{nat_le, ◌==◌}
 use Rattle.std.proofs.lemmas.Bool.{leb-false, leb-true}
 use Rattle.gtd_hours.specs.Ranges.{IsMonth, IsWeekday}
 use Rattle.gtd_hours_tokens.specs.declared.token.TokenKind.{TokenKind}
@@ -14,14 +14,20 @@ use Rattle.gtd_hours_grammar.specs.declared.piece.Piece.TheVariants as piece
 use Rattle.gtd_hours_grammar.specs.declared.piece.WrittenDate.{WrittenDate}
 use Rattle.gtd_hours_grammar.specs.declared.stage.Stage.TheVariants as stage
 use Rattle.gtd_hours_grammar.specs.declared.place.Place.TheVariants as places
-use Rattle.gtd_hours_grammar.specs.Grammar.{Follow, IsMonthDays, IsPlaces, IsWeekdays, IsWeeks, IsYears, More}
-use Rattle.gtd_hours_grammar.specs.Grammar.{begins_with_date, number}
-use Rattle.gtd_hours_grammar.specs.Pieces.{AreBackWeeks, IsRange, IsWrittenDate, final_week, final_year, week_one}
-use Rattle.gtd_hours_grammar.specs.Sound.{Both, Fits, IsPlace, YearOrDay, is_last_year}
-use Rattle.gtd_hours_grammar.specs.Moves.{clock, complete, take, week_pair, written, year_or_day}
-use Rattle.gtd_hours_grammar.specs.Terms.{Move}
+use Rattle.gtd_hours_grammar.specs.Grammar.{Demand, Follow, IsDates, IsMonthDays, IsPlaces, IsWeekdays, IsWeeks, IsYears, More}
+use Rattle.gtd_hours_grammar.specs.Places.{Behind, BehindDate, From, FromDate, Rest}
+use Rattle.gtd_hours_grammar.specs.declared.piece.LastDate.{LastDate}
+use Rattle.gtd_hours.specs.declared.hours.Link.TheVariants as link
+use Rattle.gtd_hours_grammar.specs.facts.FollowDates.{end_month_is, end_year_is}
+use Rattle.gtd_hours_grammar.specs.Grammar.{begins_with_date, date_before, number, range_to}
+use Rattle.gtd_hours_grammar.specs.Pieces.{AreBackWeeks, AreWrittenDates, EndsRange, IsDay, IsRange, IsWrittenDate}
+use Rattle.gtd_hours_grammar.specs.Pieces.{end_month, end_year}
+use Rattle.gtd_hours_grammar.specs.Pieces.{final_week, final_year, week_one}
+use Rattle.gtd_hours_grammar.specs.Sound.{Both, Fits, IsPlace, YearOrDay, YearOrListed, is_last_year}
+use Rattle.gtd_hours_grammar.specs.Moves.{clock, dates_end, take, week_pair, written, year_or_day, year_or_listed}
+use Rattle.gtd_hours_grammar.specs.Terms.{Move, Piece, Place}
 use Rattle.gtd_hours_grammar.specs.Runs.{IsGood, from}
-use Rattle.gtd_hours_grammar.proofs.GoodLemmas.{completes, gives, month_days_follow, sign_good, takes_to, token_good}
+use Rattle.gtd_hours_grammar.proofs.GoodLemmas.{behind, completes, gives, month_days_follow, sign_good, takes_to, token_good}
 use Rattle.gtd_hours_grammar.proofs.GoodLemmas.{years_follow}
 
 -- ---- weeks
@@ -319,6 +325,16 @@ year_month_good n m next dateless sound = record {
   nearer = λ h. omega arith;
 }
 
+-- a date and the rest behind it, in a list
+pub dates_from : (d : Demand) (x : WrittenDate) (p : List Piece) (ts : List TokenKind) → IsWrittenDate x → FromDate d x p ts
+    → From d stage.MonthDays p (date_before x ts)
+dates_from d x p ts sound f = record {
+  later = f.later;
+  rest = f.rest;
+  one = IsMonthDays.dates x ts refl sound f.dates;
+  behind = f.behind;
+}
+
 pub year_date_good : (n : Digits) (m v c : ℕ) (next : Option TokenKind) (fits : Bool) → next ≡ Some (token.Number v c)
     → fits ≡ true → (fits ≡ true → Fits (places.YearMonth n m) next) → Both (IsYearNumber n) (IsMonth m)
     → IsGood (places.YearMonth n m) next
@@ -326,7 +342,8 @@ pub year_date_good : (n : Digits) (m v c : ℕ) (next : Option TokenKind) (fits 
 year_date_good n m v c next fits same holds fit sound =
     token_good (places.YearMonth n m) next (token.Number v c) fits
     (takes_to (places.Date (record { year = Some n; month = m; day = written v c }))) same holds fit λ day. record {
-      leads = λ d p ts rest. month_days_follow d stage.Front p (number n ∷ token.Month m ∷ token.Number v c ∷ ts) refl rest;
+      leads = λ d p ts rest. month_days_follow d stage.Front p (number n ∷ token.Month m ∷ token.Number v c ∷ ts) refl
+          (dates_from d (record { year = Some n; month = m; day = written v c }) p ts (sound.one, day) rest);
       stands = (sound.one, day);
       nearer = λ h. absurd cc;
     }
@@ -383,6 +400,10 @@ year_step_good a b v c next fits same holds fit sound =
 
 -- ---- month days
 
+day_month : (year : Option Digits) (m : ℕ) (n : Digits) → IsDay year m n → IsMonth m
+day_month None m n h = h.1.0
+day_month (Some y) m n h = h.1.1.0
+
 pub month_good : (m : ℕ) (next : Option TokenKind) → IsMonth m
     → IsGood (places.Month m) next (gives (piece.Months m None) (places.After stage.MonthDays))
 month_good m next sound = record {
@@ -412,57 +433,128 @@ month_dash_good a b next fits same holds fit sound =
       nearer = λ h. absurd cc;
     }
 
+-- the day of a month, after a year or without one
+pub month_date_good : (m v c : ℕ) (next : Option TokenKind) (fits : Bool) → next ≡ Some (token.Number v c) → fits ≡ true
+    → (fits ≡ true → Fits (places.Month m) next) → IsGood (places.Month m) next
+    (takes_to (places.Date (record { year = None; month = m; day = written v c })))
+month_date_good m v c next fits same holds fit =
+    token_good (places.Month m) next (token.Number v c) fits
+    (takes_to (places.Date (record { year = None; month = m; day = written v c }))) same holds fit λ day. record {
+      leads = λ d p ts rest. dates_from d (record { year = None; month = m; day = written v c }) p ts (record {}, day) rest;
+      stands = (record {}, day);
+      nearer = λ h. absurd cc;
+    }
+
+pub year_month_date_good : (n : Digits) (m v c : ℕ) (next : Option TokenKind) (fits : Bool) → next ≡ Some (token.Number v c)
+    → fits ≡ true → (fits ≡ true → Fits (places.DateYearMonth n m) next) → Both (IsYearNumber n) (IsMonth m)
+    → IsGood (places.DateYearMonth n m) next
+    (takes_to (places.Date (record { year = Some n; month = m; day = written v c })))
+year_month_date_good n m v c next fits same holds fit sound =
+    token_good (places.DateYearMonth n m) next (token.Number v c) fits
+    (takes_to (places.Date (record { year = Some n; month = m; day = written v c }))) same holds fit λ day. record {
+      leads = λ d p ts rest. dates_from d (record { year = Some n; month = m; day = written v c }) p ts (sound.one, day) rest;
+      stands = (sound.one, day);
+      nearer = λ h. absurd cc;
+    }
+
+-- a date or a range of dates, and the rest behind it
+ends_from : (d : Demand) (x : WrittenDate) (last : Option LastDate) (p : List Piece) (ts : List TokenKind)
+    → AreWrittenDates x last → BehindDate d (end_year x last) (end_month x last) p ts
+    → FromDate d x (piece.Dates x last ∷ p) (range_to last ts)
+ends_from d x last p ts ends (BehindDate.none b) = record {
+  later = p;
+  rest = ts;
+  dates = IsDates.one x last (piece.Dates x last ∷ p) (range_to last ts) refl refl ends;
+  behind = b;
+}
+ends_from d x last p ts ends (BehindDate.day n us e day f) = record {
+  later = f.later;
+  rest = f.rest;
+  dates = IsDates.also x last n (piece.Dates x last ∷ p) p (range_to last ts) us (ap (range_to last) e) refl ends day f.dates;
+  behind = f.behind;
+}
+
 pub date_good : (x : WrittenDate) (next : Option TokenKind) → IsWrittenDate x
-    → IsGood (places.Date x) next (gives (piece.Dates x None) (places.After stage.MonthDays))
+    → IsGood (places.Date x) next (gives (piece.Dates x None) (places.AfterDate x.year x.month))
 date_good x next sound = record {
-  leads = λ d p ts rest. record {
-    later = p;
-    rest = from next ts;
-    one = IsMonthDays.date x refl refl sound;
-    behind = rest;
-  };
-  stands = refl;
+  leads = λ d p ts rest. ends_from d x None p (from next ts) (record {}) rest;
+  stands = record { one = sound.0; other = day_month x.year x.month x.day sound.1 };
   nearer = λ h. omega arith;
+}
+
+pub listed_day_good : (x : WrittenDate) (next : Option TokenKind) → IsWrittenDate x
+    → IsGood (places.ListedDay x) next (gives (piece.Dates x None) (places.AfterDate x.year x.month))
+listed_day_good x next sound = record {
+  leads = λ d p ts rest. BehindDate.day x.day (from next ts) refl sound.1 (ends_from d x None p (from next ts) (record {}) rest);
+  stands = record { one = sound.0; other = day_month x.year x.month x.day sound.1 };
+  nearer = λ h. omega arith;
+}
+
+pub listed_dash_good : (x : WrittenDate) (next : Option TokenKind) → next ≡ Some token.Dash → IsWrittenDate x
+    → IsGood (places.ListedDay x) next (takes_to (places.DateDash x))
+listed_dash_good x next same sound =
+    sign_good (places.ListedDay x) next token.Dash (takes_to (places.DateDash x)) same (record {
+      leads = λ d p ts rest. BehindDate.day x.day (token.Dash ∷ ts) refl sound.1 rest;
+      stands = sound;
+      nearer = λ h. absurd cc;
+    })
+
+-- `24` of `24/7`
+pub listed_slash_good : (x : WrittenDate) (next : Option TokenKind) → next ≡ Some token.Slash → x.day.value ≡ 24 → x.day.count ≡ 2
+    → IsGood (places.ListedDay x) next (completes (piece.Rule link.Also) places.TwentyFourSlash)
+listed_slash_good x next same value digits =
+    sign_good (places.ListedDay x) next token.Slash (completes (piece.Rule link.Also) places.TwentyFourSlash) same (record {
+      leads = λ d p ts rest. BehindDate.none (
+          subst (λ (v : ℕ). Behind d stage.MonthDays (piece.Rule link.Also ∷ p)
+          (token.Comma ∷ token.Number v x.day.count ∷ token.Slash ∷ ts)) (sym value)
+          (subst (λ (c : ℕ). Behind d stage.MonthDays (piece.Rule link.Also ∷ p)
+          (token.Comma ∷ token.Number 24 c ∷ token.Slash ∷ ts)) (sym digits)
+          (behind d stage.MonthDays (piece.Rule link.Also ∷ p) (token.Comma ∷ token.Number 24 2 ∷ token.Slash ∷ ts)
+          (Follow.also stage.MonthDays (piece.Rule link.Also ∷ p) p (token.Comma ∷ token.Number 24 2 ∷ token.Slash ∷ ts)
+          (token.Number 24 2 ∷ token.Slash ∷ ts) refl refl refl refl rest))));
+      stands = record {};
+      nearer = λ h. absurd cc;
+    })
+
+-- a range of dates is complete
+pub dates_end_good : (x : WrittenDate) (last : LastDate) (at : Place) (t : TokenKind) → IsWrittenDate x → EndsRange x last
+    → ((d : Demand) (p : List Piece) (ts : List TokenKind) → FromDate d x p (range_to (Some last) ts) → Rest d at p (t ∷ ts))
+    → IsGood at (Some t) (completes (piece.Dates x (Some last))
+    (places.AfterDate (end_year x (Some last)) (end_month x (Some last))))
+dates_end_good x last at t sound ends before = record {
+  leads = λ d p ts rest. before d (piece.Dates x (Some last) ∷ p) ts (ends_from d x (Some last) p ts ends rest);
+  stands = record { one = end_year_is x (Some last) sound ends; other = end_month_is x (Some last) sound ends };
+  nearer = λ h. absurd cc;
 }
 
 pub date_dash_month_good : (x : WrittenDate) (y : Option Digits) (m v c : ℕ) (next : Option TokenKind) (fits : Bool)
     → next ≡ Some (token.Number v c) → fits ≡ true → (fits ≡ true → Fits (places.DateDashMonth x y m) next)
-    → IsPlace (places.DateDashMonth x y m) → IsGood (places.DateDashMonth x y m) next
-    (completes (piece.Dates x (Some (last_date.Date (record { year = y; month = m; day = written v c }))))
-    (places.After stage.MonthDays))
+    → IsPlace (places.DateDashMonth x y m)
+    → IfSome (dates_end x (last_date.Date (record { year = y; month = m; day = written v c })))
+    (λ move. IsGood (places.DateDashMonth x y m) next move)
 date_dash_month_good x y m v c next fits same holds fit sound =
+    let last : LastDate = last_date.Date (record { year = y; month = m; day = written v c }) in
     token_good (places.DateDashMonth x y m) next (token.Number v c) fits
-    (completes (piece.Dates x (Some (last_date.Date (record { year = y; month = m; day = written v c }))))
-    (places.After stage.MonthDays)) same holds fit λ ends. record {
-      leads = λ d p ts rest. record {
-        later = p;
-        rest = ts;
-        behind = rest;
-        one = IsMonthDays.dates x (last_date.Date (record { year = y; month = m; day = written v c })) refl refl sound.one ends;
-      };
-      stands = refl;
-      nearer = λ h. absurd cc;
-    }
+    (completes (piece.Dates x (Some last)) (places.AfterDate (end_year x (Some last)) (end_month x (Some last)))) same holds fit
+    λ ends. dates_end_good x last (places.DateDashMonth x y m) (token.Number v c) sound.one ends (before y)
+  where
+    before : (y : Option Digits) (d : Demand) (p : List Piece) (ts : List TokenKind)
+        → FromDate d x p (range_to (Some (last_date.Date (record { year = y; month = m; day = written v c }))) ts)
+        → Rest d (places.DateDashMonth x y m) p (token.Number v c ∷ ts)
+    before None d p ts rest = rest
+    before (Some z) d p ts rest = rest
 
 year_or_day_good : (x : WrittenDate) (v c : ℕ) (b : Bool) → is_last_year x (written v c) ≡ b → YearOrDay b x (written v c)
-    → IsWrittenDate x → IfSome (if b then take (places.DateDashYear x (written v c))
-    else complete (piece.Dates x (Some (last_date.Day (written v c)))) (places.After stage.MonthDays))
+    → IsWrittenDate x
+    → IfSome (if b then take (places.DateDashYear x (written v c)) else dates_end x (last_date.Day (written v c)))
     (λ move. IsGood (places.DateDash x) (Some (token.Number v c)) move)
 year_or_day_good x v c true is year sound = record {
   leads = λ d p ts rest. rest;
   stands = record { one = sound; other = record { one = search rules; other = year } };
   nearer = λ h. absurd cc;
 }
-year_or_day_good x v c false is ends sound = record {
-  leads = λ d p ts rest. record {
-    later = p;
-    rest = ts;
-    behind = rest;
-    one = IsMonthDays.dates x (last_date.Day (written v c)) refl refl sound ends;
-  };
-  stands = refl;
-  nearer = λ h. absurd cc;
-}
+year_or_day_good x v c false is ends sound =
+    dates_end_good x (last_date.Day (written v c)) (places.DateDash x) (token.Number v c) sound ends (λ d p ts rest. rest)
 
 pub date_dash_good : (x : WrittenDate) (v c : ℕ) (next : Option TokenKind) (fits : Bool) → next ≡ Some (token.Number v c)
     → fits ≡ true → (fits ≡ true → Fits (places.DateDash x) next) → IsWrittenDate x
@@ -470,3 +562,47 @@ pub date_dash_good : (x : WrittenDate) (v c : ℕ) (next : Option TokenKind) (fi
 date_dash_good x v c next fits same holds fit sound =
     subst (λ n. IfSome (year_or_day x (written v c)) (λ move. IsGood (places.DateDash x) n move)) (sym same)
     (year_or_day_good x v c (is_last_year x (written v c)) refl (subst (Fits (places.DateDash x)) same (fit holds)) sound)
+
+-- ---- behind a date
+
+-- what is right behind a list of months and dates is right behind a date
+pub after_date_good : (y : Option Digits) (m : ℕ) (next : Option TokenKind) (o : Option Move)
+    → IfSome o (λ move. IsGood (places.After stage.MonthDays) next move)
+    → IfSome o (λ move. IsGood (places.AfterDate y m) next move)
+after_date_good y m next None good = good
+after_date_good y m next (Some move) good =
+    record { leads = λ d p ts rest. BehindDate.none (good.leads d p ts rest); stands = good.stands; nearer = good.nearer }
+
+pub comma_date_good : (y : Option Digits) (m : ℕ) (next : Option TokenKind) (o : Option Move)
+    → IfSome o (λ move. IsGood (places.Comma stage.MonthDays) next move)
+    → IfSome o (λ move. IsGood (places.CommaDate y m) next move)
+comma_date_good y m next None good = good
+comma_date_good y m next (Some move) good =
+    record { leads = λ d p ts rest. BehindDate.none (good.leads d p ts rest); stands = good.stands; nearer = good.nearer }
+
+listed_by : (y : Option Digits) (m v c : ℕ) (b : Bool) → (c == 4) ≡ b → YearOrListed b y m (written v c)
+    → Both (IfSome y IsYearNumber) (IsMonth m)
+    → IfSome (if b then take (places.DateYear (written v c))
+    else take (places.ListedDay (record { year = y; month = m; day = written v c })))
+    (λ move. IsGood (places.CommaDate y m) (Some (token.Number v c)) move)
+listed_by y m v c true e year sound = record {
+  leads = λ d p ts rest. BehindDate.none (record {
+    later = rest.behind.later;
+    rest = rest.behind.rest;
+    more = More.comma p rest.later (token.Comma ∷ token.Number v c ∷ ts) (token.Number v c ∷ ts) rest.rest refl rest.one
+        rest.behind.more;
+    follow = rest.behind.follow;
+  });
+  stands = year;
+  nearer = λ h. absurd cc;
+}
+listed_by y m v c false e day sound =
+    record { leads = λ d p ts rest. rest; stands = (sound.one, day); nearer = λ h. absurd cc }
+
+pub comma_number_good : (y : Option Digits) (m v c : ℕ) (next : Option TokenKind) (fits : Bool)
+    → next ≡ Some (token.Number v c) → fits ≡ true → (fits ≡ true → Fits (places.CommaDate y m) next)
+    → Both (IfSome y IsYearNumber) (IsMonth m)
+    → IfSome (year_or_listed y m (written v c)) (λ move. IsGood (places.CommaDate y m) next move)
+comma_number_good y m v c next fits same holds fit sound =
+    subst (λ n. IfSome (year_or_listed y m (written v c)) (λ move. IsGood (places.CommaDate y m) n move)) (sym same)
+    (listed_by y m v c (c == 4) refl (subst (Fits (places.CommaDate y m)) same (fit holds)) sound)

@@ -10,9 +10,11 @@ use Rattle.gtd_hours_grammar.specs.declared.piece.Piece.TheVariants as piece
 use Rattle.gtd_hours_grammar.specs.declared.stage.Stage.TheVariants as stage
 use Rattle.gtd_hours_grammar.specs.declared.place.Place.TheVariants as places
 use Rattle.gtd_hours_grammar.specs.Grammar.{Demand, Follow, precedes}
+use Rattle.gtd_hours_parts.specs.declared.digits.Digits.{Digits}
 use Rattle.gtd_hours_grammar.specs.Places.{Rest}
 use Rattle.gtd_hours_grammar.specs.Sound.{Fits, IsPlace}
-use Rattle.gtd_hours_grammar.specs.Moves.{clock, complete, give, later, listed, next_goes_on, next_move, take, when, written}
+use Rattle.gtd_hours_grammar.specs.Moves.{after, comma, clock, complete, give, later, listed, next_goes_on, next_move, take}
+use Rattle.gtd_hours_grammar.specs.Moves.{when, written}
 use Rattle.gtd_hours_grammar.specs.Runs.{IsGood, IsLater}
 use Rattle.gtd_hours_grammar.proofs.GoodLemmas.{takes_to}
 use Rattle.gtd_hours_grammar.proofs.GoodItems.{bracket_close_good, bracket_comma_good, bracket_dash_good, date_dash_good}
@@ -22,7 +24,11 @@ use Rattle.gtd_hours_grammar.proofs.GoodItems.{week_good, week_range_good, week_
 use Rattle.gtd_hours_grammar.proofs.GoodItems.{weekday_dash_good, weekday_good, year_dash_good, year_date_good, year_good}
 use Rattle.gtd_hours_grammar.proofs.GoodItems.{year_month_good, year_range_good, year_step_good, listed_plus_good}
 use Rattle.gtd_hours_grammar.proofs.GoodItems.{slash_step_good, week_again_good, week_back_good, week_pair_good}
-use Rattle.gtd_hours_grammar.proofs.GoodItems.{year_plus_good, year_slash_good}
+use Rattle.gtd_hours_grammar.proofs.GoodItems.{after_date_good, comma_date_good, listed_dash_good, listed_day_good}
+use Rattle.gtd_hours_grammar.proofs.GoodItems.{month_date_good}
+use Rattle.gtd_hours_grammar.proofs.GoodItems.{year_month_date_good}
+use Rattle.gtd_hours_grammar.proofs.GoodItems.{comma_number_good, listed_slash_good, year_plus_good}
+use Rattle.gtd_hours_grammar.proofs.GoodItems.{year_slash_good}
 use Rattle.gtd_hours_grammar.proofs.GoodRules.{after_colon_good, after_later_good, after_semicolon_good, after_year_good}
 use Rattle.gtd_hours_grammar.proofs.GoodRules.{also_good, always_good, later_closed, later_month, later_open, later_time}
 use Rattle.gtd_hours_grammar.proofs.GoodRules.{later_week, later_weekday, listed_month_good, listed_number_good}
@@ -121,6 +127,41 @@ comma_right : (s : Stage) (next : Option TokenKind) (b fits : Bool) → next_goe
 comma_right s next true fits e f h = listed_right s next fits f e
 comma_right s next false fits e f h = also_good s next h e
 
+after_right : (s : Stage) (next : Option TokenKind) (fits : Bool) → IsPlace (places.After s)
+    → (fits ≡ true → Fits (places.After s) next) → IsRight (places.After s) next (after s next fits)
+after_right s (Some token.Semicolon) fits h f = after_semicolon_good s (Some token.Semicolon) refl h
+after_right s (Some token.Comma) fits h f =
+    on (places.After s) (places.Comma s) token.Comma (λ d p ts rest. rest) h
+after_right s (Some token.Colon) fits h f =
+    if_right (precedes s stage.Colon) (places.After s) (Some token.Colon) (take (places.After stage.Colon))
+    (λ e. after_colon_good s (Some token.Colon) refl h e)
+after_right s (Some (token.Number v d)) true h f =
+    if_right (precedes s stage.MonthDays) (places.After s) (Some (token.Number v d))
+    (complete piece.Kind (places.DateYear (written v d)))
+    (λ e. after_year_good s v d (Some (token.Number v d)) true refl refl f e)
+after_right s (Some (token.Number v d)) false h f = record {}
+after_right s next fits h f = after_later_good s next (later s next fits) (later_right s next fits f)
+
+pub after_date_fits : (y : Option Digits) (m : ℕ) (next : Option TokenKind) → Fits (places.AfterDate y m) next
+    → Fits (places.After stage.MonthDays) next
+after_date_fits y m (Some (token.Number v d)) f = f
+after_date_fits y m (Some (token.Time h k)) f = f
+after_date_fits y m (Some (token.Month k)) f = f
+after_date_fits y m (Some (token.Weekday k)) f = f
+after_date_fits y m next f = absurd f
+
+abbrev pub is_number : Option TokenKind → Bool
+is_number (Some (token.Number v d)) = true
+is_number next = false
+
+pub comma_date_fits : (y : Option Digits) (m : ℕ) (next : Option TokenKind) → Fits (places.CommaDate y m) next
+    → is_number next ≡ false → Fits (places.Comma stage.MonthDays) next
+comma_date_fits y m (Some (token.Number v d)) f never = absurd cc
+comma_date_fits y m (Some (token.Time h k)) f never = f
+comma_date_fits y m (Some (token.Month k)) f never = f
+comma_date_fits y m (Some (token.Weekday k)) f never = f
+comma_date_fits y m next f never = absurd f
+
 -- ---- the table
 
 pub move_right : (at : Place) (next : Option TokenKind) (fits : Bool) → IsPlace at → (fits ≡ true → Fits at next)
@@ -161,11 +202,9 @@ move_right (places.YearStep a b) (Some (token.Number v d)) true h f =
 move_right (places.DateYear n) (Some (token.Month m)) true h f =
     on (places.DateYear n) (places.DateYearMonth n m) (token.Month m) (λ d p ts rest. rest) (record { one = h; other = f refl })
 move_right (places.DateYearMonth n m) (Some (token.Number v d)) true h f =
-    on (places.DateYearMonth n m) (places.Date (record { year = Some n; month = m; day = written v d })) (token.Number v d)
-    (λ e p ts rest. rest) (h.one, f refl)
+    year_month_date_good n m v d (Some (token.Number v d)) true refl refl f h
 move_right (places.Month m) (Some (token.Number v d)) true h f =
-    on (places.Month m) (places.Date (record { year = None; month = m; day = written v d })) (token.Number v d)
-    (λ e p ts rest. rest) (record {}, f refl)
+    month_date_good m v d (Some (token.Number v d)) true refl refl f
 move_right (places.Month m) (Some (token.Number v d)) false h f = record {}
 move_right (places.Month m) (Some token.Dash) fits h f =
     on (places.Month m) (places.MonthDash m) token.Dash (λ d p ts rest. rest) h
@@ -226,17 +265,25 @@ move_right (places.Time t) (Some token.Dash) fits h f =
     on (places.Time t) (places.TimeDash t) token.Dash (λ d p ts rest. rest) h
 move_right (places.TimeDash t) (Some (token.Time a b)) true h f =
     time_dash_good t a b (Some (token.Time a b)) true refl refl f
-move_right (places.After s) (Some token.Semicolon) fits h f = after_semicolon_good s (Some token.Semicolon) refl h
-move_right (places.After s) (Some token.Comma) fits h f =
-    on (places.After s) (places.Comma s) token.Comma (λ d p ts rest. rest) h
-move_right (places.After s) (Some token.Colon) fits h f =
-    if_right (precedes s stage.Colon) (places.After s) (Some token.Colon) (take (places.After stage.Colon))
-    (λ e. after_colon_good s (Some token.Colon) refl h e)
-move_right (places.After s) (Some (token.Number v d)) true h f =
-    if_right (precedes s stage.MonthDays) (places.After s) (Some (token.Number v d))
-    (complete piece.Kind (places.DateYear (written v d)))
-    (λ e. after_year_good s v d (Some (token.Number v d)) true refl refl f e)
-move_right (places.After s) (Some (token.Number v d)) false h f = record {}
-move_right (places.After s) next fits h f = after_later_good s next (later s next fits) (later_right s next fits f)
+move_right (places.ListedDay x) (Some token.Dash) fits h f = listed_dash_good x (Some token.Dash) refl h
+move_right (places.ListedDay x) (Some token.Slash) fits h f =
+    if_right (x.day.value == 24 && x.day.count == 2) (places.ListedDay x) (Some token.Slash)
+    (complete (piece.Rule link.Also) places.TwentyFourSlash)
+    (λ e. let both = and_parts (x.day.value == 24) (x.day.count == 2) e in
+    listed_slash_good x (Some token.Slash) refl (eqb-true x.day.value 24 both.0) (eqb-true x.day.count 2 both.1))
+move_right (places.ListedDay x) next fits h f = listed_day_good x next h
+move_right (places.AfterDate y m) (Some token.Comma) fits h f =
+    on (places.AfterDate y m) (places.CommaDate y m) token.Comma (λ d p ts rest. rest) h
+move_right (places.AfterDate y m) next fits h f =
+    after_date_good y m next (after stage.MonthDays next fits)
+    (after_right stage.MonthDays next fits refl (λ e. after_date_fits y m next (f e)))
+move_right (places.CommaDate y m) (Some (token.Number v d)) true h f =
+    comma_number_good y m v d (Some (token.Number v d)) true refl refl f h
+move_right (places.CommaDate y m) (Some (token.Number v d)) false h f = record {}
+move_right (places.CommaDate y m) next fits h f =
+    comma_date_good y m next (comma stage.MonthDays next fits)
+    (comma_right stage.MonthDays next (next_goes_on stage.MonthDays next) fits refl
+    (λ e. comma_date_fits y m next (f e) refl) refl)
+move_right (places.After s) next fits h f = after_right s next fits h f
 move_right (places.Comma s) next fits h f = comma_right s next (next_goes_on s next) fits refl f h
 move_right at next fits h f = record {}

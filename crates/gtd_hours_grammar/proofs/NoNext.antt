@@ -1,5 +1,5 @@
 -- Where no number and no time can come next, none does.
-use Rattle.std.proofs.Common.{◌≡◌, ℕ, Bool, true, false, List, ◌∷◌, Some, None, refl, sym, subst, ◌∙◌}
+use Rattle.std.proofs.Common.{◌≡◌, ℕ, Bool, true, false, List, ◌∷◌, Option, Some, None, refl, sym, subst, ◌∙◌}
 use Rattle.std.specs.Prelude.{◌&&◌}
 use Rattle.gtd_hours_tokens.specs.declared.token.TokenKind.TheVariants as token
 use Rattle.gtd_hours_parts.specs.declared.digits.Digits.{Digits}
@@ -50,6 +50,12 @@ after_time demand s p h m ts late =
     (λ fits. held (fits && precedes s stage.Times) (take (places.Time (clock h m)))
     (not_fit fits (precedes s stage.Times) late))
 
+after_date_number : (demand : Demand) (y : Option Digits) (m : ℕ) (p : List Piece) (v d : ℕ) (ts : List TokenKind)
+    → Runs demand (places.AfterDate y m) p (token.Number v d ∷ ts) → ⊥
+after_date_number demand y m p v d ts =
+    no_token demand (places.AfterDate y m) p (token.Number v d) ts refl
+    (λ fits. held (fits && false) (complete piece.Kind (places.DateYear (written v d))) (not_fit fits false refl))
+
 -- behind a piece that is given, a number would stand behind a part of a rule
 given_number : (demand : Demand) (at : Place) (s : Stage) (x : Piece) (p : List Piece) (v d : ℕ) (ts : List TokenKind)
     → awaits_day at ≡ false → precedes s stage.MonthDays ≡ false
@@ -76,8 +82,15 @@ no_number demand (places.DateYear n) p v d ts e =
     no_token demand (places.DateYear n) p (token.Number v d) ts refl (λ fits. refl)
 no_number demand (places.MonthDash m) p v d ts e =
     no_token demand (places.MonthDash m) p (token.Number v d) ts refl (λ fits. refl)
-no_number demand (places.Date x) p v d ts e =
-    given_number demand (places.Date x) stage.MonthDays (piece.Dates x None) p v d ts refl refl (λ fits. refl)
+no_number demand (places.Date x) p v d ts e = λ go.
+    let behind = behind_piece demand (places.Date x) (places.AfterDate x.year x.month) (piece.Dates x None) p (token.Number v d)
+    ts refl (λ fits. refl) go in
+    after_date_number demand x.year x.month behind.q v d ts behind.runs
+no_number demand (places.ListedDay x) p v d ts e = λ go.
+    let behind = behind_piece demand (places.ListedDay x) (places.AfterDate x.year x.month) (piece.Dates x None) p
+    (token.Number v d) ts refl (λ fits. refl) go in
+    after_date_number demand x.year x.month behind.q v d ts behind.runs
+no_number demand (places.AfterDate y m) p v d ts e = after_date_number demand y m p v d ts
 no_number demand (places.DateDashYear x n) p v d ts e =
     no_token demand (places.DateDashYear x n) p (token.Number v d) ts refl (λ fits. refl)
 no_number demand (places.Week n) p v d ts e =
@@ -141,5 +154,6 @@ time_stops demand at p h m ts none (step at' p' q ts' move fits is n e go) =
 pub no_time : (demand : Demand) (at : Place) (p : List Piece) (h m : ℕ) (ts : List TokenKind) → takes_time at ≡ false
     → Runs demand at p (token.Time h m ∷ ts) → ⊥
 no_time demand (places.Nth k n) p h m ts e = given_place demand k n p (token.Time h m) ts refl refl
+no_time demand (places.AfterDate y k) p h m ts e = absurd cc
 no_time demand (places.After s) p h m ts e = after_time demand s p h m ts e
 no_time demand at p h m ts e = time_stops demand at p h m ts (λ fits. time_refused at h m fits e refl refl)

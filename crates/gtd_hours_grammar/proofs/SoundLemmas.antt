@@ -1,5 +1,5 @@
 -- The numbers and times of the pieces that moves complete are in range.
-use Rattle.std.proofs.Common.{◌≡◌, Bool, true, false, Option, Some, None, refl, sym, subst, arith}
+use Rattle.std.proofs.Common.{◌≡◌, Bool, true, false, Option, Some, refl, sym, subst, arith}
 use Rattle.std.specs.Prelude.{IfSome, ◌&&◌, ◌==◌, if◌then◌else◌, nat_le}
 use Rattle.gtd_hours.specs.declared.hours.Link.TheVariants as link
 use Rattle.gtd_hours_tokens.specs.declared.token.TokenKind.TheVariants as token
@@ -11,7 +11,7 @@ use Rattle.gtd_hours_grammar.specs.declared.piece.WrittenDate.{WrittenDate}
 use Rattle.gtd_hours_grammar.specs.declared.stage.Stage.TheVariants as stage
 use Rattle.gtd_hours_grammar.specs.declared.place.Place.TheVariants as places
 use Rattle.gtd_hours_grammar.specs.Moves.{complete, give, later, listed, listed_number, next_goes_on, next_move, take, when}
-use Rattle.gtd_hours_grammar.specs.Moves.{week_pair, written}
+use Rattle.gtd_hours_grammar.specs.Moves.{dates_end, week_pair, written, year_or_listed}
 use Rattle.gtd_hours_parts.specs.Numbers.{IsYearNumber}
 use Rattle.gtd_hours_grammar.specs.Pieces.{IsRange, IsWrittenDate, final_year}
 use Rattle.gtd_hours_grammar.specs.Sound.{Fits, IsPlace, YearOrDay, is_last_year}
@@ -37,6 +37,10 @@ if_begun false to = record {}
 if_closed : (b : Bool) (to : Place) → IsSound (when b (complete piece.Closed to))
 if_closed true to = record {}
 if_closed false to = record {}
+
+if_other : (b : Bool) (to : Place) → IsSound (when b (complete (piece.Rule link.Also) to))
+if_other true to = record {}
+if_other false to = record {}
 
 either_taken : (b fits : Bool) (to there : Place) → IsSound (if b then take to else when fits (complete piece.Kind there))
 either_taken true fits to there = record {}
@@ -70,8 +74,7 @@ listed_sound s (Some (token.Time h m)) fits = if_taken _ _
 listed_sound s next fits = record {}
 
 year_or_day_sound : (x : WrittenDate) (n : Digits) (b : Bool) → YearOrDay b x n → IsWrittenDate x
-    → IsSound (if b then take (places.DateDashYear x n)
-    else complete (piece.Dates x (Some (last_date.Day n))) (places.After stage.MonthDays))
+    → IsSound (if b then take (places.DateDashYear x n) else dates_end x (last_date.Day n))
 year_or_day_sound x n true fits h = record {}
 year_or_day_sound x n false fits h = (h, fits)
 
@@ -119,6 +122,21 @@ move_sound (places.MonthDash m) (Some (token.Month l)) true h f = (h, f refl)
 move_sound (places.MonthDash m) (Some (token.Month l)) false h f = record {}
 move_sound (places.Date x) (Some token.Dash) fits h f = record {}
 move_sound (places.Date x) next fits h f = h
+move_sound (places.ListedDay x) (Some token.Dash) fits h f = record {}
+move_sound (places.ListedDay x) (Some token.Slash) fits h f =
+    if_other (x.day.value == 24 && x.day.count == 2) places.TwentyFourSlash
+move_sound (places.ListedDay x) next fits h f = h
+move_sound (places.AfterDate y m) (Some token.Comma) fits h f = record {}
+move_sound (places.AfterDate y m) (Some token.Semicolon) fits h f = record {}
+move_sound (places.AfterDate y m) (Some token.Colon) fits h f = record {}
+move_sound (places.AfterDate y m) (Some (token.Number v d)) fits h f =
+    if_begun (fits && false) (places.DateYear (written v d))
+move_sound (places.AfterDate y m) next fits h f = later_sound stage.MonthDays next fits
+move_sound (places.CommaDate y m) (Some (token.Number v d)) fits h f =
+    if_any fits (year_or_listed y m (written v d)) (pair_taken (d == 4) _ _)
+move_sound (places.CommaDate y m) next fits h f =
+    either_given (next_goes_on stage.MonthDays next) (listed stage.MonthDays next fits) (piece.Rule link.Also) places.Front
+    (record {}) (listed_sound stage.MonthDays next fits)
 move_sound (places.DateDash x) (Some (token.Number v d)) true h f =
     year_or_day_sound x (written v d) (is_last_year x (written v d)) (f refl) h
 move_sound (places.DateDash x) (Some (token.Number v d)) false h f = record {}

@@ -12,8 +12,8 @@ use Rattle.gtd_hours_grammar.specs.declared.piece.LastDate.TheVariants as last_d
 use Rattle.gtd_hours_grammar.specs.Terms.{TokenKind, Piece, Stage}
 use Rattle.gtd_hours_grammar.specs.declared.piece.Piece.TheVariants as piece
 use Rattle.gtd_hours_grammar.specs.declared.stage.Stage.TheVariants as stage
-use Rattle.gtd_hours_grammar.specs.Pieces.{AreBackWeeks, AreFewYears, AreWrittenTimes, EndsRange, IsRange, IsWrittenDate}
-use Rattle.gtd_hours_grammar.specs.Pieces.{final_week, final_year, week_one}
+use Rattle.gtd_hours_grammar.specs.Pieces.{AreBackWeeks, AreFewYears, AreWrittenDates, AreWrittenTimes, IsDay, IsRange}
+use Rattle.gtd_hours_grammar.specs.Pieces.{IsWrittenDate, day_behind, end_month, end_year, final_week, final_year, week_one}
 
 -- What is asked of tokens: that they are a text in full; that they can be its beginning so far, where a text that has come to
 -- the last date of a range is judged at that date's day; or the same, where a number that comes last need only fit by its place.
@@ -104,27 +104,40 @@ unfinished None (Some month) = token.Month month ∷ []
 unfinished (Some year) None = number year ∷ []
 unfinished (Some year) (Some month) = number year ∷ token.Month month ∷ []
 
--- `Apr`, `Apr-Sep`, `Apr 10`, `Apr 10-20`, `2024 Dec 24-2025 Jan 3`.
+-- the tokens of the end of a range, if there is one, and what follows them
+abbrev pub range_to : Option LastDate → List TokenKind → List TokenKind
+range_to None rest = rest
+range_to (Some last) rest = token.Dash ∷ last_before last rest
+
+-- What follows a date: `-20` and `-2025 Jan 3`, or nothing; and then days behind commas, which go on in the month and the year
+-- of the last date: `,31` and `,29-31`.
 -- The last date after one with a year is judged at its day: a text that breaks off before that day can go on, whichever the year
 -- and the month are, and any number fits by its place there.
+pub data IsDates (demand : Demand) (later : List Piece) (rest : List TokenKind)
+    : WrittenDate → List Piece → List TokenKind → Type 0
+  where
+    one : (x : WrittenDate) → (last : Option LastDate) → (p : List Piece) → (ts : List TokenKind) → ts ≡ range_to last rest
+        → p ≡ piece.Dates x last ∷ later → AreWrittenDates x last → IsDates demand later rest x p ts
+    also : (x : WrittenDate) → (last : Option LastDate) → (day : Digits) → (p q : List Piece) → (ts us : List TokenKind)
+        → ts ≡ range_to last (token.Comma ∷ number day ∷ us) → p ≡ piece.Dates x last ∷ q → AreWrittenDates x last
+        → IsDay (end_year x last) (end_month x last) day → IsDates demand later rest (day_behind x last day) q us
+        → IsDates demand later rest x p ts
+    cut : (x : WrittenDate) → (year : Option Digits) → (m : Option ℕ) → (p : List Piece) → (ts : List TokenKind)
+        → may_break_off demand ≡ true → is_some x.year ≡ true → IfSome year IsYearNumber → IfSome m IsMonth
+        → ts ≡ token.Dash ∷ unfinished year m → rest ≡ [] → p ≡ later → IsDates demand later rest x p ts
+    any_day : (x last : WrittenDate) → (p : List Piece) → (ts : List TokenKind) → demand ≡ by_place → is_some x.year ≡ true
+        → IfSome last.year IsYearNumber → IsMonth last.month → ts ≡ token.Dash ∷ date_before last [] → rest ≡ [] → p ≡ later
+        → IsDates demand later rest x p ts
+
+-- `Apr`, `Apr-Sep`, `Apr 10`, `Apr 10-20`, `2024 Dec 24-2025 Jan 3`, `Dec 24,31`
 pub data IsMonthDays (demand : Demand) (p : List Piece) (ts : List TokenKind) (later : List Piece) (rest : List TokenKind)
     : Type 0 where
   month : (m : ℕ) → ts ≡ token.Month m ∷ rest → p ≡ piece.Months m None ∷ later → IsMonth m
       → IsMonthDays demand p ts later rest
   months : (first last : ℕ) → ts ≡ token.Month first ∷ token.Dash ∷ token.Month last ∷ rest
       → p ≡ piece.Months first (Some last) ∷ later → IsMonth first → IsMonth last → IsMonthDays demand p ts later rest
-  date : (x : WrittenDate) → ts ≡ date_before x rest → p ≡ piece.Dates x None ∷ later → IsWrittenDate x
+  dates : (x : WrittenDate) → (us : List TokenKind) → ts ≡ date_before x us → IsWrittenDate x → IsDates demand later rest x p us
       → IsMonthDays demand p ts later rest
-  dates : (first : WrittenDate) → (last : LastDate) → ts ≡ date_before first (token.Dash ∷ last_before last rest)
-      → p ≡ piece.Dates first (Some last) ∷ later → IsWrittenDate first → EndsRange first last
-      → IsMonthDays demand p ts later rest
-  cut : (first : WrittenDate) → (year : Option Digits) → (m : Option ℕ) → may_break_off demand ≡ true
-      → is_some first.year ≡ true → IsWrittenDate first → IfSome year IsYearNumber → IfSome m IsMonth
-      → ts ≡ date_before first (token.Dash ∷ unfinished year m) → rest ≡ [] → p ≡ later
-      → IsMonthDays demand p ts later rest
-  any_day : (first last : WrittenDate) → demand ≡ by_place → is_some first.year ≡ true → IsWrittenDate first
-      → IfSome last.year IsYearNumber → IsMonth last.month → ts ≡ date_before first (token.Dash ∷ date_before last [])
-      → rest ≡ [] → p ≡ later → IsMonthDays demand p ts later rest
 
 -- `1`, `1-2`, `-1`, in brackets after the weekday
 pub data IsPlaces (weekday : ℕ) (p : List Piece) (ts : List TokenKind) (later : List Piece) (rest : List TokenKind) : Type 0 where

@@ -12,7 +12,8 @@ use Rattle.gtd_hours_grammar.specs.declared.piece.Piece.TheVariants as piece
 use Rattle.gtd_hours_grammar.specs.declared.stage.Stage.TheVariants as stage
 use Rattle.gtd_hours_grammar.specs.declared.place.Place.TheVariants as places
 use Rattle.gtd_hours_grammar.specs.Grammar.{goes_on, precedes}
-use Rattle.gtd_hours_grammar.specs.Pieces.{final_week, final_year, week_one}
+use Rattle.gtd_hours_grammar.specs.declared.piece.LastDate.{LastDate}
+use Rattle.gtd_hours_grammar.specs.Pieces.{end_month, end_year, final_week, final_year, week_one}
 use Rattle.gtd_hours_grammar.specs.Sound.{is_last_year}
 
 abbrev pub written : ℕ → ℕ → Digits
@@ -163,13 +164,25 @@ month_dash m next fits = None
 
 abbrev pub date : WrittenDate → Option TokenKind → Option Move
 date x (Some token.Dash) = take (places.DateDash x)
-date x next = give (piece.Dates x None) (places.After stage.MonthDays)
+date x next = give (piece.Dates x None) (places.AfterDate x.year x.month)
+
+-- a day behind a comma, or `24` of another rule
+abbrev pub listed_day : WrittenDate → Option TokenKind → Option Move
+listed_day x (Some token.Dash) = take (places.DateDash x)
+listed_day x (Some token.Slash) =
+    when (x.day.value == 24 && x.day.count == 2) (complete (piece.Rule link.Also) places.TwentyFourSlash)
+listed_day x next = give (piece.Dates x None) (places.AfterDate x.year x.month)
+
+-- a range of dates is complete
+abbrev pub dates_end : WrittenDate → LastDate → Option Move
+dates_end x last =
+    complete (piece.Dates x (Some last)) (places.AfterDate (end_year x (Some last)) (end_month x (Some last)))
 
 -- a year, or the day that ends the range
 abbrev pub year_or_day : WrittenDate → Digits → Option Move
 year_or_day x n =
     if is_last_year x n then take (places.DateDashYear x n)
-    else complete (piece.Dates x (Some (last_date.Day n))) (places.After stage.MonthDays)
+    else dates_end x (last_date.Day n)
 
 abbrev pub date_dash : WrittenDate → Option TokenKind → Bool → Option Move
 date_dash x (Some (token.Number v d)) fits = when fits (year_or_day x (written v d))
@@ -182,9 +195,24 @@ date_dash_year x n next fits = None
 
 abbrev pub date_dash_month : WrittenDate → Option Digits → ℕ → Option TokenKind → Bool → Option Move
 date_dash_month x y m (Some (token.Number v d)) fits =
-    when fits (complete (piece.Dates x (Some (last_date.Date (record { year = y; month = m; day = written v d }))))
-    (places.After stage.MonthDays))
+    when fits (dates_end x (last_date.Date (record { year = y; month = m; day = written v d })))
 date_dash_month x y m next fits = None
+
+-- behind a date or a range of dates
+abbrev pub after_date : Option Digits → ℕ → Option TokenKind → Bool → Option Move
+after_date y m (Some token.Comma) fits = take (places.CommaDate y m)
+after_date y m next fits = after stage.MonthDays next fits
+
+-- a year, or a day of the month
+abbrev pub year_or_listed : Option Digits → ℕ → Digits → Option Move
+year_or_listed y m n =
+    if n.count == 4 then take (places.DateYear n)
+    else take (places.ListedDay (record { year = y; month = m; day = n }))
+
+abbrev pub comma_date : Option Digits → ℕ → Option TokenKind → Bool → Option Move
+comma_date y m (Some (token.Number v d)) fits =
+    when fits (year_or_listed y m (written v d))
+comma_date y m next fits = comma stage.MonthDays next fits
 
 -- ---- weeks
 
@@ -286,6 +314,7 @@ next_move (places.DateYearMonth n m) next fits = date_year_month n m next fits
 next_move (places.Month m) next fits = month m next fits
 next_move (places.MonthDash m) next fits = month_dash m next fits
 next_move (places.Date x) next fits = date x next
+next_move (places.ListedDay x) next fits = listed_day x next
 next_move (places.DateDash x) next fits = date_dash x next fits
 next_move (places.DateDashYear x n) next fits = date_dash_year x n next fits
 next_move (places.DateDashMonth x y m) next fits = date_dash_month x y m next fits
@@ -305,6 +334,8 @@ next_move (places.NthDash k n) next fits = nth_dash k n next fits
 next_move (places.BracketEnd k) next fits = bracket_end k next
 next_move (places.Time t) next fits = time t next
 next_move (places.TimeDash t) next fits = time_dash t next fits
+next_move (places.AfterDate y m) next fits = after_date y m next fits
+next_move (places.CommaDate y m) next fits = comma_date y m next fits
 next_move (places.After s) next fits = after s next fits
 next_move (places.Comma s) next fits = comma s next fits
 
@@ -315,5 +346,6 @@ rank (places.MonthAfterYear m) = 2
 rank (places.WeekBack a b) = 2
 rank places.Front = 0
 rank (places.After s) = 0
+rank (places.AfterDate y m) = 0
 rank (places.BracketEnd k) = 0
 rank place = 1

@@ -1,5 +1,5 @@
 -- Which written numbers and times stand together in one piece of a text of opening hours.
-use Rattle.std.specs.Prelude.{ℕ, ◌≤◌, ◌<◌, ◌+◌, ◌*◌, Option, Some, None, IfSome}
+use Rattle.std.specs.Prelude.{ℕ, ◌≤◌, ◌<◌, ◌+◌, ◌*◌, Option, Some, None, IfSome, option_map}
 use Rattle.gtd_hours.specs.Ranges.{IsTimeRange}
 use Rattle.gtd_hours_parts.specs.declared.digits.Digits.{Digits}
 use Rattle.gtd_hours_parts.specs.declared.clock.ClockTime.{ClockTime}
@@ -55,6 +55,34 @@ IsLastDay (Some first) first_month first_day (Some year) month day =
 abbrev pub EndsRange : WrittenDate → LastDate → Type 0
 EndsRange first (last_date.Day day) = IsLastDay first.year first.month first.day None first.month day
 EndsRange first (last_date.Date last) = IsLastDay first.year first.month first.day last.year last.month last.day
+
+-- a date, or the range from it to a day or a date
+abbrev pub AreWrittenDates : WrittenDate → Option LastDate → Type 0
+AreWrittenDates first last = IfSome last (EndsRange first)
+
+-- the year of a last date, where the first one has this year
+abbrev pub year_or_next : ℕ → WrittenDate → Option Digits → ℕ → Digits → ℕ
+year_or_next year first None month day = last_year year first.month first.day.value month day.value
+year_or_next year first (Some written) month day = written.value
+
+abbrev pub year_at_end : ℕ → WrittenDate → LastDate → ℕ
+year_at_end year first (last_date.Day day) = year_or_next year first None first.month day
+year_at_end year first (last_date.Date last) = year_or_next year first last.year last.month last.day
+
+-- the year, if there is one, and the month in which a date or a range of dates ends
+abbrev pub end_year : WrittenDate → Option LastDate → Option Digits
+end_year first None = first.year
+end_year first (Some last) =
+    option_map (λ (year : Digits). record { value = year_at_end year.value first last; count = 4 }) first.year
+
+abbrev pub end_month : WrittenDate → Option LastDate → ℕ
+end_month first None = first.month
+end_month first (Some (last_date.Day day)) = first.month
+end_month first (Some (last_date.Date last)) = last.month
+
+-- a day of that month
+abbrev pub day_behind : WrittenDate → Option LastDate → Digits → WrittenDate
+day_behind first last day = record { year = end_year first last; month = end_month first last; day = day }
 
 -- a range of times
 abbrev pub AreWrittenTimes : ClockTime → ClockTime → Type 0

@@ -1,13 +1,15 @@
 -- What follows behind a place of the reading: the grammar from there on. The tokens of the part that is not finished are put
 -- before those that follow.
-use Rattle.std.specs.Prelude.{List, ℕ, ◌∷◌, Some, None}
+use Rattle.std.specs.Prelude.{List, ◌≡◌, ℕ, ◌∷◌, Option, Some, None}
+use Rattle.gtd_hours_parts.specs.declared.digits.Digits.{Digits}
+use Rattle.gtd_hours_grammar.specs.declared.piece.WrittenDate.{WrittenDate}
 use Rattle.gtd_hours_tokens.specs.declared.token.TokenKind.TheVariants as token
 use Rattle.gtd_hours_grammar.specs.Terms.{TokenKind, Piece, Stage, Place}
 use Rattle.gtd_hours_grammar.specs.declared.piece.Piece.TheVariants as piece
 use Rattle.gtd_hours_grammar.specs.declared.stage.Stage.TheVariants as stage
 use Rattle.gtd_hours_grammar.specs.declared.place.Place.TheVariants as places
-use Rattle.gtd_hours_grammar.specs.Pieces.{final_week}
-use Rattle.gtd_hours_grammar.specs.Grammar.{Demand, Follow, IsOne, IsPlaces, Listed, More, date_before, dated, number, time}
+use Rattle.gtd_hours_grammar.specs.Pieces.{IsDay, final_week}
+use Rattle.gtd_hours_grammar.specs.Grammar.{Demand, Follow, IsDates, IsOne, IsPlaces, Listed, More, dated, number, time}
 
 -- the rest behind one of a list
 pub record Behind (demand : Demand) (s : Stage) (p : List Piece) (ts : List TokenKind) : Type 0 where
@@ -37,6 +39,19 @@ pub record BehindPlace (demand : Demand) (weekday : ℕ) (p : List Piece) (ts : 
   pub more : More (IsPlaces weekday) later (token.CloseBracket ∷ rest) p ts
   pub behind : Behind demand stage.Weekdays later rest
 
+-- the rest behind a date
+pub record FromDate (demand : Demand) (x : WrittenDate) (p : List Piece) (ts : List TokenKind) : Type 0 where
+  pub later : List Piece
+  pub rest : List TokenKind
+  pub dates : IsDates demand later rest x p ts
+  pub behind : Behind demand stage.MonthDays later rest
+
+-- the rest behind a date or a range of dates that ends in that month: days of it behind commas, or what stands behind a list
+pub data BehindDate (demand : Demand) (year : Option Digits) (month : ℕ) (p : List Piece) (ts : List TokenKind) : Type 0 where
+  day : (n : Digits) → (us : List TokenKind) → ts ≡ token.Comma ∷ number n ∷ us → IsDay year month n
+      → FromDate demand (record { year = year; month = month; day = n }) p us → BehindDate demand year month p ts
+  none : Behind demand stage.MonthDays p ts → BehindDate demand year month p ts
+
 abbrev pub Rest : Demand → Place → List Piece → List TokenKind → Type 0
 Rest d places.Front p ts = Follow d stage.Front p ts
 Rest d places.TwentyFour p ts = Follow d stage.Front p (token.Number 24 2 ∷ ts)
@@ -53,10 +68,13 @@ Rest d (places.DateYear n) p ts = From d stage.MonthDays p (number n ∷ ts)
 Rest d (places.DateYearMonth n m) p ts = From d stage.MonthDays p (number n ∷ token.Month m ∷ ts)
 Rest d (places.Month m) p ts = From d stage.MonthDays p (token.Month m ∷ ts)
 Rest d (places.MonthDash m) p ts = From d stage.MonthDays p (token.Month m ∷ token.Dash ∷ ts)
-Rest d (places.Date x) p ts = From d stage.MonthDays p (date_before x ts)
-Rest d (places.DateDash x) p ts = From d stage.MonthDays p (date_before x (token.Dash ∷ ts))
-Rest d (places.DateDashYear x n) p ts = From d stage.MonthDays p (date_before x (token.Dash ∷ number n ∷ ts))
-Rest d (places.DateDashMonth x year m) p ts = From d stage.MonthDays p (date_before x (token.Dash ∷ dated year m ts))
+Rest d (places.Date x) p ts = FromDate d x p ts
+Rest d (places.ListedDay x) p ts = BehindDate d x.year x.month p (token.Comma ∷ number x.day ∷ ts)
+Rest d (places.DateDash x) p ts = FromDate d x p (token.Dash ∷ ts)
+Rest d (places.DateDashYear x n) p ts = FromDate d x p (token.Dash ∷ number n ∷ ts)
+Rest d (places.DateDashMonth x year m) p ts = FromDate d x p (token.Dash ∷ dated year m ts)
+Rest d (places.AfterDate year m) p ts = BehindDate d year m p ts
+Rest d (places.CommaDate year m) p ts = BehindDate d year m p (token.Comma ∷ ts)
 Rest d places.WeekWord p ts = From d stage.Weeks p ts
 Rest d (places.Week n) p ts = From d stage.Weeks p (number n ∷ ts)
 Rest d (places.WeekDash n) p ts = From d stage.Weeks p (number n ∷ token.Dash ∷ ts)

@@ -33,6 +33,7 @@ from (Some t) ts = t ∷ ts
 -- A text may end behind a part of a rule.
 abbrev pub is_after : Place → Bool
 is_after (places.After s) = true
+is_after (places.AfterDate year m) = true
 is_after place = false
 
 -- It may break off, to be judged by what comes, in the last date of a range.

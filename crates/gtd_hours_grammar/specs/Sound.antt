@@ -1,5 +1,5 @@
 -- What is known of the numbers and times that a place keeps, and which ones fit next.
-use Rattle.std.specs.Prelude.{◌≡◌, Bool, true, false, ◌&&◌, ◌==◌, Option, Some, None, IfSome, is_some}
+use Rattle.std.specs.Prelude.{◌≡◌, ℕ, Bool, true, false, ◌&&◌, ◌==◌, Option, Some, None, IfSome, is_some}
 use Rattle.gtd_hours.specs.Ranges.{IsMonth, IsWeekday}
 use Rattle.gtd_hours_tokens.specs.declared.token.TokenKind.TheVariants as token
 use Rattle.gtd_hours_parts.specs.declared.digits.Digits.{Digits}
@@ -37,6 +37,7 @@ IsPlace (places.DateYearMonth n m) = Both (IsYearNumber n) (IsMonth m)
 IsPlace (places.Month m) = IsMonth m
 IsPlace (places.MonthDash m) = IsMonth m
 IsPlace (places.Date x) = IsWrittenDate x
+IsPlace (places.ListedDay x) = IsWrittenDate x
 IsPlace (places.DateDash x) = IsWrittenDate x
 IsPlace (places.DateDashYear x n) = Both (IsWrittenDate x) (Both (is_some x.year ≡ true) (IsYearNumber n))
 IsPlace (places.DateDashMonth x year m) = Both (IsWrittenDate x) (Both (IsLastYear x year) (IsMonth m))
@@ -55,6 +56,8 @@ IsPlace (places.NthDash k n) = Both (IsWeekday k) (IsPlaceNumber n)
 IsPlace (places.BracketEnd k) = IsWeekday k
 IsPlace (places.Time t) = IsBegin t
 IsPlace (places.TimeDash t) = IsBegin t
+IsPlace (places.AfterDate year m) = Both (IfSome year IsYearNumber) (IsMonth m)
+IsPlace (places.CommaDate year m) = Both (IfSome year IsYearNumber) (IsMonth m)
 IsPlace (places.After s) = precedes stage.Front s ≡ true
 IsPlace (places.Comma s) = precedes stage.Front s ≡ true
 IsPlace place = Unit {0}
@@ -69,6 +72,11 @@ YearOrDay false first n = EndsRange first (last_date.Day n)
 
 abbrev pub YearOrDayFits : WrittenDate → Digits → Type 0
 YearOrDayFits first n = YearOrDay (is_last_year first n) first n
+
+-- behind a date and a comma, a number of four digits is a year, and another one a day
+abbrev pub YearOrListed : Bool → Option Digits → ℕ → Digits → Type 0
+YearOrListed true year m n = IsYearNumber n
+YearOrListed false year m n = IsDay year m n
 
 -- the number goes on with the list of a stage
 abbrev pub ListedFits : Stage → Digits → Type 0
@@ -96,6 +104,8 @@ NumberFits (places.WeekStep first last) n = IsStepNumber n
 NumberFits (places.Bracket k) n = IsPlaceNumber n
 NumberFits (places.BracketDash k) n = IsPlaceNumber n
 NumberFits (places.NthDash k first) n = IsRange IsPlaceNumber first n
+NumberFits (places.AfterDate year m) n = IsYearNumber n
+NumberFits (places.CommaDate year m) n = YearOrListed (n.count == 4) year m n
 NumberFits (places.After s) n = IsYearNumber n
 NumberFits (places.Comma s) n = ListedFits s n
 NumberFits place n = ⊥
@@ -135,6 +145,7 @@ takes_number (places.WeekStep a b) = true
 takes_number (places.Bracket k) = true
 takes_number (places.BracketDash k) = true
 takes_number (places.NthDash k n) = true
+takes_number (places.CommaDate year m) = true
 takes_number (places.After s) = precedes s stage.MonthDays
 takes_number (places.Comma s) = true
 takes_number place = false
@@ -149,6 +160,9 @@ takes_time (places.ListedYear n) = true
 takes_time (places.YearRange a b) = true
 takes_time (places.Month m) = true
 takes_time (places.Date x) = true
+takes_time (places.ListedDay x) = true
+takes_time (places.AfterDate year m) = true
+takes_time (places.CommaDate year m) = true
 takes_time (places.Week n) = true
 takes_time (places.WeekRange a b) = true
 takes_time (places.WeekBack a b) = true

@@ -5,6 +5,7 @@ pub mod FollowSteps
 pub mod FollowWeeks
 pub mod FollowYears
 pub mod FollowWeekdays
+pub mod FollowDays
 pub mod FollowDates
 pub mod FollowRuns
 pub mod FirstFault

@@ -1,10 +1,10 @@
 //! Which numbers, times, months and weekdays fit at a place.
 
-ghost use Rattle.std.specs.Prelude.{◌≡◌, ◌↔◌, true};
+ghost use Rattle.std.specs.Prelude.{◌≡◌, ◌↔◌, ◌==◌, true};
 ghost use Rattle.gtd_hours.specs.Ranges.{IsMonth, IsWeekday};
 ghost use Rattle.gtd_hours_parts.specs.Numbers.{IsPlaceNumber, IsWeekNumber, IsYearNumber};
 ghost use Rattle.gtd_hours_grammar.specs.Pieces.{AreFewYears, EndsRange, IsDay, IsLastDay, IsRange, IsWrittenDate};
-ghost use Rattle.gtd_hours_grammar.specs.Sound.{Fits, IsPlace, ListedFits, NumberFits, TimeFits, YearOrDayFits};
+ghost use Rattle.gtd_hours_grammar.specs.Sound.{Fits, IsPlace, ListedFits, NumberFits, TimeFits, YearOrDayFits, YearOrListed};
 ghost use Rattle.gtd_hours_grammar.specs.Sound.{is_last_year, takes_number, takes_time};
 
 use crate::piece::{LastDate, WrittenDate};
@@ -95,6 +95,17 @@ fn are_few_years(first: Digits, step: Digits) -> bool
     step.step().is_some() && 2799 < u32::from(first.value) + 128 * u32::from(step.value)
 }
 
+// Behind a date and a comma a number of four digits is a year, and another one a day.
+fn year_or_listed_fits(year: Option<Digits>, month: u8, number: Digits) -> bool
+    ensures { (result ≡ true) ↔ YearOrListed (number.count == 4) year month number }
+{
+    if number.count == 4 {
+        number.year().is_some()
+    } else {
+        day_fits(year, month, number)
+    }
+}
+
 // A place in the month that is not before the first one of a range.
 fn last_place_fits(first: Digits, number: Digits) -> bool
     ensures { (result ≡ true) ↔ IsRange IsPlaceNumber first number }
@@ -120,13 +131,19 @@ fn number_fits(place: Place, number: Digits) -> bool
 {
     match place {
         Place::Front => number.year().is_some(),
+        Place::TwentyFour => false,
         Place::TwentyFourSlash => number.value == 7 && number.count == 1,
+        Place::Year(_) => false,
         Place::YearMonth { year, month } => day_fits(Some(year), month, number),
+        Place::MonthAfterYear(_) => false,
+        Place::ListedYear(_) => false,
         Place::YearDash(first) => years(first, number, None).is_some(),
         Place::YearStep { .. } => number.step().is_some(),
         Place::YearSlash(first) => are_few_years(first, number),
         Place::DateYearMonth { year, month } => day_fits(Some(year), month, number),
         Place::Month(month) => day_fits(None, month, number),
+        Place::Date(_) => false,
+        Place::ListedDay(_) => false,
         Place::DateDash(first) => year_or_day_fits(first, number),
         Place::DateDashMonth { first, year, month } => { last_day_fits(first, year, month, number) }
         Place::WeekWord => number.week().is_some(),
@@ -135,6 +152,8 @@ fn number_fits(place: Place, number: Digits) -> bool
         Place::Bracket(_) => number.place().is_some(),
         Place::BracketDash(_) => number.place().is_some(),
         Place::NthDash { number: first, .. } => last_place_fits(first, number),
+        Place::AfterDate { .. } => number.year().is_some(),
+        Place::CommaDate { year, month } => year_or_listed_fits(year, month, number),
         Place::After(_) => number.year().is_some(),
         Place::Comma(stage) => listed_fits(stage, number),
         _ => false,
@@ -179,6 +198,8 @@ pub fn takes_number(place: Place) -> bool
         Place::DateYear(_) => false,
         Place::MonthDash(_) => false,
         Place::Date(_) => false,
+        Place::ListedDay(_) => false,
+        Place::AfterDate { .. } => false,
         Place::DateDashYear { .. } => false,
         Place::Week(_) => false,
         Place::WeekRange { .. } => false,
@@ -208,6 +229,9 @@ pub fn takes_time(place: Place) -> bool
         Place::YearRange { .. } => true,
         Place::Month(_) => true,
         Place::Date(_) => true,
+        Place::ListedDay(_) => true,
+        Place::AfterDate { .. } => true,
+        Place::CommaDate { .. } => true,
         Place::Week(_) => true,
         Place::WeekRange { .. } => true,
         Place::WeekBack { .. } => true,

@@ -5,6 +5,7 @@ ghost use Rattle.gtd_hours_grammar.specs.Moves.{next_move};
 ghost use Rattle.gtd_hours_grammar.specs.Runs.{IsGood};
 ghost use Rattle.gtd_hours_grammar.specs.Sound.{Fits, IsPlace};
 
+mod day_lists;
 mod month_days;
 mod moving;
 mod rules;
@@ -42,6 +43,7 @@ pub fn next_move(place: Place, next: Option<TokenKind>, fits: bool) -> Option<Mo
         Place::Month(month) => month_days::month(month, next, fits),
         Place::MonthDash(first) => month_days::month_dash(first, next, fits),
         Place::Date(first) => month_days::date(first, next),
+        Place::ListedDay(day) => day_lists::listed_day(day, next),
         Place::DateDash(first) => month_days::date_dash(first, next, fits),
         Place::DateDashYear { first, year } => month_days::date_dash_year(first, year, next, fits),
         Place::DateDashMonth { first, year, month } => {
@@ -63,6 +65,8 @@ pub fn next_move(place: Place, next: Option<TokenKind>, fits: bool) -> Option<Mo
         Place::BracketEnd(weekday) => weekdays::bracket_end(weekday, next),
         Place::Time(time) => times::time(time, next),
         Place::TimeDash(begin) => times::time_dash(begin, next, fits),
+        Place::AfterDate { year, month } => day_lists::after_date(year, month, next, fits),
+        Place::CommaDate { year, month } => day_lists::comma_date(year, month, next, fits),
         Place::After(stage) => rules::after(stage, next, fits),
         Place::Comma(stage) => rules::comma(stage, next, fits),
     }

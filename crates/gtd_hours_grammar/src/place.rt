@@ -62,6 +62,8 @@ pub enum Place {
     MonthDash(u8),
     /// `Dec 24`, `2024 Dec 24`
     Date(WrittenDate),
+    /// `31`, behind a date of the same month and a comma; or `24` of another rule.
+    ListedDay(WrittenDate),
     /// `Dec 24-`
     DateDash(WrittenDate),
     /// `2024 Dec 24-2025`
@@ -142,6 +144,20 @@ pub enum Place {
     Time(ClockTime),
     /// `08:00-`
     TimeDash(ClockTime),
+    /// A date or a range of dates, with the year and the month in which it ends.
+    AfterDate {
+        /// The year of the last date, if it has one.
+        year: Option<Digits>,
+        /// The month of the last date.
+        month: u8,
+    },
+    /// A comma behind it.
+    CommaDate {
+        /// The year of the last date, if it has one.
+        year: Option<Digits>,
+        /// The month of the last date.
+        month: u8,
+    },
     /// A part of a rule, and what is the last of its list.
     After(Stage),
     /// A comma after a part of a rule.
@@ -153,7 +169,7 @@ impl Place {
     pub fn is_after(self) -> bool
         ensures { result ≡ is_after self }
     {
-        matches!(self, Place::After(_))
+        matches!(self, Place::After(_) | Place::AfterDate { .. })
     }
 }
 

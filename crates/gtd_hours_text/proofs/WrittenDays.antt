@@ -27,8 +27,10 @@ use Rattle.gtd_hours_grammar.specs.declared.piece.Piece.TheVariants as piece
 use Rattle.gtd_hours_grammar.specs.declared.piece.LastDate.{LastDate}
 use Rattle.gtd_hours_grammar.specs.declared.piece.LastDate.TheVariants as last_date
 use Rattle.gtd_hours_grammar.specs.declared.piece.WrittenDate.{WrittenDate}
-use Rattle.gtd_hours_grammar.specs.Pieces.{AreWrittenTimes, IsWrittenDate}
-use Rattle.gtd_hours_grammar.specs.Grammar.{IsMonthDays, IsPlaces, IsTimes, IsWeekdays, in_full, none as no_more}
+use Rattle.gtd_hours_grammar.specs.Pieces.{AreWrittenDates, AreWrittenTimes, IsWrittenDate}
+use Rattle.gtd_hours_grammar.specs.Grammar.{IsDates, IsMonthDays, IsPlaces, IsTimes, IsWeekdays, date_before, in_full}
+use Rattle.gtd_hours_grammar.specs.Grammar.{none as no_more, range_to}
+use Rattle.gtd_hours_grammar.specs.declared.piece.Piece.{Piece}
 use Rattle.gtd_hours_text.specs.Standing.{ArePlaces, AreSelectors}
 use Rattle.gtd_hours_text.proofs.WrittenTokens.{Anything, Apart, Spelt, decimal_spelt, joined, sign_spelt}
 use Rattle.gtd_hours_text.proofs.WrittenParts.{clock_spelt, dashed, month_spelt, spaced, weekday_spelt, year_spelt}
@@ -104,6 +106,14 @@ month_day_spelt date =
     (token.Number date.day (length (decimal date.day)) ∷ []) (month_spelt date.month r.0)
     (decimal_spelt date.day (omega (arith, high)))
 
+-- a date or a range of dates
+a_date : (x : WrittenDate) (last : Option LastDate) (later : List Piece) (rest : List TokenKind) → IsWrittenDate x
+    → AreWrittenDates x last
+    → IsMonthDays in_full (piece.Dates x last ∷ later) (date_before x (range_to last rest)) later rest
+a_date x last later rest is ends =
+    IsMonthDays.dates x (range_to last rest) refl is
+    (IsDates.one x last (piece.Dates x last ∷ later) (range_to last rest) refl refl ends)
+
 dates_by : (x : Dates) (b : Bool) → ((x.first.month == x.last.month) && (x.first.day == x.last.day)) ≡ b
     → Item (IsMonthDays in_full) (cond b (month_day_text x.first) (month_day_text x.first ++ codes "-" ++ month_day_text x.last))
     (only_month_days (selector.Dates x ∷ [])) false
@@ -113,7 +123,7 @@ dates_by x true e =
       x = piece.Dates (written x.first) None;
       us = token.Month x.first.month ∷ token.Number x.first.day (length (decimal x.first.day)) ∷ [];
       spelt = month_day_spelt x.first;
-      one = λ later rest. IsMonthDays.date (written x.first) refl refl (is_written x.first);
+      one = λ later rest. a_date (written x.first) None later rest (is_written x.first) (record {});
       says = says_dates (written x.first) None (selector.Dates x ∷ [])
           ((refl, refl), (sym (eqb-true x.first.month x.last.month same.0), sym (eqb-true x.first.day x.last.day same.1)));
       front = λ rest. refl;
@@ -126,7 +136,7 @@ dates_by x false e = record {
       (token.Month x.first.month ∷ token.Number x.first.day (length (decimal x.first.day)) ∷ [])
       (token.Month x.last.month ∷ token.Number x.last.day (length (decimal x.last.day)) ∷ [])
       (month_day_spelt x.first) (month_day_spelt x.last);
-  one = λ later rest. IsMonthDays.dates (written x.first) (last_date.Date (written x.last)) refl refl (is_written x.first)
+  one = λ later rest. a_date (written x.first) (Some (last_date.Date (written x.last))) later rest (is_written x.first)
       (is_written x.last).1;
   says = says_dates (written x.first) (Some (last_date.Date (written x.last))) (selector.Dates x ∷ [])
       ((refl, refl), (refl, refl));
@@ -178,7 +188,7 @@ dated_item follows x =
       us = dated_kinds x.first ++ token.Dash ∷ [] ++ dated_kinds x.last;
       spelt = dashed (year_date_text x.first) (year_date_text x.last) (dated_kinds x.first) (dated_kinds x.last)
           (year_date_spelt x.first) (year_date_spelt x.last);
-      one = λ later rest. IsMonthDays.dates (dated x.first) (last_date.Date (dated x.last)) refl refl (is_dated x.first)
+      one = λ later rest. a_date (dated x.first) (Some (last_date.Date (dated x.last))) later rest (is_dated x.first)
           (last.0, (last.1, x.in_range));
       says = says_dates (dated x.first) (Some (last_date.Date (dated x.last))) (selector.Dated x ∷ [])
           ((refl, refl, refl), (refl, refl, refl));

@@ -9,19 +9,27 @@ use Rattle.gtd_hours_grammar.specs.declared.fault.FaultKind.TheVariants as fault
 use Rattle.gtd_hours_grammar.specs.declared.fault.HoursFault.{HoursFault}
 use Rattle.gtd_hours_grammar.specs.Terms.{Token, TokenKind, Piece, Stage}
 use Rattle.gtd_hours_grammar.specs.declared.stage.Stage.TheVariants as stage
-use Rattle.gtd_hours_grammar.specs.Grammar.{AreHours, CanGoOn, Follow, IsMonthDays, Listed, More, in_full, so_far}
+use Rattle.gtd_hours_grammar.specs.Grammar.{AreHours, CanGoOn, Follow, IsDates, IsMonthDays, Listed, More, in_full}
+use Rattle.gtd_hours_grammar.specs.Grammar.{so_far}
+use Rattle.gtd_hours_grammar.specs.Pieces.{day_behind}
+use Rattle.gtd_hours_grammar.specs.declared.piece.WrittenDate.{WrittenDate}
 use Rattle.gtd_hours_grammar.specs.Faults.{IsFirstFault, IsHoursText, IsMisfit, IsMisfitKind, kinds}
 
 -- ---- what is a text in full can go on
+
+dates : (later : List Piece) (rest : List TokenKind) (x : WrittenDate) (p : List Piece) (ts : List TokenKind)
+    → IsDates in_full later rest x p ts → IsDates so_far later rest x p ts
+dates later rest x p ts (IsDates.one y last q us a b h) = IsDates.one x last p ts a b h
+dates later rest x p ts (IsDates.also y last n o q ss us a b h k more) =
+    IsDates.also x last n p q ts us a b h k (dates later rest (day_behind x last n) q us more)
+dates later rest x p ts (IsDates.cut y year m q us e a b c f g h) = absurd cc
+dates later rest x p ts (IsDates.any_day y last q us e a b c f g h) = absurd cc
 
 month_days : (p : List Piece) (ts : List TokenKind) (later : List Piece) (rest : List TokenKind)
     → IsMonthDays in_full p ts later rest → IsMonthDays so_far p ts later rest
 month_days p ts later rest (IsMonthDays.month m a b h) = IsMonthDays.month m a b h
 month_days p ts later rest (IsMonthDays.months m n a b h k) = IsMonthDays.months m n a b h k
-month_days p ts later rest (IsMonthDays.date x a b h) = IsMonthDays.date x a b h
-month_days p ts later rest (IsMonthDays.dates x l a b h k) = IsMonthDays.dates x l a b h k
-month_days p ts later rest (IsMonthDays.cut x y m e a b c d f g h) = absurd cc
-month_days p ts later rest (IsMonthDays.any_day x l e a b c d f g h) = absurd cc
+month_days p ts later rest (IsMonthDays.dates x us a h k) = IsMonthDays.dates x us a h (dates later rest x p us k)
 
 more_days : (later : List Piece) (rest : List TokenKind) (p : List Piece) (ts : List TokenKind)
     → More (IsMonthDays in_full) later rest p ts → More (IsMonthDays so_far) later rest p ts

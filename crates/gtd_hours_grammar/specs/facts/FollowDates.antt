@@ -1,6 +1,7 @@
 -- The run over a list of months and dates.
 use Rattle.std.proofs.Common.{◌≡◌, ℕ, ◌≤◌, Bool, true, false, List, [], ◌∷◌, Option, Some, None, refl, sym, ap, subst, ◌∙◌, arith}
-use Rattle.std.specs.Prelude.{◌==◌, ◌&&◌, if◌then◌else◌, IfSome, is_some}
+use Rattle.std.specs.Prelude.{◌==◌, ◌&&◌, if◌then◌else◌, IfSome, is_some, option_map}
+use Rattle.std.proofs.lemmas.Int.{ints}
 use Rattle.std.proofs.lemmas.Bool.{eq-eqb, ne_eqb}
 use Rattle.gtd_hours.specs.Ranges.{IsMonth}
 use Rattle.gtd_hours.specs.declared.hours.Link.TheVariants as link
@@ -8,24 +9,26 @@ use Rattle.gtd_hours_tokens.specs.declared.token.TokenKind.{TokenKind}
 use Rattle.gtd_hours_tokens.specs.declared.token.TokenKind.TheVariants as token
 use Rattle.gtd_hours_parts.specs.declared.digits.Digits.{Digits}
 use Rattle.gtd_hours_parts.specs.Numbers.{IsYearNumber}
-use Rattle.gtd_hours_parts.specs.Dates.{IsWrittenDay}
+use Rattle.gtd_hours_parts.specs.Dates.{IsDayOfYear, IsWrittenDay, last_year}
 use Rattle.gtd_hours_grammar.specs.declared.piece.WrittenDate.{WrittenDate}
 use Rattle.gtd_hours_grammar.specs.declared.piece.LastDate.{LastDate}
 use Rattle.gtd_hours_grammar.specs.declared.piece.LastDate.TheVariants as last_date
-use Rattle.gtd_hours_grammar.specs.declared.piece.Piece.{Piece}
+use Rattle.gtd_hours_grammar.specs.Terms.{Piece, Place}
 use Rattle.gtd_hours_grammar.specs.declared.piece.Piece.TheVariants as piece
 use Rattle.gtd_hours_grammar.specs.declared.stage.Stage.TheVariants as stage
 use Rattle.gtd_hours_grammar.specs.declared.place.Place.TheVariants as places
-use Rattle.gtd_hours_grammar.specs.Grammar.{Demand, may_break_off, IsMonthDays, Listed, number}
-use Rattle.gtd_hours_grammar.specs.Grammar.{date_before, dated, last_before, unfinished}
-use Rattle.gtd_hours_grammar.specs.Pieces.{EndsRange, IsDay, IsLastDay, IsWrittenDate}
+use Rattle.gtd_hours_grammar.specs.Grammar.{Demand, may_break_off, IsDates, IsMonthDays, Listed, number}
+use Rattle.gtd_hours_grammar.specs.Grammar.{date_before, dated, last_before, range_to, unfinished}
+use Rattle.gtd_hours_grammar.specs.Pieces.{AreWrittenDates, EndsRange, IsDay, IsLastDay, IsWrittenDate, day_behind, end_month}
+use Rattle.gtd_hours_grammar.specs.Pieces.{end_year, year_at_end, year_or_next}
 use Rattle.gtd_hours_grammar.specs.Sound.{YearOrDay, is_last_year}
-use Rattle.gtd_hours_grammar.specs.Moves.{complete, give, take}
+use Rattle.gtd_hours_grammar.specs.Moves.{complete, dates_end, give, take}
 use Rattle.gtd_hours_grammar.specs.Runs.{Runs}
 use Rattle.gtd_hours_grammar.specs.Runs.Runs.{cut, any_day}
 use Rattle.gtd_hours_grammar.specs.facts.RunSteps.{fit_taken, fit_completed, sign_taken, no_token, held, not_fit}
 use Rattle.gtd_hours_grammar.specs.facts.FollowBits.{begin_bit, next_bit, no_bit}
 use Rattle.gtd_hours_grammar.specs.facts.FollowSteps.{after_nothing, comma_runs, given_by, more_runs, renamed}
+use Rattle.gtd_hours_grammar.specs.facts.FollowDays.{after_date_runs, listed_day_runs}
 use Rattle.gtd_hours_grammar.specs.facts.FollowYears.{goes_on_if}
 
 -- ---- months and dates that are given
@@ -51,14 +54,28 @@ month_given demand m q (t ∷ ts) go =
     (next_bit (places.Month m) (Some t) (λ v d e. absurd cc) begin_bit) (λ fits. refl) go
 
 date_given : (demand : Demand) (x : WrittenDate) (q : List Piece) (ts : List TokenKind)
-    → Runs demand (places.After stage.MonthDays) q ts → Runs demand (places.Date x) (piece.Dates x None ∷ q) ts
+    → Runs demand (places.AfterDate x.year x.month) q ts → Runs demand (places.Date x) (piece.Dates x None ∷ q) ts
 date_given demand x q (token.Dash ∷ ts) go =
-    absurd (no_token demand (places.After stage.MonthDays) q token.Dash ts refl (λ fits. refl) go)
+    absurd (no_token demand (places.AfterDate x.year x.month) q token.Dash ts refl (λ fits. refl) go)
 date_given demand x q [] go =
-    given_by demand (places.Date x) (places.After stage.MonthDays) (piece.Dates x None) q [] (no_bit ⊥ (λ x. x)) (λ fits. refl) go
+    given_by demand (places.Date x) (places.AfterDate x.year x.month) (piece.Dates x None) q [] (no_bit ⊥ (λ x. x))
+    (λ fits. refl) go
 date_given demand x q (t ∷ ts) go =
-    given_by demand (places.Date x) (places.After stage.MonthDays) (piece.Dates x None) q (t ∷ ts)
+    given_by demand (places.Date x) (places.AfterDate x.year x.month) (piece.Dates x None) q (t ∷ ts)
     (next_bit (places.Date x) (Some t) (λ v d e. no_bit ⊥ (λ x. x)) begin_bit) (λ fits. refl) go
+
+day_given : (demand : Demand) (x : WrittenDate) (q : List Piece) (ts : List TokenKind)
+    → Runs demand (places.AfterDate x.year x.month) q ts → Runs demand (places.ListedDay x) (piece.Dates x None ∷ q) ts
+day_given demand x q (token.Dash ∷ ts) go =
+    absurd (no_token demand (places.AfterDate x.year x.month) q token.Dash ts refl (λ fits. refl) go)
+day_given demand x q (token.Slash ∷ ts) go =
+    absurd (no_token demand (places.AfterDate x.year x.month) q token.Slash ts refl (λ fits. refl) go)
+day_given demand x q [] go =
+    given_by demand (places.ListedDay x) (places.AfterDate x.year x.month) (piece.Dates x None) q [] (no_bit ⊥ (λ x. x))
+    (λ fits. refl) go
+day_given demand x q (t ∷ ts) go =
+    given_by demand (places.ListedDay x) (places.AfterDate x.year x.month) (piece.Dates x None) q (t ∷ ts)
+    (next_bit (places.ListedDay x) (Some t) (λ v d e. no_bit ⊥ (λ x. x)) begin_bit) (λ fits. refl) go
 
 -- ---- the last date of a range
 
@@ -83,17 +100,19 @@ day_no_year x last is =
     let short = short_day x.year x.month x.day last is in
     not_fit (is_some x.year) (last.count == 4) (ne_eqb last.count 4 (λ e. omega (arith, short, e)))
 
+-- behind a range of dates
+abbrev at_end : WrittenDate → LastDate → Place
+at_end x last = places.AfterDate (end_year x (Some last)) (end_month x (Some last))
+
 -- the last day
 last_day_runs : (demand : Demand) (x : WrittenDate) (last : Digits) (q : List Piece) (ts : List TokenKind)
-    → EndsRange x (last_date.Day last) → Runs demand (places.After stage.MonthDays) q ts
+    → EndsRange x (last_date.Day last) → Runs demand (at_end x (last_date.Day last)) q ts
     → Runs demand (places.DateDash x) (piece.Dates x (Some (last_date.Day last)) ∷ q) (number last ∷ ts)
 last_day_runs demand x last q ts is go =
     let day = day_no_year x last is in
-    fit_completed demand (places.DateDash x) (places.After stage.MonthDays) (piece.Dates x (Some (last_date.Day last))) q
-    (number last)
-    ts (subst (λ (b : Bool). YearOrDay b x last) (sym day) is)
-    (ap (λ (b : Bool). if b then take (places.DateDashYear x last)
-    else complete (piece.Dates x (Some (last_date.Day last))) (places.After stage.MonthDays)) day) go
+    fit_completed demand (places.DateDash x) (at_end x (last_date.Day last)) (piece.Dates x (Some (last_date.Day last))) q
+    (number last) ts (subst (λ (b : Bool). YearOrDay b x last) (sym day) is)
+    (ap (λ (b : Bool). if b then take (places.DateDashYear x last) else dates_end x (last_date.Day last)) day) go
 
 -- the year of a last date
 last_year_runs : (demand : Demand) (x : WrittenDate) (n : Digits) (p : List Piece) (ts : List TokenKind) → is_some x.year ≡ true
@@ -103,8 +122,7 @@ last_year_runs demand x n p ts some is go =
     ap (λ (b : Bool). b && n.count == 4) some ∙ eq-eqb n.count 4 is.0 in
     fit_taken demand (places.DateDash x) (places.DateDashYear x n) p (number n) ts
     (subst (λ (b : Bool). YearOrDay b x n) (sym year) is)
-    (ap (λ (b : Bool). if b then take (places.DateDashYear x n)
-    else complete (piece.Dates x (Some (last_date.Day n))) (places.After stage.MonthDays)) year) go
+    (ap (λ (b : Bool). if b then take (places.DateDashYear x n) else dates_end x (last_date.Day n)) year) go
 
 -- the year, if there is one, and the month of a last date
 last_month_runs : (demand : Demand) (x : WrittenDate) (year : Option Digits) (m : ℕ) (p : List Piece) (ts : List TokenKind)
@@ -131,14 +149,14 @@ year_of_last (Some y) m day None l last is = tt
 year_of_last (Some y) m day (Some year) l last is = is.0
 
 last_runs : (demand : Demand) (x : WrittenDate) (last : LastDate) (q : List Piece) (ts : List TokenKind) → EndsRange x last
-    → Runs demand (places.After stage.MonthDays) q ts
+    → Runs demand (at_end x last) q ts
     → Runs demand (places.DateDash x) (piece.Dates x (Some last) ∷ q) (last_before last ts)
 last_runs demand x (last_date.Day last) q ts is go = last_day_runs demand x last q ts is go
 last_runs demand x (last_date.Date l) q ts is go =
     last_month_runs demand x l.year l.month (piece.Dates x (Some (last_date.Date l)) ∷ q) (number l.day ∷ ts)
     (years_agree x.year x.month x.day l.year l.month l.day is) (year_of_last x.year x.month x.day l.year l.month l.day is)
     (month_of_last x.year x.month x.day l.year l.month l.day is)
-    (fit_completed demand (places.DateDashMonth x l.year l.month) (places.After stage.MonthDays)
+    (fit_completed demand (places.DateDashMonth x l.year l.month) (at_end x (last_date.Date l))
     (piece.Dates x (Some (last_date.Date l))) q (number l.day) ts is refl go)
 
 -- a last date that breaks off
@@ -176,17 +194,108 @@ date_begins : (demand : Demand) (x : WrittenDate) (p : List Piece) (ts us : List
     → IsWrittenDate x → Runs demand (places.Date x) p us → DaysBegin demand p ts
 date_begins demand x p ts us e is go = date_by demand x.year x.month x.day p ts us e is.0 is.1 go
 
--- a date, and a dash
-dash_begins : (demand : Demand) (x : WrittenDate) (p : List Piece) (ts us : List TokenKind) → ts ≡ date_before x (token.Dash ∷ us)
-    → IsWrittenDate x → Runs demand (places.DateDash x) p us → DaysBegin demand p ts
-dash_begins demand x p ts us e is go =
-    date_begins demand x p ts (token.Dash ∷ us) e is
-    (sign_taken demand (places.Date x) (places.DateDash x) p token.Dash us (λ x. x) refl go)
-
 -- behind what ends the text there is no piece
 none_behind : (demand : Demand) (p q : List Piece) (us : List TokenKind) → us ≡ [] → p ≡ q
     → Runs demand (places.After stage.MonthDays) q us → p ≡ []
 none_behind demand p q us e f go = f ∙ after_nothing demand stage.MonthDays q us e go
+
+-- ---- what follows a date
+
+-- in which year and month it ends
+year_of_day : (z m : ℕ) (day : Digits) → IsDayOfYear z m day → IsYearNumber (record { value = z; count = 4 })
+year_of_day z m day is = (refl, omega (arith, ints, is.1.0.0), omega (arith, ints, is.1.0.1))
+
+year_at_end_is : (year : Digits) (x : WrittenDate) (last : LastDate) → x.year ≡ Some year → EndsRange x last
+    → IsYearNumber (record { value = year_at_end year.value x last; count = 4 })
+year_at_end_is year x (last_date.Day n) e is =
+    let ends = subst (λ (y : Option Digits). IsLastDay y x.month x.day None x.month n) e is in
+    year_of_day (last_year year.value x.month x.day.value x.month n.value) x.month n ends.0
+year_at_end_is year x (last_date.Date l) e is =
+    of_last year x l l.year refl (subst (λ (y : Option Digits). IsLastDay y x.month x.day l.year l.month l.day) e is)
+  where
+    of_last : (year : Digits) (x l : WrittenDate) (written : Option Digits) → l.year ≡ written
+        → IsLastDay (Some year) x.month x.day l.year l.month l.day
+        → IsYearNumber (record { value = year_at_end year.value x (last_date.Date l); count = 4 })
+    of_last year x l None e is =
+        let ends = subst (λ (y : Option Digits). IsLastDay (Some year) x.month x.day y l.month l.day) e is in
+        subst (λ (y : Option Digits). IsYearNumber (record { value = year_or_next year.value x y l.month l.day; count = 4 }))
+        (sym e) (year_of_day (last_year year.value x.month x.day.value l.month l.day.value) l.month l.day ends.0)
+    of_last year x l (Some z) e is =
+        let ends = subst (λ (y : Option Digits). IsLastDay (Some year) x.month x.day y l.month l.day) e is in
+        subst (λ (y : Option Digits). IsYearNumber (record { value = year_or_next year.value x y l.month l.day; count = 4 }))
+        (sym e) (refl, ends.0.1, ends.0.2)
+
+pub end_year_is : (x : WrittenDate) (last : Option LastDate) → IsWrittenDate x → AreWrittenDates x last
+    → IfSome (end_year x last) IsYearNumber
+end_year_is x None is ends = is.0
+end_year_is x (Some last) is ends = by_year x.year refl
+  where
+    by_year : (year : Option Digits) → x.year ≡ year → IfSome (end_year x (Some last)) IsYearNumber
+    by_year None e =
+        subst (λ (y : Option Digits). IfSome
+        (option_map (λ (n : Digits). record { value = year_at_end n.value x last; count = 4 }) y) IsYearNumber) (sym e) tt
+    by_year (Some n) e =
+        subst (λ (y : Option Digits). IfSome
+        (option_map (λ (n : Digits). record { value = year_at_end n.value x last; count = 4 }) y) IsYearNumber) (sym e)
+        (year_at_end_is n x last e ends)
+
+month_in : (year : Option Digits) (m : ℕ) (n : Digits) → IsDay year m n → IsMonth m
+month_in None m n h = h.1.0
+month_in (Some y) m n h = h.1.1.0
+
+pub end_month_is : (x : WrittenDate) (last : Option LastDate) → IsWrittenDate x → AreWrittenDates x last
+    → IsMonth (end_month x last)
+end_month_is x None is ends = month_in x.year x.month x.day is.1
+end_month_is x (Some (last_date.Day n)) is ends = month_in x.year x.month x.day is.1
+end_month_is x (Some (last_date.Date l)) is ends = month_of_last x.year x.month x.day l.year l.month l.day ends
+
+-- a day has two digits at most
+short : (year : Option Digits) (m : ℕ) (n : Digits) → IsDay year m n → n.count ≤ 2
+short None m n h = h.0.1
+short (Some y) m n h = h.0.1
+
+-- runs from behind a date, and from behind a day of a list
+record DateRuns (demand : Demand) (x : WrittenDate) (p : List Piece) (ts : List TokenKind) : Type 0 where
+  date : Runs demand (places.Date x) p ts
+  listed : Runs demand (places.ListedDay x) p ts
+
+dash_runs : (demand : Demand) (x : WrittenDate) (p q : List Piece) (ts us : List TokenKind) → ts ≡ token.Dash ∷ us → p ≡ q
+    → Runs demand (places.DateDash x) q us → DateRuns demand x p ts
+dash_runs demand x p q ts us e f go = record {
+  date = renamed demand (places.Date x) p q ts (token.Dash ∷ us) f e
+      (sign_taken demand (places.Date x) (places.DateDash x) q token.Dash us (λ x. x) refl go);
+  listed = renamed demand (places.ListedDay x) p q ts (token.Dash ∷ us) f e
+      (sign_taken demand (places.ListedDay x) (places.DateDash x) q token.Dash us (λ x. x) refl go);
+}
+
+range_runs : (demand : Demand) (x : WrittenDate) (last : Option LastDate) (p q : List Piece) (ts us : List TokenKind)
+    → ts ≡ range_to last us → p ≡ piece.Dates x last ∷ q → AreWrittenDates x last
+    → Runs demand (places.AfterDate (end_year x last) (end_month x last)) q us → DateRuns demand x p ts
+range_runs demand x None p q ts us e f ends go = record {
+  date = renamed demand (places.Date x) p (piece.Dates x None ∷ q) ts us f e (date_given demand x q us go);
+  listed = renamed demand (places.ListedDay x) p (piece.Dates x None ∷ q) ts us f e (day_given demand x q us go);
+}
+range_runs demand x (Some last) p q ts us e f ends go =
+    dash_runs demand x p (piece.Dates x (Some last) ∷ q) ts (last_before last us) e f (last_runs demand x last q us ends go)
+
+dates_run : (demand : Demand) (q : List Piece) (us : List TokenKind) (x : WrittenDate) (p : List Piece) (ts : List TokenKind)
+    → IsWrittenDate x → IsDates demand q us x p ts → Runs demand (places.After stage.MonthDays) q us → DateRuns demand x p ts
+dates_run demand q us x p ts is (IsDates.one y last o vs e f ends) go =
+    range_runs demand x last p q ts us e f ends
+    (after_date_runs demand (end_year x last) (end_month x last) q us (end_year_is x last is ends)
+    (end_month_is x last is ends) go)
+dates_run demand q us x p ts is (IsDates.also y last n o r vs ws e f ends day more) go =
+    let next = dates_run demand q us (day_behind x last n) r ws (end_year_is x last is ends, day) more go in
+    range_runs demand x last p r ts (token.Comma ∷ number n ∷ ws) e f ends
+    (listed_day_runs demand (end_year x last) (end_month x last) n r ws (short (end_year x last) (end_month x last) n day) day
+    next.listed)
+dates_run demand q us x p ts is (IsDates.cut y year m o vs may some z l e f g) go =
+    dash_runs demand x p [] ts (unfinished year m) e (none_behind demand p q us f g go)
+    (cut_runs demand x year m may some z l)
+dates_run demand q us x p ts is (IsDates.any_day y l o vs by some z month e f g) go =
+    dash_runs demand x p [] ts (date_before l []) e (none_behind demand p q us f g go)
+    (last_month_runs demand x l.year l.month [] (number l.day ∷ []) (λ e. some) z month
+    (any_day (places.DateDashMonth x l.year l.month) [] (number l.day ∷ []) l.day.value l.day.count by refl refl refl))
 
 pub days_begin : (demand : Demand) (p q : List Piece) (ts us : List TokenKind) → IsMonthDays demand p ts q us
     → Runs demand (places.After stage.MonthDays) q us → DaysBegin demand p ts
@@ -199,22 +308,8 @@ days_begin demand p q ts us (IsMonthDays.months a b e f is also) go =
     (fit_completed demand (places.MonthDash a) (places.After stage.MonthDays) (piece.Months a (Some b)) q (token.Month b) us also
     refl
     go)))
-days_begin demand p q ts us (IsMonthDays.date x e f is) go =
-    date_begins demand x p ts us e is
-    (renamed demand (places.Date x) p (piece.Dates x None ∷ q) us us f refl (date_given demand x q us go))
-days_begin demand p q ts us (IsMonthDays.dates x last e f is also) go =
-    dash_begins demand x p ts (last_before last us) e is
-    (renamed demand (places.DateDash x) p (piece.Dates x (Some last) ∷ q) (last_before last us) (last_before last us) f refl
-    (last_runs demand x last q us also go))
-days_begin demand p q ts us (IsMonthDays.cut x year m may some is y l e f g) go =
-    dash_begins demand x p ts (unfinished year m) e is
-    (renamed demand (places.DateDash x) p [] (unfinished year m) (unfinished year m) (none_behind demand p q us f g go) refl
-    (cut_runs demand x year m may some y l))
-days_begin demand p q ts us (IsMonthDays.any_day x l by some is y month e f g) go =
-    dash_begins demand x p ts (date_before l []) e is
-    (renamed demand (places.DateDash x) p [] (date_before l []) (date_before l []) (none_behind demand p q us f g go) refl
-    (last_month_runs demand x l.year l.month [] (number l.day ∷ []) (λ e. some) y month
-    (any_day (places.DateDashMonth x l.year l.month) [] (number l.day ∷ []) l.day.value l.day.count by refl refl refl)))
+days_begin demand p q ts us (IsMonthDays.dates x vs e is dates) go =
+    date_begins demand x p ts vs e is (dates_run demand q us x p vs is dates go).date
 
 -- ---- lists
 

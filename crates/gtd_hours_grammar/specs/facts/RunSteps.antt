@@ -4,8 +4,9 @@ use Rattle.std.specs.Prelude.{◌&&◌}
 use Rattle.gtd_hours_tokens.specs.declared.token.TokenKind.TheVariants as token
 use Rattle.gtd_hours_grammar.specs.Terms.{TokenKind, Piece, Place, Move}
 use Rattle.gtd_hours_grammar.specs.declared.piece.Piece.TheVariants as piece
+use Rattle.gtd_hours_grammar.specs.declared.piece.LastDate.{LastDate}
 use Rattle.gtd_hours_grammar.specs.declared.piece.LastDate.TheVariants as last_date
-use Rattle.gtd_hours_grammar.specs.declared.stage.Stage.TheVariants as stage
+use Rattle.gtd_hours_grammar.specs.Pieces.{end_month, end_year}
 use Rattle.gtd_hours_grammar.specs.declared.place.Place.TheVariants as places
 use Rattle.gtd_hours_grammar.specs.Grammar.{Demand, in_full, so_far}
 use Rattle.gtd_hours_grammar.specs.Sound.{Fits}
@@ -32,6 +33,7 @@ denied A none = (λ e. absurd cc, λ a. absurd (none a))
 -- at the end of a text no move leads on from behind a part of a rule
 pub after_end : (at : Place) (fits : Bool) → is_after at ≡ true → next_move at None fits ≡ None
 after_end (places.After s) fits e = refl
+after_end (places.AfterDate y m) fits e = refl
 after_end at fits e = absurd cc
 
 -- nor from where it may break off
@@ -57,11 +59,12 @@ no_move at ts fits move e none m =
 day_move : (demand : Demand) (at : Place) (p : List Piece) (v d : ℕ) (fits : Bool) (move : Move) → awaits_day at ≡ true
     → next_move at (Some (token.Number v d)) fits ≡ Some move → Goes demand move p (token.Number v d ∷ [])
 day_move demand (places.DateDashMonth x y m) p v d true move is e =
-    let last : Piece = piece.Dates x (Some (last_date.Date (record { year = y; month = m; day = written v d }))) in
-    let day : Move = record { to = places.After stage.MonthDays; piece = Some last; takes = true } in
+    let last : LastDate = last_date.Date (record { year = y; month = m; day = written v d }) in
+    let to : Place = places.AfterDate (end_year x (Some last)) (end_month x (Some last)) in
+    let day : Move = record { to = to; piece = Some (piece.Dates x (Some last)); takes = true } in
     let same : day ≡ move = cc in
     subst (λ (w : Move). Goes demand w p (token.Number v d ∷ [])) same
-    (record { q = []; runs = ends (places.After stage.MonthDays) [] [] refl refl refl })
+    (record { q = []; runs = ends to [] [] refl refl refl })
 day_move demand (places.DateDashMonth x y m) p v d false move is e = absurd cc
 day_move demand at p v d fits move is e = absurd cc
 

@@ -5,8 +5,10 @@ ghost use Rattle.gtd_hours_grammar.specs.declared.place.Place.TheVariants as pla
 ghost use Rattle.gtd_hours_grammar.specs.Moves.{date, date_dash, date_dash_month, date_dash_year, date_year, date_year_month};
 ghost use Rattle.gtd_hours_grammar.specs.Moves.{month, month_dash, year_or_day};
 ghost use Rattle.gtd_hours_grammar.specs.Runs.{IsGood};
+ghost use Rattle.gtd_hours_grammar.specs.Pieces.{IsWrittenDate};
 ghost use Rattle.gtd_hours_grammar.specs.Sound.{Fits, IsPlace};
 
+use crate::moves::day_lists::dates_end;
 use crate::moves::moving::{complete, give, take, written};
 use crate::piece::{LastDate, Piece, WrittenDate};
 use crate::place::{Move, Place};
@@ -104,7 +106,10 @@ pub fn date(first: WrittenDate, next: Option<TokenKind>) -> Option<Move>
         Some(TokenKind::Dash) => take(Place::DateDash(first)),
         _ => give(
             Piece::Dates { first, last: None },
-            Place::After(Stage::MonthDays),
+            Place::AfterDate {
+                year: first.year,
+                month: first.month,
+            },
         ),
     }
 }
@@ -131,18 +136,13 @@ pub fn date_dash(first: WrittenDate, next: Option<TokenKind>, fits: bool) -> Opt
 
 // A year, or the day that ends the range.
 fn year_or_day(first: WrittenDate, n: Digits) -> Option<Move>
+    requires { IsWrittenDate first }
     ensures { result ≡ year_or_day first n }
 {
     if first.year.is_some() && n.count == 4 {
         take(Place::DateDashYear { first, year: n })
     } else {
-        complete(
-            Piece::Dates {
-                first,
-                last: Some(LastDate::Day(n)),
-            },
-            Place::After(Stage::MonthDays),
-        )
+        dates_end(first, LastDate::Day(n))
     }
 }
 
@@ -169,7 +169,6 @@ pub fn date_dash_year(
 }
 
 /// `Dec 24-Jan`
-#[tactic(auto, using(crate::proofs::GoodItems::date_dash_month_good))]
 pub fn date_dash_month(
     first: WrittenDate,
     year: Option<Digits>,
@@ -189,13 +188,7 @@ pub fn date_dash_month(
                 month,
                 day: written(value, digits),
             };
-            complete(
-                Piece::Dates {
-                    first,
-                    last: Some(LastDate::Date(last)),
-                },
-                Place::After(Stage::MonthDays),
-            )
+            dates_end(first, LastDate::Date(last))
         }
         _ => None,
     }

@@ -1,5 +1,11 @@
-use Rattle.gtd_hours_grammar.proofs.GoodItems.{month_good}
+use Rattle.gtd_hours_grammar.proofs.GoodItems.{month_date_good, month_good}
+use Rattle.std.proofs.Common.{rules}
 use Rattle.gtd_hours_grammar.proofs.moves.month_days.month.Goals as goal
+
+pub returns-then-fits-clause-good : goal.returns-then-fits-clause-good
+returns-then-fits-clause-good c =
+    rw (c.take.ensures, c.written.ensures) (month_date_good c.args.m c.in-Some-Number.value c.in-Some-Number.digits
+    c.args.next c.args.fits (search rules) c.if-fits.true c.requires.fit)
 
 pub returns-in_default-clause-good : goal.returns-in_default-clause-good
 returns-in_default-clause-good c = rw (c.give.ensures) (month_good c.args.m c.args.next c.requires.sound)
