@@ -1,4 +1,5 @@
 pub mod ColumnFacts
+pub mod CrowdFacts
 pub mod LabelFacts
 pub mod Made
 pub mod PathFacts

@@ -7,12 +7,17 @@ use Rattle.gtd_report.specs.Putting.{text_of}
 use Rattle.gtd_report.specs.Run.{PutsWhole, TookFirst}
 use Rattle.gtd_report.specs.declared.fault.RunFault.{RunFault}
 use Rattle.gtd_report.specs.declared.fault.RunFault.TheVariants as fault
+use Rattle.gtd_picture.specs.Crowded.{IsSeen}
 use Rattle.gtd_picture.specs.Picture.{IsPicture}
 
 -- The picture of the seconds of a year that the domain contains.
 abbrev pub IsDomainPicture : Domain → List ℕ → ℕ → List (List ℕ) → Type 0
 IsDomainPicture domain title year lines =
     IsPicture (InDomain domain) title (codes "in the domain") (codes "not in the domain") year lines
+
+-- The same, or no line if it is crowded.
+abbrev pub IsDomainSeen : Domain → List ℕ → ℕ → List (List ℕ) → Type 0
+IsDomainSeen domain title year = IsSeen (InDomain domain) year (IsDomainPicture domain title year)
 
 -- What the output took of a text of this kind, by the answer.
 abbrev pub HasPut : (List (List ℕ) → Type 0) → Option (List ℕ) → Option (List ℕ) → Result ℕ RunFault → Type 0

@@ -1,3 +1,4 @@
+pub mod Crowded
 pub mod Domain
 pub mod Open
 pub mod Paths

@@ -1,12 +1,15 @@
 //! The picture of a year of an element of the record file that an input brings, put to an output.
 
-ghost use Rattle.std.specs.Prelude.{◌≡◌, ◌+◌, ◌<◌, ◌↔◌, Any, Some, OnOk, IfOk, IsErrOf, IsTrue, List, pos};
+ghost use Rattle.std.specs.Prelude.{◌≡◌, ◌+◌, ◌<◌, ◌↔◌, ◌⊎◌, Any, Some, OnOk, IfOk, IsErrOf, IsTrue, List, pos};
 ghost use Rattle.gtd_calendar.specs.Calendar.{year_length};
 ghost use Rattle.gtd_records.specs.Closing.{Restriction};
 ghost use Rattle.gtd_report.specs.Run.{AcceptedFilesArePut, HasRun, IsTableYear, IsVehicleType, RefusedFilesPutNothing};
 ghost use Rattle.gtd_report.specs.Run.{UnacceptedFilesPutNothing, failures_after_read, failures_after_write};
-ghost use Rattle.gtd_picture.specs.Open.{IsOpenPicture};
+ghost use Rattle.gtd_picture.specs.Crowded.{IsCrowded};
+ghost use Rattle.gtd_picture.specs.Open.{IsOpenSeen};
+ghost use Rattle.gtd_records.specs.Closing.{IsOpen};
 
+use crate::crowd::is_open_crowded;
 use crate::picture::{Caption, put_picture};
 use gtd_calendar::days_of_year;
 use gtd_devices::{Input, Output};
@@ -34,7 +37,7 @@ impl Report for YearPicture<'_> {
         record { vehicle = Some report.vehicle; year = Some report.year; element = Some report.element } };
 
     ghost is_text = { λ report found lines.
-        IsOpenPicture found report.element report.direction report.vehicle report.title.now report.year lines };
+        IsOpenSeen found report.element report.direction report.vehicle report.title.now report.year lines };
 
     fn subject(&self) -> Subject {
         Subject {
@@ -50,6 +53,9 @@ impl Report for YearPicture<'_> {
         printer: &mut Printer,
         found: &Records,
     ) -> Result<(), Stop> {
+        if is_open_crowded(printer.alloc, found, self)? {
+            return finish(output);
+        }
         let open = open_seconds(
             printer.alloc,
             found,
@@ -71,7 +77,7 @@ impl Report for YearPicture<'_> {
 
 /// Puts the picture of an element of the record file that an input brings: at which seconds of the days of a year from
 /// 1901 to 2199 the element is open in the direction for a vehicle type from 1 to 99. Answers the number of its lines, two
-/// more than the year has days.
+/// more than the year has days. If it is open in more than 20,000 stretches, puts nothing, and answers 0.
 ///
 /// In order: `VehicleRange`; `YearRange`; the first fault of reading the file (`Records`); `NoElement` if no record
 /// names the element; then `WriteFault` or `NoMemory`, whichever happens first. Nothing is put until the whole file has
@@ -88,7 +94,7 @@ pub fn run_picture<I: Input, O: Output>(
     // the answer is the number of its lines.
     ensures accepted { IsVehicleType picture.now.vehicle → IsTableYear picture.now.year → AcceptedFilesArePut
         (λ found. Any (λ (r : Restriction). r.element ≡ picture.now.element) found)
-        (λ found lines. IsOpenPicture found picture.now.element picture.now.direction picture.now.vehicle
+        (λ found lines. IsOpenSeen found picture.now.element picture.now.direction picture.now.vehicle
         picture.now.title.now picture.now.year lines)
         (I.to_come input.old) (O.taken output.old) (O.taken output.new) result }
     // Refused files print nothing: if nothing hinders it, the answer is the first fault of the file.
@@ -101,10 +107,12 @@ pub fn run_picture<I: Input, O: Output>(
     // What each answer means: after a failure or a refusal of memory, the first bytes of the same picture.
     ensures stands { HasRun
         (λ found. Any (λ (r : Restriction). r.element ≡ picture.now.element) found)
-        (λ found lines. IsOpenPicture found picture.now.element picture.now.direction picture.now.vehicle
+        (λ found lines. IsOpenSeen found picture.now.element picture.now.direction picture.now.vehicle
         picture.now.title.now picture.now.year lines)
         (I.to_come input.old) (O.taken output.old) (O.taken output.new) result }
-    ensures lines { IfOk result (λ count. count ≡ year_length (pos picture.now.year) + 2) }
+    // The answer is the number of lines of a picture, or 0, exactly if it would be crowded.
+    ensures lines { IfOk result (λ count. (count ≡ year_length (pos picture.now.year) + 2) ⊎ ((count ≡ 0) × ((found : List Restriction)
+        × IsCrowded (IsOpen found picture.now.element picture.now.direction picture.now.vehicle) picture.now.year))) }
     // An output that took the whole text was then ended, last of all.
     ensures ended { OnOk result (IsTrue (O.is_ended output.new)) }
     ensures vehicle { IsErrOf result RunFault.VehicleRange ↔ (IsVehicleType picture.now.vehicle → ⊥) }

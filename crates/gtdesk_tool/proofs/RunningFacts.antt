@@ -21,7 +21,7 @@ use Rattle.gtdesk_tool.specs.declared.refusal.RunRefusal.TheVariants as refusal
 use Rattle.gtdesk_tool.specs.declared.ending.Ending.{Ending}
 use Rattle.gtdesk_tool.specs.Running.{IsHoursRefusal, IsTextRefusal, PutText, RanDomainPicture, failures_after_read}
 use Rattle.gtdesk_tool.specs.Telling.{Telling, Told}
-use Rattle.gtdesk_tool.specs.Running.{failures_after_write, listing_outcome, outcome_of, records_outcome}
+use Rattle.gtdesk_tool.specs.Running.{failures_after_write, listing_outcome, outcome_of, picture_outcome, records_outcome}
 
 -- ---- a failure of a device is told by the run, and by the command
 
@@ -102,6 +102,18 @@ records_writes (Err (hours.WriteFault m)) n = refl
 records_writes (Err (hours.NoMemory m)) n = refl
 
 -- the count that a run tells is the count that the command tells
+pub picture_reads : (answer : Result ℕ RunFault) (n : ℕ)
+    → runs.failures_after_read answer n ≡ failures_after_read (picture_outcome answer) n
+picture_reads (Ok zero) n = refl
+picture_reads (Ok (suc count)) n = refl
+picture_reads (Err why) n = run_reads (Err why) n
+
+pub picture_writes : (answer : Result ℕ RunFault) (n : ℕ)
+    → runs.failures_after_write answer n ≡ failures_after_write (picture_outcome answer) n
+picture_writes (Ok zero) n = refl
+picture_writes (Ok (suc count)) n = refl
+picture_writes (Err why) n = run_writes (Err why) n
+
 pub handed_on : (count : Result Ending RunRefusal → ℕ → ℕ) (result outcome : Result Ending RunRefusal) (after told before : ℕ)
     → after ≡ told → told ≡ count outcome before → result ≡ outcome → after ≡ count result before
 handed_on count result outcome after told before failed same is =
@@ -155,6 +167,7 @@ of_domain text n refusal.Memory is = (refl, refl)
 of_domain text n (refusal.Word why) is = absurd is
 of_domain text n refusal.NoHours is = absurd is
 of_domain text n refusal.NoElement is = absurd is
+of_domain text n refusal.Crowded is = absurd is
 of_domain text n (refusal.Records why) is = absurd is
 of_domain text n refusal.Open is = absurd is
 of_domain text n (refusal.Old why) is = absurd is
@@ -180,8 +193,9 @@ module _ (P : List ℕ → Type 0) (C : RunRefusal → Type 0) (old new : Option
   unread_text (Err r) put = unread_part r put.refused
 
 unread_run : (Lines : List (List ℕ) → Type 0) (old new : Option (List ℕ)) (answer : Result ℕ RunFault) (n : ℕ)
-    → HasPut Lines old new answer → n ≡ failures_after_read (outcome_of answer) n
-unread_run Lines old new (Ok count) n put = refl
+    → HasPut Lines old new answer → n ≡ failures_after_read (picture_outcome answer) n
+unread_run Lines old new (Ok zero) n put = refl
+unread_run Lines old new (Ok (suc count)) n put = refl
 unread_run Lines old new (Err run.VehicleRange) n put = refl
 unread_run Lines old new (Err run.YearRange) n put = refl
 unread_run Lines old new (Err run.NoElement) n put = refl

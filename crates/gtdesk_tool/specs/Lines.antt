@@ -109,6 +109,10 @@ word_text fault = word_name fault.word ++ codes ": " ++ reason_text fault.why
 abbrev pub no_hours : List ℕ
 no_hours = codes "DOMAIN: no opening hours: not of the form of days from midnight and ranges of times in minutes"
 
+-- why there is no picture: nobody could see its stretches
+abbrev pub crowded : List ℕ
+crowded = codes "Crowded: the seconds of the year make more than 20,000 stretches, too many for a picture"
+
 -- why words are refused: where the fault is, and what it is
 abbrev pub words_text : WordsRefusal → List ℕ
 words_text (words.Usage told None) = codes "command line: " ++ told.now ++ codes " (see gtdesk --help)"
@@ -123,6 +127,7 @@ run_text file (run.Word why) = word_text why
 run_text file run.NoHours = no_hours
 run_text file (run.NoDomain why) = codes "TEXT: " ++ no_domain_text why
 run_text file run.NoElement = printable file ++ codes ": no row names the element"
+run_text file run.Crowded = crowded
 run_text file (run.Records why) = printable file ++ codes ": " ++ fault_text why
 run_text file run.Open = printable file ++ codes ": cannot be opened"
 run_text file (run.Old why) = printable file ++ codes ": " ++ fault_text why

@@ -30,6 +30,7 @@ run_status (run.Word why) = 1
 run_status run.NoHours = 1
 run_status (run.NoDomain why) = 1
 run_status run.NoElement = 1
+run_status run.Crowded = 1
 run_status (run.Records why) = records_status why
 run_status run.Open = 3
 run_status (run.Old why) = records_status why

@@ -9,8 +9,8 @@ use Rattle.gtd_core.specs.declared.domain.Domain.{Domain}
 use Rattle.gtd_records.specs.Closing.{Restriction}
 use Rattle.gtd_report.specs.Run.{AcceptedFilesArePut, HasRun, IsTableYear, IsVehicleType, RefusedFilesPutNothing}
 use Rattle.gtd_report.specs.Run.{UnacceptedFilesPutNothing}
-use Rattle.gtd_picture.specs.Domain.{HasPut, IsDomainPicture}
-use Rattle.gtd_picture.specs.Open.{IsOpenPicture}
+use Rattle.gtd_picture.specs.Domain.{HasPut, IsDomainSeen}
+use Rattle.gtd_picture.specs.Open.{IsOpenSeen}
 use Rattle.gtdesk_tool.specs.Hours.{IsDomainLine, IsHoursLine}
 use Rattle.gtdesk_tool.specs.LooseHours.{IsMendedLine, IsUnread, PutsLoose}
 use Rattle.gtdesk_tool.specs.Mended.{RanMended}
@@ -80,19 +80,25 @@ pub record RanNow (query : Query) (file old new : Option (List ℕ)) (silent end
   pub element : IsErrOf answer run.NoElement → ⊥
   pub endless : IsErrOf answer (run.Records records.Endless) → IsTrue silent
 
+-- The answer of a command for pictures, from that of its run: no line where the picture is crowded.
+abbrev pub picture_outcome : Result ℕ RunFault → Result Ending RunRefusal
+picture_outcome (Ok zero) = Err refusal.Crowded
+picture_outcome (Ok (suc lines)) = Ok ending.Done
+picture_outcome (Err why) = Err (refusal_for why)
+
 -- The run of `picture` had an answer, and all that the run promises for this answer holds.
 pub record RanPicture (subject : PictureSubject) (title : List ℕ) (file old new : Option (List ℕ)) (silent ended : Bool)
     (result : Result Ending RunRefusal) : Type 0 where
   pub answer : Result ℕ RunFault
-  pub outcome : result ≡ outcome_of answer
+  pub outcome : result ≡ picture_outcome answer
   pub accepted : IsVehicleType subject.vehicle → IsTableYear subject.year → AcceptedFilesArePut (IsNamed subject.element)
-      (λ found lines. IsOpenPicture found subject.element subject.direction subject.vehicle title subject.year lines)
+      (λ found lines. IsOpenSeen found subject.element subject.direction subject.vehicle title subject.year lines)
       file old new answer
   pub refused : IsVehicleType subject.vehicle → IsTableYear subject.year → RefusedFilesPutNothing file old new answer
   pub unnamed : IsVehicleType subject.vehicle → IsTableYear subject.year
       → UnacceptedFilesPutNothing (IsNamed subject.element) file old new answer
   pub stands : HasRun (IsNamed subject.element)
-      (λ found lines. IsOpenPicture found subject.element subject.direction subject.vehicle title subject.year lines)
+      (λ found lines. IsOpenSeen found subject.element subject.direction subject.vehicle title subject.year lines)
       file old new answer
   pub whole : OnOk answer (IsTrue ended)
   pub vehicle_range : IsErrOf answer run.VehicleRange ↔ (IsVehicleType subject.vehicle → ⊥)
@@ -103,8 +109,8 @@ pub record RanPicture (subject : PictureSubject) (title : List ℕ) (file old ne
 pub record RanDomainPicture (domain : Domain) (title : List ℕ) (year : ℕ) (old new : Option (List ℕ)) (ended : Bool)
     (result : Result Ending RunRefusal) : Type 0 where
   pub answer : Result ℕ RunFault
-  pub outcome : result ≡ outcome_of answer
-  pub stands : HasPut (IsDomainPicture domain title year) old new answer
+  pub outcome : result ≡ picture_outcome answer
+  pub stands : HasPut (IsDomainSeen domain title year) old new answer
   pub whole : OnOk answer (IsTrue ended)
   pub year_range : IsErrOf answer run.YearRange ↔ (IsTableYear year → ⊥)
 

@@ -19,6 +19,10 @@ use std::fmt::{Display, Formatter};
 const NO_HOURS: &str =
     "DOMAIN: no opening hours: not of the form of days from midnight and ranges of times in minutes";
 
+// Why there is no picture: nobody could see its stretches.
+const CROWDED: &str =
+    "Crowded: the seconds of the year make more than 20,000 stretches, too many for a picture";
+
 // Why a word names no rules: the rules that there are.
 const NO_RULES: &str =
     "not names of rules with commas between them; the rules are first-of-month, each-day-of-month, \
@@ -198,6 +202,7 @@ impl Display for RunLine<'_> {
             RunRefusal::NoHours => write!(f, "{NO_HOURS}"),
             RunRefusal::NoDomain(why) => write!(f, "TEXT: {}", TextLine(why)),
             RunRefusal::NoElement => write!(f, "{file}: no row names the element"),
+            RunRefusal::Crowded => write!(f, "{CROWDED}"),
             RunRefusal::Records(fault) => write!(f, "{file}: {}", FaultText(fault)),
             RunRefusal::Open => write!(f, "{file}: cannot be opened"),
             RunRefusal::Old(fault) => write!(f, "{file}: {}", FaultText(fault)),

@@ -2,15 +2,28 @@
 
 ghost use Rattle.std.specs.Prelude.{◌≡◌, ◌<◌};
 ghost use Rattle.gtdesk_tool.specs.Running.{RanDomainPicture, RanPicture, failures_after_read, failures_after_write};
+ghost use Rattle.gtdesk_tool.specs.Running.{picture_outcome};
 
 use crate::ending::Ending;
-use crate::performer::outcome;
+use crate::performer::run_refusal;
 use crate::refusal::RunRefusal;
 use gtd_core::Domain;
 use gtd_devices::{Input, Output};
-use gtd_picture::{YearPicture, put_domain_picture, run_picture};
+use gtd_picture::{YearPicture, put_seen_domain_picture, run_picture};
+use gtd_report::RunFault;
 use gtdesk_plans::PictureSubject;
 use std::alloc::Global;
+
+// The answer of a command, from that of its run. A picture has lines, so none says that it is crowded.
+fn picture_outcome(answer: Result<u64, RunFault>) -> Result<Ending, RunRefusal>
+    ensures value { result ≡ picture_outcome answer }
+{
+    match answer {
+        Ok(0) => Err(RunRefusal::Crowded),
+        Ok(_) => Ok(Ending::Done),
+        Err(fault) => Err(run_refusal(fault)),
+    }
+}
 
 /// Prints the picture of an element of the record file that the input brings.
 pub(crate) fn print_picture<I: Input, O: Output>(
@@ -36,7 +49,7 @@ pub(crate) fn print_picture<I: Input, O: Output>(
         year: subject.year,
         title,
     };
-    outcome(run_picture(alloc, input, output, &picture))
+    picture_outcome(run_picture(alloc, input, output, &picture))
 }
 
 /// Prints the picture of a domain.
@@ -53,5 +66,6 @@ pub(crate) fn print_domain<O: Output>(
     ensures write_faults { O.failure_count output.new
         ≡ failures_after_write result (O.failure_count output.old) }
 {
-    outcome(put_domain_picture(alloc, output, domain, title, year))
+    let put = put_seen_domain_picture(alloc, output, domain, title, year);
+    picture_outcome(put)
 }

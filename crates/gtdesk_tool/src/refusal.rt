@@ -19,6 +19,8 @@ pub enum RunRefusal {
     NoDomain(NoDomain),
     /// No row of the record file names the element of a picture.
     NoElement,
+    /// A picture would have more than 20,000 stretches.
+    Crowded,
     /// The record file is not read. This is its first fault, or why the input failed, and never `NoMemory`.
     Records(RecordFault),
     /// The record file is not opened.
@@ -45,6 +47,7 @@ impl RunRefusal {
             RunRefusal::NoHours => 1,
             RunRefusal::NoDomain(_) => 1,
             RunRefusal::NoElement => 1,
+            RunRefusal::Crowded => 1,
             RunRefusal::Records(fault) => records_status(*fault),
             RunRefusal::Open => 3,
             RunRefusal::Old(fault) => records_status(*fault),

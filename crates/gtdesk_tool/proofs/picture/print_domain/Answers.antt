@@ -1,8 +1,8 @@
 use Rattle.gtdesk_tool.specs.Running.{failures_after_write}
-use Rattle.gtdesk_tool.proofs.RunningFacts.{handed_on, run_writes}
+use Rattle.gtdesk_tool.proofs.RunningFacts.{handed_on, picture_writes}
 use Rattle.gtdesk_tool.proofs.picture.print_domain.Goals as goal
 
 pub returns-clause-write_faults : goal.returns-clause-write_faults
 returns-clause-write_faults g c =
     handed_on failures_after_write _ _ _ _ _
-    c.put_domain_picture.ensures.write_faults (run_writes c.put_domain_picture.result _) c.outcome.ensures.value
+    c.put_seen_domain_picture.ensures.write_faults (picture_writes c.put_seen_domain_picture.result _) c.picture_outcome.ensures.value
