@@ -105,9 +105,9 @@ reason_text reason.Zone = codes "not the name of a time zone"
 abbrev pub word_text : WordFault → List ℕ
 word_text fault = word_name fault.word ++ codes ": " ++ reason_text fault.why
 
--- why no hours are printed: the domain is not of the form that hours are sought for
+-- why no hours are printed
 abbrev pub no_hours : List ℕ
-no_hours = codes "DOMAIN: no opening hours: not of the form of days from midnight and ranges of times in minutes"
+no_hours = codes "DOMAIN: no opening hours are found that have its seconds"
 
 -- why there is no picture: nobody could see its stretches
 abbrev pub crowded : List ℕ

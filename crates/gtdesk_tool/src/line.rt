@@ -15,9 +15,8 @@ use gtdesk_words::{NoDomain, Reason, WordFault, WordName, WordsRefusal};
 use std::fmt;
 use std::fmt::{Display, Formatter};
 
-// Why no hours are printed: the domain is not of the form that hours are sought for.
-const NO_HOURS: &str =
-    "DOMAIN: no opening hours: not of the form of days from midnight and ranges of times in minutes";
+// Why no hours are printed.
+const NO_HOURS: &str = "DOMAIN: no opening hours are found that have its seconds";
 
 // Why there is no picture: nobody could see its stretches.
 const CROWDED: &str =
