@@ -1,6 +1,6 @@
 #!/usr/bin/env python3
-"""The pictures of docs/GALLERY.md: the words and the picture of each domain, and the picture of each text of tests/hours/texts.csv,
-are exactly what `gtdesk` prints.
+"""The pictures of docs/GALLERY.md: the words and the picture of each domain, and the picture of each of the first hundred texts of
+tests/hours/texts.csv, are exactly what `gtdesk` prints.
 
 Usage: tests/gallery.py            compares them (tests/desk.sh runs it)
        tests/gallery.py --write    makes the words of the domains in the table, the table of texts, and all pictures anew
@@ -17,6 +17,7 @@ TOP = os.path.dirname(os.path.dirname(os.path.abspath(__file__)))
 DESK = os.environ.get("GTDESK", os.path.join(TOP, "crates", "gtdesk", "out", "gtdesk"))
 DOCUMENT = os.path.join(TOP, "docs", "GALLERY.md")
 PICTURES = os.path.join(TOP, "docs", "pictures")
+SHOWN = 100  # the first texts
 BEGIN, END = "<!-- the texts of tests/hours/texts.csv -->\n", "<!-- the end of the texts -->\n"
 HEAD = ["| Opening hours | Who writes it | A year |\n", "|---|---|---|\n"]
 YEAR = "2024"
@@ -67,7 +68,7 @@ def wanted(domains, texts):
 
 def main():
     write = sys.argv[1:] == ["--write"]
-    texts = hours.rows_of("texts.csv")
+    texts = hours.rows_of("texts.csv")[:SHOWN]
     with open(DOCUMENT, encoding="utf-8") as file:
         lines = file.readlines()
     begin, end = lines.index(BEGIN) + 1, lines.index(END)

@@ -189,7 +189,7 @@ class German(English):
         if kind == "later":
             days = what[0]
             return f"bis {time}" + ["", " des Folgetags"][days] if days < 2 else f"bis {time}, {days} Tage später"
-        name = self.WEEKDAYS[what[0] - 1] if kind == "weekday" else f"{what[1]}. {self.MONTHS[what[0] - 1]}"
+        name = self.WEEKDAYS[what[0] - 1] if kind == "weekday" else f"zum {what[1]}. {self.MONTHS[what[0] - 1]}"
         return f"bis {name} {time}" if time else f"bis {name} (einschließlich)"
 
 
@@ -205,7 +205,7 @@ class French(English):
     EACH_DAY, ALL_DAY = "chaque jour", "toute la journée"
     OF_EACH_MONTH, EVERY_YEAR = "de chaque mois", "de chaque année"
     LEADS = {"on": "le", "from": "du"}
-    SHARP, COMMA = " précises", ", jusqu'"
+    SHARP, COMMA = " précises", ", "
 
     def of(self, name):
         return f"d'{name}" if name[0] in "ao" else f"de {name}"
@@ -270,12 +270,12 @@ class French(English):
     def until(self, day, time):
         kind, *what = day
         if kind == "february":
-            return "à la fin de février"
+            return "jusqu'à la fin de février"
         if kind == "later":
             days = what[0]
-            return f"à {time}" + ["", " le lendemain"][days] if days < 2 else f"à {time}, {days} jours plus tard"
+            return f"jusqu'à {time}" + ["", " le lendemain"][days] if days < 2 else f"jusqu'à {time}, {days} jours plus tard"
         name = self.WEEKDAYS[what[0] - 1] if kind == "weekday" else f"{self.day(what[1])} {self.MONTHS[what[0] - 1]}"
-        return f"au {name} {time}" if time else f"au {name} (inclus)"
+        return f"jusqu'au {name} {time}" if time else f"jusqu'au {name} (inclus)"
 
 
 LANGUAGES = {"en": English(), "de": German(), "fr": French()}

@@ -66,6 +66,5 @@ pub(crate) fn print_domain<O: Output>(
     ensures write_faults { O.failure_count output.new
         ≡ failures_after_write result (O.failure_count output.old) }
 {
-    let put = put_seen_domain_picture(alloc, output, domain, title, year);
-    picture_outcome(put)
+    picture_outcome(put_seen_domain_picture(alloc, output, domain, title, year))
 }
