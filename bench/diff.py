@@ -7,10 +7,8 @@ it), and what `measuring.py` says. Prints a table of Markdown for the mixes of `
 taken in turns, over one year."""
 import os
 import random
-import subprocess
 import sys
 import tempfile
-import time
 
 import measuring
 from now import MIXES, MOST_ROWS, VEHICLE, write_rows
@@ -32,15 +30,6 @@ def changed(path, release):
     return release
 
 
-def seconds(command):
-    """The seconds of one run whose output is discarded."""
-    begun = time.perf_counter()
-    status = subprocess.run(command, stdout=subprocess.DEVNULL, check=False).returncode
-    if status not in (SAME, DIFFER):
-        sys.exit(f"{command} ended with status {status}")
-    return time.perf_counter() - begun
-
-
 def main():
     gtdesk = measuring.program(sys.argv[1:], "gtdesk")
     with tempfile.TemporaryDirectory() as work:
@@ -49,7 +38,7 @@ def main():
         for name, domain in MIXES.items():
             changed(write_rows(old, MOST_ROWS, domain), new)
             commands = [gtdesk, "faults", old], [gtdesk, "faults", new], [gtdesk, "diff", old, new, *DAYS, VEHICLE]
-            times = [[seconds(command) for command in commands] for _ in range(ROUNDS)]
+            times = [[measuring.seconds(command, (SAME, DIFFER)) for command in commands] for _ in range(ROUNDS)]
             first, second, both = (min(column) for column in zip(*times))
             reading = first + second
             measuring.row([name, f"{reading:.3f} s", f"{both:.3f} s", f"{both / reading:.1f}"])

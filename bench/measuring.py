@@ -56,10 +56,13 @@ def check_memory(report):
             sys.exit(f"memory is measured wrongly: {measured:.1f} MiB of a program that uses {mebibytes} MiB")
 
 
-def seconds(command):
-    """The seconds of one run whose output is discarded, with nothing between it and this script."""
+def seconds(command, statuses=(0,)):
+    """The seconds of one run whose output is discarded, with nothing between it and this script; it ends with one of these
+    statuses."""
     begun = time.perf_counter()
-    subprocess.run(command, stdout=subprocess.DEVNULL, check=True)
+    status = subprocess.run(command, stdout=subprocess.DEVNULL, check=False).returncode
+    if status not in statuses:
+        sys.exit(f"{command} ended with status {status}")
     return time.perf_counter() - begun
 
 

@@ -7,10 +7,8 @@ Prints a table of Markdown for 400 texts that repeat, for the mixes of `now.py`,
 five times of each command, taken in turns."""
 import itertools
 import os
-import subprocess
 import sys
 import tempfile
-import time
 
 import measuring
 from now import MIXES, MOST_ROWS, write_rows
@@ -43,15 +41,6 @@ FILES = {
 }
 
 
-def seconds(command):
-    """The seconds of one run whose output is discarded."""
-    begun = time.perf_counter()
-    status = subprocess.run(command, stdout=subprocess.DEVNULL, check=False).returncode
-    if status not in (SAME, FOUND):
-        sys.exit(f"{command} ended with status {status}")
-    return time.perf_counter() - begun
-
-
 def main():
     gtdesk = measuring.program(sys.argv[1:], "gtdesk")
     with tempfile.TemporaryDirectory() as work:
@@ -60,7 +49,7 @@ def main():
         for name, domain in FILES.items():
             write_rows(path, MOST_ROWS, domain)
             commands = [gtdesk, "faults", path], [gtdesk, "same", "--file", path]
-            times = [[seconds(command) for command in commands] for _ in range(ROUNDS)]
+            times = [[measuring.seconds(command, (SAME, FOUND)) for command in commands] for _ in range(ROUNDS)]
             reading, both = (min(column) for column in zip(*times))
             measuring.row([name, f"{reading:.3f} s", f"{both:.3f} s", f"{both / reading:.1f}"])
 
