@@ -1,7 +1,9 @@
 -- A day's latest start decides, and no start before the lookback matters.
 use Rattle.std.proofs.Common.{◌≡◌, ℕ, ◌+◌, ◌-◌, ◌/◌, ◌<◌, ◌≤◌, true, Option, Some, None, refl, sym, ◌∙◌, arith, ℤ, pos, ◌+ℤ◌}
 use Rattle.std.proofs.Common.{◌-ℤ◌, ◌*ℤ◌, ◌<ℤ◌, ◌≤ℤ◌, int_lt}
-use Rattle.std.proofs.lemmas.Bool.{and_parts, and_from, both_ways}
+use Rattle.std.specs.Prelude.{is_some, IsTrue, MatchOption, ◌↔◌}
+use Rattle.std.proofs.lemmas.Bool.{and_parts, and_from, both_ways, false≢true}
+use Rattle.gtd_core.specs.declared.second.Sec.{Sec}
 use Rattle.gtd_core.specs.Limits.{first_horizon_day, horizons_end}
 use Rattle.gtd_calendar.specs.facts.Signed.{signed_arith}
 use Rattle.gtd_core.specs.declared.start.StartParts.{StartParts}
@@ -17,6 +19,7 @@ use Rattle.gtd_recur.specs.Begins.{begins, begins_on, begins_at}
 use Rattle.gtd_recur.specs.ClockSearch.{IsLatestBegin}
 use Rattle.gtd_recur.specs.Membership.{InStretches}
 use Rattle.gtd_recur.specs.facts.MembershipLemmas.{from_computed, to_computed}
+use Rattle.gtd_recur.specs.Changes.{IsStretchEnd}
 use Rattle.gtd_recur.specs.ComputedStretches.{IsHeldFromDay, IsLatestNotAfter}
 use borrow.Author.Differences.{up, down, true_is_lt}
 
@@ -66,6 +69,23 @@ pub latest_holds : (p : StartParts) (q : DurationParts) (n s : ℤ) (k : ℕ) �
 latest_holds p q n s k latest on lt =
     let is = second-only (pos 86400 *ℤ n +ℤ pos k) n k latest.0 refl in
     (pos 86400 *ℤ n +ℤ pos k, is.0, (begins-from p n k latest.0 on latest.1, latest.2, lt))
+
+-- its end is then that of a stretch that holds the second
+pub latest_ends : (p : StartParts) (q : DurationParts) (n s : ℤ) (k : ℕ) (e : ℤ) → IsLatestNotAfter p n s (Some k)
+    → begins_on p (day_fields n) ≡ true → e ≡ stop q (pos 86400 *ℤ n +ℤ pos k) → s <ℤ e → IsStretchEnd p q s e
+latest_ends p q n s k e latest on is lt =
+    (pos 86400 *ℤ n +ℤ pos k, (begins-from p n k latest.0 on latest.1, latest.2, rw is at lt), is)
+
+-- what is known where there is no end may be said otherwise
+pub or-none : {P Q : Type 0} (E : Sec → Type 0) (o : Option Sec) → (P → Q) → MatchOption o P E → MatchOption o Q E
+or-none E None f h = f h
+or-none E (Some e) f h = h
+
+-- a basic domain contains a second exactly if a stretch that holds it has an end
+pub end-tells : (p : StartParts) (q : DurationParts) (s : ℤ) (o : Option Sec)
+    → MatchOption o (InStretches p q s → ⊥) (λ e. IsStretchEnd p q s e.0) → IsTrue (is_some o) ↔ InStretches p q s
+end-tells p q s None h = ((λ e. absurd (false≢true e)), (λ m. absurd (h m)))
+end-tells p q s (Some e) h = ((λ t. from_computed p q s (h.0, h.1)), (λ m. refl))
 
 -- a stretch that holds a second begins on its day or at most the lookback before
 pub held_in_lookback : (p : StartParts) (q : DurationParts) (s : ℤ) → InStretches p q s → (k : ℕ) × (k ≤ lookback_of q)

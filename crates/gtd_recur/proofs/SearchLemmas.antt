@@ -5,7 +5,6 @@ use Rattle.std.proofs.lemmas.Int.{by_lt_z}
 use Rattle.gtd_core.specs.declared.start.StartParts.{StartParts}
 use Rattle.gtd_calendar.specs.facts.Signed.{signed_arith}
 use Rattle.gtd_calendar.specs.ComputedFields.{day_fields}
-use Rattle.gtd_calendar.specs.declared.day.DayFields.{DayFields}
 use Rattle.gtd_recur.specs.Begins.{begins_on}
 use Rattle.gtd_recur.specs.Jumps.{IsFirstBegun, IsLastBegun, IsMissed, IsMissedBack}
 use Rattle.gtd_recur.specs.Stretches.{IsEarlier, IsLater}

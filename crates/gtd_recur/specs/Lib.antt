@@ -1,6 +1,7 @@
 pub mod Ascending
 pub mod Asked
 pub mod Begins
+pub mod Changes
 pub mod ClockSearch
 pub mod ComputedStretches
 pub mod FieldMatches

@@ -1,6 +1,6 @@
-//! Whether a basic domain contains a second.
+//! Whether a basic domain contains a second, and the end of a stretch that holds it.
 
-ghost use Rattle.std.specs.Prelude.{◌≡◌, ◌↔◌, ℤ, ◌≤ℤ◌, ◌<ℤ◌, IsTrue};
+ghost use Rattle.std.specs.Prelude.{◌≡◌, ◌↔◌, ℤ, ◌≤ℤ◌, ◌<ℤ◌, IsTrue, MatchOption};
 ghost use Rattle.gtd_core.specs.Limits.{horizons_end, first_window_day};
 ghost use Rattle.gtd_recur.specs.Look.{IsLookBack};
 ghost use Rattle.gtd_recur.specs.Weekly.{IsWeekly};
@@ -8,6 +8,7 @@ ghost use Rattle.gtd_core.specs.Parts.{start_parts, duration_parts};
 ghost use Rattle.gtd_core.specs.Ranges.{IsStart};
 ghost use Rattle.gtd_calendar.specs.Calendar.{IsCalendarDay};
 ghost use Rattle.gtd_recur.specs.Membership.{InBasic};
+ghost use Rattle.gtd_recur.specs.Changes.{IsStretchEnd};
 ghost use Rattle.gtd_recur.specs.ComputedStretches.{IsHeldFromDay, IsHeldFromDays, IsLatestNotAfter};
 ghost use Rattle.gtd_core.specs.Seconds.{day_of_second, IsHorizonSecond};
 
@@ -18,51 +19,74 @@ use gtd_calendar::{end_of, second_of_day};
 use gtd_core::limits::{DAY_SECONDS, LAST_SECOND_OF_DAY};
 use gtd_core::{Basic, Duration, Sec, StartParts};
 
-// Whether a stretch that begins on that day holds the second. Of the stretches of one day, the one that begins last
-// ends last.
-fn held_from_day(
+// The end of the last stretch that begins on that day and holds the second. Of the stretches of one day, the one that begins
+// last ends last.
+fn end_from_day(
     start: &StartParts,
     duration: &Duration,
     second: Sec,
     day: i64,
     latest: Option<u32>,
-) -> bool
+) -> Option<Sec>
     requires day_in { IsCalendarDay day }
     requires latest { IsLatestNotAfter start.now day second.0 latest }
-    ensures { IsTrue result ↔ IsHeldFromDay start.now (duration_parts duration.now) day second.0 }
+    ensures end { MatchOption result (IsHeldFromDay start.now (duration_parts duration.now) day second.0 → ⊥)
+        (λ e. IsStretchEnd start.now (duration_parts duration.now) second.0 e.0) }
 {
     let Some(clock) = latest else {
-        return false;
+        return None;
     };
     if !begins_on_day(start, day) {
-        return false;
+        return None;
     }
     let begin = Sec(DAY_SECONDS * day + i64::from(clock));
-    second.0 < end_of(begin, duration).0
+    let end = end_of(begin, duration);
+    if second.0 < end.0 {
+        return Some(end);
+    }
+    None
 }
 
-// Whether a stretch holds the second that begins on a day before its own, but not below a lowest day. No stretch from an
+// The end of a stretch that holds the second and begins on a day before its own, but not below a lowest day. No stretch from an
 // earlier day ends later than the last from the last day on which the start begins, so that only that day is asked.
-fn held_from_before(
+fn end_from_before(
     start: &StartParts,
     duration: &Duration,
     second: Sec,
     low: i64,
     today: i64,
-) -> bool
+) -> Option<Sec>
     requires valid { IsStart start.now }
     requires low_in { first_window_day ≤ℤ low }
     requires order { low ≤ℤ today }
     requires today_in { today ≤ℤ horizons_end }
     requires today { today ≡ day_of_second second.0 }
-    ensures { IsTrue result ↔ IsHeldFromDays start.now (duration_parts duration.now) low today second.0 }
+    ensures end { MatchOption result (IsHeldFromDays start.now (duration_parts duration.now) low today second.0 → ⊥)
+        (λ e. IsStretchEnd start.now (duration_parts duration.now) second.0 e.0) }
 {
     let look = first_look(start, low, today);
     if look.first >= today {
-        return false;
+        return None;
     }
     let latest = latest_begin(start, LAST_SECOND_OF_DAY);
-    held_from_day(start, duration, second, look.first, latest)
+    end_from_day(start, duration, second, look.first, latest)
+}
+
+/// The end of a stretch that holds the second, however long ago it began; `None` if none holds it. Of those that hold it, it is
+/// one that began last or the day before.
+pub(crate) fn stretch_end(basic: &Basic, second: Sec) -> Option<Sec>
+    requires horizon { IsHorizonSecond second.0 }
+    ensures end { MatchOption result (InBasic basic.now second.0 → ⊥)
+        (λ e. IsStretchEnd (start_parts basic.now.start) (duration_parts basic.now.duration) second.0 e.0) }
+{
+    let start = basic.start.parts();
+    let today = second.day();
+    let latest = latest_begin(&start, second_of_day(second));
+    if let Some(end) = end_from_day(&start, &basic.duration, second, today, latest) {
+        return Some(end);
+    }
+    let low = today - i64::from(basic.duration.lookback());
+    end_from_before(&start, &basic.duration, second, low, today)
 }
 
 /// Whether the basic domain contains the second: the stretch of some matching start holds it, however long ago that
@@ -71,14 +95,7 @@ pub fn covers(basic: &Basic, second: Sec) -> bool
     requires horizon { IsHorizonSecond second.0 }
     ensures member { IsTrue result ↔ InBasic basic.now second.0 }
 {
-    let start = basic.start.parts();
-    let today = second.day();
-    let latest = latest_begin(&start, second_of_day(second));
-    if held_from_day(&start, &basic.duration, second, today, latest) {
-        return true;
-    }
-    let low = today - i64::from(basic.duration.lookback());
-    held_from_before(&start, &basic.duration, second, low, today)
+    stretch_end(basic, second).is_some()
 }
 
 /// Where a look backwards ended.

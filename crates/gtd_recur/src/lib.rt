@@ -3,6 +3,7 @@
 //! Seconds are those of the local civil clock; days are numbered from 1970-01-01. Only `spans_of` takes memory.
 #![tactic(auto)]
 
+pub use changes::{held_until, next_start};
 pub use cover::{covers, is_weekly};
 pub use period::{Period, period_of};
 pub use runs::Runs;
@@ -11,6 +12,7 @@ pub use starts::Starts;
 
 mod asks;
 mod begin;
+mod changes;
 mod clocks;
 mod cover;
 mod find;

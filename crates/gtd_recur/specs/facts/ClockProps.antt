@@ -1,5 +1,5 @@
 -- Facts of the definitions in `Stepping` and `Asked`.
-use Rattle.std.proofs.Common.{◌≡◌, ◌+◌, ◌⊎◌, inl, inr, ℕ, Bool, ap, arith}
+use Rattle.std.proofs.Common.{◌≡◌, ◌⊎◌, inl, inr, ℕ, Bool, ap, arith}
 use Rattle.std.proofs.Props.{props}
 use Rattle.gtd_core.specs.declared.start.StartParts.{StartParts}
 use Rattle.gtd_recur.specs.Asked.{IsAsked}

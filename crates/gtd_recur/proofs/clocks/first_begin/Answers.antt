@@ -1,5 +1,5 @@
-use Rattle.std.proofs.Common.{◌∙◌, arith}
-use Rattle.gtd_recur.proofs.ClockSearch.{AreLeast, first_clock, least_small}
+use Rattle.std.proofs.Common.{◌∙◌}
+use Rattle.gtd_recur.proofs.ClockSearch.{AreLeast, first_clock}
 use Rattle.gtd_recur.proofs.clocks.first_begin.Goals as goal
 
 pub returns : goal.returns
