@@ -5,4 +5,5 @@ pub mod OnwardFacts
 pub mod PeriodChanges
 pub mod RepeatLemmas
 pub mod StayDays
+pub mod StayEnds
 pub mod Unions

@@ -15,6 +15,13 @@ pub record IsStay (set : ℤ → Type 0) (s last : ℤ) (stay : Stay) : Type 0 w
   pub within : stay.until.0 ≤ℤ last
   pub same : NeverChanges set s stay.until.0
 
+-- u is the first second after s, and before `last`, at which membership in the set is not as at s; or else it is `last`
+pub record IsStayEnd (set : ℤ → Type 0) (s last u : ℤ) : Type 0 where
+  pub later : s <ℤ u
+  pub within : u ≤ℤ last
+  pub same : NeverChanges set s u
+  pub far : (v : ℤ) → v ≤ℤ last → NeverChanges set s v → v ≤ℤ u
+
 -- Whether the left side of the operator decides alone, whatever the right one does, by whether it has the second.
 abbrev pub left_decides : Op → Bool → Bool
 left_decides Union holds = holds

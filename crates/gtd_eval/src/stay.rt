@@ -12,11 +12,15 @@ ghost use Rattle.gtd_spans.specs.Change.{NeverChanges};
 ghost use Rattle.gtd_eval.specs.Ever.{week};
 ghost use Rattle.gtd_eval.specs.Membership.{InDomain, InTree};
 ghost use Rattle.gtd_eval.specs.Periods.{AllRepeat};
-ghost use Rattle.gtd_eval.specs.Stays.{ComesBefore, IsStay, NoneChanges};
+ghost use Rattle.gtd_eval.specs.Stays.{ComesBefore, IsStay, IsStayEnd, NoneChanges};
 
 use crate::period::period_of_all;
+use gtd_core::limits::DAY_SECONDS;
 use gtd_core::{Basic, Domain, Expr, Horizon, Op, Sec};
-use gtd_recur::{Period, Runs, covers, is_weekly};
+use gtd_recur::{Period, Runs, covers, held_until, is_weekly, next_start};
+
+// The least number of seconds between two starts of a day.
+const LEAST_STEP: i64 = 60;
 
 // The days of a week, and one more: the rest of a second's own day.
 const WEEKLY_DAYS: i64 = 8;
@@ -116,19 +120,67 @@ pub fn days_to_look(weekly: bool, second: Sec, horizon: Horizon) -> Horizon
     }
 }
 
-// The first change of a basic domain after a second, or else the end of the horizon.
-fn basic_end(basic: &Basic, second: Sec, horizon: Horizon) -> Sec
+// The first change of a basic domain after a second, or else the end of the horizon, found run by run.
+fn end_by_runs(basic: &Basic, second: Sec, horizon: Horizon) -> Sec
     requires inside { Within (whole horizon) second.0 }
-    ensures later { second.0 <ℤ result.0 }
-    ensures within { result.0 ≤ℤ (whole horizon).until }
-    ensures same { NeverChanges (InBasic basic.now) second.0 result.0 }
-    ensures far { (u : ℤ) → u ≤ℤ (whole horizon).until → NeverChanges (InBasic basic.now) second.0 u → u ≤ℤ result.0 }
+    ensures end { IsStayEnd (InBasic basic.now) second.0 (whole horizon).until result.0 }
 {
     let days = days_to_look(is_weekly(basic), second, horizon);
     match gtd_spans::next_change(&mut Runs::new(*basic, days), second, days.until()) {
         Some(change) => change,
         None => horizon.until(),
     }
+}
+
+// The same after a second that the basic domain contains, found from the end of one stretch to that of another.
+fn held_end(basic: &Basic, second: Sec, horizon: Horizon) -> Sec
+    requires inside { Within (whole horizon) second.0 }
+    requires held { InBasic basic.now second.0 }
+    ensures end { IsStayEnd (InBasic basic.now) second.0 (whole horizon).until result.0 }
+{
+    let days = days_to_look(is_weekly(basic), second, horizon);
+    let end = days.until();
+    let free = held_until(basic, second, end);
+    if free.0 < end.0 {
+        return free;
+    }
+    horizon.until()
+}
+
+// The same after a second that the basic domain does not contain: the next start, unless its stretch holds no second.
+fn free_end(basic: &Basic, second: Sec, horizon: Horizon) -> Sec
+    requires inside { Within (whole horizon) second.0 }
+    requires free { InBasic basic.now second.0 → ⊥ }
+    ensures end { IsStayEnd (InBasic basic.now) second.0 (whole horizon).until result.0 }
+{
+    let Some(begin) = next_start(basic.start.as_parts(), second, horizon.to_day()) else {
+        return horizon.until();
+    };
+    if covers(basic, begin) {
+        return begin;
+    }
+    end_by_runs(basic, second, horizon)
+}
+
+// Whether stretches that begin on one day may touch: those of a day are then joined at once, run by run.
+fn is_dense(basic: &Basic) -> bool {
+    let bound = basic.duration.bound();
+    LEAST_STEP <= bound && bound < DAY_SECONDS
+}
+
+// The first change of a basic domain after a second, or else the end of the horizon.
+fn basic_end(basic: &Basic, second: Sec, holds: bool, horizon: Horizon) -> Sec
+    requires inside { Within (whole horizon) second.0 }
+    requires holds { IsTrue holds ↔ InBasic basic.now second.0 }
+    ensures end { IsStayEnd (InBasic basic.now) second.0 (whole horizon).until result.0 }
+{
+    if !holds {
+        return free_end(basic, second, horizon);
+    }
+    if is_dense(basic) {
+        return end_by_runs(basic, second, horizon);
+    }
+    held_end(basic, second, horizon)
 }
 
 // The stay of a basic domain at a second.
@@ -138,9 +190,10 @@ fn basic_stay(basic: &Basic, second: Sec, horizon: Horizon) -> Stay
     ensures far { (u : ℤ) → u ≤ℤ (whole horizon).until → NeverChanges (InBasic basic.now) second.0 u
         → u ≤ℤ result.until.0 }
 {
+    let holds = covers(basic, second);
     Stay {
-        holds: covers(basic, second),
-        until: basic_end(basic, second, horizon),
+        holds,
+        until: basic_end(basic, second, holds, horizon),
     }
 }
 

@@ -1,37 +1,8 @@
-use Rattle.std.specs.Prelude.{◌⊎◌}
-use Rattle.std.proofs.Common.{arith, inl, inr}
-use Rattle.std.proofs.lemmas.Int.{ints}
-use Rattle.gtd_core.specs.Parts.{start_parts, duration_parts}
-use Rattle.gtd_core.specs.Whole.{whole}
-use Rattle.gtd_recur.specs.Membership.{InBasic}
-use Rattle.gtd_recur.specs.RunsToCome.{runs_to_come}
-use Rattle.gtd_eval.specs.facts.Repeats.{never-in, next-in}
-use Rattle.gtd_eval.specs.facts.WeekFacts.{never-to-end, no_later}
+use Rattle.std.proofs.Common.{rules}
 use Rattle.gtd_eval.proofs.stay.basic_end.Goals as goal
 
-pub returns-in-Some : goal.returns-in-Some
-returns-in-Some c =
-    let days = whole c.days_to_look-days.result in
-    let basic = c.args.basic.now in
-    let next = next-in (InBasic basic) days.from days.until c.args.second.0 c.in-Some.change.0 (runs_to_come c.new.result)
-    c.new.ensures.normal c.days_to_look-days.ensures.inside.0 (rw (← c.until.ensures.value) c.in-Some.ensures.change) in
-    record {
-      later = next.later;
-      within = omega (arith, ints, next.within, c.days_to_look-days.ensures.within);
-      same = next.least;
-      far = λ u within never. no_later (InBasic basic) c.args.second.0 days.until c.in-Some.change.0 u next never;
-    }
+pub free_end-requires-clause-free : goal.free_end-requires-clause-free
+free_end-requires-clause-free c = λ h. let t = c.requires.holds.1 h in cc
 
-pub returns-in-None-clause-same : goal.returns-in-None-clause-same
-returns-in-None-clause-same c =
-    let days = whole c.days_to_look-days.result in
-    let basic = c.args.basic.now in
-    let never = never-in (InBasic basic) days.from days.until c.args.second.0 (runs_to_come c.new.result)
-    c.new.ensures.normal c.days_to_look-days.ensures.inside.0 (rw (← c.until.ensures.value) c.in-None.ensures.change) in
-    rw (c.until-in-None.ensures.value)
-    (never-to-end (start_parts basic.start) (duration_parts basic.duration) c.args.second.0 days.until
-    (whole c.args.horizon).until never (known c.is_weekly.ensures.weekly.0 c.days_to_look-days.ensures.until))
-  where
-    known : {A B W V : Type 0} → (W → V) → A ⊎ (B × W) → A ⊎ (B × V)
-    known f (inl a) = inl a
-    known f (inr w) = inr (w.0, f w.1)
+pub held_end-requires-clause-held : goal.held_end-requires-clause-held
+held_end-requires-clause-held c = c.requires.holds.0 (first_of (cc, search rules))
