@@ -16,7 +16,7 @@ use gtd_spans::SpanList;
 use std::alloc::{AllocError, Global};
 
 // How many stays of basic domains are asked for, one after another, before a change is looked for span by span.
-const MOST_STAYS: usize = 4_194_304;
+const MOST_STAYS: usize = 16_777_216;
 
 /// The seconds of the domain in the horizon.
 pub fn spans(alloc: Global, domain: &Domain, horizon: Horizon) -> Result<SpanList, AllocError>
