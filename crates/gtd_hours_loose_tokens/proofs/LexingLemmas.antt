@@ -3,7 +3,6 @@ use Rattle.std.proofs.Common.{◌≡◌, ℕ, zero, suc, ◌+◌, ◌-◌, ◌<�
 use Rattle.std.proofs.Common.{refl, sym, ap, subst}
 use Rattle.std.proofs.Common.{Option, Some, None, Result, Ok, Err, ◌∙◌, arith, append_assoc}
 use Rattle.std.proofs.lemmas.Bool.{le-ltb, lt-ltb}
-use Rattle.std.proofs.lemmas.List.{append-nil}
 use Rattle.std.specs.Prelude.{if◌then◌else◌, nat_lt}
 use Rattle.gtd_hours_loose_tokens.specs.declared.token.DayNames.{DayNames}
 use Rattle.gtd_hours_loose_tokens.specs.declared.token.LooseKind.{LooseKind}
@@ -85,10 +84,6 @@ at_fault names place (b ∷ bytes) bad some none h =
     no_space names place b bytes (front names (b ∷ bytes)) none refl
     ∙ fault_by place (front names (b ∷ bytes)) bad _ h
 
-pub at_end : (names : DayNames) (place : ℕ) (bytes : List ℕ) → length bytes ≤ 0 → tokens_from names 0 place bytes ≡ Ok []
-at_end names place [] none = refl
-at_end names place (b ∷ bytes) none = absurd (omega arith)
-
 onto_onto : (one two : List LooseToken) (later : Result (List LooseToken) TokenFault)
     → onto one (onto two later) ≡ onto (one ++ two) later
 onto_onto one two (Ok later) = ap Ok (sym (append_assoc one two later))
@@ -97,13 +92,6 @@ onto_onto one two (Err bad) = refl
 -- What was read so far, and what is to be read.
 abbrev pub HasRead : DayNames → List ℕ → List LooseToken → ℕ → Type 0
 HasRead names text tokens place = tokens_of names text ≡ onto tokens (tokens_from names 0 place (drop place text))
-
-onto_none : (later : Result (List LooseToken) TokenFault) → later ≡ onto [] later
-onto_none (Ok later) = refl
-onto_none (Err bad) = refl
-
-pub read_nothing : (names : DayNames) (text : List ℕ) → HasRead names text [] 0
-read_nothing names text = onto_none (tokens_from names 0 0 text)
 
 drop_nil : (n : ℕ) → drop {A = ℕ} n [] ≡ []
 drop_nil zero = refl
@@ -138,11 +126,6 @@ pub read_fault : (names : DayNames) (text : List ℕ) (tokens : List LooseToken)
 read_fault names text tokens place bad h some none f =
     h ∙ ap (onto tokens) (at_fault names place (drop place text) bad some none f)
 
-pub read_all : (names : DayNames) (text : List ℕ) (tokens : List LooseToken) (place : ℕ) → HasRead names text tokens place
-    → length (drop place text) ≤ 0 → tokens_of names text ≡ Ok tokens
-read_all names text tokens place h none =
-    h ∙ ap (onto tokens) (at_end names place (drop place text) none) ∙ ap Ok (append-nil tokens)
-
 found_by : (names : DayNames) (text : List ℕ) (tokens : List LooseToken) (place : ℕ) (found : Option Front) (token : LooseToken)
     → HasRead names text tokens place → 1 ≤ length (drop place text) → space_length (drop place text) ≤ 0
     → front names (drop place text) ≡ found → IsFound place found token
@@ -172,8 +155,9 @@ space_read names text tokens place n bytes h e k some =
     subst (λ (m : ℕ). HasRead names text tokens (place + m)) (sym same) (read_space names text tokens place h more)
 
 pub token_read : (names : DayNames) (text : List ℕ) (tokens : List LooseToken) (place n : ℕ) (bytes : List ℕ)
-    (token : LooseToken) → HasRead names text tokens place → bytes ≡ drop place text → n ≡ space_length bytes → n ≤ 0 → 1 ≤ length bytes
-    → IsFound place (front names bytes) token → HasRead names text (tokens ++ token ∷ []) token.to × (place < token.to)
+    (token : LooseToken) → HasRead names text tokens place → bytes ≡ drop place text → n ≡ space_length bytes → n ≤ 0
+    → 1 ≤ length bytes → IsFound place (front names bytes) token
+    → HasRead names text (tokens ++ token ∷ []) token.to × (place < token.to)
 token_read names text tokens place n bytes token h e k none some is =
     let P : List ℕ → Type 0 = λ l. (space_length l ≤ 0) × (1 ≤ length l) × IsFound place (front names l) token in
     let x = subst P e (subst (λ (m : ℕ). m ≤ 0) k none, some, is) in

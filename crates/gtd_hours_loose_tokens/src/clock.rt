@@ -4,12 +4,14 @@ ghost use Rattle.std.specs.Prelude.{◌≡◌, ◌+◌, ◌≤◌, ◌<◌, ◌^
 ghost use Rattle.std.specs.Char.{is_ascii_digit};
 ghost use Rattle.std.specs.List.{list_all};
 ghost use Rattle.std.specs.Str.Parse.{digits_value};
-ghost use Rattle.gtd_hours_loose_tokens.specs.Clock.{begins_digit, begins_letter, begins_part, clock_front, digits_front, few_digits};
+ghost use Rattle.gtd_hours_loose_tokens.specs.Clock.{begins_digit, begins_letter, begins_part, clock_front, digits_front};
+ghost use Rattle.gtd_hours_loose_tokens.specs.Clock.{few_digits};
 ghost use Rattle.gtd_hours_loose_tokens.specs.Clock.{half_day, hour_letter, hour_or_number, is_evening, is_morning, minute_front};
 ghost use Rattle.gtd_hours_loose_tokens.specs.Clock.{minute_of, number_front, up_to_word, with_uhr, word_behind};
 
-use crate::runs::{after_digits, after_spaces, digits_at_front, letters_at_front, space_count};
+use crate::runs::{after_spaces, space_count};
 use crate::token::LooseKind;
+use gtd_scan::{after_digits, digits_at_front, digits_value, letters_at_front};
 
 /// The number or the time that begins with this longest run of digits and goes on with these bytes, and its length.
 pub fn digits_front(digits: &[u8], rest: &[u8]) -> Option<(LooseKind, usize)>
@@ -239,17 +241,4 @@ fn two_digits(digits: &[u8]) -> u8
     ensures small { result < 100 }
 {
     digits_value(digits) as u8
-}
-
-fn digits_value(digits: &[u8]) -> u16
-    requires few { length digits.now ≤ 4 }
-    requires all { list_all is_ascii_digit digits.now ≡ true }
-    ensures value { result ≡ digits_value 10 digits.now }
-    ensures small { result < 10 ^ length digits.now }
-{
-    let mut number = 0;
-    for digit in digits {
-        number = number * 10 + u16::from(*digit - b'0');
-    }
-    number
 }

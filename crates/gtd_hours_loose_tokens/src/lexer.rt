@@ -6,11 +6,11 @@ ghost use Rattle.gtd_hours_loose_tokens.specs.Stops.{IsFaultHere, IsFound, IsTok
 ghost use Rattle.gtd_hours_loose_tokens.specs.Words.{name_of};
 
 use crate::clock::digits_front;
-use crate::runs::{after_digits, after_letters, digits_at_front, letters_at_front};
 use crate::signs::{sign_front, space_length};
 use crate::stop::LooseStop;
 use crate::token::{DayNames, LooseKind, LooseToken, TokenFault};
 use crate::words::{name_of, word_of};
+use gtd_scan::{after_digits, after_letters, digits_at_front, letters_at_front};
 use std::alloc::{AllocError, Global};
 
 /// The tokens of a text in letters of lower case, or the first place where one is wrong.

@@ -1,7 +1,8 @@
 //! Words of opening hours, in letters of lower case.
 
 ghost use Rattle.std.specs.Prelude.{◌≡◌};
-ghost use Rattle.gtd_hours_loose_tokens.specs.Words.{english_month, english_weekday, german_weekday, month_of, name_of, other_month};
+ghost use Rattle.gtd_hours_loose_tokens.specs.Words.{english_month, english_weekday, german_weekday, month_of, name_of};
+ghost use Rattle.gtd_hours_loose_tokens.specs.Words.{other_month};
 ghost use Rattle.gtd_hours_loose_tokens.specs.Words.{short_german, short_month, short_weekday, sun_word, unread_word, weekday_of};
 ghost use Rattle.gtd_hours_loose_tokens.specs.Words.{word_of};
 ghost use Rattle.gtd_hours_loose_tokens.specs.Words.{in_german, shortened_weekday};
