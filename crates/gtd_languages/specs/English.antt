@@ -184,26 +184,12 @@ english_word Or = codes "or:"
 english_word OnlyIn = codes "and all this only in:"
 english_word ExceptIn = codes "and all this except in:"
 
--- A unit of time, of one.
-unfoldable pub english_one : Unit → List ℕ
-english_one Years = codes "year"
-english_one Months = codes "month"
-english_one Weeks = codes "week"
-english_one Days = codes "day"
-english_one Hours = codes "hour"
-english_one Minutes = codes "minute"
-english_one Seconds = codes "second"
-
--- A unit of time, of several.
-unfoldable pub english_several : Unit → List ℕ
-english_several Years = codes "years"
-english_several Months = codes "months"
-english_several Weeks = codes "weeks"
-english_several Days = codes "days"
-english_several Hours = codes "hours"
-english_several Minutes = codes "minutes"
-english_several Seconds = codes "seconds"
-
 -- A unit of time after a number.
 unfoldable pub english_unit : Unit → Form → List ℕ
-english_unit unit form = one_or form (english_one unit) (english_several unit)
+english_unit Years form = one_or form (codes "year") (codes "years")
+english_unit Months form = one_or form (codes "month") (codes "months")
+english_unit Weeks form = one_or form (codes "week") (codes "weeks")
+english_unit Days form = one_or form (codes "day") (codes "days")
+english_unit Hours form = one_or form (codes "hour") (codes "hours")
+english_unit Minutes form = one_or form (codes "minute") (codes "minutes")
+english_unit Seconds form = one_or form (codes "second") (codes "seconds")

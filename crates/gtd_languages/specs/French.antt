@@ -187,28 +187,18 @@ french_word Or = codes "ou :"
 french_word OnlyIn = codes "et tout cela seulement :"
 french_word ExceptIn = codes "et tout cela sauf :"
 
--- A unit of time, of one.
-unfoldable pub french_one : Unit → List ℕ
-french_one Years = codes "an"
-french_one Months = codes "mois"
-french_one Weeks = codes "semaine"
-french_one Days = codes "jour"
-french_one Hours = codes "heure"
-french_one Minutes = codes "minute"
-french_one Seconds = codes "seconde"
-
--- A unit of time, of several.
-unfoldable pub french_several : Unit → List ℕ
-french_several Years = codes "ans"
-french_several Months = codes "mois"
-french_several Weeks = codes "semaines"
-french_several Days = codes "jours"
-french_several Hours = codes "heures"
-french_several Minutes = codes "minutes"
-french_several Seconds = codes "secondes"
+-- A text for 0 and 1, and one for all other numbers.
+abbrev pub up_to_one : Form → List ℕ → List ℕ → List ℕ
+up_to_one Zero one other = one
+up_to_one One one other = one
+up_to_one form one other = other
 
 -- A unit of time after a number.
 unfoldable pub french_unit : Unit → Form → List ℕ
-french_unit unit One = french_one unit
-french_unit unit Zero = french_one unit
-french_unit unit form = french_several unit
+french_unit Years form = up_to_one form (codes "an") (codes "ans")
+french_unit Months form = up_to_one form (codes "mois") (codes "mois")
+french_unit Weeks form = up_to_one form (codes "semaine") (codes "semaines")
+french_unit Days form = up_to_one form (codes "jour") (codes "jours")
+french_unit Hours form = up_to_one form (codes "heure") (codes "heures")
+french_unit Minutes form = up_to_one form (codes "minute") (codes "minutes")
+french_unit Seconds form = up_to_one form (codes "seconde") (codes "secondes")

@@ -182,26 +182,12 @@ german_word Or = codes "oder:"
 german_word OnlyIn = codes "und all dies nur:"
 german_word ExceptIn = utf8 (codes "und all dies außer:")
 
--- A unit of time, of one.
-unfoldable pub german_one : Unit → List ℕ
-german_one Years = codes "Jahr"
-german_one Months = codes "Monat"
-german_one Weeks = codes "Woche"
-german_one Days = codes "Tag"
-german_one Hours = codes "Stunde"
-german_one Minutes = codes "Minute"
-german_one Seconds = codes "Sekunde"
-
--- A unit of time, of several.
-unfoldable pub german_several : Unit → List ℕ
-german_several Years = codes "Jahre"
-german_several Months = codes "Monate"
-german_several Weeks = codes "Wochen"
-german_several Days = codes "Tage"
-german_several Hours = codes "Stunden"
-german_several Minutes = codes "Minuten"
-german_several Seconds = codes "Sekunden"
-
 -- A unit of time after a number.
 unfoldable pub german_unit : Unit → Form → List ℕ
-german_unit unit form = one_or form (german_one unit) (german_several unit)
+german_unit Years form = one_or form (codes "Jahr") (codes "Jahre")
+german_unit Months form = one_or form (codes "Monat") (codes "Monate")
+german_unit Weeks form = one_or form (codes "Woche") (codes "Wochen")
+german_unit Days form = one_or form (codes "Tag") (codes "Tage")
+german_unit Hours form = one_or form (codes "Stunde") (codes "Stunden")
+german_unit Minutes form = one_or form (codes "Minute") (codes "Minuten")
+german_unit Seconds form = one_or form (codes "Sekunde") (codes "Sekunden")

@@ -6,8 +6,7 @@ ghost use Rattle.gtd_languages.specs.English.{english_day, english_list_lead, en
 ghost use Rattle.gtd_languages.specs.English.{english_run_to, english_list_end, english_place_lead, english_place_end};
 ghost use Rattle.gtd_languages.specs.English.{english_back_lead, english_back_end, english_date_lead, english_each_lead};
 ghost use Rattle.gtd_languages.specs.English.{english_monday, english_ordinal, english_date_ending, english_fixed};
-ghost use Rattle.gtd_languages.specs.English.{english_lead, english_end, english_word, english_unit, english_one};
-ghost use Rattle.gtd_languages.specs.English.{english_several};
+ghost use Rattle.gtd_languages.specs.English.{english_lead, english_end, english_word, english_unit};
 ghost use Rattle.gtd_languages.specs.declared.word.Role.TheVariants.{On, From, If};
 
 use crate::shared::{by_role, one_or, time_end, time_lead};
@@ -375,40 +374,18 @@ pub fn word(word: Word) -> &'static str
     }
 }
 
-#[tactic(auto, unfolding(crate::specs::English::english_one))]
-fn one(unit: Unit) -> &'static str
-    ensures { result.now ≡ english_one unit }
-{
-    match unit {
-        Unit::Years => "year",
-        Unit::Months => "month",
-        Unit::Weeks => "week",
-        Unit::Days => "day",
-        Unit::Hours => "hour",
-        Unit::Minutes => "minute",
-        Unit::Seconds => "second",
-    }
-}
-
-#[tactic(auto, unfolding(crate::specs::English::english_several))]
-fn several(unit: Unit) -> &'static str
-    ensures { result.now ≡ english_several unit }
-{
-    match unit {
-        Unit::Years => "years",
-        Unit::Months => "months",
-        Unit::Weeks => "weeks",
-        Unit::Days => "days",
-        Unit::Hours => "hours",
-        Unit::Minutes => "minutes",
-        Unit::Seconds => "seconds",
-    }
-}
-
 /// A unit of time after a number.
 #[tactic(auto, unfolding(crate::specs::English::english_unit))]
 pub fn unit(unit: Unit, form: Form) -> &'static str
     ensures { result.now ≡ english_unit unit form }
 {
-    one_or(form, one(unit), several(unit))
+    match unit {
+        Unit::Years => one_or(form, "year", "years"),
+        Unit::Months => one_or(form, "month", "months"),
+        Unit::Weeks => one_or(form, "week", "weeks"),
+        Unit::Days => one_or(form, "day", "days"),
+        Unit::Hours => one_or(form, "hour", "hours"),
+        Unit::Minutes => one_or(form, "minute", "minutes"),
+        Unit::Seconds => one_or(form, "second", "seconds"),
+    }
 }

@@ -6,7 +6,7 @@ ghost use Rattle.gtd_languages.specs.French.{french_list_lead, french_run_lead, 
 ghost use Rattle.gtd_languages.specs.French.{french_list_end, french_place_lead, french_place_end, french_back_lead};
 ghost use Rattle.gtd_languages.specs.French.{french_back_end, french_date_lead, french_each_lead, french_monday};
 ghost use Rattle.gtd_languages.specs.French.{french_ordinal, french_date_ending, french_fixed, french_lead, french_end};
-ghost use Rattle.gtd_languages.specs.French.{french_word, french_unit, french_one, french_several};
+ghost use Rattle.gtd_languages.specs.French.{french_word, french_unit, up_to_one};
 ghost use Rattle.gtd_languages.specs.declared.word.Role.TheVariants.{On, From, If};
 
 use crate::shared::{by_role, one_or, time_end, time_lead};
@@ -398,33 +398,17 @@ pub fn word(word: Word) -> &'static str
     }
 }
 
-#[tactic(auto, unfolding(crate::specs::French::french_one))]
-fn one(unit: Unit) -> &'static str
-    ensures { result.now ≡ french_one unit }
+// The first text for 0 and 1, the other for all other numbers.
+fn up_to_one(form: Form, one: &'static str, other: &'static str) -> &'static str
+    ensures { result.now ≡ up_to_one form one.now other.now }
 {
-    match unit {
-        Unit::Years => "an",
-        Unit::Months => "mois",
-        Unit::Weeks => "semaine",
-        Unit::Days => "jour",
-        Unit::Hours => "heure",
-        Unit::Minutes => "minute",
-        Unit::Seconds => "seconde",
-    }
-}
-
-#[tactic(auto, unfolding(crate::specs::French::french_several))]
-fn several(unit: Unit) -> &'static str
-    ensures { result.now ≡ french_several unit }
-{
-    match unit {
-        Unit::Years => "ans",
-        Unit::Months => "mois",
-        Unit::Weeks => "semaines",
-        Unit::Days => "jours",
-        Unit::Hours => "heures",
-        Unit::Minutes => "minutes",
-        Unit::Seconds => "secondes",
+    match form {
+        Form::Zero => one,
+        Form::One => one,
+        Form::EndsInOne => other,
+        Form::EndsInTwo => other,
+        Form::EndsInThree => other,
+        Form::Other => other,
     }
 }
 
@@ -433,12 +417,13 @@ fn several(unit: Unit) -> &'static str
 pub fn unit(unit: Unit, form: Form) -> &'static str
     ensures { result.now ≡ french_unit unit form }
 {
-    match form {
-        Form::One => one(unit),
-        Form::Zero => one(unit),
-        Form::EndsInOne => several(unit),
-        Form::EndsInTwo => several(unit),
-        Form::EndsInThree => several(unit),
-        Form::Other => several(unit),
+    match unit {
+        Unit::Years => up_to_one(form, "an", "ans"),
+        Unit::Months => up_to_one(form, "mois", "mois"),
+        Unit::Weeks => up_to_one(form, "semaine", "semaines"),
+        Unit::Days => up_to_one(form, "jour", "jours"),
+        Unit::Hours => up_to_one(form, "heure", "heures"),
+        Unit::Minutes => up_to_one(form, "minute", "minutes"),
+        Unit::Seconds => up_to_one(form, "seconde", "secondes"),
     }
 }

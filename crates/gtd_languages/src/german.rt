@@ -6,7 +6,7 @@ ghost use Rattle.gtd_languages.specs.German.{german_list_lead, german_run_lead, 
 ghost use Rattle.gtd_languages.specs.German.{german_list_end, german_place_lead, german_place_end, german_back_lead};
 ghost use Rattle.gtd_languages.specs.German.{german_back_end, german_date_lead, german_each_lead, german_monday};
 ghost use Rattle.gtd_languages.specs.German.{german_ordinal, german_date_ending, german_fixed, german_lead, german_end};
-ghost use Rattle.gtd_languages.specs.German.{german_word, german_unit, german_one, german_several};
+ghost use Rattle.gtd_languages.specs.German.{german_word, german_unit};
 ghost use Rattle.gtd_languages.specs.declared.word.Role.TheVariants.{On, From, If};
 
 use crate::shared::{by_role, one_or, time_end, time_lead};
@@ -387,40 +387,18 @@ pub fn word(word: Word) -> &'static str
     }
 }
 
-#[tactic(auto, unfolding(crate::specs::German::german_one))]
-fn one(unit: Unit) -> &'static str
-    ensures { result.now ≡ german_one unit }
-{
-    match unit {
-        Unit::Years => "Jahr",
-        Unit::Months => "Monat",
-        Unit::Weeks => "Woche",
-        Unit::Days => "Tag",
-        Unit::Hours => "Stunde",
-        Unit::Minutes => "Minute",
-        Unit::Seconds => "Sekunde",
-    }
-}
-
-#[tactic(auto, unfolding(crate::specs::German::german_several))]
-fn several(unit: Unit) -> &'static str
-    ensures { result.now ≡ german_several unit }
-{
-    match unit {
-        Unit::Years => "Jahre",
-        Unit::Months => "Monate",
-        Unit::Weeks => "Wochen",
-        Unit::Days => "Tage",
-        Unit::Hours => "Stunden",
-        Unit::Minutes => "Minuten",
-        Unit::Seconds => "Sekunden",
-    }
-}
-
 /// A unit of time after a number.
 #[tactic(auto, unfolding(crate::specs::German::german_unit))]
 pub fn unit(unit: Unit, form: Form) -> &'static str
     ensures { result.now ≡ german_unit unit form }
 {
-    one_or(form, one(unit), several(unit))
+    match unit {
+        Unit::Years => one_or(form, "Jahr", "Jahre"),
+        Unit::Months => one_or(form, "Monat", "Monate"),
+        Unit::Weeks => one_or(form, "Woche", "Wochen"),
+        Unit::Days => one_or(form, "Tag", "Tage"),
+        Unit::Hours => one_or(form, "Stunde", "Stunden"),
+        Unit::Minutes => one_or(form, "Minute", "Minuten"),
+        Unit::Seconds => one_or(form, "Sekunde", "Sekunden"),
+    }
 }

@@ -12,7 +12,8 @@ use Rattle.gtd_phrases.specs.Grammar.{IsIn, IsLine, members, next}
 use Rattle.gtd_languages.specs.Forms.{form_of}
 use Rattle.gtd_phrases.specs.Pieces.{after, before, figures_of, number_text, phrase_text, text}
 use Rattle.gtd_phrases.specs.Ranges.{IsWritten}
-use Rattle.gtd_phrases.proofs.PhraseTerms.{Figures, Nothing, Plain, Two, Four, Form, Zero, One, EndsInOne, EndsInTwo, EndsInThree, Other}
+use Rattle.gtd_phrases.proofs.PhraseTerms.{Figures, Nothing, Plain, Two, Four, Form, Zero, One, EndsInOne, EndsInTwo, EndsInThree}
+use Rattle.gtd_phrases.proofs.PhraseTerms.{Other}
 use Rattle.gtd_phrases.proofs.PhraseTerms.{Language, Phrase, Piece}
 use Rattle.gtd_phrases.proofs.Numbers.{AreDigits, Both, NoDigit, are_digits, decimal_then, digit, four_then, split_digits}
 use Rattle.gtd_phrases.proofs.Numbers.{two_then}
@@ -340,9 +341,6 @@ sound_in l p (x ∷ ps) h (inr i) =
     sound_in l p ps (and_parts (is_sound (entry l x)) (all_sound (entries l ps)) h).1 i
 
 -- ---- the number of a phrase
-
-abbrev PlainEnds : Language → Phrase → Type 0
-PlainEnds l p = (not (is_plain (figures_of p)) || no_digits (afters_of l p)) ≡ true
 
 number_then : (l : Language) (p : Phrase) (f : Figures) (m n : ℕ) (r s : List ℕ) → IsWritten f m → IsWritten f n
     → (not (is_plain f) || no_digits (afters_of l p)) ≡ true

@@ -2,9 +2,8 @@
 use Rattle.std.proofs.Common.{◌≡◌, ℕ, Bool, true, false, List, [], ◌∷◌, ◌++◌}
 use Rattle.std.specs.Prelude.{◌==◌, ◌&&◌, ◌||◌, not}
 use Rattle.std.specs.Char.{is_ascii_digit}
-use Rattle.gtd_phrases.specs.Grammar.{Group, First, Later, NoMonth, AfterHour, AfterMinute, AfterMinuteAnd, AfterSecondOf}
-use Rattle.gtd_phrases.specs.Grammar.{AfterEndHour}
-use Rattle.gtd_phrases.specs.Grammar.{AfterEnd, AfterEndDay, members, next}
+use Rattle.gtd_phrases.specs.Grammar.{Group, Later, NoMonth}
+use Rattle.gtd_phrases.specs.Grammar.{members, next}
 use Rattle.gtd_phrases.specs.Pieces.{after, before, figures_of}
 use Rattle.gtd_phrases.proofs.PhraseTerms.{Figures, Nothing, Plain, Zero, One, EndsInOne, EndsInTwo, EndsInThree, Other}
 use Rattle.gtd_phrases.proofs.PhraseTerms.{Language, Phrase}
@@ -152,19 +151,3 @@ is_good l g = good_place (later_heads l) (no_month_heads l) (entries l (members 
 
 pub record Good (l : Language) : Type 0 where
   pub places : (g : Group) → is_good l g ≡ true
-
--- a table is good if it is so at each place
-pub by_place : (l : Language) → is_good l First ≡ true → is_good l Later ≡ true → is_good l NoMonth ≡ true
-    → is_good l AfterHour ≡ true → is_good l AfterMinute ≡ true → is_good l AfterMinuteAnd ≡ true
-    → is_good l AfterSecondOf ≡ true → is_good l AfterEndHour ≡ true → is_good l AfterEnd ≡ true
-    → is_good l AfterEndDay ≡ true → (g : Group) → is_good l g ≡ true
-by_place l a b c d e f g h i j First = a
-by_place l a b c d e f g h i j Later = b
-by_place l a b c d e f g h i j NoMonth = c
-by_place l a b c d e f g h i j AfterHour = d
-by_place l a b c d e f g h i j AfterMinute = e
-by_place l a b c d e f g h i j AfterMinuteAnd = f
-by_place l a b c d e f g h i j AfterSecondOf = g
-by_place l a b c d e f g h i j AfterEndHour = h
-by_place l a b c d e f g h i j AfterEnd = i
-by_place l a b c d e f g h i j AfterEndDay = j
