@@ -3,7 +3,8 @@
 ghost use Rattle.std.specs.Prelude.{◌≡◌, ◌<◌, ◌↔◌, IsTrue};
 ghost use Rattle.gtd_core.specs.Parts.{duration_parts};
 ghost use Rattle.gtd_mistakes.specs.Shapes as spec;
-ghost use Rattle.gtd_mistakes.specs.Shapes.{EndsAfterMidnight, EndsWithinDay, HasNoClock, HasNoDay, HasNoOtherDay, IsDaily, Lasts};
+ghost use Rattle.gtd_mistakes.specs.Shapes.{EndsAfterMidnight, EndsWithinDay, HasNoClock, HasNoDay, HasNoOtherDay, IsDaily};
+ghost use Rattle.gtd_mistakes.specs.Shapes.{Lasts};
 ghost use Rattle.gtd_mistakes.specs.Shapes.{IsMonthAlone, LastsClock};
 
 use gtd_core::limits::DAY_SECONDS;
