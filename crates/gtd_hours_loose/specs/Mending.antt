@@ -1,8 +1,9 @@
 -- The strict form of a loosely written text: what is written for each of its tokens, and in place of what.
-use Rattle.std.specs.Prelude.{ℕ, ◌≡◌, ◌+◌, ◌-◌, ◌/◌, ◌%◌, ◌==◌, nat_lt, not, Bool, List, [], ◌∷◌}
+use Rattle.std.specs.Prelude.{ℕ, ◌≡◌, ◌+◌, ◌-◌, ◌==◌, nat_lt, not, Bool, List, [], ◌∷◌}
 use Rattle.std.specs.Prelude.{◌++◌, length}
 use Rattle.std.specs.Prelude.{drop, take, map, codes, decimal, bytes_eq, if◌then◌else◌}
 use Rattle.std.specs.Char.{to_ascii_lowercase}
+use Rattle.gtd_hours.specs.Written.{month_name, two_digits, weekday_name}
 use Rattle.gtd_hours_loose.specs.declared.behind.Behind.{Behind}
 use Rattle.gtd_hours_loose.specs.declared.behind.Behind.TheVariants as behind
 use Rattle.gtd_hours_loose.specs.declared.behind.Fate.{Fate}
@@ -27,39 +28,10 @@ pub record Mended : Type 0 where
 
 -- ---- strict forms
 
-abbrev pub two_digits : ℕ → List ℕ
-two_digits n = (48 + n / 10) ∷ (48 + n % 10) ∷ []
-
-abbrev pub month_form : ℕ → List ℕ
-month_form month =
-    if month == 1 then codes "Jan"
-    else if month == 2 then codes "Feb"
-    else if month == 3 then codes "Mar"
-    else if month == 4 then codes "Apr"
-    else if month == 5 then codes "May"
-    else if month == 6 then codes "Jun"
-    else if month == 7 then codes "Jul"
-    else if month == 8 then codes "Aug"
-    else if month == 9 then codes "Sep"
-    else if month == 10 then codes "Oct"
-    else if month == 11 then codes "Nov"
-    else codes "Dec"
-
--- Sunday is 1 and Saturday 7.
-abbrev pub weekday_form : ℕ → List ℕ
-weekday_form weekday =
-    if weekday == 1 then codes "Su"
-    else if weekday == 2 then codes "Mo"
-    else if weekday == 3 then codes "Tu"
-    else if weekday == 4 then codes "We"
-    else if weekday == 5 then codes "Th"
-    else if weekday == 6 then codes "Fr"
-    else codes "Sa"
-
 -- The strict form of a token with this text. A comment is kept as it is; other words and signs are in lower case.
 abbrev pub form_of : LooseKind → List ℕ → List ℕ
-form_of (kind.Month m) written = month_form m
-form_of (kind.Weekday d) written = weekday_form d
+form_of (kind.Month m) written = month_name m
+form_of (kind.Weekday d) written = weekday_name d
 form_of (kind.Time h m) written = two_digits h ++ 58 ∷ two_digits m
 form_of kind.PublicHoliday written = codes "PH"
 form_of kind.SchoolHoliday written = codes "SH"

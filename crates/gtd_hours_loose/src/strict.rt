@@ -2,7 +2,8 @@
 
 ghost use Rattle.std.specs.Prelude.{◌≡◌, ◌+◌, ◌≤◌, ◌<◌, ◌++◌, ◌∷◌, [], List, OnOk, IfOk, length, map};
 ghost use Rattle.std.specs.Char.{to_ascii_lowercase};
-ghost use Rattle.gtd_hours_loose.specs.Mending.{Holds, Mended, form_of, month_form, stretch, two_digits, weekday_form};
+ghost use Rattle.gtd_hours.specs.Written.{month_name, two_digits, weekday_name};
+ghost use Rattle.gtd_hours_loose.specs.Mending.{Holds, Mended, form_of, stretch};
 
 use gtd_hours_loose_tokens::LooseKind;
 use std::alloc::{AllocError, Global};
@@ -52,8 +53,8 @@ pub fn stretch(text: &[u8], from: usize, to: usize) -> &[u8]
     }
 }
 
-fn month_form(month: u8) -> &'static str
-    ensures { result.now ≡ month_form month }
+fn month_name(month: u8) -> &'static str
+    ensures { result.now ≡ month_name month }
 {
     match month {
         1 => "Jan",
@@ -71,8 +72,8 @@ fn month_form(month: u8) -> &'static str
     }
 }
 
-fn weekday_form(weekday: u8) -> &'static str
-    ensures { result.now ≡ weekday_form weekday }
+fn weekday_name(weekday: u8) -> &'static str
+    ensures { result.now ≡ weekday_name weekday }
 {
     match weekday {
         1 => "Su",
@@ -113,8 +114,8 @@ fn push_form(out: &mut Vec<u8>, kind: LooseKind, written: &[u8]) -> Result<(), A
     ensures { OnOk result (out.new.items ≡ out.old.items ++ form_of kind written.now) }
 {
     match kind {
-        LooseKind::Month(month) => out.extend_from_slice(month_form(month).as_bytes()),
-        LooseKind::Weekday(weekday) => out.extend_from_slice(weekday_form(weekday).as_bytes()),
+        LooseKind::Month(month) => out.extend_from_slice(month_name(month).as_bytes()),
+        LooseKind::Weekday(weekday) => out.extend_from_slice(weekday_name(weekday).as_bytes()),
         LooseKind::Time { hour, minute } => push_time(out, hour, minute),
         LooseKind::PublicHoliday => out.extend_from_slice(b"PH"),
         LooseKind::SchoolHoliday => out.extend_from_slice(b"SH"),
