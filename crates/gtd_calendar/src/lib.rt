@@ -6,7 +6,9 @@
 #![tactic(auto)]
 
 pub use clock::{end_of, second_of_day};
-pub use day::{DayFields, day_of, fields, weekday};
+pub use day::{
+    DayFields, FIRST_CALENDAR_DAY, LAST_CALENDAR_DAY, day_of, fields, is_calendar_day, weekday,
+};
 pub use stamp::{StampFault, read_date, read_stamp, write_clock, write_date, write_stamp};
 pub use year::{days_before_month, days_of_year, first_of_month, length_of_year, new_year};
 

@@ -92,13 +92,6 @@ ordinal-theirs d n e =
     placed : (first : ℤ) (a b d k : ℕ) → 1 ≤ d → a ≡ b → first +ℤ pos (b + (d - 1)) ≡ first +ℤ pos k → a + d ≡ k + 1
     placed first a b d k low e f = omega (arith, signed_arith)
 
--- a number that the library gives for a date of this calendar
-pub day_number-theirs : (r y z : ℤ) (m d long : ℕ) → z ≡ y → (neg_ℤ (pos 9999) ≤ℤ y) × (y ≤ℤ pos 9999) → 1 ≤ m → m ≤ 12
-    → 1 ≤ d → d ≤ long → long ≡ theirs.days_in_month z m → r ≡ theirs.days_from_civil z m d → r ≡ day_number y m d
-day_number-theirs r y z m d long e year low high first last same is =
-    let year' = rw (← e) at year in
-    rw (is, ← e) (days_from_civil-theirs z m d (year', (low, high), (first, rw same at last)))
-
 -- from the first day of the month at a count of months to this day of it, or to its last
 pub day_in_month-theirs : (count d : ℕ) (first : Date) (n : ℤ) → 1 ≤ d → first.year ≡ pos (count / 12)
     → first.month ≡ count % 12 + 1 → first.day ≡ 1 → n ≡ day_number first.year first.month first.day
