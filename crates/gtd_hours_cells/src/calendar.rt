@@ -1,26 +1,16 @@
 //! Dates of each year, and days.
 
-ghost use Rattle.std.specs.Prelude.{◌↔◌, IsTrue};
-ghost use Rattle.gtd_calendar.specs.Calendar.{IsCalendarDay};
+ghost use Rattle.std.specs.Prelude.{◌≡◌, ◌↔◌, pos, IsSome, IfSome};
+ghost use Rattle.gtd_hours_cells.specs.Dates.{IsShortYear, IsYearlyDate};
+ghost use Rattle.gtd_hours_cells.specs.Dates as spec;
 
 use crate::cell::{Date, DateRange, Days, EACH_DAY, Numbers, Once, Yearly};
-use gtd_calendar::{DayFields, day_of, fields};
-
-/// The first day of the calendar: 1800-01-01.
-const FIRST_CALENDAR_DAY: i64 = -62_091;
-
-/// The last day of the calendar: 2799-12-31.
-const LAST_CALENDAR_DAY: i64 = 303_150;
-
-/// Whether the calendar has the day.
-pub fn is_calendar_day(day: i64) -> bool
-    ensures { IsTrue result ↔ IsCalendarDay day }
-{
-    FIRST_CALENDAR_DAY <= day && day <= LAST_CALENDAR_DAY
-}
+use gtd_calendar::{DayFields, day_of, fields, is_calendar_day};
 
 /// How many days a month has in leap years.
-pub fn longest(month: u8) -> u8 {
+pub fn longest(month: u8) -> u8
+    ensures days { result ≡ spec.longest month }
+{
     match month {
         2 => 29,
         4 | 6 | 9 | 11 => 30,
@@ -60,13 +50,42 @@ pub fn sample_day(date: Date) -> Option<i64> {
     day_of(year, date.month, date.day)
 }
 
-/// The date after another.
-pub fn next_date(date: Date) -> Option<Date> {
-    date_of(sample_day(date)?.wrapping_add(1))
+/// The date after another in leap years, or `None` exactly if no year has the other one.
+pub fn next_date(date: Date) -> Option<Date>
+    ensures exists { IsSome result ↔ IsYearlyDate date }
+    ensures next { IfSome result (λ next. next ≡ spec.next_date date) }
+{
+    let is_month = 1 <= date.month && date.month <= 12;
+    if !is_month || date.day < 1 || date.day > longest(date.month) {
+        return None;
+    }
+    Some(date_after(date))
 }
 
-/// A year of four digits.
-pub fn short_year(year: i64) -> Option<u16> {
+fn date_after(date: Date) -> Date
+    requires { IsYearlyDate date }
+    ensures { result ≡ spec.next_date date }
+{
+    if date.day < longest(date.month) {
+        return Date {
+            month: date.month,
+            day: date.day + 1,
+        };
+    }
+    if date.month == 12 {
+        return Date { month: 1, day: 1 };
+    }
+    Date {
+        month: date.month + 1,
+        day: 1,
+    }
+}
+
+/// A year of at most four digits, or `None` exactly if the year is another one.
+pub fn short_year(year: i64) -> Option<u16>
+    ensures exists { IsSome result ↔ IsShortYear year }
+    ensures value { IfSome result (λ short. year ≡ pos short) }
+{
     if year < 0 || year > 9_999 {
         return None;
     }

@@ -1,5 +1,8 @@
 //! Cells: the same minutes of some days.
 
+ghost use Rattle.std.specs.Prelude.{◌↔◌, IsTrue};
+ghost use Rattle.gtd_hours_cells.specs.Cells.{IsWhole};
+
 /// Numbers from the first to the last.
 #[derive(Clone, Copy, PartialEq, Eq)]
 pub struct Numbers {
@@ -125,6 +128,8 @@ pub fn whole(days: Days) -> Cell {
 }
 
 /// Whether a cell is all of its days.
-pub fn is_whole(cell: &Cell) -> bool {
+pub fn is_whole(cell: &Cell) -> bool
+    ensures whole { IsTrue result ↔ IsWhole cell.now }
+{
     cell.begin == 0 && cell.end == DAY_MINUTES
 }

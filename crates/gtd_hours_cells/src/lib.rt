@@ -1,7 +1,7 @@
 //! The days and the minutes of them that the seconds of a time domain may be, as a search for opening hours needs them.
 //!
-//! [`cells_of`] goes by the parts of an expression, and [`cells_of_week`] by the spans of a week. A list of cells stands for what is
-//! left if they are added and taken away one after another. It is a guess: what uses it looks whether the seconds are those of
+//! [`cells_of`] goes by the parts of an expression, and [`cells_of_week`] by the spans of a week. A list of cells stands for what
+//! is left if they are added and taken away one after another. It is a guess: what uses it looks whether the seconds are those of
 //! the domain.
 #![tactic(auto)]
 

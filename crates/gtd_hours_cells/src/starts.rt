@@ -1,5 +1,7 @@
 //! The cells of basic domains.
 
+ghost use Rattle.std.specs.Prelude.{◌≡◌, ◌≤◌, ◌<◌, ◌^◌, ◌-◌, ◌⊎◌};
+
 use crate::calendar::{day_in, days_once, longest};
 use crate::cell::{
     Cell, Date, DateRange, Days, EACH_DAY, EACH_WEEKDAY, MONDAY, Numbers, Place, Yearly, whole,
@@ -8,8 +10,11 @@ use crate::stretch::put_stretch;
 use gtd_core::{Basic, StartParts};
 use std::alloc::{AllocError, Global};
 
-/// The bit of a weekday, from Sunday on.
-pub fn weekday_bit(weekday: u8) -> u8 {
+/// The bit of a weekday, of which Sunday is 1 and Saturday 7; no bit for another number.
+pub fn weekday_bit(weekday: u8) -> u8
+    ensures bit { 1 ≤ weekday → weekday ≤ 7 → result ≡ 2 ^ (weekday - 1) }
+    ensures none { (weekday ≡ 0) ⊎ (7 < weekday) → result ≡ 0 }
+{
     match weekday {
         1 => 1,
         2 => 2,

@@ -1,12 +1,12 @@
 //! The cells of stretches.
 
-use crate::calendar::{days_once, days_yearly, is_calendar_day, sample_day};
+use crate::calendar::{days_once, days_yearly, sample_day};
 use crate::cell::{
     Cell, DAY_MINUTES, DateRange, Days, EACH_DAY, EACH_WEEK, EACH_WEEKDAY, MONDAY, Numbers, Once,
     Yearly, whole,
 };
 use crate::later::later;
-use gtd_calendar::{end_of, second_of_day};
+use gtd_calendar::{end_of, is_calendar_day, second_of_day};
 use gtd_core::{Duration, Sec};
 use std::alloc::{AllocError, Global};
 

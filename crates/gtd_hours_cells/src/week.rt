@@ -1,10 +1,9 @@
 //! The cells of domains that repeat each week.
 
-use crate::calendar::is_calendar_day;
 use crate::cell::{Cell, Days, EACH_DAY, whole};
 use crate::starts::weekday_bit;
 use crate::stretch::put_run;
-use gtd_calendar::{second_of_day, weekday};
+use gtd_calendar::{is_calendar_day, second_of_day, weekday};
 use gtd_core::{Domain, Horizon, Span};
 use gtd_eval::{is_weekly, spans};
 use std::alloc::{AllocError, Global};
