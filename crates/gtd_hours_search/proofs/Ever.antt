@@ -1,5 +1,5 @@
--- Expressions whose years are near agree for ever if they agree from 1901 to 2699: before and after, the basic domains that give a
--- year hold nothing, and the others repeat after 400 years.
+-- Expressions whose years are near agree for ever if they agree from 1901 to 2699: before and after, the basic domains that give
+-- a year hold nothing, and the others repeat after 400 years.
 use Rattle.std.proofs.Common.{◌≡◌, ◌↔◌, ◌⊎◌, inl, inr, refl, subst, sym, ℕ, ◌+◌, ◌*◌, ◌<◌, ◌≤◌, Option, Some, None, IfSome, arith}
 use Rattle.std.specs.Prelude.{ℤ, pos, neg_ℤ, ◌+ℤ◌, ◌-ℤ◌, ◌*ℤ◌, ◌<ℤ◌, ◌≤ℤ◌}
 use Rattle.std.proofs.lemmas.Int.{ints, by_lt_z}

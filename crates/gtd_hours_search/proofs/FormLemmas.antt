@@ -90,9 +90,6 @@ by_weekday p d o no_year no_week no_month nth back days (selector.NthBack x) h =
 
 -- ---- the days of a stretch
 
-pub least-common : (m : ℕ) → 28 ≤ common_length m
-least-common m = grind arith
-
 pub most-common : (m : ℕ) → common_length m ≤ 31
 most-common m = grind arith
 

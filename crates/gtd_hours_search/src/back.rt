@@ -105,9 +105,9 @@ fn of_parts(alloc: Global, domain: &Domain) -> Result<Option<Hours>, AllocError>
 }
 
 /// Hours that are open at exactly the seconds of the domain, or `None` if none are found. They are found for each domain that has
-/// the form of a translation of hours, and for other domains that are joined of years, dates, weeks, weekdays and minutes of days.
-/// The hours can be written: their kinds of selectors stand in the order of the syntax. `AllocError` is answered only if memory was
-/// refused.
+/// the form of a translation of hours, and for other domains that are joined of years, dates, weeks, weekdays and minutes of
+/// days. The hours can be written: their kinds of selectors stand in the order of the syntax. `AllocError` is answered only if
+/// memory was refused.
 pub fn hours_of(alloc: Global, domain: &Domain) -> Result<Option<Hours>, AllocError>
     ensures same { IfOk result (λ found. IfSome found (λ hours. (s : ℤ) → IsOpen hours s ↔ InDomain domain.now s)) }
     ensures writable { IfOk result (λ found. IfSome found IsWritable) }

@@ -12,15 +12,10 @@ ghost use Rattle.gtd_hours_search.specs.Forms.{AreWeeks, AreYears, IsDayLeaf, Is
 
 use crate::dates::{dates_from, months_from};
 use crate::weekdays::weekdays_of;
-use gtd_calendar::{day_of, fields};
+use gtd_calendar::{day_of, fields, is_calendar_day};
 use gtd_core::{Basic, DurationParts, StartParts};
 use gtd_hours::{Dated, Selector, WeekdayPlace, Weeks, YearDate, Years};
-
-/// The last day of the calendar: 2799-12-31.
-const LAST_CALENDAR_DAY: i64 = 303_150;
-
-/// The first day of the calendar: 1800-01-01.
-const FIRST_CALENDAR_DAY: i64 = -62_091;
+use gtd_hours_cells::short_year;
 
 /// The selector of the days of a basic domain, if it has the form of one. The clock is not looked at.
 pub fn selector_of(basic: &Basic) -> Option<Selector>
@@ -80,21 +75,13 @@ fn from_date(year: u16, month: u8, day: u8, days: u32) -> Option<Selector> {
     Some(Selector::Dated(dated))
 }
 
-// A year of four digits.
-fn short_year(year: i64) -> Option<u16> {
-    if year < 0 || year > 9_999 {
-        return None;
-    }
-    Some(year as u16)
-}
-
 // The date of the last of so many days from one on.
 fn last_date(begin: i64, days: u32) -> Option<YearDate> {
-    if begin < FIRST_CALENDAR_DAY || begin > LAST_CALENDAR_DAY || days == 0 {
+    if !is_calendar_day(begin) || days == 0 {
         return None;
     }
     let last = begin + i64::from(days) - 1;
-    if last > LAST_CALENDAR_DAY {
+    if !is_calendar_day(last) {
         return None;
     }
     let date = fields(last);

@@ -7,5 +7,6 @@ pub returns : goal.returns
 returns c h =
     let domain = c.args.domain.now in
     let other = c.args.other.now in
-    let same : domain_tree domain ≡ domain_tree other = tree_equal (domain_tree domain) (domain_tree other) (sym c.eq.ensures ∙ h) in
+    let same : domain_tree domain ≡ domain_tree other =
+    tree_equal (domain_tree domain) (domain_tree other) (sym c.eq.ensures ∙ h) in
     λ s. rw same (λ x. x, λ x. x)

@@ -1,7 +1,10 @@
 use Rattle.std.proofs.Common.{◌≡◌, ◌⊎◌, ◌+◌, arith, ◌∙◌, sym}
 use Rattle.gtd_hours_search.proofs.FormLemmas.{few-days, last-found}
 use Rattle.gtd_hours_search.proofs.dates.dates_from.Goals as goal
-use Rattle.gtd_hours_search.proofs.dates.dates_from.Goals.{then-month-eq0-via-then-month-eq0, then-month-eq0-via-else-month-eq0+then-month-gt-MONTHS_OF_YEAR, then-month-eq0-via-else-month-eq0+else-month-gt-MONTHS_OF_YEAR+then-months-gt12, then-month-eq0-via-else-month-eq0+else-month-gt-MONTHS_OF_YEAR+else-months-gt12+then-days-gt-MOST_DAYS}
+use Rattle.gtd_hours_search.proofs.dates.dates_from.Goals.{then-month-eq0-via-then-month-eq0}
+use Rattle.gtd_hours_search.proofs.dates.dates_from.Goals.{then-month-eq0-via-else-month-eq0+then-month-gt-MONTHS_OF_YEAR}
+use Rattle.gtd_hours_search.proofs.dates.dates_from.Goals.{then-month-eq0-via-else-month-eq0+else-month-gt-MONTHS_OF_YEAR+then-months-gt12}
+use Rattle.gtd_hours_search.proofs.dates.dates_from.Goals.{then-month-eq0-via-else-month-eq0+else-month-gt-MONTHS_OF_YEAR+else-months-gt12+then-days-gt-MOST_DAYS}
 
 -- what is refused is no stretch
 pub returns-then-month-eq0 : goal.returns-then-month-eq0

@@ -5,7 +5,8 @@ use Rattle.gtd_hours_search.proofs.leaf.selector_of.Goals as goal
 pub returns-in-Some : goal.returns-in-Some
 returns-in-Some c =
     rw (sym c.parts-parts.ensures.value, sym c.parts-lasts.ensures.value)
-    (λ h. by_year c.parts-parts.result c.parts-lasts.result c.in-Some.year c.in_year.result c.in-Some.is c.in_year.ensures h.0 h.1)
+    (λ h. by_year c.parts-parts.result c.parts-lasts.result c.in-Some.year c.in_year.result c.in-Some.is c.in_year.ensures
+    h.0 h.1)
 
 pub returns-in-Some-week : goal.returns-in-Some-week
 returns-in-Some-week c =
