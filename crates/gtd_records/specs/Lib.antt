@@ -7,6 +7,7 @@ pub mod Cut
 pub mod Faults
 pub mod File
 pub mod Index
+pub mod KeptCodes
 pub mod Reading
 pub mod RecordFaultNames
 pub mod Row

@@ -10,6 +10,7 @@ use crate::record::Record;
 use crate::row::RowReader;
 use crate::rows::{RowTaker, RowsEnd, take_rows};
 use csv::ByteRecord;
+use gtd_core::limits::MOST_ROWS;
 use std::alloc::{AllocError, Global};
 
 /// The records of the rows that were read, and the fault of the row after them.
@@ -46,6 +47,15 @@ impl RowTaker for Reading {
     }
 }
 
+// The least bytes that a row takes, with its line end: those of `1,both,0,`.
+const SHORTEST_ROW: usize = 10;
+
+// The number of rows for which there has to be room, so that no more is asked for while they are read: at least as many as these
+// bytes hold, and no more than a file may have.
+fn most_rows_of(bytes: &[u8]) -> usize {
+    (bytes.len() / SHORTEST_ROW + 1).min(MOST_ROWS as usize)
+}
+
 // The records of a file's bytes, or its first fault.
 pub(crate) fn read_table(alloc: Global, bytes: &[u8]) -> Result<Vec<Record>, RecordFault>
     ensures few { IfOk result (λ found. length found.items ≤ most_rows) }
@@ -55,7 +65,7 @@ pub(crate) fn read_table(alloc: Global, bytes: &[u8]) -> Result<Vec<Record>, Rec
 {
     let mut reading = Reading {
         rows: RowReader::new(alloc),
-        found: Vec::new(alloc),
+        found: Vec::with_capacity(alloc, most_rows_of(bytes))?,
         fault: RecordFault::Header,
     };
     match take_rows(alloc, bytes, &mut reading)? {

@@ -15,6 +15,7 @@ ghost use Rattle.gtd_records.specs.Columns.{IsSortedSet};
 
 use crate::direction::Direction;
 use crate::record::Record;
+use crate::sections::{Sections, places_below_near};
 use gtd_core::{Horizon, Op, Sec};
 use gtd_eval::{Leaf, Period, Stay, SweepTree};
 use std::alloc::{AllocError, Global};
@@ -41,6 +42,7 @@ pub struct Records {
     rows: Vec<Record>,
     places: Vec<RowPlace>,
     elements: Vec<u64>,
+    sections: Sections,
 }
 
 impl Model for Records {
@@ -63,7 +65,7 @@ impl Model for Records {
 fn places_of(alloc: Global, rows: &[Record]) -> Result<Vec<RowPlace>, AllocError>
     ensures { IfOk result (λ places. ArePlaces rows.now places.items) }
 {
-    let mut places = Vec::new(alloc);
+    let mut places = Vec::with_capacity(alloc, rows.len())?;
     for (row, record) in rows.iter().enumerate() {
         places.push(RowPlace {
             element: record.element,
@@ -118,10 +120,12 @@ impl Records {
     {
         let places = places_of(alloc, rows.as_slice())?;
         let elements = elements_of(alloc, places.as_slice())?;
+        let sections = Sections::new(alloc, places.as_slice())?;
         Ok(Records {
             rows,
             places,
             elements,
+            sections,
         })
     }
 
@@ -144,7 +148,8 @@ impl Records {
         ensures places { AreElementPlaces self.now element result.now }
     {
         let places = self.places.as_slice();
-        let from = places_below(places, element);
+        let near = self.sections.near(element, places.len());
+        let from = places_below_near(places, near, element);
         for at in from..places.len() {
             let place = places[at];
             if place.element != element {

@@ -33,4 +33,5 @@ mod record;
 mod row;
 mod rows;
 mod schedule;
+mod sections;
 mod vehicles;

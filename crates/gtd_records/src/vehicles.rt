@@ -1,6 +1,6 @@
 //! The vehicle types that a record closes for.
 
-ghost use Rattle.std.specs.Prelude.{◌≡◌, ◌↔◌, IsTrue, IfOk, option_map};
+ghost use Rattle.std.specs.Prelude.{◌≡◌, ◌↔◌, ◌∷◌, [], IsTrue, IfOk, option_map};
 ghost use Rattle.std.specs.List.{Contains};
 ghost use Rattle.std.specs.List.Sorted.{IsStrictlyIncreasing};
 ghost use Rattle.gtd_records.specs.Columns.{code_of, IsSortedSet, IsCodes, AreTypesRead, codes_of, is_zero, items_of};
@@ -10,6 +10,7 @@ ghost use Rattle.gtd_records.specs.Columns.{types_listed, single, type_of, vehic
 use crate::column::read_code;
 use std::alloc::{AllocError, Global};
 use std::marker::Model;
+use std::slice;
 
 /// Which header a record file has, and so how its third column is read.
 #[derive(Clone, Copy, Debug, PartialEq, Eq)]
@@ -20,21 +21,31 @@ pub enum Version {
     Two,
 }
 
-/// Codes of vehicle types, in ascending order, each once.
+// Codes, as they are kept: most records have one code, and no memory is taken for it.
+#[derive(Drop)]
+enum Kept {
+    // This code alone.
+    One(u8),
+    // These codes.
+    Several(Box<Vec<u8>>),
+}
+
+/// Codes of vehicle types, in ascending order, each once. A single one takes no memory.
 #[derive(Drop)]
 pub struct Codes {
-    codes: Vec<u8>,
+    kept: Kept,
 }
 
 impl Model for Codes {
     ghost use Rattle.std.specs.Prelude.{List, ℕ};
     ghost use Rattle.std.specs.List.Sorted.{IsStrictlyIncreasing};
+    ghost use Rattle.gtd_records.specs.KeptCodes.{kept_codes};
 
     ghost Value = { List ℕ };
 
-    ghost view = { λ a. a.codes.items };
+    ghost view = { λ a. kept_codes a.kept };
 
-    ghost invariant = { λ a. IsStrictlyIncreasing a.codes.items };
+    ghost invariant = { λ a. IsStrictlyIncreasing (kept_codes a.kept) };
 }
 
 /// The vehicle types that a record closes for, by their codes.
@@ -49,13 +60,35 @@ pub enum Vehicles {
 }
 
 impl Codes {
+    // A single code.
+    fn single(code: u8) -> Codes
+        ensures { result ≡ code ∷ [] }
+    {
+        Codes {
+            kept: Kept::One(code),
+        }
+    }
+
+    // Codes that are in ascending order, each once.
+    fn of_set(alloc: Global, codes: Vec<u8>) -> Result<Codes, AllocError>
+        requires { IsStrictlyIncreasing codes.items }
+        ensures { IfOk result (λ kept. kept ≡ codes.items) }
+    {
+        if codes.len() == 1 {
+            return Ok(Codes::single(codes[0]));
+        }
+        Ok(Codes {
+            kept: Kept::Several(Box::new(alloc, codes)?),
+        })
+    }
+
     // The same codes, in ascending order, each once.
-    fn ascending(mut codes: Vec<u8>) -> Codes
-        ensures { IsSortedSet codes.items result }
+    fn ascending(alloc: Global, mut codes: Vec<u8>) -> Result<Codes, AllocError>
+        ensures { IfOk result (λ kept. IsSortedSet codes.items kept) }
     {
         codes.sort_unstable();
         codes.dedup();
-        Codes { codes }
+        Codes::of_set(alloc, codes)
     }
 
     /// The codes, in ascending order, each once.
@@ -63,13 +96,16 @@ impl Codes {
         ensures codes { result.now ≡ self.now }
         ensures ascending { IsStrictlyIncreasing result.now }
     {
-        self.codes.as_slice()
+        match &self.kept {
+            Kept::One(code) => slice::from_ref(code),
+            Kept::Several(codes) => codes.as_slice(),
+        }
     }
 
     fn contains(&self, code: u8) -> bool
         ensures member { IsTrue result ↔ Contains self.now code }
     {
-        self.codes.contains(&code)
+        self.as_slice().contains(&code)
     }
 }
 
@@ -126,7 +162,7 @@ fn read_list(alloc: Global, text: &[u8]) -> Result<Option<Codes>, AllocError>
     ensures { IfOk result (λ read. IsCodes (codes_of (items_of text.now)) read) }
 {
     match read_codes(alloc, text)? {
-        Some(codes) => Ok(Some(Codes::ascending(codes))),
+        Some(codes) => Ok(Some(Codes::ascending(alloc, codes)?)),
         None => Ok(None),
     }
 }
@@ -151,15 +187,13 @@ fn read_listed(alloc: Global, text: &[u8]) -> Result<Option<Vehicles>, AllocErro
 }
 
 // The one type that a column names.
-fn read_single(alloc: Global, text: &[u8]) -> Result<Option<Vehicles>, AllocError>
-    ensures { IfOk result (λ read. AreTypesRead (single text.now) read) }
+fn read_single(text: &[u8]) -> Option<Vehicles>
+    ensures { AreTypesRead (single text.now) result }
 {
-    let Some(code) = read_type(text) else {
-        return Ok(None);
-    };
-    let mut codes = Vec::new(alloc);
-    codes.push(code)?;
-    Ok(Some(Vehicles::Only(Codes::ascending(codes))))
+    match read_type(text) {
+        Some(code) => Some(Vehicles::Only(Codes::single(code))),
+        None => None,
+    }
 }
 
 /// The types that the third column of a record file of this version names, or `None` if it names none. `AllocError` is
@@ -175,7 +209,7 @@ pub fn read_vehicles(
         return Ok(Some(Vehicles::Every));
     }
     match version {
-        Version::One => read_single(alloc, text),
+        Version::One => Ok(read_single(text)),
         Version::Two => read_listed(alloc, text),
     }
 }

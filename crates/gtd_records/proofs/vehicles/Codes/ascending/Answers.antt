@@ -1,9 +1,15 @@
+use Rattle.std.proofs.Common.{sym, subst, List, ℕ}
+use Rattle.std.proofs.lemmas.Result.{IfOk-weaker}
+use Rattle.gtd_records.specs.Columns.{IsSortedSet}
 use Rattle.gtd_records.proofs.SortedSets.{sorted_set}
 use Rattle.gtd_records.proofs.vehicles.Codes.ascending.Goals as goal
 
-pub invariant_of-result : goal.invariant_of-result
-invariant_of-result c =
+pub of_set-requires : goal.of_set-requires
+of_set-requires c =
     (sorted_set _ _ _ c.sort_unstable.ensures.permutation c.sort_unstable.ensures.sorted c.dedup.ensures.filtered).order
 
 pub returns : goal.returns
-returns c = sorted_set _ _ _ c.sort_unstable.ensures.permutation c.sort_unstable.ensures.sorted c.dedup.ensures.filtered
+returns c =
+    let set = sorted_set _ _ _ c.sort_unstable.ensures.permutation c.sort_unstable.ensures.sorted c.dedup.ensures.filtered in
+    IfOk-weaker c.of_set.result _ (λ (kept : List ℕ). IsSortedSet c.args.codes.items kept)
+    (λ kept same. subst (λ (codes : List ℕ). IsSortedSet c.args.codes.items codes) (sym same) set) c.of_set.ensures
