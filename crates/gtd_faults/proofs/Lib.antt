@@ -2,7 +2,6 @@ pub mod ListFacts
 pub mod ListedFacts
 pub mod NamingFacts
 pub mod OneList
-pub mod PlaceFacts
 pub mod RowsFacts
 pub mod RunFacts
 pub mod StretchFacts

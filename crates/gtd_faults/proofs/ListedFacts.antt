@@ -25,7 +25,7 @@ use Rattle.gtd_warnings.specs.Codes.{AreLoneOfFile, codes_named}
 use Rattle.gtd_warnings.specs.RowsTold.{AreToldOfRows, IsToldOfRow}
 use Rattle.gtd_warnings.specs.declared.codes.LoneCode.{LoneCode}
 use Rattle.gtd_warnings.specs.declared.file.Asked.{Asked}
-use Rattle.gtd_faults.specs.Cut.{IsPlace}
+use Rattle.gtd_lines.specs.Cut.{IsPlace}
 use Rattle.gtd_faults.specs.ListedRows.{AreDoubtedIfAsked, AreDoubtsIfAsked, AreFaulted, AreListed}
 use Rattle.gtd_faults.specs.ListedRows.{AreLoneUnlessOff, BeginsListing, HasEnded, HasOneMore, TakesRow}
 use Rattle.gtd_faults.specs.Listing.{AreLines, IsList, IsWarned, row_of}

@@ -5,7 +5,7 @@ use Rattle.gtd_warnings.specs.Codes.{AreLoneOfFile}
 use Rattle.gtd_warnings.specs.RowsTold.{AreToldOfFile}
 use Rattle.gtd_warnings.specs.declared.codes.LoneCode.{LoneCode}
 use Rattle.gtd_warnings.specs.declared.file.Asked.{Asked}
-use Rattle.gtd_faults.proofs.RowsFacts.{one_line}
+use Rattle.gtd_lines.specs.facts.OneLine.{one_line}
 use Rattle.gtd_faults.specs.Below.{IsAround, IsOfField, below_text}
 use Rattle.gtd_faults.specs.Doubts.{AreDoubtLines, AreDoubts, AreLoneLines, IsOfPart, doubt_below, doubt_line, lone_line, opening}
 use Rattle.gtd_faults.specs.Places.{field_of}

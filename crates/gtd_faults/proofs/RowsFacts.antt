@@ -1,17 +1,12 @@
 -- At which record the rows of a file stand.
-use Rattle.std.proofs.Common.{◌≡◌, ◌∙◌, ap, refl, sym, ℕ, zero, suc, ◌+◌, Bool, true, false, List, [], ◌∷◌, ◌++◌, drop, take, Bor, Some, None}
+use Rattle.std.proofs.Common.{◌≡◌, ◌∙◌, ap, refl, sym, ℕ, zero, suc, ◌+◌, Bool, true, false, List, [], ◌∷◌, drop, Bor, Some, None}
 use Rattle.std.proofs.Common.{drop-drop}
-use Rattle.std.proofs.lemmas.List.{append_cancel_right, take-append-drop}
-use Rattle.std.specs.List.{count_by}
-use Rattle.csv.specs.Reading.{strip_bom}
 use Rattle.csv.specs.Records.{field_at}
 use Rattle.csv.specs.declared.reader.Reader.{Reader}
 use Rattle.gtd_records.specs.Columns.{Fields}
 use Rattle.gtd_records.specs.Table.{HasLeft, TakesFirst}
-use Rattle.gtd_faults.specs.Cut.{IsPlace}
-use Rattle.gtd_faults.specs.Places.{IsLine, field_in, from_record, is_line_feed, left_after}
+use Rattle.gtd_faults.specs.Places.{field_in}
 use Rattle.gtd_faults.specs.Standing.{HasGiven}
-use Rattle.gtd_faults.specs.declared.cut.Place.{Place}
 
 module _ (old new : Reader (Bor (List ℕ))) (fields : Fields) where
   pub given_first : (found : Bool) (text : List Fields) → HasLeft (λ (source : Bor (List ℕ)). Some source.now) old text
@@ -31,21 +26,6 @@ module _ (old new : Reader (Bor (List ℕ))) (fields : Fields) where
 
 pub none_next : (number : ℕ) (text : List Fields) → drop number text ≡ [] → drop (number + 1) text ≡ []
 none_next number text e = sym (drop-drop 1 number text) ∙ ap (drop 1) e
-
-pub line_of_place : (bytes : List ℕ) (number : ℕ) (place : Place) → IsPlace bytes number place → IsLine bytes number place.line
-line_of_place bytes number place is = record {
-  before = take place.at bytes;
-  record_follows = sym (take-append-drop place.at bytes) ∙ ap (λ (l : List ℕ). take place.at bytes ++ l) is.begins;
-  counted = is.counted;
-}
-
--- a row begins on one line
-pub one_line : (bytes : List ℕ) (row line other : ℕ) → IsLine bytes row line → IsLine bytes row other → line ≡ other
-one_line bytes row line other is same =
-    let start = from_record (left_after row (strip_bom bytes)).1 in
-    let before : is.before ≡ same.before =
-    append_cancel_right is.before same.before start (sym is.record_follows ∙ same.record_follows) in
-    is.counted ∙ ap (λ (l : List ℕ). count_by is_line_feed l + 1) before ∙ sym same.counted
 
 -- the field of the record at hand
 pub field_here : (number : ℕ) (text rest : List Fields) (fields : Fields) (column : ℕ) → drop number text ≡ fields ∷ rest

@@ -1,15 +1,12 @@
 -- The hint that is given for a file without a header, by its first line.
-use Rattle.std.specs.Prelude.{◌++◌, ◌||◌, ◌==◌, not, ℕ, Bool, List, [], ◌∷◌, codes, drop, length, take, if◌then◌else◌}
+use Rattle.std.specs.Prelude.{◌++◌, ◌||◌, ◌==◌, ℕ, Bool, List, [], ◌∷◌, codes, drop, length, take, if◌then◌else◌}
 use Rattle.std.specs.Prelude.{Option, Some, None}
 use Rattle.std.specs.Char.{is_ascii_uppercase, to_ascii_lowercase}
 use Rattle.std.specs.List.{count_by, list_any, take_while}
 use Rattle.gtd_records.specs.Columns.{is_word}
+use Rattle.gtd_lines.specs.Lines.{is_within}
 use Rattle.gtd_faults.specs.declared.hint.Hint.{Hint}
 use Rattle.gtd_faults.specs.declared.hint.Hint.TheVariants as hint
-
--- a byte that ends no line
-abbrev pub is_within : ℕ → Bool
-is_within byte = not (byte == 10 || byte == 13)
 
 -- the bytes of a file before its first line end
 abbrev pub first_line : List ℕ → List ℕ

@@ -1,5 +1,4 @@
 pub mod Below
-pub mod Cut
 pub mod Doubts
 pub mod Expected
 pub mod Hints
@@ -11,4 +10,5 @@ pub mod Printable
 pub mod Run
 pub mod Sentences
 pub mod Standing
+pub use Rattle.gtd_lines.specs.Lines
 pub use Rattle.gtd_records.specs.Faults

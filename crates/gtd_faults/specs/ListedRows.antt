@@ -19,11 +19,11 @@ use Rattle.gtd_warnings.specs.Codes.{AreLoneOfRows, codes_named, naming, rows_ne
 use Rattle.gtd_warnings.specs.RowsTold.{AreToldOfRows}
 use Rattle.gtd_warnings.specs.declared.codes.LoneCode.{LoneCode}
 use Rattle.gtd_warnings.specs.declared.file.Asked.{Asked}
-use Rattle.gtd_faults.specs.Cut.{IsPlace}
+use Rattle.gtd_lines.specs.Cut.{IsPlace}
 use Rattle.gtd_faults.specs.Doubts.{AreDoubtLines, AreLoneLines}
 use Rattle.gtd_faults.specs.Listing.{AreLines}
 use Rattle.gtd_faults.specs.Naming.{AreKept}
-use Rattle.gtd_faults.specs.declared.cut.Place.{Place}
+use Rattle.gtd_lines.specs.declared.cut.Place.{Place}
 use Rattle.gtd_faults.specs.declared.doubts.DoubtLines.{DoubtLines}
 use Rattle.gtd_faults.specs.declared.lines.FaultLines.{FaultLines}
 use Rattle.gtd_faults.specs.declared.listing.Listing.{Listing}

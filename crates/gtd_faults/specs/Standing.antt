@@ -6,7 +6,7 @@ use Rattle.csv.specs.Records.{fields_of}
 use Rattle.csv.specs.declared.reader.Reader.{Reader}
 use Rattle.gtd_records.specs.Columns.{Fields}
 use Rattle.gtd_records.specs.Table.{HasLeft}
-use Rattle.gtd_faults.specs.Cut.{IsPlace}
+use Rattle.gtd_lines.specs.Cut.{IsPlace}
 use Rattle.gtd_faults.specs.declared.places.Rows.{Rows}
 use Rattle.gtd_faults.specs.declared.row.Row.{Row}
 

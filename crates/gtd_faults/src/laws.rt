@@ -13,8 +13,9 @@ ghost use Rattle.gtd_records.specs.declared.vehicles.Version.{Version};
 ghost use Rattle.gtd_warnings.specs.declared.file.Asked.{Asked};
 ghost use Rattle.gtd_faults.specs.Doubts.{AreDoubts};
 ghost use Rattle.gtd_faults.specs.Listing.{AreLines, fault_line, row_of};
-ghost use Rattle.gtd_faults.specs.Places.{IsLine, IsLineAt};
+ghost use Rattle.gtd_faults.specs.Places.{IsLineAt};
 
+pub use gtd_lines::laws::one_line;
 use gtd_records::laws::{listed_faults, one_answer};
 use gtd_warnings::laws as warnings;
 
@@ -43,8 +44,3 @@ pub fn one_list_of_warnings()
 {
     warnings::one_answer();
 }
-
-/// A row of a file begins on one line.
-pub fn one_line()
-    ensures one { (bytes : List ℕ) (row line other : ℕ) → IsLine bytes row line → IsLine bytes row other → line ≡ other }
-{}

@@ -14,7 +14,6 @@ pub use words::{Expected, FaultText, accepted, accepted_at};
 
 mod below;
 mod codes;
-mod cut;
 mod doubts;
 mod hint;
 pub mod laws;

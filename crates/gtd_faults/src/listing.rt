@@ -12,11 +12,11 @@ ghost use Rattle.gtd_faults.specs.ListedRows.{AreDoubtedIfAsked, AreDoubtsIfAske
 ghost use Rattle.gtd_faults.specs.Listing.{IsList};
 ghost use Rattle.gtd_faults.specs.Standing.{IsRowOf};
 
-use crate::cut::Place;
 use crate::doubts::DoubtLines;
 use crate::lines::FaultLines;
 use crate::row::Row;
 use csv::ByteRecord;
+use gtd_lines::Place;
 use gtd_records::{RecordFault, RowReader, RowTaker, RowsEnd, Version, take_rows};
 use gtd_warnings::Asked;
 use std::alloc::{AllocError, Global};

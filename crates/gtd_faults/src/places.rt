@@ -8,9 +8,9 @@ ghost use Rattle.gtd_faults.specs.Places.{IsLine, IsLineAt, field_of};
 ghost use Rattle.gtd_faults.specs.Standing.{HasGiven, IsRowOf, StandsAt};
 
 use crate::below::Below;
-use crate::cut::Place;
 use crate::row::Row;
 use csv::{ByteRecord, Reader};
+use gtd_lines::Place;
 use gtd_records::{next_row, table};
 use std::alloc::{AllocError, Global};
 

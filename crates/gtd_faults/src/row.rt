@@ -8,10 +8,10 @@ ghost use Rattle.gtd_faults.specs.Places.{field_of};
 ghost use Rattle.gtd_faults.specs.Standing.{IsRowOf};
 
 use crate::below::Below;
-use crate::cut::Place;
 use crate::lines::first_line;
 use crate::stretch::Stretch;
 use csv::ByteRecord;
+use gtd_lines::Place;
 
 /// A row of a file.
 #[derive(Clone, Copy)]

@@ -1,5 +1,5 @@
 use Rattle.std.proofs.Common.{[], refl, sym, append-nil}
-use Rattle.gtd_faults.proofs.RowsFacts.{line_of_place}
+use Rattle.gtd_lines.specs.facts.OneLine.{line_of_place}
 use Rattle.gtd_faults.proofs.codes.lone_text.Goals as goal
 
 pub returns : goal.returns

@@ -5,7 +5,7 @@ use Rattle.gtd_mistakes.specs.declared.rule.Rule.TheVariants as rule
 use Rattle.gtd_mistakes.specs.declared.told.Told.{Told}
 use Rattle.gtd_faults.specs.Doubts.{doubt_below, doubt_line}
 use Rattle.gtd_faults.proofs.ListFacts.{doubt_lines_more}
-use Rattle.gtd_faults.proofs.RowsFacts.{line_of_place}
+use Rattle.gtd_lines.specs.facts.OneLine.{line_of_place}
 use Rattle.gtd_faults.proofs.doubts.push_told.Goals as goal
 
 abbrev nothing : Told

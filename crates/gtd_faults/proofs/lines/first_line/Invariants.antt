@@ -1,6 +1,6 @@
 use Rattle.std.proofs.Common.{◌≡◌, ◌+◌, drop}
 use Rattle.std.specs.List.{prefix_len}
-use Rattle.gtd_faults.specs.Hints.{is_within}
+use Rattle.gtd_lines.specs.Lines.{is_within}
 use Rattle.gtd_faults.proofs.lines.first_line.Given as goal
 
 -- the bytes so far are within the line

@@ -4,7 +4,7 @@ use Rattle.gtd_faults.proofs.listing.nothing_listed.Goals as goal
 pub returns : goal.returns
 returns c = λ version. record {
   of_file = refl;
-  place = c.first.ensures;
+  place = c.first.ensures.place;
   faulted = record {
     of_file = c.new-2.ensures.path;
     each = c.new-2.ensures.faults;

@@ -1,5 +1,5 @@
 use Rattle.std.proofs.Common.{refl}
-use Rattle.gtd_faults.proofs.RowsFacts.{line_of_place}
+use Rattle.gtd_lines.specs.facts.OneLine.{line_of_place}
 use Rattle.gtd_faults.proofs.lines.FaultLines.add_of_row.Goals as goal
 
 pub returns : goal.returns

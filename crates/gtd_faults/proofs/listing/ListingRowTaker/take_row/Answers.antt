@@ -1,7 +1,7 @@
 use Rattle.std.proofs.Common.{◌≡◌, ◌++◌, ◌∷◌, [], arith, sym, subst, ℕ, length, length-append}
 use Rattle.csv.specs.Records.{fields_of}
 use Rattle.gtd_records.specs.declared.vehicles.Version.{Version}
-use Rattle.gtd_faults.specs.Cut.{IsPlace}
+use Rattle.gtd_lines.specs.Cut.{IsPlace}
 use Rattle.gtd_faults.specs.ListedRows.{AreDoubtedIfAsked}
 use Rattle.gtd_faults.proofs.ListedFacts.{row_of_file}
 use Rattle.gtd_faults.proofs.listing.ListingRowTaker.take_row.Goals as goal
@@ -14,7 +14,7 @@ returns c = record {
         let old = c.args.self.now in
         let fields = fields_of c.args.row.now in
         let begins = c.next-self.result in
-        let next = c.next-self.ensures (length before) (rw (are.of_file) are.place) in
+        let next = c.next-self.ensures.place (length before) (rw (are.of_file) are.place) in
         let place : IsPlace bytes c.args.number begins =
         subst (λ (n : ℕ). IsPlace bytes n begins) (sym number) (rw (are.of_file) at next) in
         let count : c.args.number ≡ length (before ++ fields ∷ []) =

@@ -8,6 +8,6 @@ returns c = record {
     text = refl;
     at = refl;
     given = given_first _ _ _ c.in_ok-found.found _ c.table-reader.ensures c.in_ok-found.ensures;
-    place = c.first.ensures;
+    place = c.first.ensures.place;
   };
 }

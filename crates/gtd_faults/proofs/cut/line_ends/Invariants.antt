@@ -1,7 +1,0 @@
-use Rattle.std.proofs.Common.{◌≡◌, drop}
-use Rattle.gtd_faults.specs.Places.{from_record}
-use Rattle.gtd_faults.proofs.cut.line_ends.Given as goal
-
--- the bytes so far are line ends
-abbrev pub invariant-loop-at : goal.invariant-loop-at
-invariant-loop-at l = from_record l.bytes ≡ from_record (drop l.at l.bytes)

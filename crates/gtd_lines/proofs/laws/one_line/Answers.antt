@@ -1,0 +1,5 @@
+use Rattle.gtd_lines.specs.facts.OneLine.{one_line}
+use Rattle.gtd_lines.proofs.laws.one_line.Goals as goal
+
+pub returns : goal.returns
+returns c = record { one = one_line }
