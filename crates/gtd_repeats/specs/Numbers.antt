@@ -1,6 +1,7 @@
 -- Numbers that rows with the same seconds share, and that few others have.
 use Rattle.std.specs.Prelude.{◌≡◌, ◌<◌, ◌+◌, ◌-◌, ◌*◌, ◌%◌, ◌==◌, ℕ, ℤ, pos, unsigned_abs, if◌then◌else◌}
-use Rattle.std.specs.Prelude.{List, [], ◌∷◌, length, get_or, Option}
+use Rattle.std.specs.Prelude.{List, [], ◌∷◌, length, get_or, Option, Some, None, MatchOption, ◌*ℤ◌, ◌+ℤ◌}
+use Rattle.gtd_core.specs.Limits.{day_seconds, first_horizon_day, horizons_end, most_horizon_days}
 use Rattle.gtd_core.specs.Seconds.{Interval}
 use Rattle.gtd_core.specs.Trees.{Tree}
 use Rattle.gtd_records.specs.Closing.{HoldsAt, Restriction}
@@ -23,10 +24,41 @@ abbrev pub total : ℕ → List Interval → ℕ
 total left [] = 0
 total left (x ∷ xs) = if left == 0 then 0 else weight x + total (left - 1) xs
 
--- the sum of the first eight intervals of 28 years in which it holds
+-- the sum of those of the first eight, if there are any
+abbrev pub sum_of : List Interval → Option ℕ
+sum_of [] = None
+sum_of (x ∷ xs) = Some (total 8 (x ∷ xs))
+
+-- the same of the intervals in which it holds between two seconds
+abbrev pub IsSumIn : ℤ → ℤ → Option Tree → Option ℕ → Type 0
+IsSumIn from until domain sum = (xs : List Interval) × IsNormalFor (HoldsAt domain) from until xs × (sum ≡ sum_of xs)
+
+-- the first seconds of the 400 years and a day from 1901 on, and of the rest up to 2700
+abbrev pub early_begin : ℤ
+early_begin = first_horizon_day *ℤ pos day_seconds
+
+abbrev pub late_begin : ℤ
+late_begin = (first_horizon_day +ℤ pos most_horizon_days) *ℤ pos day_seconds
+
+abbrev pub late_end : ℤ
+late_end = horizons_end *ℤ pos day_seconds
+
+-- the sum of the rest of the years, or 0
+abbrev pub IsLateNumber : Option Tree → ℕ → Type 0
+IsLateNumber domain number =
+    (sum : Option ℕ) × IsSumIn late_begin late_end domain sum × MatchOption sum (number ≡ 0) (λ late. number ≡ late)
+
+-- the sum of the 400 years; that of the rest, if it does not hold in them
+abbrev pub IsEarlyNumber : Option Tree → ℕ → Type 0
+IsEarlyNumber domain number =
+    (sum : Option ℕ) × IsSumIn early_begin late_begin domain sum
+    × MatchOption sum (IsLateNumber domain number) (λ early. number ≡ early)
+
+-- The number of a domain: the sum of the 28 years, or that of all years, if it does not hold in them.
 abbrev pub IsNumberOf : Option Tree → ℕ → Type 0
 IsNumberOf domain number =
-    (xs : List Interval) × IsNormalFor (HoldsAt domain) years_begin years_end xs × (number ≡ total 8 xs)
+    (sum : Option ℕ) × IsSumIn years_begin years_end domain sum
+    × MatchOption sum (IsEarlyNumber domain number) (λ soon. number ≡ soon)
 
 -- the number of each row's domain
 pub record AreNumbers (rows : List Restriction) (numbers : List ℕ) : Type 0 where

@@ -2,15 +2,17 @@
 
 ghost use Rattle.std.specs.Prelude.{◌≡◌, ◌<◌, ◌≤◌, ◌*◌, ℕ, Some, IfOk, get_or, length, option_map};
 ghost use Rattle.gtd_core.specs.Parts.{domain_tree};
+ghost use Rattle.gtd_core.specs.Whole.{whole};
 ghost use Rattle.gtd_eval.specs.Cursors.{cursor_list};
 ghost use Rattle.gtd_repeats.specs.Known.{AreKnown};
 ghost use Rattle.gtd_repeats.specs.Numbers as spec;
-ghost use Rattle.gtd_repeats.specs.Numbers.{AreMixed, AreNumbers, IsNumberOf, mixed};
+ghost use Rattle.gtd_repeats.specs.Numbers.{AreMixed, AreNumbers, IsEarlyNumber, IsLateNumber, IsNumberOf, IsSumIn, mixed};
 ghost use Rattle.gtd_repeats.specs.Sameness.{row_at};
 
 use crate::seconds::days_between;
-use gtd_core::{Domain, Span};
-use gtd_eval::Cursor;
+use gtd_core::limits::{FIRST_HORIZON_DAY, HORIZONS_END, MOST_HORIZON_DAYS};
+use gtd_core::{Domain, Horizon, Span};
+use gtd_eval::{Cursor, is_weekly};
 use gtd_records::Record;
 use gtd_spans::SpanSource;
 use std::alloc::{AllocError, Global};
@@ -53,13 +55,52 @@ fn total_of(cursor: &mut Cursor, left: u8) -> u64
     first + rest
 }
 
-// The number of a domain.
+// The sum of those of the domain's first spans of these days, or `None` if it has none.
+fn sum_in(alloc: Global, domain: &Domain, days: Horizon) -> Result<Option<u64>, AllocError>
+    ensures sum { IfOk result (IsSumIn (whole days).from (whole days).until (Some (domain_tree domain.now))) }
+{
+    let mut cursor = Cursor::open(alloc, domain, days)?;
+    match cursor.next() {
+        Some(span) => Ok(Some(weight(span) + total_of(&mut cursor, SPANS - 1))),
+        None => Ok(None),
+    }
+}
+
+// The number of a domain by the rest of the years.
+fn late_number(alloc: Global, domain: &Domain) -> Result<u64, AllocError>
+    ensures number { IfOk result (IsLateNumber (Some (domain_tree domain.now))) }
+{
+    let days = days_between(FIRST_HORIZON_DAY + MOST_HORIZON_DAYS, HORIZONS_END);
+    match sum_in(alloc, domain, days)? {
+        Some(late) => Ok(late),
+        None => Ok(0),
+    }
+}
+
+// The number of a domain by all years.
+fn early_number(alloc: Global, domain: &Domain) -> Result<u64, AllocError>
+    ensures number { IfOk result (IsEarlyNumber (Some (domain_tree domain.now))) }
+{
+    let days = days_between(FIRST_HORIZON_DAY, FIRST_HORIZON_DAY + MOST_HORIZON_DAYS);
+    match sum_in(alloc, domain, days)? {
+        Some(early) => Ok(early),
+        None => late_number(alloc, domain),
+    }
+}
+
+// The number of a domain. One that repeats after 7 days, and has no second in 28 years, has none at all.
 fn number_of_domain(alloc: Global, domain: &Domain) -> Result<u64, AllocError>
     ensures number { IfOk result (IsNumberOf (Some (domain_tree domain.now))) }
 {
-    let years = days_between(FIRST_DAY, END_DAY);
-    let mut cursor = Cursor::open(alloc, domain, years)?;
-    Ok(total_of(&mut cursor, SPANS))
+    match sum_in(alloc, domain, days_between(FIRST_DAY, END_DAY))? {
+        Some(soon) => Ok(soon),
+        None => {
+            if is_weekly(domain) {
+                return Ok(0);
+            }
+            early_number(alloc, domain)
+        }
+    }
 }
 
 // The number of a row with this domain, or with none.
