@@ -6,3 +6,4 @@ pub mod RowFacts
 pub mod SameFacts
 pub mod SortedNumbers
 pub mod SummaryFacts
+pub mod LengthFacts

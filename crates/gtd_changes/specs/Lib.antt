@@ -1,4 +1,5 @@
 pub mod Changes
+pub mod Compared
 pub mod Forms
 pub mod Merging
 pub mod Rows

@@ -1,6 +1,7 @@
 //! The lines of the changes of an element in a direction, put one after the other.
 
-ghost use Rattle.std.specs.Prelude.{◌≡◌, ◌+◌, ◌<◌, ◌≤◌, ◌^◌, [], ◌∷◌, length, map, OnOk};
+ghost use Rattle.std.specs.Prelude.{◌≡◌, ◌+◌, ◌<◌, ◌≤◌, ◌^◌, [], ◌∷◌, false, length, map, OnOk};
+ghost use Rattle.gtd_report.specs.Run.{IsVehicleType};
 ghost use Rattle.gtd_report.specs.Putting.{Puts, PutsText, failures_after_stop};
 ghost use Rattle.gtd_report.specs.Putting.{most_direction_bytes, most_direction_lines};
 ghost use Rattle.gtd_eval.specs.Membership.{IsNormalOver};
@@ -17,7 +18,7 @@ use gtd_report::{Printer, Progress, Stop, put_line};
 use gtd_spans::SpanSource;
 
 /// The most bytes that are put of an element in a direction: 80 for each second of the longest horizon. Lines without rows never
-/// have more.
+/// have more, so that only lines with rows are held to it.
 const MOST_BYTES: u64 = 1_009_829_376_000;
 
 // Puts a line for which there must be room.
@@ -25,19 +26,22 @@ fn put_within<O: Output>(
     output: &mut O,
     progress: &mut Progress,
     line: &[u8],
+    with_rows: bool,
     room: &mut u64,
 ) -> Result<(), Stop>
     requires countable { O.failure_count output.old < u64.MAX }
+    requires short { with_rows ≡ false → length line.now ≤ room.old }
     requires written { progress.old.written + room.old < 2 ^ 64 }
     requires lines { progress.old.lines + 1 < 2 ^ 64 }
     ensures puts { Puts result (O.taken output.old) (O.taken output.new) progress.old progress.new (line.now ∷ []) }
     ensures room { OnOk result (progress.new.written + room.new ≡ progress.old.written + room.old) }
+    ensures left { OnOk result (room.new + length line.now ≡ room.old) }
     ensures lines { OnOk result (progress.new.lines ≡ progress.old.lines + 1) }
     ensures failures { O.failure_count output.new
         ≡ failures_after_stop result (O.failure_count output.old) }
 {
     let long = line.len() as u64;
-    if long > *room {
+    if with_rows && long > *room {
         return Err(Stop::Memory);
     }
     *room -= long;
@@ -55,8 +59,10 @@ fn put_changed<O: Output, A: SpanSource, B: SpanSource>(
     closed: &mut B,
 ) -> Result<(), Stop>
     requires countable { O.failure_count output.old < u64.MAX }
+    requires vehicle { IsVehicleType place.now.vehicle }
     requires opened { AreTold (A.rest opened.old) }
     requires closed { AreTold (B.rest closed.old) }
+    requires few { length (A.rest opened.old) + length (B.rest closed.old) ≤ most_direction_lines }
     requires written { printer.old.progress.written + most_direction_bytes < 2 ^ 64 }
     requires lines { printer.old.progress.lines + (length (A.rest opened.old) + length (B.rest closed.old)) < 2 ^ 64 }
     ensures puts { Puts result (O.taken output.old) (O.taken output.new) printer.old.progress printer.new.progress
@@ -66,6 +72,8 @@ fn put_changed<O: Output, A: SpanSource, B: SpanSource>(
     ensures failures { O.failure_count output.new
         ≡ failures_after_stop result (O.failure_count output.old) }
 {
+    // An element has at most 20 digits.
+    let _element = place.at.element;
     let mut room = MOST_BYTES;
     let mut ahead = Ahead {
         opened: opened.next(),
@@ -77,6 +85,7 @@ fn put_changed<O: Output, A: SpanSource, B: SpanSource>(
             output,
             &mut printer.progress,
             printer.line.as_slice(),
+            with_rows,
             &mut room,
         )?;
     }
@@ -95,6 +104,7 @@ fn put_changed_spans<O: Output, A: SpanSource, B: SpanSource>(
     requires countable { O.failure_count output.old < u64.MAX }
     requires written { printer.old.progress.written + most_direction_bytes < 2 ^ 64 }
     requires lines { printer.old.progress.lines + most_direction_lines < 2 ^ 64 }
+    requires vehicle { IsVehicleType place.now.vehicle }
     requires opened { IsNormalOver
         (WasOpened place.now.old.now place.now.new.now place.now.at.element place.now.at.direction place.now.vehicle)
         place.now.horizon (A.rest opened.old) }
@@ -123,6 +133,7 @@ pub(crate) fn put_changes<O: Output>(
     requires countable { O.failure_count output.old < u64.MAX }
     requires written { printer.old.progress.written + most_direction_bytes < 2 ^ 64 }
     requires lines { printer.old.progress.lines + most_direction_lines < 2 ^ 64 }
+    requires vehicle { IsVehicleType place.now.vehicle }
     ensures puts { PutsText (AreLinesIn (form_with with_rows) place.now.old.now place.now.new.now place.now.vehicle
         place.now.horizon place.now.at.element place.now.at.direction) result
         (O.taken output.old) (O.taken output.new) printer.old.progress printer.new.progress }

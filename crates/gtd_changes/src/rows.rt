@@ -3,6 +3,7 @@
 ghost use Rattle.std.specs.Prelude.{◌≡◌, ◌≤◌, ◌++◌, IfNone, IfOk, IfSome, IsTrue, OnOk, length, map, option_map};
 ghost use Rattle.std.specs.List.Sorted.{IsNonDecreasing, IsPermutation};
 ghost use Rattle.gtd_core.specs.Parts.{domain_tree};
+ghost use Rattle.gtd_changes.specs.Compared.{rows_in};
 ghost use Rattle.gtd_changes.specs.Same.{AreAlikeBut, AreFound, IsRowAt, Meets, element_of, new_rows, old_rows};
 
 use gtd_core::Domain;
@@ -123,24 +124,53 @@ fn by_element(alloc: Global, rows: &[Record]) -> Result<Vec<&Record>, AllocError
     Ok(refs)
 }
 
-// The record at a place, if there is one.
-fn row_at<'a>(rows: &[&'a Record], place: usize) -> Option<&'a Record>
-    ensures row { IfSome result (λ row. IsRowAt (map (λ row. row.now) rows.now) place row.now) }
-    ensures none { IfNone result (length rows.now ≤ place) }
+/// The records of a file, in the order in which they are compared.
+#[derive(Drop)]
+pub(crate) enum Rows<'a> {
+    /// That of the file.
+    InPlace(&'a [Record]),
+    /// By element, those of one element in the order of the file.
+    ByElement(Vec<&'a Record>),
+}
+
+// How many records there are.
+fn count_of(rows: &Rows<'_>) -> usize
+    ensures value { result ≡ length (rows_in rows.now) }
 {
-    if place < rows.len() {
-        Some(rows[place])
-    } else {
-        None
+    match rows {
+        Rows::InPlace(rows) => rows.len(),
+        Rows::ByElement(rows) => rows.len(),
+    }
+}
+
+// The record at a place, if there is one.
+fn row_at<'a>(rows: &'a Rows<'_>, place: usize) -> Option<&'a Record>
+    ensures row { IfSome result (λ row. IsRowAt (rows_in rows.now) place row.now) }
+    ensures none { IfNone result (length (rows_in rows.now) ≤ place) }
+{
+    match rows {
+        Rows::InPlace(rows) => {
+            if place < rows.len() {
+                Some(&rows[place])
+            } else {
+                None
+            }
+        }
+        Rows::ByElement(rows) => {
+            if place < rows.len() {
+                Some(rows[place])
+            } else {
+                None
+            }
+        }
     }
 }
 
 // The record after a place, if records are compared in the order of their rows.
-fn row_after<'a>(rows: &[&'a Record], place: usize, in_place: bool) -> Option<&'a Record> {
-    if in_place && place < rows.len() {
-        row_at(rows, place + 1)
-    } else {
-        None
+fn row_after<'a>(rows: &'a Rows<'_>, place: usize) -> Option<&'a Record> {
+    match rows {
+        Rows::InPlace(_) => row_at(rows, place.saturating_add(1)),
+        Rows::ByElement(_) => None,
     }
 }
 
@@ -178,25 +208,16 @@ fn meet(one: Option<&Record>, two: Option<&Record>, after: Option<&Record>) -> O
 }
 
 // The elements of the rows that stand in one file and not, in the same place, in the other.
-fn differing_of(
-    alloc: Global,
-    old: &[&Record],
-    new: &[&Record],
-    in_place: bool,
-) -> Result<Vec<u64>, AllocError>
-    ensures old { IfOk result (λ elements.
-        AreFound (map (λ row. row.now) old.now) (map (λ row. row.now) new.now) elements.items) }
-    ensures new { IfOk result (λ elements.
-        AreFound (map (λ row. row.now) new.now) (map (λ row. row.now) old.now) elements.items) }
+fn differing_of(alloc: Global, old: &Rows<'_>, new: &Rows<'_>) -> Result<Vec<u64>, AllocError>
+    ensures old { IfOk result (λ elements. AreFound (rows_in old.now) (rows_in new.now) elements.items) }
+    ensures new { IfOk result (λ elements. AreFound (rows_in new.now) (rows_in old.now) elements.items) }
 {
+    // No place is past the last one.
+    let _counts = (count_of(old), count_of(new));
     let mut elements = Vec::new(alloc);
     let mut at = 0usize;
     let mut next = 0usize;
-    while let Some(meeting) = meet(
-        row_at(old, at),
-        row_at(new, next),
-        row_after(new, next, in_place),
-    ) {
+    while let Some(meeting) = meet(row_at(old, at), row_at(new, next), row_after(new, next)) {
         meeting.list(&mut elements)?;
         at += meeting.old_rows();
         next += meeting.new_rows();
@@ -209,9 +230,9 @@ fn differing_in_place(alloc: Global, old: &Records, new: &Records) -> Result<Vec
     ensures old { IfOk result (λ elements. AreFound old.now new.now elements.items) }
     ensures new { IfOk result (λ elements. AreFound new.now old.now elements.items) }
 {
-    let old = refs_of(alloc, old.rows())?;
-    let new = refs_of(alloc, new.rows())?;
-    differing_of(alloc, old.as_slice(), new.as_slice(), true)
+    let olds = Rows::InPlace(old.rows());
+    let news = Rows::InPlace(new.rows());
+    differing_of(alloc, &olds, &news)
 }
 
 // The same, if those of one element are compared.
@@ -219,9 +240,9 @@ fn differing_by_element(alloc: Global, old: &Records, new: &Records) -> Result<V
     ensures old { IfOk result (λ elements. AreFound old.now new.now elements.items) }
     ensures new { IfOk result (λ elements. AreFound new.now old.now elements.items) }
 {
-    let old = by_element(alloc, old.rows())?;
-    let new = by_element(alloc, new.rows())?;
-    differing_of(alloc, old.as_slice(), new.as_slice(), false)
+    let old = Rows::ByElement(by_element(alloc, old.rows())?);
+    let new = Rows::ByElement(by_element(alloc, new.rows())?);
+    differing_of(alloc, &old, &new)
 }
 
 // The same, in the way that finds few: most often rows stand where they stood, and are not sorted then.

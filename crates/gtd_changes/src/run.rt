@@ -1,6 +1,7 @@
 //! What the record files that two inputs bring say differently, put to an output.
 
 ghost use Rattle.std.specs.Prelude.{◌≡◌, ◌<◌, ◌≤◌, ◌↔◌, None, Some, IsErrOf, IsTrue, List, OnOk, length};
+ghost use Rattle.std.proofs.Props.{props};
 ghost use Rattle.gtd_core.specs.Limits.{most_rows};
 ghost use Rattle.gtd_records.specs.Closing.{Restriction};
 ghost use Rattle.gtd_report.specs.Run.{IsVehicleType};
@@ -25,6 +26,7 @@ struct Changes<'a> {
     old: &'a Records,
     asked: Asked,
     ghost few: { length old.now ≤ most_rows },
+    ghost vehicle: { IsVehicleType asked.vehicle } by { Prim.hlevel props },
 }
 
 impl Report for Changes<'_> {

@@ -1,6 +1,8 @@
 //! The lines of all elements, in each form.
 
 ghost use Rattle.std.specs.Prelude.{◌≡◌, ◌≤◌, length};
+ghost use Rattle.std.proofs.Props.{props};
+ghost use Rattle.gtd_report.specs.Run.{IsVehicleType};
 ghost use Rattle.gtd_changes.specs.Changes.{header_line};
 ghost use Rattle.gtd_changes.specs.Forms.{AreLinesIn, header_in};
 
@@ -18,6 +20,7 @@ use gtd_report::{DirectedElement, DirectionLines, ElementLines, Printer, Stop, p
 pub(crate) struct ChangeLines<'a> {
     pub(crate) pair: &'a Pair<'a>,
     pub(crate) asked: Asked,
+    ghost vehicle: { IsVehicleType asked.vehicle } by { Prim.hlevel props },
 }
 
 /// The header of a form.
@@ -43,9 +46,6 @@ impl DirectionLines for ChangeLines<'_> {
         _found: &Records,
         at: DirectedElement,
     ) -> Result<(), Stop> {
-        if !self.pair.may_differ(at.element) {
-            return Ok(());
-        }
         let place = Place {
             old: self.pair.old,
             new: self.pair.new,
@@ -72,6 +72,9 @@ impl ElementLines for ChangeLines<'_> {
         found: &Records,
         element: u64,
     ) -> Result<(), Stop> {
+        if !self.pair.may_differ(element) {
+            return Ok(());
+        }
         put_both(output, printer, found, element, self)
     }
 }

@@ -1,4 +1,4 @@
-use Rattle.std.proofs.Common.{◌≡◌, ◌∙◌, ap, ap₂, refl, arith, ◌<◌, ◌≤◌, ◌+◌, ◌^◌, ℕ, suc, List, [], ◌∷◌, length, map, sym, subst}
+use Rattle.std.proofs.Common.{◌≡◌, ◌∙◌, ap, ap₂, refl, arith, ◌<◌, ◌≤◌, ◌+◌, ◌*◌, ◌^◌, ℕ, suc, List, [], ◌∷◌, length, map, sym, subst}
 use Rattle.std.specs.Prelude.{Ok, Err}
 use Rattle.std.proofs.lemmas.Result.{err_from_is_err_and}
 use Rattle.gtd_report.specs.facts.PutFacts.{puts_nothing}
@@ -8,6 +8,7 @@ use Rattle.gtd_changes.specs.Merging.{by_from, with_ahead}
 use Rattle.gtd_changes.specs.declared.change.Change.{Change}
 use Rattle.gtd_changes.specs.facts.RowsFacts.{line_with}
 use Rattle.gtd_changes.specs.facts.ToldFacts.{AllTold, told_both}
+use Rattle.gtd_changes.proofs.LengthFacts.{short_line}
 use Rattle.gtd_changes.proofs.put.put_changed.Goals as goal
 
 told_first : (x : Change) (xs all : List Change) → AllTold all → all ≡ x ∷ xs → AllTold (x ∷ xs)
@@ -18,6 +19,12 @@ next_lines f x xs all is = ap (map f) is
 
 room_lines : (now old len n : ℕ) → now + suc n ≤ old + len → old + len < 2 ^ 64 → (now + 1 < 2 ^ 64) × (now + 1 + n ≤ old + len)
 room_lines now old len n h k = (omega arith, omega arith)
+
+room_for_one : (n room line : ℕ) → 80 * suc n ≤ room → line ≤ 80 → line ≤ room
+room_for_one n room line h k = omega arith
+
+room_left : (n old new line : ℕ) → 80 * suc n ≤ old → new + line ≡ old → line ≤ 80 → 80 * n ≤ new
+room_left n old new line h e k = omega arith
 
 -- a line that was put is the line that is meant
 put_is : (f line : List ℕ) (P : List ℕ → Type 0) → line ≡ f → P line → P f
@@ -33,6 +40,7 @@ loop-change-init g c =
       told = subst AllTold (sym same) (told_both opened closed c.requires.opened c.requires.closed);
       written = refl;
       lines = rw (same, many) (omega arith);
+      short = λ without. rw (same, many) (let few = c.requires.few in omega arith);
       failures = refl;
       carries = λ r d s puts. rw (same) at puts;
     }
@@ -58,6 +66,14 @@ put_within-requires-clause-written g c =
     let i = c.loop-change.invariant.written in
     let room = c.requires.written in
     omega arith
+
+pub put_within-requires-clause-short : goal.put_within-requires-clause-short
+put_within-requires-clause-short g c = λ without.
+    let i = c.loop-change.invariant in
+    let takes = c.in-Some.ensures.takes in
+    let is = c.as_slice.ensures.value ∙ c.in_ok-write.ensures.line in
+    room_for_one _ _ _ (rw takes at i.short without)
+    (short_line _ _ _ _ _ _ c.args.with_rows c.in-Some.change without is (omega arith) c.requires.vehicle)
 
 pub put_within-requires-clause-lines : goal.put_within-requires-clause-lines
 put_within-requires-clause-lines g c =
@@ -88,6 +104,8 @@ loop-change-preserved g c =
       told = (told_first x _ _ i.told takes).1;
       written = put.room ∙ i.written;
       lines = rw put.lines lines;
+      short = λ without. room_left _ _ _ _ (rw takes at i.short without) put.left
+          (short_line _ _ _ _ _ _ c.args.with_rows x without is (omega arith) c.requires.vehicle);
       failures = put.failures ∙ i.failures;
       carries = carries_one a b t c.args.printer.now.progress c.loop-change.printer.progress c.put_within.new.progress _ _ _
           (f x) i.carries (next_lines f x _ _ takes) one;

@@ -1,4 +1,4 @@
-use Rattle.std.proofs.Common.{◌≡◌, ◌≤◌, ◌+◌, length, map}
+use Rattle.std.proofs.Common.{◌≡◌, ◌≤◌, ◌+◌, ◌*◌, false, length, map}
 use Rattle.gtd_report.specs.Putting.{most_direction_bytes}
 use Rattle.gtd_changes.proofs.ChangeFacts.{Carries}
 use Rattle.gtd_changes.specs.Merging.{by_from, with_ahead}
@@ -15,6 +15,8 @@ invariant-loop-change g l = record {
   lines : l.printer.progress.lines + length (by_from (with_ahead l.ahead.opened (g.A.SpanSource.rest l.opened))
       (with_ahead l.ahead.closed (g.B.SpanSource.rest l.closed)))
       ≤ l.fn.printer.progress.lines + (length (g.A.SpanSource.rest l.fn.opened) + length (g.B.SpanSource.rest l.fn.closed));
+  short : l.with_rows ≡ false → 80 * length (by_from (with_ahead l.ahead.opened (g.A.SpanSource.rest l.opened))
+      (with_ahead l.ahead.closed (g.B.SpanSource.rest l.closed))) ≤ l.room;
   failures : g.O.Output.failure_count l.output ≡ g.O.Output.failure_count l.fn.output;
   carries : Carries (g.O.Output.taken l.fn.output) l.fn.printer.progress
       (map (line_with l.place.old.now l.place.new.now l.place.vehicle l.place.at.element l.place.at.direction l.with_rows)

@@ -38,6 +38,16 @@ put_changed-requires-clause-closed g c =
     normal_told (WasClosed p.old.now p.new.now p.at.element p.at.direction p.vehicle) p.horizon
     (g.B.SpanSource.rest c.args.closed.now) c.requires.closed
 
+pub put_changed-requires-clause-few : goal.put_changed-requires-clause-few
+put_changed-requires-clause-few g c =
+    let p = c.args.place.now in
+    let few = few_both (length (g.A.SpanSource.rest c.args.opened.now)) (length (g.B.SpanSource.rest c.args.closed.now))
+    (few_normal (WasOpened p.old.now p.new.now p.at.element p.at.direction p.vehicle) p.horizon
+    (g.A.SpanSource.rest c.args.opened.now) c.requires.opened)
+    (few_normal (WasClosed p.old.now p.new.now p.at.element p.at.direction p.vehicle) p.horizon
+    (g.B.SpanSource.rest c.args.closed.now) c.requires.closed) in
+    omega (arith, few)
+
 pub put_changed-requires-clause-lines : goal.put_changed-requires-clause-lines
 put_changed-requires-clause-lines g c =
     let p = c.args.place.now in

@@ -3,24 +3,10 @@ use Rattle.gtd_changes.proofs.rows.differing_in_place.Goals as goal
 
 pub returns-clause-old : goal.returns-clause-old
 returns-clause-old c =
-    IfOk-weaker c.differing_of.result _ _ (λ elements found.
-    rw (
-      c.as_slice.ensures.value,
-      c.as_slice-2.ensures.value,
-      c.in_ok-old.ensures.same,
-      c.in_ok-new.ensures.same,
-      c.rows.ensures.rows,
-      c.rows-2.ensures.rows,
-    ) at found) c.differing_of.ensures.old
+    IfOk-weaker c.differing_of.result _ _ (λ elements found. rw (c.rows.ensures.rows, c.rows-2.ensures.rows) at found)
+    c.differing_of.ensures.old
 
 pub returns-clause-new : goal.returns-clause-new
 returns-clause-new c =
-    IfOk-weaker c.differing_of.result _ _ (λ elements found.
-    rw (
-      c.as_slice.ensures.value,
-      c.as_slice-2.ensures.value,
-      c.in_ok-old.ensures.same,
-      c.in_ok-new.ensures.same,
-      c.rows.ensures.rows,
-      c.rows-2.ensures.rows,
-    ) at found) c.differing_of.ensures.new
+    IfOk-weaker c.differing_of.result _ _ (λ elements found. rw (c.rows.ensures.rows, c.rows-2.ensures.rows) at found)
+    c.differing_of.ensures.new
