@@ -1,10 +1,10 @@
 -- Places that are found among some of the places.
-use Rattle.std.proofs.Common.{◌≡◌, ◌∙◌, subst, ◌<◌, ◌≤◌, ◌+◌, ◌-◌, ℕ, List, length, take, drop, arith}
+use Rattle.std.proofs.Common.{◌≡◌, ◌∙◌, ◌++◌, ap, subst, ◌<◌, ◌≤◌, ◌+◌, ◌-◌, ℕ, List, length, take, drop, arith}
 use Rattle.std.proofs.Common.{length-drop, length-take}
 use Rattle.std.specs.Prelude.{slice_index_or}
 use Rattle.std.specs.List.{AllWithin}
 use Rattle.std.specs.List.Sorted.{IsNonDecreasingBy}
-use Rattle.std.proofs.lemmas.List.{get_or-take, get_or-drop}
+use Rattle.std.proofs.lemmas.List.{append-nil, drop_all, get_or-take, get_or-drop, take_all}
 use Rattle.gtd_records.specs.declared.index.RowPlace.{RowPlace}
 use Rattle.gtd_records.specs.facts.IndexFacts.{any_default, by_le}
 
@@ -71,3 +71,10 @@ module _ (places : List RowPlace) (from until : ℕ) (le : from ≤ until) (with
       let l = part_length in
       of_part (λ (p : RowPlace). element ≤ p.element) k d (omega (arith, ge)) early
       (own (k - from) d (omega (arith, ge)) (omega (arith, l, ge))))
+
+-- what was written back into a list of the same length
+pub written_back : {X : Type 0} (items new : List X) (count : ℕ) → length new ≡ length items → count ≡ length items
+    → take count (new ++ drop (length new) items) ≡ new
+written_back {X} items new count long is =
+    ap (λ (rest : List X). take count (new ++ rest)) (drop_all (length new) items (omega (arith, long)))
+    ∙ ap (take count) (append-nil new) ∙ take_all count new (omega (arith, long, is))

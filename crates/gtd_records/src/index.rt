@@ -16,6 +16,7 @@ ghost use Rattle.gtd_records.specs.Columns.{IsSortedSet};
 use crate::direction::Direction;
 use crate::record::Record;
 use crate::sections::{Sections, places_below_near};
+use crate::spread::spread;
 use gtd_core::{Horizon, Op, Sec};
 use gtd_eval::{Leaf, Period, Stay, SweepTree};
 use std::alloc::{AllocError, Global};
@@ -72,6 +73,9 @@ fn places_of(alloc: Global, rows: &[Record]) -> Result<Vec<RowPlace>, AllocError
             row,
         })?;
     }
+    let sections = Sections::new(alloc, places.as_slice())?;
+    let mut ready = sections.starts(alloc)?;
+    spread(places.as_mut_slice(), &sections, ready.as_mut_slice());
     places.sort_unstable_by_key(|place| place.element);
     Ok(places)
 }

@@ -34,4 +34,5 @@ mod row;
 mod rows;
 mod schedule;
 mod sections;
+mod spread;
 mod vehicles;

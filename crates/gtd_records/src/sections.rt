@@ -19,71 +19,107 @@ pub(crate) struct Sections {
     least: u64,
     /// A section has as many elements as 2 to this power.
     bits: u32,
-    /// The number of places up to the end of each section but the last.
+    /// The number of places up to the end of each section.
     upto: Vec<usize>,
-}
-
-// The section of an element, if those before it have so many elements, as a power of two.
-fn section_of(element: u64, least: u64, bits: u32) -> usize {
-    (element.saturating_sub(least) >> (bits % 64)) as usize
 }
 
 // The length of sections, as a power of two, if elements from the first to the last are to be in at most so many.
 fn bits_for(range: u64, most: usize) -> u32 {
     match range.checked_div(most as u64) {
         Some(length) => 64u32.saturating_sub(length.leading_zeros()),
-        None => 0,
+        None => 63,
     }
 }
 
-// The range of the elements of places that are ordered by them: the least, and the greatest less the least.
+// The least element of places, and the greatest less the least.
 fn range_of(places: &[RowPlace]) -> (u64, u64) {
-    let Some(first) = places.first() else {
-        return (0, 0);
-    };
-    match places.last() {
-        Some(last) => (first.element, last.element.saturating_sub(first.element)),
-        None => (first.element, 0),
+    let mut least = u64::MAX;
+    let mut greatest = 0u64;
+    for place in places {
+        least = least.min(place.element);
+        greatest = greatest.max(place.element);
+    }
+    (least, greatest.saturating_sub(least))
+}
+
+// So many zeros.
+fn zeros(alloc: Global, count: usize) -> Result<Vec<usize>, AllocError> {
+    let mut zeros = Vec::with_capacity(alloc, count)?;
+    for _ in 0..count {
+        zeros.push(0)?;
+    }
+    Ok(zeros)
+}
+
+/// Counts one more in a section.
+pub(crate) fn count_one(counts: &mut [usize], section: usize) {
+    if let Some(count) = counts.get_mut(section) {
+        *count = count.saturating_add(1);
     }
 }
 
-// Ends each section before the given one that has no end yet.
-fn end_sections(upto: &mut Vec<usize>, section: usize, places: usize) -> Result<(), AllocError> {
-    for _ in upto.len()..section {
-        upto.push(places)?;
+// Adds to the count of each section those of the sections before it.
+fn add_up(counts: &mut [usize]) {
+    let mut sum = 0usize;
+    for section in 0..counts.len() {
+        sum = sum.saturating_add(counts[section]);
+        counts[section] = sum;
     }
-    Ok(())
 }
 
 impl Sections {
-    /// The sections of places that are ordered by element.
+    /// The sections of places, in whatever order.
     pub(crate) fn new(alloc: Global, places: &[RowPlace]) -> Result<Sections, AllocError> {
         let most = places.len() / SHARE;
         let (least, range) = range_of(places);
-        let bits = bits_for(range, most);
-        let mut upto = Vec::with_capacity(alloc, most)?;
-        for (at, place) in places.iter().enumerate() {
-            end_sections(&mut upto, section_of(place.element, least, bits), at)?;
+        let mut sections = Sections {
+            least,
+            bits: bits_for(range, most),
+            upto: zeros(alloc, most)?,
+        };
+        for place in places {
+            let section = sections.section_of(place.element);
+            count_one(sections.upto.as_mut_slice(), section);
         }
-        Ok(Sections { least, bits, upto })
+        add_up(sections.upto.as_mut_slice());
+        Ok(sections)
     }
 
-    // How many of so many places there are up to the end of a section.
-    fn upto(&self, section: usize, places: usize) -> usize {
-        match self.upto.get(section) {
+    /// The section of an element.
+    pub(crate) fn section_of(&self, element: u64) -> usize {
+        (element.saturating_sub(self.least) >> (self.bits % 64)) as usize
+    }
+
+    /// The number of places before a section.
+    pub(crate) fn start(&self, section: usize) -> usize {
+        let Some(before) = section.checked_sub(1) else {
+            return 0;
+        };
+        match self.upto.get(before) {
+            Some(start) => *start,
+            None => 0,
+        }
+    }
+
+    /// Between which of so many places those of an element are, once they are ordered.
+    pub(crate) fn near(&self, element: u64, places: usize) -> (usize, usize) {
+        let section = self.section_of(element);
+        let until = match self.upto.get(section) {
             Some(end) => *end,
             None => places,
-        }
+        };
+        (self.start(section), until)
     }
 
-    /// Between which of so many places those of an element are.
-    pub(crate) fn near(&self, element: u64, places: usize) -> (usize, usize) {
-        let section = section_of(element, self.least, self.bits);
-        let from = match section.checked_sub(1) {
-            Some(before) => self.upto(before, places),
-            None => 0,
-        };
-        (from, self.upto(section, places))
+    /// The number of places before each section.
+    pub(crate) fn starts(&self, alloc: Global) -> Result<Vec<usize>, AllocError> {
+        let mut starts = Vec::with_capacity(alloc, self.upto.len())?;
+        let mut start = 0usize;
+        for end in self.upto.as_slice() {
+            starts.push(start)?;
+            start = *end;
+        }
+        Ok(starts)
     }
 }
 

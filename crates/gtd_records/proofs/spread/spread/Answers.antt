@@ -1,0 +1,5 @@
+use Rattle.std.proofs.lemmas.List.Sorted.{IsPermutation-trans}
+use Rattle.gtd_records.proofs.spread.spread.Goals as goal
+
+pub returns-clause-moved : goal.returns-clause-moved
+returns-clause-moved c = IsPermutation-trans _ _ _ c.gather.ensures.moved c.settle.ensures.moved
