@@ -1,15 +1,15 @@
 -- Days of months, and ranges of months and dates.
 use Rattle.std.proofs.Common.{◌≡◌, ◌≢◌, ◌↔◌, ◌⊎◌, ◌&&◌, nat_lt, ℕ, ◌+◌, ◌-◌, ◌<◌, ◌≤◌, min, Some, refl, sym, ◌∙◌, inl}
 use Rattle.std.proofs.Common.{inr, arith, ◌==◌, cond}
-use Rattle.std.proofs.Common.{ℤ, pos, neg_ℤ, ◌+ℤ◌, ◌-ℤ◌, ◌≤ℤ◌, ◌<ℤ◌, unsigned_abs}
+use Rattle.std.proofs.Common.{ℤ, pos, ◌+ℤ◌, ◌-ℤ◌, ◌≤ℤ◌, unsigned_abs}
 use Rattle.std.proofs.lemmas.Bool.{cases_eq, cases_lt}
 use Rattle.gtd_calendar.specs.facts.Signed.{signed_arith, one_part}
 use Rattle.gtd_core.specs.Ranges.{no_parts}
 use Rattle.gtd_core.specs.declared.start.StartParts.{StartParts}
-use Rattle.gtd_calendar.specs.Calendar.{IsDate, IsDateOf, day_number, first_day, days_of_months, month_length, year_length}
+use Rattle.gtd_calendar.specs.Calendar.{IsDate, IsDateOf, day_number, first_day, days_of_months, month_length}
 use Rattle.gtd_calendar.specs.ComputedDates.{year_of, month_of, day_of_month}
 use Rattle.gtd_calendar.specs.ComputedFields.{day_fields}
-use Rattle.gtd_calendar.specs.facts.DateLemmas.{date_of-is, date_of-only, day_number-in_year, month_length_bounds}
+use Rattle.gtd_calendar.specs.facts.DateLemmas.{date_of-is, date_of-only, month_length_bounds}
 use Rattle.gtd_recur.specs.FieldMatches.{HoldsOnDay}
 use Rattle.gtd_hours.specs.Opening.{IsRound, date_key}
 use Rattle.gtd_hours.specs.Ranges.{IsMonth, IsMonthDay}
@@ -27,26 +27,6 @@ or_same e b p q same all = (
 
 pub one_after : (p q r : Type 0) → (p ↔ q) → (q ↔ r) → (p ↔ r)
 one_after p q r f g = ((λ x. g.0 (f.0 x)), (λ x. f.1 (g.1 x)))
-
--- the days up to the last that all months of that number have, with 29 February
-pub with_leap : (e more leap b : Type 0) (mo low high : ℕ) (n : ℤ) → mo ≡ 2 → low ≤ 29 → 29 ≤ high
-    → (leap ↔ ((month_of n ≡ 2) × (day_of_month n ≡ 29)))
-    → (more ↔ (b ⊎ ((month_of n ≡ mo) × (low ≤ day_of_month n) × (day_of_month n ≤ high)
-    × ((month_of n ≡ 2) × (day_of_month n ≡ 29) → ⊥))))
-    → (e ↔ (more ⊎ leap)) → e ↔ (b ⊎ ((month_of n ≡ mo) × (low ≤ day_of_month n) × (day_of_month n ≤ high)))
-with_leap e more leap b mo low high n two below above on common all = (
-  (λ h. elim (all.0 h) [
-    | inl x ↦ elim (common.0 x) [ inl y ↦ inl y | inr y ↦ inr (y.0, y.1, y.2) ]
-    | inr x ↦ let y = on.0 x in inr (y.0 ∙ sym two, omega (arith, y.1), omega (arith, y.1))
-  ]),
-  (λ h. all.1 (elim h [
-    | inl y ↦ inl (common.1 (inl y))
-    | inr y ↦ elim (cases_eq (day_of_month n) 29) [
-      | inl is ↦ inr (on.1 (y.0 ∙ two, is))
-      | inr not ↦ inl (common.1 (inr (y.0, y.1, y.2, λ leap. not leap.1)))
-    ]
-  ])),
-)
 
 -- a later day of the same month, and an earlier one
 pub date-later : (n y : ℤ) (m d k : ℕ) → IsDateOf n y m d → d + k ≤ month_length y m → IsDateOf (n +ℤ pos k) y m (d + k)

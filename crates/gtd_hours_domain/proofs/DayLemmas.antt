@@ -1,5 +1,5 @@
 -- What the fields of a start say of a day, in the words of opening hours.
-use Rattle.std.proofs.Common.{◌≡◌, ◌↔◌, ◌⊎◌, ℕ, zero, suc, ◌+◌, ◌-◌, ◌*◌, ◌/◌, ◌%◌, ◌^◌, ◌<◌, ◌≤◌, Some, refl, sym}
+use Rattle.std.proofs.Common.{◌≡◌, ◌↔◌, ℕ, zero, suc, ◌+◌, ◌-◌, ◌*◌, ◌/◌, ◌%◌, ◌^◌, ◌<◌, ◌≤◌}
 use Rattle.std.proofs.Common.{inl, inr, arith, ℤ, List, subst}
 use Rattle.gtd_core.specs.Ranges.{no_parts}
 use Rattle.gtd_core.specs.declared.start.StartParts.{StartParts}
@@ -8,25 +8,14 @@ use Rattle.gtd_calendar.specs.Calendar.{weekday_of}
 use Rattle.gtd_calendar.specs.ComputedFields.{day_fields}
 use Rattle.gtd_calendar.specs.facts.FieldLemmas.{fields-are, fields-only}
 use Rattle.gtd_recur.specs.FieldMatches.{HoldsOnDay}
-use Rattle.gtd_hours_domain.specs.Translation.{AreDayParts, EachHoldsAt}
+use Rattle.gtd_hours_domain.specs.Translation.{EachHoldsAt}
 use Rattle.gtd_hours.specs.Opening.{EachHolds, IsRound, Matches}
-use Rattle.gtd_hours.specs.Ranges.{IsWeekday}
 use Rattle.gtd_hours.specs.declared.hours.Kind.{Kind}
 use Rattle.gtd_hours_domain.proofs.WeekLemmas.{weekday-range}
-
--- no field
-pub none-parts : AreDayParts no_parts
-none-parts = record { year = tt; month = tt; week = tt; day = tt; nth = tt; nth_back = tt; weekdays = omega arith }
-
-pub none-holds : (f : DayFields) → HoldsOnDay no_parts f
-none-holds f = record { year = tt; month = tt; week = tt; day = tt; nth = tt; nth_back = tt; weekdays = inl refl }
 
 -- the weekdays of a range
 abbrev pub with_weekdays : ℕ → StartParts
 with_weekdays bits = record no_parts { weekdays = bits }
-
-pub weekdays-parts : (bits : ℕ) → bits < 128 → AreDayParts (with_weekdays bits)
-weekdays-parts bits lt = record { year = tt; month = tt; week = tt; day = tt; nth = tt; nth_back = tt; weekdays = lt }
 
 pub weekdays-hold : (bits first last : ℕ) → 0 < bits
     → ((k : ℕ) → 1 ≤ k → k ≤ 7 → (bits / 2 ^ (k - 1) % 2 ≡ 1) ↔ IsRound first last k)
@@ -70,50 +59,6 @@ bits-hold a b c d e f g p q r s t u v P ha hb hc hd he hf hg (suc (suc (suc (suc
     along _ g (P 7) (bit-of a b c d e f g p q r s t u v).6 hg
 bits-hold a b c d e f g p q r s t u v P ha hb hc hd he hf hg (suc (suc (suc (suc (suc (suc (suc (suc k)))))))) lo hi =
     absurd (omega arith)
-
--- some weekday is in a range of weekdays: its first one
-pub first-in : (first last : ℕ) → IsRound first last first
-first-in first last = elim (cases first last) [ inl le ↦ inl (omega arith, le) | inr lt ↦ inr (lt, inl (omega arith)) ]
-  where
-    cases : (a b : ℕ) → (a ≤ b) ⊎ (b < a)
-    cases zero b = inl (omega arith)
-    cases (suc a) zero = inr (omega arith)
-    cases (suc a) (suc b) = elim (cases a b) [ inl le ↦ inl (omega arith) | inr lt ↦ inr (omega arith) ]
-
--- a number of bits one of which is set is not 0
-pub bits-some : (bits first last : ℕ) → IsWeekday first
-    → ((k : ℕ) → 1 ≤ k → k ≤ 7 → (bits / 2 ^ (k - 1) % 2 ≡ 1) ↔ IsRound first last k) → 0 < bits
-bits-some zero first last range each =
-    let one = (each first range.0 range.1).1 (first-in first last) in absurd (none first one)
-  where
-    none : (k : ℕ) → 0 / 2 ^ (k - 1) % 2 ≡ 1 → ⊥
-    none k e = grind arith
-bits-some (suc bits) first last range each = omega arith
-
--- a place in the month
-pub nth-parts : (weekday place : ℕ) → (1 ≤ weekday) × (weekday ≤ 7) × (1 ≤ place) × (place ≤ 5)
-    → AreDayParts (record no_parts { nth = Some (place, weekday) })
-nth-parts weekday place h =
-    record { year = tt; month = tt; week = tt; day = tt; nth = (h.2, h.3, h.0, h.1); nth_back = tt; weekdays = omega arith }
-
-pub nth-hold : (weekday place : ℕ) (f : DayFields) → HoldsOnDay (record no_parts { nth = Some (place, weekday) }) f
-    ↔ ((f.weekday ≡ weekday) × (f.nth ≡ place))
-nth-hold weekday place f = (
-  (λ x. (sym x.nth.1, sym x.nth.0)),
-  (λ y. record { year = tt; month = tt; week = tt; day = tt; nth = (sym y.1, sym y.0); nth_back = tt; weekdays = inl refl }),
-)
-
-pub nth_back-parts : (weekday place : ℕ) → (1 ≤ weekday) × (weekday ≤ 7) × (1 ≤ place) × (place ≤ 5)
-    → AreDayParts (record no_parts { nth_back = Some (place, weekday) })
-nth_back-parts weekday place h =
-    record { year = tt; month = tt; week = tt; day = tt; nth = tt; nth_back = (h.2, h.3, h.0, h.1); weekdays = omega arith }
-
-pub nth_back-hold : (weekday place : ℕ) (f : DayFields) → HoldsOnDay (record no_parts { nth_back = Some (place, weekday) }) f
-    ↔ ((f.weekday ≡ weekday) × (f.nth_back ≡ place))
-nth_back-hold weekday place f = (
-  (λ x. (sym x.nth_back.1, sym x.nth_back.0)),
-  (λ y. record { year = tt; month = tt; week = tt; day = tt; nth = tt; nth_back = (sym y.1, sym y.0); weekdays = inl refl }),
-)
 
 -- the fields that are computed are a day's only ones
 pub matches-computed : (kinds : List Kind) (n : ℤ) → EachHoldsAt kinds n ↔ Matches kinds n

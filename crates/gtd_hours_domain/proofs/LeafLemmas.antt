@@ -1,11 +1,10 @@
 -- A start that gives days and a clock to the minute: where it begins, and what its stretches hold.
-use Rattle.std.proofs.Common.{◌≡◌, ◌↔◌, ℕ, ◌+◌, ◌*◌, ◌/◌, ◌%◌, ◌<◌, ◌≤◌, true, false, Some, None, max, refl, sym, ◌∙◌}
-use Rattle.std.proofs.Common.{ap, inl, arith}
+use Rattle.std.proofs.Common.{◌≡◌, ◌↔◌, ℕ, ◌+◌, ◌*◌, ◌/◌, ◌%◌, ◌<◌, ◌≤◌, true, max, refl, sym, ◌∙◌}
+use Rattle.std.proofs.Common.{inl, arith}
 use Rattle.std.proofs.Common.{ℤ, pos, ◌+ℤ◌, ◌-ℤ◌, ◌*ℤ◌, ◌≤ℤ◌, ◌<ℤ◌, unsigned_abs, subst}
-use Rattle.std.proofs.lemmas.Bool.{false≢true}
 use Rattle.gtd_calendar.specs.facts.Signed.{signed_arith, one_part}
 use Rattle.gtd_core.specs.Seconds.{day_of_second}
-use Rattle.gtd_core.specs.Ranges.{IsStart, clock_seconds, no_parts}
+use Rattle.gtd_core.specs.Ranges.{clock_seconds, no_parts}
 use Rattle.gtd_core.specs.Trees.{Tree, Single, Joined, leaf_count}
 use Rattle.gtd_core.specs.declared.start.StartParts.{StartParts}
 use Rattle.gtd_core.specs.declared.duration.DurationParts.{DurationParts}
@@ -23,26 +22,8 @@ use Rattle.gtd_recur.specs.Membership.{InStretches}
 use Rattle.gtd_recur.specs.facts.MatchLemmas.{begins-matches_fields}
 use Rattle.gtd_recur.specs.facts.MembershipLemmas.{in_stretches-computed}
 use Rattle.gtd_eval.specs.Membership.{InTree}
-use Rattle.gtd_hours_domain.specs.Translation.{AreDayParts, clocked, minutes_of, moved_day, moved_place, no_duration}
+use Rattle.gtd_hours_domain.specs.Translation.{clocked, minutes_of, moved_day, moved_place, no_duration}
 use Rattle.gtd_hours_domain.specs.declared.clock.Clock.{Clock}
-
-pub clocked-start : (p : StartParts) (c : Clock) → AreDayParts p → IsStart (clocked p c)
-clocked-start p c parts = record {
-  given = λ e. absurd (some-none c.hour (ap (λ (x : StartParts). x.hour) e));
-  year = parts.year;
-  month = parts.month;
-  week = parts.week;
-  day = parts.day;
-  hour = (omega arith, omega (arith, c.in_range.0));
-  minute = (omega arith, omega (arith, c.in_range.1));
-  second = tt;
-  nth = parts.nth;
-  nth_back = parts.nth_back;
-  weekdays = parts.weekdays;
-}
-  where
-    some-none : (h : ℕ) → Some h ≡ None → ⊥
-    some-none h e = let f : false ≡ true = cc in false≢true f
 
 -- the fields of the clock settle the second of the day
 clock-to : (k h m : ℕ) → h ≡ k / 3600 → m ≡ k / 60 % 60 → k % 60 ≡ 0 → k ≡ 60 * (60 * h + m)
