@@ -99,7 +99,8 @@ module _ (path bytes : List ℕ) (v : Version) (before : List Fields) (row : Fie
     each = subst (AreRowFaults v 1 (before ++ row ∷ [])) (sym more.faults) (here (Err why) is);
     text =
         subst (λ (p : List ℕ). AreLines p bytes new.faults.items (string_bytes new.text)) are.of_file
-        (more.lines (subst (λ (p : List ℕ). AreLines p bytes old.faults.items (string_bytes old.text)) (sym are.of_file) are.text));
+        (more.lines
+        (subst (λ (p : List ℕ). AreLines p bytes old.faults.items (string_bytes old.text)) (sym are.of_file) are.text));
   }
 
 told_listed : (asked : Asked) → IsListing (λ (first rest : List Told). first ++ rest) (IsToldOfRow asked) (AreToldOfRows asked)
@@ -119,6 +120,13 @@ told_more asked before row number told more e are is =
     (one_more (λ (first rest : List Told). first ++ rest) (IsToldOfRow asked) (AreToldOfRows asked) (told_listed asked) 1 before
     told row more are (subst (λ (k : ℕ). IsToldOfRow asked k row more) n is))
 
+-- where warnings are not asked for, none are kept
+pub still_none : (path bytes : List ℕ) (asked : Option Asked) (v : Version) (rows more : List Fields) (doubts : Option DoubtLines)
+    → doubts ≡ None → AreDoubtedIfAsked path asked bytes v rows doubts → AreDoubtedIfAsked path asked bytes v more doubts
+still_none path bytes None v rows more None e are = are
+still_none path bytes (Some asked) v rows more None e are = are
+still_none path bytes asked v rows more (Some lines) e are = absurd cc
+
 -- ---- all rows
 
 module _ (path bytes : List ℕ) (asked : Option Asked) (v : Version) (all : List Fields)
@@ -134,7 +142,8 @@ module _ (path bytes : List ℕ) (asked : Option Asked) (v : Version) (all : Lis
       let step = taken.1 in
       let here = text ∙ ap (λ (l : List Fields). header v ∷ l) split in
       let listed = step.1 path bytes asked before (rows ++ after)
-      (subst (λ (w : Version). records default_config (strip_bom bytes) ≡ header w ∷ (before ++ row ∷ (rows ++ after))) (sym version) here)
+      (subst (λ (w : Version). records default_config (strip_bom bytes) ≡ header w ∷ (before ++ row ∷ (rows ++ after)))
+      (sym version) here)
       refl (subst (λ (w : Version). AreListed path asked bytes w before old) (sym version) are) in
       let count : length before + 1 + 1 ≡ length (before ++ row ∷ []) + 1 =
       (let l = length-append before (row ∷ []) in omega (arith, l)) in
@@ -171,7 +180,8 @@ module _ (path bytes : List ℕ) (few : length bytes ≤ most_file_bytes) (v : V
 
 -- of a file without a header there are none
 module _ (path bytes : List ℕ) (few : length bytes ≤ most_file_bytes)
-    (none : (v : Version) (rows : List Fields) → records default_config (strip_bom bytes) ≡ header v ∷ rows → ⊥) (v : Version) where
+    (none : (v : Version) (rows : List Fields) → records default_config (strip_bom bytes) ≡ header v ∷ rows → ⊥)
+    (v : Version) where
   no_lone : (asked : Asked) (lone : List LoneCode) → AreLoneUnlessOff asked [] lone → AreLoneOfFile asked bytes lone
   no_lone asked lone (inl (on, inl many)) = absurd (let n = many.0 in omega (arith, n))
   no_lone asked lone (inl (on, inr few_rows)) = inl (on, few, inr (none, few_rows.1))
@@ -245,7 +255,7 @@ module _ (path bytes : List ℕ) (few : length bytes ≤ most_file_bytes) (asked
       }
 
   pub whole_list : (end : RowsEnd) → AreTableTaken BeginsListing TakesRow file old new end
-      → HasEnded bytes new.place end new.faults lines → IsList path bytes asked (length lines.faults.items) final
+      → HasEnded bytes new.place new.reached end new.faults lines → IsList path bytes asked (length lines.faults.items) final
   whole_list NoHeader (inl (nil, same)) more =
       let v = old.rows.version in
       without_header (λ w rows e. cc) v (subst (AreListed path asked bytes v []) (sym same) (nothing v)) more
@@ -268,7 +278,7 @@ module _ (path bytes : List ℕ) (few : length bytes ≤ most_file_bytes) (asked
       let text : file ≡ header v ∷ h.rows = h.split ∙ ap (λ (f : Fields). f ∷ h.rows) h.begun.0 in
       let are = rows_taken path bytes asked v h.rows text [] m.before (m.row ∷ m.after) h.at new m.split refl
       (h.begun.1 path bytes asked v (nothing v)) m.taken in
-      let place = subst (λ (n : ℕ). IsPlace bytes n new.place) m.many are.place in
+      let last = more (omega (arith, are.reached, m.many)) are.place in
       let cut : take most_rows h.rows ≡ m.before =
       ap (λ (l : List Fields). take most_rows l) m.split ∙ ap (λ (n : ℕ). take n (m.before ++ m.row ∷ m.after)) (sym m.many)
       ∙ take-append_seam m.before (m.row ∷ m.after) in
@@ -285,7 +295,7 @@ module _ (path bytes : List ℕ) (few : length bytes ≤ most_file_bytes) (asked
           many = m.many;
           listed = new.faults.faults.items;
           each = are.faulted.each;
-          whole = (more place).faults;
+          whole = last.faults;
         }),
       ))
-      (more_lines fault.TooManyRows v m.before are.faulted (more place))
+      (more_lines fault.TooManyRows v m.before are.faulted last)

@@ -1,6 +1,8 @@
 -- Which rows name a code, once one row more is among them.
-use Rattle.std.proofs.Common.{◌≡◌, ◌≢◌, ◌∙◌, ◌↔◌, ◌<◌, ◌≤◌, ◌+◌, ◌⊎◌, sym, ap, subst, refl, inl, inr, arith, ℕ, zero, suc, List, [], ◌∷◌}
-use Rattle.std.proofs.Common.{◌++◌, add-one, add-zero, append-nil, append_assoc, cond, get_or, length, map, min, nat_lt, set, Bool, Contains, String}
+use Rattle.std.proofs.Common.{◌≡◌, ◌≢◌, ◌∙◌, ◌↔◌, ◌<◌, ◌≤◌, ◌+◌, ◌⊎◌, sym, ap, subst, refl, inl, inr, arith, ℕ, zero, suc, List}
+use Rattle.std.proofs.Common.{[], ◌∷◌}
+use Rattle.std.proofs.Common.{◌++◌, add-one, add-zero, append-nil, append_assoc, cond, get_or, length, map, min, nat_lt, set}
+use Rattle.std.proofs.Common.{Bool, Contains, String}
 use Rattle.std.proofs.lemmas.Bool.{cases_order, lt-ltb}
 use Rattle.std.proofs.lemmas.List.{get_or-set_other, get_or-set_same, length-set, map-append}
 use Rattle.std.proofs.lemmas.List.Elements.{Contains-append_left, Contains-push, Contains-push_cases}

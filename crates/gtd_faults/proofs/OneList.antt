@@ -9,7 +9,7 @@ use Rattle.gtd_lines.specs.facts.OneLine.{one_line}
 use Rattle.gtd_faults.specs.Below.{IsAround, IsOfField, below_text}
 use Rattle.gtd_faults.specs.Doubts.{AreDoubtLines, AreDoubts, AreLoneLines, IsOfPart, doubt_below, doubt_line, lone_line, opening}
 use Rattle.gtd_faults.specs.Places.{field_of}
-use Rattle.gtd_faults.specs.Sentences.{perhaps_line}
+use Rattle.gtd_warnings.specs.Sentences.{perhaps_line}
 use Rattle.gtd_faults.specs.declared.below.Below.{Below}
 use Rattle.gtd_faults.specs.declared.below.Below.TheVariants as below
 use Rattle.gtd_faults.specs.declared.stretch.Stretch.{Stretch}

@@ -11,8 +11,9 @@ use Rattle.gtd_faults.specs.Run.{HasListed, HasPut}
 use Rattle.gtd_faults.specs.declared.list_fault.ListFault.{ListFault}
 use Rattle.gtd_faults.specs.declared.list_fault.ListFault.TheVariants as fault
 
-pub listed : (path bytes text : List ℕ) (asked : Option Asked) (number : ℕ) (old new : Option (List ℕ)) (result : Result ℕ ListFault)
-    → IsList path bytes asked number text → HasPut text number old new result → HasListed path asked bytes old new result
+pub listed : (path bytes text : List ℕ) (asked : Option Asked) (number : ℕ) (old new : Option (List ℕ))
+    (result : Result ℕ ListFault) → IsList path bytes asked number text
+    → HasPut text number old new result → HasListed path asked bytes old new result
 listed path bytes text asked number old new (Ok count) is put = (text, rw (put.0) is, put.1)
 listed path bytes text asked number old new (Err fault.WriteFault) is put = (text, number, is, put)
 listed path bytes text asked number old new (Err fault.ReadFault) is put = put

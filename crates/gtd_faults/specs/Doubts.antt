@@ -1,16 +1,15 @@
 -- The lines of warnings.
 use Rattle.std.specs.Prelude.{◌≡◌, ◌-◌, ◌++◌, ◌==◌, ℕ, suc, List, [], ◌∷◌, Option, Some, None, codes, decimal}
 use Rattle.std.specs.Prelude.{if◌then◌else◌}
-use Rattle.gtd_mistakes.specs.RuleNames.{name_of}
 use Rattle.gtd_mistakes.specs.declared.told.Told.{Told}
 use Rattle.gtd_warnings.specs.Codes.{AreLoneOfFile}
 use Rattle.gtd_warnings.specs.RowsTold.{AreToldOfFile}
+use Rattle.gtd_warnings.specs.Sentences.{doubt_text, lone_text, perhaps_line}
 use Rattle.gtd_warnings.specs.declared.codes.LoneCode.{LoneCode}
 use Rattle.gtd_warnings.specs.declared.file.Asked.{Asked}
 use Rattle.gtd_faults.specs.Below.{IsOfField, below_text}
 use Rattle.gtd_faults.specs.Places.{IsLine, field_of}
 use Rattle.gtd_faults.specs.Printable.{printable}
-use Rattle.gtd_faults.specs.Sentences.{perhaps_line, says}
 use Rattle.gtd_faults.specs.declared.below.Below.{Below}
 
 -- the bytes of a text before the parenthesis that opens after so many others: all of them, if there is none
@@ -26,12 +25,7 @@ abbrev pub IsOfPart : Option (List ℕ) → ℕ → Below → Type 0
 IsOfPart None before shown = IsOfField None 0 shown
 IsOfPart (Some field) before shown = IsOfField (Some field) (opening before field) shown
 
--- what is said of a rule that holds: the row, the rule's name, and what the domain says
-abbrev pub doubt_text : Told → List ℕ
-doubt_text told =
-    codes "row " ++ decimal told.row ++ codes ": " ++ name_of told.rule ++ codes ": " ++ says told.rule told.part
-
--- its line: the file's path, the line on which the row begins, and what is said
+-- the line of what is told: the file's path, the line on which the row begins, and what is said
 abbrev pub doubt_line : List ℕ → ℕ → Told → List ℕ
 doubt_line path line told = printable path ++ codes ":" ++ decimal line ++ codes ": " ++ doubt_text told ++ codes "\n"
 
@@ -47,11 +41,7 @@ AreDoubtLines path bytes (told ∷ rest) text =
     × (after : List ℕ) × AreDoubtLines path bytes rest after
     × (text ≡ doubt_line path line told ++ doubt_below told below ++ after)
 
--- what is said of a code that one row alone names: the row, the rule's name, and the code
-abbrev pub lone_text : LoneCode → List ℕ
-lone_text lone =
-    codes "row " ++ decimal lone.row ++ codes ": lone-code: a vehicle type that no other row names: " ++ decimal lone.code
-
+-- the line of a code that one row alone names
 abbrev pub lone_line : List ℕ → ℕ → LoneCode → List ℕ
 lone_line path line lone = printable path ++ codes ":" ++ decimal line ++ codes ": " ++ lone_text lone ++ codes "\n"
 

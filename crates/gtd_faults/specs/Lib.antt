@@ -8,7 +8,6 @@ pub mod Naming
 pub mod Places
 pub mod Printable
 pub mod Run
-pub mod Sentences
 pub mod Standing
 pub use Rattle.gtd_lines.specs.Lines
 pub use Rattle.gtd_records.specs.Faults

@@ -1,5 +1,5 @@
 -- What is listed of the rows of a file, one after another.
-use Rattle.std.specs.Prelude.{◌≡◌, ◌⊎◌, ◌+◌, ◌++◌, ℕ, Bool, true, false, List, [], ◌∷◌, Option, Some, None, ⊤}
+use Rattle.std.specs.Prelude.{◌≡◌, ◌≤◌, ◌⊎◌, ◌+◌, ◌++◌, ℕ, Bool, true, false, List, [], ◌∷◌, Option, Some, None, ⊤}
 use Rattle.std.specs.Prelude.{length, map, min, string_bytes}
 use Rattle.std.specs.List.{Contains}
 use Rattle.csv.specs.Reading.{default_config, records, strip_bom}
@@ -37,12 +37,14 @@ pub record HasOneMore (bytes : List ℕ) (why : RecordFault) (old new : FaultLin
   pub lines : AreLines old.path.now bytes old.faults.items (string_bytes old.text)
       → AreLines old.path.now bytes new.faults.items (string_bytes new.text)
 
--- The fault that ends a file's rows, if one does, was added: it has no header, or there is one more after the last, at this place.
-abbrev pub HasEnded : List ℕ → Place → RowsEnd → FaultLines → FaultLines → Type 0
-HasEnded bytes place end.NoHeader old new = HasOneMore bytes fault.Header old new
-HasEnded bytes place end.TooMany old new = IsPlace bytes most_rows place → HasOneMore bytes fault.TooManyRows old new
-HasEnded bytes place end.All old new = new ≡ old
-HasEnded bytes place end.Stopped old new = new ≡ old
+-- The fault that ends a file's rows, if one does, was added: it has no header, or there is one more after the last that may be,
+-- where this is the place of a row that was reached.
+abbrev pub HasEnded : List ℕ → Place → ℕ → RowsEnd → FaultLines → FaultLines → Type 0
+HasEnded bytes place reached end.NoHeader old new = HasOneMore bytes fault.Header old new
+HasEnded bytes place reached end.TooMany old new =
+    reached ≤ most_rows → IsPlace bytes reached place → HasOneMore bytes fault.TooManyRows old new
+HasEnded bytes place reached end.All old new = new ≡ old
+HasEnded bytes place reached end.Stopped old new = new ≡ old
 
 -- the faults of these rows, and their lines
 pub record AreFaulted (path bytes : List ℕ) (v : Version) (rows : List Fields) (lines : FaultLines) : Type 0 where
@@ -94,11 +96,12 @@ AreDoubtsIfAsked path None bytes v rows text = text ≡ []
 
 -- ---- rows
 
--- what is listed of these rows, the first of a file, whose last, or the header, begins at the place
-pub record AreListed (path : List ℕ) (asked : Option Asked) (bytes : List ℕ) (v : Version) (rows : List Fields) (listing : Listing)
-    : Type 0 where
+-- what is listed of these rows, the first of a file, of which the one that was reached, or the header, begins at the place
+pub record AreListed (path : List ℕ) (asked : Option Asked) (bytes : List ℕ) (v : Version) (rows : List Fields)
+    (listing : Listing) : Type 0 where
   pub of_file : listing.bytes.now ≡ bytes
-  pub place : IsPlace bytes (length rows) listing.place
+  pub reached : listing.reached ≤ length rows
+  pub place : IsPlace bytes listing.reached listing.place
   pub faulted : AreFaulted path bytes v rows listing.faults
   pub doubted : AreDoubtedIfAsked path asked bytes v rows listing.doubts
 

@@ -29,4 +29,5 @@ AreKept path bytes named kept =
 -- the lines of the codes below this one that one row alone names come after a text
 abbrev pub AreLoneBefore : List ℕ → List ℕ → List (List ℕ) → ℕ → List ℕ → List ℕ → Type 0
 AreLoneBefore path bytes named code old new =
-    (lone : List LoneCode) × AreLoneBelow named code lone × (last : List ℕ) × AreLoneLines path bytes lone last × (new ≡ old ++ last)
+    (lone : List LoneCode) × AreLoneBelow named code lone × (last : List ℕ)
+    × AreLoneLines path bytes lone last × (new ≡ old ++ last)

@@ -21,8 +21,8 @@ HasPut text number old new (Err fault.ReadFault) = Keeps old new
 HasPut text number old new (Err fault.Endless) = Keeps old new
 HasPut text number old new (Err fault.NoMemory) = Keeps old new
 
--- What the output took of the list of a file with these bytes, with its warnings if they are asked for. The answer is the number of its
--- faults.
+-- What the output took of the list of a file with these bytes, with its warnings if they are asked for. The answer is the number
+-- of its faults.
 abbrev pub HasListed : List ℕ → Option Asked → List ℕ → Option (List ℕ) → Option (List ℕ) → Result ℕ ListFault → Type 0
 HasListed path asked bytes old new (Ok count) =
     (text : List ℕ) × IsList path bytes asked count text × Appends old new text

@@ -9,8 +9,7 @@ ghost use Rattle.gtd_faults.specs.Standing.{IsRowOf};
 use crate::below::Below;
 use crate::printable::Printable;
 use crate::row::Row;
-use crate::sentences::LoneText;
-use gtd_warnings::LoneCode;
+use gtd_warnings::{LoneCode, LoneText};
 use std::alloc::{AllocError, Global};
 
 /// Which of the rows so far name a code.

@@ -1,10 +1,12 @@
 //! The lines of warnings.
 
-ghost use Rattle.std.specs.Prelude.{◌≡◌, ◌+◌, ◌++◌, ◌∷◌, [], ℕ, List, Option, OnOk, IfOk, cond, length, map, min, nat_lt, string_bytes};
+ghost use Rattle.std.specs.Prelude.{◌≡◌, ◌+◌, ◌++◌, ◌∷◌, [], ℕ, List, Option, OnOk, IfOk, cond, length, map, min, nat_lt};
+ghost use Rattle.std.specs.Prelude.{string_bytes};
 ghost use Rattle.std.specs.List.{All};
 ghost use Rattle.csv.specs.Records.{fields_of};
 ghost use Rattle.gtd_mistakes.specs.declared.told.Told.{Told};
 ghost use Rattle.gtd_records.specs.Columns.{Fields};
+ghost use Rattle.gtd_records.specs.ComputedRow.{IsRow};
 ghost use Rattle.gtd_records.specs.declared.vehicles.Version.{Version};
 ghost use Rattle.gtd_warnings.specs.Codes.{rows_needed};
 ghost use Rattle.gtd_warnings.specs.declared.file.Asked.{Asked};
@@ -16,10 +18,11 @@ use crate::below::Below;
 use crate::codes::{Naming, none_named, push_all_lone, take_codes};
 use crate::printable::Printable;
 use crate::row::Row;
-use crate::sentences::{DoubtText, PerhapsLine};
 use gtd_mistakes::{Rule, Told};
-use gtd_records::Version;
-use gtd_warnings::{Asked, codes_listed, is_off, told_of_row, types_of_row};
+use gtd_records::{Record, RecordFault, Version};
+use gtd_warnings::{
+    Asked, DoubtText, PerhapsLine, codes_listed, is_off, told_of_read, types_of_row,
+};
 use std::alloc::{AllocError, Global};
 
 // How many rows of a file must name a vehicle code, so that its codes are looked at.
@@ -100,13 +103,20 @@ impl<'a> DoubtLines<'a> {
         })
     }
 
-    /// Appends the lines of what is told of this row, which comes after those so far, and keeps which codes it names.
-    pub(crate) fn take(&mut self, version: Version, row: &Row<'_>) -> Result<(), AllocError>
+    /// Appends the lines of what is told of this row, which comes after those so far and was read as a record or its fault, and
+    /// keeps which codes it names.
+    pub(crate) fn take(
+        &mut self,
+        version: Version,
+        row: &Row<'_>,
+        read: &Result<Record, RecordFault>,
+    ) -> Result<(), AllocError>
         ensures { (path bytes : List ℕ) (asked : Asked) (rows : List Fields) → IsRowOf bytes row.now
-            → row.now.number ≡ length rows + 1 → AreDoubted path asked bytes version rows self.old
+            → row.now.number ≡ length rows + 1 → IsRow version row.now.number (fields_of row.now.fields.now) read.now
+            → AreDoubted path asked bytes version rows self.old
             → OnOk result (AreDoubted path asked bytes version (rows ++ fields_of row.now.fields.now ∷ []) self.new) }
     {
-        let told = told_of_row(self.alloc, self.asked, row.number, row.fields)?;
+        let told = told_of_read(self.alloc, self.asked, row.number, row.fields, read)?;
         push_told(&mut self.text, self.path, row, told.as_slice())?;
         let types = types_of_row(self.alloc, version, row.fields)?;
         let codes = codes_listed(&types);

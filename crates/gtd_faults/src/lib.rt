@@ -8,7 +8,6 @@ pub use list_fault::ListFault;
 pub use places::Rows;
 pub use printable::Printable;
 pub use run::run_faults;
-pub use sentences::{DoubtText, LoneText, PerhapsLine};
 pub use stretch::Stretch;
 pub use words::{Expected, FaultText, accepted, accepted_at};
 
@@ -24,6 +23,5 @@ mod places;
 mod printable;
 mod row;
 mod run;
-mod sentences;
 mod stretch;
 mod words;

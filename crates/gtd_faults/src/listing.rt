@@ -1,6 +1,7 @@
 //! What is listed of a file: its rows are read once.
 
-ghost use Rattle.std.specs.Prelude.{◌≡◌, ◌≤◌, ◌+◌, ◌++◌, ◌∷◌, [], ℕ, List, Option, IfOk, MatchOption, OnOk, Ok, Err, length, string_bytes};
+ghost use Rattle.std.specs.Prelude.{◌≡◌, ◌≤◌, ◌+◌, ◌++◌, ◌∷◌, [], ℕ, List, Option, None, Ok, IfOk, IsTrue, OnOk, length};
+ghost use Rattle.std.specs.Prelude.{string_bytes};
 ghost use Rattle.csv.specs.Records.{fields_of};
 ghost use Rattle.gtd_core.specs.Limits.{most_file_bytes};
 ghost use Rattle.gtd_records.specs.Closing.{Restriction};
@@ -8,6 +9,7 @@ ghost use Rattle.gtd_records.specs.Columns.{Fields};
 ghost use Rattle.gtd_records.specs.ComputedRow.{IsRow};
 ghost use Rattle.gtd_records.specs.declared.vehicles.Version.{Version};
 ghost use Rattle.gtd_warnings.specs.declared.file.Asked.{Asked};
+ghost use Rattle.gtd_lines.specs.Cut.{IsPlace};
 ghost use Rattle.gtd_faults.specs.ListedRows.{AreDoubtedIfAsked, AreDoubtsIfAsked, AreFaulted, AreListed, HasEnded};
 ghost use Rattle.gtd_faults.specs.Listing.{IsList};
 ghost use Rattle.gtd_faults.specs.Standing.{IsRowOf};
@@ -16,8 +18,9 @@ use crate::doubts::DoubtLines;
 use crate::lines::FaultLines;
 use crate::row::Row;
 use csv::ByteRecord;
+use gtd_core::limits::MOST_ROWS;
 use gtd_lines::Place;
-use gtd_records::{RecordFault, RowReader, RowTaker, RowsEnd, Version, take_rows};
+use gtd_records::{Record, RecordFault, RowReader, RowTaker, RowsEnd, Version, take_rows};
 use gtd_warnings::Asked;
 use std::alloc::{AllocError, Global};
 
@@ -25,45 +28,47 @@ use std::alloc::{AllocError, Global};
 #[derive(Drop)]
 pub(crate) struct Listing<'a> {
     bytes: &'a [u8],
-    // Where the last row begins, or the header.
+    // Where the last row begins of which a line was listed, or the header, and its number.
     place: Place,
+    reached: u32,
     rows: RowReader,
     faults: FaultLines<'a>,
     doubts: Option<DoubtLines<'a>>,
 }
 
-// The fault of this row, if it has one.
-fn fault_of(rows: &mut RowReader, row: &Row<'_>) -> Result<Option<RecordFault>, AllocError>
+// What the row with this number stands for, or its fault.
+fn read_row(
+    rows: &mut RowReader,
+    number: u32,
+    row: &ByteRecord,
+) -> Result<Result<Record, RecordFault>, AllocError>
     ensures version { rows.new.version ≡ rows.old.version }
-    ensures fault { IfOk result (λ fault. MatchOption fault
-        ((r : Restriction) × IsRow rows.old.version row.now.number (fields_of row.now.fields.now) (Ok r))
-        (λ why. IsRow rows.old.version row.now.number (fields_of row.now.fields.now) (Err why))) }
+    ensures read { IfOk result (λ read. IsRow rows.old.version number (fields_of row.now) read) }
 {
-    match rows.read(row.number, row.fields) {
-        Ok(_) => Ok(None),
+    match rows.read(number, row) {
+        Ok(found) => Ok(Ok(found)),
         Err(RecordFault::NoMemory) => Err(AllocError),
-        Err(why) => Ok(Some(why)),
+        Err(why) => Ok(Err(why)),
     }
 }
 
 // Lists the fault of this row, if it has one.
 fn take_fault(
-    rows: &mut RowReader,
     lines: &mut FaultLines<'_>,
     row: &Row<'_>,
+    read: &Result<Record, RecordFault>,
 ) -> Result<(), AllocError>
-    ensures version { rows.new.version ≡ rows.old.version }
-    ensures fault { (path bytes : List ℕ) (before : List Fields) → IsRowOf bytes row.now
-        → row.now.number ≡ length before + 1 → AreFaulted path bytes rows.old.version before lines.old
-        → OnOk result (AreFaulted path bytes rows.old.version (before ++ fields_of row.now.fields.now ∷ []) lines.new) }
+    ensures { (path bytes : List ℕ) (version : Version) (before : List Fields) → IsRowOf bytes row.now
+        → row.now.number ≡ length before + 1 → IsRow version row.now.number (fields_of row.now.fields.now) read.now
+        → AreFaulted path bytes version before lines.old
+        → OnOk result (AreFaulted path bytes version (before ++ fields_of row.now.fields.now ∷ []) lines.new) }
 {
-    let fault = fault_of(rows, row)?;
-    match fault {
-        Some(why) => {
-            lines.add_of_row(row, why)?;
+    match read {
+        Err(why) => {
+            lines.add_of_row(row, *why)?;
             Ok(())
         }
-        None => Ok(()),
+        Ok(_) => Ok(()),
     }
 }
 
@@ -72,18 +77,42 @@ fn take_doubts(
     doubts: &mut Option<DoubtLines<'_>>,
     version: Version,
     row: &Row<'_>,
+    read: &Result<Record, RecordFault>,
 ) -> Result<(), AllocError>
     ensures { (path bytes : List ℕ) (asked : Option Asked) (before : List Fields) → IsRowOf bytes row.now
-        → row.now.number ≡ length before + 1 → AreDoubtedIfAsked path asked bytes version before doubts.old
+        → row.now.number ≡ length before + 1 → IsRow version row.now.number (fields_of row.now.fields.now) read.now
+        → AreDoubtedIfAsked path asked bytes version before doubts.old
         → OnOk result (AreDoubtedIfAsked path asked bytes version (before ++ fields_of row.now.fields.now ∷ []) doubts.new) }
 {
     match doubts {
         Some(lines) => {
-            lines.take(version, row)?;
+            lines.take(version, row, read)?;
             Ok(())
         }
         None => Ok(()),
     }
+}
+
+// Whether no line is listed of a row: it was read as a record, and warnings are not asked for.
+fn is_unlisted(read: &Result<Record, RecordFault>, doubts: &Option<DoubtLines<'_>>) -> bool
+    ensures sound { IsTrue result → (r : Restriction) × (read.now ≡ Ok r) }
+    ensures unasked { IsTrue result → doubts.now ≡ None }
+{
+    match read {
+        Ok(_) => doubts.is_none(),
+        Err(_) => false,
+    }
+}
+
+// The place of the row with the one number, from that of the row with the other.
+fn walked(bytes: &[u8], place: Place, from: u32, to: u32) -> Place
+    ensures { from ≤ to → IsPlace bytes.now from place → IsPlace bytes.now to result }
+{
+    let mut here = place;
+    for _ in from..to {
+        here = here.next(bytes);
+    }
+    here
 }
 
 impl RowTaker for Listing<'_> {
@@ -98,15 +127,20 @@ impl RowTaker for Listing<'_> {
     }
 
     fn take_row(&mut self, number: u32, row: &ByteRecord) -> Result<bool, AllocError> {
-        self.place = self.place.next(self.bytes);
+        let read = read_row(&mut self.rows, number, row)?;
+        if is_unlisted(&read, &self.doubts) {
+            return Ok(true);
+        }
+        self.place = walked(self.bytes, self.place, self.reached, number);
+        self.reached = number;
         let here = Row {
             bytes: self.bytes,
             number,
             place: self.place,
             fields: row,
         };
-        take_fault(&mut self.rows, &mut self.faults, &here)?;
-        take_doubts(&mut self.doubts, self.rows.version, &here)?;
+        take_fault(&mut self.faults, &here, &read)?;
+        take_doubts(&mut self.doubts, self.rows.version, &here, &read)?;
         Ok(true)
     }
 }
@@ -139,6 +173,7 @@ fn nothing_listed<'a>(
     Ok(Listing {
         bytes,
         place: Place::first(bytes),
+        reached: 0,
         rows: RowReader::new(alloc),
         faults: FaultLines::new(alloc, path),
         doubts,
@@ -162,19 +197,22 @@ fn push_doubts(text: &mut String, doubts: &mut Option<DoubtLines<'_>>) -> Result
     }
 }
 
-// Adds the fault that ends a file's rows, if one does: it has no header, or a row too many, which comes after the row at a place.
+// Adds the fault that ends a file's rows, if one does: it has no header, or a row too many. The place is that of the row with the
+// number that was reached.
 fn end_faults(
     lines: &mut FaultLines<'_>,
     bytes: &[u8],
     place: Place,
+    reached: u32,
     end: RowsEnd,
 ) -> Result<(), AllocError>
-    ensures { OnOk result (HasEnded bytes.now place end lines.old lines.new) }
+    ensures { OnOk result (HasEnded bytes.now place reached end lines.old lines.new) }
 {
     match end {
         RowsEnd::NoHeader => lines.add_header(bytes),
         RowsEnd::TooMany => {
-            lines.add_too_many(place.next(bytes).line)?;
+            let last = walked(bytes, place, reached, MOST_ROWS);
+            lines.add_too_many(last.next(bytes).line)?;
             Ok(())
         }
         RowsEnd::All => Ok(()),
@@ -197,7 +235,7 @@ pub(crate) fn list_of<'a>(
     let end = take_rows(alloc, bytes, &mut listing)?;
     let mut lines = listing.faults;
     let mut doubts = listing.doubts;
-    end_faults(&mut lines, bytes, listing.place, end)?;
+    end_faults(&mut lines, bytes, listing.place, listing.reached, end)?;
     push_doubts(&mut lines.text, &mut doubts)?;
     Ok(lines)
 }

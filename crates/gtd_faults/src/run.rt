@@ -1,6 +1,7 @@
 //! The run that lists the faults of a record file.
 
-ghost use Rattle.std.specs.Prelude.{◌≡◌, ◌≢◌, ◌⊎◌, ◌<◌, ◌≤◌, ℕ, IfErr, IfSome, IsErrOf, IsTrue, List, OnErr, OnOk, Option, length};
+ghost use Rattle.std.specs.Prelude.{◌≡◌, ◌≢◌, ◌⊎◌, ◌<◌, ◌≤◌, ℕ, IfErr, IfSome, IsErrOf, IsTrue, List, OnErr, OnOk, Option};
+ghost use Rattle.std.specs.Prelude.{length};
 ghost use Rattle.gtd_core.specs.Limits.{most_file_bytes};
 ghost use Rattle.std.specs.Io.KnownBytes.{Appends, Keeps};
 ghost use Rattle.gtd_warnings.specs.declared.file.Asked.{Asked};

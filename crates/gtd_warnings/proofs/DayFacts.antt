@@ -1,5 +1,6 @@
 -- Which rules hold of an expression, of which at most one does.
-use Rattle.std.proofs.Common.{◌≡◌, ◌∙◌, subst, ap, refl, inl, inr, ℕ, List, ◌++◌, Option, Some, None, Contains, append_assoc, arith}
+use Rattle.std.proofs.Common.{◌≡◌, ◌∙◌, subst, ap, refl, inl, inr, ℕ, List, ◌++◌, Option, Some, None, Contains, append_assoc}
+use Rattle.std.proofs.Common.{arith}
 use Rattle.std.proofs.lemmas.Int.{ints}
 use Rattle.std.specs.Prelude.{MatchOption, ℤ}
 use Rattle.gtd_core.specs.Trees.{Tree}

@@ -1,5 +1,6 @@
 pub mod CodeFacts
 pub mod DayFacts
 pub mod OneAnswer
+pub mod ReadFacts
 pub mod RowFacts
 pub mod VehicleFacts

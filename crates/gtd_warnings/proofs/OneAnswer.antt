@@ -1,5 +1,6 @@
 -- What is told of a file is one list, and so are its lone codes.
-use Rattle.std.proofs.Common.{◌≡◌, ◌∙◌, ◌+◌, sym, ap, subst, refl, inl, inr, arith, ℕ, zero, suc, Bool, true, false, List, [], ◌∷◌}
+use Rattle.std.proofs.Common.{◌≡◌, ◌∙◌, ◌+◌, sym, ap, subst, refl, inl, inr, arith, ℕ, zero, suc, Bool, true, false, List, []}
+use Rattle.std.proofs.Common.{◌∷◌}
 use Rattle.std.proofs.Common.{◌++◌, map, take, Option, Some, None}
 use Rattle.gtd_core.specs.Limits.{most_rows}
 use Rattle.gtd_core.specs.Trees.{Tree, Single, Joined, leaf_count}

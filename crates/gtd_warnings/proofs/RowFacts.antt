@@ -22,8 +22,8 @@ module _ (row : ℕ) where
       rw (is.3) (All-cons OfRow (told_at row before tree rule) is.1 refl (at_part off whole before tree rules is.1 is.2))
   at_part off whole before tree (rule ∷ rules) told (inr is) = at_part off whole before tree rules told is.1
 
-  of_part : (off : List Rule) (whole : Bool) (before : ℕ) (tree : Tree) (told : List Told) → AreToldOf row off whole before tree told
-      → All OfRow told
+  of_part : (off : List Rule) (whole : Bool) (before : ℕ) (tree : Tree) (told : List Told)
+      → AreToldOf row off whole before tree told → All OfRow told
   of_part off whole before (Single start duration) told is = at_part off whole before (Single start duration) RULES told is
   of_part off whole before (Joined op left right) told is =
       rw (is.6) (All-append OfRow (is.0 ++ is.1) is.2

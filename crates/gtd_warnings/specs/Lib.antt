@@ -3,4 +3,5 @@ pub mod Days
 pub mod Extents
 pub mod Naming
 pub mod RowsTold
+pub mod Sentences
 pub mod Vehicles

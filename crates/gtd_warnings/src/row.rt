@@ -1,11 +1,13 @@
 //! What is told of a row.
 
-ghost use Rattle.std.specs.Prelude.{◌≡◌, ◌++◌, ◌↔◌, List, IfOk, IsTrue, MatchOption, OnOk, Some, option_map};
+ghost use Rattle.std.specs.Prelude.{◌≡◌, ◌++◌, ◌↔◌, List, Ok, Err, IfOk, IsTrue, MatchOption, OnOk, Some, option_map};
 ghost use Rattle.std.specs.List.{All, Contains};
 ghost use Rattle.csv.specs.Records.{fields_of};
 ghost use Rattle.gtd_core.specs.Parts.{domain_tree};
 ghost use Rattle.gtd_mistakes.specs.declared.rule.Rule.{Rule};
 ghost use Rattle.gtd_mistakes.specs.declared.told.Told.{Told};
+ghost use Rattle.gtd_records.specs.ComputedRow.{IsRow};
+ghost use Rattle.gtd_records.specs.declared.vehicles.Version.{Version};
 ghost use Rattle.gtd_warnings.specs.RowsTold.{AreToldOfRow, AreToldOnce, IsDomainOf, IsOnDay, IsToldOfRow};
 
 use crate::days::rule_on;
@@ -14,7 +16,7 @@ use crate::file::Asked;
 use csv::ByteRecord;
 use gtd_core::{Domain, Fault, Horizon};
 use gtd_mistakes::{Rule, Told, first_part, push_told};
-use gtd_records::four_columns;
+use gtd_records::{Record, RecordFault, four_columns};
 use gtd_text::read_domain;
 use std::alloc::{AllocError, Global};
 
@@ -85,14 +87,11 @@ fn push_told_of(
     told: &mut Vec<Told>,
     asked: &Asked,
     row: u32,
-    domain: &Option<Domain>,
+    domain: &Domain,
 ) -> Result<(), AllocError>
-    ensures { OnOk result ((more : List Told) × AreToldOfRow asked.now row (option_map domain_tree domain.now) more
+    ensures { OnOk result ((more : List Told) × AreToldOfRow asked.now row (Some (domain_tree domain.now)) more
         × (told.new.items ≡ told.old.items ++ more)) }
 {
-    let Some(domain) = domain else {
-        return Ok(());
-    };
     let off = asked.off.as_slice();
     push_told(told, off, row, domain)?;
     let throughout = rule_throughout(alloc, domain)?;
@@ -100,6 +99,22 @@ fn push_told_of(
     let on_day = rule_on_given(alloc, domain, asked.days)?;
     push_found(told, off, row, domain, on_day)?;
     Ok(())
+}
+
+// What is told of the row with this number and this domain, in order: of the parts of the domain; whether that never or always
+// holds; and whether it is over.
+fn told_of_domain(
+    alloc: Global,
+    asked: &Asked,
+    number: u32,
+    domain: &Domain,
+) -> Result<Vec<Told>, AllocError>
+    ensures told { IfOk result (λ told. AreToldOfRow asked.now number (Some (domain_tree domain.now)) told.items) }
+    ensures rows { IfOk result (λ told. All (λ one. one.row ≡ number) told.items) }
+{
+    let mut told = Vec::new(alloc);
+    push_told_of(alloc, &mut told, asked, number, domain)?;
+    Ok(told)
 }
 
 /// What is told of the row with this number, in order: of the parts of its domain; whether that never or always holds; and whether
@@ -114,8 +129,63 @@ pub fn told_of_row(
     ensures told { IfOk result (λ told. IsToldOfRow asked.now number (fields_of row.now) told.items) }
     ensures rows { IfOk result (λ told. All (λ one. one.row ≡ number) told.items) }
 {
-    let mut told = Vec::new(alloc);
-    let domain = domain_of(alloc, row)?;
-    push_told_of(alloc, &mut told, asked, number, &domain)?;
-    Ok(told)
+    match domain_of(alloc, row)? {
+        Some(domain) => told_of_domain(alloc, asked, number, &domain),
+        None => Ok(Vec::new(alloc)),
+    }
+}
+
+// The same of a row that stands for this record.
+fn told_of_record(
+    alloc: Global,
+    asked: &Asked,
+    number: u32,
+    row: &ByteRecord,
+    found: &Record,
+) -> Result<Vec<Told>, AllocError>
+    ensures told { (version : Version) → IsRow version number (fields_of row.now) (Ok found.now)
+        → IfOk result (λ told. IsToldOfRow asked.now number (fields_of row.now) told.items) }
+    ensures rows { IfOk result (λ told. All (λ one. one.row ≡ number) told.items) }
+{
+    match &found.domain {
+        Some(domain) => told_of_domain(alloc, asked, number, domain),
+        None => told_of_row(alloc, asked, number, row),
+    }
+}
+
+// The same of a row with this fault.
+fn told_of_faulty(
+    alloc: Global,
+    asked: &Asked,
+    number: u32,
+    row: &ByteRecord,
+    why: RecordFault,
+) -> Result<Vec<Told>, AllocError>
+    ensures told { (version : Version) → IsRow version number (fields_of row.now) (Err why)
+        → IfOk result (λ told. IsToldOfRow asked.now number (fields_of row.now) told.items) }
+    ensures rows { IfOk result (λ told. All (λ one. one.row ≡ number) told.items) }
+{
+    match why {
+        RecordFault::Domain { .. } => Ok(Vec::new(alloc)),
+        _ => told_of_row(alloc, asked, number, row),
+    }
+}
+
+/// What is told of the row with this number, as [`told_of_row`] tells it, where the row was read as a record or its fault. The
+/// domain is not read once more if it was then. `AllocError` is answered only if memory was refused.
+pub fn told_of_read(
+    alloc: Global,
+    asked: &Asked,
+    number: u32,
+    row: &ByteRecord,
+    read: &Result<Record, RecordFault>,
+) -> Result<Vec<Told>, AllocError>
+    ensures told { (version : Version) → IsRow version number (fields_of row.now) read.now
+        → IfOk result (λ told. IsToldOfRow asked.now number (fields_of row.now) told.items) }
+    ensures rows { IfOk result (λ told. All (λ one. one.row ≡ number) told.items) }
+{
+    match read {
+        Ok(found) => told_of_record(alloc, asked, number, row, found),
+        Err(why) => told_of_faulty(alloc, asked, number, row, *why),
+    }
 }

@@ -1,3 +1,4 @@
+-- The lines of the codes so far are followed by those of the next, if one row alone names it.
 use Rattle.std.proofs.Common.{◌≡◌, ◌∙◌, arith, get_or}
 use Rattle.std.proofs.lemmas.List.{get_or_default}
 use Rattle.std.specs.Prelude.{string_bytes}

@@ -1,3 +1,4 @@
+-- What is kept of a code once a row names it: of one of those that are kept, or of one beyond them.
 use Rattle.std.proofs.Common.{◌≡◌, ◌∙◌, arith, get_or}
 use Rattle.std.proofs.lemmas.List.{get_or_default}
 use Rattle.gtd_faults.specs.declared.codes.Naming.TheVariants as naming

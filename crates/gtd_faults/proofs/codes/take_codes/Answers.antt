@@ -1,3 +1,4 @@
+-- The same of each code of a row.
 use Rattle.std.proofs.Common.{◌≡◌, ◌+◌, ◌++◌, [], ◌∷◌, arith, get_or, take}
 use Rattle.std.proofs.lemmas.List.{take_all, take_more}
 use Rattle.gtd_faults.proofs.NamingFacts.{none_more}

@@ -1,3 +1,4 @@
+-- The lines of one thing more that is told follow those before.
 use Rattle.std.proofs.Common.{◌≡◌, ◌+◌, arith, ◌∷◌, ◌++◌, [], take, get_or, string_bytes, append_assoc, sym}
 use Rattle.std.proofs.lemmas.List.{take_more}
 use Rattle.std.proofs.lemmas.List.Elements.{All-get_or}

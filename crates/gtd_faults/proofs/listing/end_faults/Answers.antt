@@ -4,5 +4,5 @@ use Rattle.gtd_faults.proofs.listing.end_faults.Goals as goal
 
 pub returns-in_ok-add_too_many-in-TooMany : goal.returns-in_ok-add_too_many-in-TooMany
 returns-in_ok-add_too_many-in-TooMany c =
-    rw (c.in-TooMany.is) (λ place. c.in_ok-add_too_many-in-TooMany.ensures c.args.bytes.now
-    (line_of_place c.args.bytes.now 65_537 c.next.result (c.next.ensures.place most_rows place)))
+    rw (c.in-TooMany.is) (λ fits place. c.in_ok-add_too_many-in-TooMany.ensures c.args.bytes.now
+    (line_of_place c.args.bytes.now 65_537 c.next.result (c.next.ensures.place most_rows (c.walked-last.ensures fits place))))

@@ -1,9 +1,10 @@
-use Rattle.std.proofs.Common.{refl}
+use Rattle.std.proofs.Common.{arith, refl}
 use Rattle.gtd_faults.proofs.listing.nothing_listed.Goals as goal
 
 pub returns : goal.returns
 returns c = λ version. record {
   of_file = refl;
+  reached = omega arith;
   place = c.first.ensures.place;
   faulted = record {
     of_file = c.new-2.ensures.path;

@@ -1,3 +1,4 @@
+-- The rule that was found is told once, unless it is turned off.
 use Rattle.std.proofs.Common.{◌≡◌, sym, refl, inl, inr, subst, [], ◌∷◌, append-nil, Option, Some, Contains}
 use Rattle.gtd_core.specs.Parts.{domain_tree}
 use Rattle.gtd_mistakes.specs.declared.rule.Rule.{Rule}

@@ -1,3 +1,4 @@
+-- What is told of a domain are three parts, in their order.
 use Rattle.std.proofs.Common.{refl, ◌++◌}
 use Rattle.gtd_core.specs.Parts.{domain_tree}
 use Rattle.gtd_warnings.proofs.DayFacts.{on_day, throughout, three_parts}
@@ -5,12 +6,11 @@ use Rattle.gtd_warnings.proofs.row.push_told_of.Goals as goal
 
 pub returns : goal.returns
 returns c =
-    let tree = domain_tree c.in-Some.domain in
+    let tree = domain_tree c.args.domain.now in
     let off = c.args.asked.now.off.items in
     let first = rw c.as_slice-off.ensures.value at c.in_ok-push_told.ensures.told in
     let second = rw c.as_slice-off.ensures.value at c.in_ok-push_found.ensures in
-    let third = rw c.as_slice-off.ensures.value at c.in_ok-push_found-2.ensures in
-    rw (c.in-Some.is) (
+    let third = rw c.as_slice-off.ensures.value at c.in_ok-push_found-2.ensures in (
       (first.0 ++ second.0) ++ third.0,
       (
         first.0,

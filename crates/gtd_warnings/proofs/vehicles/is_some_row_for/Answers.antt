@@ -1,3 +1,4 @@
+-- No record that was looked at is for the type, or the last one is.
 use Rattle.std.proofs.Common.{sym, ap, subst, arith, refl}
 use Rattle.gtd_records.specs.Closing.{Restriction, Serves}
 use Rattle.gtd_records.specs.declared.vehicles.Vehicles.{Vehicles}

@@ -1,3 +1,4 @@
+-- The lines of lone codes follow those of what is told, if enough rows name a code and the rule is not turned off.
 use Rattle.std.proofs.Common.{[], sym, refl, inl, inr, arith, append-nil}
 use Rattle.std.specs.Prelude.{string_bytes}
 use Rattle.gtd_faults.proofs.doubts.DoubtLines.end.Goals as goal

@@ -1,3 +1,4 @@
+-- What is listed of the rows so far and of this one is what is listed of all of them.
 use Rattle.std.proofs.Common.{◌≡◌, ◌+◌, ◌++◌, ◌↔◌, ◌∙◌, ap, sym, ℕ, length, map, Contains}
 use Rattle.std.proofs.lemmas.List.{length-map}
 use Rattle.csv.specs.Records.{fields_of}
@@ -7,7 +8,7 @@ use Rattle.gtd_faults.proofs.NamingFacts.{counted_more, kept_more}
 use Rattle.gtd_faults.proofs.doubts.DoubtLines.take.Goals as goal
 
 pub returns : goal.returns
-returns c = λ path bytes asked rows is number are.
+returns c = λ path bytes asked rows is number read are.
     let row = c.args.row.now in
     let fields = fields_of row.fields.now in
     let told = c.in_ok-told.told.items in
@@ -21,7 +22,9 @@ returns c = λ path bytes asked rows is number are.
       of_file = are.of_file;
       is_asked = are.is_asked;
       told = are.told ++ told;
-      each = told_more asked rows fields row.number are.told told number are.each (rw (are.is_asked) at c.in_ok-told.ensures.told);
+      each =
+          told_more asked rows fields row.number are.told told number are.each
+          (rw (are.is_asked) at (c.in_ok-told.ensures.told c.args.version read));
       text =
           rw (are.of_file, c.as_slice.ensures.value) at
           (c.in_ok-push_told.ensures bytes are.told is (rw (c.as_slice.ensures.value) c.in_ok-told.ensures.rows)

@@ -5,4 +5,5 @@ use Rattle.gtd_faults.proofs.lines.FaultLines.add_of_row.Goals as goal
 pub returns : goal.returns
 returns c = λ bytes is of.
     let row = c.args.row.now in
-    c.add.ensures bytes (rw of (line_of_place bytes row.number row.place is.place)) (c.below_row.ensures.below bytes is (rw of refl))
+    c.add.ensures bytes (rw of (line_of_place bytes row.number row.place is.place))
+    (c.below_row.ensures.below bytes is (rw of refl))

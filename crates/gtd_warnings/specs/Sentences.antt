@@ -1,8 +1,11 @@
 -- What is said of a rule that holds of a row's domain.
 use Rattle.std.specs.Prelude.{◌++◌, ◌+◌, ◌/◌, ◌%◌, ◌==◌, ℕ, List, [], codes, decimal, if◌then◌else◌}
+use Rattle.gtd_mistakes.specs.RuleNames.{name_of}
 use Rattle.gtd_mistakes.specs.declared.rule.Rule.{Rule}
 use Rattle.gtd_mistakes.specs.declared.rule.Rule.TheVariants as rule
 use Rattle.gtd_mistakes.specs.declared.told.Part.{Part}
+use Rattle.gtd_mistakes.specs.declared.told.Told.{Told}
+use Rattle.gtd_warnings.specs.declared.codes.LoneCode.{LoneCode}
 
 -- two digits of a number below 100
 abbrev pub two_digits : ℕ → List ℕ
@@ -79,3 +82,13 @@ perhaps_line rule.Past part = []
 perhaps_line rule.EndsSoon part = []
 perhaps_line rule.LoneCode part = []
 perhaps_line rule part = codes "    perhaps:  " ++ (meant rule ++ codes "\n")
+
+-- what is said of a rule that holds: the row, the rule's name, and what the domain says
+abbrev pub doubt_text : Told → List ℕ
+doubt_text told =
+    codes "row " ++ decimal told.row ++ codes ": " ++ name_of told.rule ++ codes ": " ++ says told.rule told.part
+
+-- what is said of a code that one row alone names: the row, the rule's name, and the code
+abbrev pub lone_text : LoneCode → List ℕ
+lone_text lone =
+    codes "row " ++ decimal lone.row ++ codes ": lone-code: a vehicle type that no other row names: " ++ decimal lone.code

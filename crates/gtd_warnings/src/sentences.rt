@@ -1,11 +1,10 @@
 //! What is said of a rule that holds of a row's domain.
 
 ghost use Rattle.std.specs.Prelude.{◌≡◌, ◌<◌, Some};
-ghost use Rattle.gtd_faults.specs.Doubts.{doubt_text, lone_text};
-ghost use Rattle.gtd_faults.specs.Sentences as spec;
+ghost use Rattle.gtd_warnings.specs.Sentences as spec;
 
+use crate::codes::LoneCode;
 use gtd_mistakes::{Part, Rule, Told};
-use gtd_warnings::LoneCode;
 use std::fmt;
 use std::fmt::{Display, Formatter};
 
@@ -101,7 +100,7 @@ impl Display for SaysText {
 pub struct DoubtText(pub Told);
 
 impl Display for DoubtText {
-    ghost output = { λ shown. Some (doubt_text shown.0) };
+    ghost output = { λ shown. Some (spec.doubt_text shown.0) };
 
     fn fmt<W: fmt::Write>(&self, f: &mut Formatter<W>) -> fmt::Result {
         let row = self.0.row;
@@ -116,7 +115,7 @@ impl Display for DoubtText {
 pub struct LoneText(pub LoneCode);
 
 impl Display for LoneText {
-    ghost output = { λ shown. Some (lone_text shown.0) };
+    ghost output = { λ shown. Some (spec.lone_text shown.0) };
 
     fn fmt<W: fmt::Write>(&self, f: &mut Formatter<W>) -> fmt::Result {
         let row = self.0.row;
