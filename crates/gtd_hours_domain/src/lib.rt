@@ -4,7 +4,10 @@
 //! without taking memory.
 #![tactic(auto)]
 
+pub use clock::Clock;
 pub use cost::cost_of;
+pub use leaf::{NO_PARTS, each_days, join, or_nothing, unite};
+pub use numbers::year_run;
 pub use translate::{TranslationFault, domain_of};
 
 mod clock;

@@ -20,8 +20,9 @@ pub(crate) const MOST_YEARS: u16 = 100;
 /// The bit of Monday among weekdays.
 const MONDAY: u8 = 2;
 
-fn year_run(first: u16, last: u16, clock: Clock) -> Expr
-    requires { IsRun Level.Year first last }
+/// The days of the years from one to another, at most a hundred.
+pub fn year_run(first: u16, last: u16, clock: Clock) -> Expr
+    requires run { IsRun Level.Year first last }
     ensures days { AreDays (minutes_of clock) (HasNumberWithin Level.Year first last) result }
     ensures leaves { leaf_count (tree_of result) ≡ 1 }
 {
