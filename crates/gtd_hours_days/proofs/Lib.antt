@@ -1,0 +1,6 @@
+pub mod CoverFacts
+pub mod DateFacts
+pub mod OrderFacts
+pub mod PartFacts
+pub mod SplitFacts
+pub mod YearlyFacts

@@ -1,0 +1,14 @@
+pub mod Costs
+pub mod Groups
+pub mod Parts
+pub mod Ranges
+pub use Rattle.gtd_core.specs.Limits
+pub use Rattle.gtd_core.specs.Trees
+pub use Rattle.gtd_calendar.specs.Calendar
+pub use Rattle.gtd_eval.specs.Membership
+pub use Rattle.gtd_hours_domain.specs.Translation
+pub use Rattle.gtd_hours_holidays.specs.Days
+pub use Rattle.gtd_hours_holidays.specs.KnownYears
+pub use Rattle.gtd_hours_holidays.specs.Runs
+pub use Rattle.gtd_hours_holidays.specs.Table
+pub use Rattle.gtd_hours_holidays.specs.Easter
