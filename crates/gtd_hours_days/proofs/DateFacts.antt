@@ -98,11 +98,11 @@ year_placed n y f l m d k low high few h =
 
 -- ---- the days of the years 1800 to 2799
 
-first_day-1800 : first_day (pos 1800) ≡ neg_ℤ (pos 62_091)
+pub first_day-1800 : first_day (pos 1800) ≡ neg_ℤ (pos 62_091)
 unfolding first_day
 first_day-1800 = refl
 
-first_day-2800 : first_day (pos 2800) ≡ pos 303_151
+pub first_day-2800 : first_day (pos 2800) ≡ pos 303_151
 unfolding first_day
 first_day-2800 = refl
 

@@ -1,4 +1,6 @@
+pub mod AdditionFacts
 pub mod CoverFacts
+pub mod CoverageFacts
 pub mod DateFacts
 pub mod OrderFacts
 pub mod PartFacts

@@ -1,7 +1,9 @@
 pub mod Costs
 pub mod Groups
+pub mod Listed
 pub mod Parts
 pub mod Ranges
+pub mod Selections
 pub use Rattle.gtd_core.specs.Limits
 pub use Rattle.gtd_core.specs.Trees
 pub use Rattle.gtd_calendar.specs.Calendar

@@ -1,14 +1,26 @@
-//! Sets of days that are known in some years alone, as time domains.
+//! The days of holidays and of Easter, as time domains.
+//!
+//! `listed_expr` answers the expression with exactly the days of some selectors, whose days are known in some years alone. It takes
+//! a run of days for each, or one basic domain for the same days of several years.
 #![tactic(auto)]
 
+pub use coverage::{Uncovered, first_uncovered};
 pub use group::Group;
 pub use grouping::{Grouping, grouping_of};
+pub use listed::Listed;
+pub use offset::Offset;
+pub use selection::{ListedFault, listed_days, listed_expr};
 pub use set::{DaysFault, days_expr};
 
+mod additions;
+mod coverage;
 mod group;
 mod grouping;
+mod listed;
+mod offset;
 mod order;
 mod parts;
+mod selection;
 mod set;
 mod split;
 mod yearly;

@@ -65,15 +65,15 @@ fn start_in(group: Group, year: u16) -> i64
     }
 }
 
-// The later of two days.
-fn later(a: i64, b: i64) -> i64
+/// The later of two days.
+pub(crate) fn later(a: i64, b: i64) -> i64
     ensures { (a ≤ℤ result) × (b ≤ℤ result) × ((result ≡ a) ⊎ (result ≡ b)) }
 {
     if a < b { b } else { a }
 }
 
-// The earlier of two days.
-fn earlier(a: i64, b: i64) -> i64
+/// The earlier of two days.
+pub(crate) fn earlier(a: i64, b: i64) -> i64
     ensures { (result ≤ℤ a) × (result ≤ℤ b) × ((result ≡ a) ⊎ (result ≡ b)) }
 {
     if a < b { a } else { b }

@@ -1,0 +1,21 @@
+use Rattle.std.proofs.Common.{to_z-of_z}
+use Rattle.gtd_hours_holidays.specs.Days.{IsIn}
+use Rattle.gtd_hours_days.proofs.AdditionFacts.{day_added, day_none, of_calendar}
+use Rattle.gtd_hours_days.proofs.additions.add_day.Goals as goal
+
+pub returns-then-not-is_of_years : goal.returns-then-not-is_of_years
+returns-then-not-is_of_years c =
+    day_none c.args.years c.args.day (IsIn c.args.days.now)
+    (λ of. let yes = (rw (to_z-of_z c.ranges.day) at c.is_of_years.ensures).1 of in cc)
+
+pub add-requires-clause-first_in : goal.add-requires-clause-first_in
+add-requires-clause-first_in c = of_calendar c.args.years _ (c.is_of_years.ensures.0 c.if-not-is_of_years.false)
+
+pub add-requires-clause-last_in : goal.add-requires-clause-last_in
+add-requires-clause-last_in c = of_calendar c.args.years _ (c.is_of_years.ensures.0 c.if-not-is_of_years.false)
+
+pub returns : goal.returns
+returns c =
+    day_added c.args.years c.args.day (IsIn c.add.new.self) (IsIn c.args.days.now)
+    ((rw (to_z-of_z c.ranges.day) at c.is_of_years.ensures).0 c.if-not-is_of_years.false)
+    (rw (to_z-of_z c.ranges.day) at c.in_ok-add.ensures.added)

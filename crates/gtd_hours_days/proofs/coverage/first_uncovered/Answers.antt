@@ -1,0 +1,24 @@
+use Rattle.std.proofs.Common.{rules, ◌≡◌, ◌∙◌, ◌+◌, ◌++◌, ◌∷◌, [], ap, sym, take, FitsSigned, w64, to_z-of_z}
+use Rattle.std.proofs.lemmas.List.{take_more}
+use Rattle.gtd_hours_days.specs.declared.listed.Listed.{Listed}
+use Rattle.gtd_hours_days.proofs.CoverageFacts.{covers_more, uncovered_at}
+use Rattle.gtd_hours_days.proofs.coverage.first_uncovered.Goals as goal
+
+pub returns-in-Some : goal.returns-in-Some
+returns-in-Some c =
+    let day : FitsSigned w64 c.in-Some.day = search rules in
+    record {
+      first = rw (to_z-of_z day) (uncovered_at c.args.holidays.now.rows.items c.args.years c.args.listed.now c.loop-place.place
+          c.index-listed-place.result c.in-Some.day c.loop-place-test.true c.index-listed-place.is c.loop-place.invariant
+          (rw c.in-Some.is at c.in_ok-day.ensures));
+    }
+
+pub loop-place-preserved : goal.loop-place-preserved
+loop-place-preserved c =
+    let at = c.loop-place.place in
+    let xs = c.args.listed.now in
+    let r = c.index-listed-place.result in
+    let next : take (at + 1) xs ≡ take at xs ++ r ∷ [] =
+    take_more xs at r c.loop-place-test.true ∙ ap (λ (x : Listed). take at xs ++ x ∷ []) (sym c.index-listed-place.is) in
+    rw next (covers_more c.args.holidays.now.rows.items c.args.years (take at xs) r c.loop-place.invariant
+    (rw c.in-None.is at c.in_ok-day.ensures))

@@ -1,0 +1,99 @@
+//! The days of selectors, as a set and as an expression.
+
+ghost use Rattle.std.specs.Prelude.{◌≡◌, ◌↔◌, ℤ, IfOk};
+ghost use Rattle.gtd_core.specs.Trees.{leaf_count, tree_of};
+ghost use Rattle.gtd_hours_domain.specs.Translation.{AreDays, minutes_of};
+ghost use Rattle.gtd_hours_holidays.specs.Days.{IsIn};
+ghost use Rattle.gtd_hours_days.specs.Listed.{SomeListed};
+ghost use Rattle.gtd_hours_days.specs.Selections.{AreSelected, IsSelection};
+
+use crate::additions::add_listed;
+use crate::coverage::{Uncovered, first_uncovered};
+use crate::listed::Listed;
+use crate::set::{DaysFault, days_expr};
+use gtd_core::Expr;
+use gtd_hours_domain::Clock;
+use gtd_hours_holidays::{Days, HolidayRow, Holidays, KnownYears};
+use std::alloc::{AllocError, Global};
+
+/// Why selectors have no days, or no expression.
+#[derive(Clone, Copy, Debug, PartialEq, Eq)]
+pub enum ListedFault {
+    /// The table of holidays does not say all that a selector needs.
+    Uncovered(Uncovered),
+    /// The expression would have more than 128 basic domains.
+    TooMany {
+        /// How many it would have.
+        needed: usize,
+    },
+    /// Memory was refused.
+    NoMemory,
+}
+
+impl From<AllocError> for ListedFault {
+    ghost use Rattle.std.specs.Prelude.{◌≡◌};
+    ghost use Rattle.gtd_hours_days.specs.declared.selection.ListedFault.TheVariants.{NoMemory};
+
+    ghost from_gives = { λ _ why. why ≡ NoMemory };
+
+    fn from(_: AllocError) -> ListedFault {
+        ListedFault::NoMemory
+    }
+}
+
+// The days of selectors, of which the table says all.
+fn marked(
+    alloc: Global,
+    rows: &[HolidayRow],
+    years: KnownYears,
+    listed: &[Listed],
+) -> Result<Days, AllocError>
+    ensures { IfOk result (λ days. (n : ℤ) → IsIn days n ↔ SomeListed rows.now years listed.now n) }
+{
+    let mut days = Days::new(alloc);
+    for selector in listed {
+        add_listed(&mut days, rows, years, *selector)?;
+    }
+    Ok(days)
+}
+
+/// The days on which one of the selectors holds. The answer is `Uncovered` exactly if the table does not say all holidays of the
+/// years for some selector, `NoMemory` only if memory was refused.
+pub fn listed_days(
+    alloc: Global,
+    holidays: &Holidays,
+    years: KnownYears,
+    listed: &[Listed],
+) -> Result<Days, ListedFault>
+    ensures selected { AreSelected holidays.now years listed.now result }
+{
+    if let Some(uncovered) = first_uncovered(alloc, holidays, years, listed)? {
+        return Err(ListedFault::Uncovered(uncovered));
+    }
+    let days = marked(alloc, holidays.rows.as_slice(), years, listed)?;
+    Ok(days)
+}
+
+/// The days on which one of the selectors holds, as an expression, where a day is from the clock on for 24 hours.
+///
+/// The answer is `Uncovered` exactly if the table does not say all holidays of the years for some selector, and otherwise
+/// `TooMany` exactly if more than 128 basic domains are needed, which are counted before the expression takes memory; `NoMemory`
+/// only if memory was refused.
+pub fn listed_expr(
+    alloc: Global,
+    holidays: &Holidays,
+    years: KnownYears,
+    listed: &[Listed],
+    clock: Clock,
+) -> Result<Expr, ListedFault>
+    ensures selection { IsSelection holidays.now years listed.now (minutes_of clock) result }
+{
+    let days = listed_days(alloc, holidays, years, listed)?;
+    match days_expr(alloc, &days, years, clock) {
+        Ok(expr) => Ok(expr),
+        Err(fault) => match fault {
+            DaysFault::TooMany { needed } => Err(ListedFault::TooMany { needed }),
+            DaysFault::NoMemory => Err(ListedFault::NoMemory),
+        },
+    }
+}
