@@ -15,7 +15,7 @@ use Rattle.gtd_hours_grammar.specs.Kinds.{misfit_of}
 use Rattle.gtd_hours_grammar.specs.Moves.{next_move}
 use Rattle.gtd_hours_grammar.specs.Runs.{is_after, with_piece}
 use Rattle.gtd_hours_grammar.specs.Sound.{Fits}
-use Rattle.gtd_hours_grammar.specs.SoundPieces.{ArePieces, IsPiece}
+use Rattle.gtd_hours_parts.specs.SoundPieces.{ArePieces, IsPiece}
 use Rattle.gtd_hours_grammar.specs.Steps.{IsMove, IsReading, advanced, kind_of, moves_left}
 use Rattle.gtd_hours_grammar.specs.facts.FirstFault.{hours_or_fault}
 use Rattle.gtd_hours_grammar.specs.facts.OneReading.{one_reading}

@@ -7,18 +7,18 @@ use Rattle.gtd_hours_parts.specs.declared.digits.Digits.{Digits}
 use Rattle.gtd_hours_parts.specs.declared.clock.ClockTime.{ClockTime}
 use Rattle.gtd_hours_parts.specs.Numbers.{IsPlaceNumber, IsWeekNumber, IsYearNumber}
 use Rattle.gtd_hours_parts.specs.Times.{IsBegin}
-use Rattle.gtd_hours_grammar.specs.declared.piece.WrittenDate.{WrittenDate}
-use Rattle.gtd_hours_grammar.specs.declared.piece.LastDate.TheVariants as last_date
+use Rattle.gtd_hours_parts.specs.declared.piece.WrittenDate.{WrittenDate}
+use Rattle.gtd_hours_parts.specs.declared.piece.LastDate.TheVariants as last_date
 use Rattle.gtd_hours_grammar.specs.Terms.{TokenKind, Piece, Stage, Place}
-use Rattle.gtd_hours_grammar.specs.declared.piece.Piece.TheVariants as piece
+use Rattle.gtd_hours_parts.specs.declared.piece.Piece.TheVariants as piece
 use Rattle.gtd_hours_grammar.specs.declared.stage.Stage.TheVariants as stage
 use Rattle.gtd_hours_grammar.specs.declared.place.Place.TheVariants as places
 use Rattle.gtd_hours_grammar.specs.Grammar.{Demand, Follow, IsDates, IsMonthDays, IsPlaces, IsWeekdays, IsWeeks, IsYears}
 use Rattle.gtd_hours_grammar.specs.Grammar.{by_place}
 use Rattle.gtd_hours_grammar.specs.Grammar.{date_before, dated, goes_on, may_break_off, number, precedes, so_far}
 use Rattle.gtd_hours_grammar.specs.Grammar.{time, unfinished}
-use Rattle.gtd_hours_grammar.specs.Pieces.{AreBackWeeks, IsDay, IsLastDay, IsRange, IsWrittenDate, final_week, final_year}
-use Rattle.gtd_hours_grammar.specs.Pieces.{week_one}
+use Rattle.gtd_hours_parts.specs.Pieces.{AreBackWeeks, IsDay, IsLastDay, IsRange, IsWrittenDate, final_week, final_year}
+use Rattle.gtd_hours_parts.specs.Pieces.{week_one}
 use Rattle.gtd_hours_grammar.specs.Places.{Behind, BehindDate, FromDate, Rest}
 use Rattle.gtd_hours_grammar.specs.Places.BehindDate.{day, none}
 use Rattle.gtd_hours.specs.declared.hours.Link.TheVariants as link

@@ -9,20 +9,20 @@ use Rattle.gtd_hours_tokens.specs.declared.token.TokenKind.TheVariants as token
 use Rattle.gtd_hours_parts.specs.declared.clock.ClockTime.{ClockTime}
 use Rattle.gtd_hours_parts.specs.declared.digits.Digits.{Digits}
 use Rattle.gtd_hours_parts.specs.Numbers.{IsPlaceNumber, IsWeekNumber, IsYearNumber}
-use Rattle.gtd_hours_grammar.specs.declared.piece.LastDate.TheVariants as last_date
-use Rattle.gtd_hours_grammar.specs.declared.piece.Piece.TheVariants as piece
-use Rattle.gtd_hours_grammar.specs.declared.piece.WrittenDate.{WrittenDate}
+use Rattle.gtd_hours_parts.specs.declared.piece.LastDate.TheVariants as last_date
+use Rattle.gtd_hours_parts.specs.declared.piece.Piece.TheVariants as piece
+use Rattle.gtd_hours_parts.specs.declared.piece.WrittenDate.{WrittenDate}
 use Rattle.gtd_hours_grammar.specs.declared.stage.Stage.TheVariants as stage
 use Rattle.gtd_hours_grammar.specs.declared.place.Place.TheVariants as places
 use Rattle.gtd_hours_grammar.specs.Grammar.{Demand, Follow, IsDates, IsMonthDays, IsPlaces, IsWeekdays, IsWeeks, IsYears, More}
 use Rattle.gtd_hours_grammar.specs.Places.{Behind, BehindDate, From, FromDate, Rest}
-use Rattle.gtd_hours_grammar.specs.declared.piece.LastDate.{LastDate}
+use Rattle.gtd_hours_parts.specs.declared.piece.LastDate.{LastDate}
 use Rattle.gtd_hours.specs.declared.hours.Link.TheVariants as link
 use Rattle.gtd_hours_grammar.specs.facts.FollowDates.{end_month_is, end_year_is}
 use Rattle.gtd_hours_grammar.specs.Grammar.{begins_with_date, date_before, number, range_to}
-use Rattle.gtd_hours_grammar.specs.Pieces.{AreBackWeeks, AreWrittenDates, EndsRange, IsDay, IsRange, IsWrittenDate}
-use Rattle.gtd_hours_grammar.specs.Pieces.{end_month, end_year}
-use Rattle.gtd_hours_grammar.specs.Pieces.{final_week, final_year, week_one}
+use Rattle.gtd_hours_parts.specs.Pieces.{AreBackWeeks, AreWrittenDates, EndsRange, IsDay, IsRange, IsWrittenDate}
+use Rattle.gtd_hours_parts.specs.Pieces.{end_month, end_year}
+use Rattle.gtd_hours_parts.specs.Pieces.{final_week, final_year, week_one}
 use Rattle.gtd_hours_grammar.specs.Sound.{Both, Fits, IsPlace, YearOrDay, YearOrListed, is_last_year}
 use Rattle.gtd_hours_grammar.specs.Moves.{clock, dates_end, take, week_pair, written, year_or_day, year_or_listed}
 use Rattle.gtd_hours_grammar.specs.Terms.{Move, Piece, Place}

@@ -4,11 +4,11 @@ use Rattle.std.specs.Prelude.{◌&&◌}
 use Rattle.gtd_hours_tokens.specs.declared.token.TokenKind.TheVariants as token
 use Rattle.gtd_hours_parts.specs.declared.digits.Digits.{Digits}
 use Rattle.gtd_hours_grammar.specs.Terms.{TokenKind, Piece, Stage, Place, Move}
-use Rattle.gtd_hours_grammar.specs.declared.piece.Piece.TheVariants as piece
+use Rattle.gtd_hours_parts.specs.declared.piece.Piece.TheVariants as piece
 use Rattle.gtd_hours_grammar.specs.declared.stage.Stage.TheVariants as stage
 use Rattle.gtd_hours_grammar.specs.declared.place.Place.TheVariants as places
 use Rattle.gtd_hours_grammar.specs.Grammar.{Demand, precedes}
-use Rattle.gtd_hours_grammar.specs.Pieces.{final_week, week_one}
+use Rattle.gtd_hours_parts.specs.Pieces.{final_week, week_one}
 use Rattle.gtd_hours_grammar.specs.Sound.{takes_number, takes_time}
 use Rattle.gtd_hours_grammar.specs.Moves.{next_move, give, take, complete, written, clock}
 use Rattle.gtd_hours_grammar.specs.Runs.{Runs, awaits_day, is_after, left}

@@ -4,18 +4,18 @@ use Rattle.std.specs.Prelude.{IfSome, ◌&&◌, ◌==◌, if◌then◌else◌, n
 use Rattle.gtd_hours.specs.declared.hours.Link.TheVariants as link
 use Rattle.gtd_hours_tokens.specs.declared.token.TokenKind.TheVariants as token
 use Rattle.gtd_hours_parts.specs.declared.digits.Digits.{Digits}
-use Rattle.gtd_hours_grammar.specs.declared.piece.LastDate.TheVariants as last_date
+use Rattle.gtd_hours_parts.specs.declared.piece.LastDate.TheVariants as last_date
 use Rattle.gtd_hours_grammar.specs.Terms.{TokenKind, Piece, Stage, Place, Move}
-use Rattle.gtd_hours_grammar.specs.declared.piece.Piece.TheVariants as piece
-use Rattle.gtd_hours_grammar.specs.declared.piece.WrittenDate.{WrittenDate}
+use Rattle.gtd_hours_parts.specs.declared.piece.Piece.TheVariants as piece
+use Rattle.gtd_hours_parts.specs.declared.piece.WrittenDate.{WrittenDate}
 use Rattle.gtd_hours_grammar.specs.declared.stage.Stage.TheVariants as stage
 use Rattle.gtd_hours_grammar.specs.declared.place.Place.TheVariants as places
 use Rattle.gtd_hours_grammar.specs.Moves.{complete, give, later, listed, listed_number, next_goes_on, next_move, take, when}
 use Rattle.gtd_hours_grammar.specs.Moves.{dates_end, week_pair, written, year_or_listed}
 use Rattle.gtd_hours_parts.specs.Numbers.{IsYearNumber}
-use Rattle.gtd_hours_grammar.specs.Pieces.{IsRange, IsWrittenDate, final_year}
+use Rattle.gtd_hours_parts.specs.Pieces.{IsRange, IsWrittenDate, final_year}
 use Rattle.gtd_hours_grammar.specs.Sound.{Fits, IsPlace, YearOrDay, is_last_year}
-use Rattle.gtd_hours_grammar.specs.SoundPieces.{IsPiece}
+use Rattle.gtd_hours_parts.specs.SoundPieces.{IsPiece}
 use Rattle.gtd_hours_grammar.specs.Steps.{IsMove}
 
 -- the piece of a move, if there is one, is in range
@@ -189,3 +189,8 @@ sound_piece at next move x h goes e =
     let sound = move_sound at next goes.fits h goes.bit.0 in
     let here = subst (λ (r : Option Move). IsSound r) (sym goes.computed) sound in
     subst (λ (o : Option Piece). IfSome o (λ y. IsPiece y)) e here
+
+pub sound_all : (at : Place) (next : Option TokenKind) (move : Move) → IsPlace at → IsMove at next (Some move)
+    → IfSome move.piece (λ x. IsPiece x)
+sound_all at next move h goes =
+    subst (λ (r : Option Move). IsSound r) (sym goes.computed) (move_sound at next goes.fits h goes.bit.0)

@@ -6,14 +6,14 @@ use Rattle.gtd_hours_tokens.specs.declared.token.TokenKind.TheVariants as token
 use Rattle.gtd_hours_parts.specs.declared.digits.Digits.{Digits}
 use Rattle.gtd_hours_parts.specs.declared.clock.ClockTime.{ClockTime}
 use Rattle.gtd_hours_parts.specs.Numbers.{IsPlaceNumber, IsStepNumber, IsWeekNumber, IsYearNumber}
-use Rattle.gtd_hours_grammar.specs.declared.piece.WrittenDate.{WrittenDate}
-use Rattle.gtd_hours_grammar.specs.declared.piece.LastDate.{LastDate}
-use Rattle.gtd_hours_grammar.specs.declared.piece.LastDate.TheVariants as last_date
+use Rattle.gtd_hours_parts.specs.declared.piece.WrittenDate.{WrittenDate}
+use Rattle.gtd_hours_parts.specs.declared.piece.LastDate.{LastDate}
+use Rattle.gtd_hours_parts.specs.declared.piece.LastDate.TheVariants as last_date
 use Rattle.gtd_hours_grammar.specs.Terms.{TokenKind, Piece, Stage}
-use Rattle.gtd_hours_grammar.specs.declared.piece.Piece.TheVariants as piece
+use Rattle.gtd_hours_parts.specs.declared.piece.Piece.TheVariants as piece
 use Rattle.gtd_hours_grammar.specs.declared.stage.Stage.TheVariants as stage
-use Rattle.gtd_hours_grammar.specs.Pieces.{AreBackWeeks, AreFewYears, AreWrittenDates, AreWrittenTimes, IsDay, IsRange}
-use Rattle.gtd_hours_grammar.specs.Pieces.{IsWrittenDate, day_behind, end_month, end_year, final_week, final_year, week_one}
+use Rattle.gtd_hours_parts.specs.Pieces.{AreBackWeeks, AreFewYears, AreWrittenDates, AreWrittenTimes, IsDay, IsRange}
+use Rattle.gtd_hours_parts.specs.Pieces.{IsWrittenDate, day_behind, end_month, end_year, final_week, final_year, week_one}
 
 -- What is asked of tokens: that they are a text in full; that they can be its beginning so far, where a text that has come to
 -- the last date of a range is judged at that date's day; or the same, where a number that comes last need only fit by its place.

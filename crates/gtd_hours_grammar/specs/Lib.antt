@@ -1,5 +1,4 @@
 pub mod Terms
-pub mod Pieces
 pub mod Grammar
 pub mod Places
 pub mod Sound
@@ -8,5 +7,4 @@ pub mod Runs
 pub mod Faults
 pub mod Kinds
 pub mod Steps
-pub mod SoundPieces
 pub mod facts

@@ -2,13 +2,13 @@
 -- before those that follow.
 use Rattle.std.specs.Prelude.{List, ◌≡◌, ℕ, ◌∷◌, Option, Some, None}
 use Rattle.gtd_hours_parts.specs.declared.digits.Digits.{Digits}
-use Rattle.gtd_hours_grammar.specs.declared.piece.WrittenDate.{WrittenDate}
+use Rattle.gtd_hours_parts.specs.declared.piece.WrittenDate.{WrittenDate}
 use Rattle.gtd_hours_tokens.specs.declared.token.TokenKind.TheVariants as token
 use Rattle.gtd_hours_grammar.specs.Terms.{TokenKind, Piece, Stage, Place}
-use Rattle.gtd_hours_grammar.specs.declared.piece.Piece.TheVariants as piece
+use Rattle.gtd_hours_parts.specs.declared.piece.Piece.TheVariants as piece
 use Rattle.gtd_hours_grammar.specs.declared.stage.Stage.TheVariants as stage
 use Rattle.gtd_hours_grammar.specs.declared.place.Place.TheVariants as places
-use Rattle.gtd_hours_grammar.specs.Pieces.{IsDay, final_week}
+use Rattle.gtd_hours_parts.specs.Pieces.{IsDay, final_week}
 use Rattle.gtd_hours_grammar.specs.Grammar.{Demand, Follow, IsDates, IsOne, IsPlaces, Listed, More, dated, number, time}
 
 -- the rest behind one of a list

@@ -6,13 +6,13 @@ use Rattle.gtd_hours_parts.specs.declared.digits.Digits.{Digits}
 use Rattle.gtd_hours_parts.specs.declared.clock.ClockTime.{ClockTime}
 use Rattle.gtd_hours_parts.specs.Numbers.{IsPlaceNumber, IsStepNumber, IsWeekNumber, IsYearNumber}
 use Rattle.gtd_hours_parts.specs.Times.{IsBegin}
-use Rattle.gtd_hours_grammar.specs.declared.piece.WrittenDate.{WrittenDate}
-use Rattle.gtd_hours_grammar.specs.declared.piece.LastDate.TheVariants as last_date
+use Rattle.gtd_hours_parts.specs.declared.piece.WrittenDate.{WrittenDate}
+use Rattle.gtd_hours_parts.specs.declared.piece.LastDate.TheVariants as last_date
 use Rattle.gtd_hours_grammar.specs.Terms.{TokenKind, Stage, Place}
 use Rattle.gtd_hours_grammar.specs.declared.stage.Stage.TheVariants as stage
 use Rattle.gtd_hours_grammar.specs.declared.place.Place.TheVariants as places
 use Rattle.gtd_hours_grammar.specs.Grammar.{precedes}
-use Rattle.gtd_hours_grammar.specs.Pieces.{AreBackWeeks, AreFewYears, AreWrittenTimes, EndsRange, IsDay, IsRange, IsWrittenDate}
+use Rattle.gtd_hours_parts.specs.Pieces.{AreBackWeeks, AreFewYears, AreWrittenTimes, EndsRange, IsDay, IsRange, IsWrittenDate}
 
 pub record Both (A B : Type 0) : Type 0 where
   pub one : A

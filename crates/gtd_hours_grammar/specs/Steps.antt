@@ -2,6 +2,7 @@
 use Rattle.std.specs.Prelude.{List, ◌≡◌, ◌↔◌, ℕ, ◌+◌, ◌*◌, ◌-◌, ◌≤◌, Bool, true, false, ◌++◌, length, Option, Some, None, Result}
 use Rattle.std.specs.Prelude.{Ok, Err}
 use Rattle.gtd_hours_tokens.specs.Lexing.{AreTokens, Reads}
+use Rattle.gtd_hours_parts.specs.declared.part.Part.{Part}
 use Rattle.gtd_hours_grammar.specs.Terms.{Token, TokenKind, Piece, Place, Move}
 use Rattle.gtd_hours_grammar.specs.declared.place.Place.TheVariants as places
 use Rattle.gtd_hours_grammar.specs.declared.reading.Reading.{Reading}
@@ -73,10 +74,10 @@ advanced reading None move = record { place = reading.place; behind = reading.be
 advanced reading (Some t) move = moved move.takes reading t move.to
 
 -- what a reading comes to where no move can be made
-abbrev pub ended : List ℕ → Bool → Result (Option (Piece × Reading)) HoursFault
+abbrev pub ended : List ℕ → Bool → Result (Option (Part × Reading)) HoursFault
 ended text true = Ok None
 ended text false = Err (record { kind = fault.Incomplete; place = length text })
 
-abbrev pub end_or_fault : List ℕ → Reading → Option Token → Result (Option (Piece × Reading)) HoursFault
+abbrev pub end_or_fault : List ℕ → Reading → Option Token → Result (Option (Part × Reading)) HoursFault
 end_or_fault text reading None = ended text (is_after reading.at)
 end_or_fault text reading (Some t) = Err (record { kind = misfit_of reading.behind t.kind; place = t.from })

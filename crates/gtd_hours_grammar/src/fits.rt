@@ -3,17 +3,14 @@
 ghost use Rattle.std.specs.Prelude.{◌≡◌, ◌↔◌, ◌==◌, true};
 ghost use Rattle.gtd_hours.specs.Ranges.{IsMonth, IsWeekday};
 ghost use Rattle.gtd_hours_parts.specs.Numbers.{IsPlaceNumber, IsWeekNumber, IsYearNumber};
-ghost use Rattle.gtd_hours_grammar.specs.Pieces.{AreFewYears, EndsRange, IsDay, IsLastDay, IsRange, IsWrittenDate};
+ghost use Rattle.gtd_hours_parts.specs.Pieces.{AreFewYears, EndsRange, IsDay, IsRange, IsWrittenDate};
 ghost use Rattle.gtd_hours_grammar.specs.Sound.{Fits, IsPlace, ListedFits, NumberFits, TimeFits, YearOrDayFits, YearOrListed};
 ghost use Rattle.gtd_hours_grammar.specs.Sound.{is_last_year, takes_number, takes_time};
 
-use crate::piece::{LastDate, WrittenDate};
 use crate::place::Place;
 use crate::stage::Stage;
 use gtd_hours::{MonthDay, YearDate};
-use gtd_hours_parts::{
-    ClockTime, Digits, month_day, times, to_month_day, to_year_date, year_date, years,
-};
+use gtd_hours_parts::{ClockTime, Digits, LastDate, WrittenDate, dates_of, times, years};
 use gtd_hours_tokens::TokenKind;
 
 fn month_fits(month: u8) -> bool
@@ -41,32 +38,12 @@ fn day_fits(year: Option<Digits>, month: u8, day: Digits) -> bool
     }
 }
 
-// A range that begins with a date of this year ends with that year, month and day.
-fn last_day_fits(first: WrittenDate, year: Option<Digits>, month: u8, day: Digits) -> bool
-    requires date { IsWrittenDate first }
-    ensures { (result ≡ true) ↔ IsLastDay first.year first.month first.day year month day }
-{
-    match first.year {
-        None => year.is_none() && month_day(month, day).is_some(),
-        Some(first_year) => match year_date(first_year, first.month, first.day) {
-            None => false,
-            Some(begin) => match year {
-                None => to_month_day(begin, month, day).is_some(),
-                Some(year) => to_year_date(begin, year, month, day).is_some(),
-            },
-        },
-    }
-}
-
 // A range that begins with a date ends with that day or date.
 fn ends_range(first: WrittenDate, last: LastDate) -> bool
     requires date { IsWrittenDate first }
     ensures { (result ≡ true) ↔ EndsRange first last }
 {
-    match last {
-        LastDate::Day(day) => last_day_fits(first, None, first.month, day),
-        LastDate::Date(date) => last_day_fits(first, date.year, date.month, date.day),
-    }
+    dates_of(first, Some(last)).is_some()
 }
 
 /// Whether a number behind a date and a dash is a year: it has four digits, and the date has a year.
@@ -145,7 +122,10 @@ fn number_fits(place: Place, number: Digits) -> bool
         Place::Date(_) => false,
         Place::ListedDay(_) => false,
         Place::DateDash(first) => year_or_day_fits(first, number),
-        Place::DateDashMonth { first, year, month } => { last_day_fits(first, year, month, number) }
+        Place::DateDashMonth { first, year, month } => {
+            let day = number;
+            ends_range(first, LastDate::Date(WrittenDate { year, month, day }))
+        }
         Place::WeekWord => number.week().is_some(),
         Place::WeekDash(_) => number.week().is_some(),
         Place::WeekStep { .. } => number.step().is_some(),

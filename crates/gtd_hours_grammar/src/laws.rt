@@ -2,9 +2,9 @@
 
 ghost use Rattle.std.specs.Prelude.{◌≡◌, ◌≤◌, ◌*◌, ◌⊎◌, ℕ, List, length};
 ghost use Rattle.gtd_hours_grammar.specs.declared.fault.HoursFault.{HoursFault};
-ghost use Rattle.gtd_hours_grammar.specs.declared.piece.Piece.{Piece};
+ghost use Rattle.gtd_hours_parts.specs.declared.piece.Piece.{Piece};
 ghost use Rattle.gtd_hours_grammar.specs.Faults.{IsFirstFault, IsHoursText};
-ghost use Rattle.gtd_hours_grammar.specs.SoundPieces.{ArePieces};
+ghost use Rattle.gtd_hours_parts.specs.SoundPieces.{ArePieces};
 
 use gtd_hours_tokens::laws::each_text as each_list_of_tokens;
 

@@ -9,14 +9,12 @@ mod fault;
 mod fits;
 pub mod laws;
 mod moves;
-mod piece;
 mod place;
 mod reading;
 mod stage;
 
-pub use check::check_hours;
+pub use check::{check_behind, check_hours};
 pub use fault::{FaultKind, HoursFault};
-pub use piece::{LastDate, Piece, WrittenDate};
 pub use place::{Move, Place};
-pub use reading::{Reading, begin, next_piece};
+pub use reading::{Reading, begin, next_part};
 pub use stage::Stage;

@@ -3,9 +3,8 @@
 ghost use Rattle.std.specs.Prelude.{◌≡◌};
 ghost use Rattle.gtd_hours_grammar.specs.Runs.{is_after};
 
-use crate::piece::{Piece, WrittenDate};
 use crate::stage::Stage;
-use gtd_hours_parts::{ClockTime, Digits};
+use gtd_hours_parts::{ClockTime, Digits, Piece, WrittenDate};
 
 /// Behind which tokens the reading stands, with what must be kept of them.
 #[derive(Clone, Copy)]

@@ -1,21 +1,22 @@
 //! Reading a text of opening hours, piece by piece.
 
-ghost use Rattle.std.specs.Prelude.{◌≡◌, ◌<◌, ◌≤◌, ◌∷◌, ◌++◌, [], IfErr, IfOk, IfSome, List, None, Ok, length};
+ghost use Rattle.std.specs.Prelude.{◌≡◌, ◌<◌, ◌≤◌, ◌∷◌, ◌++◌, [], IfErr, IfOk, IfSome, List, None, Ok, Some, length};
 ghost use Rattle.gtd_hours_tokens.specs.Lexing.{AreTokens, IsNext, Reads};
 ghost use Rattle.gtd_hours_tokens.specs.declared.token.Token.{Token};
-ghost use Rattle.gtd_hours_grammar.specs.declared.piece.Piece.{Piece};
+ghost use Rattle.gtd_hours_parts.specs.declared.piece.Piece.{Piece};
 ghost use Rattle.gtd_hours_grammar.specs.Faults.{IsFirstFault, IsHoursText};
 ghost use Rattle.gtd_hours_grammar.specs.Kinds.{misfit_of, range_if};
 ghost use Rattle.gtd_hours_grammar.specs.Runs.{IsGood};
 ghost use Rattle.gtd_hours_grammar.specs.Sound.{IsPlace};
-ghost use Rattle.gtd_hours_grammar.specs.SoundPieces.{IsPiece};
+ghost use Rattle.gtd_hours_parts.specs.SoundPieces.{IsPiece};
+ghost use Rattle.gtd_hours_parts.specs.Values.{IsPartOf};
 ghost use Rattle.gtd_hours_grammar.specs.Steps.{IsMove, IsReading, advanced, end_or_fault, kind_of, moves_left};
 
 use crate::fault::{FaultKind, HoursFault};
 use crate::fits::{fits, takes_number, takes_time};
 use crate::moves::next_move;
-use crate::piece::Piece;
 use crate::place::{Move, Place};
+use gtd_hours_parts::{Part, part_of};
 use gtd_hours_tokens::{Token, TokenKind, check_tokens, next_token};
 
 /// How far a text of opening hours has been read.
@@ -47,12 +48,13 @@ pub fn begin(text: &[u8]) -> Result<Reading, HoursFault>
     }
 }
 
-/// The next piece, and the reading behind it. `None` where the text has been read in full, or its first fault. Takes no memory.
-pub fn next_piece(text: &[u8], reading: Reading) -> Result<Option<(Piece, Reading)>, HoursFault>
+/// What the next piece stands for, and the reading behind it. `None` where the text has been read in full, or its first fault.
+/// Takes no memory.
+pub fn next_part(text: &[u8], reading: Reading) -> Result<Option<(Part, Reading)>, HoursFault>
     requires stands { (given : List Piece) × IsReading text.now reading given }
     ensures piece { (given : List Piece) → IsReading text.now reading given →
-        IfOk result (λ next. IfSome next (λ x. IsReading text.now x.1 (given ++ x.0 ∷ []))) }
-    ensures sound { IfOk result (λ next. IfSome next (λ x. IsPiece x.0)) }
+        IfOk result (λ next. IfSome next (λ x.
+        (y : Piece) × IsPiece y × IsPartOf x.0 y × IsReading text.now x.1 (given ++ y ∷ []))) }
     ensures all { (given : List Piece) → IsReading text.now reading given →
         result ≡ Ok None → IsHoursText text.now given }
     ensures fault { IfErr result (λ bad. IsFirstFault text.now bad) }
@@ -65,8 +67,8 @@ pub fn next_piece(text: &[u8], reading: Reading) -> Result<Option<(Piece, Readin
             return end_or_fault(text, now, next);
         };
         now = advanced(now, next, step);
-        if let Some(piece) = step.piece {
-            return Ok(Some((piece, now)));
+        if let Some(part) = part_behind(step) {
+            return Ok(Some((part, now)));
         }
     }
 }
@@ -103,6 +105,17 @@ fn step_from(place: Place, next: Option<TokenKind>) -> Option<Move>
     next_move(place, next, fits(place, next))
 }
 
+// What the piece that a move completes stands for.
+fn part_behind(step: Move) -> Option<Part>
+    ensures kept { IfSome result (λ x. (y : Piece) × (step.piece ≡ Some y) × IsPartOf x y) }
+    ensures none { result ≡ None → IfSome step.piece IsPiece → step.piece ≡ None }
+{
+    match step.piece {
+        Some(piece) => part_of(piece),
+        None => None,
+    }
+}
+
 // The reading behind a move.
 fn advanced(reading: Reading, next: Option<Token>, step: Move) -> Reading
     ensures { result ≡ advanced reading next step }
@@ -134,7 +147,7 @@ fn end_or_fault(
     text: &[u8],
     now: Reading,
     next: Option<Token>,
-) -> Result<Option<(Piece, Reading)>, HoursFault>
+) -> Result<Option<(Part, Reading)>, HoursFault>
     ensures { result ≡ end_or_fault text.now now next }
 {
     match next {

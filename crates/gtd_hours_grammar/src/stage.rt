@@ -7,7 +7,7 @@ ghost use Rattle.gtd_hours_grammar.specs.declared.stage.Stage.TheVariants as sta
 use gtd_hours_tokens::TokenKind;
 
 /// The part of a rule that was read last.
-#[derive(Clone, Copy, Debug, PartialEq, Eq)]
+#[derive(Clone, Copy)]
 pub enum Stage {
     /// Nothing yet.
     Front,

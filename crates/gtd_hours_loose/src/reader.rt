@@ -1,17 +1,16 @@
 //! The hours that a loosely written text stands for.
 
-ghost use Rattle.std.specs.Prelude.{◌≡◌, IfErr, IfOk, IfSome, IsSome, None};
+ghost use Rattle.std.specs.Prelude.{◌≡◌, IfErr, IfOk, IfSome, IsSome};
 ghost use Rattle.gtd_hours_text.specs.Standing.{StandsFor};
-ghost use Rattle.gtd_hours_loose.specs.Reading.{IsLooseReading, IsMendedStop, IsReadFault, IsStrict, placed, stopped};
+ghost use Rattle.gtd_hours_loose.specs.Reading.{IsLooseReading, IsMendedStop, IsReadFault, placed, stopped};
 ghost use Rattle.gtd_hours_loose.specs.Reading.{token_fault};
 ghost use Rattle.gtd_hours_loose.specs.StrictForms.{IsStrictForm};
-ghost use Rattle.gtd_hours_loose.specs.declared.reader.LooseReadFault.TheVariants as reading;
 
 use crate::mending::strict_form;
 use crate::strict::StrictForm;
 use crate::warnings::written_place;
 use gtd_hours::Hours;
-use gtd_hours_grammar::{FaultKind, HoursFault, check_hours};
+use gtd_hours_grammar::{FaultKind, HoursFault};
 use gtd_hours_loose_tokens::{DayNames, LooseStop, TokenFault};
 use gtd_hours_text::{HoursTextFault, read_hours};
 use std::alloc::Global;
@@ -59,21 +58,12 @@ pub fn read_loose_hours(
     ensures hours { IfOk result (IsLooseReading names text.now) }
     ensures fault { IfErr result (IsReadFault names text.now) }
 {
-    match check_hours(text) {
-        Ok(()) => read_strict(alloc, text),
-        Err(_) => read_mended(alloc, text, names),
-    }
-}
-
-// The hours of a text that is written strictly.
-fn read_strict(alloc: Global, text: &[u8]) -> Result<LooseHours, LooseReadFault>
-    requires { IsStrict text.now }
-    ensures hours { IfOk result (λ read. (read.form ≡ None) × StandsFor text.now read.hours) }
-    ensures fault { IfErr result (λ fault. fault ≡ reading.NoMemory) }
-{
     match read_hours(alloc, text) {
         Ok(hours) => Ok(LooseHours { hours, form: None }),
-        Err(_) => Err(LooseReadFault::NoMemory),
+        Err(why) => match why {
+            HoursTextFault::NoMemory => Err(LooseReadFault::NoMemory),
+            HoursTextFault::Fault(_) => read_mended(alloc, text, names),
+        },
     }
 }
 

@@ -47,17 +47,6 @@ pub fn to_day(first: MonthDay, day: Digits) -> Option<Dates>
     Some(Dates { first, last })
 }
 
-/// `2024 Dec 24`: that day alone, as a range.
-pub fn one_year_day(date: YearDate) -> Dated
-    ensures first { result.first ≡ date }
-    ensures last { result.last ≡ date }
-{
-    match Dated::new(date, date) {
-        Some(dated) => dated,
-        None => unreachable!(),
-    }
-}
-
 /// `2024 Dec 24-2025 Jan 3`: from a date to another one. `None` exactly if a number does not fit, the last date does not
 /// exist or comes before the first, or the range is longer than 36,600 days with both.
 pub fn to_year_date(first: YearDate, year: Digits, month: u8, day: Digits) -> Option<Dated>

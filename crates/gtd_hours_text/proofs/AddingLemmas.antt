@@ -1,15 +1,33 @@
--- One piece more in a draft.
+-- One part more in a draft.
 use Rattle.std.proofs.Common.{Vec, Global, ◌≡◌, Bool, true, false, List, [], ◌∷◌, ◌++◌, refl, sym, ap, subst, ◌∙◌}
 use Rattle.std.specs.List.{filter}
+use Rattle.std.proofs.Common.{ℕ, Option, Some, None, Result, Ok, Err}
+use Rattle.std.specs.Prelude.{IfOk}
+use Rattle.std.specs.declared.alloc.AllocError.{AllocError}
+use Rattle.gtd_hours.specs.declared.hours.Link.{Link}
+use Rattle.gtd_hours.specs.declared.hours.Dated.{Dated}
+use Rattle.gtd_hours.specs.declared.hours.Dates.{Dates}
+use Rattle.gtd_hours.specs.declared.hours.Months.{Months}
+use Rattle.gtd_hours.specs.declared.hours.Weekdays.{Weekdays}
+use Rattle.gtd_hours.specs.declared.hours.WeekdayPlace.{WeekdayPlace}
+use Rattle.gtd_hours.specs.declared.hours.Weeks.{Weeks}
+use Rattle.gtd_hours.specs.declared.hours.Years.{Years}
 use Rattle.gtd_hours.specs.declared.hours.Selector.{Selector}
+use Rattle.gtd_hours.specs.declared.hours.Selector.TheVariants as selector
+use Rattle.gtd_hours_parts.specs.Values.{AreDates, IsPartOf, IsSelector, last_number}
+use Rattle.gtd_hours_parts.specs.declared.digits.Digits.{Digits}
+use Rattle.gtd_hours_parts.specs.declared.part.Part.{Part}
+use Rattle.gtd_hours_parts.specs.declared.part.Part.TheVariants as part
+use Rattle.gtd_hours_parts.specs.declared.piece.LastDate.{LastDate}
+use Rattle.gtd_hours_parts.specs.declared.piece.WrittenDate.{WrittenDate}
 use Rattle.gtd_hours.specs.declared.hours.TimeRange.{TimeRange}
 use Rattle.gtd_hours_parts.specs.declared.clock.ClockTime.{ClockTime}
-use Rattle.gtd_hours_grammar.specs.declared.piece.Piece.{Piece}
-use Rattle.gtd_hours_grammar.specs.declared.piece.Piece.TheVariants as piece
+use Rattle.gtd_hours_parts.specs.declared.piece.Piece.{Piece}
+use Rattle.gtd_hours_parts.specs.declared.piece.Piece.TheVariants as piece
 use Rattle.gtd_hours_text.specs.declared.draft.Draft.{Draft}
-use Rattle.gtd_hours_text.specs.Adding.{AddsSelectors, AddsTimes}
+use Rattle.gtd_hours_text.specs.Adding.{AddsPlaces, AddsSelectors, AddsTimes}
 use Rattle.gtd_hours_text.specs.Drafts.{IsAdded}
-use Rattle.gtd_hours_text.specs.Standing.{AllSelectors, AllTimes, begins_rule, is_closed, is_one_rule}
+use Rattle.gtd_hours_text.specs.Standing.{AllSelectors, AllTimes, ArePlaces, AreSelectors, begins_rule, is_closed, is_one_rule}
 use Rattle.gtd_hours_text.specs.Standing.{names_month_days, names_times, names_weekdays, names_weeks, names_years}
 use Rattle.gtd_hours_text.proofs.DraftLemmas.{kept, left, selectors_more, times_more}
 
@@ -189,8 +207,97 @@ now_closed draft = record {
   closed = true;
 }
 
-pub closed_added : (draft : Draft) → IsAdded draft piece.Closed (now_closed draft)
+closed_added : (draft : Draft) → IsAdded draft piece.Closed (now_closed draft)
 closed_added draft = added draft piece.Closed (now_closed draft) refl refl refl refl refl refl refl refl
 
-pub kind_added : (draft : Draft) → IsAdded draft piece.Kind draft
+kind_added : (draft : Draft) → IsAdded draft piece.Kind draft
 kind_added draft = added draft piece.Kind draft refl refl refl refl refl refl refl refl
+
+-- ---- what a part stands for
+
+-- a piece that is one selector is no more than that
+alone : (y : Piece) (x : Selector) → IsSelector y x → AreSelectors y (x ∷ [])
+alone (piece.Places k a b) x is = absurd is
+alone y x is = is
+
+pub one_selector : (before after : List Selector) (y : Piece) (x : Selector) → after ≡ before ++ x ∷ [] → IsSelector y x
+    → AddsSelectors before y after
+one_selector before after y x all is = record { xs = x ∷ []; all = all; are = alone y x is }
+
+-- which list a selector is put into
+abbrev names_of : Selector → Piece → Bool
+names_of (selector.Years x) y = names_years y
+names_of (selector.Months x) y = names_month_days y
+names_of (selector.Dates x) y = names_month_days y
+names_of (selector.Dated x) y = names_month_days y
+names_of (selector.Weeks x) y = names_weeks y
+names_of x y = names_weekdays y
+
+dates_named : (a : WrittenDate) (b : Option LastDate) (year : Option Digits) (x : Selector) → AreDates year a b x
+    → names_of x (piece.Dates a b) ≡ true
+dates_named a b None (selector.Dates x) is = refl
+dates_named a b (Some year) (selector.Dated x) is = refl
+dates_named a b None x is = absurd is
+dates_named a b (Some year) x is = absurd is
+
+named : (y : Piece) (x : Selector) → IsSelector y x → names_of x y ≡ true
+named (piece.Years a b d) (selector.Years x) is = refl
+named (piece.Months a b) (selector.Months x) is = refl
+named (piece.Dates a b) x is = dates_named a b a.year x is
+named (piece.Weeks a b d) (selector.Weeks x) is = refl
+named (piece.Weekdays a b) (selector.Weekdays x) is = refl
+named (piece.PlaceBack k a) (selector.NthBack x) is = refl
+named y x is = absurd is
+
+abbrev pub IfNamed : (Piece → Bool) → Draft → Selector → Result Draft AllocError → Type 0
+IfNamed names draft x result = IfOk result (λ then. (y : Piece) → names y ≡ true → IsSelector y x → IsAdded draft y then)
+
+abbrev pub IfSelector : Draft → Selector → Result Draft AllocError → Type 0
+IfSelector draft x result = IfOk result (λ then. (y : Piece) → IsSelector y x → IsAdded draft y then)
+
+pub of_kind : (names : Piece → Bool) (draft : Draft) (x : Selector) (result : Result Draft AllocError)
+    → ((y : Piece) → names_of x y ≡ names y) → IfNamed names draft x result → IfSelector draft x result
+of_kind names draft x (Ok then) same h = λ y is. h y (sym (same y) ∙ named y x is) is
+of_kind names draft x (Err e) same h = record {}
+
+pub places_added : (draft : Draft) (x z : WeekdayPlace) (v : Vec Selector Global)
+    → AddsPlaces draft.weekdays.items x.weekday x.number z.number v.items → (y : Piece) → IsPartOf (part.Places x z) y
+    → IsAdded draft y (with_weekdays draft v)
+places_added draft x z v adds (piece.Places k a b) is =
+    let one = subst (λ (n : ℕ). ArePlaces n x.number z.number adds.xs) is.0.0 adds.are in
+    let two = subst (λ (n : ℕ). ArePlaces k n z.number adds.xs) is.0.1 one in
+    weekdays_added draft (piece.Places k a b) v refl (record {
+      xs = adds.xs;
+      all = adds.all;
+      are = subst (λ (n : ℕ). ArePlaces k a.value n adds.xs) is.1.1 two;
+    })
+places_added draft x z v adds y is = absurd is
+
+pub range_added : (draft : Draft) (x : TimeRange) (v : Vec TimeRange Global) → v.items ≡ draft.times.items ++ x ∷ []
+    → (y : Piece) → IsPartOf (part.Times x) y → IsAdded draft y (with_times draft v)
+range_added draft x v all (piece.Times b l) is =
+    times_added draft b l v (record { x = x; all = all; begins = is.0; ends = is.1 })
+range_added draft x v all y is = absurd is
+
+pub never_rule : (l : Link) (y : Piece) → IsPartOf (part.Rule l) y → begins_rule y ≡ false → ⊥
+never_rule l (piece.Rule k) is e = cc
+never_rule l y is e = is
+
+pub kind_part : (draft : Draft) (y : Piece) → IsPartOf part.Kind y → IsAdded draft y draft
+kind_part draft piece.Kind is = kind_added draft
+kind_part draft y is = absurd is
+
+pub closed_part : (draft : Draft) (y : Piece) → IsPartOf part.Closed y → IsAdded draft y (now_closed draft)
+closed_part draft piece.Closed is = closed_added draft
+closed_part draft y is = absurd is
+
+-- a part that is no rule is no piece that begins one
+pub no_rule : (x : Part) (y : Piece) → ((l : Link) → x ≡ part.Rule l → ⊥) → IsPartOf x y → begins_rule y ≡ false
+no_rule (part.Rule l) y none is = absurd (none l refl)
+no_rule part.Kind piece.Kind none is = refl
+no_rule (part.Selector x) (piece.Rule l) none is = absurd is
+no_rule (part.Selector x) y none is = refl
+no_rule (part.Places x z) (piece.Places k a b) none is = refl
+no_rule (part.Times x) (piece.Times b l) none is = refl
+no_rule part.Closed piece.Closed none is = refl
+no_rule x y none is = absurd is

@@ -1,14 +1,20 @@
 -- Hours that are being read.
 use Rattle.std.proofs.Common.{◌≡◌, false, List, [], ◌∷◌, ◌++◌, refl, sym, ap, subst, ◌∙◌, append_assoc}
+use Rattle.std.proofs.Common.{Result, Ok, Err}
+use Rattle.std.specs.Prelude.{IfOk}
+use Rattle.std.specs.declared.alloc.AllocError.{AllocError}
 use Rattle.gtd_hours.specs.declared.hours.Link.{Link}
 use Rattle.gtd_hours.specs.declared.hours.Link.TheVariants as link
 use Rattle.gtd_hours.specs.declared.hours.Rule.{Rule}
-use Rattle.gtd_hours_grammar.specs.declared.piece.Piece.{Piece}
-use Rattle.gtd_hours_grammar.specs.declared.piece.Piece.TheVariants as piece
+use Rattle.gtd_hours_parts.specs.Values.{IsPartOf}
+use Rattle.gtd_hours_parts.specs.declared.part.Part.{Part}
+use Rattle.gtd_hours_parts.specs.declared.part.Part.TheVariants as part
+use Rattle.gtd_hours_parts.specs.declared.piece.Piece.{Piece}
+use Rattle.gtd_hours_parts.specs.declared.piece.Piece.TheVariants as piece
 use Rattle.gtd_hours_text.specs.declared.builder.Building.{Building}
 use Rattle.gtd_hours_text.specs.Drafts.{Builds, Drafted, IsAdded, IsBuilding, IsDraft}
 use Rattle.gtd_hours_text.specs.Standing.{AreRules, IsRule, begins_rule, is_one_rule}
-use Rattle.gtd_hours_text.proofs.AddingLemmas.{one_more}
+use Rattle.gtd_hours_text.proofs.AddingLemmas.{no_rule, one_more}
 
 drafted_more : (l : Link) (p : List Piece) (rules : List Rule) (k : Link) (r : List Piece) (x : Piece)
     → begins_rule x ≡ false → Drafted l p rules k r → Drafted l (p ++ x ∷ []) rules k (r ++ x ∷ [])
@@ -82,3 +88,19 @@ pub hours_built : (so_far : Building) (rule : Rule) (rules : List Rule)
 hours_built so_far rule rules is_rule pushed p is =
     subst (λ (l : List Rule). AreRules link.Instead p l) (sym pushed)
     (drafted_ends link.Instead p so_far.rules.items so_far.draft.link is.here rule (is_rule is.here is.draft) is.rules)
+
+-- ---- one part more
+
+pub rule_part : (so_far then : Building) (l : Link) → Builds so_far (piece.Rule l) then → (y : Piece) → IsPartOf (part.Rule l) y
+    → Builds so_far y then
+rule_part so_far then l builds (piece.Rule k) is = subst (λ (n : Link). Builds so_far (piece.Rule n) then) is builds
+rule_part so_far then l builds y is = absurd is
+
+abbrev pub IfInside : Building → Part → Result Building AllocError → Type 0
+IfInside so_far x result =
+    IfOk result (λ then. (y : Piece) → IsPartOf x y → begins_rule y ≡ false → Builds so_far y then)
+
+pub inside_rule : (so_far : Building) (x : Part) (result : Result Building AllocError) → ((l : Link) → x ≡ part.Rule l → ⊥)
+    → IfInside so_far x result → IfOk result (λ then. (y : Piece) → IsPartOf x y → Builds so_far y then)
+inside_rule so_far x (Ok then) none h = λ y is. h y is (no_rule x y none is)
+inside_rule so_far x (Err e) none h = record {}

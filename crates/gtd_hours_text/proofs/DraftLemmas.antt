@@ -9,8 +9,8 @@ use Rattle.gtd_hours.specs.declared.hours.Rule.{Rule}
 use Rattle.gtd_hours.specs.declared.hours.Selector.{Selector}
 use Rattle.gtd_hours.specs.declared.hours.TimeRange.{TimeRange}
 use Rattle.gtd_hours_parts.specs.declared.clock.ClockTime.{ClockTime}
-use Rattle.gtd_hours_grammar.specs.declared.piece.Piece.{Piece}
-use Rattle.gtd_hours_grammar.specs.declared.piece.Piece.TheVariants as piece
+use Rattle.gtd_hours_parts.specs.declared.piece.Piece.{Piece}
+use Rattle.gtd_hours_parts.specs.declared.piece.Piece.TheVariants as piece
 use Rattle.gtd_hours_text.specs.declared.draft.Draft.{Draft}
 use Rattle.gtd_hours_text.specs.Drafts.{IsDraft}
 use Rattle.gtd_hours_text.specs.Standing.{AllSelectors, AllTimes, AreSelectors, IsRule}

@@ -15,13 +15,13 @@ use Rattle.gtd_hours.specs.declared.hours.YearDate.{YearDate}
 use Rattle.gtd_hours_parts.specs.Dates.{EndsOn, IsDayOfYear, IsWrittenDay, last_year}
 use Rattle.gtd_hours_parts.specs.Times.{minute_of}
 use Rattle.gtd_hours_parts.specs.declared.digits.Digits.{Digits}
-use Rattle.gtd_hours_grammar.specs.Pieces.{IsDay, IsLastDay}
-use Rattle.gtd_hours_grammar.specs.SoundPieces.{ArePieces, IsPiece}
-use Rattle.gtd_hours_grammar.specs.declared.piece.LastDate.{LastDate}
-use Rattle.gtd_hours_grammar.specs.declared.piece.LastDate.TheVariants as last_date
-use Rattle.gtd_hours_grammar.specs.declared.piece.Piece.{Piece}
-use Rattle.gtd_hours_grammar.specs.declared.piece.Piece.TheVariants as piece
-use Rattle.gtd_hours_grammar.specs.declared.piece.WrittenDate.{WrittenDate}
+use Rattle.gtd_hours_parts.specs.Pieces.{IsDay, IsLastDay}
+use Rattle.gtd_hours_parts.specs.SoundPieces.{ArePieces, IsPiece}
+use Rattle.gtd_hours_parts.specs.declared.piece.LastDate.{LastDate}
+use Rattle.gtd_hours_parts.specs.declared.piece.LastDate.TheVariants as last_date
+use Rattle.gtd_hours_parts.specs.declared.piece.Piece.{Piece}
+use Rattle.gtd_hours_parts.specs.declared.piece.Piece.TheVariants as piece
+use Rattle.gtd_hours_parts.specs.declared.piece.WrittenDate.{WrittenDate}
 use Rattle.gtd_hours_text.specs.Standing.{AllSelectors, AllTimes, AreDates, ArePlaces, AreSelectors, names_month_days}
 use Rattle.gtd_hours_text.specs.Standing.{names_times, names_weekdays, names_weeks, names_years, year_or}
 

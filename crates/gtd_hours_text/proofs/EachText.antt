@@ -12,10 +12,10 @@ use Rattle.gtd_hours.specs.declared.hours.Rule.{Rule}
 use Rattle.gtd_hours.specs.declared.hours.Selector.{Selector}
 use Rattle.gtd_hours.specs.declared.hours.TimeRange.{TimeRange}
 use Rattle.gtd_hours_grammar.specs.Faults.{IsFirstFault, IsHoursText}
-use Rattle.gtd_hours_grammar.specs.SoundPieces.{ArePieces}
+use Rattle.gtd_hours_parts.specs.SoundPieces.{ArePieces}
 use Rattle.gtd_hours_grammar.specs.declared.fault.HoursFault.{HoursFault}
-use Rattle.gtd_hours_grammar.specs.declared.piece.Piece.{Piece}
-use Rattle.gtd_hours_grammar.specs.declared.piece.Piece.TheVariants as piece
+use Rattle.gtd_hours_parts.specs.declared.piece.Piece.{Piece}
+use Rattle.gtd_hours_parts.specs.declared.piece.Piece.TheVariants as piece
 use Rattle.gtd_hours_text.specs.Room.{HasRoom, HasVectors}
 use Rattle.gtd_hours_text.specs.Standing.{AllTimes, AreRules, IsRule, StandsFor, is_closed, is_one_rule, kind_if, modifier_of}
 use Rattle.gtd_hours_text.specs.Standing.{names_times, selectors}

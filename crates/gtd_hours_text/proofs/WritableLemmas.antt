@@ -11,10 +11,10 @@ use Rattle.gtd_hours.specs.declared.hours.Selector.TheVariants as selector
 use Rattle.gtd_hours.specs.Writable.{AreWritable, BeginAnew, IsWritable, IsWritableRule}
 use Rattle.gtd_hours.specs.Writable.{is_month_days, is_weekdays, is_weeks, is_years}
 use Rattle.gtd_hours_parts.specs.declared.digits.Digits.{Digits}
-use Rattle.gtd_hours_grammar.specs.declared.piece.LastDate.{LastDate}
-use Rattle.gtd_hours_grammar.specs.declared.piece.Piece.{Piece}
-use Rattle.gtd_hours_grammar.specs.declared.piece.Piece.TheVariants as piece
-use Rattle.gtd_hours_grammar.specs.declared.piece.WrittenDate.{WrittenDate}
+use Rattle.gtd_hours_parts.specs.declared.piece.LastDate.{LastDate}
+use Rattle.gtd_hours_parts.specs.declared.piece.Piece.{Piece}
+use Rattle.gtd_hours_parts.specs.declared.piece.Piece.TheVariants as piece
+use Rattle.gtd_hours_parts.specs.declared.piece.WrittenDate.{WrittenDate}
 use Rattle.gtd_hours_text.specs.Standing.{AllSelectors, AreDates, ArePlaces, AreRules, AreSelectors, IsPlace, IsRule, StandsFor}
 use Rattle.gtd_hours_text.specs.Standing.{names_month_days, names_weekdays, names_weeks, names_years}
 use Rattle.gtd_hours_text.proofs.WrittenSelectors.{and_both}

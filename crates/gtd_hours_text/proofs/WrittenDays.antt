@@ -23,14 +23,14 @@ use Rattle.gtd_hours_tokens.specs.declared.token.TokenKind.{TokenKind}
 use Rattle.gtd_hours_tokens.specs.declared.token.TokenKind.TheVariants as token
 use Rattle.gtd_hours_parts.specs.declared.clock.ClockTime.{ClockTime}
 use Rattle.gtd_hours_parts.specs.Times.{minute_of}
-use Rattle.gtd_hours_grammar.specs.declared.piece.Piece.TheVariants as piece
-use Rattle.gtd_hours_grammar.specs.declared.piece.LastDate.{LastDate}
-use Rattle.gtd_hours_grammar.specs.declared.piece.LastDate.TheVariants as last_date
-use Rattle.gtd_hours_grammar.specs.declared.piece.WrittenDate.{WrittenDate}
-use Rattle.gtd_hours_grammar.specs.Pieces.{AreWrittenDates, AreWrittenTimes, IsWrittenDate}
+use Rattle.gtd_hours_parts.specs.declared.piece.Piece.TheVariants as piece
+use Rattle.gtd_hours_parts.specs.declared.piece.LastDate.{LastDate}
+use Rattle.gtd_hours_parts.specs.declared.piece.LastDate.TheVariants as last_date
+use Rattle.gtd_hours_parts.specs.declared.piece.WrittenDate.{WrittenDate}
+use Rattle.gtd_hours_parts.specs.Pieces.{AreWrittenDates, AreWrittenTimes, IsWrittenDate}
 use Rattle.gtd_hours_grammar.specs.Grammar.{IsDates, IsMonthDays, IsPlaces, IsTimes, IsWeekdays, date_before, in_full}
 use Rattle.gtd_hours_grammar.specs.Grammar.{none as no_more, range_to}
-use Rattle.gtd_hours_grammar.specs.declared.piece.Piece.{Piece}
+use Rattle.gtd_hours_parts.specs.declared.piece.Piece.{Piece}
 use Rattle.gtd_hours_text.specs.Standing.{ArePlaces, AreSelectors}
 use Rattle.gtd_hours_text.proofs.WrittenTokens.{Anything, Apart, Spelt, decimal_spelt, joined, sign_spelt}
 use Rattle.gtd_hours_text.proofs.WrittenParts.{clock_spelt, dashed, month_spelt, spaced, weekday_spelt, year_spelt}

@@ -13,7 +13,7 @@ use Rattle.gtd_hours.specs.Written.{goes_into, hours_text, is_also, is_some_kind
 use Rattle.gtd_hours.specs.Written.{needs_word, rule_text, rules_text}
 use Rattle.gtd_hours_tokens.specs.declared.token.TokenKind.TheVariants as token
 use Rattle.gtd_hours_text.proofs.WrittenTerms.{TokenKind, Piece, Stage}
-use Rattle.gtd_hours_grammar.specs.declared.piece.Piece.TheVariants as piece
+use Rattle.gtd_hours_parts.specs.declared.piece.Piece.TheVariants as piece
 use Rattle.gtd_hours_grammar.specs.declared.stage.Stage.TheVariants as stage
 use Rattle.gtd_hours_grammar.specs.Faults.{IsHoursText}
 use Rattle.gtd_hours_grammar.specs.Grammar.{Follow, in_full, list_goes_on, precedes}

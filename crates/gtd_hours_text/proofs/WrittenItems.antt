@@ -8,7 +8,7 @@ use Rattle.gtd_hours.specs.declared.hours.Selector.{Selector}
 use Rattle.gtd_hours.specs.declared.hours.TimeRange.{TimeRange}
 use Rattle.gtd_hours_tokens.specs.declared.token.TokenKind.TheVariants as token
 use Rattle.gtd_hours_text.proofs.WrittenTerms.{TokenKind, Piece}
-use Rattle.gtd_hours_grammar.specs.declared.piece.Piece.TheVariants as piece
+use Rattle.gtd_hours_parts.specs.declared.piece.Piece.TheVariants as piece
 use Rattle.gtd_hours_grammar.specs.declared.stage.Stage.TheVariants as stage
 use Rattle.gtd_hours_grammar.specs.Grammar.{Listed, More, Text, list_goes_on, none as no_more, comma as one_more}
 use Rattle.gtd_hours_text.specs.Standing.{AllSelectors, AllTimes, AreSelectors, is_closed, is_one_rule}

@@ -9,7 +9,7 @@ use Rattle.gtd_hours.specs.Writable.{is_month_days, is_weekdays, is_weeks, is_ye
 use Rattle.gtd_hours.specs.Written.{kind_text, more_selectors_text, selector_text}
 use Rattle.gtd_hours_tokens.specs.declared.token.TokenKind.TheVariants as token
 use Rattle.gtd_hours_text.proofs.WrittenTerms.{TokenKind, Piece, Stage}
-use Rattle.gtd_hours_grammar.specs.declared.piece.Piece.TheVariants as piece
+use Rattle.gtd_hours_parts.specs.declared.piece.Piece.TheVariants as piece
 use Rattle.gtd_hours_grammar.specs.declared.stage.Stage.TheVariants as stage
 use Rattle.gtd_hours_grammar.specs.Grammar.{Follow, IsMonthDays, IsWeekdays, IsWeeks, IsYears, begins_with_date, in_full}
 use Rattle.gtd_hours_grammar.specs.Grammar.{list_goes_on, precedes}

@@ -15,7 +15,7 @@ use Rattle.gtd_hours.specs.Written.{is_some_kind, is_some_time, kinds_text, modi
 use Rattle.gtd_hours.specs.Written.{times_text}
 use Rattle.gtd_hours_tokens.specs.declared.token.TokenKind.TheVariants as token
 use Rattle.gtd_hours_text.proofs.WrittenTerms.{TokenKind, Piece, Stage}
-use Rattle.gtd_hours_grammar.specs.declared.piece.Piece.TheVariants as piece
+use Rattle.gtd_hours_parts.specs.declared.piece.Piece.TheVariants as piece
 use Rattle.gtd_hours_grammar.specs.declared.stage.Stage.TheVariants as stage
 use Rattle.gtd_hours_grammar.specs.Grammar.{Follow, IsTimes, in_full, list_goes_on, precedes}
 use Rattle.gtd_hours_text.specs.Standing.{AllSelectors, AllTimes, IsRule, is_one_rule, modifier_of, names_month_days}

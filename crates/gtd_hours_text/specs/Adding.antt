@@ -4,13 +4,9 @@ use Rattle.gtd_hours.specs.declared.hours.Selector.{Selector}
 use Rattle.gtd_hours.specs.declared.hours.TimeRange.{TimeRange}
 use Rattle.gtd_hours_parts.specs.declared.clock.ClockTime.{ClockTime}
 use Rattle.gtd_hours_parts.specs.Times.{minute_of}
-use Rattle.gtd_hours_grammar.specs.declared.piece.Piece.{Piece}
+use Rattle.gtd_hours_parts.specs.declared.piece.Piece.{Piece}
 use Rattle.gtd_hours_text.specs.Standing.{ArePlaces, AreSelectors, IsPlace, names_month_days, names_weekdays, names_weeks}
 use Rattle.gtd_hours_text.specs.Standing.{names_years}
-
--- the piece is selectors
-abbrev pub names_selectors : Piece → Bool
-names_selectors x = names_years x || names_month_days x || names_weeks x || names_weekdays x
 
 -- the selectors of the piece are added
 pub record AddsSelectors (before : List Selector) (x : Piece) (after : List Selector) : Type 0 where

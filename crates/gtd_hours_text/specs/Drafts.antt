@@ -4,8 +4,8 @@ use Rattle.std.specs.List.{filter}
 use Rattle.gtd_hours.specs.declared.hours.Link.{Link}
 use Rattle.gtd_hours.specs.declared.hours.Link.TheVariants as link
 use Rattle.gtd_hours.specs.declared.hours.Rule.{Rule}
-use Rattle.gtd_hours_grammar.specs.declared.piece.Piece.{Piece}
-use Rattle.gtd_hours_grammar.specs.declared.piece.Piece.TheVariants as piece
+use Rattle.gtd_hours_parts.specs.declared.piece.Piece.{Piece}
+use Rattle.gtd_hours_parts.specs.declared.piece.Piece.TheVariants as piece
 use Rattle.gtd_hours_text.specs.declared.draft.Draft.{Draft}
 use Rattle.gtd_hours_text.specs.declared.builder.Building.{Building}
 use Rattle.gtd_hours_text.specs.Standing.{AllSelectors, AllTimes, IsRule, is_closed, is_one_rule, names_month_days, names_times}

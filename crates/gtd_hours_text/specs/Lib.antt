@@ -1,6 +1,5 @@
 pub mod Standing
 pub mod Adding
-pub mod Dates
 pub mod Drafts
 pub mod Reading
 pub mod Room

@@ -1,6 +1,6 @@
 -- What is wrong with a text whose hours cannot be read.
 use Rattle.std.specs.Prelude.{List, ℕ}
-use Rattle.gtd_hours_grammar.specs.declared.piece.Piece.{Piece}
+use Rattle.gtd_hours_parts.specs.declared.piece.Piece.{Piece}
 use Rattle.gtd_hours_grammar.specs.Faults.{IsFirstFault, IsHoursText}
 use Rattle.gtd_hours_grammar.specs.declared.reading.Reading.{Reading}
 use Rattle.gtd_hours_grammar.specs.Steps.{IsReading}

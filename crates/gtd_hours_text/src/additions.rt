@@ -1,36 +1,31 @@
-//! Adding pieces to a rule that is being read.
+//! Adding parts to a rule that is being read.
 
-ghost use Rattle.std.specs.Prelude.{◌≡◌, ◌∷◌, ◌++◌, true, false, IfOk, List, []};
-ghost use Rattle.gtd_hours_grammar.specs.declared.piece.Piece.{Piece};
-ghost use Rattle.gtd_hours_grammar.specs.declared.piece.Piece.TheVariants as piece;
-ghost use Rattle.gtd_hours_grammar.specs.Pieces.{AreWrittenTimes};
-ghost use Rattle.gtd_hours_grammar.specs.SoundPieces.{IsPiece};
+ghost use Rattle.std.specs.Prelude.{◌≡◌, true, false, IfOk};
+ghost use Rattle.gtd_hours_parts.specs.Values.{IsPartOf, IsSelector};
+ghost use Rattle.gtd_hours_parts.specs.declared.part.Part.TheVariants as part;
+ghost use Rattle.gtd_hours_parts.specs.declared.piece.Piece.{Piece};
 ghost use Rattle.gtd_hours_text.specs.Drafts.{IsAdded};
 ghost use Rattle.gtd_hours_text.specs.Standing.{begins_rule, names_month_days, names_weekdays, names_weeks, names_years};
 
 use crate::draft::Draft;
-use crate::selectors::{with_selectors, with_times};
-use gtd_hours_grammar::Piece;
-use gtd_hours_parts::ClockTime;
+use crate::places::{with_each, with_one};
+use gtd_hours::{Selector, TimeRange, WeekdayPlace};
+use gtd_hours_parts::Part;
 use std::alloc::AllocError;
 
 // Years more.
-fn with_years(draft: Draft, piece: Piece) -> Result<Draft, AllocError>
-    requires sound { IsPiece piece }
-    requires names { names_years piece ≡ true }
-    ensures { IfOk result (λ then. IsAdded draft piece then) }
+fn with_years(draft: Draft, selector: Selector) -> Result<Draft, AllocError>
+    ensures { IfOk result (λ then. (y : Piece) → names_years y ≡ true → IsSelector y selector → IsAdded draft y then) }
 {
-    let years = with_selectors(draft.years, piece)?;
+    let years = with_one(draft.years, selector)?;
     Ok(Draft { years, ..draft })
 }
 
 // Months or dates more.
-fn with_month_days(draft: Draft, piece: Piece) -> Result<Draft, AllocError>
-    requires sound { IsPiece piece }
-    requires names { names_month_days piece ≡ true }
-    ensures { IfOk result (λ then. IsAdded draft piece then) }
+fn with_month_days(draft: Draft, selector: Selector) -> Result<Draft, AllocError>
+    ensures { IfOk result (λ then. (y : Piece) → names_month_days y ≡ true → IsSelector y selector → IsAdded draft y then) }
 {
-    let month_days = with_selectors(draft.month_days, piece)?;
+    let month_days = with_one(draft.month_days, selector)?;
     Ok(Draft {
         month_days,
         ..draft
@@ -38,52 +33,65 @@ fn with_month_days(draft: Draft, piece: Piece) -> Result<Draft, AllocError>
 }
 
 // Weeks more.
-fn with_weeks(draft: Draft, piece: Piece) -> Result<Draft, AllocError>
-    requires sound { IsPiece piece }
-    requires names { names_weeks piece ≡ true }
-    ensures { IfOk result (λ then. IsAdded draft piece then) }
+fn with_weeks(draft: Draft, selector: Selector) -> Result<Draft, AllocError>
+    ensures { IfOk result (λ then. (y : Piece) → names_weeks y ≡ true → IsSelector y selector → IsAdded draft y then) }
 {
-    let weeks = with_selectors(draft.weeks, piece)?;
+    let weeks = with_one(draft.weeks, selector)?;
     Ok(Draft { weeks, ..draft })
 }
 
-// Weekdays more, or places of one.
-fn with_weekdays(draft: Draft, piece: Piece) -> Result<Draft, AllocError>
-    requires sound { IsPiece piece }
-    requires names { names_weekdays piece ≡ true }
-    ensures { IfOk result (λ then. IsAdded draft piece then) }
+// Weekdays more, or one of them at a place back from the end of the month.
+fn with_weekdays(draft: Draft, selector: Selector) -> Result<Draft, AllocError>
+    ensures { IfOk result (λ then. (y : Piece) → names_weekdays y ≡ true → IsSelector y selector → IsAdded draft y then) }
 {
-    let weekdays = with_selectors(draft.weekdays, piece)?;
+    let weekdays = with_one(draft.weekdays, selector)?;
+    Ok(Draft { weekdays, ..draft })
+}
+
+// One selector more, of its kind.
+fn with_selector(draft: Draft, selector: Selector) -> Result<Draft, AllocError>
+    ensures { IfOk result (λ then. (y : Piece) → IsSelector y selector → IsAdded draft y then) }
+{
+    match selector {
+        Selector::Years(_) => with_years(draft, selector),
+        Selector::Months(_) => with_month_days(draft, selector),
+        Selector::Dates(_) => with_month_days(draft, selector),
+        Selector::Dated(_) => with_month_days(draft, selector),
+        Selector::Weeks(_) => with_weeks(draft, selector),
+        Selector::Weekdays(_) => with_weekdays(draft, selector),
+        Selector::Nth(_) => with_weekdays(draft, selector),
+        Selector::NthBack(_) => with_weekdays(draft, selector),
+    }
+}
+
+// A weekday at each place from one to another more.
+fn with_places(draft: Draft, first: WeekdayPlace, last: WeekdayPlace) -> Result<Draft, AllocError>
+    ensures { IfOk result (λ then. (y : Piece) → IsPartOf (part.Places first last) y → IsAdded draft y then) }
+{
+    let weekdays = with_each(draft.weekdays, first, last)?;
     Ok(Draft { weekdays, ..draft })
 }
 
 // A range of times more.
-fn with_range(draft: Draft, begin: ClockTime, last: ClockTime) -> Result<Draft, AllocError>
-    requires sound { AreWrittenTimes begin last }
-    ensures { IfOk result (λ then. IsAdded draft (piece.Times begin last) then) }
+fn with_times(draft: Draft, range: TimeRange) -> Result<Draft, AllocError>
+    ensures { IfOk result (λ then. (y : Piece) → IsPartOf (part.Times range) y → IsAdded draft y then) }
 {
-    let times = with_times(draft.times, begin, last)?;
+    let mut times = draft.times;
+    times.push(range)?;
     Ok(Draft { times, ..draft })
 }
 
-/// The draft with one piece more.
-pub fn with_piece(draft: Draft, piece: Piece) -> Result<Draft, AllocError>
-    requires sound { IsPiece piece }
-    requires inside { begins_rule piece ≡ false }
-    ensures { IfOk result (λ then. IsAdded draft piece then) }
+/// The draft with one part more.
+pub fn with_part(draft: Draft, part: Part) -> Result<Draft, AllocError>
+    ensures { IfOk result (λ then. (y : Piece) → IsPartOf part y → begins_rule y ≡ false → IsAdded draft y then) }
 {
-    match piece {
-        Piece::Rule(_) => Ok(draft),
-        Piece::Kind => Ok(draft),
-        Piece::Years { .. } => with_years(draft, piece),
-        Piece::Months { .. } => with_month_days(draft, piece),
-        Piece::Dates { .. } => with_month_days(draft, piece),
-        Piece::Weeks { .. } => with_weeks(draft, piece),
-        Piece::Weekdays { .. } => with_weekdays(draft, piece),
-        Piece::Places { .. } => with_weekdays(draft, piece),
-        Piece::PlaceBack { .. } => with_weekdays(draft, piece),
-        Piece::Times { begin, last } => with_range(draft, begin, last),
-        Piece::Closed => Ok(Draft {
+    match part {
+        Part::Rule(_) => Ok(draft),
+        Part::Kind => Ok(draft),
+        Part::Selector(selector) => with_selector(draft, selector),
+        Part::Places { first, last } => with_places(draft, first, last),
+        Part::Times(range) => with_times(draft, range),
+        Part::Closed => Ok(Draft {
             closed: true,
             ..draft
         }),

@@ -2,16 +2,16 @@
 
 ghost use Rattle.std.specs.Prelude.{◌≡◌, false, IfOk, List, []};
 ghost use Rattle.gtd_hours.specs.declared.hours.Link.TheVariants as link;
-ghost use Rattle.gtd_hours_grammar.specs.declared.piece.Piece.{Piece};
-ghost use Rattle.gtd_hours_grammar.specs.declared.piece.Piece.TheVariants as piece;
-ghost use Rattle.gtd_hours_grammar.specs.SoundPieces.{IsPiece};
+ghost use Rattle.gtd_hours_parts.specs.declared.piece.Piece.{Piece};
+ghost use Rattle.gtd_hours_parts.specs.declared.part.Part.TheVariants as part;
+ghost use Rattle.gtd_hours_parts.specs.Values.{IsPartOf};
 ghost use Rattle.gtd_hours_text.specs.Drafts.{Builds, IsBuilding};
 ghost use Rattle.gtd_hours_text.specs.Standing.{AreRules, begins_rule};
 
-use crate::additions::with_piece;
+use crate::additions::with_part;
 use crate::draft::{Draft, new_draft, rule_of};
 use gtd_hours::{Hours, Link, Rule};
-use gtd_hours_grammar::Piece;
+use gtd_hours_parts::Part;
 use std::alloc::{AllocError, Global};
 
 /// The rules that have been read, and the one that is being read.
@@ -33,7 +33,7 @@ pub fn nothing(alloc: Global) -> Building
 
 // The rule that was being read has ended, and another begins.
 fn with_rule(alloc: Global, so_far: Building, link: Link) -> Result<Building, AllocError>
-    ensures { IfOk result (λ then. Builds so_far (piece.Rule link) then) }
+    ensures { IfOk result (λ then. (y : Piece) → IsPartOf (part.Rule link) y → Builds so_far y then) }
 {
     let rule = rule_of(alloc, so_far.draft)?;
     let mut rules = so_far.rules;
@@ -44,24 +44,21 @@ fn with_rule(alloc: Global, so_far: Building, link: Link) -> Result<Building, Al
     })
 }
 
-// The rule that is being read has one piece more.
-fn with_part(so_far: Building, piece: Piece) -> Result<Building, AllocError>
-    requires sound { IsPiece piece }
-    requires inside { begins_rule piece ≡ false }
-    ensures { IfOk result (λ then. Builds so_far piece then) }
+// The rule that is being read has one part more.
+fn with_more(so_far: Building, part: Part) -> Result<Building, AllocError>
+    ensures { IfOk result (λ then. (y : Piece) → IsPartOf part y → begins_rule y ≡ false → Builds so_far y then) }
 {
-    let draft = with_piece(so_far.draft, piece)?;
+    let draft = with_part(so_far.draft, part)?;
     Ok(Building { draft, ..so_far })
 }
 
-/// The hours with one piece more.
-pub fn with_next(alloc: Global, so_far: Building, piece: Piece) -> Result<Building, AllocError>
-    requires { IsPiece piece }
-    ensures { IfOk result (λ then. Builds so_far piece then) }
+/// The hours with one part more.
+pub fn with_next(alloc: Global, so_far: Building, part: Part) -> Result<Building, AllocError>
+    ensures { IfOk result (λ then. (y : Piece) → IsPartOf part y → Builds so_far y then) }
 {
-    match piece {
-        Piece::Rule(link) => with_rule(alloc, so_far, link),
-        _ => with_part(so_far, piece),
+    match part {
+        Part::Rule(link) => with_rule(alloc, so_far, link),
+        _ => with_more(so_far, part),
     }
 }
 

@@ -1,7 +1,7 @@
 //! A rule that is being read.
 
 ghost use Rattle.std.specs.Prelude.{◌≡◌, ◌++◌, IfOk, List, []};
-ghost use Rattle.gtd_hours_grammar.specs.declared.piece.Piece.{Piece};
+ghost use Rattle.gtd_hours_parts.specs.declared.piece.Piece.{Piece};
 ghost use Rattle.gtd_hours_text.specs.Drafts.{IsDraft};
 ghost use Rattle.gtd_hours_text.specs.Standing.{IsRule, kind_if, modifier_of, selectors};
 

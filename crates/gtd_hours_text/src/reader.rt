@@ -1,17 +1,20 @@
 //! The hours that a text stands for.
 
-ghost use Rattle.std.specs.Prelude.{◌≡◌, ◌<◌, ◌∷◌, ◌++◌, IfErr, IfOk, IfSome, List, None, []};
-ghost use Rattle.gtd_hours_grammar.specs.declared.piece.Piece.{Piece};
+ghost use Rattle.std.specs.Prelude.{◌≡◌, ◌<◌, ◌∷◌, ◌++◌, IfErr, IfOk, IfSome, List, None, Ok, []};
+ghost use Rattle.gtd_hours_parts.specs.SoundPieces.{IsPiece};
+ghost use Rattle.gtd_hours_parts.specs.Values.{IsPartOf};
+ghost use Rattle.gtd_hours_parts.specs.declared.piece.Piece.{Piece};
 ghost use Rattle.gtd_hours_grammar.specs.Faults.{IsHoursText};
-ghost use Rattle.gtd_hours_grammar.specs.SoundPieces.{IsPiece};
 ghost use Rattle.gtd_hours_grammar.specs.Steps.{IsReading, moves_left};
+ghost use Rattle.gtd_hours_text.specs.Drafts.{Builds};
 ghost use Rattle.gtd_hours_text.specs.Reading.{IsFaultOf};
 ghost use Rattle.gtd_hours_text.specs.Standing.{StandsFor};
 
-use crate::builder::{hours_of, nothing, with_next};
+use crate::builder::{Building, hours_of, nothing, with_next};
 use gtd_hours::Hours;
-use gtd_hours_grammar::{HoursFault, Piece, Reading, begin, check_hours, next_piece};
-use std::alloc::{AllocError, Global};
+use gtd_hours_grammar::{HoursFault, Reading, begin, check_behind, next_part};
+use gtd_hours_parts::Part;
+use std::alloc::Global;
 use thiserror::Error;
 
 /// Why the hours of a text cannot be read.
@@ -30,53 +33,72 @@ pub fn read_hours(alloc: Global, text: &[u8]) -> Result<Hours, HoursTextFault>
     ensures hours { IfOk result (λ hours. StandsFor text.now hours) }
     ensures fault { IfErr result (λ fault. IsFaultOf text.now fault) }
 {
-    match check_hours(text) {
+    match begin(text) {
+        Ok(begun) => build(alloc, text, begun),
         Err(bad) => Err(HoursTextFault::Fault(bad)),
-        Ok(()) => match build(alloc, text) {
-            Ok(hours) => Ok(hours),
-            Err(_) => Err(HoursTextFault::NoMemory),
-        },
     }
 }
 
-// The hours of a text without a fault.
-fn build(alloc: Global, text: &[u8]) -> Result<Hours, AllocError>
-    requires { (p : List Piece) × IsHoursText text.now p }
-    ensures { IfOk result (λ hours. StandsFor text.now hours) }
+// The hours of a text of which nothing has been read.
+fn build(alloc: Global, text: &[u8], begun: Reading) -> Result<Hours, HoursTextFault>
+    requires begins { IsReading text.now begun [] }
+    ensures hours { IfOk result (λ hours. StandsFor text.now hours) }
+    ensures fault { IfErr result (λ fault. IsFaultOf text.now fault) }
 {
     let mut so_far = nothing(alloc);
-    let mut reading = begun(text);
-    while let Some((piece, next)) = piece_behind(text, reading) {
-        so_far = with_next(alloc, so_far, piece)?;
+    let mut reading = begun;
+    while let Some((part, next)) = part_behind(text, reading)? {
+        so_far = with_behind(alloc, text, so_far, part, next)?;
         reading = next;
     }
-    hours_of(alloc, so_far)
-}
-
-// The beginning of a text without a fault.
-fn begun(text: &[u8]) -> Reading
-    requires { (p : List Piece) × IsHoursText text.now p }
-    ensures { IsReading text.now result [] }
-{
-    match begin(text) {
-        Ok(reading) => reading,
-        Err(_) => unreachable!(),
+    match hours_of(alloc, so_far) {
+        Ok(hours) => Ok(hours),
+        Err(_) => Err(HoursTextFault::NoMemory),
     }
 }
 
-// The next piece of a text without a fault.
-fn piece_behind(text: &[u8], reading: Reading) -> Option<(Piece, Reading)>
-    requires hours { (p : List Piece) × IsHoursText text.now p }
+// What the next piece of a text stands for.
+fn part_behind(text: &[u8], reading: Reading) -> Result<Option<(Part, Reading)>, HoursTextFault>
     requires stands { (given : List Piece) × IsReading text.now reading given }
-    ensures sound { IfSome result (λ x. IsPiece x.0) }
     ensures piece { (given : List Piece) → IsReading text.now reading given →
-        IfSome result (λ x. IsReading text.now x.1 (given ++ x.0 ∷ [])) }
+        IfOk result (λ next. IfSome next (λ x.
+        (y : Piece) × IsPiece y × IsPartOf x.0 y × IsReading text.now x.1 (given ++ y ∷ []))) }
     ensures all { (given : List Piece) → IsReading text.now reading given →
-        result ≡ None → IsHoursText text.now given }
-    ensures nearer { IfSome result (λ x. moves_left text.now x.1 < moves_left text.now reading) }
+        result ≡ Ok None → IsHoursText text.now given }
+    ensures nearer { IfOk result (λ next. IfSome next (λ x. moves_left text.now x.1 < moves_left text.now reading)) }
+    ensures fault { IfErr result (λ fault. IsFaultOf text.now fault) }
 {
-    match next_piece(text, reading) {
-        Ok(next) => next,
-        Err(_) => unreachable!(),
+    match next_part(text, reading) {
+        Ok(next) => Ok(next),
+        Err(bad) => Err(HoursTextFault::Fault(bad)),
+    }
+}
+
+// The hours with one part more, behind which the reading stands.
+fn with_behind(
+    alloc: Global,
+    text: &[u8],
+    so_far: Building,
+    part: Part,
+    reading: Reading,
+) -> Result<Building, HoursTextFault>
+    requires stands { (given : List Piece) × IsReading text.now reading given }
+    ensures built { IfOk result (λ then. (y : Piece) → IsPartOf part y → Builds so_far y then) }
+    ensures fault { IfErr result (λ fault. IsFaultOf text.now fault) }
+{
+    match with_next(alloc, so_far, part) {
+        Ok(then) => Ok(then),
+        Err(_) => Err(unbuilt(text, reading)),
+    }
+}
+
+// What is wrong where memory has ended: the first fault, if what is left of the text has one.
+fn unbuilt(text: &[u8], reading: Reading) -> HoursTextFault
+    requires stands { (given : List Piece) × IsReading text.now reading given }
+    ensures { IsFaultOf text.now result }
+{
+    match check_behind(text, reading) {
+        Ok(()) => HoursTextFault::NoMemory,
+        Err(bad) => HoursTextFault::Fault(bad),
     }
 }

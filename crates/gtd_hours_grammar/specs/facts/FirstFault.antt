@@ -11,8 +11,8 @@ use Rattle.gtd_hours_grammar.specs.Terms.{Token, TokenKind, Piece, Stage}
 use Rattle.gtd_hours_grammar.specs.declared.stage.Stage.TheVariants as stage
 use Rattle.gtd_hours_grammar.specs.Grammar.{AreHours, CanGoOn, Follow, IsDates, IsMonthDays, Listed, More, in_full}
 use Rattle.gtd_hours_grammar.specs.Grammar.{so_far}
-use Rattle.gtd_hours_grammar.specs.Pieces.{day_behind}
-use Rattle.gtd_hours_grammar.specs.declared.piece.WrittenDate.{WrittenDate}
+use Rattle.gtd_hours_parts.specs.Pieces.{day_behind}
+use Rattle.gtd_hours_parts.specs.declared.piece.WrittenDate.{WrittenDate}
 use Rattle.gtd_hours_grammar.specs.Faults.{IsFirstFault, IsHoursText, IsMisfit, IsMisfitKind, kinds}
 
 -- ---- what is a text in full can go on

@@ -10,17 +10,17 @@ use Rattle.gtd_hours_tokens.specs.declared.token.TokenKind.TheVariants as token
 use Rattle.gtd_hours_parts.specs.declared.digits.Digits.{Digits}
 use Rattle.gtd_hours_parts.specs.Numbers.{IsYearNumber}
 use Rattle.gtd_hours_parts.specs.Dates.{IsDayOfYear, IsWrittenDay, last_year}
-use Rattle.gtd_hours_grammar.specs.declared.piece.WrittenDate.{WrittenDate}
-use Rattle.gtd_hours_grammar.specs.declared.piece.LastDate.{LastDate}
-use Rattle.gtd_hours_grammar.specs.declared.piece.LastDate.TheVariants as last_date
+use Rattle.gtd_hours_parts.specs.declared.piece.WrittenDate.{WrittenDate}
+use Rattle.gtd_hours_parts.specs.declared.piece.LastDate.{LastDate}
+use Rattle.gtd_hours_parts.specs.declared.piece.LastDate.TheVariants as last_date
 use Rattle.gtd_hours_grammar.specs.Terms.{Piece, Place}
-use Rattle.gtd_hours_grammar.specs.declared.piece.Piece.TheVariants as piece
+use Rattle.gtd_hours_parts.specs.declared.piece.Piece.TheVariants as piece
 use Rattle.gtd_hours_grammar.specs.declared.stage.Stage.TheVariants as stage
 use Rattle.gtd_hours_grammar.specs.declared.place.Place.TheVariants as places
 use Rattle.gtd_hours_grammar.specs.Grammar.{Demand, may_break_off, IsDates, IsMonthDays, Listed, number}
 use Rattle.gtd_hours_grammar.specs.Grammar.{date_before, dated, last_before, range_to, unfinished}
-use Rattle.gtd_hours_grammar.specs.Pieces.{AreWrittenDates, EndsRange, IsDay, IsLastDay, IsWrittenDate, day_behind, end_month}
-use Rattle.gtd_hours_grammar.specs.Pieces.{end_year, year_at_end, year_or_next}
+use Rattle.gtd_hours_parts.specs.Pieces.{AreWrittenDates, EndsRange, IsDay, IsLastDay, IsWrittenDate, day_behind, end_month}
+use Rattle.gtd_hours_parts.specs.Pieces.{end_year, year_at_end, year_or_next}
 use Rattle.gtd_hours_grammar.specs.Sound.{YearOrDay, is_last_year}
 use Rattle.gtd_hours_grammar.specs.Moves.{complete, dates_end, give, take}
 use Rattle.gtd_hours_grammar.specs.Runs.{Runs}

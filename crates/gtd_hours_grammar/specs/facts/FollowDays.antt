@@ -11,11 +11,11 @@ use Rattle.gtd_hours_tokens.specs.declared.token.TokenKind.TheVariants as token
 use Rattle.gtd_hours_parts.specs.declared.digits.Digits.{Digits}
 use Rattle.gtd_hours_parts.specs.Numbers.{IsYearNumber}
 use Rattle.gtd_hours_grammar.specs.Terms.{TokenKind, Piece, Place, Move}
-use Rattle.gtd_hours_grammar.specs.declared.piece.Piece.TheVariants as piece
+use Rattle.gtd_hours_parts.specs.declared.piece.Piece.TheVariants as piece
 use Rattle.gtd_hours_grammar.specs.declared.stage.Stage.TheVariants as stage
 use Rattle.gtd_hours_grammar.specs.declared.place.Place.TheVariants as places
 use Rattle.gtd_hours_grammar.specs.Grammar.{Demand}
-use Rattle.gtd_hours_grammar.specs.Pieces.{IsDay}
+use Rattle.gtd_hours_parts.specs.Pieces.{IsDay}
 use Rattle.gtd_hours_grammar.specs.Sound.{Fits, YearOrListed}
 use Rattle.gtd_hours_grammar.specs.Moves.{complete, give, listed, next_move, take, when, written}
 use Rattle.gtd_hours_grammar.specs.Runs.{Runs, awaits_day, first, is_after, is_cut, left, with_piece}

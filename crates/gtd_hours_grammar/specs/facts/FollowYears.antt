@@ -8,14 +8,14 @@ use Rattle.gtd_hours_tokens.specs.declared.token.TokenKind.TheVariants as token
 use Rattle.gtd_hours_parts.specs.declared.digits.Digits.{Digits}
 use Rattle.gtd_hours_parts.specs.Numbers.{IsYearNumber}
 use Rattle.gtd_hours_grammar.specs.Terms.{TokenKind, Piece, Place, Move}
-use Rattle.gtd_hours_grammar.specs.declared.piece.Piece.TheVariants as piece
+use Rattle.gtd_hours_parts.specs.declared.piece.Piece.TheVariants as piece
 use Rattle.gtd_hours_grammar.specs.declared.stage.Stage.TheVariants as stage
 use Rattle.gtd_hours_grammar.specs.declared.place.Place.TheVariants as places
 use Rattle.gtd_hours_grammar.specs.Grammar.{Demand, IsYears, Listed, begins_with_date, number}
 use Rattle.gtd_hours_grammar.specs.Moves.{complete, give, next_move, take, when}
 use Rattle.gtd_hours_grammar.specs.Runs.{Runs, first, left, with_piece}
 use Rattle.gtd_hours_grammar.specs.Runs.Runs.{ends, cut, any_day, step}
-use Rattle.gtd_hours_grammar.specs.Pieces.{AreFewYears, IsRange, final_year}
+use Rattle.gtd_hours_parts.specs.Pieces.{AreFewYears, IsRange, final_year}
 use Rattle.gtd_hours_grammar.specs.Sound.{Fits}
 use Rattle.gtd_hours_grammar.specs.facts.RunSteps.{fit_taken, fit_completed, sign_completed, sign_taken, no_token, not_fit}
 use Rattle.gtd_hours_grammar.specs.facts.FollowBits.{begin_bit, next_bit, no_bit}

@@ -2,7 +2,7 @@
 use Rattle.std.proofs.Common.{◌≡◌, ℕ, List, length, subst}
 use Rattle.gtd_hours_tokens.specs.facts.WholeText.{one_list}
 use Rattle.gtd_hours_tokens.specs.declared.token.Token.{Token}
-use Rattle.gtd_hours_grammar.specs.declared.piece.Piece.{Piece}
+use Rattle.gtd_hours_parts.specs.declared.piece.Piece.{Piece}
 use Rattle.gtd_hours_grammar.specs.declared.place.Place.TheVariants as places
 use Rattle.gtd_hours_grammar.specs.Grammar.{AreHours, in_full}
 use Rattle.gtd_hours_grammar.specs.Faults.{IsHoursText, kinds}

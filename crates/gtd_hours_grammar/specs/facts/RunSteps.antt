@@ -3,10 +3,10 @@ use Rattle.std.proofs.Common.{◌≡◌, ℕ, ◌↔◌, Bool, true, false, List
 use Rattle.std.specs.Prelude.{◌&&◌}
 use Rattle.gtd_hours_tokens.specs.declared.token.TokenKind.TheVariants as token
 use Rattle.gtd_hours_grammar.specs.Terms.{TokenKind, Piece, Place, Move}
-use Rattle.gtd_hours_grammar.specs.declared.piece.Piece.TheVariants as piece
-use Rattle.gtd_hours_grammar.specs.declared.piece.LastDate.{LastDate}
-use Rattle.gtd_hours_grammar.specs.declared.piece.LastDate.TheVariants as last_date
-use Rattle.gtd_hours_grammar.specs.Pieces.{end_month, end_year}
+use Rattle.gtd_hours_parts.specs.declared.piece.Piece.TheVariants as piece
+use Rattle.gtd_hours_parts.specs.declared.piece.LastDate.{LastDate}
+use Rattle.gtd_hours_parts.specs.declared.piece.LastDate.TheVariants as last_date
+use Rattle.gtd_hours_parts.specs.Pieces.{end_month, end_year}
 use Rattle.gtd_hours_grammar.specs.declared.place.Place.TheVariants as places
 use Rattle.gtd_hours_grammar.specs.Grammar.{Demand, in_full, so_far}
 use Rattle.gtd_hours_grammar.specs.Sound.{Fits}

@@ -5,17 +5,16 @@ ghost use Rattle.gtd_hours_parts.specs.Dates.{last_year};
 ghost use Rattle.gtd_hours_parts.specs.Numbers.{IsYearNumber};
 ghost use Rattle.gtd_hours_grammar.specs.declared.place.Place.TheVariants as places;
 ghost use Rattle.gtd_hours_grammar.specs.Moves.{after_date, comma_date, dates_end, listed_day, year_or_listed};
-ghost use Rattle.gtd_hours_grammar.specs.Pieces.{IsWrittenDate, year_or_next};
+ghost use Rattle.gtd_hours_parts.specs.Pieces.{IsWrittenDate, year_or_next};
 ghost use Rattle.gtd_hours_grammar.specs.Runs.{IsGood};
 ghost use Rattle.gtd_hours_grammar.specs.Sound.{Fits, IsPlace};
 
 use crate::moves::moving::{complete, give, take, written};
 use crate::moves::rules::{after, comma};
-use crate::piece::{LastDate, Piece, WrittenDate};
 use crate::place::{Move, Place};
 use crate::stage::Stage;
 use gtd_hours::Link;
-use gtd_hours_parts::Digits;
+use gtd_hours_parts::{Digits, LastDate, Piece, WrittenDate};
 use gtd_hours_tokens::TokenKind;
 
 // The year of a date that is written without one, behind a date of this year.

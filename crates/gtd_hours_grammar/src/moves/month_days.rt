@@ -5,15 +5,14 @@ ghost use Rattle.gtd_hours_grammar.specs.declared.place.Place.TheVariants as pla
 ghost use Rattle.gtd_hours_grammar.specs.Moves.{date, date_dash, date_dash_month, date_dash_year, date_year, date_year_month};
 ghost use Rattle.gtd_hours_grammar.specs.Moves.{month, month_dash, year_or_day};
 ghost use Rattle.gtd_hours_grammar.specs.Runs.{IsGood};
-ghost use Rattle.gtd_hours_grammar.specs.Pieces.{IsWrittenDate};
+ghost use Rattle.gtd_hours_parts.specs.Pieces.{IsWrittenDate};
 ghost use Rattle.gtd_hours_grammar.specs.Sound.{Fits, IsPlace};
 
 use crate::moves::day_lists::dates_end;
 use crate::moves::moving::{complete, give, take, written};
-use crate::piece::{LastDate, Piece, WrittenDate};
 use crate::place::{Move, Place};
 use crate::stage::Stage;
-use gtd_hours_parts::Digits;
+use gtd_hours_parts::{Digits, LastDate, Piece, WrittenDate};
 use gtd_hours_tokens::TokenKind;
 
 /// `2024`, the year of a date

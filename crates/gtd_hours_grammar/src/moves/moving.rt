@@ -3,9 +3,8 @@
 ghost use Rattle.std.specs.Prelude.{◌≡◌};
 ghost use Rattle.gtd_hours_grammar.specs.Moves.{clock, complete, give, take, written};
 
-use crate::piece::Piece;
 use crate::place::{Move, Place};
-use gtd_hours_parts::{ClockTime, Digits};
+use gtd_hours_parts::{ClockTime, Digits, Piece};
 
 /// The token is used up.
 pub fn take(to: Place) -> Option<Move>

@@ -9,10 +9,9 @@ ghost use Rattle.gtd_hours_grammar.specs.Runs.{IsGood};
 ghost use Rattle.gtd_hours_grammar.specs.Sound.{Fits, IsPlace};
 
 use crate::moves::moving::{complete, give, take, written};
-use crate::piece::Piece;
 use crate::place::{Move, Place};
 use crate::stage::Stage;
-use gtd_hours_parts::Digits;
+use gtd_hours_parts::{Digits, Piece};
 use gtd_hours_tokens::TokenKind;
 
 /// `week`

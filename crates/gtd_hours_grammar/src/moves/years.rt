@@ -2,7 +2,7 @@
 
 ghost use Rattle.std.specs.Prelude.{◌≡◌, true, IfSome, None, Option};
 ghost use Rattle.gtd_hours_tokens.specs.declared.token.TokenKind.{TokenKind};
-ghost use Rattle.gtd_hours_grammar.specs.declared.piece.Piece.TheVariants as piece;
+ghost use Rattle.gtd_hours_parts.specs.declared.piece.Piece.TheVariants as piece;
 ghost use Rattle.gtd_hours_grammar.specs.declared.place.Place.TheVariants as places;
 ghost use Rattle.gtd_hours_grammar.specs.Moves.{give, listed_year, year, year_dash, year_month, year_range, year_slash};
 ghost use Rattle.gtd_hours_grammar.specs.Moves.{year_step, years_on};
@@ -10,10 +10,9 @@ ghost use Rattle.gtd_hours_grammar.specs.Runs.{IsGood};
 ghost use Rattle.gtd_hours_grammar.specs.Sound.{Fits, IsPlace};
 
 use crate::moves::moving::{complete, give, take, written};
-use crate::piece::{Piece, WrittenDate};
 use crate::place::{Move, Place};
 use crate::stage::Stage;
-use gtd_hours_parts::Digits;
+use gtd_hours_parts::{Digits, Piece, WrittenDate};
 use gtd_hours_tokens::TokenKind;
 
 /// `2024`, at the beginning of a rule

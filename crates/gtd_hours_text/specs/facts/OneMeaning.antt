@@ -14,7 +14,7 @@ use Rattle.gtd_hours.specs.declared.hours.Modifier.TheVariants as modifier
 use Rattle.gtd_hours.specs.declared.hours.Rule.{Rule}
 use Rattle.gtd_hours.specs.declared.hours.Selector.{Selector}
 use Rattle.gtd_hours.specs.declared.hours.TimeRange.{TimeRange}
-use Rattle.gtd_hours_grammar.specs.declared.piece.Piece.{Piece}
+use Rattle.gtd_hours_parts.specs.declared.piece.Piece.{Piece}
 use Rattle.gtd_hours_grammar.specs.facts.OneReading.{one_reading}
 use Rattle.gtd_hours_text.specs.Standing.{AreRules, StandsFor, selectors}
 use Rattle.gtd_hours_text.specs.facts.SameRules.{SameRule, SameRules, one_rules}

@@ -4,8 +4,8 @@ use Rattle.std.specs.List.{filter}
 use Rattle.gtd_hours.specs.declared.hours.Link.{Link}
 use Rattle.gtd_hours.specs.declared.hours.Rule.{Rule}
 use Rattle.gtd_hours.specs.declared.hours.Selector.{Selector}
-use Rattle.gtd_hours_grammar.specs.declared.piece.Piece.{Piece}
-use Rattle.gtd_hours_grammar.specs.declared.piece.Piece.TheVariants as piece
+use Rattle.gtd_hours_parts.specs.declared.piece.Piece.{Piece}
+use Rattle.gtd_hours_parts.specs.declared.piece.Piece.TheVariants as piece
 use Rattle.gtd_hours_text.specs.Standing.{AreRules, IsRule, is_one_rule, kind_if, names_month_days, names_times, names_weekdays}
 use Rattle.gtd_hours_text.specs.Standing.{names_weeks, names_years, selectors}
 use Rattle.gtd_hours_text.specs.facts.SameSelectors.{one_selectors, one_times}

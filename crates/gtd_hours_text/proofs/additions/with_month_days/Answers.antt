@@ -1,5 +1,7 @@
-use Rattle.gtd_hours_text.proofs.AddingLemmas.{month_days_added}
+use Rattle.gtd_hours_text.proofs.AddingLemmas.{one_selector, month_days_added}
 use Rattle.gtd_hours_text.proofs.additions.with_month_days.Goals as goal
 
 pub returns : goal.returns
-returns c = month_days_added c.args.draft c.args.piece c.in_ok-month_days.month_days c.requires.names c.in_ok-month_days.ensures
+returns c = λ y names is.
+    month_days_added c.args.draft y c.in_ok-month_days.month_days names
+    (one_selector c.args.draft.month_days.items c.in_ok-month_days.month_days.items y c.args.selector c.in_ok-month_days.ensures is)

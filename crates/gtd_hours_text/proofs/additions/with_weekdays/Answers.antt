@@ -1,5 +1,7 @@
-use Rattle.gtd_hours_text.proofs.AddingLemmas.{weekdays_added}
+use Rattle.gtd_hours_text.proofs.AddingLemmas.{one_selector, weekdays_added}
 use Rattle.gtd_hours_text.proofs.additions.with_weekdays.Goals as goal
 
 pub returns : goal.returns
-returns c = weekdays_added c.args.draft c.args.piece c.in_ok-weekdays.weekdays c.requires.names c.in_ok-weekdays.ensures
+returns c = λ y names is.
+    weekdays_added c.args.draft y c.in_ok-weekdays.weekdays names
+    (one_selector c.args.draft.weekdays.items c.in_ok-weekdays.weekdays.items y c.args.selector c.in_ok-weekdays.ensures is)

@@ -1,5 +1,7 @@
-use Rattle.gtd_hours_text.proofs.AddingLemmas.{weeks_added}
+use Rattle.gtd_hours_text.proofs.AddingLemmas.{one_selector, weeks_added}
 use Rattle.gtd_hours_text.proofs.additions.with_weeks.Goals as goal
 
 pub returns : goal.returns
-returns c = weeks_added c.args.draft c.args.piece c.in_ok-weeks.weeks c.requires.names c.in_ok-weeks.ensures
+returns c = λ y names is.
+    weeks_added c.args.draft y c.in_ok-weeks.weeks names
+    (one_selector c.args.draft.weeks.items c.in_ok-weeks.weeks.items y c.args.selector c.in_ok-weeks.ensures is)

@@ -1,5 +1,7 @@
-use Rattle.gtd_hours_text.proofs.AddingLemmas.{years_added}
+use Rattle.gtd_hours_text.proofs.AddingLemmas.{one_selector, years_added}
 use Rattle.gtd_hours_text.proofs.additions.with_years.Goals as goal
 
 pub returns : goal.returns
-returns c = years_added c.args.draft c.args.piece c.in_ok-years.years c.requires.names c.in_ok-years.ensures
+returns c = λ y names is.
+    years_added c.args.draft y c.in_ok-years.years names
+    (one_selector c.args.draft.years.items c.in_ok-years.years.items y c.args.selector c.in_ok-years.ensures is)

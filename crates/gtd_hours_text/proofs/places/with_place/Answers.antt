@@ -1,11 +1,9 @@
-use Rattle.gtd_hours_text.proofs.PlaceLemmas.{is_place}
+use Rattle.gtd_hours.specs.declared.hours.Selector.TheVariants as selector
 use Rattle.gtd_hours_text.proofs.places.with_place.Goals as goal
 
-pub returns : goal.returns
-returns c =
-    let kept = c.in-Some.ensures.kept in
-    record {
-      x = c.in-Some.selector;
-      all = c.in_ok-push-in-Some.ensures.items;
-      is = is_place c.in-Some.selector c.args.weekday c.args.number kept.0 kept.1 kept.2 kept.3;
-    }
+pub returns-in_ok-selectors-in-Some : goal.returns-in_ok-selectors-in-Some
+returns-in_ok-selectors-in-Some c = record {
+  x = selector.Nth c.in-Some.place;
+  all = c.in_ok-selectors-in-Some.ensures;
+  is = c.in-Some.ensures.kept;
+}

@@ -1,7 +1,7 @@
 use Rattle.std.proofs.Common.{List}
-use Rattle.gtd_hours_grammar.specs.declared.piece.Piece.{Piece}
+use Rattle.gtd_hours_parts.specs.declared.piece.Piece.{Piece}
 use Rattle.gtd_hours_grammar.specs.Steps.{IsReading, moves_left}
-use Rattle.gtd_hours_grammar.proofs.check.check_hours.Given as goal
+use Rattle.gtd_hours_grammar.proofs.check.check_behind.Given as goal
 
 abbrev pub invariant-loop-next : goal.invariant-loop-next
 invariant-loop-next l = (given : List Piece) × IsReading l.text l.reading given

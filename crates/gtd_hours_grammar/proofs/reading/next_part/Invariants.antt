@@ -1,6 +1,6 @@
 use Rattle.gtd_hours_grammar.specs.Steps.{moves_left}
 use Rattle.gtd_hours_grammar.proofs.ReadLemmas.{Keeps}
-use Rattle.gtd_hours_grammar.proofs.reading.next_piece.Given as goal
+use Rattle.gtd_hours_grammar.proofs.reading.next_part.Given as goal
 
 abbrev pub invariant-loop-step : goal.invariant-loop-step
 invariant-loop-step l = Keeps l.text l.fn.reading l.now

@@ -1,10 +1,11 @@
 //! What a text of opening hours is made of beyond its tokens.
 
+use crate::clock::ClockTime;
+use crate::digits::Digits;
 use gtd_hours::Link;
-use gtd_hours_parts::{ClockTime, Digits};
 
 /// A month and a day, after a year or without one.
-#[derive(Clone, Copy, Debug, PartialEq, Eq)]
+#[derive(Clone, Copy)]
 pub struct WrittenDate {
     /// The year, if one stands directly before the month.
     pub year: Option<Digits>,
@@ -15,7 +16,7 @@ pub struct WrittenDate {
 }
 
 /// What a range of dates ends with.
-#[derive(Clone, Copy, Debug, PartialEq, Eq)]
+#[derive(Clone, Copy)]
 pub enum LastDate {
     /// `20` in `Apr 10-20`: a day of the first date's month.
     Day(Digits),
@@ -24,7 +25,7 @@ pub enum LastDate {
 }
 
 /// A smallest part of a text of opening hours that says something by itself.
-#[derive(Clone, Copy, Debug, PartialEq, Eq)]
+#[derive(Clone, Copy)]
 pub enum Piece {
     /// Another rule begins. The first rule has no such piece.
     Rule(Link),

@@ -6,9 +6,9 @@ use Rattle.gtd_hours_parts.specs.declared.clock.ClockTime.{ClockTime}
 use Rattle.gtd_hours_parts.specs.Numbers.{IsStepNumber, IsWeekNumber, IsYearNumber}
 use Rattle.gtd_hours_parts.specs.Dates.{EndsOn, IsDayOfYear, IsWrittenDay, last_year}
 use Rattle.gtd_hours_parts.specs.Times.{IsBegin, IsEnd, minute_of}
-use Rattle.gtd_hours_grammar.specs.declared.piece.WrittenDate.{WrittenDate}
-use Rattle.gtd_hours_grammar.specs.declared.piece.LastDate.{LastDate}
-use Rattle.gtd_hours_grammar.specs.declared.piece.LastDate.TheVariants as last_date
+use Rattle.gtd_hours_parts.specs.declared.piece.WrittenDate.{WrittenDate}
+use Rattle.gtd_hours_parts.specs.declared.piece.LastDate.{LastDate}
+use Rattle.gtd_hours_parts.specs.declared.piece.LastDate.TheVariants as last_date
 
 -- two numbers of a kind, the second not before the first
 abbrev pub IsRange : (Digits → Type 0) → Digits → Digits → Type 0
@@ -40,6 +40,13 @@ IsDay (Some year) month day = IsDayOfYear year.value month day
 -- a date
 abbrev pub IsWrittenDate : WrittenDate → Type 0
 IsWrittenDate date = IfSome date.year IsYearNumber × IsDay date.year date.month date.day
+
+-- a date without a year, and one with a year
+abbrev pub undated : ℕ → Digits → WrittenDate
+undated month day = record { year = None; month = month; day = day }
+
+abbrev pub dated : Digits → ℕ → Digits → WrittenDate
+dated year month day = record { year = Some year; month = month; day = day }
 
 -- A range that begins with a date of this year ends with a year, a month and a day. Only after a date with a year may the last
 -- one have a year. If it has none then, it is in the same year or, if it would come before the first there, in the next one.

@@ -3,9 +3,9 @@ use Rattle.gtd_hours_tokens.specs.declared.token.TokenKind.{TokenKind}
 use Rattle.gtd_hours_grammar.specs.declared.place.Move.{Move}
 use Rattle.gtd_hours_grammar.specs.Steps.{IsMove}
 use Rattle.gtd_hours_grammar.proofs.ReadLemmas.{fewer, gives_piece, inside, keeps_more, stands_by}
-use Rattle.gtd_hours_grammar.proofs.SoundLemmas.{sound_piece}
+use Rattle.gtd_hours_grammar.proofs.SoundLemmas.{sound_all, sound_piece}
 use Rattle.gtd_hours_grammar.proofs.EndLemmas.{ends_all, ends_fault}
-use Rattle.gtd_hours_grammar.proofs.reading.next_piece.Goals as goal
+use Rattle.gtd_hours_grammar.proofs.reading.next_part.Goals as goal
 
 at_most : {a b d : ℕ} → a ≤ b → d < a → d < b
 at_most h k = omega (arith, h, k)
@@ -38,16 +38,22 @@ returns-in_default-clause-fault c =
     rw (c.end_or_fault.ensures) (ends_fault c.args.text.now c.loop-step.now k.some.0 c.token_behind-next.result
     (k.same k.some.0 k.some.1) c.token_behind-next.ensures.next goes)
 
-pub returns-in-Some-piece-clause-piece : goal.returns-in-Some-piece-clause-piece
-returns-in-Some-piece-clause-piece c = λ given is.
+pub returns-in-Some-part_behind-clause-piece : goal.returns-in-Some-part_behind-clause-piece
+returns-in-Some-part_behind-clause-piece c = λ given is.
     let stands = stands_by c.args.text.now c.loop-step.now c.token_behind-next.result c.kind_of.result c.in-Some.step
     c.kind_of.ensures c.token_behind-next.ensures.next c.token_behind-next.ensures.past c.token_behind-next.ensures.inside
     c.in-Some.ensures.computed c.in-Some.ensures.good in
-    rw (c.advanced-now.ensures) (gives_piece c.args.text.now c.args.reading c.loop-step.now c.token_behind-next.result
-    c.in-Some.step c.in-Some-piece.piece c.loop-step.invariant stands c.in-Some-piece.is given is)
+    let kept = c.in-Some-part_behind.ensures.kept in
+    let at = c.loop-step.invariant.same given is in (
+      kept.0,
+      sound_piece c.loop-step.now.at c.kind_of.result c.in-Some.step kept.0 at.stands c.in-Some.ensures.computed kept.1,
+      kept.2,
+      rw (c.advanced-now.ensures) (gives_piece c.args.text.now c.args.reading c.loop-step.now c.token_behind-next.result
+          c.in-Some.step kept.0 c.loop-step.invariant stands kept.1 given is),
+    )
 
-pub returns-in-Some-piece-clause-nearer : goal.returns-in-Some-piece-clause-nearer
-returns-in-Some-piece-clause-nearer c =
+pub returns-in-Some-part_behind-clause-nearer : goal.returns-in-Some-part_behind-clause-nearer
+returns-in-Some-part_behind-clause-nearer c =
     let stands = stands_by c.args.text.now c.loop-step.now c.token_behind-next.result c.kind_of.result c.in-Some.step
     c.kind_of.ensures c.token_behind-next.ensures.next c.token_behind-next.ensures.past c.token_behind-next.ensures.inside
     c.in-Some.ensures.computed c.in-Some.ensures.good in
@@ -68,12 +74,9 @@ loop-step-preserved c =
     let stands = stands_by c.args.text.now c.loop-step.now c.token_behind-next.result c.kind_of.result c.in-Some.step
     c.kind_of.ensures c.token_behind-next.ensures.next c.token_behind-next.ensures.past c.token_behind-next.ensures.inside
     c.in-Some.ensures.computed c.in-Some.ensures.good in
-    let none : c.in-Some.step.piece ≡ None = search rules in
+    let is = c.loop-step.invariant.same c.loop-step.invariant.some.0 c.loop-step.invariant.some.1 in
+    let sound = sound_all c.loop-step.now.at c.kind_of.result c.in-Some.step is.stands c.in-Some.ensures.computed in
+    let empty : c.part_behind.result ≡ None = search rules in
+    let none = c.part_behind.ensures.none empty sound in
     rw (c.advanced-now.ensures) (keeps_more c.args.text.now c.args.reading c.loop-step.now c.token_behind-next.result
     c.in-Some.step c.loop-step.invariant stands none)
-
-pub returns-in-Some-piece-clause-sound : goal.returns-in-Some-piece-clause-sound
-returns-in-Some-piece-clause-sound c =
-    let is = c.loop-step.invariant.same c.loop-step.invariant.some.0 c.loop-step.invariant.some.1 in
-    sound_piece c.loop-step.now.at c.kind_of.result c.in-Some.step c.in-Some-piece.piece is.stands
-    c.in-Some.ensures.computed c.in-Some-piece.is

@@ -2,9 +2,9 @@
 use Rattle.std.specs.Prelude.{List, [], ◌∷◌, Some, None, IfSome}
 use Rattle.gtd_hours.specs.Ranges.{IsMonth, IsWeekday}
 use Rattle.gtd_hours_parts.specs.Numbers.{IsPlaceNumber, IsStepNumber, IsWeekNumber, IsYearNumber}
-use Rattle.gtd_hours_grammar.specs.declared.piece.Piece.{Piece}
-use Rattle.gtd_hours_grammar.specs.declared.piece.Piece.TheVariants as piece
-use Rattle.gtd_hours_grammar.specs.Pieces.{AreWrittenTimes, EndsRange, IsRange, IsWrittenDate}
+use Rattle.gtd_hours_parts.specs.declared.piece.Piece.{Piece}
+use Rattle.gtd_hours_parts.specs.declared.piece.Piece.TheVariants as piece
+use Rattle.gtd_hours_parts.specs.Pieces.{AreWrittenTimes, EndsRange, IsRange, IsWrittenDate}
 
 abbrev pub IsPiece : Piece → Type 0
 IsPiece (piece.Years first None None) = IsYearNumber first

@@ -1,6 +1,0 @@
-use Rattle.gtd_hours_grammar.specs.facts.FirstFault.{hours_or_fault}
-use Rattle.gtd_hours_text.proofs.reader.piece_behind.Goals as goal
-
-pub unreachable-requires : goal.unreachable-requires
-unreachable-requires c =
-    hours_or_fault c.args.text.now c.requires.hours.0 c.in-Err.field-0 c.requires.hours.1 c.in-Err.ensures.fault
