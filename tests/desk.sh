@@ -106,12 +106,17 @@ status=$?
 expect 'standard input' 0 "$header"$'\n'"$at_ten"$'\n'"$always" ''
 head -n 1 a.csv > none.csv
 run now none.csv 2024-04-01T10:00:00 11
-expect 'no rows' 0 "$header" ''
+no_row='gtdesk: none.csv: note: no row is for vehicle type 11'
+expect 'no rows' 0 "$header" "$no_row"
+"$program" now none.csv 2024-04-01T10:00:00 11 > out 2> /dev/full
+status=$?
+: > err
+expect 'a note that is not told' 0 "$header" ''
 
 run now a.csv none.csv 2024-04-01T10:00:00 11
-expect 'two files' 0 "$header"$'\n'"$at_ten"$'\n'"$always"$'\n'"$header" ''
+expect 'two files' 0 "$header"$'\n'"$at_ten"$'\n'"$always"$'\n'"$header" "$no_row"
 run now gone.csv none.csv 2024-04-01T10:00:00 11
-expect 'a file that is gone, and another' 3 "$header" 'gtdesk: gone.csv: cannot be opened'
+expect 'a file that is gone, and another' 3 "$header" $'gtdesk: gone.csv: cannot be opened\n'"$no_row"
 
 # Ctrl-C while the file is read: the shell reports status 130, and nothing was printed.
 mkfifo waits

@@ -2,8 +2,9 @@
 """The forms of `gtdesk now`, against its lines, on random record files.
 
 JSON as Python reads it, and the columns of the table, say the same as the lines of fields, for all elements and for closed ones.
-With `--why`, each row that a line names is told below it: its number, the text that `gtd canon` prints of its domain, and the words
-of `gtdesk words`. With `--zone`, the moment is what `date` prints in that zone. Run it after `rt ci`, which builds the programs.
+With `--why`, each row that a line names is told below it: the line of the file on which it begins, its number, the text that
+`gtd canon` prints of its domain, and the words of `gtdesk words`. The files have empty lines and line ends of each kind. A note is
+told exactly if no row is for the vehicle type. With `--zone`, the moment is what `date` prints in that zone. Run it after `rt ci`, which builds the programs.
 
 Usage: tests/now_forms.py [COUNT [SEED]]
 """
@@ -25,8 +26,14 @@ ELEMENTS = [1, 7, 17, 20, 101, 65_536, 4_294_967_295, 4_294_967_296, 9_999_999_9
 ZONES = ["UTC", "Europe/Vienna", "America/Argentina/Buenos_Aires", "Asia/Kathmandu", "Etc/GMT+12", "Pacific/Kiritimati"]
 
 
-def run(program, *words):
-    return subprocess.run([PROGRAMS[program], *words], stdout=subprocess.PIPE, check=True).stdout.decode()
+ENDS = ["\n", "\r\n", "\r"]
+
+
+def run(program, *words, note=""):
+    """What a program prints. It may tell this note."""
+    done = subprocess.run([PROGRAMS[program], *words], stdout=subprocess.PIPE, stderr=subprocess.PIPE, check=True)
+    assert done.stderr.decode() == note, (words, done.stderr)
+    return done.stdout.decode()
 
 
 def rows_of(dice):
@@ -50,13 +57,23 @@ def told(domain):
     return TOLD[domain]
 
 
-def below(rows, numbers):
+def text_of(dice, rows):
+    """The text of a file, and the line on which each row begins: one more than the line feeds before it."""
+    text, lines = dice.choice(["", "\ufeff"]), []
+    for row in [["element", "direction", "vehicle", "domain"], *rows]:
+        text += "".join(dice.choice(ENDS) for _ in range(dice.choice([0, 0, 0, 1, 3])))
+        lines.append(text.count("\n") + 1)
+        text += ",".join(dice.choice([field, f'"{field}"']) for field in row) + dice.choice(ENDS)
+    return text, lines[1:]
+
+
+def below(rows, places, numbers):
     """The lines below an entry."""
     lines = []
     for number in numbers:
         text, words = told(rows[number - 1][3])
         first, *others = words.splitlines()
-        lines.append(f"    row {number}: " + (f"{text}: " if text else "") + first)
+        lines.append(f"    line {places[number - 1]}, row {number}: " + (f"{text}: " if text else "") + first)
         lines += ["        " + line for line in others]
     return lines
 
@@ -65,20 +82,23 @@ def numbers_of(column):
     return [int(number) for number in column.split(";") if number]
 
 
-def check(rows, moment, *options):
+def check(dice, rows, moment, *options):
     """Compares the forms of one answer."""
-    with tempfile.NamedTemporaryFile("w", suffix=".csv", newline="") as file:
-        csv.writer(file).writerows([["element", "direction", "vehicle", "domain"], *rows])
+    text, places = text_of(dice, rows)
+    with tempfile.NamedTemporaryFile("w", suffix=".csv", newline="", encoding="utf-8") as file:
+        file.write(text)
         file.flush()
-        now = lambda *more: run("gtdesk", "now", file.name, moment, "11", *options, *more)
+        some = any(row[2] in ("0", "11") for row in rows)
+        note = "" if some else f"gtdesk: {file.name}: note: no row is for vehicle type 11\n"
+        now = lambda *more: run("gtdesk", "now", file.name, moment, "11", *options, *more, note=note)
         lines = list(csv.DictReader(io.StringIO(now())))
         wanted = [{"element": int(line["element"]), "direction": line["direction"], "vehicle": int(line["vehicle"]),
                    "state": line["state"], "until": line["until"] or None, "rows": numbers_of(line["rows"])} for line in lines]
         objects = now("--json").splitlines()
         assert [json.loads(line) for line in objects] == wanted
         assert [list(json.loads(line)) for line in objects] == [list(line) for line in wanted]
-        whys = [dict(line, why=[dict(zip(("row", "domain", "words"), (row, *told(rows[row - 1][3])))) for row in line["rows"]])
-                for line in wanted]
+        whys = [dict(line, why=[dict(zip(("line", "row", "domain", "words"), (places[row - 1], row, *told(rows[row - 1][3]))))
+                                for row in line["rows"]]) for line in wanted]
         assert [json.loads(line) for line in now("--json", "--why").splitlines()] == whys
         columns = [[f'{"element":>10}', f'{"direction":9}', f'{"state":6}', f'{"until":19}', "rows"]]
         columns += [[f'{line["element"]:>10}', f'{line["direction"]:9}', f'{line["state"]:6}', f'{line["until"] or "-":19}',
@@ -86,7 +106,7 @@ def check(rows, moment, *options):
         table = ["  ".join(line) for line in columns]
         assert now("--table").splitlines() == table
         for form, entries in ((["--table"], table), ([], now().splitlines())):
-            entries = [[entries[0]]] + [[entry, *below(rows, line["rows"])] for entry, line in zip(entries[1:], wanted)]
+            entries = [[entries[0]]] + [[entry, *below(rows, places, line["rows"])] for entry, line in zip(entries[1:], wanted)]
             assert now("--why", *form).splitlines() == [line for entry in entries for line in entry]
 
 
@@ -111,7 +131,7 @@ def main():
     for _ in range(count):
         rows, moment = rows_of(dice), moment_of(dice)
         for options in ([], ["--closed"], ["--element", "17,9999999999"]):
-            check(rows, moment, *options)
+            check(dice, rows, moment, *options)
     for zone in ZONES:
         check_zone(zone)
     print(f"now_forms: {3 * count + len(ZONES)} passed, 0 failed")

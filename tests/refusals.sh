@@ -134,6 +134,7 @@ domain='[(M4d1){M3}]*[(h10){h4}]'
 moment=2024-04-01T10:00:00
 file=$room/r.csv
 printf '%s\n' element,direction,vehicle,domain "17,positive,0,$domain" 17,negative,11, > r.csv
+printf '%s\n' element,direction,vehicle,domain > none.csv
 printf '%s\n' element,direction,vehicle,domain 17,up,0, '17,both,0,(h25)' '17,both,0,(h0){h24}' > faulty.csv
 printf '%s\n' element,direction,vehicles,hours '1,both,0,Fr 22:00-04:00' '2,positive,11;12,' > hours.csv
 printf '%s\n' element,direction,vehicles,hours '1,both,0,Apr 10-31' 1,up,0, > faulty_hours.csv
@@ -160,6 +161,8 @@ program=$gtdesk no_memory='gtdesk: memory: refused by the system'
 program_refused 0 now r.csv $moment 11
 program_refused 0 now - $moment 11
 program_refused 0 now --closed --element 17,18 r.csv $moment 11
+program_refused 0 now --why r.csv $moment 11
+program_refused 0 now --why --json none.csv $moment 11
 program_refused 1 now --element 17, r.csv $moment 11
 program_refused 1 now faulty.csv $moment 11
 program_refused 3 now gone.csv $moment 11

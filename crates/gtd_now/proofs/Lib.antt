@@ -1,5 +1,6 @@
 pub mod Appending
 pub mod ColumnFacts
+pub mod LineFacts
 pub mod NowFacts
 pub mod ObjectFacts
 pub mod ReadBack

@@ -1,5 +1,5 @@
 -- The text of an object reads as that object.
-use Rattle.std.proofs.Common.{◌≡◌, arith, ◌<◌, ◌≤◌, ◌^◌, ℕ, Bool, true, false, List, [], ◌∷◌, Option, Some, None}
+use Rattle.std.proofs.Common.{◌≡◌, arith, ◌<◌, ◌≤◌, ◌-◌, ◌^◌, get_or, ℕ, zero, suc, Bool, true, false, List, [], ◌∷◌, Option, Some, None}
 use Rattle.std.proofs.Math.Nat.{max-le}
 use Rattle.std.specs.Prelude.{ℤ, codes, decimal}
 use Rattle.gtd_records.specs.Closing.{Restriction}
@@ -13,6 +13,7 @@ use Rattle.json.specs.Json.{Json, Members, array, document, member, number, obje
 use Rattle.json.specs.Print.{print}
 use Rattle.json.specs.Tree.{HasNumbers, ItemsHaveNumbers, MembersHaveNumbers, depth, items_depth, json_tokens, members_depth}
 use Rattle.gtd_now.specs.Objects.{AreRowNumbers, change_value, reason_items, row_items, state_value, why_members}
+use Rattle.gtd_now.specs.Reasons.{row_line}
 
 -- ---- numbers
 
@@ -20,14 +21,23 @@ row_numbers : (rows : List ℕ) → AreRowNumbers rows → ItemsHaveNumbers (row
 row_numbers [] a = tt
 row_numbers (row ∷ rows) a = (IsNumber-decimal row a.0, row_numbers rows a.1)
 
-reason_numbers : (found : List Restriction) (rows : List ℕ) → AreRowNumbers rows → ItemsHaveNumbers (reason_items found rows)
-reason_numbers found [] a = tt
-reason_numbers found (row ∷ rows) a = ((IsNumber-decimal row a.0, (tt, (tt, tt))), reason_numbers found rows a.1)
+small_line : (lines : List ℕ) (at : ℕ) → AreRowNumbers lines → get_or lines at 0 < 2 ^ 64
+small_line [] at a = omega arith
+small_line (line ∷ lines) zero a = a.0
+small_line (line ∷ lines) (suc at) a = small_line lines at a.1
 
-why_numbers : (why : Bool) (found : List Restriction) (rows : List ℕ) → AreRowNumbers rows
-    → MembersHaveNumbers (why_members why found rows)
-why_numbers false found rows a = tt
-why_numbers true found rows a = (reason_numbers found rows a, tt)
+reason_numbers : (lines : List ℕ) (found : List Restriction) (rows : List ℕ) → AreRowNumbers lines → AreRowNumbers rows
+    → ItemsHaveNumbers (reason_items lines found rows)
+reason_numbers lines found [] l a = tt
+reason_numbers lines found (row ∷ rows) l a = (
+  (IsNumber-decimal (row_line lines row) (small_line lines (row - 1) l), (IsNumber-decimal row a.0, (tt, (tt, tt)))),
+  reason_numbers lines found rows l a.1,
+)
+
+why_numbers : (why : Bool) (lines : List ℕ) (found : List Restriction) (rows : List ℕ) → AreRowNumbers lines → AreRowNumbers rows
+    → MembersHaveNumbers (why_members why lines found rows)
+why_numbers false lines found rows l a = tt
+why_numbers true lines found rows l a = (reason_numbers lines found rows l a, tt)
 
 change_numbers : (change : Option ℤ) → HasNumbers (change_value change)
 change_numbers None = tt
@@ -39,13 +49,14 @@ row_depth : (rows : List ℕ) → items_depth (row_items rows) ≤ 1
 row_depth [] = omega arith
 row_depth (row ∷ rows) = max-le (omega arith) (row_depth rows)
 
-reason_depth : (found : List Restriction) (rows : List ℕ) → items_depth (reason_items found rows) ≤ 1
-reason_depth found [] = omega arith
-reason_depth found (row ∷ rows) = max-le (omega arith) (reason_depth found rows)
+reason_depth : (lines : List ℕ) (found : List Restriction) (rows : List ℕ) → items_depth (reason_items lines found rows) ≤ 1
+reason_depth lines found [] = omega arith
+reason_depth lines found (row ∷ rows) = max-le (omega arith) (reason_depth lines found rows)
 
-why_depth : (why : Bool) (found : List Restriction) (rows : List ℕ) → members_depth (why_members why found rows) ≤ 2
-why_depth false found rows = omega arith
-why_depth true found rows = let d = reason_depth found rows in max-le (omega (arith, d)) (omega arith)
+why_depth : (why : Bool) (lines : List ℕ) (found : List Restriction) (rows : List ℕ)
+    → members_depth (why_members why lines found rows) ≤ 2
+why_depth false lines found rows = omega arith
+why_depth true lines found rows = let d = reason_depth lines found rows in max-le (omega (arith, d)) (omega arith)
 
 change_depth : (change : Option ℤ) → depth (change_value change) ≤ 2
 change_depth None = omega arith
@@ -63,23 +74,24 @@ object_depth ms d = omega (arith, d)
 
 -- ---- the object
 
-module _ (why : Bool) (found : List Restriction) (element : ℕ) (direction : Direction) (vehicle : ℕ) (state : State) where
-  numbers : element < 2 ^ 64 → vehicle < 2 ^ 64 → AreRowNumbers state.rows
-      → HasNumbers (state_value why found element direction vehicle state)
-  numbers small type rows = (
+module _ (why : Bool) (lines : List ℕ) (found : List Restriction) (element : ℕ) (direction : Direction) (vehicle : ℕ)
+    (state : State) where
+  numbers : element < 2 ^ 64 → vehicle < 2 ^ 64 → AreRowNumbers lines → AreRowNumbers state.rows
+      → HasNumbers (state_value why lines found element direction vehicle state)
+  numbers small type places rows = (
     IsNumber-decimal element small,
-    (tt, (IsNumber-decimal vehicle type, (tt, (change_numbers state.change, (row_numbers state.rows rows, why_numbers why found state.rows rows))))),
+    (tt, (IsNumber-decimal vehicle type, (tt, (change_numbers state.change, (row_numbers state.rows rows, why_numbers why lines found state.rows places rows))))),
   )
 
-  inside : depth (state_value why found element direction vehicle state) ≤ 3
+  inside : depth (state_value why lines found element direction vehicle state) ≤ 3
   inside =
-      let m1 = why_members why found state.rows in
+      let m1 = why_members why lines found state.rows in
       let m2 = member (codes "rows") (array (row_items state.rows)) m1 in
       let m3 = member (codes "until") (change_value state.change) m2 in
       let m4 = member (codes "state") (string (state_word state.is_open)) m3 in
       let m5 = member (codes "vehicle") (number (decimal vehicle)) m4 in
       let m6 = member (codes "direction") (string (direction_word direction)) m5 in
-      let d2 = deeper (codes "rows") (array (row_items state.rows)) m1 (list_depth state.rows) (why_depth why found state.rows) in
+      let d2 = deeper (codes "rows") (array (row_items state.rows)) m1 (list_depth state.rows) (why_depth why lines found state.rows) in
       let d3 = deeper (codes "until") (change_value state.change) m2 (change_depth state.change) d2 in
       let d4 = deeper (codes "state") (string (state_word state.is_open)) m3 (omega arith) d3 in
       let d5 = deeper (codes "vehicle") (number (decimal vehicle)) m4 (omega arith) d4 in
@@ -87,9 +99,9 @@ module _ (why : Bool) (found : List Restriction) (element : ℕ) (direction : Di
       object_depth (member (codes "element") (number (decimal element)) m6)
       (deeper (codes "element") (number (decimal element)) m6 (omega arith) d6)
 
-  pub read_back : element < 2 ^ 64 → vehicle < 2 ^ 64 → AreRowNumbers state.rows
-      → document (print (json_tokens (state_value why found element direction vehicle state)))
-      ≡ Some (state_value why found element direction vehicle state)
-  read_back small type rows =
+  pub read_back : element < 2 ^ 64 → vehicle < 2 ^ 64 → AreRowNumbers lines → AreRowNumbers state.rows
+      → document (print (json_tokens (state_value why lines found element direction vehicle state)))
+      ≡ Some (state_value why lines found element direction vehicle state)
+  read_back small type places rows =
       let deep = inside in
-      document-print (state_value why found element direction vehicle state) (numbers small type rows) (omega (arith, deep))
+      document-print (state_value why lines found element direction vehicle state) (numbers small type places rows) (omega (arith, deep))

@@ -1,8 +1,10 @@
 //! Laws of the definitions: calls that do nothing, whose contracts are what is proved.
 
-ghost use Rattle.std.specs.Prelude.{◌≡◌, ◌<◌, ◌^◌, ℕ, ℤ, Bool, List, Option, Some, decimal, length};
+ghost use Rattle.std.specs.Prelude.{◌≡◌, ◌<◌, ◌≤◌, ◌^◌, ℕ, ℤ, Bool, List, Option, Ok, Some, decimal, length};
 ghost use Rattle.gtd_core.specs.Seconds.{IsHorizonSecond};
+ghost use Rattle.gtd_lines.specs.Lines.{AreLinesOfRows, IsLine};
 ghost use Rattle.gtd_records.specs.Closing.{Restriction};
+ghost use Rattle.gtd_records.specs.File.{IsFile};
 ghost use Rattle.gtd_records.specs.declared.direction.Direction.{Direction};
 ghost use Rattle.gtd_report.specs.Putting.{direction_word};
 ghost use Rattle.gtd_states.specs.Lines.{state_word};
@@ -13,26 +15,34 @@ ghost use Rattle.json.specs.Tree.{json_tokens};
 ghost use Rattle.gtd_now.specs.Now.{IsNow};
 ghost use Rattle.gtd_now.specs.Objects.{AreRowNumbers, state_value};
 ghost use Rattle.gtd_now.specs.Query.{Query};
+ghost use Rattle.gtd_now.specs.Reasons.{row_line};
 ghost use Rattle.gtd_now.specs.Table.{change_shown, left, right};
 
-/// Restrictions have at most one text for a query.
+/// A file has at most one text for a query.
 pub fn one_now()
-    ensures one { (found : List Restriction) (query : Query) (a b : List (List ℕ)) → IsNow found query a → IsNow found query b
+    ensures one { (bytes : List ℕ) (found : List Restriction) (query : Query) (a b : List (List ℕ)) → IsNow bytes found query a
+        → IsNow bytes found query b
         → a ≡ b }
 {}
 
-/// Restrictions have a text for each query at a moment that a horizon may have.
+/// A file has a text for each query at a moment that a horizon may have.
 pub fn some_now()
-    ensures some { (found : List Restriction) (query : Query) → IsHorizonSecond query.second
-        → (lines : List (List ℕ)) × IsNow found query lines }
+    ensures some { (bytes : List ℕ) (found : List Restriction) (query : Query) → IsHorizonSecond query.second
+        → (text : List (List ℕ)) × IsNow bytes found query text }
+{}
+
+/// The line that is told of a row of a file is the one on which the row begins.
+pub fn told_lines()
+    ensures line { (bytes lines : List ℕ) (found : List Restriction) (row : ℕ) → IsFile bytes (Ok found)
+        → AreLinesOfRows bytes lines → 0 < row → row ≤ length found → IsLine bytes row (row_line lines row) }
 {}
 
 /// A line of JSON, without its line feed, is the text of one value by the grammar of RFC 8259: that of the state.
 pub fn reads_back()
-    ensures value { (why : Bool) (found : List Restriction) (element : ℕ) (direction : Direction) (vehicle : ℕ) (state : State)
-        → element < 2 ^ 64 → vehicle < 2 ^ 64 → AreRowNumbers state.rows
-        → document (print (json_tokens (state_value why found element direction vehicle state)))
-        ≡ Some (state_value why found element direction vehicle state) }
+    ensures value { (why : Bool) (lines : List ℕ) (found : List Restriction) (element : ℕ) (direction : Direction) (vehicle : ℕ) (state : State)
+        → element < 2 ^ 64 → vehicle < 2 ^ 64 → AreRowNumbers lines → AreRowNumbers state.rows
+        → document (print (json_tokens (state_value why lines found element direction vehicle state)))
+        ≡ Some (state_value why lines found element direction vehicle state) }
 {}
 
 /// The columns of a table have the same widths in each line.

@@ -4,6 +4,7 @@
 
 pub use asked::{Asked, Form};
 pub use run::run_now;
+pub use shown::Shown;
 
 mod asked;
 mod entry;
@@ -12,5 +13,7 @@ mod line;
 mod now;
 mod object;
 mod reasons;
+mod rows;
 mod run;
+mod shown;
 mod table;

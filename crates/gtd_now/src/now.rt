@@ -14,6 +14,7 @@ use crate::entry::Entry;
 use crate::line::push_line;
 use crate::object::push_object;
 use crate::reasons::push_reasons;
+use crate::rows::FileRows;
 use crate::table::push_table_row;
 use gtd_devices::Output;
 use gtd_records::Records;
@@ -23,6 +24,13 @@ use std::alloc::{AllocError, Global};
 
 // No memory holds an entry of so many bytes: the bound keeps the count of all bytes within its type.
 const MOST_ENTRY_BYTES: usize = 1_009_829_376_000;
+
+/// What is shown of a file: what is asked about, and the lines that are told of its rows, which are none if the rows are not told.
+#[derive(Clone, Copy)]
+pub(crate) struct View<'a> {
+    pub(crate) asked: Asked<'a>,
+    pub(crate) lines: &'a [u64],
+}
 
 // Whether an element is one of those that are asked about. If none is named, all are.
 fn is_wanted(wanted: &[u64], element: u64) -> bool
@@ -52,14 +60,15 @@ fn is_shown(found: &Records, at: DirectedElement, asked: &Asked<'_>) -> bool
 fn push_told(
     alloc: Global,
     line: &mut Vec<u8>,
-    found: &Records,
-    rows: &[usize],
+    rows: &FileRows<'_>,
+    closing: &[usize],
     why: bool,
 ) -> Result<(), AllocError>
-    ensures told { OnOk result (line.new.items ≡ line.old.items ++ told why found.now rows.now) }
+    ensures told { OnOk result (line.new.items
+        ≡ line.old.items ++ told why rows.now.lines.now rows.now.records.now closing.now) }
 {
     if why {
-        push_reasons(alloc, line, found.rows(), rows)
+        push_reasons(alloc, line, rows, closing)
     } else {
         Ok(())
     }
@@ -69,23 +78,23 @@ fn push_told(
 fn push_entry(
     alloc: Global,
     line: &mut Vec<u8>,
-    found: &Records,
+    rows: &FileRows<'_>,
     entry: &Entry<'_>,
     asked: &Asked<'_>,
 ) -> Result<(), AllocError>
-    ensures entry { OnOk result (line.new.items ≡ line.old.items ++ entry_in asked.now.form asked.now.why found.now
-        entry.now.at.element entry.now.at.direction entry.now.vehicle (state_of entry.now.state.now)) }
+    ensures entry { OnOk result (line.new.items ≡ line.old.items ++ entry_in asked.now.form asked.now.why rows.now.lines.now
+        rows.now.records.now entry.now.at.element entry.now.at.direction entry.now.vehicle (state_of entry.now.state.now)) }
 {
-    let rows = entry.state.rows.as_slice();
+    let closing = entry.state.rows.as_slice();
     match asked.form {
         Form::Lines => {
             push_line(line, entry)?;
-            push_told(alloc, line, found, rows, asked.why)
+            push_told(alloc, line, rows, closing, asked.why)
         }
-        Form::Json => push_object(alloc, line, found.rows(), entry, asked.why),
+        Form::Json => push_object(alloc, line, rows, entry, asked.why),
         Form::Table => {
             push_table_row(line, entry)?;
-            push_told(alloc, line, found, rows, asked.why)
+            push_told(alloc, line, rows, closing, asked.why)
         }
     }
 }
@@ -106,21 +115,25 @@ fn write_entry(
     line: &mut Vec<u8>,
     found: &Records,
     at: DirectedElement,
-    asked: &Asked<'_>,
+    view: &View<'_>,
 ) -> Result<(), AllocError>
-    requires in_range { IsHorizonSecond asked.now.second.0 }
-    ensures entry { OnOk result (IsEntry found.now (query_of asked.now) at.element at.direction line.new.items) }
+    requires in_range { IsHorizonSecond view.now.asked.second.0 }
+    ensures entry { OnOk result (IsEntry view.now.lines.now found.now (query_of view.now.asked) at.element at.direction line.new.items) }
     ensures short { OnOk result (length line.new.items ≤ most_direction_bytes) }
 {
-    let vehicle = asked.vehicle;
-    let state = state_at(alloc, found, at, vehicle, asked.second)?;
+    let vehicle = view.asked.vehicle;
+    let state = state_at(alloc, found, at, vehicle, view.asked.second)?;
     let entry = Entry {
         at,
         vehicle,
         state: &state,
     };
+    let rows = FileRows {
+        records: found.rows(),
+        lines: view.lines,
+    };
     line.clear();
-    push_entry(alloc, line, found, &entry, asked)?;
+    push_entry(alloc, line, &rows, &entry, &view.asked)?;
     check_length(line.as_slice())
 }
 
@@ -130,23 +143,23 @@ pub(crate) fn put_state<O: Output>(
     printer: &mut Printer,
     found: &Records,
     at: DirectedElement,
-    asked: &Asked<'_>,
+    view: &View<'_>,
 ) -> Result<(), Stop>
     requires countable { O.failure_count output.old < u64.MAX }
-    requires in_range { IsHorizonSecond asked.now.second.0 }
+    requires in_range { IsHorizonSecond view.now.asked.second.0 }
     requires written { printer.old.progress.written + most_direction_bytes < 2 ^ 64 }
     requires lines { printer.old.progress.lines + 1 < 2 ^ 64 }
-    ensures puts { PutsText (AreEntries found.now (query_of asked.now) at.element at.direction)
+    ensures puts { PutsText (AreEntries view.now.lines.now found.now (query_of view.now.asked) at.element at.direction)
         result (O.taken output.old) (O.taken output.new) printer.old.progress printer.new.progress }
     ensures near { OnOk result ((printer.new.progress.written ≤ printer.old.progress.written + most_direction_bytes)
         × (printer.new.progress.lines ≤ printer.old.progress.lines + 1)) }
     ensures failures { O.failure_count output.new
         ≡ failures_after_stop result (O.failure_count output.old) }
 {
-    if !is_shown(found, at, asked) {
+    if !is_shown(found, at, &view.asked) {
         return Ok(());
     }
-    write_entry(printer.alloc, &mut printer.line, found, at, asked)?;
+    write_entry(printer.alloc, &mut printer.line, found, at, view)?;
     put_line(output, &mut printer.progress, printer.line.as_slice())?;
     Ok(())
 }

@@ -6,7 +6,7 @@ ghost use Rattle.gtd_calendar.specs.Stamp.{stamp_text};
 ghost use Rattle.gtd_core.specs.Parts.{domain_tree};
 ghost use Rattle.gtd_core.specs.Seconds.{day_of_second};
 ghost use Rattle.gtd_now.specs.Objects.{change_value, json_line, reason_items, reason_value, row_items, state_value, why_members};
-ghost use Rattle.gtd_now.specs.Reasons.{row_domain};
+ghost use Rattle.gtd_now.specs.Reasons.{row_domain, row_line};
 ghost use Rattle.gtd_states.specs.States.{state_of};
 ghost use Rattle.json.specs.Json.{array};
 ghost use Rattle.json.specs.Token.{key, string};
@@ -16,10 +16,10 @@ ghost use Rattle.json.specs.Tree.{items_tokens, json_tokens, members_tokens};
 
 use crate::entry::Entry;
 use crate::line::{direction_word, state_word};
-use crate::reasons::{domain_of, text_of, words_of};
+use crate::reasons::{text_of, words_of};
+use crate::rows::FileRows;
 use gtd_calendar::write_stamp;
 use gtd_core::{Domain, Sec};
-use gtd_records::Record;
 use gtd_states::ElementState;
 use json::Writer;
 use std::alloc::{AllocError, Global};
@@ -129,20 +129,22 @@ fn write_state(out: &mut Writer, state: &ElementState) -> Result<(), AllocError>
     write_rows(out, state.rows.as_slice())
 }
 
-// Writes what is told of a row.
+// Writes what is told of a row that begins on this line.
 fn write_reason(
     alloc: Global,
     out: &mut Writer,
+    line: u64,
     row: usize,
     domain: Option<&Domain>,
 ) -> Result<(), AllocError>
     ensures before { out.new.before ≡ out.old.before }
     ensures tokens { OnOk result (out.new.tokens
-        ≡ out.old.tokens ++ json_tokens (reason_value row (option_map (λ domain. domain_tree domain.now) domain.entry))) }
+        ≡ out.old.tokens ++ json_tokens (reason_value line row (option_map (λ domain. domain_tree domain.now) domain.entry))) }
 {
     let text = text_of(alloc, domain)?;
     let words = words_of(alloc, domain)?;
     out.begin_object()?;
+    write_number(out, "line", line)?;
     write_number(out, "row", row as u64)?;
     write_text(out, "domain", text.as_str())?;
     write_text(out, "words", words.as_str())?;
@@ -153,15 +155,16 @@ fn write_reason(
 fn write_reasons(
     alloc: Global,
     out: &mut Writer,
-    found: &[Record],
-    rows: &[usize],
+    rows: &FileRows<'_>,
+    closing: &[usize],
 ) -> Result<(), AllocError>
     ensures before { out.new.before ≡ out.old.before }
     ensures tokens { OnOk result (out.new.tokens ≡ out.old.tokens
-        ++ flat_map (λ row. json_tokens (reason_value row (row_domain found.now row))) rows.now) }
+        ++ flat_map (λ row. json_tokens (reason_value (row_line rows.now.lines.now row) row (row_domain rows.now.records.now row)))
+        closing.now) }
 {
-    for row in rows {
-        write_reason(alloc, out, *row, domain_of(found, *row))?;
+    for row in closing {
+        write_reason(alloc, out, rows.line(*row), *row, rows.domain(*row))?;
     }
     Ok(())
 }
@@ -170,13 +173,14 @@ fn write_reasons(
 fn write_reason_list(
     alloc: Global,
     out: &mut Writer,
-    found: &[Record],
-    rows: &[usize],
+    rows: &FileRows<'_>,
+    closing: &[usize],
 ) -> Result<(), AllocError>
     ensures before { out.new.before ≡ out.old.before }
-    ensures tokens { OnOk result (out.new.tokens ≡ out.old.tokens ++ items_tokens (reason_items found.now rows.now)) }
+    ensures tokens { OnOk result (out.new.tokens
+        ≡ out.old.tokens ++ items_tokens (reason_items rows.now.lines.now rows.now.records.now closing.now)) }
 {
-    write_reasons(alloc, out, found, rows)?;
+    write_reasons(alloc, out, rows, closing)?;
     out.end_array()
 }
 
@@ -184,17 +188,18 @@ fn write_reason_list(
 fn write_why(
     alloc: Global,
     out: &mut Writer,
-    found: &[Record],
-    rows: &[usize],
+    rows: &FileRows<'_>,
+    closing: &[usize],
     why: bool,
 ) -> Result<(), AllocError>
     ensures before { out.new.before ≡ out.old.before }
-    ensures tokens { OnOk result (out.new.tokens ≡ out.old.tokens ++ members_tokens (why_members why found.now rows.now)) }
+    ensures tokens { OnOk result (out.new.tokens
+        ≡ out.old.tokens ++ members_tokens (why_members why rows.now.lines.now rows.now.records.now closing.now)) }
 {
     if why {
         out.key("why")?;
         out.begin_array()?;
-        write_reason_list(alloc, out, found, rows)?;
+        write_reason_list(alloc, out, rows, closing)?;
     }
     out.end_object()
 }
@@ -203,33 +208,33 @@ fn write_why(
 fn write_object(
     alloc: Global,
     out: &mut Writer,
-    found: &[Record],
+    rows: &FileRows<'_>,
     entry: &Entry<'_>,
     why: bool,
 ) -> Result<(), AllocError>
     ensures before { out.new.before ≡ out.old.before }
-    ensures tokens { OnOk result (out.new.tokens ≡ out.old.tokens ++ json_tokens (state_value why found.now
-        entry.now.at.element entry.now.at.direction entry.now.vehicle (state_of entry.now.state.now))) }
+    ensures tokens { OnOk result (out.new.tokens ≡ out.old.tokens ++ json_tokens (state_value why rows.now.lines.now
+        rows.now.records.now entry.now.at.element entry.now.at.direction entry.now.vehicle (state_of entry.now.state.now))) }
 {
     out.begin_object()?;
     write_subject(out, entry)?;
     write_state(out, entry.state)?;
-    write_why(alloc, out, found, entry.state.rows.as_slice(), why)
+    write_why(alloc, out, rows, entry.state.rows.as_slice(), why)
 }
 
 /// Appends the line of an entry. After a failure, the buffer may be empty.
 pub(crate) fn push_object(
     alloc: Global,
     line: &mut Vec<u8>,
-    found: &[Record],
+    rows: &FileRows<'_>,
     entry: &Entry<'_>,
     why: bool,
 ) -> Result<(), AllocError>
-    ensures object { OnOk result (line.new.items ≡ line.old.items ++ json_line (state_value why found.now
-        entry.now.at.element entry.now.at.direction entry.now.vehicle (state_of entry.now.state.now))) }
+    ensures object { OnOk result (line.new.items ≡ line.old.items ++ json_line (state_value why rows.now.lines.now
+        rows.now.records.now entry.now.at.element entry.now.at.direction entry.now.vehicle (state_of entry.now.state.now))) }
 {
     let mut out = Writer::new(mem::replace(line, Vec::new(alloc)));
-    write_object(alloc, &mut out, found, entry, why)?;
+    write_object(alloc, &mut out, rows, entry, why)?;
     *line = out.into_inner();
     line.extend_from_slice(b"\n")
 }

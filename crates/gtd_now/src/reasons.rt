@@ -2,24 +2,14 @@
 
 ghost use Rattle.std.specs.Prelude.{◌≡◌, ◌++◌, IfOk, OnOk, option_map, string_bytes};
 ghost use Rattle.gtd_core.specs.Parts.{domain_tree};
-ghost use Rattle.gtd_now.specs.Reasons.{below, domain_text, domain_words, reason, reason_start, reasons, row_domain};
+ghost use Rattle.gtd_now.specs.Reasons.{below, domain_text, domain_words, reason, place_start, reason_start, reasons};
 
+use crate::rows::FileRows;
 use gtd_core::Domain;
-use gtd_records::Record;
 use gtd_text::print_domain;
 use gtd_words::write_words;
 use itoa::Buffer;
 use std::alloc::{AllocError, Global};
-
-/// The domain of the row with this number, counted from 1, if it has one.
-pub(crate) fn domain_of(rows: &[Record], row: usize) -> Option<&Domain>
-    ensures { option_map (λ domain. domain_tree domain.now) result ≡ row_domain rows.now row }
-{
-    match rows.get(row.saturating_sub(1)) {
-        Some(record) => record.domain.as_ref(),
-        None => None,
-    }
-}
 
 /// The canonical text of a domain: nothing, if there is none.
 pub(crate) fn text_of(alloc: Global, domain: Option<&Domain>) -> Result<String, AllocError>
@@ -58,19 +48,29 @@ fn push_below(line: &mut Vec<u8>, lines: &[u8]) -> Result<(), AllocError>
     Ok(())
 }
 
-// Appends the number of a row, and the text of its domain if it has one.
+// Appends the line of the file on which a row begins, and its number.
+fn push_place(line: &mut Vec<u8>, begins: u64, row: usize) -> Result<(), AllocError>
+    ensures { OnOk result (line.new.items ≡ line.old.items ++ place_start begins row) }
+{
+    line.extend_from_slice(b"    line ")?;
+    line.extend_from_slice(Buffer::new().format(begins).as_bytes())?;
+    line.extend_from_slice(b", row ")?;
+    line.extend_from_slice(Buffer::new().format(row).as_bytes())?;
+    line.extend_from_slice(b": ")
+}
+
+// Appends the line and the number of a row, and the text of its domain if it has one.
 fn push_start(
     alloc: Global,
     line: &mut Vec<u8>,
+    begins: u64,
     row: usize,
     domain: Option<&Domain>,
 ) -> Result<(), AllocError>
     ensures { OnOk result (line.new.items
-        ≡ line.old.items ++ reason_start row (option_map (λ domain. domain_tree domain.now) domain.entry)) }
+        ≡ line.old.items ++ reason_start begins row (option_map (λ domain. domain_tree domain.now) domain.entry)) }
 {
-    line.extend_from_slice(b"    row ")?;
-    line.extend_from_slice(Buffer::new().format(row).as_bytes())?;
-    line.extend_from_slice(b": ")?;
+    push_place(line, begins, row)?;
     let Some(domain) = domain else {
         return Ok(());
     };
@@ -82,28 +82,30 @@ fn push_start(
 fn push_reason(
     alloc: Global,
     line: &mut Vec<u8>,
+    begins: u64,
     row: usize,
     domain: Option<&Domain>,
 ) -> Result<(), AllocError>
     ensures { OnOk result (line.new.items
-        ≡ line.old.items ++ reason row (option_map (λ domain. domain_tree domain.now) domain.entry)) }
+        ≡ line.old.items ++ reason begins row (option_map (λ domain. domain_tree domain.now) domain.entry)) }
 {
-    push_start(alloc, line, row, domain)?;
+    push_start(alloc, line, begins, row, domain)?;
     let words = words_of(alloc, domain)?;
     push_below(line, words.as_bytes())
 }
 
-/// Appends what is told of the rows with these numbers, in their order. `found` holds all rows of the file.
+/// Appends what is told of the rows of a file with these numbers, in their order.
 pub(crate) fn push_reasons(
     alloc: Global,
     line: &mut Vec<u8>,
-    found: &[Record],
-    rows: &[usize],
+    rows: &FileRows<'_>,
+    closing: &[usize],
 ) -> Result<(), AllocError>
-    ensures reasons { OnOk result (line.new.items ≡ line.old.items ++ reasons found.now rows.now) }
+    ensures reasons { OnOk result (line.new.items
+        ≡ line.old.items ++ reasons rows.now.lines.now rows.now.records.now closing.now) }
 {
-    for row in rows {
-        push_reason(alloc, line, *row, domain_of(found, *row))?;
+    for row in closing {
+        push_reason(alloc, line, rows.line(*row), *row, rows.domain(*row))?;
     }
     Ok(())
 }

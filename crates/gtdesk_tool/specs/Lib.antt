@@ -5,6 +5,7 @@ pub mod Hours
 pub mod Lines
 pub mod LooseHours
 pub mod Mended
+pub mod Noted
 pub mod Refusals
 pub mod Running
 pub mod Shown
@@ -33,6 +34,7 @@ pub use Rattle.gtd_report.specs.Putting
 pub use Rattle.gtd_report.specs.Run
 pub use Rattle.gtd_now.specs.Now
 pub use Rattle.gtd_now.specs.Query
+pub use Rattle.gtd_now.specs.Run as NowRun
 pub use Rattle.gtd_picture.specs.Domain
 pub use Rattle.gtd_picture.specs.Open
 pub use Rattle.gtd_faults.specs.Run as FaultRun

@@ -14,6 +14,7 @@ use Rattle.gtd_picture.specs.Open.{IsOpenSeen}
 use Rattle.gtdesk_tool.specs.Hours.{IsDomainLine, IsHoursLine}
 use Rattle.gtdesk_tool.specs.LooseHours.{IsMendedLine, IsUnread, PutsLoose}
 use Rattle.gtdesk_tool.specs.Mended.{RanMended}
+use Rattle.gtdesk_tool.specs.Noted.{IsNoted, vehicle_note}
 use Rattle.gtdesk_tool.specs.Telling.{IsUntold, Telling, Told}
 use Rattle.gtd_warnings.specs.declared.file.Asked.{Asked}
 use Rattle.gtdesk_tool.specs.Comparing.{HasCompared}
@@ -29,8 +30,10 @@ use Rattle.gtd_faults.specs.Run.{HasListed, TookSome}
 use Rattle.gtd_hours_file.specs.Run.{HasTranslated}
 use Rattle.gtd_hours_file.specs.declared.untranslated.Untranslated.{Untranslated}
 use Rattle.gtd_hours_file.specs.declared.untranslated.Untranslated.TheVariants as hours
-use Rattle.gtd_now.specs.Now.{IsNow}
+use Rattle.gtd_now.specs.Now.{IsNowOf}
 use Rattle.gtd_now.specs.Query.{Query}
+use Rattle.gtd_now.specs.Run.{TellsVehicle, entries_of}
+use Rattle.gtd_now.specs.declared.shown.Shown.{Shown}
 use Rattle.gtd_now.specs.declared.asked.Form.{Form}
 use Rattle.gtd_now.specs.declared.asked.Form.TheVariants as form
 use Rattle.gtd_repeats.specs.Run as repeats
@@ -66,14 +69,16 @@ abbrev pub form_of : NowView → Form
 form_of view = if view.json then form.Json else if view.table then form.Table else form.Lines
 
 -- The run of `now` had an answer, and all that the run promises for this answer holds.
-pub record RanNow (query : Query) (file old new : Option (List ℕ)) (silent ended : Bool) (result : Result Ending RunRefusal)
-    : Type 0 where
-  pub answer : Result ℕ RunFault
-  pub outcome : result ≡ outcome_of answer
+pub record RanNow (query : Query) (path : List ℕ) (file old new : Option (List ℕ)) (silent ended : Bool) (errors : Telling)
+    (result : Result Ending RunRefusal) : Type 0 where
+  pub answer : Result Shown RunFault
+  pub outcome : result ≡ outcome_of (entries_of answer)
   pub accepted : IsVehicleType query.vehicle
-      → AcceptedFilesArePut (λ found. ⊤) (λ found. IsNow found query) file old new answer
-  pub refused : IsVehicleType query.vehicle → RefusedFilesPutNothing file old new answer
-  pub stands : HasRun (λ found. ⊤) (λ found. IsNow found query) file old new answer
+      → AcceptedFilesArePut (λ found. ⊤) (λ found. IsNowOf file found query) file old new (entries_of answer)
+  pub refused : IsVehicleType query.vehicle → RefusedFilesPutNothing file old new (entries_of answer)
+  pub stands : HasRun (λ found. ⊤) (λ found. IsNowOf file found query) file old new (entries_of answer)
+  pub vehicle_known : TellsVehicle query.vehicle file answer
+  pub noted : IsNoted (vehicle_note path query.vehicle) errors answer
   pub whole : OnOk answer (IsTrue ended)
   pub vehicle_range : IsErrOf answer run.VehicleRange ↔ (IsVehicleType query.vehicle → ⊥)
   pub year : IsErrOf answer run.YearRange → ⊥
@@ -201,6 +206,7 @@ RanHours false text old new ended errors result = PutsLoose text old new ended e
 
 -- The plan puts nothing to the output for errors.
 abbrev pub IsQuiet : OnePlan → Type 0
+IsQuiet (plan.Now p) = ⊥
 IsQuiet (plan.Records files) = ⊥
 IsQuiet (plan.Mend file) = ⊥
 IsQuiet (plan.DomainOf p) = IsTrue p.strict
@@ -227,7 +233,7 @@ HasRunPlan (plan.Now p) path file old new silent ended errors result =
       wanted = p.view.elements.items;
       form = form_of p.view;
       why = p.view.why;
-    }) file old new silent ended result
+    }) path file old new silent ended errors result
 HasRunPlan (plan.Faults p) path file old new silent ended errors result =
     RanFaults path p.asked file old new silent ended result
 HasRunPlan (plan.Picture p) path file old new silent ended errors result =

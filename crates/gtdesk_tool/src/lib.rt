@@ -14,6 +14,7 @@ mod hours_records;
 mod line;
 mod loose_hours;
 mod mended;
+mod now;
 mod performer;
 mod picture;
 mod refusal;

@@ -3,10 +3,9 @@
 ghost use Rattle.std.specs.Prelude.{◌≡◌, ◌<◌};
 ghost use Rattle.gtd_core.specs.Parts.{domain_tree};
 ghost use Rattle.gtd_core.specs.Seconds.{IsHorizonSecond};
-ghost use Rattle.gtd_now.specs.Query.{query_of};
 ghost use Rattle.gtd_words.specs.Words.{words_in};
-ghost use Rattle.gtdesk_tool.specs.Running.{HasRunPlan, IsQuiet, PutText, ReadsNone, RanFaults, RanNow, failures_after_read};
-ghost use Rattle.gtdesk_tool.specs.Running.{failures_after_write, form_of, listing_outcome, outcome_of, refusal_for};
+ghost use Rattle.gtdesk_tool.specs.Running.{HasRunPlan, IsQuiet, PutText, ReadsNone, RanFaults, failures_after_read};
+ghost use Rattle.gtdesk_tool.specs.Running.{failures_after_write, listing_outcome, outcome_of, refusal_for};
 ghost use Rattle.gtdesk_tool.specs.Telling.{telling};
 
 use crate::domain_hours::print_hours_of;
@@ -14,18 +13,19 @@ use crate::ending::Ending;
 use crate::hours_records::print_records;
 use crate::loose_hours::{print_hours_domain, print_mended_hours};
 use crate::mended::print_mended;
+use crate::now::{NowTurn, form_of, print_now};
 use crate::picture::{print_domain, print_picture};
 use crate::refusal::RunRefusal;
 use crate::repeats::print_repeats;
 use crate::same::print_comparison;
 use gtd_devices::{Input, Output};
 use gtd_faults::{ListFault, run_faults};
-use gtd_now::{Asked, Form, run_now};
+use gtd_now::Asked;
 use gtd_records::RecordFault;
 use gtd_report::{Progress, RunFault, finish, put_line};
 use gtd_warnings::Asked as Warned;
 use gtd_words::write_words_in;
-use gtdesk_plans::{NowView, OnePlan, WordsPlan};
+use gtdesk_plans::{OnePlan, WordsPlan};
 use gtdesk_words::{Reason, WordFault, WordName};
 use std::alloc::Global;
 
@@ -60,39 +60,6 @@ pub(crate) fn outcome(answer: Result<u64, RunFault>) -> Result<Ending, RunRefusa
         Ok(_) => Ok(Ending::Done),
         Err(fault) => Err(run_refusal(fault)),
     }
-}
-
-// The form in which the state is printed.
-fn form_of(view: &NowView) -> Form
-    ensures value { result ≡ form_of view.now }
-{
-    if view.json {
-        Form::Json
-    } else if view.table {
-        Form::Table
-    } else {
-        Form::Lines
-    }
-}
-
-// Prints the state of the record file that the input brings.
-fn print_now<I: Input, O: Output>(
-    alloc: Global,
-    input: &mut I,
-    output: &mut O,
-    asked: &Asked<'_>,
-) -> Result<Ending, RunRefusal>
-    requires in_range { IsHorizonSecond asked.now.second.0 }
-    requires readable { I.failure_count input.old < u64.MAX }
-    requires writable { O.failure_count output.old < u64.MAX }
-    ensures ran { RanNow (query_of asked.now) (I.to_come input.old) (O.taken output.old) (O.taken output.new) (I.may_fall_silent input.old)
-        (O.is_ended output.new) result }
-    ensures read_faults { I.failure_count input.new
-        ≡ failures_after_read result (I.failure_count input.old) }
-    ensures write_faults { O.failure_count output.new
-        ≡ failures_after_write result (O.failure_count output.old) }
-{
-    outcome(run_now(alloc, input, output, asked))
 }
 
 // The answer of `faults`, from that of its list.
@@ -186,8 +153,9 @@ pub struct Turn<'a> {
 }
 
 /// Carries a plan out for one of its files, whose bytes the input brings: puts what it asks for, and ends the output. If the plan
-/// reads none, nothing is pulled. Three plans put something to the output for errors: `records` all faults of a file of hours, if
-/// it has any; `mend` what it changed; and `hours` where a text is written loosely. If that output fails, a first part of this
+/// reads none, nothing is pulled. Four plans put something to the output for errors: `now` a note, if no row of the file is for the
+/// vehicle type; `records` all faults of a file of hours, if it has any; `mend` what it changed; and `hours` where a text is written
+/// loosely. If that output fails, a first part of this
 /// stands, and the answer is the same.
 ///
 /// `Records` is the file's first fault, or why the input failed; `NoHours` is answered if no opening hours are found for a
@@ -228,7 +196,7 @@ pub fn perform<I: Input, O: Output, E: Output>(
                 form: form_of(&plan.view),
                 why: plan.view.why,
             };
-            print_now(alloc, input, output, &asked)
+            print_now(alloc, input, output, errors, NowTurn { path, asked })
         }
         OnePlan::Faults(plan) => list_faults(alloc, input, output, path, &plan.asked),
         OnePlan::Picture(plan) => print_picture(
