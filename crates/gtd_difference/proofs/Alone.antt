@@ -1,15 +1,16 @@
 -- What one set has alone, by the spans that it has without those of the other.
-use Rattle.std.proofs.Common.{◌≡◌, ◌↔◌, ◌⊎◌, List, ◌∷◌, Option, Some, None, MatchOption, inl, inr, arith, subst, true, false}
+use Rattle.std.proofs.Common.{◌≡◌, ◌↔◌, ◌⊎◌, List, ◌∷◌, Option, Some, None, IfSome, MatchOption, inl, inr, arith, subst, true, false}
 use Rattle.std.specs.Prelude.{ℤ, pos, ◌-ℤ◌, ◌≤ℤ◌, ◌<ℤ◌, int_lt}
 use Rattle.std.proofs.lemmas.Int.{ints, by_lt_z}
 use Rattle.gtd_core.specs.Seconds.{Interval}
 use Rattle.gtd_core.specs.declared.second.Sec.{Sec}
 use Rattle.gtd_core.specs.facts.Deciding.{Decided}
+use Rattle.gtd_spans.specs.Merging.{Takes}
 use Rattle.gtd_spans.specs.Normal.{Holds, IsNormal, IsNormalFor}
 use Rattle.gtd_spans.specs.facts.NormalFor.{normal-of}
 use Rattle.gtd_spans.specs.facts.OneList.{first-holds}
 use Rattle.gtd_difference.specs.Difference.{AgreeFrom, IsApart, HoldsNone, IsFirstHeld, HasNoneAlone, IsFirstAlone}
-use Rattle.gtd_difference.specs.Difference.{earlier, earlier_of}
+use Rattle.gtd_difference.specs.Difference.{IsHeldSpan, earlier, earlier_of, seen_begin, seen_end}
 use Rattle.gtd_difference.specs.declared.comparison.Side.TheVariants.{First, Second}
 
 -- the first second of a normal list from one on at which its first interval has not ended
@@ -32,6 +33,22 @@ first-in P begin until xs rest x n e =
     let i = n.inside x.from (rw e (inl (omega (arith, ints), omega (arith, ints, normal.0)))) in
     let j = n.inside (x.until -ℤ pos 1) (rw e (inl (omega (arith, ints, normal.0), omega (arith, ints)))) in
     (i.0, omega (arith, ints, normal.0), omega (arith, ints, j.1))
+
+-- the first interval of a list, as the code knows it
+held-span : (P : ℤ → Type 0) (begin until : ℤ) (xs rest : List Interval) (x : Interval) → begin ≡ seen_begin
+    → until ≡ seen_end → IsNormalFor P begin until xs → xs ≡ x ∷ rest → IsHeldSpan P x
+held-span P begin until xs rest x b u n e =
+    let i = first-in P begin until xs rest x n e in
+    record {
+      moment = (omega (arith, ints, i.0, b), omega (arith, ints, i.1, i.2, u));
+      ended = omega (arith, ints, i.2, u);
+      held = λ t w. (n.inside t (rw e (inl w))).2;
+    }
+
+pub held-first : (P : ℤ → Type 0) (begin until : ℤ) (xs rest : List Interval) (o : Option Interval) → begin ≡ seen_begin
+    → until ≡ seen_end → IsNormalFor P begin until xs → Takes xs o rest → IfSome o (IsHeldSpan P)
+held-first P begin until xs rest None b u n t = tt
+held-first P begin until xs rest (Some x) b u n t = held-span P begin until xs rest x b u n t
 
 -- ---- two lists that are normal for two sets, and a third that holds what the first holds alone
 

@@ -1,11 +1,14 @@
 -- Where one set has no second alone, in parts of time.
-use Rattle.std.proofs.Common.{◌≡◌, ◌↔◌, arith, Bool, true, false, not, IsTrue}
+use Rattle.std.proofs.Common.{◌≡◌, ◌↔◌, ◌∙◌, sym, arith, Bool, true, false, not, IsTrue}
 use Rattle.std.specs.Prelude.{ℤ, ◌≤ℤ◌, ◌<ℤ◌, ◌+ℤ◌, ◌-ℤ◌, ◌*ℤ◌, pos}
 use Rattle.std.proofs.lemmas.Int.{ints}
 use Rattle.gtd_core.specs.Limits.{day_seconds}
+use Rattle.gtd_core.specs.Equality.{same_tree}
+use Rattle.gtd_core.specs.Trees.{Tree}
 use Rattle.gtd_core.specs.declared.domain.Domain.{Domain}
+use Rattle.gtd_core.specs.facts.EqualTrees.{tree_equal}
 use Rattle.gtd_eval.specs.Membership.{InDomain}
-use Rattle.gtd_difference.specs.Difference.{EitherGivesYear, HasNoneAlone, first_begin, last_end}
+use Rattle.gtd_difference.specs.Difference.{EitherGivesYear, HasNoneAlone, IsPart, first_begin, last_end}
 use Rattle.gtd_difference.proofs.Ever.{IsRepeating, within-ever}
 
 pub not-both : (b : Bool) → IsTrue (not b) → IsTrue b → ⊥
@@ -28,3 +31,9 @@ module _ (a b : Domain) where
     (λ x t later before. within-ever a b from until days none far repeating (h.0 x) t),
     (λ k. h.1 (narrowed (InDomain a) (InDomain b) first_begin from until last_end (omega (arith, ints, begins)) ends k)),
   )
+
+-- expressions that `==` finds to be the same
+pub equal-part : (a b x y : Tree) (r : Bool) → x ≡ a → y ≡ b → r ≡ same_tree x y → r ≡ true → IsPart a b
+equal-part a b x y r e f is told =
+    let same : a ≡ b = sym e ∙ tree_equal x y (sym is ∙ told) ∙ f in
+    rw same (λ t later before h. h)

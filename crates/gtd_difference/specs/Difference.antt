@@ -1,12 +1,15 @@
 -- Seconds that are in one of two sets alone, and how the seconds of two domains compare.
-use Rattle.std.specs.Prelude.{ℤ, pos, ◌*ℤ◌, ◌<ℤ◌, ◌≤ℤ◌, ◌↔◌, ◌⊎◌, int_lt, if◌then◌else◌, Option, Some, None}
+use Rattle.std.specs.Prelude.{ℤ, pos, ◌*ℤ◌, ◌<ℤ◌, ◌≤ℤ◌, ◌↔◌, ◌⊎◌, ◌≡◌, int_lt, if◌then◌else◌, Option, Some, None}
+use Rattle.std.specs.Prelude.{List, [], ◌∷◌}
 use Rattle.gtd_core.specs.Limits.{day_seconds, first_horizon_day, horizons_end}
 use Rattle.gtd_core.specs.Parts.{domain_tree}
+use Rattle.gtd_core.specs.Seconds.{Interval, IsMomentSecond, Within}
 use Rattle.gtd_core.specs.Trees.{Tree, Single}
 use Rattle.gtd_core.specs.declared.domain.Basic.{Basic}
 use Rattle.gtd_core.specs.declared.domain.Domain.{Domain}
 use Rattle.gtd_core.specs.declared.second.Sec.{Sec}
 use Rattle.gtd_eval.specs.Membership.{InDomain, InTree, SomeGivesYear}
+use Rattle.gtd_spans.specs.Normal.{IsNormalFor}
 use Rattle.gtd_difference.specs.declared.comparison.Apart.{Apart}
 use Rattle.gtd_difference.specs.declared.comparison.Comparison.{Comparison}
 use Rattle.gtd_difference.specs.declared.comparison.Comparison.TheVariants.{Same, SameUntil2700, Apart as Differ}
@@ -72,6 +75,28 @@ pub record IsFirstHeld (set : ℤ → Type 0) (from s : ℤ) : Type 0 where
 -- each second of P from `from` on and before `until` is in Q, too
 abbrev pub HasNoneAlone : (ℤ → Type 0) → (ℤ → Type 0) → ℤ → ℤ → Type 0
 HasNoneAlone P Q from until = (t : ℤ) → from ≤ℤ t → t <ℤ until → P t → Q t
+
+-- 2016-01-01T00:00:00 and 2044-01-01T00:00:00
+abbrev pub seen_begin : ℤ
+seen_begin = pos 1_451_606_400
+
+abbrev pub seen_end : ℤ
+seen_end = pos 2_335_219_200
+
+-- the first interval of a list, if there is one
+abbrev pub first_of : List Interval → Option Interval
+first_of [] = None
+first_of (x ∷ xs) = Some x
+
+-- the first of the intervals between the two that make up a set there, each as long as it can be
+abbrev pub IsFirstSpan : (ℤ → Type 0) → Option Interval → Type 0
+IsFirstSpan set found = (xs : List Interval) × IsNormalFor set seen_begin seen_end xs × (found ≡ first_of xs)
+
+-- The interval begins at a moment, ends before 2700-01-01 or there, and each of its seconds is in the set.
+pub record IsHeldSpan (set : ℤ → Type 0) (span : Interval) : Type 0 where
+  pub moment : IsMomentSecond span.from
+  pub ended : span.until ≤ℤ last_end
+  pub held : (t : ℤ) → Within span t → set t
 
 -- the expression of a basic domain alone
 abbrev pub single_of : Basic → Tree

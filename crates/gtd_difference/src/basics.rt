@@ -53,11 +53,15 @@ pub(crate) fn single(basic: &Basic) -> Domain
 fn is_basic_within(alloc: Global, basic: &Basic, other: &Basic) -> Result<bool, AllocError>
     ensures shown { IfOk result (λ shown. IsTrue shown → IsPart (single_of basic.now) (single_of other.now)) }
 {
+    let alone = single(basic);
     let whole = single(other);
+    if alone == whole {
+        return Ok(true);
+    }
     if is_shown_by_week(alloc, basic, &whole)? {
         return Ok(true);
     }
-    is_within_whole(alloc, &single(basic), &whole)
+    is_within_whole(alloc, &alone, &whole)
 }
 
 // Whether the basic domains of an expression show that each of its seconds is in a basic domain.

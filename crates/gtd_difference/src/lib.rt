@@ -3,7 +3,7 @@
 #![tactic(auto)]
 
 pub use comparison::{Apart, Comparison, Side, compare};
-pub use within::is_within;
+pub use within::{first_span, is_within};
 
 mod basics;
 mod comparison;

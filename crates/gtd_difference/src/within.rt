@@ -1,10 +1,9 @@
 //! Whether each second of one domain is in another.
 
-ghost use Rattle.std.specs.Prelude.{◌↔◌, ◌≤ℤ◌, IfOk, IsTrue};
-ghost use Rattle.gtd_core.specs.Seconds.{IsHorizonSecond, IsMomentSecond, Within};
+ghost use Rattle.std.specs.Prelude.{◌↔◌, IfOk, IfSome, IsTrue};
 ghost use Rattle.gtd_core.specs.Whole.{whole};
 ghost use Rattle.gtd_eval.specs.Membership.{InDomain};
-ghost use Rattle.gtd_difference.specs.Difference.{EitherGivesYear, HasNoneAlone, first_begin, last_end};
+ghost use Rattle.gtd_difference.specs.Difference.{EitherGivesYear, HasNoneAlone, IsFirstSpan, IsHeldSpan, first_begin, last_end};
 
 use crate::basics::{have_few_parts, is_shown_within};
 use crate::comparison::{NEAR_DAYS, days_between, days_to_repeat, gives_year};
@@ -67,54 +66,57 @@ fn is_within_years(alloc: Global, domain: &Domain, other: &Domain) -> Result<boo
     is_within_days(alloc, domain, other, days_between(middle, HORIZONS_END))
 }
 
-// Whether the other domain has not the first or not the last second of a span of horizon days.
-fn has_end_alone(other: &Domain, span: Span) -> bool
-    requires begins { IsHorizonSecond span.from }
-    requires ends { span.until ≤ℤ last_end }
-    ensures alone { IsTrue result → HasNoneAlone (Within span) (InDomain other.now) first_begin last_end → ⊥ }
+/// The first span that a domain has from 2016-01-01 up to 2044-01-01, or `None` if it has none. Of a span that goes on after these
+/// years, only the part in them is told. `AllocError` is answered only if memory was refused.
+///
+/// ```
+/// let domain = read_domain(alloc, b"[(h10){h4}]")?;
+/// // 2016-01-01, from 10:00 to 14:00.
+/// assert_eq!(rt; first_span(alloc, &domain)?, Span::new(Sec(1_451_642_400), Sec(1_451_656_800)));
+/// ```
+pub fn first_span(alloc: Global, domain: &Domain) -> Result<Option<Span>, AllocError>
+    ensures first { IfOk result (IsFirstSpan (InDomain domain.now)) }
+    ensures held { IfOk result (λ found. IfSome found (IsHeldSpan (InDomain domain.now))) }
 {
+    let mut cursor = Cursor::open(alloc, domain, days_between(SEEN_FROM, SEEN_UNTIL))?;
+    Ok(cursor.next())
+}
+
+// Whether the other domain has not the first or not the last second of a span of the domain, if one is given.
+fn is_end_alone(domain: &Domain, other: &Domain, span: &Option<Span>) -> bool
+    requires held { IfSome span.now (IsHeldSpan (InDomain domain.now)) }
+    ensures alone { IsTrue result → HasNoneAlone (InDomain domain.now) (InDomain other.now) first_begin last_end → ⊥ }
+{
+    let Some(span) = span else {
+        return false;
+    };
     let first = span.from();
     let last = Sec(span.until().0 - 1);
     !holds(other, first) || !holds(other, last)
 }
 
-// Whether the domain has a second in the four years from a second's day on that the other has not. Of domains that both repeat after 7 days
-// a week decides anyway, so that none is looked for.
+// Whether the domain has a second that the other has not in the four years from its first span on, if that is given. Of domains
+// that both repeat after 7 days a week decides anyway, so that none is looked for.
 fn is_alone_near(
     alloc: Global,
     domain: &Domain,
     other: &Domain,
-    from: Sec,
+    span: &Option<Span>,
 ) -> Result<bool, AllocError>
-    requires moment { IsMomentSecond from.0 }
+    requires held { IfSome span.now (IsHeldSpan (InDomain domain.now)) }
     ensures alone { IfOk result (λ alone. IsTrue alone
         → HasNoneAlone (InDomain domain.now) (InDomain other.now) first_begin last_end → ⊥) }
 {
+    let Some(span) = span else {
+        return Ok(false);
+    };
     if is_weekly(domain) && is_weekly(other) {
         return Ok(false);
     }
-    let day = from.day();
+    let day = span.from().day();
     let near = days_between(day, day + NEAR_DAYS);
     let within = is_within_days(alloc, domain, other, near)?;
     Ok(!within)
-}
-
-// Whether it is seen soon that the domain has a second that the other has not: by the first span that it has from 2016 to 2043,
-// and the four years from there on.
-fn is_soon_apart(alloc: Global, domain: &Domain, other: &Domain) -> Result<bool, AllocError>
-    ensures alone { IfOk result (λ alone. IsTrue alone
-        → HasNoneAlone (InDomain domain.now) (InDomain other.now) first_begin last_end → ⊥) }
-{
-    let mut cursor = Cursor::open(alloc, domain, days_between(SEEN_FROM, SEEN_UNTIL))?;
-    match cursor.next() {
-        Some(span) => {
-            if has_end_alone(other, span) {
-                return Ok(true);
-            }
-            is_alone_near(alloc, domain, other, span.from())
-        }
-        None => Ok(false),
-    }
 }
 
 // Whether each second from 1901-01-01 up to 2700-01-01 of a domain is in another: by going through all of them that are needed.
@@ -138,7 +140,11 @@ pub(crate) fn is_within_whole(
     ensures within { IfOk result (λ within. IsTrue within
         ↔ HasNoneAlone (InDomain domain.now) (InDomain other.now) first_begin last_end) }
 {
-    if is_soon_apart(alloc, domain, other)? {
+    let span = first_span(alloc, domain)?;
+    if is_end_alone(domain, other, &span) {
+        return Ok(false);
+    }
+    if is_alone_near(alloc, domain, other, &span)? {
         return Ok(false);
     }
     is_within_all(alloc, domain, other)
@@ -178,11 +184,15 @@ pub fn is_within(alloc: Global, domain: &Domain, other: &Domain) -> Result<bool,
     ensures within { IfOk result (λ within. IsTrue within
         ↔ HasNoneAlone (InDomain domain.now) (InDomain other.now) first_begin last_end) }
 {
-    if is_soon_apart(alloc, domain, other)? {
+    let span = first_span(alloc, domain)?;
+    if is_end_alone(domain, other, &span) {
         return Ok(false);
     }
     if is_part_shown(alloc, domain, other)? {
         return Ok(true);
+    }
+    if is_alone_near(alloc, domain, other, &span)? {
+        return Ok(false);
     }
     is_within_all(alloc, domain, other)
 }
