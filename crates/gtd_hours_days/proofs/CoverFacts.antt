@@ -105,7 +105,7 @@ each_found days years (run ∷ runs) found others group (inr x) h = each_found d
 abbrev pub AreSame : Group → Group → Type 0
 AreSame a b = (a.month ≡ b.month) × (a.day ≡ b.day) × (a.days ≡ b.days)
 
-order_of : (a b : Group) → IsBefore a b ⊎ AreSame a b ⊎ IsBefore b a
+pub order_of : (a b : Group) → IsBefore a b ⊎ AreSame a b ⊎ IsBefore b a
 order_of a b = elim (cases_order a.month b.month) [
   | inr (inl lt) ↦ inl (inl lt)
   | inr (inr gt) ↦ inr (inr (inl gt))

@@ -2,6 +2,7 @@ pub mod AdditionFacts
 pub mod CoverFacts
 pub mod CoverageFacts
 pub mod DateFacts
+pub mod OneGrouping
 pub mod OrderFacts
 pub mod PartFacts
 pub mod SplitFacts

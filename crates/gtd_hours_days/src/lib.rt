@@ -16,6 +16,7 @@ mod additions;
 mod coverage;
 mod group;
 mod grouping;
+pub mod laws;
 mod listed;
 mod offset;
 mod order;
