@@ -7,4 +7,5 @@ mod KinFacts
 mod LineFacts
 mod ListFacts
 mod NumberFacts
+mod SpanFacts
 mod TextFacts

@@ -1,6 +1,6 @@
 -- Lists that grow at their end.
 use Rattle.std.proofs.Common.{◌≡◌, ap, refl, subst, arith, ◌<◌, ◌≤◌, ℕ, zero, suc, List, [], ◌∷◌, ◌++◌, length, get_or}
-use Rattle.std.proofs.Common.{length-append}
+use Rattle.std.proofs.Common.{length-append, Option, None}
 use Rattle.std.specs.Prelude.{slice_index_or, slice_set}
 
 pub by_lt : {P : Type 0} (a b : ℕ) → (a < b → P) → (b ≤ a → P) → P
@@ -69,3 +69,27 @@ pub push_other : {X : Type 0} (xs : List X) (x d : X) (k : ℕ) → k < length x
 push_other [] x d k h = absurd (omega (arith, h))
 push_other (y ∷ xs) x d zero h = refl
 push_other (y ∷ xs) x d (suc k) h = push_other xs x d k (omega (arith, h))
+
+-- what holds of each place of a list and its value, with one value more
+pub each_more : {X : Type 0} (P : ℕ → Option X → Type 0) (xs : List (Option X)) (y : Option X) (n : ℕ) → length xs ≡ n → P n y
+    → ((k : ℕ) → k < length xs → P k (get_or xs k None))
+    → (k : ℕ) → k < length (xs ++ y ∷ []) → P k (get_or (xs ++ y ∷ []) k None)
+each_more P xs y n e last all k h =
+    let l = length-append xs (y ∷ []) in
+    by_lt {P = P k (get_or (xs ++ y ∷ []) k None)} k (length xs)
+    (λ lt. rw (option_before xs y k lt) (all k lt))
+    (λ ge.
+    let at : k ≡ length xs = omega (arith, l, h, ge) in
+    let same : n ≡ k = omega (arith, e, at) in
+    rw (option_last xs y k at) (subst (λ (i : ℕ). P i y) same last)) where
+      option_before : {X : Type 0} (xs : List (Option X)) (y : Option X) (k : ℕ) → k < length xs
+          → get_or (xs ++ y ∷ []) k None ≡ get_or xs k None
+      option_before [] y k h = absurd (omega (arith, h))
+      option_before (x ∷ xs) y zero h = refl
+      option_before (x ∷ xs) y (suc k) h = option_before xs y k (omega (arith, h))
+
+      option_last : {X : Type 0} (xs : List (Option X)) (y : Option X) (k : ℕ) → k ≡ length xs → get_or (xs ++ y ∷ []) k None ≡ y
+      option_last [] y zero e = refl
+      option_last [] y (suc k) e = absurd (omega (arith, e))
+      option_last (x ∷ xs) y zero e = absurd (omega (arith, e))
+      option_last (x ∷ xs) y (suc k) e = option_last xs y k (omega (arith, e))

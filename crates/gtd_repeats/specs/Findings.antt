@@ -1,8 +1,10 @@
 -- What is said of the rows of a file that say nothing new.
 use Rattle.std.specs.Prelude.{◌≡◌, ◌<◌, ◌+◌, ℕ, zero, suc, List, [], ◌∷◌, ◌++◌, length, Option, Some, None}
+use Rattle.gtd_core.specs.Seconds.{Interval}
 use Rattle.gtd_records.specs.Closing.{Restriction}
 use Rattle.gtd_repeats.specs.Firsts.{AreFirsts, IsFirst}
 use Rattle.gtd_repeats.specs.Sameness.{AreAlikeIn, IsSameRow, IsWithinRow, row_at}
+use Rattle.gtd_repeats.specs.Spans.{AreSpans}
 use Rattle.gtd_repeats.specs.declared.alike.Kind.TheVariants as kind
 use Rattle.gtd_repeats.specs.declared.findings.Finding.{Finding}
 use Rattle.gtd_repeats.specs.declared.findings.Finding.TheVariants.{SameRow, WithinRow, SameMeaning}
@@ -30,10 +32,11 @@ module _ (rows : List Restriction) where
   abbrev pub IsFirstMeaning : ℕ → ℕ → Type 0
   IsFirstMeaning = IsFirst (AreAlikeIn rows kind.Seconds)
 
-  -- for each row the first that closes at the same seconds, and the first that says the same
-  pub record AreGrouped (meanings sames : List ℕ) : Type 0 where
+  -- for each row the first that closes at the same seconds, the first that says the same, and maybe a span of its seconds
+  pub record AreGrouped (meanings sames : List ℕ) (spans : List (Option Interval)) : Type 0 where
     pub of_seconds : AreFirsts (AreAlikeIn rows kind.Seconds) (length rows) meanings
     pub of_rows : AreFirsts (AreAlikeIn rows kind.Row) (length rows) sames
+    pub of_spans : AreSpans rows spans
 
   -- What is said of a row: that an earlier one says the same, the first that does; otherwise maybe that it is within another.
   abbrev pub IsSaidOfRow : ℕ → Option Finding → Type 0

@@ -7,12 +7,13 @@ pub mod Listing
 pub mod Numbers
 pub mod Run
 pub mod Sameness
+pub mod Spans
 pub use Rattle.gtd_core.specs.Seconds
 pub use Rattle.gtd_core.specs.Parts
 pub use Rattle.gtd_difference.specs.Difference
 pub use Rattle.gtd_eval.specs.Membership
 pub use Rattle.gtd_faults.specs.Listing as FaultListing
-pub use Rattle.gtd_faults.specs.Places
+pub use Rattle.gtd_lines.specs.Lines
 pub use Rattle.gtd_records.specs.Closing
 pub use Rattle.gtd_records.specs.File
 pub use Rattle.gtd_report.specs.Run as ReportRun

@@ -1,7 +1,8 @@
 -- The list of what the rows of a file say more than once, in words.
-use Rattle.std.specs.Prelude.{◌≡◌, ◌++◌, ℕ, List, [], ◌∷◌, codes, decimal, length}
+use Rattle.std.specs.Prelude.{◌≡◌, ◌<◌, ◌≤◌, ◌++◌, ℕ, List, [], ◌∷◌, ⊤, codes, decimal, drop, length}
+use Rattle.csv.specs.Reading.{default_config, records, strip_bom}
 use Rattle.gtd_faults.specs.Listing.{line_text}
-use Rattle.gtd_faults.specs.Places.{IsLine}
+use Rattle.gtd_lines.specs.Lines.{IsLine}
 use Rattle.gtd_records.specs.Closing.{Restriction}
 use Rattle.gtd_repeats.specs.Findings.{AreFindings}
 use Rattle.gtd_repeats.specs.declared.findings.Finding.{Finding}
@@ -29,6 +30,15 @@ AreFindingLines path bytes [] text = text ≡ []
 AreFindingLines path bytes (finding ∷ rest) text =
     (line : ℕ) × IsLine bytes (row_of finding) line × (after : List ℕ)
     × AreFindingLines path bytes rest after × (text ≡ finding_line path line finding ++ after)
+
+-- the rows of a file with these bytes
+abbrev pub row_count : List ℕ → ℕ
+row_count bytes = length (drop 1 (records default_config (strip_bom bytes)))
+
+-- each is about one of so many rows
+abbrev pub AreOfRows : ℕ → List Finding → Type 0
+AreOfRows count [] = ⊤
+AreOfRows count (finding ∷ rest) = (0 < row_of finding) × (row_of finding ≤ count) × AreOfRows count rest
 
 -- The list of a file with these bytes and these restrictions, which has so many lines.
 pub record IsListing (path bytes : List ℕ) (found : List Restriction) (count : ℕ) (text : List ℕ) : Type 0 where

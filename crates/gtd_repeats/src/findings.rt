@@ -17,6 +17,7 @@ use crate::firsts::firsts_of;
 use crate::kin::{Grouped, kin_of, within_of};
 use crate::known::known_rows;
 use crate::numbers::{mixed_numbers, numbers_of};
+use crate::spans::spans_of;
 use gtd_records::Record;
 use std::alloc::{AllocError, Global};
 
@@ -94,7 +95,7 @@ fn said_of_row(
     row: usize,
 ) -> Result<Option<Finding>, AllocError>
     requires few { length all.now.rows.now ≤ most_rows }
-    requires grouped { AreGrouped all.now.rows.now all.now.meanings.now all.now.sames.now }
+    requires grouped { AreGrouped all.now.rows.now all.now.meanings.now all.now.sames.now all.now.spans.now }
     requires inside { row < length all.now.rows.now }
     requires right { AreRight all.now.rows.now answers.old.items }
     ensures right { AreRight all.now.rows.now answers.new.items }
@@ -148,7 +149,7 @@ fn findings_by(
     kin: &[Vec<Entry>],
 ) -> Result<Vec<Finding>, AllocError>
     requires few { length all.now.rows.now ≤ most_rows }
-    requires grouped { AreGrouped all.now.rows.now all.now.meanings.now all.now.sames.now }
+    requires grouped { AreGrouped all.now.rows.now all.now.meanings.now all.now.sames.now all.now.spans.now }
     requires texts { AreFirsts (AreAlikeIn all.now.rows.now declared.Text) (length all.now.rows.now) texts.now }
     requires many { length kin.now ≡ 4093 }
     ensures findings { IfOk result (λ findings. AreFindings all.now.rows.now findings.items) }
@@ -175,10 +176,12 @@ pub(crate) fn findings_of(alloc: Global, rows: &[Record]) -> Result<Vec<Finding>
     let (texts, meanings) = meanings_of(alloc, rows)?;
     let sames = sames_of(alloc, rows, meanings.as_slice())?;
     let kin = kin_of(alloc, rows)?;
+    let spans = spans_of(alloc, rows, meanings.as_slice())?;
     let all = Grouped {
         rows,
         meanings: meanings.as_slice(),
         sames: sames.as_slice(),
+        spans: spans.as_slice(),
     };
     findings_by(alloc, &all, texts.as_slice(), kin.as_slice())
 }

@@ -7,6 +7,8 @@ ghost use Rattle.gtd_repeats.specs.Findings.{AreGrouped, IsWithinOf};
 use crate::answers::{Answer, is_within_seconds};
 use crate::buckets::{Entry, add_entry, empty_buckets, entries_of};
 use crate::rows::may_be_within;
+use crate::seconds::is_end_alone;
+use gtd_core::Span;
 use gtd_records::Record;
 use std::alloc::{AllocError, Global};
 
@@ -50,6 +52,42 @@ pub(crate) struct Grouped<'a> {
     pub(crate) meanings: &'a [usize],
     /// For each row the first that says the same.
     pub(crate) sames: &'a [usize],
+    /// For each row that is the first with its seconds a span of them, if one was found.
+    pub(crate) spans: &'a [Option<Span>],
+}
+
+// Whether it is seen at the ends of a span of a row that it closes when another does not.
+fn is_seen_apart(all: &Grouped<'_>, row: usize, other: usize) -> bool
+    requires grouped { AreGrouped all.now.rows.now all.now.meanings.now all.now.sames.now all.now.spans.now }
+    requires inside { row < length all.now.rows.now }
+    requires other { other < length all.now.rows.now }
+    ensures apart { IsTrue result → IsWithinSeconds all.now.rows.now row other → ⊥ }
+{
+    let rows = all.rows;
+    let first = &rows[row];
+    let second = &rows[other];
+    is_end_alone(&first.domain, &second.domain, &all.spans[row])
+}
+
+// Whether a row closes at no second at which another does not.
+fn is_first_within(
+    alloc: Global,
+    all: &Grouped<'_>,
+    answers: &mut Vec<Answer>,
+    row: usize,
+    other: usize,
+) -> Result<bool, AllocError>
+    requires grouped { AreGrouped all.now.rows.now all.now.meanings.now all.now.sames.now all.now.spans.now }
+    requires inside { row < length all.now.rows.now }
+    requires other { other < length all.now.rows.now }
+    requires right { AreRight all.now.rows.now answers.old.items }
+    ensures right { AreRight all.now.rows.now answers.new.items }
+    ensures within { IfOk result (λ is_within. IsTrue is_within ↔ IsWithinSeconds all.now.rows.now row other) }
+{
+    if is_seen_apart(all, row, other) {
+        return Ok(false);
+    }
+    is_within_seconds(alloc, all.rows, answers, row, other)
 }
 
 // Whether a row closes at no second at which another does not: what is true of the first rows with their seconds.
@@ -60,7 +98,7 @@ fn is_within_meaning(
     row: usize,
     other: usize,
 ) -> Result<bool, AllocError>
-    requires grouped { AreGrouped all.now.rows.now all.now.meanings.now all.now.sames.now }
+    requires grouped { AreGrouped all.now.rows.now all.now.meanings.now all.now.sames.now all.now.spans.now }
     requires inside { row < length all.now.rows.now }
     requires other { other < length all.now.rows.now }
     requires right { AreRight all.now.rows.now answers.old.items }
@@ -72,7 +110,7 @@ fn is_within_meaning(
     if first == second {
         return Ok(true);
     }
-    is_within_seconds(alloc, all.rows, answers, first, second)
+    is_first_within(alloc, all, answers, first, second)
 }
 
 // Whether a row is within another, and they do not say the same.
@@ -83,7 +121,7 @@ fn is_only_within(
     row: usize,
     other: usize,
 ) -> Result<bool, AllocError>
-    requires grouped { AreGrouped all.now.rows.now all.now.meanings.now all.now.sames.now }
+    requires grouped { AreGrouped all.now.rows.now all.now.meanings.now all.now.sames.now all.now.spans.now }
     requires inside { row < length all.now.rows.now }
     requires other { other < length all.now.rows.now }
     requires right { AreRight all.now.rows.now answers.old.items }
@@ -110,7 +148,7 @@ pub(crate) fn within_of(
     entries: &[Entry],
     row: usize,
 ) -> Result<Option<usize>, AllocError>
-    requires grouped { AreGrouped all.now.rows.now all.now.meanings.now all.now.sames.now }
+    requires grouped { AreGrouped all.now.rows.now all.now.meanings.now all.now.sames.now all.now.spans.now }
     requires inside { row < length all.now.rows.now }
     requires right { AreRight all.now.rows.now answers.old.items }
     ensures right { AreRight all.now.rows.now answers.new.items }

@@ -2,10 +2,11 @@
 
 ghost use Rattle.std.specs.Prelude.{◌≡◌, ◌++◌, IfOk, OnOk, string_bytes};
 ghost use Rattle.gtd_repeats.specs.Listing as spec;
-ghost use Rattle.gtd_repeats.specs.Listing.{AreFindingLines, finding_line};
+ghost use Rattle.gtd_repeats.specs.Listing.{AreFindingLines, AreOfRows, finding_line, row_count};
 
 use crate::findings::Finding;
-use gtd_faults::{Printable, Rows};
+use gtd_faults::Printable;
+use gtd_lines::lines_of;
 use std::alloc::{AllocError, Global};
 
 // The row of which something is said.
@@ -37,20 +38,21 @@ fn push_line(text: &mut String, path: &str, line: u64, finding: Finding) -> Resu
     }
 }
 
-/// The lines of these findings, in order, for the file with this path and these bytes.
-pub(crate) fn lines_of(
+/// The lines of these findings, in order, for the file with this path and these bytes, of whose rows they are.
+pub(crate) fn text_of(
     alloc: Global,
     path: &str,
     bytes: &[u8],
     findings: &[Finding],
 ) -> Result<String, AllocError>
+    requires rows { AreOfRows (row_count bytes.now) findings.now }
     ensures lines { IfOk result (λ text. AreFindingLines path.now bytes.now findings.now (string_bytes text)) }
 {
+    let lines = lines_of(alloc, bytes)?;
     let mut text = String::new(alloc);
-    let mut rows = Rows::new(alloc, bytes)?;
     for finding in findings {
-        let line = rows.line_at(Some(row_of(*finding)))?;
-        push_line(&mut text, path, line, *finding)?;
+        let row = row_of(*finding);
+        push_line(&mut text, path, lines[row as usize - 1], *finding)?;
     }
     Ok(text)
 }

@@ -9,12 +9,12 @@ ghost use Rattle.gtd_report.specs.Run.{failures_after_read, failures_after_write
 ghost use Rattle.gtd_repeats.specs.Listing.{IsListing};
 ghost use Rattle.gtd_repeats.specs.Run.{HasListed, HasPut, KeepsRefused};
 
-use crate::device::ReadBytes;
 use crate::findings::findings_of;
-use crate::lines::lines_of;
+use crate::lines::text_of;
 use gtd_core::limits::MOST_FILE_BYTES;
 use gtd_devices::{Input, Output, read_whole};
-use gtd_records::{RecordFault, Records, read_records};
+use gtd_lines::records_of;
+use gtd_records::{RecordFault, Records};
 use gtd_report::{Progress, RunFault, finish, put_line};
 use std::alloc::{AllocError, Global};
 
@@ -42,18 +42,6 @@ fn put_text<O: Output>(output: &mut O, text: &str, number: u64) -> Result<u64, R
     }
 }
 
-// The records of a file's bytes, or its first fault.
-fn records_of(alloc: Global, bytes: &[u8]) -> Result<Records, RecordFault>
-    ensures file { MatchResult result
-        (λ found. IsFile bytes.now (Ok found))
-        (λ why. (why ≢ RecordFault.NoMemory → IsFile bytes.now (Err why)) × (why ≢ RecordFault.ReadFault)
-        × (why ≢ RecordFault.Endless)) }
-    ensures few { IfOk result (λ found. length found ≤ most_rows) }
-{
-    let mut input = ReadBytes { left: bytes };
-    read_records(alloc, &mut input)
-}
-
 // What is listed of records.
 #[derive(Drop)]
 struct Listing {
@@ -69,10 +57,11 @@ fn listing_of(
     found: &Records,
 ) -> Result<Listing, AllocError>
     requires few { length found.now ≤ most_rows }
+    requires file { IsFile bytes.now (Ok found.now) }
     ensures listing { IfOk result (λ listing. IsListing path.now bytes.now found.now listing.count (string_bytes listing.text)) }
 {
     let findings = findings_of(alloc, found.rows())?;
-    let text = lines_of(alloc, path, bytes, findings.as_slice())?;
+    let text = text_of(alloc, path, bytes, findings.as_slice())?;
     Ok(Listing {
         text,
         count: findings.len() as u64,

@@ -1,16 +1,18 @@
 //! Whether two rows close at the same seconds, and whether one closes at no second at which the other does not.
 
-ghost use Rattle.std.specs.Prelude.{◌≡◌, ◌↔◌, ℤ, IfOk, IsTrue, option_map};
+ghost use Rattle.std.specs.Prelude.{◌≡◌, ◌↔◌, ◌-ℤ◌, ℤ, pos, IfOk, IfSome, IsTrue, option_map};
 ghost use Rattle.gtd_core.specs.Parts.{domain_tree};
 ghost use Rattle.gtd_core.specs.Seconds.{IsHorizonSecond, Within};
 ghost use Rattle.gtd_core.specs.Whole as spec;
 ghost use Rattle.gtd_core.specs.Whole.{whole};
 ghost use Rattle.gtd_core.specs.Horizons.{IsHorizon};
+ghost use Rattle.gtd_difference.specs.Difference.{IsHeldSpan};
 ghost use Rattle.gtd_eval.specs.Membership.{InDomain};
+ghost use Rattle.gtd_records.specs.Closing.{HoldsAt};
 ghost use Rattle.gtd_repeats.specs.Sameness.{HoldSame, HoldsWithin};
 
 use gtd_core::limits::{FIRST_HORIZON_DAY, FIRST_MOMENT, HORIZONS_END, MOST_HORIZON_DAYS};
-use gtd_core::{Domain, Horizon, Sec};
+use gtd_core::{Domain, Horizon, Sec, Span};
 use gtd_difference::{Comparison, compare, is_within};
 use gtd_eval::{holds, next_change};
 use std::alloc::{AllocError, Global};
@@ -136,6 +138,33 @@ pub(crate) fn hold_same(
         return Ok(true);
     }
     hold_same_apart(alloc, first, second)
+}
+
+// The last second of a span.
+fn last_of(span: &Span) -> Sec
+    ensures value { result.0 ≡ span.now.until -ℤ pos 1 }
+{
+    let _ = span.from();
+    Sec(span.until().0 - 1)
+}
+
+/// Whether another row is open at the first or at the last second of a span of a row's seconds, if one is given.
+pub(crate) fn is_end_alone(
+    domain: &Option<Domain>,
+    other: &Option<Domain>,
+    span: &Option<Span>,
+) -> bool
+    requires held { IfSome span.now (IsHeldSpan (HoldsAt (option_map domain_tree domain.now))) }
+    ensures alone { IsTrue result
+        → HoldsWithin (option_map domain_tree domain.now) (option_map domain_tree other.now) → ⊥ }
+{
+    let Some(span) = span else {
+        return false;
+    };
+    let Some(other) = other else {
+        return false;
+    };
+    !holds(other, span.from()) || !holds(other, last_of(span))
 }
 
 /// Whether a row closes at no second from 1901-01-01 to 2699-12-31 at which another does not.

@@ -7,5 +7,5 @@ returns-clause-within c =
     let all = c.args.all.now in
     let same = of_firsts all.rows.now c.args.row c.args.other c.requires.inside c.requires.other all.meanings.now
     c.requires.grouped.of_seconds in
-    IfOk-weaker c.is_within_seconds.result _ _ (λ is h. ((λ said. same.0 (h.0 said)), (λ k. h.1 (same.1 k))))
-    c.is_within_seconds.ensures.within
+    IfOk-weaker c.is_first_within.result _ _ (λ is h. ((λ said. same.0 (h.0 said)), (λ k. h.1 (same.1 k))))
+    c.is_first_within.ensures.within

@@ -1,11 +1,8 @@
-use Rattle.std.proofs.Common.{take, ℕ}
+use Rattle.std.proofs.Common.{take}
 use Rattle.std.specs.Prelude.{string_bytes}
-use Rattle.gtd_faults.specs.Standing.{StandsAt}
 use Rattle.gtd_repeats.specs.Listing.{AreFindingLines}
-use Rattle.gtd_repeats.proofs.lines.lines_of.Given as goal
+use Rattle.gtd_repeats.proofs.lines.text_of.Given as goal
 
--- the lines of the findings so far; the rows stand at one of the file
+-- the lines of the findings so far
 abbrev pub invariant-loop-finding : goal.invariant-loop-finding
-invariant-loop-finding l =
-    AreFindingLines l.fn.path l.fn.bytes (take l.finding-index l.findings) (string_bytes l.text)
-    × (number : ℕ) × StandsAt l.fn.bytes number l.rows
+invariant-loop-finding l = AreFindingLines l.fn.path l.fn.bytes (take l.finding-index l.findings) (string_bytes l.text)
