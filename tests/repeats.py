@@ -2,8 +2,8 @@
 """`gtdesk same --file` on random record files, against the plain model of tests/model.py.
 
 The domains of these files are some that repeat after a week or a year, each in several texts: `{h24}` for `{d1}`, `b+a` for `a+b`,
-a stretch cut in two. The rows name few elements, so that many of them are the same, or within another. The model compares the
-seconds of eight years. Of the lines that the program prints, each is that of the model, and none is missing. Then come files that
+a stretch cut in two; and some of years, that have no second from 2016 to 2043. The rows name few elements, so that many of them
+are the same, or within another. The model compares the seconds of eight years, and of the others that a text names. Of the lines that the program prints, each is that of the model, and none is missing. Then come files that
 were shuffled, whose rows were split, or rewritten: without the rows of which a line is printed, `gtdesk diff` says that nothing
 has changed. Run it after `rt ci`, which builds the program.
 
@@ -18,7 +18,9 @@ import tempfile
 import model
 import same
 
-BEGIN, END = (same.number(same.datetime.datetime(year, 1, 1)) for year in (2016, 2024))
+# The years of which the seconds are compared: in each from the first of them up to the second.
+YEARS = [tuple(same.number(same.datetime.datetime(year, 1, 1)) for year in years)
+         for years in ((1950, 1951), (2010, 2012), (2016, 2024), (2050, 2051), (2350, 2351))]
 MOST_KIN = 64
 
 # Texts of domains. Those of a line have the same seconds.
@@ -36,15 +38,23 @@ TEXTS = [
     ["(M2d29){d1}", "(M2d1){M1}-(M2d1){d28}"],
     ["(h8){h1}-(h8){h1}", "(t2h9){h1}-(h9){h1}", "(h9){s0}"],
     ["(y2020M3d5h8){h9}", "(y2020M3d5h8){m540}"],
+    ["(y2010M3d5h8){h9}", "(y2010M3d5h8){m540}", "(y2010M3d5h12){h5}+(y2010M3d5h8){h5}"],
+    ["(y2010M3){M1}", "(y2010M3d1){d31}", "(y2010M3){w4}+(y2010M3d29){d3}"],
+    ["(y2011M3d5h8){h9}", "(y2011M3d5h8){m540}"],
+    ["(y1950M6){M1}", "(y1950M6){d30}"],
+    ["(y2050M6){M1}", "(y2050M6d1){d30}"],
+    ["(y2350M2d1){d28}", "(y2350M2){M1}"],
 ]
 SPANS = {}
 
 
 def spans(text):
-    """The seconds of a domain in eight years."""
+    """The seconds of a domain in the years that are compared."""
     if text not in SPANS:
-        found = same.spans_of(model.read(text.encode()), BEGIN, END) if text else [[BEGIN, END]]
-        clipped = [(max(begin, BEGIN), min(end, END)) for begin, end in found]
+        clipped = []
+        for first, last in YEARS:
+            found = same.spans_of(model.read(text.encode()), first, last) if text else [[first, last]]
+            clipped += [(max(begin, first), min(end, last)) for begin, end in found]
         SPANS[text] = [list(span) for span in same.merged([(begin, end) for begin, end in clipped if begin < end])]
     return SPANS[text]
 
