@@ -97,7 +97,10 @@ class Reader:
     def refuse(self):
         if self.at == len(self.found):
             raise Fault("Incomplete", self.end)
-        raise Fault("Unsupported" if self.peek() in ("not read", "+") else "Unexpected", self.found[self.at].place)
+        last = self.found[self.at - 1] if self.at else None
+        years = last is not None and (last.kind == "+" or last.kind == "number" and len(last.text) == 4)
+        unread = self.peek() == "not read" or self.peek() == "+" and not years
+        raise Fault("Unsupported" if unread else "Unexpected", self.found[self.at].place)
 
     def check(self, holds):
         """The token that was read last is in its range."""

@@ -86,7 +86,7 @@ stopped : (text : List ℕ) (r : Reading) (so : So text r) (next : Option Token)
     → IsMove r.at (kind_of next) None → Read text
 stopped text r so None h goes = ended text r so (is_after r.at) refl h goes
 stopped text r so (Some t) h goes =
-    inr (record { kind = misfit_of r.behind t.kind; place = t.from }, misfits text r so.given t so.is h goes)
+    inr (record { kind = misfit_of r.behind r.last t.kind; place = t.from }, misfits text r so.given t so.is h goes)
 
 -- ---- a move
 
@@ -151,7 +151,7 @@ read_on (suc fuel) text r so enough =
 -- ---- the whole text
 
 abbrev start : Reading
-start = record { place = 0; behind = places.Front; at = places.Front }
+start = record { place = 0; behind = places.Front; at = places.Front; last = None }
 
 read_tokens : (text : List ℕ) (tokens : List Token) → AreTokens text tokens → Read text
 read_tokens text tokens are =

@@ -11,7 +11,7 @@ use Rattle.gtd_hours_grammar.specs.declared.stage.Stage.TheVariants as stage
 use Rattle.gtd_hours_grammar.specs.declared.place.Place.TheVariants as places
 use Rattle.gtd_hours_grammar.specs.declared.reading.Reading.{Reading}
 use Rattle.gtd_hours_grammar.specs.Grammar.{AreHours, CanGoOn, Follow, More, in_full, so_far, by_place}
-use Rattle.gtd_hours_grammar.specs.Faults.{IsFirstFault, IsHoursText, IsMisfitKind, are_alike, kinds}
+use Rattle.gtd_hours_grammar.specs.Faults.{IsFirstFault, IsHoursText, IsMisfitKind, are_alike, ends_years, kinds, plus_kind}
 use Rattle.gtd_hours_grammar.specs.Kinds.{misfit_of, range_if}
 use Rattle.gtd_hours_grammar.specs.Places.{Rest}
 use Rattle.gtd_hours_grammar.specs.Places.BehindDate.{none}
@@ -131,16 +131,16 @@ time_kind text r given is h m false e =
     λ fits. time_never text r given is h m fits.other fits.alike e fits.p fits.after fits.follow
 
 misfit_kind : (text : List ℕ) (r : Reading) (given : List Piece) (is : IsReading text r given) (t : TokenKind)
-    → IsMisfitKind (kinds is.read.before) t (misfit_of r.behind t)
+    → IsMisfitKind (kinds is.read.before) t (misfit_of r.behind r.last t)
 misfit_kind text r given is (token.Number v d) = number_kind text r given is v d (takes_number r.behind) refl
 misfit_kind text r given is (token.Time h m) = time_kind text r given is h m (takes_time r.behind) refl
 misfit_kind text r given is token.Unsupported = refl
-misfit_kind text r given is token.Plus = refl
+misfit_kind text r given is token.Plus = ap (λ (o : Option TokenKind). plus_kind (ends_years o)) (sym is.last)
 misfit_kind text r given is t = λ fits. absurd cc
 
 pub misfits : (text : List ℕ) (r : Reading) (given : List Piece) (t : Token) → IsReading text r given
     → IsNext text r.place (Ok (Some t)) → IsMove r.at (Some t.kind) None
-    → IsFirstFault text (record { kind = misfit_of r.behind t.kind; place = t.from })
+    → IsFirstFault text (record { kind = misfit_of r.behind r.last t.kind; place = t.from })
 misfits text r given t is h goes =
     let split = split_later is.read.later t (same_next text r.place is.read.later (Some t) is.read.reads h) in
     let gives = subst (λ (n : Option TokenKind). GivesTo r.behind r.at n is.two) (known text r given is (Some t) h) is.gives in

@@ -1,5 +1,5 @@
 -- Which texts are opening hours, and what the first fault of another text is.
-use Rattle.std.specs.Prelude.{List, ◌≡◌, ℕ, Bool, true, false, [], ◌∷◌, ◌++◌, length}
+use Rattle.std.specs.Prelude.{List, ◌≡◌, ◌==◌, ℕ, Bool, true, false, [], ◌∷◌, ◌++◌, length, Option, Some, None}
 use Rattle.gtd_hours_tokens.specs.Lexing.{AreTokens, IsTokenFault}
 use Rattle.gtd_hours_tokens.specs.declared.token.TokenKind.TheVariants as token
 use Rattle.gtd_hours_grammar.specs.declared.fault.FaultKind.{FaultKind}
@@ -33,10 +33,26 @@ pub record FitsByPlace (before : List TokenKind) (t : TokenKind) : Type 0 where
   pub after : List TokenKind
   pub follow : Follow by_place stage.Front p (before ++ other ∷ after)
 
+abbrev pub last_kind : List TokenKind → Option TokenKind
+last_kind [] = None
+last_kind (t ∷ []) = Some t
+last_kind (t ∷ u ∷ ts) = last_kind (u ∷ ts)
+
+-- a year, or the sign that years go on
+abbrev pub ends_years : Option TokenKind → Bool
+ends_years (Some (token.Number value digits)) = digits == 4
+ends_years (Some token.Plus) = true
+ends_years t = false
+
+-- what is wrong with a `+`, behind years or elsewhere, where it is an open end or an offset that is not read
+abbrev pub plus_kind : Bool → FaultKind
+plus_kind true = fault.Unexpected
+plus_kind false = fault.Unsupported
+
 -- what is wrong with the first token that does not go on
 abbrev pub IsMisfitKind : List TokenKind → TokenKind → FaultKind → Type 0
 IsMisfitKind before token.Unsupported kind = kind ≡ fault.Unsupported
-IsMisfitKind before token.Plus kind = kind ≡ fault.Unsupported
+IsMisfitKind before token.Plus kind = kind ≡ plus_kind (ends_years (last_kind before))
 IsMisfitKind before t fault.Range = FitsByPlace before t
 IsMisfitKind before t fault.Unexpected = FitsByPlace before t → ⊥
 IsMisfitKind before t kind = ⊥

@@ -7,7 +7,7 @@ use Rattle.gtd_hours_grammar.specs.Terms.{Token, TokenKind, Piece, Place, Move}
 use Rattle.gtd_hours_grammar.specs.declared.place.Place.TheVariants as places
 use Rattle.gtd_hours_grammar.specs.declared.reading.Reading.{Reading}
 use Rattle.gtd_hours_grammar.specs.Grammar.{Demand}
-use Rattle.gtd_hours_grammar.specs.Faults.{kinds}
+use Rattle.gtd_hours_grammar.specs.Faults.{kinds, last_kind}
 use Rattle.gtd_hours_grammar.specs.Places.{Rest}
 use Rattle.gtd_hours_grammar.specs.Sound.{Fits, IsPlace}
 use Rattle.gtd_hours_grammar.specs.Moves.{next_move, rank}
@@ -54,6 +54,7 @@ pub record IsReading (text : List ℕ) (reading : Reading) (given : List Piece) 
   pub inside : reading.place ≤ length text
   pub stands : IsPlace reading.at
   pub read : HasRead text reading.place reading.behind one
+  pub last : last_kind (kinds read.before) ≡ reading.last
   pub gives : GivesTo reading.behind reading.at (first (kinds read.later)) two
 
 -- how many moves can come at most
@@ -66,11 +67,11 @@ kind_of (Some t) = Some t.kind
 
 -- the reading behind a move
 abbrev pub moved : Bool → Reading → Token → Place → Reading
-moved true reading t to = record { place = t.to; behind = to; at = to }
-moved false reading t to = record { place = reading.place; behind = reading.behind; at = to }
+moved true reading t to = record { place = t.to; behind = to; at = to; last = Some t.kind }
+moved false reading t to = record { place = reading.place; behind = reading.behind; at = to; last = reading.last }
 
 abbrev pub advanced : Reading → Option Token → Move → Reading
-advanced reading None move = record { place = reading.place; behind = reading.behind; at = move.to }
+advanced reading None move = record { place = reading.place; behind = reading.behind; at = move.to; last = reading.last }
 advanced reading (Some t) move = moved move.takes reading t move.to
 
 -- what a reading comes to where no move can be made
@@ -80,4 +81,4 @@ ended text false = Err (record { kind = fault.Incomplete; place = length text })
 
 abbrev pub end_or_fault : List ℕ → Reading → Option Token → Result (Option (Part × Reading)) HoursFault
 end_or_fault text reading None = ended text (is_after reading.at)
-end_or_fault text reading (Some t) = Err (record { kind = misfit_of reading.behind t.kind; place = t.from })
+end_or_fault text reading (Some t) = Err (record { kind = misfit_of reading.behind reading.last t.kind; place = t.from })

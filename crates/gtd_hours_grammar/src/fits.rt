@@ -1,42 +1,17 @@
 //! Which numbers, times, months and weekdays fit at a place.
 
 ghost use Rattle.std.specs.Prelude.{◌≡◌, ◌↔◌, ◌==◌, true};
-ghost use Rattle.gtd_hours.specs.Ranges.{IsMonth, IsWeekday};
-ghost use Rattle.gtd_hours_parts.specs.Numbers.{IsPlaceNumber, IsWeekNumber, IsYearNumber};
-ghost use Rattle.gtd_hours_parts.specs.Pieces.{AreFewYears, EndsRange, IsDay, IsRange, IsWrittenDate};
+ghost use Rattle.gtd_hours_parts.specs.Numbers.{IsPlaceNumber};
+ghost use Rattle.gtd_hours_parts.specs.Pieces.{EndsRange, IsRange, IsWrittenDate};
 ghost use Rattle.gtd_hours_grammar.specs.Sound.{Fits, IsPlace, ListedFits, NumberFits, TimeFits, YearOrDayFits, YearOrListed};
 ghost use Rattle.gtd_hours_grammar.specs.Sound.{is_last_year, takes_number, takes_time};
 
 use crate::place::Place;
 use crate::stage::Stage;
-use gtd_hours::{MonthDay, YearDate};
-use gtd_hours_parts::{ClockTime, Digits, LastDate, WrittenDate, dates_of, times, years};
+use gtd_hours_parts::{
+    ClockTime, Digits, LastDate, WrittenDate, are_few_years, dates_of, is_day, times, years,
+};
 use gtd_hours_tokens::TokenKind;
-
-fn month_fits(month: u8) -> bool
-    ensures { (result ≡ true) ↔ IsMonth month }
-{
-    1 <= month && month <= 12
-}
-
-fn weekday_fits(weekday: u8) -> bool
-    ensures { (result ≡ true) ↔ IsWeekday weekday }
-{
-    1 <= weekday && weekday <= 7
-}
-
-// A day that the month has: in that year, or in leap years if no year is written.
-fn day_fits(year: Option<Digits>, month: u8, day: Digits) -> bool
-    ensures { (result ≡ true) ↔ IsDay year month day }
-{
-    match day.day() {
-        None => false,
-        Some(number) => match year {
-            None => MonthDay::new(month, number).is_some(),
-            Some(year) => YearDate::new(year.value, month, number).is_some(),
-        },
-    }
-}
 
 // A range that begins with a date ends with that day or date.
 fn ends_range(first: WrittenDate, last: LastDate) -> bool
@@ -64,14 +39,6 @@ fn year_or_day_fits(first: WrittenDate, number: Digits) -> bool
     }
 }
 
-// Every so many years from one to the last of the calendar, of which a domain can hold all.
-fn are_few_years(first: Digits, step: Digits) -> bool
-    requires year { IsYearNumber first }
-    ensures { (result ≡ true) ↔ AreFewYears first step }
-{
-    step.step().is_some() && 2799 < u32::from(first.value) + 128 * u32::from(step.value)
-}
-
 // Behind a date and a comma a number of four digits is a year, and another one a day.
 fn year_or_listed_fits(year: Option<Digits>, month: u8, number: Digits) -> bool
     ensures { (result ≡ true) ↔ YearOrListed (number.count == 4) year month number }
@@ -79,7 +46,7 @@ fn year_or_listed_fits(year: Option<Digits>, month: u8, number: Digits) -> bool
     if number.count == 4 {
         number.year().is_some()
     } else {
-        day_fits(year, month, number)
+        is_day(year, month, number)
     }
 }
 
@@ -111,14 +78,14 @@ fn number_fits(place: Place, number: Digits) -> bool
         Place::TwentyFour => false,
         Place::TwentyFourSlash => number.value == 7 && number.count == 1,
         Place::Year(_) => false,
-        Place::YearMonth { year, month } => day_fits(Some(year), month, number),
+        Place::YearMonth { year, month } => is_day(Some(year), month, number),
         Place::MonthAfterYear(_) => false,
         Place::ListedYear(_) => false,
         Place::YearDash(first) => years(first, number, None).is_some(),
         Place::YearStep { .. } => number.step().is_some(),
         Place::YearSlash(first) => are_few_years(first, number),
-        Place::DateYearMonth { year, month } => day_fits(Some(year), month, number),
-        Place::Month(month) => day_fits(None, month, number),
+        Place::DateYearMonth { year, month } => is_day(Some(year), month, number),
+        Place::Month(month) => is_day(None, month, number),
         Place::Date(_) => false,
         Place::ListedDay(_) => false,
         Place::DateDash(first) => year_or_day_fits(first, number),
@@ -162,8 +129,8 @@ pub fn fits(place: Place, next: Option<TokenKind>) -> bool
                 number_fits(place, Digits { value, count })
             }
             TokenKind::Time { hour, minute } => time_fits(place, ClockTime { hour, minute }),
-            TokenKind::Month(month) => month_fits(month),
-            TokenKind::Weekday(weekday) => weekday_fits(weekday),
+            TokenKind::Month(month) => 1 <= month && month <= 12,
+            TokenKind::Weekday(weekday) => 1 <= weekday && weekday <= 7,
             _ => false,
         },
     }

@@ -4,7 +4,7 @@ ghost use Rattle.std.specs.Prelude.{◌≡◌, ◌<◌, ◌≤◌, ◌∷◌, �
 ghost use Rattle.gtd_hours_tokens.specs.Lexing.{AreTokens, IsNext, Reads};
 ghost use Rattle.gtd_hours_tokens.specs.declared.token.Token.{Token};
 ghost use Rattle.gtd_hours_parts.specs.declared.piece.Piece.{Piece};
-ghost use Rattle.gtd_hours_grammar.specs.Faults.{IsFirstFault, IsHoursText};
+ghost use Rattle.gtd_hours_grammar.specs.Faults.{IsFirstFault, IsHoursText, ends_years, plus_kind};
 ghost use Rattle.gtd_hours_grammar.specs.Kinds.{misfit_of, range_if};
 ghost use Rattle.gtd_hours_grammar.specs.Runs.{IsGood};
 ghost use Rattle.gtd_hours_grammar.specs.Sound.{IsPlace};
@@ -28,6 +28,8 @@ pub struct Reading {
     behind: Place,
     // Where it stands now.
     at: Place,
+    // The token that was read last.
+    last: Option<TokenKind>,
 }
 
 /// The beginning of a text, or the first byte with which no token begins. Takes no memory.
@@ -40,6 +42,7 @@ pub fn begin(text: &[u8]) -> Result<Reading, HoursFault>
             place: 0,
             behind: Place::Front,
             at: Place::Front,
+            last: None,
         }),
         Err(bad) => Err(HoursFault {
             kind: FaultKind::BadToken,
@@ -127,6 +130,7 @@ fn advanced(reading: Reading, next: Option<Token>, step: Move) -> Reading
                     place: token.to,
                     behind: step.to,
                     at: step.to,
+                    last: Some(token.kind),
                 }
             } else {
                 Reading {
@@ -152,7 +156,7 @@ fn end_or_fault(
 {
     match next {
         Some(token) => Err(HoursFault {
-            kind: misfit(now.behind, token.kind),
+            kind: misfit(now.behind, now.last, token.kind),
             place: token.from,
         }),
         None => {
@@ -168,16 +172,33 @@ fn end_or_fault(
     }
 }
 
-// What is wrong with a token that cannot come next.
-fn misfit(place: Place, kind: TokenKind) -> FaultKind
-    ensures { result ≡ misfit_of place kind }
+// What is wrong with a token that cannot come next, behind the one that was read last.
+fn misfit(place: Place, last: Option<TokenKind>, kind: TokenKind) -> FaultKind
+    ensures { result ≡ misfit_of place last kind }
 {
     match kind {
         TokenKind::Number { .. } => range_if(takes_number(place)),
         TokenKind::Time { .. } => range_if(takes_time(place)),
         TokenKind::Unsupported => FaultKind::Unsupported,
-        TokenKind::Plus => FaultKind::Unsupported,
+        TokenKind::Plus => plus_kind(last),
         _ => FaultKind::Unexpected,
+    }
+}
+
+// Behind years a `+` is unexpected. Elsewhere it would be an open end or an offset, which are not read.
+fn plus_kind(last: Option<TokenKind>) -> FaultKind
+    ensures { result ≡ plus_kind (ends_years last) }
+{
+    match last {
+        Some(TokenKind::Number { digits, .. }) => {
+            if digits == 4 {
+                FaultKind::Unexpected
+            } else {
+                FaultKind::Unsupported
+            }
+        }
+        Some(TokenKind::Plus) => FaultKind::Unexpected,
+        _ => FaultKind::Unsupported,
     }
 }
 

@@ -11,8 +11,8 @@ pub use digits::Digits;
 pub use part::{Part, part_of};
 pub use piece::{LastDate, Piece, WrittenDate};
 pub use places::place;
-pub use ranges::{months, one_week, one_year, weekdays, weeks, years};
-pub use written_dates::dates_of;
+pub use ranges::{are_few_years, months, one_week, one_year, weekdays, weeks, years};
+pub use written_dates::{dates_of, is_day};
 
 mod clock;
 mod dates;

@@ -1,7 +1,7 @@
 //! What the pieces of a text stand for.
 
-ghost use Rattle.std.specs.Prelude.{◌≡◌, ◌↔◌, IfSome, IsSome, Some};
-ghost use Rattle.gtd_hours.specs.declared.hours.Selector.{Selector};
+ghost use Rattle.std.specs.Prelude.{◌↔◌, IfSome, IsSome};
+ghost use Rattle.gtd_hours_parts.specs.declared.piece.Piece.{Piece};
 ghost use Rattle.gtd_hours_parts.specs.declared.piece.Piece.TheVariants as piece;
 ghost use Rattle.gtd_hours_parts.specs.SoundPieces.{IsPiece};
 ghost use Rattle.gtd_hours_parts.specs.Values.{IsPartOf, IsSelector};

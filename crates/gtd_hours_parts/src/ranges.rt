@@ -1,8 +1,9 @@
 //! Ranges of years, weeks, months and weekdays.
 
-ghost use Rattle.std.specs.Prelude.{◌≡◌, ◌↔◌, ◌≤◌, IfSome, IsSome};
+ghost use Rattle.std.specs.Prelude.{◌≡◌, ◌↔◌, ◌≤◌, IfSome, IsSome, true};
 ghost use Rattle.gtd_hours.specs.Ranges.{IsMonth, IsWeekday};
 ghost use Rattle.gtd_hours_parts.specs.Numbers.{IsStepNumber, IsWeekNumber, IsYearNumber, last_of, step_of};
+ghost use Rattle.gtd_hours_parts.specs.Pieces.{AreFewYears};
 
 use crate::digits::Digits;
 use gtd_hours::{Months, Weekdays, Weeks, Years};
@@ -84,4 +85,11 @@ pub fn weekdays(first: u8, last: Option<u8>) -> Option<Weekdays>
         None => Weekdays::new(first, first),
         Some(last) => Weekdays::new(first, last),
     }
+}
+
+/// `2026/8`: whether every so many years from one to the last of the calendar are few enough for a domain, which holds 128 of them.
+pub fn are_few_years(first: Digits, step: Digits) -> bool
+    ensures { (result ≡ true) ↔ AreFewYears first step }
+{
+    step.step().is_some() && 2799 < u32::from(first.value) + 128 * u32::from(step.value)
 }

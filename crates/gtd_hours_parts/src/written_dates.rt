@@ -1,11 +1,10 @@
 //! The selectors that written dates stand for.
 
-ghost use Rattle.std.specs.Prelude.{◌≡◌, ◌↔◌, IfSome, IsSome, None, Some};
-ghost use Rattle.gtd_hours_parts.specs.declared.digits.Digits.{Digits};
+ghost use Rattle.std.specs.Prelude.{◌≡◌, ◌↔◌, IfSome, IsSome, None, Some, true};
 ghost use Rattle.gtd_hours_parts.specs.declared.piece.Piece.TheVariants as piece;
 ghost use Rattle.gtd_hours_parts.specs.Dates.{IsDayOfYear, IsWrittenDay};
 ghost use Rattle.gtd_hours_parts.specs.Numbers.{IsYearNumber};
-ghost use Rattle.gtd_hours_parts.specs.Pieces.{EndsRange, dated, undated};
+ghost use Rattle.gtd_hours_parts.specs.Pieces.{EndsRange, IsDay, dated, undated};
 ghost use Rattle.gtd_hours_parts.specs.SoundPieces.{IsPiece};
 ghost use Rattle.gtd_hours_parts.specs.Values.{AreDates};
 
@@ -14,7 +13,7 @@ use crate::dates::{
 };
 use crate::digits::Digits;
 use crate::piece::{LastDate, WrittenDate};
-use gtd_hours::{Dated, Dates, Selector};
+use gtd_hours::{Dated, Dates, MonthDay, Selector, YearDate};
 
 /// `Apr 10`, `Apr 10-20`, `2024 Dec 24-2025 Jan 3`: dates of each year, or of years. `None` exactly if a date does not exist, or
 /// the first one cannot begin a range that ends there.
@@ -75,6 +74,19 @@ fn of_year(year: Digits, month: u8, day: Digits, last: Option<LastDate>) -> Opti
                 let dates = to_year_date(begin, last_year, end.month, end.day)?;
                 Some(Selector::Dated(dates))
             }
+        },
+    }
+}
+
+/// `10`, in `Apr 10`: whether the month has the day, in that year, or in leap years if no year is written.
+pub fn is_day(year: Option<Digits>, month: u8, day: Digits) -> bool
+    ensures { (result ≡ true) ↔ IsDay year month day }
+{
+    match day.day() {
+        None => false,
+        Some(number) => match year {
+            None => MonthDay::new(month, number).is_some(),
+            Some(year) => YearDate::new(year.value, month, number).is_some(),
         },
     }
 }

@@ -14,7 +14,7 @@ use Rattle.gtd_hours.specs.declared.hours.Weeks.{Weeks}
 use Rattle.gtd_hours.specs.declared.hours.Years.{Years}
 use Rattle.gtd_hours.specs.declared.hours.Selector.{Selector}
 use Rattle.gtd_hours.specs.declared.hours.Selector.TheVariants as selector
-use Rattle.gtd_hours_parts.specs.Values.{AreDates, IsPartOf, IsSelector, last_number}
+use Rattle.gtd_hours_parts.specs.Values.{AreDates, IsPartOf, IsSelector}
 use Rattle.gtd_hours_parts.specs.declared.digits.Digits.{Digits}
 use Rattle.gtd_hours_parts.specs.declared.part.Part.{Part}
 use Rattle.gtd_hours_parts.specs.declared.part.Part.TheVariants as part

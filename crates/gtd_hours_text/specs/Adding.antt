@@ -1,12 +1,11 @@
 -- What a list has after the selectors or the times of a piece are added.
-use Rattle.std.specs.Prelude.{◌≡◌, ℕ, ◌≤◌, Bool, ◌||◌, List, [], ◌∷◌, ◌++◌}
+use Rattle.std.specs.Prelude.{◌≡◌, ℕ, ◌≤◌, List, [], ◌∷◌, ◌++◌}
 use Rattle.gtd_hours.specs.declared.hours.Selector.{Selector}
 use Rattle.gtd_hours.specs.declared.hours.TimeRange.{TimeRange}
 use Rattle.gtd_hours_parts.specs.declared.clock.ClockTime.{ClockTime}
 use Rattle.gtd_hours_parts.specs.Times.{minute_of}
 use Rattle.gtd_hours_parts.specs.declared.piece.Piece.{Piece}
-use Rattle.gtd_hours_text.specs.Standing.{ArePlaces, AreSelectors, IsPlace, names_month_days, names_weekdays, names_weeks}
-use Rattle.gtd_hours_text.specs.Standing.{names_years}
+use Rattle.gtd_hours_text.specs.Standing.{ArePlaces, AreSelectors, IsPlace}
 
 -- the selectors of the piece are added
 pub record AddsSelectors (before : List Selector) (x : Piece) (after : List Selector) : Type 0 where

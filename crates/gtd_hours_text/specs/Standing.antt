@@ -1,12 +1,10 @@
 -- Which hours the pieces of a text stand for.
-use Rattle.std.specs.Prelude.{◌≡◌, ℕ, ◌+◌, ◌<◌, ◌≤◌, Bool, true, false, List, [], ◌∷◌, ◌++◌, Option, Some, None}
+use Rattle.std.specs.Prelude.{◌≡◌, ℕ, ◌+◌, ◌<◌, ◌≤◌, Bool, true, false, List, [], ◌∷◌, ◌++◌}
 use Rattle.std.specs.List.{filter}
 use Rattle.gtd_hours.specs.declared.hours.Link.{Link}
 use Rattle.gtd_hours.specs.declared.hours.Link.TheVariants as link
 use Rattle.gtd_hours.specs.declared.hours.Modifier.{Modifier}
 use Rattle.gtd_hours.specs.declared.hours.Modifier.TheVariants as modifier
-use Rattle.gtd_hours.specs.declared.hours.MonthDay.{MonthDay}
-use Rattle.gtd_hours.specs.declared.hours.YearDate.{YearDate}
 use Rattle.gtd_hours.specs.declared.hours.Hours.{Hours}
 use Rattle.gtd_hours.specs.declared.hours.Rule.{Rule}
 use Rattle.gtd_hours.specs.declared.hours.Selector.{Selector}
@@ -15,13 +13,7 @@ use Rattle.gtd_hours.specs.declared.hours.TimeRange.{TimeRange}
 pub use Rattle.gtd_hours.specs.Writable.{kind_if, selectors}
 pub use Rattle.gtd_hours_parts.specs.Values.{AreDates, IsMonthDay, IsSelector, IsYearDate, end_year, last_day, last_month}
 pub use Rattle.gtd_hours_parts.specs.Values.{last_number, year_or}
-use Rattle.gtd_hours_parts.specs.declared.digits.Digits.{Digits}
-use Rattle.gtd_hours_parts.specs.Numbers.{last_of, step_of}
-use Rattle.gtd_hours_parts.specs.Dates.{last_year}
 use Rattle.gtd_hours_parts.specs.Times.{minute_of}
-use Rattle.gtd_hours_parts.specs.declared.piece.LastDate.{LastDate}
-use Rattle.gtd_hours_parts.specs.declared.piece.LastDate.TheVariants as last_date
-use Rattle.gtd_hours_parts.specs.declared.piece.WrittenDate.{WrittenDate}
 use Rattle.gtd_hours_parts.specs.declared.piece.Piece.{Piece}
 use Rattle.gtd_hours_parts.specs.declared.piece.Piece.TheVariants as piece
 use Rattle.gtd_hours_grammar.specs.Faults.{IsHoursText}

@@ -2,7 +2,7 @@
 
 ghost use Rattle.std.specs.Prelude.{◌≡◌, ◌≤◌, ◌∷◌, ◌++◌, IfOk, []};
 ghost use Rattle.gtd_hours.specs.Ranges.{IsWeekday};
-ghost use Rattle.gtd_hours_text.specs.Adding.{AddsPlace, AddsPlaces, AddsUpTo};
+ghost use Rattle.gtd_hours_text.specs.Adding.{AddsPlace, AddsPlaces};
 
 use gtd_hours::{Selector, WeekdayPlace};
 use std::alloc::AllocError;
