@@ -146,8 +146,9 @@ def taken_on_few_days():
         ("and its second one", "[(s0){s1}]*[(s1){s1}]*[(M2d29){d1}]"),
     ):
         yield Case(f"ever, each minute's first second {name}, on 29 February", ["ever", text, MOMENT], spans, "spans")
-    between = f"[[{joined(minute_starts(30))}]*[(M2d29){{d1}}]]*[(s1){{s1}}]"
-    yield Case("ever, even seconds of a 29 February that are odd", ["ever", between, MOMENT])
+    for name, date in (("29 February", "(M2d29){d1}"), ("February", "(M2){M1}")):
+        between = f"[[{joined(minute_starts(30))}]*[{date}]]*[(s1){{s1}}]"
+        yield Case(f"ever, even seconds of a {name} that are odd", ["ever", between, MOMENT])
     for name, text in (
         ("even seconds", joined(minute_starts(30))),
         ("two hours of each day", "(h5){h1}+(h7){h1}"),
@@ -258,10 +259,15 @@ def states(folder):
         "seconds": ["[(s0){s1}]*[(s1){s1}]*[(M2d29){d1}]"] * MOST_ROWS,
         "weekday": ["(f57){y100}"] * MOST_ROWS,
         "february": ["(M2f51){y100}"] * MOST_ROWS,
+        "quarters": ["(f57){d92}"] * MOST_ROWS,
+        "minutes": ["(M2s0){m1}"] * MOST_ROWS,
     }
     for name, domains_of in texts.items():
         file = folder.elements(f"now_{name}", domains_of)
         yield desk(f"65,536 elements of {domains_of[0]}", ["now", file, MOMENT, "11"])
+    months = folder.elements("now_months", ["(d1){M1}"] * MOST_ROWS)
+    yield desk("65,536 elements of (d1){M1}, one month after the other", ["now", months, MOMENT, "11"],
+               MOST_ROWS * 12 * 400, "months")
     yield desk(f"65,536 elements of {never}", ["faults", "--warn", folder.elements("warned", [never] * MOST_ROWS)])
     dated = never.replace("M2", "y2096M2")
     yield desk(f"65,536 elements of {dated}", ["faults", "--warn", folder.elements("warned_year", [dated] * MOST_ROWS)])
