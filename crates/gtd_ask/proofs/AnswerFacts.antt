@@ -1,11 +1,10 @@
 -- Questions have one text of answers.
-use Rattle.std.proofs.Common.{◌≡◌, ◌∙◌, ◌<◌, ◌+◌, sym, ap, ap₂, refl, subst, arith, inl, inr, ◌↔◌, ℕ, Bool, true, false, drop}
-use Rattle.std.proofs.Common.{List, [], ◌∷◌, ◌++◌, get_or, length, add-one, Option, Some, None}
-use Rattle.std.specs.Prelude.{ℤ, pos, ◌*ℤ◌, IsTrue, MatchOption, Ok, Err}
+use Rattle.std.proofs.Common.{◌≡◌, ◌∙◌, ◌<◌, ◌+◌, sym, ap, ap₂, refl, subst, ℕ, drop}
+use Rattle.std.proofs.Common.{List, [], ◌∷◌, ◌++◌, get_or, length, add-one, Option}
+use Rattle.std.specs.Prelude.{ℤ, pos, ◌*ℤ◌, MatchOption, Ok, Err}
 use Rattle.std.proofs.Math.Seq.{drop-cons, drop-length}
-use Rattle.std.proofs.lemmas.Int.{ints, by_lt_z}
 use Rattle.gtd_core.specs.Seconds.{day_of_second}
-use Rattle.gtd_states.specs.States.{IsLookEnd}
+use Rattle.gtd_states.specs.facts.OneState.{one_change, one_last, one_truth}
 use Rattle.gtd_records.specs.Closing.{IsOpen, Restriction}
 use Rattle.gtd_report.specs.Putting.{IsOne, PutsText}
 use Rattle.gtd_report.specs.declared.output.Progress.{Progress}
@@ -19,37 +18,12 @@ use Rattle.gtd_ask.specs.declared.question.Question.{Question}
 
 -- ---- one line
 
-one_state : (A : Type 0) (a b : Bool) → IsTrue a ↔ A → IsTrue b ↔ A → a ≡ b
-one_state A true true p q = refl
-one_state A true false p q = absurd (let h = q.1 (p.0 refl) in cc)
-one_state A false true p q = absurd (let h = p.1 (q.0 refl) in cc)
-one_state A false false p q = refl
-
-one_last : (day a b : ℤ) → IsLookEnd day a → IsLookEnd day b → a ≡ b
-one_last day a b (inl p) (inl q) = omega (arith, ints, p.0, q.0)
-one_last day a b (inl p) (inr q) = absurd (omega (arith, ints, p.0, p.1, q.1))
-one_last day a b (inr p) (inl q) = absurd (omega (arith, ints, q.0, q.1, p.1))
-one_last day a b (inr p) (inr q) = omega (arith, ints, p.0, q.0)
-
-one_change : (set : ℤ → Type 0) (s until : ℤ) (a b : Option ℤ)
-    → MatchOption a (NeverChanges set s until) (λ c. IsNextChange set s until c)
-    → MatchOption b (NeverChanges set s until) (λ c. IsNextChange set s until c) → a ≡ b
-one_change set s until None None p q = refl
-one_change set s until None (Some d) p q = absurd (q.differs (p d q.later q.within))
-one_change set s until (Some c) None p q = absurd (p.differs (q c p.later p.within))
-one_change set s until (Some c) (Some d) p q =
-    by_lt_z c d
-    (λ lt. absurd (p.differs (q.least c p.later lt)))
-    (λ ge. by_lt_z d c
-    (λ lt. absurd (q.differs (p.least d q.later lt)))
-    (λ le. let e : c ≡ d = omega (arith, ints, ge, le) in ap (λ (x : ℤ). Some x) e))
-
 module _ (found : List Restriction) where
   pub one_answer : (q : Question) (a b : List ℕ) → IsAnswer found q a → IsAnswer found q b → a ≡ b
   one_answer q a b x y =
       let set = IsOpen found q.element q.direction q.vehicle in
       let s = q.second.0 in
-      let state = one_state (set s) x.is_open y.is_open x.state y.state in
+      let state = one_truth (set s) x.is_open y.is_open x.state y.state in
       let last = one_last (day_of_second s) x.last y.last x.ends y.ends in
       let change = one_change set s (x.last *ℤ pos 86400) x.change y.change x.until
       (subst (λ (l : ℤ). MatchOption y.change (NeverChanges set s (l *ℤ pos 86400))

@@ -1,5 +1,6 @@
 pub mod ElementFacts
 pub mod PutFacts
 pub mod RunFacts
+pub mod SomeClosingRows
 pub mod SomeElements
 pub mod TextFacts

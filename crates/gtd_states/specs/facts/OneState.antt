@@ -1,29 +1,28 @@
 -- An element has at most one state.
-use Rattle.std.proofs.Common.{◌≡◌, ◌∙◌, sym, ap, refl, subst, arith, inl, inr, ◌↔◌, ℕ, Bool, true, false, List}
+use Rattle.std.proofs.Common.{◌≡◌, sym, ap, refl, subst, arith, inl, inr, ◌↔◌, ℕ, Bool, true, false, List}
 use Rattle.std.proofs.Common.{Option, Some, None}
 use Rattle.std.specs.Prelude.{ℤ, pos, ◌*ℤ◌, IsTrue, MatchOption}
 use Rattle.std.proofs.lemmas.Int.{ints, by_lt_z}
 use Rattle.gtd_core.specs.Seconds.{day_of_second}
-use Rattle.gtd_records.specs.facts.Rising.{one_list}
 use Rattle.gtd_records.specs.Closing.{IsOpen, Restriction}
-use Rattle.gtd_records.specs.ClosingRows.{AreClosingRows}
 use Rattle.gtd_records.specs.declared.direction.Direction.{Direction}
+use Rattle.gtd_report.specs.facts.SomeClosingRows.{one_rows}
 use Rattle.gtd_spans.specs.Change.{IsNextChange, NeverChanges}
 use Rattle.gtd_states.specs.States.{IsLookEnd, IsState, State}
 
-one_truth : (A : Type 0) (a b : Bool) → IsTrue a ↔ A → IsTrue b ↔ A → a ≡ b
+pub one_truth : (A : Type 0) (a b : Bool) → IsTrue a ↔ A → IsTrue b ↔ A → a ≡ b
 one_truth A true true p q = refl
 one_truth A true false p q = absurd (let h = q.1 (p.0 refl) in cc)
 one_truth A false true p q = absurd (let h = p.1 (q.0 refl) in cc)
 one_truth A false false p q = refl
 
-one_last : (day a b : ℤ) → IsLookEnd day a → IsLookEnd day b → a ≡ b
+pub one_last : (day a b : ℤ) → IsLookEnd day a → IsLookEnd day b → a ≡ b
 one_last day a b (inl p) (inl q) = omega (arith, ints, p.0, q.0)
 one_last day a b (inl p) (inr q) = absurd (omega (arith, ints, p.0, p.1, q.1))
 one_last day a b (inr p) (inl q) = absurd (omega (arith, ints, q.0, q.1, p.1))
 one_last day a b (inr p) (inr q) = omega (arith, ints, p.0, q.0)
 
-one_change : (set : ℤ → Type 0) (s until : ℤ) (a b : Option ℤ)
+pub one_change : (set : ℤ → Type 0) (s until : ℤ) (a b : Option ℤ)
     → MatchOption a (NeverChanges set s until) (λ c. IsNextChange set s until c)
     → MatchOption b (NeverChanges set s until) (λ c. IsNextChange set s until c) → a ≡ b
 one_change set s until None None p q = refl
@@ -35,11 +34,6 @@ one_change set s until (Some c) (Some d) p q =
     (λ ge. by_lt_z d c
     (λ lt. absurd (q.differs (p.least d q.later lt)))
     (λ le. let e : c ≡ d = omega (arith, ints, ge, le) in ap (λ (x : ℤ). Some x) e))
-
-one_rows : (found : List Restriction) (element : ℕ) (direction : Direction) (vehicle : ℕ) (second : ℤ) (a b : List ℕ)
-    → AreClosingRows found element direction vehicle second a → AreClosingRows found element direction vehicle second b → a ≡ b
-one_rows found element direction vehicle second a b p q =
-    one_list a b p.ascending q.ascending (λ n h. (q.each n).1 ((p.each n).0 h)) (λ n h. (p.each n).1 ((q.each n).0 h))
 
 abbrev state_with : Bool → Option ℤ → List ℕ → State
 state_with is_open change rows = record { is_open = is_open; change = change; rows = rows }
