@@ -7,3 +7,4 @@ pub mod TranslatedFacts
 pub mod OneAnswer
 pub mod ShortFields
 pub mod EachFile
+pub mod WarningFacts

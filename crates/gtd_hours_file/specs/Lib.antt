@@ -7,6 +7,9 @@ pub mod Run
 pub mod SameAnswers
 pub mod TakenRows
 pub mod Translated
+pub mod Warnings
+pub use Rattle.gtd_core.specs.Seconds
+pub use Rattle.gtd_faults.specs.Places
 pub use Rattle.gtd_migrate.specs.Migrated
 pub use Rattle.gtd_records.specs.Closing
 pub use Rattle.gtd_report.specs.Putting

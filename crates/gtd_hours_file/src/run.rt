@@ -1,16 +1,20 @@
 //! The run that translates a file of hours to a record file.
 
-ghost use Rattle.std.specs.Prelude.{◌≡◌, ◌<◌, ℕ, [], List, Some, IfErr, IsErrOf, IsTrue, OnOk};
+ghost use Rattle.std.specs.Prelude.{◌≡◌, ◌<◌, ℕ, [], List, Some, IfErr, IfOk, IsErrOf, IsTrue, OnOk};
 ghost use Rattle.gtd_hours_file.specs.HoursFile.{AreOfFile};
 ghost use Rattle.gtd_hours_file.specs.PuttingRows.{answer_of};
+ghost use Rattle.gtd_hours_file.specs.Warnings as warned;
+ghost use Rattle.gtd_hours_file.specs.Warnings.{IsWarned};
 ghost use Rattle.gtd_hours_file.specs.Run.{HasTranslated, IsRefusal, IsStop, failures_after_putting, failures_after_reading};
 
 use crate::fault::HoursFileFault;
 use crate::fault_list::lines_of;
 use crate::file::read_file;
 use crate::row::HoursRow;
+use crate::translated::Translated;
 use crate::translation::put_records;
 use crate::untranslated::Untranslated;
+use crate::warnings::warnings_of;
 use gtd_core::limits::MOST_FILE_BYTES;
 use gtd_devices::{Input, InputFault, Output, read_whole};
 use gtd_report::{Progress, Stop};
@@ -61,15 +65,53 @@ fn put_sound<O: Output>(
     answer(put, progress)
 }
 
+// The answer of a run with these warnings.
+fn with_warnings(
+    answer: Result<u64, Untranslated>,
+    warnings: String,
+) -> Result<Translated, Untranslated>
+    ensures lines { warned.lines_of result ≡ answer }
+    ensures warnings { IfOk result (λ done. done.warnings ≡ warnings) }
+{
+    match answer {
+        Ok(lines) => Ok(Translated { lines, warnings }),
+        Err(why) => Err(why),
+    }
+}
+
+// Puts what the rows of the file with this path and these bytes are translated to, and answers its warnings.
+fn put_warned<O: Output>(
+    alloc: Global,
+    output: &mut O,
+    path: &str,
+    bytes: &[u8],
+    rows: &[HoursRow],
+) -> Result<Translated, Untranslated>
+    requires writable { O.failure_count output.old < u64.MAX }
+    requires file { AreOfFile bytes.now rows.now [] }
+    ensures stands { HasTranslated path.now (Some bytes.now) (O.taken output.old) (O.taken output.new) (warned.lines_of result) }
+    ensures warned { IsWarned path.now (Some bytes.now) result }
+    ensures cause { IfErr result IsStop }
+    ensures ended { OnOk result (IsTrue (O.is_ended output.new)) }
+    ensures failures { O.failure_count output.new
+        ≡ failures_after_putting result (O.failure_count output.old) }
+{
+    let Ok(warnings) = warnings_of(alloc, path, bytes, rows) else {
+        return Err(Untranslated::NoMemory { written: 0 });
+    };
+    with_warnings(put_sound(alloc, output, bytes, rows), warnings)
+}
+
 // Puts what the file with this path and these bytes is translated to, if it is not at fault.
 fn put_file<O: Output>(
     alloc: Global,
     output: &mut O,
     path: &str,
     bytes: &[u8],
-) -> Result<u64, Untranslated>
+) -> Result<Translated, Untranslated>
     requires writable { O.failure_count output.old < u64.MAX }
-    ensures stands { HasTranslated path.now (Some bytes.now) (O.taken output.old) (O.taken output.new) result }
+    ensures stands { HasTranslated path.now (Some bytes.now) (O.taken output.old) (O.taken output.new) (warned.lines_of result) }
+    ensures warned { IsWarned path.now (Some bytes.now) result }
     ensures cause { IfErr result IsStop }
     ensures ended { OnOk result (IsTrue (O.is_ended output.new)) }
     ensures failures { O.failure_count output.new
@@ -81,12 +123,13 @@ fn put_file<O: Output>(
     if !found.faults.is_empty() {
         return Err(refusal(alloc, path, bytes, found.faults.as_slice()));
     }
-    put_sound(alloc, output, bytes, found.sound.as_slice())
+    put_warned(alloc, output, path, bytes, found.sound.as_slice())
 }
 
 /// Puts the record file of version 2 that a file of hours stands for, which an input brings: its rows in their order, each
 /// with the canonical text of a domain that contains exactly the seconds at which its hours are open, and with none if it
-/// has no hours. Answers the number of lines, the header included.
+/// has no hours. Answers the number of lines, the header included, and a warning of each row whose hours are open at no second
+/// from 1901-01-01 to 2699-12-31.
 ///
 /// Errors, in their order: `ReadFault`, `Endless` or `NoMemory` while the input is read; `Faults` if the file is at fault,
 /// with the list of all its faults for this path; then `WriteFault` or `NoMemory`, whichever happens first. Nothing is put
@@ -97,13 +140,16 @@ pub fn run_hours_records<I: Input, O: Output>(
     input: &mut I,
     output: &mut O,
     path: &str,
-) -> Result<u64, Untranslated>
+) -> Result<Translated, Untranslated>
     requires readable { I.failure_count input.old < u64.MAX }
     requires writable { O.failure_count output.old < u64.MAX }
     // What each answer means. The number of lines: of a file of hours, the output took the record file that its rows are
     // translated to. `Faults`: the text lists all faults of the bytes, and nothing was put. `WriteFault`, or `NoMemory`
     // after the whole file was read: the output took a first part of the lines of the first rows.
-    ensures stands { HasTranslated path.now (I.to_come input.old) (O.taken output.old) (O.taken output.new) result }
+    ensures stands { HasTranslated path.now (I.to_come input.old) (O.taken output.old) (O.taken output.new)
+        (warned.lines_of result) }
+    // The warnings of a file of hours are the lines of those rows that never close, each with the line on which the row begins.
+    ensures warned { IsWarned path.now (I.to_come input.old) result }
     // An output that took the whole text was then ended, last of all.
     ensures ended { OnOk result (IsTrue (O.is_ended output.new)) }
     ensures endless { IsErrOf result Untranslated.Endless → IsTrue (I.may_fall_silent input.old) }

@@ -13,6 +13,8 @@ use Rattle.gtd_faults.specs.Run as faults
 use Rattle.gtd_faults.specs.declared.list_fault.ListFault.{ListFault}
 use Rattle.gtd_faults.specs.declared.list_fault.ListFault.TheVariants as list
 use Rattle.gtd_hours_file.specs.Run as translated
+use Rattle.gtd_hours_file.specs.Warnings.{lines_of}
+use Rattle.gtd_hours_file.specs.declared.translated.Translated.{Translated}
 use Rattle.gtd_hours_file.specs.declared.untranslated.Untranslated.{Untranslated}
 use Rattle.gtd_hours_file.specs.declared.untranslated.Untranslated.TheVariants as hours
 use Rattle.gtd_picture.specs.Domain.{HasPut}
@@ -83,18 +85,18 @@ listing_writes (Err list.Endless) n = refl
 listing_writes (Err list.WriteFault) n = refl
 listing_writes (Err list.NoMemory) n = refl
 
-pub records_reads : (answer : Result ℕ Untranslated) (n : ℕ)
-    → translated.failures_after_reading answer n ≡ failures_after_read (records_outcome answer) n
-records_reads (Ok count) n = refl
+pub records_reads : (answer : Result Translated Untranslated) (n : ℕ)
+    → translated.failures_after_reading answer n ≡ failures_after_read (records_outcome (lines_of answer)) n
+records_reads (Ok done) n = refl
 records_reads (Err (hours.Faults text)) n = refl
 records_reads (Err hours.ReadFault) n = refl
 records_reads (Err hours.Endless) n = refl
 records_reads (Err (hours.WriteFault m)) n = refl
 records_reads (Err (hours.NoMemory m)) n = refl
 
-pub records_writes : (answer : Result ℕ Untranslated) (n : ℕ)
-    → translated.failures_after_putting answer n ≡ failures_after_write (records_outcome answer) n
-records_writes (Ok count) n = refl
+pub records_writes : (answer : Result Translated Untranslated) (n : ℕ)
+    → translated.failures_after_putting answer n ≡ failures_after_write (records_outcome (lines_of answer)) n
+records_writes (Ok done) n = refl
 records_writes (Err (hours.Faults text)) n = refl
 records_writes (Err hours.ReadFault) n = refl
 records_writes (Err hours.Endless) n = refl

@@ -25,6 +25,7 @@ pub use Rattle.gtdesk_words.specs.Words
 pub use Rattle.gtd_changes.specs.Changes
 pub use Rattle.gtd_changes.specs.Run as ChangesRun
 pub use Rattle.gtd_difference.specs.Difference
+pub use Rattle.gtd_hours_file.specs.Warnings
 pub use Rattle.gtd_hours_loose.specs.Reading as LooseReading
 pub use Rattle.gtd_hours_search.specs.Membership
 pub use Rattle.gtd_hours.specs.Opening

@@ -15,7 +15,7 @@ use Rattle.gtdesk_tool.specs.Hours.{IsDomainLine, IsHoursLine}
 use Rattle.gtdesk_tool.specs.LooseHours.{IsMendedLine, IsUnread, PutsLoose}
 use Rattle.gtdesk_tool.specs.Mended.{RanMended}
 use Rattle.gtdesk_tool.specs.Noted.{IsNoted, vehicle_note}
-use Rattle.gtdesk_tool.specs.Telling.{IsUntold, Telling, Told}
+use Rattle.gtdesk_tool.specs.Telling.{IsUntold, Telling, Told, ToldIfSome}
 use Rattle.gtd_warnings.specs.declared.file.Asked.{Asked}
 use Rattle.gtdesk_tool.specs.Comparing.{HasCompared}
 use Rattle.gtdesk_words.specs.HoursWords.{IsNoDomainOf}
@@ -28,6 +28,8 @@ use Rattle.gtd_faults.specs.declared.list_fault.ListFault.{ListFault}
 use Rattle.gtd_faults.specs.declared.list_fault.ListFault.TheVariants as list
 use Rattle.gtd_faults.specs.Run.{HasListed, TookSome}
 use Rattle.gtd_hours_file.specs.Run.{HasTranslated}
+use Rattle.gtd_hours_file.specs.Warnings.{IsWarned, lines_of}
+use Rattle.gtd_hours_file.specs.declared.translated.Translated.{Translated}
 use Rattle.gtd_hours_file.specs.declared.untranslated.Untranslated.{Untranslated}
 use Rattle.gtd_hours_file.specs.declared.untranslated.Untranslated.TheVariants as hours
 use Rattle.gtd_now.specs.Now.{IsNowOf}
@@ -175,8 +177,10 @@ IsTextRefusal text (refusal.NoDomain why) = IsNoDomainOf text why
 IsTextRefusal text refusal.Memory = Unit {0}
 IsTextRefusal text other = ⊥
 
--- What the output for errors took for the answer of a run that translates a file of hours: the list of the faults, if there are any.
-abbrev pub IsToldOf : Telling → Result ℕ Untranslated → Type 0
+-- What the output for errors took for the answer of a run that translates a file of hours: the warnings, if there are any; or the
+-- list of the faults.
+abbrev pub IsToldOf : Telling → Result Translated Untranslated → Type 0
+IsToldOf errors (Ok done) = ToldIfSome errors (string_bytes done.warnings)
 IsToldOf errors (Err (hours.Faults list)) = Told errors (string_bytes list)
 IsToldOf errors other = IsUntold errors
 
@@ -192,9 +196,10 @@ records_outcome (Err (hours.NoMemory written)) = Err refusal.Memory
 -- The run of `records` had an answer, and all that the run promises for this answer holds.
 pub record RanRecords (path : List ℕ) (file old new : Option (List ℕ)) (silent ended : Bool) (errors : Telling)
     (result : Result Ending RunRefusal) : Type 0 where
-  pub answer : Result ℕ Untranslated
-  pub outcome : result ≡ records_outcome answer
-  pub translated : HasTranslated path file old new answer
+  pub answer : Result Translated Untranslated
+  pub outcome : result ≡ records_outcome (lines_of answer)
+  pub translated : HasTranslated path file old new (lines_of answer)
+  pub warned : IsWarned path file answer
   pub told : IsToldOf errors answer
   pub whole : OnOk answer (IsTrue ended)
   pub endless : IsErrOf answer hours.Endless → IsTrue silent

@@ -1,5 +1,5 @@
 -- What the output for errors took.
-use Rattle.std.specs.Prelude.{◌≡◌, ◌⊎◌, ◌+◌, ℕ, List, Option}
+use Rattle.std.specs.Prelude.{◌≡◌, ◌⊎◌, ◌+◌, ◌∷◌, [], ℕ, List, Option}
 use Rattle.std.specs.Io.KnownBytes.{Appends, Keeps}
 use Rattle.gtd_faults.specs.Run.{TookSome}
 
@@ -23,3 +23,8 @@ Told errors text =
 -- It took nothing, and did not fail.
 abbrev pub IsUntold : Telling → Type 0
 IsUntold errors = Keeps errors.before errors.after × (errors.failed_after ≡ errors.failed_before)
+
+-- It took a text, if there is one.
+abbrev pub ToldIfSome : Telling → List ℕ → Type 0
+ToldIfSome errors [] = IsUntold errors
+ToldIfSome errors (byte ∷ text) = Told errors (byte ∷ text)

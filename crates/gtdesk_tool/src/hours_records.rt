@@ -1,20 +1,21 @@
 //! The command `records`: the record file of a file of opening hours.
 
 ghost use Rattle.std.specs.Prelude.{◌≡◌, ◌<◌};
-ghost use Rattle.gtdesk_tool.specs.Running.{RanRecords, failures_after_read, failures_after_write, records_outcome};
-ghost use Rattle.gtdesk_tool.specs.Telling.{Told, telling};
+ghost use Rattle.gtd_hours_file.specs.Warnings.{lines_of};
+ghost use Rattle.gtdesk_tool.specs.Running.{IsToldOf, RanRecords, failures_after_read, failures_after_write, records_outcome};
+ghost use Rattle.gtdesk_tool.specs.Telling.{Told, ToldIfSome, telling};
 
 use crate::ending::Ending;
 use crate::refusal::RunRefusal;
 use gtd_devices::{Input, Output};
-use gtd_hours_file::{Untranslated, run_hours_records};
+use gtd_hours_file::{Translated, Untranslated, run_hours_records};
 use gtd_records::RecordFault;
 use gtd_report::{Progress, put_line};
 use std::alloc::Global;
 
 // The answer of `records`, from that of its run.
-fn records_outcome(answer: &Result<u64, Untranslated>) -> Result<Ending, RunRefusal>
-    ensures value { result ≡ records_outcome answer.now }
+fn records_outcome(answer: &Result<Translated, Untranslated>) -> Result<Ending, RunRefusal>
+    ensures value { result ≡ records_outcome (lines_of answer.now) }
 {
     match answer {
         Ok(_) => Ok(Ending::Done),
@@ -36,7 +37,36 @@ pub(crate) fn tell<E: Output>(errors: &mut E, lines: &[u8])
     let _ = put_line(errors, &mut progress, lines);
 }
 
-/// Prints the record file of the file of hours that the input brings, or lists all its faults on the output for errors.
+// Puts lines, if there are any.
+fn tell_if_some<E: Output>(errors: &mut E, lines: &[u8])
+    requires tellable { E.failure_count errors.old < u64.MAX }
+    ensures told { ToldIfSome
+        (telling (E.taken errors.old) (E.taken errors.new) (E.failure_count errors.old) (E.failure_count errors.new)) lines.now }
+{
+    match lines.split_first() {
+        Some(_) => tell(errors, lines),
+        None => {}
+    }
+}
+
+// Tells what the answer of a run says besides its record file: warnings of rows, or the list of the file's faults.
+fn tell_answer<E: Output>(errors: &mut E, answer: &Result<Translated, Untranslated>)
+    requires tellable { E.failure_count errors.old < u64.MAX }
+    ensures told { IsToldOf
+        (telling (E.taken errors.old) (E.taken errors.new) (E.failure_count errors.old) (E.failure_count errors.new)) answer.now }
+{
+    match answer {
+        Ok(done) => tell_if_some(errors, done.warnings.as_bytes()),
+        Err(Untranslated::Faults(list)) => tell(errors, list.as_bytes()),
+        Err(Untranslated::ReadFault) => {}
+        Err(Untranslated::Endless) => {}
+        Err(Untranslated::WriteFault { .. }) => {}
+        Err(Untranslated::NoMemory { .. }) => {}
+    }
+}
+
+/// Prints the record file of the file of hours that the input brings, and warnings of its rows on the output for errors; or lists all
+/// its faults there.
 pub(crate) fn print_records<I: Input, O: Output, E: Output>(
     alloc: Global,
     input: &mut I,
@@ -56,8 +86,6 @@ pub(crate) fn print_records<I: Input, O: Output, E: Output>(
         ≡ failures_after_write result (O.failure_count output.old) }
 {
     let answer = run_hours_records(alloc, input, output, path);
-    if let Err(Untranslated::Faults(list)) = &answer {
-        tell(errors, list.as_bytes());
-    }
+    tell_answer(errors, &answer);
     records_outcome(&answer)
 }

@@ -154,7 +154,7 @@ pub struct Turn<'a> {
 
 /// Carries a plan out for one of its files, whose bytes the input brings: puts what it asks for, and ends the output. If the plan
 /// reads none, nothing is pulled. Four plans put something to the output for errors: `now` a note, if no row of the file is for the
-/// vehicle type; `records` all faults of a file of hours, if it has any; `mend` what it changed; and `hours` where a text is written
+/// vehicle type; `records` warnings of a file of hours, or all its faults; `mend` what it changed; and `hours` where a text is written
 /// loosely. If that output fails, a first part of this
 /// stands, and the answer is the same.
 ///
