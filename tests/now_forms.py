@@ -1,10 +1,11 @@
 #!/usr/bin/env python3
 """The forms of `gtdesk now`, against its lines, on random record files.
 
-JSON as Python reads it, and the columns of the table, say the same as the lines of fields, for all elements and for closed ones.
-With `--why`, each row that a line names is told below it: the line of the file on which it begins, its number, the text that
-`gtd canon` prints of its domain, and the words of `gtdesk words`. The files have empty lines and line ends of each kind. A note is
-told exactly if no row is for the vehicle type. With `--zone`, the moment is what `date` prints in that zone. Run it after `rt ci`, which builds the programs.
+JSON as Python reads it, and the columns of the table, say the same as the lines of fields, for all elements and for closed
+ones. With `--why`, each row that a line names is told below it: the line of the file on which it begins, its number, the text
+that `gtd canon` prints of its domain, and the words of `gtdesk words`. The files have empty lines and line ends of each kind. A
+note is told exactly if no row is for the vehicle type. With `--zone`, the moment is what `date` prints in that zone. Run it
+after `rt ci`, which builds the programs.
 
 Usage: tests/now_forms.py [COUNT [SEED]]
 """
