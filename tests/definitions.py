@@ -160,7 +160,7 @@ def declared_in(path, name, head):
 
 def type_in(path, name):
     """The struct or enum of this name that a source file declares, or None."""
-    return declared_in(path, name, r"^pub(\(crate\))? (struct|enum) %s\b" % name)
+    return declared_in(path, name, r"^(pub(\(crate\))? )?(struct|enum) %s\b" % name)
 
 
 def declared_type(name):
