@@ -1,4 +1,5 @@
 pub mod ListFacts
+pub mod OpeningFacts
 pub mod PutFacts
 pub mod ReadFacts
 pub mod RowFacts

@@ -1,24 +1,31 @@
 -- Warnings of rows that never close.
-use Rattle.std.specs.Prelude.{◌≡◌, ◌↔◌, ◌⊎◌, ◌+◌, ◌++◌, ℕ, ℤ, ⊤, Bool, true, false, List, [], ◌∷◌, codes, decimal, string_bytes}
+use Rattle.std.specs.Prelude.{◌≡◌, ◌↔◌, ◌+◌, ◌++◌, ℕ, ⊤, Bool, true, false, List, [], ◌∷◌, codes, decimal, string_bytes}
 use Rattle.std.specs.Prelude.{IfSome, IsTrue, Option, Some, None, Result, Ok, Err}
-use Rattle.gtd_core.specs.Seconds.{IsHorizonSecond}
+use Rattle.std.specs.List.{list_any}
 use Rattle.gtd_faults.specs.Listing.{line_text}
 use Rattle.gtd_faults.specs.Places.{IsLine}
-use Rattle.gtd_hours.specs.Opening.{IsOpen}
 use Rattle.gtd_hours.specs.declared.hours.Hours.{Hours}
+use Rattle.gtd_hours.specs.declared.hours.Modifier.{Modifier}
+use Rattle.gtd_hours.specs.declared.hours.Modifier.TheVariants.{Open, Closed}
+use Rattle.gtd_hours.specs.declared.hours.Rule.{Rule}
 use Rattle.gtd_hours_file.specs.HoursFile.{IsHoursFile}
 use Rattle.gtd_hours_file.specs.declared.row.HoursRow.{HoursRow}
 use Rattle.gtd_hours_file.specs.declared.translated.Translated.{Translated}
 use Rattle.gtd_hours_file.specs.declared.untranslated.Untranslated.{Untranslated}
 
--- The hours are open at no second of the days that a horizon may have, from 1901-01-01 to 2699-12-31.
-abbrev pub AreNeverOpen : Hours → Type 0
-AreNeverOpen hours = (t : ℤ) → IsHorizonSecond t → IsOpen hours t → ⊥
+-- a rule opens if it does not say that the hours are closed
+abbrev pub opens : Modifier → Bool
+opens Open = true
+opens Closed = false
 
--- The row closes at none of them. A row without hours closes always.
+-- some rule of the hours opens
+abbrev pub some_opens : Hours → Bool
+some_opens hours = list_any (λ (rule : Rule). opens rule.modifier) hours.rules.items
+
+-- The row never closes: no rule of its hours opens. A row without hours closes always.
 abbrev pub ClosesNever : Option Hours → Type 0
 ClosesNever None = ⊥
-ClosesNever (Some hours) = AreNeverOpen hours
+ClosesNever (Some hours) = some_opens hours ≡ false
 
 -- what is said of such a row
 abbrev pub warning_text : ℕ → List ℕ

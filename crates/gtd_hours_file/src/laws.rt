@@ -1,7 +1,9 @@
 //! Laws of the definitions: calls that do nothing, whose contracts are what is proved.
 
-ghost use Rattle.std.specs.Prelude.{◌≡◌, ◌+◌, ◌*◌, ◌≤◌, ◌↔◌, ℕ, ℤ, List, Ok, Result, length};
+ghost use Rattle.std.specs.Prelude.{◌≡◌, ◌+◌, ◌*◌, ◌≤◌, ◌↔◌, ℕ, ℤ, List, Ok, Result, false, length};
 ghost use Rattle.gtd_core.specs.Limits.{most_file_bytes};
+ghost use Rattle.gtd_hours.specs.Opening.{IsOpen};
+ghost use Rattle.gtd_hours.specs.declared.hours.Hours.{Hours};
 ghost use Rattle.gtd_hours_text.specs.Room.{HasRoom};
 ghost use Rattle.gtd_migrate.specs.Migrated.{migrated};
 ghost use Rattle.gtd_records.specs.Closing.{Closes, Restriction};
@@ -12,6 +14,7 @@ ghost use Rattle.gtd_hours_file.specs.HoursFile.{IsHoursFile};
 ghost use Rattle.gtd_hours_file.specs.SameAnswers.{AreSameRestrictions, AreSameRows, IsSameAnswer};
 ghost use Rattle.gtd_hours_file.specs.declared.fault.HoursFileFault.{HoursFileFault};
 ghost use Rattle.gtd_hours_file.specs.Translated.{IsTranslated, IsTranslation, RowCloses};
+ghost use Rattle.gtd_hours_file.specs.Warnings.{some_opens};
 ghost use Rattle.gtd_hours_file.specs.declared.row.HoursRow.{HoursRow};
 
 use gtd_hours_grammar::laws::one_first_fault;
@@ -60,3 +63,8 @@ pub fn each_file()
 {
     each_text();
 }
+
+/// Hours of which no rule opens are open at no second, so that a row that is warned of never closes.
+pub fn warned_rows_never_close()
+    ensures never { (hours : Hours) (second : ℤ) → some_opens hours ≡ false → IsOpen hours second → ⊥ }
+{}

@@ -128,8 +128,8 @@ fn put_file<O: Output>(
 
 /// Puts the record file of version 2 that a file of hours stands for, which an input brings: its rows in their order, each
 /// with the canonical text of a domain that contains exactly the seconds at which its hours are open, and with none if it
-/// has no hours. Answers the number of lines, the header included, and a warning of each row whose hours are open at no second
-/// from 1901-01-01 to 2699-12-31.
+/// has no hours. Answers the number of lines, the header included, and a warning of each row that has hours of which no rule
+/// opens.
 ///
 /// Errors, in their order: `ReadFault`, `Endless` or `NoMemory` while the input is read; `Faults` if the file is at fault,
 /// with the list of all its faults for this path; then `WriteFault` or `NoMemory`, whichever happens first. Nothing is put

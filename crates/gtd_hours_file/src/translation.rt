@@ -21,8 +21,8 @@ use gtd_migrate::write_row;
 use gtd_report::{Progress, Stop, finish, put_line};
 use std::alloc::{AllocError, Global};
 
-/// The domain of hours that take few enough basic domains.
-pub(crate) fn domain_with(alloc: Global, hours: &Hours) -> Result<Domain, AllocError>
+// The domain of hours that take few enough basic domains.
+fn domain_with(alloc: Global, hours: &Hours) -> Result<Domain, AllocError>
     requires few { hours_cost hours.now ≤ most_basic_domains }
     ensures { IfOk result (λ domain. (s : ℤ) → InDomain domain s ↔ IsOpen hours.now s) }
 {

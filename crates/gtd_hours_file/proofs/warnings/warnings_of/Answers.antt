@@ -13,7 +13,7 @@ loop-row-preserved c =
     let bytes = c.args.bytes.now in
     let rows = c.args.rows.now in
     let row = c.row-item.result in
-    let never = c.in_ok-never.never in
+    let never = c.closes_never-never.result in
     let so_far = c.loop-row.invariant in
     let next : take (at + 1) rows ≡ take at rows ++ row ∷ [] =
     take_more rows at row c.loop-row-test.true ∙ ap (λ (x : HoursRow). take at rows ++ x ∷ []) (sym c.row-item.is) in
@@ -24,7 +24,7 @@ loop-row-preserved c =
     let place : c.loop-row.number + 1 ≡ 1 + length (take at rows) = omega (arith, number, size, c.loop-row-test.true) in (
       rw (next, warned.2)
           (warnings_more path bytes 1 (take at rows) row (string_bytes c.loop-row.text) warned.0 never
-          c.in_ok-never.ensures
+          c.closes_never-never.ensures
           (subst (λ (n : ℕ). IsWarningIf never path bytes n warned.0) place warned.1) so_far.0),
       omega (arith, number),
       stands.0,

@@ -1,4 +1,4 @@
-use Rattle.std.proofs.Common.{◌≡◌, ◌≤◌, take, ℕ}
+use Rattle.std.proofs.Common.{◌≡◌, take, ℕ}
 use Rattle.std.specs.Prelude.{string_bytes}
 use Rattle.gtd_faults.specs.Standing.{StandsAt}
 use Rattle.gtd_hours_file.specs.Warnings.{AreWarnings}
