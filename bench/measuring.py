@@ -66,6 +66,11 @@ def seconds(command, statuses=(0,)):
     return time.perf_counter() - begun
 
 
+def reading(gtdesk, path):
+    """A command that reads a file into its records, and prints a header: no row of the benches has this element."""
+    return [gtdesk, "now", path, "2024-01-01T00:00:00", "11", "--element", "9999999999"]
+
+
 def nanoseconds(rounds, name, number, calls):
     """Prints what a call takes, by the shortest of some rounds, each of so many calls."""
     least = float("inf")

@@ -1,8 +1,9 @@
 #!/usr/bin/env python3
 """What `gtdesk same --file` takes beside reading the file: `repeats.py [GTDESK]`.
 
-`gtdesk faults` of an accepted file reads every row and prints nothing, so it stands for reading; the goal is that `same --file`
-takes at most three times that where texts repeat. It needs a built `gtdesk` (`rt ci` builds it), and what `measuring.py` says.
+`gtdesk faults` of an accepted file reads every row, keeps none and prints nothing; `gtdesk now` of one element that has no row
+reads the file into its records, as every report does, and prints a header. The goal is that `same --file` takes at most three
+times what reading into records takes, where texts repeat. It needs a built `gtdesk` (`rt ci` builds it), and what `measuring.py` says.
 Prints a table of Markdown for 400 texts that repeat, for the mixes of `now.py`, and for texts that are all different: the best of
 five times of each command, taken in turns."""
 import itertools
@@ -45,13 +46,13 @@ def main():
     gtdesk = measuring.program(sys.argv[1:], "gtdesk")
     with tempfile.TemporaryDirectory() as work:
         path = os.path.join(work, "records")
-        measuring.head([f"All of {MOST_ROWS:,} rows", "Reading", "`same --file`", "`same --file` to reading"])
+        measuring.head([f"All of {MOST_ROWS:,} rows", "`faults`", "Reading", "`same --file`", "`same --file` to reading"])
         for name, domain in FILES.items():
             write_rows(path, MOST_ROWS, domain)
-            commands = [gtdesk, "faults", path], [gtdesk, "same", "--file", path]
+            commands = [gtdesk, "faults", path], measuring.reading(gtdesk, path), [gtdesk, "same", "--file", path]
             times = [[measuring.seconds(command, (SAME, FOUND)) for command in commands] for _ in range(ROUNDS)]
-            reading, both = (min(column) for column in zip(*times))
-            measuring.row([name, f"{reading:.3f} s", f"{both:.3f} s", f"{both / reading:.1f}"])
+            faults, reading, both = (min(column) for column in zip(*times))
+            measuring.row([name, f"{faults:.3f} s", f"{reading:.3f} s", f"{both:.3f} s", f"{both / reading:.1f}"])
 
 
 if __name__ == "__main__":
