@@ -1,3 +1,5 @@
+-- A level of the clock that is not given is 0 or free, by whether a finer one is given; so the latest second with
+-- the values that are held is the latest at which the start begins.
 use Rattle.std.proofs.Common.{◌≡◌, ◌∙◌, is_some, inl, inr}
 use Rattle.gtd_recur.proofs.ClockSearch.{held_last, or_else}
 use Rattle.gtd_recur.proofs.begin.latest_begin.Goals.{then-is_some, else-is_some}

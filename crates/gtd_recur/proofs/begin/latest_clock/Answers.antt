@@ -1,3 +1,5 @@
+-- Seconds, minutes and hours are fixed in turn: if a level leaves nothing up to the limit, no second fits; if the
+-- hour comes before that of the limit, its last minute that fits is the latest.
 use Rattle.std.proofs.Common.{◌/◌, refl}
 use Rattle.gtd_recur.proofs.ClockSearch.{last_minute, no_second, no_minute, after_hour, before_hour, within_hour, in_hour}
 use Rattle.gtd_recur.proofs.begin.latest_clock.Goals.{in_default-via-in-Some-2+else-hours-hour-2, in_default-via-in_default}

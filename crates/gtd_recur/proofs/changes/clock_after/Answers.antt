@@ -1,3 +1,4 @@
+-- Between the first and the last start of a day, the next comes one step after the latest.
 use Rattle.gtd_recur.specs.Begins.{begins_at}
 use Rattle.gtd_recur.proofs.ChangeLemmas.{clock-step}
 use Rattle.gtd_recur.proofs.changes.clock_after.Goals as goal

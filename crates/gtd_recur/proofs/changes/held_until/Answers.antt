@@ -1,3 +1,4 @@
+-- Where no stretch holds the second, the domain ends; the end of one that holds it is later, so the search gets on.
 use Rattle.std.proofs.Common.{◌≤ℤ◌, ◌<ℤ◌, arith, rules, FitsSigned, to_z-of_z, w64}
 use Rattle.gtd_calendar.specs.facts.Signed.{signed_arith}
 use Rattle.gtd_core.specs.Parts.{start_parts, duration_parts}

@@ -1,3 +1,4 @@
+-- The basic domain contains each second from the first on up to where the search stands.
 use Rattle.std.proofs.Common.{◌-ℤ◌, unsigned_abs}
 use Rattle.gtd_recur.specs.Membership.{InBasic}
 use Rattle.gtd_recur.proofs.ChangeLemmas.{IsHeldSoFar}

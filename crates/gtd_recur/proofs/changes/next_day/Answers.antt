@@ -1,3 +1,5 @@
+-- The runs of days that month and year do not exclude are searched in order: what lies between two runs has no start,
+-- so the first day found is the first of all.
 use Rattle.std.proofs.Common.{◌≤ℤ◌, ◌<ℤ◌, arith, to_z-of_z}
 use Rattle.gtd_calendar.specs.facts.Signed.{signed_arith}
 use Rattle.gtd_recur.proofs.ChangeLemmas.{less-ahead, searched-end, searched-first, searched-on, searched-to}

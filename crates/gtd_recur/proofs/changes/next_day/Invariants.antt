@@ -1,3 +1,4 @@
+-- Before the run that is searched next, the start begins on no day from the given one on.
 use Rattle.std.proofs.Common.{◌-ℤ◌, unsigned_abs}
 use Rattle.gtd_recur.proofs.ChangeLemmas.{IsSearched}
 use Rattle.gtd_recur.proofs.changes.next_day.Given as goal

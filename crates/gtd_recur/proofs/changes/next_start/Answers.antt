@@ -1,3 +1,5 @@
+-- If the second's own day has no later start, the next is the first start of the next day on which it begins; and if
+-- there is no such day before the end, there is none.
 use Rattle.std.proofs.Common.{◌≡◌, refl, arith, pos, ◌+ℤ◌, ◌*ℤ◌, ◌<ℤ◌, to_z, of_z, to_z-of_z, w64}
 use Rattle.gtd_calendar.specs.facts.Signed.{signed_arith}
 use Rattle.gtd_calendar.specs.facts.ClockLemmas.{second-only}

@@ -1,3 +1,4 @@
+-- A day that does not fit has no start, nor one whose clock fits no more; otherwise its next clock makes the start.
 use Rattle.std.proofs.Common.{◌≡◌, ◌∙◌, sym, refl, arith, rules, pos, ◌+ℤ◌, ◌*ℤ◌, FitsSigned, to_z, of_z, to_z-of_z, w64}
 use Rattle.gtd_calendar.specs.facts.Signed.{signed_arith}
 use Rattle.gtd_calendar.specs.facts.ClockLemmas.{second-only}

@@ -1,3 +1,4 @@
+-- A day on which a start begins has a last start: up to its last second there is one that fits.
 use Rattle.gtd_recur.proofs.ClockSearch.{last_is_some}
 use Rattle.gtd_recur.proofs.clocks.day_clocks.Goals as goal
 

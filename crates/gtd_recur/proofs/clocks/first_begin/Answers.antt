@@ -1,3 +1,4 @@
+-- The fields of the clock that are given, and 0 for the others, make the least second that fits.
 use Rattle.std.proofs.Common.{◌∙◌}
 use Rattle.gtd_recur.proofs.ClockSearch.{AreLeast, first_clock}
 use Rattle.gtd_recur.proofs.clocks.first_begin.Goals as goal

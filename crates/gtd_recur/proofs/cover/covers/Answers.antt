@@ -1,3 +1,4 @@
+-- A second is contained exactly if there is an end of a stretch that holds it.
 use Rattle.gtd_core.specs.Parts.{start_parts, duration_parts}
 use Rattle.gtd_recur.proofs.CoverLemmas.{end-tells}
 use Rattle.gtd_recur.proofs.cover.covers.Goals as goal

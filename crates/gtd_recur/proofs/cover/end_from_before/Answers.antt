@@ -1,3 +1,5 @@
+-- Of the days before, only the last one with a start counts: if it has none, or its last stretch is over, no stretch
+-- from an earlier day holds the second either.
 use Rattle.std.proofs.Common.{rules, arith, ◌<ℤ◌, FitsSigned, to_z-of_z, w64}
 use Rattle.gtd_calendar.specs.facts.Signed.{signed_arith}
 use Rattle.gtd_core.specs.Parts.{duration_parts}

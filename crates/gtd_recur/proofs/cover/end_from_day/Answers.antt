@@ -1,3 +1,4 @@
+-- If any stretch of the day holds the second, then the one that begins last does: it ends after all others.
 use Rattle.std.proofs.Common.{rules, arith, ◌≡◌, sym, refl, pos, ◌+ℤ◌, ◌*ℤ◌, FitsSigned, to_z, of_z, to_z-of_z, w64}
 use Rattle.std.proofs.lemmas.Bool.{both_ways}
 use Rattle.gtd_calendar.specs.facts.Signed.{signed_arith}

@@ -1,3 +1,5 @@
+-- Run by run backwards: the days of a run without a start are counted and left behind, their number stays below 2^64,
+-- and the first day found is the last on which the start begins.
 use Rattle.std.proofs.Common.{◌≡◌, ◌≤ℤ◌, ◌<ℤ◌, arith, refl, to_z-of_z}
 use Rattle.gtd_calendar.specs.facts.Signed.{signed_arith}
 use Rattle.gtd_recur.specs.facts.StartsLemmas.{days_between-nil}

@@ -1,3 +1,5 @@
+-- Either a stretch of the second's own day holds it, or one of the days of the lookback: a stretch from a day before
+-- those is over by then.
 use Rattle.std.proofs.Common.{rules, arith, refl, ◌≡◌, ◌∙◌, pos, ◌-ℤ◌, FitsSigned, to_z, of_z, to_z-of_z, w64}
 use Rattle.gtd_calendar.specs.facts.Signed.{signed_arith}
 use Rattle.gtd_core.specs.Seconds.{day_of_second}

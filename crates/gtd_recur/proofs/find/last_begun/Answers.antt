@@ -1,3 +1,4 @@
+-- The days between the one looked at and the next one have no start, so the first that fits from above is the last.
 use Rattle.std.proofs.Common.{arith, rules}
 use Rattle.gtd_calendar.specs.facts.Signed.{signed_arith}
 use Rattle.gtd_recur.proofs.SearchLemmas.{last-found, last-on}

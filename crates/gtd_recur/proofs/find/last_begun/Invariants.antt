@@ -1,3 +1,4 @@
+-- After the day where the search stands, up to the end, the start begins on no day.
 use Rattle.std.proofs.Common.{pos, ◌+ℤ◌, ◌-ℤ◌, unsigned_abs}
 use Rattle.gtd_recur.proofs.SearchLemmas.{IsLastSoFar}
 use Rattle.gtd_recur.proofs.find.last_begun.Given as goal

@@ -1,3 +1,4 @@
+-- Days of the month outside of those on which the start can begin are passed over backwards, none with a start.
 use Rattle.std.proofs.Common.{◌<ℤ◌, inl, inr, arith, pos, ◌+ℤ◌, ◌-ℤ◌}
 use Rattle.gtd_calendar.specs.facts.Signed.{signed_arith}
 use Rattle.gtd_calendar.specs.ComputedDates.{day_of_month}

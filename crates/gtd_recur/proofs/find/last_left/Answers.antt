@@ -1,3 +1,4 @@
+-- A wrong weekday excludes one day; a wrong week or day of the month excludes all days back to the last chance.
 use Rattle.std.proofs.Common.{◌∙◌, arith, rules, to_z-of_z}
 use Rattle.std.proofs.lemmas.Bool.{and_parts}
 use Rattle.gtd_calendar.specs.facts.Signed.{signed_arith}

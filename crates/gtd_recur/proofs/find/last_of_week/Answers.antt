@@ -1,3 +1,4 @@
+-- The week lies ahead, and has no day before the given one; or the day asked for is its Sunday or the one just before.
 use Rattle.std.proofs.Common.{◌≡◌, ◌≤ℤ◌, arith, to_z-of_z, to_z, of_z, w64, rules}
 use Rattle.gtd_calendar.specs.facts.Signed.{signed_arith}
 use Rattle.gtd_recur.proofs.MondayLemmas.{week-ahead, last-of-week}

@@ -1,3 +1,4 @@
+-- The Thursday of week 1 is the first of its year, and seven days a week lead from its Monday to the one asked for.
 use Rattle.std.proofs.Common.{arith, to_z-of_z, refl}
 use Rattle.gtd_calendar.specs.facts.Signed.{signed_arith}
 use Rattle.gtd_recur.proofs.MondayLemmas.{first-day-of, computed-monday}

@@ -1,3 +1,4 @@
+-- The n-th weekday of a month is within the n-th seven days, counted from its first or back from its last day.
 use Rattle.std.proofs.Common.{arith}
 use Rattle.gtd_recur.proofs.FindLemmas.{nth-days, nth_back-days, all-days}
 use Rattle.gtd_recur.proofs.find.month_days.Goals as goal

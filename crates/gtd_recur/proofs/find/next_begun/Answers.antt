@@ -1,3 +1,4 @@
+-- The days between the one looked at and the next one have no start, so the first that fits is the first of all.
 use Rattle.std.proofs.Common.{arith, to_z-of_z, rules}
 use Rattle.gtd_calendar.specs.facts.Signed.{signed_arith}
 use Rattle.gtd_recur.proofs.SearchLemmas.{first-found, first-on}

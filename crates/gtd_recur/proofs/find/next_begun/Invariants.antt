@@ -1,3 +1,4 @@
+-- From the given day on, before the day where the search stands, the start begins on no day.
 use Rattle.std.proofs.Common.{◌-ℤ◌, unsigned_abs}
 use Rattle.gtd_recur.proofs.SearchLemmas.{IsFirstSoFar}
 use Rattle.gtd_recur.proofs.find.next_begun.Given as goal

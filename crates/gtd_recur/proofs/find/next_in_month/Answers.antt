@@ -1,3 +1,5 @@
+-- Days of the month after the last on which the start can begin are passed over, and those of the next month before
+-- the first: none has a start.
 use Rattle.std.proofs.Common.{inl, inr, arith}
 use Rattle.gtd_calendar.specs.facts.Signed.{signed_arith}
 use Rattle.gtd_recur.proofs.FindLemmas.{off-month, all-days}

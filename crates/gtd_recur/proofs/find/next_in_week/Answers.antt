@@ -1,3 +1,4 @@
+-- Days outside of the given week have no start: without a year, the week of this year or that of the next comes first.
 use Rattle.std.proofs.Common.{◌≡◌, arith, pos, ◌+ℤ◌, to_z, of_z, w64, to_z-of_z, FitsSigned, rules}
 use Rattle.gtd_calendar.specs.facts.Signed.{signed_arith}
 use Rattle.gtd_recur.proofs.FindLemmas.{given-week, this-week, next-week, week_year-calendar}

@@ -1,3 +1,4 @@
+-- A wrong weekday excludes one day; a wrong week or day of the month excludes all days up to the next chance.
 use Rattle.std.proofs.Common.{arith, rules, to_z-of_z}
 use Rattle.gtd_calendar.specs.facts.Signed.{signed_arith}
 use Rattle.gtd_calendar.specs.Calendar.{weekday_of}

@@ -1,3 +1,4 @@
+-- The week is over, and has no day after the given one; or its next day is its Monday or the day after the given one.
 use Rattle.std.proofs.Common.{◌≤ℤ◌, arith, pos, ◌+ℤ◌, to_z-of_z, rules}
 use Rattle.gtd_calendar.specs.facts.Signed.{signed_arith}
 use Rattle.gtd_recur.proofs.MondayLemmas.{week-over, next-of-week}

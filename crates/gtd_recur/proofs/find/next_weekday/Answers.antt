@@ -1,3 +1,4 @@
+-- Day by day, with its weekday counted along: the weekday alone tells whether the start begins, so no date is needed.
 use Rattle.std.proofs.Common.{◌∙◌, sym, ◌<ℤ◌, arith, to_z, to_z-of_z, w64}
 use Rattle.gtd_calendar.specs.facts.Signed.{signed_arith}
 use Rattle.gtd_recur.proofs.SearchLemmas.{first-found, first-next}

@@ -1,3 +1,4 @@
+-- The weekday of the next day, by the remainder of the day by 7: after the seventh comes the first.
 use Rattle.std.proofs.Common.{arith}
 use Rattle.gtd_calendar.specs.facts.Signed.{signed_arith}
 use Rattle.gtd_calendar.specs.Calendar.{weekday_of}

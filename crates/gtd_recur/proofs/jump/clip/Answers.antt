@@ -1,3 +1,4 @@
+-- The part of the days from the given one on and before the end; it is empty and at the end if the days begin there.
 use Rattle.std.proofs.Common.{rules, arith, ◌≡◌, ◌<ℤ◌, FitsSigned, to_z, of_z, to_z-of_z, w64}
 use Rattle.gtd_calendar.specs.facts.Signed.{signed_arith}
 use Rattle.gtd_recur.proofs.JumpLemmas.{clipped}

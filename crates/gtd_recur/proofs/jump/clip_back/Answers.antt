@@ -1,3 +1,4 @@
+-- The part of the days before the end and from the lowest on; it is empty and at the lowest if the days end there.
 use Rattle.std.proofs.Common.{rules, arith, ◌≡◌, ◌≤ℤ◌, FitsSigned, to_z, of_z, to_z-of_z, w64}
 use Rattle.gtd_calendar.specs.facts.Signed.{signed_arith}
 use Rattle.gtd_recur.proofs.BackLemmas.{clipped-words, clipped-none}

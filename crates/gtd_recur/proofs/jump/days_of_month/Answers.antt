@@ -1,3 +1,4 @@
+-- The month of this year, if it is not over, and otherwise that of the next year is the next run: none lies between.
 use Rattle.std.proofs.Common.{rules, arith, ◌≤ℤ◌, ◌<ℤ◌, FitsSigned, to_z-of_z, w64}
 use Rattle.gtd_calendar.specs.facts.Signed.{signed_arith}
 use Rattle.gtd_recur.proofs.JumpLemmas.{month-this_year, month-next_year, next-open}

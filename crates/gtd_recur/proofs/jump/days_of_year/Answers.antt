@@ -1,3 +1,4 @@
+-- Outside of 1800 to 2699 no day of the search is in the year; otherwise its months are one run, ahead or over.
 use Rattle.std.proofs.Common.{rules, arith, inl, inr, ◌≡◌, ◌≤ℤ◌, ◌<ℤ◌, pos, FitsSigned, to_z, of_z, to_z-of_z, w64, ◌⊎◌}
 use Rattle.gtd_calendar.specs.facts.Signed.{signed_arith}
 use Rattle.gtd_recur.proofs.JumpLemmas.{year-run, year-past, year-never}

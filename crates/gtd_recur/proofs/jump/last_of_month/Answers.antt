@@ -1,3 +1,4 @@
+-- The month of the last day's year, if it has begun, and otherwise that of the year before is the last run.
 use Rattle.std.proofs.Common.{rules, arith, ◌≡◌, ◌≤ℤ◌, pos, FitsSigned, to_z-of_z, w64}
 use Rattle.gtd_calendar.specs.facts.Signed.{signed_arith}
 use Rattle.gtd_recur.specs.Jumps.{IsOfMonth}

@@ -1,3 +1,4 @@
+-- Outside of 1800 to 2699 no day of the search is in the year; otherwise its months are one run, before the end or not.
 use Rattle.std.proofs.Common.{rules, arith, ◌≤ℤ◌, ◌<ℤ◌, pos, FitsSigned, to_z-of_z, w64, ◌⊎◌}
 use Rattle.gtd_calendar.specs.facts.Signed.{signed_arith}
 use Rattle.gtd_recur.proofs.BackLemmas.{year-last, year-ahead, year-nowhere}

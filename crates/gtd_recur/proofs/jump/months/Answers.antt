@@ -1,3 +1,4 @@
+-- The months end where the next month begins, which after December is January of the next year.
 use Rattle.std.proofs.Common.{rules, arith, ◌≡◌, pos, FitsSigned, to_z, of_z, to_z-of_z, w64, ◌+ℤ◌}
 use Rattle.gtd_calendar.specs.facts.Signed.{signed_arith}
 use Rattle.gtd_recur.proofs.JumpLemmas.{months-then, months-else}

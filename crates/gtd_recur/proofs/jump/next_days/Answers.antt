@@ -1,3 +1,4 @@
+-- A week given leaves the year to the week, so that only the month counts; otherwise year and month make the run.
 use Rattle.std.proofs.Common.{arith, inl, inr, ◌≡◌, pos, true, to_z, of_z, to_z-of_z, w64, is_some, ◌⊎◌, None}
 use Rattle.gtd_calendar.specs.facts.Signed.{signed_arith}
 use Rattle.gtd_recur.proofs.JumpLemmas.{run-same, same-year, same-month}

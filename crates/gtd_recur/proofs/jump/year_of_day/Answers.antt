@@ -1,3 +1,4 @@
+-- The guess by the mean length of a year is wrong by at most one: the first days of two years tell which it is.
 use Rattle.std.proofs.Common.{arith, rules, ◌≤ℤ◌, ◌<ℤ◌, pos, FitsSigned, w64, ◌-ℤ◌}
 use Rattle.gtd_calendar.specs.facts.Signed.{signed_arith}
 use Rattle.gtd_recur.proofs.JumpLemmas.{year-early, year-here, year-late, year-low, guess-is}

@@ -1,3 +1,4 @@
+-- Stretches move along with their starts by 400 years, forwards and back.
 use Rattle.gtd_recur.specs.facts.CycleLemmas.{in_stretches-forward, in_stretches-back}
 use Rattle.gtd_recur.proofs.laws.domains_repeat.Goals as goal
 

@@ -1,3 +1,4 @@
+-- The list goes by days and, within a day, by seconds; what is in it begins there, and what begins there is in it.
 use Rattle.gtd_core.specs.Parts.{start_parts}
 use Rattle.gtd_core.specs.Whole.{to_day}
 use Rattle.gtd_recur.specs.Work.{window, window_begin}

@@ -1,3 +1,4 @@
+-- The later begin and the earlier end of two spans bound their common part, if there is one.
 use Rattle.gtd_recur.proofs.StretchLemmas.{cut-is}
 use Rattle.gtd_recur.proofs.runs.cut.Goals as goal
 

@@ -1,3 +1,5 @@
+-- A start up to the end reached belongs to the run, and with it the starts of its day that lie close enough; the first
+-- start after the end does not.
 use Rattle.std.proofs.Common.{◌≡◌, ◌∙◌, ap, sym, arith, ◌≤ℤ◌, ◌<ℤ◌, refl, pos, ◌+ℤ◌, ℤ, List, length}
 use Rattle.gtd_calendar.specs.facts.Signed.{signed_arith}
 use Rattle.gtd_core.specs.Parts.{duration_parts}

@@ -1,3 +1,4 @@
+-- No stretch from a day before the walk ends later than the last of its first day, so no run of the horizon is lost.
 use Rattle.std.proofs.Common.{◌≡◌, ◌∙◌, [], ap, ℕ}
 use Rattle.std.specs.Prelude.{take}
 use Rattle.gtd_core.specs.Parts.{start_parts, duration_parts}

@@ -1,3 +1,5 @@
+-- Runs that end before the horizon are passed over; the first with a part in it is the next of the list, at no more
+-- work than up to the starts behind it.
 use Rattle.std.proofs.Common.{◌≡◌, ◌∙◌, arith, [], rules, Some}
 use Rattle.gtd_core.specs.Parts.{duration_parts}
 use Rattle.gtd_core.specs.Whole.{whole}

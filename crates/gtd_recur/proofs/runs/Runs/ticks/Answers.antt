@@ -1,3 +1,4 @@
+-- The walk counts no more than all the work of the horizon, also when it looked back less far than it could.
 use Rattle.std.proofs.Common.{arith}
 use Rattle.gtd_recur.proofs.LookLemmas.{work-widen}
 use Rattle.gtd_recur.proofs.runs.Runs.ticks.Goals as goal

@@ -1,3 +1,4 @@
+-- The walk from the first day of the lookback on has all starts of the window before it.
 use Rattle.std.proofs.Common.{◌∙◌, ap, ℕ, ℤ}
 use Rattle.std.specs.Prelude.{take}
 use Rattle.gtd_core.specs.Parts.{start_parts}

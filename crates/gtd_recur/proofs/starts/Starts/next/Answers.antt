@@ -1,3 +1,4 @@
+-- The counts of the walk, read for one that begins at the first day of the window.
 use Rattle.std.proofs.Common.{arith}
 use Rattle.gtd_calendar.specs.facts.Signed.{signed_arith}
 use Rattle.gtd_recur.specs.Work.{counted_work}

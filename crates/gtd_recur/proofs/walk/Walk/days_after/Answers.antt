@@ -1,3 +1,4 @@
+-- Within a run of days the rest of it comes next; at its end, the next run that month and year do not exclude.
 use Rattle.std.proofs.Common.{arith, pos, ◌+ℤ◌, ◌<ℤ◌}
 use Rattle.std.specs.Prelude.{IsTrue}
 use Rattle.gtd_calendar.specs.facts.Signed.{signed_arith}

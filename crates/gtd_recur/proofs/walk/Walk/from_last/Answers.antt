@@ -1,3 +1,5 @@
+-- A walk from the last day with a start before the horizon: the days looked at backwards are counted, and that day
+-- is open with all its starts to come.
 use Rattle.std.proofs.Common.{◌≡◌, ◌+◌, arith, rules}
 use Rattle.gtd_calendar.specs.facts.Signed.{signed_arith}
 use Rattle.gtd_core.specs.Parts.{start_parts}

@@ -1,3 +1,4 @@
+-- A walk from the first day of the lookback: nothing is looked at, nothing is handed out, all starts are to come.
 use Rattle.std.proofs.Common.{arith, rules}
 use Rattle.gtd_calendar.specs.facts.Signed.{signed_arith}
 use Rattle.gtd_recur.proofs.FreshWalk.{window-computed, fresh-whole}

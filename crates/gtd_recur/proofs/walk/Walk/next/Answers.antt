@@ -1,3 +1,4 @@
+-- If the open day has no start left and no day is left to look at, all is handed out, and the count is the whole work.
 use Rattle.std.proofs.Common.{◌≡◌, ◌+◌, ◌<◌, ◌<ℤ◌, ◌≤ℤ◌, ◌-ℤ◌, ℤ, arith, ◌∙◌, sym, refl, rules, length, unsigned_abs}
 use Rattle.std.specs.Prelude.{count_by}
 use Rattle.std.proofs.lemmas.Int.{ints}

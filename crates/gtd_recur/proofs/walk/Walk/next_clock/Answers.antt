@@ -1,3 +1,4 @@
+-- On the open day, the start after one that was handed out comes one step later, up to the last.
 use Rattle.std.proofs.Common.{arith}
 use Rattle.gtd_core.specs.Parts.{start_parts}
 use Rattle.gtd_recur.specs.Begins.{begins_at}

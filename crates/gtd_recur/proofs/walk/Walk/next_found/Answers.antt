@@ -1,3 +1,4 @@
+-- By what the start asks for: each day fits, or its weekday decides, or its date must be looked at.
 use Rattle.std.proofs.Common.{arith}
 use Rattle.gtd_calendar.specs.facts.Signed.{signed_arith}
 use Rattle.gtd_recur.proofs.SmallLemmas.{walk-day}

@@ -1,3 +1,4 @@
+-- The next clock of the open day is the head of the list; one more is handed out, and the counts stay in their bounds.
 use Rattle.std.proofs.Common.{◌≡◌, arith, pos, ◌+ℤ◌, refl, rules, Some, ◌*ℤ◌}
 use Rattle.gtd_calendar.specs.facts.Signed.{signed_arith}
 use Rattle.gtd_core.specs.Parts.{start_parts}

@@ -1,3 +1,4 @@
+-- The days before the opened one have no start, so the list to come stays the same while the count of days grows.
 use Rattle.std.proofs.Common.{arith, rules}
 use Rattle.gtd_core.specs.Parts.{start_parts}
 use Rattle.gtd_recur.specs.facts.StartsLemmas.{opened-low, small-counts}

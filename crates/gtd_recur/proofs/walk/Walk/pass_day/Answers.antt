@@ -1,3 +1,4 @@
+-- The starts up to the last of the day leave the list at once, as many as steps fit between the clocks.
 use Rattle.std.proofs.Common.{◌≡◌, ◌+◌, arith, to_z, of_z, w64, refl, to_z-of_z, ◌∙◌}
 use Rattle.gtd_calendar.specs.facts.Signed.{signed_arith}
 use Rattle.gtd_core.specs.Parts.{start_parts}

@@ -1,3 +1,4 @@
+-- The days looked at and the starts handed out are part of those that there are.
 use Rattle.std.proofs.Common.{arith}
 use Rattle.gtd_core.specs.Parts.{start_parts}
 use Rattle.gtd_core.specs.Whole.{to_day}
