@@ -1,3 +1,4 @@
+-- The lemmas of the crate: cursors and their leaves, spans that repeat, and how long sets of seconds stay as they are.
 pub mod ExtentLemmas
 pub mod JoinedStays
 pub mod Leaves

@@ -1,3 +1,4 @@
+-- A domain that repeats shows each change within its period and the second's day: if none is there, none ever comes.
 use Rattle.std.proofs.Common.{◌≡◌, arith, true, false, inl, inr}
 use Rattle.std.specs.Prelude.{◌+ℤ◌, ◌<ℤ◌}
 use Rattle.std.proofs.lemmas.Int.{ints}

@@ -1,3 +1,4 @@
+-- The stays of two sides at one second make that of what the operator joins of them.
 use Rattle.std.specs.Prelude.{ℤ}
 use Rattle.gtd_eval.specs.Asked.{asked_tree}
 use Rattle.gtd_eval.specs.Membership.{InTree}

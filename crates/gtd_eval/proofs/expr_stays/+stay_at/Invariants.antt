@@ -1,3 +1,4 @@
+-- Each side of an expression is smaller than the expression.
 use Rattle.gtd_eval.specs.Asked.{asked_size}
 use Rattle.gtd_eval.proofs.expr_stays.+stay_at.Given as goal
 

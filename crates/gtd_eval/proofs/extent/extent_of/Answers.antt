@@ -1,3 +1,4 @@
+-- If membership differs from that at the first second, some seconds are in the domain and some are not.
 use Rattle.std.proofs.Common.{arith}
 use Rattle.std.proofs.lemmas.Int.{ints}
 use Rattle.gtd_core.specs.Parts.{domain_tree}

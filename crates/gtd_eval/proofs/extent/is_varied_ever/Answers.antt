@@ -1,3 +1,4 @@
+-- A domain without years that does not change within the days after which it repeats never changes.
 use Rattle.std.proofs.Common.{arith}
 use Rattle.std.proofs.lemmas.Int.{ints}
 use Rattle.std.proofs.lemmas.Result.{IfOk-weaker}

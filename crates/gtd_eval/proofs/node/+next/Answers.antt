@@ -1,3 +1,5 @@
+-- What a sweep takes from a side leaves its own list as it was, and each step leaves less to take: over one side, and
+-- over two.
 use Rattle.std.proofs.Common.{◌∙◌, []}
 use Rattle.gtd_eval.specs.Nodes.{node_list}
 use Rattle.gtd_eval.proofs.node.+next.Goals as goal

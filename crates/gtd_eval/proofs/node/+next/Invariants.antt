@@ -1,3 +1,5 @@
+-- The calls go down to nodes of fewer parts; at each turn the list still to come is that of the call's begin, and the
+-- sides hold fewer spans or have ended.
 use Rattle.std.proofs.Common.{◌≡◌, ◌+◌, ◌*◌, length, []}
 use Rattle.gtd_spans.specs.Sweeping.{Fits, HasOneSide, still, unended_sides}
 use Rattle.gtd_eval.specs.Nodes.{node_list, node_shape, node_parts, IsSoundNode}

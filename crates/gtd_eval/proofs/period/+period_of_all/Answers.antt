@@ -1,3 +1,4 @@
+-- What repeats after a period repeats after each longer one, so both sides repeat after the longer of their two.
 use Rattle.gtd_core.specs.Trees.{tree_of}
 use Rattle.gtd_recur.specs.Periods.{period_seconds}
 use Rattle.gtd_eval.specs.facts.PeriodFacts.{all-longer}

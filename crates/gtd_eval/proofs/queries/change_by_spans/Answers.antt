@@ -1,3 +1,4 @@
+-- The next change in the list of spans is that of the domain, whose seconds in the horizon the list has.
 use Rattle.gtd_core.specs.Whole.{whole}
 use Rattle.gtd_eval.specs.Cursors.{cursor_list}
 use Rattle.gtd_eval.specs.Membership.{InDomain}

@@ -1,3 +1,4 @@
+-- The stays of two sides join to that of both, which lasts at least until a basic domain of a side changes.
 use Rattle.gtd_eval.proofs.JoinedStays.{join-far, join-stays}
 use Rattle.gtd_eval.proofs.stay.+each_stay.Goals as goal
 

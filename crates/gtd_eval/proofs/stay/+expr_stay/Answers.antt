@@ -1,3 +1,4 @@
+-- The stays of two sides join to that of both, also where a side that repeats was found not to change.
 use Rattle.gtd_eval.proofs.JoinedStays.{join-far, join-stays}
 use Rattle.gtd_eval.proofs.stay.+expr_stay.Goals as goal
 

@@ -1,3 +1,4 @@
+-- From stay to stay membership is that at the first second, up to where the walk over them stops.
 use Rattle.std.proofs.Common.{◌≡◌, arith, rules}
 use Rattle.std.proofs.lemmas.Int.{ints}
 use Rattle.gtd_core.specs.Trees.{tree_of}

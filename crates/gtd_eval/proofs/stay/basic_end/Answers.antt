@@ -1,3 +1,4 @@
+-- The answer whether the second is in the domain decides between the search for its end and for its next begin.
 use Rattle.std.proofs.Common.{rules}
 use Rattle.gtd_eval.proofs.stay.basic_end.Goals as goal
 

@@ -1,3 +1,4 @@
+-- Membership at the second, and its first change after it or the end of the horizon, make the stay.
 use Rattle.gtd_eval.proofs.stay.basic_stay.Goals as goal
 
 pub returns : goal.returns

@@ -1,3 +1,5 @@
+-- From the second's day to the end of the horizon, or to eight days later if that is before: a horizon in any case, and
+-- longer than a week after the second.
 use Rattle.std.proofs.Common.{arith, rules, FitsSigned, to_z-of_z, w64, ◌∙◌}
 use Rattle.std.specs.Prelude.{IsTrue}
 use Rattle.std.proofs.lemmas.Int.{ints}

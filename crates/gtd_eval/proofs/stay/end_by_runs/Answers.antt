@@ -1,3 +1,4 @@
+-- The next change among the runs of the days looked at; with none in them, what repeats weekly has none later either.
 use Rattle.std.specs.Prelude.{◌⊎◌}
 use Rattle.std.proofs.Common.{arith, inl, inr}
 use Rattle.std.proofs.lemmas.Int.{ints}

@@ -1,3 +1,4 @@
+-- Up to the next start nothing begins, so that a start whose stretch holds its second is the change.
 use Rattle.std.proofs.Common.{arith, rules, FitsSigned, to_z-of_z, w64}
 use Rattle.std.proofs.lemmas.Int.{ints}
 use Rattle.gtd_core.specs.Parts.{start_parts, duration_parts}

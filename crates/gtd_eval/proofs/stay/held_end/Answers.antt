@@ -1,3 +1,4 @@
+-- The first second without a stretch is the change; held for a whole week, what repeats weekly is held for ever.
 use Rattle.std.specs.Prelude.{◌⊎◌}
 use Rattle.std.proofs.Common.{arith, inl, inr, rules, FitsSigned, to_z-of_z, w64}
 use Rattle.std.proofs.lemmas.Int.{ints}

@@ -1,3 +1,4 @@
+-- Alike for a whole period means alike for ever, so then the stay reaches to the end of the horizon.
 use Rattle.std.proofs.Common.{refl, arith, rules, FitsSigned, to_z-of_z, w64}
 use Rattle.std.specs.Prelude.{◌≤ℤ◌, ◌+ℤ◌}
 use Rattle.std.proofs.lemmas.Int.{ints}

@@ -1,3 +1,4 @@
+-- With nothing taken ahead, the runs to come are all of the domain's seconds in the horizon.
 use Rattle.gtd_core.specs.Whole.{whole}
 use Rattle.gtd_eval.proofs.OnwardFacts.{basic-is}
 use Rattle.gtd_eval.proofs.basic_stays.BasicStays.new.Goals as goal

@@ -1,3 +1,4 @@
+-- Without its first run, the list is that of the domain's seconds from the end of that run on.
 use Rattle.std.proofs.Common.{◌≡◌, ◌∷◌}
 use Rattle.gtd_core.specs.Whole.{whole}
 use Rattle.gtd_recur.specs.RunsToCome.{runs_to_come}

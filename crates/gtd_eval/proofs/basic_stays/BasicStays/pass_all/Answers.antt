@@ -1,3 +1,4 @@
+-- Each run that is passed over leaves fewer to come, so the loop ends.
 use Rattle.gtd_eval.proofs.OnwardFacts.{fewer}
 use Rattle.gtd_eval.proofs.basic_stays.BasicStays.pass_all.Goals as goal
 

@@ -1,3 +1,4 @@
+-- If no run is left, the domain is free to the end; otherwise the first one left tells by its begin and its end.
 use Rattle.std.proofs.Common.{◌∙◌, refl}
 use Rattle.gtd_eval.proofs.OnwardFacts.{none-left, some-left}
 use Rattle.gtd_eval.proofs.basic_stays.BasicStays.stay.Goals as goal

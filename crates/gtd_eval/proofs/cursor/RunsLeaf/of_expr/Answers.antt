@@ -1,3 +1,4 @@
+-- The runs of a basic domain are what its expression asks of a leaf: its seconds, its work and one node.
 use Rattle.gtd_eval.proofs.Leaves.{runs-whole}
 use Rattle.gtd_eval.proofs.cursor.RunsLeaf.of_expr.Goals as goal
 

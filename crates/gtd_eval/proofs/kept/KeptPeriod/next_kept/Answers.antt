@@ -1,3 +1,4 @@
+-- Once a period is kept, the kept spans move on by it and make the same list as the cursor.
 use Rattle.gtd_recur.specs.facts.StretchFacts.{runs_between-normal}
 use Rattle.gtd_eval.specs.Cursors.{cursor_list}
 use Rattle.gtd_eval.specs.facts.CursorFacts.{cursor-normal}

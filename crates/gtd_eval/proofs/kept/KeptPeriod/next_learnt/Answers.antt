@@ -1,3 +1,4 @@
+-- While the spans of a period are learnt, the list is the cursor's own, and keeping one does not change it.
 use Rattle.std.proofs.Common.{◌∙◌, sym, ap, ◌∷◌, List}
 use Rattle.gtd_core.specs.Seconds.{Interval}
 use Rattle.gtd_recur.specs.facts.StretchFacts.{runs_between-normal}

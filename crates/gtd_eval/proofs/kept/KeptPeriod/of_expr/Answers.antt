@@ -1,3 +1,4 @@
+-- An expression whose basic domains all repeat after the period has a list of spans that does.
 use Rattle.gtd_core.specs.Trees.{tree_of}
 use Rattle.gtd_eval.specs.Cursors.{cursor_list}
 use Rattle.gtd_eval.proofs.Unions.{expr-fits}

@@ -1,3 +1,4 @@
+-- A basic domain that is not kept is a leaf by its runs, as in a cursor that keeps nothing.
 use Rattle.gtd_eval.proofs.Leaves.{runs-whole}
 use Rattle.gtd_eval.proofs.kept.PartLeaf.of_expr.Goals as goal
 

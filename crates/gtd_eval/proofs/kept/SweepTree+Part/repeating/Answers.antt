@@ -1,3 +1,4 @@
+-- A list whose seconds are in the horizon and repeat there may be learnt: nothing of it is kept yet.
 use Rattle.gtd_recur.specs.facts.StretchFacts.{runs_between-normal}
 use Rattle.gtd_eval.specs.Cursors.{cursor_list}
 use Rattle.gtd_eval.specs.facts.CursorFacts.{cursor-normal}

@@ -1,3 +1,4 @@
+-- Each period keeps at most 4,096 spans, and there are no more periods than nodes, so the sum stays below 2^64.
 use Rattle.std.proofs.Common.{arith}
 use Rattle.gtd_eval.specs.facts.NodeFacts.{node_kept-le, node_periods-le}
 use Rattle.gtd_eval.proofs.node.Node.+kept.Goals as goal

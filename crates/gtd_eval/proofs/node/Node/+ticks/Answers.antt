@@ -1,3 +1,4 @@
+-- The ticks of each side are at most its work, which is small for each node, so the sum stays below 2^64.
 use Rattle.std.proofs.Common.{arith}
 use Rattle.gtd_eval.specs.facts.NodeFacts.{node_work-le}
 use Rattle.gtd_eval.proofs.node.Node.+ticks.Goals as goal

@@ -1,3 +1,4 @@
+-- A span a period later, whole, or cut at the end of the horizon.
 use Rattle.std.proofs.Common.{arith}
 use Rattle.std.proofs.lemmas.Int.{ints}
 use Rattle.gtd_eval.proofs.RepeatLemmas.{cut-is, full-is}

@@ -1,3 +1,4 @@
+-- One more span at the end of the kept ones: what is kept is still how the list begins.
 use Rattle.std.proofs.Common.{rules, ◌≡◌, ◌∷◌, ◌++◌, []}
 use Rattle.gtd_eval.proofs.RepeatLemmas.{kept-pushed}
 use Rattle.gtd_eval.proofs.repeat.Repeat.append.Goals as goal

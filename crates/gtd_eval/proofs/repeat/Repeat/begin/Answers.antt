@@ -1,3 +1,4 @@
+-- The first span, which the begin of the horizon may have cut, is not kept: the list goes on without it.
 use Rattle.gtd_eval.proofs.RepeatLemmas.{kept-not}
 use Rattle.gtd_eval.proofs.repeat.Repeat.begin.Goals as goal
 

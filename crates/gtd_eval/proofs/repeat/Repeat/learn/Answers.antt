@@ -1,3 +1,5 @@
+-- A span a period after the first kept one closes the period: from then on all spans follow from the kept ones. Any
+-- other is kept behind them.
 use Rattle.std.proofs.Common.{refl, drop}
 use Rattle.gtd_eval.specs.Kept.{kept_list}
 use Rattle.gtd_eval.proofs.RepeatLemmas.{kept-all, begun-all}

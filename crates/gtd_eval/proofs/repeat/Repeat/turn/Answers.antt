@@ -1,3 +1,5 @@
+-- The first kept span a period later is the next of the list; if none is kept, or it would begin after the horizon,
+-- the list is at its end.
 use Rattle.std.proofs.Common.{drop}
 use Rattle.gtd_eval.specs.Kept.{kept_list}
 use Rattle.gtd_eval.proofs.RepeatLemmas.{turns-some, turns-late, turns-none}

@@ -1,3 +1,4 @@
+-- The chains of the two halves of the list, joined by one sweep, are the chain of the whole list.
 use Rattle.std.proofs.Common.{◌<◌, List, ◌++◌, ap, ◌∙◌, arith, length, length-append, append_assoc}
 use Rattle.gtd_core.specs.declared.domain.Op.{Op}
 use Rattle.gtd_eval.specs.Chains.{IsChainOf}

@@ -1,3 +1,4 @@
+-- Each half has fewer cursors than the whole.
 use Rattle.std.specs.Prelude.{◌+◌, ◌*◌}
 use Rattle.gtd_eval.proofs.tree.SweepTree.+joining.Given as goal
 

@@ -1,3 +1,5 @@
+-- The terms of both sides one after another are those of the expression; terms of another operator than the one asked
+-- for are joined to one of their own.
 use Rattle.std.proofs.Common.{rules, ◌≡◌, ◌∙◌, ◌-◌, sym, length, arith}
 use Rattle.gtd_eval.proofs.Unions.{both-terms, count-of-terms}
 use Rattle.gtd_eval.proofs.tree.SweepTree.+push_terms.Goals as goal

@@ -1,3 +1,4 @@
+-- All cursors were taken into one chain of unions, whose height grows by one when their number doubles.
 use Rattle.std.proofs.Common.{◌≡◌, ◌≤◌, ◌^◌, ◌+◌, ℕ, List, length, subst, arith}
 use Rattle.std.specs.Prelude.{vec_len}
 use Rattle.gtd_core.specs.declared.domain.Op.TheVariants.{Union}

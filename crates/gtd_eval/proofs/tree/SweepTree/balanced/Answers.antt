@@ -1,3 +1,4 @@
+-- The terms of an expression, joined as a balanced chain, have its seconds, its work and a low tree.
 use Rattle.std.proofs.Common.{◌≡◌, ◌∙◌, List, length, sym, ap, arith}
 use Rattle.gtd_core.specs.Trees.{tree_of}
 use Rattle.gtd_core.specs.Whole.{whole}

@@ -1,3 +1,4 @@
+-- A sweep over one node that fits, of one node more than the cursor had.
 use Rattle.std.proofs.Common.{arith, []}
 use Rattle.gtd_eval.specs.facts.NodeFacts.{node_list-normal}
 use Rattle.gtd_eval.proofs.tree.SweepTree.outside.Goals as goal

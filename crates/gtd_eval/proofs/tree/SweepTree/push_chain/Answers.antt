@@ -1,3 +1,4 @@
+-- The terms at the end of the list, joined to one chain, stand for the expression that they came from.
 use Rattle.std.proofs.Common.{◌∙◌, arith}
 use Rattle.gtd_eval.proofs.Unions.{chain-of-terms, chain-in, chain-low, one-term, chain-nodes}
 use Rattle.gtd_eval.proofs.tree.SweepTree.push_chain.Goals as goal
