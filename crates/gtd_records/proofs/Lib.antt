@@ -1,3 +1,4 @@
+-- The lemmas of the crate: rows and tables, what is read of them, records by element, faults, and files cut in parts.
 pub mod ListFacts
 pub mod TableFacts
 pub mod TakingFacts

@@ -1,3 +1,4 @@
+-- The next change of the open seconds is the element's; if weekly records have none in a week, they have none later.
 use Rattle.std.proofs.Common.{sym, ◌∙◌}
 use Rattle.std.specs.Prelude.{ℤ, MatchOption, ◌↔◌, ◌⊎◌, ◌+ℤ◌, ◌<ℤ◌, ◌≤ℤ◌, ◌≡◌, IsTrue}
 use Rattle.gtd_core.specs.Whole.{whole}

@@ -1,3 +1,4 @@
+-- From stay to stay the element's state is that at the first second, up to the stay whose state differs.
 use Rattle.std.proofs.Common.{◌≡◌, ap, arith, rules}
 use Rattle.std.specs.Prelude.{ℤ, ◌<ℤ◌, ◌≤ℤ◌, not}
 use Rattle.std.proofs.lemmas.Int.{ints}

@@ -1,3 +1,4 @@
+-- A number of at most two digits is below 100, so it fits a byte.
 use Rattle.std.proofs.Common.{◌∙◌, ◌<◌, ◌^◌, sym, arith}
 use Rattle.gtd_records.specs.facts.NumberFacts.{number_below}
 use Rattle.gtd_records.proofs.column.read_code.Goals as goal

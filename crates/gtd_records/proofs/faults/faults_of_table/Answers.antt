@@ -1,3 +1,4 @@
+-- The faults of all rows that were taken are the table's; one row too many adds its fault behind them.
 use Rattle.gtd_records.proofs.TakerFacts.{faults_read, faults_too_many}
 use Rattle.gtd_records.proofs.faults.faults_of_table.Goals as goal
 

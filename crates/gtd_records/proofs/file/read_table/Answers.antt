@@ -1,3 +1,5 @@
+-- All rows taken make the table's records, of which there are no more than allowed; a row that stopped the reading, or
+-- one row too many, gives the table's fault.
 use Rattle.gtd_records.specs.facts.FileFacts.{few_of}
 use Rattle.gtd_records.proofs.TakerFacts.{table_at_fault, table_read, table_too_long}
 use Rattle.gtd_records.proofs.file.read_table.Goals as goal

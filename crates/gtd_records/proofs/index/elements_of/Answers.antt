@@ -1,3 +1,4 @@
+-- Numbers that are sorted and rid of neighbours that are equal are in strict order, and the same ones as before.
 use Rattle.std.proofs.Common.{sym, subst, List, ℕ}
 use Rattle.std.specs.List.{Contains}
 use Rattle.std.specs.List.Sorted.{IsSorted}

@@ -1,3 +1,4 @@
+-- Sorted and rid of equal neighbours, the numbers are the same ones, each once and in ascending order.
 use Rattle.gtd_records.proofs.SortedSets.{sorted_set}
 use Rattle.gtd_records.proofs.index.in_order.Goals as goal
 

@@ -1,3 +1,4 @@
+-- Places sorted by element are parted by the test "below", so a binary search finds where they part.
 use Rattle.std.proofs.Common.{ltb, ltb-true, ltb-false, rules}
 use Rattle.std.proofs.lemmas.List.Sorted.{IsPartitionPoint-from_clause, IsPartitionedBy-ltb}
 use Rattle.gtd_records.specs.declared.index.RowPlace.{RowPlace}

@@ -1,3 +1,4 @@
+-- One place for each row; exchanging and sorting them loses none and adds none.
 use Rattle.std.proofs.Common.{◌≡◌, ◌∙◌, ap, sym, subst, refl, arith, rules, List, length}
 use Rattle.std.proofs.lemmas.List.Sorted.{All-permutation, Contains-permutation, IsNonDecreasingBy-from_sort_by_key, IsPermutation-trans}
 use Rattle.std.specs.List.Sorted.{IsPermutation}

@@ -1,3 +1,4 @@
+-- Copies of a text and of the domain it stands for stand for each other too.
 use Rattle.std.proofs.Common.{◌≡◌, sym}
 use Rattle.gtd_records.proofs.DomainTexts.{moved}
 use Rattle.gtd_records.proofs.known.known_text.Goals as goal

@@ -1,3 +1,4 @@
+-- Each text of a domain is read to a tree or a fault, so each row is, and so each file.
 use Rattle.gtd_records.proofs.EachFile.{each_file}
 use Rattle.gtd_records.specs.facts.FileForms.{file_of}
 use Rattle.gtd_records.proofs.laws.each_file.Goals as goal

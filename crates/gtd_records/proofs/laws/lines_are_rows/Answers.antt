@@ -1,3 +1,5 @@
+-- In an accepted file no field holds a line end, so no quote is open at one; a line without them is one record, and
+-- line ends alone are none.
 use Rattle.gtd_records.proofs.LineEnds.{no_rows, row_of_line}
 use Rattle.gtd_records.proofs.LineParts.{between}
 use Rattle.gtd_records.specs.facts.FileForms.{computed_file}

@@ -1,3 +1,5 @@
+-- The list is empty exactly for an accepted file, begins with its first fault and has just the rows at fault; no other
+-- list does.
 use Rattle.gtd_records.proofs.FaultFacts.{accepted, first_listed}
 use Rattle.gtd_records.proofs.ListedFacts.{listed_rows, one_list_of}
 use Rattle.gtd_records.specs.facts.FileForms.{computed_file, file_of}

@@ -1,3 +1,4 @@
+-- The laws of parts, for parts that end after a line end: there no quote is open if the first part is accepted.
 use Rattle.gtd_records.proofs.LineParts.{cut_after, fault_after, join_after}
 use Rattle.gtd_records.specs.facts.FileForms.{computed_file, file_of}
 use Rattle.gtd_records.proofs.laws.parts_by_lines.Goals as goal

@@ -1,3 +1,4 @@
+-- The rows of two parts, one after another, are those of the whole, so their records and their first fault are too.
 use Rattle.gtd_records.proofs.CutFaults.{first_part, second_part}
 use Rattle.gtd_records.proofs.CutFile.{fault_first, fault_later, join_files}
 use Rattle.gtd_records.specs.facts.FileForms.{computed_file, computed_table, file_of, table_of}

@@ -1,3 +1,4 @@
+-- The rows of a table are read one by one, so those before a cut and those after it are read as before.
 use Rattle.gtd_records.proofs.CutFacts.{cut, joined}
 use Rattle.gtd_records.specs.facts.FileForms.{computed_table, table_of}
 use Rattle.gtd_records.proofs.laws.parts_of_a_table.Goals as goal

@@ -1,3 +1,4 @@
+-- Where no quote is open the reader is as at the begin, so the records of both parts are those of the whole.
 use Rattle.gtd_records.proofs.CutBytes.{cut_records}
 use Rattle.gtd_records.proofs.CutFile.{cut_file}
 use Rattle.gtd_records.specs.facts.FileForms.{computed_file, file_of}

@@ -1,3 +1,4 @@
+-- Each row is read without its neighbours, so the restrictions of exchanged rows are the same, exchanged.
 use Rattle.gtd_records.proofs.AnyOrder.{in_any_order}
 use Rattle.gtd_records.specs.facts.FileForms.{computed_table, table_of}
 use Rattle.gtd_records.proofs.laws.rows_in_any_order.Goals as goal

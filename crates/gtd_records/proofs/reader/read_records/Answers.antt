@@ -1,3 +1,4 @@
+-- All bytes that came are few enough, so the answer for their table is that for the file.
 use Rattle.gtd_records.proofs.ReadFacts.{of_table}
 use Rattle.gtd_records.proofs.reader.read_records.Goals as goal
 

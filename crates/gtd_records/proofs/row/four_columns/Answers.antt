@@ -1,3 +1,4 @@
+-- A row of four fields has a field at each of the places 0 to 3, and these are all of it.
 use Rattle.std.proofs.Common.{◌≡◌, sym, arith, length}
 use Rattle.std.proofs.lemmas.Bool.Decides.{nat_tests}
 use Rattle.csv.specs.Records.{fields_of}

@@ -1,3 +1,4 @@
+-- A text that is not empty is a domain, or a fault with the number of its row.
 use Rattle.std.proofs.Common.{arith, refl}
 use Rattle.std.proofs.lemmas.Bool.Decides.{nat_tests}
 use Rattle.gtd_core.specs.Parts.{domain_tree}

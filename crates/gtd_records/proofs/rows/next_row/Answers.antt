@@ -1,3 +1,4 @@
+-- What the CSV reader hands out is the first of the records left, and the others are still left.
 use Rattle.csv.specs.Records.{fields_of}
 use Rattle.gtd_records.proofs.TableFacts.{takes_first}
 use Rattle.gtd_records.proofs.rows.next_row.Goals as goal

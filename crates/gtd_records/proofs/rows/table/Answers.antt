@@ -1,3 +1,4 @@
+-- A reader without headers and of any lengths starts before the first byte, with all records of the text left.
 use Rattle.std.proofs.Common.{◌∙◌, refl, inl, inr}
 use Rattle.csv.specs.Reading.{strip_bom}
 use Rattle.gtd_records.proofs.rows.table.Goals as goal

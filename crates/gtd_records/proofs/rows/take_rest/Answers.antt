@@ -1,3 +1,4 @@
+-- The rows taken so far and those that the reader has left are all rows; each way out tells how many there are.
 use Rattle.std.proofs.Common.{arith}
 use Rattle.gtd_records.proofs.TakingFacts.{all_taken, none_taken, row_left, row_stops, row_taken}
 use Rattle.gtd_records.proofs.rows.take_rest.Goals as goal

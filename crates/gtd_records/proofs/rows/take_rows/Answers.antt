@@ -1,3 +1,4 @@
+-- No record at all, a first one that is no header, or a header and the rows behind it: the three ways a table is taken.
 use Rattle.std.proofs.Common.{◌≡◌, refl, inl, inr, []}
 use Rattle.std.proofs.lemmas.Result.{IfOk-weaker}
 use Rattle.csv.specs.Reading.{default_config, strip_bom, records}

@@ -1,3 +1,4 @@
+-- If what closes the element repeats after a period, so do the seconds left open in the horizon.
 use Rattle.std.proofs.Common.{arith}
 use Rattle.std.proofs.lemmas.Int.{ints}
 use Rattle.gtd_eval.specs.Cursors.{cursor_list}

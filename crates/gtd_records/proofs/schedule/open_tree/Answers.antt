@@ -1,3 +1,4 @@
+-- The seconds outside of all closing cursors are those at which no record closes the element.
 use Rattle.gtd_eval.specs.Cursors.{cursor_list}
 use Rattle.gtd_records.proofs.OpenFacts.{ok_both, open_normal}
 use Rattle.gtd_records.proofs.schedule.open_tree.Goals as goal

@@ -1,3 +1,4 @@
+-- Places are sorted by element: if the first of them is not below the given one, none is.
 use Rattle.std.proofs.Common.{arith}
 use Rattle.gtd_records.proofs.SectionFacts.{all_above}
 use Rattle.gtd_records.proofs.sections.are_above.Goals as goal

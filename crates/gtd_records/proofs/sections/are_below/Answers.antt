@@ -1,3 +1,4 @@
+-- Places are sorted by element: if the last of them is below the given one, all are.
 use Rattle.std.proofs.Common.{◌-◌, arith}
 use Rattle.gtd_records.proofs.SectionFacts.{all_below}
 use Rattle.gtd_records.proofs.sections.are_below.Goals as goal

@@ -1,3 +1,4 @@
+-- If the places before a part are below the element and those after it are not, the part alone decides.
 use Rattle.std.proofs.Common.{arith, ◌≤◌, length}
 use Rattle.gtd_records.proofs.SectionFacts.{above_both, below_both, part_sorted, within_part}
 use Rattle.gtd_records.proofs.sections.places_below_near.Goals as goal

@@ -1,3 +1,4 @@
+-- Each exchange of two places keeps them all, only in another order.
 use Rattle.std.proofs.Common.{◌∙◌}
 use Rattle.std.proofs.lemmas.List.Sorted.{IsPermutation-trans}
 use Rattle.gtd_records.proofs.spread.gather.Goals as goal

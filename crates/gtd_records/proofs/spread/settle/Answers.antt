@@ -1,3 +1,4 @@
+-- Each place that moves down keeps all places, only in another order.
 use Rattle.std.proofs.Common.{◌∙◌}
 use Rattle.std.proofs.lemmas.List.Sorted.{IsPermutation-trans}
 use Rattle.gtd_records.proofs.spread.settle.Goals as goal

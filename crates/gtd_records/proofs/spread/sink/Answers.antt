@@ -1,3 +1,4 @@
+-- Each exchange with the place before keeps all places, only in another order.
 use Rattle.std.proofs.Common.{◌∙◌}
 use Rattle.std.proofs.lemmas.List.Sorted.{IsPermutation-trans}
 use Rattle.gtd_records.proofs.spread.sink.Goals as goal

@@ -1,3 +1,4 @@
+-- Gathering and settling, one after the other, change the order alone, as each of them does.
 use Rattle.std.proofs.lemmas.List.Sorted.{IsPermutation-trans}
 use Rattle.gtd_records.proofs.spread.spread.Goals as goal
 

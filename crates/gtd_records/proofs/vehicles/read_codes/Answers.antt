@@ -1,3 +1,4 @@
+-- The codes read so far are those of the items passed; an item that is no code leaves the whole list without any.
 use Rattle.std.proofs.Common.{rules, tests, ◌∙◌, ◌==◌, sym, refl, length, arith}
 use Rattle.std.proofs.lemmas.List.{length_push}
 use Rattle.std.proofs.lemmas.Iterator.Consumers.{YieldsList-turn, YieldsList-end}

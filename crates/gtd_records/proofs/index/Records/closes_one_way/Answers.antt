@@ -1,3 +1,4 @@
+-- A record that closes one direction alone is one of the file's, and the places of the element miss none that does.
 use Rattle.std.proofs.Common.{arith, rules, sym, subst, ℕ}
 use Rattle.gtd_records.specs.Closing.{ClosesOneWay}
 use Rattle.gtd_records.proofs.FoundPlaces.{none_more, nowhere, places_kept, told_found, told_none}

@@ -1,3 +1,4 @@
+-- The numbers of the rows gathered so far are those of the closing records among the places passed.
 use Rattle.std.proofs.Common.{arith, rules, sym, subst, ℕ}
 use Rattle.gtd_records.specs.Closing.{Closes}
 use Rattle.gtd_records.proofs.ClosingRowFacts.{all_rows, none_yet, skipped, taken}

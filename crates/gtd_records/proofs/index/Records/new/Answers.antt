@@ -1,3 +1,4 @@
+-- The places and the elements made of the rows are those that an index of these rows must have.
 use Rattle.gtd_records.specs.facts.IndexFacts.{are_elements}
 use Rattle.gtd_records.proofs.index.Records.new.Goals as goal
 

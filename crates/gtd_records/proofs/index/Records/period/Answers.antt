@@ -1,3 +1,4 @@
+-- The longest period so far is one after which each record passed repeats, and so does what they close together.
 use Rattle.std.proofs.Common.{◌≡◌, ◌∙◌, ◌+◌, ◌-◌, ◌<◌, ◌≤◌, sym, ap, subst, arith, rules, ℕ, length, take, drop}
 use Rattle.std.specs.Prelude.{slice_index_or}
 use Rattle.gtd_eval.specs.Periods.{RepeatsFrom}

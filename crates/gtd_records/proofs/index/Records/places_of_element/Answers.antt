@@ -1,3 +1,4 @@
+-- The places from the first not below the element up to the first of another are all of its records, and no other.
 use Rattle.std.proofs.Common.{◌≡◌, ◌∙◌, sym, ap, subst, arith, ℕ, List, length}
 use Rattle.std.specs.Prelude.{slice_index_or}
 use Rattle.gtd_records.specs.Index.{ArePlaces}

@@ -1,3 +1,4 @@
+-- The union of the records passed stays as it is as long as the stay so far says; a repeated record changes nothing.
 use Rattle.std.proofs.Common.{sym, arith, rules}
 use Rattle.gtd_records.proofs.StayFacts.{all_stay, skipped, taken}
 use Rattle.gtd_records.proofs.FoundPlaces.{nowhere, places_kept, repeats_kept}

@@ -1,3 +1,4 @@
+-- The kept domain stands for the kept text, which is byte for byte the one that is asked for.
 use Rattle.std.proofs.Common.{◌≡◌, rules}
 use Rattle.gtd_records.proofs.DomainTexts.{moved}
 use Rattle.gtd_records.proofs.known.KnownTexts.find.Goals as goal

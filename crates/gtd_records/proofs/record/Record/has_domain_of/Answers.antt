@@ -1,3 +1,4 @@
+-- Domains that compare equal have the same tree.
 use Rattle.std.proofs.Common.{◌≡◌, ◌∙◌, ap, sym}
 use Rattle.std.specs.Prelude.{Some}
 use Rattle.gtd_core.specs.Parts.{domain_tree}

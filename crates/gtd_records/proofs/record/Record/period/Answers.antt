@@ -1,3 +1,4 @@
+-- A period found for the domain is one after which the record's seconds repeat.
 use Rattle.gtd_core.specs.Parts.{domain_tree}
 use Rattle.gtd_eval.specs.facts.PeriodFacts.{found-from}
 use Rattle.gtd_records.proofs.record.Record.period.Goals as goal

@@ -1,3 +1,4 @@
+-- Sorted and rid of equal neighbours, the codes are the same ones, each once and in ascending order.
 use Rattle.std.proofs.Common.{sym, subst, List, ℕ}
 use Rattle.std.proofs.lemmas.Result.{IfOk-weaker}
 use Rattle.gtd_records.specs.Columns.{IsSortedSet}
