@@ -1,3 +1,4 @@
+-- A count of months splits into a year and a month, and the day is cut to the length of that month.
 use Rattle.std.proofs.Common.{arith, ◌≡◌, ◌+◌, ◌/◌, ◌%◌, to_z, of_z, w8, w16, w64, to_z-of_z, pos, ◌∙◌, ◌+ℤ◌, ◌-ℤ◌, ℤ, ◌<◌, ℕ}
 use Rattle.std.proofs.Common.{◌≤◌, min, FitsSigned, rules}
 use Rattle.jiff_core.proofs.SignedLemmas.{signed_arith, signed_casts}

@@ -1,3 +1,4 @@
+-- The difference to 1970-01-01 that `jiff` counts in days is the number of the day.
 use Rattle.std.proofs.Common.{arith, rules, ◌≡◌, ◌∙◌, sym, to_z, of_z, w64}
 use Rattle.jiff.specs.Types.{Day}
 use Rattle.jiff.specs.Words.{IsDateDifference}

@@ -1,3 +1,4 @@
+-- The place in the year moves by less than a week, so it stays from -4 to 368 and nothing overflows.
 use Rattle.std.proofs.Common.{arith, ◌≡◌, ◌+◌, ◌%◌, pos}
 use Rattle.jiff.specs.Words.{ordinal}
 use Rattle.jiff.proofs.SpanFacts.{signed_arith}

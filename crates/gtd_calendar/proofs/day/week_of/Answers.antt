@@ -1,3 +1,4 @@
+-- A Thursday in the date's year gives the week by its place, and near the ends of years `jiff` gives the same.
 use Rattle.std.proofs.Common.{arith, rules, ◌≡◌, ◌∙◌, ◌/◌, ℕ, pos, to_z, of_z, to_z-of_z, FitsSigned, w8, w16, unsigned_abs}
 use Rattle.jiff.specs.Week.{plain_week}
 use Rattle.jiff.proofs.SpanFacts.{signed_arith}

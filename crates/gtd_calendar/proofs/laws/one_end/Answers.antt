@@ -1,3 +1,4 @@
+-- The end that is computed is the stretch's, and any other end of that stretch equals it.
 use Rattle.gtd_calendar.specs.facts.StopLemmas.{stop-is, stop-only}
 use Rattle.gtd_calendar.proofs.laws.one_end.Goals as goal
 

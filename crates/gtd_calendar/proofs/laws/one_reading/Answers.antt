@@ -1,3 +1,4 @@
+-- What is computed from a text meets the definition of its reading, and any other reading equals it.
 use Rattle.gtd_calendar.proofs.MomentLemmas.{stamp_in-is, stamp_in-only}
 use Rattle.gtd_calendar.proofs.StampLemmas.{date_in-is, date_in-only}
 use Rattle.gtd_calendar.proofs.laws.one_reading.Goals as goal

@@ -1,3 +1,4 @@
+-- The computed texts of days and seconds meet their definitions, and any other text equals them.
 use Rattle.gtd_calendar.specs.facts.DateTexts.{date_text-is, date_text-only}
 use Rattle.gtd_calendar.specs.facts.StampTexts.{stamp_text-is, stamp_text-only}
 use Rattle.gtd_calendar.proofs.laws.one_text.Goals as goal

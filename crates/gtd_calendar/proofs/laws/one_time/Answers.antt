@@ -1,3 +1,4 @@
+-- The time that is computed is the second's, and any other time of that second equals it.
 use Rattle.gtd_calendar.specs.facts.TimeLemmas.{time_of-is, time_of-only}
 use Rattle.gtd_calendar.proofs.laws.one_time.Goals as goal
 

@@ -1,3 +1,4 @@
+-- If the bytes behind the date are no time of day, the text is no moment.
 use Rattle.std.proofs.Common.{rules, ◌≡◌, drop}
 use Rattle.gtd_calendar.proofs.MomentLemmas.{unclocked}
 use Rattle.gtd_calendar.proofs.stamp.moment.Goals as goal

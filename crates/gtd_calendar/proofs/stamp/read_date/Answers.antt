@@ -1,3 +1,4 @@
+-- On each way out the answer meets the definition of a read date, and only one answer does.
 use Rattle.std.proofs.Common.{rules}
 use Rattle.gtd_calendar.proofs.StampLemmas.{date_in-only}
 use Rattle.gtd_calendar.proofs.stamp.read_date.Goals as goal

@@ -1,3 +1,4 @@
+-- On each way out the answer meets the definition of a read moment, and only one answer does.
 use Rattle.std.proofs.Common.{rules, Result, subst, sym}
 use Rattle.gtd_calendar.proofs.MomentLemmas.{parts_in-only, stamp_in-is, stamp_in-only}
 use Rattle.gtd_core.specs.declared.second.Sec.{Sec}

@@ -1,3 +1,4 @@
+-- The ten bytes are those of the computed text, which is the text of the day.
 use Rattle.std.proofs.Common.{rules}
 use Rattle.gtd_calendar.specs.facts.DateTexts.{date_text-is}
 use Rattle.gtd_calendar.proofs.stamp.write_date.Goals as goal

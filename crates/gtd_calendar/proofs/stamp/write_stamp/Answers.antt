@@ -1,3 +1,4 @@
+-- The nineteen bytes are those of the computed text, which is the text of the second.
 use Rattle.std.proofs.Common.{rules}
 use Rattle.gtd_calendar.specs.facts.StampTexts.{stamp_text-is}
 use Rattle.gtd_calendar.proofs.stamp.write_stamp.Goals as goal

@@ -1,3 +1,4 @@
+-- The first of the month is so few days after New Year that their difference fits 16 bits.
 use Rattle.std.proofs.Common.{rules, ◌∙◌, pos, ◌-◌, arith}
 use Rattle.gtd_calendar.specs.Calendar.{days_of_months}
 use Rattle.gtd_calendar.specs.facts.YearDays.{few_before, near_cast}

@@ -1,3 +1,4 @@
+-- The days from one New Year to the next are within the bounds of a horizon, so none is refused.
 use Rattle.std.proofs.Common.{rules, ◌≡◌, ◌∙◌, pos, FitsSigned, to_z, of_z, w64, to_z-of_z, ◌+◌}
 use Rattle.gtd_calendar.specs.Calendar.{first_day}
 use Rattle.gtd_calendar.specs.facts.YearDays.{next_year, no_fault, year_horizon}

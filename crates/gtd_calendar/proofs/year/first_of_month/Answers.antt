@@ -1,3 +1,4 @@
+-- The number of the first of a month is that of New Year and the days of the months before, and casts keep it.
 use Rattle.std.proofs.Common.{rules, ◌≡◌, ◌∙◌, pos, ℤ, FitsSigned, to_z, of_z, w64, to_z-of_z, ap, arith}
 use Rattle.gtd_calendar.specs.facts.Signed.{signed_arith}
 use Rattle.gtd_calendar.specs.Calendar.{day_number}

@@ -1,3 +1,4 @@
+-- The next New Year is at most 366 days away, so their difference fits 16 bits and is the year's length.
 use Rattle.std.proofs.Common.{rules, ◌∙◌, pos}
 use Rattle.gtd_calendar.specs.Calendar.{year_length}
 use Rattle.gtd_calendar.specs.facts.YearDays.{near_cast, next_year, year_length-few}

@@ -1,3 +1,4 @@
+-- Spans that end before the bounds are passed by; one that goes on behind them is cut, and its rest is kept for later.
 use Rattle.std.proofs.Common.{◌∙◌, ap, subst, arith, List, ◌∷◌, ◌↔◌}
 use Rattle.std.specs.Prelude.{◌≤ℤ◌, ◌<ℤ◌, None}
 use Rattle.std.proofs.lemmas.Int.{ints}

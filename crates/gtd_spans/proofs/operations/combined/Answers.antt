@@ -1,3 +1,4 @@
+-- The collected list is the combination of both lists, so it is normal and holds what the operator says.
 use Rattle.std.proofs.Common.{◌≡◌, ◌∙◌}
 use Rattle.std.proofs.lemmas.Result.{IfOk-weaker}
 use Rattle.gtd_spans.specs.Normal.{combine}

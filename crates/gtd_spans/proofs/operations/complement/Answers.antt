@@ -1,3 +1,4 @@
+-- The collected list is the horizon less the list, so it holds the horizon's other seconds and is normal.
 use Rattle.std.proofs.Common.{◌≡◌, [], ◌∷◌, ◌∙◌}
 use Rattle.std.proofs.lemmas.Result.{IfOk-weaker}
 use Rattle.gtd_core.specs.Whole.{whole}

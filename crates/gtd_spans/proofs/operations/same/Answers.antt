@@ -1,3 +1,4 @@
+-- Equal lists hold the same seconds, and normal lists of the same seconds are equal.
 use Rattle.std.proofs.Common.{◌≡◌, List, sym, ◌∙◌, ap, subst}
 use Rattle.std.specs.Bool.{Decides}
 use Rattle.std.proofs.lemmas.Bool.Decides.{Decides-int_eq}

@@ -1,3 +1,4 @@
+-- The collected list is the list met with the horizon, so it holds the list's seconds there and is normal.
 use Rattle.std.proofs.Common.{◌≡◌, [], ◌∷◌, ◌∙◌}
 use Rattle.std.proofs.lemmas.Result.{IfOk-weaker}
 use Rattle.gtd_core.specs.Whole.{whole}

@@ -1,3 +1,5 @@
+-- The first span that ends after the second decides: the change is its start, or its end if the second is inside;
+-- with no such span membership stays as it is.
 use Rattle.std.proofs.Common.{◌≡◌, ◌↔◌, List, ◌∷◌, refl, sym, subst, inl, arith}
 use Rattle.std.specs.Prelude.{ℤ, ◌≤ℤ◌, ◌<ℤ◌}
 use Rattle.std.proofs.lemmas.Int.{ints}

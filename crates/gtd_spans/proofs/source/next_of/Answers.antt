@@ -1,3 +1,4 @@
+-- What either source tells the sweep leaves what is still to come unchanged, until a span is handed out.
 use Rattle.std.proofs.Common.{◌∙◌}
 use Rattle.gtd_spans.proofs.source.next_of.Goals as goal
 

@@ -1,3 +1,4 @@
+-- What the one source tells the sweep leaves what is still to come unchanged, and the right side stays unasked.
 use Rattle.std.proofs.Common.{◌∙◌, []}
 use Rattle.gtd_spans.proofs.source.next_outside.Goals as goal
 

@@ -1,3 +1,4 @@
+-- After each token the state is that of the definition, so the tree at the end is the one the tokens stand for.
 use Rattle.std.proofs.Common.{◌≡◌, ap, ◌∙◌, sym, [], Some, length, arith}
 use Rattle.gtd_core.specs.Trees.{tree_of}
 use Rattle.std.proofs.lemmas.Result.{IfOk-weaker}

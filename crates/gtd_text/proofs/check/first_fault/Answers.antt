@@ -1,3 +1,4 @@
+-- The fault told is the one of the first byte that begins no token, or else the first one of the tokens.
 use Rattle.std.proofs.Common.{◌≡◌, ◌++◌, ◌∷◌, [], length, sym, ap, subst, inl, arith}
 use Rattle.gtd_text.specs.declared.check.findings.Findings.{Findings}
 use Rattle.gtd_text.specs.ComputedLexing.{Reads}

@@ -1,3 +1,4 @@
+-- What is before the place is spaces and whole tokens, and the findings are theirs.
 use Rattle.std.proofs.Common.{length, ◌-◌, ◌≤◌, List}
 use Rattle.gtd_text.specs.declared.token.Token.{Token}
 use Rattle.gtd_text.specs.facts.Lexed.{HasRead}

@@ -1,3 +1,5 @@
+-- A domain's tree is valid and has few leaves, so what holds for canonical texts of valid trees holds for it;
+-- equal trees have one canonical text, and one canonical text stands for one tree.
 use Rattle.std.proofs.Common.{ap}
 use Rattle.gtd_core.specs.Trees.{Tree}
 use Rattle.gtd_core.specs.Parts.{domain_tree}

@@ -1,3 +1,4 @@
+-- The token behind the spaces is the next one; it ends behind the place and within the text.
 use Rattle.std.proofs.Common.{sym}
 use Rattle.gtd_text.proofs.NextLemmas.{next_is, next_past, next_inside}
 use Rattle.gtd_text.proofs.lexer.next_token.Goals as goal

@@ -1,3 +1,4 @@
+-- Each span from the source begins after the list's last one, because the list and what is still to come are normal.
 use Rattle.std.proofs.Common.{◌≡◌, List, ◌++◌, ◌∷◌, ap, subst, ◌∙◌}
 use Rattle.gtd_core.specs.Seconds.{Interval}
 use Rattle.gtd_spans.specs.Normal.{IsNormal}

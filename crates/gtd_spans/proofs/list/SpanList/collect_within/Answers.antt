@@ -1,3 +1,4 @@
+-- Each span from the source may be pushed behind the list, since what the source gives is normal.
 use Rattle.std.proofs.Common.{◌≡◌, List, ◌++◌, ◌∷◌, ap, subst, ◌∙◌}
 use Rattle.gtd_core.specs.Seconds.{Interval}
 use Rattle.gtd_spans.specs.Normal.{IsNormal}

@@ -1,3 +1,4 @@
+-- The list and what is still to come make up the whole, and the list is no longer than it may be.
 use Rattle.std.proofs.Common.{◌≡◌, ◌≤◌, ◌++◌, length}
 use Rattle.gtd_spans.proofs.list.SpanList.collect_within.Given as goal
 

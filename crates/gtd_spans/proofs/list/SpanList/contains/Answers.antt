@@ -1,3 +1,4 @@
+-- A second is in the list exactly if one of its spans holds it: those passed do not, and no span is left at the end.
 use Rattle.std.proofs.Common.{◌≡◌, List, true, false, refl, subst, take, ◌+◌, ◌∙◌, inl, inr}
 use Rattle.gtd_core.specs.Seconds.{Interval}
 use Rattle.gtd_spans.specs.Normal.{Holds}

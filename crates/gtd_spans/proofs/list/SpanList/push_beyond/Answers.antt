@@ -1,3 +1,4 @@
+-- A normal list stays normal with a span behind its end.
 use Rattle.std.proofs.Common.{◌≡◌, subst}
 use Rattle.gtd_spans.specs.Normal.{IsNormal}
 use Rattle.gtd_spans.proofs.Pushed.{normal-append}

@@ -1,3 +1,4 @@
+-- The list gains the seconds of the span and no others, whether the span is joined to the last one or put behind it.
 use Rattle.std.proofs.Common.{◌≡◌, subst, rules}
 use Rattle.gtd_spans.specs.Normal.{IsNormal}
 use Rattle.gtd_spans.specs.Pushing.{AllEndBefore}

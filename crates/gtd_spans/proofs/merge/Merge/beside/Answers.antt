@@ -1,3 +1,4 @@
+-- Nothing is kept back at first, so what is still to come is the whole difference.
 use Rattle.gtd_core.specs.declared.domain.Op.TheVariants.{Minus}
 use Rattle.std.proofs.Common.{[], ◌∷◌}
 use Rattle.gtd_spans.specs.facts.Combining.{combine-normal}

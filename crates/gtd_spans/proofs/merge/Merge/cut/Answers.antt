@@ -1,3 +1,4 @@
+-- Case by case of how the right span lies to the left one: what is given of the left span and what is left of it.
 use Rattle.std.proofs.Common.{◌≡◌, Some, None, refl, arith, ◌∷◌}
 use Rattle.std.specs.Prelude.{◌≤ℤ◌, ◌<ℤ◌}
 use Rattle.std.proofs.lemmas.Int.{ints}

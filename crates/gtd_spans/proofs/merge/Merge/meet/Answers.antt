@@ -1,3 +1,4 @@
+-- The shared part is handed out, and the span that ends first can share nothing with what comes later.
 use Rattle.std.proofs.Common.{◌≡◌, ◌↔◌, List, Option, refl, MatchOption}
 use Rattle.std.specs.Prelude.{ℤ, ◌≤ℤ◌, ◌<ℤ◌}
 use Rattle.gtd_core.specs.Seconds.{Interval, Within}

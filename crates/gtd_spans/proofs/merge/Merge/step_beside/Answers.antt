@@ -1,3 +1,4 @@
+-- With no left span to come, a difference in need of one ends and gives nothing more.
 use Rattle.std.proofs.Common.{◌≡◌, ◌∙◌, sym, [], None}
 use Rattle.gtd_core.specs.declared.domain.Op.TheVariants.{Minus}
 use Rattle.gtd_spans.specs.Merging.{still}

@@ -1,3 +1,4 @@
+-- Once one side has ended, an intersection has nothing more to give.
 use Rattle.std.proofs.Common.{refl}
 use Rattle.gtd_core.specs.declared.domain.Op.TheVariants.{Meet}
 use Rattle.gtd_spans.proofs.MeetSteps.{nothing-more, meet-keeps, nothing-meet, meet-nothing}

@@ -1,3 +1,4 @@
+-- Once the right side has ended, the left spans are given as they are; once the left has ended, nothing is.
 use Rattle.std.proofs.Common.{◌≡◌, [], ◌∷◌, Some, None, refl}
 use Rattle.gtd_core.specs.declared.domain.Op.TheVariants.{Minus}
 use Rattle.gtd_spans.specs.Normal.{IsNormal}

@@ -1,3 +1,4 @@
+-- The spans to come are the horizon less the inner source, and the right side is never asked.
 use Rattle.std.proofs.Common.{[]}
 use Rattle.gtd_core.specs.Whole.{whole}
 use Rattle.gtd_spans.specs.facts.Whole.{minus-whole}

@@ -1,3 +1,4 @@
+-- A fresh sweep stands for the whole combination, which is normal and holds what the operator says.
 use Rattle.gtd_spans.specs.facts.Combining.{combine-normal, combine-holds}
 use Rattle.gtd_spans.proofs.sweep.Sweep.new.Goals as goal
 

@@ -1,3 +1,4 @@
+-- A fresh sweep stands for the horizon less its one side, which is normal and holds the other seconds.
 use Rattle.gtd_core.specs.Whole.{whole}
 use Rattle.gtd_spans.specs.facts.Combining.{combine-normal}
 use Rattle.gtd_spans.specs.facts.Whole.{minus-whole}

@@ -1,3 +1,4 @@
+-- A field goes into the duration as the definition puts it there, and a duration that closes is in its range.
 use Rattle.gtd_core.specs.Parts.{start_parts}
 use Rattle.gtd_text.specs.PendingParts.{sum_of, product_of}
 use Rattle.gtd_text.proofs.StepLemmas.{closed_duration, duration_field}

@@ -1,3 +1,4 @@
+-- A field goes into the start as the definition puts it there; its value fits a byte unless it is a year's.
 use Rattle.std.proofs.Common.{ap, ◌∙◌}
 use Rattle.gtd_core.specs.declared.start.StartParts.{StartParts}
 use Rattle.gtd_text.specs.Building.{InStart}

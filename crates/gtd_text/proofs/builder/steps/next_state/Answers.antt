@@ -1,3 +1,4 @@
+-- Each state hands the token on to its own step, whose result is what the definition gives.
 use Rattle.std.proofs.Common.{ap, ◌∙◌, sym}
 use Rattle.gtd_text.specs.Building.{step}
 use Rattle.gtd_text.specs.BuilderStates.{opened, stage_of}
