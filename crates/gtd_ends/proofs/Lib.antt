@@ -1,3 +1,4 @@
+-- Lemmas about bounded numbers, days, dates, times of ends and the ranges of ends.
 pub mod Bounded
 pub mod DayFacts
 pub mod Dates

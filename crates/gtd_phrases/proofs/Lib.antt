@@ -1,3 +1,4 @@
+-- Lemmas about phrases and their numbers, about reading the words of a line and about the words of each language.
 pub mod PhraseTerms
 pub mod Numbers
 pub mod Skeletons

@@ -1,3 +1,4 @@
+-- A domain's own invariant bounds its leaves, and the starts and durations in them are in range by their types.
 use Rattle.gtd_core.specs.facts.Leaves.{leaves_are_valid}
 use Rattle.gtd_core.proofs.laws.domains_are_valid.Goals as goal
 

@@ -1,3 +1,4 @@
+-- A day within its month stays there, one beyond it is carried into the next, and one beyond a February has no answer.
 use Rattle.std.proofs.Common.{rules, ◌∙◌}
 use Rattle.gtd_ends.proofs.DayFacts.{next_month, no_ends, past_february, same_month}
 use Rattle.gtd_ends.proofs.date.+days_on.Goals as goal

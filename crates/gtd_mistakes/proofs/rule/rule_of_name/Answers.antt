@@ -1,3 +1,4 @@
+-- None of the rules passed so far has the name, so none has it once all are passed.
 use Rattle.std.proofs.Common.{◌≡◌, ◌≢◌, ◌∙◌, ◌+◌, ◌∷◌, ◌++◌, [], sym, subst, arith, get_or, take, Bool}
 use Rattle.std.specs.Bool.{Decides}
 use Rattle.std.proofs.lemmas.List.{take_more}

@@ -1,3 +1,4 @@
+-- What is told of a tree is what is told of its leaf, or of the node and then of its two sides in order.
 use Rattle.std.proofs.Common.{◌≡◌, refl}
 use Rattle.std.proofs.lemmas.Result.{IfOk-weaker}
 use Rattle.gtd_core.specs.Parts.{duration_parts, start_parts}

@@ -1,3 +1,4 @@
+-- With each rule passed, what is told grows by that rule's mistake or stays as it is.
 use Rattle.std.proofs.Common.{◌≡◌, ◌+◌, ◌∷◌, ◌++◌, [], List, subst, refl, arith, get_or, take, length, append_assoc}
 use Rattle.std.proofs.lemmas.List.{take_all, take_more}
 use Rattle.gtd_core.specs.Trees.{tree_of}

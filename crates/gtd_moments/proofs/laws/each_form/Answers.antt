@@ -1,3 +1,4 @@
+-- A moment written with a space, with a fraction or without its seconds is read as the full form is.
 use Rattle.std.proofs.Common.{subst}
 use Rattle.std.specs.Prelude.{Result}
 use Rattle.gtd_core.specs.declared.second.Sec.{Sec}

@@ -1,3 +1,4 @@
+-- The first words of operators and days differ, by one check of the tables of all languages.
 use Rattle.gtd_phrases.proofs.AllTables.{all_begun}
 use Rattle.gtd_phrases.proofs.Beginnings.{day_first, no_operator, operator_first, same_operator}
 use Rattle.gtd_phrases.proofs.laws.beginnings_are_read.Goals as goal

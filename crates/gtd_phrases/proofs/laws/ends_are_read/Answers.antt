@@ -1,3 +1,4 @@
+-- The words of ends and of other closings differ, by checks of the tables of all languages.
 use Rattle.gtd_phrases.proofs.AllTables.{all_closed, all_marked}
 use Rattle.gtd_phrases.proofs.Closers.{no_closer}
 use Rattle.gtd_phrases.proofs.Marks.{one_end}

@@ -1,3 +1,4 @@
+-- Each call writes one piece and leaves one fewer to write.
 use Rattle.std.proofs.Common.{length}
 use Rattle.gtd_phrases.proofs.printer.+push_pieces.Given as goal
 

@@ -1,3 +1,4 @@
+-- Every byte of the front part that was cut off is a digit.
 use Rattle.std.proofs.Common.{ℕ, ap, ◌∙◌, take}
 use Rattle.std.specs.Char.{is_ascii_digit}
 use Rattle.std.specs.List.{list_all}

@@ -1,3 +1,4 @@
+-- Everything from the start to the place is spaces, and the place is within the text.
 use Rattle.std.proofs.Common.{◌≤◌, ◌-◌, length}
 use Rattle.gtd_scan.specs.Spaces.{AreSpaces}
 use Rattle.gtd_scan.proofs.spaces.after_spaces.Given as goal

@@ -1,3 +1,4 @@
+-- Words that say an end can be read in only one way, so the end read is the one found for each stretch.
 use Rattle.gtd_phrases.specs.declared.phrase.Language.{Language}
 use Rattle.gtd_words.proofs.EndLaws.{Facts, right_end, said_end}
 use Rattle.gtd_words.proofs.laws.right_ends.Goals as goal

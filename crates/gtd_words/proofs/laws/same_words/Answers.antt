@@ -1,3 +1,4 @@
+-- The words can be read back line by line, so two trees of the same words are one tree.
 use Rattle.gtd_phrases.specs.declared.phrase.Language.{Language}
 use Rattle.gtd_words.proofs.WordsLaw.{Facts, words_then}
 use Rattle.gtd_words.proofs.laws.same_words.Goals as goal

@@ -1,3 +1,4 @@
+-- Domains have valid trees, so their words tell them apart exactly as comparing them does.
 use Rattle.std.proofs.Common.{ap}
 use Rattle.gtd_core.specs.Parts.{domain_tree}
 use Rattle.gtd_core.specs.Trees.{Tree}

@@ -1,3 +1,4 @@
+-- The pieces of a basic domain follow the grammar, and their numbers can be written, as its end is in range.
 use Rattle.gtd_words.proofs.Paths.{basic_line, basic_written}
 use Rattle.gtd_words.proofs.laws.words_are_lines.Goals as goal
 

@@ -1,3 +1,4 @@
+-- No depth gives no spaces, and each step of depth gives four spaces before those of the rest.
 use Rattle.std.proofs.Common.{rules, ◌-◌}
 use Rattle.std.specs.Prelude.{codes}
 use Rattle.gtd_words.specs.Words.{indent}

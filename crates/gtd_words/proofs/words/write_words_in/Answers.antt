@@ -1,3 +1,4 @@
+-- A domain has few enough operators that the depth of its lines can be counted.
 use Rattle.gtd_words.proofs.LineFacts.{few_joins}
 use Rattle.gtd_words.proofs.words.write_words_in.Goals as goal
 

@@ -1,3 +1,4 @@
+-- The quotient by the seconds of a day is the day that the second is on, also before 1970.
 use Rattle.std.proofs.Common.{◌≡◌, ◌∙◌, ap, arith, rules, to_z, of_z, w64}
 use Rattle.std.specs.Prelude.{ℤ, pos, negsuc}
 use Rattle.std.specs.Int.{int_div_euclid}
