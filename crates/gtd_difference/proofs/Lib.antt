@@ -1,3 +1,4 @@
+-- Lemmas about seconds of one domain alone, all time, inclusion, the parts of a domain and weeks.
 pub mod Alone
 pub mod Ever
 pub mod Inclusion

@@ -1,3 +1,4 @@
+-- Lemmas about columns, rectangles, paths, labels and words of pictures, and that each set has a picture.
 pub mod ColumnFacts
 pub mod CrowdFacts
 pub mod LabelFacts

@@ -1,3 +1,4 @@
+-- Equal basic domains stand for one and the same tree, so each second of one is in the other.
 use Rattle.gtd_core.specs.Parts.{domain_tree}
 use Rattle.gtd_difference.specs.Difference.{single_of}
 use Rattle.gtd_difference.proofs.Inclusion.{equal-part}

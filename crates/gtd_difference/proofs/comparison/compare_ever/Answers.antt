@@ -1,3 +1,4 @@
+-- A second apart in the days searched is the first one; with none in a whole period the domains agree for all time.
 use Rattle.std.proofs.Common.{◌≡◌, Some, None, arith}
 use Rattle.std.proofs.lemmas.Int.{ints}
 use Rattle.gtd_core.specs.Whole.{whole}

@@ -1,3 +1,4 @@
+-- The days up to the middle and those after it are searched in turn, and together they reach up to 2700.
 use Rattle.std.proofs.Common.{◌≡◌, Some, None, arith}
 use Rattle.std.proofs.lemmas.Int.{ints}
 use Rattle.gtd_core.specs.Whole.{whole}

@@ -1,3 +1,4 @@
+-- The earlier of the first second of each alone is the first at which the two differ.
 use Rattle.gtd_core.specs.Whole.{whole}
 use Rattle.gtd_eval.specs.Membership.{InDomain}
 use Rattle.gtd_difference.proofs.Alone.{apart-by}

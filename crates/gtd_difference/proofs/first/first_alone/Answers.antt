@@ -1,3 +1,4 @@
+-- What the domain has less what the other has is held by the difference of their cursors within the days.
 use Rattle.gtd_core.specs.Parts.{domain_tree}
 use Rattle.gtd_core.specs.Whole.{whole}
 use Rattle.gtd_eval.specs.Cursors.{cursor_list}

@@ -1,3 +1,4 @@
+-- The first span that ends behind the second decides: the answer is its start, or the second itself if it is inside.
 use Rattle.std.proofs.Common.{◌≡◌, ◌↔◌, ◌∙◌, List, ◌∷◌, subst, arith, inl, inr}
 use Rattle.std.specs.Prelude.{◌<ℤ◌}
 use Rattle.std.proofs.lemmas.Int.{ints}

@@ -1,3 +1,4 @@
+-- Spans that were passed end too early, so from the second on the rest holds what the whole source held.
 use Rattle.std.proofs.Common.{◌↔◌, length}
 use Rattle.std.specs.Prelude.{ℤ, ◌≤ℤ◌}
 use Rattle.gtd_spans.specs.Normal.{Holds}

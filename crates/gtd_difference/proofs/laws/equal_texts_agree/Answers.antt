@@ -1,3 +1,4 @@
+-- A canonical text stands for one tree only, so equal texts mean equal trees and equal seconds.
 use Rattle.std.proofs.Common.{◌≡◌, List, ℕ, sym, subst}
 use Rattle.gtd_core.specs.Parts.{domain_tree}
 use Rattle.gtd_core.specs.Trees.{Tree}

@@ -1,3 +1,4 @@
+-- Agreement is reflexive, symmetric and transitive second by second.
 use Rattle.gtd_difference.proofs.laws.equivalence.Goals as goal
 
 pub returns : goal.returns

@@ -1,3 +1,4 @@
+-- Agreement at each second between the two is reflexive, symmetric and transitive.
 use Rattle.gtd_difference.proofs.laws.equivalence_between.Goals as goal
 
 pub returns : goal.returns

@@ -1,3 +1,4 @@
+-- The horizon covers a whole period of the calendar, so domains without years do elsewhere as they do in it.
 use Rattle.std.proofs.Common.{refl, arith, inl}
 use Rattle.std.specs.Prelude.{pos}
 use Rattle.std.proofs.lemmas.Int.{ints}

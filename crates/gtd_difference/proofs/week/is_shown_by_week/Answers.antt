@@ -1,3 +1,4 @@
+-- Without its date a basic domain has at least the stretches it has with it, and these are in the other domain.
 use Rattle.std.proofs.Common.{sym, subst}
 use Rattle.std.proofs.lemmas.Result.{IfOk-weaker}
 use Rattle.gtd_core.specs.Parts.{duration_parts, start_parts}

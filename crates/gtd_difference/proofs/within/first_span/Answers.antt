@@ -1,3 +1,4 @@
+-- The first span that the cursor gives is held by the domain and lies in the years that are searched.
 use Rattle.std.proofs.Common.{arith}
 use Rattle.std.proofs.lemmas.Int.{ints}
 use Rattle.gtd_core.specs.Whole.{whole}

@@ -1,3 +1,4 @@
+-- A second of the domain alone in the four years near its first span is one in the whole horizon too.
 use Rattle.gtd_core.specs.Whole.{whole}
 use Rattle.gtd_eval.specs.Membership.{InDomain}
 use Rattle.std.proofs.Common.{arith}

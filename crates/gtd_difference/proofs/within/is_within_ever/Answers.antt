@@ -1,3 +1,4 @@
+-- The days searched are as many as both domains take to repeat, so what holds in them holds from 1901 up to 2700.
 use Rattle.std.proofs.Common.{arith, IsTrue}
 use Rattle.std.proofs.lemmas.Int.{ints}
 use Rattle.std.proofs.lemmas.Result.{IfOk-weaker}

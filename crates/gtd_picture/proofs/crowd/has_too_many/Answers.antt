@@ -1,3 +1,4 @@
+-- Each span taken counts one, so more than the allowed number are found exactly if the source has more.
 use Rattle.std.proofs.Common.{ap, arith, rules, length}
 use Rattle.gtd_picture.proofs.CrowdFacts.{one_taken}
 use Rattle.gtd_picture.proofs.crowd.has_too_many.Goals as goal

@@ -1,3 +1,4 @@
+-- The spans counted are those of the domain's seconds in the year, which are its stretches there.
 use Rattle.gtd_eval.specs.Cursors.{cursor_list}
 use Rattle.gtd_eval.specs.Membership.{InDomain}
 use Rattle.gtd_picture.proofs.CrowdFacts.{crowded_answer}

@@ -1,3 +1,4 @@
+-- What was put from nothing on is the picture, or a first part of it after a failure.
 use Rattle.gtd_picture.specs.Domain.{IsDomainPicture}
 use Rattle.gtd_picture.proofs.PictureFacts.{has_put}
 use Rattle.gtd_picture.proofs.domain.put_domain_picture.Goals as goal

@@ -1,3 +1,4 @@
+-- The cursor gives the domain's seconds of the year, so the picture of its spans is the domain's picture.
 use Rattle.std.specs.Prelude.{Ok, Err, codes}
 use Rattle.std.proofs.lemmas.Result.{err_from_is_err_and}
 use Rattle.gtd_eval.specs.Cursors.{cursor_list}

@@ -1,3 +1,4 @@
+-- A crowded domain leaves the output empty, and any other gets its picture.
 use Rattle.std.proofs.Common.{rules}
 use Rattle.std.specs.Prelude.{codes}
 use Rattle.gtd_eval.specs.Membership.{InDomain}

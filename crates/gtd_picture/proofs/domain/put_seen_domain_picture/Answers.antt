@@ -1,3 +1,4 @@
+-- What was put from nothing on is the picture, a first part of it, or nothing for a crowded domain.
 use Rattle.gtd_picture.specs.Domain.{IsDomainSeen}
 use Rattle.gtd_picture.proofs.PictureFacts.{has_put}
 use Rattle.gtd_picture.proofs.domain.put_seen_domain_picture.Goals as goal

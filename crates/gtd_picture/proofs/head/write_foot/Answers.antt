@@ -1,3 +1,4 @@
+-- The months passed so far stand in the line, each at the place that the days before it give.
 use Rattle.std.specs.Prelude.{pos}
 use Rattle.gtd_picture.proofs.Made.{foot_more, foot_none}
 use Rattle.gtd_picture.proofs.head.write_foot.Goals as goal

@@ -1,3 +1,4 @@
+-- The line is the top, the hours, the key and the plot, written one after the other into an empty buffer.
 use Rattle.gtd_picture.specs.Picture.{hours_text, key_text, plot_text, top_text}
 use Rattle.gtd_picture.proofs.Made.{four_alone}
 use Rattle.gtd_picture.proofs.head.write_head.Goals as goal

@@ -1,3 +1,4 @@
+-- Each turn adds the label of one more hour, six hours after the last.
 use Rattle.std.proofs.Common.{refl}
 use Rattle.gtd_picture.proofs.Made.{no_hours, one_hour}
 use Rattle.gtd_picture.proofs.head.write_hours.Goals as goal

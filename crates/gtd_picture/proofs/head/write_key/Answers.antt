@@ -1,3 +1,4 @@
+-- The key is three pieces in a row: the colours, the words for inside and the words for outside.
 use Rattle.gtd_picture.specs.Picture.{inside_key, outside_key, weekend_key}
 use Rattle.gtd_picture.specs.Words.{label_text}
 use Rattle.gtd_picture.proofs.Made.{three}

@@ -1,3 +1,4 @@
+-- The month is its place, its line, its name and its days, each written behind the other.
 use Rattle.std.proofs.Common.{◌∙◌, ap, ℕ, List, ◌++◌, ◌+◌, ◌*◌}
 use Rattle.std.specs.Prelude.{codes, decimal}
 use Rattle.gtd_picture.specs.Words.{month_name}

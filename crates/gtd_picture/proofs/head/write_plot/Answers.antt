@@ -1,3 +1,4 @@
+-- The frame is five pieces in a row: its width and its columns in between three fixed texts.
 use Rattle.std.proofs.Common.{◌*◌}
 use Rattle.std.specs.Prelude.{codes, decimal}
 use Rattle.gtd_picture.proofs.Made.{five}

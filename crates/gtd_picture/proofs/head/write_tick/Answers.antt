@@ -1,3 +1,4 @@
+-- The label is five pieces in a row: its place and its day in between three fixed texts.
 use Rattle.std.proofs.Common.{◌*◌, ◌-◌}
 use Rattle.std.specs.Prelude.{codes, decimal}
 use Rattle.gtd_picture.proofs.Made.{five}

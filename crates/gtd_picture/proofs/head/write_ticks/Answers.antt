@@ -1,3 +1,4 @@
+-- The labels of the days 1, 10 and 20 stand in a row between the end of the name and the end of the month.
 use Rattle.std.specs.Prelude.{codes}
 use Rattle.gtd_picture.specs.Picture.{tick_text}
 use Rattle.gtd_picture.proofs.Made.{five}

@@ -1,3 +1,4 @@
+-- The top is three pieces in a row: the opening, the whole title, and the title as it is shown.
 use Rattle.std.specs.Prelude.{codes}
 use Rattle.gtd_picture.specs.Picture.{opening_text, style_text}
 use Rattle.gtd_picture.specs.Words.{label_text, title_text}

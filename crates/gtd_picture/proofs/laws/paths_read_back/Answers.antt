@@ -1,3 +1,4 @@
+-- The text of a path spells its rectangles, no other list of rectangles has that text, and it has no quote.
 use Rattle.gtd_picture.proofs.PathFacts.{one_path, path_has_no_quote, path_of_column, path_of_whole}
 use Rattle.gtd_picture.proofs.laws.paths_read_back.Goals as goal
 

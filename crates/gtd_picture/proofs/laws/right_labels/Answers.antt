@@ -1,3 +1,4 @@
+-- Each label's date, name or place is worked out from the calendar or by plain sums.
 use Rattle.std.proofs.Common.{ap, sym}
 use Rattle.gtd_calendar.specs.facts.DateTexts.{date_text-is}
 use Rattle.gtd_picture.specs.Words.{weekday_name}

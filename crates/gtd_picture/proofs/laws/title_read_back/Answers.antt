@@ -1,3 +1,4 @@
+-- The element `title` of the first line holds the escaped title, which XML reads as people see it.
 use Rattle.gtd_picture.proofs.TitleFacts.{titled}
 use Rattle.gtd_picture.proofs.laws.title_read_back.Goals as goal
 

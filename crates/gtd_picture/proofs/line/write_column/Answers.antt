@@ -1,3 +1,4 @@
+-- The whole column is a rectangle between the texts that close the tooltip and open the next path.
 use Rattle.std.specs.Prelude.{codes}
 use Rattle.gtd_picture.specs.Picture.{rect_text, whole_column}
 use Rattle.gtd_picture.proofs.Made.{three}

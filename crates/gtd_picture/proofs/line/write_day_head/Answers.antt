@@ -1,3 +1,4 @@
+-- The line begins with its group, its date, its weekday and its whole column, since the day fits its type.
 use Rattle.std.proofs.Common.{rules, ◌≡◌, ◌++◌, FitsSigned, to_z, of_z, w64, to_z-of_z}
 use Rattle.std.specs.Prelude.{codes}
 use Rattle.gtd_calendar.specs.Calendar.{weekday_of}

@@ -1,3 +1,5 @@
+-- Each part on the day adds its rectangle, so in the end the column has all of the day's parts;
+-- the seconds after the day are left as they were.
 use Rattle.std.proofs.Common.{rules, ◌≡◌, ◌∙◌, ap, refl, arith, FitsSigned, to_z, of_z, w64, to_z-of_z}
 use Rattle.std.specs.Prelude.{ℤ, pos, ◌-ℤ◌, ◌*ℤ◌, ◌≤ℤ◌, ◌+ℤ◌, unsigned_abs}
 use Rattle.gtd_calendar.specs.facts.Signed.{signed_arith}

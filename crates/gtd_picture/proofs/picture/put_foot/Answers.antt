@@ -1,3 +1,4 @@
+-- One line more is put, which is short enough to be counted; a refusal before it puts nothing.
 use Rattle.std.proofs.Common.{◌≡◌, ◌∙◌, ap, arith, [], ◌∷◌, length}
 use Rattle.std.specs.Prelude.{pos}
 use Rattle.std.proofs.lemmas.Result.{err_from_is_err_and}

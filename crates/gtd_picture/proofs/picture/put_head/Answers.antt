@@ -1,3 +1,4 @@
+-- One line is put from nothing on, and it leaves room for the year's lines in the count of bytes.
 use Rattle.std.proofs.Common.{◌≡◌, ◌∙◌, [], ◌∷◌}
 use Rattle.std.specs.Prelude.{pos}
 use Rattle.std.proofs.lemmas.Result.{err_from_is_err_and}

@@ -1,3 +1,4 @@
+-- Head, days and foot put in a row are the picture; where one of them is cut short, so is the picture.
 use Rattle.std.proofs.Common.{ap, refl, arith, ◌≤◌, ◌+◌, List, [], ◌∷◌}
 use Rattle.std.specs.Prelude.{Ok, Err, pos}
 use Rattle.std.proofs.lemmas.Result.{err_from_is_err_and}

@@ -1,3 +1,4 @@
+-- The days of the year are within the calendar, and as many as the year is long.
 use Rattle.std.proofs.Common.{rules, ◌≡◌, ◌∙◌, FitsSigned, to_z, of_z, w64, to_z-of_z}
 use Rattle.std.specs.Prelude.{pos}
 use Rattle.gtd_calendar.specs.Calendar.{first_day}

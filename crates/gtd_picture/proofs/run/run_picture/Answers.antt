@@ -1,3 +1,4 @@
+-- The text of an accepted file has no lines if it is crowded, and else two more than the year has days.
 use Rattle.std.specs.Prelude.{codes}
 use Rattle.std.proofs.lemmas.Result.{IfOk-weaker}
 use Rattle.gtd_records.specs.Closing.{IsOpen}

@@ -1,3 +1,4 @@
+-- The shown part and the three dots behind it make one label.
 use Rattle.std.specs.Prelude.{codes, flat_map}
 use Rattle.gtd_picture.specs.Words.{escape}
 use Rattle.gtd_picture.proofs.Made.{cut_piece}

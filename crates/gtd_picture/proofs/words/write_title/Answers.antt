@@ -1,3 +1,4 @@
+-- A title that is cut is longer than what is shown of it, so the cut is within its bytes.
 use Rattle.std.proofs.Common.{sym, arith}
 use Rattle.std.proofs.lemmas.List.{length-take-le}
 use Rattle.gtd_picture.proofs.words.write_title.Goals as goal

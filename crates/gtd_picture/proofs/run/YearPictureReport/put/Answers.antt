@@ -1,3 +1,4 @@
+-- A crowded element leaves the output empty, and any other gets the picture of its open seconds.
 use Rattle.std.proofs.Common.{rules}
 use Rattle.std.specs.Prelude.{Ok, Err, codes}
 use Rattle.std.proofs.lemmas.Result.{err_from_is_err_and}
