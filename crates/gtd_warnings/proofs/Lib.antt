@@ -1,3 +1,4 @@
+-- Lemmas about codes, vehicle types, days, rows and their reading, and that each file has one answer.
 pub mod CodeFacts
 pub mod DayFacts
 pub mod OneAnswer

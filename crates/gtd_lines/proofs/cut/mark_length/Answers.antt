@@ -1,3 +1,4 @@
+-- Three bytes of a mark are dropped, and in each other case the bytes do not begin with one.
 use Rattle.std.proofs.Common.{arith}
 use Rattle.gtd_lines.proofs.PlaceFacts.{marked, unmarked}
 use Rattle.gtd_lines.proofs.cut.mark_length.Goals as goal

@@ -1,3 +1,4 @@
+-- The state after each byte is that of the CSV reader, so both see the end of the record at the same byte.
 use Rattle.std.proofs.Common.{◌≡◌, arith, length}
 use Rattle.std.proofs.lemmas.List.{drop_all}
 use Rattle.gtd_lines.specs.Cut.{state_of}

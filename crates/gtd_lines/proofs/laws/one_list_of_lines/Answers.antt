@@ -1,3 +1,4 @@
+-- Rows in order have one line each, so their list exists and is the only one.
 use Rattle.gtd_lines.specs.facts.OneLine.{one_lines}
 use Rattle.gtd_lines.specs.facts.SomeLines.{some_lines}
 use Rattle.gtd_lines.proofs.laws.one_list_of_lines.Goals as goal

@@ -1,3 +1,4 @@
+-- Each turn adds the line of one more row, and at the end of the bytes no row is left.
 use Rattle.std.proofs.Common.{arith, length, ◌+◌}
 use Rattle.gtd_lines.proofs.CountFacts.{all_lines, first_lines, more_lines}
 use Rattle.gtd_lines.proofs.lines.lines_of.Goals as goal

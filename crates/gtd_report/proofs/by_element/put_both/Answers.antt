@@ -1,3 +1,4 @@
+-- The lines of both directions put in a row are the element's; a failure in either leaves a first part of them.
 use Rattle.std.proofs.lemmas.Result.{err_from_is_err_and}
 use Rattle.gtd_report.specs.facts.ElementFacts.{both_cut, both_put}
 use Rattle.gtd_report.proofs.by_element.put_both.Goals as goal

@@ -1,3 +1,4 @@
+-- There are at most two elements for each row, and the list that is put is that of all elements.
 use Rattle.std.proofs.Common.{arith}
 use Rattle.gtd_report.specs.facts.ElementFacts.{few_elements}
 use Rattle.gtd_report.proofs.by_element.put_by_element.Goals as goal

@@ -1,3 +1,4 @@
+-- The header and the elements' lines put in a row are the text; a failure in either leaves a first part of it.
 use Rattle.std.proofs.Common.{refl, [], ◌∷◌}
 use Rattle.std.specs.Prelude.{Ok, Err}
 use Rattle.std.proofs.lemmas.Result.{err_from_is_err_and}

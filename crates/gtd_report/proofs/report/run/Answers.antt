@@ -1,3 +1,4 @@
+-- The file is accepted before anything is put, so what was put is its text or a first part of it.
 use Rattle.std.proofs.Common.{rules}
 use Rattle.gtd_report.specs.facts.RunFacts.{answer_ended, answer_lines, has_run}
 use Rattle.gtd_report.specs.Run.{IsAccepted}

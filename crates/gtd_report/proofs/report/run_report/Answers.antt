@@ -1,3 +1,4 @@
+-- The claims at the end of the run are split by whether vehicle type, year, file and element are accepted.
 use Rattle.gtd_report.specs.facts.RunFacts.{accepted_are_put, refused_put_nothing, unaccepted_put_nothing}
 use Rattle.gtd_report.proofs.report.run_report.Goals as goal
 

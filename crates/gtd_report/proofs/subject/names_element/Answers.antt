@@ -1,3 +1,4 @@
+-- An element is named by a record exactly if it is in the list of elements of all records.
 use Rattle.std.proofs.Common.{rules, ◌↔◌, IsTrue}
 use Rattle.std.specs.List.{Contains}
 use Rattle.gtd_report.proofs.subject.names_element.Goals as goal

@@ -1,3 +1,4 @@
+-- The program so far has the commands of the names that were passed.
 use Rattle.std.proofs.Common.{◌≡◌, take}
 use Rattle.clap.specs.Simple.{app_of}
 use Rattle.gtd_tool.specs.Asked.{texts}

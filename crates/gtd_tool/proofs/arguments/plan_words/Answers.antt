@@ -1,3 +1,4 @@
+-- What `clap` matched leads to the plan of the words, and what it refused is refused as wrong usage.
 use Rattle.std.proofs.Common.{map, string_bytes}
 use Rattle.gtd_tool.proofs.PlanLemmas.{read_ok, read_err}
 use Rattle.gtd_tool.proofs.arguments.plan_words.Goals as goal

@@ -1,3 +1,4 @@
+-- The name and the words that `clap` hands back are those given, so each command reads its own words.
 use Rattle.std.proofs.Common.{◌≡◌, ◌∙◌, refl, sym, ap, ap₂, List, [], ◌∷◌, Option, Some, None, is_some, true≢false, map, subst}
 use Rattle.std.proofs.Common.{option_map}
 use Rattle.std.specs.Prelude.{Box, unwrap_or, option_and_then}

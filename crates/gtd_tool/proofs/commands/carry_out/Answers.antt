@@ -1,3 +1,4 @@
+-- Each command's own claims, rewritten to the plan that it was called for, are the claims about the whole.
 use Rattle.std.proofs.Common.{[]}
 use Rattle.gtd_tool.proofs.commands.carry_out.Goals as goal
 

@@ -1,3 +1,4 @@
+-- The canonical text stands for its domain without fault, so as a word it asks for that domain.
 use Rattle.std.proofs.Common.{refl, sym, subst, Option}
 use Rattle.gtd_core.specs.Parts.{domain_tree}
 use Rattle.gtd_tool.specs.Asked.{Canon, Check}

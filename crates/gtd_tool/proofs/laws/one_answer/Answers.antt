@@ -1,3 +1,4 @@
+-- Words lead to one request or one first refusal, and a request excludes a refusal.
 use Rattle.gtd_tool.proofs.LawLemmas.{one_asked, one_refusal, asked_apart}
 use Rattle.gtd_tool.proofs.laws.one_answer.Goals as goal
 

@@ -1,3 +1,4 @@
+-- Two answers to one request are the same line, command by command.
 use Rattle.gtd_tool.proofs.AnswerLemmas.{one_answer}
 use Rattle.gtd_tool.proofs.laws.one_line.Goals as goal
 

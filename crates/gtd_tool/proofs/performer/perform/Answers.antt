@@ -1,3 +1,4 @@
+-- The claims about requests with a record file and those without are brought together, by whether there is one.
 use Rattle.gtd_tool.specs.Commands.{file_of}
 use Rattle.gtd_tool.specs.Plans.{asked_by}
 use Rattle.gtd_tool.proofs.AnswerLemmas.{part_of_any}

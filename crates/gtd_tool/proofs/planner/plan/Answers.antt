@@ -1,3 +1,4 @@
+-- Words have one meaning or one first refusal, so the plan or refusal is the only one unless memory is refused.
 use Rattle.std.proofs.Common.{map}
 use Rattle.std.specs.Prelude.{string_bytes}
 use Rattle.gtd_tool.proofs.PlanLemmas.{plan_only, plan_first}

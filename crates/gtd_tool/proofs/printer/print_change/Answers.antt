@@ -1,3 +1,4 @@
+-- A change in the range can be written as a moment, and its line or the word for none is what is printed.
 use Rattle.std.proofs.Common.{Option, subst}
 use Rattle.std.specs.Prelude.{IfSome}
 use Rattle.gtd_core.specs.Parts.{domain_tree}

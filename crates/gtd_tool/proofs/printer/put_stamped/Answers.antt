@@ -1,3 +1,4 @@
+-- A failure within the moment or behind it leaves a first part of the whole line.
 use Rattle.std.proofs.lemmas.Result.{err_from_is_err_and}
 use Rattle.gtd_tool.proofs.AnswerLemmas.{on_err}
 use Rattle.gtd_tool.proofs.WritingLemmas.{part_front, part_then}

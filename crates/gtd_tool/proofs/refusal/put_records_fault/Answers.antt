@@ -1,3 +1,4 @@
+-- Case by case the texts handed over are the line of that fault.
 use Rattle.gtd_tool.proofs.refusal.put_records_fault.Goals as goal
 
 pub returns-in-FieldCount-clause-line : goal.returns-in-FieldCount-clause-line

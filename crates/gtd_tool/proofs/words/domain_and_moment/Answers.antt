@@ -1,3 +1,4 @@
+-- A fault of the moment is told only once the domain had none.
 use Rattle.std.proofs.Common.{[], ◌∷◌, sym, subst}
 use Rattle.std.proofs.lemmas.Result.{err_from_is_err_and}
 use Rattle.gtd_core.specs.Parts.{domain_tree}

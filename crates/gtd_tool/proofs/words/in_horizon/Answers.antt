@@ -1,3 +1,4 @@
+-- The horizon runs from the moment's own day, and the days pass through casts unchanged.
 use Rattle.std.proofs.Common.{◌≡◌, ◌∙◌, refl, subst, rules, to_z-of_z, w64, FitsSigned}
 use Rattle.std.specs.Prelude.{ℤ}
 use Rattle.gtd_core.specs.Horizons.{IsHorizon, IsHorizonFault}

@@ -1,3 +1,4 @@
+-- What was taken and what is left make up the bytes after each write, so in the end all are taken, or a first part.
 use Rattle.std.proofs.Common.{◌≡◌, ◌∙◌, ℕ, List, sym, ap, subst, drop, length, length-drop, arith, ◌-◌}
 use Rattle.std.specs.Borrow.{Bor}
 use Rattle.std.proofs.lemmas.List.{take_all}

@@ -1,3 +1,4 @@
+-- The writer has taken the bytes up to the rest that is left.
 use Rattle.gtd_tool.specs.Writing.{TakesBefore}
 use Rattle.gtd_tool.proofs.writer.put.Given as goal
 

@@ -1,3 +1,4 @@
+-- Where a text fails, the texts before it and its own first part are a first part of the whole.
 use Rattle.std.proofs.Common.{◌≡◌, ◌∙◌, List, ℕ, sym, ap, subst, ◌++◌, take, drop, suc}
 use Rattle.std.proofs.lemmas.Result.{err_from_is_err_and}
 use Rattle.gtd_tool.specs.Writing.{AppendsPart, joined}

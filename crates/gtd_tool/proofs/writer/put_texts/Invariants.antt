@@ -1,3 +1,4 @@
+-- The writer has taken the texts passed so far, one after the other.
 use Rattle.std.proofs.Common.{take}
 use Rattle.std.specs.Io.KnownBytes.{Appends}
 use Rattle.gtd_tool.specs.Writing.{joined}

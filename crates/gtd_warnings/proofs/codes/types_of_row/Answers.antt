@@ -1,3 +1,4 @@
+-- What is read from the third of four fields are the vehicle types that it names.
 use Rattle.std.proofs.lemmas.Result.{IfOk-weaker}
 use Rattle.gtd_records.specs.Columns.{vehicles_of}
 use Rattle.gtd_warnings.proofs.CodeFacts.{read_names}

@@ -1,3 +1,4 @@
+-- A domain with seconds to come is not past, and one with late seconds does not end soon; else the rule found holds.
 use Rattle.gtd_core.specs.Parts.{domain_tree}
 use Rattle.gtd_warnings.proofs.DayFacts.{no_rule}
 use Rattle.gtd_warnings.proofs.days.rule_on.Goals as goal

@@ -1,3 +1,4 @@
+-- What is pushed to the empty list is all that is told of the row, and each of it has the row's number.
 use Rattle.std.proofs.Common.{Some}
 use Rattle.gtd_core.specs.Parts.{domain_tree}
 use Rattle.gtd_warnings.proofs.RowFacts.{told_rows}

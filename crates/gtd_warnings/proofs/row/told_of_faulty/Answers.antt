@@ -1,3 +1,4 @@
+-- A row whose domain has a fault stands for no domain, so nothing is told of one.
 use Rattle.std.proofs.Common.{None}
 use Rattle.csv.specs.Records.{fields_of}
 use Rattle.gtd_warnings.proofs.ReadFacts.{none_read}

@@ -1,3 +1,4 @@
+-- The record's domain is the one that the row's fields stand for, so what is told of it is told of the row.
 use Rattle.std.proofs.Common.{◌≡◌, ◌∙◌, ap, sym, Some, option_map}
 use Rattle.std.proofs.lemmas.Result.{IfOk-weaker}
 use Rattle.csv.specs.Records.{fields_of}

@@ -1,3 +1,4 @@
+-- The header begins behind the mark and the line ends before it, on the line that their line feeds count to.
 use Rattle.std.proofs.Common.{◌+◌, arith, ap, ℕ}
 use Rattle.csv.proofs.WriteFacts.{slice-end}
 use Rattle.gtd_lines.proofs.PlaceFacts.{first_place}

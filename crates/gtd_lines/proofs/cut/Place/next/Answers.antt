@@ -1,3 +1,4 @@
+-- Behind a record and the line ends after it the next record begins, and each step moves forward.
 use Rattle.std.proofs.Common.{arith, drop}
 use Rattle.csv.proofs.WriteFacts.{slice-end}
 use Rattle.gtd_lines.proofs.PlaceFacts.{next_place}

@@ -1,3 +1,4 @@
+-- A change that is found can be printed, and without one the line says that there is none ever.
 use Rattle.gtd_core.specs.Parts.{domain_tree}
 use Rattle.gtd_tool.specs.Asked.{Ever}
 use Rattle.gtd_tool.proofs.AnswerLemmas.{ever_in_range, ever_line, ever_part, on_err, on_ok, stop_of_write}

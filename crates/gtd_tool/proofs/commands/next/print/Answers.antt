@@ -1,3 +1,4 @@
+-- The line printed answers the question in the horizon, and one that was cut short is a part of it.
 use Rattle.gtd_core.specs.Parts.{domain_tree}
 use Rattle.gtd_core.specs.Whole.{to_day}
 use Rattle.gtd_tool.specs.Asked.{Next}

@@ -1,3 +1,4 @@
+-- The first fault of domain, moment, date and horizon stops the reading; without one the words give the plan.
 use Rattle.std.proofs.Common.{◌∙◌, [], ◌∷◌, sym, subst, rules, to_z-of_z, w64}
 use Rattle.std.proofs.Common.{FitsSigned}
 use Rattle.std.specs.Prelude.{ℤ}

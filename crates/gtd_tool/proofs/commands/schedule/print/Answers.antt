@@ -1,3 +1,4 @@
+-- The schedule's claims about its output hold for the writer, which the output was lent to.
 use Rattle.std.proofs.Common.{rules}
 use Rattle.gtd_tool.proofs.ClaimLemmas.{accepted_passed, none_unnamed, of_headline, refused_passed}
 use Rattle.gtd_tool.proofs.LoanLemmas.{loan_passes, passed_run}

@@ -1,3 +1,4 @@
+-- The vehicle type is read before the days, so a fault of the days comes second; without one there is a plan.
 use Rattle.std.proofs.Common.{[], ◌∷◌, sym, subst}
 use Rattle.std.proofs.lemmas.Result.{err_from_is_err_and}
 use Rattle.gtd_tool.specs.Readings.{DatePart, DaysPart, NumberUpToPart}

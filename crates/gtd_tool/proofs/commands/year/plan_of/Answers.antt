@@ -1,3 +1,4 @@
+-- Words that stand for a table and a file's name make up the plan of that table.
 use Rattle.gtd_tool.proofs.PlanLemmas.{year_read}
 use Rattle.gtd_tool.proofs.commands.year.plan_of.Goals as goal
 

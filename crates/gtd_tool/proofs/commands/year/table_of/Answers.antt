@@ -1,3 +1,4 @@
+-- The four words are read in order, and the first one at fault stops the rest.
 use Rattle.std.proofs.Common.{◌≡◌, ℕ, List, [], ◌∷◌, Some, sym, subst}
 use Rattle.std.proofs.lemmas.Result.{err_from_is_err_and}
 use Rattle.gtd_roads.specs.Columns.{direction_of, number_of}

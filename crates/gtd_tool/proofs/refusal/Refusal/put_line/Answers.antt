@@ -1,3 +1,4 @@
+-- Case by case the texts handed over are the line of that refusal.
 use Rattle.gtd_tool.proofs.refusal.Refusal.put_line.Goals as goal
 
 pub returns-in-Moment-clause-line : goal.returns-in-Moment-clause-line
