@@ -1,3 +1,4 @@
+-- Lemmas on dates, months, weeks and stretches of them, on spans of time, and on the number of basic domains.
 pub mod CostLemmas
 pub mod DateLemmas
 pub mod DayLemmas

@@ -1,3 +1,4 @@
+-- Lemmas on the table of moves, on readings from token to token, and on texts with their pieces or first fault.
 pub mod NoNext
 pub mod EndingsOfParts
 pub mod Endings

@@ -1,3 +1,4 @@
+-- Lemmas on rules that are being built from pieces, on written hours as tokens, pieces and rules, and on each text.
 pub mod DraftLemmas
 pub mod AddingLemmas
 pub mod BuildingLemmas

@@ -1,3 +1,4 @@
+-- Day numbers fit into an `i64`, so comparing the numbers is comparing the days of the calendar.
 use Rattle.std.proofs.Common.{◌≡◌, rules, to_z, of_z, w64, to_z-of_z, FitsSigned}
 use Rattle.gtd_hours.proofs.dated.is_dated_range.Goals as goal
 

@@ -1,3 +1,4 @@
+-- One rule more keeps the count of all rules, which stays at `u32::MAX` once it has reached it.
 use Rattle.std.proofs.Common.{arith}
 use Rattle.gtd_hours.specs.Cost.{cost_after}
 use Rattle.gtd_hours_domain.proofs.CostLemmas.{one_more-cost}

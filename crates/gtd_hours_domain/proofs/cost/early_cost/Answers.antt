@@ -1,3 +1,4 @@
+-- Where no range is left, one basic domain has been counted for each range of times that ends on its day.
 use Rattle.std.proofs.Common.{◌≡◌, [], length, rules}
 use Rattle.gtd_hours_domain.proofs.CostLemmas.{done, nothing-left}
 use Rattle.gtd_hours_domain.proofs.cost.early_cost.Goals as goal

@@ -1,3 +1,4 @@
+-- Where no kind is left, the total is that of all kinds, with at least one basic domain for each.
 use Rattle.std.proofs.Common.{◌≡◌, [], length, rules}
 use Rattle.gtd_hours_domain.proofs.CostLemmas.{done, nothing-left}
 use Rattle.gtd_hours_domain.proofs.cost.kinds_cost.Goals as goal

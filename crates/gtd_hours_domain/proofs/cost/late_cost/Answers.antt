@@ -1,3 +1,4 @@
+-- Where no range is left, each range that ends on a later day has been counted with days of its own and a clock.
 use Rattle.std.proofs.Common.{◌≡◌, [], length, rules}
 use Rattle.gtd_hours_domain.proofs.CostLemmas.{done, nothing-left}
 use Rattle.gtd_hours_domain.proofs.cost.late_cost.Goals as goal

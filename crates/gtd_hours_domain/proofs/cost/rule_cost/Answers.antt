@@ -1,3 +1,4 @@
+-- A count of days that stopped at `u32::MAX` gives the spans the same count as the exact number of days.
 use Rattle.std.proofs.Common.{◌∙◌}
 use Rattle.gtd_hours.specs.Cost.{days_cost}
 use Rattle.gtd_hours_domain.proofs.CostLemmas.{spans-counted}

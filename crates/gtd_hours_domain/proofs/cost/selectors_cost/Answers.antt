@@ -1,3 +1,4 @@
+-- Where no selector is left, the total is the sum over all selectors, up to `u32::MAX`.
 use Rattle.std.proofs.Common.{◌≡◌, [], length, rules}
 use Rattle.gtd_hours_domain.proofs.CostLemmas.{done, nothing-left}
 use Rattle.gtd_hours_domain.proofs.cost.selectors_cost.Goals as goal

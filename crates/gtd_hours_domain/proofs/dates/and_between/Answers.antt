@@ -1,3 +1,4 @@
+-- The months strictly between two others: none if the second follows the first, else one stretch of whole months.
 use Rattle.std.proofs.Common.{sym, ◌∙◌}
 use Rattle.gtd_calendar.specs.ComputedDates.{month_of}
 use Rattle.gtd_hours_domain.specs.Translation.{minutes_of, moved_day}

@@ -1,3 +1,5 @@
+-- The cases of a range of dates: days of one month; or the rest of the first month, the months between, and the
+-- beginning of the last month, which together are the whole range.
 use Rattle.std.proofs.Common.{◌≡◌, ◌<◌, arith}
 use Rattle.gtd_calendar.specs.ComputedDates.{month_of, day_of_month}
 use Rattle.gtd_hours_domain.specs.Translation.{minutes_of, moved_day}

@@ -1,3 +1,5 @@
+-- One stretch reaches the last date: by months to its month and then by days, or by months to the month before it,
+-- which is as long in each year, and then by days.
 use Rattle.std.proofs.Common.{◌≡◌, ◌≢◌, ◌<◌, ◌+◌, ◌-◌, arith, inl, inr}
 use Rattle.gtd_hours_domain.proofs.DateLemmas.{day-in}
 use Rattle.gtd_hours_domain.proofs.StretchLemmas.{common-days-fit, date-run, ends-over, ends-there, fixed-length}

@@ -1,3 +1,4 @@
+-- So many months from the first day of a month on are the months of the range, also over the end of a year.
 use Rattle.gtd_calendar.specs.ComputedDates.{month_of}
 use Rattle.gtd_hours_domain.specs.Translation.{minutes_of, moved_day}
 use Rattle.gtd_hours_domain.proofs.DateLemmas.{round-months}

@@ -1,3 +1,4 @@
+-- A day on which some selector of each kind holds, as it is computed, is a day that matches, as it is defined.
 use Rattle.std.proofs.lemmas.Result.{IfOk-weaker}
 use Rattle.gtd_hours_domain.specs.Translation.{minutes_of, moved_day}
 use Rattle.gtd_hours_domain.proofs.DateLemmas.{same-after}

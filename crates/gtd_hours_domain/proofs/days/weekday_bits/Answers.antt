@@ -1,3 +1,4 @@
+-- Bit k of the sum is set exactly if weekday k is in the range, since each summand is one bit at its own place.
 use Rattle.gtd_hours.specs.Opening.{IsRound}
 use Rattle.gtd_hours_domain.proofs.DayLemmas.{bits-hold}
 use Rattle.gtd_hours_domain.proofs.days.weekday_bits.Goals as goal

@@ -1,3 +1,4 @@
+-- A start with nothing but a clock holds, on each day, for so many minutes from that clock on.
 use Rattle.gtd_hours_domain.proofs.LeafLemmas.{clock-held}
 use Rattle.gtd_hours_domain.proofs.leaf.each_clock.Goals as goal
 

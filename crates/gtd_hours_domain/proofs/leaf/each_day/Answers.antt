@@ -1,3 +1,4 @@
+-- Stretches of one day are the days of the start themselves.
 use Rattle.gtd_hours_domain.specs.Translation.{minutes_of, moved_day}
 use Rattle.gtd_hours_domain.proofs.LeafLemmas.{each-day}
 use Rattle.gtd_hours_domain.proofs.leaf.each_day.Goals as goal

@@ -1,3 +1,4 @@
+-- A day is held exactly if the start holds on it, or on a day before it by fewer days than the stretch has.
 use Rattle.gtd_hours_domain.proofs.LeafLemmas.{each-days}
 use Rattle.gtd_hours_domain.proofs.leaf.each_days.Goals as goal
 

@@ -1,3 +1,4 @@
+-- Each expression has a basic domain at least, so counting none as one changes nothing where there is an expression.
 use Rattle.gtd_core.specs.Trees.{tree_of}
 use Rattle.gtd_hours_domain.proofs.LeafLemmas.{no-less}
 use Rattle.gtd_hours_domain.proofs.leaf.or_nothing.Goals as goal

@@ -1,3 +1,4 @@
+-- After each turn the union holds the numbers of the pieces so far, and after the last turn those of the whole range.
 use Rattle.std.proofs.Common.{arith}
 use Rattle.gtd_hours_domain.specs.Translation.{HasNumber, minutes_of, moved_day}
 use Rattle.gtd_hours_domain.proofs.PieceLemmas.{all-pieces, along, one_more-piece}

@@ -1,3 +1,4 @@
+-- The weeks up to 52 in one stretch, and week 53 of the years that have it, are the weeks of the range.
 use Rattle.std.proofs.Common.{arith}
 use Rattle.std.proofs.lemmas.Result.{IfOk-weaker}
 use Rattle.gtd_hours_domain.specs.Translation.{HasNumber, minutes_of, moved_day}

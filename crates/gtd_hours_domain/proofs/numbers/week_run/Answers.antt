@@ -1,3 +1,4 @@
+-- From the Monday of the first week on, so many weeks are the weeks of the range; they do not leave the year.
 use Rattle.gtd_hours_domain.proofs.WeekLemmas.{week-run}
 use Rattle.gtd_hours_domain.proofs.numbers.week_run.Goals as goal
 

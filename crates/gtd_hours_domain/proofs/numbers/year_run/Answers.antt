@@ -1,3 +1,4 @@
+-- From 1 January of the first year on, so many years are the years of the range.
 use Rattle.gtd_hours_domain.proofs.MonthLemmas.{year-run}
 use Rattle.gtd_hours_domain.proofs.numbers.year_run.Goals as goal
 

@@ -1,3 +1,5 @@
+-- At each turn, the union and the ranges that are left hold the same seconds as all ranges do, of those that end on
+-- their day, and have as many basic domains.
 use Rattle.std.proofs.Common.{◌≡◌, ◌↔◌, ◌⊎◌, ◌+◌, length, ℤ}
 use Rattle.gtd_core.specs.Seconds.{day_of_second}
 use Rattle.gtd_hours.specs.Cost.{early_cost}

@@ -1,3 +1,4 @@
+-- Matching days, met with the minutes of ranges that end on their day, are the spans of these ranges.
 use Rattle.gtd_core.specs.Trees.{tree_of}
 use Rattle.gtd_hours_domain.proofs.CostLemmas.{some-early}
 use Rattle.gtd_hours_domain.proofs.LeafLemmas.{some-leaf}

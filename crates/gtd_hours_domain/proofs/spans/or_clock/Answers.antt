@@ -1,3 +1,4 @@
+-- A range that ends on its day holds at the minutes of that day from its beginning to its end.
 use Rattle.std.proofs.Common.{rules}
 use Rattle.gtd_hours_domain.proofs.DateLemmas.{or_same}
 use Rattle.gtd_hours_domain.proofs.SpanLemmas.{early-clock}

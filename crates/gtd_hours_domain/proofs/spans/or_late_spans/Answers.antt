@@ -1,3 +1,4 @@
+-- One range more that ends on a later day keeps what all ranges hold; at the end none is left.
 use Rattle.std.proofs.Common.{◌≡◌, [], length, rules}
 use Rattle.gtd_hours.specs.Opening.{Matches}
 use Rattle.gtd_hours_domain.proofs.CostLemmas.{late-leaves, nothing-left}

@@ -1,3 +1,4 @@
+-- Without times the spans are the matching days; with times, those of ranges that end on their day and of the others.
 use Rattle.std.proofs.Common.{sym}
 use Rattle.std.proofs.lemmas.Result.{IfOk-weaker}
 use Rattle.gtd_hours_domain.proofs.SpanLemmas.{no_times, some_times}

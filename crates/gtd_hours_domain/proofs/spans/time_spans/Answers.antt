@@ -1,3 +1,4 @@
+-- Days that begin when the range does, met with its minutes on each of them, are its spans, also past midnight.
 use Rattle.std.proofs.lemmas.Result.{IfOk-weaker}
 use Rattle.gtd_hours.specs.Opening.{Matches}
 use Rattle.gtd_hours_domain.proofs.SpanLemmas.{spans-of}

@@ -1,3 +1,5 @@
+-- Behind a rule before which something was open: what is closed is taken away, an open rule has its days for itself,
+-- and the number of basic domains is as counted.
 use Rattle.gtd_core.specs.Trees.{tree_of}
 use Rattle.gtd_hours.specs.Cost.{days_cost, rule_cost}
 use Rattle.gtd_hours.specs.Opening.{InSpans}

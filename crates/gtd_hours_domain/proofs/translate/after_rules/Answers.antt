@@ -1,3 +1,4 @@
+-- One rule more keeps what is open after all rules, and how many basic domains this takes.
 use Rattle.gtd_hours_domain.proofs.CostLemmas.{leaves-after}
 use Rattle.gtd_hours_domain.proofs.SpanLemmas.{one_more-rule}
 use Rattle.gtd_hours_domain.proofs.translate.after_rules.Goals as goal

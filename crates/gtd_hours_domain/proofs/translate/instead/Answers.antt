@@ -1,3 +1,4 @@
+-- What was open stays on the days that the rule does not match, and the spans of the rule are added.
 use Rattle.std.proofs.lemmas.Result.{IfOk-weaker}
 use Rattle.gtd_hours_domain.proofs.SpanLemmas.{kept-days}
 use Rattle.gtd_hours_domain.proofs.translate.instead.Goals as goal

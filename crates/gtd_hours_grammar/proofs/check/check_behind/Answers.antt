@@ -1,3 +1,4 @@
+-- Each part that is read leaves fewer moves, so reading ends, with the pieces of the text or its first fault.
 use Rattle.std.proofs.Common.{[], ◌∷◌, ◌++◌, ◌≡◌, ◌<◌, IfSome, Ok, List, Option, Some, ap, ℕ, subst}
 use Rattle.gtd_hours_parts.specs.declared.piece.Piece.{Piece}
 use Rattle.gtd_hours_parts.specs.declared.part.Part.{Part}

@@ -1,3 +1,4 @@
+-- The reading stands behind some pieces of the text, and at each turn fewer moves are left.
 use Rattle.std.proofs.Common.{List}
 use Rattle.gtd_hours_parts.specs.declared.piece.Piece.{Piece}
 use Rattle.gtd_hours_grammar.specs.Steps.{IsReading, moves_left}

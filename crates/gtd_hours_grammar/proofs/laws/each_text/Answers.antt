@@ -1,3 +1,5 @@
+-- From the law that each text is tokens or has a first bad byte: each text is opening hours or has a first fault.
+-- Its pieces are in range, and few.
 use Rattle.gtd_hours_grammar.proofs.EachText.{each_text, few_pieces, in_range}
 use Rattle.gtd_hours_grammar.proofs.laws.each_text.Goals as goal
 

@@ -1,3 +1,4 @@
+-- At the front of a text that is tokens to its end, no piece has been read and all tokens are still to come.
 use Rattle.gtd_hours_grammar.proofs.ReadLemmas.{front_read}
 use Rattle.gtd_hours_grammar.proofs.reading.begin.Goals as goal
 

@@ -1,3 +1,5 @@
+-- Moves are made until one completes a piece, which is then read in addition, with fewer moves left. Where no move is
+-- possible, the text has been read in full, or the fault is its first.
 use Rattle.std.proofs.Common.{rules, ◌≡◌, ◌<◌, ◌≤◌, Option, None, ℕ, arith, subst}
 use Rattle.gtd_hours_tokens.specs.declared.token.TokenKind.{TokenKind}
 use Rattle.gtd_hours_grammar.specs.declared.place.Move.{Move}

@@ -1,3 +1,5 @@
+-- The moves so far have completed no piece: what had been read before the call is what has been read, and no more moves
+-- are left than before.
 use Rattle.gtd_hours_grammar.specs.Steps.{moves_left}
 use Rattle.gtd_hours_grammar.proofs.ReadLemmas.{Keeps}
 use Rattle.gtd_hours_grammar.proofs.reading.next_part.Given as goal

@@ -1,3 +1,4 @@
+-- In a text that is known to be tokens, no bad byte comes next, so that arm is never reached.
 use Rattle.gtd_hours_grammar.proofs.ReadLemmas.{never_bad}
 use Rattle.gtd_hours_grammar.proofs.reading.token_behind.Goals as goal
 

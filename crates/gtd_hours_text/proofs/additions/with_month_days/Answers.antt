@@ -1,3 +1,4 @@
+-- A month or date comes last among the months and dates of the draft, and all else of it stays.
 use Rattle.gtd_hours_text.proofs.AddingLemmas.{one_selector, month_days_added}
 use Rattle.gtd_hours_text.proofs.additions.with_month_days.Goals as goal
 

@@ -1,3 +1,4 @@
+-- The mark of a kind changes nothing, `closed` is kept in the draft, and a part that begins a rule does not come here.
 use Rattle.std.proofs.Common.{rules, ◌≡◌, subst}
 use Rattle.gtd_hours_parts.specs.Values.{IsPartOf}
 use Rattle.gtd_hours_parts.specs.declared.part.Part.{Part}

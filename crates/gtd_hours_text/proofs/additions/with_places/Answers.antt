@@ -1,3 +1,4 @@
+-- A weekday at each place of a range comes last among the weekdays of the draft, and all else of it stays.
 use Rattle.gtd_hours_text.proofs.AddingLemmas.{places_added}
 use Rattle.gtd_hours_text.proofs.additions.with_places.Goals as goal
 

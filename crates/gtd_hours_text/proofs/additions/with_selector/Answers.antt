@@ -1,3 +1,4 @@
+-- Each form of selector goes into one list of the draft: dates among the months, places in a month among the weekdays.
 use Rattle.gtd_hours_text.specs.Standing.{names_month_days, names_weekdays, names_weeks, names_years}
 use Rattle.gtd_hours_text.proofs.AddingLemmas.{of_kind}
 use Rattle.gtd_hours_text.proofs.additions.with_selector.Goals as goal

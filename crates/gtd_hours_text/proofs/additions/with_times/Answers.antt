@@ -1,3 +1,4 @@
+-- A range of times comes last among the times of the draft, and all else of it stays.
 use Rattle.gtd_hours_text.proofs.AddingLemmas.{range_added}
 use Rattle.gtd_hours_text.proofs.additions.with_times.Goals as goal
 

@@ -1,3 +1,4 @@
+-- A range of weekdays, or a weekday at a place, comes last among the weekdays of the draft, and all else of it stays.
 use Rattle.gtd_hours_text.proofs.AddingLemmas.{one_selector, weekdays_added}
 use Rattle.gtd_hours_text.proofs.additions.with_weekdays.Goals as goal
 

@@ -1,3 +1,4 @@
+-- A range of weeks comes last among the weeks of the draft, and all else of it stays.
 use Rattle.gtd_hours_text.proofs.AddingLemmas.{one_selector, weeks_added}
 use Rattle.gtd_hours_text.proofs.additions.with_weeks.Goals as goal
 

@@ -1,3 +1,4 @@
+-- A range of years comes last among the years of the draft, and all else of it stays.
 use Rattle.gtd_hours_text.proofs.AddingLemmas.{one_selector, years_added}
 use Rattle.gtd_hours_text.proofs.additions.with_years.Goals as goal
 

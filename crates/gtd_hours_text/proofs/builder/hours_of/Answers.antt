@@ -1,3 +1,4 @@
+-- The rules that have ended, and behind them the rule of the draft, are the rules of all pieces.
 use Rattle.gtd_hours_text.proofs.BuildingLemmas.{hours_built}
 use Rattle.gtd_hours_text.proofs.builder.hours_of.Goals as goal
 

@@ -1,3 +1,4 @@
+-- No rules and an empty draft are what is built from no pieces.
 use Rattle.gtd_hours_text.specs.declared.builder.Building.{Building}
 use Rattle.gtd_hours_text.proofs.BuildingLemmas.{begun}
 use Rattle.gtd_hours_text.proofs.builder.nothing.Goals as goal

@@ -1,3 +1,4 @@
+-- A piece that begins no rule goes into the draft, and the rules that have ended stay.
 use Rattle.std.proofs.Common.{refl}
 use Rattle.gtd_hours_text.specs.declared.builder.Building.{Building}
 use Rattle.gtd_hours_text.proofs.BuildingLemmas.{part_built}

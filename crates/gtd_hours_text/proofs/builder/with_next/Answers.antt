@@ -1,3 +1,4 @@
+-- A part other than the beginning of a rule stands for a piece that begins none, so it goes into the draft.
 use Rattle.gtd_hours_text.proofs.BuildingLemmas.{inside_rule}
 use Rattle.gtd_hours_text.proofs.builder.with_next.Goals as goal
 

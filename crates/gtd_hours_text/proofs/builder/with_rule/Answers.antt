@@ -1,3 +1,4 @@
+-- The beginning of a rule ends the one in the draft, which becomes the last of the rules, and leaves an empty draft.
 use Rattle.gtd_hours_text.specs.declared.builder.Building.{Building}
 use Rattle.gtd_hours_text.proofs.BuildingLemmas.{rule_built, rule_part}
 use Rattle.gtd_hours_text.proofs.builder.with_rule.Goals as goal

@@ -1,3 +1,4 @@
+-- Empty lists, and not closed: this is the draft of no pieces.
 use Rattle.std.proofs.Common.{[], refl}
 use Rattle.gtd_hours_text.specs.Standing.{AllSelectors}
 use Rattle.gtd_hours_text.proofs.DraftLemmas.{no_times}

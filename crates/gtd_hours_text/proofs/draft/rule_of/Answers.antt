@@ -1,3 +1,4 @@
+-- The kinds of the rule are years, months and dates, weeks, and weekdays, in this order, each if the draft has any.
 use Rattle.std.proofs.Common.{refl}
 use Rattle.gtd_hours.specs.declared.hours.Rule.{Rule}
 use Rattle.gtd_hours_text.specs.Standing.{kind_if}

@@ -1,3 +1,4 @@
+-- A kind is added for a list that is not empty, so that no kind is without selectors.
 use Rattle.std.proofs.Common.{sym, ◌≡◌, ◌∙◌, List, []}
 use Rattle.gtd_hours.specs.declared.hours.Kind.{Kind}
 use Rattle.gtd_hours.specs.declared.hours.Selector.{Selector}

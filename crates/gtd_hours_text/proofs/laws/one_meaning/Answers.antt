@@ -1,3 +1,4 @@
+-- Hours of the same text are open at the same seconds, take as many basic domains, and have the same written text.
 use Rattle.gtd_hours_text.specs.facts.OneMeaning.{one_cost, one_opening, one_text}
 use Rattle.gtd_hours_text.proofs.laws.one_meaning.Goals as goal
 

@@ -1,3 +1,4 @@
+-- One place more is added at each turn; behind the last turn the list has the weekday at each place of the range.
 use Rattle.std.proofs.Common.{arith}
 use Rattle.gtd_hours_text.proofs.PlaceLemmas.{all_added, one_added}
 use Rattle.gtd_hours_text.proofs.places.with_each.Goals as goal

@@ -1,3 +1,4 @@
+-- The list has grown by the weekday at each place from the first up to but not including the number.
 use Rattle.std.proofs.Common.{◌-◌, ◌+◌}
 use Rattle.gtd_hours_text.specs.Adding.{AddsUpTo}
 use Rattle.gtd_hours_text.proofs.places.with_each.Given as goal

@@ -1,3 +1,4 @@
+-- The selector that was added has the weekday and the number that were given, and comes last.
 use Rattle.gtd_hours.specs.declared.hours.Selector.TheVariants as selector
 use Rattle.gtd_hours_text.proofs.places.with_place.Goals as goal
 

@@ -1,3 +1,4 @@
+-- Each piece that is read is also built, so the hours are those of the text; `NoMemory` means that it has no fault.
 use Rattle.std.proofs.Common.{[], ◌∷◌, ◌++◌, ◌≡◌, IfSome, List, Option, Some, Ok, ℕ, ap, subst}
 use Rattle.gtd_hours_parts.specs.SoundPieces.{IsPiece}
 use Rattle.gtd_hours_parts.specs.Values.{IsPartOf}

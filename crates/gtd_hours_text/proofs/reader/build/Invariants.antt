@@ -1,3 +1,4 @@
+-- The pieces that have been read are those that have been built, and at each turn fewer moves are left.
 use Rattle.gtd_hours_grammar.specs.Steps.{moves_left}
 use Rattle.gtd_hours_text.specs.Reading.{HasBuilt}
 use Rattle.gtd_hours_text.proofs.reader.build.Given as goal

@@ -1,3 +1,4 @@
+-- Writable hours are what their written text stands for, and hours that were read from a text are writable.
 use Rattle.gtd_hours_text.proofs.WritableLemmas.{can_be_written}
 use Rattle.gtd_hours_text.proofs.WrittenHours.{hours_stand}
 use Rattle.gtd_hours_text.proofs.writing_laws.printed_hours_read_back.Goals as goal

@@ -1,3 +1,4 @@
+-- From each place on something comes next, so each text is tokens to its end or has a first byte that begins none.
 use Rattle.gtd_hours_tokens.proofs.EachText.{each_next, each_text}
 use Rattle.gtd_hours_tokens.proofs.laws.each_text.Goals as goal
 

@@ -1,3 +1,4 @@
+-- Two lists of tokens of a text are the same, two first faults are the same, and a text never has both.
 use Rattle.std.proofs.Common.{length}
 use Rattle.gtd_hours_tokens.specs.facts.WholeText.{one_list, one_fault, apart}
 use Rattle.gtd_hours_tokens.proofs.laws.one_reading.Goals as goal

@@ -1,3 +1,4 @@
+-- A token is the one that is computed from the bytes at its place, so two at one place are the same.
 use Rattle.gtd_scan.specs.facts.Computed.{one_token}
 use Rattle.gtd_hours_tokens.specs.facts.NextToken.{one_next}
 use Rattle.gtd_hours_tokens.specs.facts.TokenForms.{are_computed}

@@ -1,3 +1,4 @@
+-- The tokens that are defined are those that are computed, and where none is computed, none begins.
 use Rattle.gtd_scan.specs.facts.Computed.{token_agrees, none_agrees}
 use Rattle.gtd_hours_tokens.specs.facts.TokenForms.{are_computed}
 use Rattle.gtd_hours_tokens.proofs.laws.tokens_as_computed.Goals as goal

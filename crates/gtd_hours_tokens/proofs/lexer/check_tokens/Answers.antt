@@ -1,3 +1,4 @@
+-- One token more is read at each turn; where none comes, the text is tokens to its end, or the fault is its first one.
 use Rattle.std.proofs.Common.{◌≤◌, Option, Ok, length, subst, sym}
 use Rattle.std.specs.Prelude.{IfSome}
 use Rattle.std.proofs.lemmas.Result.{err_from_is_err_and}

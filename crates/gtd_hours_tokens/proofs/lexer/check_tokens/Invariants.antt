@@ -1,3 +1,4 @@
+-- The bytes before the place have been read as tokens, and the place is in the text.
 use Rattle.std.proofs.Common.{◌≤◌, ◌-◌, length}
 use Rattle.gtd_hours_tokens.specs.facts.WholeText.{HasRead}
 use Rattle.gtd_hours_tokens.proofs.lexer.check_tokens.Given as goal

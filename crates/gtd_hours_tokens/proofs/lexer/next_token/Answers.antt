@@ -1,3 +1,4 @@
+-- The token that is computed behind the spaces comes next; it has a byte at least, and ends in the text.
 use Rattle.std.proofs.Common.{◌<◌, length, sym, arith}
 use Rattle.gtd_hours_tokens.specs.facts.NextToken.{token_next, stop_next}
 use Rattle.gtd_hours_tokens.specs.facts.TokenForms.{goes_on, ends_inside}

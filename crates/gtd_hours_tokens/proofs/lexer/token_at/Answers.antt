@@ -1,3 +1,4 @@
+-- The end of a token does not overflow, because its bytes are in the text, and the length of a slice is limited.
 use Rattle.std.proofs.Common.{◌∙◌, sym, arith}
 use Rattle.gtd_hours_tokens.specs.facts.TokenForms.{front_fits}
 use Rattle.gtd_hours_tokens.proofs.lexer.token_at.Goals as goal

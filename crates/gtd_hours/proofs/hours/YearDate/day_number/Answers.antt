@@ -1,3 +1,4 @@
+-- The days of dates from 1800 to 2799 are numbers between -70000 and 310000.
 use Rattle.std.proofs.Common.{◌≡◌, ◌∙◌, pos, rules, to_z, of_z, w64, to_z-of_z, FitsSigned}
 use Rattle.gtd_hours.proofs.DateFacts.{date-small}
 use Rattle.gtd_hours.proofs.hours.YearDate.day_number.Goals as goal

@@ -1,3 +1,4 @@
+-- All but a comma makes the move that it makes behind any list of months, which is right behind a date too.
 use Rattle.gtd_hours_grammar.proofs.GoodItems.{after_date_good}
 use Rattle.gtd_hours_grammar.proofs.GoodMoves.{after_date_fits}
 use Rattle.gtd_hours_grammar.proofs.moves.day_lists.after_date.Goals as goal

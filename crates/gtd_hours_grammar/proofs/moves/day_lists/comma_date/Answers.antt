@@ -1,3 +1,4 @@
+-- A number in range behind a date and a comma is a day or a year; all else moves as behind the comma of any such list.
 use Rattle.gtd_hours_grammar.proofs.GoodItems.{comma_date_good, comma_number_good}
 use Rattle.gtd_hours_grammar.proofs.GoodMoves.{comma_date_fits}
 use Rattle.std.proofs.Common.{rules}

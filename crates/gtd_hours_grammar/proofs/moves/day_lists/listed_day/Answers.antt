@@ -1,3 +1,4 @@
+-- A day behind a comma begins a range, or is the `24` of a rule `24/7`, or is a date by itself.
 use Rattle.gtd_hours_grammar.proofs.GoodItems.{listed_dash_good, listed_day_good, listed_slash_good}
 use Rattle.std.proofs.Common.{rules}
 use Rattle.gtd_hours_grammar.proofs.moves.day_lists.listed_day.Goals as goal

@@ -1,3 +1,4 @@
+-- A date that no dash follows is a piece by itself, and the list may go on behind it.
 use Rattle.gtd_hours_grammar.proofs.GoodItems.{date_good}
 use Rattle.gtd_hours_grammar.proofs.moves.month_days.date.Goals as goal
 

@@ -1,3 +1,4 @@
+-- A number in range behind `Dec 24-` is the day that ends the range, or a year if the first date has one.
 use Rattle.gtd_hours_grammar.proofs.GoodItems.{date_dash_good}
 use Rattle.std.proofs.Common.{rules}
 use Rattle.gtd_hours_grammar.proofs.moves.month_days.date_dash.Goals as goal

@@ -1,3 +1,4 @@
+-- A number in range behind `Dec 24-Jan` is the day of the last date, and completes the range.
 use Rattle.gtd_hours_grammar.proofs.GoodItems.{date_dash_month_good}
 use Rattle.std.proofs.Common.{rules}
 use Rattle.gtd_hours_grammar.proofs.moves.month_days.date_dash_month.Goals as goal

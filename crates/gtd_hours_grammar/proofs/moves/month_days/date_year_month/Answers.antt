@@ -1,3 +1,4 @@
+-- A number in range behind `2024 Dec` is the day of a date that has a year.
 use Rattle.gtd_hours_grammar.proofs.GoodItems.{year_month_date_good}
 use Rattle.std.proofs.Common.{rules}
 use Rattle.gtd_hours_grammar.proofs.moves.month_days.date_year_month.Goals as goal

@@ -1,3 +1,4 @@
+-- A day in range makes a date of the month; a month that no dash and no number follows is a piece by itself.
 use Rattle.gtd_hours_grammar.proofs.GoodItems.{month_date_good, month_good}
 use Rattle.std.proofs.Common.{rules}
 use Rattle.gtd_hours_grammar.proofs.moves.month_days.month.Goals as goal

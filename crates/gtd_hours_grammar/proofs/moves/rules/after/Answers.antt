@@ -1,3 +1,4 @@
+-- `;` ends the rule, `:` and a year in range are right only behind earlier parts, and all else begins a later part.
 use Rattle.std.proofs.Common.{◌∙◌, rules, sym}
 use Rattle.gtd_hours_grammar.proofs.GoodRules.{after_colon_good, after_later_good, after_semicolon_good, after_year_good}
 use Rattle.gtd_hours_grammar.proofs.moves.rules.after.Goals as goal

@@ -1,3 +1,4 @@
+-- A comma behind which the list cannot go on ends the rule, and the next one begins without replacing it.
 use Rattle.std.proofs.Common.{◌∙◌, sym}
 use Rattle.gtd_hours_grammar.proofs.GoodRules.{also_good}
 use Rattle.gtd_hours_grammar.proofs.moves.rules.comma.Goals as goal

@@ -1,3 +1,4 @@
+-- A part of a rule may begin behind any part that comes before it in the order of parts, and only there.
 use Rattle.std.proofs.Common.{rules}
 use Rattle.gtd_hours_grammar.proofs.GoodRules.{later_closed, later_month, later_open, later_time, later_week, later_weekday}
 use Rattle.gtd_hours_grammar.proofs.moves.rules.later.Goals as goal

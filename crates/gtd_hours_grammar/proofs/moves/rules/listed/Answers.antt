@@ -1,3 +1,4 @@
+-- A number, month, weekday or time in range behind a comma goes on with the list of the part in which the comma stands.
 use Rattle.std.proofs.Common.{rules}
 use Rattle.gtd_hours_grammar.proofs.GoodRules.{listed_month_good, listed_number_good, listed_time_good, listed_weekday_good}
 use Rattle.gtd_hours_grammar.proofs.moves.rules.listed.Goals as goal

@@ -1,3 +1,4 @@
+-- Behind a place in brackets, a comma leads to another place, and `]` ends the selector of the weekday.
 use Rattle.gtd_hours_grammar.proofs.GoodItems.{bracket_close_good, bracket_comma_good}
 use Rattle.std.proofs.Common.{rules}
 use Rattle.gtd_hours_grammar.proofs.moves.weekdays.bracket_end.Goals as goal

@@ -1,3 +1,4 @@
+-- A place in brackets that no dash follows is a piece by itself.
 use Rattle.gtd_hours_grammar.proofs.GoodItems.{nth_good}
 use Rattle.gtd_hours_grammar.proofs.moves.weekdays.nth.Goals as goal
 

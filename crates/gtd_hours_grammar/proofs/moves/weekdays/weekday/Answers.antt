@@ -1,3 +1,4 @@
+-- A bracket may open behind a weekday; a weekday that neither a bracket nor a dash follows is a piece by itself.
 use Rattle.gtd_hours_grammar.proofs.GoodItems.{weekday_bracket_good, weekday_good}
 use Rattle.std.proofs.Common.{rules}
 use Rattle.gtd_hours_grammar.proofs.moves.weekdays.weekday.Goals as goal

@@ -1,3 +1,4 @@
+-- A week that no dash follows is a piece by itself.
 use Rattle.gtd_hours_grammar.proofs.GoodItems.{week_good}
 use Rattle.gtd_hours_grammar.proofs.moves.weeks.week.Goals as goal
 

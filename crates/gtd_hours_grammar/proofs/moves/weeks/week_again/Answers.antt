@@ -1,3 +1,4 @@
+-- The second piece of `46-12` is the weeks from 1 to 12, and is given whatever token comes next.
 use Rattle.gtd_hours_grammar.proofs.GoodItems.{week_again_good}
 use Rattle.gtd_hours_grammar.proofs.moves.weeks.week_again.Goals as goal
 

@@ -1,3 +1,4 @@
+-- The first piece of `46-12` is the weeks from 46 to 53, and is given whatever token comes next.
 use Rattle.gtd_hours_grammar.proofs.GoodItems.{week_back_good}
 use Rattle.gtd_hours_grammar.proofs.moves.weeks.week_back.Goals as goal
 

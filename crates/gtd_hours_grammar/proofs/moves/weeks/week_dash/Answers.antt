@@ -1,3 +1,4 @@
+-- A second week in range makes a range, whether it is later than the first week or before it.
 use Rattle.gtd_hours_grammar.proofs.GoodItems.{week_pair_good}
 use Rattle.std.proofs.Common.{rules}
 use Rattle.gtd_hours_grammar.proofs.moves.weeks.week_dash.Goals as goal

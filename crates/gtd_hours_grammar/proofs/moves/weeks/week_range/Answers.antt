@@ -1,3 +1,4 @@
+-- A range of weeks that no `/` follows is a piece without a step.
 use Rattle.gtd_hours_grammar.proofs.GoodItems.{week_range_good}
 use Rattle.gtd_hours_grammar.proofs.moves.weeks.week_range.Goals as goal
 

@@ -1,3 +1,4 @@
+-- A further year with `+` goes on to the last one of the calendar, and without a sign it is a piece by itself.
 use Rattle.std.proofs.Common.{rules}
 use Rattle.gtd_hours_grammar.proofs.GoodItems.{listed_plus_good, listed_year_good}
 use Rattle.gtd_hours_grammar.proofs.moves.years.listed_year.Goals as goal

@@ -1,3 +1,4 @@
+-- A year that begins a rule may go on with `-`, `/` or `+`, and is a piece by itself where nothing of its own follows.
 use Rattle.gtd_hours_grammar.proofs.GoodItems.{year_dash_good, year_good, year_plus_good, year_slash_good}
 use Rattle.std.proofs.Common.{rules}
 use Rattle.gtd_hours_grammar.proofs.moves.years.year.Goals as goal

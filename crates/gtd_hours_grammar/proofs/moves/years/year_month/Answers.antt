@@ -1,3 +1,4 @@
+-- A day in range makes a date of `2024 Dec`; without one the year is a piece by itself, and the month comes behind it.
 use Rattle.gtd_hours_grammar.proofs.GoodItems.{year_date_good, year_month_good}
 use Rattle.std.proofs.Common.{rules}
 use Rattle.gtd_hours_grammar.proofs.moves.years.year_month.Goals as goal

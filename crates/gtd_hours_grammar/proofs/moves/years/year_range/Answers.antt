@@ -1,3 +1,4 @@
+-- A range of years that no `/` follows is a piece without a step.
 use Rattle.gtd_hours_grammar.proofs.GoodItems.{year_range_good}
 use Rattle.gtd_hours_grammar.proofs.moves.years.year_range.Goals as goal
 

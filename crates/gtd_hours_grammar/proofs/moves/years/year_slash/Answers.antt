@@ -1,3 +1,4 @@
+-- A number in range behind `2024/` is the step of the years from 2024 to the last one of the calendar.
 use Rattle.gtd_hours_grammar.proofs.GoodItems.{slash_step_good}
 use Rattle.std.proofs.Common.{rules}
 use Rattle.gtd_hours_grammar.proofs.moves.years.year_slash.Goals as goal
