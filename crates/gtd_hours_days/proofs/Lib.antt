@@ -1,3 +1,4 @@
+-- Lemmas on sets of days: holidays added to them, what a table covers, and how they are written in groups and runs.
 pub mod AdditionFacts
 pub mod CoverFacts
 pub mod CoverageFacts

@@ -1,3 +1,4 @@
+-- Lemmas on the rows of a file of hours as read, translated and put, on its faults, its warnings, and its one answer.
 pub mod ListFacts
 pub mod OpeningFacts
 pub mod PutFacts

@@ -1,3 +1,4 @@
+-- Lemmas on days of the calendar and marks in a set, on rows of a table, on runs of days, and on Easter.
 pub mod DateFacts
 pub mod MarkFacts
 pub mod TableFacts

@@ -1,1 +1,2 @@
+-- The lemmas by which tokens are read from place to place of a text.
 pub mod LexingLemmas

@@ -1,3 +1,4 @@
+-- The ends, moved by the offset, stay in the calendar, and the days added are those from which the offset leads back.
 use Rattle.std.proofs.Common.{rules, FitsSigned, w64, to_z-of_z}
 use Rattle.gtd_hours_holidays.specs.Days.{IsIn}
 use Rattle.gtd_hours_days.proofs.AdditionFacts.{added_moved, moved_in, of_calendar}

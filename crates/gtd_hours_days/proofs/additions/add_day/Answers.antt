@@ -1,3 +1,4 @@
+-- A day outside the years adds nothing, and a day of the years is added as it is.
 use Rattle.std.proofs.Common.{to_z-of_z}
 use Rattle.gtd_hours_holidays.specs.Days.{IsIn}
 use Rattle.gtd_hours_days.proofs.AdditionFacts.{day_added, day_none, of_calendar}

@@ -1,3 +1,5 @@
+-- One more year adds the day that comes so long after its Easter. Two years on either side of the range are enough,
+-- since no offset leads further.
 use Rattle.std.proofs.Common.{rules, arith, ◌-◌, FitsSigned, w64, to_z-of_z}
 use Rattle.gtd_hours_holidays.specs.Days.{IsIn}
 use Rattle.gtd_hours_days.proofs.AdditionFacts.{easter_all, easter_more, easter_none}

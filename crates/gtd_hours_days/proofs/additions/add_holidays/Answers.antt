@@ -1,3 +1,4 @@
+-- One row more adds its holidays, moved by the offset; behind the last row they are those of the whole table.
 use Rattle.std.proofs.Common.{◌≡◌, ◌∙◌, ◌+◌, ◌++◌, ◌∷◌, [], ap, sym, take, arith}
 use Rattle.std.proofs.lemmas.List.{take_all, take_more}
 use Rattle.gtd_hours_holidays.specs.Days.{IsIn}

@@ -1,3 +1,4 @@
+-- Each form of selector adds its own days: public holidays or Easter with their offset, school holidays without.
 use Rattle.gtd_hours_days.proofs.additions.add_listed.Goals as goal
 
 pub returns-in-Public : goal.returns-in-Public

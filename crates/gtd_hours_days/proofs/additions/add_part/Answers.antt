@@ -1,3 +1,4 @@
+-- Of the days between two others, those of the years lie between the later beginning and the earlier end, or are none.
 use Rattle.std.proofs.Common.{rules, ◌≤ℤ◌, FitsSigned, w64, to_z-of_z}
 use Rattle.std.proofs.lemmas.Int.{by_lt_z}
 use Rattle.gtd_hours_holidays.specs.Days.{IsIn}

@@ -1,3 +1,4 @@
+-- A row of another kind, or one that only covers days, adds nothing; any other row adds its days.
 use Rattle.std.proofs.Common.{rules, FitsSigned, w64, to_z-of_z}
 use Rattle.gtd_hours_holidays.specs.Days.{IsIn}
 use Rattle.gtd_hours_days.proofs.AdditionFacts.{row_added, row_none}

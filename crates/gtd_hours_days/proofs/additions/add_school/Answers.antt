@@ -1,3 +1,4 @@
+-- School holidays are holidays moved by no day.
 use Rattle.gtd_hours_holidays.specs.Days.{IsIn}
 use Rattle.gtd_hours_holidays.specs.declared.row.HolidayKind.TheVariants.{School}
 use Rattle.gtd_hours_days.specs.Listed.{IsKnownHoliday}

@@ -1,3 +1,4 @@
+-- The day found lies the offset behind Easter Sunday, so moved back by it, it is Easter Sunday.
 use Rattle.std.proofs.Common.{rules, FitsSigned, w64, to_z-of_z}
 use Rattle.gtd_hours_days.proofs.AdditionFacts.{easter_moved}
 use Rattle.gtd_hours_days.proofs.additions.after_easter.Goals as goal

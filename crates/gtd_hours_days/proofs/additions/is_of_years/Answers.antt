@@ -1,3 +1,4 @@
+-- A day from 1 January of the first year to 31 December of the last is a day of the years, and no other is.
 use Rattle.std.proofs.Common.{rules, FitsSigned, w64, to_z-of_z}
 use Rattle.gtd_hours_days.proofs.AdditionFacts.{between_years}
 use Rattle.gtd_hours_days.proofs.additions.is_of_years.Goals as goal

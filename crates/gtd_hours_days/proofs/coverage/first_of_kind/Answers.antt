@@ -1,3 +1,4 @@
+-- The first day of the years that is not covered, found between their first and last day; if none is, all are covered.
 use Rattle.std.proofs.Common.{rules, FitsSigned, w64, to_z-of_z}
 use Rattle.gtd_hours_days.proofs.CoverageFacts.{covers, uncovered}
 use Rattle.gtd_hours_days.proofs.coverage.first_of_kind.Goals as goal

@@ -1,3 +1,4 @@
+-- All selectors before the one at hand are covered, so the one that is not covered is the first of them.
 use Rattle.std.proofs.Common.{rules, ◌≡◌, ◌∙◌, ◌+◌, ◌++◌, ◌∷◌, [], ap, sym, take, FitsSigned, w64, to_z-of_z}
 use Rattle.std.proofs.lemmas.List.{take_more}
 use Rattle.gtd_hours_days.specs.declared.listed.Listed.{Listed}

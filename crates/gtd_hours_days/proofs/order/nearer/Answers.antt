@@ -1,3 +1,4 @@
+-- With one group more, the best so far stays unless the new one comes after the bound and before the best.
 use Rattle.gtd_hours_days.proofs.OrderFacts.{nearer_now, no_nearer}
 use Rattle.gtd_hours_days.proofs.order.nearer.Goals as goal
 

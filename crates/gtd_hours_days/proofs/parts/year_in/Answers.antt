@@ -1,3 +1,4 @@
+-- The year of a day of the calendar lies between 1800 and 2799, so it fits into 16 bits.
 use Rattle.std.proofs.Common.{rules, ◌∙◌, FitsSigned, w64, to_z-of_z}
 use Rattle.gtd_hours_days.proofs.DateFacts.{known_year, year_only}
 use Rattle.gtd_hours_days.proofs.parts.year_in.Goals as goal

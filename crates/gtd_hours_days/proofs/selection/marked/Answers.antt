@@ -1,3 +1,4 @@
+-- One selector more adds its days to the set; behind the last one, the set is the days of all.
 use Rattle.std.proofs.Common.{◌≡◌, ◌∙◌, ◌+◌, ◌++◌, ◌∷◌, [], ap, sym, take, arith}
 use Rattle.std.proofs.lemmas.List.{take_all, take_more}
 use Rattle.gtd_hours_holidays.specs.Days.{IsIn}

@@ -1,3 +1,4 @@
+-- One run more goes to the groups if it comes each year, and else to the other runs, and the split stays right.
 use Rattle.std.proofs.Common.{◌≡◌, ◌∙◌, ◌+◌, ◌++◌, ◌∷◌, [], ap, sym, take}
 use Rattle.std.proofs.lemmas.List.{take_more}
 use Rattle.gtd_hours_holidays.specs.declared.run.Run.{Run}

@@ -1,3 +1,4 @@
+-- A run of at most 366 days that does not begin on 29 February is a group; a longer one, or one that does, is none.
 use Rattle.std.proofs.Common.{rules, inl, inr, FitsSigned, w64, to_z-of_z, pos, ◌+ℤ◌}
 use Rattle.std.proofs.lemmas.Int.{by_lt_z}
 use Rattle.gtd_calendar.specs.facts.DateLemmas.{date_of-is}

@@ -1,3 +1,4 @@
+-- The group's days of each year so far are in the set, so behind the last year those of all are.
 use Rattle.std.proofs.Common.{arith, refl, inl, inr}
 use Rattle.std.proofs.lemmas.Bool.{cases_eq}
 use Rattle.gtd_hours_days.proofs.YearlyFacts.{all_years}

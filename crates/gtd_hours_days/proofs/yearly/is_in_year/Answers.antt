@@ -1,3 +1,4 @@
+-- The group's days of one year, cut to the known years, are in the set exactly if no day between the ends is missing.
 use Rattle.std.proofs.Common.{rules, FitsSigned, w64, to_z-of_z}
 use Rattle.gtd_hours_days.proofs.YearlyFacts.{year_all, year_in}
 use Rattle.gtd_hours_days.proofs.yearly.is_in_year.Goals as goal

@@ -1,3 +1,4 @@
+-- A run is within the years exactly if it neither begins before their first day nor ends after their last.
 use Rattle.std.proofs.Common.{rules, FitsSigned, w64, to_z-of_z}
 use Rattle.gtd_hours_days.proofs.YearlyFacts.{between}
 use Rattle.gtd_hours_days.proofs.yearly.is_within.Goals as goal

@@ -1,3 +1,4 @@
+-- The first day of a group in a year near the known ones is a day of the calendar.
 use Rattle.std.proofs.Common.{rules, ◌≡◌, ◌∙◌, arith, pos, FitsSigned, to_z, of_z, w64, to_z-of_z}
 use Rattle.gtd_hours_days.proofs.DateFacts.{in_calendar}
 use Rattle.gtd_hours_days.proofs.yearly.start_in.Goals as goal

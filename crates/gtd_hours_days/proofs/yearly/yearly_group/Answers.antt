@@ -1,3 +1,4 @@
+-- A run whose days are missing in some year cannot be written as a group that comes each year.
 use Rattle.gtd_hours_days.proofs.YearlyFacts.{not_yearly}
 use Rattle.gtd_hours_days.proofs.yearly.yearly_group.Goals as goal
 

@@ -1,3 +1,4 @@
+-- One fault more adds its own line, which names the line of the file on which its row begins, and those below it.
 use Rattle.std.proofs.Common.{◌≡◌, ◌+◌, arith, ◌∷◌, ◌++◌, [], take, get_or, string_bytes}
 use Rattle.std.proofs.lemmas.List.{take_more}
 use Rattle.gtd_hours_file.specs.declared.fault.HoursFileFault.TheVariants as fault

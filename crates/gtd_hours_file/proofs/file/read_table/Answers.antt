@@ -1,3 +1,4 @@
+-- Each way in which the rows end gives what the table says: a missing header alone, all rows, or too many with a fault.
 use Rattle.gtd_hours_file.proofs.ReadFacts.{no_header, table_read, table_too_long}
 use Rattle.gtd_hours_file.proofs.file.read_table.Goals as goal
 

@@ -1,3 +1,4 @@
+-- With room for the hours of its texts, a file has rows or faults, because each of its texts has hours or a fault.
 use Rattle.gtd_hours_file.proofs.EachFile.{each_file}
 use Rattle.gtd_hours_file.proofs.laws.each_file.Goals as goal
 

@@ -1,3 +1,4 @@
+-- Two answers for the same bytes have the same faults or rows, since a text has one first fault or one meaning.
 use Rattle.gtd_hours_file.proofs.OneAnswer as proof
 use Rattle.gtd_hours_file.proofs.laws.one_answer.Goals as goal
 

@@ -1,3 +1,4 @@
+-- The canonical text of restrictions that were migrated is accepted as a record file of exactly them.
 use Rattle.gtd_hours_file.proofs.TranslatedFacts.{file_accepted}
 use Rattle.gtd_hours_file.proofs.laws.text_is_a_record_file.Goals as goal
 

@@ -1,3 +1,4 @@
+-- Hours that take more than 128 basic domains are at fault, as their count, stopped at `u32::MAX`, already shows.
 use Rattle.std.proofs.Common.{◌<◌, arith}
 use Rattle.std.proofs.lemmas.Bool.Decides.{nat_tests}
 use Rattle.gtd_hours.specs.Cost.{hours_cost}

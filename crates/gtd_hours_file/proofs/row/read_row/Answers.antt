@@ -1,3 +1,4 @@
+-- The columns are read from the left: the first that is not read stops the row, and all that are read make the row.
 use Rattle.std.proofs.Common.{sym}
 use Rattle.std.specs.Prelude.{Ok}
 use Rattle.csv.specs.Records.{fields_of}

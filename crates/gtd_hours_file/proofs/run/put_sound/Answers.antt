@@ -1,3 +1,4 @@
+-- Rows of a file are few and within the limit of basic domains, so they can be put, and the answer is what was put.
 use Rattle.std.proofs.Common.{[]}
 use Rattle.gtd_hours_file.proofs.ReadFacts.{file_few, file_within}
 use Rattle.gtd_hours_file.proofs.RunFacts.{has_translated}

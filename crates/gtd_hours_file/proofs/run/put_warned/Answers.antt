@@ -1,3 +1,4 @@
+-- Warnings change nothing of what is put: the answer of the run with them is that of the run without.
 use Rattle.std.proofs.Common.{[]}
 use Rattle.gtd_hours_file.proofs.ReadFacts.{file_few}
 use Rattle.gtd_hours_file.proofs.run.put_warned.Goals as goal

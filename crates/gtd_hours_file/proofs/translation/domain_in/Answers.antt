@@ -1,3 +1,4 @@
+-- Hours of a row become a domain that has exactly their open seconds.
 use Rattle.std.proofs.Common.{refl}
 use Rattle.gtd_hours_file.proofs.translation.domain_in.Goals as goal
 

@@ -1,3 +1,4 @@
+-- The header is put, then the rows, then the output is ended; where putting stops, the output has the first part of it.
 use Rattle.std.proofs.lemmas.Result.{err_from_is_err_and}
 use Rattle.gtd_report.specs.facts.PutFacts.{one_put, one_short}
 use Rattle.gtd_migrate.specs.Migrated.{header_line}

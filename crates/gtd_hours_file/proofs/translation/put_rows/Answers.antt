@@ -1,3 +1,5 @@
+-- One row more puts one line more. Where putting stops, the output has the lines of the rows before it, and at most a
+-- part of the next one.
 use Rattle.std.proofs.Common.{◌≡◌, ◌∙◌, sym, ap, arith, [], ◌∷◌, ◌++◌, ◌+◌, length, take}
 use Rattle.std.proofs.lemmas.List.{take_more}
 use Rattle.std.proofs.lemmas.Result.{err_from_is_err_and}

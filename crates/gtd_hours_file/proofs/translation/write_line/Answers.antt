@@ -1,3 +1,4 @@
+-- The line of a row has its own element, directions and vehicles, and a domain of its hours.
 use Rattle.std.proofs.Common.{refl}
 use Rattle.gtd_hours_file.proofs.PutFacts.{is_line}
 use Rattle.gtd_hours_file.proofs.translation.write_line.Goals as goal

@@ -1,3 +1,4 @@
+-- One row more adds its line if it never closes, and row numbers and lines keep step.
 use Rattle.std.proofs.Common.{◌≡◌, ◌∙◌, ap, arith, subst, sym, ℕ, [], ◌∷◌, ◌++◌, ◌+◌, length, take}
 use Rattle.std.specs.Prelude.{string_bytes}
 use Rattle.std.proofs.lemmas.List.{length-take, take_more}

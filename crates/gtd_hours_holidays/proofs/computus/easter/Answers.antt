@@ -1,3 +1,4 @@
+-- The date that is worked out exists in the year, is the day of the definition of Easter, and lies in the calendar.
 use Rattle.std.proofs.Common.{rules, ◌≡◌, ◌∙◌, ap, refl, pos, FitsSigned, to_z, of_z, w64, to_z-of_z}
 use Rattle.gtd_hours_holidays.specs.Easter.{after_equinox}
 use Rattle.gtd_hours_holidays.proofs.DateFacts.{calendar_year, in_calendar}

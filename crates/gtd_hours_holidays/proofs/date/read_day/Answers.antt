@@ -1,3 +1,4 @@
+-- A text is a day exactly if its year, month and day are read and such a day exists, and it lies in the calendar.
 use Rattle.std.proofs.Common.{rules, ◌≡◌, ◌∙◌, FitsSigned, to_z, of_z, w64, to_z-of_z, pos}
 use Rattle.gtd_hours_holidays.proofs.DateFacts.{day_read}
 use Rattle.gtd_hours_holidays.proofs.date.read_day.Goals as goal

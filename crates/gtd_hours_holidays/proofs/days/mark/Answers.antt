@@ -1,3 +1,4 @@
+-- At the end the marks from the first place on, before the last, are set, and all others are as they were.
 use Rattle.std.proofs.Common.{arith}
 use Rattle.gtd_hours_holidays.proofs.MarkFacts.{marked_all}
 use Rattle.gtd_hours_holidays.proofs.days.mark.Goals as goal

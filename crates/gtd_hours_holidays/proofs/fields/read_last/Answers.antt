@@ -1,3 +1,4 @@
+-- An empty field is the first day itself; any other is a day that is not before it and at most 36,599 days later.
 use Rattle.std.proofs.Common.{◌<◌, ◌≤ℤ◌, ◌+ℤ◌, ℤ, pos, length, arith, rules, subst, FitsSigned, w64, to_z-of_z}
 use Rattle.std.proofs.lemmas.Bool.Decides.{nat_tests}
 use Rattle.gtd_hours_holidays.proofs.DateFacts.{day_only}

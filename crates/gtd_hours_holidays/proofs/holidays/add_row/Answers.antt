@@ -1,3 +1,4 @@
+-- A row of the kind adds its days to the set, and the set grows by exactly those.
 use Rattle.std.proofs.Common.{rules, FitsSigned, w64, to_z-of_z}
 use Rattle.gtd_hours_holidays.proofs.HolidayFacts.{row_added}
 use Rattle.gtd_hours_holidays.proofs.holidays.add_row.Goals as goal

@@ -1,3 +1,4 @@
+-- From an empty set on, each row of the kind adds its days; behind the last row the set is those of all rows.
 use Rattle.std.proofs.Common.{◌≡◌, ◌∙◌, ◌+◌, ◌++◌, ◌∷◌, [], ap, sym, take, arith}
 use Rattle.std.proofs.lemmas.List.{take_all, take_more}
 use Rattle.gtd_hours_holidays.specs.declared.row.HolidayRow.{HolidayRow}

@@ -1,3 +1,4 @@
+-- One row more adds its fault if one of its holidays is not covered by any row, with its number in the table.
 use Rattle.std.proofs.Common.{◌≡◌, ◌∙◌, ◌+◌, ◌++◌, ◌∷◌, [], ap, sym, arith, take, length}
 use Rattle.std.proofs.lemmas.List.{length-take-le, take_more}
 use Rattle.gtd_hours_holidays.specs.declared.row.HolidayRow.{HolidayRow}

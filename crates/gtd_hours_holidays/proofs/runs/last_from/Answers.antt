@@ -1,3 +1,4 @@
+-- A run ends on the day before the first that is missing, or on the last day of the calendar where none is.
 use Rattle.std.proofs.Common.{rules, FitsSigned, w64, to_z-of_z}
 use Rattle.gtd_hours_holidays.proofs.RunFacts.{end_before, end_of_all, missing_late}
 use Rattle.gtd_hours_holidays.proofs.runs.last_from.Goals as goal

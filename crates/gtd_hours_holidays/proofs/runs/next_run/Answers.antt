@@ -1,3 +1,4 @@
+-- The first day of the set from a day on begins the next run.
 use Rattle.std.proofs.Common.{rules, FitsSigned, w64, to_z-of_z}
 use Rattle.gtd_hours_holidays.proofs.RunFacts.{next_is}
 use Rattle.gtd_hours_holidays.proofs.runs.next_run.Goals as goal

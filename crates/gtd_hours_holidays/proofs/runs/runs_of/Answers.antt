@@ -1,3 +1,4 @@
+-- The runs so far cover the set up to the day reached; where no more run comes, or the calendar ends, they are all.
 use Rattle.std.proofs.Common.{rules, ◌≡◌, arith, pos, ◌+ℤ◌, FitsSigned, w64, to_z-of_z}
 use Rattle.gtd_calendar.specs.facts.Signed.{signed_arith}
 use Rattle.gtd_hours_holidays.proofs.RunFacts.{all_joined, joined_more, none_left}

@@ -1,3 +1,5 @@
+-- Each way in which the rows end answers as the table does: no header alone, all rows, or the rows up to the limit.
+-- One of the ways never comes.
 use Rattle.gtd_hours_holidays.proofs.TableFacts.{never_more, no_header, table_read, table_too_long}
 use Rattle.gtd_hours_holidays.proofs.table.read_text.Goals as goal
 

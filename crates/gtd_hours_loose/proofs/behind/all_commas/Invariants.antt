@@ -1,3 +1,4 @@
+-- The tokens left are all commas exactly if the tokens at the beginning are, since those passed are commas.
 use Rattle.std.proofs.Common.{◌≡◌, length}
 use Rattle.gtd_hours_loose.specs.Behind.{all_commas}
 use Rattle.gtd_hours_loose.proofs.behind.all_commas.Given as goal

@@ -1,3 +1,4 @@
+-- The tokens left are all semicolons exactly if the tokens at the beginning are, since those passed are semicolons.
 use Rattle.std.proofs.Common.{◌≡◌, length}
 use Rattle.gtd_hours_loose.specs.Behind.{all_semicolons}
 use Rattle.gtd_hours_loose.proofs.behind.all_semicolons.Given as goal

@@ -1,3 +1,4 @@
+-- A strict text has no other form, and a form that was mended is strict and stands for the hours that are read of it.
 use Rattle.gtd_hours_loose.proofs.ReadingLemmas.{mended_law, strict_law}
 use Rattle.gtd_hours_loose.proofs.laws.strict_forms.Goals as goal
 

@@ -1,3 +1,4 @@
+-- The form holds the mended parts of the tokens so far, and with those of the rest it holds the whole of the text.
 use Rattle.std.proofs.Common.{length}
 use Rattle.gtd_hours_loose.specs.Mending.{mended}
 use Rattle.gtd_hours_loose.proofs.MendingLemmas.{HoldsTokens}

@@ -1,3 +1,4 @@
+-- Each byte with which a space other than one of ASCII begins adds a space to the form, and all other bytes pass.
 use Rattle.std.proofs.Common.{◌≡◌, ◌+◌, ◌∷◌, length, subst, sym, arith}
 use Rattle.gtd_hours_loose.specs.Mending.{spaces_in}
 use Rattle.gtd_hours_loose.specs.declared.strict.StrictForm.{StrictForm}

@@ -1,3 +1,4 @@
+-- The form holds the spaces of the bytes passed, and there is room to count the bytes that are left.
 use Rattle.std.proofs.Common.{◌+◌, ◌<◌, ◌^◌, length}
 use Rattle.gtd_hours_loose.specs.Mending.{spaces_in}
 use Rattle.gtd_hours_loose.proofs.MendingLemmas.{HoldsSpaces}

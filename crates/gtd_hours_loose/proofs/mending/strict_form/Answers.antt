@@ -1,3 +1,4 @@
+-- Numbers that could be times and are not read as times make the text ambiguous, at the place of the first of them.
 use Rattle.std.proofs.Common.{◌≡◌, ◌∙◌, ℕ, List, Ok, ap, map, refl, subst, sym}
 use Rattle.std.specs.Char.{to_ascii_lowercase}
 use Rattle.gtd_hours_loose_tokens.specs.Lexing.{tokens_of}

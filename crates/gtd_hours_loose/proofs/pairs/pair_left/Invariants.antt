@@ -1,3 +1,4 @@
+-- The first pair of numbers that is left is found among the tokens left, with the days and skipped tokens behind them.
 use Rattle.std.proofs.Common.{◌≡◌, length, false}
 use Rattle.gtd_hours_loose.specs.Pairs.{pair_left}
 use Rattle.gtd_hours_loose.proofs.pairs.pair_left.Given as goal

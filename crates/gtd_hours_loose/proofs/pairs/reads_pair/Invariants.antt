@@ -1,3 +1,4 @@
+-- Whether a pair is read as times is the same of the tokens left, behind days or not, as of all, since none is passed.
 use Rattle.std.proofs.Common.{◌≡◌, length, false}
 use Rattle.gtd_hours_loose.specs.Pairs.{reads_pair}
 use Rattle.gtd_hours_loose.proofs.pairs.reads_pair.Given as goal

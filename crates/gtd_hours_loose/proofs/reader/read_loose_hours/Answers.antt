@@ -1,3 +1,4 @@
+-- A text with a fault is not strict, so the hours and faults are those of its strict form.
 use Rattle.std.proofs.Common.{rules, ◌≡◌, subst}
 use Rattle.gtd_hours_text.specs.Reading.{IsFaultOf}
 use Rattle.gtd_hours_text.specs.declared.reader.HoursTextFault.{HoursTextFault}

@@ -1,3 +1,4 @@
+-- Without a strict form the fault is that of a token; with one, it is that of the form, at its place in the text.
 use Rattle.std.proofs.Common.{ℕ, List, subst, sym}
 use Rattle.gtd_hours_text.specs.Reading.{IsFaultOf}
 use Rattle.gtd_hours_loose.specs.Reading.{IsMendedStop}

@@ -1,3 +1,4 @@
+-- The output has grown by the bytes passed, in lower case.
 use Rattle.std.proofs.Common.{◌≡◌, ◌++◌, map, take}
 use Rattle.std.specs.Char.{to_ascii_lowercase}
 use Rattle.gtd_hours_loose.proofs.strict.push_lower.Given as goal

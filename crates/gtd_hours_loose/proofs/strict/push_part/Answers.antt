@@ -1,3 +1,4 @@
+-- The new part stands at the end of the strict text, followed by a space, and begins where the text ended before.
 use Rattle.std.proofs.Common.{◌≡◌, ◌+◌, ◌++◌, ◌∷◌, [], ℕ, List, length, ap, ◌∙◌, arith, append_assoc, length-append}
 use Rattle.gtd_hours_loose.specs.declared.strict.Part.{Part}
 use Rattle.gtd_hours_loose.proofs.MendingLemmas.{holds_more}

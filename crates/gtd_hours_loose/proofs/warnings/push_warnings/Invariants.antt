@@ -1,3 +1,4 @@
+-- The lines put so far and those of the parts left are together the warnings of the text.
 use Rattle.std.proofs.Common.{◌≡◌, ◌++◌, length}
 use Rattle.gtd_hours_loose.specs.Mending.{warning_lines}
 use Rattle.gtd_hours_loose.proofs.warnings.push_warnings.Given as goal

@@ -1,3 +1,4 @@
+-- The parts passed do not begin at the place, so it is searched for among the rest.
 use Rattle.std.proofs.Common.{◌≡◌, length}
 use Rattle.gtd_hours_loose.specs.Mending.{written_place}
 use Rattle.gtd_hours_loose.proofs.warnings.written_place.Given as goal

@@ -1,3 +1,4 @@
+-- A space is passed and a token is put, each further on in the text, and a wrong token is the fault of the whole text.
 use Rattle.std.proofs.Common.{◌≡◌, ◌≤◌, ◌<◌, List, length, drop, ap, subst, sym, arith, length-drop}
 use Rattle.gtd_hours_loose_tokens.specs.declared.token.LooseToken.{LooseToken}
 use Rattle.gtd_hours_loose_tokens.proofs.LexingLemmas.{HasRead, fault_read, space_read, token_read}

@@ -1,3 +1,4 @@
+-- The tokens so far are those of the text up to the place, which is in the text.
 use Rattle.std.proofs.Common.{◌≤◌, ◌-◌, length}
 use Rattle.gtd_hours_loose_tokens.proofs.LexingLemmas.{HasRead}
 use Rattle.gtd_hours_loose_tokens.proofs.lexer.tokens_of.Given as goal

@@ -1,3 +1,4 @@
+-- Domains with near years that have the same seconds from 1901 to 2699 have the same seconds for ever.
 use Rattle.std.proofs.lemmas.Result.{IfOk-weaker}
 use Rattle.gtd_core.specs.Parts.{domain_tree}
 use Rattle.gtd_hours_search.proofs.Ever.{same-ever}

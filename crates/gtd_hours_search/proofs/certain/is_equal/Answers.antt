@@ -1,3 +1,4 @@
+-- Equal domains are the same tree, so they have the same seconds.
 use Rattle.std.proofs.Common.{◌≡◌, ◌∙◌, sym}
 use Rattle.gtd_core.specs.Parts.{domain_tree}
 use Rattle.gtd_core.specs.facts.EqualTrees.{tree_equal}

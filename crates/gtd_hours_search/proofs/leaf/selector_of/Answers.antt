@@ -1,3 +1,4 @@
+-- A basic domain of the form of a selector is found as one, by the first of its fields: year, week, month or weekday.
 use Rattle.std.proofs.Common.{sym}
 use Rattle.gtd_hours_search.proofs.FormLemmas.{by_month, by_week, by_weekday, by_year}
 use Rattle.gtd_hours_search.proofs.leaf.selector_of.Goals as goal

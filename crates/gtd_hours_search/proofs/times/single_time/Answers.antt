@@ -1,3 +1,4 @@
+-- An expression that is a clock alone has its range of times, and one that ends on a later day is found as late.
 use Rattle.gtd_hours_search.proofs.FormLemmas.{some, weaker}
 use Rattle.gtd_hours_search.proofs.times.single_time.Goals as goal
 

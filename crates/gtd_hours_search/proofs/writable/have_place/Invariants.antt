@@ -1,3 +1,4 @@
+-- The selectors passed are all of the kind, so all are exactly if those left are.
 use Rattle.std.proofs.Common.{◌≡◌, length}
 use Rattle.gtd_hours_search.specs.Order.{have_place}
 use Rattle.gtd_hours_search.proofs.writable.have_place.Given as goal

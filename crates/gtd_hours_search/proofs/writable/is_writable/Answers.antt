@@ -1,3 +1,4 @@
+-- Kinds in the order of their lists make a rule that can be written.
 use Rattle.std.proofs.Common.{List, subst}
 use Rattle.gtd_hours.specs.declared.hours.Kind.{Kind}
 use Rattle.gtd_hours_search.specs.Order.{InOrder}

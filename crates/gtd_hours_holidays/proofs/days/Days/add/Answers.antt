@@ -1,3 +1,4 @@
+-- Marks set from the place of the first day to that of the last are the days between them, added to those before.
 use Rattle.std.proofs.Common.{to_z-of_z}
 use Rattle.gtd_hours_holidays.proofs.MarkFacts.{days_added}
 use Rattle.gtd_hours_holidays.proofs.days.Days.add.Goals as goal

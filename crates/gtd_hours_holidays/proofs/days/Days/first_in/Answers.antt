@@ -1,3 +1,4 @@
+-- The first mark that is set between two places stands for the first day of the set between two days.
 use Rattle.std.proofs.Common.{rules, FitsSigned, w64, to_z-of_z}
 use Rattle.gtd_hours_holidays.proofs.MarkFacts as marks
 use Rattle.gtd_hours_holidays.proofs.days.Days.first_in.Goals as goal

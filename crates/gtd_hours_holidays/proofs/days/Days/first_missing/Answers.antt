@@ -1,3 +1,4 @@
+-- The first mark that is not set stands for the first day that is missing, and without one all days are there.
 use Rattle.std.proofs.Common.{rules, FitsSigned, w64, to_z-of_z}
 use Rattle.gtd_hours_holidays.proofs.MarkFacts as marks
 use Rattle.gtd_hours_holidays.proofs.days.Days.first_missing.Goals as goal

@@ -1,3 +1,4 @@
+-- The days of the rows that do not merely cover are the holidays.
 use Rattle.gtd_hours_holidays.proofs.holidays.Holidays.days.Goals as goal
 
 pub returns : goal.returns

@@ -1,3 +1,4 @@
+-- The days of rows that cover are those of which the table says all, so the first missing from them is uncovered.
 use Rattle.std.proofs.Common.{to_z-of_z}
 use Rattle.gtd_hours_holidays.proofs.HolidayFacts.{first_of}
 use Rattle.gtd_hours_holidays.proofs.holidays.Holidays.first_uncovered.Goals as goal

@@ -1,3 +1,4 @@
+-- A row that has the day makes it a holiday, and each row passed so far has not.
 use Rattle.std.proofs.Common.{◌≡◌, ◌∙◌, ◌+◌, ◌++◌, ◌∷◌, [], ◌<◌, ap, sym, refl, take, get_or, length, false, to_z-of_z}
 use Rattle.std.proofs.lemmas.List.{take_more}
 use Rattle.gtd_hours_holidays.specs.declared.row.HolidayRow.{HolidayRow}

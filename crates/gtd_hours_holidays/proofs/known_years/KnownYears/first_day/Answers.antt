@@ -1,3 +1,4 @@
+-- 1 January of the first year begins the years, and is in the calendar.
 use Rattle.std.proofs.Common.{rules, ◌≡◌, ◌∙◌, ap, arith, ℤ, pos, FitsSigned, to_z, of_z, w64, to_z-of_z}
 use Rattle.gtd_calendar.specs.Calendar.{day_number}
 use Rattle.gtd_hours_holidays.proofs.DateFacts.{calendar_year, in_calendar}

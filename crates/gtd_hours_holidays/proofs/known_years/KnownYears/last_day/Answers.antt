@@ -1,3 +1,4 @@
+-- 31 December of the last year comes directly before the year after it, and is in the calendar.
 use Rattle.std.proofs.Common.{rules, ◌≡◌, ◌∙◌, ap, arith, ℤ, pos, ◌+ℤ◌, FitsSigned, to_z, of_z, w64, to_z-of_z}
 use Rattle.gtd_calendar.specs.Calendar.{day_number}
 use Rattle.gtd_hours_holidays.proofs.DateFacts.{calendar_year, in_calendar}
