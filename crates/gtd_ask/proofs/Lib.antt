@@ -1,3 +1,4 @@
+-- Lemmas on answering questions: reading them, the answer and its line, and that there is one reading of each file.
 pub mod AnswerFacts
 pub mod AskFacts
 pub mod LineFacts

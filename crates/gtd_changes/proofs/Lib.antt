@@ -1,3 +1,4 @@
+-- Lemmas on what two files say differently: their elements, the rows and seconds that differ, and the lines of it.
 pub mod AnswerFacts
 pub mod ChangeFacts
 pub mod FormFacts

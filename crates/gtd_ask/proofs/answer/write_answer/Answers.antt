@@ -1,3 +1,4 @@
+-- A line says what the records say at the question's second and at its change, both of which the calendar shows.
 use Rattle.gtd_ask.proofs.LineFacts.{change_day, day_shown, in_horizon, line_is, on_ok}
 use Rattle.gtd_ask.specs.Answers.{IsAnswer}
 use Rattle.gtd_records.specs.Closing.{IsOpen}

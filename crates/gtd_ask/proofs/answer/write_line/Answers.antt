@@ -1,3 +1,4 @@
+-- A question, its state and its change take at most 100 bytes, since each part is appended and each is short.
 use Rattle.std.proofs.Common.{◌≤◌, length}
 use Rattle.gtd_states.specs.States.{second_of}
 use Rattle.gtd_ask.proofs.LineFacts.{on_ok, short_line}

@@ -1,3 +1,4 @@
+-- Of one question the output takes its line, or a first part of it if it fails; without memory, nothing.
 use Rattle.std.proofs.Common.{ap, refl, arith, [], ◌∷◌, length}
 use Rattle.std.specs.Prelude.{Err}
 use Rattle.std.proofs.lemmas.Result.{err_from_is_err_and}

@@ -1,3 +1,4 @@
+-- After each question the output holds the lines of those so far, and the counts stay far below their limits.
 use Rattle.std.proofs.Common.{◌∙◌, refl, arith}
 use Rattle.std.proofs.lemmas.Result.{err_from_is_err_and}
 use Rattle.gtd_ask.proofs.AnswerFacts.{none_left, one_more, stopped}

@@ -1,3 +1,4 @@
+-- The header comes before the lines of the questions: what fails in either leaves a first part of the whole text.
 use Rattle.std.proofs.Common.{◌≡◌, refl, [], ◌∷◌}
 use Rattle.std.specs.Prelude.{Ok, Err}
 use Rattle.std.proofs.lemmas.Result.{err_from_is_err_and}

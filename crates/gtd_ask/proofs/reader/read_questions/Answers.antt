@@ -1,3 +1,4 @@
+-- The answer about the bytes that were read whole is the answer about the input's file.
 use Rattle.std.proofs.Common.{Global, Vec}
 use Rattle.gtd_ask.proofs.ReadFacts.{of_table}
 use Rattle.gtd_ask.specs.declared.question.Question.{Question}

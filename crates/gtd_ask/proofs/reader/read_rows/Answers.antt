@@ -1,3 +1,4 @@
+-- What is found of the rows so far, followed by those that the reader still has to give, is what all of them stand for.
 use Rattle.std.proofs.Common.{◌≡◌, arith, refl, sym, subst, List, ℕ, Bor, Some, rules, ◌∷◌, [], length-append}
 use Rattle.std.specs.Result.{is_ok}
 use Rattle.std.specs.Prelude.{true}

@@ -1,3 +1,4 @@
+-- A file without a first record, or with another one than the header, is refused for it; the rest is read as rows.
 use Rattle.std.proofs.Common.{◌≡◌, ◌∙◌, ap, inl, inr, refl, [], ◌∷◌, true≢false, sym}
 use Rattle.std.proofs.lemmas.Result.{MatchResult-weaker}
 use Rattle.csv.specs.Reading.{default_config, records, strip_bom}

@@ -1,3 +1,4 @@
+-- The run stops at the first fault of the questions, before the records are read; otherwise it answers by both.
 use Rattle.std.proofs.Common.{◌∙◌, sym}
 use Rattle.std.specs.Prelude.{IfSome, Ok}
 use Rattle.gtd_records.specs.declared.fault.RecordFault.TheVariants as records

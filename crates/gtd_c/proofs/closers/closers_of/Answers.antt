@@ -1,3 +1,4 @@
+-- Numbers of the rows of a file are never 0 and fit the type of a row number, since a file has few rows.
 use Rattle.std.proofs.Common.{of_z, to_z, w64}
 use Rattle.gtd_c.proofs.RowFacts.{row_numbers}
 use Rattle.gtd_c.proofs.closers.closers_of.Goals as goal

@@ -1,3 +1,4 @@
+-- Two lists, one behind the other, then sorted and without doubles, are the sorted set of the numbers of both.
 use Rattle.std.proofs.Common.{◌∙◌, ap, List, ℕ, ◌++◌}
 use Rattle.gtd_changes.proofs.SortedNumbers.{sorted_set}
 use Rattle.gtd_changes.proofs.elements.either.Goals as goal

@@ -1,3 +1,4 @@
+-- If both files name the same elements, either list is that of both; otherwise the two lists are merged.
 use Rattle.std.proofs.Common.{◌≡◌, rules, subst, sym, List, ℕ}
 use Rattle.std.proofs.lemmas.Result.{IfOk-weaker}
 use Rattle.gtd_records.specs.Closing.{AreElements}

@@ -1,3 +1,4 @@
+-- The intervals of two ranges of elements, one range after the other, are those of the files that were cut.
 use Rattle.gtd_changes.proofs.RangeFacts.{changes_of_two}
 use Rattle.gtd_changes.proofs.laws.changes_of_ranges.Goals as goal
 

@@ -1,3 +1,4 @@
+-- A text that is the header alone means that both files close at the same seconds, and the other way round.
 use Rattle.gtd_changes.proofs.SameFacts.{agree_header, header_agrees, same_rows}
 use Rattle.gtd_changes.proofs.laws.nothing_changed.Goals as goal
 

@@ -1,3 +1,4 @@
+-- In each form two texts of the same files are equal, and there is one: it is built element by element.
 use Rattle.gtd_changes.proofs.FormFacts.{one_text, some_text}
 use Rattle.gtd_changes.proofs.laws.one_text.Goals as goal
 

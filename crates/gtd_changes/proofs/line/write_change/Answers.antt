@@ -1,3 +1,4 @@
+-- The start of the line and its end, written one behind the other, are the line of the change.
 use Rattle.std.proofs.Common.{◌≡◌, ◌∙◌}
 use Rattle.gtd_changes.proofs.ChangeFacts.{line_of, on_ok}
 use Rattle.gtd_changes.specs.Changes.{change_line}

@@ -1,3 +1,4 @@
+-- Each part that is appended up to the last moment is the next one of the line, by both moments that it shows.
 use Rattle.std.proofs.Common.{◌≡◌, ◌++◌}
 use Rattle.gtd_changes.proofs.ChangeFacts.{on_ok, start_of}
 use Rattle.gtd_changes.specs.Rows.{change_start}

@@ -1,3 +1,4 @@
+-- If the spans of an element cannot be found for lack of memory, the output has taken none of its lines.
 use Rattle.std.proofs.lemmas.Result.{err_from_is_err_and}
 use Rattle.gtd_report.specs.facts.PutFacts.{puts_nothing}
 use Rattle.gtd_changes.proofs.put.put_changes.Goals as goal

@@ -1,3 +1,4 @@
+-- If the line fails, the output has taken a first part of it, and the count of bytes says how long that is.
 use Rattle.std.proofs.lemmas.Result.{err_from_is_err_and}
 use Rattle.gtd_report.specs.facts.PutFacts.{one_short}
 use Rattle.gtd_changes.proofs.put.put_within.Goals as goal

@@ -1,3 +1,4 @@
+-- Two domains that compare as equal are the same tree.
 use Rattle.std.proofs.Common.{◌∙◌, ap, sym}
 use Rattle.std.specs.Prelude.{Some}
 use Rattle.gtd_core.specs.Trees.{Tree}

@@ -1,3 +1,4 @@
+-- Sorting only moves the records: what stands in the file stands in the sorted list, as often.
 use Rattle.std.proofs.Common.{map, subst, List}
 use Rattle.std.specs.List.Sorted.{IsPermutation}
 use Rattle.std.proofs.lemmas.List.Sorted.{IsPermutation-map}

@@ -1,3 +1,4 @@
+-- The elements that were found, once sorted, are still all of which the rows are not alike.
 use Rattle.std.proofs.lemmas.List.Sorted.{IsNonDecreasingBy-from_sort}
 use Rattle.gtd_changes.proofs.RowFacts.{alike_but}
 use Rattle.gtd_changes.proofs.rows.differing.Goals as goal

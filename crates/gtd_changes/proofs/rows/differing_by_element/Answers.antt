@@ -1,3 +1,4 @@
+-- What is found of the sorted rows holds of the rows as they stand in the files, since sorting only moves them.
 use Rattle.std.proofs.lemmas.Result.{IfOk-weaker}
 use Rattle.gtd_changes.proofs.RowFacts.{found_in}
 use Rattle.gtd_changes.proofs.rows.differing_by_element.Goals as goal

@@ -1,3 +1,4 @@
+-- What is found of the rows in place is said of the files themselves, whose rows they are.
 use Rattle.std.proofs.lemmas.Result.{IfOk-weaker}
 use Rattle.gtd_changes.proofs.rows.differing_in_place.Goals as goal
 

@@ -1,3 +1,4 @@
+-- Of the rows passed so far each that has no like in the other file has its element in the list.
 use Rattle.std.proofs.Common.{◌≡◌, ◌≤◌, ◌+◌, arith, length, Bor}
 use Rattle.std.specs.Prelude.{Some, option_map}
 use Rattle.gtd_records.specs.Closing.{Restriction}

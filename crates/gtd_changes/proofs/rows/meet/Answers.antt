@@ -1,3 +1,4 @@
+-- The two rows are the same, or the element that is answered is that of one of them; without rows there is no answer.
 use Rattle.std.proofs.Common.{◌∙◌, ap, sym}
 use Rattle.std.specs.Prelude.{Some}
 use Rattle.gtd_records.specs.Closing.{Restriction}

@@ -1,3 +1,4 @@
+-- The old file's first fault comes before the new one is read; two accepted files have the text of the form asked for.
 use Rattle.std.proofs.Common.{◌∙◌, sym}
 use Rattle.gtd_records.specs.declared.fault.RecordFault.TheVariants as records
 use Rattle.gtd_report.specs.declared.fault.RunFault.TheVariants as run

@@ -1,3 +1,4 @@
+-- A first span that was opened, or one that was closed, holds a second at which the two files differ.
 use Rattle.std.proofs.Common.{◌∙◌, sym}
 use Rattle.gtd_changes.proofs.SummaryFacts.{told_by_closed, told_by_opened}
 use Rattle.gtd_changes.proofs.summary.differs.Goals as goal

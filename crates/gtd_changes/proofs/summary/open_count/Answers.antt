@@ -1,3 +1,4 @@
+-- The lengths of the open spans, added up, count the open seconds of the horizon, since each span lies inside it.
 use Rattle.gtd_eval.specs.Cursors.{cursor_list}
 use Rattle.gtd_records.specs.Closing.{IsOpen}
 use Rattle.gtd_changes.proofs.SummaryFacts.{open_count}

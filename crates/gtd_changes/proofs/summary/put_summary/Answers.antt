@@ -1,3 +1,4 @@
+-- Nothing is put of an element that does not differ; of another one the output takes its line or a first part.
 use Rattle.std.proofs.Common.{◌∙◌, ap, refl, sym, true≢false, arith, [], ◌∷◌, length}
 use Rattle.std.specs.Prelude.{Err}
 use Rattle.std.proofs.lemmas.Result.{err_from_is_err_and}

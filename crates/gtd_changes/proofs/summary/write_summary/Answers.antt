@@ -1,3 +1,4 @@
+-- The line of a summary is short, since both of its counts of seconds are at most those of a horizon.
 use Rattle.std.proofs.Common.{arith, ◌≤◌, length}
 use Rattle.gtd_changes.proofs.ChangeFacts.{on_ok}
 use Rattle.gtd_changes.proofs.SummaryFacts.{short_summary}

@@ -1,3 +1,4 @@
+-- The one line tells a code that a single row names, at the line where that row begins and below it the field.
 use Rattle.std.proofs.Common.{[], refl, sym, append-nil}
 use Rattle.gtd_lines.specs.facts.OneLine.{line_of_place}
 use Rattle.gtd_faults.proofs.codes.lone_text.Goals as goal

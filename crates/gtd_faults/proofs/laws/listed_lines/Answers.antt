@@ -1,3 +1,4 @@
+-- Nothing is listed of an accepted file only; the first line names the fault for which a file is refused.
 use Rattle.gtd_faults.proofs.ListFacts.{first_line, nothing_listed, rows_listed}
 use Rattle.gtd_faults.proofs.laws.listed_lines.Goals as goal
 

@@ -1,3 +1,4 @@
+-- A row too many is told on its own line: that of row 65,537, where the walk over the rows stopped.
 use Rattle.gtd_core.specs.Limits.{most_rows}
 use Rattle.gtd_lines.specs.facts.OneLine.{line_of_place}
 use Rattle.gtd_faults.proofs.listing.end_faults.Goals as goal

@@ -1,3 +1,4 @@
+-- The rows that were taken, how they end and the warnings make up the list of the whole file.
 use Rattle.std.specs.Prelude.{string_bytes}
 use Rattle.gtd_faults.proofs.ListedFacts.{whole_list}
 use Rattle.gtd_faults.proofs.listing.list_of.Goals as goal

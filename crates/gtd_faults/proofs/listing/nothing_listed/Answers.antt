@@ -1,3 +1,4 @@
+-- Before the first row there are no faults and no warnings, and the place is that of the first record.
 use Rattle.std.proofs.Common.{arith, refl}
 use Rattle.gtd_faults.proofs.listing.nothing_listed.Goals as goal
 

@@ -1,3 +1,4 @@
+-- After the end nothing follows; otherwise the record that is taken is the next one of the text.
 use Rattle.std.proofs.lemmas.Result.{IfOk-weaker}
 use Rattle.gtd_faults.proofs.RowsFacts.{given_next, none_next}
 use Rattle.gtd_faults.proofs.places.read_on.Goals as goal

@@ -1,3 +1,4 @@
+-- Of a file that is too large the output takes its only fault, whatever the bytes beyond the limit are.
 use Rattle.std.specs.Prelude.{string_bytes}
 use Rattle.gtd_faults.proofs.RunFacts.{large_list, listed}
 use Rattle.gtd_faults.proofs.run.put_too_large.Goals as goal

@@ -1,3 +1,4 @@
+-- A file that was found too large is listed as one, whichever bytes the input had still to bring.
 use Rattle.std.proofs.Common.{rules}
 use Rattle.gtd_faults.proofs.RunFacts.{large_listed}
 use Rattle.gtd_faults.proofs.run.run_faults.Goals as goal

@@ -1,3 +1,4 @@
+-- The count stops where the next byte does not fit: then no more bytes fit the columns than were counted.
 use Rattle.std.proofs.Common.{arith}
 use Rattle.gtd_faults.proofs.StretchFacts.{fit_more, fit_none}
 use Rattle.gtd_faults.proofs.stretch.fit.Goals as goal

@@ -1,3 +1,4 @@
+-- The same from a place back: where the byte before does not fit, none in front of it is counted.
 use Rattle.std.proofs.Common.{arith}
 use Rattle.gtd_faults.proofs.StretchFacts.{back_more, back_none}
 use Rattle.gtd_faults.proofs.stretch.fit_back.Goals as goal

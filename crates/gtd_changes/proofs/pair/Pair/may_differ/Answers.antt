@@ -1,3 +1,4 @@
+-- An element that the sorted list of differing ones does not hold has the same rows in both files.
 use Rattle.std.proofs.Common.{◌∙◌, sym}
 use Rattle.gtd_changes.proofs.RowFacts.{not_listed}
 use Rattle.gtd_changes.proofs.pair.Pair.may_differ.Goals as goal

@@ -1,3 +1,4 @@
+-- The spans open by the new file without those open by the old one are those in which it was opened.
 use Rattle.std.proofs.Common.{sym, subst, List}
 use Rattle.gtd_core.specs.Seconds.{Interval}
 use Rattle.gtd_eval.specs.Cursors.{cursor_list}

@@ -1,3 +1,4 @@
+-- With rows or without them, the line that is written is the one of the form that is asked for.
 use Rattle.gtd_changes.proofs.place.Place.write.Goals as goal
 
 pub returns-then-with_rows : goal.returns-then-with_rows

@@ -1,3 +1,4 @@
+-- Each of the three forms puts its own lines of a direction.
 use Rattle.gtd_changes.proofs.text.ChangeLinesDirectionLines.put_direction.Goals as goal
 
 pub returns-in-Intervals-clause-puts : goal.returns-in-Intervals-clause-puts

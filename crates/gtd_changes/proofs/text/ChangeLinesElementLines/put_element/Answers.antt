@@ -1,3 +1,4 @@
+-- An element whose rows are the same in both files has no lines in either direction, so none is put.
 use Rattle.std.proofs.Common.{refl, []}
 use Rattle.gtd_report.specs.facts.PutFacts.{puts_none}
 use Rattle.gtd_records.specs.declared.direction.Direction.TheVariants.{Positive, Negative}

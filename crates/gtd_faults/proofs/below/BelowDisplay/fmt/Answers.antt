@@ -1,3 +1,4 @@
+-- Below a fault for its header or its whole row stands the text of just that case.
 use Rattle.gtd_faults.proofs.below.BelowDisplay.fmt.Goals as goal
 
 pub returns-in-Header-clause-writes : goal.returns-in-Header-clause-writes

@@ -1,3 +1,4 @@
+-- Before the first row no warning has been told, no text written, and no code named.
 use Rattle.std.proofs.Common.{[], refl}
 use Rattle.gtd_faults.proofs.doubts.DoubtLines.new.Goals as goal
 

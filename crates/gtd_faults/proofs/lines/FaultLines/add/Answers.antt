@@ -1,3 +1,4 @@
+-- One fault more is one line more, behind those that the list had.
 use Rattle.std.proofs.Common.{refl}
 use Rattle.gtd_faults.proofs.ListFacts.{lines_more}
 use Rattle.gtd_faults.proofs.lines.FaultLines.add.Goals as goal

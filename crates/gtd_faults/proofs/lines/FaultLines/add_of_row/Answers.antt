@@ -1,3 +1,4 @@
+-- The line of a fault is the one on which its row begins, by the place of the row in the bytes.
 use Rattle.std.proofs.Common.{refl}
 use Rattle.gtd_lines.specs.facts.OneLine.{line_of_place}
 use Rattle.gtd_faults.proofs.lines.FaultLines.add_of_row.Goals as goal

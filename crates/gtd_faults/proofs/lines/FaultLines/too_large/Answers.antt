@@ -1,3 +1,4 @@
+-- The list of a file that is too large has one line, whatever its bytes are, since none of them is known.
 use Rattle.std.proofs.Common.{[], refl}
 use Rattle.gtd_faults.proofs.lines.FaultLines.too_large.Goals as goal
 

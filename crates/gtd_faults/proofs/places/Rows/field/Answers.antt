@@ -1,3 +1,4 @@
+-- Past the last row there are no fields, so nothing is shown; at a row its own field is shown.
 use Rattle.std.proofs.Common.{refl}
 use Rattle.csv.specs.Reading.{default_config, records, strip_bom}
 use Rattle.gtd_faults.proofs.RowsFacts.{field_past}

@@ -1,3 +1,4 @@
+-- The row that the reader gave last is the row of the file with this number, at its place in the bytes.
 use Rattle.gtd_faults.proofs.places.Rows.here.Goals as goal
 
 pub returns : goal.returns

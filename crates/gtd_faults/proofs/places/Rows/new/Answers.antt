@@ -1,3 +1,4 @@
+-- The record that is read first is the header, at the first place of the text.
 use Rattle.std.proofs.Common.{refl}
 use Rattle.gtd_faults.proofs.RowsFacts.{given_first}
 use Rattle.gtd_faults.proofs.places.Rows.new.Goals as goal

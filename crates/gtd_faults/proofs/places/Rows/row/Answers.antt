@@ -1,3 +1,4 @@
+-- If there is a row, what is shown of it is shown of the row of the file with that number.
 use Rattle.gtd_faults.proofs.places.Rows.row.Goals as goal
 
 pub returns : goal.returns

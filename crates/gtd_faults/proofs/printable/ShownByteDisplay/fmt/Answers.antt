@@ -1,3 +1,4 @@
+-- A byte that cannot be printed is written as `\x` and its two hexadecimal digits.
 use Rattle.std.proofs.Common.{rules, ◌≡◌, false, arith, ap, ◌++◌}
 use Rattle.std.specs.Prelude.{codes}
 use Rattle.std.proofs.Output.{has_written_of_eq}

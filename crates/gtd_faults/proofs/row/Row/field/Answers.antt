@@ -1,3 +1,4 @@
+-- A field of the row that was read is the field of the row with its number in the file.
 use Rattle.std.proofs.Common.{sym}
 use Rattle.csv.specs.Reading.{default_config, records, strip_bom}
 use Rattle.csv.specs.Records.{fields_of}

@@ -1,3 +1,4 @@
+-- The fourth field of the row that was read is the domain of the file's row, of which the part is shown.
 use Rattle.std.proofs.Common.{sym}
 use Rattle.csv.specs.Reading.{default_config, records, strip_bom}
 use Rattle.csv.specs.Records.{fields_of}

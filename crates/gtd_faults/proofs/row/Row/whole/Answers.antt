@@ -1,3 +1,4 @@
+-- The bytes from the row's place on are its text, so their first line is the first line of the row.
 use Rattle.std.proofs.Common.{◌≡◌, ◌∙◌, ap, drop}
 use Rattle.csv.proofs.WriteFacts.{slice-end}
 use Rattle.gtd_faults.specs.Hints.{first_line}
