@@ -1,3 +1,4 @@
+-- Lemmas on mending a file: cutting it into rows, decoding and mending their fields, and writing them anew.
 mod CutFacts
 mod DecodeFacts
 mod FieldFacts

@@ -1,3 +1,4 @@
+-- Lemmas on what holds at a moment: which entries are put, their columns, and their objects, which read back.
 pub mod Appending
 pub mod ColumnFacts
 pub mod LineFacts

@@ -1,3 +1,4 @@
+-- Lemmas on rows that say what others say: likenesses and their numbers, first rows, spans, and the lines of findings.
 mod AlikeFacts
 mod AnswerFacts
 mod BucketFacts

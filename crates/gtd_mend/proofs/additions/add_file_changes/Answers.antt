@@ -1,3 +1,4 @@
+-- At each turn the listing has the lines of the changes of the file passed so far, behind those that it had.
 use Rattle.std.proofs.Common.{◌++◌, arith, get_or}
 use Rattle.std.specs.Prelude.{codes, decimal}
 use Rattle.std.proofs.lemmas.List.{take_all}

@@ -1,3 +1,4 @@
+-- The row read byte by byte ends where its line ends, or with the text: what was taken is then one row.
 use Rattle.std.proofs.Common.{arith}
 use Rattle.csv.specs.Records.{fields_of}
 use Rattle.gtd_mend.proofs.CutFacts.{ended, fed, stopped}

@@ -1,3 +1,4 @@
+-- Where nothing but line ends is left there is no row; otherwise the next one begins behind the empty lines.
 use Rattle.std.proofs.Common.{arith}
 use Rattle.csv.proofs.WriteFacts.{slice-end}
 use Rattle.csv.specs.Records.{fields_of}

@@ -1,3 +1,4 @@
+-- The units so far are those of the bytes passed, two and two; a byte that is left over makes it no list of units.
 use Rattle.std.proofs.Common.{arith}
 use Rattle.gtd_mend.proofs.DecodeFacts.{unit_left, unit_more, units_end}
 use Rattle.gtd_mend.proofs.decode.units_of.Goals as goal

@@ -1,3 +1,4 @@
+-- Three bytes that are a dash become one hyphen, and every other byte is kept, from front to back.
 use Rattle.std.proofs.Common.{◌∙◌, arith, sym}
 use Rattle.gtd_mend.proofs.FieldFacts.{dash, hyphens_end, other}
 use Rattle.gtd_mend.proofs.field.with_hyphens.Goals as goal

@@ -1,3 +1,4 @@
+-- A field of spaces alone is kept as it is; of any other one the spaces in front and behind are left out.
 use Rattle.std.proofs.Common.{◌≡◌, ◌∙◌, ap, refl, arith, length}
 use Rattle.std.proofs.lemmas.Str.Ascii.{trim_ascii_is}
 use Rattle.gtd_mend.specs.Fields.{from_front, to_back}

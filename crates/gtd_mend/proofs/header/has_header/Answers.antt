@@ -1,3 +1,4 @@
+-- The first row, once mended, is a header or is none, and a text without a row has none.
 use Rattle.csv.specs.Records.{fields_of}
 use Rattle.gtd_mend.proofs.MendFacts.{header_decided}
 use Rattle.gtd_mend.proofs.header.has_header.Goals as goal

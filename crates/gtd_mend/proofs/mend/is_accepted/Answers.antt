@@ -1,3 +1,4 @@
+-- A file is accepted exactly if no fault of it is listed, by the list that all its faults make.
 use Rattle.gtd_mend.proofs.MendFacts.{decided}
 use Rattle.gtd_mend.proofs.mend.is_accepted.Goals as goal
 

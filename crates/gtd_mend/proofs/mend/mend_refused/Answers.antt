@@ -1,3 +1,4 @@
+-- The byte order mark decides what the text is: UTF-16 in either order, UTF-8 behind its mark, or all bytes.
 use Rattle.std.proofs.Common.{◌≡◌, ◌∙◌, [], ◌∷◌, false, sym, true}
 use Rattle.csv.proofs.WriteFacts.{slice-end}
 use Rattle.gtd_faults.specs.Hints.{begins_with}

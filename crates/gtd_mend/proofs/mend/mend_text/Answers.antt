@@ -1,3 +1,4 @@
+-- With the separator that gives the text a header, writing it anew is what is put of the file.
 use Rattle.std.proofs.Common.{inl}
 use Rattle.std.proofs.lemmas.Result.{IfOk-weaker}
 use Rattle.gtd_mend.specs.Answer.{Gives, marks_of}

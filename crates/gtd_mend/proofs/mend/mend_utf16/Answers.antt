@@ -1,3 +1,4 @@
+-- The units that follow the mark are a text, and what is put is that of this text.
 use Rattle.std.proofs.Common.{◌≡◌, sym, Option, Some, List, ℕ}
 use Rattle.std.specs.Prelude.{string_bytes}
 use Rattle.gtd_mend.specs.Decoding.{text_of_units, units_of}

@@ -1,3 +1,4 @@
+-- The rows that were read and mended, the lines that tell of it and their number are those of a text written anew.
 use Rattle.std.proofs.Common.{◌++◌, [], ap, List}
 use Rattle.gtd_mend.specs.Lines.{file_lines, table_lines}
 use Rattle.gtd_mend.specs.Standing.{Lists}

@@ -1,3 +1,4 @@
+-- A row of two fields or more is not blank; one with a single field is, if that field is empty.
 use Rattle.std.proofs.Common.{◌∙◌, arith}
 use Rattle.csv.specs.Records.{fields_of}
 use Rattle.gtd_mend.specs.Mended.{writer_of}

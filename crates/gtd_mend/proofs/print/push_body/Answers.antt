@@ -1,3 +1,4 @@
+-- At each turn the text has the fields passed so far, with separators between them.
 use Rattle.std.proofs.Common.{arith}
 use Rattle.csv.specs.Records.{fields_of}
 use Rattle.gtd_mend.specs.Mended.{writer_of}

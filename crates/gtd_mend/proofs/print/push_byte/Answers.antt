@@ -1,3 +1,4 @@
+-- A quote is appended twice and any other byte once, whatever the separator is.
 use Rattle.std.proofs.Common.{refl, arith}
 use Rattle.csv.proofs.WriteFacts.{escaped-double, escaped-other}
 use Rattle.gtd_mend.specs.Mended.{writer_of}

@@ -1,3 +1,4 @@
+-- At each turn the text has the bytes passed so far, their quotes doubled.
 use Rattle.std.proofs.Common.{arith, sym}
 use Rattle.std.proofs.lemmas.List.{append-nil}
 use Rattle.csv.specs.Writing.{escaped}

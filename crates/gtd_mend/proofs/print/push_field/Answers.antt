@@ -1,3 +1,4 @@
+-- A field that needs quotes has its escaped bytes between two; any other one is appended as it is.
 use Rattle.std.proofs.Common.{◌≡◌, ◌∙◌, ◌++◌, ap, rules, sym, true, List, ℕ}
 use Rattle.csv.specs.Writing.{escaped, needs_quotes}
 use Rattle.gtd_mend.specs.Mended.{writer_of}

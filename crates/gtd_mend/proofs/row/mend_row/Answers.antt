@@ -1,3 +1,4 @@
+-- At each turn the fields so far are mended by their columns, and the lines of their changes are listed.
 use Rattle.std.proofs.Common.{◌≡◌, [], arith, get_or, sym}
 use Rattle.std.proofs.lemmas.List.{take_all}
 use Rattle.csv.specs.Records.{fields_of}

@@ -1,3 +1,4 @@
+-- Of a file that was mended both outputs take all, the text and the list of changes, or a first part of it.
 use Rattle.std.specs.Prelude.{string_bytes}
 use Rattle.gtd_mend.proofs.MendFacts.{has_mended}
 use Rattle.gtd_mend.proofs.run.put_mended.Goals as goal

@@ -1,3 +1,4 @@
+-- At each turn the table holds the rows read so far, each with the line on which it begins.
 use Rattle.std.proofs.Common.{◌+◌, ◌-◌, ap, arith, drop, length, take, ℕ}
 use Rattle.std.proofs.lemmas.List.{length-drop, length-take}
 use Rattle.csv.proofs.WriteFacts.{slice-end}

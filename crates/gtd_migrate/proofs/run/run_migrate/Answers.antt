@@ -1,3 +1,4 @@
+-- An accepted file is put migrated, and of a refused one nothing is put: both are said as one claim.
 use Rattle.gtd_migrate.proofs.ClaimFacts.{migration_claim}
 use Rattle.gtd_migrate.proofs.run.run_migrate.Goals as goal
 

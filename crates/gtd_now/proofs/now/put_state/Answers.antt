@@ -1,3 +1,4 @@
+-- Nothing is put of what is not asked about; otherwise the output takes the entry, or a first part of it.
 use Rattle.std.proofs.Common.{◌∙◌, ap, refl, sym, true≢false, arith, [], ◌∷◌, length}
 use Rattle.std.specs.Prelude.{Err}
 use Rattle.std.proofs.lemmas.Result.{err_from_is_err_and}

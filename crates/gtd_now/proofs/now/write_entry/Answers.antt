@@ -1,3 +1,4 @@
+-- What is written is the entry in the form asked for, if the check has let its length pass.
 use Rattle.gtd_now.proofs.Appending.{on_ok}
 use Rattle.gtd_now.specs.Now.{IsEntry}
 use Rattle.gtd_now.specs.Query.{query_of}

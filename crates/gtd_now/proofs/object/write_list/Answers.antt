@@ -1,3 +1,4 @@
+-- The numbers of rows and the end of their list are the tokens of the whole list.
 use Rattle.gtd_now.proofs.Appending.{both, on_ok}
 use Rattle.gtd_now.proofs.ObjectFacts.{rows_tokens}
 use Rattle.gtd_now.proofs.object.write_list.Goals as goal

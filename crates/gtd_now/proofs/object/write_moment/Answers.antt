@@ -1,3 +1,4 @@
+-- The text of a moment is ASCII, and so it can be written as one string.
 use Rattle.gtd_now.proofs.StampFacts.{utf8_stamp}
 use Rattle.gtd_now.proofs.object.write_moment.Goals as goal
 

@@ -1,3 +1,4 @@
+-- The tokens of the subject, the state and, if they are asked for, the reasons make up one object.
 use Rattle.std.specs.Prelude.{◌≡◌, ◌++◌, [], ◌∷◌, OnOk}
 use Rattle.json.specs.Token.{begin_object}
 use Rattle.json.specs.Tree.{members_tokens}

@@ -1,3 +1,4 @@
+-- The line, the row and the text of its domain are the members of one object, in this order.
 use Rattle.std.specs.Prelude.{◌++◌, [], ◌∷◌, codes}
 use Rattle.json.specs.Token.{begin_object, end_object}
 use Rattle.gtd_now.proofs.Appending.{both, on_ok, three}

@@ -1,3 +1,4 @@
+-- What is told of each row and the end of their list are the tokens of the whole list of reasons.
 use Rattle.gtd_now.proofs.Appending.{both, on_ok}
 use Rattle.gtd_now.proofs.ObjectFacts.{reasons_tokens}
 use Rattle.gtd_now.proofs.object.write_reason_list.Goals as goal

@@ -1,3 +1,4 @@
+-- The word, the change and the rows that close are written one behind the other, as the members of a state.
 use Rattle.std.specs.Prelude.{◌∷◌, codes}
 use Rattle.json.specs.Json.{array}
 use Rattle.json.specs.Token.{key}

@@ -1,3 +1,4 @@
+-- The element, the direction and the vehicle type are written one behind the other, as the members of a subject.
 use Rattle.std.specs.Prelude.{codes}
 use Rattle.gtd_now.proofs.Appending.{on_ok, three}
 use Rattle.gtd_now.specs.ObjectTokens.{number_member, text_member}

@@ -1,3 +1,4 @@
+-- Of a file that is read without fault the output takes the entries; of any other one the first fault is answered.
 use Rattle.std.proofs.Common.{List, Some}
 use Rattle.std.specs.Prelude.{⊤}
 use Rattle.gtd_records.specs.Closing.{Restriction}

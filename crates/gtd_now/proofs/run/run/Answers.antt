@@ -1,3 +1,4 @@
+-- The bytes that the input brought whole are those of which the state is put.
 use Rattle.gtd_now.proofs.NowFacts.{of_input}
 use Rattle.gtd_now.specs.Query.{query_of}
 use Rattle.gtd_now.specs.Run.{entries_of}

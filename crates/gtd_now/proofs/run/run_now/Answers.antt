@@ -1,3 +1,4 @@
+-- The run's one claim gives both: an accepted file is put, and of a refused one nothing is put.
 use Rattle.gtd_report.specs.facts.RunFacts.{accepted_are_put, refused_put_nothing}
 use Rattle.gtd_now.proofs.NowFacts.{fault_of}
 use Rattle.gtd_now.proofs.run.run_now.Goals as goal

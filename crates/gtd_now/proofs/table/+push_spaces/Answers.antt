@@ -1,3 +1,4 @@
+-- One space, and then as many as are left, are as many as were asked for.
 use Rattle.std.proofs.Common.{rules}
 use Rattle.gtd_now.proofs.Appending.{both, on_ok, spaces_more}
 use Rattle.gtd_now.proofs.table.+push_spaces.Goals as goal

@@ -1,3 +1,4 @@
+-- The comparison of each kind decides its own likeness: of texts, of seconds, or of whole rows.
 use Rattle.std.proofs.Common.{◌≡◌, sym}
 use Rattle.gtd_repeats.specs.declared.alike.Kind.TheVariants.{Seconds, Row}
 use Rattle.gtd_repeats.proofs.alike.are_alike.Goals as goal

@@ -1,3 +1,4 @@
+-- At each turn the answers so far are right: that the first row is within itself is true of any rows.
 use Rattle.gtd_repeats.proofs.AnswerFacts.{more_right, none_right}
 use Rattle.gtd_repeats.proofs.answers.first_answers.Goals as goal
 

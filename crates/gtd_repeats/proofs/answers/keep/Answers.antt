@@ -1,3 +1,4 @@
+-- A right answer in place of another leaves all of them right, and the place is always there.
 use Rattle.gtd_repeats.proofs.AnswerFacts.{kept_right}
 use Rattle.gtd_repeats.proofs.answers.keep.Goals as goal
 

@@ -1,3 +1,4 @@
+-- The entry stands in the bucket of its number, and what was listed before is listed still.
 use Rattle.std.proofs.Common.{sym, arith}
 use Rattle.gtd_repeats.proofs.BucketFacts.{now_listed, still_listed}
 use Rattle.gtd_repeats.proofs.buckets.add_entry.Goals as goal

@@ -1,3 +1,4 @@
+-- At each turn the findings are those of the rows passed so far, and the remembered answers are right.
 use Rattle.std.proofs.Common.{◌<◌, arith, length}
 use Rattle.gtd_repeats.proofs.FindingFacts.{findings_more, no_findings}
 use Rattle.gtd_repeats.proofs.findings.findings_by.Goals as goal

@@ -1,3 +1,4 @@
+-- Rows with the same text, and rows with the same seconds, have the same number: so the first of each is found.
 use Rattle.gtd_repeats.proofs.NumberFacts.{share_seconds, share_text}
 use Rattle.gtd_repeats.proofs.findings.meanings_of.Goals as goal
 

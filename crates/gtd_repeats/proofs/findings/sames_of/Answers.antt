@@ -1,3 +1,4 @@
+-- Rows that say the same close at the same seconds, so the first row with these seconds serves as their number.
 use Rattle.gtd_repeats.proofs.NumberFacts.{share_row}
 use Rattle.gtd_repeats.proofs.findings.sames_of.Goals as goal
 

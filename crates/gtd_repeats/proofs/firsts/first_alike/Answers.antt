@@ -1,3 +1,4 @@
+-- None of the entries passed so far is like the row; the first one that is gives its own first row.
 use Rattle.std.proofs.Common.{arith, rules, length}
 use Rattle.gtd_repeats.proofs.FirstFacts.{none_at_all, none_first, none_more}
 use Rattle.gtd_repeats.proofs.firsts.first_alike.Goals as goal

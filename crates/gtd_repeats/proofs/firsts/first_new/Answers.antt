@@ -1,3 +1,4 @@
+-- If a row in the bucket is like it, its first row is that one's; if none is, the row is a first one itself.
 use Rattle.std.proofs.Common.{◌≡◌, Some, None}
 use Rattle.std.proofs.lemmas.Option.{MatchOption-at_some, MatchOption-at_none}
 use Rattle.gtd_repeats.proofs.FirstFacts.{alone, joined, later}

@@ -1,3 +1,4 @@
+-- At each turn the first row is known of each row passed, and each first row stands in the bucket of its number.
 use Rattle.std.proofs.Common.{◌<◌, arith, rules, length, length-append, [], ◌∷◌}
 use Rattle.gtd_repeats.proofs.FirstFacts.{so_far_more}
 use Rattle.gtd_repeats.proofs.firsts.firsts_of.Goals as goal

@@ -1,3 +1,4 @@
+-- A row whose seconds, types and directions are among another's is within it, and does not say the same.
 use Rattle.std.proofs.Common.{arith, rules}
 use Rattle.std.proofs.lemmas.Result.{IfOk-weaker}
 use Rattle.gtd_repeats.proofs.KinFacts.{one_first, only_within}

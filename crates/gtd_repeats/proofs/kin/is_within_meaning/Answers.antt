@@ -1,3 +1,4 @@
+-- What is true of the first rows with the seconds of two rows is true of these two rows.
 use Rattle.std.proofs.lemmas.Result.{IfOk-weaker}
 use Rattle.gtd_repeats.proofs.KinFacts.{of_firsts}
 use Rattle.gtd_repeats.proofs.kin.is_within_meaning.Goals as goal

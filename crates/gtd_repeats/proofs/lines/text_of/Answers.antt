@@ -1,3 +1,4 @@
+-- At each turn the text has the lines of the findings passed so far, each with the line on which its row begins.
 use Rattle.std.proofs.Common.{◌≡◌, ◌<◌, ◌+◌, ◌-◌, ◌∙◌, arith, length, ◌∷◌, ◌++◌, [], take, get_or, string_bytes}
 use Rattle.std.proofs.lemmas.List.{take_more}
 use Rattle.gtd_repeats.specs.Listing.{row_count, row_of}

@@ -1,3 +1,4 @@
+-- The sum of the next spans is that of the first of them and of those that follow; without spans it is 0.
 use Rattle.std.proofs.Common.{◌≡◌, arith, sym}
 use Rattle.gtd_eval.specs.Cursors.{cursor_list}
 use Rattle.gtd_repeats.proofs.NumberFacts.{total_zero}

@@ -1,3 +1,4 @@
+-- A row with the text of an earlier one has that one's number, so this is not counted again.
 use Rattle.std.proofs.Common.{◌≡◌, ◌∙◌, sym, subst, get_or, ℕ}
 use Rattle.gtd_repeats.specs.Numbers.{IsNumberOf}
 use Rattle.gtd_repeats.specs.Sameness.{row_at}

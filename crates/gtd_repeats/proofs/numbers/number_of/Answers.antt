@@ -1,3 +1,4 @@
+-- A row without a domain holds throughout the years looked at, so its number is that of this one span.
 use Rattle.std.proofs.Common.{◌≡◌, arith, None}
 use Rattle.std.proofs.lemmas.Int.{ints}
 use Rattle.gtd_repeats.proofs.NumberFacts.{whole_number}

@@ -1,3 +1,4 @@
+-- A domain that repeats weekly and has no second in the 28 years looked at has none at all, so its number is 0.
 use Rattle.std.proofs.Common.{arith, refl}
 use Rattle.std.proofs.lemmas.Int.{ints}
 use Rattle.gtd_core.specs.Parts.{domain_tree}

@@ -1,3 +1,4 @@
+-- At each turn each row passed has the number of its domain.
 use Rattle.std.proofs.Common.{◌<◌, arith, refl, length, length-append, ℕ, [], ◌∷◌}
 use Rattle.gtd_repeats.specs.Numbers.{IsNumberOf}
 use Rattle.gtd_repeats.specs.Sameness.{row_at}

@@ -1,3 +1,4 @@
+-- The findings are of rows of this file, so each of them has a line on which it begins.
 use Rattle.gtd_repeats.proofs.LineFacts.{of_file}
 use Rattle.gtd_repeats.proofs.run.listing_of.Goals as goal
 

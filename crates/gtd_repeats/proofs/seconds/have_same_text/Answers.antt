@@ -1,3 +1,4 @@
+-- A row without a domain has the text of such rows alone; two domains have the same text if they are the same tree.
 use Rattle.std.proofs.Common.{◌≡◌, Some}
 use Rattle.gtd_repeats.proofs.TextFacts.{text_same}
 use Rattle.gtd_repeats.proofs.seconds.have_same_text.Goals as goal

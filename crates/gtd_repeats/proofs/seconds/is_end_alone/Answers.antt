@@ -1,3 +1,4 @@
+-- A span of a row of which another row does not hold the first or the last second is not within that row.
 use Rattle.std.proofs.Common.{arith}
 use Rattle.std.specs.Prelude.{option_map}
 use Rattle.std.proofs.lemmas.Int.{ints}

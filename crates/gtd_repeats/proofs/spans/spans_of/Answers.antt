@@ -1,3 +1,4 @@
+-- At each turn each first row passed that has a span in the years looked at has its first one.
 use Rattle.std.proofs.Common.{arith, length-append, ℕ, [], ◌∷◌, Option}
 use Rattle.std.specs.Prelude.{IfSome}
 use Rattle.gtd_core.specs.Seconds.{Interval}

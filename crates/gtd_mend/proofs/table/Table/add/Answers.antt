@@ -1,3 +1,4 @@
+-- One row more is mended behind the rows that the table holds, and its changes are listed behind theirs.
 use Rattle.std.proofs.Common.{refl}
 use Rattle.csv.specs.Records.{fields_of}
 use Rattle.gtd_mend.proofs.TableFacts.{holds_more}
