@@ -1,3 +1,4 @@
+-- Lemmas on schedules: their lines and the moments in them, that there is exactly one, and how parts make a whole.
 pub mod SpanLines
 pub mod SomeSchedule
 pub mod ScheduleFacts

@@ -1,3 +1,4 @@
+-- The lines below an element and those from it on, one after the other, are the lines of all.
 use Rattle.gtd_schedule.proofs.SplitFacts.{schedule_in_parts}
 use Rattle.gtd_schedule.proofs.laws.schedule_in_parts.Goals as goal
 

@@ -1,3 +1,4 @@
+-- There is a schedule for each vehicle type and horizon: it is built element by element.
 use Rattle.gtd_schedule.proofs.SomeSchedule.{some_schedule}
 use Rattle.gtd_schedule.proofs.laws.some_schedule.Goals as goal
 

@@ -1,3 +1,4 @@
+-- A day of the known month differs in its two last digits alone; any other day is written whole.
 use Rattle.std.proofs.Common.{ap, ◌≡◌, ◌∙◌, ◌++◌, ℤ, ℕ, List, take, drop, sym, unsigned_abs}
 use Rattle.gtd_calendar.specs.ComputedDates.{year_of, month_of}
 use Rattle.gtd_calendar.specs.Stamp.{date_text, two_digits, ymd_text}

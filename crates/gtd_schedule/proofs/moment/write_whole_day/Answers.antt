@@ -1,3 +1,4 @@
+-- The two digits of the day tell how many days before it the month began, and so at which second.
 use Rattle.std.proofs.Common.{arith, ap, ◌∙◌, ◌≡◌, ◌+◌, ◌*◌, ◌≤◌, ℤ, ℕ, List, pos, ◌+ℤ◌, ◌*ℤ◌, ◌-◌, ◌/◌, get_or}
 use Rattle.std.proofs.Common.{◌-ℤ◌, to_z, of_z, w64, to_z-of_z}
 use Rattle.gtd_calendar.specs.Calendar.{IsCalendarDay}

@@ -1,3 +1,4 @@
+-- That accepted files are put and that nothing is put of refused ones are, together, the headline.
 use Rattle.gtd_schedule.proofs.HeadlineFacts.{headline}
 use Rattle.gtd_schedule.proofs.run.run_schedule.Goals as goal
 

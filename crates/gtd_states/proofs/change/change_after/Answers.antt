@@ -1,3 +1,4 @@
+-- The second that is given lies in the days that the search looks at, which begin on its own day.
 use Rattle.gtd_states.specs.facts.DayFacts.{looks_at}
 use Rattle.gtd_states.proofs.change.change_after.Goals as goal
 

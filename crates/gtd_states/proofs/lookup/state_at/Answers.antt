@@ -1,3 +1,4 @@
+-- What is found of openness, change and closing rows is the state, and the calendar shows its change.
 use Rattle.gtd_records.specs.Closing.{IsOpen}
 use Rattle.gtd_states.specs.facts.RowFacts.{shown, state_is}
 use Rattle.gtd_states.proofs.lookup.state_at.Goals as goal

@@ -1,3 +1,4 @@
+-- Each span that is pushed begins no earlier than the latest start so far, so the list stays in order.
 use Rattle.std.proofs.Common.{arith}
 use Rattle.std.proofs.lemmas.Int.{ints}
 use Rattle.gtd_test_layers.proofs.Latest.{none-after}

@@ -1,3 +1,4 @@
+-- No span of the list begins after the one that is pushed next, which is why it may be pushed.
 use Rattle.std.proofs.Common.{arith}
 use Rattle.std.proofs.lemmas.Int.{ints}
 use Rattle.gtd_test_layers.proofs.Latest.{none-after}

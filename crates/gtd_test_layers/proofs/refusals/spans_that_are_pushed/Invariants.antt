@@ -1,3 +1,4 @@
+-- At each turn no span that was pushed begins after the latest start.
 use Rattle.gtd_spans.specs.Pushing.{NoneBeginsAfter}
 use Rattle.gtd_test_layers.proofs.refusals.spans_that_are_pushed.Given as goal
 

@@ -1,3 +1,4 @@
+-- The span that is added begins no earlier than any before it, so it may be joined to the last one.
 use Rattle.std.proofs.Common.{arith}
 use Rattle.std.proofs.lemmas.Int.{ints}
 use Rattle.gtd_test_layers.proofs.Latest.{none-after}

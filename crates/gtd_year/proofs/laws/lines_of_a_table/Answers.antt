@@ -1,3 +1,4 @@
+-- A table has one line for each day of the year, and each of its lines is as long as any other: 17 bytes.
 use Rattle.std.specs.Prelude.{pos}
 use Rattle.gtd_calendar.specs.Calendar.{first_day, year_length}
 use Rattle.gtd_records.specs.Closing.{IsOpen}

@@ -1,3 +1,4 @@
+-- There is a table, since the open seconds of each day can be counted, and no two, since each has one count.
 use Rattle.std.specs.Prelude.{pos}
 use Rattle.gtd_calendar.specs.Calendar.{first_day, year_length}
 use Rattle.gtd_records.specs.Closing.{IsOpen}

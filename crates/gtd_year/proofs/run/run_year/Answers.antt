@@ -1,3 +1,4 @@
+-- The three claims of the run are one; and the number of lines is the number of days of the year.
 use Rattle.std.proofs.Common.{◌∙◌, pos}
 use Rattle.std.proofs.lemmas.Result.{IfOk-weaker}
 use Rattle.gtd_calendar.specs.Calendar.{first_day, year_length}

@@ -1,3 +1,4 @@
+-- The date and the number, aligned to the right behind it, are the line of the day.
 use Rattle.std.proofs.Common.{◌≡◌, ◌∙◌, ap, arith, ℕ, List, ◌++◌, length}
 use Rattle.std.proofs.Common.{rules, FitsSigned, to_z, of_z, w64, to_z-of_z}
 use Rattle.gtd_calendar.specs.Stamp.{date_text}

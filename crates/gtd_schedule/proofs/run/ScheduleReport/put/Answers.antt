@@ -1,3 +1,4 @@
+-- An element has one list of lines, and the moments that the buffers show at first are on a calendar day.
 use Rattle.gtd_schedule.proofs.ScheduleFacts.{one_lines}
 use Rattle.gtd_schedule.specs.facts.SpansShown.{first_shown}
 use Rattle.gtd_schedule.proofs.run.ScheduleReport.put.Goals as goal

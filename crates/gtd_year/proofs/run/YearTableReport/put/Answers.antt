@@ -1,3 +1,4 @@
+-- Day after day from the first of the year on, the lines that are put are those of the table.
 use Rattle.std.proofs.Common.{rules, pos}
 use Rattle.std.proofs.lemmas.Result.{err_from_is_err_and}
 use Rattle.gtd_calendar.specs.Calendar.{first_day, year_length}
