@@ -1,3 +1,4 @@
+-- At each turn the command has the rules of the arguments passed so far, in their order.
 use Rattle.std.proofs.Common.{◌≡◌, map, take}
 use Rattle.clap.specs.Simple.{app_of}
 use Rattle.gtdesk_plans.specs.Arguments.{rule, with_rules}

@@ -1,3 +1,4 @@
+-- Command after command is added, and in the end the program has all of them, as the definition lists them.
 use Rattle.std.proofs.Common.{refl}
 use Rattle.gtdesk_plans.proofs.command_line.gtdesk.Goals as goal
 

@@ -1,3 +1,4 @@
+-- What `clap` finds, or the kind of its error, is what the definition says of the words.
 use Rattle.std.proofs.Common.{map, string_bytes}
 use Rattle.clap.specs.Simple.{app_of}
 use Rattle.gtdesk_plans.proofs.ClapWords.{words_found, words_refused}

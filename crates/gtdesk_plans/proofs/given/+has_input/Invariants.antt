@@ -1,3 +1,4 @@
+-- Each call has one file less to look at.
 use Rattle.std.proofs.Common.{length}
 use Rattle.gtdesk_plans.proofs.given.+has_input.Given as goal
 

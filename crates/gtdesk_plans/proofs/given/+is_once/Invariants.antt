@@ -1,3 +1,4 @@
+-- Each call has one file less, and what it says is of the files that are left.
 use Rattle.std.proofs.Common.{length}
 use Rattle.gtdesk_plans.proofs.given.+is_once.Given as goal
 

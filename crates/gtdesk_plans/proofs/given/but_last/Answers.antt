@@ -1,3 +1,4 @@
+-- Taking the texts of the words, and then all but the last of these, gives the same as the other way round.
 use Rattle.std.proofs.Common.{◌∙◌, sym, ap, map, ℕ, ◌-◌, length, take, List, Bor}
 use Rattle.std.proofs.lemmas.List.{length-map, take-map}
 use Rattle.gtdesk_plans.proofs.given.but_last.Goals as goal

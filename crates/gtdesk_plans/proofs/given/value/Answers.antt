@@ -1,3 +1,4 @@
+-- The value that `clap` answers is the first one in the row of this name.
 use Rattle.std.proofs.Common.{◌∙◌}
 use Rattle.clap.specs.Matches.{found_of}
 use Rattle.clap.proofs.WalkLemmas.{first_value-rows}

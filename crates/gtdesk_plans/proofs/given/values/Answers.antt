@@ -1,3 +1,4 @@
+-- The values that `clap` answers are all those in the row of this name.
 use Rattle.std.proofs.Common.{◌∙◌}
 use Rattle.clap.specs.Matches.{found_of}
 use Rattle.clap.proofs.WalkLemmas.{raw_values-rows}

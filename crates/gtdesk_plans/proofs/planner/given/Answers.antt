@@ -1,3 +1,4 @@
+-- The name of the command that the matches hold gives its form, and its rows are the words found for it.
 use Rattle.std.proofs.Common.{◌∙◌, sym, ap}
 use Rattle.clap.specs.Matches.{found_of}
 use Rattle.clap.specs.Walk.{rows_of}

@@ -1,3 +1,4 @@
+-- The one plan or refusal is what all claims are about: the first word that stands for nothing decides.
 use Rattle.std.proofs.Common.{map}
 use Rattle.std.specs.Prelude.{string_bytes}
 use Rattle.gtdesk_plans.specs.Given.{asked_words}

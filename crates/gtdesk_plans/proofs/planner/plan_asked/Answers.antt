@@ -1,3 +1,4 @@
+-- Without words the plan is that of asking for help; with some it is the plan of these words.
 use Rattle.std.proofs.Common.{subst, sym, List}
 use Rattle.std.specs.Prelude.{IfErr, MatchResult, string_bytes}
 use Rattle.gtdesk_plans.specs.Arguments.{Text}

@@ -1,3 +1,4 @@
+-- An error that asks for a text shows it, one for want of memory says so, and every other one is a misuse.
 use Rattle.std.proofs.Common.{◌∙◌, sym, ap, map}
 use Rattle.std.specs.Prelude.{string_bytes}
 use Rattle.gtdesk_plans.proofs.PlanFacts.{shown}

@@ -1,3 +1,4 @@
+-- The refusal of a command is that of its words, and the word that it keeps is the one refused.
 use Rattle.std.specs.Prelude.{string_bytes}
 use Rattle.clap.specs.Matches.{found_of}
 use Rattle.clap.specs.Walk.{rows_of}

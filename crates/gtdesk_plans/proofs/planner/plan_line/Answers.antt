@@ -1,3 +1,4 @@
+-- Words that give a command have its plan or refusal; others have what `clap` says of them.
 use Rattle.std.proofs.Common.{map}
 use Rattle.std.specs.Prelude.{string_bytes}
 use Rattle.clap.specs.Matches.{found_of}

@@ -1,3 +1,4 @@
+-- The hours that were found are open at the seconds of the domain, and their text with its end is the line.
 use Rattle.std.specs.Prelude.{◌≡◌, Some}
 use Rattle.gtdesk_tool.proofs.domain_hours.hours_line.Goals as goal
 

@@ -1,3 +1,4 @@
+-- What is put is the line of the hours; where there is none, or no memory, the output has not failed.
 use Rattle.std.proofs.Common.{sym, subst}
 use Rattle.gtdesk_tool.specs.Hours.{IsHoursLine}
 use Rattle.gtdesk_tool.proofs.RunningFacts.{of_hours, put_as}

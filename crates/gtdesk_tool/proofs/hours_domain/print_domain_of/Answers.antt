@@ -1,3 +1,4 @@
+-- What is put is the line of the domain; where the text has none, the output has not failed.
 use Rattle.std.proofs.Common.{sym, subst}
 use Rattle.gtdesk_tool.specs.Hours.{IsDomainLine}
 use Rattle.gtdesk_tool.proofs.RunningFacts.{of_domain, put_as}

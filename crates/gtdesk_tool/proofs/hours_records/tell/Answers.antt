@@ -1,3 +1,4 @@
+-- What the output for errors took, and whether it failed, is all or a first part of the lines.
 use Rattle.gtdesk_tool.specs.Telling.{Telling}
 use Rattle.gtdesk_tool.proofs.RunningFacts.{told_of}
 use Rattle.gtdesk_tool.proofs.hours_records.tell.Goals as goal

@@ -1,3 +1,4 @@
+-- A text that is read, but of which no domain is found, is refused for that.
 use Rattle.std.proofs.Common.{inr}
 use Rattle.gtdesk_tool.proofs.loose_hours.lines_of.Goals as goal
 

@@ -1,3 +1,4 @@
+-- The line of the domain comes first, and then the warnings; a text that is refused puts neither.
 use Rattle.gtdesk_tool.proofs.LooseFacts.{loose_put, loose_refused, of_refusal}
 use Rattle.gtdesk_tool.proofs.loose_hours.print_loose.Goals as goal
 

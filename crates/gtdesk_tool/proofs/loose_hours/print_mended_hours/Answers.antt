@@ -1,3 +1,4 @@
+-- What is put is the strict form of the hours; where the text is not read, the output has not failed.
 use Rattle.std.proofs.Common.{sym, subst}
 use Rattle.gtdesk_tool.specs.LooseHours.{IsMendedLine}
 use Rattle.gtdesk_tool.proofs.LooseFacts.{of_unread}

@@ -1,3 +1,4 @@
+-- The warnings are told only after the line was put and the output ended.
 use Rattle.gtdesk_tool.proofs.LooseFacts.{lines_told}
 use Rattle.gtdesk_tool.proofs.loose_hours.put_lines.Goals as goal
 

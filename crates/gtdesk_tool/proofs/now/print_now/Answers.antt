@@ -1,3 +1,4 @@
+-- The note is told exactly if the file was put and no row of it is for the vehicle type.
 use Rattle.std.proofs.Common.{◌∙◌, ap, refl, sym, true≢false}
 use Rattle.std.specs.Prelude.{Err}
 use Rattle.gtd_now.specs.Query.{query_of}

@@ -1,3 +1,4 @@
+-- A failure of the input or output is one of the listing, whose outcome the command hands on.
 use Rattle.gtdesk_tool.specs.Running.{failures_after_read, failures_after_write}
 use Rattle.gtdesk_tool.proofs.RunningFacts.{handed_on, listing_reads, listing_writes}
 use Rattle.gtdesk_tool.proofs.performer.list_faults.Goals as goal

@@ -1,3 +1,4 @@
+-- The bytes that are put are those of the text.
 use Rattle.std.proofs.Common.{◌≡◌}
 use Rattle.gtdesk_tool.proofs.RunningFacts.{put_as}
 use Rattle.gtdesk_tool.proofs.performer.print_text.Goals as goal

@@ -1,3 +1,4 @@
+-- What is put is the words of the domain in the language; without memory nothing is put.
 use Rattle.std.proofs.Common.{◌≡◌, ◌∙◌}
 use Rattle.gtd_core.specs.Parts.{domain_tree}
 use Rattle.gtd_words.specs.Words.{words_in}

@@ -1,3 +1,4 @@
+-- A failure of the output is one of the drawing, whose outcome the command hands on.
 use Rattle.gtdesk_tool.specs.Running.{failures_after_write}
 use Rattle.gtdesk_tool.proofs.RunningFacts.{handed_on, picture_writes}
 use Rattle.gtdesk_tool.proofs.picture.print_domain.Goals as goal

@@ -1,3 +1,4 @@
+-- A failure of the input or output is one of the run that draws, whose outcome the command hands on.
 use Rattle.gtdesk_tool.specs.Running.{failures_after_read, failures_after_write}
 use Rattle.gtdesk_tool.proofs.RunningFacts.{handed_on, picture_reads, picture_writes}
 use Rattle.gtdesk_tool.proofs.picture.print_picture.Goals as goal

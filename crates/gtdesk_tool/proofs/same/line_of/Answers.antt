@@ -1,3 +1,4 @@
+-- The second at which two domains differ is on a calendar day, so its line can be written.
 use Rattle.std.proofs.Common.{◌≡◌, subst}
 use Rattle.gtd_difference.specs.declared.comparison.Comparison.TheVariants.{Apart}
 use Rattle.gtdesk_tool.specs.Comparing.{IsShown}

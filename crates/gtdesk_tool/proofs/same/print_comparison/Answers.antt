@@ -1,3 +1,4 @@
+-- The domains are compared from the moment on; what differs is found at a second that can be shown.
 use Rattle.gtdesk_tool.proofs.ComparingFacts.{compared_by, shown_by}
 use Rattle.gtdesk_tool.proofs.same.print_comparison.Goals as goal
 

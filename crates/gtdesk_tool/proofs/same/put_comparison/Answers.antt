@@ -1,3 +1,4 @@
+-- What is put is the line of the comparison; without memory for it nothing is put.
 use Rattle.std.proofs.Common.{◌∙◌}
 use Rattle.gtdesk_tool.proofs.ComparingFacts.{puts_line, same_failures}
 use Rattle.gtdesk_tool.proofs.same.put_comparison.Goals as goal

@@ -1,3 +1,4 @@
+-- The moment is what the table of the zone shows at the instant; every fault has the refusal that names it.
 use Rattle.std.proofs.Common.{to_z-of_z}
 use Rattle.gtdesk_tool.proofs.ZoneFacts.{cause_of}
 use Rattle.gtdesk_tool.proofs.zone.moment_in_zone.Goals as goal

@@ -1,3 +1,4 @@
+-- At each turn the numbers so far are those of the parts passed; one part that is no number ends it.
 use Rattle.std.proofs.Common.{rules, tests, ◌∙◌, ◌==◌, sym, refl, length, arith}
 use Rattle.std.proofs.lemmas.List.{length_push}
 use Rattle.std.proofs.lemmas.Iterator.Consumers.{YieldsList-turn, YieldsList-end}

@@ -1,3 +1,4 @@
+-- The name of a rule is a text, so bytes that are no text name none.
 use Rattle.std.proofs.Common.{sym, subst}
 use Rattle.std.specs.Str.{IsUtf8}
 use Rattle.gtdesk_words.proofs.RuleFacts.{names_are_text}

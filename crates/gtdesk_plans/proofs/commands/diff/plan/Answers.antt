@@ -1,3 +1,4 @@
+-- The days stand for something before the vehicle type is read, so a refusal of that is the first.
 use Rattle.clap.specs.Matches.{found_of}
 use Rattle.clap.specs.Walk.{rows_of}
 use Rattle.gtdesk_plans.specs.Commands.Diff.{words}

@@ -1,3 +1,4 @@
+-- The moment stands for something before the other words are read, so a refusal of these is the first.
 use Rattle.clap.specs.Matches.{found_of}
 use Rattle.clap.specs.Walk.{rows_of}
 use Rattle.gtdesk_plans.specs.Commands.Now.{words}

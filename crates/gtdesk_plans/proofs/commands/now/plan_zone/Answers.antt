@@ -1,3 +1,4 @@
+-- The words are read in turn, and the zone last: the refusal is for the first that stands for nothing.
 use Rattle.clap.specs.Matches.{found_of}
 use Rattle.clap.specs.Walk.{rows_of}
 use Rattle.gtdesk_plans.specs.Commands.Now.{vehicle_word, view_words}

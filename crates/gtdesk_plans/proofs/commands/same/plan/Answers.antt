@@ -1,3 +1,4 @@
+-- Both domains are read before the moment: the refusal is for the first of them that stands for nothing.
 use Rattle.clap.specs.Matches.{found_of}
 use Rattle.clap.specs.Walk.{rows_of}
 use Rattle.gtdesk_plans.specs.Commands.Same.{words}

@@ -1,3 +1,4 @@
+-- Both texts of hours are read before the moment: the refusal is for the first that stands for nothing.
 use Rattle.clap.specs.Matches.{found_of}
 use Rattle.clap.specs.Walk.{rows_of}
 use Rattle.gtdesk_plans.specs.Commands.Same.{hours_words}

@@ -1,3 +1,4 @@
+-- The domain is read before the language: the refusal is for the first of them that stands for nothing.
 use Rattle.clap.specs.Matches.{found_of}
 use Rattle.clap.specs.Walk.{rows_of}
 use Rattle.gtdesk_plans.specs.Commands.Words.{words}
