@@ -1,4 +1,4 @@
--- A row that is known to be like an earlier one has that one's first row; any other one is looked up.
+-- A row that is like an earlier one has that one's first row; one of which no such row is known is looked up.
 use Rattle.std.proofs.Common.{◌≡◌, ◌∙◌, ◌≤◌, arith, subst, length, get_or, ℕ}
 use Rattle.gtd_repeats.proofs.FirstFacts.{joined}
 use Rattle.gtd_repeats.proofs.ListFacts.{any_default}

@@ -1,4 +1,4 @@
--- A span of a row of which another row does not hold the first or the last second is not within that row.
+-- A row that does not hold the first or the last second of a span of another does not hold all of the other's.
 use Rattle.std.proofs.Common.{arith}
 use Rattle.std.specs.Prelude.{option_map}
 use Rattle.std.proofs.lemmas.Int.{ints}

@@ -1,4 +1,4 @@
--- The first type that the one has and the other has not decides; until then each type passed is in both.
+-- At each turn the other has each of the types passed that the one has.
 use Rattle.std.proofs.Common.{◌≡◌, arith, rules, subst, ℕ}
 use Rattle.gtd_records.specs.Closing.{Serves}
 use Rattle.gtd_repeats.proofs.ListFacts.{by_lt}

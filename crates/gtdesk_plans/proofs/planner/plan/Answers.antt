@@ -1,4 +1,4 @@
--- The one plan or refusal is what all claims are about: the first word that stands for nothing decides.
+-- What holds of any answer leaves one for a given command: its plan, or the refusal of its first faulty word.
 use Rattle.std.proofs.Common.{map}
 use Rattle.std.specs.Prelude.{string_bytes}
 use Rattle.gtdesk_plans.specs.Given.{asked_words}

@@ -1,4 +1,4 @@
--- Each plan did what its own function did; those that read no file have told of no failure of the input.
+-- A plan that reads no file tells of no failure of the input, since nothing that it answers is one.
 use Rattle.gtdesk_tool.proofs.RunningFacts.{of_hours, of_memory, of_none, unread_picture, unread_text}
 use Rattle.gtdesk_tool.proofs.ComparingFacts.{unread_comparison}
 use Rattle.gtdesk_tool.proofs.LooseFacts.{of_unread, unread_hours}
