@@ -3,10 +3,10 @@
 ghost use Rattle.std.specs.Prelude.{◌≡◌, ◌≤◌, ◌<◌, ◌+◌, ◌++◌, [], ◌∷◌, if◌then◌else◌, string_bytes, codes, decimal, IfOk, OnOk};
 ghost use Rattle.gtd_hours.specs.Ranges.{IsMonth, IsWeekday};
 ghost use Rattle.gtd_hours.specs.Written.{clock_text, dates_text, four_digits, goes_into, hours_text, is_some_kind, kind_text};
-ghost use Rattle.gtd_hours.specs.Written.{kind_word, kinds_text, link_text, modifier_text, month_day_text, month_name, months_text};
-ghost use Rattle.gtd_hours.specs.Written.{more_rules_text, more_selectors_text, more_times_text, needs_word, rule_text, rules_text};
-ghost use Rattle.gtd_hours.specs.Written.{selector_text, spans_text, step_text, time_text, times_text, two_digits};
-ghost use Rattle.gtd_hours.specs.Written.{weekday_name, weekdays_text, weeks_text, year_date_text, years_text};
+ghost use Rattle.gtd_hours.specs.Written.{kind_word, kinds_text, link_text, modifier_text, month_day_text, month_name};
+ghost use Rattle.gtd_hours.specs.Written.{months_text, more_rules_text, more_selectors_text, more_times_text, needs_word};
+ghost use Rattle.gtd_hours.specs.Written.{rule_text, rules_text, selector_text, spans_text, step_text, time_text, times_text};
+ghost use Rattle.gtd_hours.specs.Written.{two_digits, weekday_name, weekdays_text, weeks_text, year_date_text, years_text};
 
 use crate::hours::{
     Dated, Dates, Hours, Kind, Link, Modifier, MonthDay, Months, Rule, Selector, TimeRange,

@@ -375,8 +375,8 @@ some_near rows years (x ∷ xs) n (inr h) = some_near rows years xs n h
 pub of_calendar : (years : KnownYears) (n : ℤ) → IsOfYears years.first years.last n → IsCalendarDay n
 of_calendar years n of =
     let a = years_in years in
-    within n (first_day (pos years.first)) (first_day (pos (years.last + 1))) (rw first_day-1800 at a.0) (rw first_day-2800 at a.1)
-    of.0 of.1
+    within n (first_day (pos years.first)) (first_day (pos (years.last + 1))) (rw first_day-1800 at a.0)
+    (rw first_day-2800 at a.1) of.0 of.1
   where
     within : (n a b : ℤ) → neg_ℤ (pos 62_091) ≤ℤ (a -ℤ pos 730) → (b +ℤ pos 730) ≤ℤ pos 303_151 → a ≤ℤ n → n <ℤ b
         → IsCalendarDay n

@@ -177,8 +177,8 @@ few_days : (y : ℤ) (k : ℕ) → first_day (y +ℤ pos k) ≤ℤ (first_day y 
 few_days y zero = let e : y +ℤ pos 0 ≡ y = omega (arith, signed_arith) in rw e (omega (arith, signed_arith))
 few_days y (suc k) =
     let e : y +ℤ pos (suc k) ≡ y +ℤ pos k +ℤ pos 1 = omega (arith, signed_arith) in
-    rw e (more (first_day y) (first_day (y +ℤ pos k)) (first_day (y +ℤ pos k +ℤ pos 1)) k (year_length (y +ℤ pos k)) (few_days y k)
-    (first_day-next (y +ℤ pos k)) (long_year (y +ℤ pos k)).1)
+    rw e (more (first_day y) (first_day (y +ℤ pos k)) (first_day (y +ℤ pos k +ℤ pos 1)) k (year_length (y +ℤ pos k))
+    (few_days y k) (first_day-next (y +ℤ pos k)) (long_year (y +ℤ pos k)).1)
   where
     more : (a b c : ℤ) (k l : ℕ) → b ≤ℤ (a +ℤ pos (366 * k)) → c ≡ b +ℤ pos l → l ≤ 366
         → c ≤ℤ (a +ℤ pos (366 * suc k))

@@ -34,7 +34,8 @@ no_leap_day y m d h not = (
     h.1.0,
     elim (cases_eq m 2) [
       | inl two ↦ (let long = february y m two in
-          let other : d ≡ 29 → ⊥ = (λ e. not (two, e)) in short d (month_length y m) (month_length (pos 2001) m) h.1.1 long.0 long.1 other)
+          let other : d ≡ 29 → ⊥ = (λ e. not (two, e)) in
+          short d (month_length y m) (month_length (pos 2001) m) h.1.1 long.0 long.1 other)
       | inr other ↦ (let same = other_length y m other in rw same at h.1.1)
     ],
   ),
@@ -80,8 +81,8 @@ year_placed n y f l m d k low high few h =
           (λ lt. let before = in_order (y +ℤ pos 1) (f -ℤ pos 1) (omega (arith, signed_arith, lt)) in
           let next = first_day-next (f -ℤ pos 1) in
           let same : f -ℤ pos 1 +ℤ pos 1 ≡ f = omega (arith, signed_arith) in
-          absurd (early n k (first_day (y +ℤ pos 1)) (first_day (f -ℤ pos 1)) (first_day f) (year_length (f -ℤ pos 1)) low few lies.1
-          before (rw same at next) (long_year (f -ℤ pos 1)).0))
+          absurd (early n k (first_day (y +ℤ pos 1)) (first_day (f -ℤ pos 1)) (first_day f) (year_length (f -ℤ pos 1)) low few
+          lies.1 before (rw same at next) (long_year (f -ℤ pos 1)).0))
           (λ ge. ge),
       by_lt_z l y
           (λ lt. let after = in_order (l +ℤ pos 1) y (omega (arith, signed_arith, lt)) in

@@ -115,7 +115,8 @@ not_yearly days years run group has never other yearly =
     never (λ n of x. yearly.each n of (same_group run group other has yearly.same n x))
 
 -- it lies between the first and the last day of the years
-pub between : (years : KnownYears) (run : Run) (first last : ℤ) (b : Bool) → IsTrue b ↔ ((first ≤ℤ run.first) × (run.last ≤ℤ last))
+pub between : (years : KnownYears) (run : Run) (first last : ℤ) (b : Bool)
+    → IsTrue b ↔ ((first ≤ℤ run.first) × (run.last ≤ℤ last))
     → first ≡ first_day (pos years.first) → last +ℤ pos 1 ≡ first_day (pos (years.last + 1))
     → IsTrue b ↔ ((first_day (pos years.first) ≤ℤ run.first) × (run.last <ℤ first_day (pos (years.last + 1))))
 between years run first last b is begins ends = (

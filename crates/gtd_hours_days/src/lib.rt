@@ -1,7 +1,7 @@
 //! The days of holidays and of Easter, as time domains.
 //!
-//! `listed_expr` answers the expression with exactly the days of some selectors, whose days are known in some years alone. It takes
-//! a run of days for each, or one basic domain for the same days of several years.
+//! `listed_expr` answers the expression with exactly the days of some selectors, whose days are known in some years alone. It
+//! takes a run of days for each, or one basic domain for the same days of several years.
 #![tactic(auto)]
 
 pub use coverage::{Uncovered, first_uncovered};

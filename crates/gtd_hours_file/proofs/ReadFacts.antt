@@ -52,7 +52,8 @@ all_taken rows old new sound faults taken =
     subst (λ (l : List HoursRow). AreEach 1 rows l new.found.faults.items) (sym s)
     (subst (λ (l : List HoursFileFault). AreEach 1 rows all.0 l) (sym f) all.2)
 
-module _ (text : List Fields) (old new : Reading) (sound : old.found.sound.items ≡ []) (faults : old.found.faults.items ≡ []) where
+module _ (text : List Fields) (old new : Reading) (sound : old.found.sound.items ≡ [])
+    (faults : old.found.faults.items ≡ []) where
   pub table_read : HasHeader BeginsReading TakesRow text old new AllRows
       → AreTable text new.found.sound.items new.found.faults.items
   table_read h =

@@ -87,8 +87,8 @@ match_some : {A : Type 0} (o : Option A) (P : Type 0) (Q : A → Type 0) → (P 
 match_some None P Q none m = absurd (none m)
 match_some (Some x) P Q none m = (x, refl, m)
 
-made : (row element : ℕ) (closed : Closed) (named types : Vehicles) (a b c d : List ℕ) (read : Result (Option Hours) HoursFileFault)
-    (h : HoursRow)
+made : (row element : ℕ) (closed : Closed) (named types : Vehicles) (a b c d : List ℕ)
+    (read : Result (Option Hours) HoursFileFault) (h : HoursRow)
     → number_of a ≡ Some element → closed_of b ≡ Some closed → vehicles_of version.Two c ≡ Some named → IsOrdered named types
     → IsHoursColumn row d read → Ok h ≡ with_hours element closed types read → AreColumnsOf row a b c d h
 made row element closed named types a b c d (Err why) h p q r s t is = absurd cc

@@ -1,5 +1,6 @@
 -- The lines of rows that are warned of.
-use Rattle.std.proofs.Common.{◌≡◌, ◌∙◌, sym, refl, subst, arith, ℕ, ◌+◌, Bool, List, [], ◌∷◌, ◌++◌, append-nil, append_assoc, length}
+use Rattle.std.proofs.Common.{◌≡◌, ◌∙◌, sym, refl, subst, arith, ℕ, ◌+◌, Bool, List, [], ◌∷◌, ◌++◌, append-nil}
+use Rattle.std.proofs.Common.{append_assoc, length}
 use Rattle.std.specs.Prelude.{◌↔◌, IsTrue}
 use Rattle.gtd_hours_file.specs.Warnings.{AreWarnings, ClosesNever, IsWarningIf}
 use Rattle.gtd_hours_file.specs.declared.row.HoursRow.{HoursRow}

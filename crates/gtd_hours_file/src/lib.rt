@@ -2,8 +2,8 @@
 //!
 //! A file of hours has the columns of a record file of version 2, but for the last: there it has texts of opening hours.
 //! [`run_hours_records`] reads one whole, and puts its rows in their order as a record file, each with a domain that
-//! contains exactly the seconds at which its hours are open, and answers a warning of each row that never closes. Of a file at fault
-//! it answers the list of all faults.
+//! contains exactly the seconds at which its hours are open, and answers a warning of each row that never closes. Of a file at
+//! fault it answers the list of all faults.
 #![tactic(auto)]
 
 pub use fault::HoursFileFault;

@@ -87,7 +87,8 @@ pub fn weekdays(first: u8, last: Option<u8>) -> Option<Weekdays>
     }
 }
 
-/// `2026/8`: whether every so many years from one to the last of the calendar are few enough for a domain, which holds 128 of them.
+/// `2026/8`: whether every so many years from one to the last of the calendar are few enough for a domain, which holds 128 of
+/// them.
 pub fn are_few_years(first: Digits, step: Digits) -> bool
     ensures { (result ≡ true) ↔ AreFewYears first step }
 {

@@ -16,8 +16,8 @@ loop-row-preserved c =
     let r = c.row-item.result in
     let next : take (at + 1) rows ≡ take at rows ++ r ∷ [] =
     take_more rows at r c.loop-row-test.true ∙ ap (λ (x : HolidayRow). take at rows ++ x ∷ []) (sym c.row-item.is) in
-    rw next (row_more c.args.years c.args.kind c.args.offset.days (take at rows) r (IsIn c.add_row.new.days) (IsIn c.loop-row.days)
-    (IsIn c.args.days.now) c.loop-row.invariant c.in_ok-add_row.ensures)
+    rw next (row_more c.args.years c.args.kind c.args.offset.days (take at rows) r (IsIn c.add_row.new.days)
+    (IsIn c.loop-row.days) (IsIn c.args.days.now) c.loop-row.invariant c.in_ok-add_row.ensures)
 
 pub returns : goal.returns
 returns c = rw (take_all c.loop-row.row-index c.args.rows.now (omega arith)) at c.loop-row.invariant

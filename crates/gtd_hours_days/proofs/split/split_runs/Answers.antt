@@ -12,5 +12,5 @@ loop-run-preserved c =
     let r = c.run-item.result in
     let next : take (at + 1) runs ≡ take at runs ++ r ∷ [] =
     take_more runs at r c.loop-run-test.true ∙ ap (λ (x : Run). take at runs ++ x ∷ []) (sym c.run-item.is) in
-    rw next (put_more c.args.days.now c.args.years (take at runs) c.loop-run.split c.put_run.new.split r c.yearly_group-group.result
-    c.loop-run.invariant c.yearly_group-group.ensures c.in_ok-put_run.ensures)
+    rw next (put_more c.args.days.now c.args.years (take at runs) c.loop-run.split c.put_run.new.split r
+    c.yearly_group-group.result c.loop-run.invariant c.yearly_group-group.ensures c.in_ok-put_run.ensures)
