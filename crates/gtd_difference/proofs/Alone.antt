@@ -1,5 +1,6 @@
 -- What one set has alone, by the spans that it has without those of the other.
-use Rattle.std.proofs.Common.{◌≡◌, ◌↔◌, ◌⊎◌, List, ◌∷◌, Option, Some, None, IfSome, MatchOption, inl, inr, arith, subst, true, false}
+use Rattle.std.proofs.Common.{◌≡◌, ◌↔◌, ◌⊎◌, List, ◌∷◌, Option, Some, None, IfSome, MatchOption, inl, inr, arith, subst}
+use Rattle.std.proofs.Common.{true, false}
 use Rattle.std.specs.Prelude.{ℤ, pos, ◌-ℤ◌, ◌≤ℤ◌, ◌<ℤ◌, int_lt}
 use Rattle.std.proofs.lemmas.Int.{ints, by_lt_z}
 use Rattle.gtd_core.specs.Seconds.{Interval}

@@ -11,7 +11,8 @@ use gtd_core::{Basic, Domain, Start, StartParts};
 use gtd_eval::is_weekly;
 use std::alloc::{AllocError, Global};
 
-// The start with its weekdays and its time of day alone, if it gives a time of day. It matches each second that the start matches.
+// The start with its weekdays and its time of day alone, if it gives a time of day. It matches each second that the start
+// matches.
 fn without_date(start: &Start) -> Option<Start>
     ensures wider { IfSome result (λ wide. (t : ℤ) → Matches (start_parts start.now) t → Matches (start_parts wide) t) }
 {

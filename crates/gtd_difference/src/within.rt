@@ -66,8 +66,8 @@ fn is_within_years(alloc: Global, domain: &Domain, other: &Domain) -> Result<boo
     is_within_days(alloc, domain, other, days_between(middle, HORIZONS_END))
 }
 
-/// The first span that a domain has from 2016-01-01 up to 2044-01-01, or `None` if it has none. Of a span that goes on after these
-/// years, only the part in them is told. `AllocError` is answered only if memory was refused.
+/// The first span that a domain has from 2016-01-01 up to 2044-01-01, or `None` if it has none. Of a span that goes on after
+/// these years, only the part in them is told. `AllocError` is answered only if memory was refused.
 ///
 /// ```
 /// let domain = read_domain(alloc, b"[(h10){h4}]")?;
@@ -171,8 +171,8 @@ fn is_part_shown(alloc: Global, domain: &Domain, other: &Domain) -> Result<bool,
 }
 
 /// Whether each second of a domain is in another, too: of the seconds from 1901-01-01 up to 2700-01-01. If no start of either
-/// gives a year, these decide all time, by the law [`crate::laws::ever`]. Domains that both repeat after 7 days are compared for a
-/// week, and others without years for 400 years. Both together may have more than 128 basic domains.
+/// gives a year, these decide all time, by the law [`crate::laws::ever`]. Domains that both repeat after 7 days are compared
+/// for a week, and others without years for 400 years. Both together may have more than 128 basic domains.
 ///
 /// ```
 /// let monday = read_domain(alloc, b"[(t2h8){h9}]")?;

@@ -1,6 +1,7 @@
 -- Where records end, byte by byte.
 use Rattle.std.proofs.Common.{◌≡◌, ◌∙◌, ◌-◌, ◌^◌, ap, refl, sym, arith, inl, inr, ℕ, zero, suc, ◌+◌, ◌<◌, ◌≤◌, Bool, true, false}
-use Rattle.std.proofs.Common.{List, [], ◌∷◌, ◌++◌, drop, take, get_or, length, cond, min, Option, Some, None, add-one, drop-drop, take-add}
+use Rattle.std.proofs.Common.{List, [], ◌∷◌, ◌++◌, drop, take, get_or, length, cond, min, Option, Some, None}
+use Rattle.std.proofs.Common.{add-one, drop-drop, take-add}
 use Rattle.std.proofs.lemmas.List.{length-take}
 use Rattle.std.proofs.lemmas.Bool.{cases_Bool}
 use Rattle.std.proofs.lemmas.Bool.Decides.{nat_tests}
@@ -147,7 +148,8 @@ line_end_skipped c un = grind (arith, nat_tests)
 pub field_begins : (c : ℕ) → is_within c ≡ true → step default_config st.StartRecord c ≡ step default_config st.StartField c
 field_begins c is = grind (arith, nat_tests)
 
-pub after_cr : (text : List ℕ) → next_record default_config st.AfterCr [] [] text ≡ next_record default_config st.StartRecord [] [] text
+pub after_cr : (text : List ℕ)
+    → next_record default_config st.AfterCr [] [] text ≡ next_record default_config st.StartRecord [] [] text
 unfolding next_record
 after_cr [] = refl
 after_cr (c ∷ text) = rw (same_step c) refl
@@ -187,7 +189,8 @@ next_begins bytes n taken ends at here taken_to ends_to =
     let before = left_after n (strip_bom bytes) in
     let sum : at + (taken + ends) ≡ (at + taken) + ends = omega arith in
     let parts : drop (at + (taken + ends)) bytes ≡ drop ends (drop taken (drop at bytes)) =
-    ap (λ (k : ℕ). drop k bytes) sum ∙ sym (drop-drop ends (at + taken) bytes) ∙ ap (drop ends) (sym (drop-drop taken at bytes)) in
+    ap (λ (k : ℕ). drop k bytes) sum ∙ sym (drop-drop ends (at + taken) bytes)
+    ∙ ap (drop ends) (sym (drop-drop taken at bytes)) in
     let from : from_record (drop taken (drop at bytes))
     ≡ from_record (rest_of (next_record default_config st.StartField [] [] (from_record before.1))).1 =
     ap from_record taken_to

@@ -61,7 +61,8 @@ module _ (set : ℤ → Type 0) (year : ℕ) (IsText : List (List ℕ) → Type 
 
 -- the number of lines that are seen is that of a picture, or 0
 pub seen_lines : (title inside outside : List ℕ) (year : ℕ) (set : List Restriction → ℤ → Type 0) (count : ℕ)
-    (found : List Restriction) (lines : List (List ℕ)) → IsSeen (set found) year (IsPicture (set found) title inside outside year) lines
+    (found : List Restriction) (lines : List (List ℕ))
+    → IsSeen (set found) year (IsPicture (set found) title inside outside year) lines
     → count ≡ length lines
     → (count ≡ year_length (pos year) + 2) ⊎ ((count ≡ 0) × ((all : List Restriction) × IsCrowded (set all) year))
 seen_lines title inside outside year set count found lines (inl c) is = inr (is ∙ ap length c.1, (found, c.0))

@@ -111,8 +111,9 @@ pub fn run_picture<I: Input, O: Output>(
         picture.now.title.now picture.now.year lines)
         (I.to_come input.old) (O.taken output.old) (O.taken output.new) result }
     // The answer is the number of lines of a picture, or 0, exactly if it would be crowded.
-    ensures lines { IfOk result (λ count. (count ≡ year_length (pos picture.now.year) + 2) ⊎ ((count ≡ 0) × ((found : List Restriction)
-        × IsCrowded (IsOpen found picture.now.element picture.now.direction picture.now.vehicle) picture.now.year))) }
+    ensures lines { IfOk result (λ count. (count ≡ year_length (pos picture.now.year) + 2)
+        ⊎ ((count ≡ 0) × ((found : List Restriction) × IsCrowded
+        (IsOpen found picture.now.element picture.now.direction picture.now.vehicle) picture.now.year))) }
     // An output that took the whole text was then ended, last of all.
     ensures ended { OnOk result (IsTrue (O.is_ended output.new)) }
     ensures vehicle { IsErrOf result RunFault.VehicleRange ↔ (IsVehicleType picture.now.vehicle → ⊥) }

@@ -5,7 +5,8 @@ ghost use Rattle.gtd_core.specs.Limits.{most_rows};
 ghost use Rattle.gtd_records.specs.Closing.{Restriction};
 ghost use Rattle.gtd_report.specs.declared.subject.Subject.{Subject};
 ghost use Rattle.gtd_report.specs.Putting.{PutsText, failures_after_stop, nothing_put};
-ghost use Rattle.gtd_report.specs.Run.{AcceptedFilesArePut, HasRun, IsLineCount, RefusedFilesPutNothing, UnacceptedFilesPutNothing};
+ghost use Rattle.gtd_report.specs.Run.{AcceptedFilesArePut, HasRun, IsLineCount};
+ghost use Rattle.gtd_report.specs.Run.{RefusedFilesPutNothing, UnacceptedFilesPutNothing};
 ghost use Rattle.gtd_report.specs.Run.{failures_after_read, failures_after_write, IsAccepted, IsVehicleInRange, IsYearInRange};
 
 use crate::fault::RunFault;

@@ -78,7 +78,8 @@ pub year_read : (file element direction vehicle year path : Text) (e : ℕ) (d :
     → AreTableWords element direction vehicle year e d v y → path ≡ file
     → Gives (table.reading (file ∷ element ∷ direction ∷ vehicle ∷ year ∷ [])) (Year path e d v y)
 year_read file element direction vehicle year path e d v y are same =
-    (e, are.element_read, (d, are.direction_read, (v, are.vehicle_read, (y, are.year_read, ap (λ (p : Text). Year p e d v y) same))))
+    let asked = ap (λ (p : Text). Year p e d v y) same in
+    (e, are.element_read, (d, are.direction_read, (v, are.vehicle_read, (y, are.year_read, asked))))
 
 pub read_ok : (reading : Option Reading) (r : Result Plan Refusal) → IsReadTo reading r
     → IfOk r (λ plan. Gives reading (asked_by plan))

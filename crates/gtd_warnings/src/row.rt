@@ -117,9 +117,9 @@ fn told_of_domain(
     Ok(told)
 }
 
-/// What is told of the row with this number, in order: of the parts of its domain; whether that never or always holds; and whether
-/// it is over. A row counts if it has four fields and the last is a time domain, whatever the others hold. `AllocError` is answered
-/// only if memory was refused.
+/// What is told of the row with this number, in order: of the parts of its domain; whether that never or always holds; and
+/// whether it is over. A row counts if it has four fields and the last is a time domain, whatever the others hold.
+/// `AllocError` is answered only if memory was refused.
 pub fn told_of_row(
     alloc: Global,
     asked: &Asked,

@@ -16,6 +16,6 @@ returns c =
       alone = λ denied all.
           not-both c.in_ok-within.within denied
           (c.in_ok-within.ensures.within.1
-          (narrowed (InDomain c.args.domain.now) (InDomain c.args.other.now) first_begin (whole days).from (whole days).until last_end
-          (omega (arith, ints, early)) (omega (arith, ints, late)) all));
+          (narrowed (InDomain c.args.domain.now) (InDomain c.args.other.now) first_begin (whole days).from (whole days).until
+          last_end (omega (arith, ints, early)) (omega (arith, ints, late)) all));
     }

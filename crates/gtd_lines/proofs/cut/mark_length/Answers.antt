@@ -2,7 +2,10 @@
 use Rattle.std.proofs.Common.{arith}
 use Rattle.gtd_lines.proofs.PlaceFacts.{marked, unmarked}
 use Rattle.gtd_lines.proofs.cut.mark_length.Goals as goal
-use Rattle.gtd_lines.proofs.cut.mark_length.Goals.{else-bytes-ge3-via-then-bytes-ge3+then-bytes+then-bytes-2+else-bytes-3, else-bytes-ge3-via-then-bytes-ge3+then-bytes+else-bytes-2, else-bytes-ge3-via-then-bytes-ge3+else-bytes, else-bytes-ge3-via-else-bytes-ge3}
+use Rattle.gtd_lines.proofs.cut.mark_length.Goals.{else-bytes-ge3-via-then-bytes-ge3+then-bytes+then-bytes-2+else-bytes-3}
+use Rattle.gtd_lines.proofs.cut.mark_length.Goals.{else-bytes-ge3-via-then-bytes-ge3+then-bytes+else-bytes-2}
+use Rattle.gtd_lines.proofs.cut.mark_length.Goals.{else-bytes-ge3-via-then-bytes-ge3+else-bytes}
+use Rattle.gtd_lines.proofs.cut.mark_length.Goals.{else-bytes-ge3-via-else-bytes-ge3}
 
 pub returns-then-bytes-3-clause-rest : goal.returns-then-bytes-3-clause-rest
 returns-then-bytes-3-clause-rest c = marked c.args.bytes.now (omega arith) (omega arith) (omega arith) (omega arith)

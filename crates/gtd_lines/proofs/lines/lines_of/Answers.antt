@@ -12,8 +12,8 @@ pub loop-place-preserved : goal.loop-place-preserved
 loop-place-preserved c =
     let so_far = c.loop-place.invariant in
     rw (c.in_ok-push.ensures.items)
-    (more_lines c.args.bytes.now c.loop-place.lines.items c.loop-place.place c.next-place-in-loop-place.result so_far (omega arith)
-    (c.next-place-in-loop-place.ensures.place (length c.loop-place.lines.items + 1) so_far.here))
+    (more_lines c.args.bytes.now c.loop-place.lines.items c.loop-place.place c.next-place-in-loop-place.result so_far
+    (omega arith) (c.next-place-in-loop-place.ensures.place (length c.loop-place.lines.items + 1) so_far.here))
 
 pub returns : goal.returns
 returns c = record {

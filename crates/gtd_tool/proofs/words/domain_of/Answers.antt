@@ -28,5 +28,6 @@ returns-in-Ok-clause-read c = record {
 pub returns-in-Err-clause-stopped : goal.returns-in-Err-clause-stopped
 returns-in-Err-clause-stopped c =
     stopped_by _ c.in-Err.fault _
-    (subst (λ (t : Text). (c.in-Err.fault ≡ no_memory) ⊎ IsFault t c.in-Err.fault) c.as_bytes.ensures.value c.in-Err.ensures.fault)
+    (subst (λ (t : Text). (c.in-Err.fault ≡ no_memory) ⊎ IsFault t c.in-Err.fault) c.as_bytes.ensures.value
+    c.in-Err.ensures.fault)
     c.text_refusal.ensures

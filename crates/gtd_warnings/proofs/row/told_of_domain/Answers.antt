@@ -12,4 +12,5 @@ returns-clause-told c =
 pub returns-clause-rows : goal.returns-clause-rows
 returns-clause-rows c =
     let made = c.in_ok-push_told_of.ensures in
-    rw (made.2, c.new-told.ensures.items) (told_rows c.args.number c.args.asked.now (Some (domain_tree c.args.domain.now)) made.0 made.1)
+    rw (made.2, c.new-told.ensures.items)
+    (told_rows c.args.number c.args.asked.now (Some (domain_tree c.args.domain.now)) made.0 made.1)

@@ -10,6 +10,6 @@ returns c =
     let mark = c.mark_length-mark.result in
     let rest = rw (slice-end bytes mark) at c.line_ends.ensures.rest in
     record {
-      place = first_place bytes mark c.line_ends.result (c.line_feeds.result + 1) c.mark_length-mark.ensures.rest (omega arith) rest
-          (ap (λ (n : ℕ). n + 1) c.line_feeds.ensures.count);
+      place = first_place bytes mark c.line_ends.result (c.line_feeds.result + 1) c.mark_length-mark.ensures.rest (omega arith)
+          rest (ap (λ (n : ℕ). n + 1) c.line_feeds.ensures.count);
     }

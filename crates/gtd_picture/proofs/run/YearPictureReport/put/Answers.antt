@@ -36,7 +36,8 @@ returns-in_err-put_picture-clause-puts g c =
     let kind = IsPicture set it.title.now (codes "open") (codes "closed") it.year in
     let days = c.days_of_year in
     let taken = g.O.Output.taken in
-    rw (r.1) (text_seen set it.year kind (λ crowded. let k = c.in_ok-is_open_crowded.ensures.crowded.1 crowded in search (rules, k))
+    rw (r.1) (text_seen set it.year kind
+    (λ crowded. let k = c.in_ok-is_open_crowded.ensures.crowded.1 crowded in search (rules, k))
     (Err r.0) (taken c.args.output.now) (taken c.put_picture.new.output) c.args.printer.now.progress
     c.put_picture.new.printer.progress
     (picture_there set days.result (cursor_list c.in_ok-open.open) it.year c.in_ok-open.ensures.seconds
