@@ -1,5 +1,6 @@
 -- How long the lines of changes are.
-use Rattle.std.proofs.Common.{◌≡◌, ◌<◌, ◌≤◌, ◌^◌, ap, arith, ℕ, Bool, false, List, ◌++◌, length, length-append, append_assoc, subst, sym}
+use Rattle.std.proofs.Common.{◌≡◌, ◌<◌, ◌≤◌, ◌^◌, ap, arith, ℕ, Bool, false, List, ◌++◌, length, length-append, append_assoc}
+use Rattle.std.proofs.Common.{subst, sym}
 use Rattle.std.specs.Prelude.{codes}
 use Rattle.std.proofs.lemmas.Fmt.{length-decimal-le}
 use Rattle.gtd_records.specs.Closing.{Restriction}

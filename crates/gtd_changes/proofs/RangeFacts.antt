@@ -173,8 +173,14 @@ module _ (old new old_low old_high new_low new_high : List Restriction) (k vehic
   low_alike : (n : ℕ) → n < k → (direction : Direction) → CloseAlike old_low new_low old new vehicle horizon n direction
   low_alike n lt direction t =
       let P = Closes n direction vehicle t in (
-        (low_found old old_low old_high olds k old_split P, found_low old old_low old_high olds k old_split P n lt (λ r c. c.names)),
-        (low_found new new_low new_high news k new_split P, found_low new new_low new_high news k new_split P n lt (λ r c. c.names)),
+        (
+          low_found old old_low old_high olds k old_split P,
+          found_low old old_low old_high olds k old_split P n lt (λ r c. c.names),
+        ),
+        (
+          low_found new new_low new_high news k new_split P,
+          found_low new new_low new_high news k new_split P n lt (λ r c. c.names),
+        ),
       )
 
   high_alike : (n : ℕ) → k ≤ n → (direction : Direction) → CloseAlike old_high new_high old new vehicle horizon n direction

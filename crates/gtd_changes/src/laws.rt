@@ -28,8 +28,8 @@ pub fn nothing_changed()
         HaveSameRows old new → IsTextIn form old new vehicle horizon (header_in form ∷ []) }
 {}
 
-/// Files that are cut into ranges of elements have their intervals in parts: the intervals of the elements below a number, followed
-/// by those of the others, are the intervals of all. The rows may stand in the parts in any order.
+/// Files that are cut into ranges of elements have their intervals in parts: the intervals of the elements below a number,
+/// followed by those of the others, are the intervals of all. The rows may stand in the parts in any order.
 pub fn changes_of_ranges()
     ensures two { (old new old_low old_high new_low new_high : List Restriction) (k vehicle : ℕ) (horizon : Horizon)
         (a b : List (List ℕ)) → HaveSameRows old (old_low ++ old_high) → HaveSameRows new (new_low ++ new_high)

@@ -174,8 +174,8 @@ fn row_after<'a>(rows: &'a Rows<'_>, place: usize) -> Option<&'a Record> {
     }
 }
 
-// Whether the new file's record is done with before the old one's, from which it differs: in the order of rows, if the record after
-// it is the old one's; otherwise if its element is less.
+// Whether the new file's record is done with before the old one's, from which it differs: in the order of rows, if the record
+// after it is the old one's; otherwise if its element is less.
 fn is_new_first(one: &Record, two: &Record, after: Option<&Record>) -> bool {
     match after {
         Some(next) => is_same(one, next),
@@ -257,8 +257,9 @@ fn differing_soon(alloc: Global, old: &Records, new: &Records) -> Result<Vec<u64
     differing_by_element(alloc, old, new)
 }
 
-/// The elements of which some row stands in one file and not, in the same place, in the other: in ascending order. Rows are compared
-/// in the order of the files and, where this finds many, among those of their element. All other elements have the same rows.
+/// The elements of which some row stands in one file and not, in the same place, in the other: in ascending order. Rows are
+/// compared in the order of the files and, where this finds many, among those of their element. All other elements have the
+/// same rows.
 pub(crate) fn differing(alloc: Global, old: &Records, new: &Records) -> Result<Vec<u64>, AllocError>
     ensures ascending { IfOk result (λ elements. IsNonDecreasing elements.items) }
     ensures alike { IfOk result (λ elements. AreAlikeBut old.now new.now elements.items) }

@@ -14,7 +14,8 @@ rows_many v number [] found are = let none : found ≡ [] = cc in ap length none
 rows_many v number (row ∷ rows) found are =
     let more = rows_many v (number + 1) rows are.2 are.4 in let all = ap length are.5 in omega (arith, more, all)
 
-table_many : (text : List (List (List ℕ))) (found : List Restriction) → IsTable text (Ok found) → length found ≡ length (drop 1 text)
+table_many : (text : List (List (List ℕ))) (found : List Restriction) → IsTable text (Ok found)
+    → length found ≡ length (drop 1 text)
 table_many text found (inl t) = let many = rows_many t.0 1 t.1 found t.3 in rw (t.2) many
 table_many text found (inr t) = absurd (cc (t.1))
 
@@ -23,7 +24,8 @@ file_many : (bytes : List ℕ) (found : List Restriction) → IsFile bytes (Ok f
 file_many bytes found (inl f) = table_many (records default_config (strip_bom bytes)) found f.1
 file_many bytes found (inr f) = absurd (cc (f.1))
 
-pub line_of_row : (bytes lines : List ℕ) (found : List Restriction) (row : ℕ) → IsFile bytes (Ok found) → AreLinesOfRows bytes lines
+pub line_of_row : (bytes lines : List ℕ) (found : List Restriction) (row : ℕ) → IsFile bytes (Ok found)
+    → AreLinesOfRows bytes lines
     → 0 < row → row ≤ length found → IsLine bytes row (row_line lines row)
 line_of_row bytes lines found row file are more few =
     let many = file_many bytes found file in

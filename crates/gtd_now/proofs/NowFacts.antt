@@ -1,5 +1,6 @@
 -- A query has one text.
-use Rattle.std.proofs.Common.{◌≡◌, ◌∙◌, sym, ap, refl, subst, ℕ, Bool, true, false, true≢false, List, [], ◌∷◌, inl, inr, Option, Some, None}
+use Rattle.std.proofs.Common.{◌≡◌, ◌∙◌, sym, ap, refl, subst, ℕ, Bool, true, false, true≢false, List, [], ◌∷◌, inl, inr, Option}
+use Rattle.std.proofs.Common.{Some, None}
 use Rattle.std.specs.Prelude.{◌↔◌, IfOk, IfSome, IsTrue, Result, Ok, Err, ⊤}
 use Rattle.gtd_core.specs.Seconds.{IsHorizonSecond}
 use Rattle.gtd_core.specs.facts.Deciding.{Decided}
@@ -19,7 +20,8 @@ use Rattle.gtd_report.specs.facts.SomeElements.{some_by_element}
 use Rattle.gtd_states.specs.States.{State}
 use Rattle.gtd_states.specs.facts.OneState.{one_state}
 use Rattle.gtd_states.specs.facts.SomeState.{some_state}
-use Rattle.gtd_now.specs.Now.{AreEntries, AreToldLines, IsEntry, IsNow, IsNowOf, IsShown, IsShownNow, entry_in, header_of, is_wanted}
+use Rattle.gtd_now.specs.Now.{AreEntries, AreToldLines, IsEntry, IsNow, IsNowOf, IsShown, IsShownNow, entry_in}
+use Rattle.gtd_now.specs.Now.{header_of, is_wanted}
 use Rattle.gtd_now.specs.Query.{Query}
 use Rattle.gtd_now.specs.Run.{TellsVehicle, entries_of}
 use Rattle.gtd_now.specs.declared.shown.Shown.{Shown}
@@ -64,7 +66,8 @@ module _ (lines : List ℕ) (found : List Restriction) (query : Query) where
   shown_or_not true true (inr never) = inl (refl, (λ h. never))
 
   -- the entry of an element whose entry is put, or is not
-  by_choice : IsHorizonSecond query.second → (element : ℕ) (direction : Direction) → Decided (IsShown found query element direction)
+  by_choice : IsHorizonSecond query.second → (element : ℕ) (direction : Direction)
+      → Decided (IsShown found query element direction)
       → (entries : List (List ℕ)) × AreEntries lines found query element direction entries
   by_choice range element direction (inl shows) =
       let entry = some_entry range element direction in (entry.0 ∷ [], AreEntries.shown shows entry.0 entry.1 refl)

@@ -10,7 +10,8 @@ use Rattle.gtd_records.specs.declared.direction.Direction.{Direction}
 use Rattle.gtd_states.specs.States.{State}
 use Rattle.gtd_now.specs.Reasons.{row_domain, row_line}
 
-pub rows_tokens : (rows : List ℕ) → items_tokens (row_items rows) ≡ flat_map (λ row. number (decimal row) ∷ []) rows ++ (end_array ∷ [])
+pub rows_tokens : (rows : List ℕ) → items_tokens (row_items rows)
+    ≡ flat_map (λ row. number (decimal row) ∷ []) rows ++ (end_array ∷ [])
 rows_tokens [] = refl
 rows_tokens (row ∷ rows) = ap (λ (ts : List Token). number (decimal row) ∷ ts) (rows_tokens rows)
 
@@ -26,10 +27,12 @@ module _ (why : Bool) (lines : List ℕ) (found : List Restriction) (element : �
   by_change : (is_open : Bool) (change : Option ℤ) (rows : List ℕ) (state : State)
       → state ≡ record { is_open = is_open; change = change; rows = rows }
       → json_tokens (state_value why lines found element direction vehicle state)
-      ≡ (begin_object ∷ []) ++ (subject_tokens element direction vehicle ++ (state_tokens state ++ members_tokens (why_members why lines found state.rows)))
+      ≡ (begin_object ∷ []) ++ (subject_tokens element direction vehicle ++ (state_tokens state
+      ++ members_tokens (why_members why lines found state.rows)))
   by_change is_open None rows state e = rw e refl
   by_change is_open (Some second) rows state e = rw e refl
 
   pub object_tokens : (state : State) → json_tokens (state_value why lines found element direction vehicle state)
-      ≡ (begin_object ∷ []) ++ (subject_tokens element direction vehicle ++ (state_tokens state ++ members_tokens (why_members why lines found state.rows)))
+      ≡ (begin_object ∷ []) ++ (subject_tokens element direction vehicle ++ (state_tokens state
+      ++ members_tokens (why_members why lines found state.rows)))
   object_tokens state = by_change state.is_open state.change state.rows state refl

@@ -1,5 +1,6 @@
 -- The text of an object reads as that object.
-use Rattle.std.proofs.Common.{◌≡◌, arith, ◌<◌, ◌≤◌, ◌-◌, ◌^◌, get_or, ℕ, zero, suc, Bool, true, false, List, [], ◌∷◌, Option, Some, None}
+use Rattle.std.proofs.Common.{◌≡◌, arith, ◌<◌, ◌≤◌, ◌-◌, ◌^◌, get_or, ℕ, zero, suc, Bool, true, false, List, [], ◌∷◌, Option}
+use Rattle.std.proofs.Common.{Some, None}
 use Rattle.std.proofs.Math.Nat.{max-le}
 use Rattle.std.specs.Prelude.{ℤ, codes, decimal}
 use Rattle.gtd_records.specs.Closing.{Restriction}
@@ -80,7 +81,19 @@ module _ (why : Bool) (lines : List ℕ) (found : List Restriction) (element : �
       → HasNumbers (state_value why lines found element direction vehicle state)
   numbers small type places rows = (
     IsNumber-decimal element small,
-    (tt, (IsNumber-decimal vehicle type, (tt, (change_numbers state.change, (row_numbers state.rows rows, why_numbers why lines found state.rows places rows))))),
+    (
+      tt,
+      (
+        IsNumber-decimal vehicle type,
+        (
+          tt,
+          (
+            change_numbers state.change,
+            (row_numbers state.rows rows, why_numbers why lines found state.rows places rows),
+          ),
+        ),
+      ),
+    ),
   )
 
   inside : depth (state_value why lines found element direction vehicle state) ≤ 3
@@ -91,7 +104,8 @@ module _ (why : Bool) (lines : List ℕ) (found : List Restriction) (element : �
       let m4 = member (codes "state") (string (state_word state.is_open)) m3 in
       let m5 = member (codes "vehicle") (number (decimal vehicle)) m4 in
       let m6 = member (codes "direction") (string (direction_word direction)) m5 in
-      let d2 = deeper (codes "rows") (array (row_items state.rows)) m1 (list_depth state.rows) (why_depth why lines found state.rows) in
+      let d2 = deeper (codes "rows") (array (row_items state.rows)) m1 (list_depth state.rows)
+      (why_depth why lines found state.rows) in
       let d3 = deeper (codes "until") (change_value state.change) m2 (change_depth state.change) d2 in
       let d4 = deeper (codes "state") (string (state_word state.is_open)) m3 (omega arith) d3 in
       let d5 = deeper (codes "vehicle") (number (decimal vehicle)) m4 (omega arith) d4 in
@@ -104,4 +118,5 @@ module _ (why : Bool) (lines : List ℕ) (found : List Restriction) (element : �
       ≡ Some (state_value why lines found element direction vehicle state)
   read_back small type places rows =
       let deep = inside in
-      document-print (state_value why lines found element direction vehicle state) (numbers small type places rows) (omega (arith, deep))
+      document-print (state_value why lines found element direction vehicle state) (numbers small type places rows)
+      (omega (arith, deep))

@@ -44,8 +44,8 @@ abbrev pub AreToldLines : Bool → List ℕ → List ℕ → Type 0
 AreToldLines false bytes lines = lines ≡ []
 AreToldLines true bytes lines = AreLinesOfRows bytes lines
 
--- An element in a direction is printed: it is one of the elements that are asked about and, where closed ones alone are, it is not
--- open.
+-- An element in a direction is printed: it is one of the elements that are asked about and, where closed ones alone are, it is
+-- not open.
 abbrev pub IsShown : List Restriction → Query → ℕ → Direction → Type 0
 IsShown found query element direction =
     IsTrue (is_wanted query.wanted element)

@@ -39,7 +39,8 @@ pub fn told_lines()
 
 /// A line of JSON, without its line feed, is the text of one value by the grammar of RFC 8259: that of the state.
 pub fn reads_back()
-    ensures value { (why : Bool) (lines : List ℕ) (found : List Restriction) (element : ℕ) (direction : Direction) (vehicle : ℕ) (state : State)
+    ensures value { (why : Bool) (lines : List ℕ) (found : List Restriction) (element : ℕ) (direction : Direction)
+        (vehicle : ℕ) (state : State)
         → element < 2 ^ 64 → vehicle < 2 ^ 64 → AreRowNumbers lines → AreRowNumbers state.rows
         → document (print (json_tokens (state_value why lines found element direction vehicle state)))
         ≡ Some (state_value why lines found element direction vehicle state) }

@@ -1,5 +1,5 @@
-//! The state of the road elements of a record file at a moment: open or closed, until when, and by which rows; of all elements, or
-//! of some of them. As lines of fields, as JSON, or in columns for a screen.
+//! The state of the road elements of a record file at a moment: open or closed, until when, and by which rows; of all elements,
+//! or of some of them. As lines of fields, as JSON, or in columns for a screen.
 #![tactic(auto)]
 
 pub use asked::{Asked, Form};

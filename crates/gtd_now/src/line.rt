@@ -51,7 +51,8 @@ pub(crate) fn push_rows(line: &mut Vec<u8>, rows: &[usize]) -> Result<(), AllocE
 
 // Appends what a line begins with.
 fn push_head(line: &mut Vec<u8>, entry: &Entry<'_>) -> Result<(), AllocError>
-    ensures head { OnOk result (line.new.items ≡ line.old.items ++ state_head entry.now.at.element entry.now.at.direction entry.now.vehicle) }
+    ensures head { OnOk result (line.new.items ≡ line.old.items
+        ++ state_head entry.now.at.element entry.now.at.direction entry.now.vehicle) }
 {
     line.extend_from_slice(Buffer::new().format(entry.at.element).as_bytes())?;
     line.extend_from_slice(b",")?;

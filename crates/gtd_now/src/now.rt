@@ -25,7 +25,8 @@ use std::alloc::{AllocError, Global};
 // No memory holds an entry of so many bytes: the bound keeps the count of all bytes within its type.
 const MOST_ENTRY_BYTES: usize = 1_009_829_376_000;
 
-/// What is shown of a file: what is asked about, and the lines that are told of its rows, which are none if the rows are not told.
+/// What is shown of a file: what is asked about, and the lines that are told of its rows, which are none if the rows are not
+/// told.
 #[derive(Clone, Copy)]
 pub(crate) struct View<'a> {
     pub(crate) asked: Asked<'a>,
@@ -118,7 +119,8 @@ fn write_entry(
     view: &View<'_>,
 ) -> Result<(), AllocError>
     requires in_range { IsHorizonSecond view.now.asked.second.0 }
-    ensures entry { OnOk result (IsEntry view.now.lines.now found.now (query_of view.now.asked) at.element at.direction line.new.items) }
+    ensures entry { OnOk result (IsEntry view.now.lines.now found.now (query_of view.now.asked)
+        at.element at.direction line.new.items) }
     ensures short { OnOk result (length line.new.items ≤ most_direction_bytes) }
 {
     let vehicle = view.asked.vehicle;

@@ -160,7 +160,8 @@ fn write_reasons(
 ) -> Result<(), AllocError>
     ensures before { out.new.before ≡ out.old.before }
     ensures tokens { OnOk result (out.new.tokens ≡ out.old.tokens
-        ++ flat_map (λ row. json_tokens (reason_value (row_line rows.now.lines.now row) row (row_domain rows.now.records.now row)))
+        ++ flat_map (λ row. json_tokens (reason_value (row_line rows.now.lines.now row) row
+        (row_domain rows.now.records.now row)))
         closing.now) }
 {
     for row in closing {

@@ -42,7 +42,8 @@ fn push_left(line: &mut Vec<u8>, width: usize, text: &[u8]) -> Result<(), AllocE
 
 // Appends the column of a change.
 fn push_until(line: &mut Vec<u8>, state: &ElementState) -> Result<(), AllocError>
-    ensures { OnOk result (line.new.items ≡ line.old.items ++ (left 19 (change_shown (state_of state.now).change) ++ codes "  ")) }
+    ensures { OnOk result (line.new.items ≡ line.old.items
+        ++ (left 19 (change_shown (state_of state.now).change) ++ codes "  ")) }
 {
     match state.change {
         Some(second) => push_left(line, 19, &write_stamp(second)),

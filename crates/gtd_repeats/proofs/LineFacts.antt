@@ -59,7 +59,8 @@ of_rows rows (suc n) count findings le h =
     (text_more rows n count (with_finding h.0 h.1) h.2 few h.5
     (row_more rows n count h.0 h.1 few h.4 (of_rows rows n count h.0 (omega (arith, le)) h.3)))
 
-rows_count : (v : Version) (number : ℕ) (rows : List (List (List ℕ))) (found : List Restriction) → AreRows v number rows (Ok found)
+rows_count : (v : Version) (number : ℕ) (rows : List (List (List ℕ))) (found : List Restriction)
+    → AreRows v number rows (Ok found)
     → length found ≡ length rows
 rows_count v number [] found are = let e : found ≡ [] = cc in ap length e
 rows_count v number (row ∷ rows) found are =
@@ -91,7 +92,8 @@ of_row_at count (x ∷ findings) zero d inside h = (h.0, h.1)
 of_row_at count (x ∷ findings) (suc at) d inside h = of_row_at count findings at d (omega (arith, inside)) h.2
 
 -- the line of a row
-pub line_of_row : (bytes lines : List ℕ) (row at : ℕ) → AreLinesOfRows bytes lines → 0 < row → row ≤ row_count bytes → row ≡ at + 1
+pub line_of_row : (bytes lines : List ℕ) (row at : ℕ) → AreLinesOfRows bytes lines → 0 < row → row ≤ row_count bytes
+    → row ≡ at + 1
     → IsLine bytes row (get_or lines at 0)
 line_of_row bytes lines row at are some le e =
     let all = are.all in

@@ -36,7 +36,10 @@ one_sum a b from until m n begun ended same x y =
     let back : HoldSame b a = λ t in_range. ((same t in_range).1, (same t in_range).0) in
     let e : x.0 ≡ y.0 =
     one-list x.0 y.0 (normal-of (HoldsAt a) from until x.0 x.1) (normal-of (HoldsAt b) from until y.0 y.1)
-    (λ t. (one_way a b from until x.0 y.0 begun ended same x.1 y.1 t, one_way b a from until y.0 x.0 begun ended back y.1 x.1 t)) in
+    (λ t. (
+      one_way a b from until x.0 y.0 begun ended same x.1 y.1 t,
+      one_way b a from until y.0 x.0 begun ended back y.1 x.1 t,
+    )) in
     x.2 ∙ ap sum_of e ∙ sym (y.2)
 
 -- numbers that are one sum, or else are the same

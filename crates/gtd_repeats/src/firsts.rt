@@ -112,7 +112,8 @@ fn first_of<L: Likeness>(
     ensures many { length buckets.new.items ≡ 4093 }
     ensures first { (numbers : List ℕ) → IsLikeness (L.alike rows.now) → ShareNumbers (L.alike rows.now) numbers
         → AreSoFar (L.alike rows.now) numbers firsts.now buckets.old.items
-        → get_or numbers asked.entry.row 0 ≡ asked.entry.number → L.alike rows.now asked.known asked.entry.row → asked.known ≤ asked.entry.row
+        → get_or numbers asked.entry.row 0 ≡ asked.entry.number → L.alike rows.now asked.known asked.entry.row
+        → asked.known ≤ asked.entry.row
         → IfOk result (λ first. IsFirst (L.alike rows.now) asked.entry.row first
         × AreSoFar (L.alike rows.now) numbers firsts.now buckets.new.items
         × IsListed buckets.new.items (get_or numbers first 0) first) }

@@ -11,8 +11,8 @@ use gtd_records::Records;
 use gtd_report::DirectedElement;
 use std::alloc::{AllocError, Global};
 
-/// The state of an element in a direction, for a vehicle type from 1 to 99, at a second, which must be on a day that a horizon may
-/// have. `AllocError` is answered only if memory was refused.
+/// The state of an element in a direction, for a vehicle type from 1 to 99, at a second, which must be on a day that a horizon
+/// may have. `AllocError` is answered only if memory was refused.
 pub fn state_at(
     alloc: Global,
     found: &Records,

@@ -1,10 +1,11 @@
 //! `gtdesk` prints, for people, which elements of a record file are closed at a moment and by which rows, lists the rows of
-//! a file that are at fault, says in plain English and in opening hours when a time domain holds, compares two time domains or record files, makes
-//! record files of files of opening hours, and draws pictures of a year.
+//! a file that are at fault, says in plain English and in opening hours when a time domain holds, compares two time domains or
+//! record files, makes record files of files of opening hours, and draws pictures of a year.
 //!
 //! It writes its answer to standard output and ends with status 0, or 1 if it listed faults, or 4 if the two differ; faults of
-//! a file of opening hours go to standard error. Or it writes one line to standard error, with the text at fault below it, and ends with the status of its refusal: 1 if the input is refused,
-//! 2 for usage, 3 if opening, reading, writing or memory failed.
+//! a file of opening hours go to standard error. Or it writes one line to standard error, with the text at fault below it, and
+//! ends with the status of its refusal: 1 if the input is refused, 2 for usage, 3 if opening, reading, writing or memory
+//! failed.
 #![tactic(auto)]
 
 use gtd_devices::{Host, HostOut, InputFault, read_whole};

@@ -20,7 +20,8 @@ old_ending : (b : Bool) (n : ℕ) → n ≡ failures_after_old (ending_of b) n
 old_ending true n = refl
 old_ending false n = refl
 
-pub diff_old : (answer : Result ℕ ChangesFault) (n : ℕ) → runs.failures_after_old answer n ≡ failures_after_old (diff_outcome answer) n
+pub diff_old : (answer : Result ℕ ChangesFault) (n : ℕ) → runs.failures_after_old answer n
+    ≡ failures_after_old (diff_outcome answer) n
 diff_old (Ok lines) n = old_ending (nat_le lines 1) n
 diff_old (Err (changes.Old records.ReadFault)) n = refl
 diff_old (Err (changes.Old records.Endless)) n = refl
@@ -54,7 +55,8 @@ new_ending : (b : Bool) (n : ℕ) → n ≡ failures_after_new (ending_of b) n
 new_ending true n = refl
 new_ending false n = refl
 
-pub diff_new : (answer : Result ℕ ChangesFault) (n : ℕ) → runs.failures_after_new answer n ≡ failures_after_new (diff_outcome answer) n
+pub diff_new : (answer : Result ℕ ChangesFault) (n : ℕ) → runs.failures_after_new answer n
+    ≡ failures_after_new (diff_outcome answer) n
 diff_new (Ok lines) n = new_ending (nat_le lines 1) n
 diff_new (Err (changes.Old records.ReadFault)) n = refl
 diff_new (Err (changes.Old records.Endless)) n = refl
@@ -88,7 +90,8 @@ write_ending : (b : Bool) (n : ℕ) → n ≡ failures_after_write (ending_of b)
 write_ending true n = refl
 write_ending false n = refl
 
-pub diff_write : (answer : Result ℕ ChangesFault) (n : ℕ) → runs.failures_after_write answer n ≡ failures_after_write (diff_outcome answer) n
+pub diff_write : (answer : Result ℕ ChangesFault) (n : ℕ) → runs.failures_after_write answer n
+    ≡ failures_after_write (diff_outcome answer) n
 diff_write (Ok lines) n = write_ending (nat_le lines 1) n
 diff_write (Err (changes.Old records.ReadFault)) n = refl
 diff_write (Err (changes.Old records.Endless)) n = refl

@@ -60,7 +60,8 @@ now_writes (Err (run.Records records.TooManyRows)) n = refl
 
 -- ---- a refusal before the file is read
 
-module _ (query : Query) (path : List ℕ) (file taken : Option (List ℕ)) (silent ended : Bool) (told : Option (List ℕ)) (failed : ℕ)
+module _ (query : Query) (path : List ℕ) (file taken : Option (List ℕ)) (silent ended : Bool)
+    (told : Option (List ℕ)) (failed : ℕ)
     (result : Result Ending RunRefusal) where
   pub not_vehicle : (IsVehicleType query.vehicle → ⊥) → result ≡ Err (refusal_for run.VehicleRange)
       → RanNow query path file taken taken silent ended (telling told told failed failed) result

@@ -209,4 +209,5 @@ pub unread_picture : (domain : Domain) (title : List ℕ) (year : ℕ) (old new 
     (result : Result Ending RunRefusal) (n : ℕ) → RanDomainPicture domain title year old new ended result
     → n ≡ failures_after_read result n
 unread_picture domain title year old new ended result n ran =
-    unread_run _ old new ran.answer n ran.stands ∙ ap (λ (x : Result Ending RunRefusal). failures_after_read x n) (sym ran.outcome)
+    unread_run _ old new ran.answer n ran.stands
+    ∙ ap (λ (x : Result Ending RunRefusal). failures_after_read x n) (sym ran.outcome)

@@ -65,8 +65,8 @@ fn tell_answer<E: Output>(errors: &mut E, answer: &Result<Translated, Untranslat
     }
 }
 
-/// Prints the record file of the file of hours that the input brings, and warnings of its rows on the output for errors; or lists all
-/// its faults there.
+/// Prints the record file of the file of hours that the input brings, and warnings of its rows on the output for errors; or
+/// lists all its faults there.
 pub(crate) fn print_records<I: Input, O: Output, E: Output>(
     alloc: Global,
     input: &mut I,

@@ -117,7 +117,8 @@ pub(crate) fn print_now<I: Input, O: Output, E: Output>(
     requires readable { I.failure_count input.old < u64.MAX }
     requires writable { O.failure_count output.old < u64.MAX }
     requires tellable { E.failure_count errors.old < u64.MAX }
-    ensures ran { RanNow (query_of turn.entry.asked) turn.entry.path.now (I.to_come input.old) (O.taken output.old) (O.taken output.new)
+    ensures ran { RanNow (query_of turn.entry.asked) turn.entry.path.now (I.to_come input.old)
+        (O.taken output.old) (O.taken output.new)
         (I.may_fall_silent input.old) (O.is_ended output.new)
         (telling (E.taken errors.old) (E.taken errors.new) (E.failure_count errors.old) (E.failure_count errors.new)) result }
     ensures read_faults { I.failure_count input.new

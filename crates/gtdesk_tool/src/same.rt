@@ -3,8 +3,8 @@
 ghost use Rattle.std.specs.Prelude.{◌≡◌, ◌<◌, IfOk};
 ghost use Rattle.gtd_calendar.specs.Calendar.{IsCalendarDay};
 ghost use Rattle.gtd_core.specs.Seconds.{day_of_second};
-ghost use Rattle.gtdesk_tool.specs.Comparing.{HasCompared, IsShown, PutsComparison, apart_line, comparison_ending, comparison_line};
-ghost use Rattle.gtdesk_tool.specs.Comparing.{side_word, with_ending};
+ghost use Rattle.gtdesk_tool.specs.Comparing.{HasCompared, IsShown, PutsComparison, apart_line, comparison_ending};
+ghost use Rattle.gtdesk_tool.specs.Comparing.{comparison_line, side_word, with_ending};
 ghost use Rattle.gtdesk_tool.specs.Running.{failures_after_write};
 
 use crate::ending::Ending;

@@ -142,7 +142,8 @@ first_closed b (Opened y ∷ changes) x xs after is = first_closed b changes x x
 tail_same : (x y : Interval) (xs ys : List Interval) → x ∷ xs ≡ y ∷ ys → (x ≡ y) × (xs ≡ ys)
 tail_same x y xs ys e = (cc, cc)
 
-pub one_order : (a b : List Change) → BeginInTurn a → BeginInTurn b → opened_in a ≡ opened_in b → closed_in a ≡ closed_in b → a ≡ b
+pub one_order : (a b : List Change) → BeginInTurn a → BeginInTurn b → opened_in a ≡ opened_in b
+    → closed_in a ≡ closed_in b → a ≡ b
 one_order [] [] p q o c = refl
 one_order [] (Opened y ∷ b) p q o c = absurd cc
 one_order [] (Closed y ∷ b) p q o c = absurd cc

@@ -30,7 +30,8 @@ pub shown : (set : ℤ → Type 0) (s last : ℤ) (o : Option Sec) → IsHorizon
     → MatchOption o (NeverChanges set s (last *ℤ pos 86400)) (λ c. IsNextChange set s (last *ℤ pos 86400) c.0)
     → (c : Sec) → o ≡ Some c → IsCalendarDay (day_of_second c.0)
 shown set s last o range end h c e =
-    let k : MatchOption (Some c) (NeverChanges set s (last *ℤ pos 86400)) (λ (d : Sec). IsNextChange set s (last *ℤ pos 86400) d.0)
+    let k : MatchOption (Some c) (NeverChanges set s (last *ℤ pos 86400))
+    (λ (d : Sec). IsNextChange set s (last *ℤ pos 86400) d.0)
     = rw e at h in
     change_shown c.0 s last range end k.later k.within
 

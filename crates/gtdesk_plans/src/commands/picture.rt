@@ -4,7 +4,8 @@ ghost use Rattle.std.specs.Prelude.{◌≡◌, IfOk, MatchResult, string_bytes};
 ghost use Rattle.clap.specs.Matches.{found_of};
 ghost use Rattle.clap.specs.Walk.{rows_of};
 ghost use Rattle.gtdesk_plans.specs.Arguments.{Builds};
-ghost use Rattle.gtdesk_plans.specs.Commands.Picture.{Asks, AsksDomain, AreSubject, app, domain_app, domain_words, title_of, words};
+ghost use Rattle.gtdesk_plans.specs.Commands.Picture.{Asks, AsksDomain, AreSubject, app, domain_app, domain_words};
+ghost use Rattle.gtdesk_plans.specs.Commands.Picture.{title_of, words};
 ghost use Rattle.gtdesk_words.specs.Readings.{AreStopped};
 
 use crate::arguments::{Argument, DOMAIN, FILE, VEHICLE, YEAR, command_of};

@@ -1,4 +1,4 @@
--- What is kept of a code once this row names it: after no other row, this one; after one, that several do; after several, the same.
+-- What is kept of a code once this row names it: this row, if no other did; that several do, if one or several did.
 use Rattle.std.proofs.Common.{arith}
 use Rattle.gtd_faults.proofs.NamingFacts.{now_often, now_once, still_often, still_once}
 use Rattle.gtd_faults.proofs.codes.with_row.Goals as goal

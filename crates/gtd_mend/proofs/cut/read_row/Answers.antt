@@ -13,5 +13,6 @@ pub returns-clause-row : goal.returns-clause-row
 returns-clause-row c =
     let text = c.args.text.now in
     let before = c.line_ends-before.result in
-    next_row c.args.separator before c.in_ok-length.field-0 text (fields_of c.read_fields.new.row) c.line_ends-before.ensures.value
+    next_row c.args.separator before c.in_ok-length.field-0 text (fields_of c.read_fields.new.row)
+    c.line_ends-before.ensures.value
     (omega arith) (rw (slice-end text before) at c.in_ok-length.ensures.read)

@@ -7,7 +7,8 @@ use Rattle.gtd_mend.proofs.print.push_body.Goals as goal
 
 pub loop-i-preserved : goal.loop-i-preserved
 loop-i-preserved c =
-    body_more (writer_of c.args.separator) c.args.text.now.items c.loop-i.text.items c.push_next.new.text.items c.in-Some.field.now
+    body_more (writer_of c.args.separator) c.args.text.now.items c.loop-i.text.items c.push_next.new.text.items
+    c.in-Some.field.now
     (fields_of c.args.row.now) c.loop-i.i (omega arith) c.in-Some.ensures.value c.loop-i.invariant c.in_ok-push_next.ensures.text
 
 pub returns-in_default : goal.returns-in_default

@@ -35,9 +35,11 @@ returns-in_err-put_line-clause-puts g c =
     let b = g.O.Output.taken c.put_line.new.output in
     let line = c.as_slice.result.now in
     let e = c.in_err-put_line.ensures in
-    rw (p.1) (texts_of (AreEntries c.args.view.now.lines.now c.args.found.now (query_of c.args.view.now.asked) c.args.at.element c.args.at.direction)
+    rw (p.1) (texts_of (AreEntries c.args.view.now.lines.now c.args.found.now (query_of c.args.view.now.asked)
+    c.args.at.element c.args.at.direction)
     (Err p.0) a b c.args.printer.now.progress c.put_line.new.progress
-    (line ∷ []) (one_entries c.args.view.now.lines.now c.args.found.now (query_of c.args.view.now.asked) c.args.at.element c.args.at.direction)
+    (line ∷ []) (one_entries c.args.view.now.lines.now c.args.found.now (query_of c.args.view.now.asked)
+    c.args.at.element c.args.at.direction)
     (AreEntries.shown (c.is_shown.ensures.0 c.if-not-is_shown.false) line
     (rw (c.as_slice.ensures.value) (c.in_ok-write_entry.ensures.entry)) refl)
     (one_short p.0 line c.in_err-put_line.field-0.0.taken a b c.args.printer.now.progress c.put_line.new.progress e.some.0

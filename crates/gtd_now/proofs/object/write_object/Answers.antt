@@ -14,10 +14,12 @@ returns-clause-tokens c =
     let entry = c.args.entry.now in
     let subject = subject_tokens entry.at.element entry.at.direction entry.vehicle in
     let state = state_tokens (state_of entry.state.now) in
-    let why = members_tokens (why_members c.args.why c.args.rows.now.lines.now c.args.rows.now.records.now entry.state.now.rows.items) in
+    let why = members_tokens (why_members c.args.why c.args.rows.now.lines.now c.args.rows.now.records.now
+    entry.state.now.rows.items) in
     let told : OnOk c.write_why.result (c.write_why.new.out.tokens ≡ c.write_state.new.out.tokens ++ why)
     = rw (c.as_slice.ensures.value) at c.write_why.ensures.tokens in
-    rw (object_tokens c.args.why c.args.rows.now.lines.now c.args.rows.now.records.now entry.at.element entry.at.direction entry.vehicle (state_of entry.state.now))
+    rw (object_tokens c.args.why c.args.rows.now.lines.now c.args.rows.now.records.now
+    entry.at.element entry.at.direction entry.vehicle (state_of entry.state.now))
     (on_ok c.write_why.result _ _
     (λ e. three c.args.out.now.tokens c.begin_object.new.self.tokens c.write_subject.new.out.tokens c.write_why.new.out.tokens
     (begin_object ∷ []) subject (state ++ why)

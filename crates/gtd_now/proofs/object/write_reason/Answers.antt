@@ -16,7 +16,8 @@ returns-clause-tokens c =
     (λ e. three c.args.out.now.tokens c.begin_object.new.self.tokens c.write_number.new.out.tokens c.end_object.new.self.tokens
     (begin_object ∷ []) line (row ++ (text ++ (words ++ (end_object ∷ []))))
     c.in_ok-begin_object.ensures.ok c.in_ok-write_number.ensures.tokens
-    (both c.end_object.new.self.tokens c.write_number-2.new.out.tokens c.write_number.new.out.tokens row (text ++ (words ++ (end_object ∷ [])))
+    (both c.end_object.new.self.tokens c.write_number-2.new.out.tokens c.write_number.new.out.tokens row
+    (text ++ (words ++ (end_object ∷ [])))
     c.in_ok-write_number-2.ensures.tokens
     (three c.write_number-2.new.out.tokens c.write_text.new.out.tokens c.write_text-2.new.out.tokens c.end_object.new.self.tokens
     text words (end_object ∷ []) c.in_ok-write_text.ensures.tokens c.in_ok-write_text-2.ensures.tokens e)))

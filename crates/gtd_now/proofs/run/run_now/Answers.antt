@@ -6,7 +6,8 @@ use Rattle.gtd_now.proofs.run.run_now.Goals as goal
 pub returns-clause-accepted : goal.returns-clause-accepted
 returns-clause-accepted g c = λ vehicle.
     let e = c.run.ensures in
-    accepted_are_put _ _ _ _ _ _ (λ is. e.vehicle.0 (fault_of c.run.result _ is) vehicle) (λ is. e.year (fault_of c.run.result _ is))
+    accepted_are_put _ _ _ _ _ _ (λ is. e.vehicle.0 (fault_of c.run.result _ is) vehicle)
+    (λ is. e.year (fault_of c.run.result _ is))
     e.stands
 
 pub returns-clause-refused : goal.returns-clause-refused

@@ -41,23 +41,28 @@ exact s begins n d s_fits a b e f =
 pub overflow_sub-since : goal.overflow_sub-since
 overflow_sub-since c =
     let m = c.requires.month in
-    let x = exact c.args.second.0 c.args.month.begins m.0 (day_of_month m.0) (search rules) c.requires.day m.1 m.2.begins (few m.0) in
+    let x = exact c.args.second.0 c.args.month.begins m.0 (day_of_month m.0) (search rules) c.requires.day m.1
+    m.2.begins (few m.0) in
     rw (x.0, x.1) (since_fits c.args.second.0 c.args.month.begins m.0 (day_of_month m.0) c.requires.day m.1 m.2.begins (few m.0))
 
 pub returns-clause-day : goal.returns-clause-day
 returns-clause-day c =
     let m = c.requires.month in
-    let x = exact c.args.second.0 c.args.month.begins m.0 (day_of_month m.0) (search rules) c.requires.day m.1 m.2.begins (few m.0) in
+    let x = exact c.args.second.0 c.args.month.begins m.0 (day_of_month m.0) (search rules) c.requires.day m.1
+    m.2.begins (few m.0) in
     let low = rw (x.0, x.1, x.2) at c.if-since-lt0.false in
     let high = rw (x.0, x.1, x.2, c.from-seconds.ensures) at c.if-seconds-since.false in
-    let is = day_is c.args.second.0 c.args.month.begins (c.args.second.0 -ℤ c.args.month.begins) m.0 (day_of_month m.0) c.args.month.seconds m.2.begins refl
+    let is = day_is c.args.second.0 c.args.month.begins (c.args.second.0 -ℤ c.args.month.begins) m.0 (day_of_month m.0)
+    c.args.month.seconds m.2.begins refl
     (omega (arith, signed_arith, low)) (omega (arith, signed_arith, high)) in
     rw (x.0, x.1, x.2) (record { begins = is.0; some = is.1; within = is.2 })
 
 pub returns-clause-clock : goal.returns-clause-clock
 returns-clause-clock c =
     let m = c.requires.month in
-    let x = exact c.args.second.0 c.args.month.begins m.0 (day_of_month m.0) (search rules) c.requires.day m.1 m.2.begins (few m.0) in
+    let x = exact c.args.second.0 c.args.month.begins m.0 (day_of_month m.0) (search rules) c.requires.day m.1
+    m.2.begins (few m.0) in
     let low = rw (x.0, x.1, x.2) at c.if-since-lt0.false in
-    rw (x.0, x.1, x.2) (clock_is c.args.second.0 c.args.month.begins (c.args.second.0 -ℤ c.args.month.begins) m.0 (day_of_month m.0) m.2.begins refl
+    rw (x.0, x.1, x.2) (clock_is c.args.second.0 c.args.month.begins (c.args.second.0 -ℤ c.args.month.begins) m.0
+    (day_of_month m.0) m.2.begins refl
     (omega (arith, signed_arith, low)))

@@ -7,5 +7,6 @@ use Rattle.gtdesk_tool.proofs.performer.print_words.Goals as goal
 
 pub returns-in-Ok-clause-put : goal.returns-in-Ok-clause-put
 returns-in-Ok-clause-put g c =
-    put_as (λ t. t ≡ words_in c.args.plan.now.language (domain_tree c.args.plan.now.domain)) _ _ _ _ _ _ (c.as_str.ensures.value ∙ c.in-Ok.ensures.exact)
+    put_as (λ t. t ≡ words_in c.args.plan.now.language (domain_tree c.args.plan.now.domain)) _ _ _ _ _ _
+    (c.as_str.ensures.value ∙ c.in-Ok.ensures.exact)
     c.print_text.ensures.put

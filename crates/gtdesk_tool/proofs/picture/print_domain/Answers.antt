@@ -6,4 +6,5 @@ use Rattle.gtdesk_tool.proofs.picture.print_domain.Goals as goal
 pub returns-clause-write_faults : goal.returns-clause-write_faults
 returns-clause-write_faults g c =
     handed_on failures_after_write _ _ _ _ _
-    c.put_seen_domain_picture.ensures.write_faults (picture_writes c.put_seen_domain_picture.result _) c.picture_outcome.ensures.value
+    c.put_seen_domain_picture.ensures.write_faults (picture_writes c.put_seen_domain_picture.result _)
+    c.picture_outcome.ensures.value

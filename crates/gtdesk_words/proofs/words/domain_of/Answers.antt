@@ -31,5 +31,6 @@ returns-in-Ok c = record {
 pub returns-in-Err : goal.returns-in-Err
 returns-in-Err c =
     stopped_by _ _ c.in-Err.fault _
-    (subst (λ (t : Text). (c.in-Err.fault ≡ no_memory) ⊎ IsFault t c.in-Err.fault) c.as_bytes.ensures.value c.in-Err.ensures.fault)
+    (subst (λ (t : Text). (c.in-Err.fault ≡ no_memory) ⊎ IsFault t c.in-Err.fault)
+    c.as_bytes.ensures.value c.in-Err.ensures.fault)
     c.text_refusal.ensures

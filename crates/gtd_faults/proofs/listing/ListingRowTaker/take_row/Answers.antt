@@ -1,5 +1,5 @@
--- A row that was read as a record adds no line if warnings are not asked for. The place of another is walked to, and its fault and
--- its warnings are listed.
+-- A row that was read as a record adds no line if warnings are not asked for. The place of another is walked to, and its fault
+-- and its warnings are listed.
 use Rattle.std.proofs.Common.{◌≤◌, ◌++◌, ◌∷◌, [], arith, sym, subst, length, length-append}
 use Rattle.csv.specs.Records.{fields_of}
 use Rattle.gtd_records.specs.ComputedRow.{IsRow}
