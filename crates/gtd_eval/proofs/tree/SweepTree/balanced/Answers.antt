@@ -20,7 +20,8 @@ returns g c =
     sym (ap (λ (l : List (SweepTree g.row.L.Denot g.L.Leaf)). length l) c.in_ok-cursors.ensures.items) in
     let rest = count-of-terms _ _ _ _ _ _ c.len-count.result 0 given (omega (arith, c.len-count.ensures)) none in
     let many : c.len-count.result ≡ length given.terms = omega (arith, rest) in
-    let chain = (chain-of-terms _ _ _ _ _ _ _ _ _ given many c.in_ok-node.ensures.chain).1 in
+    let chain = (chain-of-terms Union (tree_of c.args.expr.now) c.args.horizon _ c.len-count.result _ _ _ c.in_ok-node.node
+    given many c.in_ok-node.ensures.chain).1 in
     record {
       whole = record {
         normal = normal-for (InTree (tree_of c.args.expr.now)) (whole c.args.horizon).from (whole c.args.horizon).until _

@@ -6,7 +6,8 @@ use Rattle.gtd_eval.proofs.tree.SweepTree.push_chain.Goals as goal
 pub invariant_of-push : goal.invariant_of-push
 invariant_of-push g c =
     let given = c.requires.chain in
-    let node = (chain-of-terms _ _ _ _ _ _ _ _ _ given.1 given.2 c.in_ok-node.ensures.chain).1 in
+    let node = (chain-of-terms c.args.inner _ c.args._horizon _ c.args.count _ _ _ c.in_ok-node.node given.1 given.2
+    c.in_ok-node.ensures.chain).1 in
     record {
       sound = node.sound;
       small = omega (arith, chain-nodes _ _ _ _ _ _ _ given.1 node, c.requires.few);
@@ -15,7 +16,8 @@ invariant_of-push g c =
 pub returns : goal.returns
 returns g c = record {
   term = λ op other before given many.
-      let chain = chain-of-terms _ _ _ _ _ _ _ _ _ given many c.in_ok-node.ensures.chain in
+      let chain = chain-of-terms c.args.inner _ c.args._horizon _ c.args.count _ _ _ c.in_ok-node.node given many
+      c.in_ok-node.ensures.chain in
       let node = chain.1 in
       one-term op _ _ _ _ _ _ _ chain.0 c.in_ok-push.ensures.items (chain-in _ _ _ _ _ _ _ given node)
       (chain-nodes _ _ _ _ _ _ _ given node) (node.work ∙ given.total) (λ b. absurd (other b.0))
