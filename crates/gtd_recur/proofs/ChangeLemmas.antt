@@ -218,7 +218,10 @@ held-on p q s until at e r i h before most either =
     let from = h.1.1 in
     let to = h.1.2 in
     let end = most.0 in
-    let up : at <ℤ r = elim either [ inl a ↦ omega (arith, signed_arith, a, is, to) | inr a ↦ omega (arith, signed_arith, a, before) ] in (
+    let up : at <ℤ r = elim either [
+      | inl a ↦ omega (arith, signed_arith, a, is, to)
+      | inr a ↦ omega (arith, signed_arith, a, before)
+    ] in (
       up,
       record {
         low = omega (arith, signed_arith, low, up);

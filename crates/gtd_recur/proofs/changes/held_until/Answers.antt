@@ -30,9 +30,9 @@ loop-at-smaller c =
     let at : FitsSigned w64 c.loop-at.at.0 = search rules in
     let until : FitsSigned w64 c.args.until.0 = search rules in
     let lt : c.loop-at.at.0 <ℤ c.args.until.0 = omega (arith, signed_arith, c.loop-at-test.true, to_z-of_z at, to_z-of_z until) in
-    let on = held-on (start_parts c.args.basic.now.start) (duration_parts c.args.basic.now.duration) c.args.second.0 c.args.until.0
-    c.loop-at.at.0 c.in-Some.end.0 c.earlier-at.result.0 i c.in-Some.ensures.end lt c.earlier-at.ensures.not_later
-    c.earlier-at.ensures.either in
+    let on = held-on (start_parts c.args.basic.now.start) (duration_parts c.args.basic.now.duration) c.args.second.0
+    c.args.until.0 c.loop-at.at.0 c.in-Some.end.0 c.earlier-at.result.0 i c.in-Some.ensures.end lt
+    c.earlier-at.ensures.not_later c.earlier-at.ensures.either in
     less-ahead c.args.until.0 c.loop-at.at.0 c.earlier-at.result.0 on.0 c.earlier-at.ensures.not_later.1
 
 pub loop-at-preserved : goal.loop-at-preserved
@@ -41,9 +41,9 @@ loop-at-preserved c =
     let at : FitsSigned w64 c.loop-at.at.0 = search rules in
     let until : FitsSigned w64 c.args.until.0 = search rules in
     let lt : c.loop-at.at.0 <ℤ c.args.until.0 = omega (arith, signed_arith, c.loop-at-test.true, to_z-of_z at, to_z-of_z until) in
-    let on = held-on (start_parts c.args.basic.now.start) (duration_parts c.args.basic.now.duration) c.args.second.0 c.args.until.0
-    c.loop-at.at.0 c.in-Some.end.0 c.earlier-at.result.0 i c.in-Some.ensures.end lt c.earlier-at.ensures.not_later
-    c.earlier-at.ensures.either in
+    let on = held-on (start_parts c.args.basic.now.start) (duration_parts c.args.basic.now.duration) c.args.second.0
+    c.args.until.0 c.loop-at.at.0 c.in-Some.end.0 c.earlier-at.result.0 i c.in-Some.ensures.end lt
+    c.earlier-at.ensures.not_later c.earlier-at.ensures.either in
     on.1
 
 pub returns : goal.returns

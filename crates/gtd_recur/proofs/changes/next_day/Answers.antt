@@ -20,11 +20,14 @@ returns-then-found-days c =
     let a = i.low in let b = i.order in let d = i.within in
     let low = c.requires.day_in in let high = c.requires.end_in in
     let from = small-day c.loop-days.days.from (omega (arith, signed_arith, a, low)) (omega (arith, signed_arith, b, d, high)) in
-    let until = small-day c.loop-days.days.until (omega (arith, signed_arith, a, b, low)) (omega (arith, signed_arith, d, high)) in
+    let until = small-day c.loop-days.days.until (omega (arith, signed_arith, a, b, low))
+    (omega (arith, signed_arith, d, high)) in
     let h = rw (from.is, until.is) at c.next_begun-found.ensures.first in
     let h0 = h.low in let h1 = h.high in
-    let found = small-day c.next_begun-found.result (omega (arith, signed_arith, h0, a, low)) (omega (arith, signed_arith, h1, d, high)) in
-    let lt : c.next_begun-found.result <ℤ c.loop-days.days.until = omega (arith, signed_arith, c.if-found-days.true, found, until) in
+    let found = small-day c.next_begun-found.result (omega (arith, signed_arith, h0, a, low))
+    (omega (arith, signed_arith, h1, d, high)) in
+    let lt : c.next_begun-found.result <ℤ c.loop-days.days.until =
+    omega (arith, signed_arith, c.if-found-days.true, found, until) in
     rw (found.is) (record { first = searched-to _ _ _ _ _ _ i h lt })
 
 pub loop-days-smaller : goal.loop-days-smaller
@@ -35,7 +38,8 @@ loop-days-smaller c =
     let a = i.low in let b = i.order in let d = i.within in
     let low = c.requires.day_in in let high = c.requires.end_in in
     let from = small-day c.loop-days.days.from (omega (arith, signed_arith, a, low)) (omega (arith, signed_arith, b, d, high)) in
-    let until = small-day c.loop-days.days.until (omega (arith, signed_arith, a, b, low)) (omega (arith, signed_arith, d, high)) in
+    let until = small-day c.loop-days.days.until (omega (arith, signed_arith, a, b, low))
+    (omega (arith, signed_arith, d, high)) in
     let more : c.loop-days.days.from <ℤ c.args.end = omega (arith, signed_arith, c.loop-days-test.true, from, end) in
     let some = i.some more in
     let run = rw (until.is, end) at c.next_days-days-in-loop-days.ensures.run in
@@ -51,10 +55,12 @@ loop-days-preserved c =
     let a = i.low in let b = i.order in let d = i.within in
     let low = c.requires.day_in in let high = c.requires.end_in in
     let from = small-day c.loop-days.days.from (omega (arith, signed_arith, a, low)) (omega (arith, signed_arith, b, d, high)) in
-    let until = small-day c.loop-days.days.until (omega (arith, signed_arith, a, b, low)) (omega (arith, signed_arith, d, high)) in
+    let until = small-day c.loop-days.days.until (omega (arith, signed_arith, a, b, low))
+    (omega (arith, signed_arith, d, high)) in
     let h = rw (from.is, until.is) at c.next_begun-found.ensures.first in
     let h0 = h.low in let h1 = h.high in
-    let found = small-day c.next_begun-found.result (omega (arith, signed_arith, h0, a, low)) (omega (arith, signed_arith, h1, d, high)) in
+    let found = small-day c.next_begun-found.result (omega (arith, signed_arith, h0, a, low))
+    (omega (arith, signed_arith, h1, d, high)) in
     let past : c.loop-days.days.until ≤ℤ c.next_begun-found.result =
     omega (arith, signed_arith, c.if-found-days.false, found, until) in
     rw (day, end) (searched-on _ _ _ _ _ _ _ _ i h past (rw (until.is, end) at c.next_days-days-in-loop-days.ensures.run))
@@ -67,6 +73,7 @@ returns c =
     let a = i.low in let b = i.order in let d = i.within in
     let low = c.requires.day_in in let high = c.requires.end_in in
     let from = small-day c.loop-days.days.from (omega (arith, signed_arith, a, low)) (omega (arith, signed_arith, b, d, high)) in
-    let until = small-day c.loop-days.days.until (omega (arith, signed_arith, a, b, low)) (omega (arith, signed_arith, d, high)) in
+    let until = small-day c.loop-days.days.until (omega (arith, signed_arith, a, b, low))
+    (omega (arith, signed_arith, d, high)) in
     let past : c.args.end ≤ℤ c.loop-days.days.from = omega (arith, signed_arith, c.loop-days-test.false, from, end) in
     rw (end) (record { first = searched-end _ _ _ _ _ i past })

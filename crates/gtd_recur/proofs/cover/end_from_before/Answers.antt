@@ -35,7 +35,8 @@ returns c =
     let f : FitsSigned w64 c.first_look-look.result.first = search rules in
     let is = rw (to_z-of_z f) at c.end_from_day.ensures.end in
     record {
-      end = or-none (λ e. IsStretchEnd c.args.start.now (duration_parts c.args.duration.now) c.args.second.0 e.0) c.end_from_day.result
-          (λ none held. none (held-from-last c.args.start.now (duration_parts c.args.duration.now) c.args.low c.args.today
-          c.first_look-look.result.first c.args.second.0 c.first_look-look.result.looked look.at c.requires.today held).1) is;
+      end = or-none (λ e. IsStretchEnd c.args.start.now (duration_parts c.args.duration.now) c.args.second.0 e.0)
+          c.end_from_day.result (λ none held. none (held-from-last c.args.start.now (duration_parts c.args.duration.now)
+          c.args.low c.args.today c.first_look-look.result.first c.args.second.0 c.first_look-look.result.looked look.at
+          c.requires.today held).1) is;
     }

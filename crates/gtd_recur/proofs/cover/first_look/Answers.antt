@@ -55,8 +55,8 @@ loop-days-preserved c =
     let d = looked-at _ _ _ _ _ _ _ k c.last_begun-day.ensures.last in
     let less : c.last_begun-day.result <ℤ c.loop-days.days.from = omega (arith, signed_arith, c.if-day-days.false, d, k) in
     let passed = are-counted _ _ _ _ _ _ _ k (omega (arith, signed_arith)) k.looking.order in
-    rw (k.low_is, k.n_is, passed.is) (look-on _ _ _ _ _ _ _ _ _ k d.last less
-    (rw (k.low_is, k.begins.is) at c.last_days-days-in-loop-days.ensures.run))
+    rw (k.low_is, k.n_is, passed.is) (look-on c.args.start.now c.args.low c.args.seen _ _ c.last_begun-day.result _ _ _ k
+    d.last less (rw (k.low_is, k.begins.is) at c.last_days-days-in-loop-days.ensures.run))
 
 pub returns : goal.returns
 returns c =

@@ -35,5 +35,6 @@ returns c =
     let here = rw (c.parts-start.ensures.value, today) at c.in_default.ensures.end in
     let before = rw (c.parts-start.ensures.value, low, today, c.lookback.ensures.value) at c.end_from_before.ensures.end in
     record {
-      end = or-none (λ e. IsStretchEnd p q c.args.second.0 e.0) c.end_from_before.result (λ none member. none (held-anywhere p q _ c.args.second.0 refl member here)) before;
+      end = or-none (λ e. IsStretchEnd p q c.args.second.0 e.0) c.end_from_before.result
+          (λ none member. none (held-anywhere p q _ c.args.second.0 refl member here)) before;
     }

@@ -27,7 +27,8 @@ returns-else-day-this_year c =
     let fits : FitsSigned w64 c.months-this_year.result.until = search rules in
     let past : c.months-this_year.result.until ≤ℤ c.args.day = omega (arith, signed_arith, c.if-day-this_year.false) in
     record {
-      run = month-next_year _ _ _ _ _ _ _ _ _ _ (rw day at c.year_of_day-year.ensures.value) past
+      run = month-next_year c.year_of_day-year.result c.args.month _ _ _ _ c.args.day c.args.end _ _
+          (rw day at c.year_of_day-year.ensures.value) past
           (rw (year.is) at c.months-this_year.ensures.months) (rw (year.is, year.after) at c.months.ensures.months)
           (rw (day, to_z-of_z c.ranges.end) at c.clip-else-day-this_year.ensures.clipped);
     }

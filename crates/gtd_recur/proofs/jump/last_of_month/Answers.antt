@@ -59,7 +59,8 @@ returns c =
     let fits : FitsSigned w64 c.months-this_year.result.from = search rules in
     let ahead : c.args.end ≤ℤ c.months-this_year.result.from = omega (arith, signed_arith, c.if-this_year-end.false) in
     record {
-      run = month-year_before _ _ _ _ _ _ _ _ _ _ ahead (rw (year.is) at c.months-this_year.ensures.months)
+      run = month-year_before c.year_of_day-year.result c.args.month _ _ _ _ c.args.low c.args.end _ _ ahead
+          (rw (year.is) at c.months-this_year.ensures.months)
           (rw (year.is, year.before) at c.months.ensures.months)
           (rw (to_z-of_z c.ranges.low, end) at c.clip_back-2.ensures.clipped);
     }

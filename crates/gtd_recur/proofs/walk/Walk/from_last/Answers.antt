@@ -14,8 +14,9 @@ invariant_of-result c =
     let d = c.args.basic in let h = c.args.horizon in let start = c.parts-start.ensures.value in
     let w = window-computed d h c.from_day-seen.result c.from.result c.lookback.result c.from_day-seen.ensures.value
     (omega (arith, signed_arith)) c.lookback.ensures.bound c.lookback.ensures.value in
-    let k = fresh-behind d h _ _ _ _ _ _ _ _ _ _ w start c.to_day.ensures.value c.first_look-look.ensures.look
-    c.next_days-days.ensures.run in
+    let look = c.first_look-look.result in let days = c.next_days-days.result in
+    let k = fresh-behind d h _ c.from_day-seen.result c.from.result c.to_day.result look.first look.day days.from days.until
+    look.clock look.looked w start c.to_day.ensures.value c.first_look-look.ensures.look c.next_days-days.ensures.run in
     let clocked = rw start at c.day_clocks.ensures.clocks in
     record {
       first_in = k.fresh.first_in;
@@ -34,7 +35,9 @@ pub returns : goal.returns
 returns c =
     let w = window-computed c.args.basic c.args.horizon c.from_day-seen.result c.from.result c.lookback.result
     c.from_day-seen.ensures.value (omega (arith, signed_arith)) c.lookback.ensures.bound c.lookback.ensures.value in
-    let k = fresh-behind c.args.basic c.args.horizon _ _ _ _ _ _ _ _ _ _ w c.parts-start.ensures.value c.to_day.ensures.value
+    let look = c.first_look-look.result in let days = c.next_days-days.result in
+    let k = fresh-behind c.args.basic c.args.horizon _ c.from_day-seen.result c.from.result c.to_day.result look.first look.day
+    days.from days.until look.clock look.looked w c.parts-start.ensures.value c.to_day.ensures.value
     c.first_look-look.ensures.look c.next_days-days.ensures.run in
     let all : c.first_look-look.result.looked + 0 ≡ c.first_look-look.result.looked = omega arith in
     record {
