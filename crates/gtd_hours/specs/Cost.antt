@@ -2,9 +2,12 @@
 use Rattle.std.specs.Prelude.{ℕ, ◌+◌, ◌-◌, ◌/◌, ◌==◌, ◌&&◌, ◌||◌, ◌≤◌, ◌≢◌, ◌⊎◌, not, Bool, nat_lt, nat_le}
 use Rattle.std.specs.Prelude.{if◌then◌else◌, max, min}
 use Rattle.std.specs.Prelude.{List, [], ◌∷◌}
+use Rattle.gtd_hours.specs.Moving.{days_on, end_days, months_between}
 use Rattle.gtd_hours.specs.Ranges.{end_of}
+use Rattle.gtd_hours.specs.declared.places.End.{End}
 use Rattle.gtd_hours.specs.declared.hours.Selector.{Selector}
 use Rattle.gtd_hours.specs.declared.hours.Selector.TheVariants.{Years, Months, Dates, Dated, Weeks, Weekdays, Nth, NthBack}
+use Rattle.gtd_hours.specs.declared.hours.Selector.TheVariants.{Moved, Moving}
 use Rattle.gtd_hours.specs.declared.hours.MonthDay.{MonthDay}
 use Rattle.gtd_hours.specs.declared.hours.Kind.{Kind}
 use Rattle.gtd_hours.specs.declared.hours.TimeRange.{TimeRange}
@@ -69,6 +72,15 @@ dates_cost first last =
     (month_cost first.month first.day 31 + (if month_after first.month == last.month then 0 else 1)
     + month_cost last.month 1 last.day)
 
+-- a place with days from it: the days up to that day without those before it
+abbrev pub moved_cost : Bool → ℕ → ℕ
+moved_cost before days = if days_on before days == 0 then 1 else 2
+
+-- a range that moves: from its first day on, without what comes after its last one; or all days without those between two
+abbrev pub moving_cost : Bool → End → End → ℕ
+moving_cost over first last =
+    (if end_days first == 0 then 3 else 4) + (if nat_le (months_between over first last) 10 then 0 else 1)
+
 abbrev pub selector_cost : Selector → ℕ
 selector_cost (Years years) = years_cost years.first years.last years.step
 selector_cost (Months months) = 1
@@ -78,6 +90,8 @@ selector_cost (Weeks weeks) = weeks_cost weeks.first weeks.last weeks.step
 selector_cost (Weekdays days) = 1
 selector_cost (Nth place) = 1
 selector_cost (NthBack place) = 1
+selector_cost (Moved place) = moved_cost place.is_before place.days
+selector_cost (Moving range) = moving_cost range.is_over range.first range.last
 
 abbrev pub selectors_cost : List Selector → ℕ
 selectors_cost [] = 0

@@ -1,4 +1,5 @@
 pub mod Cost
+pub mod Moving
 pub mod Opening
 pub mod Ranges
 pub mod Writable

@@ -5,9 +5,10 @@ use Rattle.gtd_core.specs.Limits.{day_seconds}
 use Rattle.gtd_core.specs.Seconds.{IsOnDay}
 use Rattle.gtd_calendar.specs.declared.day.DayFields.{DayFields}
 use Rattle.gtd_calendar.specs.Calendar.{AreFieldsOf, day_number}
+use Rattle.gtd_hours.specs.Moving.{IsInMoving, IsMovedFrom}
 use Rattle.gtd_hours.specs.Ranges.{end_of}
 use Rattle.gtd_hours.specs.declared.hours.Selector.{Selector}
-use Rattle.gtd_hours.specs.declared.hours.Selector.TheVariants.{Years, Months, Dates, Dated, Weeks, Weekdays, Nth, NthBack}
+use Rattle.gtd_hours.specs.declared.hours.Selector.TheVariants.{Years, Months, Dates, Dated, Weeks, Weekdays, Nth, NthBack, Moved, Moving}
 use Rattle.gtd_hours.specs.declared.hours.Kind.{Kind}
 use Rattle.gtd_hours.specs.declared.hours.TimeRange.{TimeRange}
 use Rattle.gtd_hours.specs.declared.hours.Link.{Link}
@@ -43,6 +44,8 @@ HoldsOn (Weeks weeks) n f = IsStep weeks.first weeks.last weeks.step f.week
 HoldsOn (Weekdays days) n f = IsRound days.first days.last f.weekday
 HoldsOn (Nth place) n f = (f.weekday ≡ place.weekday) × (f.nth ≡ place.number)
 HoldsOn (NthBack place) n f = (f.weekday ≡ place.weekday) × (f.nth_back ≡ place.number)
+HoldsOn (Moved place) n f = IsMovedFrom place n
+HoldsOn (Moving range) n f = IsInMoving range.is_over range.first range.last n
 
 -- one of the selectors holds
 abbrev pub SomeHolds : List Selector → ℤ → DayFields → Type 0

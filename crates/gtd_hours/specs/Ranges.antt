@@ -1,5 +1,5 @@
 -- Which values the parts of opening hours have.
-use Rattle.std.specs.Prelude.{ℕ, ◌+◌, ◌<◌, ◌≤◌, nat_lt, if◌then◌else◌, pos, ◌+ℤ◌, ◌≤ℤ◌, ◌<ℤ◌}
+use Rattle.std.specs.Prelude.{◌≡◌, ℕ, ◌+◌, ◌*◌, ◌<◌, ◌≤◌, nat_lt, Bool, true, if◌then◌else◌, pos, ◌+ℤ◌, ◌≤ℤ◌, ◌<ℤ◌}
 use Rattle.gtd_calendar.specs.Calendar.{IsCalendarYear, IsDate, day_number}
 
 -- a weekday: Sunday is 1 and Saturday 7
@@ -9,6 +9,12 @@ IsWeekday k = (1 ≤ k) × (k ≤ 7)
 -- a weekday, and its place in the month: the first to the fifth
 abbrev pub IsWeekdayPlace : ℕ → ℕ → Type 0
 IsWeekdayPlace weekday number = IsWeekday weekday × (1 ≤ number) × (number ≤ 5)
+
+-- A place of a weekday that each month has, and at most 27 days after it or before it. Days before a place back from the
+-- end are such that the place they are counted on from, which is that many weeks further back, is in each month, too.
+abbrev pub IsMovable : ℕ → Bool → ℕ → Bool → Type 0
+IsMovable number back days before =
+    (number ≤ 4) × (days ≤ 27) × (before ≡ true → 1 ≤ days) × (before ≡ true → back ≡ true → 7 * number + days ≤ 28)
 
 -- every so many years, from one of the calendar's to the same or a later one
 abbrev pub IsYears : ℕ → ℕ → ℕ → Type 0

@@ -3,6 +3,11 @@ use Rattle.std.specs.Prelude.{ℕ, ◌+◌, ◌/◌, ◌%◌, ◌==◌, ◌&&◌
 use Rattle.std.specs.Prelude.{decimal, if◌then◌else◌}
 use Rattle.gtd_hours.specs.declared.hours.Selector.{Selector}
 use Rattle.gtd_hours.specs.declared.hours.Selector.TheVariants.{Years, Months, Dates, Dated, Weeks, Weekdays, Nth, NthBack}
+use Rattle.gtd_hours.specs.declared.hours.Selector.TheVariants.{Moved, Moving}
+use Rattle.gtd_hours.specs.declared.hours.WeekdayPlace.{WeekdayPlace}
+use Rattle.gtd_hours.specs.declared.places.End.{End}
+use Rattle.gtd_hours.specs.declared.places.End.TheVariants.{Date, Place}
+use Rattle.gtd_hours.specs.declared.places.MovedPlace.{MovedPlace}
 use Rattle.gtd_hours.specs.declared.hours.MonthDay.{MonthDay}
 use Rattle.gtd_hours.specs.declared.hours.YearDate.{YearDate}
 use Rattle.gtd_hours.specs.declared.hours.Kind.{Kind}
@@ -81,6 +86,25 @@ abbrev pub weekdays_text : ℕ → ℕ → List ℕ
 weekdays_text first last =
     if first == last then weekday_name first else weekday_name first ++ codes "-" ++ weekday_name last
 
+-- a place from the beginning of the month, or back from its end
+abbrev pub place_text : Bool → WeekdayPlace → List ℕ
+place_text back place =
+    weekday_name place.weekday ++ (if back then codes "[-" else codes "[") ++ decimal place.number ++ codes "]"
+
+-- the days after a place, or before it
+abbrev pub offset_text : Bool → ℕ → List ℕ
+offset_text before days =
+    if days == 0 then []
+    else (if before then codes " -" else codes " +") ++ decimal days ++ (if days == 1 then codes " day" else codes " days")
+
+abbrev pub moved_text : MovedPlace → List ℕ
+moved_text x = place_text x.is_back x.place ++ offset_text x.is_before x.days
+
+-- an end of a range that moves
+abbrev pub end_text : End → List ℕ
+end_text (Date date) = month_day_text date
+end_text (Place x) = month_name x.month ++ codes " " ++ moved_text x.place
+
 -- a selector, and whether another kind of selectors follows
 abbrev pub selector_text : Bool → Selector → List ℕ
 selector_text follows (Years years) = years_text follows years.first years.last years.step
@@ -91,6 +115,8 @@ selector_text follows (Weeks weeks) = weeks_text weeks.first weeks.last weeks.st
 selector_text follows (Weekdays days) = weekdays_text days.first days.last
 selector_text follows (Nth place) = weekday_name place.weekday ++ codes "[" ++ decimal place.number ++ codes "]"
 selector_text follows (NthBack place) = weekday_name place.weekday ++ codes "[-" ++ decimal place.number ++ codes "]"
+selector_text follows (Moved place) = moved_text place
+selector_text follows (Moving range) = end_text range.first ++ codes "-" ++ end_text range.last
 
 -- those of one kind, with commas between them
 abbrev pub more_selectors_text : Bool → List Selector → List ℕ
@@ -107,6 +133,8 @@ kind_word (Weeks weeks) = codes "week "
 kind_word (Weekdays days) = []
 kind_word (Nth place) = []
 kind_word (NthBack place) = []
+kind_word (Moved place) = []
+kind_word (Moving range) = []
 
 abbrev pub kind_text : Bool → List Selector → List ℕ
 kind_text follows [] = []

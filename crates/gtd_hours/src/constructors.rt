@@ -2,12 +2,13 @@
 
 ghost use Rattle.std.specs.Prelude.{◌≡◌, ◌↔◌, IfSome, IsSome};
 ghost use Rattle.gtd_hours.specs.Ranges.{IsDatedRange, IsMonth, IsMonthDay, IsTimeRange, IsWeekday, IsWeekdayPlace};
-ghost use Rattle.gtd_hours.specs.Ranges.{IsWeeks, IsYearDate, IsYears};
+ghost use Rattle.gtd_hours.specs.Ranges.{IsMovable, IsWeeks, IsYearDate, IsYears};
 
 use crate::dated::is_dated_range;
 use crate::hours::{
     Dated, MonthDay, Months, TimeRange, WeekdayPlace, Weekdays, Weeks, YearDate, Years,
 };
+use crate::places::{MonthPlace, MovedPlace};
 use gtd_calendar::day_of;
 
 impl Years {
@@ -120,6 +121,43 @@ impl WeekdayPlace {
     {
         if 1 <= weekday && weekday <= 7 && 1 <= number && number <= 5 {
             Some(WeekdayPlace { weekday, number })
+        } else {
+            None
+        }
+    }
+}
+
+impl MovedPlace {
+    /// The day so many days after the place, or before it. `None` exactly if the place is the fifth, there are more than 27
+    /// days, there are none and they are before, or days before a place from the end lead before the fourth last week.
+    pub fn new(place: WeekdayPlace, is_back: bool, days: u8, is_before: bool) -> Option<MovedPlace>
+        ensures kept { IfSome result (λ x. (x.place ≡ place) × (x.is_back ≡ is_back) × (x.days ≡ days)
+            × (x.is_before ≡ is_before)) }
+        ensures accepted { IsSome result ↔ IsMovable place.number is_back days is_before }
+    {
+        if place.number > 4 || days > 27 {
+            return None;
+        }
+        if is_before && (days == 0 || is_back && 7 * place.number + days > 28) {
+            return None;
+        }
+        Some(MovedPlace {
+            place,
+            is_back,
+            days,
+            is_before,
+        })
+    }
+}
+
+impl MonthPlace {
+    /// The place in the month, or `None` exactly if the month is not from 1 to 12.
+    pub fn new(month: u8, place: MovedPlace) -> Option<MonthPlace>
+        ensures kept { IfSome result (λ x. (x.month ≡ month) × (x.place ≡ place)) }
+        ensures accepted { IsSome result ↔ IsMonth month }
+    {
+        if 1 <= month && month <= 12 {
+            Some(MonthPlace { month, place })
         } else {
             None
         }

@@ -5,6 +5,9 @@ ghost use Rattle.gtd_hours.specs.Ranges.{IsDatedRange, IsMonth, IsMonthDay, IsTi
 ghost use Rattle.gtd_hours.specs.Ranges.{IsWeeks, IsYearDate, IsYears};
 ghost use Rattle.std.proofs.Props.{props};
 
+use crate::moving::Moving;
+use crate::places::MovedPlace;
+
 /// Every so many years, from the first to the last, of 1800 to 2799.
 #[derive(Clone, Copy, Debug, PartialEq, Eq)]
 pub struct Years {
@@ -119,6 +122,10 @@ pub enum Selector {
     Nth(WeekdayPlace),
     /// `We[-1]`: a place back from the end of the month.
     NthBack(WeekdayPlace),
+    /// `We[1] +1 day`: so many days after or before a place. Without days it is one of the two before.
+    Moved(MovedPlace),
+    /// `Mar Su[-1]-Oct 15`
+    Moving(Moving),
 }
 
 /// The selectors of one kind, of which one must hold.

@@ -8,9 +8,13 @@ pub use hours::{
     Dated, Dates, Hours, Kind, Link, Modifier, MonthDay, Months, Rule, Selector, TimeRange,
     WeekdayPlace, Weekdays, Weeks, YearDate, Years,
 };
+pub use moving::Moving;
+pub use places::{End, MonthPlace, MovedPlace};
 pub use printer::print_hours;
 
 mod constructors;
 mod dated;
 mod hours;
+mod moving;
+mod places;
 mod printer;

@@ -7,11 +7,14 @@ ghost use Rattle.gtd_hours.specs.Written.{kind_word, kinds_text, link_text, modi
 ghost use Rattle.gtd_hours.specs.Written.{months_text, more_rules_text, more_selectors_text, more_times_text, needs_word};
 ghost use Rattle.gtd_hours.specs.Written.{rule_text, rules_text, selector_text, spans_text, step_text, time_text, times_text};
 ghost use Rattle.gtd_hours.specs.Written.{two_digits, weekday_name, weekdays_text, weeks_text, year_date_text, years_text};
+ghost use Rattle.gtd_hours.specs.Written.{end_text, moved_text, offset_text};
 
 use crate::hours::{
     Dated, Dates, Hours, Kind, Link, Modifier, MonthDay, Months, Rule, Selector, TimeRange,
     WeekdayPlace, Weekdays, Weeks, YearDate, Years,
 };
+use crate::moving::Moving;
+use crate::places::{End, MonthPlace, MovedPlace};
 use itoa::Buffer;
 use std::alloc::{AllocError, Global};
 
@@ -195,6 +198,8 @@ fn push_selector(out: &mut String, follows: bool, selector: Selector) -> Result<
         Selector::Weekdays(days) => push_weekdays(out, days),
         Selector::Nth(place) => push_place(out, "[", place),
         Selector::NthBack(place) => push_place(out, "[-", place),
+        Selector::Moved(place) => push_moved(out, place),
+        Selector::Moving(range) => push_moving(out, range),
     }
 }
 
@@ -302,6 +307,52 @@ fn push_place(out: &mut String, bracket: &str, place: WeekdayPlace) -> Result<()
     out.push_str(bracket)?;
     out.push_str(Buffer::new().format(place.number))?;
     out.push_str("]")
+}
+
+fn push_moved(out: &mut String, place: MovedPlace) -> Result<(), AllocError>
+    ensures { OnOk result (string_bytes out.new ≡ string_bytes out.old ++ moved_text place) }
+{
+    push_place(out, if place.is_back { "[-" } else { "[" }, place.place)?;
+    push_offset(out, place.is_before, place.days)
+}
+
+// The days after a place, or before it.
+fn push_offset(out: &mut String, is_before: bool, days: u8) -> Result<(), AllocError>
+    ensures { OnOk result (string_bytes out.new ≡ string_bytes out.old ++ offset_text is_before days) }
+{
+    if days == 0 {
+        return Ok(());
+    }
+    out.push_str(if is_before { " -" } else { " +" })?;
+    out.push_str(Buffer::new().format(days))?;
+    out.push_str(if days == 1 { " day" } else { " days" })
+}
+
+fn push_moving(out: &mut String, range: Moving) -> Result<(), AllocError>
+    ensures { OnOk result (string_bytes out.new
+        ≡ string_bytes out.old ++ (end_text range.first ++ codes "-" ++ end_text range.last)) }
+{
+    push_end(out, range.first)?;
+    out.push_str("-")?;
+    push_end(out, range.last)
+}
+
+fn push_end(out: &mut String, end: End) -> Result<(), AllocError>
+    ensures { OnOk result (string_bytes out.new ≡ string_bytes out.old ++ end_text end) }
+{
+    match end {
+        End::Date(date) => push_month_day(out, date),
+        End::Place(place) => push_month_place(out, place),
+    }
+}
+
+fn push_month_place(out: &mut String, place: MonthPlace) -> Result<(), AllocError>
+    ensures { OnOk result (string_bytes out.new
+        ≡ string_bytes out.old ++ (month_name place.month ++ codes " " ++ moved_text place.place)) }
+{
+    out.push_str(month_name(place.month))?;
+    out.push_str(" ")?;
+    push_moved(out, place.place)
 }
 
 fn push_times(out: &mut String, times: &[TimeRange]) -> Result<(), AllocError>
