@@ -1,4 +1,5 @@
 -- The lemmas of the crate: cursors and their leaves, spans that repeat, and how long sets of seconds stay as they are.
+pub mod BoundFacts
 pub mod ExtentLemmas
 pub mod JoinedStays
 pub mod Leaves

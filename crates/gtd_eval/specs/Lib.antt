@@ -1,5 +1,6 @@
 pub mod Asked
 pub mod Basics
+pub mod Bounds
 pub mod Chains
 pub mod Cursors
 pub mod Ever

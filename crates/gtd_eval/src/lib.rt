@@ -20,6 +20,7 @@ pub use stay::{Stay, days_to_look, stay_of};
 pub use tree::SweepTree;
 
 mod basic_stays;
+mod bound;
 mod cursor;
 mod ever;
 mod expr_stays;

@@ -14,6 +14,7 @@ ghost use Rattle.gtd_eval.specs.Membership.{InDomain, InTree};
 ghost use Rattle.gtd_eval.specs.Periods.{AllRepeat};
 ghost use Rattle.gtd_eval.specs.Stays.{ComesBefore, IsStay, IsStayEnd, NoneChanges};
 
+use crate::bound::settled_stay;
 use crate::period::period_of_all;
 use gtd_core::limits::DAY_SECONDS;
 use gtd_core::{Basic, Domain, Expr, Horizon, Op, Sec};
@@ -26,7 +27,7 @@ const LEAST_STEP: i64 = 60;
 const WEEKLY_DAYS: i64 = 8;
 
 // How many stays of an expression that repeats are asked for to find that it does not change. A minute has no more.
-const MOST_STAYS: usize = 64;
+pub(crate) const MOST_STAYS: usize = 64;
 
 /// Whether a set of seconds has a second, and a later second before which that does not change.
 #[derive(Clone, Copy, Debug, PartialEq, Eq)]
@@ -183,8 +184,8 @@ fn basic_end(basic: &Basic, second: Sec, holds: bool, horizon: Horizon) -> Sec
     held_end(basic, second, horizon)
 }
 
-// The stay of a basic domain at a second.
-fn basic_stay(basic: &Basic, second: Sec, horizon: Horizon) -> Stay
+/// The stay of a basic domain at a second.
+pub(crate) fn basic_stay(basic: &Basic, second: Sec, horizon: Horizon) -> Stay
     requires inside { Within (whole horizon) second.0 }
     ensures stays { IsStay (InBasic basic.now) second.0 (whole horizon).until result }
     ensures far { (u : ℤ) → u ≤ℤ (whole horizon).until → NeverChanges (InBasic basic.now) second.0 u
@@ -300,7 +301,8 @@ fn expr_stay(expr: &Expr, second: Sec, horizon: Horizon) -> Stay
 /// horizon, before which that does not change. It may stay so for longer, but the second that is answered is at least the
 /// first at which any basic domain of the domain changes; so for a single basic domain it is the next change. Of a basic
 /// domain that repeats each week, a week is looked at. A part whose basic domains repeat, and that few stays show not to change,
-/// stays as it is to the end. Takes no memory.
+/// stays as it is to the end. So does a domain if its basic domains that repeat settle alone, in few stays, whether it holds. Takes
+/// no memory.
 ///
 /// ```
 /// let domain = read_domain(alloc, b"[(h10){h4}]")?;
@@ -316,5 +318,7 @@ pub fn stay_of(domain: &Domain, second: Sec, horizon: Horizon) -> Stay
     ensures far { (u : ℤ) → u ≤ℤ (whole horizon).until → NoneChanges (domain_tree domain.now) second.0 u
         → u ≤ℤ result.until.0 }
 {
-    expr_stay(domain.expr(), second, horizon)
+    let expr = domain.expr();
+    let stay = expr_stay(expr, second, horizon);
+    settled_stay(expr, stay, second, horizon)
 }
