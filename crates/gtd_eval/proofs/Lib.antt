@@ -5,7 +5,6 @@ pub mod JoinedStays
 pub mod Leaves
 pub mod OnwardFacts
 pub mod PeriodChanges
-pub mod RepeatLemmas
 pub mod StayDays
 pub mod StayEnds
 pub mod Unions

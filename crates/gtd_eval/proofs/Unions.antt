@@ -19,10 +19,10 @@ use Rattle.gtd_eval.specs.Exprs.{right_of, IsBasic, IsBasicChain, IsOfExpr, expr
 use Rattle.gtd_eval.specs.Membership.{InTree, IsNormalOver}
 use Rattle.gtd_eval.specs.Nodes.{node_list, node_count, node_height, node_work}
 use Rattle.gtd_eval.specs.Periods.{AllRepeat}
-use Rattle.gtd_eval.specs.Repeating.{AreKept}
-use Rattle.gtd_eval.specs.declared.repeat.Stage.TheVariants.{Learning}
+use Rattle.gtd_kept.specs.Repeating.{AreKept}
+use Rattle.gtd_kept.specs.declared.repeat.Stage.TheVariants.{Learning}
 use Rattle.gtd_eval.specs.facts.PeriodFacts.{tree-repeats-after, some-period}
-use Rattle.gtd_eval.proofs.RepeatLemmas.{repeat-fits}
+use Rattle.gtd_kept.proofs.RepeatLemmas.{repeat-fits}
 use Rattle.gtd_eval.specs.Cursors.{cursor_list, cursor_nodes, cursor_height, cursor_work, cursor_size}
 use Rattle.gtd_eval.specs.Cursors.{total_nodes, total_work, NoneHigher}
 use Rattle.gtd_eval.specs.facts.CursorFacts.{some-append, nodes-append, work-append, higher-append}

@@ -4,7 +4,7 @@ use Rattle.gtd_core.specs.Seconds.{Interval}
 use Rattle.gtd_recur.specs.RunsToCome.{runs_to_come, runs_ticks}
 use Rattle.gtd_eval.specs.Cursors.{cursor_list, cursor_nodes, cursor_height, cursor_work, cursor_ticks}
 use Rattle.gtd_eval.specs.Leaves.{runs_size}
-use Rattle.gtd_eval.specs.Repeating.{to_come}
+use Rattle.gtd_kept.specs.Repeating.{to_come}
 use Rattle.gtd_eval.specs.Shape.{Size}
 use Rattle.gtd_eval.specs.declared.kept.KeptPeriod.{KeptPeriod}
 use Rattle.gtd_eval.specs.declared.kept.Part.{Part}

@@ -7,14 +7,12 @@ pub mod Ever
 pub mod Exprs
 pub mod Extent
 pub mod Keeping
-pub mod Kept
 pub mod Leaves
 pub mod Membership
 pub mod Names
 pub mod Nodes
 pub mod Onward
 pub mod Periods
-pub mod Repeating
 pub mod Shape
 pub mod Single
 pub mod Stays
@@ -27,3 +25,5 @@ pub use Rattle.gtd_core.specs.Trees
 pub use Rattle.gtd_core.specs.Whole
 pub use Rattle.gtd_spans.specs.Change
 pub use Rattle.gtd_spans.specs.Normal
+pub use Rattle.gtd_kept.specs.Kept
+pub use Rattle.gtd_kept.specs.Repeating

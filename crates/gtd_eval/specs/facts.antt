@@ -4,7 +4,6 @@ pub mod TreeDecisions
 pub mod NodeFacts
 pub mod PartFacts
 pub mod PeriodFacts
-pub mod RepeatProps
 pub mod RunsFacts
 pub mod Repeats
 pub mod SingleFacts

@@ -116,19 +116,9 @@ fn is_bound(expr: &Expr, holds: bool, second: Sec, horizon: Horizon) -> bool
     false
 }
 
-// The same, asked only where it may help: if at least two basic domains repeat weekly, and another does not.
-fn is_settled(expr: &Expr, holds: bool, second: Sec, horizon: Horizon) -> bool
-    requires inside { Within (whole horizon) second.0 }
-    requires few { leaf_count (tree_of expr.now) ≤ most_basic_domains }
-    ensures settled { IsTrue result → (t : ℤ) → second.0 ≤ℤ t → t <ℤ (whole horizon).until
-        → IsTrue holds ↔ InTree (tree_of expr.now) t }
-{
-    let weekly = weekly_domains(expr);
-    weekly >= 2 && weekly < basic_domains(expr) && is_bound(expr, holds, second, horizon)
-}
-
 /// The stay of an expression at a second, from one that may end too early: to the end of the horizon, if the basic domains that
-/// repeat weekly show alone that the expression stays as it is, whatever seconds the others contain.
+/// repeat weekly show alone that the expression stays as it is, whatever seconds the others contain. They are asked only where there
+/// are at least two of them, and others.
 pub(crate) fn settled_stay(expr: &Expr, stay: Stay, second: Sec, horizon: Horizon) -> Stay
     requires inside { Within (whole horizon) second.0 }
     requires few { leaf_count (tree_of expr.now) ≤ most_basic_domains }
@@ -137,10 +127,11 @@ pub(crate) fn settled_stay(expr: &Expr, stay: Stay, second: Sec, horizon: Horizo
     ensures long { stay.until.0 ≤ℤ result.until.0 }
 {
     let end = horizon.until();
-    if stay.until.0 >= end.0 {
+    let weekly = weekly_domains(expr);
+    if stay.until.0 >= end.0 || weekly < 2 || weekly == basic_domains(expr) {
         return stay;
     }
-    if is_settled(expr, stay.holds, second, horizon) {
+    if is_bound(expr, stay.holds, second, horizon) {
         return Stay {
             holds: stay.holds,
             until: end,

@@ -2,16 +2,16 @@
 
 ghost use Rattle.std.specs.Prelude.{◌≤◌};
 ghost use Rattle.gtd_eval.specs.Cursors.{cursor_list, cursor_nodes};
-ghost use Rattle.gtd_eval.specs.Kept.{HasKept};
-ghost use Rattle.gtd_eval.specs.facts.RepeatProps.{AreKept-prop};
+ghost use Rattle.gtd_kept.specs.Kept.{HasKept};
+ghost use Rattle.gtd_kept.specs.facts.RepeatProps.{AreKept-prop};
 
 use crate::cursor::Cursor;
-use crate::kept_period::{is_long, kept_period, room_for};
+use crate::kept_period::kept_period;
 use crate::leaf::Leaf;
 use crate::node::Node;
-use crate::repeat::Repeat;
 use crate::tree::SweepTree;
 use gtd_core::{Expr, Horizon, Span};
+use gtd_kept::{Repeat, is_long, room_for};
 use gtd_recur::{Period, Runs};
 use gtd_spans::SpanSource;
 use std::alloc::{AllocError, Global};
@@ -34,11 +34,11 @@ impl KeptPeriod {
     ghost use Rattle.gtd_spans.specs.Sweeping.{Takes};
     ghost use Rattle.gtd_eval.specs.Cursors.{cursor_list, cursor_size};
     ghost use Rattle.gtd_eval.specs.Exprs.{IsOfExpr};
-    ghost use Rattle.gtd_eval.specs.Kept.{HasKept};
+    ghost use Rattle.gtd_kept.specs.Kept.{HasKept};
     ghost use Rattle.gtd_eval.specs.Keeping.{period_list, period_size};
     ghost use Rattle.gtd_eval.specs.Periods.{AllRepeat};
-    ghost use Rattle.gtd_eval.specs.Repeating.{AreKept, IsRepeating, to_come};
-    ghost use Rattle.gtd_eval.specs.declared.repeat.Stage.TheVariants.{Learning};
+    ghost use Rattle.gtd_kept.specs.Repeating.{AreKept, IsRepeating, to_come};
+    ghost use Rattle.gtd_kept.specs.declared.repeat.Stage.TheVariants.{Learning};
 
     // The same cursor, of which no span is kept yet. If the horizon has fewer than three periods, none will be.
     fn new(

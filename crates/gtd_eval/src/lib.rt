@@ -34,6 +34,5 @@ mod node;
 mod open;
 mod period;
 mod queries;
-mod repeat;
 mod stay;
 mod tree;

@@ -5,7 +5,7 @@ use Rattle.gtd_spans.specs.Normal.{IsNormal}
 use Rattle.gtd_eval.specs.Cursors.{cursor_list}
 use Rattle.gtd_eval.specs.Keeping.{part_list, part_size, part_kept}
 use Rattle.gtd_eval.specs.facts.CursorFacts.{cursor-normal, cursor-small}
-use Rattle.gtd_eval.specs.facts.RepeatProps.{come-normal}
+use Rattle.gtd_kept.specs.facts.RepeatProps.{come-normal}
 use Rattle.gtd_eval.specs.facts.RunsFacts.{runs-small}
 use Rattle.gtd_eval.specs.declared.kept.Part.{Part}
 use Rattle.gtd_eval.specs.declared.kept.Part.TheVariants.{Basic, Repeating}

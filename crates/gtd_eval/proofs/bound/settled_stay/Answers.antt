@@ -6,12 +6,12 @@ use Rattle.gtd_eval.specs.Membership.{InTree}
 use Rattle.gtd_eval.proofs.BoundFacts.{never-told}
 use Rattle.gtd_eval.proofs.bound.settled_stay.Goals as goal
 
-pub returns-then-is_settled : goal.returns-then-is_settled
-returns-then-is_settled c =
+pub returns-then-is_bound : goal.returns-then-is_bound
+returns-then-is_bound c =
     let stay = c.requires.stays in
     let end = c.until-end.ensures.value in
     let inside = c.requires.inside in
-    let told = c.is_settled.ensures.settled c.if-is_settled.true in
+    let told = c.is_bound.ensures.bound c.if-is_bound.true in
     record {
       stays = record {
         holds = stay.holds;

@@ -4,7 +4,7 @@ use Rattle.gtd_core.specs.Seconds.{Interval}
 use Rattle.gtd_recur.specs.facts.StretchFacts.{runs_between-normal}
 use Rattle.gtd_eval.specs.Cursors.{cursor_list}
 use Rattle.gtd_eval.specs.facts.CursorFacts.{cursor-normal}
-use Rattle.gtd_eval.proofs.RepeatLemmas.{come-all}
+use Rattle.gtd_kept.proofs.RepeatLemmas.{come-all}
 use Rattle.gtd_eval.proofs.kept.KeptPeriod.next_learnt.Goals as goal
 
 pub returns-clause-kept : goal.returns-clause-kept

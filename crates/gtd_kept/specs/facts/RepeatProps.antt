@@ -6,9 +6,9 @@ use Rattle.std.proofs.Props.{props}
 use Rattle.gtd_core.specs.Seconds.{Interval}
 use Rattle.gtd_spans.specs.Normal.{IsNormal}
 use Rattle.gtd_spans.specs.facts.FitsProp.{IsNormal-prop}
-use Rattle.gtd_eval.specs.Repeating.{IsRepeating, IsPlace, KeepsNone, begun_after, to_come, AreKept}
-use Rattle.gtd_eval.specs.declared.repeat.Stage.{Stage}
-use Rattle.gtd_eval.specs.declared.repeat.Stage.TheVariants.{Learning, Repeating, GivenUp}
+use Rattle.gtd_kept.specs.Repeating.{IsRepeating, IsPlace, KeepsNone, begun_after, to_come, AreKept}
+use Rattle.gtd_kept.specs.declared.repeat.Stage.{Stage}
+use Rattle.gtd_kept.specs.declared.repeat.Stage.TheVariants.{Learning, Repeating, GivenUp}
 
 IsRepeating-prop : (stage : Stage) → IsProp (IsRepeating stage)
 IsRepeating-prop Learning = hlevel props

@@ -1,8 +1,8 @@
 -- The spans that are kept of a tree, and what they say of its list.
 use Rattle.std.specs.Prelude.{List, ◌++◌, take, drop}
 use Rattle.gtd_core.specs.Seconds.{Interval}
-use Rattle.gtd_eval.specs.Repeating.{AreKept}
-use Rattle.gtd_eval.specs.declared.repeat.Repeat.{Repeat}
+use Rattle.gtd_kept.specs.Repeating.{AreKept}
+use Rattle.gtd_kept.specs.declared.repeat.Repeat.{Repeat}
 
 -- the kept intervals, in order
 abbrev pub kept_list : Repeat → List Interval

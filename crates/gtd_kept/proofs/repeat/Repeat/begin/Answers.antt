@@ -1,6 +1,6 @@
 -- The first span, which the begin of the horizon may have cut, is not kept: the list goes on without it.
-use Rattle.gtd_eval.proofs.RepeatLemmas.{kept-not}
-use Rattle.gtd_eval.proofs.repeat.Repeat.begin.Goals as goal
+use Rattle.gtd_kept.proofs.RepeatLemmas.{kept-not}
+use Rattle.gtd_kept.proofs.repeat.Repeat.begin.Goals as goal
 
 pub returns-else-from-clause-kept : goal.returns-else-from-clause-kept
 returns-else-from-clause-kept c = λ xs h.

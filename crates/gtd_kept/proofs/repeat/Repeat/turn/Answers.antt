@@ -1,9 +1,9 @@
 -- The first kept span a period later is the next of the list; if none is kept, or it would begin after the horizon,
 -- the list is at its end.
 use Rattle.std.proofs.Common.{drop}
-use Rattle.gtd_eval.specs.Kept.{kept_list}
-use Rattle.gtd_eval.proofs.RepeatLemmas.{turns-some, turns-late, turns-none}
-use Rattle.gtd_eval.proofs.repeat.Repeat.turn.Goals as goal
+use Rattle.gtd_kept.specs.Kept.{kept_list}
+use Rattle.gtd_kept.proofs.RepeatLemmas.{turns-some, turns-late, turns-none}
+use Rattle.gtd_kept.proofs.repeat.Repeat.turn.Goals as goal
 
 pub returns-in_err-first-clause-takes : goal.returns-in_err-first-clause-takes
 returns-in_err-first-clause-takes c = λ xs n h.

@@ -1,9 +1,9 @@
 -- A span a period after the first kept one closes the period: from then on all spans follow from the kept ones. Any
 -- other is kept behind them.
 use Rattle.std.proofs.Common.{refl, drop}
-use Rattle.gtd_eval.specs.Kept.{kept_list}
-use Rattle.gtd_eval.proofs.RepeatLemmas.{kept-all, begun-all}
-use Rattle.gtd_eval.proofs.repeat.Repeat.learn.Goals as goal
+use Rattle.gtd_kept.specs.Kept.{kept_list}
+use Rattle.gtd_kept.proofs.RepeatLemmas.{kept-all, begun-all}
+use Rattle.gtd_kept.proofs.repeat.Repeat.learn.Goals as goal
 
 pub returns-then-is_period_after-clause-all : goal.returns-then-is_period_after-clause-all
 returns-then-is_period_after-clause-all c = λ xs n. rw c.put_last.ensures.stage (begun-all c.args.span.until xs n.1)

@@ -1,7 +1,7 @@
 -- One more span at the end of the kept ones: what is kept is still how the list begins.
 use Rattle.std.proofs.Common.{rules, ◌≡◌, ◌∷◌, ◌++◌, []}
-use Rattle.gtd_eval.proofs.RepeatLemmas.{kept-pushed}
-use Rattle.gtd_eval.proofs.repeat.Repeat.append.Goals as goal
+use Rattle.gtd_kept.proofs.RepeatLemmas.{kept-pushed}
+use Rattle.gtd_kept.proofs.repeat.Repeat.append.Goals as goal
 
 pub returns-else-is_err-clause-kept : goal.returns-else-is_err-clause-kept
 returns-else-is_err-clause-kept c = λ xs h.

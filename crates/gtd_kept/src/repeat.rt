@@ -2,11 +2,10 @@
 
 ghost use Rattle.std.specs.Prelude.{◌≤◌, ◌*ℤ◌, ◌≤ℤ◌, ◌<ℤ◌, pos, length};
 ghost use Rattle.gtd_core.specs.Limits.{day_seconds, first_horizon_day};
-ghost use Rattle.gtd_eval.specs.Ever.{week};
-ghost use Rattle.gtd_eval.specs.Repeating.{IsPlace, KeepsNone};
-ghost use Rattle.gtd_eval.specs.facts.RepeatProps.{IsPlace-prop, KeepsNone-prop};
+ghost use Rattle.gtd_kept.specs.Repeating.{IsPlace, KeepsNone};
+ghost use Rattle.gtd_kept.specs.facts.RepeatProps.{IsPlace-prop, KeepsNone-prop};
 
-use crate::kept_period::MOST_KEPT;
+use crate::room::MOST_KEPT;
 use gtd_core::{Horizon, Sec, Span};
 use gtd_recur::Period;
 use std::alloc::{AllocError, Global};
@@ -26,17 +25,21 @@ pub enum Stage {
 /// list they go on at its beginning.
 #[derive(Debug, Drop)]
 pub struct Repeat {
-    pub(crate) kept: Vec<Span>,
-    pub(crate) place: usize,
-    pub(crate) stage: Stage,
-    // In seconds.
-    pub(crate) period: i64,
-    pub(crate) horizon: Span,
-    ghost few: { length kept.items ≤ 4096 },
+    /// The spans, of which the one at the place comes first.
+    pub kept: Vec<Span>,
+    /// The place of the first one.
+    pub place: usize,
+    /// What is known of them.
+    pub stage: Stage,
+    /// The period in seconds.
+    pub period: i64,
+    /// The horizon of the tree.
+    pub horizon: Span,
+    pub ghost few: { length kept.items ≤ 4096 },
     ghost none: { KeepsNone stage (length kept.items) } by { KeepsNone-prop stage (length kept.items) },
     ghost among: { IsPlace place (length kept.items) stage } by { IsPlace-prop place (length kept.items) stage },
     ghost some: { pos 0 <ℤ period },
-    ghost short: { period ≤ℤ week },
+    ghost short: { period ≤ℤ pos 604_800 },
     ghost not_early: { (first_horizon_day *ℤ pos day_seconds) ≤ℤ horizon.until },
 }
 
@@ -48,12 +51,12 @@ impl Repeat {
     ghost use Rattle.gtd_spans.specs.Normal.{IsNormal};
     ghost use Rattle.gtd_spans.specs.Sweeping.{Takes};
     ghost use Rattle.gtd_recur.specs.Periods.{period_seconds};
-    ghost use Rattle.gtd_eval.specs.Repeating.{IsRepeating, later, to_come};
-    ghost use Rattle.gtd_eval.specs.Kept.{kept_list, HasKept};
-    ghost use Rattle.gtd_eval.specs.declared.repeat.Stage.TheVariants.{Learning, Repeating, GivenUp};
+    ghost use Rattle.gtd_kept.specs.Repeating.{IsRepeating, later, to_come};
+    ghost use Rattle.gtd_kept.specs.Kept.{kept_list, HasKept};
+    ghost use Rattle.gtd_kept.specs.declared.repeat.Stage.TheVariants.{Learning, Repeating, GivenUp};
 
-    // No span is kept, now and later.
-    pub(crate) fn given_up(alloc: Global, period: Period, horizon: Horizon) -> Repeat
+    /// No span is kept, now and later.
+    pub fn given_up(alloc: Global, period: Period, horizon: Horizon) -> Repeat
         ensures stage { result.stage ≡ GivenUp }
     {
         Repeat {
@@ -65,15 +68,15 @@ impl Repeat {
         }
     }
 
-    // How many spans are kept.
-    pub(crate) fn count(&self) -> usize
+    /// How many spans are kept.
+    pub fn count(&self) -> usize
         ensures value { result ≡ length self.now.kept.items }
     {
         self.kept.len()
     }
 
-    // Room for so many spans, none of which has been kept yet.
-    pub(crate) fn new(
+    /// Room for so many spans, none of which has been kept yet.
+    pub fn new(
         alloc: Global,
         period: Period,
         horizon: Horizon,
@@ -94,8 +97,8 @@ impl Repeat {
         })
     }
 
-    // Whether all spans of a period are kept.
-    pub(crate) fn is_repeating(&self) -> bool
+    /// Whether all spans of a period are kept.
+    pub fn is_repeating(&self) -> bool
         ensures yes { IsTrue result → IsRepeating self.now.stage }
         ensures no { IsFalse result → IsRepeating self.now.stage → ⊥ }
     {
@@ -163,8 +166,8 @@ impl Repeat {
         }
     }
 
-    // The next span: the first of the kept ones, a period later. It takes that one's place.
-    pub(crate) fn turn(&mut self) -> Option<Span>
+    /// The next span: the first of the kept ones, a period later. It takes that one's place.
+    pub fn turn(&mut self) -> Option<Span>
         requires repeating { IsRepeating self.old.stage }
         ensures takes { (xs : List Interval) → IsNormal xs → HasKept self.old xs
             → Takes (to_come self.old.stage xs) result (to_come self.new.stage xs) }
@@ -176,9 +179,9 @@ impl Repeat {
         Some(span)
     }
 
-    // Keeps a span that was handed out. With the first one that is a period after the first kept one, all of a period
-    // are kept.
-    pub(crate) fn keep(&mut self, span: Span)
+    /// Keeps a span that was handed out. With the first one that is a period after the first kept one, all of a period
+    /// are kept.
+    pub fn keep(&mut self, span: Span)
         requires learning { IsRepeating self.old.stage → ⊥ }
         ensures all { (xs : List Interval) → IsNormal (span ∷ xs) → HasKept self.old (span ∷ xs)
             → to_come self.new.stage xs ≡ xs }

@@ -2,8 +2,8 @@
 use Rattle.std.specs.Prelude.{◌≡◌, ℕ, ℤ, ◌<◌, ◌+ℤ◌, ◌≤ℤ◌, ◌<ℤ◌, int_lt, if◌then◌else◌, List, [], ◌∷◌, ◌++◌, IsTrue}
 use Rattle.gtd_core.specs.Seconds.{Interval}
 use Rattle.gtd_spans.specs.Normal.{IsNormal, is_held}
-use Rattle.gtd_eval.specs.declared.repeat.Stage.{Stage}
-use Rattle.gtd_eval.specs.declared.repeat.Stage.TheVariants.{Learning, Repeating, GivenUp}
+use Rattle.gtd_kept.specs.declared.repeat.Stage.{Stage}
+use Rattle.gtd_kept.specs.declared.repeat.Stage.TheVariants.{Learning, Repeating, GivenUp}
 
 -- the interval w seconds later, as far as it is before `until`
 abbrev pub later : ℤ → ℤ → Interval → Interval
