@@ -9,7 +9,7 @@ use Rattle.gtd_records.specs.ClosingRows.{AreClosingRows, IsClosingRow}
 use Rattle.gtd_records.specs.Columns.{IsSortedSet}
 use Rattle.gtd_records.specs.declared.direction.Direction.{Direction}
 use Rattle.gtd_records.specs.Index.{AllSeen}
-use Rattle.gtd_records.specs.declared.index.RowPlace.{RowPlace}
+use Rattle.gtd_places.specs.declared.place.RowPlace.{RowPlace}
 
 module _ (rows : List Restriction) (part : List RowPlace) (element : ℕ) (direction : Direction) (vehicle : ℕ) (second : ℤ) where
   -- the numbers of the rows at the places so far

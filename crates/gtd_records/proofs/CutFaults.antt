@@ -8,7 +8,7 @@ use Rattle.gtd_core.specs.declared.fault.TextFault.{TextFault}
 use Rattle.gtd_records.specs.Closing.{Restriction}
 use Rattle.gtd_records.specs.Columns.{closed_of, number_of, Fields, IsOrdered, vehicles_of}
 use Rattle.gtd_records.specs.Cut.{counted_on}
-use Rattle.gtd_records.specs.ComputedFile.{AreRecords, AreSoundRows, FirstFault, IsTable}
+use Rattle.gtd_records.specs.ComputedFile.{AreSoundRows, FirstFault, IsTable}
 use Rattle.gtd_records.specs.ComputedRow.{IsDomainColumn, IsRow, with_domain}
 use Rattle.gtd_records.specs.File.{header}
 use Rattle.gtd_records.specs.declared.direction.Closed.{Closed}

@@ -1,14 +1,12 @@
 -- All faults of a record file.
-use Rattle.std.proofs.Common.{◌≡◌, ◌∙◌, sym, ap, refl, subst, arith, ◌<◌, ◌≤◌, ◌+◌, ◌⊎◌, inl, inr, ◌↔◌, ℕ, true, List}
-use Rattle.std.proofs.Common.{[], ◌∷◌, ◌++◌, length, length-append, append_assoc, add-zero, Option}
+use Rattle.std.proofs.Common.{◌≡◌, ◌∙◌, sym, ap, refl, subst, arith, ◌<◌, ◌≤◌, ◌+◌, ◌⊎◌, inl, inr, ◌↔◌, ℕ, List}
+use Rattle.std.proofs.Common.{[], ◌∷◌, ◌++◌, length, length-append, append_assoc, add-zero}
 use Rattle.std.specs.Prelude.{Result, Ok, Err}
-use Rattle.std.proofs.lemmas.List.{append-nil}
 use Rattle.csv.specs.Reading.{default_config, records, strip_bom}
 use Rattle.gtd_records.specs.Faults.{AreFaults, AreFileFaults, AreRowFaults, AreTableFaults, with_fault}
 use Rattle.gtd_core.specs.Limits.{most_file_bytes, most_rows}
 use Rattle.gtd_records.specs.ComputedFile.{AreRecords, FirstFault, IsFile, AreSoundRows, IsTable}
 use Rattle.gtd_records.specs.ComputedRow.{IsRow}
-use Rattle.gtd_records.specs.File.{header}
 use Rattle.gtd_records.specs.Closing.{Restriction}
 use Rattle.gtd_records.specs.Columns.{Fields}
 use Rattle.gtd_records.specs.declared.fault.RecordFault.{RecordFault}

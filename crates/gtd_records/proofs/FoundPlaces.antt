@@ -5,7 +5,7 @@ use Rattle.gtd_core.specs.Trees.{Tree}
 use Rattle.gtd_records.specs.Closing.{Closes, HoldsAt, Restriction}
 use Rattle.gtd_records.specs.Index.{AllSeen, AreElementPlaces, IsRepeated}
 use Rattle.gtd_records.specs.declared.direction.Direction.{Direction}
-use Rattle.gtd_records.specs.declared.index.RowPlace.{RowPlace}
+use Rattle.gtd_places.specs.declared.place.RowPlace.{RowPlace}
 use Rattle.gtd_records.specs.facts.IndexFacts.{any_default, by_le, one_record}
 
 -- what stands past the end

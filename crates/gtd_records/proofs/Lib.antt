@@ -17,7 +17,6 @@ pub mod DomainTexts
 pub mod EachFile
 pub mod StayFacts
 pub mod FoundPlaces
-pub mod SectionFacts
 pub mod SortedSets
 pub mod LineEnds
 pub mod DomainLines

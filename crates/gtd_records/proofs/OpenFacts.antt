@@ -15,7 +15,7 @@ use Rattle.gtd_eval.specs.Cursors.{total_nodes}
 use Rattle.gtd_records.proofs.FoundPlaces.{NoneSoFar, none_more, none_of_seen, repeated_closes}
 use Rattle.gtd_records.specs.Index.{AllSeen, AreClosing, AreElementPlaces, IsRepeated}
 use Rattle.gtd_records.specs.Closing.{Closes, Concerns, HoldsAt, IsClosed, IsOpen, Restriction}
-use Rattle.gtd_records.specs.declared.index.RowPlace.{RowPlace}
+use Rattle.gtd_places.specs.declared.place.RowPlace.{RowPlace}
 use Rattle.gtd_records.specs.declared.direction.Direction.{Direction}
 
 some_push : {L : Type 0} {g : Ghosts L} (cs : List (SweepTree L g)) (c : SweepTree L g) (t : ℤ)

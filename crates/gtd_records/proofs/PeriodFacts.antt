@@ -12,7 +12,7 @@ use Rattle.gtd_eval.specs.Membership.{IsNormalOver}
 use Rattle.gtd_records.specs.Closing.{Concerns, HoldsAt, IsClosed, IsOpen, Restriction}
 use Rattle.gtd_records.specs.declared.direction.Direction.{Direction}
 use Rattle.gtd_records.specs.Index.{AllSeen}
-use Rattle.gtd_records.specs.declared.index.RowPlace.{RowPlace}
+use Rattle.gtd_places.specs.declared.place.RowPlace.{RowPlace}
 
 -- the restrictions at the first places repeat from a period on, as far as they close the element
 abbrev pub RepeatSoFar : Period → List Restriction → List RowPlace → ℕ → Direction → ℕ → ℕ → Type 0

@@ -1,7 +1,7 @@
 -- How long an element stays closed, found place by place.
 use Rattle.std.proofs.Common.{◌≡◌, ◌∙◌, sym, refl, subst, arith, ◌<◌, ◌+◌, ◌⊎◌, inl, inr, ◌↔◌, ℕ, List, length, Bool, true, false}
-use Rattle.std.specs.Prelude.{ℤ, ◌<ℤ◌, ◌≤ℤ◌, IsTrue, not, slice_index_or}
-use Rattle.std.proofs.lemmas.Int.{ints, by_lt_z}
+use Rattle.std.specs.Prelude.{ℤ, ◌<ℤ◌, not, slice_index_or}
+use Rattle.std.proofs.lemmas.Int.{ints}
 use Rattle.gtd_core.specs.declared.domain.Op.TheVariants.{Union}
 use Rattle.gtd_core.specs.declared.second.Sec.{Sec}
 use Rattle.gtd_eval.specs.Stays.{IsJoined, IsStay}
@@ -12,7 +12,7 @@ use Rattle.gtd_records.specs.Index.{AllSeen, AreElementPlaces, IsRepeated}
 use Rattle.gtd_records.proofs.FoundPlaces.{repeated_closes}
 use Rattle.gtd_records.specs.Closing.{Closes, Concerns, HoldsAt, IsClosed, Restriction}
 use Rattle.gtd_records.specs.declared.direction.Direction.{Direction}
-use Rattle.gtd_records.specs.declared.index.RowPlace.{RowPlace}
+use Rattle.gtd_places.specs.declared.place.RowPlace.{RowPlace}
 
 -- one set stays as it is as long as an equal one
 same_set : (P Q : ℤ → Type 0) (s last : ℤ) (stay : Stay) → ((t : ℤ) → P t ↔ Q t) → IsStay P s last stay → IsStay Q s last stay

@@ -12,7 +12,6 @@ use Rattle.gtd_records.specs.Taking.{AreAllTaken, AreTableTaken, HasHeader}
 use Rattle.gtd_records.specs.facts.RowFaults.{faults_listed}
 use Rattle.gtd_records.specs.facts.RowsRead.{IsListing}
 use Rattle.gtd_records.specs.facts.TakenRows.{taken_from_none}
-use Rattle.gtd_records.specs.declared.fault.RecordFault.{RecordFault}
 use Rattle.gtd_records.specs.declared.fault.RecordFault.TheVariants as fault
 use Rattle.gtd_records.specs.declared.faults.FaultList.{FaultList}
 use Rattle.gtd_records.specs.declared.file.Reading.{Reading}

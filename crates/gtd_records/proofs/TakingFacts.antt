@@ -1,5 +1,5 @@
 -- The rows that were taken so far.
-use Rattle.std.proofs.Common.{◌≡◌, ◌∙◌, ◌<◌, ◌≤◌, ◌+◌, sym, ap, refl, subst, arith, ℕ, Bool, true, false, List, [], ◌∷◌, ◌++◌}
+use Rattle.std.proofs.Common.{◌≡◌, ◌∙◌, ◌≤◌, ◌+◌, sym, ap, refl, subst, arith, ℕ, Bool, true, false, List, [], ◌∷◌, ◌++◌}
 use Rattle.std.proofs.Common.{length, length-append, append_assoc, add-zero, Option}
 use Rattle.std.proofs.lemmas.List.{append-nil}
 use Rattle.csv.specs.declared.reader.Reader.{Reader}

@@ -1,8 +1,6 @@
 //! The records of a file in memory, found by their element.
 
-ghost use Rattle.std.specs.Prelude.{Any, ◌≡◌, ◌↔◌, ◌<◌, ◌≤◌, ℕ, ℤ, List, length, map, IfOk, IfSome, IsFalse, IsTrue};
-ghost use Rattle.std.specs.List.{AllWithin};
-ghost use Rattle.std.specs.List.Sorted.{IsNonDecreasingBy, IsStrictlyIncreasing};
+ghost use Rattle.std.specs.Prelude.{Any, ◌≡◌, ◌↔◌, ◌≤◌, length, IfOk, IfSome, IsFalse, IsTrue};
 ghost use Rattle.gtd_core.specs.Limits.{most_rows};
 ghost use Rattle.gtd_core.specs.Seconds.{IsHorizonSecond, Within};
 ghost use Rattle.gtd_core.specs.Whole.{whole};
@@ -15,10 +13,9 @@ ghost use Rattle.gtd_records.specs.Columns.{IsSortedSet};
 
 use crate::direction::Direction;
 use crate::record::Record;
-use crate::sections::{Sections, places_below_near};
-use crate::spread::spread;
 use gtd_core::{Horizon, Op, Sec};
 use gtd_eval::{Leaf, Period, Stay, SweepTree};
+use gtd_places::{OrderedPlaces, RowPlace, Sections, by_element, elements_of, places_below_near};
 use std::alloc::{AllocError, Global};
 use std::marker::Model;
 
@@ -27,15 +24,6 @@ const FEW: usize = 16;
 
 // With how many of the records before it a later one is compared.
 const MOST_COMPARED: usize = 64;
-
-/// The place of an element's record in the file.
-#[derive(Clone, Copy, Debug)]
-pub struct RowPlace {
-    /// The record's element.
-    pub element: u64,
-    /// The number of rows before the record's.
-    pub row: usize,
-}
 
 /// The records of a file, in the order of its rows and found by their element. There are at most 65,536.
 #[derive(Drop)]
@@ -63,8 +51,8 @@ impl Model for Records {
 }
 
 // The places of records, by element.
-fn places_of(alloc: Global, rows: &[Record]) -> Result<Vec<RowPlace>, AllocError>
-    ensures { IfOk result (λ places. ArePlaces rows.now places.items) }
+fn places_of(alloc: Global, rows: &[Record]) -> Result<OrderedPlaces, AllocError>
+    ensures { IfOk result (λ ordered. ArePlaces rows.now ordered.places.items) }
 {
     let mut places = Vec::with_capacity(alloc, rows.len())?;
     for (row, record) in rows.iter().enumerate() {
@@ -73,38 +61,8 @@ fn places_of(alloc: Global, rows: &[Record]) -> Result<Vec<RowPlace>, AllocError
             row,
         })?;
     }
-    let sections = Sections::new(alloc, places.as_slice())?;
-    let mut ready = sections.starts(alloc)?;
-    spread(places.as_mut_slice(), &sections, ready.as_mut_slice());
-    places.sort_unstable_by_key(|place| place.element);
-    Ok(places)
-}
-
-// The elements of places, in their order.
-fn numbers_of(alloc: Global, places: &[RowPlace]) -> Result<Vec<u64>, AllocError>
-    ensures { IfOk result (λ numbers. numbers.items ≡ map (λ (p : RowPlace). p.element) places.now) }
-{
-    places.iter().map(|place| place.element).collect(alloc)
-}
-
-// The elements of places that are ordered by element, each once.
-fn elements_of(alloc: Global, places: &[RowPlace]) -> Result<Vec<u64>, AllocError>
-    requires { IsNonDecreasingBy (λ (p : RowPlace). p.element) places.now }
-    ensures { IfOk result (λ elements. IsSortedSet (map (λ (p : RowPlace). p.element) places.now) elements.items) }
-{
-    let mut elements = numbers_of(alloc, places)?;
-    elements.dedup();
-    Ok(elements)
-}
-
-// The number of places of elements below a given one.
-pub(crate) fn places_below(places: &[RowPlace], element: u64) -> usize
-    requires { IsNonDecreasingBy (λ (p : RowPlace). p.element) places.now }
-    ensures within { result ≤ length places.now }
-    ensures below { AllWithin (λ (p : RowPlace). p.element < element) places.now 0 result }
-    ensures rest { AllWithin (λ (p : RowPlace). element ≤ p.element) places.now result (length places.now) }
-{
-    places.partition_point(|place| place.element < element)
+    let ordered = by_element(alloc, places)?;
+    Ok(ordered)
 }
 
 // The same numbers, in ascending order, each once.
@@ -122,9 +80,9 @@ impl Records {
         requires { length rows.items ≤ most_rows }
         ensures { IfOk result (λ records. records ≡ rows.items) }
     {
-        let places = places_of(alloc, rows.as_slice())?;
-        let elements = elements_of(alloc, places.as_slice())?;
-        let sections = Sections::new(alloc, places.as_slice())?;
+        let ordered = places_of(alloc, rows.as_slice())?;
+        let elements = elements_of(alloc, ordered.places.as_slice())?;
+        let OrderedPlaces { places, sections } = ordered;
         Ok(Records {
             rows,
             places,

@@ -33,6 +33,4 @@ mod record;
 mod row;
 mod rows;
 mod schedule;
-mod sections;
-mod spread;
 mod vehicles;

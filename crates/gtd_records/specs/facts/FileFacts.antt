@@ -1,12 +1,10 @@
 -- How many records a file has.
 use Rattle.std.proofs.Common.{◌≡◌, ◌≤◌, ◌+◌, inl, inr, ap, arith, ℕ, List, [], ◌∷◌, length}
 use Rattle.std.specs.Prelude.{Ok}
-use Rattle.gtd_core.specs.Limits.{most_rows}
 use Rattle.gtd_records.specs.ComputedFile.{AreRecords, IsTable}
 use Rattle.gtd_records.specs.Columns.{Fields}
 use Rattle.gtd_records.specs.Closing.{Restriction}
 use Rattle.gtd_records.specs.declared.vehicles.Version.{Version}
-use Rattle.gtd_records.specs.declared.fault.RecordFault.{RecordFault}
 
 -- a file has no more records than it may have rows
 pub record_count : (v : Version) (number : ℕ) (rows : List Fields) (found : List Restriction) → AreRecords v number rows found

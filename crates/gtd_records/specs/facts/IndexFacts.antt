@@ -1,33 +1,20 @@
 -- Records found by their element.
 use Rattle.std.proofs.Common.{◌≡◌, ◌∙◌, sym, ap, refl, subst, ◌<◌, ◌≤◌, ◌+◌, ℕ, zero, suc, List, [], ◌∷◌, length, map, get_or}
-use Rattle.std.proofs.Common.{take, drop, ◌-◌, ◌*◌, arith, is_lt, false, length-drop, length-take}
-use Rattle.std.specs.Prelude.{Any, slice_index_or}
+use Rattle.std.proofs.Common.{take, drop, ◌-◌, arith, length-drop, length-take}
+use Rattle.std.specs.Prelude.{Any, ◌↔◌, slice_index_or}
 use Rattle.std.specs.List.{Contains}
-use Rattle.std.specs.List.Sorted.{IsNonDecreasingBy, IsSorted}
-use Rattle.std.specs.Ordering.{nat_cmp}
-use Rattle.std.proofs.lemmas.List.{length-map, get_or-take, get_or-drop}
-use Rattle.std.proofs.lemmas.Bool.Decides.{nat_tests}
+use Rattle.std.specs.List.Sorted.{IsStrictlyIncreasing}
+use Rattle.std.proofs.lemmas.List.{get_or-take, get_or-drop}
+pub use Rattle.gtd_places.specs.facts.PlaceFacts.{any_default, by_le}
 use Rattle.gtd_records.specs.Index.{AllSeen, AreElementPlaces, ArePlaces, IsPlaceOfRow}
 use Rattle.gtd_records.specs.Closing.{AreElements, Restriction}
-use Rattle.gtd_records.specs.Columns.{IsSortedSet}
-use Rattle.gtd_records.specs.declared.index.RowPlace.{RowPlace}
-
-pub by_le : {P : Type 0} (a b : ℕ) → (a ≤ b → P) → (b < a → P) → P
-by_le zero b f g = f (omega arith)
-by_le (suc a) zero f g = g (omega arith)
-by_le (suc a) (suc b) f g = by_le a b (λ h. f (omega arith)) (λ h. g (omega arith))
+use Rattle.gtd_places.specs.declared.place.RowPlace.{RowPlace}
 
 -- what is at an index
 pub at_index : {X : Type 0} (xs : List X) (k : ℕ) → k < length xs → (x : X) × (slice_index_or xs k x ≡ x)
 at_index [] k h = absurd (omega arith)
 at_index (x ∷ xs) zero h = (x, refl)
 at_index (x ∷ xs) (suc k) h = at_index xs k (omega arith)
-
--- an index within a list has one value, whatever comes past its end
-pub any_default : {X : Type 0} (xs : List X) (k : ℕ) (d e : X) → k < length xs → slice_index_or xs k d ≡ slice_index_or xs k e
-any_default [] k d e h = absurd (omega arith)
-any_default (x ∷ xs) zero d e h = refl
-any_default (x ∷ xs) (suc k) d e h = any_default xs k d e (omega arith)
 
 -- an image is in the images
 pub any_from_map : {X : Type 0} (f : X → ℕ) (xs : List X) (k n : ℕ) → k < length (map f xs) → slice_index_or (map f xs) k n ≡ n
@@ -115,25 +102,6 @@ pub one_record : (rows : List Restriction) (n : ℕ) (r s : Restriction) → n <
     ≡ slice_index_or rows n s → r ≡ s
 one_record rows n r s h a b = sym a ∙ any_default rows n r s h ∙ sym b
 
-not_less : (a b : ℕ) → b ≤ a → is_lt (nat_cmp a b) ≡ false
-not_less a b h = grind (arith, nat_tests)
-
--- places that are ordered by element have elements in order
-number_at : (places : List RowPlace) (k d : ℕ) (p : RowPlace) → k < length places
-    → get_or (map (λ (q : RowPlace). q.element) places) k d
-    ≡ (slice_index_or places k p).element
-number_at [] k d p h = absurd (omega arith)
-number_at (q ∷ places) zero d p h = refl
-number_at (q ∷ places) (suc k) d p h = number_at places k d p (omega arith)
-
-pub sorted_numbers : (places : List RowPlace) → IsNonDecreasingBy (λ (p : RowPlace). p.element) places
-    → IsSorted nat_cmp (map (λ (p : RowPlace). p.element) places)
-sorted_numbers places sorted = λ k d low high.
-    let p : RowPlace = record { element = 0; row = 0 } in
-    let within : k + 1 < length places = rw length-map at high in
-    rw (number_at places (k + 1) d p within, number_at places k d p (omega arith))
-    (not_less _ _ (sorted k (k + 1) p (omega arith) within))
-
 -- the elements of the places are those of the rows
 module _ (rows : List Restriction) (places : List RowPlace) (placed : ArePlaces rows places) where
   place_named : (x : ℕ) → Contains (map (λ (p : RowPlace). p.element) places) x → Any (λ (r : Restriction). r.element ≡ x) rows
@@ -147,9 +115,9 @@ module _ (rows : List Restriction) (places : List RowPlace) (placed : ArePlaces 
       let c = placed.each a.0 a.1 a.2 a.3 in
       map_from_any (λ (p : RowPlace). p.element) places c.0 x (record { element = a.1.element; row = a.0 }) c.1 c.2 a.4
 
-  pub are_elements : (elements : List ℕ) → IsSortedSet (map (λ (p : RowPlace). p.element) places) elements
-      → AreElements rows elements
-  are_elements elements is = record {
-    ascending = is.order;
-    named = λ x. ((λ h. place_named x ((is.same x).0 h)), (λ a. (is.same x).1 (named_place x a)));
+  pub are_elements : (elements : List ℕ) → IsStrictlyIncreasing elements
+      → ((x : ℕ) → Contains elements x ↔ Contains (map (λ (p : RowPlace). p.element) places) x) → AreElements rows elements
+  are_elements elements ascending same = record {
+    ascending = ascending;
+    named = λ x. ((λ h. place_named x ((same x).0 h)), (λ a. (same x).1 (named_place x a)));
   }

@@ -1,7 +1,7 @@
 -- Where each restriction closes both directions, these are open at the same seconds.
 use Rattle.std.proofs.Common.{◌≡◌, ℕ, List}
 use Rattle.std.specs.Prelude.{Any, ℤ}
-use Rattle.gtd_records.specs.Closing.{Closes, ClosesDirection, ClosesOneWay, IsClosed, IsOpen, Restriction}
+use Rattle.gtd_records.specs.Closing.{ClosesDirection, ClosesOneWay, IsClosed, IsOpen, Restriction}
 use Rattle.gtd_records.specs.declared.direction.Closed.{Closed}
 use Rattle.gtd_records.specs.declared.direction.Closed.TheVariants.{One, Both}
 use Rattle.gtd_records.specs.declared.direction.Direction.{Direction}

@@ -1,5 +1,5 @@
 -- The faults of rows: each has its row's number, and they are listed row by row.
-use Rattle.std.proofs.Common.{◌≡◌, ◌+◌, ap, refl, ℕ, List, [], ◌∷◌, ◌++◌, Option, Some, None}
+use Rattle.std.proofs.Common.{◌≡◌, ap, refl, ℕ, List, [], ◌∷◌, ◌++◌, Option, Some, None}
 use Rattle.std.specs.Prelude.{MatchOption, Result, Ok, Err}
 use Rattle.gtd_core.specs.Trees.{Tree}
 use Rattle.gtd_core.specs.declared.fault.TextFault.{TextFault}

@@ -1,7 +1,6 @@
 -- Each list of codes can be put into ascending order, each code once.
-use Rattle.std.proofs.Common.{◌≡◌, ◌∙◌, sym, ◌<◌, ◌⊎◌, inl, inr, ◌↔◌, ℕ, List, [], ◌∷◌, arith}
-use Rattle.std.specs.List.{Contains}
-use Rattle.std.specs.List.Sorted.{IsStrictlyIncreasing, IsStrictlySortedBy}
+use Rattle.std.proofs.Common.{◌≡◌, ◌∙◌, sym, ◌<◌, ◌⊎◌, inl, inr, ℕ, List, [], ◌∷◌, arith}
+use Rattle.std.specs.List.Sorted.{IsStrictlySortedBy}
 use Rattle.std.specs.List.{AllByRecursion}
 use Rattle.std.specs.Ordering.{nat_cmp}
 use Rattle.std.specs.declared.cmp.Ordering.TheVariants.{Less}

@@ -1,6 +1,6 @@
 -- The next change of the open seconds is the element's; if weekly records have none in a week, they have none later.
 use Rattle.std.proofs.Common.{sym, ◌∙◌}
-use Rattle.std.specs.Prelude.{ℤ, MatchOption, ◌↔◌, ◌⊎◌, ◌+ℤ◌, ◌<ℤ◌, ◌≤ℤ◌, ◌≡◌, IsTrue}
+use Rattle.std.specs.Prelude.{IsTrue}
 use Rattle.gtd_core.specs.Whole.{whole}
 use Rattle.gtd_eval.specs.facts.Repeats.{changes-in}
 use Rattle.gtd_eval.specs.facts.WeekFacts.{changes-to-end}

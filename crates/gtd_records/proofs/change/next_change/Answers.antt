@@ -1,6 +1,6 @@
 -- From stay to stay the element's state is that at the first second, up to the stay whose state differs.
 use Rattle.std.proofs.Common.{◌≡◌, ap, arith, rules}
-use Rattle.std.specs.Prelude.{ℤ, ◌<ℤ◌, ◌≤ℤ◌, not}
+use Rattle.std.specs.Prelude.{not}
 use Rattle.std.proofs.lemmas.Int.{ints}
 use Rattle.gtd_core.specs.Whole.{whole}
 use Rattle.gtd_eval.specs.facts.StayChanges.{changes_at, next_stays, stays_outside, tells_outside}

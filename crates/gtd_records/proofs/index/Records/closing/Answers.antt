@@ -1,5 +1,5 @@
 -- A cursor for each record of the element that closes the direction for the vehicle type; one left out has an equal.
-use Rattle.std.proofs.Common.{◌∙◌, sym, arith, rules, length-append, [], ◌∷◌}
+use Rattle.std.proofs.Common.{sym, arith, rules, length-append, [], ◌∷◌}
 use Rattle.gtd_eval.specs.facts.CursorFacts.{nodes-append}
 use Rattle.gtd_records.proofs.FoundPlaces.{nowhere, places_kept, repeats_kept}
 use Rattle.gtd_records.proofs.OpenFacts.{are_closing, one_cursor, same_cursors}

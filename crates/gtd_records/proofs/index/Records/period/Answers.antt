@@ -1,10 +1,10 @@
 -- The longest period so far is one after which each record passed repeats, and so does what they close together.
-use Rattle.std.proofs.Common.{◌≡◌, ◌∙◌, ◌+◌, ◌-◌, ◌<◌, ◌≤◌, sym, ap, subst, arith, rules, ℕ, length, take, drop}
+use Rattle.std.proofs.Common.{◌≡◌, ◌∙◌, ◌+◌, ◌<◌, ◌≤◌, sym, ap, subst, arith, rules, ℕ}
 use Rattle.std.specs.Prelude.{slice_index_or}
 use Rattle.gtd_eval.specs.Periods.{RepeatsFrom}
 use Rattle.gtd_eval.specs.facts.PeriodFacts.{from-longer}
 use Rattle.gtd_records.specs.Closing.{Concerns, HoldsAt, Restriction}
-use Rattle.gtd_records.specs.declared.index.RowPlace.{RowPlace}
+use Rattle.gtd_places.specs.declared.place.RowPlace.{RowPlace}
 use Rattle.gtd_records.proofs.PeriodFacts.{all_repeat, so-far-longer}
 use Rattle.gtd_records.specs.facts.IndexFacts.{any_default, by_le, one_record}
 use Rattle.gtd_records.proofs.FoundPlaces.{nowhere, places_kept}

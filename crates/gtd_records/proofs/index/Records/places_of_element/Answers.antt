@@ -2,7 +2,7 @@
 use Rattle.std.proofs.Common.{◌≡◌, ◌∙◌, sym, ap, subst, arith, ℕ, List, length}
 use Rattle.std.specs.Prelude.{slice_index_or}
 use Rattle.gtd_records.specs.Index.{ArePlaces}
-use Rattle.gtd_records.specs.declared.index.RowPlace.{RowPlace}
+use Rattle.gtd_places.specs.declared.place.RowPlace.{RowPlace}
 use Rattle.gtd_records.specs.facts.IndexFacts.{any_default, by_le, element_places}
 use Rattle.gtd_records.proofs.FoundPlaces.{places_kept}
 use Rattle.gtd_records.proofs.index.Records.places_of_element.Goals as goal

@@ -1,6 +1,6 @@
 use Rattle.std.proofs.Common.{◌≡◌, ◌<◌, ◌≤◌, ℕ}
 use Rattle.std.specs.Prelude.{slice_index_or}
-use Rattle.gtd_records.specs.declared.index.RowPlace.{RowPlace}
+use Rattle.gtd_places.specs.declared.place.RowPlace.{RowPlace}
 use Rattle.gtd_records.proofs.index.Records.places_of_element.Given as goal
 
 -- the places from the first on are of the element
