@@ -103,6 +103,8 @@ pub(crate) struct KnownTexts {
     places: Vec<Option<KnownText>>,
     /// The mixed bytes of the latest text of each place that was read.
     heard: Vec<u32>,
+    /// The mixed bytes of the text that was read last. Equal texts have the same.
+    pub(crate) latest: u32,
 }
 
 impl KnownTexts {
@@ -111,6 +113,7 @@ impl KnownTexts {
         KnownTexts {
             places: Vec::new(alloc),
             heard: Vec::new(alloc),
+            latest: 0,
         }
     }
 
@@ -172,10 +175,11 @@ impl KnownTexts {
         ensures found { IfOk result (λ domain. StandsFor text.now (domain_tree domain) × HasNoFault text.now) }
         ensures fault { IfErr result (λ fault. (fault ≡ no_memory) ⊎ IsFault text.now fault) }
     {
+        let mixed = mixed(text);
+        self.latest = mixed;
         if text.len() > LONGEST {
             return read_domain(alloc, text);
         }
-        let mixed = mixed(text);
         match self.find(alloc, text, mixed) {
             Ok(Some(domain)) => return Ok(domain),
             Ok(None) => {}

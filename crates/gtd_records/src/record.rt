@@ -27,6 +27,8 @@ pub struct Record {
     pub vehicles: Vehicles,
     /// When it closes them: at the seconds of a domain, or always.
     pub domain: Option<Domain>,
+    // The bytes of the domain's text, mixed into one number. Records with the same text have the same.
+    pub(crate) mixed: u32,
 }
 
 impl Model for Record {
@@ -74,12 +76,14 @@ impl Record {
         }
     }
 
-    // Whether the record closes its element in a direction for a vehicle type, and has the same domain as another.
+    // Whether the record closes its element in a direction for a vehicle type, and has the same domain as another. Of most that
+    // differ, the mixed texts differ already. The same domain in another text counts as another.
+    #[inline(always)]
     pub(crate) fn closes_alike(&self, other: &Record, direction: Direction, vehicle: u8) -> bool
         ensures concerns { IsTrue result → Concerns direction vehicle self.now }
         ensures same { IsTrue result → self.now.domain ≡ other.now.domain }
     {
-        self.has_domain_of(other) && self.concerns(direction, vehicle)
+        self.mixed == other.mixed && self.has_domain_of(other) && self.concerns(direction, vehicle)
     }
 
     // Whether the record closes its element for a vehicle type in one direction alone, whatever the second.

@@ -93,6 +93,7 @@ fn read_last(
     ensures { result ≢ Err RecordFault.NoMemory → IsDomainRead number text.now result }
 {
     if text.is_empty() {
+        known.latest = 0;
         return Ok(None);
     }
     match known.read(alloc, text) {
@@ -132,6 +133,7 @@ fn read_row(
         closed,
         vehicles,
         domain,
+        mixed: known.latest,
     })
 }
 
