@@ -72,6 +72,17 @@ impl<'a> Rows<'a> {
         Ok(())
     }
 
+    // Goes back to the header. A new reader takes 16 KB of the stack, and the stack of a call is cleared: this stands alone.
+    #[cold]
+    #[inline(never)]
+    fn begin_anew(&mut self) -> Result<(), AllocError>
+        ensures at { (bytes : List ℕ) (number : ℕ) → StandsAt bytes number self.old
+            → OnOk result (StandsAt bytes 0 self.new) }
+    {
+        *self = Rows::new(self.alloc, self.bytes)?;
+        Ok(())
+    }
+
     // Goes back to the header if it stands at a later row than this.
     fn go_back(&mut self, row: u32) -> Result<(), AllocError>
         ensures at { (bytes : List ℕ) (number : ℕ) → StandsAt bytes number self.old
@@ -80,8 +91,7 @@ impl<'a> Rows<'a> {
         if row >= self.number {
             return Ok(());
         }
-        *self = Rows::new(self.alloc, self.bytes)?;
-        Ok(())
+        self.begin_anew()
     }
 
     // Moves on to the row with this number.
