@@ -9,7 +9,8 @@ use Rattle.gtd_text.specs.Reading.{HasNoFault, IsFault, StandsFor}
 use Rattle.gtd_records.specs.ComputedFile.{AreRecords, AreRows, IsFile, IsTable}
 use Rattle.gtd_records.specs.File.{header}
 use Rattle.gtd_records.specs.ComputedRow.{IsRow}
-use Rattle.gtd_records.specs.facts.RowNames.{AllBut, Closed, Every, Fields, IsDomainColumn, IsOrdered, Only, RecordFault, Restriction}
+use Rattle.gtd_records.specs.facts.RowNames.{AllBut, Closed, Every, Fields, IsDomainColumn, IsOrdered, Only}
+use Rattle.gtd_records.specs.facts.RowNames.{RecordFault, Restriction}
 use Rattle.gtd_records.specs.facts.RowNames.{TextFault, Tree, Vehicles, Version, closed_of, number_of, vehicles_of, with_domain}
 use Rattle.gtd_records.specs.declared.fault.RecordFault.TheVariants as fault
 use Rattle.gtd_records.specs.declared.vehicles.Version.TheVariants as version

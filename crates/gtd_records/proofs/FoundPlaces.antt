@@ -15,7 +15,8 @@ nowhere = record { element = 0; row = 0 }
 -- the places of the rows that are kept, which are those that are told of
 pub places_kept : (kept told : List Restriction) (element : ℕ) (part : List RowPlace) → kept ≡ told
     → AreElementPlaces told element part → AreElementPlaces kept element part
-places_kept kept told element part same are = subst (λ (rows : List Restriction). AreElementPlaces rows element part) (sym same) are
+places_kept kept told element part same are =
+    subst (λ (rows : List Restriction). AreElementPlaces rows element part) (sym same) are
 
 -- what is told of the rows holds of those that are kept
 pub repeats_kept : (kept told : List Restriction) (part : List RowPlace) (direction : Direction) (vehicle stop : ℕ)
@@ -32,7 +33,8 @@ repeated_closes rows part element direction vehicle i domain t placed within aga
     let early = again.early in
     let p = placed.sound again.before again.place (omega arith) in
     record {
-      names = p.1 again.row (sym (subst (λ (q : RowPlace). slice_index_or rows q.row again.row ≡ again.row) (sym again.at) again.stands));
+      names = p.1 again.row (sym (subst (λ (q : RowPlace). slice_index_or rows q.row again.row ≡ again.row) (sym again.at)
+          again.stands));
       concerns = again.concerns;
       holds = subst (λ (d : Option Tree). HoldsAt d t) (sym again.same) holds;
     }

@@ -45,7 +45,8 @@ module _ {L : Type 0} {g : Ghosts L} (rows : List Restriction) (part : List RowP
         → NoneSoFar rows part (Closes element direction vehicle t) stop
 
   -- a restriction adds none that concerns nothing asked for, or that is repeated
-  pub same_cursors : (i : ℕ) (cursors : List (SweepTree L g)) (p : RowPlace) (s : Restriction) → AreElementPlaces rows element part
+  pub same_cursors : (i : ℕ) (cursors : List (SweepTree L g)) (p : RowPlace) (s : Restriction)
+      → AreElementPlaces rows element part
       → i < length part → s ≡ slice_index_or rows (slice_index_or part i p).row s
       → (Concerns direction vehicle s → IsRepeated rows part direction vehicle i s.domain) → AreClosingSoFar i cursors
       → AreClosingSoFar (i + 1) cursors

@@ -19,4 +19,5 @@ pub of_table : (bytes : List ℕ) (told : Option (List ℕ)) (r : Result (List R
     → IfSome told (λ all. MatchResult r (λ found. IsFile all (Ok found)) (λ why. IsOfFile why → IsFile all (Err why)))
 of_table bytes None r few is t = tt
 of_table bytes (Some all) (Ok found) few is t = subst (λ b. IsFile b (Ok found)) is (inl (few, table_of _ _ t))
-of_table bytes (Some all) (Err why) few is t = λ of. subst (λ b. IsFile b (Err why)) is (inl (few, table_of _ _ (t (not_memory why of))))
+of_table bytes (Some all) (Err why) few is t = λ of.
+    subst (λ b. IsFile b (Err why)) is (inl (few, table_of _ _ (t (not_memory why of))))

@@ -32,13 +32,18 @@ headed text first rows v split is = split ∙ ap (λ (f : Fields). f ∷ rows) i
 
 records_listed : (v : Version) → IsListing (λ (r : Restriction) (rest : List Restriction). r ∷ rest)
     (λ (k : ℕ) (row : Fields) (r : Restriction). IsRow v k row (Ok r)) (AreRecords v)
-records_listed v = record { joins = λ r rest more. refl; none = λ k l. ((λ e. e), (λ e. e)); more = λ k r rs l. ((λ a. a), (λ a. a)) }
+records_listed v = record {
+  joins = λ r rest more. refl;
+  none = λ k l. ((λ e. e), (λ e. e));
+  more = λ k r rs l. ((λ a. a), (λ a. a));
+}
 
 records_taken : (v : Version) (rows : List Fields) (old new : Reading) → old.rows.version ≡ v → old.found.items ≡ []
     → AreAllTaken Reads 1 rows old new → (new.rows.version ≡ v) × AreRecords v 1 rows new.found.items
 records_taken v rows old new same none taken =
     taken_from_none (λ (r : Restriction) (rest : List Restriction). r ∷ rest)
-    (λ (k : ℕ) (row : Fields) (r : Restriction). IsRow v k row (Ok r)) (AreRecords v) (records_listed v) Reads (λ (s : Reading). s.rows.version ≡ v) (λ (s : Reading). s.found.items)
+    (λ (k : ℕ) (row : Fields) (r : Restriction). IsRow v k row (Ok r)) (AreRecords v) (records_listed v) Reads
+    (λ (s : Reading). s.rows.version ≡ v) (λ (s : Reading). s.found.items)
     (λ a b k row keeps t.
     (t.0 ∙ keeps, (t.1.0, subst (λ (w : Version). IsRow w k row (Ok t.1.0)) keeps t.1.1, t.1.2)))
     rows old new same none taken
@@ -104,7 +109,8 @@ module _ (text : List Fields) (old new : Reading) (none : old.found.items ≡ []
 faults_taken : (v : Version) (rows : List Fields) (old new : FaultList) → old.rows.version ≡ v → old.faults.items ≡ []
     → AreAllTaken ListsFault 1 rows old new → (new.rows.version ≡ v) × AreRowFaults v 1 rows new.faults.items
 faults_taken v rows old new same none taken =
-    taken_from_none with_fault (IsRow v) (AreRowFaults v) (faults_listed v) ListsFault (λ (s : FaultList). s.rows.version ≡ v) (λ (s : FaultList). s.faults.items)
+    taken_from_none with_fault (IsRow v) (AreRowFaults v) (faults_listed v) ListsFault (λ (s : FaultList). s.rows.version ≡ v)
+    (λ (s : FaultList). s.faults.items)
     (λ a b k row keeps t. (t.0 ∙ keeps, (t.1.0, subst (λ (w : Version). IsRow w k row t.1.0) keeps t.1.1, t.1.2)))
     rows old new same none taken
 

@@ -87,9 +87,9 @@ fn take_rest<T: RowTaker>(
     Ok(RowsEnd::All)
 }
 
-/// Hands the records of a file's bytes to a taker: the first as a header, and if it is one, the others as rows, with their numbers
-/// from 1 on. No more than 65,536 rows are taken, and none after one that asks for no more. `AllocError` is answered only if
-/// memory was refused.
+/// Hands the records of a file's bytes to a taker: the first as a header, and if it is one, the others as rows, with their
+/// numbers from 1 on. No more than 65,536 rows are taken, and none after one that asks for no more. `AllocError` is answered
+/// only if memory was refused.
 pub fn take_rows<T: RowTaker>(
     alloc: Global,
     bytes: &[u8],

@@ -24,7 +24,14 @@ sound_rows : (v : Version) (k : ℕ) (rows : List Fields) (found : List Restrict
     → AreRecords v k rows found → AreRows v k rows (Ok found)
 sound_rows v k [] found few are = ap Ok are
 sound_rows v k (row ∷ rows) found few are =
-    (omega (arith, few), are.0, are.1, row_of v k row (Ok are.0) are.2, sound_rows v (k + 1) rows are.1 (omega (arith, few)) are.3, are.4)
+    (
+      omega (arith, few),
+      are.0,
+      are.1,
+      row_of v k row (Ok are.0) are.2,
+      sound_rows v (k + 1) rows are.1 (omega (arith, few)) are.3,
+      are.4,
+    )
 
 -- the row with this number is one too many, or has this fault
 abbrev IsAtFault : Version → ℕ → Fields → RecordFault → Type 0
@@ -73,7 +80,13 @@ rows_of v rows (Err why) are =
 records_of : (v : Version) (k : ℕ) (rows : List Fields) (found : List Restriction) → AreRows v k rows (Ok found)
     → AreRecords v k rows found
 records_of v k [] found are = ok_is found [] are
-records_of v k (row ∷ rows) found are = (are.1, are.2, computed_row v k row (Ok are.1) are.3, records_of v (k + 1) rows are.2 are.4, are.5)
+records_of v k (row ∷ rows) found are = (
+  are.1,
+  are.2,
+  computed_row v k row (Ok are.1) are.3,
+  records_of v (k + 1) rows are.2 are.4,
+  are.5,
+)
 
 few_rows : (v : Version) (k : ℕ) (rows : List Fields) (found : List Restriction) → k ≤ most_rows + 1
     → AreRows v k rows (Ok found) → k + length rows ≤ most_rows + 1

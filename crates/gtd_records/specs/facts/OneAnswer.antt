@@ -14,7 +14,8 @@ use Rattle.gtd_core.specs.Limits.{most_rows}
 use Rattle.gtd_records.specs.ComputedFile.{AreRecords, AreRows, FirstFault, IsFile, AreSoundRows, IsTable}
 use Rattle.gtd_records.specs.File.{header}
 use Rattle.gtd_records.specs.ComputedRow.{IsFullRow, IsRow}
-use Rattle.gtd_records.specs.facts.RowNames.{AllBut, Every, Fields, IsDomainColumn, IsOrdered, Only, RecordFault, Restriction, TextFault}
+use Rattle.gtd_records.specs.facts.RowNames.{AllBut, Every, Fields, IsDomainColumn, IsOrdered, Only}
+use Rattle.gtd_records.specs.facts.RowNames.{RecordFault, Restriction, TextFault}
 use Rattle.gtd_records.specs.facts.RowNames.{Tree, Vehicles, Version, closed_of, number_of, vehicles_of, with_domain}
 use Rattle.gtd_records.specs.declared.fault.RecordFault.TheVariants as fault
 use Rattle.gtd_records.specs.declared.vehicles.Version.TheVariants as version

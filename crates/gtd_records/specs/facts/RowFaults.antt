@@ -63,4 +63,8 @@ with_fault_append (Ok r) rest more = refl
 with_fault_append (Err why) rest more = refl
 
 pub faults_listed : (v : Version) → IsListing with_fault (IsRow v) (AreRowFaults v)
-faults_listed v = record { joins = with_fault_append; none = λ k l. ((λ e. e), (λ e. e)); more = λ k r rs l. ((λ a. a), (λ a. a)) }
+faults_listed v = record {
+  joins = with_fault_append;
+  none = λ k l. ((λ e. e), (λ e. e));
+  more = λ k r rs l. ((λ a. a), (λ a. a));
+}

@@ -18,7 +18,8 @@ use Rattle.gtd_records.specs.Row.{AreCodes, AreTypes, Column, IsDomain, IsNumber
 use Rattle.gtd_records.specs.declared.direction.Closed.TheVariants.{One, Both}
 use Rattle.gtd_records.specs.declared.direction.Direction.{Direction}
 use Rattle.gtd_records.specs.declared.direction.Direction.TheVariants.{Positive, Negative}
-use Rattle.gtd_records.specs.facts.RowNames.{AllBut, Closed, Every, Fields, IsDomainColumn, IsOrdered, Only, RecordFault, Restriction}
+use Rattle.gtd_records.specs.facts.RowNames.{AllBut, Closed, Every, Fields, IsDomainColumn, IsOrdered, Only}
+use Rattle.gtd_records.specs.facts.RowNames.{RecordFault, Restriction}
 use Rattle.gtd_records.specs.facts.RowNames.{TextFault, Tree, Vehicles, Version, closed_of, number_of, vehicles_of, with_domain}
 use Rattle.gtd_records.specs.declared.fault.RecordFault.TheVariants as fault
 use Rattle.gtd_records.specs.declared.vehicles.Version.TheVariants as version

@@ -8,7 +8,8 @@ loop-number-init g c = λ rows has. none_taken _ _ _ _ _ has
 
 pub loop-number-preserved : goal.loop-number-preserved
 loop-number-preserved g c = λ rows has.
-    row_taken _ _ _ _ _ _ _ _ _ (c.loop-number.invariant rows has) (rw c.if-not-branch.false at c.in_ok-next_row.ensures) _
+    row_taken _ _ rows c.args.taker.now c.loop-number.reader _ c.loop-number.taker c.loop-number.number _
+    (c.loop-number.invariant rows has) (rw c.if-not-branch.false at c.in_ok-next_row.ensures) _
     (rw c.if-not-branch-2.false at c.in_ok-take_row.ensures.row)
 
 pub returns-then-not-branch : goal.returns-then-not-branch
@@ -21,14 +22,16 @@ returns-then-not-branch g c = record {
 pub returns-then-not-branch-2 : goal.returns-then-not-branch-2
 returns-then-not-branch-2 g c = record {
   rows = λ rows has.
-      row_stops _ _ _ _ _ _ _ _ _ (c.loop-number.invariant rows has) (rw c.if-not-branch.false at c.in_ok-next_row.ensures)
-      _ (omega arith) (rw c.if-not-branch-2.true at c.in_ok-take_row.ensures.row);
+      row_stops _ _ rows c.args.taker.now c.loop-number.reader _ c.loop-number.taker c.loop-number.number _
+      (c.loop-number.invariant rows has) (rw c.if-not-branch.false at c.in_ok-next_row.ensures) _ (omega arith)
+      (rw c.if-not-branch-2.true at c.in_ok-take_row.ensures.row);
 }
 
 pub returns-then-branch : goal.returns-then-branch
 returns-then-branch g c = record {
   rows = λ rows has.
-      row_left _ _ _ _ _ _ _ _ _ (c.loop-number.invariant rows has) (rw c.if-branch.true at c.in_ok-next_row-2.ensures)
+      row_left _ _ rows c.args.taker.now c.loop-number.reader _ c.loop-number.taker c.loop-number.number _
+      (c.loop-number.invariant rows has) (rw c.if-branch.true at c.in_ok-next_row-2.ensures)
       (omega arith);
 }
 

@@ -23,10 +23,12 @@ returns-then-closes_one_way c =
 pub loop-place-preserved : goal.loop-place-preserved
 loop-place-preserved c =
     let r = c.index.result.now in
-    let p = (places_kept _ _ _ _ c.self.view_is c.places_of_element-place-items.ensures.places).sound _ nowhere c.loop-place-test.true in
+    let part = places_kept _ _ _ _ c.self.view_is c.places_of_element-place-items.ensures.places in
+    let p = part.sound _ nowhere c.loop-place-test.true in
     none_more _ _ _ _ nowhere r c.loop-place-test.true p.0 c.index.ensures
     (λ has.
-    let t = c.if-closes_one_way.ensures.1 (subst (λ (x : ℕ). ClosesOneWay x c.args.vehicle r) (sym (p.1 r c.index.ensures)) has) in
+    let t = c.if-closes_one_way.ensures.1 (subst (λ (x : ℕ). ClosesOneWay x c.args.vehicle r) (sym (p.1 r c.index.ensures))
+    has) in
     search (rules, t))
     c.loop-place.invariant
 

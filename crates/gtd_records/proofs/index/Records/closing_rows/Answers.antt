@@ -24,7 +24,8 @@ pub returns : goal.returns
 returns c =
     let part = places_kept _ _ _ _ c.self.view_is c.places_of_element-place-items.ensures.places in
     record {
-      rows = rw (sym c.self.view_is) (all_rows _ _ _ _ _ _ _ _ _ c.loop-place.invariant c.in_order.ensures
+      rows = rw (sym c.self.view_is) (all_rows _ c.places_of_element-place-items.result.now c.args.element c.args.direction
+          c.args.vehicle c.args.second.0 _ _ _ c.loop-place.invariant c.in_order.ensures
           (λ row r within stands names. let at = part.all row r within stands names in (at.0, omega (arith, at.1), at.2)));
     }
 

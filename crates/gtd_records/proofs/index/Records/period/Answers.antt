@@ -30,7 +30,8 @@ loop-place-preserved c =
     let rows = c.self.inside.rows.items in
     let part = c.places_of_element-place-items.result.now in
     let s = c.index-restriction.result.now in
-    let p = (places_kept _ _ _ _ c.self.view_is c.places_of_element-place-items.ensures.places).sound i nowhere c.loop-place-test.true in
+    let kept = places_kept _ _ _ _ c.self.view_is c.places_of_element-place-items.ensures.places in
+    let p = kept.sound i nowhere c.loop-place-test.true in
     let old = c.loop-place.invariant in
     let own : (k : ℕ) (d : RowPlace) (r : Restriction) → k < i + 1 → i ≤ k
     → slice_index_or rows (slice_index_or part k d).row r ≡ r → r ≡ s =

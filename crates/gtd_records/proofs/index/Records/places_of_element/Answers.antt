@@ -28,7 +28,8 @@ returns-then-place-element c =
     record {
       places = places_kept _ _ _ _ (sym c.self.view_is)
           (element_places c.self.inside.rows.items places placed c.args.element c.places_below_near-from.result c.loop-at.at
-          (omega arith) (omega arith) c.places_below_near-from.ensures.below c.places_below_near-from.ensures.rest c.loop-at.invariant
+          (omega arith) (omega arith) c.places_below_near-from.ensures.below c.places_below_near-from.ensures.rest
+          c.loop-at.invariant
           (λ d lt is. c.if-place-element.true
           (ap (λ (p : RowPlace). p.element) (any_default places c.loop-at.at _ d lt) ∙ is)));
     }
@@ -41,6 +42,7 @@ returns c =
     record {
       places = places_kept _ _ _ _ (sym c.self.view_is)
           (element_places c.self.inside.rows.items places placed c.args.element c.places_below_near-from.result (length places)
-          c.places_below_near-from.ensures.within (omega arith) c.places_below_near-from.ensures.below c.places_below_near-from.ensures.rest
+          c.places_below_near-from.ensures.within (omega arith) c.places_below_near-from.ensures.below
+          c.places_below_near-from.ensures.rest
           (λ k d ge lt. c.loop-at.invariant k d ge (omega arith)) (λ d lt is. absurd (omega arith)));
     }

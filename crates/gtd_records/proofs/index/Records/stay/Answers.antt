@@ -14,7 +14,8 @@ pub returns : goal.returns
 returns c =
     let part = places_kept _ _ _ _ c.self.view_is c.places_of_element-places.ensures.places in
     record {
-      stays = rw (sym c.self.view_is) (all_stay _ _ _ _ _ _ _ _ _ c.loop-at.invariant
+      stays = rw (sym c.self.view_is) (all_stay _ c.places_of_element-places.result.now c.args.element c.args.direction
+          c.args.vehicle _ c.args.second.0 _ _ c.loop-at.invariant
           (λ row r within stands names. let at = part.all row r within stands names in (at.0, omega (arith, at.1), at.2)));
     }
 
