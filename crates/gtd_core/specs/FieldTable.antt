@@ -38,7 +38,7 @@ start_fields =
     ∷ field 108 is_place_value (λ parts n. record parts { nth_back = Some (n / 10, n % 10) })
     ∷ field 100 (λ value digits. is_from_to 1 31 value) (λ parts n. record parts { day = Some n })
     ∷ field 116 (λ value digits. is_from_to 1 7 value)
-        (λ parts n. record parts { weekdays = bit_or parts.weekdays (2 ^ (n - 1)) })
+    (λ parts n. record parts { weekdays = bit_or parts.weekdays (2 ^ (n - 1)) })
     ∷ field 104 (λ value digits. nat_le value 23) (λ parts n. record parts { hour = Some n })
     ∷ field 109 (λ value digits. nat_le value 59) (λ parts n. record parts { minute = Some n })
     ∷ field 115 (λ value digits. nat_le value 59) (λ parts n. record parts { second = Some n }) ∷ []

@@ -23,15 +23,14 @@ ok_is a b e = cc
 sound_rows : (v : Version) (k : ℕ) (rows : List Fields) (found : List Restriction) → k + length rows ≤ most_rows + 1
     → AreRecords v k rows found → AreRows v k rows (Ok found)
 sound_rows v k [] found few are = ap Ok are
-sound_rows v k (row ∷ rows) found few are =
-    (
-      omega (arith, few),
-      are.0,
-      are.1,
-      row_of v k row (Ok are.0) are.2,
-      sound_rows v (k + 1) rows are.1 (omega (arith, few)) are.3,
-      are.4,
-    )
+sound_rows v k (row ∷ rows) found few are = (
+  omega (arith, few),
+  are.0,
+  are.1,
+  row_of v k row (Ok are.0) are.2,
+  sound_rows v (k + 1) rows are.1 (omega (arith, few)) are.3,
+  are.4,
+)
 
 -- the row with this number is one too many, or has this fault
 abbrev IsAtFault : Version → ℕ → Fields → RecordFault → Type 0
