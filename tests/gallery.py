@@ -48,6 +48,10 @@ def words_row(domain):
     return f"| `{domain}` | {cell} | {cell_of(name_of(domain))} |\n"
 
 
+def text_row(at, row):
+    return f"| `{row['hours']}` | {row['meaning'].rstrip('.')} | {cell_of(f'hours/{at}.svg')} |\n"
+
+
 def year_of(text):
     """The year of a text's picture: 2024, or the first year that the text names if it does not name that one."""
     years = re.findall(r"\b[12][0-9]{3}\b", text)
@@ -72,7 +76,7 @@ def main():
     with open(DOCUMENT, encoding="utf-8") as file:
         lines = file.readlines()
     begin, end = lines.index(BEGIN) + 1, lines.index(END)
-    table = HEAD + [f"| `{row['hours']}` | {row['meaning']} | {cell_of(f'hours/{at}.svg')} |\n" for at, row in enumerate(texts, 1)]
+    table = HEAD + [text_row(at, row) for at, row in enumerate(texts, 1)]
     domains = [match.group(1) for match in map(WORDS_ROW.fullmatch, lines) if match]
     pictures = wanted(domains, texts)
     if write:
