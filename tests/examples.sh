@@ -99,11 +99,8 @@ asked() {
     must_show "$1" "$(wc -l < "$room/domains")"
 }
 
-# The domains of the recipe, those that are easily mistaken, and those of restrictions in words.
-{
-    sed -n '/^## From A until B/,/^## Easily/s/^|.* | `\([^`]*\)` |$/\1/p' "$top/docs/LANGUAGE.md"
-    sed -n '1,/^## /s/^| `[^|]*` | [^|]* | `\([^`]*\)` |.*/\1/p' "$top/docs/WARNINGS.md"
-} > "$room/domains"
+# The domains of the recipe, and those of restrictions in words. tests/warned.py asks about those that are easily mistaken.
+sed -n '/^## From A until B/,/^## Easily/s/^|.* | `\([^`]*\)` |$/\1/p' "$top/docs/LANGUAGE.md" > "$room/domains"
 asked docs/LANGUAGE.md tests/rows/language.rows
 sed -n '/^## Restrictions/,/^## Words/s/^|.* | `\([^`]*\)` |$/\1/p' "$top/docs/GALLERY.md" > "$room/domains"
 asked docs/GALLERY.md tests/rows/restrictions.rows
