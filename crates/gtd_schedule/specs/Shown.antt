@@ -14,8 +14,7 @@ use Rattle.gtd_report.specs.Putting.{direction_word}
 -- empty and holds such seconds alone; none is at its end; and the other intervals are normal from there on.
 abbrev pub IsNormalList : (ℤ → Type 0) → ℤ → List Interval → Type 0
 IsNormalList set from [] = (t : ℤ) → from ≤ℤ t → set t → ⊥
-IsNormalList set from (x ∷ xs) =
-    (from ≤ℤ x.from) × (x.from <ℤ x.until) × ((t : ℤ) → from ≤ℤ t → t <ℤ x.from → set t → ⊥)
+IsNormalList set from (x ∷ xs) = (from ≤ℤ x.from) × (x.from <ℤ x.until) × ((t : ℤ) → from ≤ℤ t → t <ℤ x.from → set t → ⊥)
     × ((t : ℤ) → Within x t → set t) × (set x.until → ⊥) × IsNormalList set x.until xs
 
 -- These are the lines of the items, one item after the other.
