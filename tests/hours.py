@@ -272,6 +272,8 @@ def check_damaged(text):
     expect(kind in ("Unsupported", "Range", "Unexpected", "Incomplete") and 0 <= place <= len(text), f"{text!r}: {fault}")
     expect((kind == "Incomplete") == (place == len(text)), f"{text!r}: {fault}")
     until = place + len((text[place:].split(" ") or [""])[0])
+    if kind == "Range" and text[until:until + 2] == " /":
+        until += 2  # weeks that go back are refused with a step
     expect(kind == "Incomplete" or not can_become_hours(text[:until]), f"{text!r}: {fault}, but that can become hours")
     expect(can_become_hours(text[:place]), f"{text!r}: {fault}, but it should be earlier")
 

@@ -216,6 +216,7 @@ class Reader:
         if self.goes("-"):
             last = self.week()
             if last < first:
+                self.check(self.peek() != "/")
                 return [("weeks", first, 53, 1), ("weeks", 1, last, 1)]
         self.at = at
         return self.stepped("weeks", self.week)

@@ -11,12 +11,11 @@ use Rattle.gtd_hours_grammar.specs.Terms.{Token, Piece, Move}
 use Rattle.gtd_hours_grammar.specs.declared.place.Place.TheVariants as places
 use Rattle.gtd_hours_grammar.specs.declared.reading.Reading.{Reading}
 use Rattle.gtd_hours_grammar.specs.Faults.{IsFirstFault, IsHoursText}
-use Rattle.gtd_hours_grammar.specs.Kinds.{misfit_of}
 use Rattle.gtd_hours_grammar.specs.Moves.{next_move}
 use Rattle.gtd_hours_grammar.specs.Runs.{is_after, with_piece}
 use Rattle.gtd_hours_grammar.specs.Sound.{Fits}
 use Rattle.gtd_hours_parts.specs.SoundPieces.{ArePieces, IsPiece}
-use Rattle.gtd_hours_grammar.specs.Steps.{IsMove, IsReading, advanced, kind_of, moves_left}
+use Rattle.gtd_hours_grammar.specs.Steps.{IsMove, IsReading, advanced, fault_at, kind_of, moves_left}
 use Rattle.gtd_hours_grammar.specs.facts.FirstFault.{hours_or_fault}
 use Rattle.gtd_hours_grammar.specs.facts.OneReading.{one_reading}
 use Rattle.gtd_hours_grammar.proofs.EndLemmas.{all_read, incomplete, misfits}
@@ -86,7 +85,7 @@ stopped : (text : List ℕ) (r : Reading) (so : So text r) (next : Option Token)
     → IsMove r.at (kind_of next) None → Read text
 stopped text r so None h goes = ended text r so (is_after r.at) refl h goes
 stopped text r so (Some t) h goes =
-    inr (record { kind = misfit_of r.behind r.last t.kind; place = t.from }, misfits text r so.given t so.is h goes)
+    inr (fault_at r t, misfits text r so.given t so.is h goes)
 
 -- ---- a move
 
@@ -151,7 +150,7 @@ read_on (suc fuel) text r so enough =
 -- ---- the whole text
 
 abbrev start : Reading
-start = record { place = 0; behind = places.Front; at = places.Front; last = None }
+start = record { place = 0; behind = places.Front; at = places.Front; last = None; from = 0 }
 
 read_tokens : (text : List ℕ) (tokens : List Token) → AreTokens text tokens → Read text
 read_tokens text tokens are =

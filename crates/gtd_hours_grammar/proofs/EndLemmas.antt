@@ -1,27 +1,29 @@
 -- What a reading comes to where no move can be made.
 use Rattle.std.proofs.Common.{◌≡◌, ℕ, Bool, true, false, List, [], ◌∷◌, ◌++◌, length, Option, Some, None, Ok}
 use Rattle.std.proofs.Common.{refl, sym, ap, subst, ◌∙◌, append_assoc}
-use Rattle.std.specs.Prelude.{IfErr}
+use Rattle.std.specs.Prelude.{IfErr, if◌then◌else◌}
 use Rattle.std.proofs.lemmas.List.{append-nil}
 use Rattle.gtd_hours_tokens.specs.Lexing.{AreTokens, IsNext}
 use Rattle.gtd_hours_tokens.specs.declared.token.TokenKind.TheVariants as token
+use Rattle.gtd_hours_grammar.specs.declared.fault.FaultKind.{FaultKind}
 use Rattle.gtd_hours_grammar.specs.declared.fault.FaultKind.TheVariants as fault
 use Rattle.gtd_hours_grammar.specs.Terms.{Token, TokenKind, Piece, Place}
 use Rattle.gtd_hours_grammar.specs.declared.stage.Stage.TheVariants as stage
 use Rattle.gtd_hours_grammar.specs.declared.place.Place.TheVariants as places
 use Rattle.gtd_hours_grammar.specs.declared.reading.Reading.{Reading}
 use Rattle.gtd_hours_grammar.specs.Grammar.{AreHours, CanGoOn, Follow, More, in_full, so_far, by_place}
-use Rattle.gtd_hours_grammar.specs.Faults.{IsFirstFault, IsHoursText, IsMisfitKind, are_alike, ends_years, kinds, plus_kind}
-use Rattle.gtd_hours_grammar.specs.Kinds.{misfit_of, range_if}
+use Rattle.gtd_hours_grammar.specs.Faults.{IsFirstFault, IsHoursText, IsMisfitKind, are_alike, ends_years, is_slash, kinds}
+use Rattle.gtd_hours_grammar.specs.Faults.{last_from, plus_kind, told_at}
+use Rattle.gtd_hours_grammar.specs.Kinds.{misfit_of, place_of, range_if}
 use Rattle.gtd_hours_grammar.specs.Places.{Rest}
 use Rattle.gtd_hours_grammar.specs.Places.BehindDate.{none}
 use Rattle.gtd_hours_grammar.specs.Sound.{IsPlace, takes_number, takes_time}
-use Rattle.gtd_hours_grammar.specs.Runs.{Runs, is_after}
-use Rattle.gtd_hours_grammar.specs.Steps.{GivesTo, IsMove, IsReading, end_or_fault, ended, kind_of}
-use Rattle.gtd_hours_grammar.specs.facts.RunSteps.{run_end_refused, run_refused}
+use Rattle.gtd_hours_grammar.specs.Runs.{Runs, is_after, is_judged}
+use Rattle.gtd_hours_grammar.specs.Steps.{GivesTo, IsMove, IsReading, end_or_fault, ended, fault_at, kind_of}
+use Rattle.gtd_hours_grammar.specs.facts.RunSteps.{run_end_refused, run_refused, unjudged_refused}
 use Rattle.gtd_hours_grammar.specs.facts.FollowRuns.{follow_runs}
 use Rattle.gtd_hours_grammar.proofs.NoNext.{no_number, no_time}
-use Rattle.gtd_hours_grammar.proofs.Endings.{ending, number_ending, time_ending}
+use Rattle.gtd_hours_grammar.proofs.Endings.{ending, number_ending, slash_ending, time_ending}
 use Rattle.gtd_hours_grammar.proofs.ReadLemmas.{known, none_later, same_next, split_later, tails}
 
 -- ---- the end
@@ -130,17 +132,58 @@ time_kind text r given is h m true e =
 time_kind text r given is h m false e =
     λ fits. time_never text r given is h m fits.other fits.alike e fits.p fits.after fits.follow
 
-misfit_kind : (text : List ℕ) (r : Reading) (given : List Piece) (is : IsReading text r given) (t : TokenKind)
-    → IsMisfitKind (kinds is.read.before) t (misfit_of r.behind r.last t)
-misfit_kind text r given is (token.Number v d) = number_kind text r given is v d (takes_number r.behind) refl
-misfit_kind text r given is (token.Time h m) = time_kind text r given is h m (takes_time r.behind) refl
-misfit_kind text r given is token.Unsupported = refl
-misfit_kind text r given is token.Plus = ap (λ (o : Option TokenKind). plus_kind (ends_years o)) (sym is.last)
-misfit_kind text r given is t = λ fits. absurd cc
+-- the slash before a step of weeks that go back
+slash_never : (text : List ℕ) (r : Reading) (given : List Piece) (t : Token) (is : IsReading text r given) (other : TokenKind)
+    → t.kind ≡ token.Slash → IsNext text r.place (Ok (Some t)) → IsMove r.at (Some token.Slash) None
+    → are_alike token.Slash other ≡ true → is_judged r.at token.Slash ≡ false → (p : List Piece) → (after : List TokenKind)
+    → Follow by_place stage.Front p (kinds is.read.before ++ other ∷ after) → ⊥
+slash_never text r given t is token.Slash same h goes alike e p after follow =
+    let run = follow_runs by_place p (kinds is.read.before ++ token.Slash ∷ after) follow in
+    let behind = is.read.runs by_place p (token.Slash ∷ after) run in
+    let gives = subst (λ (n : Option TokenKind). GivesTo r.behind r.at n is.two)
+    (known text r given is (Some t) h ∙ ap (λ (k : TokenKind). Some k) same) is.gives in
+    let at = gives.runs by_place behind.p after behind.runs in
+    unjudged_refused by_place r.at at.p token.Slash after goes.fits e goes.bit (sym goes.computed) at.runs
+slash_never text r given t is other same h goes alike e p after follow = absurd cc
+
+slash_kind : (text : List ℕ) (r : Reading) (given : List Piece) (t : Token) (is : IsReading text r given) (b : Bool)
+    → t.kind ≡ token.Slash → IsNext text r.place (Ok (Some t)) → IsMove r.at (Some token.Slash) None
+    → is_judged r.at token.Slash ≡ b → IsMisfitKind (kinds is.read.before) token.Slash (range_if b)
+slash_kind text r given t is true same h goes e =
+    let end = slash_ending r.at is.stands e in
+    let gives = subst (λ (n : Option TokenKind). GivesTo r.behind r.at n is.two)
+    (known text r given is (Some t) h ∙ ap (λ (k : TokenKind). Some k) same) is.gives in
+    let behind = gives.leads by_place end.p [] end.rest in
+    record {
+      other = token.Slash;
+      alike = refl;
+      p = is.one ++ (is.two ++ end.p);
+      after = [];
+      follow = is.read.leads by_place (is.two ++ end.p) (token.Slash ∷ []) behind;
+    }
+slash_kind text r given t is false same h goes e =
+    λ fits. slash_never text r given t is fits.other same h goes fits.alike e fits.p fits.after fits.follow
+
+misfit_kind : (text : List ℕ) (r : Reading) (given : List Piece) (t : Token) (is : IsReading text r given) (k : TokenKind)
+    → t.kind ≡ k → IsNext text r.place (Ok (Some t)) → IsMove r.at (Some k) None
+    → IsMisfitKind (kinds is.read.before) k (misfit_of r.behind r.at r.last k)
+misfit_kind text r given t is (token.Number v d) same h goes = number_kind text r given is v d (takes_number r.behind) refl
+misfit_kind text r given t is (token.Time a b) same h goes = time_kind text r given is a b (takes_time r.behind) refl
+misfit_kind text r given t is token.Slash same h goes =
+    slash_kind text r given t is (is_judged r.at token.Slash) same h goes refl
+misfit_kind text r given t is token.Unsupported same h goes = refl
+misfit_kind text r given t is token.Plus same h goes = ap (λ (o : Option TokenKind). plus_kind (ends_years o)) (sym is.last)
+misfit_kind text r given t is k same h goes = λ fits. absurd cc
+
+-- where the fault is told
+placed : (before : List Token) (from : ℕ) (t : Token) (kind : FaultKind) → last_from before ≡ from
+    → place_of kind from t ≡ told_at before t kind
+placed before from t fault.Range e = ap (λ (n : ℕ). if is_slash t.kind then n else t.from) (sym e)
+placed before from t kind e = refl
 
 pub misfits : (text : List ℕ) (r : Reading) (given : List Piece) (t : Token) → IsReading text r given
     → IsNext text r.place (Ok (Some t)) → IsMove r.at (Some t.kind) None
-    → IsFirstFault text (record { kind = misfit_of r.behind r.last t.kind; place = t.from })
+    → IsFirstFault text (fault_at r t)
 misfits text r given t is h goes =
     let split = split_later is.read.later t (same_next text r.place is.read.later (Some t) is.read.reads h) in
     let gives = subst (λ (n : Option TokenKind). GivesTo r.behind r.at n is.two) (known text r given is (Some t) h) is.gives in
@@ -157,8 +200,8 @@ misfits text r given t is h goes =
           let behind = is.read.runs so_far more.p (t.kind ∷ more.after) all in
           let at = gives.runs so_far behind.p more.after behind.runs in
           run_refused r.at at.p t.kind more.after goes.fits goes.bit (sym goes.computed) at.runs;
-      kind = misfit_kind text r given is t.kind;
-      place = refl;
+      kind = misfit_kind text r given t is t.kind refl h goes;
+      place = placed is.read.before r.from t (misfit_of r.behind r.at r.last t.kind) is.from;
     })
 
 -- ---- both

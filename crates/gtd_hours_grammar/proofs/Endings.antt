@@ -22,6 +22,7 @@ use Rattle.gtd_hours_parts.specs.Pieces.{week_one}
 use Rattle.gtd_hours_grammar.specs.Places.{Behind, BehindDate, FromDate, Rest}
 use Rattle.gtd_hours_grammar.specs.Places.BehindDate.{day, none}
 use Rattle.gtd_hours.specs.declared.hours.Link.TheVariants as link
+use Rattle.gtd_hours_grammar.specs.Runs.{is_judged}
 use Rattle.gtd_hours_grammar.specs.Sound.{IsLastYear, IsPlace, takes_number, takes_time}
 use Rattle.gtd_hours_grammar.proofs.EndingsOfParts.{a_date, a_month, a_month_day, a_year, after_number, another, behind}
 use Rattle.gtd_hours_grammar.proofs.EndingsOfParts.{bracket_closed, dated_after, digit_one, done, first_day, first_of}
@@ -422,6 +423,22 @@ comma_day d year m y h =
 listed_then : (d : Demand) (x : WrittenDate) (p : List Piece) (ts : List TokenKind) → IsWrittenDate x
     → Follow d stage.MonthDays p ts → Rest d (places.ListedDay x) (piece.Dates x None ∷ p) ts
 listed_then d x p ts h follow = day x.day ts refl h.1 (date_then d x p ts h follow)
+
+-- ---- a token that is judged by its place
+
+pub record SlashEnding (at : Place) : Type 0 where
+  pub p : List Piece
+  pub rest : Rest by_place at p (token.Slash ∷ [])
+
+-- the step of weeks that go back
+pub slash_ending : (at : Place) → IsPlace at → is_judged at token.Slash ≡ true → SlashEnding at
+slash_ending (places.WeekBack a b) h e = record {
+  p = [];
+  rest =
+      then by_place stage.Weeks [] [] (number a ∷ token.Dash ∷ number b ∷ token.Slash ∷ []) []
+      (IsWeeks.back_step a b refl refl refl refl h) (done by_place stage.Weeks refl);
+}
+slash_ending at h e = absurd cc
 
 -- ---- every place
 

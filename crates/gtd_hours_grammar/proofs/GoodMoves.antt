@@ -234,6 +234,7 @@ move_right (places.Week n) (Some token.Dash) fits h f =
 move_right (places.Week n) next fits h f = week_good n next h
 move_right (places.WeekDash n) (Some (token.Number v d)) true h f =
     week_pair_good n v d (Some (token.Number v d)) true refl refl f h
+move_right (places.WeekBack a b) (Some token.Slash) fits h f = record {}
 move_right (places.WeekBack a b) next fits h f = week_back_good a b next h
 move_right (places.WeekAgain a b) next fits h f = week_again_good a b next h
 move_right (places.WeekRange a b) (Some token.Slash) fits h f =

@@ -11,8 +11,8 @@ use Rattle.gtd_hours_grammar.specs.Grammar.{Demand, precedes}
 use Rattle.gtd_hours_parts.specs.Pieces.{final_week, week_one}
 use Rattle.gtd_hours_grammar.specs.Sound.{takes_number, takes_time}
 use Rattle.gtd_hours_grammar.specs.Moves.{next_move, give, take, complete, written, clock}
-use Rattle.gtd_hours_grammar.specs.Runs.{Runs, awaits_day, is_after, left}
-use Rattle.gtd_hours_grammar.specs.Runs.Runs.{ends, cut, any_day, step}
+use Rattle.gtd_hours_grammar.specs.Runs.{Runs, is_judged, is_after, left}
+use Rattle.gtd_hours_grammar.specs.Runs.Runs.{ends, cut, any_last, step}
 use Rattle.gtd_hours_grammar.specs.facts.RunSteps.{held, no_token, not_fit}
 
 abbrev is_nth : Place → Bool
@@ -25,11 +25,11 @@ record Given (demand : Demand) (to : Place) (ts : List TokenKind) : Type 0 where
   runs : Runs demand to q ts
 
 behind_piece : (demand : Demand) (at to : Place) (x : Piece) (p : List Piece) (t : TokenKind) (ts : List TokenKind)
-    → awaits_day at ≡ false → ((fits : Bool) → next_move at (Some t) fits ≡ give x to) → Runs demand at p (t ∷ ts)
+    → is_judged at t ≡ false → ((fits : Bool) → next_move at (Some t) fits ≡ give x to) → Runs demand at p (t ∷ ts)
     → Given demand to (t ∷ ts)
 behind_piece demand at to x p t ts day gives (ends at' p' ts' after e f) = absurd cc
 behind_piece demand at to x p t ts day gives (cut at' p' ts' may is e f) = absurd cc
-behind_piece demand at to x p t ts day gives (any_day at' p' ts' v d by day' e f) = absurd cc
+behind_piece demand at to x p t ts day gives (any_last at' p' ts' l by day' e f) = absurd cc
 behind_piece demand at to x p t ts day gives (step at' p' q ts' move fits is m e go) =
     let given : Move = record { to = to; piece = Some x; takes = false } in
     let both : Some move ≡ Some given = sym m ∙ gives fits in
@@ -58,7 +58,7 @@ after_date_number demand y m p v d ts =
 
 -- behind a piece that is given, a number would stand behind a part of a rule
 given_number : (demand : Demand) (at : Place) (s : Stage) (x : Piece) (p : List Piece) (v d : ℕ) (ts : List TokenKind)
-    → awaits_day at ≡ false → precedes s stage.MonthDays ≡ false
+    → is_judged at (token.Number v d) ≡ false → precedes s stage.MonthDays ≡ false
     → ((fits : Bool) → next_move at (Some (token.Number v d)) fits ≡ give x (places.After s))
     → Runs demand at p (token.Number v d ∷ ts) → ⊥
 given_number demand at s x p v d ts day late gives go =
@@ -142,12 +142,20 @@ time_refused (places.BracketEnd k) h m fits e f g = refl
 time_refused (places.Time t) h m fits e f g = refl
 time_refused at h m fits e f g = absurd cc
 
--- no time makes a move there, not even where a day may come last
+-- no time is judged by its place
+time_unjudged : (at : Place) (h m : ℕ) → is_judged at (token.Time h m) ≡ false
+time_unjudged (places.DateDashMonth x y k) h m = refl
+time_unjudged (places.WeekBack a b) h m = refl
+time_unjudged at h m = refl
+
+-- no time makes a move there, not even where a token may come last
 time_stops : (demand : Demand) (at : Place) (p : List Piece) (h m : ℕ) (ts : List TokenKind)
     → ((fits : Bool) → next_move at (Some (token.Time h m)) fits ≡ None) → Runs demand at p (token.Time h m ∷ ts) → ⊥
 time_stops demand at p h m ts none (ends at' p' ts' after e f) = absurd cc
 time_stops demand at p h m ts none (cut at' p' ts' may is e f) = absurd cc
-time_stops demand at p h m ts none (any_day at' p' ts' v d by day' e f) = absurd cc
+time_stops demand at p h m ts none (any_last at' p' ts' l by day' e f) =
+    let never = time_unjudged at h m in
+    absurd cc
 time_stops demand at p h m ts none (step at' p' q ts' move fits is n e go) =
     let both : Some move ≡ None = sym n ∙ none fits in cc
 

@@ -148,6 +148,7 @@ move_sound (places.WeekRange a b) (Some token.Slash) fits h f = record {}
 move_sound (places.WeekRange a b) next fits h f = (h, record {})
 move_sound (places.WeekStep a b) (Some (token.Number v d)) true h f = (h, f refl)
 move_sound (places.WeekStep a b) (Some (token.Number v d)) false h f = record {}
+move_sound (places.WeekBack a b) (Some token.Slash) fits h f = record {}
 move_sound (places.WeekBack a b) next fits h f =
     ((h.0, (omega arith, omega arith, omega arith, omega arith), omega (arith, h.0.3)), record {})
 move_sound (places.WeekAgain a b) next fits h f =

@@ -1,5 +1,6 @@
 -- Which texts are opening hours, and what the first fault of another text is.
 use Rattle.std.specs.Prelude.{List, ◌≡◌, ◌==◌, ℕ, Bool, true, false, [], ◌∷◌, ◌++◌, length, Option, Some, None}
+use Rattle.std.specs.Prelude.{if◌then◌else◌}
 use Rattle.gtd_hours_tokens.specs.Lexing.{AreTokens, IsTokenFault}
 use Rattle.gtd_hours_tokens.specs.declared.token.TokenKind.TheVariants as token
 use Rattle.gtd_hours_grammar.specs.declared.fault.FaultKind.{FaultKind}
@@ -19,13 +20,19 @@ pub record IsHoursText (text : List ℕ) (p : List Piece) : Type 0 where
   pub are : AreTokens text tokens
   pub hours : AreHours p (kinds tokens)
 
--- Both are numbers, or both are times.
+abbrev pub is_slash : TokenKind → Bool
+is_slash token.Slash = true
+is_slash t = false
+
+-- Both are numbers, both are times, or both are a slash.
 abbrev pub are_alike : TokenKind → TokenKind → Bool
 are_alike (token.Number v d) (token.Number w c) = true
 are_alike (token.Time h m) (token.Time g n) = true
+are_alike token.Slash token.Slash = true
 are_alike t u = false
 
--- The token is a number where some number can stand, or a time where some time can.
+-- The token is a number where some number can stand, a time where some time can, or the slash before the step of weeks that go
+-- back.
 pub record FitsByPlace (before : List TokenKind) (t : TokenKind) : Type 0 where
   pub other : TokenKind
   pub alike : are_alike t other ≡ true
@@ -49,6 +56,17 @@ abbrev pub plus_kind : Bool → FaultKind
 plus_kind true = fault.Unexpected
 plus_kind false = fault.Unsupported
 
+-- the place of the last token
+abbrev pub last_from : List Token → ℕ
+last_from [] = 0
+last_from (t ∷ []) = t.from
+last_from (t ∷ u ∷ ts) = last_from (u ∷ ts)
+
+-- where a fault is told: at the token, or, if that is the slash behind weeks that go back, at the second week, which it follows
+abbrev pub told_at : List Token → Token → FaultKind → ℕ
+told_at before t fault.Range = if is_slash t.kind then last_from before else t.from
+told_at before t kind = t.from
+
 -- what is wrong with the first token that does not go on
 abbrev pub IsMisfitKind : List TokenKind → TokenKind → FaultKind → Type 0
 IsMisfitKind before token.Unsupported kind = kind ≡ fault.Unsupported
@@ -66,7 +84,7 @@ pub record IsMisfit (text : List ℕ) (bad : HoursFault) : Type 0 where
   pub goes : CanGoOn (kinds before)
   pub no_further : CanGoOn (kinds before ++ here.kind ∷ []) → ⊥
   pub kind : IsMisfitKind (kinds before) here.kind bad.kind
-  pub place : bad.place ≡ here.from
+  pub place : bad.place ≡ told_at before here bad.kind
 
 -- All tokens together can go on, but are no opening hours yet.
 pub record IsIncomplete (text : List ℕ) (bad : HoursFault) : Type 0 where

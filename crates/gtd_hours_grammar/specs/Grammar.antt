@@ -16,7 +16,8 @@ use Rattle.gtd_hours_parts.specs.Pieces.{AreBackWeeks, AreFewYears, AreWrittenDa
 use Rattle.gtd_hours_parts.specs.Pieces.{IsWrittenDate, day_behind, end_month, end_year, final_week, final_year, week_one}
 
 -- What is asked of tokens: that they are a text in full; that they can be its beginning so far, where a text that has come to
--- the last date of a range is judged at that date's day; or the same, where a number that comes last need only fit by its place.
+-- the last date of a range is judged at that date's day; or the same, where a number that comes last need only fit by its place
+-- and weeks that go back may have a step.
 pub data Demand : Type 0 where
   in_full : Demand
   so_far : Demand
@@ -69,19 +70,24 @@ pub data IsYears (p : List Piece) (ts : List TokenKind) (later : List Piece) (re
       → p ≡ piece.Years first (Some final_year) (Some step) ∷ later → IsYearNumber first → AreFewYears first step
       → IsYears p ts later rest
 
--- `10`, `10-20`, `10-20/2`, `46-12`: a range that goes back is that to week 53 and that from week 1 on.
-pub data IsWeeks (p : List Piece) (ts : List TokenKind) (later : List Piece) (rest : List TokenKind) : Type 0 where
+-- `10`, `10-20`, `10-20/2`, `46-12`: a range that goes back is that to week 53 and that from week 1 on. It has no step, since
+-- weeks 53 and 1 would break it.
+pub data IsWeeks (demand : Demand) (p : List Piece) (ts : List TokenKind) (later : List Piece) (rest : List TokenKind)
+    : Type 0 where
   one : (week : Digits) → ts ≡ number week ∷ rest → p ≡ piece.Weeks week None None ∷ later → IsWeekNumber week
-      → IsWeeks p ts later rest
+      → IsWeeks demand p ts later rest
   range : (first last : Digits) → ts ≡ number first ∷ token.Dash ∷ number last ∷ rest
-      → p ≡ piece.Weeks first (Some last) None ∷ later → IsRange IsWeekNumber first last → IsWeeks p ts later rest
+      → p ≡ piece.Weeks first (Some last) None ∷ later → IsRange IsWeekNumber first last → IsWeeks demand p ts later rest
   every : (first last step : Digits)
       → ts ≡ number first ∷ token.Dash ∷ number last ∷ token.Slash ∷ number step ∷ rest
       → p ≡ piece.Weeks first (Some last) (Some step) ∷ later → IsRange IsWeekNumber first last → IsStepNumber step
-      → IsWeeks p ts later rest
+      → IsWeeks demand p ts later rest
   back : (first last : Digits) → ts ≡ number first ∷ token.Dash ∷ number last ∷ rest
       → p ≡ piece.Weeks first (Some final_week) None ∷ piece.Weeks week_one (Some last) None ∷ later
-      → AreBackWeeks first last → IsWeeks p ts later rest
+      → AreBackWeeks first last → IsWeeks demand p ts later rest
+  back_step : (first last : Digits) → demand ≡ by_place
+      → ts ≡ number first ∷ token.Dash ∷ number last ∷ token.Slash ∷ [] → rest ≡ [] → p ≡ later → AreBackWeeks first last
+      → IsWeeks demand p ts later rest
 
 -- the tokens of a month, after a year if there is one, and what follows them
 abbrev pub dated : Option Digits → ℕ → List TokenKind → List TokenKind
@@ -171,7 +177,7 @@ pub record IsTimes (p : List Piece) (ts : List TokenKind) (later : List Piece) (
 abbrev pub IsOne : Demand → Stage → Text
 IsOne demand stage.Years = IsYears
 IsOne demand stage.MonthDays = IsMonthDays demand
-IsOne demand stage.Weeks = IsWeeks
+IsOne demand stage.Weeks = IsWeeks demand
 IsOne demand stage.Weekdays = IsWeekdays
 IsOne demand stage.Times = IsTimes
 IsOne demand s = λ p ts later rest. ⊥
@@ -221,7 +227,7 @@ pub data Follow (demand : Demand) : Stage → List Piece → List TokenKind → 
       → p ≡ piece.Kind ∷ q → Listed (IsMonthDays demand) q ts later rest
       → Follow demand stage.MonthDays later rest → Follow demand s p ts
   weeks : (s : Stage) → (p q later : List Piece) → (ts us rest : List TokenKind) → precedes s stage.Weeks ≡ true
-      → ts ≡ token.Week ∷ us → p ≡ piece.Kind ∷ q → Listed IsWeeks q us later rest
+      → ts ≡ token.Week ∷ us → p ≡ piece.Kind ∷ q → Listed (IsWeeks demand) q us later rest
       → Follow demand stage.Weeks later rest → Follow demand s p ts
   colon : (s : Stage) → (p : List Piece) → (ts us : List TokenKind) → precedes stage.Front s ≡ true
       → precedes s stage.Colon ≡ true → ts ≡ token.Colon ∷ us → Follow demand stage.Colon p us → Follow demand s p ts

@@ -1,19 +1,28 @@
--- What is wrong with a token that does not go on at a place, behind the token that was read last, computed.
-use Rattle.std.specs.Prelude.{Bool, Option, if◌then◌else◌}
+-- What is wrong with a token that does not go on, computed: behind the token that was read last and the place to which it led,
+-- where the reading has come to another place since.
+use Rattle.std.specs.Prelude.{ℕ, Bool, Option, if◌then◌else◌}
+use Rattle.gtd_hours_tokens.specs.declared.token.Token.{Token}
 use Rattle.gtd_hours_tokens.specs.declared.token.TokenKind.{TokenKind}
 use Rattle.gtd_hours_tokens.specs.declared.token.TokenKind.TheVariants as token
 use Rattle.gtd_hours_grammar.specs.declared.fault.FaultKind.{FaultKind}
 use Rattle.gtd_hours_grammar.specs.declared.fault.FaultKind.TheVariants as fault
 use Rattle.gtd_hours_grammar.specs.declared.place.Place.{Place}
-use Rattle.gtd_hours_grammar.specs.Faults.{ends_years, plus_kind}
+use Rattle.gtd_hours_grammar.specs.Faults.{ends_years, is_slash, plus_kind}
 use Rattle.gtd_hours_grammar.specs.Sound.{takes_number, takes_time}
+use Rattle.gtd_hours_grammar.specs.Runs.{is_judged}
 
 abbrev pub range_if : Bool → FaultKind
 range_if b = if b then fault.Range else fault.Unexpected
 
-abbrev pub misfit_of : Place → Option TokenKind → TokenKind → FaultKind
-misfit_of place last (token.Number value digits) = range_if (takes_number place)
-misfit_of place last (token.Time hour minute) = range_if (takes_time place)
-misfit_of place last token.Unsupported = fault.Unsupported
-misfit_of place last token.Plus = plus_kind (ends_years last)
-misfit_of place last t = fault.Unexpected
+-- where a fault of this kind is told at a token, behind one at the place before
+abbrev pub place_of : FaultKind → ℕ → Token → ℕ
+place_of fault.Range before t = if is_slash t.kind then before else t.from
+place_of kind before t = t.from
+
+abbrev pub misfit_of : Place → Place → Option TokenKind → TokenKind → FaultKind
+misfit_of behind at last (token.Number value digits) = range_if (takes_number behind)
+misfit_of behind at last (token.Time hour minute) = range_if (takes_time behind)
+misfit_of behind at last token.Slash = range_if (is_judged at token.Slash)
+misfit_of behind at last token.Unsupported = fault.Unsupported
+misfit_of behind at last token.Plus = plus_kind (ends_years last)
+misfit_of behind at last t = fault.Unexpected

@@ -237,8 +237,9 @@ week_range a b (Some token.Slash) = take (places.WeekStep a b)
 week_range a b next = give (piece.Weeks a (Some b) None) (places.After stage.Weeks)
 
 -- the weeks to the last one, and those from the first one on
-abbrev pub week_back : Digits → Digits → Option Move
-week_back a b = give (piece.Weeks a (Some final_week) None) (places.WeekAgain a b)
+abbrev pub week_back : Digits → Digits → Option TokenKind → Option Move
+week_back a b (Some token.Slash) = None
+week_back a b next = give (piece.Weeks a (Some final_week) None) (places.WeekAgain a b)
 
 abbrev pub week_again : Digits → Option Move
 week_again b = give (piece.Weeks week_one (Some b) None) (places.After stage.Weeks)
@@ -323,7 +324,7 @@ next_move (places.Week n) next fits = week n next
 next_move (places.WeekDash n) next fits = week_dash n next fits
 next_move (places.WeekRange a b) next fits = week_range a b next
 next_move (places.WeekStep a b) next fits = week_step a b next fits
-next_move (places.WeekBack a b) next fits = week_back a b
+next_move (places.WeekBack a b) next fits = week_back a b next
 next_move (places.WeekAgain a b) next fits = week_again b
 next_move (places.Weekday k) next fits = weekday k next
 next_move (places.WeekdayDash k) next fits = weekday_dash k next fits

@@ -43,10 +43,11 @@ is_cut (places.DateDashYear x n) = true
 is_cut (places.DateDashMonth x year m) = true
 is_cut place = false
 
--- The day of a last date comes next.
-abbrev pub awaits_day : Place → Bool
-awaits_day (places.DateDashMonth x year m) = true
-awaits_day place = false
+-- A token that is judged by its place may come last: the day of a last date, or the step of weeks that go back.
+abbrev pub is_judged : Place → TokenKind → Bool
+is_judged (places.DateDashMonth x year m) (token.Number value digits) = true
+is_judged (places.WeekBack a b) token.Slash = true
+is_judged place t = false
 
 -- The moves lead from a place over all tokens and give these pieces.
 pub data Runs (demand : Demand) : Place → List Piece → List TokenKind → Type 0 where
@@ -54,8 +55,8 @@ pub data Runs (demand : Demand) : Place → List Piece → List TokenKind → Ty
   cut : (at : Place) → (p : List Piece) → (ts : List TokenKind) → may_break_off demand ≡ true → is_cut at ≡ true → p ≡ []
       → ts ≡ []
       → Runs demand at p ts
-  any_day : (at : Place) → (p : List Piece) → (ts : List TokenKind) → (v d : ℕ) → demand ≡ by_place → awaits_day at ≡ true
-      → p ≡ [] → ts ≡ token.Number v d ∷ [] → Runs demand at p ts
+  any_last : (at : Place) → (p : List Piece) → (ts : List TokenKind) → (t : TokenKind) → demand ≡ by_place
+      → is_judged at t ≡ true → p ≡ [] → ts ≡ t ∷ [] → Runs demand at p ts
   step : (at : Place) → (p q : List Piece) → (ts : List TokenKind) → (move : Move) → (fits : Bool)
       → ((fits ≡ true) ↔ Fits at (first ts)) → next_move at (first ts) fits ≡ Some move → p ≡ with_piece move.piece q
       → Runs demand move.to q (left move.takes ts) → Runs demand at p ts

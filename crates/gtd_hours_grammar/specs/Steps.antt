@@ -7,12 +7,13 @@ use Rattle.gtd_hours_grammar.specs.Terms.{Token, TokenKind, Piece, Place, Move}
 use Rattle.gtd_hours_grammar.specs.declared.place.Place.TheVariants as places
 use Rattle.gtd_hours_grammar.specs.declared.reading.Reading.{Reading}
 use Rattle.gtd_hours_grammar.specs.Grammar.{Demand}
-use Rattle.gtd_hours_grammar.specs.Faults.{kinds, last_kind}
+use Rattle.gtd_hours_grammar.specs.Faults.{kinds, last_from, last_kind}
 use Rattle.gtd_hours_grammar.specs.Places.{Rest}
 use Rattle.gtd_hours_grammar.specs.Sound.{Fits, IsPlace}
 use Rattle.gtd_hours_grammar.specs.Moves.{next_move, rank}
 use Rattle.gtd_hours_grammar.specs.Runs.{Runs, first, from, is_after}
-use Rattle.gtd_hours_grammar.specs.Kinds.{misfit_of}
+use Rattle.gtd_hours_grammar.specs.Kinds.{misfit_of, place_of}
+use Rattle.gtd_hours_grammar.specs.declared.fault.FaultKind.{FaultKind}
 use Rattle.gtd_hours_grammar.specs.declared.fault.FaultKind.TheVariants as fault
 use Rattle.gtd_hours_grammar.specs.declared.fault.HoursFault.{HoursFault}
 
@@ -55,6 +56,7 @@ pub record IsReading (text : List ℕ) (reading : Reading) (given : List Piece) 
   pub stands : IsPlace reading.at
   pub read : HasRead text reading.place reading.behind one
   pub last : last_kind (kinds read.before) ≡ reading.last
+  pub from : last_from read.before ≡ reading.from
   pub gives : GivesTo reading.behind reading.at (first (kinds read.later)) two
 
 -- how many moves can come at most
@@ -67,12 +69,21 @@ kind_of (Some t) = Some t.kind
 
 -- the reading behind a move
 abbrev pub moved : Bool → Reading → Token → Place → Reading
-moved true reading t to = record { place = t.to; behind = to; at = to; last = Some t.kind }
-moved false reading t to = record { place = reading.place; behind = reading.behind; at = to; last = reading.last }
+moved true reading t to = record { place = t.to; behind = to; at = to; last = Some t.kind; from = t.from }
+moved false reading t to =
+    record { place = reading.place; behind = reading.behind; at = to; last = reading.last; from = reading.from }
 
 abbrev pub advanced : Reading → Option Token → Move → Reading
-advanced reading None move = record { place = reading.place; behind = reading.behind; at = move.to; last = reading.last }
+advanced reading None move =
+    record { place = reading.place; behind = reading.behind; at = move.to; last = reading.last; from = reading.from }
 advanced reading (Some t) move = moved move.takes reading t move.to
+
+-- the fault at a token that does not go on
+abbrev pub fault_of : FaultKind → ℕ → Token → HoursFault
+fault_of kind before t = record { kind = kind; place = place_of kind before t }
+
+abbrev pub fault_at : Reading → Token → HoursFault
+fault_at reading t = fault_of (misfit_of reading.behind reading.at reading.last t.kind) reading.from t
 
 -- what a reading comes to where no move can be made
 abbrev pub ended : List ℕ → Bool → Result (Option (Part × Reading)) HoursFault
@@ -81,4 +92,4 @@ ended text false = Err (record { kind = fault.Incomplete; place = length text })
 
 abbrev pub end_or_fault : List ℕ → Reading → Option Token → Result (Option (Part × Reading)) HoursFault
 end_or_fault text reading None = ended text (is_after reading.at)
-end_or_fault text reading (Some t) = Err (record { kind = misfit_of reading.behind reading.last t.kind; place = t.from })
+end_or_fault text reading (Some t) = Err (fault_at reading t)

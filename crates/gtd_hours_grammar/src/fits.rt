@@ -3,6 +3,7 @@
 ghost use Rattle.std.specs.Prelude.{◌≡◌, ◌↔◌, ◌==◌, true};
 ghost use Rattle.gtd_hours_parts.specs.Numbers.{IsPlaceNumber};
 ghost use Rattle.gtd_hours_parts.specs.Pieces.{EndsRange, IsRange, IsWrittenDate};
+ghost use Rattle.gtd_hours_grammar.specs.Runs.{is_judged};
 ghost use Rattle.gtd_hours_grammar.specs.Sound.{Fits, IsPlace, ListedFits, NumberFits, TimeFits, YearOrDayFits, YearOrListed};
 ghost use Rattle.gtd_hours_grammar.specs.Sound.{is_last_year, takes_number, takes_time};
 
@@ -160,6 +161,17 @@ pub fn takes_number(place: Place) -> bool
         Place::TimeDash(_) => false,
         Place::After(stage) => stage.precedes(Stage::MonthDays),
         _ => true,
+    }
+}
+
+/// Whether the token may come last where it is judged by its place: the day of a last date, or the step of weeks that go back.
+pub fn is_judged(place: Place, kind: TokenKind) -> bool
+    ensures { result ≡ is_judged place kind }
+{
+    match place {
+        Place::DateDashMonth { .. } => matches!(kind, TokenKind::Number { .. }),
+        Place::WeekBack { .. } => matches!(kind, TokenKind::Slash),
+        _ => false,
     }
 }
 

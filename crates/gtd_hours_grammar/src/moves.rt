@@ -54,7 +54,7 @@ pub fn next_move(place: Place, next: Option<TokenKind>, fits: bool) -> Option<Mo
         Place::WeekDash(n) => weeks::week_dash(n, next, fits),
         Place::WeekRange { first, last } => weeks::week_range(first, last, next),
         Place::WeekStep { first, last } => weeks::week_step(first, last, next, fits),
-        Place::WeekBack { first, last } => weeks::week_back(first, last),
+        Place::WeekBack { first, last } => weeks::week_back(first, last, next),
         Place::WeekAgain { first, last } => weeks::week_again(first, last),
         Place::Weekday(day) => weekdays::weekday(day, next),
         Place::WeekdayDash(first) => weekdays::weekday_dash(first, next, fits),

@@ -4,16 +4,16 @@ ghost use Rattle.std.specs.Prelude.{◌≡◌, ◌<◌, ◌≤◌, ◌∷◌, �
 ghost use Rattle.gtd_hours_tokens.specs.Lexing.{AreTokens, IsNext, Reads};
 ghost use Rattle.gtd_hours_tokens.specs.declared.token.Token.{Token};
 ghost use Rattle.gtd_hours_parts.specs.declared.piece.Piece.{Piece};
-ghost use Rattle.gtd_hours_grammar.specs.Faults.{IsFirstFault, IsHoursText, ends_years, plus_kind};
-ghost use Rattle.gtd_hours_grammar.specs.Kinds.{misfit_of, range_if};
+ghost use Rattle.gtd_hours_grammar.specs.Faults.{IsFirstFault, IsHoursText, ends_years, is_slash, plus_kind};
+ghost use Rattle.gtd_hours_grammar.specs.Kinds.{misfit_of, place_of, range_if};
 ghost use Rattle.gtd_hours_grammar.specs.Runs.{IsGood};
 ghost use Rattle.gtd_hours_grammar.specs.Sound.{IsPlace};
 ghost use Rattle.gtd_hours_parts.specs.SoundPieces.{IsPiece};
 ghost use Rattle.gtd_hours_parts.specs.Values.{IsPartOf};
-ghost use Rattle.gtd_hours_grammar.specs.Steps.{IsMove, IsReading, advanced, end_or_fault, kind_of, moves_left};
+ghost use Rattle.gtd_hours_grammar.specs.Steps.{IsMove, IsReading, advanced, end_or_fault, fault_at, kind_of, moves_left};
 
 use crate::fault::{FaultKind, HoursFault};
-use crate::fits::{fits, takes_number, takes_time};
+use crate::fits::{fits, is_judged, takes_number, takes_time};
 use crate::moves::next_move;
 use crate::place::{Move, Place};
 use gtd_hours_parts::{Part, part_of};
@@ -30,6 +30,8 @@ pub struct Reading {
     at: Place,
     // The token that was read last.
     last: Option<TokenKind>,
+    // The number of bytes before it.
+    from: usize,
 }
 
 /// The beginning of a text, or the first byte with which no token begins. Takes no memory.
@@ -43,6 +45,7 @@ pub fn begin(text: &[u8]) -> Result<Reading, HoursFault>
             behind: Place::Front,
             at: Place::Front,
             last: None,
+            from: 0,
         }),
         Err(bad) => Err(HoursFault {
             kind: FaultKind::BadToken,
@@ -131,6 +134,7 @@ fn advanced(reading: Reading, next: Option<Token>, step: Move) -> Reading
                     behind: step.to,
                     at: step.to,
                     last: Some(token.kind),
+                    from: token.from,
                 }
             } else {
                 Reading {
@@ -155,10 +159,7 @@ fn end_or_fault(
     ensures { result ≡ end_or_fault text.now now next }
 {
     match next {
-        Some(token) => Err(HoursFault {
-            kind: misfit(now.behind, now.last, token.kind),
-            place: token.from,
-        }),
+        Some(token) => Err(fault_at(now, token)),
         None => {
             if now.at.is_after() {
                 Ok(None)
@@ -172,15 +173,47 @@ fn end_or_fault(
     }
 }
 
-// What is wrong with a token that cannot come next, behind the one that was read last.
-fn misfit(place: Place, last: Option<TokenKind>, kind: TokenKind) -> FaultKind
-    ensures { result ≡ misfit_of place last kind }
+// The fault at a token that cannot come next. Weeks that go back have no step: the second week, before the slash, is told.
+fn fault_at(now: Reading, token: Token) -> HoursFault
+    ensures { result ≡ fault_at now token }
+{
+    let kind = misfit(now, token.kind);
+    let place = place_of(kind, now.from, token);
+    HoursFault { kind, place }
+}
+
+// Where a fault of this kind is told at a token, behind one at the place before.
+fn place_of(kind: FaultKind, before: usize, token: Token) -> usize
+    ensures { result ≡ place_of kind before token }
 {
     match kind {
-        TokenKind::Number { .. } => range_if(takes_number(place)),
-        TokenKind::Time { .. } => range_if(takes_time(place)),
+        FaultKind::Range => {
+            if is_slash(token.kind) {
+                before
+            } else {
+                token.from
+            }
+        }
+        _ => token.from,
+    }
+}
+
+fn is_slash(kind: TokenKind) -> bool
+    ensures { result ≡ is_slash kind }
+{
+    matches!(kind, TokenKind::Slash)
+}
+
+// What is wrong with a token that cannot come next, behind the one that was read last.
+fn misfit(now: Reading, kind: TokenKind) -> FaultKind
+    ensures { result ≡ misfit_of now.behind now.at now.last kind }
+{
+    match kind {
+        TokenKind::Number { .. } => range_if(takes_number(now.behind)),
+        TokenKind::Time { .. } => range_if(takes_time(now.behind)),
+        TokenKind::Slash => range_if(is_judged(now.at, kind)),
         TokenKind::Unsupported => FaultKind::Unsupported,
-        TokenKind::Plus => plus_kind(last),
+        TokenKind::Plus => plus_kind(now.last),
         _ => FaultKind::Unexpected,
     }
 }

@@ -57,10 +57,10 @@ more_month_days follows (x ∷ xs) e =
     (more_month_days follows xs (and_both (is_month_days x) (list_all is_month_days xs) e).1)
 
 more_weeks : (follows : Bool) (xs : List Selector) → list_all is_weeks xs ≡ true
-    → MoreItems IsWeeks (more_selectors_text follows xs) (only_weeks xs)
-more_weeks follows [] e = no_items IsWeeks
+    → MoreItems (IsWeeks in_full) (more_selectors_text follows xs) (only_weeks xs)
+more_weeks follows [] e = no_items (IsWeeks in_full)
 more_weeks follows (selector.Weeks x ∷ xs) e =
-    more_items IsWeeks (selector_text follows (selector.Weeks x)) (more_selectors_text follows xs)
+    more_items (IsWeeks in_full) (selector_text follows (selector.Weeks x)) (more_selectors_text follows xs)
     (only_weeks (selector.Weeks x ∷ [])) (only_weeks xs) false (weeks_item follows x) (more_weeks follows xs e)
 more_weeks follows (x ∷ xs) e = absurd cc
 
@@ -165,10 +165,10 @@ week_word = record { letters = refl; word = refl }
 pub weeks_group : (follows : Bool) (x : Selector) (xs : List Selector) → list_all is_weeks (x ∷ xs) ≡ true
     → Group stage.Weeks follows (kind_text follows (x ∷ xs)) (only_weeks (x ∷ xs))
 weeks_group follows (selector.Weeks x) xs e =
-    let i : Items IsWeeks (selector_text follows (selector.Weeks x) ++ more_selectors_text follows xs)
+    let i : Items (IsWeeks in_full) (selector_text follows (selector.Weeks x) ++ more_selectors_text follows xs)
     (only_weeks (selector.Weeks x ∷ xs)) false =
-    items IsWeeks (selector_text follows (selector.Weeks x)) (more_selectors_text follows xs) (only_weeks (selector.Weeks x ∷ []))
-    (only_weeks xs) false (weeks_item follows x) (more_weeks follows xs e) in
+    items (IsWeeks in_full) (selector_text follows (selector.Weeks x)) (more_selectors_text follows xs)
+    (only_weeks (selector.Weeks x ∷ [])) (only_weeks xs) false (weeks_item follows x) (more_weeks follows xs e) in
     record {
       q = piece.Kind ∷ i.q;
       us = token.Week ∷ i.us;

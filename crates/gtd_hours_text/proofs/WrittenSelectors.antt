@@ -15,7 +15,7 @@ use Rattle.gtd_hours_parts.specs.Numbers.{IsDayNumber, IsPlaceNumber, IsStepNumb
 use Rattle.gtd_hours_text.proofs.WrittenTerms.{TokenKind, Piece}
 use Rattle.gtd_hours_parts.specs.declared.piece.Piece.TheVariants as piece
 use Rattle.gtd_hours_parts.specs.Pieces.{IsRange}
-use Rattle.gtd_hours_grammar.specs.Grammar.{IsWeeks, IsYears, begins_with_date}
+use Rattle.gtd_hours_grammar.specs.Grammar.{IsWeeks, IsYears, begins_with_date, in_full}
 use Rattle.gtd_hours_text.specs.Standing.{AreSelectors}
 use Rattle.gtd_hours_text.proofs.WrittenTokens.{decimal_spelt}
 use Rattle.gtd_hours_text.proofs.WrittenParts.{length_of_decimal, ranged, step_kinds}
@@ -161,7 +161,7 @@ years_item follows x = years_by follows x ((x.first == x.last) && (x.step == 1) 
 -- ---- weeks
 
 weeks_one : (x : Weeks) → x.first ≡ x.last → x.step ≡ 1
-    → Item IsWeeks (decimal x.first) (only_weeks (selector.Weeks x ∷ [])) false
+    → Item (IsWeeks in_full) (decimal x.first) (only_weeks (selector.Weeks x ∷ [])) false
 weeks_one x e f =
     let r = x.in_range in
     let high : x.first ≤ 53 = omega (arith, r.1, r.2) in
@@ -176,14 +176,14 @@ weeks_one x e f =
 
 range_of_weeks : (first last step : ℕ) (b : Bool) (later : List Piece) (rest : List TokenKind)
     → IsRange IsWeekNumber (digits first) (digits last) → IsStepNumber (digits step)
-    → IsWeeks (piece.Weeks (digits first) (Some (digits last)) (step_digits b step) ∷ later)
+    → IsWeeks in_full (piece.Weeks (digits first) (Some (digits last)) (step_digits b step) ∷ later)
     (token.Number first (length (decimal first)) ∷ token.Dash ∷ token.Number last (length (decimal last))
     ∷ (cond b [] (token.Slash ∷ token.Number step (length (decimal step)) ∷ []) ++ rest)) later rest
 range_of_weeks first last step true later rest r s = IsWeeks.range (digits first) (digits last) refl refl r
 range_of_weeks first last step false later rest r s =
     IsWeeks.every (digits first) (digits last) (digits step) refl refl r s
 
-weeks_range : (x : Weeks) → Item IsWeeks (decimal x.first ++ codes "-" ++ decimal x.last ++ step_text x.step)
+weeks_range : (x : Weeks) → Item (IsWeeks in_full) (decimal x.first ++ codes "-" ++ decimal x.last ++ step_text x.step)
     (only_weeks (selector.Weeks x ∷ [])) false
 weeks_range x =
     let r = x.in_range in
@@ -204,7 +204,7 @@ weeks_range x =
     }
 
 weeks_by : (x : Weeks) (b : Bool) → ((x.first == x.last) && (x.step == 1)) ≡ b
-    → Item IsWeeks (cond b (decimal x.first) (decimal x.first ++ codes "-" ++ decimal x.last ++ step_text x.step))
+    → Item (IsWeeks in_full) (cond b (decimal x.first) (decimal x.first ++ codes "-" ++ decimal x.last ++ step_text x.step))
     (only_weeks (selector.Weeks x ∷ [])) false
 weeks_by x true e =
     let same = and_both (x.first == x.last) (x.step == 1) e in
@@ -212,5 +212,5 @@ weeks_by x true e =
 weeks_by x false e = weeks_range x
 
 pub weeks_item : (follows : Bool) (x : Weeks)
-    → Item IsWeeks (selector_text follows (selector.Weeks x)) (only_weeks (selector.Weeks x ∷ [])) false
+    → Item (IsWeeks in_full) (selector_text follows (selector.Weeks x)) (only_weeks (selector.Weeks x ∷ [])) false
 weeks_item follows x = weeks_by x ((x.first == x.last) && (x.step == 1)) refl

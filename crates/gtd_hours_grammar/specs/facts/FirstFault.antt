@@ -9,11 +9,11 @@ use Rattle.gtd_hours_grammar.specs.declared.fault.FaultKind.TheVariants as fault
 use Rattle.gtd_hours_grammar.specs.declared.fault.HoursFault.{HoursFault}
 use Rattle.gtd_hours_grammar.specs.Terms.{Token, TokenKind, Piece, Stage}
 use Rattle.gtd_hours_grammar.specs.declared.stage.Stage.TheVariants as stage
-use Rattle.gtd_hours_grammar.specs.Grammar.{AreHours, CanGoOn, Follow, IsDates, IsMonthDays, Listed, More, in_full}
+use Rattle.gtd_hours_grammar.specs.Grammar.{AreHours, CanGoOn, Follow, IsDates, IsMonthDays, IsWeeks, Listed, More, in_full}
 use Rattle.gtd_hours_grammar.specs.Grammar.{so_far}
 use Rattle.gtd_hours_parts.specs.Pieces.{day_behind}
 use Rattle.gtd_hours_parts.specs.declared.piece.WrittenDate.{WrittenDate}
-use Rattle.gtd_hours_grammar.specs.Faults.{IsFirstFault, IsHoursText, IsMisfit, IsMisfitKind, kinds}
+use Rattle.gtd_hours_grammar.specs.Faults.{IsFirstFault, IsHoursText, IsMisfit, IsMisfitKind, kinds, told_at}
 
 -- ---- what is a text in full can go on
 
@@ -46,12 +46,36 @@ listed_days p ts later rest l = record {
   more = more_days later rest l.q l.us l.more;
 }
 
+weeks : (p : List Piece) (ts : List TokenKind) (later : List Piece) (rest : List TokenKind) → IsWeeks in_full p ts later rest
+    → IsWeeks so_far p ts later rest
+weeks p ts later rest (IsWeeks.one n a b h) = IsWeeks.one n a b h
+weeks p ts later rest (IsWeeks.range m n a b h) = IsWeeks.range m n a b h
+weeks p ts later rest (IsWeeks.every m n k a b h s) = IsWeeks.every m n k a b h s
+weeks p ts later rest (IsWeeks.back m n a b h) = IsWeeks.back m n a b h
+weeks p ts later rest (IsWeeks.back_step m n e a b c h) = absurd cc
+
+more_weeks : (later : List Piece) (rest : List TokenKind) (p : List Piece) (ts : List TokenKind)
+    → More (IsWeeks in_full) later rest p ts → More (IsWeeks so_far) later rest p ts
+more_weeks later rest p ts (More.none q us a b) = More.none p ts a b
+more_weeks later rest p ts (More.comma o q u us vs a h more) =
+    More.comma p q ts us vs a (weeks o us q vs h) (more_weeks later rest q vs more)
+
+listed_weeks : (p : List Piece) (ts : List TokenKind) (later : List Piece) (rest : List TokenKind)
+    → Listed (IsWeeks in_full) p ts later rest → Listed (IsWeeks so_far) p ts later rest
+listed_weeks p ts later rest l = record {
+  q = l.q;
+  us = l.us;
+  one = weeks p ts l.q l.us l.one;
+  more = more_weeks later rest l.q l.us l.more;
+}
+
 goes_on : (s : Stage) (p : List Piece) (ts : List TokenKind) → Follow in_full s p ts → Follow so_far s p ts
 goes_on s p ts (Follow.always a b c us e h f) = Follow.always s p ts us e h (goes_on stage.Always p us f)
 goes_on s p ts (Follow.years a b q l c r h k e x f) = Follow.years s p q l ts r h k e x (goes_on stage.Years l r f)
 goes_on s p ts (Follow.month_days a b q l c r h e x f) =
     Follow.month_days s p q l ts r h e (listed_days q ts l r x) (goes_on stage.MonthDays l r f)
-goes_on s p ts (Follow.weeks a b q l c us r h d e x f) = Follow.weeks s p q l ts us r h d e x (goes_on stage.Weeks l r f)
+goes_on s p ts (Follow.weeks a b q l c us r h d e x f) =
+    Follow.weeks s p q l ts us r h d e (listed_weeks q us l r x) (goes_on stage.Weeks l r f)
 goes_on s p ts (Follow.colon a b c us h k e f) = Follow.colon s p ts us h k e (goes_on stage.Colon p us f)
 goes_on s p ts (Follow.weekdays a b q l c r h e x f) = Follow.weekdays s p q l ts r h e x (goes_on stage.Weekdays l r f)
 goes_on s p ts (Follow.times a b l c r h x f) = Follow.times s p l ts r h x (goes_on stage.Times l r f)
@@ -139,8 +163,10 @@ two_misfits : (text : List ℕ) (a b : HoursFault) → (x : IsMisfit text a) →
 two_misfits text a b x y (Split.same e f) =
     let kind = subst (λ (l : List Token). IsMisfitKind (kinds l) x.here.kind a.kind) e x.kind in
     let there = subst (λ (t : Token). IsMisfitKind (kinds y.before) t.kind a.kind) f kind in
-    same_fault a b (same_kind (kinds y.before) y.here.kind a.kind b.kind there y.kind)
-    (x.place ∙ ap (λ (t : Token). t.from) f ∙ sym y.place)
+    let same = same_kind (kinds y.before) y.here.kind a.kind b.kind there y.kind in
+    same_fault a b same
+    (x.place ∙ ap (λ (l : List Token). told_at l x.here a.kind) e ∙ ap (λ (t : Token). told_at y.before t a.kind) f
+    ∙ ap (told_at y.before y.here) same ∙ sym y.place)
 two_misfits text a b x y (Split.shorter c e) = absurd (x.no_further (goes_further x.before x.here c y.before e y.goes))
 two_misfits text a b x y (Split.longer c e) = absurd (y.no_further (goes_further y.before y.here c x.before e x.goes))
 

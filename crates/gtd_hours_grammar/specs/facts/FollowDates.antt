@@ -24,7 +24,7 @@ use Rattle.gtd_hours_parts.specs.Pieces.{end_year, year_at_end, year_or_next}
 use Rattle.gtd_hours_grammar.specs.Sound.{YearOrDay, is_last_year}
 use Rattle.gtd_hours_grammar.specs.Moves.{complete, dates_end, give, take}
 use Rattle.gtd_hours_grammar.specs.Runs.{Runs}
-use Rattle.gtd_hours_grammar.specs.Runs.Runs.{cut, any_day}
+use Rattle.gtd_hours_grammar.specs.Runs.Runs.{cut, any_last}
 use Rattle.gtd_hours_grammar.specs.facts.RunSteps.{fit_taken, fit_completed, sign_taken, no_token, held, not_fit}
 use Rattle.gtd_hours_grammar.specs.facts.FollowBits.{begin_bit, next_bit, no_bit}
 use Rattle.gtd_hours_grammar.specs.facts.FollowSteps.{after_nothing, comma_runs, given_by, more_runs, renamed}
@@ -295,7 +295,7 @@ dates_run demand q us x p ts is (IsDates.cut y year m o vs may some z l e f g) g
 dates_run demand q us x p ts is (IsDates.any_day y l o vs by some z month e f g) go =
     dash_runs demand x p [] ts (date_before l []) e (none_behind demand p q us f g go)
     (last_month_runs demand x l.year l.month [] (number l.day ∷ []) (λ e. some) z month
-    (any_day (places.DateDashMonth x l.year l.month) [] (number l.day ∷ []) l.day.value l.day.count by refl refl refl))
+    (any_last (places.DateDashMonth x l.year l.month) [] (number l.day ∷ []) (number l.day) by refl refl refl))
 
 pub days_begin : (demand : Demand) (p q : List Piece) (ts us : List TokenKind) → IsMonthDays demand p ts q us
     → Runs demand (places.After stage.MonthDays) q us → DaysBegin demand p ts

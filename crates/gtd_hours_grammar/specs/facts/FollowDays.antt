@@ -18,40 +18,42 @@ use Rattle.gtd_hours_grammar.specs.Grammar.{Demand}
 use Rattle.gtd_hours_parts.specs.Pieces.{IsDay}
 use Rattle.gtd_hours_grammar.specs.Sound.{Fits, YearOrListed}
 use Rattle.gtd_hours_grammar.specs.Moves.{complete, give, listed, next_move, take, when, written}
-use Rattle.gtd_hours_grammar.specs.Runs.{Runs, awaits_day, first, is_after, is_cut, left, with_piece}
-use Rattle.gtd_hours_grammar.specs.Runs.Runs.{ends, cut, any_day, step}
+use Rattle.gtd_hours_grammar.specs.Runs.{Runs, is_judged, first, is_after, is_cut, left, with_piece}
+use Rattle.gtd_hours_grammar.specs.Runs.Runs.{ends, cut, any_last, step}
 use Rattle.gtd_hours_grammar.specs.facts.RunSteps.{fit_taken, no_token, sign_completed, sign_taken}
 use Rattle.gtd_hours_grammar.specs.facts.FollowSteps.{after_nothing, renamed}
 
 -- ---- runs from one place, and from another with the same move
 
-same_step : (demand : Demand) (at to : Place) (p : List Piece) (ts : List TokenKind) → awaits_day at ≡ false
-    → is_after at ≡ false → is_cut at ≡ false
+same_step : (demand : Demand) (at to : Place) (p : List Piece) (ts : List TokenKind)
+    → ((t : TokenKind) → is_judged at t ≡ false) → is_after at ≡ false → is_cut at ≡ false
     → ((fits : Bool) → ((fits ≡ true) ↔ Fits at (first ts)) → ((fits ≡ true) ↔ Fits to (first ts)))
     → ((fits : Bool) → next_move to (first ts) fits ≡ next_move at (first ts) fits) → Runs demand at p ts → Runs demand to p ts
 same_step demand at to p ts day behind cuts fit same (ends at' p' ts' after e f) = absurd cc
 same_step demand at to p ts day behind cuts fit same (cut at' p' ts' may is e f) = absurd cc
-same_step demand at to p ts day behind cuts fit same (any_day at' p' ts' v d by day' e f) = absurd cc
+same_step demand at to p ts day behind cuts fit same (any_last at' p' ts' l by day' e f) =
+    let never = day l in
+    absurd cc
 same_step demand at to p ts day behind cuts fit same (step at' p' q ts' move fits is m e go) =
     step to p q ts move fits (fit fits is) (same fits ∙ m) e go
 
 -- the same on a token
-same_token : (demand : Demand) (at to : Place) (p : List Piece) (t : TokenKind) (ts : List TokenKind) → awaits_day at ≡ false
+same_token : (demand : Demand) (at to : Place) (p : List Piece) (t : TokenKind) (ts : List TokenKind) → is_judged at t ≡ false
     → ((fits : Bool) → ((fits ≡ true) ↔ Fits at (Some t)) → ((fits ≡ true) ↔ Fits to (Some t)))
     → ((fits : Bool) → next_move to (Some t) fits ≡ next_move at (Some t) fits) → Runs demand at p (t ∷ ts)
     → Runs demand to p (t ∷ ts)
 same_token demand at to p t ts day fit same (ends at' p' ts' after e f) = absurd cc
 same_token demand at to p t ts day fit same (cut at' p' ts' may is e f) = absurd cc
-same_token demand at to p t ts day fit same (any_day at' p' ts' v d by day' e f) = absurd cc
+same_token demand at to p t ts day fit same (any_last at' p' ts' l by day' e f) = absurd cc
 same_token demand at to p t ts day fit same (step at' p' q ts' move fits is m e go) =
     step to p q (t ∷ ts) move fits (fit fits is) (same fits ∙ m) e go
 
 -- a token that is used up
-behind_token : (demand : Demand) (at to : Place) (p : List Piece) (t : TokenKind) (ts : List TokenKind) → awaits_day at ≡ false
+behind_token : (demand : Demand) (at to : Place) (p : List Piece) (t : TokenKind) (ts : List TokenKind) → is_judged at t ≡ false
     → ((fits : Bool) → next_move at (Some t) fits ≡ take to) → Runs demand at p (t ∷ ts) → Runs demand to p ts
 behind_token demand at to p t ts day takes (ends at' p' ts' after e f) = absurd cc
 behind_token demand at to p t ts day takes (cut at' p' ts' may is e f) = absurd cc
-behind_token demand at to p t ts day takes (any_day at' p' ts' v d by day' e f) = absurd cc
+behind_token demand at to p t ts day takes (any_last at' p' ts' l by day' e f) = absurd cc
 behind_token demand at to p t ts day takes (step at' p' q ts' move fits is m e go) =
     let taken : Move = record { to = to; piece = None; takes = true } in
     let both : Some move ≡ Some taken = sym m ∙ takes fits in
@@ -66,11 +68,11 @@ record Given (demand : Demand) (to : Place) (x : Piece) (p : List Piece) (ts : L
   runs : Runs demand to q ts
 
 behind_piece : (demand : Demand) (at to : Place) (x : Piece) (p : List Piece) (t : TokenKind) (ts : List TokenKind)
-    → awaits_day at ≡ false → ((fits : Bool) → next_move at (Some t) fits ≡ give x to) → Runs demand at p (t ∷ ts)
+    → is_judged at t ≡ false → ((fits : Bool) → next_move at (Some t) fits ≡ give x to) → Runs demand at p (t ∷ ts)
     → Given demand to x p (t ∷ ts)
 behind_piece demand at to x p t ts day gives (ends at' p' ts' after e f) = absurd cc
 behind_piece demand at to x p t ts day gives (cut at' p' ts' may is e f) = absurd cc
-behind_piece demand at to x p t ts day gives (any_day at' p' ts' v d by day' e f) = absurd cc
+behind_piece demand at to x p t ts day gives (any_last at' p' ts' l by day' e f) = absurd cc
 behind_piece demand at to x p t ts day gives (step at' p' q ts' move fits is m e go) =
     let given : Move = record { to = to; piece = Some x; takes = false } in
     let both : Some move ≡ Some given = sym m ∙ gives fits in
@@ -118,7 +120,7 @@ slash_behind demand v d p (t ∷ us) e f go =
     absurd (no_token demand places.TwentyFour p t us refl (λ fits. refl) go)
 slash_behind demand v d p [] e f (ends at p' ts' after g h) = absurd cc
 slash_behind demand v d p [] e f (cut at p' ts' may is g h) = absurd cc
-slash_behind demand v d p [] e f (any_day at p' ts' w c by day g h) = absurd cc
+slash_behind demand v d p [] e f (any_last at p' ts' l by day g h) = absurd cc
 slash_behind demand v d p [] e f (step at p' q ts' move fits is m g go) = absurd cc
 
 both_true : (a b : Bool) → (a && b) ≡ true → (a ≡ true) × (b ≡ true)
@@ -140,7 +142,7 @@ no_year : (demand : Demand) (v d : ℕ) (p : List Piece) (ts : List TokenKind) �
     → Runs demand places.Front p (token.Number v d ∷ ts) → ⊥
 no_year demand v d p ts other begins (ends at' p' ts' after e f) = absurd cc
 no_year demand v d p ts other begins (cut at' p' ts' may is e f) = absurd cc
-no_year demand v d p ts other begins (any_day at' p' ts' w c by day e f) = absurd cc
+no_year demand v d p ts other begins (any_last at' p' ts' l by day e f) = absurd cc
 no_year demand v d p ts other begins (step at' p' q ts' move true is m e go) =
     let four : (d == 4) ≡ true = eq-eqb d 4 (is.0 refl).0 in
     let both : false ≡ true = sym other ∙ four in
@@ -223,8 +225,8 @@ comma_date_runs : (demand : Demand) (year : Option Digits) (m : ℕ) (p : List P
     → Runs demand (places.CommaDate year m) p ts
 comma_date_runs demand year m p (token.Number v d ∷ ts) y h go = number_runs demand year m v d p ts (d == 4) refl y h go
 comma_date_runs demand year m p [] y h go =
-    same_step demand (places.Comma stage.MonthDays) (places.CommaDate year m) p [] refl refl refl (λ fits is. is) (λ fits. refl)
-    go
+    same_step demand (places.Comma stage.MonthDays) (places.CommaDate year m) p [] (λ t. refl) refl refl (λ fits is. is)
+    (λ fits. refl) go
 comma_date_runs demand year m p (t ∷ ts) y h go =
     same_token demand (places.Comma stage.MonthDays) (places.CommaDate year m) p t ts refl (λ fits is. is) (λ fits. refl) go
 

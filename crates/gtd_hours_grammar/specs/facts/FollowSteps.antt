@@ -9,7 +9,7 @@ use Rattle.gtd_hours_grammar.specs.Grammar.More.{none, comma}
 use Rattle.gtd_hours_grammar.specs.Sound.{Fits}
 use Rattle.gtd_hours_grammar.specs.Moves.{next_move, give}
 use Rattle.gtd_hours_grammar.specs.Runs.{Runs, first}
-use Rattle.gtd_hours_grammar.specs.Runs.Runs.{ends, cut, any_day, step}
+use Rattle.gtd_hours_grammar.specs.Runs.Runs.{ends, cut, any_last, step}
 use Rattle.gtd_hours_grammar.specs.facts.RunSteps.{given, sign_taken, after_end}
 use Rattle.gtd_hours_grammar.specs.facts.FollowBits.{SomeBit}
 
@@ -30,7 +30,7 @@ pub after_nothing : (demand : Demand) (s : Stage) (p : List Piece) (ts : List To
     → p ≡ []
 after_nothing demand s p ts nothing (ends at p' ts' after e f) = e
 after_nothing demand s p ts nothing (cut at p' ts' may is e f) = absurd cc
-after_nothing demand s p ts nothing (any_day at p' ts' v d by day e f) = absurd cc
+after_nothing demand s p ts nothing (any_last at p' ts' l by day e f) = absurd cc
 after_nothing demand s p ts nothing (step at p' q ts' move fits is m e go) =
     let both : Some move ≡ None =
     sym m ∙ ap (λ (l : List TokenKind). next_move (places.After s) (first l) fits) nothing

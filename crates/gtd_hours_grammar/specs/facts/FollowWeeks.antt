@@ -1,5 +1,5 @@
 -- The run over a list of weeks.
-use Rattle.std.proofs.Common.{◌≡◌, Bool, true, false, List, [], ◌∷◌, Some, None, refl, sym, ap, subst}
+use Rattle.std.proofs.Common.{◌≡◌, Bool, true, false, List, [], ◌∷◌, Some, None, refl, sym, ap, subst, ◌∙◌}
 use Rattle.std.specs.Prelude.{nat_le, if◌then◌else◌}
 use Rattle.std.proofs.lemmas.Bool.{le-leb, lt-leb}
 use Rattle.gtd_hours_tokens.specs.declared.token.TokenKind.{TokenKind}
@@ -13,10 +13,11 @@ use Rattle.gtd_hours_grammar.specs.declared.place.Place.TheVariants as places
 use Rattle.gtd_hours_grammar.specs.Grammar.{Demand, IsWeeks, Listed, number}
 use Rattle.gtd_hours_grammar.specs.Moves.{take, week_pair}
 use Rattle.gtd_hours_grammar.specs.Runs.{Runs, first}
+use Rattle.gtd_hours_grammar.specs.Runs.Runs.{any_last}
 use Rattle.gtd_hours_parts.specs.Pieces.{AreBackWeeks, IsRange, final_week, week_one}
 use Rattle.gtd_hours_grammar.specs.facts.RunSteps.{fit_taken, fit_completed, sign_taken, no_token}
 use Rattle.gtd_hours_grammar.specs.facts.FollowBits.{begin_bit, next_bit, no_bit}
-use Rattle.gtd_hours_grammar.specs.facts.FollowSteps.{Begins, comma_runs, given_by, more_runs, renamed}
+use Rattle.gtd_hours_grammar.specs.facts.FollowSteps.{Begins, after_nothing, comma_runs, given_by, more_runs, renamed}
 
 week_given : (demand : Demand) (n : Digits) (q : List Piece) (ts : List TokenKind) → Runs demand (places.After stage.Weeks) q ts
     → Runs demand (places.Week n) (piece.Weeks n None None ∷ q) ts
@@ -54,16 +55,28 @@ to_range demand a b p ts is go =
     (fit_taken demand (places.WeekDash a) (places.WeekRange a b) p (number b) ts is.1
     (pair_by a b true (le-leb a.value b.value is.2)) go)
 
+-- the weeks of a range that goes back from the first one of the year on
+again_given : (demand : Demand) (a b : Digits) (q : List Piece) (ts : List TokenKind)
+    → Runs demand (places.After stage.Weeks) q ts
+    → Runs demand (places.WeekAgain a b) (piece.Weeks week_one (Some b) None ∷ q) ts
+again_given demand a b q ts go =
+    given_by demand (places.WeekAgain a b) (places.After stage.Weeks) (piece.Weeks week_one (Some b) None) q ts
+    (next_bit (places.WeekAgain a b) (first ts) (λ v d e. no_bit ⊥ (λ x. x)) begin_bit) (λ fits. refl) go
+
 -- a range that goes back
 back_given : (demand : Demand) (a b : Digits) (q : List Piece) (ts : List TokenKind)
     → Runs demand (places.After stage.Weeks) q ts → Runs demand (places.WeekBack a b)
     (piece.Weeks a (Some final_week) None ∷ piece.Weeks week_one (Some b) None ∷ q) ts
-back_given demand a b q ts go =
+back_given demand a b q (token.Slash ∷ ts) go =
+    absurd (no_token demand (places.After stage.Weeks) q token.Slash ts refl (λ fits. refl) go)
+back_given demand a b q [] go =
     given_by demand (places.WeekBack a b) (places.WeekAgain a b) (piece.Weeks a (Some final_week) None)
-    (piece.Weeks week_one (Some b) None ∷ q) ts
-    (next_bit (places.WeekBack a b) (first ts) (λ v d e. no_bit ⊥ (λ x. x)) begin_bit) (λ fits. refl)
-    (given_by demand (places.WeekAgain a b) (places.After stage.Weeks) (piece.Weeks week_one (Some b) None) q ts
-    (next_bit (places.WeekAgain a b) (first ts) (λ v d e. no_bit ⊥ (λ x. x)) begin_bit) (λ fits. refl) go)
+    (piece.Weeks week_one (Some b) None ∷ q) [] (no_bit ⊥ (λ x. x)) (λ fits. refl) (again_given demand a b q [] go)
+back_given demand a b q (t ∷ ts) go =
+    given_by demand (places.WeekBack a b) (places.WeekAgain a b) (piece.Weeks a (Some final_week) None)
+    (piece.Weeks week_one (Some b) None ∷ q) (t ∷ ts)
+    (next_bit (places.WeekBack a b) (Some t) (λ v d e. no_bit ⊥ (λ x. x)) begin_bit) (λ fits. refl)
+    (again_given demand a b q (t ∷ ts) go)
 
 to_back : (demand : Demand) (a b : Digits) (p : List Piece) (ts : List TokenKind) → AreBackWeeks a b
     → Runs demand (places.WeekBack a b) p ts → Runs demand (places.Week a) p (token.Dash ∷ number b ∷ ts)
@@ -72,7 +85,7 @@ to_back demand a b p ts is go =
     (fit_taken demand (places.WeekDash a) (places.WeekBack a b) p (number b) ts is.1
     (pair_by a b false (lt-leb a.value b.value is.2)) go)
 
-pub weeks_begin : (demand : Demand) (p q : List Piece) (ts us : List TokenKind) → IsWeeks p ts q us
+pub weeks_begin : (demand : Demand) (p q : List Piece) (ts us : List TokenKind) → IsWeeks demand p ts q us
     → Runs demand (places.After stage.Weeks) q us → Begins demand IsWeekNumber places.Week p ts
 weeks_begin demand p q ts us (IsWeeks.one n e f is) go = record {
   n = n;
@@ -112,15 +125,26 @@ weeks_begin demand p q ts us (IsWeeks.back a b e f is) go = record {
       (back_given demand a b q us go));
 }
 
+weeks_begin demand p q ts us (IsWeeks.back_step a b by e f g is) go =
+    let none : p ≡ [] = g ∙ after_nothing demand stage.Weeks q us f go in
+    record {
+      n = a;
+      us = token.Dash ∷ number b ∷ token.Slash ∷ [];
+      tokens = e;
+      is = is.0;
+      runs = to_back demand a b p (token.Slash ∷ []) is
+          (any_last (places.WeekBack a b) p (token.Slash ∷ []) token.Slash by refl none refl);
+    }
+
 -- a number of a week, behind the word or a comma
-pub one_week : (demand : Demand) (p q : List Piece) (ts us : List TokenKind) → IsWeeks p ts q us
+pub one_week : (demand : Demand) (p q : List Piece) (ts us : List TokenKind) → IsWeeks demand p ts q us
     → Runs demand (places.After stage.Weeks) q us → Runs demand places.WeekWord p ts
 one_week demand p q ts us is go =
     let b = weeks_begin demand p q ts us is go in
     subst (Runs demand places.WeekWord p) (sym b.tokens)
     (fit_taken demand places.WeekWord (places.Week b.n) p (number b.n) b.us b.is refl b.runs)
 
-next_week : (demand : Demand) (p q : List Piece) (ts us : List TokenKind) → IsWeeks p ts q us
+next_week : (demand : Demand) (p q : List Piece) (ts us : List TokenKind) → IsWeeks demand p ts q us
     → Runs demand (places.After stage.Weeks) q us → Runs demand (places.Comma stage.Weeks) p ts
 next_week demand p q ts us is go =
     let b = weeks_begin demand p q ts us is go in
@@ -128,9 +152,9 @@ next_week demand p q ts us is go =
     (fit_taken demand (places.Comma stage.Weeks) (places.Week b.n) p (number b.n) b.us b.is refl b.runs)
 
 -- a list of weeks, behind the word
-pub weeks_run : (demand : Demand) (p later : List Piece) (ts rest : List TokenKind) → Listed IsWeeks p ts later rest
+pub weeks_run : (demand : Demand) (p later : List Piece) (ts rest : List TokenKind) → Listed (IsWeeks demand) p ts later rest
     → Runs demand (places.After stage.Weeks) later rest → Runs demand places.WeekWord p ts
 weeks_run demand p later ts rest l go =
     one_week demand p l.q ts l.us l.one
-    (more_runs demand IsWeeks (places.After stage.Weeks) (places.Comma stage.Weeks) (next_week demand)
+    (more_runs demand (IsWeeks demand) (places.After stage.Weeks) (places.Comma stage.Weeks) (next_week demand)
     (comma_runs demand stage.Weeks) later rest l.q l.us l.more go)

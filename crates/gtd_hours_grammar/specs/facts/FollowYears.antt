@@ -14,7 +14,7 @@ use Rattle.gtd_hours_grammar.specs.declared.place.Place.TheVariants as places
 use Rattle.gtd_hours_grammar.specs.Grammar.{Demand, IsYears, Listed, begins_with_date, number}
 use Rattle.gtd_hours_grammar.specs.Moves.{complete, give, next_move, take, when}
 use Rattle.gtd_hours_grammar.specs.Runs.{Runs, first, left, with_piece}
-use Rattle.gtd_hours_grammar.specs.Runs.Runs.{ends, cut, any_day, step}
+use Rattle.gtd_hours_grammar.specs.Runs.Runs.{ends, cut, any_last, step}
 use Rattle.gtd_hours_parts.specs.Pieces.{AreFewYears, IsRange, final_year}
 use Rattle.gtd_hours_grammar.specs.Sound.{Fits}
 use Rattle.gtd_hours_grammar.specs.facts.RunSteps.{fit_taken, fit_completed, sign_completed, sign_taken, no_token, not_fit}
@@ -63,7 +63,7 @@ month_behind : (demand : Demand) (m : ℕ) (p : List Piece) (ts : List TokenKind
     → Runs demand (places.After stage.Years) p (token.Month m ∷ ts) → MonthBehind demand m p ts
 month_behind demand m p ts (ends at p' ts' after e f) = absurd cc
 month_behind demand m p ts (cut at p' ts' may is e f) = absurd cc
-month_behind demand m p ts (any_day at p' ts' v d by day e f) = absurd cc
+month_behind demand m p ts (any_last at p' ts' l by day e f) = absurd cc
 month_behind demand m p ts (step at p' q ts' move fits is e f go) = month_by demand m p q ts move fits is.0 e f go
 
 -- the month that is no date's

@@ -4,7 +4,7 @@ use Rattle.gtd_hours_grammar.specs.Terms.{TokenKind, Piece, Place, Move}
 use Rattle.gtd_hours_grammar.specs.Grammar.{in_full}
 use Rattle.gtd_hours_grammar.specs.Moves.{next_move}
 use Rattle.gtd_hours_grammar.specs.Runs.{Runs, first, left, with_piece, is_after}
-use Rattle.gtd_hours_grammar.specs.Runs.Runs.{ends, cut, any_day, step}
+use Rattle.gtd_hours_grammar.specs.Runs.Runs.{ends, cut, any_last, step}
 use Rattle.gtd_hours_grammar.specs.facts.RunSteps.{after_end, same_move}
 
 no_step : (at : Place) (ts : List TokenKind) (fits : Bool) (move : Move) → is_after at ≡ true → ts ≡ []
@@ -26,6 +26,6 @@ one_run at p q ts (step at' p' p2 ts' move a is m e go) (step bt q' q2 us other 
     (subst (λ (w : Move). Runs in_full w.to q2 (left w.takes ts)) same run) in
     e ∙ ap (with_piece move.piece) rest ∙ ap (λ (w : Move). with_piece w.piece q2) (sym same) ∙ sym g
 one_run at p q ts (cut at' p' ts' may is e f) other = absurd cc
-one_run at p q ts (any_day at' p' ts' v d by day e f) other = absurd cc
+one_run at p q ts (any_last at' p' ts' l by day e f) other = absurd cc
 one_run at p q ts other (cut at' p' ts' may is e f) = absurd cc
-one_run at p q ts other (any_day at' p' ts' v d by day e f) = absurd cc
+one_run at p q ts other (any_last at' p' ts' l by day e f) = absurd cc

@@ -11,8 +11,8 @@ use Rattle.gtd_hours_grammar.specs.declared.place.Place.TheVariants as places
 use Rattle.gtd_hours_grammar.specs.Grammar.{Demand, in_full, so_far}
 use Rattle.gtd_hours_grammar.specs.Sound.{Fits}
 use Rattle.gtd_hours_grammar.specs.Moves.{next_move, give, take, complete, when, written}
-use Rattle.gtd_hours_grammar.specs.Runs.{Runs, first, left, is_after, is_cut, awaits_day}
-use Rattle.gtd_hours_grammar.specs.Runs.Runs.{ends, cut, any_day, step}
+use Rattle.gtd_hours_grammar.specs.Runs.{Runs, first, left, is_after, is_cut, is_judged}
+use Rattle.gtd_hours_grammar.specs.Runs.Runs.{ends, cut, any_last, step}
 
 -- ---- bits that tell whether something holds
 
@@ -55,18 +55,19 @@ no_move : (at : Place) (ts : List TokenKind) (fits : Bool) (move : Move) → ts 
 no_move at ts fits move e none m =
     let both : Some move ≡ None = sym m ∙ ap (λ (l : List TokenKind). next_move at (first l) fits) e ∙ none fits in cc
 
--- the move of a day that comes last
-day_move : (demand : Demand) (at : Place) (p : List Piece) (v d : ℕ) (fits : Bool) (move : Move) → awaits_day at ≡ true
-    → next_move at (Some (token.Number v d)) fits ≡ Some move → Goes demand move p (token.Number v d ∷ [])
-day_move demand (places.DateDashMonth x y m) p v d true move is e =
+-- the move of a token that comes last
+last_move : (demand : Demand) (at : Place) (p : List Piece) (t : TokenKind) (fits : Bool) (move : Move) → is_judged at t ≡ true
+    → next_move at (Some t) fits ≡ Some move → Goes demand move p (t ∷ [])
+last_move demand (places.DateDashMonth x y m) p (token.Number v d) true move is e =
     let last : LastDate = last_date.Date (record { year = y; month = m; day = written v d }) in
     let to : Place = places.AfterDate (end_year x (Some last)) (end_month x (Some last)) in
     let day : Move = record { to = to; piece = Some (piece.Dates x (Some last)); takes = true } in
     let same : day ≡ move = cc in
     subst (λ (w : Move). Goes demand w p (token.Number v d ∷ [])) same
     (record { q = []; runs = ends to [] [] refl refl refl })
-day_move demand (places.DateDashMonth x y m) p v d false move is e = absurd cc
-day_move demand at p v d fits move is e = absurd cc
+last_move demand (places.DateDashMonth x y m) p (token.Number v d) false move is e = absurd cc
+last_move demand (places.WeekBack a b) p token.Slash fits move is e = absurd cc
+last_move demand at p t fits move is e = absurd cc
 
 -- two moves by the same token are the same
 pub same_move : (at : Place) (next : Option TokenKind) (a b : Bool) (move other : Move) → ((a ≡ true) ↔ Fits at next)
@@ -84,9 +85,9 @@ run_step demand at p ts fits move is m (ends at' p' ts' after e f) =
     absurd (no_move at ts fits move f (λ b. after_end at b after) m)
 run_step demand at p ts fits move is m (cut at' p' ts' may is_cut e f) =
     absurd (no_move at ts fits move f (λ b. cut_end at b is_cut) m)
-run_step demand at p ts fits move is m (any_day at' p' ts' v d by day e f) =
+run_step demand at p ts fits move is m (any_last at' p' ts' l by day e f) =
     subst (Goes demand move p) (sym f)
-    (day_move demand at p v d fits move day (ap (λ (l : List TokenKind). next_move at (first l) fits) (sym f) ∙ m))
+    (last_move demand at p l fits move day (ap (λ (l : List TokenKind). next_move at (first l) fits) (sym f) ∙ m))
 run_step demand at p ts fits move is m (step at' p' q ts' other bit k n e go) =
     let same = same_move at (first ts) fits bit move other is k m n in
     record { q = q; runs = subst (λ (w : Move). Runs demand w.to q (left w.takes ts)) same go }
@@ -96,8 +97,20 @@ pub run_refused : (at : Place) (p : List Piece) (kind : TokenKind) (ts : List To
     → ((fits ≡ true) ↔ Fits at (Some kind)) → next_move at (Some kind) fits ≡ None → Runs so_far at p (kind ∷ ts) → ⊥
 run_refused at p kind ts fits is none (ends at' p' ts' after e f) = absurd cc
 run_refused at p kind ts fits is none (cut at' p' ts' may cuts e f) = absurd cc
-run_refused at p kind ts fits is none (any_day at' p' ts' v d by day e f) = absurd cc
+run_refused at p kind ts fits is none (any_last at' p' ts' l by day e f) = absurd cc
 run_refused at p kind ts fits is none (step at' p' q ts' other bit k n e go) =
+    let same : fits ≡ bit = same_bit (Fits at (Some kind)) fits bit is k in
+    let both : Some other ≡ None = sym n ∙ ap (next_move at (Some kind)) (sym same) ∙ none in
+    cc
+
+-- also where a token that comes last need only fit by its place, if this one is not judged so
+pub unjudged_refused : (demand : Demand) (at : Place) (p : List Piece) (kind : TokenKind) (ts : List TokenKind) (fits : Bool)
+    → is_judged at kind ≡ false → ((fits ≡ true) ↔ Fits at (Some kind)) → next_move at (Some kind) fits ≡ None
+    → Runs demand at p (kind ∷ ts) → ⊥
+unjudged_refused demand at p kind ts fits not is none (ends at' p' ts' after e f) = absurd cc
+unjudged_refused demand at p kind ts fits not is none (cut at' p' ts' may cuts e f) = absurd cc
+unjudged_refused demand at p kind ts fits not is none (any_last at' p' ts' l by day e f) = absurd cc
+unjudged_refused demand at p kind ts fits not is none (step at' p' q ts' other bit k n e go) =
     let same : fits ≡ bit = same_bit (Fits at (Some kind)) fits bit is k in
     let both : Some other ≡ None = sym n ∙ ap (next_move at (Some kind)) (sym same) ∙ none in
     cc
@@ -107,18 +120,18 @@ pub run_end_refused : (at : Place) (p : List Piece) (fits : Bool) → is_after a
     → next_move at None fits ≡ None → Runs in_full at p [] → ⊥
 run_end_refused at p fits not is none (ends at' p' ts' after e f) = absurd cc
 run_end_refused at p fits not is none (cut at' p' ts' may cuts e f) = absurd cc
-run_end_refused at p fits not is none (any_day at' p' ts' v d by day e f) = absurd cc
+run_end_refused at p fits not is none (any_last at' p' ts' l by day e f) = absurd cc
 run_end_refused at p fits not is none (step at' p' q ts' other bit k n e go) =
     let same : fits ≡ bit = same_bit (Fits at None) fits bit is k in
     let both : Some other ≡ None = sym n ∙ ap (next_move at None) (sym same) ∙ none in
     cc
 
 -- a token that makes no move at a place does not come there
-pub no_token : (demand : Demand) (at : Place) (p : List Piece) (t : TokenKind) (ts : List TokenKind) → awaits_day at ≡ false
+pub no_token : (demand : Demand) (at : Place) (p : List Piece) (t : TokenKind) (ts : List TokenKind) → is_judged at t ≡ false
     → ((fits : Bool) → next_move at (Some t) fits ≡ None) → Runs demand at p (t ∷ ts) → ⊥
 no_token demand at p t ts day none (ends at' p' ts' after e f) = absurd cc
 no_token demand at p t ts day none (cut at' p' ts' may is e f) = absurd cc
-no_token demand at p t ts day none (any_day at' p' ts' v d by day' e f) = absurd cc
+no_token demand at p t ts day none (any_last at' p' ts' l by day' e f) = absurd cc
 no_token demand at p t ts day none (step at' p' q ts' move fits is m e go) =
     let both : Some move ≡ None = sym m ∙ none fits in cc
 

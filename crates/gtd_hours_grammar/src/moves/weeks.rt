@@ -71,20 +71,23 @@ fn week_pair(first: Digits, last: Digits) -> Option<Move>
     }
 }
 
-/// `46-12`, which goes back
-pub fn week_back(first: Digits, last: Digits) -> Option<Move>
+/// `46-12`, which goes back and has no step
+pub fn week_back(first: Digits, last: Digits, next: Option<TokenKind>) -> Option<Move>
     requires sound { IsPlace (places.WeekBack first last) }
-    ensures computed { result ≡ week_back first last }
-    ensures good { (next : Option TokenKind) → IfSome result (λ move. IsGood (places.WeekBack first last) next move) }
+    ensures computed { result ≡ week_back first last next }
+    ensures good { IfSome result (λ move. IsGood (places.WeekBack first last) next move) }
 {
-    give(
-        Piece::Weeks {
-            first,
-            last: Some(written(53, 2)),
-            step: None,
-        },
-        Place::WeekAgain { first, last },
-    )
+    match next {
+        Some(TokenKind::Slash) => None,
+        _ => give(
+            Piece::Weeks {
+                first,
+                last: Some(written(53, 2)),
+                step: None,
+            },
+            Place::WeekAgain { first, last },
+        ),
+    }
 }
 
 /// `46-12`, where the weeks up to the last one of the year are given

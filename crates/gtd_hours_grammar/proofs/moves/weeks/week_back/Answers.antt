@@ -2,6 +2,6 @@
 use Rattle.gtd_hours_grammar.proofs.GoodItems.{week_back_good}
 use Rattle.gtd_hours_grammar.proofs.moves.weeks.week_back.Goals as goal
 
-pub returns-clause-good : goal.returns-clause-good
-returns-clause-good c =
-    λ next. rw (c.give.ensures, c.written.ensures) (week_back_good c.args.first c.args.last next c.requires.sound)
+pub returns-in_default-clause-good : goal.returns-in_default-clause-good
+returns-in_default-clause-good c =
+    rw (c.give.ensures, c.written.ensures) (week_back_good c.args.first c.args.last c.args.next c.requires.sound)
