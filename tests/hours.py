@@ -32,7 +32,7 @@ SAMPLES = 12
 FEWEST_TEXTS, FEWEST_FAULTS, FEWEST_LOOSE, MOST_BASIC_DOMAINS = 100, 40, 60, 128
 ENDINGS = ["", "off", "Mo", "-10:00", "10:00", "/7", "7", "]", "1]", "5]", "1", "31", "53", "Jan", "Dec 31", "2799"]
 ENDINGS += ["2799 Dec 31"]
-DATED_RANGE = re.compile(r"[0-9]{4} *[A-Z][a-z]{2} *[0-9]+ *- *[0-9]{4}")
+DATED_RANGE = re.compile(r"[0-9]{4} *[A-Z][a-z]{2} *([0-9]+ *- *[0-9]{4}|-)")
 
 
 class Failure(Exception):
@@ -264,16 +264,18 @@ def can_become_hours(text):
 
 def check_damaged(text):
     """The fault is at the first token that fits nowhere: the words before it can become hours, and with it they cannot. Left out
-    are ranges between two dates with years, since only the last day says that one goes back."""
+    are ranges between two dates or months with years, since only the last one says that a range goes back."""
     fault = fault_of(text.encode())
     if fault is None or DATED_RANGE.search(text):
         return
     kind, place = fault
-    expect(kind in ("Unsupported", "Range", "Unexpected", "Incomplete") and 0 <= place <= len(text), f"{text!r}: {fault}")
+    expect(kind in ("Unsupported", "Range", "Years", "Unexpected", "Incomplete") and 0 <= place <= len(text), f"{text!r}: {fault}")
     expect((kind == "Incomplete") == (place == len(text)), f"{text!r}: {fault}")
     until = place + len((text[place:].split(" ") or [""])[0])
     if kind == "Range" and text[until:until + 2] == " /":
         until += 2  # weeks that go back are refused with a step
+    if kind == "Years":
+        until += 1 + len(text[until + 1:].split(" ")[0])  # the step behind the slash
     expect(kind == "Incomplete" or not can_become_hours(text[:until]), f"{text!r}: {fault}, but that can become hours")
     expect(can_become_hours(text[:place]), f"{text!r}: {fault}, but it should be earlier")
 

@@ -132,6 +132,11 @@ class Reader:
         """Whether a number of four digits follows."""
         return self.peek(ahead) == "number" and len(self.text(ahead)) == 4
 
+    def is_dated(self):
+        """Whether a year belongs to the month behind it: a number follows, or a dash and a number."""
+        behind = 3 if self.peek(2) == "-" else 2
+        return self.peek(1) == "month" and self.peek(behind) == "number"
+
     def month(self):
         return MONTHS.index(self.take("month")) + 1
 
@@ -162,7 +167,7 @@ class Reader:
 
     def selectors(self):
         kinds, times = {}, []
-        if self.peek() == "number" and not (self.peek(1) == "month" and self.peek(2) == "number"):
+        if self.peek() == "number" and not self.is_dated():
             kinds["years"] = self.listed(self.years, lambda: self.is_year(1))
         if self.peek() in ("month", "number"):
             kinds["month days"] = self.month_days()
@@ -203,7 +208,8 @@ class Reader:
             return self.stepped("years", self.year)
         first, sign = self.year(), self.take(self.peek())
         step = self.number([1, 2, 3, 4], 1, 9999) if sign == "/" else 1
-        self.check(sign == "+" or len(range(first, LAST_YEAR + 1, step)) <= MOST_YEARS)
+        if sign == "/" and len(range(first, LAST_YEAR + 1, step)) > MOST_YEARS:
+            raise Fault("Years", self.found[self.at - 2].place)
         return [("years", first, LAST_YEAR, step)]
 
     def week(self):
@@ -225,7 +231,7 @@ class Reader:
         """Months and dates. Behind a date go on days of the month and the year of the last one, but `24/7` is another rule."""
         items = self.month_day()
         while self.peek() == ",":
-            dated = items[-1][0] != "months" and self.peek(1) == "number" and not self.is_year(1)
+            dated = "months" not in items[-1] and self.peek(1) == "number" and not self.is_year(1)
             if dated and (self.peek(2) != "/" or self.text(1) != "24"):
                 self.take(",")
                 last = items[-1][2]
@@ -241,9 +247,20 @@ class Reader:
     def month_day(self):
         year = self.year() if self.peek() == "number" else None
         month = self.month()
+        if year is not None and self.goes("-"):
+            return self.months_of_years(datetime.date(year, month, 1))
         if year is None and self.peek() != "number":
             return [("months", month, self.month() if self.goes("-") else month)]
         return self.dates(year, month)
+
+    def months_of_years(self, first):
+        """From the first day of a month of a year to the last day of another one. It is judged at the last month."""
+        year = self.year()
+        self.check(first.year <= year)
+        month = self.month()
+        last = datetime.date(year, month, calendar.monthrange(year, month)[1])
+        self.check(first <= last and (last - first).days < LONGEST)
+        return [("dated", first, last, "months")]
 
     def dates(self, year, month):
         """A date of this year and month, or a range from it on."""

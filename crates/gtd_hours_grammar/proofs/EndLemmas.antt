@@ -2,6 +2,7 @@
 use Rattle.std.proofs.Common.{◌≡◌, ℕ, Bool, true, false, List, [], ◌∷◌, ◌++◌, length, Option, Some, None, Ok}
 use Rattle.std.proofs.Common.{refl, sym, ap, subst, ◌∙◌, append_assoc}
 use Rattle.std.specs.Prelude.{IfErr, if◌then◌else◌}
+use Rattle.std.proofs.lemmas.Bool.{eq-eqb, eqb-true}
 use Rattle.std.proofs.lemmas.List.{append-nil}
 use Rattle.gtd_hours_tokens.specs.Lexing.{AreTokens, IsNext}
 use Rattle.gtd_hours_tokens.specs.declared.token.TokenKind.TheVariants as token
@@ -11,10 +12,12 @@ use Rattle.gtd_hours_grammar.specs.Terms.{Token, TokenKind, Piece, Place}
 use Rattle.gtd_hours_grammar.specs.declared.stage.Stage.TheVariants as stage
 use Rattle.gtd_hours_grammar.specs.declared.place.Place.TheVariants as places
 use Rattle.gtd_hours_grammar.specs.declared.reading.Reading.{Reading}
-use Rattle.gtd_hours_grammar.specs.Grammar.{AreHours, CanGoOn, Follow, More, in_full, so_far, by_place}
-use Rattle.gtd_hours_grammar.specs.Faults.{IsFirstFault, IsHoursText, IsMisfitKind, are_alike, ends_years, is_slash, kinds}
+use Rattle.gtd_hours_grammar.specs.Grammar.{AreHours, CanGoOn, Demand, Follow, More, in_full, so_far}
+use Rattle.gtd_hours_grammar.specs.Grammar.{by_place, with_years}
+use Rattle.gtd_hours_grammar.specs.Faults.{FitsByPlace, IsFirstFault, IsHoursText, IsMisfitKind, are_alike, ends_years}
+use Rattle.gtd_hours_grammar.specs.Faults.{NeedsYears, is_slash, kinds}
 use Rattle.gtd_hours_grammar.specs.Faults.{last_from, plus_kind, told_at}
-use Rattle.gtd_hours_grammar.specs.Kinds.{misfit_of, place_of, range_if}
+use Rattle.gtd_hours_grammar.specs.Kinds.{misfit_of, number_misfit, place_of, range_if}
 use Rattle.gtd_hours_grammar.specs.Places.{Rest}
 use Rattle.gtd_hours_grammar.specs.Places.BehindDate.{none}
 use Rattle.gtd_hours_grammar.specs.Sound.{IsPlace, takes_number, takes_time}
@@ -23,7 +26,8 @@ use Rattle.gtd_hours_grammar.specs.Steps.{GivesTo, IsMove, IsReading, end_or_fau
 use Rattle.gtd_hours_grammar.specs.facts.RunSteps.{run_end_refused, run_refused, unjudged_refused}
 use Rattle.gtd_hours_grammar.specs.facts.FollowRuns.{follow_runs}
 use Rattle.gtd_hours_grammar.proofs.NoNext.{no_number, no_time}
-use Rattle.gtd_hours_grammar.proofs.Endings.{ending, number_ending, slash_ending, time_ending}
+use Rattle.gtd_hours_grammar.proofs.Endings.{JudgedEnding, ending, month_ending, number_ending, slash_ending}
+use Rattle.gtd_hours_grammar.proofs.Endings.{time_ending, years_ending}
 use Rattle.gtd_hours_grammar.proofs.ReadLemmas.{known, none_later, same_next, split_later, tails}
 
 -- ---- the end
@@ -103,10 +107,10 @@ time_never text r given is h m (token.Time g n) alike e p after follow =
     no_time by_place r.behind behind.p g n after e behind.runs
 time_never text r given is h m other alike e p after follow = absurd cc
 
--- another number, where one fits and where none does
-number_kind : (text : List ℕ) (r : Reading) (given : List Piece) (is : IsReading text r given) (v d : ℕ) (b : Bool)
-    → takes_number r.behind ≡ b → IsMisfitKind (kinds is.read.before) (token.Number v d) (range_if b)
-number_kind text r given is v d true e =
+-- another number, where one fits
+number_fits : (text : List ℕ) (r : Reading) (given : List Piece) (is : IsReading text r given) (v d : ℕ)
+    → takes_number r.behind ≡ true → FitsByPlace (kinds is.read.before) (token.Number v d)
+number_fits text r given is v d e =
     let end = number_ending r.behind is.read.stands e in
     record {
       other = token.Number end.v end.d;
@@ -115,8 +119,6 @@ number_kind text r given is v d true e =
       after = end.ts;
       follow = is.read.leads by_place end.p (token.Number end.v end.d ∷ end.ts) end.rest;
     }
-number_kind text r given is v d false e =
-    λ fits. number_never text r given is v d fits.other fits.alike e fits.p fits.after fits.follow
 
 time_kind : (text : List ℕ) (r : Reading) (given : List Piece) (is : IsReading text r given) (h m : ℕ) (b : Bool)
     → takes_time r.behind ≡ b → IsMisfitKind (kinds is.read.before) (token.Time h m) (range_if b)
@@ -132,45 +134,102 @@ time_kind text r given is h m true e =
 time_kind text r given is h m false e =
     λ fits. time_never text r given is h m fits.other fits.alike e fits.p fits.after fits.follow
 
--- the slash before a step of weeks that go back
-slash_never : (text : List ℕ) (r : Reading) (given : List Piece) (t : Token) (is : IsReading text r given) (other : TokenKind)
-    → t.kind ≡ token.Slash → IsNext text r.place (Ok (Some t)) → IsMove r.at (Some token.Slash) None
-    → are_alike token.Slash other ≡ true → is_judged r.at token.Slash ≡ false → (p : List Piece) → (after : List TokenKind)
-    → Follow by_place stage.Front p (kinds is.read.before ++ other ∷ after) → ⊥
-slash_never text r given t is token.Slash same h goes alike e p after follow =
-    let run = follow_runs by_place p (kinds is.read.before ++ token.Slash ∷ after) follow in
-    let behind = is.read.runs by_place p (token.Slash ∷ after) run in
+-- a token that is judged by its place
+judged_never : (demand : Demand) (text : List ℕ) (r : Reading) (given : List Piece) (t : Token) (is : IsReading text r given)
+    (k : TokenKind) → t.kind ≡ k → IsNext text r.place (Ok (Some t)) → IsMove r.at (Some k) None
+    → is_judged r.at k demand ≡ false → (p : List Piece) → (after : List TokenKind)
+    → Follow demand stage.Front p (kinds is.read.before ++ k ∷ after) → ⊥
+judged_never demand text r given t is k same h goes e p after follow =
+    let run = follow_runs demand p (kinds is.read.before ++ k ∷ after) follow in
+    let behind = is.read.runs demand p (k ∷ after) run in
     let gives = subst (λ (n : Option TokenKind). GivesTo r.behind r.at n is.two)
-    (known text r given is (Some t) h ∙ ap (λ (k : TokenKind). Some k) same) is.gives in
-    let at = gives.runs by_place behind.p after behind.runs in
-    unjudged_refused by_place r.at at.p token.Slash after goes.fits e goes.bit (sym goes.computed) at.runs
-slash_never text r given t is other same h goes alike e p after follow = absurd cc
+    (known text r given is (Some t) h ∙ ap (λ (x : TokenKind). Some x) same) is.gives in
+    let at = gives.runs demand behind.p after behind.runs in
+    unjudged_refused demand r.at at.p k after goes.fits e goes.bit (sym goes.computed) at.runs
+
+judged_follow : (demand : Demand) (text : List ℕ) (r : Reading) (given : List Piece) (t : Token) (is : IsReading text r given)
+    (k : TokenKind) → t.kind ≡ k → IsNext text r.place (Ok (Some t)) → (end : JudgedEnding demand r.at k)
+    → Follow demand stage.Front (is.one ++ (is.two ++ end.p)) (kinds is.read.before ++ k ∷ [])
+judged_follow demand text r given t is k same h end =
+    let gives = subst (λ (n : Option TokenKind). GivesTo r.behind r.at n is.two)
+    (known text r given is (Some t) h ∙ ap (λ (x : TokenKind). Some x) same) is.gives in
+    is.read.leads demand (is.two ++ end.p) (k ∷ []) (gives.leads demand end.p [] end.rest)
+
+judged_fits : (text : List ℕ) (r : Reading) (given : List Piece) (t : Token) (is : IsReading text r given) (k : TokenKind)
+    → t.kind ≡ k → IsNext text r.place (Ok (Some t)) → are_alike k k ≡ true → JudgedEnding by_place r.at k
+    → FitsByPlace (kinds is.read.before) k
+judged_fits text r given t is k same h alike end = record {
+  other = k;
+  alike = alike;
+  p = is.one ++ (is.two ++ end.p);
+  after = [];
+  follow = judged_follow by_place text r given t is k same h end;
+}
+
+-- a number: a step of too many years, another one where one fits, and one where none does
+unneeded : (text : List ℕ) (r : Reading) (given : List Piece) (t : Token) (is : IsReading text r given) (v d : ℕ)
+    → t.kind ≡ token.Number v d → IsNext text r.place (Ok (Some t)) → IsMove r.at (Some (token.Number v d)) None
+    → is_judged r.at (token.Number v d) with_years ≡ false → NeedsYears (kinds is.read.before) (token.Number v d) → ⊥
+unneeded text r given t is v d same h goes e needs =
+    judged_never with_years text r given t is (token.Number v d) same h goes e needs.p [] needs.follow
+
+number_kind : (text : List ℕ) (r : Reading) (given : List Piece) (t : Token) (is : IsReading text r given) (v d : ℕ)
+    (many b : Bool) → t.kind ≡ token.Number v d → IsNext text r.place (Ok (Some t)) → IsMove r.at (Some (token.Number v d)) None
+    → is_judged r.at (token.Number v d) with_years ≡ many → takes_number r.behind ≡ b
+    → IsMisfitKind (kinds is.read.before) (token.Number v d) (number_misfit many b)
+number_kind text r given t is v d true b same h goes e f =
+    let end = years_ending r.at v d is.stands e in
+    record {
+      p = is.one ++ (is.two ++ end.p);
+      follow = judged_follow with_years text r given t is (token.Number v d) same h end;
+    }
+number_kind text r given t is v d false true same h goes e f =
+    (number_fits text r given is v d f, unneeded text r given t is v d same h goes e)
+number_kind text r given t is v d false false same h goes e f = (
+  λ fits. number_never text r given is v d fits.other fits.alike f fits.p fits.after fits.follow,
+  unneeded text r given t is v d same h goes e,
+)
+
+-- the slash before a step of weeks that go back
+same_slash : (other : TokenKind) → are_alike token.Slash other ≡ true → other ≡ token.Slash
+same_slash token.Slash e = refl
+same_slash other e = absurd cc
 
 slash_kind : (text : List ℕ) (r : Reading) (given : List Piece) (t : Token) (is : IsReading text r given) (b : Bool)
     → t.kind ≡ token.Slash → IsNext text r.place (Ok (Some t)) → IsMove r.at (Some token.Slash) None
-    → is_judged r.at token.Slash ≡ b → IsMisfitKind (kinds is.read.before) token.Slash (range_if b)
+    → is_judged r.at token.Slash by_place ≡ b → IsMisfitKind (kinds is.read.before) token.Slash (range_if b)
 slash_kind text r given t is true same h goes e =
-    let end = slash_ending r.at is.stands e in
-    let gives = subst (λ (n : Option TokenKind). GivesTo r.behind r.at n is.two)
-    (known text r given is (Some t) h ∙ ap (λ (k : TokenKind). Some k) same) is.gives in
-    let behind = gives.leads by_place end.p [] end.rest in
-    record {
-      other = token.Slash;
-      alike = refl;
-      p = is.one ++ (is.two ++ end.p);
-      after = [];
-      follow = is.read.leads by_place (is.two ++ end.p) (token.Slash ∷ []) behind;
-    }
-slash_kind text r given t is false same h goes e =
-    λ fits. slash_never text r given t is fits.other same h goes fits.alike e fits.p fits.after fits.follow
+    judged_fits text r given t is token.Slash same h refl (slash_ending r.at is.stands e)
+slash_kind text r given t is false same h goes e = λ fits.
+    judged_never by_place text r given t is token.Slash same h goes e fits.p fits.after
+    (subst (λ (k : TokenKind). Follow by_place stage.Front fits.p (kinds is.read.before ++ k ∷ fits.after))
+    (same_slash fits.other fits.alike) fits.follow)
+
+-- a last month with a year
+same_month : (m : ℕ) (other : TokenKind) → are_alike (token.Month m) other ≡ true → other ≡ token.Month m
+same_month m (token.Month l) e = ap (λ (n : ℕ). token.Month n) (sym (eqb-true m l e))
+same_month m other e = absurd cc
+
+month_kind : (text : List ℕ) (r : Reading) (given : List Piece) (t : Token) (is : IsReading text r given) (m : ℕ) (b : Bool)
+    → t.kind ≡ token.Month m → IsNext text r.place (Ok (Some t)) → IsMove r.at (Some (token.Month m)) None
+    → is_judged r.at (token.Month m) by_place ≡ b → IsMisfitKind (kinds is.read.before) (token.Month m) (range_if b)
+month_kind text r given t is m true same h goes e =
+    judged_fits text r given t is (token.Month m) same h (eq-eqb m m refl) (month_ending r.at m is.stands e)
+month_kind text r given t is m false same h goes e = λ fits.
+    judged_never by_place text r given t is (token.Month m) same h goes e fits.p fits.after
+    (subst (λ (k : TokenKind). Follow by_place stage.Front fits.p (kinds is.read.before ++ k ∷ fits.after))
+    (same_month m fits.other fits.alike) fits.follow)
 
 misfit_kind : (text : List ℕ) (r : Reading) (given : List Piece) (t : Token) (is : IsReading text r given) (k : TokenKind)
     → t.kind ≡ k → IsNext text r.place (Ok (Some t)) → IsMove r.at (Some k) None
     → IsMisfitKind (kinds is.read.before) k (misfit_of r.behind r.at r.last k)
-misfit_kind text r given t is (token.Number v d) same h goes = number_kind text r given is v d (takes_number r.behind) refl
+misfit_kind text r given t is (token.Number v d) same h goes =
+    number_kind text r given t is v d (is_judged r.at (token.Number v d) with_years) (takes_number r.behind) same h goes refl refl
 misfit_kind text r given t is (token.Time a b) same h goes = time_kind text r given is a b (takes_time r.behind) refl
+misfit_kind text r given t is (token.Month m) same h goes =
+    month_kind text r given t is m (is_judged r.at (token.Month m) by_place) same h goes refl
 misfit_kind text r given t is token.Slash same h goes =
-    slash_kind text r given t is (is_judged r.at token.Slash) same h goes refl
+    slash_kind text r given t is (is_judged r.at token.Slash by_place) same h goes refl
 misfit_kind text r given t is token.Unsupported same h goes = refl
 misfit_kind text r given t is token.Plus same h goes = ap (λ (o : Option TokenKind). plus_kind (ends_years o)) (sym is.last)
 misfit_kind text r given t is k same h goes = λ fits. absurd cc
@@ -178,6 +237,7 @@ misfit_kind text r given t is k same h goes = λ fits. absurd cc
 -- where the fault is told
 placed : (before : List Token) (from : ℕ) (t : Token) (kind : FaultKind) → last_from before ≡ from
     → place_of kind from t ≡ told_at before t kind
+placed before from t fault.Years e = sym e
 placed before from t fault.Range e = ap (λ (n : ℕ). if is_slash t.kind then n else t.from) (sym e)
 placed before from t kind e = refl
 

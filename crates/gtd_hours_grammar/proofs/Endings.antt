@@ -1,11 +1,12 @@
 -- From every place with numbers in range some text goes on, also with a number or a time where one can come next.
 use Rattle.std.proofs.Common.{◌≡◌, ℕ, true, false, List, [], ◌∷◌, Option, Some, None, refl, sym, ap, subst, arith}
-use Rattle.std.specs.Prelude.{IfSome, is_some}
+use Rattle.std.specs.Prelude.{◌&&◌, nat_le, IfSome, is_some}
+use Rattle.std.proofs.lemmas.Bool.{and_parts, leb-true}
 use Rattle.gtd_hours.specs.Ranges.{IsMonth, IsWeekday}
 use Rattle.gtd_hours_tokens.specs.declared.token.TokenKind.TheVariants as token
 use Rattle.gtd_hours_parts.specs.declared.digits.Digits.{Digits}
 use Rattle.gtd_hours_parts.specs.declared.clock.ClockTime.{ClockTime}
-use Rattle.gtd_hours_parts.specs.Numbers.{IsPlaceNumber, IsWeekNumber, IsYearNumber}
+use Rattle.gtd_hours_parts.specs.Numbers.{IsPlaceNumber, IsStepNumber, IsWeekNumber, IsYearNumber}
 use Rattle.gtd_hours_parts.specs.Times.{IsBegin}
 use Rattle.gtd_hours_parts.specs.declared.piece.WrittenDate.{WrittenDate}
 use Rattle.gtd_hours_parts.specs.declared.piece.LastDate.TheVariants as last_date
@@ -15,14 +16,15 @@ use Rattle.gtd_hours_grammar.specs.declared.stage.Stage.TheVariants as stage
 use Rattle.gtd_hours_grammar.specs.declared.place.Place.TheVariants as places
 use Rattle.gtd_hours_grammar.specs.Grammar.{Demand, Follow, IsDates, IsMonthDays, IsPlaces, IsWeekdays, IsWeeks, IsYears}
 use Rattle.gtd_hours_grammar.specs.Grammar.{by_place}
-use Rattle.gtd_hours_grammar.specs.Grammar.{date_before, dated, goes_on, may_break_off, number, precedes, so_far}
+use Rattle.gtd_hours_grammar.specs.Grammar.{date_before, dated, goes_on, may_break_off, months_to, number, precedes}
+use Rattle.gtd_hours_grammar.specs.Grammar.{so_far, with_years}
 use Rattle.gtd_hours_grammar.specs.Grammar.{time, unfinished}
 use Rattle.gtd_hours_parts.specs.Pieces.{AreBackWeeks, IsDay, IsLastDay, IsRange, IsWrittenDate, final_week, final_year}
 use Rattle.gtd_hours_parts.specs.Pieces.{week_one}
 use Rattle.gtd_hours_grammar.specs.Places.{Behind, BehindDate, FromDate, Rest}
 use Rattle.gtd_hours_grammar.specs.Places.BehindDate.{day, none}
 use Rattle.gtd_hours.specs.declared.hours.Link.TheVariants as link
-use Rattle.gtd_hours_grammar.specs.Runs.{is_judged}
+use Rattle.gtd_hours_grammar.specs.Runs.{is_judged, is_step}
 use Rattle.gtd_hours_grammar.specs.Sound.{IsLastYear, IsPlace, takes_number, takes_time}
 use Rattle.gtd_hours_grammar.proofs.EndingsOfParts.{a_date, a_month, a_month_day, a_year, after_number, another, behind}
 use Rattle.gtd_hours_grammar.proofs.EndingsOfParts.{bracket_closed, dated_after, digit_one, done, first_day, first_of}
@@ -326,6 +328,31 @@ dash_month_number x None (Some l) m e h y k =
     let s = y.one refl in
     absurd cc
 
+-- ---- months of years
+
+-- a text that breaks off before the last month
+months_cut : (d : Demand) (a b : Digits) (m : ℕ) → may_break_off d ≡ true → IsRange IsYearNumber a b → IsMonth m
+    → IsMonthDays d [] (months_to a m b []) [] []
+months_cut d a b m may range h = IsMonthDays.cut a b m may range h refl refl refl
+
+to_months_year : (d : Demand) (n : Digits) (m : ℕ) → may_break_off d ≡ true → IsYearNumber n → IsMonth m
+    → Rest d (places.DateYearMonthDash n m) [] (number n ∷ [])
+to_months_year d n m may y h =
+    then d stage.MonthDays [] [] (months_to n m n []) [] (months_cut d n n m may (y, y, omega arith) h)
+    (done d stage.MonthDays refl)
+
+to_first_months_year : (d : Demand) (n : Digits) (m : ℕ) → may_break_off d ≡ true → IsYearNumber n → IsMonth m
+    → Rest d (places.YearMonthDash n m) [] (number n ∷ [])
+to_first_months_year d n m may y h =
+    a_month_day d stage.Front [] [] (months_to n m n []) [] refl (months_cut d n n m may (y, y, omega arith) h)
+    (done d stage.MonthDays refl)
+
+to_month_after_year : (d : Demand) (m : ℕ) → IsMonth m
+    → Rest d (places.MonthDashAfterYear m) (piece.Kind ∷ piece.Months m (Some m) ∷ []) (token.Month m ∷ [])
+to_month_after_year d m h =
+    a_month_day d stage.Years (piece.Months m (Some m) ∷ []) [] (token.Month m ∷ token.Dash ∷ token.Month m ∷ []) [] refl
+    (IsMonthDays.months m m refl refl h h) (done d stage.MonthDays refl)
+
 -- ---- commas
 
 no_open : (s : Stage) → goes_on s token.Open ≡ false
@@ -426,12 +453,12 @@ listed_then d x p ts h follow = day x.day ts refl h.1 (date_then d x p ts h foll
 
 -- ---- a token that is judged by its place
 
-pub record SlashEnding (at : Place) : Type 0 where
+pub record JudgedEnding (demand : Demand) (at : Place) (t : TokenKind) : Type 0 where
   pub p : List Piece
-  pub rest : Rest by_place at p (token.Slash ∷ [])
+  pub rest : Rest demand at p (t ∷ [])
 
 -- the step of weeks that go back
-pub slash_ending : (at : Place) → IsPlace at → is_judged at token.Slash ≡ true → SlashEnding at
+pub slash_ending : (at : Place) → IsPlace at → is_judged at token.Slash by_place ≡ true → JudgedEnding by_place at token.Slash
 slash_ending (places.WeekBack a b) h e = record {
   p = [];
   rest =
@@ -439,6 +466,35 @@ slash_ending (places.WeekBack a b) h e = record {
       (IsWeeks.back_step a b refl refl refl refl h) (done by_place stage.Weeks refl);
 }
 slash_ending at h e = absurd cc
+
+-- a last month with a year
+pub month_ending : (at : Place) (m : ℕ) → IsPlace at → is_judged at (token.Month m) by_place ≡ true
+    → JudgedEnding by_place at (token.Month m)
+month_ending (places.MonthsYear a k b) m h e = record {
+  p = [];
+  rest =
+      then by_place stage.MonthDays [] [] (months_to a k b (token.Month m ∷ [])) []
+      (IsMonthDays.any_month a b k m refl h.one h.other refl refl refl) (done by_place stage.MonthDays refl);
+}
+month_ending at m h e = absurd cc
+
+-- a step of more years than a domain holds
+step_of : (v d : ℕ) → is_step v d ≡ true → IsStepNumber (record { value = v; count = d })
+step_of v d e =
+    let one = and_parts (nat_le 1 d && nat_le d 4 && nat_le 1 v) (nat_le v 9999) e in
+    let two = and_parts (nat_le 1 d && nat_le d 4) (nat_le 1 v) one.0 in
+    let three = and_parts (nat_le 1 d) (nat_le d 4) two.0 in
+    (leb-true 1 d three.0, leb-true d 4 three.1, leb-true 1 v two.1, leb-true v 9999 one.1)
+
+pub years_ending : (at : Place) (v d : ℕ) → IsPlace at → is_judged at (token.Number v d) with_years ≡ true
+    → JudgedEnding with_years at (token.Number v d)
+years_ending (places.YearSlash n) v d h e = record {
+  p = [];
+  rest =
+      then with_years stage.Years [] [] (number n ∷ token.Slash ∷ token.Number v d ∷ []) []
+      (IsYears.many n (record { value = v; count = d }) refl refl refl refl h (step_of v d e)) (done with_years stage.Years refl);
+}
+years_ending at v d h e = absurd cc
 
 -- ---- every place
 
@@ -456,6 +512,9 @@ ending (places.YearMonth n m) h = record {
 }
 ending (places.MonthAfterYear m) h =
     record { p = _; ts = []; rest = later_month so_far m [] [] h (done so_far stage.MonthDays refl) }
+ending (places.YearMonthDash n m) h =
+    record { p = _; ts = _; rest = to_first_months_year so_far n m refl h.one h.other }
+ending (places.MonthDashAfterYear m) h = record { p = _; ts = _; rest = to_month_after_year so_far m h }
 ending (places.ListedYear n) h = record { p = _; ts = []; rest = year_then so_far n [] [] h (done so_far stage.Years refl) }
 ending (places.YearDash n) h = record { p = _; ts = _; rest = to_year so_far n h }
 ending (places.YearRange a b) h =
@@ -468,6 +527,14 @@ ending (places.DateYear n) h = record {
   rest = to_day_of so_far n 1 h (omega arith, omega arith);
 }
 ending (places.DateYearMonth n m) h = record { p = _; ts = _; rest = to_day_of so_far n m h.one h.other }
+ending (places.DateYearMonthDash n m) h = record { p = _; ts = _; rest = to_months_year so_far n m refl h.one h.other }
+ending (places.MonthsYear a m b) h = record {
+  p = _;
+  ts = [];
+  rest =
+      then so_far stage.MonthDays [] [] (months_to a m b []) [] (months_cut so_far a b m refl h.one h.other)
+      (done so_far stage.MonthDays refl);
+}
 ending (places.Month m) h = record { p = _; ts = []; rest = month_then so_far m [] [] h (done so_far stage.MonthDays refl) }
 ending (places.MonthDash m) h = record { p = _; ts = _; rest = to_month so_far m h }
 ending (places.Date x) h = record { p = _; ts = []; rest = date_then so_far x [] [] h (done so_far stage.MonthDays refl) }
@@ -513,6 +580,9 @@ number_ending (places.Year n) h e =
 number_ending (places.YearMonth n m) h e =
     record { v = 1; d = 1; p = _; ts = []; rest = to_day_of_year by_place n m h.one h.other }
 number_ending (places.MonthAfterYear m) h e = record { v = 1; d = 1; p = _; ts = []; rest = to_day_after_year by_place m h }
+number_ending (places.YearMonthDash n m) h e =
+    record { v = n.value; d = n.count; p = _; ts = []; rest = to_first_months_year by_place n m refl h.one h.other }
+number_ending (places.MonthDashAfterYear m) h e = absurd cc
 number_ending (places.ListedYear n) h e =
     dated_on (places.ListedYear n) _ (year_then by_place n dated_next dated_tokens h (dated_after by_place stage.Years refl))
 number_ending (places.YearDash n) h e = record { v = n.value; d = n.count; p = _; ts = []; rest = to_year by_place n h }
@@ -524,6 +594,9 @@ number_ending (places.YearSlash n) h e = record { v = 8; d = 1; p = _; ts = []; 
 number_ending (places.DateYear n) h e = absurd cc
 number_ending (places.DateYearMonth n m) h e =
     record { v = 1; d = 1; p = _; ts = []; rest = to_day_of by_place n m h.one h.other }
+number_ending (places.DateYearMonthDash n m) h e =
+    record { v = n.value; d = n.count; p = _; ts = []; rest = to_months_year by_place n m refl h.one h.other }
+number_ending (places.MonthsYear a m b) h e = absurd cc
 number_ending (places.Month m) h e = record { v = 1; d = 1; p = _; ts = []; rest = to_day_of_month by_place m h }
 number_ending (places.MonthDash m) h e = absurd cc
 number_ending (places.Date x) h e = absurd cc
@@ -570,6 +643,8 @@ time_ending (places.YearMonth n m) h e =
 time_ending (places.MonthAfterYear m) h e =
     timed_on (places.MonthAfterYear m) _
     (later_month by_place m timed_next timed_tokens h (times_after by_place stage.MonthDays refl))
+time_ending (places.YearMonthDash n m) h e = absurd cc
+time_ending (places.MonthDashAfterYear m) h e = absurd cc
 time_ending (places.ListedYear n) h e =
     timed_on (places.ListedYear n) _ (year_then by_place n timed_next timed_tokens h (times_after by_place stage.Years refl))
 time_ending (places.YearDash n) h e = absurd cc
@@ -580,6 +655,8 @@ time_ending (places.YearStep a b) h e = absurd cc
 time_ending (places.YearSlash n) h e = absurd cc
 time_ending (places.DateYear n) h e = absurd cc
 time_ending (places.DateYearMonth n m) h e = absurd cc
+time_ending (places.DateYearMonthDash n m) h e = absurd cc
+time_ending (places.MonthsYear a m b) h e = absurd cc
 time_ending (places.Month m) h e =
     timed_on (places.Month m) _ (month_then by_place m timed_next timed_tokens h (times_after by_place stage.MonthDays refl))
 time_ending (places.MonthDash m) h e = absurd cc

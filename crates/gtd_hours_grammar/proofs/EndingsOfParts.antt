@@ -124,7 +124,7 @@ pub a_year : (d : Demand) (n : Digits) (p : List Piece) (ts : List TokenKind) �
     → Follow d stage.Front (piece.Kind ∷ piece.Years n None None ∷ p) (number n ∷ ts)
 a_year d n p ts h no_date follow =
     Follow.years stage.Front (piece.Kind ∷ piece.Years n None None ∷ p) (piece.Years n None None ∷ p) p (number n ∷ ts) ts refl
-    no_date refl (listed IsYears (piece.Years n None None ∷ p) p (number n ∷ ts) ts (IsYears.one n refl refl h)) follow
+    no_date refl (listed (IsYears d) (piece.Years n None None ∷ p) p (number n ∷ ts) ts (IsYears.one n refl refl h)) follow
 
 pub a_month_day : (d : Demand) (s : Stage) (p later : List Piece) (ts rest : List TokenKind) → precedes s stage.MonthDays ≡ true
     → IsMonthDays d p ts later rest → Follow d stage.MonthDays later rest → Follow d s (piece.Kind ∷ p) ts

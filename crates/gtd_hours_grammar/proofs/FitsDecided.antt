@@ -17,8 +17,9 @@ use Rattle.gtd_hours_parts.specs.declared.piece.WrittenDate.{WrittenDate}
 use Rattle.gtd_hours_grammar.specs.Terms.{TokenKind, Stage, Place}
 use Rattle.gtd_hours_grammar.specs.declared.place.Place.TheVariants as places
 use Rattle.gtd_hours_grammar.specs.declared.stage.Stage.TheVariants as stage
-use Rattle.gtd_hours_parts.specs.Pieces.{AreWrittenTimes, EndsRange, IsDay, IsLastDay, IsRange}
-use Rattle.gtd_hours_grammar.specs.Sound.{Fits, ListedFits, NumberFits, TimeFits, YearOrDay, YearOrListed, is_last_year}
+use Rattle.gtd_hours_parts.specs.Pieces.{AreWrittenTimes, EndsRange, IsDay, IsLastDay, IsRange, first_day_of, last_day_of}
+use Rattle.gtd_hours_grammar.specs.Sound.{Fits, ListedFits, MonthFits, NumberFits, TimeFits, YearOrDay, YearOrListed}
+use Rattle.gtd_hours_grammar.specs.Sound.{is_last_year}
 
 -- ---- what is decided part by part
 
@@ -136,6 +137,8 @@ number_fits : (at : Place) (n : Digits) → Decided (NumberFits at n)
 number_fits places.Front n = year n
 number_fits places.TwentyFourSlash n = two (cases_eq n.value 7) (cases_eq n.count 1)
 number_fits (places.YearMonth y m) n = day_fits (Some y) m n
+number_fits (places.YearMonthDash first m) n = range IsYearNumber year first n
+number_fits (places.DateYearMonthDash first m) n = range IsYearNumber year first n
 number_fits (places.YearDash first) n = range IsYearNumber year first n
 number_fits (places.YearStep first last) n = step n
 number_fits (places.YearSlash first) n = two (step n) (below 2799 (first.value + 128 * n.value))
@@ -160,9 +163,13 @@ time_fits : (at : Place) (t : ClockTime) → Decided (TimeFits at t)
 time_fits (places.TimeDash a) t = times a t
 time_fits at t = begin t
 
+month_fits : (at : Place) (m : ℕ) → Decided (MonthFits at m)
+month_fits (places.MonthsYear a k b) m = ends_range (first_day_of a k) (last_date.Date (last_day_of b m))
+month_fits at m = two (at_most 1 m) (at_most m 12)
+
 pub fits_decided : (at : Place) (next : Option TokenKind) → Decided (Fits at next)
 fits_decided at (Some (token.Number v d)) = number_fits at (record { value = v; count = d })
 fits_decided at (Some (token.Time h m)) = time_fits at (record { hour = h; minute = m })
-fits_decided at (Some (token.Month m)) = two (at_most 1 m) (at_most m 12)
+fits_decided at (Some (token.Month m)) = month_fits at m
 fits_decided at (Some (token.Weekday k)) = two (at_most 1 k) (at_most k 7)
 fits_decided at next = inr (λ h. h)

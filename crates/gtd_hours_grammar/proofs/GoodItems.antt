@@ -19,7 +19,7 @@ use Rattle.gtd_hours_grammar.specs.Places.{Behind, BehindDate, From, FromDate, R
 use Rattle.gtd_hours_parts.specs.declared.piece.LastDate.{LastDate}
 use Rattle.gtd_hours.specs.declared.hours.Link.TheVariants as link
 use Rattle.gtd_hours_grammar.specs.facts.FollowDates.{end_month_is, end_year_is}
-use Rattle.gtd_hours_grammar.specs.Grammar.{begins_with_date, date_before, number, range_to}
+use Rattle.gtd_hours_grammar.specs.Grammar.{begins_with_date, date_before, days_of_months, months_to, number, range_to}
 use Rattle.gtd_hours_parts.specs.Pieces.{AreBackWeeks, AreWrittenDates, EndsRange, IsDay, IsRange, IsWrittenDate}
 use Rattle.gtd_hours_parts.specs.Pieces.{end_month, end_year}
 use Rattle.gtd_hours_parts.specs.Pieces.{final_week, final_year, week_one}
@@ -355,6 +355,75 @@ month_after_year_good m next sound = record {
   stands = sound;
   nearer = λ h. omega arith;
 }
+
+-- months of years, or a year and months
+pub month_to_year_good : (n : Digits) (m v c : ℕ) (next : Option TokenKind) (fits : Bool) → next ≡ Some (token.Number v c)
+    → fits ≡ true → (fits ≡ true → Fits (places.YearMonthDash n m) next) → Both (IsYearNumber n) (IsMonth m)
+    → IsGood (places.YearMonthDash n m) next (takes_to (places.MonthsYear n m (written v c)))
+month_to_year_good n m v c next fits same holds fit sound =
+    token_good (places.YearMonthDash n m) next (token.Number v c) fits (takes_to (places.MonthsYear n m (written v c))) same holds
+    fit λ range. record {
+      leads = λ d p ts rest. month_days_follow d stage.Front p (months_to n m (written v c) ts) refl rest;
+      stands = record { one = range; other = sound.other };
+      nearer = λ h. absurd cc;
+    }
+
+pub listed_month_to_year_good : (n : Digits) (m v c : ℕ) (next : Option TokenKind) (fits : Bool)
+    → next ≡ Some (token.Number v c) → fits ≡ true → (fits ≡ true → Fits (places.DateYearMonthDash n m) next)
+    → Both (IsYearNumber n) (IsMonth m)
+    → IsGood (places.DateYearMonthDash n m) next (takes_to (places.MonthsYear n m (written v c)))
+listed_month_to_year_good n m v c next fits same holds fit sound =
+    token_good (places.DateYearMonthDash n m) next (token.Number v c) fits (takes_to (places.MonthsYear n m (written v c))) same
+    holds fit λ range. record {
+      leads = λ d p ts rest. rest;
+      stands = record { one = range; other = sound.other };
+      nearer = λ h. absurd cc;
+    }
+
+pub year_and_months_good : (n : Digits) (m l : ℕ) (next : Option TokenKind) → next ≡ Some (token.Month l)
+    → Both (IsYearNumber n) (IsMonth m)
+    → IsGood (places.YearMonthDash n m) next (gives (piece.Years n None None) (places.MonthDashAfterYear m))
+year_and_months_good n m l next same sound =
+    sign_good (places.YearMonthDash n m) next (token.Month l) (gives (piece.Years n None None) (places.MonthDashAfterYear m)) same
+    (record {
+      leads = λ d p ts rest.
+          Follow.years stage.Front (piece.Kind ∷ piece.Years n None None ∷ p) (piece.Years n None None ∷ p) p
+          (number n ∷ token.Month m ∷ token.Dash ∷ token.Month l ∷ ts) (token.Month m ∷ token.Dash ∷ token.Month l ∷ ts) refl refl
+          refl
+          (record {
+            q = p;
+            us = token.Month m ∷ token.Dash ∷ token.Month l ∷ ts;
+            one = IsYears.one n refl refl sound.one;
+            more = More.none p (token.Month m ∷ token.Dash ∷ token.Month l ∷ ts) refl refl;
+          }) rest;
+      stands = sound.other;
+      nearer = λ h. omega arith;
+    })
+
+pub months_behind_good : (m l : ℕ) (next : Option TokenKind) → next ≡ Some (token.Month l) → IsMonth m
+    → IsGood (places.MonthDashAfterYear m) next (gives piece.Kind (places.MonthDash m))
+months_behind_good m l next same sound =
+    sign_good (places.MonthDashAfterYear m) next (token.Month l) (gives piece.Kind (places.MonthDash m)) same (record {
+      leads = λ d p ts rest. month_days_follow d stage.Years p (token.Month m ∷ token.Dash ∷ token.Month l ∷ ts) refl rest;
+      stands = sound;
+      nearer = λ h. omega arith;
+    })
+
+pub months_end_good : (a b : Digits) (m l : ℕ) (next : Option TokenKind) (fits : Bool) → next ≡ Some (token.Month l)
+    → fits ≡ true → (fits ≡ true → Fits (places.MonthsYear a m b) next) → Both (IsRange IsYearNumber a b) (IsMonth m)
+    → IsGood (places.MonthsYear a m b) next (completes (days_of_months a m b l) (places.After stage.MonthDays))
+months_end_good a b m l next fits same holds fit sound =
+    token_good (places.MonthsYear a m b) next (token.Month l) fits
+    (completes (days_of_months a m b l) (places.After stage.MonthDays)) same holds fit λ are. record {
+      leads = λ d p ts rest. record {
+        later = p;
+        rest = ts;
+        one = IsMonthDays.of_years a b m l refl refl sound.one sound.other are;
+        behind = rest;
+      };
+      stands = refl;
+      nearer = λ h. absurd cc;
+    }
 
 pub listed_year_good : (n : Digits) (next : Option TokenKind) → IsYearNumber n
     → IsGood (places.ListedYear n) next (gives (piece.Years n None None) (places.After stage.Years))

@@ -28,7 +28,8 @@ use Rattle.gtd_hours_grammar.proofs.GoodItems.{after_date_good, comma_date_good,
 use Rattle.gtd_hours_grammar.proofs.GoodItems.{month_date_good}
 use Rattle.gtd_hours_grammar.proofs.GoodItems.{year_month_date_good}
 use Rattle.gtd_hours_grammar.proofs.GoodItems.{comma_number_good, listed_slash_good, year_plus_good}
-use Rattle.gtd_hours_grammar.proofs.GoodItems.{year_slash_good}
+use Rattle.gtd_hours_grammar.proofs.GoodItems.{listed_month_to_year_good, month_to_year_good, months_behind_good}
+use Rattle.gtd_hours_grammar.proofs.GoodItems.{months_end_good, year_and_months_good, year_slash_good}
 use Rattle.gtd_hours_grammar.proofs.GoodRules.{after_colon_good, after_later_good, after_semicolon_good, after_year_good}
 use Rattle.gtd_hours_grammar.proofs.GoodRules.{also_good, always_good, later_closed, later_month, later_open, later_time}
 use Rattle.gtd_hours_grammar.proofs.GoodRules.{later_week, later_weekday, listed_month_good, listed_number_good}
@@ -182,7 +183,13 @@ move_right (places.Year n) next fits h f = year_good n next (λ ts. refl) h
 move_right (places.YearMonth n m) (Some (token.Number v d)) true h f =
     year_date_good n m v d (Some (token.Number v d)) true refl refl f h
 move_right (places.YearMonth n m) (Some (token.Number v d)) false h f = record {}
+move_right (places.YearMonth n m) (Some token.Dash) fits h f =
+    on (places.YearMonth n m) (places.YearMonthDash n m) token.Dash (λ d p ts rest. rest) h
 move_right (places.YearMonth n m) next fits h f = year_month_good n m next (λ ts. refl) h
+move_right (places.YearMonthDash n m) (Some (token.Number v d)) true h f =
+    month_to_year_good n m v d (Some (token.Number v d)) true refl refl f h
+move_right (places.YearMonthDash n m) (Some (token.Month l)) fits h f = year_and_months_good n m l (Some (token.Month l)) refl h
+move_right (places.MonthDashAfterYear m) (Some (token.Month l)) fits h f = months_behind_good m l (Some (token.Month l)) refl h
 move_right (places.MonthAfterYear m) next fits h f = month_after_year_good m next h
 move_right (places.ListedYear n) (Some token.Dash) fits h f =
     on (places.ListedYear n) (places.YearDash n) token.Dash (λ d p ts rest. rest) h
@@ -203,6 +210,12 @@ move_right (places.DateYear n) (Some (token.Month m)) true h f =
     on (places.DateYear n) (places.DateYearMonth n m) (token.Month m) (λ d p ts rest. rest) (record { one = h; other = f refl })
 move_right (places.DateYearMonth n m) (Some (token.Number v d)) true h f =
     year_month_date_good n m v d (Some (token.Number v d)) true refl refl f h
+move_right (places.DateYearMonth n m) (Some token.Dash) fits h f =
+    on (places.DateYearMonth n m) (places.DateYearMonthDash n m) token.Dash (λ d p ts rest. rest) h
+move_right (places.DateYearMonthDash n m) (Some (token.Number v d)) true h f =
+    listed_month_to_year_good n m v d (Some (token.Number v d)) true refl refl f h
+move_right (places.MonthsYear a m b) (Some (token.Month l)) true h f =
+    months_end_good a b m l (Some (token.Month l)) true refl refl f h
 move_right (places.Month m) (Some (token.Number v d)) true h f =
     month_date_good m v d (Some (token.Number v d)) true refl refl f
 move_right (places.Month m) (Some (token.Number v d)) false h f = record {}

@@ -25,7 +25,7 @@ record Given (demand : Demand) (to : Place) (ts : List TokenKind) : Type 0 where
   runs : Runs demand to q ts
 
 behind_piece : (demand : Demand) (at to : Place) (x : Piece) (p : List Piece) (t : TokenKind) (ts : List TokenKind)
-    → is_judged at t ≡ false → ((fits : Bool) → next_move at (Some t) fits ≡ give x to) → Runs demand at p (t ∷ ts)
+    → is_judged at t demand ≡ false → ((fits : Bool) → next_move at (Some t) fits ≡ give x to) → Runs demand at p (t ∷ ts)
     → Given demand to (t ∷ ts)
 behind_piece demand at to x p t ts day gives (ends at' p' ts' after e f) = absurd cc
 behind_piece demand at to x p t ts day gives (cut at' p' ts' may is e f) = absurd cc
@@ -58,7 +58,7 @@ after_date_number demand y m p v d ts =
 
 -- behind a piece that is given, a number would stand behind a part of a rule
 given_number : (demand : Demand) (at : Place) (s : Stage) (x : Piece) (p : List Piece) (v d : ℕ) (ts : List TokenKind)
-    → is_judged at (token.Number v d) ≡ false → precedes s stage.MonthDays ≡ false
+    → is_judged at (token.Number v d) demand ≡ false → precedes s stage.MonthDays ≡ false
     → ((fits : Bool) → next_move at (Some (token.Number v d)) fits ≡ give x (places.After s))
     → Runs demand at p (token.Number v d ∷ ts) → ⊥
 given_number demand at s x p v d ts day late gives go =
@@ -80,6 +80,10 @@ no_number demand places.TwentyFour p v d ts e =
     no_token demand places.TwentyFour p (token.Number v d) ts refl (λ fits. refl)
 no_number demand (places.DateYear n) p v d ts e =
     no_token demand (places.DateYear n) p (token.Number v d) ts refl (λ fits. refl)
+no_number demand (places.MonthDashAfterYear m) p v d ts e =
+    no_token demand (places.MonthDashAfterYear m) p (token.Number v d) ts refl (λ fits. refl)
+no_number demand (places.MonthsYear a m b) p v d ts e =
+    no_token demand (places.MonthsYear a m b) p (token.Number v d) ts refl (λ fits. refl)
 no_number demand (places.MonthDash m) p v d ts e =
     no_token demand (places.MonthDash m) p (token.Number v d) ts refl (λ fits. refl)
 no_number demand (places.Date x) p v d ts e = λ go.
@@ -122,6 +126,10 @@ time_refused : (at : Place) (h m : ℕ) (fits : Bool) → takes_time at ≡ fals
     → next_move at (Some (token.Time h m)) fits ≡ None
 time_refused places.TwentyFour h m fits e f g = refl
 time_refused places.TwentyFourSlash h m fits e f g = refl
+time_refused (places.YearMonthDash n k) h m fits e f g = refl
+time_refused (places.MonthDashAfterYear k) h m fits e f g = refl
+time_refused (places.DateYearMonthDash n k) h m fits e f g = refl
+time_refused (places.MonthsYear a k b) h m fits e f g = refl
 time_refused (places.YearDash n) h m fits e f g = refl
 time_refused (places.YearStep a b) h m fits e f g = refl
 time_refused (places.YearSlash n) h m fits e f g = refl
@@ -143,10 +151,12 @@ time_refused (places.Time t) h m fits e f g = refl
 time_refused at h m fits e f g = absurd cc
 
 -- no time is judged by its place
-time_unjudged : (at : Place) (h m : ℕ) → is_judged at (token.Time h m) ≡ false
-time_unjudged (places.DateDashMonth x y k) h m = refl
-time_unjudged (places.WeekBack a b) h m = refl
-time_unjudged at h m = refl
+time_unjudged : (at : Place) (h m : ℕ) (demand : Demand) → is_judged at (token.Time h m) demand ≡ false
+time_unjudged (places.DateDashMonth x y k) h m demand = refl
+time_unjudged (places.MonthsYear a k b) h m demand = refl
+time_unjudged (places.WeekBack a b) h m demand = refl
+time_unjudged (places.YearSlash n) h m demand = refl
+time_unjudged at h m demand = refl
 
 -- no time makes a move there, not even where a token may come last
 time_stops : (demand : Demand) (at : Place) (p : List Piece) (h m : ℕ) (ts : List TokenKind)
@@ -154,7 +164,7 @@ time_stops : (demand : Demand) (at : Place) (p : List Piece) (h m : ℕ) (ts : L
 time_stops demand at p h m ts none (ends at' p' ts' after e f) = absurd cc
 time_stops demand at p h m ts none (cut at' p' ts' may is e f) = absurd cc
 time_stops demand at p h m ts none (any_last at' p' ts' l by day' e f) =
-    let never = time_unjudged at h m in
+    let never = time_unjudged at h m demand in
     absurd cc
 time_stops demand at p h m ts none (step at' p' q ts' move fits is n e go) =
     let both : Some move ≡ None = sym n ∙ none fits in cc

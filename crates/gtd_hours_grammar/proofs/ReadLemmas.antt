@@ -250,6 +250,8 @@ never_takes at fits move e = absurd cc
 rank_small : (at : Place) → rank at ≤ 3
 rank_small (places.YearMonth n m) = omega (arith)
 rank_small (places.MonthAfterYear m) = omega (arith)
+rank_small (places.YearMonthDash n m) = omega (arith)
+rank_small (places.MonthDashAfterYear m) = omega (arith)
 rank_small at = omega (arith)
 
 -- ---- one move after another

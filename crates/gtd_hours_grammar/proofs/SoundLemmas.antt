@@ -17,6 +17,7 @@ use Rattle.gtd_hours_parts.specs.Pieces.{IsRange, IsWrittenDate, final_year}
 use Rattle.gtd_hours_grammar.specs.Sound.{Fits, IsPlace, YearOrDay, is_last_year}
 use Rattle.gtd_hours_parts.specs.SoundPieces.{IsPiece}
 use Rattle.gtd_hours_grammar.specs.Steps.{IsMove}
+use Rattle.gtd_hours_grammar.proofs.EndingsOfParts.{first_of-is}
 
 -- the piece of a move, if there is one, is in range
 abbrev pub IsSound : Option Move → Type 0
@@ -104,7 +105,14 @@ move_sound (places.Year n) (Some token.Slash) fits h f = record {}
 move_sound (places.Year n) (Some token.Plus) fits h f = (years_on n h, record {})
 move_sound (places.Year n) next fits h f = h
 move_sound (places.YearMonth n m) (Some (token.Number v d)) fits h f = if_taken _ _
+move_sound (places.YearMonth n m) (Some token.Dash) fits h f = record {}
 move_sound (places.YearMonth n m) next fits h f = h.one
+move_sound (places.YearMonthDash n m) (Some (token.Number v d)) fits h f = if_taken _ _
+move_sound (places.YearMonthDash n m) (Some (token.Month l)) fits h f = h.one
+move_sound (places.MonthDashAfterYear m) (Some (token.Month l)) fits h f = record {}
+move_sound (places.DateYearMonthDash n m) (Some (token.Number v d)) fits h f = if_taken _ _
+move_sound (places.MonthsYear a m b) (Some (token.Month l)) true h f = (first_of-is (Some a) m h.one.0 h.other, f refl)
+move_sound (places.MonthsYear a m b) (Some (token.Month l)) false h f = record {}
 move_sound (places.ListedYear n) (Some token.Dash) fits h f = record {}
 move_sound (places.ListedYear n) (Some token.Slash) fits h f = record {}
 move_sound (places.ListedYear n) (Some token.Plus) fits h f = (years_on n h, record {})

@@ -8,7 +8,7 @@ use Rattle.gtd_hours_grammar.specs.declared.fault.FaultKind.TheVariants as fault
 use Rattle.gtd_hours_grammar.specs.declared.fault.HoursFault.{HoursFault}
 use Rattle.gtd_hours_grammar.specs.Terms.{Token, TokenKind, Piece}
 use Rattle.gtd_hours_grammar.specs.declared.stage.Stage.TheVariants as stage
-use Rattle.gtd_hours_grammar.specs.Grammar.{AreHours, CanGoOn, Follow, by_place}
+use Rattle.gtd_hours_grammar.specs.Grammar.{AreHours, CanGoOn, Follow, by_place, with_years}
 
 abbrev pub kinds : List Token → List TokenKind
 kinds [] = []
@@ -24,21 +24,27 @@ abbrev pub is_slash : TokenKind → Bool
 is_slash token.Slash = true
 is_slash t = false
 
--- Both are numbers, both are times, or both are a slash.
+-- Both are numbers, both are times, or both are the same month or a slash.
 abbrev pub are_alike : TokenKind → TokenKind → Bool
 are_alike (token.Number v d) (token.Number w c) = true
 are_alike (token.Time h m) (token.Time g n) = true
+are_alike (token.Month m) (token.Month l) = m == l
 are_alike token.Slash token.Slash = true
 are_alike t u = false
 
--- The token is a number where some number can stand, a time where some time can, or the slash before the step of weeks that go
--- back.
+-- The token is a number where some number can stand, a time where some time can, a last month with a year, or the slash before
+-- the step of weeks that go back.
 pub record FitsByPlace (before : List TokenKind) (t : TokenKind) : Type 0 where
   pub other : TokenKind
   pub alike : are_alike t other ≡ true
   pub p : List Piece
   pub after : List TokenKind
   pub follow : Follow by_place stage.Front p (before ++ other ∷ after)
+
+-- The token is the step of years without a last one, which are more than a domain holds.
+pub record NeedsYears (before : List TokenKind) (t : TokenKind) : Type 0 where
+  pub p : List Piece
+  pub follow : Follow with_years stage.Front p (before ++ t ∷ [])
 
 abbrev pub last_kind : List TokenKind → Option TokenKind
 last_kind [] = None
@@ -62,8 +68,10 @@ last_from [] = 0
 last_from (t ∷ []) = t.from
 last_from (t ∷ u ∷ ts) = last_from (u ∷ ts)
 
--- where a fault is told: at the token, or, if that is the slash behind weeks that go back, at the second week, which it follows
+-- where a fault is told: at the token; if that is the slash behind weeks that go back, at the second week, which it follows; and
+-- if it is a step of too many years, at the slash before it
 abbrev pub told_at : List Token → Token → FaultKind → ℕ
+told_at before t fault.Years = last_from before
 told_at before t fault.Range = if is_slash t.kind then last_from before else t.from
 told_at before t kind = t.from
 
@@ -71,6 +79,11 @@ told_at before t kind = t.from
 abbrev pub IsMisfitKind : List TokenKind → TokenKind → FaultKind → Type 0
 IsMisfitKind before token.Unsupported kind = kind ≡ fault.Unsupported
 IsMisfitKind before token.Plus kind = kind ≡ plus_kind (ends_years (last_kind before))
+IsMisfitKind before (token.Number v d) fault.Years = NeedsYears before (token.Number v d)
+IsMisfitKind before (token.Number v d) fault.Range =
+    FitsByPlace before (token.Number v d) × (NeedsYears before (token.Number v d) → ⊥)
+IsMisfitKind before (token.Number v d) fault.Unexpected =
+    (FitsByPlace before (token.Number v d) → ⊥) × (NeedsYears before (token.Number v d) → ⊥)
 IsMisfitKind before t fault.Range = FitsByPlace before t
 IsMisfitKind before t fault.Unexpected = FitsByPlace before t → ⊥
 IsMisfitKind before t kind = ⊥

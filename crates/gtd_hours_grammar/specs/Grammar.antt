@@ -12,21 +12,26 @@ use Rattle.gtd_hours_parts.specs.declared.piece.LastDate.TheVariants as last_dat
 use Rattle.gtd_hours_grammar.specs.Terms.{TokenKind, Piece, Stage}
 use Rattle.gtd_hours_parts.specs.declared.piece.Piece.TheVariants as piece
 use Rattle.gtd_hours_grammar.specs.declared.stage.Stage.TheVariants as stage
-use Rattle.gtd_hours_parts.specs.Pieces.{AreBackWeeks, AreFewYears, AreWrittenDates, AreWrittenTimes, IsDay, IsRange}
-use Rattle.gtd_hours_parts.specs.Pieces.{IsWrittenDate, day_behind, end_month, end_year, final_week, final_year, week_one}
+use Rattle.gtd_hours_parts.specs.Pieces.{AreBackWeeks, AreFewYears, AreMonthsOfYears, AreWrittenDates, AreWrittenTimes}
+use Rattle.gtd_hours_parts.specs.Pieces.{IsDay, IsRange}
+use Rattle.gtd_hours_parts.specs.Pieces.{IsWrittenDate, day_behind, end_month, end_year, final_week, final_year}
+use Rattle.gtd_hours_parts.specs.Pieces.{first_day_of, last_day_of, week_one}
 
 -- What is asked of tokens: that they are a text in full; that they can be its beginning so far, where a text that has come to
--- the last date of a range is judged at that date's day; or the same, where a number that comes last need only fit by its place
--- and weeks that go back may have a step.
+-- the last date of a range is judged at that date's day, and one that has come to a last month with a year at that month; or the
+-- same, where a number or a month that comes last need only fit by its place and weeks that go back may have a step; or where a
+-- step that comes last may be one of more years than a domain holds.
 pub data Demand : Type 0 where
   in_full : Demand
   so_far : Demand
   by_place : Demand
+  with_years : Demand
 
 abbrev pub may_break_off : Demand → Bool
 may_break_off in_full = false
 may_break_off so_far = true
 may_break_off by_place = true
+may_break_off with_years = true
 
 -- The first pieces and tokens go together, and the others are left.
 abbrev pub Text : Type 1
@@ -55,20 +60,23 @@ pub record Listed (IsOne : Text) (p : List Piece) (ts : List TokenKind) (later :
 -- ---- what stands in lists
 
 -- `2024`, `2024-2030`, `2024-2030/2`, `2024+`, `2024/8`: without a last year the years go on to the last one of the calendar.
-pub data IsYears (p : List Piece) (ts : List TokenKind) (later : List Piece) (rest : List TokenKind) : Type 0 where
+pub data IsYears (demand : Demand) (p : List Piece) (ts : List TokenKind) (later : List Piece) (rest : List TokenKind)
+    : Type 0 where
   one : (year : Digits) → ts ≡ number year ∷ rest → p ≡ piece.Years year None None ∷ later → IsYearNumber year
-      → IsYears p ts later rest
+      → IsYears demand p ts later rest
   range : (first last : Digits) → ts ≡ number first ∷ token.Dash ∷ number last ∷ rest
-      → p ≡ piece.Years first (Some last) None ∷ later → IsRange IsYearNumber first last → IsYears p ts later rest
+      → p ≡ piece.Years first (Some last) None ∷ later → IsRange IsYearNumber first last → IsYears demand p ts later rest
   every : (first last step : Digits)
       → ts ≡ number first ∷ token.Dash ∷ number last ∷ token.Slash ∷ number step ∷ rest
       → p ≡ piece.Years first (Some last) (Some step) ∷ later → IsRange IsYearNumber first last → IsStepNumber step
-      → IsYears p ts later rest
+      → IsYears demand p ts later rest
   on : (first : Digits) → ts ≡ number first ∷ token.Plus ∷ rest → p ≡ piece.Years first (Some final_year) None ∷ later
-      → IsYearNumber first → IsYears p ts later rest
+      → IsYearNumber first → IsYears demand p ts later rest
   every_on : (first step : Digits) → ts ≡ number first ∷ token.Slash ∷ number step ∷ rest
       → p ≡ piece.Years first (Some final_year) (Some step) ∷ later → IsYearNumber first → AreFewYears first step
-      → IsYears p ts later rest
+      → IsYears demand p ts later rest
+  many : (first step : Digits) → demand ≡ with_years → ts ≡ number first ∷ token.Slash ∷ number step ∷ [] → rest ≡ []
+      → p ≡ later → IsYearNumber first → IsStepNumber step → IsYears demand p ts later rest
 
 -- `10`, `10-20`, `10-20/2`, `46-12`: a range that goes back is that to week 53 and that from week 1 on. It has no step, since
 -- weeks 53 and 1 would break it.
@@ -135,7 +143,16 @@ pub data IsDates (demand : Demand) (later : List Piece) (rest : List TokenKind)
         → IfSome last.year IsYearNumber → IsMonth last.month → ts ≡ token.Dash ∷ date_before last [] → rest ≡ [] → p ≡ later
         → IsDates demand later rest x p ts
 
--- `Apr`, `Apr-Sep`, `Apr 10`, `Apr 10-20`, `2024 Dec 24-2025 Jan 3`, `Dec 24,31`
+-- the tokens of months of years, up to the second year, and what follows them
+abbrev pub months_to : Digits → ℕ → Digits → List TokenKind → List TokenKind
+months_to a m b rest = number a ∷ token.Month m ∷ token.Dash ∷ number b ∷ rest
+
+-- the days of months of years
+abbrev pub days_of_months : Digits → ℕ → Digits → ℕ → Piece
+days_of_months a m b l = piece.Dates (first_day_of a m) (Some (last_date.Date (last_day_of b l)))
+
+-- `Apr`, `Apr-Sep`, `Apr 10`, `Apr 10-20`, `2024 Dec 24-2025 Jan 3`, `Dec 24,31`; `2024 Dec-2026 Mar`, which is all days of
+-- these months and is judged at the last of them
 pub data IsMonthDays (demand : Demand) (p : List Piece) (ts : List TokenKind) (later : List Piece) (rest : List TokenKind)
     : Type 0 where
   month : (m : ℕ) → ts ≡ token.Month m ∷ rest → p ≡ piece.Months m None ∷ later → IsMonth m
@@ -144,6 +161,12 @@ pub data IsMonthDays (demand : Demand) (p : List Piece) (ts : List TokenKind) (l
       → p ≡ piece.Months first (Some last) ∷ later → IsMonth first → IsMonth last → IsMonthDays demand p ts later rest
   dates : (x : WrittenDate) → (us : List TokenKind) → ts ≡ date_before x us → IsWrittenDate x → IsDates demand later rest x p us
       → IsMonthDays demand p ts later rest
+  of_years : (a b : Digits) → (m l : ℕ) → ts ≡ months_to a m b (token.Month l ∷ rest) → p ≡ days_of_months a m b l ∷ later
+      → IsRange IsYearNumber a b → IsMonth m → AreMonthsOfYears a m b l → IsMonthDays demand p ts later rest
+  cut : (a b : Digits) → (m : ℕ) → may_break_off demand ≡ true → IsRange IsYearNumber a b → IsMonth m → ts ≡ months_to a m b []
+      → rest ≡ [] → p ≡ later → IsMonthDays demand p ts later rest
+  any_month : (a b : Digits) → (m l : ℕ) → demand ≡ by_place → IsRange IsYearNumber a b → IsMonth m
+      → ts ≡ months_to a m b (token.Month l ∷ []) → rest ≡ [] → p ≡ later → IsMonthDays demand p ts later rest
 
 -- `1`, `1-2`, `-1`, in brackets after the weekday
 pub data IsPlaces (weekday : ℕ) (p : List Piece) (ts : List TokenKind) (later : List Piece) (rest : List TokenKind) : Type 0 where
@@ -175,7 +198,7 @@ pub record IsTimes (p : List Piece) (ts : List TokenKind) (later : List Piece) (
 
 -- what the list of a stage is made of
 abbrev pub IsOne : Demand → Stage → Text
-IsOne demand stage.Years = IsYears
+IsOne demand stage.Years = IsYears demand
 IsOne demand stage.MonthDays = IsMonthDays demand
 IsOne demand stage.Weeks = IsWeeks demand
 IsOne demand stage.Weekdays = IsWeekdays
@@ -211,9 +234,10 @@ abbrev pub list_goes_on : Stage → List TokenKind → Bool
 list_goes_on s [] = false
 list_goes_on s (t ∷ ts) = goes_on s t
 
--- a number directly before a month and a number: a date with its year
+-- a number directly before a month and a number, or before a month, a dash and a number: a date or a month with its year
 abbrev pub begins_with_date : List TokenKind → Bool
 begins_with_date (token.Number value digits ∷ token.Month m ∷ token.Number v d ∷ ts) = true
+begins_with_date (token.Number value digits ∷ token.Month m ∷ token.Dash ∷ token.Number v d ∷ ts) = true
 begins_with_date ts = false
 
 -- The pieces are the rest of a text, where its rule has come to a stage.
@@ -221,7 +245,7 @@ pub data Follow (demand : Demand) : Stage → List Piece → List TokenKind → 
   always : (s : Stage) → (p : List Piece) → (ts us : List TokenKind) → s ≡ stage.Front
       → ts ≡ token.Number 24 2 ∷ token.Slash ∷ token.Number 7 1 ∷ us → Follow demand stage.Always p us → Follow demand s p ts
   years : (s : Stage) → (p q later : List Piece) → (ts rest : List TokenKind) → precedes s stage.Years ≡ true
-      → begins_with_date ts ≡ false → p ≡ piece.Kind ∷ q → Listed IsYears q ts later rest
+      → begins_with_date ts ≡ false → p ≡ piece.Kind ∷ q → Listed (IsYears demand) q ts later rest
       → Follow demand stage.Years later rest → Follow demand s p ts
   month_days : (s : Stage) → (p q later : List Piece) → (ts rest : List TokenKind) → precedes s stage.MonthDays ≡ true
       → p ≡ piece.Kind ∷ q → Listed (IsMonthDays demand) q ts later rest

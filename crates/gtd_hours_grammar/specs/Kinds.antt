@@ -7,6 +7,7 @@ use Rattle.gtd_hours_tokens.specs.declared.token.TokenKind.TheVariants as token
 use Rattle.gtd_hours_grammar.specs.declared.fault.FaultKind.{FaultKind}
 use Rattle.gtd_hours_grammar.specs.declared.fault.FaultKind.TheVariants as fault
 use Rattle.gtd_hours_grammar.specs.declared.place.Place.{Place}
+use Rattle.gtd_hours_grammar.specs.Grammar.{by_place, with_years}
 use Rattle.gtd_hours_grammar.specs.Faults.{ends_years, is_slash, plus_kind}
 use Rattle.gtd_hours_grammar.specs.Sound.{takes_number, takes_time}
 use Rattle.gtd_hours_grammar.specs.Runs.{is_judged}
@@ -14,15 +15,22 @@ use Rattle.gtd_hours_grammar.specs.Runs.{is_judged}
 abbrev pub range_if : Bool → FaultKind
 range_if b = if b then fault.Range else fault.Unexpected
 
+-- what is wrong with a number: it is a step of too many years, or out of its range, or none is expected
+abbrev pub number_misfit : Bool → Bool → FaultKind
+number_misfit many fits = if many then fault.Years else range_if fits
+
 -- where a fault of this kind is told at a token, behind one at the place before
 abbrev pub place_of : FaultKind → ℕ → Token → ℕ
+place_of fault.Years before t = before
 place_of fault.Range before t = if is_slash t.kind then before else t.from
 place_of kind before t = t.from
 
 abbrev pub misfit_of : Place → Place → Option TokenKind → TokenKind → FaultKind
-misfit_of behind at last (token.Number value digits) = range_if (takes_number behind)
+misfit_of behind at last (token.Number value digits) =
+    number_misfit (is_judged at (token.Number value digits) with_years) (takes_number behind)
 misfit_of behind at last (token.Time hour minute) = range_if (takes_time behind)
-misfit_of behind at last token.Slash = range_if (is_judged at token.Slash)
+misfit_of behind at last (token.Month m) = range_if (is_judged at (token.Month m) by_place)
+misfit_of behind at last token.Slash = range_if (is_judged at token.Slash by_place)
 misfit_of behind at last token.Unsupported = fault.Unsupported
 misfit_of behind at last token.Plus = plus_kind (ends_years last)
 misfit_of behind at last t = fault.Unexpected

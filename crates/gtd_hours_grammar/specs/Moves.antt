@@ -11,7 +11,7 @@ use Rattle.gtd_hours_grammar.specs.Terms.{TokenKind, Piece, Stage, Place, Move}
 use Rattle.gtd_hours_parts.specs.declared.piece.Piece.TheVariants as piece
 use Rattle.gtd_hours_grammar.specs.declared.stage.Stage.TheVariants as stage
 use Rattle.gtd_hours_grammar.specs.declared.place.Place.TheVariants as places
-use Rattle.gtd_hours_grammar.specs.Grammar.{goes_on, precedes}
+use Rattle.gtd_hours_grammar.specs.Grammar.{days_of_months, goes_on, precedes}
 use Rattle.gtd_hours_parts.specs.declared.piece.LastDate.{LastDate}
 use Rattle.gtd_hours_parts.specs.Pieces.{end_month, end_year, final_week, final_year, week_one}
 use Rattle.gtd_hours_grammar.specs.Sound.{is_last_year}
@@ -116,7 +116,18 @@ year n next fits = give (piece.Years n None None) (places.After stage.Years)
 abbrev pub year_month : Digits → ℕ → Option TokenKind → Bool → Option Move
 year_month n m (Some (token.Number v d)) fits =
     when fits (take (places.Date (record { year = Some n; month = m; day = written v d })))
+year_month n m (Some token.Dash) fits = take (places.YearMonthDash n m)
 year_month n m next fits = give (piece.Years n None None) (places.MonthAfterYear m)
+
+-- months of years, or a year and months
+abbrev pub year_month_dash : Digits → ℕ → Option TokenKind → Bool → Option Move
+year_month_dash n m (Some (token.Number v d)) fits = when fits (take (places.MonthsYear n m (written v d)))
+year_month_dash n m (Some (token.Month l)) fits = give (piece.Years n None None) (places.MonthDashAfterYear m)
+year_month_dash n m next fits = None
+
+abbrev pub month_dash_after_year : ℕ → Option TokenKind → Option Move
+month_dash_after_year m (Some (token.Month l)) = give piece.Kind (places.MonthDash m)
+month_dash_after_year m next = None
 
 abbrev pub listed_year : Digits → Option TokenKind → Option Move
 listed_year n (Some token.Dash) = take (places.YearDash n)
@@ -150,7 +161,16 @@ date_year n next fits = None
 abbrev pub date_year_month : Digits → ℕ → Option TokenKind → Bool → Option Move
 date_year_month n m (Some (token.Number v d)) fits =
     when fits (take (places.Date (record { year = Some n; month = m; day = written v d })))
+date_year_month n m (Some token.Dash) fits = take (places.DateYearMonthDash n m)
 date_year_month n m next fits = None
+
+abbrev pub date_year_month_dash : Digits → ℕ → Option TokenKind → Bool → Option Move
+date_year_month_dash n m (Some (token.Number v d)) fits = when fits (take (places.MonthsYear n m (written v d)))
+date_year_month_dash n m next fits = None
+
+abbrev pub months_year : Digits → ℕ → Digits → Option TokenKind → Bool → Option Move
+months_year a m b (Some (token.Month l)) fits = when fits (complete (days_of_months a m b l) (places.After stage.MonthDays))
+months_year a m b next fits = None
 
 abbrev pub month : ℕ → Option TokenKind → Bool → Option Move
 month m (Some (token.Number v d)) fits =
@@ -305,6 +325,8 @@ next_move places.TwentyFourSlash next fits = always next fits
 next_move (places.Year n) next fits = year n next fits
 next_move (places.YearMonth n m) next fits = year_month n m next fits
 next_move (places.MonthAfterYear m) next fits = give piece.Kind (places.Month m)
+next_move (places.YearMonthDash n m) next fits = year_month_dash n m next fits
+next_move (places.MonthDashAfterYear m) next fits = month_dash_after_year m next
 next_move (places.ListedYear n) next fits = listed_year n next
 next_move (places.YearDash n) next fits = year_dash n next fits
 next_move (places.YearRange a b) next fits = year_range a b next
@@ -312,6 +334,8 @@ next_move (places.YearStep a b) next fits = year_step a b next fits
 next_move (places.YearSlash n) next fits = year_slash n next fits
 next_move (places.DateYear n) next fits = date_year n next fits
 next_move (places.DateYearMonth n m) next fits = date_year_month n m next fits
+next_move (places.DateYearMonthDash n m) next fits = date_year_month_dash n m next fits
+next_move (places.MonthsYear a m b) next fits = months_year a m b next fits
 next_move (places.Month m) next fits = month m next fits
 next_move (places.MonthDash m) next fits = month_dash m next fits
 next_move (places.Date x) next fits = date x next
@@ -344,6 +368,8 @@ next_move (places.Comma s) next fits = comma s next fits
 abbrev pub rank : Place → ℕ
 rank (places.YearMonth n m) = 3
 rank (places.MonthAfterYear m) = 2
+rank (places.YearMonthDash n m) = 3
+rank (places.MonthDashAfterYear m) = 2
 rank (places.WeekBack a b) = 2
 rank places.Front = 0
 rank (places.After s) = 0

@@ -9,7 +9,8 @@ use Rattle.gtd_hours_parts.specs.declared.piece.Piece.TheVariants as piece
 use Rattle.gtd_hours_grammar.specs.declared.stage.Stage.TheVariants as stage
 use Rattle.gtd_hours_grammar.specs.declared.place.Place.TheVariants as places
 use Rattle.gtd_hours_parts.specs.Pieces.{IsDay, final_week}
-use Rattle.gtd_hours_grammar.specs.Grammar.{Demand, Follow, IsDates, IsOne, IsPlaces, Listed, More, dated, number, time}
+use Rattle.gtd_hours_grammar.specs.Grammar.{Demand, Follow, IsDates, IsOne, IsPlaces, Listed, More, dated, months_to, number}
+use Rattle.gtd_hours_grammar.specs.Grammar.{time}
 
 -- the rest behind one of a list
 pub record Behind (demand : Demand) (s : Stage) (p : List Piece) (ts : List TokenKind) : Type 0 where
@@ -59,6 +60,9 @@ Rest d places.TwentyFourSlash p ts = Follow d stage.Front p (token.Number 24 2 �
 Rest d (places.Year n) p ts = Follow d stage.Front (piece.Kind ∷ p) (number n ∷ ts)
 Rest d (places.YearMonth n m) p ts = Follow d stage.Front (piece.Kind ∷ p) (number n ∷ token.Month m ∷ ts)
 Rest d (places.MonthAfterYear m) p ts = Follow d stage.Years p (token.Month m ∷ ts)
+Rest d (places.YearMonthDash n m) p ts =
+    Follow d stage.Front (piece.Kind ∷ p) (number n ∷ token.Month m ∷ token.Dash ∷ ts)
+Rest d (places.MonthDashAfterYear m) p ts = Follow d stage.Years p (token.Month m ∷ token.Dash ∷ ts)
 Rest d (places.ListedYear n) p ts = From d stage.Years p (number n ∷ ts)
 Rest d (places.YearDash n) p ts = From d stage.Years p (number n ∷ token.Dash ∷ ts)
 Rest d (places.YearRange a b) p ts = From d stage.Years p (number a ∷ token.Dash ∷ number b ∷ ts)
@@ -66,6 +70,8 @@ Rest d (places.YearStep a b) p ts = From d stage.Years p (number a ∷ token.Das
 Rest d (places.YearSlash n) p ts = From d stage.Years p (number n ∷ token.Slash ∷ ts)
 Rest d (places.DateYear n) p ts = From d stage.MonthDays p (number n ∷ ts)
 Rest d (places.DateYearMonth n m) p ts = From d stage.MonthDays p (number n ∷ token.Month m ∷ ts)
+Rest d (places.DateYearMonthDash n m) p ts = From d stage.MonthDays p (number n ∷ token.Month m ∷ token.Dash ∷ ts)
+Rest d (places.MonthsYear a m b) p ts = From d stage.MonthDays p (months_to a m b ts)
 Rest d (places.Month m) p ts = From d stage.MonthDays p (token.Month m ∷ ts)
 Rest d (places.MonthDash m) p ts = From d stage.MonthDays p (token.Month m ∷ token.Dash ∷ ts)
 Rest d (places.Date x) p ts = FromDate d x p ts

@@ -1,9 +1,9 @@
 -- The run of the moves over tokens, and which moves are right.
-use Rattle.std.specs.Prelude.{List, ◌≡◌, ◌↔◌, ℕ, Bool, true, false, [], ◌∷◌, ◌<◌, Option, Some, None}
+use Rattle.std.specs.Prelude.{List, ◌≡◌, ◌↔◌, ℕ, Bool, true, false, [], ◌∷◌, ◌<◌, ◌&&◌, nat_le, Option, Some, None}
 use Rattle.gtd_hours_tokens.specs.declared.token.TokenKind.TheVariants as token
 use Rattle.gtd_hours_grammar.specs.Terms.{TokenKind, Piece, Stage, Place, Move}
 use Rattle.gtd_hours_grammar.specs.declared.place.Place.TheVariants as places
-use Rattle.gtd_hours_grammar.specs.Grammar.{Demand, Follow, by_place, may_break_off}
+use Rattle.gtd_hours_grammar.specs.Grammar.{Demand, Follow, by_place, may_break_off, with_years}
 use Rattle.gtd_hours_grammar.specs.Places.{Rest}
 use Rattle.gtd_hours_grammar.specs.Sound.{Fits, IsPlace}
 use Rattle.gtd_hours_grammar.specs.Moves.{next_move, rank}
@@ -36,18 +36,32 @@ is_after (places.After s) = true
 is_after (places.AfterDate year m) = true
 is_after place = false
 
--- It may break off, to be judged by what comes, in the last date of a range.
+-- It may break off, to be judged by what comes, in the last date or the last month of a range.
 abbrev pub is_cut : Place → Bool
 is_cut (places.DateDash x) = true
 is_cut (places.DateDashYear x n) = true
 is_cut (places.DateDashMonth x year m) = true
+is_cut (places.MonthsYear a m b) = true
 is_cut place = false
 
--- A token that is judged by its place may come last: the day of a last date, or the step of weeks that go back.
-abbrev pub is_judged : Place → TokenKind → Bool
-is_judged (places.DateDashMonth x year m) (token.Number value digits) = true
-is_judged (places.WeekBack a b) token.Slash = true
-is_judged place t = false
+-- The step of years is one to four digits, and not 0.
+abbrev pub is_step : ℕ → ℕ → Bool
+is_step value digits = nat_le 1 digits && nat_le digits 4 && nat_le 1 value && nat_le value 9999
+
+-- A token may come last that by its place fits: the day of a last date, a last month with a year, or the step of weeks that go
+-- back. Or it is a step of more years than a domain holds.
+abbrev pub is_judged : Place → TokenKind → Demand → Bool
+is_judged (places.DateDashMonth x year m) (token.Number value digits) by_place = true
+is_judged (places.MonthsYear a m b) (token.Month l) by_place = true
+is_judged (places.WeekBack a b) token.Slash by_place = true
+is_judged (places.YearSlash n) (token.Number value digits) with_years = is_step value digits
+is_judged place t demand = false
+
+-- Such a token is asked of.
+abbrev pub may_judge : Demand → Bool
+may_judge by_place = true
+may_judge with_years = true
+may_judge demand = false
 
 -- The moves lead from a place over all tokens and give these pieces.
 pub data Runs (demand : Demand) : Place → List Piece → List TokenKind → Type 0 where
@@ -55,8 +69,8 @@ pub data Runs (demand : Demand) : Place → List Piece → List TokenKind → Ty
   cut : (at : Place) → (p : List Piece) → (ts : List TokenKind) → may_break_off demand ≡ true → is_cut at ≡ true → p ≡ []
       → ts ≡ []
       → Runs demand at p ts
-  any_last : (at : Place) → (p : List Piece) → (ts : List TokenKind) → (t : TokenKind) → demand ≡ by_place
-      → is_judged at t ≡ true → p ≡ [] → ts ≡ t ∷ [] → Runs demand at p ts
+  any_last : (at : Place) → (p : List Piece) → (ts : List TokenKind) → (t : TokenKind) → may_judge demand ≡ true
+      → is_judged at t demand ≡ true → p ≡ [] → ts ≡ t ∷ [] → Runs demand at p ts
   step : (at : Place) → (p q : List Piece) → (ts : List TokenKind) → (move : Move) → (fits : Bool)
       → ((fits ≡ true) ↔ Fits at (first ts)) → next_move at (first ts) fits ≡ Some move → p ≡ with_piece move.piece q
       → Runs demand move.to q (left move.takes ts) → Runs demand at p ts

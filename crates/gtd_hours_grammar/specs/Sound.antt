@@ -12,7 +12,8 @@ use Rattle.gtd_hours_grammar.specs.Terms.{TokenKind, Stage, Place}
 use Rattle.gtd_hours_grammar.specs.declared.stage.Stage.TheVariants as stage
 use Rattle.gtd_hours_grammar.specs.declared.place.Place.TheVariants as places
 use Rattle.gtd_hours_grammar.specs.Grammar.{precedes}
-use Rattle.gtd_hours_parts.specs.Pieces.{AreBackWeeks, AreFewYears, AreWrittenTimes, EndsRange, IsDay, IsRange, IsWrittenDate}
+use Rattle.gtd_hours_parts.specs.Pieces.{AreBackWeeks, AreFewYears, AreMonthsOfYears, AreWrittenTimes, EndsRange, IsDay}
+use Rattle.gtd_hours_parts.specs.Pieces.{IsRange, IsWrittenDate}
 
 pub record Both (A B : Type 0) : Type 0 where
   pub one : A
@@ -27,6 +28,8 @@ abbrev pub IsPlace : Place → Type 0
 IsPlace (places.Year n) = IsYearNumber n
 IsPlace (places.YearMonth n m) = Both (IsYearNumber n) (IsMonth m)
 IsPlace (places.MonthAfterYear m) = IsMonth m
+IsPlace (places.YearMonthDash n m) = Both (IsYearNumber n) (IsMonth m)
+IsPlace (places.MonthDashAfterYear m) = IsMonth m
 IsPlace (places.ListedYear n) = IsYearNumber n
 IsPlace (places.YearDash n) = IsYearNumber n
 IsPlace (places.YearRange a b) = IsRange IsYearNumber a b
@@ -34,6 +37,8 @@ IsPlace (places.YearStep a b) = IsRange IsYearNumber a b
 IsPlace (places.YearSlash n) = IsYearNumber n
 IsPlace (places.DateYear n) = IsYearNumber n
 IsPlace (places.DateYearMonth n m) = Both (IsYearNumber n) (IsMonth m)
+IsPlace (places.DateYearMonthDash n m) = Both (IsYearNumber n) (IsMonth m)
+IsPlace (places.MonthsYear a m b) = Both (IsRange IsYearNumber a b) (IsMonth m)
 IsPlace (places.Month m) = IsMonth m
 IsPlace (places.MonthDash m) = IsMonth m
 IsPlace (places.Date x) = IsWrittenDate x
@@ -90,10 +95,12 @@ abbrev pub NumberFits : Place → Digits → Type 0
 NumberFits places.Front n = IsYearNumber n
 NumberFits places.TwentyFourSlash n = (n.value ≡ 7) × (n.count ≡ 1)
 NumberFits (places.YearMonth year m) n = IsDay (Some year) m n
+NumberFits (places.YearMonthDash first m) n = IsRange IsYearNumber first n
 NumberFits (places.YearDash first) n = IsRange IsYearNumber first n
 NumberFits (places.YearStep first last) n = IsStepNumber n
 NumberFits (places.YearSlash first) n = AreFewYears first n
 NumberFits (places.DateYearMonth year m) n = IsDay (Some year) m n
+NumberFits (places.DateYearMonthDash first m) n = IsRange IsYearNumber first n
 NumberFits (places.Month m) n = IsDay None m n
 NumberFits (places.DateDash first) n = YearOrDayFits first n
 NumberFits (places.DateDashMonth first year m) n =
@@ -115,11 +122,16 @@ abbrev pub TimeFits : Place → ClockTime → Type 0
 TimeFits (places.TimeDash begin) t = AreWrittenTimes begin t
 TimeFits place t = IsBegin t
 
+-- the month fits next
+abbrev pub MonthFits : Place → ℕ → Type 0
+MonthFits (places.MonthsYear first m last) l = AreMonthsOfYears first m last l
+MonthFits place m = IsMonth m
+
 -- the number, time, month or weekday that comes next fits
 abbrev pub Fits : Place → Option TokenKind → Type 0
 Fits place (Some (token.Number value digits)) = NumberFits place (record { value = value; count = digits })
 Fits place (Some (token.Time hour minute)) = TimeFits place (record { hour = hour; minute = minute })
-Fits place (Some (token.Month month)) = IsMonth month
+Fits place (Some (token.Month month)) = MonthFits place month
 Fits place (Some (token.Weekday weekday)) = IsWeekday weekday
 Fits place next = ⊥
 
@@ -130,12 +142,14 @@ takes_number places.TwentyFourSlash = true
 takes_number (places.Year n) = true
 takes_number (places.YearMonth n m) = true
 takes_number (places.MonthAfterYear m) = true
+takes_number (places.YearMonthDash n m) = true
 takes_number (places.ListedYear n) = true
 takes_number (places.YearDash n) = true
 takes_number (places.YearRange a b) = true
 takes_number (places.YearStep a b) = true
 takes_number (places.YearSlash n) = true
 takes_number (places.DateYearMonth n m) = true
+takes_number (places.DateYearMonthDash n m) = true
 takes_number (places.Month m) = true
 takes_number (places.DateDash x) = true
 takes_number (places.DateDashMonth x year m) = true

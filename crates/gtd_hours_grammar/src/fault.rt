@@ -14,6 +14,9 @@ pub enum FaultKind {
     /// A number or a time that could stand here by its kind, but not by its digits or its value.
     #[error("Range")]
     Range,
+    /// A slash before a step, behind a year: of such years up to the last one of the calendar there are more than a domain holds.
+    #[error("Years")]
+    Years,
     /// A token that cannot stand here.
     #[error("Unexpected")]
     Unexpected,

@@ -3,14 +3,17 @@
 ghost use Rattle.std.specs.Prelude.{◌≡◌, ◌↔◌, ◌==◌, true};
 ghost use Rattle.gtd_hours_parts.specs.Numbers.{IsPlaceNumber};
 ghost use Rattle.gtd_hours_parts.specs.Pieces.{EndsRange, IsRange, IsWrittenDate};
+ghost use Rattle.gtd_hours_grammar.specs.Grammar.{by_place, with_years};
 ghost use Rattle.gtd_hours_grammar.specs.Runs.{is_judged};
-ghost use Rattle.gtd_hours_grammar.specs.Sound.{Fits, IsPlace, ListedFits, NumberFits, TimeFits, YearOrDayFits, YearOrListed};
+ghost use Rattle.gtd_hours_grammar.specs.Sound.{Fits, IsPlace, ListedFits, MonthFits, NumberFits, TimeFits, YearOrDayFits};
+ghost use Rattle.gtd_hours_grammar.specs.Sound.{YearOrListed};
 ghost use Rattle.gtd_hours_grammar.specs.Sound.{is_last_year, takes_number, takes_time};
 
 use crate::place::Place;
 use crate::stage::Stage;
 use gtd_hours_parts::{
-    ClockTime, Digits, LastDate, WrittenDate, are_few_years, dates_of, is_day, times, years,
+    ClockTime, Digits, LastDate, WrittenDate, are_few_years, are_months_of_years, dates_of, is_day,
+    times, years,
 };
 use gtd_hours_tokens::TokenKind;
 
@@ -81,12 +84,18 @@ fn number_fits(place: Place, number: Digits) -> bool
         Place::Year(_) => false,
         Place::YearMonth { year, month } => is_day(Some(year), month, number),
         Place::MonthAfterYear(_) => false,
+        Place::YearMonthDash { year, .. } => years(year, number, None).is_some(),
+        Place::MonthDashAfterYear(_) => false,
         Place::ListedYear(_) => false,
         Place::YearDash(first) => years(first, number, None).is_some(),
         Place::YearStep { .. } => number.step().is_some(),
         Place::YearSlash(first) => are_few_years(first, number),
+        Place::DateYear(_) => false,
         Place::DateYearMonth { year, month } => is_day(Some(year), month, number),
+        Place::DateYearMonthDash { year, .. } => years(year, number, None).is_some(),
+        Place::MonthsYear { .. } => false,
         Place::Month(month) => is_day(None, month, number),
+        Place::MonthDash(_) => false,
         Place::Date(_) => false,
         Place::ListedDay(_) => false,
         Place::DateDash(first) => year_or_day_fits(first, number),
@@ -94,6 +103,7 @@ fn number_fits(place: Place, number: Digits) -> bool
             let day = number;
             ends_range(first, LastDate::Date(WrittenDate { year, month, day }))
         }
+        Place::DateDashYear { .. } => false,
         Place::WeekWord => number.week().is_some(),
         Place::WeekDash(_) => number.week().is_some(),
         Place::WeekStep { .. } => number.step().is_some(),
@@ -117,6 +127,20 @@ fn time_fits(place: Place, time: ClockTime) -> bool
     }
 }
 
+fn month_fits(place: Place, month: u8) -> bool
+    requires sound { IsPlace place }
+    ensures { (result ≡ true) ↔ MonthFits place month }
+{
+    match place {
+        Place::MonthsYear {
+            first,
+            month: first_month,
+            last,
+        } => are_months_of_years(first, first_month, last, month),
+        _ => 1 <= month && month <= 12,
+    }
+}
+
 /// Whether the number, time, month or weekday that comes next fits.
 pub fn fits(place: Place, next: Option<TokenKind>) -> bool
     requires sound { IsPlace place }
@@ -130,7 +154,7 @@ pub fn fits(place: Place, next: Option<TokenKind>) -> bool
                 number_fits(place, Digits { value, count })
             }
             TokenKind::Time { hour, minute } => time_fits(place, ClockTime { hour, minute }),
-            TokenKind::Month(month) => 1 <= month && month <= 12,
+            TokenKind::Month(month) => month_fits(place, month),
             TokenKind::Weekday(weekday) => 1 <= weekday && weekday <= 7,
             _ => false,
         },
@@ -149,6 +173,8 @@ pub fn takes_number(place: Place) -> bool
         Place::ListedDay(_) => false,
         Place::AfterDate { .. } => false,
         Place::DateDashYear { .. } => false,
+        Place::MonthDashAfterYear(_) => false,
+        Place::MonthsYear { .. } => false,
         Place::Week(_) => false,
         Place::WeekRange { .. } => false,
         Place::WeekBack { .. } => false,
@@ -164,13 +190,30 @@ pub fn takes_number(place: Place) -> bool
     }
 }
 
-/// Whether the token may come last where it is judged by its place: the day of a last date, or the step of weeks that go back.
+/// Whether the token fits by its place, and may only come last: the day of a last date, a last month with a year, or the step of
+/// weeks that go back.
 pub fn is_judged(place: Place, kind: TokenKind) -> bool
-    ensures { result ≡ is_judged place kind }
+    ensures { result ≡ is_judged place kind by_place }
 {
     match place {
         Place::DateDashMonth { .. } => matches!(kind, TokenKind::Number { .. }),
+        Place::MonthsYear { .. } => matches!(kind, TokenKind::Month(_)),
         Place::WeekBack { .. } => matches!(kind, TokenKind::Slash),
+        _ => false,
+    }
+}
+
+/// Whether the number is the step of years without a last one, which are more than a domain holds if it doesn't fit.
+pub fn is_step_of_years(place: Place, kind: TokenKind) -> bool
+    ensures { result ≡ is_judged place kind with_years }
+{
+    match place {
+        Place::YearSlash(_) => match kind {
+            TokenKind::Number { value, digits } => {
+                1 <= digits && digits <= 4 && 1 <= value && value <= 9999
+            }
+            _ => false,
+        },
         _ => false,
     }
 }

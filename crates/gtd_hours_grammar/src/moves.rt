@@ -31,6 +31,8 @@ pub fn next_move(place: Place, next: Option<TokenKind>, fits: bool) -> Option<Mo
         Place::Year(n) => years::year(n, next, fits),
         Place::YearMonth { year, month } => years::year_month(year, month, next, fits),
         Place::MonthAfterYear(month) => years::month_after_year(month),
+        Place::YearMonthDash { year, month } => years::year_month_dash(year, month, next, fits),
+        Place::MonthDashAfterYear(month) => years::month_dash_after_year(month, next),
         Place::ListedYear(n) => years::listed_year(n, next),
         Place::YearDash(first) => years::year_dash(first, next, fits),
         Place::YearRange { first, last } => years::year_range(first, last, next),
@@ -39,6 +41,12 @@ pub fn next_move(place: Place, next: Option<TokenKind>, fits: bool) -> Option<Mo
         Place::DateYear(year) => month_days::date_year(year, next, fits),
         Place::DateYearMonth { year, month } => {
             month_days::date_year_month(year, month, next, fits)
+        }
+        Place::DateYearMonthDash { year, month } => {
+            month_days::date_year_month_dash(year, month, next, fits)
+        }
+        Place::MonthsYear { first, month, last } => {
+            month_days::months_year(first, month, last, next, fits)
         }
         Place::Month(month) => month_days::month(month, next, fits),
         Place::MonthDash(first) => month_days::month_dash(first, next, fits),

@@ -26,6 +26,15 @@ pub enum Place {
     },
     /// The month of `2024 Dec`, where the year is a selector of its own.
     MonthAfterYear(u8),
+    /// `2024 Dec-`, at the beginning of a rule: a year and months, or months of years.
+    YearMonthDash {
+        /// The number before the month.
+        year: Digits,
+        /// January is 1.
+        month: u8,
+    },
+    /// The month and the dash of `2024 Dec-`, where the year is a selector of its own.
+    MonthDashAfterYear(u8),
     /// A year in a list of years.
     ListedYear(Digits),
     /// `2024-`
@@ -54,6 +63,22 @@ pub enum Place {
         year: Digits,
         /// January is 1.
         month: u8,
+    },
+    /// `2024 Dec-`, of months of years.
+    DateYearMonthDash {
+        /// The number before the month.
+        year: Digits,
+        /// January is 1.
+        month: u8,
+    },
+    /// `2024 Dec-2026`
+    MonthsYear {
+        /// The year of the first month.
+        first: Digits,
+        /// The first month.
+        month: u8,
+        /// The year of the last month.
+        last: Digits,
     },
     /// `Dec`
     Month(u8),

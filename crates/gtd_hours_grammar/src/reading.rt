@@ -5,7 +5,7 @@ ghost use Rattle.gtd_hours_tokens.specs.Lexing.{AreTokens, IsNext, Reads};
 ghost use Rattle.gtd_hours_tokens.specs.declared.token.Token.{Token};
 ghost use Rattle.gtd_hours_parts.specs.declared.piece.Piece.{Piece};
 ghost use Rattle.gtd_hours_grammar.specs.Faults.{IsFirstFault, IsHoursText, ends_years, is_slash, plus_kind};
-ghost use Rattle.gtd_hours_grammar.specs.Kinds.{misfit_of, place_of, range_if};
+ghost use Rattle.gtd_hours_grammar.specs.Kinds.{misfit_of, number_misfit, place_of, range_if};
 ghost use Rattle.gtd_hours_grammar.specs.Runs.{IsGood};
 ghost use Rattle.gtd_hours_grammar.specs.Sound.{IsPlace};
 ghost use Rattle.gtd_hours_parts.specs.SoundPieces.{IsPiece};
@@ -13,7 +13,7 @@ ghost use Rattle.gtd_hours_parts.specs.Values.{IsPartOf};
 ghost use Rattle.gtd_hours_grammar.specs.Steps.{IsMove, IsReading, advanced, end_or_fault, fault_at, kind_of, moves_left};
 
 use crate::fault::{FaultKind, HoursFault};
-use crate::fits::{fits, is_judged, takes_number, takes_time};
+use crate::fits::{fits, is_judged, is_step_of_years, takes_number, takes_time};
 use crate::moves::next_move;
 use crate::place::{Move, Place};
 use gtd_hours_parts::{Part, part_of};
@@ -173,7 +173,8 @@ fn end_or_fault(
     }
 }
 
-// The fault at a token that cannot come next. Weeks that go back have no step: the second week, before the slash, is told.
+// The fault at a token that cannot come next. Weeks that go back have no step: the second week, before the slash, is told. A step
+// of too many years is told at the slash before it.
 fn fault_at(now: Reading, token: Token) -> HoursFault
     ensures { result ≡ fault_at now token }
 {
@@ -182,11 +183,23 @@ fn fault_at(now: Reading, token: Token) -> HoursFault
     HoursFault { kind, place }
 }
 
+// What is wrong with a number: it is a step of too many years, or out of its range, or none is expected.
+fn number_misfit(many: bool, fits_by_place: bool) -> FaultKind
+    ensures { result ≡ number_misfit many fits_by_place }
+{
+    if many {
+        FaultKind::Years
+    } else {
+        range_if(fits_by_place)
+    }
+}
+
 // Where a fault of this kind is told at a token, behind one at the place before.
 fn place_of(kind: FaultKind, before: usize, token: Token) -> usize
     ensures { result ≡ place_of kind before token }
 {
     match kind {
+        FaultKind::Years => before,
         FaultKind::Range => {
             if is_slash(token.kind) {
                 before
@@ -209,8 +222,11 @@ fn misfit(now: Reading, kind: TokenKind) -> FaultKind
     ensures { result ≡ misfit_of now.behind now.at now.last kind }
 {
     match kind {
-        TokenKind::Number { .. } => range_if(takes_number(now.behind)),
+        TokenKind::Number { .. } => {
+            number_misfit(is_step_of_years(now.at, kind), takes_number(now.behind))
+        }
         TokenKind::Time { .. } => range_if(takes_time(now.behind)),
+        TokenKind::Month(_) => range_if(is_judged(now.at, kind)),
         TokenKind::Slash => range_if(is_judged(now.at, kind)),
         TokenKind::Unsupported => FaultKind::Unsupported,
         TokenKind::Plus => plus_kind(now.last),

@@ -1,5 +1,6 @@
 -- Which written numbers and times stand together in one piece of a text of opening hours.
-use Rattle.std.specs.Prelude.{ℕ, ◌≤◌, ◌<◌, ◌+◌, ◌*◌, Option, Some, None, IfSome, option_map}
+use Rattle.std.specs.Prelude.{ℕ, ◌≤◌, ◌<◌, ◌+◌, ◌*◌, Option, Some, None, IfSome, option_map, pos}
+use Rattle.gtd_hours.specs.Calendar.{month_length}
 use Rattle.gtd_hours.specs.Ranges.{IsTimeRange}
 use Rattle.gtd_hours_parts.specs.declared.digits.Digits.{Digits}
 use Rattle.gtd_hours_parts.specs.declared.clock.ClockTime.{ClockTime}
@@ -90,6 +91,18 @@ end_month first (Some (last_date.Date last)) = last.month
 -- a day of that month
 abbrev pub day_behind : WrittenDate → Option LastDate → Digits → WrittenDate
 day_behind first last day = record { year = end_year first last; month = end_month first last; day = day }
+
+-- the first day of a month of a year, and the last one
+abbrev pub first_day_of : Digits → ℕ → WrittenDate
+first_day_of year month = record { year = Some year; month = month; day = record { value = 1; count = 1 } }
+
+abbrev pub last_day_of : Digits → ℕ → WrittenDate
+last_day_of year month =
+    record { year = Some year; month = month; day = record { value = month_length (pos year.value) month; count = 2 } }
+
+-- `2024 Dec-2026 Mar`: from the first day of a month to the last one of another
+abbrev pub AreMonthsOfYears : Digits → ℕ → Digits → ℕ → Type 0
+AreMonthsOfYears first month last last_month = EndsRange (first_day_of first month) (last_date.Date (last_day_of last last_month))
 
 -- a range of times
 abbrev pub AreWrittenTimes : ClockTime → ClockTime → Type 0

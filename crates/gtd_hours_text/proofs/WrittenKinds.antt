@@ -33,10 +33,10 @@ pub record Group (s : Stage) (follows : Bool) (text : List ℕ) (c : Contents) :
   pub front : (rest : List TokenKind) → list_goes_on stage.Times (us ++ rest) ≡ false
 
 more_years : (follows : Bool) (xs : List Selector) → list_all is_years xs ≡ true
-    → MoreItems IsYears (more_selectors_text follows xs) (only_years xs)
-more_years follows [] e = no_items IsYears
+    → MoreItems (IsYears in_full) (more_selectors_text follows xs) (only_years xs)
+more_years follows [] e = no_items (IsYears in_full)
 more_years follows (selector.Years x ∷ xs) e =
-    more_items IsYears (selector_text follows (selector.Years x)) (more_selectors_text follows xs)
+    more_items (IsYears in_full) (selector_text follows (selector.Years x)) (more_selectors_text follows xs)
     (only_years (selector.Years x ∷ [])) (only_years xs) false (years_item follows x).item (more_years follows xs e)
 more_years follows (x ∷ xs) e = absurd cc
 
@@ -82,7 +82,7 @@ more_weekdays follows (x ∷ xs) e =
 
 -- more of a list begins with a comma, if with anything
 pub record YearsGroup (follows : Bool) (text : List ℕ) (c : Contents) : Type 0 where
-  pub items : Items IsYears text c false
+  pub items : Items (IsYears in_full) text c false
   pub dateless : (rest : List TokenKind) → DatelessIf follows rest → begins_with_date (items.us ++ rest) ≡ false
 
 comma_dateless : (follows : Bool) (ts : List TokenKind) → DatelessIf follows (token.Comma ∷ ts)
@@ -95,9 +95,9 @@ unfolding items no_items more_items more_years
 listed_years follows (selector.Years x) [] e =
     let i = years_item follows x in
     record {
-      items = items IsYears (selector_text follows (selector.Years x)) [] (only_years (selector.Years x ∷ []))
+      items = items (IsYears in_full) (selector_text follows (selector.Years x)) [] (only_years (selector.Years x ∷ []))
           (only_years []) false
-          i.item (no_items IsYears);
+          i.item (no_items (IsYears in_full));
       dateless = λ rest d. subst (λ (l : List TokenKind). begins_with_date (l ++ rest) ≡ false) (sym (append-nil i.item.us))
           (i.dateless rest d);
     }
@@ -105,7 +105,7 @@ listed_years follows (selector.Years x) (selector.Years y ∷ xs) e =
     let i = years_item follows x in
     let m = more_years follows (selector.Years y ∷ xs) e in
     record {
-      items = items IsYears (selector_text follows (selector.Years x)) (more_selectors_text follows (selector.Years y ∷ xs))
+      items = items (IsYears in_full) (selector_text follows (selector.Years x)) (more_selectors_text follows (selector.Years y ∷ xs))
           (only_years (selector.Years x ∷ [])) (only_years (selector.Years y ∷ xs)) false i.item m;
       dateless = λ rest d. subst (λ (l : List TokenKind). begins_with_date l ≡ false) (sym (append_assoc i.item.us m.us rest))
           (i.dateless (m.us ++ rest)

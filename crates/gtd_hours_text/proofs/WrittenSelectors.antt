@@ -83,7 +83,7 @@ DatelessIf true rest = Unit {0}
 DatelessIf false rest = Dateless rest
 
 pub record YearsItem (follows : Bool) (text : List ℕ) (x : Years) : Type 0 where
-  pub item : Item IsYears text (only_years (selector.Years x ∷ [])) false
+  pub item : Item (IsYears in_full) text (only_years (selector.Years x ∷ [])) false
   pub dateless : (rest : List TokenKind) → DatelessIf follows rest → begins_with_date (item.us ++ rest) ≡ false
 
 is_year : (n : ℕ) → 1800 ≤ n → n ≤ 2799 → IsYearNumber (year_digits n)
@@ -108,7 +108,7 @@ years_one follows x e f g =
 
 range_of_years : (first last step : ℕ) (b : Bool) (later : List Piece) (rest : List TokenKind)
     → IsRange IsYearNumber (year_digits first) (year_digits last) → IsStepNumber (digits step)
-    → IsYears (piece.Years (year_digits first) (Some (year_digits last)) (step_digits b step) ∷ later)
+    → IsYears in_full (piece.Years (year_digits first) (Some (year_digits last)) (step_digits b step) ∷ later)
     (token.Number first 4 ∷ token.Dash ∷ token.Number last 4
     ∷ (cond b [] (token.Slash ∷ token.Number step (length (decimal step)) ∷ []) ++ rest)) later rest
 range_of_years first last step true later rest r s = IsYears.range (year_digits first) (year_digits last) refl refl r

@@ -9,8 +9,8 @@ use Rattle.gtd_hours_grammar.specs.declared.fault.FaultKind.TheVariants as fault
 use Rattle.gtd_hours_grammar.specs.declared.fault.HoursFault.{HoursFault}
 use Rattle.gtd_hours_grammar.specs.Terms.{Token, TokenKind, Piece, Stage}
 use Rattle.gtd_hours_grammar.specs.declared.stage.Stage.TheVariants as stage
-use Rattle.gtd_hours_grammar.specs.Grammar.{AreHours, CanGoOn, Follow, IsDates, IsMonthDays, IsWeeks, Listed, More, in_full}
-use Rattle.gtd_hours_grammar.specs.Grammar.{so_far}
+use Rattle.gtd_hours_grammar.specs.Grammar.{AreHours, CanGoOn, Follow, IsDates, IsMonthDays, IsWeeks, IsYears, Listed, More}
+use Rattle.gtd_hours_grammar.specs.Grammar.{in_full, so_far}
 use Rattle.gtd_hours_parts.specs.Pieces.{day_behind}
 use Rattle.gtd_hours_parts.specs.declared.piece.WrittenDate.{WrittenDate}
 use Rattle.gtd_hours_grammar.specs.Faults.{IsFirstFault, IsHoursText, IsMisfit, IsMisfitKind, kinds, told_at}
@@ -30,6 +30,9 @@ month_days : (p : List Piece) (ts : List TokenKind) (later : List Piece) (rest :
 month_days p ts later rest (IsMonthDays.month m a b h) = IsMonthDays.month m a b h
 month_days p ts later rest (IsMonthDays.months m n a b h k) = IsMonthDays.months m n a b h k
 month_days p ts later rest (IsMonthDays.dates x us a h k) = IsMonthDays.dates x us a h (dates later rest x p us k)
+month_days p ts later rest (IsMonthDays.of_years a b m l d e f g h) = IsMonthDays.of_years a b m l d e f g h
+month_days p ts later rest (IsMonthDays.cut a b m d e f g h k) = absurd cc
+month_days p ts later rest (IsMonthDays.any_month a b m l d e f g h k) = absurd cc
 
 more_days : (later : List Piece) (rest : List TokenKind) (p : List Piece) (ts : List TokenKind)
     → More (IsMonthDays in_full) later rest p ts → More (IsMonthDays so_far) later rest p ts
@@ -69,9 +72,34 @@ listed_weeks p ts later rest l = record {
   more = more_weeks later rest l.q l.us l.more;
 }
 
+years : (p : List Piece) (ts : List TokenKind) (later : List Piece) (rest : List TokenKind) → IsYears in_full p ts later rest
+    → IsYears so_far p ts later rest
+years p ts later rest (IsYears.one n a b h) = IsYears.one n a b h
+years p ts later rest (IsYears.range m n a b h) = IsYears.range m n a b h
+years p ts later rest (IsYears.every m n k a b h s) = IsYears.every m n k a b h s
+years p ts later rest (IsYears.on n a b h) = IsYears.on n a b h
+years p ts later rest (IsYears.every_on n k a b h s) = IsYears.every_on n k a b h s
+years p ts later rest (IsYears.many n k e a b c h s) = absurd cc
+
+more_years : (later : List Piece) (rest : List TokenKind) (p : List Piece) (ts : List TokenKind)
+    → More (IsYears in_full) later rest p ts → More (IsYears so_far) later rest p ts
+more_years later rest p ts (More.none q us a b) = More.none p ts a b
+more_years later rest p ts (More.comma o q u us vs a h more) =
+    More.comma p q ts us vs a (years o us q vs h) (more_years later rest q vs more)
+
+listed_years : (p : List Piece) (ts : List TokenKind) (later : List Piece) (rest : List TokenKind)
+    → Listed (IsYears in_full) p ts later rest → Listed (IsYears so_far) p ts later rest
+listed_years p ts later rest l = record {
+  q = l.q;
+  us = l.us;
+  one = years p ts l.q l.us l.one;
+  more = more_years later rest l.q l.us l.more;
+}
+
 goes_on : (s : Stage) (p : List Piece) (ts : List TokenKind) → Follow in_full s p ts → Follow so_far s p ts
 goes_on s p ts (Follow.always a b c us e h f) = Follow.always s p ts us e h (goes_on stage.Always p us f)
-goes_on s p ts (Follow.years a b q l c r h k e x f) = Follow.years s p q l ts r h k e x (goes_on stage.Years l r f)
+goes_on s p ts (Follow.years a b q l c r h k e x f) =
+    Follow.years s p q l ts r h k e (listed_years q ts l r x) (goes_on stage.Years l r f)
 goes_on s p ts (Follow.month_days a b q l c r h e x f) =
     Follow.month_days s p q l ts r h e (listed_days q ts l r x) (goes_on stage.MonthDays l r f)
 goes_on s p ts (Follow.weeks a b q l c us r h d e x f) =
@@ -144,6 +172,18 @@ same_kind : (before : List TokenKind) (t : TokenKind) (a b : FaultKind) → IsMi
     → a ≡ b
 same_kind before token.Unsupported a b h k = h ∙ sym k
 same_kind before token.Plus a b h k = h ∙ sym k
+same_kind before (token.Number v d) fault.BadToken b h k = absurd h
+same_kind before (token.Number v d) fault.Unsupported b h k = absurd h
+same_kind before (token.Number v d) fault.Incomplete b h k = absurd h
+same_kind before (token.Number v d) fault.Years fault.Years h k = refl
+same_kind before (token.Number v d) fault.Range fault.Range h k = refl
+same_kind before (token.Number v d) fault.Unexpected fault.Unexpected h k = refl
+same_kind before (token.Number v d) fault.Years fault.Range h k = absurd (k.1 h)
+same_kind before (token.Number v d) fault.Years fault.Unexpected h k = absurd (k.1 h)
+same_kind before (token.Number v d) fault.Range fault.Years h k = absurd (h.1 k)
+same_kind before (token.Number v d) fault.Unexpected fault.Years h k = absurd (h.1 k)
+same_kind before (token.Number v d) fault.Range fault.Unexpected h k = absurd (k.0 h.0)
+same_kind before (token.Number v d) fault.Unexpected fault.Range h k = absurd (h.0 k.0)
 same_kind before t fault.Range fault.Range h k = refl
 same_kind before t fault.Unexpected fault.Unexpected h k = refl
 same_kind before t fault.Range fault.Unexpected h k = absurd (k h)
@@ -151,6 +191,7 @@ same_kind before t fault.Unexpected fault.Range h k = absurd (h k)
 same_kind before t a fault.BadToken h k = absurd k
 same_kind before t a fault.Unsupported h k = absurd k
 same_kind before t a fault.Incomplete h k = absurd k
+same_kind before t a fault.Years h k = absurd k
 same_kind before t a b h k = absurd h
 
 same_fault : (a b : HoursFault) → a.kind ≡ b.kind → a.place ≡ b.place → a ≡ b

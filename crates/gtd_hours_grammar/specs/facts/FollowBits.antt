@@ -10,7 +10,7 @@ use Rattle.gtd_hours_parts.specs.Numbers.{IsWeekNumber, IsYearNumber}
 use Rattle.gtd_hours_parts.specs.Times.{IsBegin}
 use Rattle.gtd_hours_grammar.specs.Terms.{TokenKind, Stage, Place}
 use Rattle.gtd_hours_grammar.specs.declared.stage.Stage.TheVariants as stage
-use Rattle.gtd_hours_grammar.specs.Sound.{Fits, NumberFits, TimeFits, ListedFits}
+use Rattle.gtd_hours_grammar.specs.Sound.{Fits, ListedFits, MonthFits, NumberFits, TimeFits}
 use Rattle.gtd_hours_grammar.specs.Moves.{written, clock}
 use Rattle.gtd_hours_grammar.specs.facts.RunSteps.{yes, denied}
 
@@ -42,7 +42,7 @@ both_bits A B a b = both_by A B a.fits b.fits a.is b.is
 as_bit : (A B : Type 0) → (A → B) → (B → A) → SomeBit A → SomeBit B
 as_bit A B to back a = record { fits = a.fits; is = (λ e. to (a.is.0 e), λ b. a.is.1 (back b)) }
 
-month_bit : (m : ℕ) → SomeBit (IsMonth m)
+pub month_bit : (m : ℕ) → SomeBit (IsMonth m)
 month_bit m = both_bits (1 ≤ m) (m ≤ 12) (le_bit 1 m) (le_bit m 12)
 
 weekday_bit : (k : ℕ) → SomeBit (IsWeekday k)
@@ -73,12 +73,12 @@ listed_bit stage.MonthDays n = year_bit n
 listed_bit stage.Weeks n = week_bit n
 listed_bit s n = no_bit ⊥ (λ x. x)
 
--- what comes next fits or not, where that can be told of numbers and times
+-- what comes next fits or not, where that can be told of numbers, times and months
 pub next_bit : (at : Place) (next : Option TokenKind)
     → ((v d : ℕ) → next ≡ Some (token.Number v d) → SomeBit (NumberFits at (written v d)))
-    → ((t : ClockTime) → SomeBit (TimeFits at t)) → SomeBit (Fits at next)
-next_bit at (Some (token.Number v d)) number time = number v d refl
-next_bit at (Some (token.Time h m)) number time = time (clock h m)
-next_bit at (Some (token.Month m)) number time = month_bit m
-next_bit at (Some (token.Weekday k)) number time = weekday_bit k
-next_bit at next number time = no_bit ⊥ (λ x. x)
+    → ((t : ClockTime) → SomeBit (TimeFits at t)) → ((m : ℕ) → SomeBit (MonthFits at m)) → SomeBit (Fits at next)
+next_bit at (Some (token.Number v d)) number time month = number v d refl
+next_bit at (Some (token.Time h m)) number time month = time (clock h m)
+next_bit at (Some (token.Month m)) number time month = month m
+next_bit at (Some (token.Weekday k)) number time month = weekday_bit k
+next_bit at next number time month = no_bit ⊥ (λ x. x)

@@ -18,15 +18,16 @@ use Rattle.gtd_hours_parts.specs.declared.piece.Piece.TheVariants as piece
 use Rattle.gtd_hours_grammar.specs.declared.stage.Stage.TheVariants as stage
 use Rattle.gtd_hours_grammar.specs.declared.place.Place.TheVariants as places
 use Rattle.gtd_hours_grammar.specs.Grammar.{Demand, may_break_off, IsDates, IsMonthDays, Listed, number}
-use Rattle.gtd_hours_grammar.specs.Grammar.{date_before, dated, last_before, range_to, unfinished}
-use Rattle.gtd_hours_parts.specs.Pieces.{AreWrittenDates, EndsRange, IsDay, IsLastDay, IsWrittenDate, day_behind, end_month}
-use Rattle.gtd_hours_parts.specs.Pieces.{end_year, year_at_end, year_or_next}
+use Rattle.gtd_hours_grammar.specs.Grammar.{date_before, dated, days_of_months, last_before, months_to, range_to}
+use Rattle.gtd_hours_grammar.specs.Grammar.{unfinished}
+use Rattle.gtd_hours_parts.specs.Pieces.{AreWrittenDates, EndsRange, IsDay, IsLastDay, IsRange, IsWrittenDate, day_behind}
+use Rattle.gtd_hours_parts.specs.Pieces.{end_month, end_year, year_at_end, year_or_next}
 use Rattle.gtd_hours_grammar.specs.Sound.{YearOrDay, is_last_year}
 use Rattle.gtd_hours_grammar.specs.Moves.{complete, dates_end, give, take}
-use Rattle.gtd_hours_grammar.specs.Runs.{Runs}
+use Rattle.gtd_hours_grammar.specs.Runs.{Runs, is_judged, may_judge}
 use Rattle.gtd_hours_grammar.specs.Runs.Runs.{cut, any_last}
 use Rattle.gtd_hours_grammar.specs.facts.RunSteps.{fit_taken, fit_completed, sign_taken, no_token, held, not_fit}
-use Rattle.gtd_hours_grammar.specs.facts.FollowBits.{begin_bit, next_bit, no_bit}
+use Rattle.gtd_hours_grammar.specs.facts.FollowBits.{begin_bit, month_bit, next_bit, no_bit}
 use Rattle.gtd_hours_grammar.specs.facts.FollowSteps.{after_nothing, comma_runs, given_by, more_runs, renamed}
 use Rattle.gtd_hours_grammar.specs.facts.FollowDays.{after_date_runs, listed_day_runs}
 use Rattle.gtd_hours_grammar.specs.facts.FollowYears.{goes_on_if}
@@ -51,7 +52,7 @@ month_given demand m q [] go =
     (λ fits. refl) go
 month_given demand m q (t ∷ ts) go =
     given_by demand (places.Month m) (places.After stage.MonthDays) (piece.Months m None) q (t ∷ ts)
-    (next_bit (places.Month m) (Some t) (λ v d e. absurd cc) begin_bit) (λ fits. refl) go
+    (next_bit (places.Month m) (Some t) (λ v d e. absurd cc) begin_bit month_bit) (λ fits. refl) go
 
 date_given : (demand : Demand) (x : WrittenDate) (q : List Piece) (ts : List TokenKind)
     → Runs demand (places.AfterDate x.year x.month) q ts → Runs demand (places.Date x) (piece.Dates x None ∷ q) ts
@@ -62,7 +63,7 @@ date_given demand x q [] go =
     (λ fits. refl) go
 date_given demand x q (t ∷ ts) go =
     given_by demand (places.Date x) (places.AfterDate x.year x.month) (piece.Dates x None) q (t ∷ ts)
-    (next_bit (places.Date x) (Some t) (λ v d e. no_bit ⊥ (λ x. x)) begin_bit) (λ fits. refl) go
+    (next_bit (places.Date x) (Some t) (λ v d e. no_bit ⊥ (λ x. x)) begin_bit month_bit) (λ fits. refl) go
 
 day_given : (demand : Demand) (x : WrittenDate) (q : List Piece) (ts : List TokenKind)
     → Runs demand (places.AfterDate x.year x.month) q ts → Runs demand (places.ListedDay x) (piece.Dates x None ∷ q) ts
@@ -75,7 +76,7 @@ day_given demand x q [] go =
     (λ fits. refl) go
 day_given demand x q (t ∷ ts) go =
     given_by demand (places.ListedDay x) (places.AfterDate x.year x.month) (piece.Dates x None) q (t ∷ ts)
-    (next_bit (places.ListedDay x) (Some t) (λ v d e. no_bit ⊥ (λ x. x)) begin_bit) (λ fits. refl) go
+    (next_bit (places.ListedDay x) (Some t) (λ v d e. no_bit ⊥ (λ x. x)) begin_bit month_bit) (λ fits. refl) go
 
 -- ---- the last date of a range
 
@@ -174,13 +175,15 @@ cut_runs demand x (Some n) (Some m) may some is month =
 
 -- ---- what a month or a date begins with
 
--- a month, or a year with a month and a day
+-- a month, a year with a month and a day, or two years with months
 pub data DaysBegin (demand : Demand) (p : List Piece) (ts : List TokenKind) : Type 0 where
   by_month : (m : ℕ) → (us : List TokenKind) → ts ≡ token.Month m ∷ us → IsMonth m → Runs demand (places.Month m) p us
       → DaysBegin demand p ts
   by_year : (n : Digits) → (m : ℕ) → (day : Digits) → (us : List TokenKind)
       → ts ≡ number n ∷ token.Month m ∷ number day ∷ us → IsYearNumber n → IsMonth m → IsDay (Some n) m day
       → Runs demand (places.Date (record { year = Some n; month = m; day = day })) p us → DaysBegin demand p ts
+  by_years : (a b : Digits) → (m : ℕ) → (us : List TokenKind) → ts ≡ months_to a m b us → IsRange IsYearNumber a b → IsMonth m
+      → Runs demand (places.MonthsYear a m b) p us → DaysBegin demand p ts
 
 date_by : (demand : Demand) (y : Option Digits) (m : ℕ) (day : Digits) (p : List Piece) (ts us : List TokenKind)
     → ts ≡ dated y m (number day ∷ us) → IfSome y IsYearNumber → IsDay y m day
@@ -295,7 +298,8 @@ dates_run demand q us x p ts is (IsDates.cut y year m o vs may some z l e f g) g
 dates_run demand q us x p ts is (IsDates.any_day y l o vs by some z month e f g) go =
     dash_runs demand x p [] ts (date_before l []) e (none_behind demand p q us f g go)
     (last_month_runs demand x l.year l.month [] (number l.day ∷ []) (λ e. some) z month
-    (any_last (places.DateDashMonth x l.year l.month) [] (number l.day ∷ []) (number l.day) by refl refl refl))
+    (any_last (places.DateDashMonth x l.year l.month) [] (number l.day ∷ []) (number l.day) (ap may_judge by)
+    (ap (is_judged (places.DateDashMonth x l.year l.month) (number l.day)) by) refl refl))
 
 pub days_begin : (demand : Demand) (p q : List Piece) (ts us : List TokenKind) → IsMonthDays demand p ts q us
     → Runs demand (places.After stage.MonthDays) q us → DaysBegin demand p ts
@@ -310,8 +314,38 @@ days_begin demand p q ts us (IsMonthDays.months a b e f is also) go =
     go)))
 days_begin demand p q ts us (IsMonthDays.dates x vs e is dates) go =
     date_begins demand x p ts vs e is (dates_run demand q us x p vs is dates go).date
+days_begin demand p q ts us (IsMonthDays.of_years a b m l e f range month are) go =
+    by_years a b m (token.Month l ∷ us) e range month
+    (renamed demand (places.MonthsYear a m b) p (days_of_months a m b l ∷ q) (token.Month l ∷ us) (token.Month l ∷ us) f refl
+    (fit_completed demand (places.MonthsYear a m b) (places.After stage.MonthDays) (days_of_months a m b l) q (token.Month l) us
+    are refl go))
+days_begin demand p q ts us (IsMonthDays.cut a b m may range month e f g) go =
+    by_years a b m [] e range month
+    (cut (places.MonthsYear a m b) p [] may refl (none_behind demand p q us f g go) refl)
+days_begin demand p q ts us (IsMonthDays.any_month a b m l by range month e f g) go =
+    by_years a b m (token.Month l ∷ []) e range month
+    (any_last (places.MonthsYear a m b) p (token.Month l ∷ []) (token.Month l) (ap may_judge by)
+    (ap (is_judged (places.MonthsYear a m b) (token.Month l)) by) (none_behind demand p q us f g go) refl)
 
 -- ---- lists
+
+-- months of years, where the first year stands for them
+pub years_runs : (demand : Demand) (a b : Digits) (m : ℕ) (p : List Piece) (us : List TokenKind) → IsRange IsYearNumber a b
+    → IsMonth m → Runs demand (places.MonthsYear a m b) p us
+    → Runs demand (places.DateYear a) p (token.Month m ∷ token.Dash ∷ number b ∷ us)
+years_runs demand a b m p us range month go =
+    fit_taken demand (places.DateYear a) (places.DateYearMonth a m) p (token.Month m) (token.Dash ∷ number b ∷ us) month refl
+    (sign_taken demand (places.DateYearMonth a m) (places.DateYearMonthDash a m) p token.Dash (number b ∷ us) (λ x. x) refl
+    (fit_taken demand (places.DateYearMonthDash a m) (places.MonthsYear a m b) p (number b) us range refl go))
+
+-- and at the beginning of a rule
+pub first_years_runs : (demand : Demand) (a b : Digits) (m : ℕ) (p : List Piece) (us : List TokenKind) → IsRange IsYearNumber a b
+    → IsMonth m → Runs demand (places.MonthsYear a m b) p us
+    → Runs demand (places.Year a) p (token.Month m ∷ token.Dash ∷ number b ∷ us)
+first_years_runs demand a b m p us range month go =
+    fit_taken demand (places.Year a) (places.YearMonth a m) p (token.Month m) (token.Dash ∷ number b ∷ us) month refl
+    (sign_taken demand (places.YearMonth a m) (places.YearMonthDash a m) p token.Dash (number b ∷ us) (λ x. x) refl
+    (fit_taken demand (places.YearMonthDash a m) (places.MonthsYear a m b) p (number b) us range refl go))
 
 -- a year, a month and a day, where the year stands for a date
 pub year_runs : (demand : Demand) (n : Digits) (m : ℕ) (day : Digits) (p : List Piece) (us : List TokenKind) → IsMonth m
@@ -342,6 +376,12 @@ next_begin demand p ts (by_year n m day us e is month fit go) =
     (fit_taken demand (places.Comma stage.MonthDays) (places.DateYear n) p (number n) (token.Month m ∷ number day ∷ us) is
     (goes_on_if (n.count == 4) (take (places.DateYear n)) (give (piece.Rule link.Also) places.Front) (eq-eqb n.count 4 is.0))
     (year_runs demand n m day p us month fit go))
+next_begin demand p ts (by_years a b m us e range month go) =
+    subst (Runs demand (places.Comma stage.MonthDays) p) (sym e)
+    (fit_taken demand (places.Comma stage.MonthDays) (places.DateYear a) p (number a)
+    (token.Month m ∷ token.Dash ∷ number b ∷ us) range.0
+    (goes_on_if (a.count == 4) (take (places.DateYear a)) (give (piece.Rule link.Also) places.Front) (eq-eqb a.count 4 range.0.0))
+    (years_runs demand a b m p us range month go))
 
 next_days : (demand : Demand) (p q : List Piece) (ts us : List TokenKind) → IsMonthDays demand p ts q us
     → Runs demand (places.After stage.MonthDays) q us → Runs demand (places.Comma stage.MonthDays) p ts

@@ -26,7 +26,7 @@ use Rattle.gtd_hours_grammar.specs.facts.FollowSteps.{after_nothing, renamed}
 -- ---- runs from one place, and from another with the same move
 
 same_step : (demand : Demand) (at to : Place) (p : List Piece) (ts : List TokenKind)
-    → ((t : TokenKind) → is_judged at t ≡ false) → is_after at ≡ false → is_cut at ≡ false
+    → ((t : TokenKind) → is_judged at t demand ≡ false) → is_after at ≡ false → is_cut at ≡ false
     → ((fits : Bool) → ((fits ≡ true) ↔ Fits at (first ts)) → ((fits ≡ true) ↔ Fits to (first ts)))
     → ((fits : Bool) → next_move to (first ts) fits ≡ next_move at (first ts) fits) → Runs demand at p ts → Runs demand to p ts
 same_step demand at to p ts day behind cuts fit same (ends at' p' ts' after e f) = absurd cc
@@ -38,7 +38,8 @@ same_step demand at to p ts day behind cuts fit same (step at' p' q ts' move fit
     step to p q ts move fits (fit fits is) (same fits ∙ m) e go
 
 -- the same on a token
-same_token : (demand : Demand) (at to : Place) (p : List Piece) (t : TokenKind) (ts : List TokenKind) → is_judged at t ≡ false
+same_token : (demand : Demand) (at to : Place) (p : List Piece) (t : TokenKind) (ts : List TokenKind)
+    → is_judged at t demand ≡ false
     → ((fits : Bool) → ((fits ≡ true) ↔ Fits at (Some t)) → ((fits ≡ true) ↔ Fits to (Some t)))
     → ((fits : Bool) → next_move to (Some t) fits ≡ next_move at (Some t) fits) → Runs demand at p (t ∷ ts)
     → Runs demand to p (t ∷ ts)
@@ -49,7 +50,8 @@ same_token demand at to p t ts day fit same (step at' p' q ts' move fits is m e 
     step to p q (t ∷ ts) move fits (fit fits is) (same fits ∙ m) e go
 
 -- a token that is used up
-behind_token : (demand : Demand) (at to : Place) (p : List Piece) (t : TokenKind) (ts : List TokenKind) → is_judged at t ≡ false
+pub behind_token : (demand : Demand) (at to : Place) (p : List Piece) (t : TokenKind) (ts : List TokenKind)
+    → is_judged at t demand ≡ false
     → ((fits : Bool) → next_move at (Some t) fits ≡ take to) → Runs demand at p (t ∷ ts) → Runs demand to p ts
 behind_token demand at to p t ts day takes (ends at' p' ts' after e f) = absurd cc
 behind_token demand at to p t ts day takes (cut at' p' ts' may is e f) = absurd cc
@@ -68,7 +70,7 @@ record Given (demand : Demand) (to : Place) (x : Piece) (p : List Piece) (ts : L
   runs : Runs demand to q ts
 
 behind_piece : (demand : Demand) (at to : Place) (x : Piece) (p : List Piece) (t : TokenKind) (ts : List TokenKind)
-    → is_judged at t ≡ false → ((fits : Bool) → next_move at (Some t) fits ≡ give x to) → Runs demand at p (t ∷ ts)
+    → is_judged at t demand ≡ false → ((fits : Bool) → next_move at (Some t) fits ≡ give x to) → Runs demand at p (t ∷ ts)
     → Given demand to x p (t ∷ ts)
 behind_piece demand at to x p t ts day gives (ends at' p' ts' after e f) = absurd cc
 behind_piece demand at to x p t ts day gives (cut at' p' ts' may is e f) = absurd cc

@@ -1,6 +1,7 @@
 -- What the grammar says of a text, the moves run over.
 use Rattle.std.proofs.Common.{◌≡◌, ℕ, Bool, true, false, List, [], ◌∷◌, Some, refl, sym, ap, subst, ◌∙◌, arith}
 use Rattle.std.specs.Prelude.{if◌then◌else◌}
+use Rattle.gtd_hours.specs.Ranges.{IsMonth}
 use Rattle.gtd_hours.specs.declared.hours.Link.TheVariants as link
 use Rattle.gtd_hours_tokens.specs.declared.token.TokenKind.TheVariants as token
 use Rattle.gtd_hours_parts.specs.declared.clock.ClockTime.{ClockTime}
@@ -10,18 +11,19 @@ use Rattle.gtd_hours_parts.specs.declared.piece.Piece.TheVariants as piece
 use Rattle.gtd_hours_grammar.specs.declared.stage.Stage.TheVariants as stage
 use Rattle.gtd_hours_grammar.specs.declared.place.Place.TheVariants as places
 use Rattle.gtd_hours_grammar.specs.Grammar.{Demand, Follow, list_goes_on, number, precedes, time}
-use Rattle.gtd_hours_grammar.specs.Sound.{TimeFits}
+use Rattle.gtd_hours_grammar.specs.Sound.{MonthFits, TimeFits}
 use Rattle.gtd_hours_grammar.specs.Moves.{complete, give, listed, next_goes_on, next_move, take, when, written}
 use Rattle.gtd_hours_grammar.specs.Runs.{Runs, first}
 use Rattle.gtd_hours_grammar.specs.Runs.Runs.{ends}
 use Rattle.gtd_hours_grammar.specs.facts.RunSteps.{fit_taken, fit_completed, sign_taken, sign_completed}
-use Rattle.gtd_hours_grammar.specs.facts.FollowBits.{begin_bit, listed_bit, next_bit}
+use Rattle.gtd_hours_grammar.specs.facts.FollowBits.{begin_bit, listed_bit, month_bit, next_bit}
 use Rattle.gtd_hours_grammar.specs.facts.FollowSteps.{comma_runs, given_by, renamed}
 use Rattle.gtd_hours_grammar.specs.facts.FollowWeeks.{weeks_run}
 use Rattle.gtd_hours_grammar.specs.facts.FollowYears.{no_twenty_four, years_run}
 use Rattle.gtd_hours_grammar.specs.facts.FollowWeekdays.{TimeBegins, WeekdayBegins, times_run, weekdays_run}
-use Rattle.gtd_hours_grammar.specs.facts.FollowDates.{DaysBegin, days_run, first_year_runs, year_runs}
-use Rattle.gtd_hours_grammar.specs.facts.FollowDates.DaysBegin.{by_month, by_year}
+use Rattle.gtd_hours_grammar.specs.facts.FollowDates.{DaysBegin, days_run, first_year_runs, first_years_runs, year_runs}
+use Rattle.gtd_hours_grammar.specs.facts.FollowDates.{years_runs}
+use Rattle.gtd_hours_grammar.specs.facts.FollowDates.DaysBegin.{by_month, by_year, by_years}
 
 -- where a rule stands that has come to a stage
 abbrev pub at_stage : Stage → Place
@@ -54,6 +56,10 @@ time_move : (s : Stage) (t : ClockTime) → precedes s stage.Times ≡ true
 time_move stage.Front t e = refl
 time_move s t e = ap (λ (b : Bool). when b (take (places.Time t))) e
 
+month_fits : (s : Stage) (m : ℕ) → IsMonth m → MonthFits (at_stage s) m
+month_fits stage.Front m is = is
+month_fits s m is = is
+
 time_fits : (s : Stage) (t : ClockTime) → IsBegin t → TimeFits (at_stage s) t
 time_fits stage.Front t is = is
 time_fits s t is = is
@@ -72,7 +78,8 @@ days_at : (demand : Demand) (s : Stage) (p : List Piece) (ts : List TokenKind) �
     → DaysBegin demand p ts → Runs demand (at_stage s) (piece.Kind ∷ p) ts
 days_at demand s p ts e (by_month m us f is go) =
     subst (Runs demand (at_stage s) (piece.Kind ∷ p)) (sym f)
-    (fit_completed demand (at_stage s) (places.Month m) piece.Kind p (token.Month m) us is (month_move s m e) go)
+    (fit_completed demand (at_stage s) (places.Month m) piece.Kind p (token.Month m) us (month_fits s m is)
+    (month_move s m e) go)
 days_at demand stage.Front p ts e (by_year n m day us f is month fit go) =
     subst (Runs demand places.Front (piece.Kind ∷ p)) (sym f)
     (fit_completed demand places.Front (places.Year n) piece.Kind p (number n) (token.Month m ∷ number day ∷ us) is
@@ -82,6 +89,17 @@ days_at demand s p ts e (by_year n m day us f is month fit go) =
     subst (Runs demand (at_stage s) (piece.Kind ∷ p)) (sym f)
     (fit_completed demand (places.After s) (places.DateYear n) piece.Kind p (number n) (token.Month m ∷ number day ∷ us) is
     (ap (λ (b : Bool). when b (complete piece.Kind (places.DateYear n))) e) (year_runs demand n m day p us month fit go))
+days_at demand stage.Front p ts e (by_years a b m us f range month go) =
+    subst (Runs demand places.Front (piece.Kind ∷ p)) (sym f)
+    (fit_completed demand places.Front (places.Year a) piece.Kind p (number a)
+    (token.Month m ∷ token.Dash ∷ number b ∷ us) range.0
+    (no_twenty_four a.value a.count (take places.TwentyFour) (complete piece.Kind (places.Year a)) range.0.0)
+    (first_years_runs demand a b m p us range month go))
+days_at demand s p ts e (by_years a b m us f range month go) =
+    subst (Runs demand (at_stage s) (piece.Kind ∷ p)) (sym f)
+    (fit_completed demand (places.After s) (places.DateYear a) piece.Kind p (number a)
+    (token.Month m ∷ token.Dash ∷ number b ∷ us) range.0
+    (ap (λ (b : Bool). when b (complete piece.Kind (places.DateYear a))) e) (years_runs demand a b m p us range month go))
 
 weekdays_at : (demand : Demand) (s : Stage) (p : List Piece) (ts : List TokenKind) → precedes s stage.Weekdays ≡ true
     → WeekdayBegins demand p ts → Runs demand (at_stage s) (piece.Kind ∷ p) ts
@@ -122,7 +140,7 @@ also_runs : (demand : Demand) (s : Stage) (p : List Piece) (us : List TokenKind)
 also_runs demand s p us e go =
     comma_runs demand s (piece.Rule link.Also ∷ p) us
     (given_by demand (places.Comma s) places.Front (piece.Rule link.Also) p us
-    (next_bit (places.Comma s) (first us) (λ v d same. listed_bit s (written v d)) begin_bit)
+    (next_bit (places.Comma s) (first us) (λ v d same. listed_bit s (written v d)) begin_bit month_bit)
     (λ fits. ap (λ (b : Bool). if b then listed s (first us) fits else give (piece.Rule link.Also) places.Front)
     (same_next s us ∙ e)) go)
 

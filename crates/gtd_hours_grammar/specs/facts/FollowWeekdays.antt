@@ -13,7 +13,7 @@ use Rattle.gtd_hours_grammar.specs.declared.place.Place.TheVariants as places
 use Rattle.gtd_hours_grammar.specs.Grammar.{Demand, IsPlaces, IsTimes, IsWeekdays, Listed, number, time}
 use Rattle.gtd_hours_grammar.specs.Runs.{Runs}
 use Rattle.gtd_hours_grammar.specs.facts.RunSteps.{fit_taken, fit_completed, sign_taken, no_token}
-use Rattle.gtd_hours_grammar.specs.facts.FollowBits.{begin_bit, next_bit, no_bit}
+use Rattle.gtd_hours_grammar.specs.facts.FollowBits.{begin_bit, month_bit, next_bit, no_bit}
 use Rattle.gtd_hours_grammar.specs.facts.FollowSteps.{comma_runs, given_by, more_runs, renamed}
 
 -- ---- places in brackets
@@ -26,7 +26,7 @@ nth_given demand k n q [] go =
     given_by demand (places.Nth k n) (places.BracketEnd k) (piece.Places k n None) q [] (no_bit ⊥ (λ x. x)) (λ fits. refl) go
 nth_given demand k n q (t ∷ ts) go =
     given_by demand (places.Nth k n) (places.BracketEnd k) (piece.Places k n None) q (t ∷ ts)
-    (next_bit (places.Nth k n) (Some t) (λ v d e. no_bit ⊥ (λ x. x)) begin_bit) (λ fits. refl) go
+    (next_bit (places.Nth k n) (Some t) (λ v d e. no_bit ⊥ (λ x. x)) begin_bit month_bit) (λ fits. refl) go
 
 one_place : (demand : Demand) (k : ℕ) (p q : List Piece) (ts us : List TokenKind) → IsPlaces k p ts q us
     → Runs demand (places.BracketEnd k) q us → Runs demand (places.Bracket k) p ts
@@ -65,7 +65,7 @@ weekday_given demand k q [] go =
     (λ fits. refl) go
 weekday_given demand k q (t ∷ ts) go =
     given_by demand (places.Weekday k) (places.After stage.Weekdays) (piece.Weekdays k None) q (t ∷ ts)
-    (next_bit (places.Weekday k) (Some t) (λ v d e. no_bit ⊥ (λ x. x)) begin_bit) (λ fits. refl) go
+    (next_bit (places.Weekday k) (Some t) (λ v d e. no_bit ⊥ (λ x. x)) begin_bit month_bit) (λ fits. refl) go
 
 -- one that begins with a weekday, and runs on behind it
 pub record WeekdayBegins (demand : Demand) (p : List Piece) (ts : List TokenKind) : Type 0 where

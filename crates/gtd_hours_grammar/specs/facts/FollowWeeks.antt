@@ -12,11 +12,11 @@ use Rattle.gtd_hours_grammar.specs.declared.stage.Stage.TheVariants as stage
 use Rattle.gtd_hours_grammar.specs.declared.place.Place.TheVariants as places
 use Rattle.gtd_hours_grammar.specs.Grammar.{Demand, IsWeeks, Listed, number}
 use Rattle.gtd_hours_grammar.specs.Moves.{take, week_pair}
-use Rattle.gtd_hours_grammar.specs.Runs.{Runs, first}
+use Rattle.gtd_hours_grammar.specs.Runs.{Runs, first, is_judged, may_judge}
 use Rattle.gtd_hours_grammar.specs.Runs.Runs.{any_last}
 use Rattle.gtd_hours_parts.specs.Pieces.{AreBackWeeks, IsRange, final_week, week_one}
 use Rattle.gtd_hours_grammar.specs.facts.RunSteps.{fit_taken, fit_completed, sign_taken, no_token}
-use Rattle.gtd_hours_grammar.specs.facts.FollowBits.{begin_bit, next_bit, no_bit}
+use Rattle.gtd_hours_grammar.specs.facts.FollowBits.{begin_bit, month_bit, next_bit, no_bit}
 use Rattle.gtd_hours_grammar.specs.facts.FollowSteps.{Begins, after_nothing, comma_runs, given_by, more_runs, renamed}
 
 week_given : (demand : Demand) (n : Digits) (q : List Piece) (ts : List TokenKind) → Runs demand (places.After stage.Weeks) q ts
@@ -28,7 +28,7 @@ week_given demand n q [] go =
     go
 week_given demand n q (t ∷ ts) go =
     given_by demand (places.Week n) (places.After stage.Weeks) (piece.Weeks n None None) q (t ∷ ts)
-    (next_bit (places.Week n) (Some t) (λ v d e. no_bit ⊥ (λ x. x)) begin_bit) (λ fits. refl) go
+    (next_bit (places.Week n) (Some t) (λ v d e. no_bit ⊥ (λ x. x)) begin_bit month_bit) (λ fits. refl) go
 
 range_given : (demand : Demand) (a b : Digits) (q : List Piece) (ts : List TokenKind)
     → Runs demand (places.After stage.Weeks) q ts
@@ -40,7 +40,7 @@ range_given demand a b q [] go =
     (λ fits. refl) go
 range_given demand a b q (t ∷ ts) go =
     given_by demand (places.WeekRange a b) (places.After stage.Weeks) (piece.Weeks a (Some b) None) q (t ∷ ts)
-    (next_bit (places.WeekRange a b) (Some t) (λ v d e. no_bit ⊥ (λ x. x)) begin_bit) (λ fits. refl) go
+    (next_bit (places.WeekRange a b) (Some t) (λ v d e. no_bit ⊥ (λ x. x)) begin_bit month_bit) (λ fits. refl) go
 
 -- the second week of a pair, behind the first or before it
 pair_by : (a b : Digits) (c : Bool) → nat_le a.value b.value ≡ c
@@ -61,7 +61,7 @@ again_given : (demand : Demand) (a b : Digits) (q : List Piece) (ts : List Token
     → Runs demand (places.WeekAgain a b) (piece.Weeks week_one (Some b) None ∷ q) ts
 again_given demand a b q ts go =
     given_by demand (places.WeekAgain a b) (places.After stage.Weeks) (piece.Weeks week_one (Some b) None) q ts
-    (next_bit (places.WeekAgain a b) (first ts) (λ v d e. no_bit ⊥ (λ x. x)) begin_bit) (λ fits. refl) go
+    (next_bit (places.WeekAgain a b) (first ts) (λ v d e. no_bit ⊥ (λ x. x)) begin_bit month_bit) (λ fits. refl) go
 
 -- a range that goes back
 back_given : (demand : Demand) (a b : Digits) (q : List Piece) (ts : List TokenKind)
@@ -75,7 +75,7 @@ back_given demand a b q [] go =
 back_given demand a b q (t ∷ ts) go =
     given_by demand (places.WeekBack a b) (places.WeekAgain a b) (piece.Weeks a (Some final_week) None)
     (piece.Weeks week_one (Some b) None ∷ q) (t ∷ ts)
-    (next_bit (places.WeekBack a b) (Some t) (λ v d e. no_bit ⊥ (λ x. x)) begin_bit) (λ fits. refl)
+    (next_bit (places.WeekBack a b) (Some t) (λ v d e. no_bit ⊥ (λ x. x)) begin_bit month_bit) (λ fits. refl)
     (again_given demand a b q (t ∷ ts) go)
 
 to_back : (demand : Demand) (a b : Digits) (p : List Piece) (ts : List TokenKind) → AreBackWeeks a b
@@ -124,7 +124,6 @@ weeks_begin demand p q ts us (IsWeeks.back a b e f is) go = record {
       (piece.Weeks a (Some final_week) None ∷ piece.Weeks week_one (Some b) None ∷ q) us us f refl
       (back_given demand a b q us go));
 }
-
 weeks_begin demand p q ts us (IsWeeks.back_step a b by e f g is) go =
     let none : p ≡ [] = g ∙ after_nothing demand stage.Weeks q us f go in
     record {
@@ -133,7 +132,8 @@ weeks_begin demand p q ts us (IsWeeks.back_step a b by e f g is) go =
       tokens = e;
       is = is.0;
       runs = to_back demand a b p (token.Slash ∷ []) is
-          (any_last (places.WeekBack a b) p (token.Slash ∷ []) token.Slash by refl none refl);
+          (any_last (places.WeekBack a b) p (token.Slash ∷ []) token.Slash (ap may_judge by)
+          (ap (is_judged (places.WeekBack a b) token.Slash) by) none refl);
     }
 
 -- a number of a week, behind the word or a comma

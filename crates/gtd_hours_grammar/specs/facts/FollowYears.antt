@@ -1,25 +1,26 @@
 -- The run over a list of years.
 use Rattle.std.proofs.Common.{◌≡◌, ℕ, Bool, true, false, List, [], ◌∷◌, Option, Some, None, refl, sym, ap, subst, ◌∙◌}
-use Rattle.std.specs.Prelude.{◌==◌, ◌&&◌, if◌then◌else◌}
-use Rattle.std.proofs.lemmas.Bool.{eq-eqb}
+use Rattle.std.specs.Prelude.{◌==◌, ◌&&◌, nat_le, if◌then◌else◌}
+use Rattle.std.proofs.lemmas.Bool.{eq-eqb, le-leb}
 use Rattle.gtd_hours.specs.Ranges.{IsMonth}
 use Rattle.gtd_hours.specs.declared.hours.Link.TheVariants as link
 use Rattle.gtd_hours_tokens.specs.declared.token.TokenKind.TheVariants as token
 use Rattle.gtd_hours_parts.specs.declared.digits.Digits.{Digits}
-use Rattle.gtd_hours_parts.specs.Numbers.{IsYearNumber}
+use Rattle.gtd_hours_parts.specs.Numbers.{IsStepNumber, IsYearNumber}
 use Rattle.gtd_hours_grammar.specs.Terms.{TokenKind, Piece, Place, Move}
 use Rattle.gtd_hours_parts.specs.declared.piece.Piece.TheVariants as piece
 use Rattle.gtd_hours_grammar.specs.declared.stage.Stage.TheVariants as stage
 use Rattle.gtd_hours_grammar.specs.declared.place.Place.TheVariants as places
 use Rattle.gtd_hours_grammar.specs.Grammar.{Demand, IsYears, Listed, begins_with_date, number}
 use Rattle.gtd_hours_grammar.specs.Moves.{complete, give, next_move, take, when}
-use Rattle.gtd_hours_grammar.specs.Runs.{Runs, first, left, with_piece}
+use Rattle.gtd_hours_grammar.specs.Runs.{Runs, first, is_judged, is_step, left, may_judge, with_piece}
 use Rattle.gtd_hours_grammar.specs.Runs.Runs.{ends, cut, any_last, step}
 use Rattle.gtd_hours_parts.specs.Pieces.{AreFewYears, IsRange, final_year}
 use Rattle.gtd_hours_grammar.specs.Sound.{Fits}
 use Rattle.gtd_hours_grammar.specs.facts.RunSteps.{fit_taken, fit_completed, sign_completed, sign_taken, no_token, not_fit}
-use Rattle.gtd_hours_grammar.specs.facts.FollowBits.{begin_bit, next_bit, no_bit}
-use Rattle.gtd_hours_grammar.specs.facts.FollowSteps.{Begins, comma_runs, given_by, more_runs, renamed}
+use Rattle.gtd_hours_grammar.specs.facts.FollowBits.{begin_bit, month_bit, next_bit, no_bit}
+use Rattle.gtd_hours_grammar.specs.facts.FollowDays.{behind_token}
+use Rattle.gtd_hours_grammar.specs.facts.FollowSteps.{Begins, after_nothing, comma_runs, given_by, more_runs, renamed}
 
 -- ---- a year that is given
 
@@ -36,7 +37,7 @@ listed_given demand n q [] go =
     (λ fits. refl) go
 listed_given demand n q (t ∷ ts) go =
     given_by demand (places.ListedYear n) (places.After stage.Years) (piece.Years n None None) q (t ∷ ts)
-    (next_bit (places.ListedYear n) (Some t) (λ v d e. no_bit ⊥ (λ x. x)) begin_bit) (λ fits. refl) go
+    (next_bit (places.ListedYear n) (Some t) (λ v d e. no_bit ⊥ (λ x. x)) begin_bit month_bit) (λ fits. refl) go
 
 -- the month behind a list of years
 record MonthBehind (demand : Demand) (m : ℕ) (p : List Piece) (ts : List TokenKind) : Type 0 where
@@ -71,18 +72,43 @@ month_after : (demand : Demand) (n : Digits) (m : ℕ) (q : List Piece) (ts : Li
     → Runs demand (places.MonthAfterYear m) (piece.Kind ∷ q) ts
 month_after demand n m q ts go =
     given_by demand (places.MonthAfterYear m) (places.Month m) piece.Kind q ts
-    (next_bit (places.MonthAfterYear m) (first ts) (λ v d e. no_bit ⊥ (λ x. x)) begin_bit) (λ fits. refl) go
+    (next_bit (places.MonthAfterYear m) (first ts) (λ v d e. no_bit ⊥ (λ x. x)) begin_bit month_bit) (λ fits. refl) go
+
+-- a text does not end behind the dash of months
+no_end : (demand : Demand) (m : ℕ) (q : List Piece) → Runs demand (places.MonthDash m) q [] → ⊥
+no_end demand m q (ends at p' ts' after e f) = absurd cc
+no_end demand m q (cut at p' ts' may is e f) = absurd cc
+no_end demand m q (any_last at p' ts' l by day e f) = absurd cc
+no_end demand m q (step at p' q' ts' move fits is e f go) = absurd cc
+
+-- the dash behind it
+dash_given : (demand : Demand) (n : Digits) (m : ℕ) (q : List Piece) (ts : List TokenKind)
+    → begins_with_date (number n ∷ token.Month m ∷ token.Dash ∷ ts) ≡ false → Runs demand (places.MonthDash m) q ts
+    → Runs demand (places.YearMonthDash n m) (piece.Years n None None ∷ piece.Kind ∷ q) ts
+dash_given demand n m q (token.Month l ∷ ts) no_date go =
+    given_by demand (places.YearMonthDash n m) (places.MonthDashAfterYear m) (piece.Years n None None) (piece.Kind ∷ q)
+    (token.Month l ∷ ts) (month_bit l) (λ fits. refl)
+    (given_by demand (places.MonthDashAfterYear m) (places.MonthDash m) piece.Kind q (token.Month l ∷ ts) (month_bit l)
+    (λ fits. refl) go)
+dash_given demand n m q (token.Number v d ∷ ts) no_date go = absurd cc
+dash_given demand n m q [] no_date go = absurd (no_end demand m q go)
+dash_given demand n m q (t ∷ ts) no_date go =
+    absurd (no_token demand (places.MonthDash m) q t ts refl (λ fits. refl) go)
 
 month_given : (demand : Demand) (n : Digits) (m : ℕ) (q : List Piece) (ts : List TokenKind)
     → begins_with_date (number n ∷ token.Month m ∷ ts) ≡ false → Runs demand (places.Month m) q ts
     → Runs demand (places.YearMonth n m) (piece.Years n None None ∷ piece.Kind ∷ q) ts
 month_given demand n m q (token.Number v d ∷ ts) no_date go = absurd cc
+month_given demand n m q (token.Dash ∷ ts) no_date go =
+    sign_taken demand (places.YearMonth n m) (places.YearMonthDash n m) (piece.Years n None None ∷ piece.Kind ∷ q) token.Dash ts
+    (λ x. x) refl (dash_given demand n m q ts no_date
+    (behind_token demand (places.Month m) (places.MonthDash m) q token.Dash ts refl (λ fits. refl) go))
 month_given demand n m q [] no_date go =
     given_by demand (places.YearMonth n m) (places.MonthAfterYear m) (piece.Years n None None) (piece.Kind ∷ q) []
     (no_bit ⊥ (λ x. x)) (λ fits. refl) (month_after demand n m q [] go)
 month_given demand n m q (t ∷ ts) no_date go =
     given_by demand (places.YearMonth n m) (places.MonthAfterYear m) (piece.Years n None None) (piece.Kind ∷ q) (t ∷ ts)
-    (next_bit (places.YearMonth n m) (Some t) (λ v d e. absurd cc) begin_bit) (λ fits. refl)
+    (next_bit (places.YearMonth n m) (Some t) (λ v d e. absurd cc) begin_bit month_bit) (λ fits. refl)
     (month_after demand n m q (t ∷ ts) go)
 
 -- a single year, at the beginning of a rule
@@ -104,7 +130,7 @@ year_given demand n q [] no_date go =
     (λ fits. refl) go
 year_given demand n q (t ∷ ts) no_date go =
     given_by demand (places.Year n) (places.After stage.Years) (piece.Years n None None) q (t ∷ ts)
-    (next_bit (places.Year n) (Some t) (λ v d e. no_bit ⊥ (λ x. x)) begin_bit) (λ fits. refl) go
+    (next_bit (places.Year n) (Some t) (λ v d e. no_bit ⊥ (λ x. x)) begin_bit month_bit) (λ fits. refl) go
 
 -- ---- ranges of years
 
@@ -118,7 +144,7 @@ range_given demand a b q [] go =
     (λ fits. refl) go
 range_given demand a b q (t ∷ ts) go =
     given_by demand (places.YearRange a b) (places.After stage.Years) (piece.Years a (Some b) None) q (t ∷ ts)
-    (next_bit (places.YearRange a b) (Some t) (λ v d e. no_bit ⊥ (λ x. x)) begin_bit) (λ fits. refl) go
+    (next_bit (places.YearRange a b) (Some t) (λ v d e. no_bit ⊥ (λ x. x)) begin_bit month_bit) (λ fits. refl) go
 
 -- the last year of a range
 to_range : (demand : Demand) (a b : Digits) (p : List Piece) (ts : List TokenKind) → IsRange IsYearNumber a b
@@ -151,7 +177,18 @@ plus_given demand at n p q us f never m go =
     renamed demand at p (piece.Years n (Some final_year) None ∷ q) (token.Plus ∷ us) (token.Plus ∷ us) f refl
     (sign_completed demand at (places.After stage.Years) (piece.Years n (Some final_year) None) q token.Plus us never m go)
 
-years : (demand : Demand) (p q : List Piece) (ts us : List TokenKind) → IsYears p ts q us
+and_true : (a b : Bool) → a ≡ true → b ≡ true → (a && b) ≡ true
+and_true true b e f = f
+and_true false b e f = absurd cc
+
+step_bit : (n : Digits) → IsStepNumber n → is_step n.value n.count ≡ true
+step_bit n is =
+    and_true (nat_le 1 n.count && nat_le n.count 4 && nat_le 1 n.value) (nat_le n.value 9999)
+    (and_true (nat_le 1 n.count && nat_le n.count 4) (nat_le 1 n.value)
+    (and_true (nat_le 1 n.count) (nat_le n.count 4) (le-leb 1 n.count is.0) (le-leb n.count 4 is.1)) (le-leb 1 n.value is.2))
+    (le-leb n.value 9999 is.3)
+
+years : (demand : Demand) (p q : List Piece) (ts us : List TokenKind) → IsYears demand p ts q us
     → Runs demand (places.After stage.Years) q us → Years demand p q ts us
 years demand p q ts us (IsYears.one n e f is) go = single n e f is
 years demand p q ts us (IsYears.range a b e f is) go =
@@ -171,6 +208,14 @@ years demand p q ts us (IsYears.every_on n s e f is few) go =
     endless n token.Slash (number s ∷ us) e is
     (sign_taken demand (places.Year n) (places.YearSlash n) p token.Slash (number s ∷ us) (λ x. x) refl run)
     (sign_taken demand (places.ListedYear n) (places.YearSlash n) p token.Slash (number s ∷ us) (λ x. x) refl run)
+years demand p q ts us (IsYears.many n s by e f g is some) go =
+    let none : p ≡ [] = g ∙ after_nothing demand stage.Years q us f go in
+    let judged : is_judged (places.YearSlash n) (number s) demand ≡ true =
+    ap (is_judged (places.YearSlash n) (number s)) by ∙ step_bit s some in
+    let run = any_last (places.YearSlash n) p (number s ∷ []) (number s) (ap may_judge by) judged none refl in
+    endless n token.Slash (number s ∷ []) e is
+    (sign_taken demand (places.Year n) (places.YearSlash n) p token.Slash (number s ∷ []) (λ x. x) refl run)
+    (sign_taken demand (places.ListedYear n) (places.YearSlash n) p token.Slash (number s ∷ []) (λ x. x) refl run)
 
 first_year : (demand : Demand) (p q : List Piece) (ts us : List TokenKind) → begins_with_date ts ≡ false
     → Runs demand (places.After stage.Years) q us → Years demand p q ts us → Begins demand IsYearNumber places.Year p ts
@@ -227,7 +272,7 @@ pub goes_on_if : (b : Bool) (x y : Option Move) → b ≡ true → (if b then x 
 goes_on_if true x y e = refl
 goes_on_if false x y e = absurd cc
 
-next_year : (demand : Demand) (p q : List Piece) (ts us : List TokenKind) → IsYears p ts q us
+next_year : (demand : Demand) (p q : List Piece) (ts us : List TokenKind) → IsYears demand p ts q us
     → Runs demand (places.After stage.Years) q us → Runs demand (places.Comma stage.Years) p ts
 next_year demand p q ts us is go =
     let b = listed_year demand p q ts us go (years demand p q ts us is go) in
@@ -244,10 +289,10 @@ no_twenty_four v d x y e =
 
 -- a list of years at the beginning of a rule
 pub years_run : (demand : Demand) (p later : List Piece) (ts rest : List TokenKind) → begins_with_date ts ≡ false
-    → Listed IsYears p ts later rest → Runs demand (places.After stage.Years) later rest
+    → Listed (IsYears demand) p ts later rest → Runs demand (places.After stage.Years) later rest
     → Runs demand places.Front (piece.Kind ∷ p) ts
 years_run demand p later ts rest no_date l go =
-    let run = more_runs demand IsYears (places.After stage.Years) (places.Comma stage.Years) (next_year demand)
+    let run = more_runs demand (IsYears demand) (places.After stage.Years) (places.Comma stage.Years) (next_year demand)
     (comma_runs demand stage.Years) later rest l.q l.us l.more go in
     let b = first_year demand p l.q ts l.us no_date run (years demand p l.q ts l.us l.one run) in
     subst (Runs demand places.Front (piece.Kind ∷ p)) (sym b.tokens)

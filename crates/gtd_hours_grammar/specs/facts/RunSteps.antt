@@ -6,9 +6,10 @@ use Rattle.gtd_hours_grammar.specs.Terms.{TokenKind, Piece, Place, Move}
 use Rattle.gtd_hours_parts.specs.declared.piece.Piece.TheVariants as piece
 use Rattle.gtd_hours_parts.specs.declared.piece.LastDate.{LastDate}
 use Rattle.gtd_hours_parts.specs.declared.piece.LastDate.TheVariants as last_date
-use Rattle.gtd_hours_parts.specs.Pieces.{end_month, end_year}
+use Rattle.gtd_hours_parts.specs.Pieces.{end_month, end_year, final_year}
 use Rattle.gtd_hours_grammar.specs.declared.place.Place.TheVariants as places
-use Rattle.gtd_hours_grammar.specs.Grammar.{Demand, in_full, so_far}
+use Rattle.gtd_hours_grammar.specs.Grammar.{Demand, days_of_months, in_full, so_far}
+use Rattle.gtd_hours_grammar.specs.declared.stage.Stage.TheVariants as stage
 use Rattle.gtd_hours_grammar.specs.Sound.{Fits}
 use Rattle.gtd_hours_grammar.specs.Moves.{next_move, give, take, complete, when, written}
 use Rattle.gtd_hours_grammar.specs.Runs.{Runs, first, left, is_after, is_cut, is_judged}
@@ -41,6 +42,7 @@ pub cut_end : (at : Place) (fits : Bool) → is_cut at ≡ true → next_move at
 cut_end (places.DateDash x) fits e = refl
 cut_end (places.DateDashYear x n) fits e = refl
 cut_end (places.DateDashMonth x y m) fits e = refl
+cut_end (places.MonthsYear a m b) fits e = refl
 cut_end at fits e = absurd cc
 
 -- ---- steps
@@ -56,7 +58,8 @@ no_move at ts fits move e none m =
     let both : Some move ≡ None = sym m ∙ ap (λ (l : List TokenKind). next_move at (first l) fits) e ∙ none fits in cc
 
 -- the move of a token that comes last
-last_move : (demand : Demand) (at : Place) (p : List Piece) (t : TokenKind) (fits : Bool) (move : Move) → is_judged at t ≡ true
+last_move : (demand : Demand) (at : Place) (p : List Piece) (t : TokenKind) (fits : Bool) (move : Move)
+    → is_judged at t demand ≡ true
     → next_move at (Some t) fits ≡ Some move → Goes demand move p (t ∷ [])
 last_move demand (places.DateDashMonth x y m) p (token.Number v d) true move is e =
     let last : LastDate = last_date.Date (record { year = y; month = m; day = written v d }) in
@@ -66,6 +69,19 @@ last_move demand (places.DateDashMonth x y m) p (token.Number v d) true move is 
     subst (λ (w : Move). Goes demand w p (token.Number v d ∷ [])) same
     (record { q = []; runs = ends to [] [] refl refl refl })
 last_move demand (places.DateDashMonth x y m) p (token.Number v d) false move is e = absurd cc
+last_move demand (places.MonthsYear a m b) p (token.Month l) true move is e =
+    let to : Place = places.After stage.MonthDays in
+    let month : Move = record { to = to; piece = Some (days_of_months a m b l); takes = true } in
+    let same : month ≡ move = cc in
+    subst (λ (w : Move). Goes demand w p (token.Month l ∷ [])) same (record { q = []; runs = ends to [] [] refl refl refl })
+last_move demand (places.MonthsYear a m b) p (token.Month l) false move is e = absurd cc
+last_move demand (places.YearSlash n) p (token.Number v d) true move is e =
+    let to : Place = places.After stage.Years in
+    let x : Piece = piece.Years n (Some final_year) (Some (written v d)) in
+    let step : Move = record { to = to; piece = Some x; takes = true } in
+    let same : step ≡ move = cc in
+    subst (λ (w : Move). Goes demand w p (token.Number v d ∷ [])) same (record { q = []; runs = ends to [] [] refl refl refl })
+last_move demand (places.YearSlash n) p (token.Number v d) false move is e = absurd cc
 last_move demand (places.WeekBack a b) p token.Slash fits move is e = absurd cc
 last_move demand at p t fits move is e = absurd cc
 
@@ -105,7 +121,7 @@ run_refused at p kind ts fits is none (step at' p' q ts' other bit k n e go) =
 
 -- also where a token that comes last need only fit by its place, if this one is not judged so
 pub unjudged_refused : (demand : Demand) (at : Place) (p : List Piece) (kind : TokenKind) (ts : List TokenKind) (fits : Bool)
-    → is_judged at kind ≡ false → ((fits ≡ true) ↔ Fits at (Some kind)) → next_move at (Some kind) fits ≡ None
+    → is_judged at kind demand ≡ false → ((fits ≡ true) ↔ Fits at (Some kind)) → next_move at (Some kind) fits ≡ None
     → Runs demand at p (kind ∷ ts) → ⊥
 unjudged_refused demand at p kind ts fits not is none (ends at' p' ts' after e f) = absurd cc
 unjudged_refused demand at p kind ts fits not is none (cut at' p' ts' may cuts e f) = absurd cc
@@ -127,7 +143,8 @@ run_end_refused at p fits not is none (step at' p' q ts' other bit k n e go) =
     cc
 
 -- a token that makes no move at a place does not come there
-pub no_token : (demand : Demand) (at : Place) (p : List Piece) (t : TokenKind) (ts : List TokenKind) → is_judged at t ≡ false
+pub no_token : (demand : Demand) (at : Place) (p : List Piece) (t : TokenKind) (ts : List TokenKind)
+    → is_judged at t demand ≡ false
     → ((fits : Bool) → next_move at (Some t) fits ≡ None) → Runs demand at p (t ∷ ts) → ⊥
 no_token demand at p t ts day none (ends at' p' ts' after e f) = absurd cc
 no_token demand at p t ts day none (cut at' p' ts' may is e f) = absurd cc

@@ -3,7 +3,10 @@
 ghost use Rattle.std.specs.Prelude.{◌≡◌, true, IfSome};
 ghost use Rattle.gtd_hours_grammar.specs.declared.place.Place.TheVariants as places;
 ghost use Rattle.gtd_hours_grammar.specs.Moves.{date, date_dash, date_dash_month, date_dash_year, date_year, date_year_month};
-ghost use Rattle.gtd_hours_grammar.specs.Moves.{month, month_dash, year_or_day};
+ghost use Rattle.gtd_hours_grammar.specs.Moves.{date_year_month_dash, month, month_dash, months_year, year_or_day};
+ghost use Rattle.gtd_hours.specs.Ranges.{IsMonth};
+ghost use Rattle.gtd_hours_grammar.specs.Grammar.{days_of_months};
+ghost use Rattle.gtd_hours_parts.specs.Numbers.{IsYearNumber};
 ghost use Rattle.gtd_hours_grammar.specs.Runs.{IsGood};
 ghost use Rattle.gtd_hours_parts.specs.Pieces.{IsWrittenDate};
 ghost use Rattle.gtd_hours_grammar.specs.Sound.{Fits, IsPlace};
@@ -12,7 +15,7 @@ use crate::moves::day_lists::dates_end;
 use crate::moves::moving::{complete, give, take, written};
 use crate::place::{Move, Place};
 use crate::stage::Stage;
-use gtd_hours_parts::{Digits, LastDate, Piece, WrittenDate};
+use gtd_hours_parts::{Digits, LastDate, Piece, WrittenDate, first_day_of, last_day_of};
 use gtd_hours_tokens::TokenKind;
 
 /// `2024`, the year of a date
@@ -41,8 +44,64 @@ pub fn date_year_month(year: Digits, month: u8, next: Option<TokenKind>, fits: b
             month,
             day: written(value, digits),
         })),
+        Some(TokenKind::Dash) => take(Place::DateYearMonthDash { year, month }),
         _ => None,
     }
+}
+
+/// `2024 Dec-`, of months of years
+pub fn date_year_month_dash(
+    year: Digits,
+    month: u8,
+    next: Option<TokenKind>,
+    fits: bool,
+) -> Option<Move>
+    requires sound { IsPlace (places.DateYearMonthDash year month) }
+    requires fit { fits ≡ true → Fits (places.DateYearMonthDash year month) next }
+    ensures computed { result ≡ date_year_month_dash year month next fits }
+    ensures good { IfSome result (λ move. IsGood (places.DateYearMonthDash year month) next move) }
+{
+    match next {
+        Some(TokenKind::Number { value, digits }) if fits => take(Place::MonthsYear {
+            first: year,
+            month,
+            last: written(value, digits),
+        }),
+        _ => None,
+    }
+}
+
+/// `2024 Dec-2026`
+pub fn months_year(
+    first: Digits,
+    month: u8,
+    last: Digits,
+    next: Option<TokenKind>,
+    fits: bool,
+) -> Option<Move>
+    requires sound { IsPlace (places.MonthsYear first month last) }
+    requires fit { fits ≡ true → Fits (places.MonthsYear first month last) next }
+    ensures computed { result ≡ months_year first month last next fits }
+    ensures good { IfSome result (λ move. IsGood (places.MonthsYear first month last) next move) }
+{
+    match next {
+        Some(TokenKind::Month(last_month)) if fits => complete(
+            days_of_months(first, month, last, last_month),
+            Place::After(Stage::MonthDays),
+        ),
+        _ => None,
+    }
+}
+
+// The days of months of years.
+fn days_of_months(first: Digits, month: u8, last: Digits, last_month: u8) -> Piece
+    requires year { IsYearNumber last }
+    requires month { IsMonth last_month }
+    ensures { result ≡ days_of_months first month last last_month }
+{
+    let last = Some(LastDate::Date(last_day_of(last, last_month)));
+    let first = first_day_of(first, month);
+    Piece::Dates { first, last }
 }
 
 /// `Dec`

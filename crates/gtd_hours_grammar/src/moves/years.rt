@@ -4,7 +4,8 @@ ghost use Rattle.std.specs.Prelude.{◌≡◌, true, IfSome, None, Option};
 ghost use Rattle.gtd_hours_tokens.specs.declared.token.TokenKind.{TokenKind};
 ghost use Rattle.gtd_hours_parts.specs.declared.piece.Piece.TheVariants as piece;
 ghost use Rattle.gtd_hours_grammar.specs.declared.place.Place.TheVariants as places;
-ghost use Rattle.gtd_hours_grammar.specs.Moves.{give, listed_year, year, year_dash, year_month, year_range, year_slash};
+ghost use Rattle.gtd_hours_grammar.specs.Moves.{give, listed_year, month_dash_after_year, year, year_dash};
+ghost use Rattle.gtd_hours_grammar.specs.Moves.{year_month, year_month_dash, year_range, year_slash};
 ghost use Rattle.gtd_hours_grammar.specs.Moves.{year_step, years_on};
 ghost use Rattle.gtd_hours_grammar.specs.Runs.{IsGood};
 ghost use Rattle.gtd_hours_grammar.specs.Sound.{Fits, IsPlace};
@@ -56,7 +57,38 @@ pub fn year_month(year: Digits, month: u8, next: Option<TokenKind>, fits: bool) 
                 None
             }
         }
+        Some(TokenKind::Dash) => take(Place::YearMonthDash { year, month }),
         _ => give(one_year(year), Place::MonthAfterYear(month)),
+    }
+}
+
+/// `2024 Dec-`, at the beginning of a rule
+pub fn year_month_dash(year: Digits, month: u8, next: Option<TokenKind>, fits: bool) -> Option<Move>
+    requires sound { IsPlace (places.YearMonthDash year month) }
+    requires fit { fits ≡ true → Fits (places.YearMonthDash year month) next }
+    ensures computed { result ≡ year_month_dash year month next fits }
+    ensures good { IfSome result (λ move. IsGood (places.YearMonthDash year month) next move) }
+{
+    match next {
+        Some(TokenKind::Number { value, digits }) if fits => take(Place::MonthsYear {
+            first: year,
+            month,
+            last: written(value, digits),
+        }),
+        Some(TokenKind::Month(_)) => give(one_year(year), Place::MonthDashAfterYear(month)),
+        _ => None,
+    }
+}
+
+/// The month and the dash of `2024 Dec-`, where the year is a selector of its own
+pub fn month_dash_after_year(month: u8, next: Option<TokenKind>) -> Option<Move>
+    requires sound { IsPlace (places.MonthDashAfterYear month) }
+    ensures computed { result ≡ month_dash_after_year month next }
+    ensures good { IfSome result (λ move. IsGood (places.MonthDashAfterYear month) next move) }
+{
+    match next {
+        Some(TokenKind::Month(_)) => give(Piece::Kind, Place::MonthDash(month)),
+        _ => None,
     }
 }
 
