@@ -48,8 +48,8 @@ typedef struct { uint32_t kind; size_t place; } gtd_fault;
    else zeros. */
 typedef struct { uint32_t kind; uint32_t row; gtd_fault text; } gtd_record_fault;
 
-/* The first fault of a text of opening hours. kind: 1 BadToken, 2 Unsupported, 3 Range, 4 Unexpected, 5 Incomplete, or 6 TooMany:
-   they would need more than 128 basic domains. place: the number of bytes before it; 0 of TooMany. */
+/* The first fault of a text of opening hours. kind: 1 BadToken, 2 Unsupported, 3 Range, 4 Unexpected, 5 Incomplete, 7 Years, or
+   6 TooMany: they would need more than 128 basic domains. place: the number of bytes before it; 0 of TooMany. */
 typedef struct { uint32_t kind; size_t place; } gtd_hours_fault;
 
 /* Domains. */

@@ -32,7 +32,7 @@ _TEXT_FAULTS = (
 _RECORD_FAULTS = (
     "", "", "TooLarge", "Header", "FieldCount", "Element", "Direction", "Vehicle", "Domain", "TooManyRows",
 )  # fmt: skip
-_HOURS_FAULTS = ("", "BadToken", "Unsupported", "Range", "Unexpected", "Incomplete", "TooMany")
+_HOURS_FAULTS = ("", "BadToken", "Unsupported", "Range", "Unexpected", "Incomplete", "TooMany", "Years")
 _DOMAIN, _TOO_MANY_ROWS = 8, 9
 _MOST_ROWS = 65_536  # of a file; TooManyRows is the fault of the row after them
 

@@ -40,7 +40,7 @@ GTD = os.environ.get("GTD", os.path.join(TOP, "crates", "gtd", "out", "gtd"))
 GTDESK = os.environ.get("GTDESK", os.path.join(TOP, "crates", "gtdesk", "out", "gtdesk"))
 TEXT_FAULTS = ["BadToken", "Fuzzy", "TooDeep", "TooMany", "Repeated", "FieldRange", "Negative", "Unexpected", "Incomplete",
                "TooLongDuration"]
-HOURS_FAULTS = ["BadToken", "Unsupported", "Range", "Unexpected", "Incomplete", "TooMany"]
+HOURS_FAULTS = ["BadToken", "Unsupported", "Range", "Unexpected", "Incomplete", "TooMany", "Years"]
 RECORD_FAULTS = {"TooLarge": 2, "Header": 3, "FieldCount": 4, "Element": 5, "Direction": 6, "Vehicle": 7, "Domain": 8,
                  "TooManyRows": 9}
 DAY = model.DAY

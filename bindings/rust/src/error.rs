@@ -97,16 +97,19 @@ pub enum HoursFaultKind {
     Incomplete,
     /// The hours would need more than 128 basic domains.
     TooMany,
+    /// A step of years without a last one leaves more than a domain holds.
+    Years,
 }
 
 impl HoursFaultKind {
-    const ALL: [HoursFaultKind; 6] = [
+    const ALL: [HoursFaultKind; 7] = [
         HoursFaultKind::BadToken,
         HoursFaultKind::Unsupported,
         HoursFaultKind::Range,
         HoursFaultKind::Unexpected,
         HoursFaultKind::Incomplete,
         HoursFaultKind::TooMany,
+        HoursFaultKind::Years,
     ];
 
     /// Its name, as `gtdesk` prints it.

@@ -1,5 +1,5 @@
 -- The domain of a text of opening hours, and its fault as numbers.
-use Rattle.std.specs.Prelude.{◌≡◌, ◌↔◌, ◌≤◌, ◌<◌, ◌⊎◌, ℕ, ℤ, List, Option, Some, codes}
+use Rattle.std.specs.Prelude.{◌≡◌, ◌≢◌, ◌↔◌, ◌≤◌, ◌<◌, ◌⊎◌, ℕ, ℤ, List, Option, Some, codes}
 use Rattle.gtd_core.specs.Limits.{most_basic_domains}
 use Rattle.gtd_core.specs.declared.domain.Domain.{Domain}
 use Rattle.gtd_eval.specs.Membership.{InDomain}
@@ -34,6 +34,7 @@ hours_fault_number kind.Unsupported = 2
 hours_fault_number kind.Range = 3
 hours_fault_number kind.Unexpected = 4
 hours_fault_number kind.Incomplete = 5
+hours_fault_number kind.Years = 7
 
 -- the number that says that the domain would have too many basic domains
 abbrev pub too_many_number : ℕ
@@ -71,14 +72,15 @@ hours_fault_name kind.Unsupported = codes "Unsupported"
 hours_fault_name kind.Range = codes "Range"
 hours_fault_name kind.Unexpected = codes "Unexpected"
 hours_fault_name kind.Incomplete = codes "Incomplete"
+hours_fault_name kind.Years = codes "Years"
 
 -- the numbers of the kinds of faults of a text of opening hours
 abbrev pub IsHoursTextFaultKind : ℕ → Type 0
-IsHoursTextFaultKind kind = (1 ≤ kind) × (kind ≤ 5)
+IsHoursTextFaultKind kind = (1 ≤ kind) × (kind ≤ 7) × (kind ≢ too_many_number)
 
 -- these, and the one of too many basic domains
 abbrev pub IsHoursFaultKind : ℕ → Type 0
-IsHoursFaultKind kind = (1 ≤ kind) × (kind ≤ 6)
+IsHoursFaultKind kind = (1 ≤ kind) × (kind ≤ 7)
 
 -- the name of the fault of a text of opening hours with this number
 pub record IsHoursFaultName (kind answer : ℕ) (old new : List ℕ) (count : ℕ) : Type 0 where

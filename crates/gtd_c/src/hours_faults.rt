@@ -22,7 +22,7 @@ pub struct HoursFaultNumbers {
     pub place: usize,
 }
 
-// The number of a kind of fault, from 1 in the order of the kinds.
+// The number of a kind of fault. 6 is that of too many basic domains.
 fn number_of(kind: FaultKind) -> u32
     ensures number { result ≡ hours_fault_number kind }
 {
@@ -32,6 +32,7 @@ fn number_of(kind: FaultKind) -> u32
         FaultKind::Range => 3,
         FaultKind::Unexpected => 4,
         FaultKind::Incomplete => 5,
+        FaultKind::Years => 7,
     }
 }
 
@@ -56,6 +57,7 @@ fn kind_of(number: u32) -> Option<FaultKind>
         3 => Some(FaultKind::Range),
         4 => Some(FaultKind::Unexpected),
         5 => Some(FaultKind::Incomplete),
+        7 => Some(FaultKind::Years),
         _ => None,
     }
 }
@@ -70,10 +72,11 @@ fn name_of(kind: FaultKind) -> &'static str
         FaultKind::Range => "Range",
         FaultKind::Unexpected => "Unexpected",
         FaultKind::Incomplete => "Incomplete",
+        FaultKind::Years => "Years",
     }
 }
 
-/// The name of the fault of a text of opening hours with this number, from 1 to 6: yes, and its length. If there is too little
+/// The name of the fault of a text of opening hours with this number, from 1 to 7: yes, and its length. If there is too little
 /// room, its length alone.
 #[unsafe(no_mangle)]
 pub extern "C" fn gtd_hours_fault_name(kind: u32, out: &mut [u8], length: &mut usize) -> u32

@@ -19,6 +19,7 @@ abbrev pub kind_name : FaultKind → List ℕ
 kind_name kind.BadToken = codes "BadToken"
 kind_name kind.Unsupported = codes "Unsupported"
 kind_name kind.Range = codes "Range"
+kind_name kind.Years = codes "Years"
 kind_name kind.Unexpected = codes "Unexpected"
 kind_name kind.Incomplete = codes "Incomplete"
 
@@ -57,6 +58,7 @@ abbrev pub accepted_hours : FaultKind → List ℕ
 accepted_hours kind.BadToken = codes "words, numbers and signs of opening hours, such as Mo-Fr 08:00-18:00"
 accepted_hours kind.Unsupported = codes "weeks, years, dates, weekdays and times, without holidays, times of the sun and comments"
 accepted_hours kind.Range = codes "a number or a time in its range, such as 08:00 or Apr 30"
+accepted_hours kind.Years = codes "a last year, such as 2025-2045/2"
 accepted_hours kind.Unexpected = codes "rules with ; between them: years, weeks or dates, then weekdays, then times or off"
 accepted_hours kind.Incomplete = codes "more: the second part of a range, or what follows a sign"
 

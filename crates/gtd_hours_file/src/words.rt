@@ -19,6 +19,7 @@ fn kind_name(kind: FaultKind) -> &'static str
         FaultKind::BadToken => "BadToken",
         FaultKind::Unsupported => "Unsupported",
         FaultKind::Range => "Range",
+        FaultKind::Years => "Years",
         FaultKind::Unexpected => "Unexpected",
         FaultKind::Incomplete => "Incomplete",
     }
@@ -61,6 +62,7 @@ fn accepted_hours(kind: FaultKind) -> &'static str
             "weeks, years, dates, weekdays and times, without holidays, times of the sun and comments"
         }
         FaultKind::Range => "a number or a time in its range, such as 08:00 or Apr 30",
+        FaultKind::Years => "a last year, such as 2025-2045/2",
         FaultKind::Unexpected => {
             "rules with ; between them: years, weeks or dates, then weekdays, then times or off"
         }

@@ -50,6 +50,7 @@ abbrev pub kind_name : FaultKind → List ℕ
 kind_name kind.BadToken = codes "BadToken"
 kind_name kind.Unsupported = codes "Unsupported"
 kind_name kind.Range = codes "Range"
+kind_name kind.Years = codes "Years"
 kind_name kind.Unexpected = codes "Unexpected"
 kind_name kind.Incomplete = codes "Incomplete"
 

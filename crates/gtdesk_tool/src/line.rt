@@ -72,6 +72,7 @@ fn kind_name(kind: FaultKind) -> &'static str
         FaultKind::BadToken => "BadToken",
         FaultKind::Unsupported => "Unsupported",
         FaultKind::Range => "Range",
+        FaultKind::Years => "Years",
         FaultKind::Unexpected => "Unexpected",
         FaultKind::Incomplete => "Incomplete",
     }
