@@ -1,0 +1,2 @@
+pub mod HiderFacts
+pub mod SortedFacts
