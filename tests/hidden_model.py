@@ -1,11 +1,12 @@
 #!/usr/bin/env python3
-"""A plain model of which later rules of opening hours hide hours of an earlier one, and of the text with a comma that keeps them,
-over tests/hours_model.py. Run by itself, it compares what it says with the worked rows in hours/hidden.csv.
+"""A plain model of which later rules of opening hours hide hours of an earlier one, and of the text with a comma that keeps
+them, over tests/hours_model.py. Run by itself, it compares what it says with the worked rows in hours/hidden.csv.
 
 Rules are numbered from 0."""
 import csv
 import datetime
 import os
+import re
 import sys
 from typing import NamedTuple
 
@@ -80,15 +81,16 @@ def hiding_rules(rules):
 
 
 def with_comma(text, number):
-    """The text with a comma in place of the semicolon before a rule, as it is written strictly. Where the rule before is open and
-    ends with selectors, a word keeps the comma from going on with them."""
+    """The text with a comma in place of the semicolon before a rule, written strictly. Where the rule before is open and ends
+    with selectors, a word keeps the comma from going on with them. Ends on the next day stay as they are written."""
     rules = read(text)
     parts = text.split(";")
     place = sum(not rule.adds for rule in rules[1:number + 1])
     before = rules[number - 1]
     word = " open" if before.opens and not has_times(before) else ""
     joined = ";".join(parts[:place]) + word + "," + ";".join(parts[place:])
-    return hours_model.print_rules(hours_model.read(joined.encode()))
+    form = hours_model.print_rules(hours_model.read(joined.encode()))
+    return re.sub("-([0-9]{2}):", lambda end: end[0] if end[0] in text else f"-{int(end[1]) - 24:02}:", form)
 
 
 def keeps(text, form):

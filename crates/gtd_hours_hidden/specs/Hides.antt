@@ -153,7 +153,8 @@ MissesMinute later earlier = (m : ℕ) × (m < 1440) × (is_missed later earlier
 abbrev pub HasOtherHours : Rule → Rule → Type 0
 HasOtherHours later earlier = (has_hours later ≡ true) × MissesMinute later.times.items earlier.times.items
 
--- Rule k hides hours of rule j. Rules are counted from 0.
+-- Rule k hides hours of rule j: the later one takes the days of the earlier one, and has other hours, and no rule between them
+-- takes these days before. Rules are counted from 0.
 pub record HidesOf (rules : List Rule) (j k : ℕ) : Type 0 where
   pub earlier : Rule
   pub later : Rule
