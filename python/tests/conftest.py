@@ -162,6 +162,17 @@ def until(true, seconds=120):
         time.sleep(0.01)
 
 
+@contextlib.contextmanager
+def small_disk(folder, size):
+    """A folder with room for so much, while the context lasts."""
+    folder.mkdir()
+    subprocess.run(["mount", "-t", "tmpfs", "-o", f"size={size}", "tmpfs", folder], check=True)
+    try:
+        yield folder
+    finally:
+        until(lambda: subprocess.run(["umount", folder]).returncode == 0)
+
+
 @pytest.fixture(scope="session")
 def many(tmp_path_factory):
     """20,000 rows in three files of both versions, with quotes and every kind of line end; and the same in one file."""

@@ -9,9 +9,9 @@ import pytest
 
 import gtd
 from gtd import country
+from gtd._claims import take
 from gtd.country import _parts, _run
 from gtd.country.__main__ import main
-from gtd.country._claims import take
 from tests.conftest import FIRST, UNTIL, VEHICLE, by_hand, command, joined
 
 DAYS = (FIRST, UNTIL, VEHICLE)

@@ -19,7 +19,7 @@ from distributed import Client
 import gtd
 from gtd import country
 from gtd.country import _parts
-from tests.conftest import FIRST, VEHICLE, Cluster, by_hand, command, environment, joined, kill, until
+from tests.conftest import FIRST, VEHICLE, Cluster, by_hand, command, environment, joined, kill, small_disk, until
 from tests.make_records import rows
 
 LAST = "2025-01-01"
@@ -177,16 +177,6 @@ def test_an_interrupt(many, tmp_path):
     said = run.communicate(timeout=300)[1]
     assert (run.returncode, said) == (130, "interrupted: nothing is kept\n")
     assert os.listdir(tmp_path) == ["scratch"] and os.listdir(scratch) == []
-
-
-@contextlib.contextmanager
-def small_disk(folder, size):
-    folder.mkdir()
-    subprocess.run(["mount", "-t", "tmpfs", "-o", f"size={size}", "tmpfs", folder], check=True)
-    try:
-        yield folder
-    finally:
-        until(lambda: subprocess.run(["umount", folder]).returncode == 0)
 
 
 @pytest.mark.parametrize("packed", [False, True], ids=["of parts", "of what is unpacked"])

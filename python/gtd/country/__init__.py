@@ -25,15 +25,15 @@ from typing import Any, Dict, List, Optional, Sequence, Tuple, Union
 
 from distributed import Client
 
+from gtd._claims import LeftBehind
 from gtd._moments import Day, day
 from gtd._program import MOST_ROWS
 from gtd._reading import number
+from gtd._staging import Staging
 from gtd.country import _parts
-from gtd.country._claims import LeftBehind
 from gtd.country._cluster import connect, local
 from gtd.country._files import sources
 from gtd.country._run import Asked, Compared, Done, Run, told_plainly
-from gtd.country._staging import Staging
 
 __all__ = ["Compared", "Done", "LeftBehind", "connect", "diff", "local", "schedule"]
 

@@ -4,15 +4,13 @@ from __future__ import annotations
 
 import argparse
 import logging
-import signal
 import sys
-import warnings
-from typing import Any, List, NoReturn, Optional, Union
+from typing import Any, List, Optional, Union
 
 from distributed import KilledWorker
 
-from gtd import Fault, country
-from gtd.country._claims import LeftBehind
+from gtd import country
+from gtd._command import status_of
 
 _DIFFER = 4  # the status if two sets are compared and say something differently
 
@@ -30,20 +28,11 @@ def main(words: Optional[List[str]] = None) -> int:
         parser.error("--workers is for the cluster that is started here, and --scheduler names another")
     for name in _LOGGERS:
         logging.getLogger(name).setLevel(logging.CRITICAL)
-    warnings.simplefilter("ignore")
-    warnings.simplefilter("always", LeftBehind)
-    warnings.showwarning = _tell  # type: ignore[assignment]
-    signal.signal(signal.SIGTERM, _end)
-    try:
-        done = _run(given)
-    except Fault as fault:
-        return _fail(1, fault)
-    except ValueError as usage:
-        return _fail(2, usage)
-    except (OSError, MemoryError, RuntimeError, ImportError, KilledWorker) as failure:
-        return _fail(3, failure)
-    except KeyboardInterrupt:
-        return _fail(130, "interrupted: nothing is kept")
+    return status_of(lambda: _done(given), KilledWorker)
+
+
+def _done(given: argparse.Namespace) -> int:
+    done = _run(given)
     if not given.quiet:
         print(f"{done.rows:,} rows, {len(done.parts):,} files, {done.size:,} bytes", file=sys.stderr)
     return _DIFFER if isinstance(done, country.Compared) and done.differs else 0
@@ -91,20 +80,6 @@ def _at_least_one(word: str) -> int:
     if number < 1:
         raise argparse.ArgumentTypeError("at least 1")
     return number
-
-
-def _end(number: int, _: Any) -> NoReturn:
-    """End as if interrupted: nothing is kept, and nothing is left behind."""
-    sys.exit(128 + number)
-
-
-def _tell(message: Any, *_: Any) -> None:
-    print(message, file=sys.stderr)
-
-
-def _fail(status: int, said: object) -> int:
-    print(str(said) or type(said).__name__, file=sys.stderr)
-    return status
 
 
 if __name__ == "__main__":

@@ -16,7 +16,7 @@ from typing import Iterator, Optional
 from distributed import Client, LocalCluster
 from distributed.security import Security
 
-from gtd.country._claims import remove, take
+from gtd._claims import remove, take
 
 _SCRATCH = "gtd-workers-"
 

@@ -16,10 +16,10 @@ from distributed.comm.core import CommClosedError
 
 from gtd._cutting import Beyond, Cuts, Refused
 from gtd._fault import Fault
+from gtd._staging import Staging
 from gtd.country import _blocks, _parts
 from gtd.country._blocks import Accepted
 from gtd.country._files import Block, File, Source, blocks, open_file, unpack
-from gtd.country._staging import Staging
 
 _RETRIES = 3  # of a task that raised: want of memory, a file system that falters. Dask itself runs a lost worker's tasks again
 

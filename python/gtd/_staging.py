@@ -11,7 +11,7 @@ from pathlib import Path
 from types import TracebackType
 from typing import Optional, Sequence, Type
 
-from gtd.country._claims import LeftBehind, remove, take
+from gtd._claims import LeftBehind, remove, take
 
 _NO_LINKS = (errno.EPERM, errno.EOPNOTSUPP, errno.ENOSYS, errno.EMLINK)  # file systems without hard links
 

@@ -1,0 +1,109 @@
+"""Ways of an OpenStreetMap extract, as tables of the tags that restrict them.
+
+An extract is read once, from its first byte to its last, and needs the same memory however large it is. Each way that has a tag
+of access becomes an element, and two kinds of tables are written:
+
+``tags-00000.csv``, ``tags-00001.csv``...
+    A row for each such tag, with the header ``element,key,value``. A table has at most 65,536 rows and 16,777,216 bytes, and the
+    rows of an element are all in one table.
+``elements.csv``
+    A row for each element, with the header ``element,way,first_node,last_node``: from which way it comes, and between which
+    nodes it lies. Its positive direction is that of the way, from the first node to the last.
+
+::
+
+    from gtd import osm
+
+    osm.extract("town.osm.pbf", "means.csv", "out")
+
+**Which tags** matter, a file of means says: a comma-separated file with the header ``kind,name,means``. With the name ``hgv`` of
+kind ``mode`` these keys matter: ``hgv``, ``hgv:forward``, ``hgv:backward``, and each of them with ``:conditional`` behind it. Of
+the mode ``oneway`` only ``oneway`` and ``oneway:conditional`` do. Each other key that ends in ``:conditional`` is kept too, so
+that no condition is lost unseen, except if its name, without ``:conditional`` and a direction, is of kind ``ignore``.
+
+**Which ways** become elements: each that has a tag that matters, whatever it is otherwise, but not
+
+- one that is marked as deleted;
+- one with fewer than two nodes;
+- an area: a closed way without the tag ``highway``, if it has not ``area=no``. So the access of a car park or a building makes
+  no element, and a square for pedestrians, whose edges are walked along, does.
+"""
+
+from __future__ import annotations
+
+import os
+from pathlib import Path
+from typing import Union
+
+from gtd._program import MOST_ROWS
+from gtd._staging import Staging
+from gtd.osm._means import read_names
+from gtd.osm._reading import read
+from gtd.osm._tables import LAST_ELEMENT, Tables
+from gtd.osm._ways import Done, Ways
+
+__all__ = ["Done", "extract"]
+
+_Path = Union[str, "os.PathLike[str]"]
+
+
+def extract(
+    path: _Path,
+    means: _Path,
+    out: _Path,
+    *,
+    first: int = 1,
+    rows_per_table: int = MOST_ROWS,
+    show_progress: bool = False,
+) -> Done:
+    """Write the tags of an extract's ways that restrict them, and from which ways they come.
+
+    Parameters
+    ----------
+    path : str or os.PathLike
+        The extract, in a format that its name tells and pyosmium reads: ``.osm.pbf``, ``.osm``, ``.osm.gz``, ``.osm.bz2``...
+        Each way must come once, in the order that ``osmium sort`` makes, as in all published extracts.
+    means : str or os.PathLike
+        The file of means. Only its names of kind ``mode`` and ``ignore`` are read.
+    out : str or os.PathLike
+        The folder of the tables. It must not exist yet, or be an empty folder.
+    first : int
+        The number of the first element; the others follow in the order of the extract.
+    rows_per_table : int
+        1 to 65,536; an element with more tags has a table of its own.
+    show_progress : bool
+        Draw a progress bar on standard error.
+
+    Returns
+    -------
+    Done
+
+    Raises
+    ------
+    Fault
+        Of the means ``'TooLarge'``, ``'Header'`` or ``'FieldCount'``. Of the extract ``'Extract'`` if it cannot be read as one,
+        ``'Repeated'`` or ``'Order'`` if a way comes again or too late, ``'TooManyRows'`` or ``'TooLarge'`` if the tags of one
+        way do not fit into a table, and ``'Element'`` after the element 9,999,999,999. Nothing is kept.
+    OSError
+        A file cannot be opened or read; or the output exists already, is being written by another run, or cannot be written.
+        Nothing is kept.
+    ImportError
+        There is no pyosmium.
+
+    Warns
+    -----
+    LeftBehind
+        A run of the same output was killed earlier. What it left is removed.
+    """
+    if not 0 <= first <= LAST_ELEMENT:
+        raise ValueError(f"the first element is 0 to {LAST_ELEMENT}, not {first}")
+    if not 1 <= rows_per_table <= MOST_ROWS:
+        raise ValueError(f"rows_per_table is 1 to {MOST_ROWS}, not {rows_per_table}")
+    names = read_names(os.fspath(means))
+    with Staging(Path(out).absolute(), False) as staging:
+        with Tables(staging.parts, first, rows_per_table) as tables:
+            ways = Ways(os.fspath(path), names, tables)
+            read(os.fspath(path), ways, show_progress)
+        done = ways.done(tables)
+        staging.keep([], [], False)
+    return done

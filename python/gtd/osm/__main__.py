@@ -1,0 +1,50 @@
+"""The command: ``python3 -m gtd.osm EXTRACT --means MEANS.csv --out DIR [--first N]``."""
+
+from __future__ import annotations
+
+import argparse
+import sys
+from typing import List, Optional
+
+from gtd import osm
+from gtd._command import status_of
+from gtd.osm._tables import LAST_ELEMENT
+
+
+def main(words: Optional[List[str]] = None) -> int:
+    """Run the command and return its exit status, as the programs': 0 done, 1 refused, 2 usage, 3 the machine."""
+    given = _parser().parse_args(words)
+    return status_of(lambda: _done(given))
+
+
+def _done(given: argparse.Namespace) -> int:
+    show = not given.quiet and sys.stderr.isatty()
+    done = osm.extract(given.extract, given.means, given.out, first=given.first, show_progress=show)
+    if not given.quiet:
+        said = f"{done.ways:,} ways, {done.elements:,} elements, {done.tags:,} tags, {len(done.parts):,} tables of tags"
+        left_out = ", ".join(f"{count:,} {reason}" for reason, count in done.left_out.items())
+        print(f"{said}\nleft out: {left_out}", file=sys.stderr)
+    return 0
+
+
+def _parser() -> argparse.ArgumentParser:
+    parser = argparse.ArgumentParser(
+        prog="python3 -m gtd.osm", description="The tags of an OpenStreetMap extract's ways that restrict them, as tables."
+    )
+    parser.add_argument("extract", metavar="EXTRACT", help="an extract, .osm.pbf or .osm")
+    parser.add_argument("--means", required=True, metavar="MEANS.csv", help="what names stand for: kind,name,means")
+    parser.add_argument("--out", required=True, metavar="DIR", help="a new folder for tags-00000.csv... and elements.csv")
+    parser.add_argument("--first", type=_element, default=1, metavar="N", help="the number of the first element; else 1")
+    parser.add_argument("--quiet", action="store_true", help="no progress bar, and nothing said of success")
+    return parser
+
+
+def _element(word: str) -> int:
+    number = int(word)
+    if not 0 <= number <= LAST_ELEMENT:
+        raise argparse.ArgumentTypeError(f"0 to {LAST_ELEMENT}")
+    return number
+
+
+if __name__ == "__main__":
+    sys.exit(main())
