@@ -7,12 +7,14 @@ of the tags at one second with whether it is by the rows.
 Hours are read by tests/loose_model.py. Of what that does not read yet, only `PH off` as a last rule, ranges of months with
 years, and single points are known here. Places count bytes; a text holds a byte in each character.
 
-A value with several faults has the first of these: of its cutting into parts, from left to right, then part by part of the name
-before `@` and of the terms.
+That rows have at most 128 basic domains (`TooMany`) is not modelled. A value with several faults has the first of these: of its
+cutting into parts, from left to right, then part by part of the name before `@` and of the terms. Its warnings are in the order
+of their places.
 
 Usage: tests/conditional_model.py [SECONDS [SEED]]
 """
 import csv
+import io
 import os
 import random
 import re
@@ -27,7 +29,7 @@ import model
 
 HERE = os.path.dirname(os.path.abspath(__file__))
 TYPES = range(1, 100)
-MOST_BASIC_DOMAINS, MOST_LISTED = 128, 49
+MOST_BYTES, MOST_ROWS, MOST_LISTED = 16_777_216, 65_536, 49
 CONDITIONAL, DIRECTIONS = ":conditional", {"positive": ":forward", "negative": ":backward"}
 VALUES = {"no": True, "yes": False, "designated": False, "permissive": False}
 ONEWAY = {"yes": ("negative",), "-1": ("positive",), "no": ()}
@@ -259,6 +261,7 @@ def read_tags(tags, means, options):
                 mended.append(form)
             else:
                 says[key] = [Part(closes(text, key, 0, means), [])]
+            warnings.sort(key=lambda warning: int(re.search("at ([0-9]+)", warning)[1]))
             told += [f"row {row}: {warning}" for warning in warnings]
         except Fault as fault:
             faults.append(f"row {row}: {fault}")
@@ -380,6 +383,38 @@ def rows_of(says, means):
     return rows
 
 
+# A file of tags
+
+def put(data, means, options):
+    """The record file of a file of tags, as lines, with its warnings; and all its faults. With a fault nothing is put."""
+    if len(data) > MOST_BYTES:
+        return [], [], ["TooLarge"]
+    text = data.decode("latin-1").removeprefix("\xef\xbb\xbf")
+    records = [fields for fields in csv.reader(io.StringIO(text, newline="")) if fields]
+    if not records or records[0] != ["element", "key", "value"]:
+        return [], [], ["Header"]
+    elements, told = {}, []
+    for at, fields in enumerate(records[1:MOST_ROWS + 1], 1):
+        if len(fields) != 3:
+            told.append((at, "fault", "FieldCount"))
+        elif not re.fullmatch("[0-9]{1,10}", fields[0]):
+            told.append((at, "fault", "Element"))
+        else:
+            elements.setdefault(int(fields[0]), []).append((at, fields[1], fields[2]))
+    lines = ["element,direction,vehicles,domain"]
+    for element, rows in elements.items():
+        says, _, warnings, faults = read_tags([row[1:] for row in rows], means, options)
+        for kind, many in (("warning", warnings), ("fault", faults)):
+            for number, what in (one.removeprefix("row ").split(": ", 1) for one in many):
+                told.append((rows[int(number) - 1][0], kind, what))
+        lines += [f"{element},{','.join(row)}" for row in ([] if faults else rows_of(says, means))]
+    told.sort(key=lambda one: one[0])
+    warnings, faults = ([f"row {at}: {what}" for at, kind, what in told if kind == wanted] for wanted in ("warning", "fault"))
+    if len(records) - 1 > MOST_ROWS:
+        faults.append(f"row {MOST_ROWS + 1}: TooManyRows")
+    return [] if faults else lines, warnings, faults
+
+
 # The worked rows
 
 def read_options(text):
@@ -422,7 +457,7 @@ def check_worked(row, means, chance):
     if not row["faults"]:
         rows = rows_of(says, means)
         found["rows"] = " | ".join(",".join(one) for one in rows)
-        found["cost"] = str(max(domain.count("(") for *_, domain in rows))
+        found["cost"] = str(max((domain.count("(") for *_, domain in rows), default=0))
     wrong = [f"{row['tags']}: {name} {text!r}, not {row[name]!r}" for name, text in found.items()
              if text != row[name] and not (faults and name == "mended")]
     if row["faults"]:
@@ -430,6 +465,13 @@ def check_worked(row, means, chance):
     wrong += [f"{row['tags']}: {name} at {moment}" for name in ("closed", "open") for moment in moments(row[name])
               if is_closed(says, means, *moment) != (name == "closed")]
     return wrong + check_rows(row["tags"], says, means, rows, chance, 25 if options.holidays else 60)
+
+
+def check_file(row, means):
+    """What is wrong with a file of one line in conditional/files.csv. Its fields have no line ends, so `|` stands for them."""
+    found = put(row["tags"].replace("|", "\n").encode(), means, Options(None, False))
+    shown = {name: "|".join(many) for name, many in zip(("records", "warnings", "faults"), found)}
+    return [f"{row['tags']}: {name} {text!r}, not {row[name]!r}" for name, text in shown.items() if text != row[name]]
 
 
 def drawn(chance, means):
@@ -477,7 +519,9 @@ def main():
         means = read_means(list(csv.reader(source))[1:])
     with open(f"{HERE}/conditional/rows.csv", newline="") as source:
         worked = list(csv.DictReader(source))
-    wrong = [check_worked(row, means, chance) for row in worked]
+    with open(f"{HERE}/conditional/files.csv", newline="") as source:
+        files = list(csv.DictReader(source))
+    wrong = [check_worked(row, means, chance) for row in worked] + [check_file(row, means) for row in files]
     end = time.monotonic() + seconds
     while time.monotonic() < end:
         wrong.append(check_drawn(chance, means))
