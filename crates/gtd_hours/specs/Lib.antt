@@ -1,9 +1,11 @@
+pub mod ComputedPlaces
 pub mod Cost
 pub mod Moving
 pub mod Opening
 pub mod Ranges
 pub mod Writable
 pub mod Written
+pub mod facts
 pub use Rattle.gtd_core.specs.Limits
 pub use Rattle.gtd_core.specs.Seconds
 pub use Rattle.gtd_calendar.specs.Calendar

@@ -14,7 +14,9 @@ pub use printer::print_hours;
 
 mod constructors;
 mod dated;
+mod ends;
 mod hours;
 mod moving;
+mod order;
 mod places;
 mod printer;
