@@ -1,0 +1,3 @@
+pub mod TableFacts
+pub mod RowFacts
+pub mod MeaningFacts

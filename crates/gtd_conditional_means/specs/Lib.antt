@@ -1,0 +1,9 @@
+pub mod Comparisons
+pub mod Meanings
+pub mod FaultTexts
+pub mod Names
+pub mod Rows
+pub mod Table
+pub mod TakenRows
+pub mod Reading
+pub use Rattle.gtd_records.specs.Columns

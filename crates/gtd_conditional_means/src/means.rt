@@ -1,0 +1,176 @@
+//! A table of means, and what it says of names.
+
+ghost use Rattle.std.specs.Prelude.{◌≡◌, None, Some, MatchOption};
+ghost use Rattle.gtd_conditional_means.specs.Meanings as spec;
+ghost use Rattle.gtd_conditional_means.specs.Names.{is_there};
+ghost use Rattle.gtd_conditional_means.specs.Reading.{IsRead};
+ghost use Rattle.gtd_conditional_means.specs.declared.meaning.MeansKind.{MeansKind};
+
+use crate::fault::MeansFault;
+use crate::meaning::{Access, Meaning, MeansKind, MeansRow};
+use crate::table::read_rows;
+use gtd_records::Vehicles;
+use std::alloc::{AllocError, Global};
+
+/// A table of means: its rows, in their order. Of modes, that is from general to specific.
+#[derive(Drop)]
+pub struct Means {
+    /// The rows, the first of which is row 1.
+    pub rows: Vec<MeansRow>,
+}
+
+/// Why a table of means is not read.
+#[derive(Drop)]
+pub enum Unread {
+    /// All its faults, at least one, and the first of them first.
+    Faults(Vec<MeansFault>),
+    /// Memory was refused.
+    NoMemory,
+}
+
+impl From<AllocError> for Unread {
+    ghost use Rattle.std.specs.Prelude.{◌≡◌};
+    ghost use Rattle.gtd_conditional_means.specs.declared.means.Unread.TheVariants.{NoMemory};
+
+    ghost from_gives = { λ _ why. why ≡ NoMemory };
+
+    fn from(_: AllocError) -> Unread {
+        Unread::NoMemory
+    }
+}
+
+// Whether a meaning is of a kind.
+fn is_of_kind(kind: MeansKind, meaning: &Meaning) -> bool
+    ensures { result ≡ spec.is_of_kind kind meaning.now }
+{
+    match kind {
+        MeansKind::Mode => match meaning {
+            Meaning::Mode(_) => true,
+            _ => false,
+        },
+        MeansKind::Condition => match meaning {
+            Meaning::Condition(_) => true,
+            _ => false,
+        },
+        MeansKind::Value => match meaning {
+            Meaning::Value(_) => true,
+            _ => false,
+        },
+        MeansKind::Ignore => match meaning {
+            Meaning::Ignore => true,
+            _ => false,
+        },
+    }
+}
+
+// Whether a row is of a kind and has a name.
+fn is_row_of(kind: MeansKind, name: &[u8], row: &MeansRow) -> bool
+    ensures { result ≡ spec.is_row_of kind name.now row.now }
+{
+    is_of_kind(kind, &row.meaning) && row.name.as_slice() == name
+}
+
+/// What the first row of a kind and a name says.
+pub(crate) fn meaning_in<'a>(
+    rows: &'a [MeansRow],
+    kind: MeansKind,
+    name: &[u8],
+) -> Option<&'a Meaning>
+    ensures said { MatchOption result (spec.meaning_of kind name.now rows.now ≡ None)
+        (λ meaning. spec.meaning_of kind name.now rows.now ≡ Some meaning.now) }
+{
+    for row in rows {
+        if is_row_of(kind, name, row) {
+            return Some(&row.meaning);
+        }
+    }
+    None
+}
+
+// The vehicle types that the first row of a kind and a name says.
+fn types_in<'a>(rows: &'a [MeansRow], kind: MeansKind, name: &[u8]) -> Option<&'a Vehicles>
+    ensures { MatchOption result (spec.types_of kind name.now rows.now ≡ None)
+        (λ types. spec.types_of kind name.now rows.now ≡ Some types.now) }
+{
+    let Some(meaning) = meaning_in(rows, kind, name) else {
+        return None;
+    };
+    match meaning {
+        Meaning::Mode(types) => Some(types),
+        Meaning::Condition(types) => Some(types),
+        Meaning::Value(_) => None,
+        Meaning::Ignore => None,
+    }
+}
+
+/// What a value of access says that no table needs.
+pub(crate) fn known_access(name: &[u8]) -> Option<Access>
+    ensures { result ≡ spec.known_access name.now }
+{
+    if name == b"no".as_slice() {
+        Some(Access::Closed)
+    } else if name == b"yes".as_slice()
+        || name == b"designated".as_slice()
+        || name == b"permissive".as_slice()
+    {
+        Some(Access::Open)
+    } else {
+        None
+    }
+}
+
+/// The table of means that a file's bytes are, or all its faults.
+///
+/// `TooLarge` and `Header` come alone. Otherwise each row that is at fault has its first one, `FieldCount`, `Kind`, `Vehicle`,
+/// `Name`, `Repeated` or `Value`, in the order of the rows, and `TooManyRows` comes after those of the first 4,096 rows. A row
+/// at fault stands for nothing, so that its name is not repeated by a later row. `NoMemory` is answered only if memory was
+/// refused.
+pub fn read_means(alloc: Global, bytes: &[u8]) -> Result<Means, Unread>
+    ensures table { IsRead bytes.now result }
+{
+    let found = read_rows(alloc, bytes)?;
+    if !found.faults.is_empty() {
+        return Err(Unread::Faults(found.faults));
+    }
+    Ok(Means { rows: found.rows })
+}
+
+impl Means {
+    /// The vehicle types of a mode of transport, or `None` if the table has no such mode. Takes no memory.
+    pub fn mode(&self, name: &[u8]) -> Option<&Vehicles>
+        ensures types { MatchOption result (spec.types_of MeansKind.Mode name.now self.now.rows.items ≡ None)
+            (λ types. spec.types_of MeansKind.Mode name.now self.now.rows.items ≡ Some types.now) }
+    {
+        types_in(self.rows.as_slice(), MeansKind::Mode, name)
+    }
+
+    /// The vehicle types for which a condition holds, by its word or its comparison in normal form, or `None` if the table has
+    /// no such condition. Takes no memory.
+    pub fn condition(&self, name: &[u8]) -> Option<&Vehicles>
+        ensures types { MatchOption result (spec.types_of MeansKind.Condition name.now self.now.rows.items ≡ None)
+            (λ types. spec.types_of MeansKind.Condition name.now self.now.rows.items ≡ Some types.now) }
+    {
+        types_in(self.rows.as_slice(), MeansKind::Condition, name)
+    }
+
+    /// What a value of access says: `no` closes, `yes`, `designated` and `permissive` open, and for others the table has a row;
+    /// or else `None`. Takes no memory.
+    pub fn access(&self, name: &[u8]) -> Option<Access>
+        ensures said { result ≡ spec.access_of self.now.rows.items name.now }
+    {
+        if let Some(access) = known_access(name) {
+            return Some(access);
+        }
+        match meaning_in(self.rows.as_slice(), MeansKind::Value, name) {
+            Some(Meaning::Value(access)) => Some(*access),
+            _ => None,
+        }
+    }
+
+    /// Whether keys of this name are ignored. Takes no memory.
+    pub fn ignores(&self, name: &[u8]) -> bool
+        ensures said { result ≡ is_there (spec.meaning_of MeansKind.Ignore name.now self.now.rows.items) }
+    {
+        meaning_in(self.rows.as_slice(), MeansKind::Ignore, name).is_some()
+    }
+}
