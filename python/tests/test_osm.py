@@ -17,8 +17,9 @@ import gtd
 from gtd import osm
 from gtd.osm import _tables
 from gtd.osm.__main__ import main
+from gtd.osm._means import read_names
 from gtd.osm._tables import Tables
-from tests.conftest import environment, small_disk
+from tests.conftest import environment, model_of, small_disk
 
 HEADER = "kind,name,means\n"
 MODES = ["access", "vehicle", "motor_vehicle", "hgv", "bus", "bicycle", "foot"]
@@ -141,6 +142,25 @@ def test_tables_of_an_extract(name, town, tmp_path):
     assert read(tmp_path / "out" / "elements.csv", "element,way,first_node,last_node") == elements
     assert tables(tmp_path / "out")[0] == rows
     assert os.listdir(tmp_path) == ["out"]
+
+
+def test_nothing_that_conditions_need_is_left_out(tmp_path):
+    """A model of the translation into records says the same, faults too, of all tags of a way as of those that are kept."""
+    model = model_of("conditional_model")
+    (tmp_path / "means.csv").write_text(MEANS)
+    names = read_names(str(tmp_path / "means.csv"))
+    means = model.read_means([line.split(",") for line in MEANS.splitlines()[1:]])
+    faults = set()
+    for _, _, _, tags in Maker(12).ways(1_000):
+        tags = [(key, value.encode().decode("latin-1")) for key, value in tags]
+        every, kept = (
+            model.read_tags(some, means, model.Options(None, False))
+            for some in (tags, [tag for tag in tags if names.matters(tag[0])])
+        )
+        told = [[re.sub("^row [0-9]+: ", "", line) for many in found[2:] for line in many] for found in (every, kept)]
+        assert every[:2] == kept[:2] and told[0] == told[1]
+        faults.update(line.split(" at ")[0] for line in told[0])
+    assert {"Key", "Value", "Part"} <= faults
 
 
 def test_elements_are_not_split(town, tmp_path):
@@ -378,11 +398,12 @@ def test_the_command_is_asked_to_end(number, status, said, town, tmp_path):
 
 
 def test_a_larger_extract_needs_no_more_memory(town, tmp_path):
-    """Ten times as many ways, in blocks of which pyosmium holds some at once."""
+    """Four times as many ways, in blocks of which pyosmium may hold few at once here."""
     code = "import resource, sys; from gtd.osm.__main__ import main; status = main()\n"
     code += "print(resource.getrusage(resource.RUSAGE_SELF).ru_maxrss); sys.exit(status)"
+    few = environment(**{f"OSMIUM_MAX_{name}_QUEUE_SIZE": 2 for name in ("INPUT", "OSMDATA", "WORK")})
     needed = []
-    for count in (5_000, 50_000):
+    for count in (30_000, 120_000):
         path = tmp_path / f"{count}.osm"
         with open(path, "w") as file:
             file.write('<osm version="0.6">\n')
@@ -391,7 +412,7 @@ def test_a_larger_extract_needs_no_more_memory(town, tmp_path):
                 file.write(f'<way id="{way}" version="1">{nodes}<tag k="access" v="no"/><tag k="name" v="{way}"/></way>\n')
             file.write("</osm>\n")
         words = [path, "--means", town[0] / "means.csv", "--out", tmp_path / f"{count}", "--quiet"]
-        done = subprocess.run([sys.executable, "-c", code, *map(str, words)], capture_output=True, text=True, env=environment())
+        done = subprocess.run([sys.executable, "-c", code, *map(str, words)], capture_output=True, text=True, env=few)
         assert done.returncode == 0, done.stderr
         needed.append(int(done.stdout))
-    assert needed[1] < needed[0] + 60_000, needed  # KiB
+    assert needed[1] < needed[0] + 8_000, needed  # KiB
