@@ -13,7 +13,7 @@ True
 
 :class:`gtd.Domain` is one domain and :class:`gtd.Records` the records of one file; a column of domains has the accessor
 ``gtd``: see :class:`gtd.Domains`. For record sets that are too large for one file, see
-:mod:`gtd.country`.
+:mod:`gtd.country`; for extracts of OpenStreetMap, :mod:`gtd.osm`.
 """
 
 from gtd._diff import diff

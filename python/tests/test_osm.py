@@ -9,6 +9,7 @@ import shlex
 import subprocess
 import sys
 import xml.etree.ElementTree as xml
+from collections import Counter
 from pathlib import Path
 
 import pytest
@@ -138,7 +139,9 @@ def test_tables_of_an_extract(name, town, tmp_path):
     assert all(count > 15 for count in left_out.values()) and len(elements) > 700
     assert {key for _, key, _ in rows} == {*KEPT, *FAULTY} and {value for *_, value in rows} == set(VALUES) | {"no"}
     done = osm.extract(folder / name, folder / "means.csv", tmp_path / "out")
-    assert done == (2_000, len(elements), len(rows), ["tags-00000.csv"], left_out)
+    unknown = Counter(key for _, key, _ in rows if key in FAULTY)
+    assert done == (2_000, len(elements), len(rows), ["tags-00000.csv"], left_out, unknown)
+    assert list(done.unknown.values()) == sorted(unknown.values(), reverse=True)
     assert read(tmp_path / "out" / "elements.csv", "element,way,first_node,last_node") == elements
     assert tables(tmp_path / "out")[0] == rows
     assert os.listdir(tmp_path) == ["out"]
@@ -220,6 +223,16 @@ def test_numbers_of_elements_end(tmp_path):
     assert not (tmp_path / "none").exists()
 
 
+def test_many_keys_that_the_means_do_not_have(tmp_path, capsys):
+    (tmp_path / "means.csv").write_text(MEANS)
+    written([(1, False, [1, 2], [(f"{number}:conditional", "no") for number in range(1_500)])], tmp_path / "keys.osm")
+    assert main([str(tmp_path / "keys.osm"), "--means", str(tmp_path / "means.csv"), "--out", str(tmp_path / "out")]) == 0
+    shown = ", ".join(f"{number}:conditional (1)" for number in range(10))
+    assert capsys.readouterr().err.endswith(f"no name of the means: {shown}, ...\n")
+    done = osm.extract(tmp_path / "keys.osm", tmp_path / "means.csv", tmp_path / "again")
+    assert len(done.unknown) == 1_000 and done.tags == 1_500
+
+
 def test_no_way_matters(tmp_path):
     (tmp_path / "means.csv").write_text(MEANS)
     written([(1, False, [1, 2], [("name", "Lane")])], tmp_path / "lane.osm.pbf")
@@ -242,6 +255,8 @@ def test_the_command(town, tmp_path):
     done = command(*words, tmp_path / "out")
     said = f"2,000 ways, {len(elements):,} elements, {len(rows):,} tags, 1 tables of tags\n"
     said += f"left out: {', '.join(f'{count:,} {reason}' for reason, count in left_out.items())}\n"
+    unknown = Counter(key for _, key, _ in rows if key in FAULTY).most_common()
+    said += f"no name of the means: {', '.join(f'{key} ({count})' for key, count in unknown)}\n"
     assert (done.returncode, done.stdout, done.stderr) == (0, "", said)
     again = command(*words, tmp_path / "again", "--first", 7, "--quiet")
     assert (again.returncode, again.stdout, again.stderr) == (0, "", "")
@@ -287,7 +302,7 @@ def test_a_bar_on_a_terminal(town, tmp_path):
     os.close(own)
     assert run.wait(60) == 0
     said = read.decode()
-    bar, counts, left_out = said.splitlines()[-3:]
+    bar, counts, left_out, _ = said.splitlines()[-4:]
     assert bar.split("\r")[-1] == f"[{'#' * 40}] | 100% read | 2,000 ways" and said.startswith("\r[")
     assert counts.startswith("2,000 ways, ") and left_out.startswith("left out: ")
 

@@ -27,6 +27,8 @@ that no condition is lost unseen, except if its name, without ``:conditional`` a
 - one with fewer than two nodes;
 - an area: a closed way without the tag ``highway``, if it has not ``area=no``. So the access of a car park or a building makes
   no element, and a square for pedestrians, whose edges are walked along, does.
+
+Only ways are looked at. Restrictions of turns, which are relations, and tags of nodes, such as gates, are not.
 """
 
 from __future__ import annotations

@@ -10,6 +10,8 @@ from gtd import osm
 from gtd._command import status_of
 from gtd.osm._tables import LAST_ELEMENT
 
+_SHOWN = 10  # keys that the means do not have
+
 
 def main(words: Optional[List[str]] = None) -> int:
     """Run the command and return its exit status, as the programs': 0 done, 1 refused, 2 usage, 3 the machine."""
@@ -24,6 +26,9 @@ def _done(given: argparse.Namespace) -> int:
         said = f"{done.ways:,} ways, {done.elements:,} elements, {done.tags:,} tags, {len(done.parts):,} tables of tags"
         left_out = ", ".join(f"{count:,} {reason}" for reason, count in done.left_out.items())
         print(f"{said}\nleft out: {left_out}", file=sys.stderr)
+        if done.unknown:
+            some = [f"{key} ({count:,})" for key, count in done.unknown.items()]
+            print(f"no name of the means: {', '.join(some[:_SHOWN])}{', ...' * (len(some) > _SHOWN)}", file=sys.stderr)
     return 0
 
 

@@ -2,11 +2,15 @@
 
 from __future__ import annotations
 
+from collections import Counter
 from typing import Any, Dict, List, NamedTuple, Optional, Tuple
 
 from gtd._fault import Fault
 from gtd.osm._means import CONDITIONAL, Names
 from gtd.osm._tables import Tables
+
+
+_MOST_UNKNOWN = 1000  # keys that are counted, so that the memory does not grow with the extract
 
 
 class Done(NamedTuple):
@@ -23,6 +27,9 @@ class Done(NamedTuple):
     left_out: Dict[str, int]
     """How many were left out for each reason: ``'deleted ways'``; of those with a tag that matters ``'ways with fewer than two
     nodes'`` and ``'areas'``; and ``'ignored tags'``."""
+    unknown: Dict[str, int]
+    """Keys with conditions that are kept although the means have no name of theirs, and how many tags have each: the most
+    frequent first, of the first 1,000 such keys."""
 
 
 class Ways:
@@ -42,6 +49,7 @@ class Ways:
         self._path, self._names, self._tables = path, names, tables
         self._before: Optional[Tuple[bool, int]] = None
         self.ways, self._deleted, self._short, self._areas, self._ignored = 0, 0, 0, 0, 0
+        self._unknown: Counter[str] = Counter()
 
     def take(self, way: Any) -> None:
         """Look at the next way.
@@ -69,6 +77,9 @@ class Ways:
             self._areas += 1
             return
         self._tables.add(way.id, ends, tags)
+        for key, _ in tags:
+            if key not in self._names.keys and (key in self._unknown or len(self._unknown) < _MOST_UNKNOWN):
+                self._unknown[key] += 1
 
     def done(self, tables: Tables) -> Done:
         """What all of it was."""
@@ -78,7 +89,7 @@ class Ways:
             "areas": self._areas,
             "ignored tags": self._ignored,
         }
-        return Done(self.ways, tables.elements, tables.tags, tables.parts, left_out)
+        return Done(self.ways, tables.elements, tables.tags, tables.parts, left_out, dict(self._unknown.most_common()))
 
     def _check_order(self, way: int) -> None:
         """Ways are in the order of ``osmium sort``: first those without a number of the database's, then from low to high."""
