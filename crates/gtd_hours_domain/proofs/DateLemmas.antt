@@ -74,11 +74,11 @@ month-stretch mo a c low long n = (
     on : (n : ℤ) (k : ℕ) → (n -ℤ pos k) +ℤ pos k ≡ n
     on n k = omega (arith, signed_arith)
 
-month-day-to : (mo a : ℕ) (n : ℤ) → HoldsOnDay (record no_parts { month = Some mo; day = Some a }) (day_fields n)
+pub month-day-to : (mo a : ℕ) (n : ℤ) → HoldsOnDay (record no_parts { month = Some mo; day = Some a }) (day_fields n)
     → (month_of n ≡ mo) × (day_of_month n ≡ a)
 month-day-to mo a n x = (sym x.month, sym x.day)
 
-month-day-from : (mo a : ℕ) (n : ℤ) → (month_of n ≡ mo) × (day_of_month n ≡ a)
+pub month-day-from : (mo a : ℕ) (n : ℤ) → (month_of n ≡ mo) × (day_of_month n ≡ a)
     → HoldsOnDay (record no_parts { month = Some mo; day = Some a }) (day_fields n)
 month-day-from mo a n y =
     record { year = tt; month = sym y.0; week = tt; day = sym y.1; nth = tt; nth_back = tt; weekdays = inl refl }

@@ -115,7 +115,7 @@ months-lie n m k first =
     until m a b p q = omega (arith, signed_arith)
 
 -- what a stretch of years or months reaches
-reach-months : (q : DurationParts) (n : ℤ) → q.weeks ≡ 0 → q.days ≡ 0 → reach q n ≡ months_later n (12 * q.years + q.months)
+pub reach-months : (q : DurationParts) (n : ℤ) → q.weeks ≡ 0 → q.days ≡ 0 → reach q n ≡ months_later n (12 * q.years + q.months)
 reach-months q n weeks days = none (months_later n (12 * q.years + q.months)) q.weeks q.days weeks days
   where
     none : (a : ℤ) (w d : ℕ) → w ≡ 0 → d ≡ 0 → a +ℤ pos (7 * w + d) ≡ a

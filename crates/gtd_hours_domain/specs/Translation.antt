@@ -1,18 +1,25 @@
 -- What the expressions of the translation contain, and where they begin: each day begins some minutes late.
-use Rattle.std.specs.Prelude.{◌≡◌, ◌↔◌, ◌⊎◌, ℕ, ◌+◌, ◌*◌, ◌<◌, ◌≤◌, List, [], ◌∷◌, Option, Some, None, ℤ, pos, ◌-ℤ◌}
+use Rattle.std.specs.Prelude.{◌≡◌, ◌↔◌, ◌⊎◌, ℕ, ◌+◌, ◌-◌, ◌*◌, ◌<◌, ◌≤◌, ◌||◌, Bool, if◌then◌else◌, List, [], ◌∷◌, Option, Some}
+use Rattle.std.specs.Prelude.{None, ℤ, pos, ◌+ℤ◌, ◌-ℤ◌, ◌≤ℤ◌, ◌<ℤ◌}
 use Rattle.gtd_core.specs.Seconds.{day_of_second}
 use Rattle.gtd_core.specs.Ranges.{IsWithin, IsPlace, no_parts}
 use Rattle.gtd_core.specs.Trees.{leaf_count, tree_of}
 use Rattle.gtd_core.specs.declared.domain.Expr.{Expr}
 use Rattle.gtd_core.specs.declared.start.StartParts.{StartParts}
 use Rattle.gtd_core.specs.declared.duration.DurationParts.{DurationParts}
+use Rattle.gtd_calendar.specs.Calendar.{weekday_of}
 use Rattle.gtd_calendar.specs.Clock.{second_of_day}
+use Rattle.gtd_calendar.specs.ComputedEnds.{months_later}
 use Rattle.gtd_calendar.specs.ComputedFields.{day_fields}
 use Rattle.gtd_eval.specs.Membership.{InTree}
+use Rattle.gtd_hours.specs.ComputedPlaces.{end_day}
+use Rattle.gtd_hours.specs.Moving.{end_days, leads_out, weeks_back}
 use Rattle.gtd_hours.specs.Opening.{EachHolds, HoldsOn, IsBetween, SomeHolds}
 use Rattle.gtd_hours.specs.Ranges.{end_of}
 use Rattle.gtd_hours.specs.declared.hours.Kind.{Kind}
 use Rattle.gtd_hours.specs.declared.hours.Selector.{Selector}
+use Rattle.gtd_hours.specs.declared.places.End.{End}
+use Rattle.gtd_hours.specs.declared.places.MovedPlace.{MovedPlace}
 use Rattle.gtd_hours.specs.declared.hours.TimeRange.{TimeRange}
 use Rattle.gtd_hours_domain.specs.declared.clock.Clock.{Clock}
 use Rattle.gtd_hours_domain.specs.declared.level.Level.{Level}
@@ -110,3 +117,31 @@ SomeLate (t ∷ ts) n s =
 abbrev pub IsMonthBetween : ℕ → ℕ → ℕ → Type 0
 IsMonthBetween first last month =
     ((first < month) × (month < last)) ⊎ ((last ≤ first) × ((first < month) ⊎ (month < last)))
+
+-- ---- places with days after or before them, and ranges that move
+
+-- The place that days are counted on from, which is some weeks before: whether it is counted back from the end of its month,
+-- and its number. One that would be before the first of the month is counted in the month before.
+abbrev pub on_back : MovedPlace → Bool
+on_back x = x.is_back || leads_out x
+
+abbrev pub on_number : MovedPlace → ℕ
+on_number x =
+    if x.is_back then x.place.number + weeks_back x.is_before x.days
+    else if leads_out x then weeks_back x.is_before x.days + 1 - x.place.number
+    else x.place.number - weeks_back x.is_before x.days
+
+-- the day has this place
+abbrev pub HasPlace : Bool → ℕ → ℕ → ℤ → Type 0
+HasPlace back weekday number n =
+    (weekday_of n ≡ weekday) × ((if back then (day_fields n).nth_back else (day_fields n).nth) ≡ number)
+
+-- the day that an end is counted on from in a year
+abbrev pub start_day : End → ℤ → ℤ
+start_day end y = end_day end y -ℤ pos (end_days end)
+
+-- the day is in one of the stretches of some months from these days on, and not among so many first days of one
+abbrev pub IsFrom : End → ℕ → ℕ → ℤ → Type 0
+IsFrom end months days n =
+    ((y : ℤ) × (start_day end y ≤ℤ n) × (n <ℤ months_later (start_day end y) months))
+    × (((y : ℤ) × (start_day end y ≤ℤ n) × (n <ℤ (start_day end y +ℤ pos days))) → ⊥)

@@ -2,13 +2,16 @@
 
 ghost use Rattle.std.specs.Prelude.{◌≡◌, ◌+◌, ◌≤◌, max};
 ghost use Rattle.gtd_hours.specs.Cost.{cost_after, cost_by, counted, dates_cost, days_cost, early_cost, hours_cost, kinds_cost};
-ghost use Rattle.gtd_hours.specs.Cost.{late_cost, month_cost, rule_cost, selector_cost, selectors_cost, spans_cost};
+ghost use Rattle.gtd_hours.specs.Cost.{late_cost, month_cost, moved_cost, moving_cost, rule_cost, selector_cost, selectors_cost, spans_cost};
 ghost use Rattle.gtd_hours.specs.Cost.{steps_cost, weeks_cost, years_cost};
 
 use crate::dates::{is_one_stretch, month_after};
 use crate::numbers::MOST_YEARS;
+use crate::places::{days_on, end_days, months_between};
 use crate::spans::is_early;
-use gtd_hours::{Dates, Hours, Kind, Link, Modifier, Rule, Selector, TimeRange, Weeks, Years};
+use gtd_hours::{
+    Dates, Hours, Kind, Link, Modifier, MovedPlace, Moving, Rule, Selector, TimeRange, Weeks, Years,
+};
 
 fn add(a: u32, b: u32) -> u32
     ensures { result ≡ counted (a + b) }
@@ -84,6 +87,25 @@ fn dates_cost(dates: Dates) -> u32
     ends + 1
 }
 
+fn moved_cost(place: MovedPlace) -> u32
+    ensures value { result ≡ moved_cost place.is_before place.days }
+    ensures few { result ≤ 2 }
+{
+    if days_on(place) == 0 { 1 } else { 2 }
+}
+
+fn moving_cost(range: Moving) -> u32
+    ensures value { result ≡ moving_cost range.is_over range.first range.last }
+    ensures few { result ≤ 5 }
+{
+    let ends = if end_days(range.first) == 0 { 3 } else { 4 };
+    if months_between(range) <= 10 {
+        ends
+    } else {
+        ends + 1
+    }
+}
+
 fn selector_cost(selector: Selector) -> u32
     ensures value { result ≡ selector_cost selector }
     ensures few { result ≤ 65536 }
@@ -97,6 +119,8 @@ fn selector_cost(selector: Selector) -> u32
         Selector::Weekdays(_) => 1,
         Selector::Nth(_) => 1,
         Selector::NthBack(_) => 1,
+        Selector::Moved(place) => moved_cost(place),
+        Selector::Moving(range) => moving_cost(range),
     }
 }
 

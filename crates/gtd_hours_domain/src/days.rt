@@ -12,6 +12,7 @@ use crate::clock::Clock;
 use crate::dated::dated_days;
 use crate::dates::{date_days, month_days};
 use crate::leaf::{NO_PARTS, each_day, join, nothing};
+use crate::moving::{moved_days, moving_days};
 use crate::numbers::{week_days, year_days};
 use gtd_core::{Expr, Op, StartParts};
 use gtd_hours::{Kind, Selector, WeekdayPlace, Weekdays};
@@ -110,6 +111,8 @@ fn selector_days(alloc: Global, selector: Selector, clock: Clock) -> Result<Expr
         Selector::Weekdays(days) => Ok(weekday_days(days, clock)),
         Selector::Nth(place) => Ok(nth_days(place, clock)),
         Selector::NthBack(place) => Ok(nth_back_days(place, clock)),
+        Selector::Moved(place) => moved_days(alloc, place, clock),
+        Selector::Moving(range) => moving_days(alloc, range, clock),
     }
 }
 

@@ -17,6 +17,8 @@ mod dates;
 mod days;
 mod leaf;
 mod level;
+mod moving;
 mod numbers;
+mod places;
 mod spans;
 mod translate;

@@ -1,0 +1,5 @@
+use Rattle.gtd_hours_domain.proofs.MovingLemmas.{date-starts}
+use Rattle.gtd_hours_domain.proofs.places.date_parts.Goals as goal
+
+pub returns-clause-on : goal.returns-clause-on
+returns-clause-on c n = date-starts c.args.date n c.requires
