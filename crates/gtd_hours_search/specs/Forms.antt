@@ -81,7 +81,7 @@ NamesNoDay p = NamesNoDate p × (p.nth ≡ None) × (p.nth_back ≡ None) × (p.
 abbrev pub IsEachDay : StartParts → DurationParts → Type 0
 IsEachDay p d = NamesNoDay p × (d.days ≡ 1)
 
--- A basic domain has the days of a selector. Of a range of dates with years it is not said.
+-- A basic domain has the days of a selector. Of a range of dates with years, and of days that move, it is not said.
 abbrev pub IsLeafOf : Selector → StartParts → DurationParts → Type 0
 IsLeafOf (selector.Years x) p d = (p.year ≡ Some x.first) × (x.first + d.years ≡ x.last + 1)
 IsLeafOf (selector.Weeks x) p d = (p.year ≡ None) × (p.week ≡ Some x.first) × (x.first + d.weeks ≡ x.last + 1)
@@ -96,6 +96,8 @@ IsLeafOf (selector.Weekdays x) p d =
     NamesNoDate p × (p.nth ≡ None) × (p.nth_back ≡ None) × AreWeekdays p.weekdays x
 IsLeafOf (selector.Nth x) p d = NamesNoDate p × (p.nth ≡ Some (x.number, x.weekday))
 IsLeafOf (selector.NthBack x) p d = NamesNoDate p × (p.nth ≡ None) × (p.nth_back ≡ Some (x.number, x.weekday))
+IsLeafOf (selector.Moved x) p d = ⊥
+IsLeafOf (selector.Moving x) p d = ⊥
 
 abbrev pub IsDayLeaf : Tree → Type 0
 IsDayLeaf (Single p d) = (x : Selector) × IsLeafOf x p d

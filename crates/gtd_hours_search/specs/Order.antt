@@ -1,10 +1,10 @@
 -- Kinds of selectors in the order in which they are written.
-use Rattle.std.specs.Prelude.{ℕ, ◌<◌, ◌==◌, ◌&&◌, Bool, true, List, [], ◌∷◌, if◌then◌else◌}
+use Rattle.std.specs.Prelude.{ℕ, ◌<◌, ◌==◌, ◌&&◌, nat_lt, Bool, true, List, [], ◌∷◌, if◌then◌else◌}
 use Rattle.gtd_hours.specs.declared.hours.Kind.{Kind}
 use Rattle.gtd_hours.specs.declared.hours.Selector.{Selector}
 use Rattle.gtd_hours.specs.declared.hours.Selector.TheVariants as selector
 
--- the place of a selector in a rule: years, month days, weeks, weekdays
+-- The place of a selector in a rule: years, month days, weeks, weekdays. One that cannot be written has none.
 abbrev pub place_of : Selector → ℕ
 place_of (selector.Years x) = 1
 place_of (selector.Months x) = 2
@@ -14,6 +14,8 @@ place_of (selector.Weeks x) = 3
 place_of (selector.Weekdays x) = 4
 place_of (selector.Nth x) = 4
 place_of (selector.NthBack x) = 4
+place_of (selector.Moved x) = if nat_lt 0 x.days then 4 else 0
+place_of (selector.Moving x) = 2
 
 abbrev pub have_place : ℕ → List Selector → Bool
 have_place place [] = true
