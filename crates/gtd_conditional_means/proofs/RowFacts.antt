@@ -1,12 +1,11 @@
 -- What the fields of a row say.
-use Rattle.std.proofs.Common.{◌≡◌, ◌≢◌, ◌∙◌, sym, ap, subst, refl, arith, ℕ, Bool, true, List, [], ◌∷◌, length}
-use Rattle.std.specs.Prelude.{Option, Some, None, Ok, Err}
+use Rattle.std.proofs.Common.{◌≡◌, ◌∙◌, sym, ap, subst, refl, arith, ℕ, Bool, true, List, [], ◌∷◌, length}
+use Rattle.std.specs.Prelude.{Option, Some, None, Ok}
 use Rattle.csv.specs.Records.{field_at}
 use Rattle.gtd_records.specs.Columns.{Fields}
 use Rattle.gtd_conditional_means.specs.Names.{is_name, is_repeated}
-use Rattle.gtd_conditional_means.specs.Rows.{IsAnswer, IsMeaning, IsRow, fault_of, is_meant, row_fault}
+use Rattle.gtd_conditional_means.specs.Rows.{IsAnswer, IsMeaning, fault_of, is_meant, row_fault}
 use Rattle.gtd_conditional_means.specs.declared.fault.MeansFault.{MeansFault}
-use Rattle.gtd_conditional_means.specs.declared.fault.MeansFault.TheVariants as fault
 use Rattle.gtd_conditional_means.specs.declared.meaning.MeansKind.{MeansKind}
 use Rattle.gtd_conditional_means.specs.declared.meaning.Meaning.{Meaning}
 use Rattle.gtd_conditional_means.specs.declared.meaning.MeansRow.{MeansRow}

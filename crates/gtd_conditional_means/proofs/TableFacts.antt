@@ -1,14 +1,12 @@
 -- What the rows that were taken say.
-use Rattle.std.proofs.Common.{◌≡◌, ◌∙◌, sym, ap, refl, subst, arith, ◌<◌, ◌≤◌, ◌+◌, inl, inr, ℕ}
-use Rattle.std.proofs.Common.{List, [], ◌∷◌, ◌++◌, length, length-append, append_assoc}
+use Rattle.std.proofs.Common.{◌≡◌, ◌∙◌, sym, ap, refl, subst, arith, ◌≤◌, ◌+◌, inl, inr, ℕ}
+use Rattle.std.proofs.Common.{List, [], ◌∷◌, ◌++◌, length, append_assoc}
 use Rattle.std.specs.Prelude.{Result, Ok, Err, IfOk}
 use Rattle.std.proofs.lemmas.List.{append-nil}
-use Rattle.csv.specs.Reading.{default_config, records, strip_bom}
-use Rattle.gtd_core.specs.Limits.{most_file_bytes}
 use Rattle.gtd_records.specs.Columns.{Fields}
 use Rattle.gtd_records.specs.Taking.{AreAllTaken, AreTableTaken, HasHeader}
 use Rattle.gtd_records.specs.declared.rows.RowsEnd.TheVariants.{All, NoHeader, Stopped, TooMany}
-use Rattle.gtd_conditional_means.specs.Table.{AreEach, AreOfBytes, AreRows, AreTable, faults_of, header, most_table_rows, read_of}
+use Rattle.gtd_conditional_means.specs.Table.{AreEach, AreTable, faults_of, header, most_table_rows}
 use Rattle.gtd_conditional_means.specs.TakenRows.{Begins, Takes}
 use Rattle.gtd_conditional_means.specs.declared.fault.MeansFault.{MeansFault}
 use Rattle.gtd_conditional_means.specs.declared.fault.MeansFault.TheVariants as fault
