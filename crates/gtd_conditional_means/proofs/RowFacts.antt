@@ -20,15 +20,6 @@ three (p ∷ q ∷ []) a b c n e f g = cc
 three (p ∷ q ∷ r ∷ []) a b c n e f g = cc
 three (p ∷ q ∷ r ∷ s ∷ more) a b c n e f g = absurd (omega arith)
 
--- a row that does not have three fields
-pub few_fields : (number : ℕ) (before : List MeansRow) (fields : Fields) → length fields ≢ 3
-    → IsRow number before fields (Err (fault.FieldCount number))
-few_fields number before [] other = refl
-few_fields number before (a ∷ []) other = refl
-few_fields number before (a ∷ b ∷ []) other = refl
-few_fields number before (a ∷ b ∷ c ∷ []) other = absurd (other refl)
-few_fields number before (a ∷ b ∷ c ∷ d ∷ more) other = refl
-
 -- a row without a fault
 pub full_row : (number : ℕ) (before : List MeansRow) (kind : MeansKind) (name means : List ℕ) (named repeated : Bool)
     (m : Meaning) (row : MeansRow)

@@ -113,15 +113,3 @@ pub no_header : {E : Type 0} (r : Result Found E) (text : List Fields) (old new 
     → IfOk r (λ found. AreTable text found.rows.items found.faults.items)
 no_header (Ok found) text old new taken rows faults = inr (no_first text old new taken, rows, faults)
 no_header (Err why) text old new taken rows faults = tt
-
-pub large : {E : Type 0} (r : Result Found E) (bytes : List ℕ) → most_file_bytes < length bytes
-    → IfOk r (λ found. found.rows.items ≡ []) → IfOk r (λ found. found.faults.items ≡ fault.TooLarge ∷ [])
-    → IfOk r (λ found. AreOfBytes bytes found.rows.items found.faults.items)
-large (Ok found) bytes many rows faults = inr (many, rows, faults)
-large (Err why) bytes many rows faults = tt
-
-pub not_large : {E : Type 0} (r : Result Found E) (bytes : List ℕ) → length bytes ≤ most_file_bytes
-    → IfOk r (λ found. AreTable (records default_config (strip_bom bytes)) found.rows.items found.faults.items)
-    → IfOk r (λ found. AreOfBytes bytes found.rows.items found.faults.items)
-not_large (Ok found) bytes few table = inl (few, table)
-not_large (Err why) bytes few table = tt

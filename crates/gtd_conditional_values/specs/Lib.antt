@@ -1,0 +1,4 @@
+pub mod Nesting
+pub mod Parts
+pub mod Terms
+pub mod facts

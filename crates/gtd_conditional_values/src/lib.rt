@@ -1,0 +1,15 @@
+//! The values of conditional restrictions as texts: where a value is cut into parts and these into terms.
+//!
+//! A value is parts with `;` between them, `no @ (Mo-Fr 07:00-09:00; PH off); yes @ (residents)` has two. [`first_unnested`]
+//! tells a parenthesis or a comment that does not fit, [`part_length`] how far the first part goes, and [`term_length`] how far
+//! the first term of a condition goes. The law in [`laws`] says that a value has its parts in one way.
+#![tactic(auto)]
+
+pub use nesting::first_unnested;
+pub use parts::part_length;
+pub use terms::term_length;
+
+pub mod laws;
+mod nesting;
+mod parts;
+mod terms;
