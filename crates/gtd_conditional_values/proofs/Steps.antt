@@ -1,11 +1,14 @@
 -- One byte more of a text, in a loop that goes over it.
-use Rattle.std.proofs.Common.{◌≡◌, ◌∙◌, ap, subst, refl, arith, ◌<◌, ◌≤◌, ◌+◌, ℕ, Bool, true, false, List, [], length, get_or, drop}
+use Rattle.std.proofs.Common.{◌≡◌, ◌∙◌, ap, subst, refl, arith, ◌<◌, ◌≤◌, ◌+◌, ℕ, Bool, true, false, List, [], length}
+use Rattle.std.proofs.Common.{get_or, drop}
 use Rattle.std.specs.Prelude.{Option, Some, None, option_map}
 use Rattle.std.proofs.lemmas.List.{drop_all, drop_more}
 use Rattle.std.specs.Char.{is_ascii_alphanumeric}
-use Rattle.gtd_conditional_values.specs.facts.FirstByte.{nests_here, nests_on, parts_here, parts_on, terms_here, terms_on}
+use Rattle.gtd_conditional_values.specs.facts.FirstByte.{closes_here, closes_on, nests_here, nests_on, parts_here}
+use Rattle.gtd_conditional_values.specs.facts.FirstByte.{parts_on, terms_here, terms_on}
 use Rattle.gtd_conditional_values.specs.Nesting.{is_free, is_too_many, nested, quoted, unnested}
 use Rattle.gtd_conditional_values.specs.Parts.{is_separator, part_length}
+use Rattle.gtd_conditional_values.specs.Pieces.{closed_length, is_closing}
 use Rattle.gtd_conditional_values.specs.Terms.{is_and, term_length}
 
 -- a place that is counted one further
@@ -92,6 +95,23 @@ module _ (text : List ℕ) (at : ℕ) (comment : Bool) (depth : ℕ) (less : at 
       (terms_here joined comment depth (get_or text at 0) (drop (at + 1) text)
       (subst (λ (l : List ℕ). is_and joined comment depth l ≡ true) (drop_more text at 0 less) met)) ∙ e
 
+  pub more_closed : closed_length false 0 text ≡ at + closed_length comment depth (drop at text)
+      → is_closing comment depth (get_or text at 0) ≡ false
+      → closed_length false 0 text
+      ≡ (at + 1) + closed_length (quoted comment (get_or text at 0)) (nested comment depth (get_or text at 0)) (drop (at + 1) text)
+  more_closed so_far other =
+      so_far ∙ ap (λ (l : List ℕ). at + closed_length comment depth l) (drop_more text at 0 less)
+      ∙ ap (λ (n : ℕ). at + n) (closes_on comment depth (get_or text at 0) (drop (at + 1) text) other)
+      ∙ further at
+      (closed_length (quoted comment (get_or text at 0)) (nested comment depth (get_or text at 0)) (drop (at + 1) text))
+
+  pub closed_here : closed_length false 0 text ≡ at + closed_length comment depth (drop at text)
+      → is_closing comment depth (get_or text at 0) ≡ true → closed_length false 0 text ≡ at
+  closed_here so_far met =
+      let e : at + 0 ≡ at = omega arith in
+      so_far ∙ ap (λ (l : List ℕ). at + closed_length comment depth l) (drop_more text at 0 less)
+      ∙ ap (λ (n : ℕ). at + n) (closes_here comment depth (get_or text at 0) (drop (at + 1) text) met) ∙ e
+
 -- ---- after it
 
 module _ (text : List ℕ) (at : ℕ) (comment : Bool) (depth : ℕ) (within : at ≤ length text) (all : length text ≤ at) where
@@ -108,7 +128,8 @@ module _ (text : List ℕ) (at : ℕ) (comment : Bool) (depth : ℕ) (within : a
       so_far ∙ ap (λ (l : List ℕ). option_map (λ k. at + k) (unnested comment depth l)) (drop_all at text all)
       ∙ ap (option_map (λ k. at + k)) (end_open comment depth other) ∙ ap (λ (n : ℕ). Some n) e
 
-  pub part_all : part_length false 0 text ≡ at + part_length comment depth (drop at text) → part_length false 0 text ≡ length text
+  pub part_all : part_length false 0 text ≡ at + part_length comment depth (drop at text)
+      → part_length false 0 text ≡ length text
   part_all so_far =
       let e : at + 0 ≡ length text = omega arith in
       so_far ∙ ap (λ (l : List ℕ). at + part_length comment depth l) (drop_all at text all) ∙ e
@@ -118,3 +139,9 @@ module _ (text : List ℕ) (at : ℕ) (comment : Bool) (depth : ℕ) (within : a
   term_all joined so_far =
       let e : at + 0 ≡ length text = omega arith in
       so_far ∙ ap (λ (l : List ℕ). at + term_length joined comment depth l) (drop_all at text all) ∙ e
+
+  pub closed_all : closed_length false 0 text ≡ at + closed_length comment depth (drop at text)
+      → closed_length false 0 text ≡ length text
+  closed_all so_far =
+      let e : at + 0 ≡ length text = omega arith in
+      so_far ∙ ap (λ (l : List ℕ). at + closed_length comment depth l) (drop_all at text all) ∙ e

@@ -1,4 +1,5 @@
 pub mod Nesting
 pub mod Parts
+pub mod Pieces
 pub mod Terms
 pub mod facts

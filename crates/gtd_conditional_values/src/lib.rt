@@ -7,9 +7,11 @@
 
 pub use nesting::first_unnested;
 pub use parts::part_length;
+pub use pieces::{at_sign, enclosed, front_spaces, trimmed};
 pub use terms::term_length;
 
 pub mod laws;
 mod nesting;
 mod parts;
+mod pieces;
 mod terms;

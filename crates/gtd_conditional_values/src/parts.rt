@@ -12,8 +12,8 @@ fn is_separator(comment: bool, depth: usize, byte: u8) -> bool
     is_free(comment, depth) && byte == b';'
 }
 
-/// How many bytes a value has before the first `;` at which no parenthesis and no comment is open; all, if there is none. Takes no
-/// memory.
+/// How many bytes a value has before the first `;` at which no parenthesis and no comment is open; all, if there is none. Takes
+/// no memory.
 pub fn part_length(text: &[u8]) -> usize
     ensures bytes { result ≡ spec.part_length false 0 text.now }
     ensures within { result ≤ length text.now }

@@ -39,8 +39,8 @@ fn is_and_word(a: u8, n: u8, d: u8) -> bool
     (a == b'A' && n == b'N' && d == b'D') || (a == b'a' && n == b'n' && d == b'd')
 }
 
-/// How many bytes a condition has before the first `AND` or `and` that separates: no parenthesis and no comment is open there, and
-/// no letter or digit stands directly before it or after it. All, if there is none. Takes no memory.
+/// How many bytes a condition has before the first `AND` or `and` that separates: no parenthesis and no comment is open there,
+/// and no letter or digit stands directly before it or after it. All, if there is none. Takes no memory.
 pub fn term_length(text: &[u8]) -> usize
     ensures bytes { result ≡ spec.term_length false false 0 text.now }
     ensures within { result ≤ length text.now }

@@ -4,6 +4,7 @@ use Rattle.std.specs.Prelude.{Some, option_map}
 use Rattle.std.specs.Char.{is_ascii_alphanumeric}
 use Rattle.gtd_conditional_values.specs.Nesting.{is_too_many, nested, quoted, unnested}
 use Rattle.gtd_conditional_values.specs.Parts.{is_separator, part_length}
+use Rattle.gtd_conditional_values.specs.Pieces.{closed_length, is_closing}
 use Rattle.gtd_conditional_values.specs.Terms.{is_and, term_length}
 
 pub nests_on : (comment : Bool) (depth byte : ℕ) (text : List ℕ) → is_too_many comment depth byte ≡ false
@@ -31,3 +32,11 @@ terms_on joined comment depth byte text other = rw other refl
 pub terms_here : (joined comment : Bool) (depth byte : ℕ) (text : List ℕ) → is_and joined comment depth (byte ∷ text) ≡ true
     → term_length joined comment depth (byte ∷ text) ≡ 0
 terms_here joined comment depth byte text met = rw met refl
+
+pub closes_on : (comment : Bool) (depth byte : ℕ) (text : List ℕ) → is_closing comment depth byte ≡ false
+    → closed_length comment depth (byte ∷ text) ≡ closed_length (quoted comment byte) (nested comment depth byte) text + 1
+closes_on comment depth byte text other = rw other refl
+
+pub closes_here : (comment : Bool) (depth byte : ℕ) (text : List ℕ) → is_closing comment depth byte ≡ true
+    → closed_length comment depth (byte ∷ text) ≡ 0
+closes_here comment depth byte text met = rw met refl

@@ -13,8 +13,8 @@ loop-place-preserved c =
     record {
       rest =
           rw (c.nested-depth.ensures.depth, c.quoted-comment.ensures.is)
-          (more_nested c.args.text.now c.loop-place.place c.loop-place.comment c.loop-place.depth less c.loop-place.invariant.rest
-          (sym c.is_too_many.ensures ∙ c.if-is_too_many.false));
+          (more_nested c.args.text.now c.loop-place.place c.loop-place.comment c.loop-place.depth less
+          c.loop-place.invariant.rest (sym c.is_too_many.ensures ∙ c.if-is_too_many.false));
       few = omega arith;
     }
 

@@ -10,8 +10,8 @@ loop-place-preserved c =
     record {
       rest =
           rw (c.nested-depth.ensures.depth, c.quoted-comment.ensures.is)
-          (more_of_part c.args.text.now c.loop-place.place c.loop-place.comment c.loop-place.depth less c.loop-place.invariant.rest
-          (sym c.is_separator.ensures ∙ c.if-is_separator.false));
+          (more_of_part c.args.text.now c.loop-place.place c.loop-place.comment c.loop-place.depth less
+          c.loop-place.invariant.rest (sym c.is_separator.ensures ∙ c.if-is_separator.false));
       few = omega arith;
     }
 

@@ -21,7 +21,8 @@ loop-place-preserved c =
     record {
       rest =
           rw (c.nested-depth.ensures.depth, c.quoted-comment.ensures.is, c.is_ascii_alphanumeric-joined.ensures.value)
-          (more_of_term c.args.text.now c.loop-place.place c.loop-place.comment c.loop-place.depth less c.loop-place.joined c.loop-place.invariant.rest
+          (more_of_term c.args.text.now c.loop-place.place c.loop-place.comment c.loop-place.depth less c.loop-place.joined
+          c.loop-place.invariant.rest
           (sym (rest_read c.args.text.now c.loop-place.place c.loop-place.joined c.loop-place.comment c.loop-place.depth
           c.is_and.result (omega arith) c.is_and.ensures) ∙ c.if-is_and.false));
       few = omega arith;
@@ -31,7 +32,8 @@ pub returns-then-is_and-clause-bytes : goal.returns-then-is_and-clause-bytes
 returns-then-is_and-clause-bytes c =
     sym
     (term_here c.args.text.now c.loop-place.place c.loop-place.comment c.loop-place.depth c.loop-place-test.true
-    c.loop-place.joined c.loop-place.invariant.rest (sym (rest_read c.args.text.now c.loop-place.place c.loop-place.joined c.loop-place.comment c.loop-place.depth
+    c.loop-place.joined c.loop-place.invariant.rest
+    (sym (rest_read c.args.text.now c.loop-place.place c.loop-place.joined c.loop-place.comment c.loop-place.depth
     c.is_and.result (omega arith) c.is_and.ensures) ∙ c.if-is_and.true))
 
 pub returns-clause-bytes : goal.returns-clause-bytes
