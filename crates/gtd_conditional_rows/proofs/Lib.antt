@@ -1,0 +1,6 @@
+pub mod ClosedLemmas
+pub mod GroupLemmas
+pub mod ListingLemmas
+pub mod RowLemmas
+pub mod SizeLemmas
+pub mod TypeLemmas

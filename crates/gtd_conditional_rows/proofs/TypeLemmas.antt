@@ -1,0 +1,130 @@
+-- Sets of vehicle types, as lists of flags, and domains that are the same.
+use Rattle.std.proofs.Common.{◌≡◌, ◌↔◌, ◌⊎◌, ◌<◌, ◌≤◌, ◌+◌, ◌&&◌, ℕ, Bool, true, false, not, List, [], ◌∷◌, Option, Some, None, refl, sym, ap, ◌∙◌}
+use Rattle.std.proofs.Common.{arith, length, get_or, inl, inr, IsTrue, get_or-set_same, get_or-set_other}
+use Rattle.std.proofs.Math.ListN.{set, replicate}
+use Rattle.std.proofs.lemmas.Bool.{cases_eq, cases_lt, and_parts, and_from}
+use Rattle.std.proofs.lemmas.List.{get_or-replicate, get_or_past, length-replicate}
+use Rattle.gtd_core.specs.Equality.{same_tree}
+use Rattle.gtd_core.specs.Parts.{domain_tree}
+use Rattle.gtd_core.specs.declared.domain.Domain.{Domain}
+use Rattle.gtd_core.specs.facts.EqualTrees.{tree_equal, equal_same}
+use Rattle.gtd_conditional_rows.specs.Flags.{count_true, same_flag, same_flags}
+use Rattle.gtd_conditional_rows.specs.Rows.{same_domain, same_row}
+use Rattle.gtd_conditional_rows.specs.Times.{Times, Never, Always, Within}
+use Rattle.gtd_conditional_rows.specs.Timing.{domain_times}
+use Rattle.gtd_conditional_rows.specs.declared.row.Row.{Row}
+
+-- a type that is added
+pub added : (has : List Bool) (v t : ℕ) → v < length has
+    → IsTrue (get_or (set has v true) t false) ↔ (IsTrue (get_or has t false) ⊎ (t ≡ v))
+added has v t inside = elim (cases_eq t v) [
+  | inl e ↦
+      let now : get_or (set has v true) t false ≡ true = rw e (get_or-set_same has v true false inside) in
+      ((λ x. inr e), (λ x. now))
+  | inr ne ↦
+      let same : get_or (set has v true) t false ≡ get_or has t false = get_or-set_other has v t true false ne in
+      ((λ x. inl (sym same ∙ x)), (λ x. elim x [ inl h ↦ same ∙ h | inr e ↦ absurd (ne e) ]))
+]
+
+-- the lists are the same
+flag-same : (a b : Bool) → same_flag a b ≡ true → a ≡ b
+flag-same true true e = refl
+flag-same true false e = cc
+flag-same false true e = cc
+flag-same false false e = refl
+
+same-flag : (a : Bool) → same_flag a a ≡ true
+same-flag true = refl
+same-flag false = refl
+
+pub flags-same : (xs ys : List Bool) → same_flags xs ys ≡ true → xs ≡ ys
+flags-same [] [] e = refl
+flags-same [] (y ∷ ys) e = cc
+flags-same (x ∷ xs) [] e = cc
+flags-same (x ∷ xs) (y ∷ ys) e =
+    let parts = and_parts (same_flag x y) (same_flags xs ys) e in
+    let first = flag-same x y parts.0 in
+    let rest = flags-same xs ys parts.1 in
+    cc
+
+pub same-flags : (xs : List Bool) → same_flags xs xs ≡ true
+same-flags [] = refl
+same-flags (x ∷ xs) = and_from (same_flag x x) (same_flags xs xs) (same-flag x) (same-flags xs)
+
+-- the domains are the same
+pub domain-same : (a b : Option Domain) → same_domain a b ≡ true → domain_times a ≡ domain_times b
+domain-same None None e = refl
+domain-same None (Some b) e = cc
+domain-same (Some a) None e = cc
+domain-same (Some a) (Some b) e = ap Within (tree_equal (domain_tree a) (domain_tree b) e)
+
+pub same-domain : (a b : Option Domain) → domain_times a ≡ domain_times b → same_domain a b ≡ true
+same-domain None None e = refl
+same-domain None (Some b) e = cc
+same-domain (Some a) None e = cc
+same-domain (Some a) (Some b) e = equal_same (domain_tree a) (domain_tree b) (let same : domain_tree a ≡ domain_tree b = cc in same)
+
+pub never-domain : (d : Option Domain) → Never ≡ domain_times d → ⊥
+never-domain None e = cc
+never-domain (Some d) e = cc
+
+-- the rows have the same types and the same domain
+pub row-same : (a b : Row) → same_row a b ≡ true → (a.types.has ≡ b.types.has) × (domain_times a.domain ≡ domain_times b.domain)
+row-same a b e =
+    let parts = and_parts (same_flags a.types.has b.types.has) (same_domain a.domain b.domain) e in
+    (flags-same _ _ parts.0, domain-same _ _ parts.1)
+
+pub same-row : (a b : Row) → a.types.has ≡ b.types.has → domain_times a.domain ≡ domain_times b.domain → same_row a b ≡ true
+same-row a b has domain =
+    let flags : same_flags a.types.has b.types.has ≡ true = rw has (same-flags b.types.has) in
+    and_from (same_flags a.types.has b.types.has) (same_domain a.domain b.domain) flags (same-domain _ _ domain)
+
+-- no type
+pub none-has : (n t : ℕ) → IsTrue (get_or (replicate n false) t false) → ⊥
+none-has n t e = elim (cases_lt t n) [
+  | inl lt ↦ (let no : false ≡ true = sym (get_or-replicate n t false false lt) ∙ e in cc)
+  | inr le ↦ (let no : false ≡ true = sym (get_or_past (replicate n false) t false (rw (length-replicate n false) le)) ∙ e in cc)
+]
+
+-- whether the times are those of a domain
+pub is-domain : (r : Bool) (own domain : Option Domain) (times : Times) → r ≡ same_domain own domain → domain_times own ≡ times
+    → IsTrue r ↔ (times ≡ domain_times domain)
+is-domain r own domain times e same = (
+  (λ x. sym same ∙ domain-same own domain (sym e ∙ x)),
+  (λ x. e ∙ same-domain own domain (same ∙ x)),
+)
+
+-- one type more
+pub one-alike : (has now : Type 0) (b : Bool) (t n : ℕ) (is : Type 0) → (b ≡ true → now ↔ (has ⊎ (t ≡ n))) → (b ≡ false → now ↔ has)
+    → (t ≡ n → IsTrue b ↔ is) → has ↔ ((t < n) × is) → now ↔ ((t < n + 1) × is)
+one-alike has now true t n is added same here all =
+    let add = added refl in (
+      (λ x. elim (add.0 x) [
+        | inl h ↦ (let y = all.0 h in (wider t n y.0, y.1))
+        | inr e ↦ (equal t n e, (here e).0 refl)
+      ]),
+      (λ x. elim (cases_eq t n) [ inl e ↦ add.1 (inr e) | inr ne ↦ add.1 (inl (all.1 (closer t n x.0 ne, x.1))) ]),
+    )
+  where
+    wider : (t n : ℕ) → t < n → t < n + 1
+    wider t n lt = omega (arith, lt)
+
+    equal : (t n : ℕ) → t ≡ n → t < n + 1
+    equal t n e = omega (arith, e)
+
+    closer : (t n : ℕ) → t < n + 1 → (t ≡ n → ⊥) → t < n
+    closer t n lt ne = omega (arith, lt, ne)
+one-alike has now false t n is added same here all =
+    let keep = same refl in (
+      (λ x. let y = all.0 (keep.0 x) in (wider t n y.0, y.1)),
+      (λ x. elim (cases_eq t n) [
+        | inl e ↦ (let no : false ≡ true = (here e).1 x.1 in cc)
+        | inr ne ↦ keep.1 (all.1 (closer t n x.0 ne, x.1))
+      ]),
+    )
+  where
+    wider : (t n : ℕ) → t < n → t < n + 1
+    wider t n lt = omega (arith, lt)
+
+    closer : (t n : ℕ) → t < n + 1 → (t ≡ n → ⊥) → t < n
+    closer t n lt ne = omega (arith, lt, ne)

@@ -1,0 +1,13 @@
+pub mod Flags
+pub mod Groups
+pub mod Listings
+pub mod Rows
+pub mod Steps
+pub mod Times
+pub mod Timing
+pub mod Types
+pub use Rattle.gtd_core.specs.Limits
+pub use Rattle.gtd_core.specs.Parts
+pub use Rattle.gtd_core.specs.Trees
+pub use Rattle.gtd_eval.specs.Membership
+pub use Rattle.gtd_records.specs.Closing

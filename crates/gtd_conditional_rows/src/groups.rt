@@ -1,0 +1,183 @@
+//! The vehicle types of steps, grouped by when they are closed.
+
+ghost use Rattle.std.specs.Prelude.{◌≡◌, ◌+◌, ◌↔◌, ℕ, IfOk, IsTrue, OnOk, if◌then◌else◌};
+ghost use Rattle.gtd_records.specs.declared.direction.Closed.TheVariants.{One, Both};
+ghost use Rattle.gtd_conditional_rows.specs.Groups.{GroupedTo, IsGroupOf, IsMarked};
+ghost use Rattle.gtd_conditional_rows.specs.Rows.{AreGroups, Each, Some'};
+ghost use Rattle.gtd_conditional_rows.specs.Times.{NeedsTooMany, times_of};
+ghost use Rattle.gtd_conditional_rows.specs.Timing.{domain_times};
+ghost use Rattle.gtd_conditional_rows.specs.Types.{HasType, IsVehicle, has_type};
+
+use crate::row::{Row, is_listed, is_same_domain};
+use crate::step::Step;
+use crate::times::{Timing, timing_of};
+use crate::types::Types;
+use gtd_core::Domain;
+use gtd_records::{Closed, Direction};
+use std::alloc::{AllocError, Global};
+
+// Whether a step speaks of both vehicle types or of neither.
+fn speaks_alike(step: &Step, vehicle: u8, other: u8) -> bool
+    ensures { IsTrue result ↔ (has_type step.now.types vehicle ≡ has_type step.now.types other) }
+{
+    step.types.has(vehicle) == step.types.has(other)
+}
+
+// Whether each step speaks of both vehicle types or of neither.
+fn have_same_steps(steps: &[Step], vehicle: u8, other: u8) -> bool
+    ensures { IsTrue result → times_of steps.now other ≡ times_of steps.now vehicle }
+{
+    let mut rest = steps;
+    while let Some((step, more)) = rest.split_first() {
+        if !speaks_alike(step, vehicle, other) {
+            return false;
+        }
+        rest = more;
+    }
+    true
+}
+
+// Whether steps close an element for a vehicle type exactly at the seconds of a domain.
+fn is_timing(
+    alloc: Global,
+    steps: &[Step],
+    vehicle: u8,
+    domain: &Option<Domain>,
+) -> Result<bool, AllocError>
+    requires vehicle { IsVehicle vehicle }
+    requires few { NeedsTooMany steps.now → ⊥ }
+    ensures { IfOk result (λ r. IsTrue r ↔ (times_of steps.now vehicle ≡ domain_times domain.now)) }
+{
+    match timing_of(alloc, steps, vehicle)? {
+        Timing::Never => Ok(false),
+        Timing::Closed(own) => Ok(is_same_domain(&own, domain)),
+    }
+}
+
+// Whether steps close an element for another vehicle type exactly at the seconds of a domain, which are those of the first.
+fn is_alike(
+    alloc: Global,
+    steps: &[Step],
+    vehicle: u8,
+    other: u8,
+    domain: &Option<Domain>,
+) -> Result<bool, AllocError>
+    requires other { IsVehicle other }
+    requires few { NeedsTooMany steps.now → ⊥ }
+    requires own { times_of steps.now vehicle ≡ domain_times domain.now }
+    ensures { IfOk result (λ r. IsTrue r ↔ (times_of steps.now other ≡ domain_times domain.now)) }
+{
+    if have_same_steps(steps, vehicle, other) {
+        return Ok(true);
+    }
+    is_timing(alloc, steps, other, domain)
+}
+
+// The vehicle types for which steps close an element exactly at the seconds of a domain, which are those of one of them.
+fn types_like(
+    alloc: Global,
+    steps: &[Step],
+    vehicle: u8,
+    domain: &Option<Domain>,
+) -> Result<Types, AllocError>
+    requires few { NeedsTooMany steps.now → ⊥ }
+    requires own { times_of steps.now vehicle ≡ domain_times domain.now }
+    ensures { IfOk result (λ types. (t : ℕ) → IsVehicle t
+        → HasType types t ↔ (times_of steps.now t ≡ domain_times domain.now)) }
+{
+    let mut types = Types::none();
+    for other in 1..100 {
+        if is_alike(alloc, steps, vehicle, other, domain)? {
+            types.add(other);
+        }
+    }
+    Ok(types)
+}
+
+/// Steps in a direction, and the rows of the other direction, if they are known.
+#[derive(Clone, Copy)]
+pub(crate) struct Side<'a> {
+    pub(crate) steps: &'a [Step],
+    pub(crate) direction: Direction,
+    pub(crate) others: &'a [Row],
+}
+
+// What a row closes that the other direction has too, or has not.
+fn closed_of(direction: Direction, listed: bool) -> Closed
+    ensures { result ≡ (if listed then Both else One direction) }
+{
+    if listed {
+        Closed::Both
+    } else {
+        Closed::One(direction)
+    }
+}
+
+// The row with the domain of a vehicle type, or `None` exactly if the element is never closed for it.
+fn group_of(alloc: Global, side: Side, vehicle: u8) -> Result<Option<Row>, AllocError>
+    requires vehicle { IsVehicle vehicle }
+    requires few { NeedsTooMany side.steps.now → ⊥ }
+    ensures { IfOk result (IsGroupOf side.entry.steps.now side.entry.direction side.entry.others.now vehicle) }
+{
+    match timing_of(alloc, side.steps, vehicle)? {
+        Timing::Never => Ok(None),
+        Timing::Closed(domain) => {
+            let types = types_like(alloc, side.steps, vehicle, &domain)?;
+            let mut row = Row {
+                closed: Closed::One(side.direction),
+                types,
+                domain,
+            };
+            let listed = is_listed(&row, side.others);
+            row.closed = closed_of(side.direction, listed);
+            Ok(Some(row))
+        }
+    }
+}
+
+// Whether some row has a vehicle type.
+fn is_grouped(rows: &[Row], vehicle: u8) -> bool
+    ensures { IsTrue result ↔ Some' (λ row. HasType row.types vehicle) rows.now }
+{
+    let mut rest = rows;
+    while let Some((row, more)) = rest.split_first() {
+        if row.types.has(vehicle) {
+            return true;
+        }
+        rest = more;
+    }
+    false
+}
+
+// Puts the row with the domain of a vehicle type, if there is one and it is not there.
+fn put_group(alloc: Global, rows: &mut Vec<Row>, side: Side, vehicle: u8) -> Result<(), AllocError>
+    requires vehicle { IsVehicle vehicle }
+    requires few { NeedsTooMany side.steps.now → ⊥ }
+    ensures { GroupedTo side.entry.steps.now side.entry.direction side.entry.others.now vehicle rows.old.items
+        → OnOk result (GroupedTo side.entry.steps.now side.entry.direction side.entry.others.now (vehicle + 1)
+        rows.new.items) }
+{
+    if is_grouped(rows.as_slice(), vehicle) {
+        return Ok(());
+    }
+    match group_of(alloc, side, vehicle)? {
+        None => Ok(()),
+        Some(row) => {
+            rows.push(row)?;
+            Ok(())
+        }
+    }
+}
+
+/// The rows of steps in a direction, which close both if the other direction has the same.
+pub(crate) fn groups_of(alloc: Global, side: Side) -> Result<Vec<Row>, AllocError>
+    requires few { NeedsTooMany side.steps.now → ⊥ }
+    ensures groups { IfOk result (λ rows. AreGroups side.entry.steps.now rows.items) }
+    ensures closed { IfOk result (λ rows. Each (IsMarked side.entry.direction side.entry.others.now) rows.items) }
+{
+    let mut rows = Vec::new(alloc);
+    for vehicle in 1..100 {
+        put_group(alloc, &mut rows, side, vehicle)?;
+    }
+    Ok(rows)
+}

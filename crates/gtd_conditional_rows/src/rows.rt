@@ -1,0 +1,76 @@
+//! The rows of an element.
+
+ghost use Rattle.std.specs.Prelude.{◌≡◌, ◌↔◌, ◌⊎◌, ◌++◌, ℕ, ℤ, not, filter, Err, IfOk, OnOk};
+ghost use Rattle.gtd_records.specs.Closing.{ClosesDirection};
+ghost use Rattle.gtd_records.specs.declared.direction.Direction.{Direction};
+ghost use Rattle.gtd_conditional_rows.specs.Rows.{AreRows, AtMostOne, IsClosedByRow, is_listed, steps_in};
+ghost use Rattle.gtd_conditional_rows.specs.Steps.{IsClosed};
+ghost use Rattle.gtd_conditional_rows.specs.Times.{NeedsTooMany};
+ghost use Rattle.gtd_conditional_rows.specs.Types.{HasType, IsVehicle};
+
+use crate::count::needs_too_many;
+use crate::fault::RowsFault;
+use crate::groups::{Side, groups_of};
+use crate::row::{Row, is_listed};
+use crate::step::Step;
+use gtd_records::Direction;
+use std::alloc::{AllocError, Global};
+
+// Puts those of other rows that are not among the rows.
+fn put_unlisted(rows: &mut Vec<Row>, others: Vec<Row>) -> Result<(), AllocError>
+    ensures { OnOk result (rows.new.items
+        ≡ rows.old.items ++ filter (λ row. not (is_listed row rows.old.items)) others.items) }
+{
+    let count = rows.len();
+    for row in others {
+        if !is_listed(&row, &rows.as_slice()[..count]) {
+            rows.push(row)?;
+        }
+    }
+    Ok(())
+}
+
+fn joined(alloc: Global, positive: &[Step], negative: &[Step]) -> Result<Vec<Row>, AllocError>
+    requires positive { NeedsTooMany positive.now → ⊥ }
+    requires negative { NeedsTooMany negative.now → ⊥ }
+    ensures { IfOk result (λ rows. AreRows positive.now negative.now rows.items) }
+{
+    let backward = groups_of(
+        alloc,
+        Side {
+            steps: negative,
+            direction: Direction::Negative,
+            others: &[],
+        },
+    )?;
+    let mut rows = groups_of(
+        alloc,
+        Side {
+            steps: positive,
+            direction: Direction::Positive,
+            others: backward.as_slice(),
+        },
+    )?;
+    put_unlisted(&mut rows, backward)?;
+    Ok(rows)
+}
+
+/// The rows that close an element exactly when the steps in its positive and in its negative direction do. The answer is
+/// `TooMany` exactly if some vehicle type needs more than 128 basic domains, before memory is taken, and otherwise `NoMemory` only
+/// if the allocator refused memory.
+pub fn rows_of(alloc: Global, positive: &[Step], negative: &[Step]) -> Result<Vec<Row>, RowsFault>
+    ensures rows { IfOk result (λ rows. AreRows positive.now negative.now rows.items) }
+    ensures closed { IfOk result (λ rows. (direction : Direction) (t : ℕ) (s : ℤ) → IsVehicle t
+        → IsClosedByRow rows.items direction t s ↔ IsClosed (steps_in positive.now negative.now direction) t s) }
+    ensures once { IfOk result (λ rows. (direction : Direction) (t : ℕ) → IsVehicle t
+        → AtMostOne (λ row. ClosesDirection row.closed direction × HasType row.types t) rows.items) }
+    ensures too_many { (result ≡ Err RowsFault.TooMany) ↔ (NeedsTooMany positive.now ⊎ NeedsTooMany negative.now) }
+{
+    if needs_too_many(positive) || needs_too_many(negative) {
+        return Err(RowsFault::TooMany);
+    }
+    match joined(alloc, positive, negative) {
+        Ok(rows) => Ok(rows),
+        Err(_) => Err(RowsFault::NoMemory),
+    }
+}
