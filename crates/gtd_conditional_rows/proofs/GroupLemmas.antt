@@ -12,13 +12,6 @@ use Rattle.gtd_conditional_rows.specs.declared.row.Row.{Row}
 use Rattle.gtd_conditional_rows.specs.declared.step.Step.{Step}
 use Rattle.gtd_conditional_rows.proofs.TypeLemmas.{never-domain}
 
--- a step that has both types or neither does the same to both
-pub both-by : (step : Step) (a b : ℕ) (times : Times) → has_type step.types a ≡ has_type step.types b
-    → times_by step b times ≡ times_by step a times
-both-by step a b times e =
-    let f : Bool → Times = λ has. cond has (said step.access step.hours times) times in
-    rw e refl
-
 -- what holds of each row, and of some
 pub each-push : (P : Row → Type 0) (rows : List Row) (row : Row) → Each P rows → P row → Each P (rows ++ row ∷ [])
 each-push P [] row each this = (this, tt)
@@ -140,14 +133,3 @@ no-groups steps direction others rows e = rw e (record {
   where
     none : (t : ℕ) → 1 ≤ t → t < 1 → ⊥
     none t le lt = omega (arith, le, lt)
-
-pub all-groups : (steps : List Step) (direction : Direction) (others rows : List Row)
-    → GroupedTo steps direction others 100 rows → AreGroups steps rows
-all-groups steps direction others rows g = record {
-  each = g.each;
-  all = λ t is ever. g.all t is (below t is.1) ever;
-  ordered = g.ordered;
-}
-  where
-    below : (t : ℕ) → t ≤ 99 → t < 100
-    below t le = omega (arith, le)

@@ -19,9 +19,6 @@ sum a b = omega arith
 one-more : (b : ℕ) → counted (1 + b) ≡ counted (1 + counted b)
 one-more b = omega arith
 
-pub leaves-sum : (a b l r : ℕ) → a ≡ counted l → b ≡ counted r → counted (a + b) ≡ counted (l + r)
-leaves-sum a b l r e f = omega (arith, e, f)
-
 size-said : (access : Access) (hours : Option Expr) (times : Times)
     → size_of (said access hours times) ≡ size_said access hours (size_of times)
 size-said Closed None times = refl
@@ -71,11 +68,6 @@ one-size u n t all step later rest same one whole = rw one (rw same at whole)
 pub one-time : (u times : Times) (t : ℕ) (all : Times) (step : Step) (later rest : List Step) → rest ≡ step ∷ later
     → u ≡ times_by step t times → times_after rest t times ≡ all → times_after later t u ≡ all
 one-time u times t all step later rest same one whole = rw one (rw same at whole)
-
--- nothing is left
-pub nothing-left : {A : Type 0} (xs : List A) → length xs ≡ 0 → xs ≡ []
-nothing-left [] e = refl
-nothing-left (x ∷ xs) e = absurd (omega (arith, e))
 
 -- A step that applies at all seconds makes what was before it the same.
 said-whole : (has : Bool) (access : Access) (a b : Times) → has ≡ true

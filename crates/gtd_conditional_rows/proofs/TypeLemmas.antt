@@ -14,18 +14,6 @@ use Rattle.gtd_conditional_rows.specs.Times.{Times, Never, Always, Within}
 use Rattle.gtd_conditional_rows.specs.Timing.{domain_times}
 use Rattle.gtd_conditional_rows.specs.declared.row.Row.{Row}
 
--- a type that is added
-pub added : (has : List Bool) (v t : ℕ) → v < length has
-    → IsTrue (get_or (set has v true) t false) ↔ (IsTrue (get_or has t false) ⊎ (t ≡ v))
-added has v t inside = elim (cases_eq t v) [
-  | inl e ↦
-      let now : get_or (set has v true) t false ≡ true = rw e (get_or-set_same has v true false inside) in
-      ((λ x. inr e), (λ x. now))
-  | inr ne ↦
-      let same : get_or (set has v true) t false ≡ get_or has t false = get_or-set_other has v t true false ne in
-      ((λ x. inl (sym same ∙ x)), (λ x. elim x [ inl h ↦ same ∙ h | inr e ↦ absurd (ne e) ]))
-]
-
 -- the lists are the same
 flag-same : (a b : Bool) → same_flag a b ≡ true → a ≡ b
 flag-same true true e = refl
@@ -93,38 +81,3 @@ is-domain r own domain times e same = (
   (λ x. sym same ∙ domain-same own domain (sym e ∙ x)),
   (λ x. e ∙ same-domain own domain (same ∙ x)),
 )
-
--- one type more
-pub one-alike : (has now : Type 0) (b : Bool) (t n : ℕ) (is : Type 0) → (b ≡ true → now ↔ (has ⊎ (t ≡ n))) → (b ≡ false → now ↔ has)
-    → (t ≡ n → IsTrue b ↔ is) → has ↔ ((t < n) × is) → now ↔ ((t < n + 1) × is)
-one-alike has now true t n is added same here all =
-    let add = added refl in (
-      (λ x. elim (add.0 x) [
-        | inl h ↦ (let y = all.0 h in (wider t n y.0, y.1))
-        | inr e ↦ (equal t n e, (here e).0 refl)
-      ]),
-      (λ x. elim (cases_eq t n) [ inl e ↦ add.1 (inr e) | inr ne ↦ add.1 (inl (all.1 (closer t n x.0 ne, x.1))) ]),
-    )
-  where
-    wider : (t n : ℕ) → t < n → t < n + 1
-    wider t n lt = omega (arith, lt)
-
-    equal : (t n : ℕ) → t ≡ n → t < n + 1
-    equal t n e = omega (arith, e)
-
-    closer : (t n : ℕ) → t < n + 1 → (t ≡ n → ⊥) → t < n
-    closer t n lt ne = omega (arith, lt, ne)
-one-alike has now false t n is added same here all =
-    let keep = same refl in (
-      (λ x. let y = all.0 (keep.0 x) in (wider t n y.0, y.1)),
-      (λ x. elim (cases_eq t n) [
-        | inl e ↦ (let no : false ≡ true = (here e).1 x.1 in cc)
-        | inr ne ↦ keep.1 (all.1 (closer t n x.0 ne, x.1))
-      ]),
-    )
-  where
-    wider : (t n : ℕ) → t < n → t < n + 1
-    wider t n lt = omega (arith, lt)
-
-    closer : (t n : ℕ) → t < n + 1 → (t ≡ n → ⊥) → t < n
-    closer t n lt ne = omega (arith, lt, ne)
