@@ -1,20 +1,19 @@
 -- What steps make of times is what the last step that applies says.
-use Rattle.std.proofs.Common.{◌≡◌, ◌↔◌, ◌⊎◌, ◌<◌, ℕ, ℤ, Bool, true, false, List, [], ◌∷◌, Option, Some, None, cond, refl, inl, inr}
+use Rattle.std.proofs.Common.{◌≡◌, ◌↔◌, ◌⊎◌, ◌<◌, ℕ, ℤ, Bool, true, false, List, [], ◌∷◌, Option, Some, None, refl, inl, inr}
 use Rattle.std.proofs.Common.{arith, IsTrue, if◌then◌else◌}
 use Rattle.gtd_core.specs.Ranges.{no_parts}
 use Rattle.gtd_core.specs.Trees.{tree_of}
 use Rattle.gtd_core.specs.declared.domain.Expr.{Expr}
 use Rattle.gtd_core.specs.facts.Deciding.{Decided}
-use Rattle.gtd_calendar.specs.ComputedFields.{day_fields}
 use Rattle.gtd_calendar.specs.declared.day.DayFields.{DayFields}
 use Rattle.gtd_recur.specs.FieldMatches.{HoldsOnDay}
 use Rattle.gtd_eval.specs.Membership.{InTree}
 use Rattle.gtd_eval.specs.facts.TreeDecisions.{in_tree}
 use Rattle.gtd_hours_domain.specs.declared.clock.Clock.{Clock}
 use Rattle.gtd_hours_domain.proofs.LeafLemmas.{each-days}
-use Rattle.gtd_conditional_rows.specs.Steps.{Applies, HoursHold, IsClosed, NoneApplies}
+use Rattle.gtd_conditional_rows.specs.Steps.{HoursHold, IsClosed, NoneApplies}
 use Rattle.gtd_conditional_rows.specs.Times.{Times, Never, Always, Within, InTimes, every_day, said, times_after, times_by, times_of}
-use Rattle.gtd_conditional_rows.specs.Types.{HasType, has_type}
+use Rattle.gtd_conditional_rows.specs.Types.{has_type}
 use Rattle.gtd_conditional_rows.specs.declared.step.Access.{Access}
 use Rattle.gtd_conditional_rows.specs.declared.step.Access.TheVariants.{Open, Closed}
 use Rattle.gtd_conditional_rows.specs.declared.step.Step.{Step}

@@ -1,13 +1,13 @@
 -- Rows of groups, put one after another.
-use Rattle.std.proofs.Common.{◌≡◌, ◌↔◌, ◌⊎◌, ◌<◌, ◌≤◌, ◌+◌, ◌++◌, ℕ, Bool, true, false, List, [], ◌∷◌, Option, Some, None, refl, sym, ◌∙◌}
-use Rattle.std.proofs.Common.{arith, inl, inr, IsTrue, cond}
+use Rattle.std.proofs.Common.{◌≡◌, ◌<◌, ◌≤◌, ◌+◌, ◌++◌, ℕ, List, [], ◌∷◌, Some, sym, ◌∙◌}
+use Rattle.std.proofs.Common.{arith, inl, inr}
 use Rattle.std.proofs.lemmas.Bool.{cases_lt, cases_eq}
 use Rattle.gtd_records.specs.declared.direction.Direction.{Direction}
 use Rattle.gtd_conditional_rows.specs.Groups.{GroupedTo, IsGroupOf, IsMarked}
-use Rattle.gtd_conditional_rows.specs.Rows.{AreGroups, AreOrdered, Each, IsGroup, IsLowest, Some'}
-use Rattle.gtd_conditional_rows.specs.Times.{Times, Never, said, times_after, times_by, times_of}
+use Rattle.gtd_conditional_rows.specs.Rows.{AreOrdered, Each, IsGroup, IsLowest, Some'}
+use Rattle.gtd_conditional_rows.specs.Times.{Never, times_of}
 use Rattle.gtd_conditional_rows.specs.Timing.{domain_times}
-use Rattle.gtd_conditional_rows.specs.Types.{HasType, IsVehicle, has_type}
+use Rattle.gtd_conditional_rows.specs.Types.{HasType, IsVehicle}
 use Rattle.gtd_conditional_rows.specs.declared.row.Row.{Row}
 use Rattle.gtd_conditional_rows.specs.declared.step.Step.{Step}
 use Rattle.gtd_conditional_rows.proofs.TypeLemmas.{never-domain}

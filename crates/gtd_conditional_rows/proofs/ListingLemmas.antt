@@ -1,8 +1,7 @@
 -- A listing stands for the types that it is of.
-use Rattle.std.proofs.Common.{◌≡◌, ◌↔◌, ◌+◌, ◌<◌, ◌≤◌, ℕ, zero, suc, Bool, true, false, List, [], ◌∷◌, refl, sym, ◌∙◌}
+use Rattle.std.proofs.Common.{◌≡◌, ◌↔◌, ◌+◌, ◌<◌, ◌≤◌, ℕ, zero, suc, Bool, true, false, List, [], ◌∷◌, refl}
 use Rattle.std.proofs.Common.{arith, length, get_or, IsTrue}
 use Rattle.gtd_conditional_rows.specs.Flags.{count_true}
-use Rattle.gtd_conditional_rows.specs.Types.{IsVehicle}
 
 count-most : (xs : List Bool) → count_true xs ≤ length xs
 count-most [] = omega arith

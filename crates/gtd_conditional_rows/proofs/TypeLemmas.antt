@@ -1,16 +1,15 @@
 -- Sets of vehicle types, as lists of flags, and domains that are the same.
-use Rattle.std.proofs.Common.{◌≡◌, ◌↔◌, ◌⊎◌, ◌<◌, ◌≤◌, ◌+◌, ◌&&◌, ℕ, Bool, true, false, not, List, [], ◌∷◌, Option, Some, None, refl, sym, ap, ◌∙◌}
-use Rattle.std.proofs.Common.{arith, length, get_or, inl, inr, IsTrue, get_or-set_same, get_or-set_other}
-use Rattle.std.proofs.Math.ListN.{set, replicate}
-use Rattle.std.proofs.lemmas.Bool.{cases_eq, cases_lt, and_parts, and_from}
+use Rattle.std.proofs.Common.{◌≡◌, ◌↔◌, ℕ, Bool, true, false, List, [], ◌∷◌, Option, Some, None, refl, sym, ap, ◌∙◌}
+use Rattle.std.proofs.Common.{get_or, inl, inr, IsTrue}
+use Rattle.std.proofs.Math.ListN.{replicate}
+use Rattle.std.proofs.lemmas.Bool.{cases_lt, and_parts, and_from}
 use Rattle.std.proofs.lemmas.List.{get_or-replicate, get_or_past, length-replicate}
-use Rattle.gtd_core.specs.Equality.{same_tree}
 use Rattle.gtd_core.specs.Parts.{domain_tree}
 use Rattle.gtd_core.specs.declared.domain.Domain.{Domain}
 use Rattle.gtd_core.specs.facts.EqualTrees.{tree_equal, equal_same}
-use Rattle.gtd_conditional_rows.specs.Flags.{count_true, same_flag, same_flags}
+use Rattle.gtd_conditional_rows.specs.Flags.{same_flag, same_flags}
 use Rattle.gtd_conditional_rows.specs.Rows.{same_domain, same_row}
-use Rattle.gtd_conditional_rows.specs.Times.{Times, Never, Always, Within}
+use Rattle.gtd_conditional_rows.specs.Times.{Times, Never, Within}
 use Rattle.gtd_conditional_rows.specs.Timing.{domain_times}
 use Rattle.gtd_conditional_rows.specs.declared.row.Row.{Row}
 

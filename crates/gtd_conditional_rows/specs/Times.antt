@@ -1,5 +1,5 @@
 -- At the seconds of which expression steps close an element for a vehicle type, and how many basic domains it has.
-use Rattle.std.specs.Prelude.{◌≡◌, ⊤, ℕ, ◌+◌, ◌<◌, min, ℤ, List, [], ◌∷◌, Option, Some, None, if◌then◌else◌}
+use Rattle.std.specs.Prelude.{⊤, ℕ, ◌+◌, ◌<◌, min, ℤ, List, [], ◌∷◌, Option, Some, None, if◌then◌else◌}
 use Rattle.gtd_core.specs.Limits.{most_basic_domains}
 use Rattle.gtd_core.specs.Ranges.{no_parts}
 use Rattle.gtd_core.specs.Trees.{Tree, Single, Joined, leaf_count, tree_of}

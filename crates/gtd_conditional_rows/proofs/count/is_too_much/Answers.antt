@@ -1,5 +1,5 @@
 -- The count is that of the times.
-use Rattle.std.proofs.Common.{rules, ◌∙◌, sym, false, true, ◌≡◌, IsTrue}
+use Rattle.std.proofs.Common.{rules, ◌∙◌, sym, false, true, ◌≡◌}
 use Rattle.gtd_conditional_rows.specs.Times.{Never, times_of}
 use Rattle.gtd_conditional_rows.proofs.SizeLemmas.{size-after, never-few, always-few, within-test}
 use Rattle.gtd_conditional_rows.proofs.count.is_too_much.Goals as goal
