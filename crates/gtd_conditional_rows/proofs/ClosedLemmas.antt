@@ -12,7 +12,8 @@ use Rattle.gtd_eval.specs.facts.TreeDecisions.{in_tree}
 use Rattle.gtd_hours_domain.specs.declared.clock.Clock.{Clock}
 use Rattle.gtd_hours_domain.proofs.LeafLemmas.{each-days}
 use Rattle.gtd_conditional_rows.specs.Steps.{HoursHold, IsClosed, NoneApplies}
-use Rattle.gtd_conditional_rows.specs.Times.{Times, Never, Always, Within, InTimes, every_day, said, times_after, times_by, times_of}
+use Rattle.gtd_conditional_rows.specs.Times.{Times, Never, Always, Within, InTimes, every_day, said, times_after, times_by}
+use Rattle.gtd_conditional_rows.specs.Times.{times_of}
 use Rattle.gtd_conditional_rows.specs.Types.{has_type}
 use Rattle.gtd_conditional_rows.specs.declared.step.Access.{Access}
 use Rattle.gtd_conditional_rows.specs.declared.step.Access.TheVariants.{Open, Closed}

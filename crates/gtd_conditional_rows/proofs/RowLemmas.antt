@@ -1,5 +1,6 @@
 -- The rows of an element close it exactly when its steps do.
-use Rattle.std.proofs.Common.{◌≡◌, ◌↔◌, ◌⊎◌, ◌++◌, ◌||◌, ℕ, ℤ, Bool, true, false, not, List, [], ◌∷◌, refl, sym, ◌∙◌, cond, subst}
+use Rattle.std.proofs.Common.{◌≡◌, ◌↔◌, ◌⊎◌, ◌++◌, ◌||◌, ℕ, ℤ, Bool, true, false, not, List, [], ◌∷◌, refl, sym, ◌∙◌, cond}
+use Rattle.std.proofs.Common.{subst}
 use Rattle.std.proofs.Common.{inl, inr, IsTrue, if◌then◌else◌, get_or}
 use Rattle.std.specs.Prelude.{filter}
 use Rattle.std.proofs.Common.{◌<◌, arith}
@@ -9,7 +10,8 @@ use Rattle.gtd_records.specs.declared.direction.Closed.{Closed}
 use Rattle.gtd_records.specs.declared.direction.Closed.TheVariants.{One, Both}
 use Rattle.gtd_records.specs.declared.direction.Direction.{Direction}
 use Rattle.gtd_records.specs.declared.direction.Direction.TheVariants.{Positive, Negative}
-use Rattle.gtd_conditional_rows.specs.Rows.{AreGroups, AreOrdered, AreRows, AtMostOne, Each, IsClosedByRow, IsGroup, Some', is_listed, same_row, steps_in}
+use Rattle.gtd_conditional_rows.specs.Rows.{AreGroups, AreOrdered, AreRows, AtMostOne, Each, IsClosedByRow, IsGroup, Some'}
+use Rattle.gtd_conditional_rows.specs.Rows.{is_listed, same_row, steps_in}
 use Rattle.gtd_conditional_rows.specs.Steps.{IsClosed}
 use Rattle.gtd_conditional_rows.specs.Times.{InTimes, Never, times_of}
 use Rattle.gtd_conditional_rows.specs.Timing.{domain_times}

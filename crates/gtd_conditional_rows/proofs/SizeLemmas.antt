@@ -4,7 +4,8 @@ use Rattle.std.proofs.Common.{arith, if◌then◌else◌, IsTrue, nat_lt}
 use Rattle.std.proofs.lemmas.Bool.{ltb-true, lt-ltb}
 use Rattle.gtd_core.specs.Trees.{leaf_count, tree_of}
 use Rattle.gtd_core.specs.declared.domain.Expr.{Expr}
-use Rattle.gtd_conditional_rows.specs.Times.{Times, Never, Always, Within, counted, leaves_in, said, size_after, size_by, size_of, size_said}
+use Rattle.gtd_conditional_rows.specs.Times.{Times, Never, Always, Within, counted, leaves_in, said, size_after, size_by}
+use Rattle.gtd_conditional_rows.specs.Times.{size_of, size_said}
 use Rattle.gtd_conditional_rows.specs.Times.{times_after, times_by}
 use Rattle.gtd_conditional_rows.specs.Types.{has_type}
 use Rattle.gtd_conditional_rows.specs.declared.count.Size.{Size}

@@ -49,14 +49,16 @@ pub same-domain : (a b : Option Domain) → domain_times a ≡ domain_times b �
 same-domain None None e = refl
 same-domain None (Some b) e = cc
 same-domain (Some a) None e = cc
-same-domain (Some a) (Some b) e = equal_same (domain_tree a) (domain_tree b) (let same : domain_tree a ≡ domain_tree b = cc in same)
+same-domain (Some a) (Some b) e =
+    let same : domain_tree a ≡ domain_tree b = cc in equal_same (domain_tree a) (domain_tree b) same
 
 pub never-domain : (d : Option Domain) → Never ≡ domain_times d → ⊥
 never-domain None e = cc
 never-domain (Some d) e = cc
 
 -- the rows have the same types and the same domain
-pub row-same : (a b : Row) → same_row a b ≡ true → (a.types.has ≡ b.types.has) × (domain_times a.domain ≡ domain_times b.domain)
+pub row-same : (a b : Row) → same_row a b ≡ true
+    → (a.types.has ≡ b.types.has) × (domain_times a.domain ≡ domain_times b.domain)
 row-same a b e =
     let parts = and_parts (same_flags a.types.has b.types.has) (same_domain a.domain b.domain) e in
     (flags-same _ _ parts.0, domain-same _ _ parts.1)

@@ -1,8 +1,8 @@
 //! Rows of a record file, from steps that close and open a road element.
 //!
-//! A [`Step`] closes or opens an element for some vehicle types, always or within hours; the last step that applies to a type at
-//! a second says whether it is closed then. `rows_of` answers the rows that say the same, and `needs_too_many` whether a row would
-//! need more than 128 basic domains, without taking memory.
+//! A [`Step`] closes or opens an element for some vehicle types, always or within hours; the last step that applies to a type
+//! at a second says whether it is closed then. `rows_of` answers the rows that say the same, and `needs_too_many` whether a row
+//! would need more than 128 basic domains, without taking memory.
 #![tactic(auto)]
 
 pub use count::needs_too_many;

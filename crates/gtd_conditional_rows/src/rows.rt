@@ -56,8 +56,8 @@ fn joined(alloc: Global, positive: &[Step], negative: &[Step]) -> Result<Vec<Row
 }
 
 /// The rows that close an element exactly when the steps in its positive and in its negative direction do. The answer is
-/// `TooMany` exactly if some vehicle type needs more than 128 basic domains, before memory is taken, and otherwise `NoMemory` only
-/// if the allocator refused memory.
+/// `TooMany` exactly if some vehicle type needs more than 128 basic domains, before memory is taken, and otherwise
+/// `NoMemory` only if the allocator refused memory.
 pub fn rows_of(alloc: Global, positive: &[Step], negative: &[Step]) -> Result<Vec<Row>, RowsFault>
     ensures rows { IfOk result (λ rows. AreRows positive.now negative.now rows.items) }
     ensures closed { IfOk result (λ rows. (direction : Direction) (t : ℕ) (s : ℤ) → IsVehicle t

@@ -17,4 +17,5 @@ returns-in-Always c =
 pub returns-in-Within : goal.returns-in-Within
 returns-in-Within c =
     let e = size-after c.args.steps.now c.args.vehicle Never ∙ sym c.in-Within.ensures in
-    within-test (times_of c.args.steps.now c.args.vehicle) c.in-Within.count c.from.result (let k : c.from.result ≡ 128 = search rules in k) e
+    let most : c.from.result ≡ 128 = search rules in
+    within-test (times_of c.args.steps.now c.args.vehicle) c.in-Within.count c.from.result most e
