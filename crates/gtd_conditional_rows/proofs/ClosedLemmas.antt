@@ -15,8 +15,8 @@ use Rattle.gtd_conditional_rows.specs.Steps.{HoursHold, IsClosed, NoneApplies}
 use Rattle.gtd_conditional_rows.specs.Times.{Times, Never, Always, Within, InTimes, every_day, said, times_after, times_by}
 use Rattle.gtd_conditional_rows.specs.Times.{times_of}
 use Rattle.gtd_conditional_rows.specs.Types.{has_type}
-use Rattle.gtd_conditional_rows.specs.declared.step.Access.{Access}
-use Rattle.gtd_conditional_rows.specs.declared.step.Access.TheVariants.{Open, Closed}
+use Rattle.gtd_conditional_means.specs.declared.meaning.Access.{Access}
+use Rattle.gtd_conditional_means.specs.declared.meaning.Access.TheVariants.{Open, Closed}
 use Rattle.gtd_conditional_rows.specs.declared.step.Step.{Step}
 
 -- the whole of each day has each second

@@ -10,8 +10,8 @@ use Rattle.gtd_conditional_rows.specs.Times.{times_after, times_by}
 use Rattle.gtd_conditional_rows.specs.Types.{has_type}
 use Rattle.gtd_conditional_rows.specs.declared.count.Size.{Size}
 use Rattle.gtd_conditional_rows.specs.declared.count.Size.TheVariants as size
-use Rattle.gtd_conditional_rows.specs.declared.step.Access.{Access}
-use Rattle.gtd_conditional_rows.specs.declared.step.Access.TheVariants.{Open, Closed}
+use Rattle.gtd_conditional_means.specs.declared.meaning.Access.{Access}
+use Rattle.gtd_conditional_means.specs.declared.meaning.Access.TheVariants.{Open, Closed}
 use Rattle.gtd_conditional_rows.specs.declared.step.Step.{Step}
 
 sum : (a b : ℕ) → counted (a + b) ≡ counted (counted a + counted b)

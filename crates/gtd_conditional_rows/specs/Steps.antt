@@ -5,7 +5,7 @@ use Rattle.gtd_core.specs.declared.domain.Expr.{Expr}
 use Rattle.gtd_eval.specs.Membership.{InTree}
 use Rattle.gtd_conditional_rows.specs.Types.{HasType}
 use Rattle.gtd_conditional_rows.specs.declared.step.Step.{Step}
-use Rattle.gtd_conditional_rows.specs.declared.step.Access.TheVariants.{Closed}
+use Rattle.gtd_conditional_means.specs.declared.meaning.Access.TheVariants.{Closed}
 
 -- the hours contain the second; none stand for every second
 abbrev pub HoursHold : Option Expr → ℤ → Type 0

@@ -9,8 +9,8 @@ use Rattle.gtd_eval.specs.Membership.{InTree}
 use Rattle.gtd_conditional_rows.specs.Types.{IsVehicle, has_type}
 use Rattle.gtd_conditional_rows.specs.declared.count.Size.{Size}
 use Rattle.gtd_conditional_rows.specs.declared.count.Size.TheVariants as size
-use Rattle.gtd_conditional_rows.specs.declared.step.Access.{Access}
-use Rattle.gtd_conditional_rows.specs.declared.step.Access.TheVariants.{Open, Closed}
+use Rattle.gtd_conditional_means.specs.declared.meaning.Access.{Access}
+use Rattle.gtd_conditional_means.specs.declared.meaning.Access.TheVariants.{Open, Closed}
 use Rattle.gtd_conditional_rows.specs.declared.step.Step.{Step}
 
 -- never, always, or at the seconds of an expression

@@ -6,7 +6,8 @@ ghost use Rattle.gtd_conditional_rows.specs.Times.{NeedsTooMany, leaves_in, size
 ghost use Rattle.gtd_conditional_rows.specs.declared.count.Size.TheVariants as size;
 
 use crate::expr::{leaves, sum};
-use crate::step::{Access, Step};
+use crate::step::Step;
+use gtd_conditional_means::Access;
 use gtd_core::Expr;
 use gtd_core::limits::MOST_BASIC_DOMAINS;
 

@@ -10,7 +10,7 @@ pub use fault::RowsFault;
 pub use listing::{Listing, listing_of};
 pub use row::Row;
 pub use rows::rows_of;
-pub use step::{Access, Step};
+pub use step::Step;
 pub use types::Types;
 pub use vehicles::types_of;
 

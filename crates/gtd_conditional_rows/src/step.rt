@@ -1,16 +1,8 @@
 //! Steps: what closes and opens an element, one after another.
 
 use crate::types::Types;
+use gtd_conditional_means::Access;
 use gtd_core::Expr;
-
-/// Whether an element may be used.
-#[derive(Clone, Copy, Debug, PartialEq, Eq)]
-pub enum Access {
-    /// It may.
-    Open,
-    /// It may not.
-    Closed,
-}
 
 /// Closes or opens an element for some vehicle types, at the seconds of its hours.
 #[derive(Drop)]

@@ -8,7 +8,8 @@ ghost use Rattle.gtd_conditional_rows.specs.Times.{Never, leaves_in, times_after
 ghost use Rattle.gtd_conditional_rows.specs.Types.{HasType};
 
 use crate::expr::{copied, every_day, joined};
-use crate::step::{Access, Step};
+use crate::step::Step;
+use gtd_conditional_means::Access;
 use gtd_core::{Domain, Expr, Op};
 use std::alloc::{AllocError, Global};
 
