@@ -1,6 +1,6 @@
 -- The days that ends are counted on from, and the days of ranges between two ends.
 use Rattle.std.proofs.Common.{◌≡◌, ◌↔◌, ◌⊎◌, ◌∙◌, refl, sym, ap, arith, ℕ, ◌+◌, ◌-◌, ◌*◌, ◌<◌, ◌≤◌, ◌==◌, ◌&&◌, not, nat_le, min}
-use Rattle.std.proofs.Common.{inl, inr, ◌≢◌, Bool, true, false, cond, Some, subst, ℤ, pos, ◌+ℤ◌, ◌-ℤ◌, ◌*ℤ◌, ◌≤ℤ◌, ◌<ℤ◌, unsigned_abs}
+use Rattle.std.proofs.Common.{inl, inr, ◌≢◌, Bool, true, false, cond, subst, ℤ, pos, ◌+ℤ◌, ◌-ℤ◌, ◌*ℤ◌, ◌≤ℤ◌, ◌<ℤ◌, unsigned_abs}
 use Rattle.std.proofs.lemmas.Bool.{cases_eq}
 use Rattle.std.proofs.lemmas.Int.{by_lt_z}
 use Rattle.gtd_calendar.specs.facts.Signed.{signed_arith, one_part}
@@ -15,10 +15,10 @@ use Rattle.gtd_calendar.specs.facts.DateLemmas.{date_of-is, date_of-only, month_
 use Rattle.gtd_calendar.specs.facts.MonthLemmas.{month_first, month_first-next}
 use Rattle.gtd_recur.specs.FieldMatches.{HoldsOnDay}
 use Rattle.gtd_eval.specs.Membership.{InTree}
-use Rattle.gtd_hours.specs.ComputedPlaces.{IsInOrder, end_day}
-use Rattle.gtd_hours.specs.Moving.{IsInMoving, IsMovedFrom, IsMoving, days_on, day_from, end_days, end_month, is_yearly, last_year, leads_out}
+use Rattle.gtd_hours.specs.ComputedPlaces.{end_day}
+use Rattle.gtd_hours.specs.Moving.{IsInMoving, IsMovedFrom, IsMoving, days_on, day_from, end_days, end_month, is_yearly, last_year}
 use Rattle.gtd_hours.specs.Moving.{months_between, weeks_back}
-use Rattle.gtd_hours.specs.Ranges.{IsMonth, IsMonthDay}
+use Rattle.gtd_hours.specs.Ranges.{IsMonth}
 use Rattle.gtd_hours.specs.declared.hours.MonthDay.{MonthDay}
 use Rattle.gtd_hours.specs.declared.places.End.{End}
 use Rattle.gtd_hours.specs.declared.places.End.TheVariants.{Date, Place}
