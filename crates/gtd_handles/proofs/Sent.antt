@@ -27,11 +27,11 @@ use Rattle.gtd_spans.proofs.merge.Merge.TheSendSync as merge
 use Rattle.gtd_spans.proofs.merge.Side.TheSendSync as side
 use Rattle.gtd_spans.proofs.sweep.Sides.TheSendSync as sides
 use Rattle.gtd_spans.proofs.sweep.Sweep.TheSendSync as sweep
-use Rattle.gtd_eval.proofs.repeat.Repeat.TheSendSync as repeat
-use Rattle.gtd_eval.proofs.repeat.Stage.TheSendSync as stage
+use Rattle.gtd_kept.proofs.repeat.Repeat.TheSendSync as repeat
+use Rattle.gtd_kept.proofs.repeat.Stage.TheSendSync as stage
 use Rattle.gtd_records.proofs.direction.Closed.TheSendSync as closed
 use Rattle.gtd_records.proofs.direction.Direction.TheSendSync as direction
-use Rattle.gtd_records.proofs.index.RowPlace.TheSendSync as place
+use Rattle.gtd_places.proofs.place.RowPlace.TheSendSync as place
 use Rattle.gtd_records.proofs.vehicles.Vehicles.TheSendSync as vehicles
 use Rattle.core.proofs.option.Option.TheSendSync as option
 use Rattle.std.proofs.alloc.Global.TheSendSync as heap

@@ -1,5 +1,5 @@
 -- Which hours can be written in the syntax of OpenStreetMap.
-use Rattle.std.specs.Prelude.{◌≡◌, Bool, true, false, nat_lt, List, [], ◌∷◌, ◌++◌}
+use Rattle.std.specs.Prelude.{◌≡◌, Bool, true, false, List, [], ◌∷◌, ◌++◌}
 use Rattle.std.specs.List.{list_all}
 use Rattle.gtd_hours.specs.declared.hours.Kind.{Kind}
 use Rattle.gtd_hours.specs.declared.hours.Link.TheVariants as link
@@ -18,19 +18,16 @@ abbrev pub is_month_days : Selector → Bool
 is_month_days (selector.Months x) = true
 is_month_days (selector.Dates x) = true
 is_month_days (selector.Dated x) = true
-is_month_days (selector.Moving x) = true
 is_month_days x = false
 
 abbrev pub is_weeks : Selector → Bool
 is_weeks (selector.Weeks x) = true
 is_weeks x = false
 
--- a place with no days after or before it is written as the place alone
 abbrev pub is_weekdays : Selector → Bool
 is_weekdays (selector.Weekdays x) = true
 is_weekdays (selector.Nth x) = true
 is_weekdays (selector.NthBack x) = true
-is_weekdays (selector.Moved x) = nat_lt 0 x.days
 is_weekdays x = false
 
 -- ---- rules

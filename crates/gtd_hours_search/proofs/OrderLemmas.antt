@@ -1,5 +1,5 @@
 -- Kinds in order are those of a rule that can be written.
-use Rattle.std.proofs.Common.{nat_lt, ◌≡◌, ℕ, ◌+◌, ◌<◌, ◌≤◌, Bool, true, false, cond, List, [], ◌∷◌, ◌++◌}
+use Rattle.std.proofs.Common.{◌≡◌, ℕ, ◌+◌, ◌<◌, ◌≤◌, Bool, true, false, cond, List, [], ◌∷◌, ◌++◌}
 use Rattle.std.proofs.Common.{append_assoc, arith, inl, inr, refl, sym, ap, subst, ◌∙◌}
 use Rattle.std.specs.Prelude.{◌==◌, ◌&&◌}
 use Rattle.std.specs.List.{list_all}
@@ -79,7 +79,7 @@ four_places (selector.Weeks x) = omega arith
 four_places (selector.Weekdays x) = omega arith
 four_places (selector.Nth x) = omega arith
 four_places (selector.NthBack x) = omega arith
-four_places (selector.Moved x) = four_or_none (nat_lt 0 x.days) 4 (omega arith)
+four_places (selector.Moved x) = omega arith
 four_places (selector.Moving x) = omega arith
 
 four_kinds : (xs : List Selector) → kind_place xs ≤ 4
@@ -108,43 +108,22 @@ all_such place such each (x ∷ xs) h =
 
 first_years : (x : Selector) → place_of x ≡ 1 → is_years x ≡ true
 first_years (selector.Years x) e = refl
-first_years (selector.Moved x) e = absurd (not_one (nat_lt 0 x.days) e)
-  where
-    not_one : (b : Bool) → cond b 4 0 ≡ 1 → ⊥
-    not_one true e = omega (arith, e)
-    not_one false e = omega (arith, e)
 first_years x e = absurd (omega (arith, e))
 
 second_month_days : (x : Selector) → place_of x ≡ 2 → is_month_days x ≡ true
 second_month_days (selector.Months x) e = refl
 second_month_days (selector.Dates x) e = refl
 second_month_days (selector.Dated x) e = refl
-second_month_days (selector.Moving x) e = refl
-second_month_days (selector.Moved x) e = absurd (not_two (nat_lt 0 x.days) e)
-  where
-    not_two : (b : Bool) → cond b 4 0 ≡ 2 → ⊥
-    not_two true e = omega (arith, e)
-    not_two false e = omega (arith, e)
 second_month_days x e = absurd (omega (arith, e))
 
 third_weeks : (x : Selector) → place_of x ≡ 3 → is_weeks x ≡ true
 third_weeks (selector.Weeks x) e = refl
-third_weeks (selector.Moved x) e = absurd (not_three (nat_lt 0 x.days) e)
-  where
-    not_three : (b : Bool) → cond b 4 0 ≡ 3 → ⊥
-    not_three true e = omega (arith, e)
-    not_three false e = omega (arith, e)
 third_weeks x e = absurd (omega (arith, e))
 
 fourth_weekdays : (x : Selector) → place_of x ≡ 4 → is_weekdays x ≡ true
 fourth_weekdays (selector.Weekdays x) e = refl
 fourth_weekdays (selector.Nth x) e = refl
 fourth_weekdays (selector.NthBack x) e = refl
-fourth_weekdays (selector.Moved x) e = some (nat_lt 0 x.days) e
-  where
-    some : (b : Bool) → cond b 4 0 ≡ 4 → b ≡ true
-    some true e = refl
-    some false e = absurd (omega (arith, e))
 fourth_weekdays x e = absurd (omega (arith, e))
 
 left_nested : (k a b c d : List (List Selector)) (e : List (List Selector)) → k ≡ a ++ (b ++ (c ++ (d ++ e))) → e ≡ []

@@ -18,8 +18,8 @@ fn place_of(selector: Selector) -> u8
         Selector::Weekdays(_) => 4,
         Selector::Nth(_) => 4,
         Selector::NthBack(_) => 4,
-        Selector::Moved(place) => { if place.days > 0 { 4 } else { 0 } }
-        Selector::Moving(_) => 2,
+        Selector::Moved(_) => 0,
+        Selector::Moving(_) => 0,
     }
 }
 
